@@ -1,0 +1,4 @@
+pub mod Names
+pub mod Types
+pub mod Rules
+pub mod Accepted

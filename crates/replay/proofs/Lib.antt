@@ -1,0 +1,6 @@
+pub mod Fired
+pub mod Steps
+pub mod Ahead
+pub mod Stops
+pub mod Files
+pub mod Reports

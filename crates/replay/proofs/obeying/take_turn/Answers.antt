@@ -1,0 +1,7 @@
+use Rattle.replay.proofs.Steps.{long_step}
+use Rattle.replay.proofs.obeying.take_turn.Goals as goal
+
+pub returns-in_ok-push_fault-in-Long-clause-turn : goal.returns-in_ok-push_fault-in-Long-clause-turn
+returns-in_ok-push_fault-in-Long-clause-turn c w ahead behind st answers =
+    let long = rw c.in-Long.is at answers in
+    (long.0, long.2, long_step c.args.session.program c.args.number w long.0 long.1 c.args.text.now.items c.push_fault.new.text.items c.args.session c.in_ok-push_fault-in-Long.ensures st)

@@ -1,0 +1,54 @@
+-- The lines that are printed, each ended by a line end.
+use Rattle.std.specs.Prelude.{ℕ, ◌++◌, ◌==◌, Bool, true, false, List, [], ◌∷◌, slice_get, Option, Some, None, if◌then◌else◌, codes}
+use Rattle.std.specs.Fmt.{decimal}
+use Rattle.std.specs.List.{flat_map, list_any}
+use Rattle.rule_model.specs.declared.program.Program.{Program}
+use Rattle.rule_model.specs.declared.program.TypeInfo.{TypeInfo}
+use Rattle.rule_model.specs.declared.program.Rule.{Rule}
+use Rattle.session.specs.declared.lines.OutLine.{OutLine}
+use Rattle.session.specs.declared.lines.OutLine.TheVariants.{New, Fire, Fault}
+use Rattle.session.specs.declared.lines.Cell.{Cell}
+use Rattle.session.specs.declared.lines.Cell.TheVariants as cell
+
+abbrev pub type_name : Option TypeInfo → List ℕ
+type_name None = []
+type_name (Some ty) = ty.name
+
+abbrev pub rule_name : Option Rule → List ℕ
+rule_name None = []
+rule_name (Some rule) = rule.name
+
+-- a byte of a text in quotes: `\`, `"`, newline, tab and carriage return by their escapes
+abbrev pub quoted_byte : ℕ → List ℕ
+quoted_byte b =
+    if b == 92 then 92 ∷ 92 ∷ []
+    else (if b == 34 then 92 ∷ 34 ∷ []
+    else (if b == 10 then 92 ∷ 110 ∷ []
+    else (if b == 9 then 92 ∷ 116 ∷ []
+    else (if b == 13 then 92 ∷ 114 ∷ [] else b ∷ []))))
+
+-- what a condition bound
+abbrev pub cell_text : Cell → List ℕ
+cell_text (cell.Fact id) = codes " #" ++ decimal id.0
+
+-- a line of the script had a fault; in this stage each fault of a line is printed by this code
+abbrev pub fault_text : ℕ → List ℕ
+fault_text number = codes "fault " ++ decimal number ++ codes " BadCommand" ++ 10 ∷ []
+
+-- a line that a line of the script with this number gives
+unfoldable pub line_text : Program → ℕ → OutLine → List ℕ
+line_text p number (New id ty) = codes "new #" ++ decimal id.0 ++ codes " " ++ type_name (slice_get p.types ty.0) ++ 10 ∷ []
+line_text p number (Fire rule cells) =
+    codes "fire \"" ++ flat_map quoted_byte (rule_name (slice_get p.rules rule.0)) ++ codes "\"" ++ flat_map cell_text cells ++ 10 ∷ []
+line_text p number (Fault code) = fault_text number
+
+abbrev pub lines_text : Program → ℕ → List OutLine → List ℕ
+lines_text p number lines = flat_map (line_text p number) lines
+
+abbrev pub is_fault : OutLine → Bool
+is_fault (New id ty) = false
+is_fault (Fire rule cells) = false
+is_fault (Fault code) = true
+
+abbrev pub has_fault : List OutLine → Bool
+has_fault lines = list_any is_fault lines

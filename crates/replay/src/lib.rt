@@ -1,0 +1,15 @@
+//! The program: it reads a rule file and replays a script over it, and writes what fires and what is faulty.
+//! It knows the outside by its traits alone, so that its answer is a matter of proof.
+#![tactic(auto)]
+
+mod fault;
+mod firing;
+mod gathered;
+mod obeying;
+mod rule_file;
+mod running;
+mod text;
+mod top;
+mod turn;
+
+pub use top::replay;

@@ -1,0 +1,3 @@
+pub mod Exact
+pub mod Firsts
+pub mod Pending

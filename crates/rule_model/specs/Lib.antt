@@ -1,0 +1,7 @@
+pub mod Tests
+pub mod Rows
+pub mod Matches
+pub mod MatchOrders
+pub mod First
+pub mod Worlds
+pub mod Programs

@@ -1,0 +1,88 @@
+-- The forms as cases and the command that is found by the word after `do` say the same.
+use Rattle.std.proofs.Common.{◌≡◌, List, ℕ, Bool, true, false, Option, Some, None, refl, sym, ◌∙◌, ap, subst}
+use Rattle.std.specs.Prelude.{codes, if◌then◌else◌}
+use Rattle.std.specs.Str.{bytes_eq}
+use Rattle.std.proofs.lemmas.Slice.Eq.{bytes_eq-Decides}
+use Rattle.std.proofs.lemmas.Bool.Decides.{Decides-eqb}
+use Rattle.serde_json.specs.Data.{Data, Members}
+use Rattle.script_read.specs.Members.{text_member, object_member, count}
+use Rattle.script_read.specs.Form.{IsForm, fire, insert, fire_of, insert_of, has_count, insert_parts, command_by_word, command_of}
+use Rattle.script_read.specs.declared.asked.Command.{Command}
+use Rattle.script_read.specs.declared.asked.Command.TheVariants.{Fire}
+
+-- every command with the form of a value is the one that is found
+pub form_again : {d : Data} {c : Command} → IsForm d c → command_of d ≡ Some c
+unfolding command_of fire_of insert_of
+form_again (fire word members) = rw (word, members) refl
+form_again (insert word ty fields members) = rw (word, members, ty, fields) refl
+
+-- a value has the form of at most one command
+pub one_form : {d : Data} {c other : Command} → IsForm d c → IsForm d other → c ≡ other
+one_form form also = let e = sym (form_again form) ∙ form_again also in cc
+
+-- a value in which no command is found has no form
+pub no_form : {d : Data} → None ≡ command_of d → (c : Command) → IsForm d c → ⊥
+no_form none c form = let e = none ∙ form_again form in cc
+
+-- ---- what is found has its form: a lemma for each form, and one line for each word
+
+-- equal options have equal values
+some_injective : {c other : Command} → Some c ≡ Some other → c ≡ other
+some_injective e = cc
+
+-- the test of a count says the count
+counted : (n : ℕ) (m : Option ℕ) → has_count n m ≡ true → m ≡ Some n
+counted n None e = cc
+counted n (Some m) e = ap Some ((Decides-eqb m n).0 e)
+
+-- at each case of the count
+fire_counted : (b : Bool) (d : Data) (c : Command) → has_count 1 (count d) ≡ b → text_member (codes "do") d ≡ Some (codes "fire")
+    → Some c ≡ (if b then Some (Fire None) else None) → IsForm d c
+fire_counted true d c members word found = subst (IsForm d) (some_injective (sym found)) (fire word (counted 1 (count d) members))
+fire_counted false d c members word found = cc
+
+-- a fire that is found has its form
+fire_sound : (d : Data) (c : Command) → text_member (codes "do") d ≡ Some (codes "fire") → Some c ≡ fire_of d → IsForm d c
+unfolding fire_of
+fire_sound d c word found = fire_counted (has_count 1 (count d)) d c refl word found
+
+-- at each case of the count and of the two members
+insert_counted : (b : Bool) (ty : Option (List ℕ)) (fields : Option Members) (d : Data) (c : Command)
+    → has_count 3 (count d) ≡ b → text_member (codes "type") d ≡ ty → object_member (codes "fields") d ≡ fields
+    → text_member (codes "do") d ≡ Some (codes "insert")
+    → Some c ≡ (if b then insert_parts ty fields else None) → IsForm d c
+insert_counted true (Some ty) (Some fields) d c members named given word found =
+    subst (IsForm d) (some_injective (sym found)) (insert word named given (counted 3 (count d) members))
+insert_counted true (Some ty) None d c members named given word found = cc
+insert_counted true None fields d c members named given word found = cc
+insert_counted false ty fields d c members named given word found = cc
+
+-- an insert that is found has its form
+insert_sound : (d : Data) (c : Command) → text_member (codes "do") d ≡ Some (codes "insert") → Some c ≡ insert_of d → IsForm d c
+unfolding insert_of
+insert_sound d c word found =
+    insert_counted (has_count 3 (count d)) (text_member (codes "type") d) (object_member (codes "fields") d) d c refl refl refl word found
+
+-- what is found by a test comes from one of its two sides
+by_test : (b : Bool) (front rest : Option Command) (P : Command → Type 0) → (b ≡ true → (c : Command) → Some c ≡ front → P c)
+    → ((c : Command) → Some c ≡ rest → P c) → (c : Command) → Some c ≡ (if b then front else rest) → P c
+by_test true front rest P first second c found = first refl c found
+by_test false front rest P first second c found = second c found
+
+-- a word that tests as this one is this one
+word_is : (expected word : List ℕ) (d : Data) → text_member (codes "do") d ≡ Some word → bytes_eq word expected ≡ true
+    → text_member (codes "do") d ≡ Some expected
+word_is expected word d stands same = stands ∙ ap Some ((bytes_eq-Decides word expected).0 same)
+
+-- at each word after `do`
+by_word : (word : Option (List ℕ)) (d : Data) → text_member (codes "do") d ≡ word → (c : Command) → Some c ≡ command_by_word d word → IsForm d c
+by_word None d stands = λ c found. cc
+by_word (Some word) d stands =
+    by_test (bytes_eq word (codes "fire")) _ _ (IsForm d) (λ same c. fire_sound d c (word_is (codes "fire") word d stands same))
+    (by_test (bytes_eq word (codes "insert")) _ _ (IsForm d) (λ same c. insert_sound d c (word_is (codes "insert") word d stands same))
+    (λ c found. cc))
+
+-- a value has the form of the command that is found in it
+pub form_sound : (d : Data) (c : Command) → Some c ≡ command_of d → IsForm d c
+unfolding command_of
+form_sound d c found = by_word (text_member (codes "do") d) d refl c found

@@ -1,0 +1,4 @@
+pub mod AskedLaws
+pub mod Counts
+pub mod FormLaws
+pub mod Readings

@@ -1,0 +1,43 @@
+-- What a line of the script asks for.
+use Rattle.std.specs.Prelude.{◌≡◌, ℕ, List, Option, Some, None, Result, Ok, Err, if◌then◌else◌}
+use Rattle.std.specs.Str.{IsUtf8, is_utf8}
+use Rattle.serde_json.specs.Data.{Data}
+use Rattle.serde_json.specs.Read.{read}
+use Rattle.script_read.specs.Form.{command_of}
+use Rattle.script_read.specs.declared.asked.Command.{Command}
+use Rattle.script_read.specs.declared.fault.CommandFault.{CommandFault}
+use Rattle.script_read.specs.declared.fault.CommandFault.TheVariants.{BadJson, BadCommand, NoMemory}
+
+-- The line is a text in UTF-8 that `serde_json` reads as this value.
+pub record IsReading (line : List ℕ) (d : Data) : Type 0 where
+  pub text : IsUtf8 line
+  pub value : read line ≡ Some d
+
+-- the value that a line is read as, as a test that computes
+unfoldable pub reading : List ℕ → Option Data
+reading line = if is_utf8 line then read line else None
+
+-- a command, or the fault of a line that asks for none
+pub data Asked : Type 0 where
+  asks : Command → Asked
+  bad_json : Asked
+  bad_command : Asked
+
+abbrev pub asked_of_command : Option Command → Asked
+asked_of_command None = bad_command
+asked_of_command (Some c) = asks c
+
+abbrev pub asked_of_reading : Option Data → Asked
+asked_of_reading None = bad_json
+asked_of_reading (Some d) = asked_of_command (command_of d)
+
+-- what a line asks for, as a function
+unfoldable pub asked : List ℕ → Asked
+asked line = asked_of_reading (reading line)
+
+-- an answer says what is asked, unless memory was refused
+abbrev pub Answers : Asked → Result Command CommandFault → Type 0
+Answers found (Ok c) = found ≡ asks c
+Answers found (Err BadJson) = found ≡ bad_json
+Answers found (Err BadCommand) = found ≡ bad_command
+Answers found (Err NoMemory) = Unit

@@ -1,0 +1,11 @@
+-- Lines that ask for nothing.
+use Rattle.std.specs.Prelude.{ℕ, ◌==◌, ◌||◌, Bool, List}
+use Rattle.std.specs.List.{list_all}
+
+-- a space, a tab or a carriage return
+abbrev pub is_blank_byte : ℕ → Bool
+is_blank_byte b = b == 32 || b == 9 || b == 13
+
+-- nothing but spaces, tabs and carriage returns
+abbrev pub is_blank : List ℕ → Bool
+is_blank line = list_all is_blank_byte line

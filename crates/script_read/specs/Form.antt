@@ -1,0 +1,47 @@
+-- Which values are commands.
+use Rattle.std.specs.Prelude.{◌≡◌, ℕ, ◌==◌, Bool, false, List, Option, Some, None, if◌then◌else◌, codes}
+use Rattle.std.specs.Str.{bytes_eq}
+use Rattle.serde_json.specs.Data.{Data, Members}
+use Rattle.script_read.specs.Given.{givens}
+use Rattle.script_read.specs.Members.{text_member, object_member, count}
+use Rattle.script_read.specs.declared.asked.Command.{Command}
+use Rattle.script_read.specs.declared.asked.Command.TheVariants.{Change, Fire}
+use Rattle.script_read.specs.declared.asked.Change.TheVariants.{Insert}
+
+-- The forms, one for each kind of line: an object with exactly the members that are named. Since each name stands once,
+-- an object of n members that has n given names has no other.
+pub data IsForm : Data → Command → Type 0 where
+  -- {"do":"fire"}
+  fire : {d : Data} → text_member (codes "do") d ≡ Some (codes "fire")
+      → count d ≡ Some 1
+      → IsForm d (Fire None)
+  -- {"do":"insert","type":T,"fields":{..}}
+  insert : {d : Data} {ty : List ℕ} {fields : Members} → text_member (codes "do") d ≡ Some (codes "insert")
+      → text_member (codes "type") d ≡ Some ty → object_member (codes "fields") d ≡ Some fields
+      → count d ≡ Some 3
+      → IsForm d (Change (Insert ty (givens fields)))
+
+abbrev pub has_count : ℕ → Option ℕ → Bool
+has_count n None = false
+has_count n (Some m) = m == n
+
+unfoldable pub fire_of : Data → Option Command
+fire_of d = if has_count 1 (count d) then Some (Fire None) else None
+
+abbrev pub insert_parts : Option (List ℕ) → Option Members → Option Command
+insert_parts None fields = None
+insert_parts (Some ty) None = None
+insert_parts (Some ty) (Some fields) = Some (Change (Insert ty (givens fields)))
+
+unfoldable pub insert_of : Data → Option Command
+insert_of d = if has_count 3 (count d) then insert_parts (text_member (codes "type") d) (object_member (codes "fields") d) else None
+
+-- by the word after `do`
+abbrev pub command_by_word : Data → Option (List ℕ) → Option Command
+command_by_word d None = None
+command_by_word d (Some word) = if bytes_eq word (codes "fire") then fire_of d
+    else (if bytes_eq word (codes "insert") then insert_of d else None)
+
+-- the command whose form a value has
+unfoldable pub command_of : Data → Option Command
+command_of d = command_by_word d (text_member (codes "do") d)

@@ -1,0 +1,5 @@
+pub mod Blank
+pub mod Given
+pub mod Members
+pub mod Form
+pub mod Asked

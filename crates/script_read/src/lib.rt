@@ -1,0 +1,16 @@
+//! Reads the command that a line of the script asks for, by the form in JSON that each command has.
+//! It stands on the reading of `serde_json` and assumes nothing of a line; its caller cuts the lines.
+#![tactic(auto)]
+
+mod asked;
+mod blank;
+mod fault;
+mod given;
+mod line;
+mod members;
+
+pub use asked::{Change, Command};
+pub use blank::is_blank;
+pub use fault::CommandFault;
+pub use given::Given;
+pub use line::command;

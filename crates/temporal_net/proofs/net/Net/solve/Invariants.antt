@@ -1,0 +1,9 @@
+use Rattle.std.proofs.Common.{◌≡◌, length}
+use Rattle.temporal_net.specs.Tables.{AreTable}
+use Rattle.temporal_net.proofs.net.Net.solve.Given as goal
+
+abbrev pub invariant-loop-via : goal.invariant-loop-via
+invariant-loop-via l = record {
+  tall : length l.rows.items ≡ l.points;
+  table : AreTable l.via l.edges l.rows.items;
+}

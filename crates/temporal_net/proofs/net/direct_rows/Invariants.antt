@@ -1,0 +1,9 @@
+use Rattle.std.proofs.Common.{◌≡◌, length, take}
+use Rattle.temporal_net.specs.Tables.{AreTable}
+use Rattle.temporal_net.proofs.net.direct_rows.Given as goal
+
+abbrev pub invariant-loop-number : goal.invariant-loop-number
+invariant-loop-number l = record {
+  tall : length l.rows.items ≡ l.points;
+  table : AreTable 0 (take l.number l.edges) l.rows.items;
+}

@@ -1,0 +1,14 @@
+use Rattle.std.proofs.Common.{◌≢◌, ℕ, ◌<◌, List, ◌++◌, length, None}
+use Rattle.temporal_net.specs.Tables.{cell, Follows}
+use Rattle.temporal_net.proofs.Ways.{edges_left}
+use Rattle.temporal_net.proofs.table.way.Given as goal
+
+abbrev pub invariant-loop-at : goal.invariant-loop-at
+invariant-loop-at l = record {
+  inside : l.at < length l.rows;
+  known : cell l.rows l.at l.to ≢ None;
+  so_far : (rest : List ℕ) → Follows (length l.rows) l.edges (cell l.rows) l.at l.to rest → Follows (length l.rows) l.edges (cell l.rows) l.from l.to (l.numbers.items ++ rest);
+}
+
+abbrev pub decreases-loop-at : goal.decreases-loop-at
+decreases-loop-at l = edges_left (cell l.rows l.at l.to)

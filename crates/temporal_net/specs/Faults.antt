@@ -1,0 +1,11 @@
+-- What a fault says of the network that was to be solved.
+use Rattle.std.specs.Prelude.{List}
+use Rattle.temporal_net.specs.declared.edge.NetEdge.{NetEdge}
+use Rattle.temporal_net.specs.declared.net.NetFault.{NetFault}
+use Rattle.temporal_net.specs.declared.net.NetFault.TheVariants.{NegativeCycle, NoMemory}
+use Rattle.temporal_net.specs.Networks.{IsSolvable, IsNegativeCycle}
+
+-- a negative cycle stands in the network, which has no solution; want of memory says nothing of it
+abbrev pub Tells : List NetEdge → NetFault → Type 0
+Tells edges (NegativeCycle cycle) = IsNegativeCycle edges cycle × (IsSolvable edges → ⊥)
+Tells edges NoMemory = Unit {0}

@@ -1,0 +1,13 @@
+//! Minimal networks: the greatest differences that a set of difference constraints allows, or a negative cycle
+//! that shows that nothing meets them all. It stands on `fx_base` and assumes nothing of the outside.
+#![tactic(auto)]
+
+mod distance;
+mod edge;
+mod minimal;
+mod net;
+mod table;
+
+pub use edge::NetEdge;
+pub use minimal::Minimal;
+pub use net::{Net, NetFault, negative_cycle_has_no_solution};

@@ -1,0 +1,7 @@
+pub mod Faults
+pub mod Fields
+pub mod Ops
+pub mod Rooms
+pub mod Rows
+pub mod WindowOfEdges
+pub mod Windows

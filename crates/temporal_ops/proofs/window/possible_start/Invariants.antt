@@ -1,0 +1,9 @@
+use Rattle.std.proofs.Common.{◌≡◌, ◌↔◌, true, take}
+use Rattle.fx_base.specs.declared.times.Times.{Times}
+use Rattle.temporal_ops.specs.Possible.{all_hold}
+use Rattle.temporal_ops.specs.Room.{Fits}
+use Rattle.temporal_ops.proofs.window.possible_start.Given as goal
+
+abbrev pub invariant-loop-op : goal.invariant-loop-op
+invariant-loop-op l =
+    (y : Times) → Fits l.room y ↔ (Fits l.initial.room y × (all_hold (take l.op-index l.bounds) y ≡ true))
