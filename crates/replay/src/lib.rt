@@ -8,6 +8,8 @@ mod gathered;
 mod obeying;
 mod rule_file;
 mod running;
+#[cfg(test)]
+mod tests;
 mod text;
 mod top;
 mod turn;

@@ -1,0 +1,99 @@
+use crate::replay;
+use fx_base::{Copies, Seq, Text, Value};
+use fx_io::{MemShelf, MemSink, MemSource};
+use std::alloc::Global;
+use std::test::Fail;
+
+const ITEM: &[u8] =
+    b"declare Item price : long end\nrule \"dear\" when Item( price > 10 ) then end\n";
+
+const TWO: &[u8] = b"declare Item price : long end\nrule \"a\" when Item( price > 0 ) then end\nrule \"b\" when Item( price > 5 ) then end\n";
+
+fn file(alloc: Global, name: &str, bytes: &[u8]) -> Result<(Text, Seq<u8>), Fail> {
+    Ok((Text::new(alloc, name)?, Seq::from_vec(bytes.to_vec(alloc)?)))
+}
+
+fn shelf(alloc: Global) -> Result<MemShelf, Fail> {
+    let mut files = Vec::new(alloc);
+    files.push(file(alloc, "ITEM", ITEM)?)?;
+    files.push(file(alloc, "TWO", TWO)?)?;
+    files.push(file(alloc, "OPEN", b"declare Item price : long")?)?;
+    Ok(MemShelf::new(files, Vec::new(alloc)))
+}
+
+// The status and the written bytes of a run in memory, of which these calls of the script and the sink fail.
+fn run(
+    alloc: Global,
+    words: &[&str],
+    script: &[u8],
+    bad_reads: &[u64],
+    bad_writes: &[u64],
+) -> Result<(u8, Vec<u8>), Fail> {
+    let mut given = Vec::new(alloc);
+    for word in words {
+        given.push(String::from_str(alloc, word)?)?;
+    }
+    let mut shelf = shelf(alloc)?;
+    let mut source = MemSource::new(script.to_vec(alloc)?, bad_reads.to_vec(alloc)?);
+    let mut sink = MemSink::new(alloc, 1_048_576, bad_writes.to_vec(alloc)?)?;
+    let status = replay(alloc, &given, &mut shelf, &mut source, &mut sink);
+    let written = sink.written().to_vec(alloc)?;
+    Ok((status, written))
+}
+
+const ELEVEN: &[u8] =
+    b"{\"do\":\"insert\",\"type\":\"Item\",\"fields\":{\"price\":11}}\n{\"do\":\"fire\"}\n";
+
+const TWICE: &[u8] = b"{\"do\":\"insert\",\"type\":\"Item\",\"fields\":{\"price\":11}}\n{\"do\":\"insert\",\"type\":\"Item\",\"fields\":{\"price\":12}}\n\n{\"do\":\"fire\"}\n{\"do\":\"fire\"}";
+
+const RULES_IN_ORDER: &[u8] = b"{\"do\":\"insert\",\"type\":\"Item\",\"fields\":{\"price\":7}}\n{\"do\":\"insert\",\"type\":\"Item\",\"fields\":{\"price\":3}}\n{\"do\":\"fire\"}\n";
+
+const FAULTY: &[u8] = b" \t\r\n{\"do\":\"fly\"}\n{\"do\":\"insert\",\"type\":\"Nope\",\"fields\":{}}\n{\"do\":\"insert\",\"type\":\"Item\",\"fields\":{\"price\":1.5}}\n{\n{\"do\":\"insert\",\"type\":\"Item\",\"fields\":{\"price\":10}}\n";
+
+#[test]
+fn runs_of_the_program(rt: HostRuntime) -> Result<(), Fail> {
+    let alloc = rt.alloc();
+    let rows: [(&[&str], &[u8], u8, &[u8]); 10] = [
+        (&["ITEM"], ELEVEN, 0, b"new #1 Item\nfire \"dear\" #1\n"),
+        (&["ITEM"], TWICE, 0, b"new #1 Item\nnew #2 Item\nfire \"dear\" #2\nfire \"dear\" #1\n"),
+        (
+            &["TWO"],
+            RULES_IN_ORDER,
+            0,
+            b"new #1 Item\nnew #2 Item\nfire \"a\" #2\nfire \"a\" #1\nfire \"b\" #1\n",
+        ),
+        (
+            &["ITEM"],
+            FAULTY,
+            1,
+            b"fault 2 BadCommand\nfault 3 BadCommand\nfault 4 BadCommand\nfault 5 BadCommand\nnew #1 Item\n",
+        ),
+        (&["ITEM"], b"", 0, b""),
+        (&["NOFILE"], FAULTY, 3, b"refused item 0 line 0 Missing\n"),
+        (&["OPEN"], FAULTY, 3, b"refused item 0 line 0 Syntax\n"),
+        (&[], FAULTY, 2, b"usage: replay RULES\n"),
+        (&["ITEM", "ITEM"], FAULTY, 2, b"usage: replay RULES\n"),
+        (&["ITEM"], b"{\"do\":\"fire\"", 1, b"fault 1 BadCommand\n"),
+    ];
+    for (words, script, status, output) in rows {
+        let (answer, written) = run(alloc, words, script, &[], &[])?;
+        assert_eq!(rt; answer, status);
+        assert_eq!(rt; written.as_slice(), output);
+    }
+    let (answer, written) = run(alloc, &["ITEM"], ELEVEN, &[1], &[])?;
+    assert_eq!(rt; answer, 5);
+    assert_eq!(rt; written.as_slice(), b"".as_slice());
+    let (answer, written) = run(alloc, &["ITEM"], ELEVEN, &[], &[1])?;
+    assert_eq!(rt; answer, 6);
+    assert_eq!(rt; written.as_slice(), b"".as_slice());
+    Ok(())
+}
+
+#[test]
+fn a_copy_of_a_list_has_its_elements(rt: HostRuntime) -> Result<(), Fail> {
+    let alloc = rt.alloc();
+    let text = Value::Text(Text::new(alloc, "ab")?);
+    let values = Seq::from_vec(vec![in alloc; Value::Int(3), Value::Bool(true), text]?);
+    assert!(rt; values.copy(alloc)? == values);
+    Ok(())
+}
