@@ -1,7 +1,6 @@
 -- The program of an accepted file is within the limits, and each of its rules has one condition.
-use Rattle.std.proofs.Common.{◌≡◌, ◌≤◌, ◌==◌, ◌&&◌, Bool, true, false, List, [], ◌∷◌, ℕ, length, nat_le, pos, Option, Some, None, option_map, cond, refl, sym, ◌∙◌, subst, ap, arith}
+use Rattle.std.proofs.Common.{◌≡◌, ◌≤◌, ◌==◌, ◌&&◌, Bool, true, false, List, [], ◌∷◌, ℕ, length, nat_le, pos, Option, Some, None, option_map, cond, refl, subst, arith}
 use Rattle.std.specs.List.{list_all}
-use Rattle.std.specs.Option.{option_and_then}
 use Rattle.std.proofs.lemmas.Bool.Decides.{nat_tests}
 use Rattle.drl_parse.specs.declared.tree.Body.{Body}
 use Rattle.drl_parse.specs.declared.tree.Body.TheVariants as body

@@ -20,7 +20,6 @@ use Rattle.drl_parse.specs.declared.tree.Rel.{Rel}
 use Rattle.drl_parse.specs.declared.tree.Rel.TheVariants as rel
 use Rattle.drl_parse.specs.declared.tree.Operand.{Operand}
 use Rattle.drl_parse.specs.declared.tree.Operand.TheVariants as operand
-use Rattle.drl_parse.specs.declared.tree.LitTree.{LitTree}
 use Rattle.drl_parse.specs.declared.tree.LitTree.TheVariants as lit
 use Rattle.rule_model.specs.declared.program.TypeInfo.{TypeInfo}
 use Rattle.rule_model.specs.declared.program.Rule.{Rule}

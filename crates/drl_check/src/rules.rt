@@ -232,7 +232,9 @@ pub(crate) fn rules_of(
 fn has_short_rules(rules: &[Rule]) -> bool
     ensures { result ≡ short_rules rules.now }
 {
-    rules.iter().all(|rule| has_at_most(RULE_NAME_MAX, &rule.name))
+    rules
+        .iter()
+        .all(|rule| has_at_most(RULE_NAME_MAX, &rule.name))
 }
 
 fn names_of_rules(alloc: Global, rules: &[Rule]) -> Result<Vec<Text>, NoMemory>

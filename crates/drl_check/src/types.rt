@@ -68,7 +68,9 @@ fn is_sound(alloc: Global, info: &TypeInfo) -> Result<bool, NoMemory>
     ensures { IfOk result (λ sound. sound ≡ is_type info.now) }
 {
     let fields = info.fields.as_slice();
-    if !has_at_most(NAME_MAX, &info.name) || fields.len() > FIELDS_MAX || !has_short_fields(fields)
+    if !has_at_most(NAME_MAX, &info.name)
+        || fields.len() > FIELDS_MAX
+        || !has_short_fields(fields)
     {
         return Ok(false);
     }

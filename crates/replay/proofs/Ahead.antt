@@ -66,9 +66,10 @@ all_done p number w faulted first written written' front gathered ahead None h e
 all_done p number w faulted first written written' front gathered None (Some bytes) h end e = absurd (let e = h.all-is in cc)
 all_done p number w faulted first written written' front gathered (Some lines) (Some bytes) h end e =
     let ended = rw end at h.all-is in
-    let r = some_is _ _ ended in
-    (sym (ap (λ (o : Outcome). o.faulted) r),
-      e ∙ ap (λ (z : Option (List ℕ)). append z gathered) h.written-is ∙ append-append first front gathered ∙ ap (append first) (sym (append-nil (front ++ gathered)) ∙ sym (ap (λ (o : Outcome). o.bytes) r)))
+    let r = some_is _ _ ended in (
+      sym (ap (λ (o : Outcome). o.faulted) r),
+      e ∙ ap (λ (z : Option (List ℕ)). append z gathered) h.written-is ∙ append-append first front gathered ∙ ap (append first) (sym (append-nil (front ++ gathered)) ∙ sym (ap (λ (o : Outcome). o.bytes) r)),
+    )
 
 front_is : (first written : Option (List ℕ)) (front back bytes : List ℕ) → written ≡ append first front → bytes ≡ front ++ back → AppendsFront first written bytes
 front_is first written front back bytes e parts = (length front, rw parts (omega (arith, length-append front back)), e ∙ ap (append first) (sym (rw parts (take_at front back (length front) refl))))

@@ -50,11 +50,13 @@ fewer t u h m p q (x ∷ ms) i = here (eq_by_cmp match_cmp m x) refl i (λ j. fe
     dropped true false e f = let le = fewer_or_same t u h ms in omega arith
     dropped true true e f = cc
     dropped false b e f = cc
+
     later : (a b : Bool) → (b ≡ true → a ≡ true) → length (filter u ms) < length (filter t ms) → length (cond b (x ∷ filter u ms) (filter u ms)) < length (cond a (x ∷ filter t ms) (filter t ms))
     later true true g lt = omega arith
     later true false g lt = omega arith
     later false true g lt = let e : false ≡ true = g refl in absurd cc
     later false false g lt = lt
+
     here : (b : Bool) → eq_by_cmp match_cmp m x ≡ b → (b || has_match ms m) ≡ true → (has_match ms m ≡ true → length (filter u ms) < length (filter t ms))
         → length (filter u (x ∷ ms)) < length (filter t (x ∷ ms))
     here true e j rest = let same : m ≡ x = tells_apart match_exact m x e in dropped (t x) (u x) (ap t (sym same) ∙ p) (ap u (sym same) ∙ q)
@@ -145,6 +147,7 @@ one_fires p w f e = here (first_pending p.rules w) refl
         steady (length (pending p.rules w)) (suc (length (pending p.rules w))) p w (omega arith) (omega arith)
         ∙ ap (λ o. then_fires o w (firings (length (pending p.rules w)) p)) e
         ∙ ap (λ (r : List OutLine × World). (f.0 ++ r.0, r.1)) (steady (length (pending p.rules w)) (length (pending p.rules f.1)) p f.1 (omega arith) (omega arith))
+
 -- nothing is pending after a fire command
 pub settled : (n : ℕ) (p : Program) (w : World) → length (pending p.rules w) ≤ n → fires p (firings n p w).1 ≡ None
 unfolding firings

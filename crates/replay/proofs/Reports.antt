@@ -31,8 +31,10 @@ within_taken n file = here (nat_le (length file) n) refl
   where
     short : (a b : ℕ) → nat_le a b ≡ true → a ≤ b + 1
     short a b e = grind (arith, nat_tests)
+
     long : (a b : ℕ) → nat_le a b ≡ false → b < a
     long a b e = grind (arith, nat_tests)
+
     here : (b : Bool) → nat_le (length file) n ≡ b → program_within n (take (n + 1) file) ≡ program_within n file
     here true e = ap (program_within n) (take_all (n + 1) file (short (length file) n e))
     here false e =

@@ -7,7 +7,8 @@ use std::test::Fail;
 const ITEM: &[u8] =
     b"declare Item price : long end\nrule \"dear\" when Item( price > 10 ) then end\n";
 
-const TWO: &[u8] = b"declare Item price : long end\nrule \"a\" when Item( price > 0 ) then end\nrule \"b\" when Item( price > 5 ) then end\n";
+const TWO: &[u8] =
+    b"declare Item price : long end\nrule \"a\" when Item( price > 0 ) then end\nrule \"b\" when Item( price > 5 ) then end\n";
 
 fn file(alloc: Global, name: &str, bytes: &[u8]) -> Result<(Text, Seq<u8>), Fail> {
     Ok((Text::new(alloc, name)?, Seq::from_vec(bytes.to_vec(alloc)?)))
@@ -44,18 +45,26 @@ fn run(
 const ELEVEN: &[u8] =
     b"{\"do\":\"insert\",\"type\":\"Item\",\"fields\":{\"price\":11}}\n{\"do\":\"fire\"}\n";
 
-const TWICE: &[u8] = b"{\"do\":\"insert\",\"type\":\"Item\",\"fields\":{\"price\":11}}\n{\"do\":\"insert\",\"type\":\"Item\",\"fields\":{\"price\":12}}\n\n{\"do\":\"fire\"}\n{\"do\":\"fire\"}";
+const TWICE: &[u8] =
+    b"{\"do\":\"insert\",\"type\":\"Item\",\"fields\":{\"price\":11}}\n{\"do\":\"insert\",\"type\":\"Item\",\"fields\":{\"price\":12}}\n\n{\"do\":\"fire\"}\n{\"do\":\"fire\"}";
 
-const RULES_IN_ORDER: &[u8] = b"{\"do\":\"insert\",\"type\":\"Item\",\"fields\":{\"price\":7}}\n{\"do\":\"insert\",\"type\":\"Item\",\"fields\":{\"price\":3}}\n{\"do\":\"fire\"}\n";
+const RULES_IN_ORDER: &[u8] =
+    b"{\"do\":\"insert\",\"type\":\"Item\",\"fields\":{\"price\":7}}\n{\"do\":\"insert\",\"type\":\"Item\",\"fields\":{\"price\":3}}\n{\"do\":\"fire\"}\n";
 
-const FAULTY: &[u8] = b" \t\r\n{\"do\":\"fly\"}\n{\"do\":\"insert\",\"type\":\"Nope\",\"fields\":{}}\n{\"do\":\"insert\",\"type\":\"Item\",\"fields\":{\"price\":1.5}}\n{\n{\"do\":\"insert\",\"type\":\"Item\",\"fields\":{\"price\":10}}\n";
+const FAULTY: &[u8] =
+    b" \t\r\n{\"do\":\"fly\"}\n{\"do\":\"insert\",\"type\":\"Nope\",\"fields\":{}}\n{\"do\":\"insert\",\"type\":\"Item\",\"fields\":{\"price\":1.5}}\n{\n{\"do\":\"insert\",\"type\":\"Item\",\"fields\":{\"price\":10}}\n";
 
 #[test]
 fn runs_of_the_program(rt: HostRuntime) -> Result<(), Fail> {
     let alloc = rt.alloc();
     let rows: [(&[&str], &[u8], u8, &[u8]); 10] = [
         (&["ITEM"], ELEVEN, 0, b"new #1 Item\nfire \"dear\" #1\n"),
-        (&["ITEM"], TWICE, 0, b"new #1 Item\nnew #2 Item\nfire \"dear\" #2\nfire \"dear\" #1\n"),
+        (
+            &["ITEM"],
+            TWICE,
+            0,
+            b"new #1 Item\nnew #2 Item\nfire \"dear\" #2\nfire \"dear\" #1\n",
+        ),
         (
             &["TWO"],
             RULES_IN_ORDER,

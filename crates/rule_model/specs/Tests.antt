@@ -1,5 +1,5 @@
 -- When a fact passes a pattern's tests.
-use Rattle.std.specs.Prelude.{Bool, true, false, not, List, Option, Some, None, slice_get}
+use Rattle.std.specs.Prelude.{Bool, false, not, List, Option, Some, None, slice_get}
 use Rattle.std.specs.List.{list_any, list_all}
 use Rattle.std.specs.Ordering.{is_lt, is_le, is_gt, is_ge, is_some_and}
 use Rattle.fx_base.specs.Values.{same_value, value_order}

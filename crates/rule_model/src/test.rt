@@ -88,6 +88,9 @@ impl Test {
     pub(crate) fn holds(&self, fact: &Fact) -> bool
         ensures { result ≡ test_holds fact.now self.now }
     {
-        self.choices.as_slice().iter().any(|choice| all_hold(fact, choice.as_slice()))
+        self.choices
+            .as_slice()
+            .iter()
+            .any(|choice| all_hold(fact, choice.as_slice()))
     }
 }

@@ -1,7 +1,7 @@
 -- The matches over a new fact are none of those over older ones, since their tags part them.
 use Rattle.std.proofs.Common.{◌≡◌, ℕ, ◌+◌, ◌==◌, ◌&&◌, ◌||◌, ◌⊎◌, inl, inr, Bool, true, false, List, [], ◌∷◌, ◌++◌, map, nat_lt, cond, refl, sym, ◌∙◌, ap, subst, arith}
 use Rattle.std.specs.Ordering.{eq_by_cmp}
-use Rattle.std.specs.List.{list_any, list_all, filter}
+use Rattle.std.specs.List.{list_all, filter}
 use Rattle.std.proofs.lemmas.Bool.Decides.{nat_tests}
 use Rattle.std.proofs.lemmas.List.Folds.{list_any-append}
 use Rattle.std.proofs.lemmas.Map.Views.{tells_apart}

@@ -8,13 +8,12 @@ use Rattle.std.proofs.lemmas.List.Elements.{filter-append}
 use Rattle.std.proofs.lemmas.Bool.Decides.{nat_tests}
 use Rattle.fx_base.specs.declared.fact.Fact.{Fact}
 use Rattle.row_delta.specs.declared.row.Row.{Row}
-use Rattle.row_delta.specs.Rows.{row_cmp, has}
 use Rattle.rule_model.specs.declared.condition.Condition.{Condition}
 use Rattle.rule_model.specs.declared.condition.Condition.TheVariants.{Plain}
 use Rattle.rule_model.specs.declared.condition.Pattern.{Pattern}
 use Rattle.rule_model.specs.declared.matched.Match.{Match}
 use Rattle.rule_model.specs.declared.program.Rule.{Rule}
-use Rattle.rule_model.specs.Rows.{Tuple, empty_tuple, with_fact, row_of, name_of, fits, tuples_from, rows}
+use Rattle.rule_model.specs.Rows.{empty_tuple, with_fact, row_of, name_of, fits, tuples_from, rows}
 use Rattle.rule_model.specs.Matches.{match_of, match_cmp, matches_from, rows_by_rule, has_match}
 use Rattle.rule_model.specs.Programs.{is_single}
 
@@ -86,7 +85,7 @@ matches_more k (rule ∷ rules) one xs ys m =
     ∙ ap (λ z. (list_any test (map (match_of k) (rows xs rule)) || list_any test (map (match_of k) (rows ys rule))) || z) (matches_more (k + 1) rules (others_single rule rules one) xs ys m)
     ∙ shuffled (list_any test (map (match_of k) (rows xs rule))) (list_any test (map (match_of k) (rows ys rule))) _ _
     ∙ sym (ap (λ z. z || has_match (matches_from k (rows_by_rule ys (rule ∷ rules))) m) (list_any-append test (map (match_of k) (rows xs rule)) (matches_from (k + 1) (rows_by_rule xs rules)))
-      ∙ ap (λ z. (list_any test (map (match_of k) (rows xs rule)) || has_match (matches_from (k + 1) (rows_by_rule xs rules)) m) || z) (list_any-append test (map (match_of k) (rows ys rule)) (matches_from (k + 1) (rows_by_rule ys rules))))
+    ∙ ap (λ z. (list_any test (map (match_of k) (rows xs rule)) || has_match (matches_from (k + 1) (rows_by_rule xs rules)) m) || z) (list_any-append test (map (match_of k) (rows ys rule)) (matches_from (k + 1) (rows_by_rule ys rules))))
 
 -- over no facts a rule of patterns has no rows
 pub no_matches : (k : ℕ) (rules : List Rule) → list_all is_single rules ≡ true → (m : Match) → has_match (matches_from k (rows_by_rule [] rules)) m ≡ false

@@ -1,8 +1,7 @@
 -- An agenda stands for the world after an insertion, and after a firing.
-use Rattle.std.proofs.Common.{◌≡◌, ℕ, pos, ◌+◌, ◌&&◌, ◌||◌, ◌⊎◌, inl, inr, not, Bool, true, false, List, [], ◌∷◌, ◌++◌, ℤ, Some, refl, sym, ◌∙◌, ap, subst}
+use Rattle.std.proofs.Common.{◌≡◌, ℕ, pos, ◌+◌, ◌&&◌, ◌||◌, ◌⊎◌, inl, inr, not, Bool, true, false, List, [], ◌∷◌, ◌++◌, Some, refl, sym, ◌∙◌, ap, subst}
 use Rattle.std.specs.Ordering.{eq_by_cmp}
-use Rattle.std.specs.List.{list_any, list_all, filter}
-use Rattle.std.proofs.lemmas.Map.Made.{is_member-filter}
+use Rattle.std.specs.List.{list_all}
 use Rattle.std.proofs.lemmas.Map.Views.{tells_apart}
 use Rattle.fx_base.specs.declared.fact.Fact.{Fact}
 use Rattle.rule_model.specs.declared.matched.Match.{Match}
@@ -12,7 +11,7 @@ use Rattle.rule_model.specs.MatchOrders.{match_equiv, fire_total}
 use Rattle.rule_model.specs.First.{first}
 use Rattle.rule_model.specs.Worlds.{World, pending, still_fired, inserted, marked, first_pending, empty_world}
 use Rattle.rule_model.specs.Programs.{is_single}
-use Rattle.rule_model.proofs.Exact.{match_exact, fire_exact, fire_match}
+use Rattle.rule_model.proofs.Exact.{match_exact, fire_exact}
 use Rattle.rule_model.proofs.Pending.{has_pending, has_still, by_fire}
 use Rattle.rule_model.proofs.Firsts.{first_alike, first_in}
 use Rattle.agenda.specs.Agendas.{Held}
@@ -55,7 +54,7 @@ inserted_stands rules one k b f w s tag sal p fi =
     let v : World = inserted rules w f in
     let more : (m : Match) → has_match (matches rules (w.facts ++ f ∷ [])) m ≡ (has_match (matches rules w.facts) m || has_match (matches rules (f ∷ [])) m) = matches_more 0 rules one w.facts (f ∷ []) in
     let still : (m : Match) → has_match (still_fired rules (w.facts ++ f ∷ []) w.fired) m ≡ (has_match w.fired m && (has_match (matches rules w.facts) m || has_match (matches rules (f ∷ [])) m)) =
-      λ m. has_still rules (w.facts ++ f ∷ []) w.fired m ∙ ap (λ z. has_match w.fired m && z) (more m) in
+    λ m. has_still rules (w.facts ++ f ∷ []) w.fired m ∙ ap (λ z. has_match w.fired m && z) (more m) in
     let fresh : tags_below k.next w.facts ≡ true = subst (λ (facts : List Fact). tags_below k.next facts ≡ true) s.facts s.fresh in
     record {
       facts = ap (λ (facts : List Fact). facts ++ f ∷ []) s.facts;
@@ -67,7 +66,7 @@ inserted_stands rules one k b f w s tag sal p fi =
         pending = λ m.
             p m ∙ ap (λ z. z || has_match (matches rules (f ∷ [])) m) (s.agenda.pending m ∙ has_pending rules w m)
             ∙ kernel_pending (has_match (matches rules w.facts) m) (has_match (matches rules (f ∷ [])) m) (has_match w.fired m)
-              (new_match rules one w.facts f k.next fresh tag m) (s.agenda.lawful m)
+            (new_match rules one w.facts f k.next fresh tag m) (s.agenda.lawful m)
             ∙ sym (has_pending rules v m ∙ ap (λ z. z && not (has_match v.fired m)) (more m) ∙ ap (λ z. (has_match (matches rules w.facts) m || has_match (matches rules (f ∷ [])) m) && not z) (still m));
         fired = λ m.
             fi m ∙ s.agenda.fired m ∙ kernel_fired (has_match (matches rules w.facts) m) (has_match (matches rules (f ∷ [])) m) (has_match w.fired m) (s.agenda.lawful m)
@@ -157,9 +156,9 @@ insert_stands p facts a n s e one ty fields items b w st is sal pe fi =
     let f : Fact = numbered n n ty fields in
     let same : numbered n n ty fields ≡ new_fact w ty.0 fields = ap (λ z. numbered z n ty fields) k.next_id ∙ ap (λ z. numbered w.next_id z ty fields) k.next_tag in
     let r : Standing p.rules (record { facts = facts ++ numbered n n ty fields ∷ []; agenda = b; next = n + 1 }) (inserted p.rules w (numbered n n ty fields)) =
-      inserted_stands p.rules one (record { facts = facts; agenda = a; next = n }) b f w k refl sal pe fi in
+    inserted_stands p.rules one (record { facts = facts; agenda = a; next = n }) b f w k refl sal pe fi in
     let q : Standing p.rules (record { facts = items; agenda = b; next = n + 1 }) (inserted p.rules w (numbered n n ty fields)) =
-      subst (λ (zs : List Fact). Standing p.rules (record { facts = zs; agenda = b; next = n + 1 }) (inserted p.rules w (numbered n n ty fields))) (sym is) r in
+    subst (λ (zs : List Fact). Standing p.rules (record { facts = zs; agenda = b; next = n + 1 }) (inserted p.rules w (numbered n n ty fields))) (sym is) r in
     subst (λ (z : Shown). Standing p.rules (record { facts = items; agenda = b; next = n + 1 }) (inserted z.program.rules w (new_fact w ty.0 fields))) e
     (subst (λ (z : Fact). Standing p.rules (record { facts = items; agenda = b; next = n + 1 }) (inserted p.rules w z)) same q)
 

@@ -13,8 +13,6 @@ use Rattle.session.specs.declared.lines.OutLine.{OutLine}
 use Rattle.session.specs.declared.lines.OutLine.TheVariants.{New, Fire, Fault}
 use Rattle.session.specs.declared.lines.Cell.{Cell}
 use Rattle.session.specs.declared.lines.Cell.TheVariants as cell
-use Rattle.session.specs.declared.lines.Fired.{Fired}
-use Rattle.session.specs.declared.lines.Fired.TheVariants.{No, Yes}
 use Rattle.session.specs.Changes.{change_read}
 
 -- an insertion, or its fault, which changes nothing

@@ -10,13 +10,11 @@ ghost use Rattle.session.specs.Gives.{fire_line, cells};
 
 use crate::lines::{Cell, Code, Fired, Lines, OutLine};
 use crate::reading::read_change;
-
 use agenda::Agenda;
 use fx_base::{EntryId, Fact, FactId, NoMemory, RuleId, Seq, Tag, Times, TypeId, Value};
 use row_delta::{Delta, Named, Row};
 use rule_model::{Condition, Match, Program, Rule};
 use script_read::Change;
-
 use std::alloc::Global;
 use std::marker::Model;
 
@@ -72,12 +70,7 @@ fn with_rule(
 }
 
 // Adds the matches of all rules over a new fact.
-fn with_fact(
-    alloc: Global,
-    agenda: Agenda,
-    rules: &[Rule],
-    fact: &Fact,
-) -> Result<Agenda, NoMemory>
+fn with_fact(alloc: Global, agenda: Agenda, rules: &[Rule], fact: &Fact) -> Result<Agenda, NoMemory>
     requires few { length rules.now ≤ 256 }
     requires single { list_all is_single rules.now ≡ true }
     ensures saliences { IfOk result (λ a. a.saliences ≡ agenda.saliences) }
@@ -196,7 +189,12 @@ impl Session {
         }
     }
 
-    fn insert(self, alloc: Global, ty: TypeId, fields: Seq<Value>) -> Result<(Session, Lines), NoMemory>
+    fn insert(
+        self,
+        alloc: Global,
+        ty: TypeId,
+        fields: Seq<Value>,
+    ) -> Result<(Session, Lines), NoMemory>
         requires { self.kept.next < 2 ^ 62 }
         ensures lines { IfOk result (λ r. (w : World) → Stands self w → r.1 ≡ (inserts self.program.rules w (Ok (ty, fields))).0) }
         ensures next { IfOk result (λ r. (w : World) → Stands self w → Stands r.0 (inserts self.program.rules w (Ok (ty, fields))).1) }
@@ -219,7 +217,13 @@ impl Session {
         };
         let agenda = with_fact(alloc, agenda, program.rules.as_slice(), &fact)?;
         facts.push(fact)?;
-        let lines = one_line(alloc, OutLine::New { id: FactId(next), ty })?;
+        let lines = one_line(
+            alloc,
+            OutLine::New {
+                id: FactId(next),
+                ty,
+            },
+        )?;
         let session = Session {
             program,
             facts,

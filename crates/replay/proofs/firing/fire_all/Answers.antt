@@ -21,9 +21,12 @@ loop-next-preserved c = record {
       let answer = rw c.in-Yes.is at (c.in_ok-next.ensures.answers inv.0 inv.1) in
       let some = yes_answer _ c.in-Yes.lines inv.0 _ answer in
       let text = c.in_ok-bad-in-Yes.ensures.text
-          ∙ ap (λ p. c.loop-next.text.items ++ lines_text p c.args.number c.as_slice.result.now) (c.program.ensures ∙ c.in_ok-next.ensures.program ∙ c.loop-next.invariant.program)
-          ∙ ap (λ lines. c.loop-next.text.items ++ lines_text c.args.session.program c.args.number lines) (c.as_slice.ensures ∙ some.1.1) in
-      let bad = c.either-faulty.ensures ∙ ap (λ z. c.loop-next.faulty || z) (c.in_ok-bad-in-Yes.ensures.fault ∙ ap has_fault (c.as_slice.ensures ∙ some.1.1)) in
-      (some.0.1, some.1.2, next_remains c.args.session.program c.args.number w inv.0 c.args.text.now.items c.loop-next.text.items c.loop-next.faulty some.0 c.push_lines.new.text.items c.either-faulty.result
-        inv.2 (ap (λ p. fires p inv.0) (sym c.loop-next.invariant.program) ∙ some.1.0) text bad);
+      ∙ ap (λ p. c.loop-next.text.items ++ lines_text p c.args.number c.as_slice.result.now) (c.program.ensures ∙ c.in_ok-next.ensures.program ∙ c.loop-next.invariant.program)
+      ∙ ap (λ lines. c.loop-next.text.items ++ lines_text c.args.session.program c.args.number lines) (c.as_slice.ensures ∙ some.1.1) in
+      let bad = c.either-faulty.ensures ∙ ap (λ z. c.loop-next.faulty || z) (c.in_ok-bad-in-Yes.ensures.fault ∙ ap has_fault (c.as_slice.ensures ∙ some.1.1)) in (
+        some.0.1,
+        some.1.2,
+        next_remains c.args.session.program c.args.number w inv.0 c.args.text.now.items c.loop-next.text.items c.loop-next.faulty some.0 c.push_lines.new.text.items c.either-faulty.result
+            inv.2 (ap (λ p. fires p inv.0) (sym c.loop-next.invariant.program) ∙ some.1.0) text bad,
+      );
 }

@@ -56,7 +56,7 @@ returns-in_err-write_all-in-End-clause-front g c =
     let answers = rw inv.line_max at c.in-Ok.ensures.line in
     let ended = rw c.in-End.is at (c.in_ok-take_turn.ensures.turn so.0 _ _ so.1 answers) in
     let part : AppendsFront (g.K.Sink.written c.flush.new.out) (g.K.Sink.written c.write_all.new.sink) c.flush.new.text.items =
-      rw (sym ended.1, sym c.deref.ensures.value) c.in_err-write_all-in-End.ensures.err in
+    rw (sym ended.1, sym c.deref.ensures.value) c.in_err-write_all-in-End.ensures.err in
     told_err (g.S.Source.left c.args.script.now) c.from_residual-in_err-write_all-in-End.result (λ bytes. AppendsFront (g.K.Sink.written c.args.out.now) (g.K.Sink.written c.write_all.new.sink) (run c.args.program 1 empty_world false (lines_of bytes)).bytes)
     (stopped_in c.args.program (g.K.Sink.written c.args.out.now) (g.K.Sink.written c.flush.new.out) (g.K.Sink.written c.write_all.new.sink) (so.2.0 ++ take written.0 c.loop-text.text.items) c.flush.new.text.items _ (g.S.Source.left c.args.script.now)
     (flushed _ (g.K.Sink.written c.args.out.now) (g.K.Sink.written c.loop-text.out) (g.K.Sink.written c.flush.new.out) c.loop-text.text.items c.flush.new.text.items so.2.0 _ so.2.1 written) part)
@@ -76,7 +76,7 @@ returns-in-End-clause-done g c =
     let answers = rw inv.line_max at c.in-Ok.ensures.line in
     let ended = rw c.in-End.is at (c.in_ok-take_turn.ensures.turn so.0 _ _ so.1 answers) in
     let all : g.K.Sink.written c.write_all.new.sink ≡ append (g.K.Sink.written c.flush.new.out) c.flush.new.text.items =
-      c.in_ok-write_all-in-End.ensures.ok ∙ ap (append (g.K.Sink.written c.flush.new.out)) (c.deref.ensures.value ∙ ended.1) in
+    c.in_ok-write_all-in-End.ensures.ok ∙ ap (append (g.K.Sink.written c.flush.new.out)) (c.deref.ensures.value ∙ ended.1) in
     all_done c.args.program c.loop-text.number so.0 c.loop-text.faulted (g.K.Sink.written c.args.out.now) (g.K.Sink.written c.flush.new.out) (g.K.Sink.written c.write_all.new.sink) (so.2.0 ++ take written.0 c.loop-text.text.items) c.flush.new.text.items
     (lines_ahead c.loop-text.reader.kept (g.S.Source.left c.loop-text.script)) (g.S.Source.left c.args.script.now)
     (flushed _ (g.K.Sink.written c.args.out.now) (g.K.Sink.written c.loop-text.out) (g.K.Sink.written c.flush.new.out) c.loop-text.text.items c.flush.new.text.items so.2.0 _ so.2.1 written) ended.0 all
@@ -128,9 +128,15 @@ loop-text-preserved g c =
     let less = rw c.in-Goes.is at (c.in_ok-take_turn.ensures.smaller _ _ goes_on) in
     let given = c.next_line.ensures.together ∙ ap (λ n. count_after n (c.next_line.new.self.taken - c.loop-text.reader.taken)) inv.given in
     record {
-      so_far = ((line_step c.args.program c.loop-text.number so.0 turn.0).world, turn.2.world, (so.2.0 ++ take written.0 c.loop-text.text.items,
-        turned c.args.program c.loop-text.number so.0 c.loop-text.faulted c.in-Goes.bad c.either-faulted.result _ (g.K.Sink.written c.args.out.now) (g.K.Sink.written c.flush.new.out) turn.0 (so.2.0 ++ take written.0 c.loop-text.text.items) c.flush.new.text.items c.take_turn.new.text.items c.in-Goes.next _ _
-        (flushed _ (g.K.Sink.written c.args.out.now) (g.K.Sink.written c.loop-text.out) (g.K.Sink.written c.flush.new.out) c.loop-text.text.items c.flush.new.text.items so.2.0 _ so.2.1 written) turn.1 turn.2 c.either-faulted.ensures));
+      so_far = (
+        (line_step c.args.program c.loop-text.number so.0 turn.0).world,
+        turn.2.world,
+        (
+          so.2.0 ++ take written.0 c.loop-text.text.items,
+          turned c.args.program c.loop-text.number so.0 c.loop-text.faulted c.in-Goes.bad c.either-faulted.result _ (g.K.Sink.written c.args.out.now) (g.K.Sink.written c.flush.new.out) turn.0 (so.2.0 ++ take written.0 c.loop-text.text.items) c.flush.new.text.items c.take_turn.new.text.items c.in-Goes.next _ _
+              (flushed _ (g.K.Sink.written c.args.out.now) (g.K.Sink.written c.loop-text.out) (g.K.Sink.written c.flush.new.out) c.loop-text.text.items c.flush.new.text.items so.2.0 _ so.2.1 written) turn.1 turn.2 c.either-faulted.ensures,
+        ),
+      );
       program = lasts.0 ∙ inv.program;
       tags = omega (arith, lasts.1, inv.tags);
       total = inv.total ∙ c.next_line.ensures.total;

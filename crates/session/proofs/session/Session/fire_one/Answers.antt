@@ -1,5 +1,4 @@
 use Rattle.std.proofs.Common.{◌∙◌, ap, sym, is_some, ◌∷◌, []}
-use Rattle.rule_model.specs.Worlds.{World}
 use Rattle.session.specs.Gives.{fires}
 use Rattle.session.specs.Standing.{Stands}
 use Rattle.session.proofs.Stands.{shown_first, fire_stands}
@@ -20,4 +19,4 @@ returns-clause-answers c w s =
     (sym (shown_first c.self.inside.program c.self.inside.facts.items c.self.inside.agenda c.self.inside.next c.args.self c.self.view_is w s) ∙ sym c.in_ok-agenda.ensures.top)
     (c.in_ok-lines.ensures ∙ ap (λ z. z ∷ []) c.in_ok-line_of.ensures)
     (fire_stands c.self.inside.program c.self.inside.facts.items c.self.inside.agenda c.self.inside.next c.args.self c.self.view_is c.in_ok-agenda.agenda c.in_ok-agenda.fired w s
-      c.in_ok-agenda.ensures.saliences c.in_ok-agenda.ensures.top c.in_ok-agenda.ensures.pending c.in_ok-agenda.ensures.fired)
+    c.in_ok-agenda.ensures.saliences c.in_ok-agenda.ensures.top c.in_ok-agenda.ensures.pending c.in_ok-agenda.ensures.fired)

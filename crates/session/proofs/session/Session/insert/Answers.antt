@@ -1,4 +1,3 @@
-use Rattle.std.proofs.Common.{rules}
 use Rattle.session.proofs.Stands.{insert_stands}
 use Rattle.session.proofs.session.Session.insert.Goals as goal
 

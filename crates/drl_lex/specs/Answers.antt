@@ -1,0 +1,21 @@
+-- What a function of the lexer answers, against what is read.
+use Rattle.std.specs.Prelude.{◌≡◌, ℕ, List, [], ◌∷◌, Option, Some, None, Result, Ok, Err}
+use Rattle.drl_lex.specs.declared.token.Token.{Token}
+use Rattle.drl_lex.specs.declared.token.TokenKind.{TokenKind}
+use Rattle.drl_lex.specs.declared.fault.LexCode.{LexCode}
+use Rattle.drl_lex.specs.declared.fault.LexFault.{LexFault}
+use Rattle.drl_lex.specs.declared.fault.LexFault.TheVariants.{Refused, NoMemory}
+
+abbrev pub Fails : {Y : Type 0} → LexFault → Result Y (LexCode × ℕ) → Type 0
+Fails (Refused code place) read = read ≡ Err (code, place)
+Fails NoMemory read = Unit {0}
+
+-- what was answered, seen by `view`, is what is read, unless memory was refused
+abbrev pub Gives : {X Y : Type 0} → (X → Y) → Result X LexFault → Result Y (LexCode × ℕ) → Type 0
+Gives view (Ok x) read = read ≡ Ok (view x)
+Gives view (Err fault) read = Fails fault read
+
+-- the token that a piece of so many bytes at offset `at` is, if it is one
+abbrev pub kept : ℕ → ℕ → Option TokenKind → List Token
+kept at len None = []
+kept at len (Some kind) = record { kind = kind; at = at; len = len } ∷ []

@@ -1,0 +1,14 @@
+pub mod Answers
+pub mod Bytes
+pub mod Faults
+pub mod Fronts
+pub mod Kinds
+pub mod Leads
+pub mod MarkReading
+pub mod Marks
+pub mod Reading
+pub mod TextSteps
+pub mod Texts
+pub mod TimeReading
+pub mod Times
+pub mod Tokens

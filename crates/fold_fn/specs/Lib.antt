@@ -1,0 +1,5 @@
+pub mod Order
+pub mod Results
+pub mod Laws
+pub mod Held
+pub mod Kept

@@ -1,0 +1,10 @@
+//! A load for measuring: one rule file, and a script of events drawn by a linear congruential generator.
+//! It stands on `fx_base` and assumes nothing of the outside.
+#![tactic(auto)]
+
+mod draws;
+mod load;
+mod rule_file;
+mod turn;
+
+pub use load::{Generated, generate};
