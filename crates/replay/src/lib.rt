@@ -5,6 +5,7 @@
 mod fault;
 mod firing;
 mod gathered;
+pub mod laws;
 mod obeying;
 mod rule_file;
 mod running;

@@ -31,7 +31,7 @@ module _ {M : Type 0} (c : M → M → Ordering) (o : IsTotalOrder c) (exact : C
   self_same m = ap is_eq (tied_itself o m)
 
   -- not later than each member
-  pub AllFrom : M → List M → Type 0
+  unfoldable pub AllFrom : M → List M → Type 0
   AllFrom m ms = (n : M) → list_any (eq_by_cmp c n) ms ≡ true → c n m ≡ Less → ⊥
 
   pick_in : (g : Ordering) (m n : M) (ms : List M) → list_any (eq_by_cmp c n) ms ≡ true → list_any (eq_by_cmp c (pick g m n)) (m ∷ ms) ≡ true

@@ -1,3 +1,4 @@
 pub mod Exact
 pub mod Firsts
 pub mod Pending
+pub mod Keys

@@ -3,6 +3,7 @@
 #![tactic(auto)]
 
 mod condition;
+pub mod laws;
 mod matched;
 mod program;
 mod test;

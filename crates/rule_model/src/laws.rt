@@ -1,0 +1,28 @@
+//! Laws of the order of firing, each the contract of a function that does nothing.
+ghost use Rattle.std.specs.Prelude.{◌≡◌, ◌<◌, ◌<ℤ◌, true, [], List, ℤ, Some, None};
+ghost use Rattle.std.specs.declared.cmp.Ordering.{Ordering};
+ghost use Rattle.rule_model.specs.declared.matched.Match.{Match};
+ghost use Rattle.rule_model.specs.declared.program.Rule.{Rule};
+ghost use Rattle.rule_model.specs.Matches.{fire_cmp, salience_of, greatest_tag, saliences, has_match};
+ghost use Rattle.rule_model.specs.Worlds.{World, pending, first_pending};
+
+/// The first pending match is pending, and no pending match fires before it; there is none only where nothing is
+/// pending.
+pub fn first_pending_fires_first()
+    ensures member { (rules : List Rule) (w : World) (m : Match) → first_pending rules w ≡ Some m → has_match (pending rules w) m ≡ true }
+    ensures least { (rules : List Rule) (w : World) (m : Match) (n : Match) → first_pending rules w ≡ Some m
+        → has_match (pending rules w) n ≡ true → fire_cmp (saliences rules) n m ≡ Ordering.Less → ⊥ }
+    ensures none { (rules : List Rule) (w : World) → first_pending rules w ≡ None → pending rules w ≡ [] }
+{}
+
+/// What decides which of two matches fires first: the greater salience; then the greater greatest tag; then the earlier
+/// rule. Only equal matches are not parted.
+pub fn keys_of_firing()
+    ensures salience { (s : List ℤ) (a : Match) (b : Match) → salience_of s b.rule.0 <ℤ salience_of s a.rule.0
+        → fire_cmp s a b ≡ Ordering.Less }
+    ensures newest { (s : List ℤ) (a : Match) (b : Match) → salience_of s a.rule.0 ≡ salience_of s b.rule.0
+        → greatest_tag b.row.facts < greatest_tag a.row.facts → fire_cmp s a b ≡ Ordering.Less }
+    ensures earlier { (s : List ℤ) (a : Match) (b : Match) → salience_of s a.rule.0 ≡ salience_of s b.rule.0
+        → greatest_tag b.row.facts ≡ greatest_tag a.row.facts → a.rule.0 < b.rule.0 → fire_cmp s a b ≡ Ordering.Less }
+    ensures exact { (s : List ℤ) (a : Match) (b : Match) → fire_cmp s a b ≡ Ordering.Equal → a ≡ b }
+{}
