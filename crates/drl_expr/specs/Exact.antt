@@ -1,0 +1,36 @@
+-- What it means that a reading function reads exactly the phrases of a grammar.
+use Rattle.std.specs.Prelude.{◌≡◌, ℕ, ◌<◌, ◌≤◌, List, ◌∷◌, length, Option, Some, None}
+use Rattle.drl_lex.specs.declared.token.TokenKind.{TokenKind}
+use Rattle.drl_lex.specs.declared.token.TokenKind.TheVariants.{Mark}
+use Rattle.drl_lex.specs.declared.token.Mark.TheVariants.{Dot, Star, Plus, Minus, And, Or, Comma, Semicolon}
+
+-- what is read at the front of some tokens, and the tokens behind it
+abbrev pub Read : Type 0 → Type 0
+Read A = Option (A × List TokenKind)
+
+-- a phrase: a value, the tokens at whose front it stands, and the tokens behind it
+abbrev pub Phrase : Type 0 → Type 1
+Phrase A = A → List TokenKind → List TokenKind → Type 0
+
+-- what is read at these tokens stands there
+abbrev pub Found : {A : Type 0} → Phrase A → List TokenKind → Read A → Type 0
+Found Is ts None = Unit {0}
+Found Is ts (Some p) = Is p.0 ts p.1
+
+-- how loosely the first token binds to what stands before it
+abbrev pub binds : List TokenKind → ℕ
+binds (Mark Dot ∷ rest) = 0
+binds (Mark Star ∷ rest) = 1
+binds (Mark Plus ∷ rest) = 2
+binds (Mark Minus ∷ rest) = 2
+binds (Mark And ∷ rest) = 3
+binds (Mark Or ∷ rest) = 4
+binds (Mark Comma ∷ rest) = 5
+binds (Mark Semicolon ∷ rest) = 6
+binds ts = 9
+
+-- What is read stands there; what stands there is read, if what follows binds at least so loosely; and a phrase has a token.
+pub record Exact {A : Type 0} (Is : Phrase A) (read : List TokenKind → Read A) (k : ℕ) : Type 0 where
+  pub sound : (ts : List TokenKind) → Found Is ts (read ts)
+  pub again : (x : A) (ts rest : List TokenKind) → Is x ts rest → k ≤ binds rest → read ts ≡ Some (x, rest)
+  pub shorter : (x : A) (ts rest : List TokenKind) → Is x ts rest → length rest < length ts
