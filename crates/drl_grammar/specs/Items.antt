@@ -1,0 +1,102 @@
+-- The grammar of items, by one case for each line and each alternative of it.
+use Rattle.std.specs.Prelude.{ℕ, ℤ, List, ◌∷◌, pos, neg_ℤ, Bool, true, false, Option, codes}
+use Rattle.drl_lex.specs.declared.token.TokenKind.{TokenKind}
+use Rattle.drl_lex.specs.declared.token.TokenKind.TheVariants.{Word, Number, Text, Mark}
+use Rattle.drl_lex.specs.declared.token.Mark.TheVariants.{OpenParenthesis, CloseParenthesis, Comma, Semicolon, Colon, Dot, At, Minus, Star}
+use Rattle.drl_expr.specs.Words.{IsIdent}
+use Rattle.drl_grammar.specs.declared.action.ActTree.{ActTree}
+use Rattle.drl_grammar.specs.declared.condition.CondTree.{CondTree}
+use Rattle.drl_grammar.specs.declared.file.Attr.{Attr}
+use Rattle.drl_grammar.specs.declared.file.Attr.TheVariants as attr
+use Rattle.drl_grammar.specs.declared.file.Meta.{Meta}
+use Rattle.drl_grammar.specs.declared.file.Meta.TheVariants as meta
+use Rattle.drl_grammar.specs.declared.file.TypeTree.{TypeTree}
+use Rattle.drl_grammar.specs.declared.file.RuleTree.{RuleTree}
+use Rattle.drl_grammar.specs.declared.file.Body.{Body}
+use Rattle.drl_grammar.specs.declared.file.Body.TheVariants as body
+use Rattle.drl_grammar.specs.Shapes.{Maybe, Optional, Many, NonEmpty}
+use Rattle.drl_grammar.specs.Conditions.{IsSpan, IsName, IsCondition}
+use Rattle.drl_grammar.specs.Actions.{IsAction}
+
+-- ---- names with dots
+
+-- '.' Ident
+pub data IsStep : List ℕ → List TokenKind → List TokenKind → Type 0 where
+  step : {f : List ℕ} {rest : List TokenKind} → IsIdent f → IsStep f (Mark Dot ∷ Word f ∷ rest) rest
+
+-- Ident ('.' Ident)*
+pub data IsPath : List (List ℕ) → List TokenKind → List TokenKind → Type 0 where
+  path : {f : List ℕ} {fs : List (List ℕ)} {ts rest : List TokenKind} → IsIdent f → Many IsStep fs ts rest → IsPath (f ∷ fs) (Word f ∷ ts) rest
+
+-- ['.' '*']
+pub data IsStar : Bool → List TokenKind → List TokenKind → Type 0 where
+  no_star : {rest : List TokenKind} → IsStar false rest rest
+  star : {rest : List TokenKind} → IsStar true (Mark Dot ∷ Mark Star ∷ rest) rest
+
+-- ---- types and entry points
+
+-- meta := '@' 'role' '(' ('event' | 'fact') ')' | '@' 'timestamp' '(' Ident ')' | '@' 'duration' '(' Ident ')' | '@' 'expires' '(' span ')'
+pub data IsMeta : Meta → List TokenKind → List TokenKind → Type 0 where
+  event_role : {rest : List TokenKind} → IsMeta (meta.Role true) (Mark At ∷ Word (codes "role") ∷ Mark OpenParenthesis ∷ Word (codes "event") ∷ Mark CloseParenthesis ∷ rest) rest
+  fact_role : {rest : List TokenKind} → IsMeta (meta.Role false) (Mark At ∷ Word (codes "role") ∷ Mark OpenParenthesis ∷ Word (codes "fact") ∷ Mark CloseParenthesis ∷ rest) rest
+  timestamp : {f : List ℕ} {rest : List TokenKind} → IsIdent f
+      → IsMeta (meta.Timestamp f) (Mark At ∷ Word (codes "timestamp") ∷ Mark OpenParenthesis ∷ Word f ∷ Mark CloseParenthesis ∷ rest) rest
+  duration : {f : List ℕ} {rest : List TokenKind} → IsIdent f
+      → IsMeta (meta.Duration f) (Mark At ∷ Word (codes "duration") ∷ Mark OpenParenthesis ∷ Word f ∷ Mark CloseParenthesis ∷ rest) rest
+  expires : {ms : ℤ} {ts rest : List TokenKind} → IsSpan ms ts (Mark CloseParenthesis ∷ rest)
+      → IsMeta (meta.Expires ms) (Mark At ∷ Word (codes "expires") ∷ Mark OpenParenthesis ∷ ts) rest
+
+-- field := Ident ':' Ident
+pub data IsField : List ℕ × List ℕ → List TokenKind → List TokenKind → Type 0 where
+  field : {f k : List ℕ} {rest : List TokenKind} → IsIdent f → IsIdent k → IsField (f, k) (Word f ∷ Mark Colon ∷ Word k ∷ rest) rest
+
+-- Ident meta* field* 'end'
+pub data IsType : TypeTree → List TokenKind → List TokenKind → Type 0 where
+  type_of : {ty : List ℕ} {ms : List Meta} {fs : List (List ℕ × List ℕ)} {ts middle rest : List TokenKind} → IsIdent ty → Many IsMeta ms ts middle → Many IsField fs middle (Word (codes "end") ∷ rest)
+      → IsType (record { name = ty; metas = ms; fields = fs }) (Word ty ∷ ts) rest
+
+-- '@' 'lateness' '(' span ')'
+pub data IsLateness : ℤ → List TokenKind → List TokenKind → Type 0 where
+  lateness : {ms : ℤ} {ts rest : List TokenKind} → IsSpan ms ts (Mark CloseParenthesis ∷ rest) → IsLateness ms (Mark At ∷ Word (codes "lateness") ∷ Mark OpenParenthesis ∷ ts) rest
+
+-- 'entry' '-' 'point' name ['@' 'lateness' '(' span ')'] 'end'
+pub data IsEntry : List ℕ × Option ℤ → List TokenKind → List TokenKind → Type 0 where
+  entry : {s : List ℕ} {late : Option ℤ} {ts middle rest : List TokenKind} → IsName s ts middle → Maybe IsLateness late middle (Word (codes "end") ∷ rest)
+      → IsEntry (s, late) (Word (codes "entry") ∷ Mark Minus ∷ Word (codes "point") ∷ ts) rest
+
+-- ---- rules
+
+-- ['-'] Number
+pub data IsSalience : ℤ → List TokenKind → List TokenKind → Type 0 where
+  high : {n : ℕ} {rest : List TokenKind} → IsSalience (pos n) (Number n ∷ rest) rest
+  low : {n : ℕ} {rest : List TokenKind} → IsSalience (neg_ℤ (pos n)) (Mark Minus ∷ Number n ∷ rest) rest
+
+-- attr := 'salience' ['-'] Number [','] | 'dialect' Text [',']
+pub data IsAttr : Attr → List TokenKind → List TokenKind → Type 0 where
+  salience : {n : ℤ} {ts middle rest : List TokenKind} → IsSalience n ts middle → Optional (Mark Comma) middle rest → IsAttr (attr.Salience n) (Word (codes "salience") ∷ ts) rest
+  dialect : {s : List ℕ} {middle rest : List TokenKind} → Optional (Mark Comma) middle rest → IsAttr (attr.Dialect s) (Word (codes "dialect") ∷ Text s ∷ middle) rest
+
+-- name attr* 'when' condition+ 'then' action* 'end'
+pub data IsRule : RuleTree → List TokenKind → List TokenKind → Type 0 where
+  rule : {s : List ℕ} {attrs : List Attr} {cs : List CondTree} {acts : List ActTree} {ts behind_name conditions actions rest : List TokenKind}
+      → IsName s ts behind_name → Many IsAttr attrs behind_name (Word (codes "when") ∷ conditions)
+      → NonEmpty IsCondition cs conditions (Word (codes "then") ∷ actions) → Many IsAction acts actions (Word (codes "end") ∷ rest)
+      → IsRule (record { name = s; attrs = attrs; conditions = cs; actions = acts }) ts rest
+
+-- ---- items
+
+-- item := 'package' Ident ('.' Ident)* [';']
+--       | 'import' Ident ('.' Ident)* ['.' '*'] [';']
+--       | 'dialect' Text [';']
+--       | 'declare' Ident meta* field* 'end'
+--       | 'declare' 'entry' '-' 'point' name ['@' 'lateness' '(' span ')'] 'end'
+--       | 'rule' name attr* 'when' condition+ 'then' action* 'end'
+pub data IsItem : Body → List TokenKind → List TokenKind → Type 0 where
+  package_item : {path : List (List ℕ)} {ts middle rest : List TokenKind} → IsPath path ts middle → Optional (Mark Semicolon) middle rest
+      → IsItem (body.Package path) (Word (codes "package") ∷ ts) rest
+  import_item : {path : List (List ℕ)} {all : Bool} {ts behind_path middle rest : List TokenKind} → IsPath path ts behind_path → IsStar all behind_path middle → Optional (Mark Semicolon) middle rest
+      → IsItem (body.Import path all) (Word (codes "import") ∷ ts) rest
+  dialect_item : {s : List ℕ} {middle rest : List TokenKind} → Optional (Mark Semicolon) middle rest → IsItem (body.Dialect s) (Word (codes "dialect") ∷ Text s ∷ middle) rest
+  declare_type : {t : TypeTree} {ts rest : List TokenKind} → IsType t ts rest → IsItem (body.Declare t) (Word (codes "declare") ∷ ts) rest
+  declare_entry : {s : List ℕ} {late : Option ℤ} {ts rest : List TokenKind} → IsEntry (s, late) ts rest → IsItem (body.Entry s late) (Word (codes "declare") ∷ ts) rest
+  rule_item : {r : RuleTree} {ts rest : List TokenKind} → IsRule r ts rest → IsItem (body.Rule r) (Word (codes "rule") ∷ ts) rest

@@ -1,0 +1,11 @@
+//! Rule files as trees, and the grammar that says which tokens stand for which tree.
+//! It has definitions alone: the readers and the writer of rule files stand on it, and nothing is assumed.
+#![tactic(auto)]
+
+mod action;
+mod condition;
+mod file;
+
+pub use action::ActTree;
+pub use condition::{Cmp, CondTree, FoldWord, Operand, Part, ResultWord, SourceTree, WindowTree};
+pub use file::{Attr, Body, File, Item, Meta, RuleTree, TypeTree};
