@@ -2,9 +2,11 @@
 //! What it answers is the world's, whose rows are taken anew from the whole list of facts.
 #![tactic(auto)]
 
+mod engine;
 mod lines;
 mod reading;
 mod session;
 
+pub use engine::Engine;
 pub use lines::{Cell, Code, Fired, Lines, OutLine};
 pub use session::Session;

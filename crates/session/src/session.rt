@@ -8,6 +8,7 @@ ghost use Rattle.rule_model.specs.Programs.{is_single};
 ghost use Rattle.rule_model.specs.declared.matched.Match.{Match};
 ghost use Rattle.session.specs.Gives.{fire_line, cells};
 
+use crate::Engine;
 use crate::lines::{Cell, Code, Fired, Lines, OutLine};
 use crate::reading::read_change;
 use agenda::Agenda;
@@ -162,7 +163,7 @@ impl Session {
 
     /// The lines of a change, or its fault, which leaves the world as it is.
     pub fn apply(self, alloc: Global, change: &Change) -> Result<(Session, Lines), NoMemory>
-        requires { self.kept.next < 2 ^ 62 }
+        requires { self.kept.next ≤ 2 ^ 62 }
         ensures lines { IfOk result (λ r. (w : World) → Stands self w → r.1 ≡ (gives self.program w change.now).0) }
         ensures next { IfOk result (λ r. (w : World) → Stands self w → Stands r.0 (gives self.program w change.now).1) }
         ensures program { IfOk result (λ r. r.0.program ≡ self.program) }
@@ -177,7 +178,7 @@ impl Session {
         alloc: Global,
         read: Result<(TypeId, Seq<Value>), Code>,
     ) -> Result<(Session, Lines), NoMemory>
-        requires { self.kept.next < 2 ^ 62 }
+        requires { self.kept.next ≤ 2 ^ 62 }
         ensures lines { IfOk result (λ r. (w : World) → Stands self w → r.1 ≡ (inserts self.program.rules w read).0) }
         ensures next { IfOk result (λ r. (w : World) → Stands self w → Stands r.0 (inserts self.program.rules w read).1) }
         ensures program { IfOk result (λ r. r.0.program ≡ self.program) }
@@ -195,7 +196,7 @@ impl Session {
         ty: TypeId,
         fields: Seq<Value>,
     ) -> Result<(Session, Lines), NoMemory>
-        requires { self.kept.next < 2 ^ 62 }
+        requires { self.kept.next ≤ 2 ^ 62 }
         ensures lines { IfOk result (λ r. (w : World) → Stands self w → r.1 ≡ (inserts self.program.rules w (Ok (ty, fields))).0) }
         ensures next { IfOk result (λ r. (w : World) → Stands self w → Stands r.0 (inserts self.program.rules w (Ok (ty, fields))).1) }
         ensures program { IfOk result (λ r. r.0.program ≡ self.program) }
@@ -272,5 +273,41 @@ impl Session {
         ensures { result.now ≡ self.now.program }
     {
         &self.program
+    }
+}
+
+impl Engine for Session {
+    ghost use Rattle.std.specs.Prelude.{◌-◌};
+    ghost use Rattle.session.specs.Gives.{gives as session_gives, fires as session_fires};
+    ghost use Rattle.session.specs.Standing.{Stands};
+
+    ghost stands = { Stands };
+
+    ghost made_with = { λ s. s.program };
+
+    ghost tags = { λ s. s.kept.next - 1 };
+
+    ghost gives = { session_gives };
+
+    ghost fires = { session_fires };
+
+    fn new(alloc: Global, program: Program) -> Result<Session, NoMemory> {
+        Session::new(alloc, program)
+    }
+
+    fn apply(self, alloc: Global, change: &Change) -> Result<(Session, Lines), NoMemory> {
+        Session::apply(self, alloc, change)
+    }
+
+    fn fire_one(self, alloc: Global) -> Result<(Session, Fired), NoMemory> {
+        Session::fire_one(self, alloc)
+    }
+
+    fn due(&self) -> bool {
+        Session::due(self)
+    }
+
+    fn program(&self) -> &Program {
+        Session::program(self)
     }
 }

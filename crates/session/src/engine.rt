@@ -1,0 +1,61 @@
+ghost use Rattle.std.specs.Prelude.{◌≡◌, ◌+◌, ◌≤◌, ◌<◌, ◌^◌, ℕ, List, Option, IfOk, is_some};
+ghost use Rattle.rule_model.specs.declared.program.Program.{Program as ProgramData};
+ghost use Rattle.rule_model.specs.Programs.{IsAccepted};
+ghost use Rattle.rule_model.specs.Worlds.{World, empty_world};
+ghost use Rattle.script_read.specs.declared.asked.Change.{Change as ChangeData};
+ghost use Rattle.session.specs.declared.lines.OutLine.{OutLine as OutLineData};
+ghost use Rattle.session.specs.Standing.{FiringAnswers};
+
+use crate::lines::{Fired, Lines};
+use fx_base::NoMemory;
+use rule_model::Program;
+use script_read::Change;
+use std::alloc::Global;
+
+/// An engine: it keeps a world of its program in its own way, and answers the lines of each change and firing.
+/// What runs a script knows an engine by this contract alone.
+pub trait Engine: Sized + Drop {
+    // the worlds that a value stands for
+    ghost stands: { Self → World → Type 0 };
+
+    ghost made_with: { Self → ProgramData };
+
+    // how many tags it has given at most
+    ghost tags: { Self → ℕ };
+
+    // the lines of a change in a world, and the next world
+    ghost gives: { ProgramData → World → ChangeData → List OutLineData × World };
+
+    // the lines of one firing, and the next world; nothing where nothing is pending
+    ghost fires: { ProgramData → World → Option (List OutLineData × World) };
+
+    /// An engine in the empty world of a program.
+    fn new(alloc: Global, program: Program) -> Result<Self, NoMemory>
+        requires { IsAccepted program }
+        ensures stands { IfOk result (λ e. stands e empty_world) }
+        ensures program { IfOk result (λ e. made_with e ≡ program) }
+        ensures tags { IfOk result (λ e. tags e ≡ 0) };
+
+    /// The lines of a change, or its fault, which leaves the world as it is.
+    fn apply(self, alloc: Global, change: &Change) -> Result<(Self, Lines), NoMemory>
+        requires { tags self < 2 ^ 62 }
+        ensures lines { IfOk result (λ r. (w : World) → stands self w → r.1 ≡ (gives (made_with self) w change.now).0) }
+        ensures next { IfOk result (λ r. (w : World) → stands self w → stands r.0 (gives (made_with self) w change.now).1) }
+        ensures program { IfOk result (λ r. made_with r.0 ≡ made_with self) }
+        ensures tags { IfOk result (λ r. tags r.0 ≤ tags self + 1) };
+
+    /// The lines of one firing; `No` exactly where nothing is pending.
+    fn fire_one(self, alloc: Global) -> Result<(Self, Fired), NoMemory>
+        requires { tags self < 2 ^ 62 }
+        ensures answers { IfOk result (λ r. (w : World) → stands self w → FiringAnswers (fires (made_with self) w) r.1 w (stands r.0)) }
+        ensures program { IfOk result (λ r. made_with r.0 ≡ made_with self) }
+        ensures tags { IfOk result (λ r. tags r.0 ≤ tags self + 16) };
+
+    /// Whether a match is pending. Takes no memory.
+    fn due(&self) -> bool
+        ensures { (w : World) → stands self.now w → result ≡ is_some (fires (made_with self.now) w) };
+
+    /// The program that the engine was made with. Takes no memory.
+    fn program(&self) -> &Program
+        ensures { result.now ≡ made_with self.now };
+}
