@@ -18,7 +18,8 @@ use Rattle.drl_grammar.specs.Files.{lines_at, IsFile}
 use Rattle.drl_parse.specs.declared.fault.ParseFault.{ParseFault}
 use Rattle.drl_parse.specs.declared.fault.ParseFault.TheVariants.{Syntax, TooLong, Lexical, NoMemory}
 use Rattle.drl_parse.specs.Items.{ItemsRead, items_at, GivesItems}
-use Rattle.drl_parse.specs.Reading.{whole_at, item_at}
+use Rattle.drl_phrase.specs.Reading.{whole_at}
+use Rattle.drl_parse.specs.Reading.{item_at}
 use Rattle.drl_parse.specs.Parsed.{file_limit, IsFault, Parsed, is_file, outside, too_long, lexical, items_parsed, parsed_by, parsed, FaultOf, Gives}
 use Rattle.drl_parse.proofs.FileLaws.{few_tokens, same_kinds, Means, parsed_means}
 use Rattle.drl_parse.proofs.ItemLaws.{Exactly}

@@ -13,7 +13,8 @@ use Rattle.drl_grammar.specs.declared.file.Body.{Body}
 use Rattle.drl_grammar.specs.Files.{line_at, lines_at, IsFile, IsOutside}
 use Rattle.drl_parse.specs.declared.fault.ParseFault.{ParseFault}
 use Rattle.drl_parse.specs.declared.fault.ParseFault.TheVariants.{Syntax, TooLong, Lexical, NoMemory}
-use Rattle.drl_parse.specs.Reading.{whole_at, item_at}
+use Rattle.drl_phrase.specs.Reading.{whole_at}
+use Rattle.drl_parse.specs.Reading.{item_at}
 use Rattle.drl_parse.specs.Items.{ItemsRead, items_at}
 
 -- the greatest number of bytes

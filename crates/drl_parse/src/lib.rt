@@ -3,9 +3,14 @@
 #![tactic(auto)]
 
 mod fault;
+mod items;
 mod lines;
 mod parsing;
+mod paths;
+mod rules;
 mod splitting;
+mod types;
+mod words;
 
 pub use drl_expr::{ExprTree, LitTree, Node};
 pub use drl_grammar::{

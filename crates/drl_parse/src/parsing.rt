@@ -4,23 +4,19 @@ ghost use Rattle.drl_lex.specs.declared.fault.LexCode.{LexCode as LexCodeData};
 ghost use Rattle.drl_grammar.specs.declared.file.File.{File as FileData};
 ghost use Rattle.drl_grammar.specs.Files.{line_at, IsFile, IsOutside};
 ghost use Rattle.drl_parse.specs.Parsed.{file_limit, IsLexical, IsFault, Parsed, is_file, outside, too_long, lexical, parsed, FaultOf, Gives};
-ghost use Rattle.drl_parse.specs.Reading.{whole_at, item_at};
+ghost use Rattle.drl_parse.specs.Reading.{item_at};
+ghost use Rattle.drl_phrase.specs.Reading.{whole_at};
 ghost use Rattle.drl_parse.specs.Items.{items_at, GivesItems};
 
 use crate::fault::ParseFault;
+use crate::items::ItemLine;
 use crate::lines::{line_of, lines_of};
 use crate::splitting::split_item;
-use drl_grammar::{Body, File, Item};
-use drl_lex::{LexFault, Token, TokenKind, kinds_and_starts, lex};
-use fx_base::{NoMemory, Seq};
+use drl_grammar::{File, Item};
+use drl_lex::{LexFault, TokenKind, kinds_and_starts, lex};
+use drl_phrase::whole;
+use fx_base::Seq;
 use std::alloc::Global;
-
-#[tactic(auto, unfolding(crate::specs::Reading::whole_at, crate::specs::Reading::item_at))]
-fn whole_item(_alloc: Global, tokens: &[TokenKind]) -> Result<Option<Body>, NoMemory>
-    ensures { IfOk result (λ found. found ≡ whole_at item_at tokens.now) }
-{
-    Ok(None)
-}
 
 // The fault of an item.
 fn outside(item: u32, line: u32) -> ParseFault
@@ -42,7 +38,7 @@ fn items_of(alloc: Global, tokens: &[TokenKind], lines: &[u32]) -> Result<Seq<It
     while let Some((own, next)) = split_item(rest) {
         number += 1;
         let line = rest_lines[0];
-        let body = match whole_item(alloc, own)? {
+        let body = match whole::<ItemLine>(alloc, own)? {
             None => return Err(outside(number, line)),
             Some(body) => body,
         };
