@@ -1,5 +1,9 @@
+mod BodyLaws
 mod FileLaws
 mod FileTurns
 mod ItemLaws
 mod ItemTurns
 mod LineLaws
+mod PathLaws
+mod RuleLaws
+mod TypeLaws

@@ -5,7 +5,6 @@ use Rattle.drl_lex.specs.declared.token.TokenKind.{TokenKind}
 use Rattle.drl_lex.specs.declared.token.TokenKind.TheVariants.{Word, Number, Text, Mark}
 use Rattle.drl_lex.specs.declared.token.Mark.TheVariants.{OpenParenthesis, CloseParenthesis, Colon, Dot, At, Minus, Star}
 use Rattle.drl_expr.specs.Exact.{Read}
-use Rattle.drl_grammar.specs.declared.action.ActTree.{ActTree}
 use Rattle.drl_grammar.specs.declared.condition.CondTree.{CondTree}
 use Rattle.drl_grammar.specs.declared.file.Attr.{Attr}
 use Rattle.drl_grammar.specs.declared.file.Attr.TheVariants as attr
@@ -17,6 +16,7 @@ use Rattle.drl_grammar.specs.declared.file.Body.{Body}
 use Rattle.drl_grammar.specs.declared.file.Body.TheVariants as body
 use Rattle.drl_phrase.specs.declared.phrase.Punctuation.TheVariants as p
 use Rattle.drl_phrase.specs.Reading.{◌>>=◌, after_word, closed, ended, ident, many_at, nonempty_at, maybe_at, optional_at, span_at, name_at}
+use Rattle.drl_action.specs.Reading.{action_at}
 use Rattle.drl_parse.specs.declared.words.MetaWord.{MetaWord}
 use Rattle.drl_parse.specs.declared.words.MetaWord.TheVariants.{RoleWord, TimestampWord, DurationWord, ExpiresWord}
 use Rattle.drl_parse.specs.declared.words.ItemWord.{ItemWord}
@@ -112,25 +112,23 @@ attr_at (Word w ∷ ts) = if bytes_eq w (codes "salience") then (salience_at ts 
 attr_at ts = None
 
 -- what stands behind the word `then`
-unfoldable pub actions_by : (List TokenKind → Read ActTree) → List ℕ → List Attr → List CondTree → List TokenKind → Read RuleTree
-actions_by action_at s attrs cs ts = many_at action_at ts >>= λ acts. ended (codes "end") (record { name = s; attrs = attrs; conditions = cs; actions = acts.0 }) acts.1
+unfoldable pub actions_at : List ℕ → List Attr → List CondTree → List TokenKind → Read RuleTree
+actions_at s attrs cs ts = many_at action_at ts >>= λ acts. ended (codes "end") (record { name = s; attrs = attrs; conditions = cs; actions = acts.0 }) acts.1
 
 -- what stands behind the word `when`
-unfoldable pub conditions_by : (List TokenKind → Read CondTree) → (List TokenKind → Read ActTree) → List ℕ → List Attr → List TokenKind → Read RuleTree
-conditions_by condition_at action_at s attrs ts = nonempty_at condition_at ts >>= λ cs. after_word (codes "then") cs.1 >>= λ rest. actions_by action_at s attrs cs.0 rest
+unfoldable pub conditions_by : (List TokenKind → Read CondTree) → List ℕ → List Attr → List TokenKind → Read RuleTree
+conditions_by condition_at s attrs ts = nonempty_at condition_at ts >>= λ cs. after_word (codes "then") cs.1 >>= λ rest. actions_at s attrs cs.0 rest
 
--- a rule behind its first word, given how conditions and actions are read
-unfoldable pub rule_by : (List TokenKind → Read CondTree) → (List TokenKind → Read ActTree) → List TokenKind → Read RuleTree
-rule_by condition_at action_at ts = name_at ts >>= λ s. many_at attr_at s.1 >>= λ attrs. after_word (codes "when") attrs.1 >>= λ rest. conditions_by condition_at action_at s.0 attrs.0 rest
+-- a rule behind its first word, given how conditions are read
+unfoldable pub rule_by : (List TokenKind → Read CondTree) → List TokenKind → Read RuleTree
+rule_by condition_at ts = name_at ts >>= λ s. many_at attr_at s.1 >>= λ attrs. after_word (codes "when") attrs.1 >>= λ rest. conditions_by condition_at s.0 attrs.0 rest
 
--- STUBS
+-- STUB
 unfoldable pub condition_at : List TokenKind → Read CondTree
 condition_at ts = None
-unfoldable pub action_at : List TokenKind → Read ActTree
-action_at ts = None
 
 unfoldable pub rule_at : List TokenKind → Read RuleTree
-rule_at = rule_by condition_at action_at
+rule_at = rule_by condition_at
 
 -- ---- items
 

@@ -1,7 +1,8 @@
 ghost use Rattle.std.specs.Prelude.{◌≡◌, option_map, Option, IfOk};
-ghost use Rattle.drl_parse.specs.Reading.{condition_at, action_at, actions_by, conditions_by};
+ghost use Rattle.drl_parse.specs.Reading.{condition_at, actions_at, conditions_by};
 
-use drl_grammar::{ActTree, Attr, CondTree, RuleTree};
+use drl_action::Action;
+use drl_grammar::{Attr, CondTree, RuleTree};
 use drl_lex::{Mark, TokenKind};
 use drl_phrase::{Name, Phrase, Punctuation, behind_word, many, non_empty, optional};
 use fx_base::{NoMemory, Seq, Text};
@@ -22,25 +23,6 @@ impl Phrase for Condition {
         _alloc: Global,
         _tokens: &[TokenKind],
     ) -> Result<Option<(CondTree, &[TokenKind])>, NoMemory> {
-        Ok(None)
-    }
-}
-
-/// STUB
-pub struct Action;
-
-impl Phrase for Action {
-    type Tree = ActTree;
-
-    ghost use Rattle.drl_parse.specs.Reading.{action_at};
-
-    ghost at = { action_at };
-
-    #[tactic(auto, unfolding(crate::specs::Reading::action_at))]
-    fn read(
-        _alloc: Global,
-        _tokens: &[TokenKind],
-    ) -> Result<Option<(ActTree, &[TokenKind])>, NoMemory> {
         Ok(None)
     }
 }
@@ -112,7 +94,7 @@ impl Phrase for AttrLine {
 }
 
 // What stands behind the word `then`.
-#[tactic(auto, unfolding(crate::specs::Reading::actions_by, drl_phrase::specs::Reading::ended))]
+#[tactic(auto, unfolding(crate::specs::Reading::actions_at, drl_phrase::specs::Reading::ended))]
 fn with_actions(
     alloc: Global,
     name: Text,
@@ -120,7 +102,7 @@ fn with_actions(
     conditions: Seq<CondTree>,
     tokens: &[TokenKind],
 ) -> Result<Option<(RuleTree, &[TokenKind])>, NoMemory>
-    ensures { IfOk result (λ found. option_map (λ f. (f.0, f.1.now)) found ≡ actions_by action_at name attrs conditions tokens.now) }
+    ensures { IfOk result (λ found. option_map (λ f. (f.0, f.1.now)) found ≡ actions_at name attrs conditions tokens.now) }
 {
     let (actions, rest) = many::<Action>(alloc, tokens)?;
     match behind_word("end", rest) {
@@ -145,7 +127,7 @@ fn with_conditions(
     attrs: Seq<Attr>,
     tokens: &[TokenKind],
 ) -> Result<Option<(RuleTree, &[TokenKind])>, NoMemory>
-    ensures { IfOk result (λ found. option_map (λ f. (f.0, f.1.now)) found ≡ conditions_by condition_at action_at name attrs tokens.now) }
+    ensures { IfOk result (λ found. option_map (λ f. (f.0, f.1.now)) found ≡ conditions_by condition_at name attrs tokens.now) }
 {
     let (conditions, rest) = match non_empty::<Condition>(alloc, tokens)? {
         None => return Ok(None),
