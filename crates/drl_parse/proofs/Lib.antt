@@ -7,3 +7,4 @@ mod LineLaws
 mod PathLaws
 mod RuleLaws
 mod TypeLaws
+mod WholeLaws
