@@ -85,11 +85,17 @@ parsed_means body_of bytes exact = go (nat_lt file_limit (length bytes)) refl
 pub means_parsed : (body_of : List TokenKind → Option Body) (read : Parsed) (bytes : List ℕ) → Exactly body_of → Means read bytes → parsed_by body_of bytes ≡ read
 unfolding parsed_by
 means_parsed body_of (is_file file) bytes exact (h, le) =
-    rw (le-ltb file_limit (length bytes) le, tokens_again h.tokens bytes h.spelled,
-      items.items_again body_of (length (kinds h.tokens)) file.items (kinds h.tokens) (lines_at bytes h.tokens) exact h.stand (omega arith)) refl
+    rw (
+      le-ltb file_limit (length bytes) le,
+      tokens_again h.tokens bytes h.spelled,
+      items.items_again body_of (length (kinds h.tokens)) file.items (kinds h.tokens) (lines_at bytes h.tokens) exact h.stand (omega arith),
+    ) refl
 means_parsed body_of (outside item line) bytes exact (h, le) =
-    rw (le-ltb file_limit (length bytes) le, tokens_again h.tokens bytes h.spelled,
-      items.refused_again body_of (length (kinds h.tokens)) item line (kinds h.tokens) (lines_at bytes h.tokens) exact h.refused (omega arith)) refl
+    rw (
+      le-ltb file_limit (length bytes) le,
+      tokens_again h.tokens bytes h.spelled,
+      items.refused_again body_of (length (kinds h.tokens)) item line (kinds h.tokens) (lines_at bytes h.tokens) exact h.refused (omega arith),
+    ) refl
 means_parsed body_of too_long bytes exact lt = rw (lt-ltb file_limit (length bytes) lt) refl
 means_parsed body_of (lexical code line) bytes exact (h, le) =
     rw (le-ltb file_limit (length bytes) le, refused_again code h.at bytes h.refused) (ap (lexical code) (sym h.line_is))

@@ -120,8 +120,11 @@ type_exact = record { sound = sound; again = again; shorter = shorter }
 
     again : (x : TypeTree) (ts rest : List TokenKind) → IsType x ts rest → 0 ≤ binds rest → type_at ts ≡ Some (x, rest)
     again x ts rest (g.type_of {ty} {ms} {fs} {ts = behind} {middle} h hms hfs) stop =
-        rw (ident_is ty _ h, many_again meta_exact meta_begins ms behind middle hms (no_meta fs middle rest hfs) (omega arith),
-          many_again field_exact field_begins fs middle (Word (codes "end") ∷ rest) hfs (no_field rest) (omega arith)) (ended_is (codes "end") x rest)
+        rw (
+          ident_is ty _ h,
+          many_again meta_exact meta_begins ms behind middle hms (no_meta fs middle rest hfs) (omega arith),
+          many_again field_exact field_begins fs middle (Word (codes "end") ∷ rest) hfs (no_field rest) (omega arith),
+        ) (ended_is (codes "end") x rest)
 
     shorter : (x : TypeTree) (ts rest : List TokenKind) → IsType x ts rest → length rest < length ts
     shorter x ts rest (g.type_of {ms} {fs} {ts = behind} {middle} h hms hfs) =

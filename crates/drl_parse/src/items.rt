@@ -89,10 +89,7 @@ impl Phrase for ItemLine {
     ghost at = { item_at };
 
     #[tactic(auto, unfolding(crate::specs::Reading::item_at))]
-    fn read(
-        alloc: Global,
-        tokens: &[TokenKind],
-    ) -> Result<Option<(Body, &[TokenKind])>, NoMemory> {
+    fn read(alloc: Global, tokens: &[TokenKind]) -> Result<Option<(Body, &[TokenKind])>, NoMemory> {
         match tokens {
             [TokenKind::Word(word), rest @ ..] => match word_of_item(word.as_str()) {
                 None => Ok(None),

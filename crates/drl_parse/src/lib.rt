@@ -9,6 +9,8 @@ mod parsing;
 mod paths;
 mod rules;
 mod splitting;
+#[cfg(test)]
+mod tests;
 mod types;
 mod words;
 

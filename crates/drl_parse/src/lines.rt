@@ -30,11 +30,7 @@ pub(crate) fn line_of(bytes: &[u8], at: usize) -> u32
 }
 
 /// The lines of the offsets, which rise: one walk over the bytes.
-pub(crate) fn lines_of(
-    alloc: Global,
-    bytes: &[u8],
-    offsets: &[usize],
-) -> Result<Vec<u32>, NoMemory>
+pub(crate) fn lines_of(alloc: Global, bytes: &[u8], offsets: &[usize]) -> Result<Vec<u32>, NoMemory>
     requires { Rises 0 offsets.now (length bytes.now) }
     ensures { IfOk result (λ lines. lines.items ≡ map (line_at bytes.now) offsets.now) }
 {

@@ -65,7 +65,10 @@ fn lexer_fault(bytes: &[u8], fault: LexFault) -> ParseFault
     ensures { FaultOf bytes.now fault result }
 {
     match fault {
-        LexFault::Refused { code, at } => ParseFault::Lexical { code, line: line_of(bytes, at) },
+        LexFault::Refused { code, at } => ParseFault::Lexical {
+            code,
+            line: line_of(bytes, at),
+        },
         LexFault::NoMemory => ParseFault::NoMemory,
     }
 }

@@ -23,11 +23,8 @@ impl Phrase for Step {
         tokens: &[TokenKind],
     ) -> Result<Option<(Text, &[TokenKind])>, NoMemory> {
         match tokens {
-            [
-                TokenKind::Mark(Mark::Dot),
-                TokenKind::Word(name),
-                rest @ ..,
-            ] if is_ident_word(name.as_str()) => Ok(Some((name.clone()?, rest))),
+            [TokenKind::Mark(Mark::Dot), TokenKind::Word(name), rest @ ..]
+                if is_ident_word(name.as_str()) => Ok(Some((name.clone()?, rest))),
             _ => Ok(None),
         }
     }

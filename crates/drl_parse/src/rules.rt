@@ -38,10 +38,7 @@ impl Phrase for Salience {
     ghost at = { salience_at };
 
     #[tactic(auto, unfolding(crate::specs::Reading::salience_at))]
-    fn read(
-        _alloc: Global,
-        tokens: &[TokenKind],
-    ) -> Result<Option<(i64, &[TokenKind])>, NoMemory> {
+    fn read(_alloc: Global, tokens: &[TokenKind]) -> Result<Option<(i64, &[TokenKind])>, NoMemory> {
         match tokens {
             [TokenKind::Number(number), rest @ ..] => Ok(Some((number.value(), rest))),
             [
@@ -65,10 +62,7 @@ impl Phrase for AttrLine {
     ghost at = { attr_at };
 
     #[tactic(auto, unfolding(crate::specs::Reading::attr_at))]
-    fn read(
-        alloc: Global,
-        tokens: &[TokenKind],
-    ) -> Result<Option<(Attr, &[TokenKind])>, NoMemory> {
+    fn read(alloc: Global, tokens: &[TokenKind]) -> Result<Option<(Attr, &[TokenKind])>, NoMemory> {
         match tokens {
             [TokenKind::Word(word), TokenKind::Text(text), rest @ ..] => {
                 if word.as_str() != "dialect" {

@@ -84,16 +84,11 @@ impl Phrase for MetaLine {
     ghost at = { meta_at };
 
     #[tactic(auto, unfolding(crate::specs::Reading::meta_at))]
-    fn read(
-        alloc: Global,
-        tokens: &[TokenKind],
-    ) -> Result<Option<(Meta, &[TokenKind])>, NoMemory> {
+    fn read(alloc: Global, tokens: &[TokenKind]) -> Result<Option<(Meta, &[TokenKind])>, NoMemory> {
         match tokens {
-            [
-                TokenKind::Mark(Mark::At),
-                TokenKind::Word(word),
-                rest @ ..,
-            ] => match word_of_meta(word.as_str()) {
+            [TokenKind::Mark(Mark::At), TokenKind::Word(word), rest @ ..] => match word_of_meta(
+                word.as_str(),
+            ) {
                 None => Ok(None),
                 Some(word) => behind_meta_word(alloc, word, rest),
             },
@@ -180,10 +175,7 @@ impl Phrase for Lateness {
     ghost at = { lateness_at };
 
     #[tactic(auto, unfolding(crate::specs::Reading::lateness_at, drl_phrase::specs::Reading::closed))]
-    fn read(
-        alloc: Global,
-        tokens: &[TokenKind],
-    ) -> Result<Option<(i64, &[TokenKind])>, NoMemory> {
+    fn read(alloc: Global, tokens: &[TokenKind]) -> Result<Option<(i64, &[TokenKind])>, NoMemory> {
         match tokens {
             [
                 TokenKind::Mark(Mark::At),
