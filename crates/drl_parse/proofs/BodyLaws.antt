@@ -1,4 +1,4 @@
--- Items are read exactly, if conditions and actions are.
+-- Items are read exactly.
 use Rattle.std.proofs.Common.{◌≡◌, ℕ, ℤ, ◌<◌, ◌≤◌, Bool, true, false, cond, List, [], ◌∷◌, length, Option, Some, None, refl, arith}
 use Rattle.std.specs.Prelude.{IfSome, codes}
 use Rattle.std.specs.Str.{bytes_eq}
@@ -22,6 +22,7 @@ use Rattle.drl_parse.specs.declared.words.ItemWord.TheVariants.{PackageWord, Imp
 use Rattle.drl_parse.specs.Reading.{item_text, item_word, path_at, star_at, type_at, entry_at, declare_at, rule_at, behind_item, item_at}
 use Rattle.drl_parse.proofs.ItemLaws.{Exactly}
 use Rattle.drl_parse.proofs.PathLaws.{no_step, path_again, path_exact, star_sound, star_again, star_ends, star_shorter}
+use Rattle.drl_parse.proofs.RuleLaws.{rule_exact}
 use Rattle.drl_parse.proofs.TypeLaws.{type_exact, entry_exact}
 
 -- ---- declarations
@@ -73,27 +74,27 @@ declared : (ts : List TokenKind) (o : Read Body) → Found IsDeclaration ts o �
 declared ts None h = tt
 declared ts (Some x) h = h
 
-behind_sound : (k : ItemWord) (ts : List TokenKind) → Exact IsRule rule_at 0 → Found IsItem (Word (item_text k) ∷ ts) (behind_item k ts)
+behind_sound : (k : ItemWord) (ts : List TokenKind) → Found IsItem (Word (item_text k) ∷ ts) (behind_item k ts)
 unfolding behind_item
-behind_sound PackageWord ts rules = then IsPath ts (path_at ts) _ IsItem _ (path_exact.sound ts) (λ path hpath. g.package_item hpath (optional_sound p.Semicolon path.1))
-behind_sound ImportWord ts rules = then IsPath ts (path_at ts) _ IsItem _ (path_exact.sound ts) (λ path hpath. g.import_item hpath (star_sound path.1) (optional_sound p.Semicolon (star_at path.1).1))
-behind_sound DialectWord (Text s ∷ ts) rules = g.dialect_item (optional_sound p.Semicolon ts)
-behind_sound DeclareWord ts rules = declared ts (declare_at ts) (declare_sound ts)
-behind_sound RuleWord ts rules = then IsRule ts (rule_at ts) _ IsItem _ (rules.sound ts) (λ r hr. g.rule_item hr)
-behind_sound word ts rules = tt
+behind_sound PackageWord ts = then IsPath ts (path_at ts) _ IsItem _ (path_exact.sound ts) (λ path hpath. g.package_item hpath (optional_sound p.Semicolon path.1))
+behind_sound ImportWord ts = then IsPath ts (path_at ts) _ IsItem _ (path_exact.sound ts) (λ path hpath. g.import_item hpath (star_sound path.1) (optional_sound p.Semicolon (star_at path.1).1))
+behind_sound DialectWord (Text s ∷ ts) = g.dialect_item (optional_sound p.Semicolon ts)
+behind_sound DeclareWord ts = declared ts (declare_at ts) (declare_sound ts)
+behind_sound RuleWord ts = then IsRule ts (rule_at ts) _ IsItem _ (rule_exact.sound ts) (λ r hr. g.rule_item hr)
+behind_sound word ts = tt
 
 -- before an optional semicolon stands no dot
 no_dot : (ts rest : List TokenKind) → Optional (Mark Semicolon) ts rest → 9 ≤ binds rest → 1 ≤ binds ts
 no_dot ts rest absent stop = omega arith
 no_dot ts rest present stop = omega arith
 
-pub item_exact : Exact IsRule rule_at 0 → Exact IsItem item_at 9
+pub item_exact : Exact IsItem item_at 9
 unfolding item_at item_word behind_item
-item_exact rules = record { sound = sound; again = again; shorter = shorter }
+item_exact = record { sound = sound; again = again; shorter = shorter }
   where
     word_then : (w : List ℕ) (rest : List TokenKind) (o : Option ItemWord) → IfSome o (λ k. w ≡ item_text k) → Found IsItem (Word w ∷ rest) (o >>= λ word. behind_item word rest)
     word_then w rest None h = tt
-    word_then w rest (Some k) h = rw h (behind_sound k rest rules)
+    word_then w rest (Some k) h = rw h (behind_sound k rest)
 
     sound : (ts : List TokenKind) → Found IsItem ts (item_at ts)
     sound (Word w ∷ rest) = word_then w rest (item_word w) (word_sound w)
@@ -108,7 +109,7 @@ item_exact rules = record { sound = sound; again = again; shorter = shorter }
     again x ts rest (g.dialect_item {middle} hend) stop = rw (optional_again p.Semicolon middle rest hend (omega arith)) refl
     again x ts rest (g.declare_type {t} {ts = behind} h) stop = type_again t behind rest h
     again x ts rest (g.declare_entry {s} {late} {ts = behind} h) stop = entry_again s late behind rest h
-    again x ts rest (g.rule_item {r} {ts = behind} h) stop = rw (rules.again r behind rest h (omega arith)) refl
+    again x ts rest (g.rule_item {r} {ts = behind} h) stop = rw (rule_exact.again r behind rest h (omega arith)) refl
 
     shorter : (x : Body) (ts rest : List TokenKind) → IsItem x ts rest → length rest < length ts
     shorter x ts rest (g.package_item {path} {ts = behind} {middle} hpath hend) =
@@ -121,13 +122,13 @@ item_exact rules = record { sound = sound; again = again; shorter = shorter }
     shorter x ts rest (g.dialect_item {middle} hend) = let others = optional_shorter (Mark Semicolon) middle rest hend in omega arith
     shorter x ts rest (g.declare_type {t} {ts = behind} h) = let first = type_exact.shorter t behind rest h in omega arith
     shorter x ts rest (g.declare_entry {s} {late} {ts = behind} h) = let first = entry_exact.shorter (s, late) behind rest h in omega arith
-    shorter x ts rest (g.rule_item {r} {ts = behind} h) = let first = rules.shorter r behind rest h in omega arith
+    shorter x ts rest (g.rule_item {r} {ts = behind} h) = let first = rule_exact.shorter r behind rest h in omega arith
 
 -- ---- all the tokens of an item
 
-pub exactly : Exact IsItem item_at 9 → Exactly (whole_at item_at)
+pub items_read : Exactly (whole_at item_at)
 unfolding whole_at
-exactly items = record {
-  stands = λ ts. whole_found items ts (whole_at item_at ts) refl;
-  again = λ body ts h. rw (items.again body ts [] h (omega arith)) refl;
+items_read = record {
+  stands = λ ts. whole_found item_exact ts (whole_at item_at ts) refl;
+  again = λ body ts h. rw (item_exact.again body ts [] h (omega arith)) refl;
 }

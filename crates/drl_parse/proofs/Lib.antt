@@ -7,4 +7,3 @@ mod LineLaws
 mod PathLaws
 mod RuleLaws
 mod TypeLaws
-mod WholeLaws

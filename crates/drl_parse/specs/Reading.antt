@@ -16,6 +16,7 @@ use Rattle.drl_grammar.specs.declared.file.Body.{Body}
 use Rattle.drl_grammar.specs.declared.file.Body.TheVariants as body
 use Rattle.drl_phrase.specs.declared.phrase.Punctuation.TheVariants as p
 use Rattle.drl_phrase.specs.Reading.{◌>>=◌, after_word, closed, ended, ident, many_at, nonempty_at, maybe_at, optional_at, span_at, name_at}
+use Rattle.drl_condition.specs.Reading.{condition_at}
 use Rattle.drl_action.specs.Reading.{action_at}
 use Rattle.drl_parse.specs.declared.words.MetaWord.{MetaWord}
 use Rattle.drl_parse.specs.declared.words.MetaWord.TheVariants.{RoleWord, TimestampWord, DurationWord, ExpiresWord}
@@ -116,19 +117,12 @@ unfoldable pub actions_at : List ℕ → List Attr → List CondTree → List To
 actions_at s attrs cs ts = many_at action_at ts >>= λ acts. ended (codes "end") (record { name = s; attrs = attrs; conditions = cs; actions = acts.0 }) acts.1
 
 -- what stands behind the word `when`
-unfoldable pub conditions_by : (List TokenKind → Read CondTree) → List ℕ → List Attr → List TokenKind → Read RuleTree
-conditions_by condition_at s attrs ts = nonempty_at condition_at ts >>= λ cs. after_word (codes "then") cs.1 >>= λ rest. actions_at s attrs cs.0 rest
+unfoldable pub conditions_at : List ℕ → List Attr → List TokenKind → Read RuleTree
+conditions_at s attrs ts = nonempty_at condition_at ts >>= λ cs. after_word (codes "then") cs.1 >>= λ rest. actions_at s attrs cs.0 rest
 
--- a rule behind its first word, given how conditions are read
-unfoldable pub rule_by : (List TokenKind → Read CondTree) → List TokenKind → Read RuleTree
-rule_by condition_at ts = name_at ts >>= λ s. many_at attr_at s.1 >>= λ attrs. after_word (codes "when") attrs.1 >>= λ rest. conditions_by condition_at s.0 attrs.0 rest
-
--- STUB
-unfoldable pub condition_at : List TokenKind → Read CondTree
-condition_at ts = None
-
+-- a rule behind its first word
 unfoldable pub rule_at : List TokenKind → Read RuleTree
-rule_at = rule_by condition_at
+rule_at ts = name_at ts >>= λ s. many_at attr_at s.1 >>= λ attrs. after_word (codes "when") attrs.1 >>= λ rest. conditions_at s.0 attrs.0 rest
 
 -- ---- items
 

@@ -1,31 +1,13 @@
 ghost use Rattle.std.specs.Prelude.{◌≡◌, option_map, Option, IfOk};
-ghost use Rattle.drl_parse.specs.Reading.{condition_at, actions_at, conditions_by};
+ghost use Rattle.drl_parse.specs.Reading.{actions_at, conditions_at};
 
 use drl_action::Action;
+use drl_condition::ConditionPhrase;
 use drl_grammar::{Attr, CondTree, RuleTree};
 use drl_lex::{Mark, TokenKind};
 use drl_phrase::{Name, Phrase, Punctuation, behind_word, many, non_empty, optional};
 use fx_base::{NoMemory, Seq, Text};
 use std::alloc::Global;
-
-/// STUB
-pub struct Condition;
-
-impl Phrase for Condition {
-    type Tree = CondTree;
-
-    ghost use Rattle.drl_parse.specs.Reading.{condition_at};
-
-    ghost at = { condition_at };
-
-    #[tactic(auto, unfolding(crate::specs::Reading::condition_at))]
-    fn read(
-        _alloc: Global,
-        _tokens: &[TokenKind],
-    ) -> Result<Option<(CondTree, &[TokenKind])>, NoMemory> {
-        Ok(None)
-    }
-}
 
 /// The number of a rule's salience, with a minus or without.
 pub(crate) struct Salience;
@@ -114,16 +96,16 @@ fn with_actions(
 }
 
 // What stands behind the word `when`.
-#[tactic(auto, unfolding(crate::specs::Reading::conditions_by))]
+#[tactic(auto, unfolding(crate::specs::Reading::conditions_at))]
 fn with_conditions(
     alloc: Global,
     name: Text,
     attrs: Seq<Attr>,
     tokens: &[TokenKind],
 ) -> Result<Option<(RuleTree, &[TokenKind])>, NoMemory>
-    ensures { IfOk result (λ found. option_map (λ f. (f.0, f.1.now)) found ≡ conditions_by condition_at name attrs tokens.now) }
+    ensures { IfOk result (λ found. option_map (λ f. (f.0, f.1.now)) found ≡ conditions_at name attrs tokens.now) }
 {
-    let (conditions, rest) = match non_empty::<Condition>(alloc, tokens)? {
+    let (conditions, rest) = match non_empty::<ConditionPhrase>(alloc, tokens)? {
         None => return Ok(None),
         Some(found) => found,
     };
@@ -143,7 +125,7 @@ impl Phrase for RuleLine {
 
     ghost at = { rule_at };
 
-    #[tactic(auto, unfolding(crate::specs::Reading::rule_at, crate::specs::Reading::rule_by))]
+    #[tactic(auto, unfolding(crate::specs::Reading::rule_at))]
     fn read(
         alloc: Global,
         tokens: &[TokenKind],
