@@ -1,83 +1,106 @@
--- What is read is the File of the bytes, and the File of the bytes is read.
-use Rattle.std.proofs.Common.{◌≡◌, ℕ, zero, suc, ◌+◌, ◌<◌, List, [], ◌∷◌, length, take, drop, length-drop, Option, Some, None, option_map, refl, sym, ◌∙◌, arith}
-use Rattle.std.specs.Prelude.{IfSome}
-use Rattle.drl_parse.specs.declared.token.Token.{Token}
-use Rattle.drl_parse.specs.declared.tree.Body.{Body}
-use Rattle.drl_parse.specs.declared.tree.Item.{Item}
-use Rattle.drl_parse.specs.declared.tree.File.{File}
-use Rattle.drl_parse.specs.Tokens.{AreTokens}
-use Rattle.drl_parse.specs.Lexing.{◌>>=◌, tokens_of}
-use Rattle.drl_parse.specs.Reading.{whole_at, body_at}
-use Rattle.drl_parse.specs.Grammar.{IsBody}
-use Rattle.drl_parse.specs.Files.{extent, item_line, AreItems, none, next, IsFile, items_at, parsed}
-use Rattle.drl_parse.proofs.ShapeLaws.{whole_sound, whole_again}
-use Rattle.drl_parse.proofs.GrammarLaws.{body_exact}
-use Rattle.drl_parse.proofs.LexLaws.{tokens_sound, tokens_again}
+-- What the bytes are is what is read of them.
+use Rattle.std.proofs.Common.{◌≡◌, ◌↔◌, ℕ, zero, suc, ◌+◌, ◌-◌, ◌<◌, ◌≤◌, nat_lt, Bool, true, false, cond, List, [], ◌∷◌, length, map, Option, Some, None, Result, Ok, Err, refl, sym, ap, ◌∙◌, arith}
+use Rattle.std.proofs.lemmas.Bool.{ltb-true, ltb-false, lt-ltb, le-ltb}
+use Rattle.drl_lex.specs.declared.token.Token.{Token}
+use Rattle.drl_lex.specs.declared.token.TokenKind.{TokenKind}
+use Rattle.drl_lex.specs.declared.fault.LexCode.{LexCode}
+use Rattle.drl_lex.specs.Faults as lexer
+use Rattle.drl_lex.specs.Kinds.{kinds, starts}
+use Rattle.drl_lex.specs.Tokens.{AreTokens}
+use Rattle.drl_lex.specs.Reading.{Read, piece_at, with_token, behind_piece, lexed_step, lexed_from, lexed}
+use Rattle.drl_lex.proofs.FileLaws.{tokens_sound, tokens_again, refused_sound, refused_again}
+use Rattle.drl_grammar.specs.declared.file.Item.{Item}
+use Rattle.drl_grammar.specs.declared.file.Body.{Body}
+use Rattle.drl_grammar.specs.declared.file.File.{File}
+use Rattle.drl_grammar.specs.Files.{line_at, lines_at, IsFile, IsOutside}
+use Rattle.drl_parse.specs.Items.{ItemsRead, items_at}
+use Rattle.drl_parse.specs.Parsed.{file_limit, IsLexical, Parsed, is_file, outside, too_long, lexical, items_parsed, tokens_parsed, parsed_by}
+use Rattle.drl_parse.proofs.ItemLaws as items
+use Rattle.drl_parse.proofs.ItemLaws.{Exactly, Stands, items_sound}
 
--- ---- items
+-- ---- no more tokens than bytes
 
-item_then : (t : Token) (ts : List Token) (line : ℕ) (lines : List ℕ) (found : Option Body) (read : Option (List Item)) → IfSome found (λ body. IsBody body (t ∷ take (extent t ts) ts) [])
-    → IfSome read (λ items. AreItems items (drop (extent t ts) ts) (drop (extent t ts) lines))
-    → IfSome (found >>= λ body. option_map (λ items. record { line = item_line line; body = body } ∷ items) read) (λ items. AreItems items (t ∷ ts) (line ∷ lines))
-item_then t ts line lines None read h behind = tt
-item_then t ts line lines (Some body) None h behind = tt
-item_then t ts line lines (Some body) (Some items) h behind = next h behind
+behind_few : (n at len : ℕ) (kind : Option TokenKind) (more : Result (List Token) (LexCode × ℕ)) (tokens : List Token) → ((others : List Token) → more ≡ Ok others → length others ≤ n)
+    → behind_piece at len kind more ≡ Ok tokens → length tokens ≤ suc n
+behind_few n at len None more tokens few e = let le = few tokens e in omega arith
+behind_few n at len (Some kind) (Ok others) tokens few e =
+    let same : record { kind = kind; at = at; len = len } ∷ others ≡ tokens = cc in
+    let le = few others refl in
+    rw (← same) (omega arith)
+behind_few n at len (Some kind) (Err fault) tokens few e = absurd cc
 
-pub items_sound : (n : ℕ) (ts : List Token) (lines : List ℕ) → IfSome (items_at n ts lines) (λ items. AreItems items ts lines)
-unfolding items_at
-items_sound zero ts lines = tt
-items_sound (suc n) [] [] = none
-items_sound (suc n) [] (line ∷ lines) = tt
-items_sound (suc n) (t ∷ ts) [] = tt
-items_sound (suc n) (t ∷ ts) (line ∷ lines) =
-    item_then t ts line lines (whole_at body_at (t ∷ take (extent t ts) ts)) (items_at n (drop (extent t ts) ts) (drop (extent t ts) lines))
-    (whole_sound body_exact (t ∷ take (extent t ts) ts)) (items_sound n (drop (extent t ts) ts) (drop (extent t ts) lines))
+step_few : (n at len : ℕ) (read : Read (Option TokenKind)) (tokens : List Token) → ((at : ℕ) (rest : List ℕ) (others : List Token) → lexed_from n at rest ≡ Ok others → length others ≤ n)
+    → lexed_step at len read (lexed_from n) ≡ Ok tokens → length tokens ≤ suc n
+step_few n at len (Ok read) tokens few e =
+    behind_few n at (len - length read.1) read.0 (lexed_from n (at + (len - length read.1)) read.1) tokens (few (at + (len - length read.1)) read.1) e
+step_few n at len (Err fault) tokens few e = absurd cc
 
-pub items_again : (n : ℕ) (items : List Item) (ts : List Token) (lines : List ℕ) → AreItems items ts lines → length ts < n → items_at n ts lines ≡ Some items
-unfolding items_at
-items_again zero items ts lines h lt = absurd (omega arith)
-items_again (suc n) items ts lines none lt = refl
-items_again (suc n) items ts lines (next {body} {items = others} {t} {ts = behind} {line} {lines = later} h more) lt =
+few_from : (n at : ℕ) (bytes : List ℕ) (tokens : List Token) → lexed_from n at bytes ≡ Ok tokens → length tokens ≤ n
+unfolding lexed_from
+few_from n at [] tokens e = let none : [] ≡ tokens = cc in rw (← none) (omega arith)
+few_from zero at (b ∷ bytes) tokens e = let none : [] ≡ tokens = cc in rw (← none) (omega arith)
+few_from (suc n) at (b ∷ bytes) tokens e = step_few n at (length (b ∷ bytes)) (piece_at at (b ∷ bytes)) tokens (few_from n) e
+
+pub few_tokens : (tokens : List Token) (bytes : List ℕ) → AreTokens tokens bytes → length tokens ≤ length bytes
+unfolding lexed
+few_tokens tokens bytes h = few_from (length bytes) 0 bytes tokens (tokens_again tokens bytes h)
+
+-- ---- what is read is so
+
+abbrev pub Means : Parsed → List ℕ → Type 0
+Means (is_file file) bytes = IsFile file bytes × (length bytes ≤ file_limit)
+Means (outside item line) bytes = IsOutside item line bytes × (length bytes ≤ file_limit)
+Means too_long bytes = file_limit < length bytes
+Means (lexical code line) bytes = IsLexical code line bytes × (length bytes ≤ file_limit)
+
+same_lines : (bytes : List ℕ) (tokens : List Token) → length (lines_at bytes tokens) ≡ length (kinds tokens)
+same_lines bytes [] = refl
+same_lines bytes (token ∷ tokens) = let same = same_lines bytes tokens in omega arith
+
+pub same_kinds : (tokens : List Token) → length (kinds tokens) ≡ length tokens
+same_kinds [] = refl
+same_kinds (token ∷ tokens) = let same = same_kinds tokens in omega arith
+
+items_mean : (bytes : List ℕ) (tokens : List Token) (read : ItemsRead) → AreTokens tokens bytes → length bytes ≤ file_limit → Stands read (kinds tokens) (lines_at bytes tokens) → Means (items_parsed read) bytes
+items_mean bytes tokens (Ok read) spelled le h = (record { tokens = tokens; spelled = spelled; stand = h }, le)
+items_mean bytes tokens (Err refused) spelled le h = (record { tokens = tokens; spelled = spelled; refused = h }, le)
+
+tokens_mean : (body_of : List TokenKind → Option Body) (bytes : List ℕ) (read : Result (List Token) (LexCode × ℕ)) → Exactly body_of → lexed bytes ≡ read → length bytes ≤ file_limit
+    → Means (tokens_parsed body_of bytes read) bytes
+tokens_mean body_of bytes (Ok tokens) exact e le =
+    items_mean bytes tokens (items_at body_of (length (kinds tokens)) (kinds tokens) (lines_at bytes tokens)) (tokens_sound tokens bytes e) le
+    (items_sound body_of (length (kinds tokens)) (kinds tokens) (lines_at bytes tokens) exact (same_lines bytes tokens) (omega arith))
+tokens_mean body_of bytes (Err fault) exact e le = (record { at = fault.1; refused = refused_sound fault.0 fault.1 bytes e; line_is = refl }, le)
+
+pub parsed_means : (body_of : List TokenKind → Option Body) (bytes : List ℕ) → Exactly body_of → Means (parsed_by body_of bytes) bytes
+unfolding parsed_by
+parsed_means body_of bytes exact = go (nat_lt file_limit (length bytes)) refl
+  where
+    go : (b : Bool) → nat_lt file_limit (length bytes) ≡ b → Means (cond b too_long (tokens_parsed body_of bytes (lexed bytes))) bytes
+    go true e = ltb-true file_limit (length bytes) e
+    go false e = tokens_mean body_of bytes (lexed bytes) exact refl (ltb-false file_limit (length bytes) e)
+
+-- ---- what is so is read
+
+pub means_parsed : (body_of : List TokenKind → Option Body) (read : Parsed) (bytes : List ℕ) → Exactly body_of → Means read bytes → parsed_by body_of bytes ≡ read
+unfolding parsed_by
+means_parsed body_of (is_file file) bytes exact (h, le) =
     rw (
-      whole_again body_exact body (t ∷ take (extent t behind) behind) h,
-      items_again n others (drop (extent t behind) behind) (drop (extent t behind) later) more (omega (arith, length-drop (extent t behind) behind)),
+      le-ltb file_limit (length bytes) le,
+      tokens_again h.tokens bytes h.spelled,
+      items.items_again body_of (length (kinds h.tokens)) file.items (kinds h.tokens) (lines_at bytes h.tokens) exact h.stand (omega arith),
     ) refl
+means_parsed body_of (outside item line) bytes exact (h, le) =
+    rw (
+      le-ltb file_limit (length bytes) le,
+      tokens_again h.tokens bytes h.spelled,
+      items.refused_again body_of (length (kinds h.tokens)) item line (kinds h.tokens) (lines_at bytes h.tokens) exact h.refused (omega arith),
+    ) refl
+means_parsed body_of too_long bytes exact lt = rw (lt-ltb file_limit (length bytes) lt) refl
+means_parsed body_of (lexical code line) bytes exact (h, le) =
+    rw (le-ltb file_limit (length bytes) le, refused_again code h.at bytes h.refused) (ap (lexical code) (sym h.line_is))
 
--- enough turns are enough
-pub enough_turns : (m n : ℕ) (ts : List Token) (lines : List ℕ) → length ts < m → length ts < n → items_at m ts lines ≡ items_at n ts lines
-enough_turns m n ts lines lt lt2 = go (items_at m ts lines) (items_at n ts lines) refl refl
-  where
-    go : (o p : Option (List Item)) → items_at m ts lines ≡ o → items_at n ts lines ≡ p → items_at m ts lines ≡ items_at n ts lines
-    go None None e f = e ∙ sym f
-    go (Some items) p e f = e ∙ sym (items_again n items ts lines (rw e at (items_sound m ts lines)) lt2)
-    go None (Some items) e f = items_again m items ts lines (rw f at (items_sound n ts lines)) lt ∙ sym f
+-- ---- the law
 
--- ---- the file
-
-file_then : (bytes : List ℕ) (ts : List Token) (lines : List ℕ) (found : Option (List Item)) → AreTokens 1 ts lines bytes → IfSome found (λ items. AreItems items ts lines)
-    → IfSome (option_map (λ items. record { items = items }) found) (λ (file : File). IsFile file bytes)
-file_then bytes ts lines None spelled h = tt
-file_then bytes ts lines (Some items) spelled h = record { tokens = ts; lines = lines; spelled = spelled; stand = h }
-
-pub parsed_sound : (bytes : List ℕ) → IfSome (parsed bytes) (λ file. IsFile file bytes)
-unfolding parsed
-parsed_sound bytes = go (tokens_of (length bytes + 1) 1 bytes) (tokens_sound (length bytes + 1) 1 bytes)
-  where
-    go : (o : Option (List Token × List ℕ)) → IfSome o (λ r. AreTokens 1 r.0 r.1 bytes)
-        → IfSome (o >>= λ read. option_map (λ items. record { items = items }) (items_at (length read.0 + 1) read.0 read.1)) (λ (file : File). IsFile file bytes)
-    go None h = tt
-    go (Some r) h = file_then bytes r.0 r.1 (items_at (length r.0 + 1) r.0 r.1) h (items_sound (length r.0 + 1) r.0 r.1)
-
-pub parsed_again : (file : File) (bytes : List ℕ) → IsFile file bytes → parsed bytes ≡ Some file
-unfolding parsed
-parsed_again file bytes h =
-    rw (tokens_again (length bytes + 1) 1 h.tokens h.lines bytes h.spelled (omega arith), items_again (length h.tokens + 1) file.items h.tokens h.lines h.stand (omega arith)) refl
-
-pub one_file : (bytes : List ℕ) (file other : File) → IsFile file bytes → IsFile other bytes → file ≡ other
-one_file bytes file other h k = let e = sym (parsed_again file bytes h) ∙ parsed_again other bytes k in cc
-
-pub found_stands : (bytes : List ℕ) (file : File) → Some file ≡ parsed bytes → IsFile file bytes
-found_stands bytes file e = rw (← e) at (parsed_sound bytes)
-
-pub none_stands : (bytes : List ℕ) → None ≡ parsed bytes → (file : File) → IsFile file bytes → ⊥
-none_stands bytes e file h = let again = parsed_again file bytes h in absurd cc
+pub is_exactly : (body_of : List TokenKind → Option Body) (read : Parsed) (bytes : List ℕ) → Exactly body_of → Means read bytes ↔ (parsed_by body_of bytes ≡ read)
+is_exactly body_of read bytes exact = (means_parsed body_of read bytes exact, λ e. rw e at (parsed_means body_of bytes exact))

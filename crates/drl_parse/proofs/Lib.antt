@@ -1,11 +1,9 @@
-pub mod Fronts
-pub mod Utf8
-pub mod Numbers
-pub mod TokenLaws
-pub mod LexLaws
-pub mod LexTurns
-pub mod PhraseTurns
-pub mod ShapeLaws
-pub mod GrammarLaws
-pub mod FileLaws
-pub mod ItemTurns
+mod BodyLaws
+mod FileLaws
+mod FileTurns
+mod ItemLaws
+mod ItemTurns
+mod LineLaws
+mod PathLaws
+mod RuleLaws
+mod TypeLaws

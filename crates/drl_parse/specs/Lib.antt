@@ -1,6 +1,4 @@
-pub mod Tokens
-pub mod Shapes
-pub mod Grammar
-pub mod Lexing
+pub mod Items
+pub mod Lines
+pub mod Parsed
 pub mod Reading
-pub mod Files

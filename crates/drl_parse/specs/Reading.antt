@@ -1,117 +1,145 @@
--- Reading what stands at the front of the tokens: the value, and what follows it.
-use Rattle.std.specs.Prelude.{ℕ, zero, suc, length, List, [], ◌∷◌, pos, neg_ℤ, Option, Some, None, if◌then◌else◌, codes}
+-- Reading the items of a file: the value of the phrase at the front and the tokens behind it.
+use Rattle.std.specs.Prelude.{ℕ, ℤ, List, [], ◌∷◌, pos, neg_ℤ, Bool, true, false, Option, Some, None, if◌then◌else◌, codes}
 use Rattle.std.specs.Str.{bytes_eq}
-use Rattle.drl_parse.specs.declared.token.Token.{Token}
-use Rattle.drl_parse.specs.declared.token.Token.TheVariants.{Word, Number, Quoted, Mark}
-use Rattle.drl_parse.specs.declared.token.Mark.TheVariants.{Open, Close, Colon, Minus, Comparison}
-use Rattle.drl_parse.specs.declared.tree.LitTree.{LitTree}
-use Rattle.drl_parse.specs.declared.tree.LitTree.TheVariants as lit
-use Rattle.drl_parse.specs.declared.tree.Operand.{Operand}
-use Rattle.drl_parse.specs.declared.tree.Operand.TheVariants as op
-use Rattle.drl_parse.specs.declared.tree.Cmp.{Cmp}
-use Rattle.drl_parse.specs.declared.tree.Cmp.TheVariants as cmp
-use Rattle.drl_parse.specs.declared.tree.Part.{Part}
-use Rattle.drl_parse.specs.declared.tree.Part.TheVariants as part
-use Rattle.drl_parse.specs.declared.tree.SourceTree.{SourceTree}
-use Rattle.drl_parse.specs.declared.tree.CondTree.{CondTree}
-use Rattle.drl_parse.specs.declared.tree.CondTree.TheVariants as condition
-use Rattle.drl_parse.specs.declared.tree.TypeTree.{TypeTree}
-use Rattle.drl_parse.specs.declared.tree.RuleTree.{RuleTree}
-use Rattle.drl_parse.specs.declared.tree.Body.{Body}
-use Rattle.drl_parse.specs.declared.tree.Body.TheVariants as body
-use Rattle.drl_parse.specs.declared.item.ItemWord.{ItemWord}
-use Rattle.drl_parse.specs.declared.item.ItemWord.TheVariants.{DeclareWord, RuleWord}
-use Rattle.drl_parse.specs.Lexing.{◌>>=◌}
-use Rattle.drl_parse.specs.Grammar.{is_ident}
+use Rattle.drl_lex.specs.declared.token.TokenKind.{TokenKind}
+use Rattle.drl_lex.specs.declared.token.TokenKind.TheVariants.{Word, Number, Text, Mark}
+use Rattle.drl_lex.specs.declared.token.Mark.TheVariants.{OpenParenthesis, CloseParenthesis, Colon, Dot, At, Minus, Star}
+use Rattle.drl_expr.specs.Exact.{Read}
+use Rattle.drl_grammar.specs.declared.condition.CondTree.{CondTree}
+use Rattle.drl_grammar.specs.declared.file.Attr.{Attr}
+use Rattle.drl_grammar.specs.declared.file.Attr.TheVariants as attr
+use Rattle.drl_grammar.specs.declared.file.Meta.{Meta}
+use Rattle.drl_grammar.specs.declared.file.Meta.TheVariants as meta
+use Rattle.drl_grammar.specs.declared.file.TypeTree.{TypeTree}
+use Rattle.drl_grammar.specs.declared.file.RuleTree.{RuleTree}
+use Rattle.drl_grammar.specs.declared.file.Body.{Body}
+use Rattle.drl_grammar.specs.declared.file.Body.TheVariants as body
+use Rattle.drl_phrase.specs.declared.phrase.Punctuation.TheVariants as p
+use Rattle.drl_phrase.specs.Reading.{◌>>=◌, after_word, closed, ended, ident, many_at, nonempty_at, maybe_at, optional_at, span_at, name_at}
+use Rattle.drl_condition.specs.Reading.{condition_at}
+use Rattle.drl_action.specs.Reading.{action_at}
+use Rattle.drl_parse.specs.declared.words.MetaWord.{MetaWord}
+use Rattle.drl_parse.specs.declared.words.MetaWord.TheVariants.{RoleWord, TimestampWord, DurationWord, ExpiresWord}
+use Rattle.drl_parse.specs.declared.words.ItemWord.{ItemWord}
+use Rattle.drl_parse.specs.declared.words.ItemWord.TheVariants.{PackageWord, ImportWord, DialectWord, DeclareWord, RuleWord}
 
--- ---- the shapes
+-- ---- words
 
-abbrev pub Read : Type 0 → Type 0
-Read A = Option (A × List Token)
+abbrev pub meta_text : MetaWord → List ℕ
+meta_text RoleWord = codes "role"
+meta_text TimestampWord = codes "timestamp"
+meta_text DurationWord = codes "duration"
+meta_text ExpiresWord = codes "expires"
 
--- the tokens behind this word
-unfoldable pub after_word : List ℕ → List Token → Option (List Token)
-after_word word (Word w ∷ rest) = if bytes_eq w word then Some rest else None
-after_word word ts = None
+unfoldable pub meta_word : List ℕ → Option MetaWord
+meta_word w = if bytes_eq w (codes "role") then Some RoleWord else if bytes_eq w (codes "timestamp") then Some TimestampWord
+    else if bytes_eq w (codes "duration") then Some DurationWord else if bytes_eq w (codes "expires") then Some ExpiresWord else None
 
--- what is read, with the closing parenthesis behind it
-unfoldable pub closed : {A : Type 0} → A → List Token → Read A
-closed x (Mark Close ∷ rest) = Some (x, rest)
-closed x ts = None
+-- the word of a role, and whether it is that of events
+unfoldable pub role_word : List ℕ → Option Bool
+role_word w = if bytes_eq w (codes "event") then Some true else if bytes_eq w (codes "fact") then Some false else None
 
-abbrev pub with_first : {A : Type 0} → A → Read (List A) → Read (List A)
-with_first x read = read >>= λ xs. Some (x ∷ xs.0, xs.1)
-
-abbrev pub many_step : {A : Type 0} → Read A → List Token → (A → List Token → Read (List A)) → Read (List A)
-many_step None ts go = Some ([], ts)
-many_step (Some x) ts go = go x.0 x.1
-
--- as many as can be read; the number bounds the turns, and the count of the tokens is enough
-unfoldable pub many_at : {A : Type 0} → (List Token → Read A) → ℕ → List Token → Read (List A)
-many_at read zero ts = Some ([], ts)
-many_at read (suc n) ts = many_step (read ts) ts (λ x rest. with_first x (many_at read n rest))
-
-abbrev pub if_last : {A : Type 0} → A → List Token → Option A
-if_last x [] = Some x
-if_last x (t ∷ ts) = None
-
--- what all the tokens are
-unfoldable pub whole_at : {A : Type 0} → (List Token → Read A) → List Token → Option A
-whole_at read ts = read ts >>= λ x. if_last x.0 x.1
-
--- ---- the grammar
-
-unfoldable pub ident : {A : Type 0} → List ℕ → Option A → Option A
-ident word read = if is_ident word then read else None
-
-unfoldable pub literal_at : List Token → Read LitTree
-literal_at (Number n ∷ rest) = Some (lit.Int (pos n), rest)
-literal_at (Mark Minus ∷ Number n ∷ rest) = Some (lit.Int (neg_ℤ (pos n)), rest)
-literal_at ts = None
-
-unfoldable pub operand_at : List Token → Read Operand
-operand_at ts = literal_at ts >>= λ l. Some (op.Lit l.0, l.1)
-
-unfoldable pub cmp_at : List Token → Read Cmp
-cmp_at (Word f ∷ Mark (Comparison r) ∷ ts) = ident f (operand_at ts >>= λ o. Some (cmp.Rel f r o.0, o.1))
-cmp_at ts = None
-
-unfoldable pub part_at : List Token → Read Part
-part_at ts = cmp_at ts >>= λ c. Some (part.AnyOf ((c.0 ∷ []) ∷ []), c.1)
-
-unfoldable pub source_at : List Token → Read SourceTree
-source_at (Word ty ∷ Mark Open ∷ Mark Close ∷ rest) = ident ty (Some (record { ty = ty; parts = [] }, rest))
-source_at (Word ty ∷ Mark Open ∷ ts) = ident ty (part_at ts >>= λ p. closed (record { ty = ty; parts = p.0 ∷ [] }) p.1)
-source_at ts = None
-
-unfoldable pub condition_at : List Token → Read CondTree
-condition_at ts = source_at ts >>= λ s. Some (condition.Plain s.0, s.1)
-
-unfoldable pub field_at : List Token → Read (List ℕ × List ℕ)
-field_at (Word f ∷ Mark Colon ∷ Word k ∷ rest) = ident f (if bytes_eq k (codes "long") then Some ((f, k), rest) else None)
-field_at ts = None
-
-unfoldable pub declaration_at : List Token → Read TypeTree
-declaration_at (Word ty ∷ ts) = ident ty (many_at field_at (length ts) ts >>= λ fs. after_word (codes "end") fs.1 >>= λ rest. Some (record { name = ty; fields = fs.0 }, rest))
-declaration_at ts = None
-
-unfoldable pub rule_at : List Token → Read RuleTree
-rule_at (Quoted name ∷ ts) = after_word (codes "when") ts >>= λ behind. condition_at behind >>= λ c.
-    after_word (codes "then") c.1 >>= λ behind. after_word (codes "end") behind >>= λ rest. Some (record { name = name; conditions = c.0 ∷ [] }, rest)
-rule_at ts = None
-
--- the word with which an item begins
-abbrev pub word_of : ItemWord → List ℕ
-word_of DeclareWord = codes "declare"
-word_of RuleWord = codes "rule"
+abbrev pub item_text : ItemWord → List ℕ
+item_text PackageWord = codes "package"
+item_text ImportWord = codes "import"
+item_text DialectWord = codes "dialect"
+item_text DeclareWord = codes "declare"
+item_text RuleWord = codes "rule"
 
 unfoldable pub item_word : List ℕ → Option ItemWord
-item_word w = if bytes_eq w (codes "declare") then Some DeclareWord else if bytes_eq w (codes "rule") then Some RuleWord else None
+item_word w = if bytes_eq w (codes "package") then Some PackageWord else if bytes_eq w (codes "import") then Some ImportWord
+    else if bytes_eq w (codes "dialect") then Some DialectWord else if bytes_eq w (codes "declare") then Some DeclareWord
+    else if bytes_eq w (codes "rule") then Some RuleWord else None
 
-unfoldable pub behind_item : ItemWord → List Token → Read Body
-behind_item DeclareWord ts = declaration_at ts >>= λ d. Some (body.Declare d.0, d.1)
+-- ---- names with dots
+
+unfoldable pub step_at : List TokenKind → Read (List ℕ)
+step_at (Mark Dot ∷ Word f ∷ rest) = ident f (Some (f, rest))
+step_at ts = None
+
+unfoldable pub path_at : List TokenKind → Read (List (List ℕ))
+path_at (Word f ∷ ts) = ident f (many_at step_at ts >>= λ fs. Some (f ∷ fs.0, fs.1))
+path_at ts = None
+
+-- whether a dot and a star stand there, and what follows them
+unfoldable pub star_at : List TokenKind → Bool × List TokenKind
+star_at (Mark Dot ∷ Mark Star ∷ rest) = (true, rest)
+star_at ts = (false, ts)
+
+-- ---- types and entry points
+
+-- what stands behind the word of an annotation
+unfoldable pub behind_meta : MetaWord → List TokenKind → Read Meta
+behind_meta RoleWord (Mark OpenParenthesis ∷ Word f ∷ Mark CloseParenthesis ∷ rest) = role_word f >>= λ event. Some (meta.Role event, rest)
+behind_meta TimestampWord (Mark OpenParenthesis ∷ Word f ∷ Mark CloseParenthesis ∷ rest) = ident f (Some (meta.Timestamp f, rest))
+behind_meta DurationWord (Mark OpenParenthesis ∷ Word f ∷ Mark CloseParenthesis ∷ rest) = ident f (Some (meta.Duration f, rest))
+behind_meta ExpiresWord (Mark OpenParenthesis ∷ ts) = span_at ts >>= λ ms. closed p.CloseParenthesis (meta.Expires ms.0) ms.1
+behind_meta word ts = None
+
+unfoldable pub meta_at : List TokenKind → Read Meta
+meta_at (Mark At ∷ Word w ∷ ts) = meta_word w >>= λ word. behind_meta word ts
+meta_at ts = None
+
+unfoldable pub field_at : List TokenKind → Read (List ℕ × List ℕ)
+field_at (Word f ∷ Mark Colon ∷ Word k ∷ rest) = ident f (ident k (Some ((f, k), rest)))
+field_at ts = None
+
+unfoldable pub type_at : List TokenKind → Read TypeTree
+type_at (Word ty ∷ ts) = ident ty (many_at meta_at ts >>= λ ms. many_at field_at ms.1 >>= λ fs. ended (codes "end") (record { name = ty; metas = ms.0; fields = fs.0 }) fs.1)
+type_at ts = None
+
+unfoldable pub lateness_at : List TokenKind → Read ℤ
+lateness_at (Mark At ∷ Word w ∷ Mark OpenParenthesis ∷ ts) = if bytes_eq w (codes "lateness") then (span_at ts >>= λ ms. closed p.CloseParenthesis ms.0 ms.1) else None
+lateness_at ts = None
+
+-- what stands behind the words of an entry point
+unfoldable pub behind_point : List TokenKind → Read (List ℕ × Option ℤ)
+behind_point ts = name_at ts >>= λ s. maybe_at lateness_at s.1 >>= λ late. ended (codes "end") (s.0, late.0) late.1
+
+unfoldable pub entry_at : List TokenKind → Read (List ℕ × Option ℤ)
+entry_at (Word w ∷ Mark Minus ∷ Word v ∷ ts) = if bytes_eq w (codes "entry") then (if bytes_eq v (codes "point") then behind_point ts else None) else None
+entry_at ts = None
+
+-- ---- rules
+
+unfoldable pub salience_at : List TokenKind → Read ℤ
+salience_at (Number n ∷ rest) = Some (pos n, rest)
+salience_at (Mark Minus ∷ Number n ∷ rest) = Some (neg_ℤ (pos n), rest)
+salience_at ts = None
+
+unfoldable pub attr_at : List TokenKind → Read Attr
+attr_at (Word w ∷ Text s ∷ ts) = if bytes_eq w (codes "dialect") then Some (attr.Dialect s, optional_at p.Comma ts) else None
+attr_at (Word w ∷ ts) = if bytes_eq w (codes "salience") then (salience_at ts >>= λ n. Some (attr.Salience n.0, optional_at p.Comma n.1)) else None
+attr_at ts = None
+
+-- what stands behind the word `then`
+unfoldable pub actions_at : List ℕ → List Attr → List CondTree → List TokenKind → Read RuleTree
+actions_at s attrs cs ts = many_at action_at ts >>= λ acts. ended (codes "end") (record { name = s; attrs = attrs; conditions = cs; actions = acts.0 }) acts.1
+
+-- what stands behind the word `when`
+unfoldable pub conditions_at : List ℕ → List Attr → List TokenKind → Read RuleTree
+conditions_at s attrs ts = nonempty_at condition_at ts >>= λ cs. after_word (codes "then") cs.1 >>= λ rest. actions_at s attrs cs.0 rest
+
+-- a rule behind its first word
+unfoldable pub rule_at : List TokenKind → Read RuleTree
+rule_at ts = name_at ts >>= λ s. many_at attr_at s.1 >>= λ attrs. after_word (codes "when") attrs.1 >>= λ rest. conditions_at s.0 attrs.0 rest
+
+-- ---- items
+
+-- what stands behind the word `declare`: no type has a minus behind its name
+unfoldable pub declare_at : List TokenKind → Read Body
+declare_at (Word w ∷ Mark Minus ∷ ts) = entry_at (Word w ∷ Mark Minus ∷ ts) >>= λ e. Some (body.Entry e.0.0 e.0.1, e.1)
+declare_at ts = type_at ts >>= λ t. Some (body.Declare t.0, t.1)
+
+-- what stands behind the first word of an item
+unfoldable pub behind_item : ItemWord → List TokenKind → Read Body
+behind_item PackageWord ts = path_at ts >>= λ path. Some (body.Package path.0, optional_at p.Semicolon path.1)
+behind_item ImportWord ts = path_at ts >>= λ path. Some (body.Import path.0 (star_at path.1).0, optional_at p.Semicolon (star_at path.1).1)
+behind_item DialectWord (Text s ∷ ts) = Some (body.Dialect s, optional_at p.Semicolon ts)
+behind_item DeclareWord ts = declare_at ts
 behind_item RuleWord ts = rule_at ts >>= λ r. Some (body.Rule r.0, r.1)
+behind_item word ts = None
 
-unfoldable pub body_at : List Token → Read Body
-body_at (Word w ∷ ts) = item_word w >>= λ word. behind_item word ts
-body_at ts = None
+unfoldable pub item_at : List TokenKind → Read Body
+item_at (Word w ∷ ts) = item_word w >>= λ word. behind_item word ts
+item_at ts = None

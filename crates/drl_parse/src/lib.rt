@@ -1,22 +1,25 @@
-//! Rule files: the tokens and the items of which they are made, and their trees. It stands on the base
-//! values alone, and assumes nothing of the bytes that it is given.
+//! Rule files: from their bytes to their trees, or to the first thing that is refused, with its line.
+//! It assumes nothing of the bytes that it is given. Each byte and each token is looked at a bounded number of times.
 #![tactic(auto)]
 
-mod byte_class;
 mod fault;
-mod item;
-mod lexing;
+mod items;
+mod lines;
 mod parsing;
-mod phrase;
-mod source;
+mod paths;
+mod rules;
+mod splitting;
 #[cfg(test)]
 mod tests;
-mod token;
-mod tree;
+mod types;
 mod words;
 
-pub use fault::ParseFault;
-pub use parsing::{parse, parsed_is_the_file};
-pub use tree::{
-    Body, Cmp, CondTree, File, Item, LitTree, Operand, Part, Rel, RuleTree, SourceTree, TypeTree,
+pub use drl_expr::{ExprTree, LitTree, Node};
+pub use drl_grammar::{
+    ActTree, Attr, Body, Cmp, CondTree, File, FoldWord, Item, Meta, Operand, Part, RuleTree,
+    SourceTree, TypeTree, WindowTree,
 };
+pub use drl_lex::{LexCode, Rel};
+pub use fault::ParseFault;
+pub use parsing::{parse, parsed_is_exact};
+pub use temporal_ops::OpWord;

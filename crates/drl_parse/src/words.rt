@@ -1,62 +1,60 @@
-ghost use Rattle.std.specs.Prelude.{◌≡◌, option_map, Option};
-ghost use Rattle.drl_parse.specs.Grammar.{is_ident, is_among, item_words, condition_words, value_words};
-ghost use Rattle.drl_parse.specs.Reading.{after_word};
+ghost use Rattle.std.specs.Prelude.{◌≡◌};
+ghost use Rattle.drl_parse.specs.Reading.{meta_word, role_word, item_word};
 
-use crate::token::Token;
-
-fn is_item_word(word: &str) -> bool
-    ensures { result ≡ is_among item_words word.now }
-{
-    word == "package"
-        || word == "import"
-        || word == "dialect"
-        || word == "declare"
-        || word == "rule"
-        || word == "when"
-        || word == "then"
-        || word == "end"
-        || word == "salience"
+/// The words of annotations.
+#[derive(Clone, Copy)]
+pub(crate) enum MetaWord {
+    RoleWord,
+    TimestampWord,
+    DurationWord,
+    ExpiresWord,
 }
 
-fn is_condition_word(word: &str) -> bool
-    ensures { result ≡ is_among condition_words word.now }
-{
-    word == "not"
-        || word == "exists"
-        || word == "accumulate"
-        || word == "from"
-        || word == "over"
-        || word == "in"
-        || word == "this"
+/// The words with which items begin.
+#[derive(Clone, Copy)]
+pub(crate) enum ItemWord {
+    PackageWord,
+    ImportWord,
+    DialectWord,
+    DeclareWord,
+    RuleWord,
 }
 
-fn is_value_word(word: &str) -> bool
-    ensures { result ≡ is_among value_words word.now }
+#[tactic(auto, unfolding(crate::specs::Reading::meta_word))]
+pub(crate) fn word_of_meta(word: &str) -> Option<MetaWord>
+    ensures { result ≡ meta_word word.now }
 {
-    word == "new"
-        || word == "insert"
-        || word == "modify"
-        || word == "retract"
-        || word == "true"
-        || word == "false"
-        || word == "Number"
+    match word {
+        "role" => Some(MetaWord::RoleWord),
+        "timestamp" => Some(MetaWord::TimestampWord),
+        "duration" => Some(MetaWord::DurationWord),
+        "expires" => Some(MetaWord::ExpiresWord),
+        _ => None,
+    }
 }
 
-/// Whether the word is no reserved one.
-#[tactic(auto, unfolding(crate::specs::Grammar::is_ident))]
-pub(crate) fn is_ident_word(word: &str) -> bool
-    ensures { result ≡ is_ident word.now }
+/// Whether the word of a role is that of events.
+#[tactic(auto, unfolding(crate::specs::Reading::role_word))]
+pub(crate) fn role_of(word: &str) -> Option<bool>
+    ensures { result ≡ role_word word.now }
 {
-    !(is_item_word(word) || is_condition_word(word) || is_value_word(word))
+    match word {
+        "event" => Some(true),
+        "fact" => Some(false),
+        _ => None,
+    }
 }
 
-/// The tokens behind this word.
-#[tactic(auto, unfolding(crate::specs::Reading::after_word))]
-pub(crate) fn behind_word<'a>(word: &str, tokens: &'a [Token]) -> Option<&'a [Token]>
-    ensures { option_map (λ rest. rest.now) result ≡ after_word word.now tokens.now }
+#[tactic(auto, unfolding(crate::specs::Reading::item_word))]
+pub(crate) fn word_of_item(word: &str) -> Option<ItemWord>
+    ensures { result ≡ item_word word.now }
 {
-    match tokens {
-        [Token::Word(w), rest @ ..] if w.as_str() == word => Some(rest),
+    match word {
+        "package" => Some(ItemWord::PackageWord),
+        "import" => Some(ItemWord::ImportWord),
+        "dialect" => Some(ItemWord::DialectWord),
+        "declare" => Some(ItemWord::DeclareWord),
+        "rule" => Some(ItemWord::RuleWord),
         _ => None,
     }
 }

@@ -1,9 +1,11 @@
 use Rattle.std.proofs.Common.{length}
+use Rattle.drl_phrase.specs.Reading.{whole_at}
+use Rattle.drl_parse.specs.Reading.{item_at}
 use Rattle.drl_parse.proofs.ItemTurns.{SoFar}
 use Rattle.drl_parse.proofs.parsing.items_of.Given as goal
 
 abbrev pub invariant-loop-own : goal.invariant-loop-own
-invariant-loop-own l = SoFar l.tokens l.lines l.items.items l.rest l.rest_lines
+invariant-loop-own l = SoFar (whole_at item_at) l.tokens l.lines l.items.items l.number l.rest l.rest_lines
 
 abbrev pub decreases-loop-own : goal.decreases-loop-own
 decreases-loop-own l = length l.rest

@@ -1,12 +1,9 @@
-use Rattle.std.proofs.Common.{◌∙◌, sym}
-use Rattle.drl_parse.proofs.FileLaws.{found_stands, none_stands, one_file}
+use Rattle.drl_parse.proofs.FileTurns.{file_given, fault_given}
+use Rattle.drl_parse.proofs.BodyLaws.{items_read}
 use Rattle.drl_parse.proofs.parsing.parse.Goals as goal
 
-pub returns-in-Some-clause-stands : goal.returns-in-Some-clause-stands
-returns-in-Some-clause-stands c = found_stands c.args.bytes.now c.in-Some.file (sym c.in-Some.is ∙ c.in_ok-file.ensures)
+pub returns-clause-file : goal.returns-clause-file
+returns-clause-file c = file_given c.args.bytes.now c.read_file.result items_read c.read_file.ensures
 
-pub returns-in-Some-clause-only : goal.returns-in-Some-clause-only
-returns-in-Some-clause-only c = λ other h. one_file c.args.bytes.now other c.in-Some.file h (found_stands c.args.bytes.now c.in-Some.file (sym c.in-Some.is ∙ c.in_ok-file.ensures))
-
-pub returns-in-None-clause-refused : goal.returns-in-None-clause-refused
-returns-in-None-clause-refused c = λ syntax. none_stands c.args.bytes.now (sym c.in-None.is ∙ c.in_ok-file.ensures)
+pub returns-clause-refused : goal.returns-clause-refused
+returns-clause-refused c = fault_given c.args.bytes.now c.read_file.result items_read c.read_file.ensures

@@ -1,0 +1,77 @@
+-- The steps of reading a file.
+use Rattle.std.proofs.Common.{◌≡◌, ℕ, ◌<◌, ◌≤◌, ◌^◌, nat_lt, true, false, List, length, Option, Result, Ok, Err, refl, arith}
+use Rattle.std.specs.Prelude.{IfOk, IfErr, IsErrAnd}
+use Rattle.std.proofs.lemmas.Bool.{ltb-false}
+use Rattle.drl_lex.specs.declared.token.Token.{Token}
+use Rattle.drl_lex.specs.declared.token.TokenKind.{TokenKind}
+use Rattle.drl_lex.specs.declared.fault.LexFault.{LexFault}
+use Rattle.drl_lex.specs.declared.fault.LexFault.TheVariants as lexer
+use Rattle.drl_lex.specs.Answers.{Fails}
+use Rattle.drl_lex.specs.Kinds.{kinds}
+use Rattle.drl_lex.specs.Reading.{lexed}
+use Rattle.drl_lex.specs.Tokens.{AreTokens}
+use Rattle.drl_lex.proofs.FileLaws.{tokens_again}
+use Rattle.drl_grammar.specs.declared.file.Item.{Item}
+use Rattle.drl_grammar.specs.declared.file.Body.{Body}
+use Rattle.drl_grammar.specs.declared.file.File.{File}
+use Rattle.drl_grammar.specs.Files.{lines_at, IsFile}
+use Rattle.drl_parse.specs.declared.fault.ParseFault.{ParseFault}
+use Rattle.drl_parse.specs.declared.fault.ParseFault.TheVariants.{Syntax, TooLong, Lexical, NoMemory}
+use Rattle.drl_parse.specs.Items.{ItemsRead, items_at, GivesItems}
+use Rattle.drl_phrase.specs.Reading.{whole_at}
+use Rattle.drl_parse.specs.Reading.{item_at}
+use Rattle.drl_parse.specs.Parsed.{file_limit, IsFault, Parsed, is_file, outside, too_long, lexical, items_parsed, parsed_by, parsed, FaultOf, Gives}
+use Rattle.drl_parse.proofs.FileLaws.{few_tokens, same_kinds, Means, parsed_means}
+use Rattle.drl_parse.proofs.ItemLaws.{Exactly}
+
+pub long_is : (bytes : List ℕ) → nat_lt file_limit (length bytes) ≡ true → parsed bytes ≡ too_long
+unfolding parsed parsed_by
+long_is bytes e = rw e refl
+
+pub refused_is : (bytes : List ℕ) (fault : LexFault) (result : ParseFault) → nat_lt file_limit (length bytes) ≡ false → Fails fault (lexed bytes) → FaultOf bytes fault result → Gives (Err result) (parsed bytes)
+unfolding parsed parsed_by
+refused_is bytes (lexer.Refused code at) result within fails e = rw (e, within, fails) refl
+refused_is bytes lexer.NoMemory result within fails e = rw e tt
+
+-- what all the tokens are, is what the bytes are
+items_are : (bytes : List ℕ) (tokens : List Token) → nat_lt file_limit (length bytes) ≡ false → AreTokens tokens bytes
+    → parsed bytes ≡ items_parsed (items_at (whole_at item_at) (length (kinds tokens)) (kinds tokens) (lines_at bytes tokens))
+unfolding parsed parsed_by
+items_are bytes tokens within spelled = rw (within, tokens_again tokens bytes spelled) refl
+
+given : (fault : ParseFault) (read : ItemsRead) → GivesItems (Err fault) read → Gives (Err fault) (items_parsed read)
+given (Syntax item line) read h = rw h refl
+given TooLong read h = absurd h
+given (Lexical code line) read h = absurd h
+given NoMemory read h = tt
+
+pub items_told : (bytes : List ℕ) (tokens : List Token) (fault : ParseFault) (result : Result File ParseFault) → nat_lt file_limit (length bytes) ≡ false → AreTokens tokens bytes
+    → GivesItems (Err fault) (items_at (whole_at item_at) (length (kinds tokens)) (kinds tokens) (lines_at bytes tokens)) → IsErrAnd result (λ e. e ≡ fault) → Gives result (parsed bytes)
+items_told bytes tokens fault (Ok file) within spelled h told = absurd told
+items_told bytes tokens fault (Err e) within spelled h told = rw (told, items_are bytes tokens within spelled)
+    (given fault (items_at (whole_at item_at) (length (kinds tokens)) (kinds tokens) (lines_at bytes tokens)) h)
+
+pub items_read : (bytes : List ℕ) (tokens : List Token) (items : List Item) → nat_lt file_limit (length bytes) ≡ false → AreTokens tokens bytes
+    → items_at (whole_at item_at) (length (kinds tokens)) (kinds tokens) (lines_at bytes tokens) ≡ Ok items → parsed bytes ≡ is_file (record { items = items })
+items_read bytes tokens items within spelled h = rw (items_are bytes tokens within spelled, h) refl
+
+pub few_kinds : (bytes : List ℕ) (tokens : List Token) → nat_lt file_limit (length bytes) ≡ false → AreTokens tokens bytes → length (kinds tokens) < 2 ^ 31
+unfolding file_limit
+few_kinds bytes tokens within spelled = omega (arith, few_tokens tokens bytes spelled, same_kinds tokens, ltb-false 1048576 (length bytes) within)
+
+-- ---- what is given is so
+
+means_given : (bytes : List ℕ) (read : Parsed) → parsed bytes ≡ read → Exactly (whole_at item_at) → Means read bytes
+unfolding parsed
+means_given bytes read e exact = rw e at (parsed_means (whole_at item_at) bytes exact)
+
+pub file_given : (bytes : List ℕ) (result : Result File ParseFault) → Exactly (whole_at item_at) → Gives result (parsed bytes) → IfOk result (λ file. IsFile file bytes × (length bytes ≤ file_limit))
+file_given bytes (Ok file) exact h = means_given bytes (is_file file) h exact
+file_given bytes (Err fault) exact h = tt
+
+pub fault_given : (bytes : List ℕ) (result : Result File ParseFault) → Exactly (whole_at item_at) → Gives result (parsed bytes) → IfErr result (λ fault. IsFault fault bytes)
+fault_given bytes (Ok file) exact h = tt
+fault_given bytes (Err (Syntax item line)) exact h = means_given bytes (outside item line) h exact
+fault_given bytes (Err TooLong) exact h = means_given bytes too_long h exact
+fault_given bytes (Err (Lexical code line)) exact h = means_given bytes (lexical code line) h exact
+fault_given bytes (Err NoMemory) exact h = tt
