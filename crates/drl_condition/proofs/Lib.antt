@@ -1,0 +1,6 @@
+pub mod WordLaws
+pub mod ValueLaws
+pub mod PartLaws
+pub mod PatternLaws
+pub mod FoldLaws
+pub mod ConditionLaws

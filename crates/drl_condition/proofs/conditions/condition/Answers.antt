@@ -1,0 +1,11 @@
+use Rattle.std.proofs.Common.{arith}
+use Rattle.std.proofs.lemmas.Result.{IfOk-weaker}
+use Rattle.drl_phrase.proofs.ShapeLaws.{whole_found, whole_none}
+use Rattle.drl_condition.proofs.ConditionLaws.{condition_exact}
+use Rattle.drl_condition.proofs.conditions.condition.Goals as goal
+
+pub returns-clause-found : goal.returns-clause-found
+returns-clause-found c = IfOk-weaker c.whole.result _ _ (whole_found condition_exact c.args.tokens.now) c.whole.ensures
+
+pub returns-clause-none : goal.returns-clause-none
+returns-clause-none c = IfOk-weaker c.whole.result _ _ (whole_none (omega arith) condition_exact c.args.tokens.now) c.whole.ensures

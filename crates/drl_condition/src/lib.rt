@@ -1,0 +1,14 @@
+//! The reader of the conditions of a rule: from tokens to the trees of the grammar.
+//! It assumes nothing of the tokens. It takes one walk over the tokens that it reads, and no recursion.
+#![tactic(auto)]
+
+mod comparisons;
+mod conditions;
+mod folds;
+mod parts;
+mod patterns;
+mod values;
+mod words;
+
+pub use conditions::{ConditionPhrase, condition};
+pub use drl_phrase::Phrase;
