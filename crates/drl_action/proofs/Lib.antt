@@ -1,0 +1,2 @@
+pub mod SetterLaws
+pub mod Setters
