@@ -1,0 +1,4 @@
+pub mod Turns
+pub mod ShapeLaws
+pub mod NameLaws
+pub mod Carried

@@ -1,0 +1,26 @@
+-- What it means that a reading function reads exactly the phrases of the grammar of rule files.
+use Rattle.std.specs.Prelude.{◌≡◌, ℕ, ◌<◌, ◌≤◌, List, ◌∷◌, length, Some, if◌then◌else◌, codes}
+use Rattle.std.specs.Str.{bytes_eq}
+use Rattle.drl_lex.specs.declared.token.TokenKind.{TokenKind}
+use Rattle.drl_lex.specs.declared.token.TokenKind.TheVariants.{Word, Mark}
+use Rattle.drl_lex.specs.declared.token.Mark.TheVariants.{Dot, Star, Plus, Minus, And, Or, Comma, Semicolon}
+use Rattle.drl_expr.specs.Exact.{Read, Phrase, Found}
+
+-- how loosely the first token binds to what stands before it
+abbrev pub binds : List TokenKind → ℕ
+binds (Mark Dot ∷ rest) = 0
+binds (Mark Star ∷ rest) = 1
+binds (Mark Plus ∷ rest) = 2
+binds (Mark Minus ∷ rest) = 2
+binds (Mark And ∷ rest) = 3
+binds (Mark Or ∷ rest) = 4
+binds (Mark Comma ∷ rest) = 5
+binds (Mark Semicolon ∷ rest) = 6
+binds (Word w ∷ rest) = if bytes_eq w (codes "over") then 7 else if bytes_eq w (codes "from") then 8 else 9
+binds ts = 9
+
+-- What is read stands there; what stands there is read, if what follows binds at least so loosely; and a phrase has a token.
+pub record Exact {A : Type 0} (Is : Phrase A) (read : List TokenKind → Read A) (k : ℕ) : Type 0 where
+  pub sound : (ts : List TokenKind) → Found Is ts (read ts)
+  pub again : (x : A) (ts rest : List TokenKind) → Is x ts rest → k ≤ binds rest → read ts ≡ Some (x, rest)
+  pub shorter : (x : A) (ts rest : List TokenKind) → Is x ts rest → length rest < length ts
