@@ -2,4 +2,10 @@
 //! It assumes nothing of the tokens.
 #![tactic(auto)]
 
+mod action;
+mod assign;
 mod setter;
+mod word;
+
+pub use action::Action;
+pub use assign::{Assignment, Expression};
