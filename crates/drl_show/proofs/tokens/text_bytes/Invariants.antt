@@ -1,0 +1,6 @@
+use Rattle.std.proofs.Common.{◌≡◌, ◌++◌, drop}
+use Rattle.drl_show.specs.Texts.{escaped}
+use Rattle.drl_show.proofs.tokens.text_bytes.Given as goal
+
+abbrev pub invariant-loop-byte : goal.invariant-loop-byte
+invariant-loop-byte l = l.out.items ++ escaped (drop l.byte-index l.content) ≡ l.fn.out.items ++ escaped l.content
