@@ -17,6 +17,8 @@ pub struct Pattern {
     pub ty: TypeId,
     /// The constant tests: they name no variable.
     pub alone: Seq<Test>,
+    /// The tests that name a variable of an earlier pattern.
+    pub joined: Seq<Test>,
 }
 
 impl Pattern {

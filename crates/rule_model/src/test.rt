@@ -21,6 +21,8 @@ pub struct Compare {
 /// How two values are compared. An order holds between whole numbers alone.
 #[derive(Clone, Copy, Debug, PartialEq, Eq)]
 pub enum RelTag {
+    /// Equal to one of the sides, which is `in`.
+    OneOf,
     Equal,
     NotEqual,
     Less,
@@ -33,6 +35,11 @@ pub enum RelTag {
 #[derive(Debug, Drop)]
 pub enum Side {
     Lit(Value),
+    /// A field of the same fact, by its place.
+    Own(u8),
+    /// A field of a fact that an earlier pattern of the rule bound. Both count from 0: the patterns that bind facts in the
+    /// order of the rule, and the fields in the order of their declaration.
+    Of { fact: u8, field: u8 },
 }
 
 impl RelTag {
