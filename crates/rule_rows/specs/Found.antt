@@ -1,5 +1,5 @@
--- What is found of a rule's rows.
-use Rattle.std.specs.Prelude.{◌≡◌, ◌==◌, ◌⊎◌, ◌↔◌, Bool, List, [], ◌∷◌, ◌++◌}
+-- What comes with one fact more.
+use Rattle.std.specs.Prelude.{◌==◌, ◌⊎◌, ◌↔◌, Bool, List, [], ◌∷◌, ◌++◌}
 use Rattle.std.specs.List.{list_any}
 use Rattle.fx_base.specs.declared.fact.Fact.{Fact}
 use Rattle.fx_base.specs.declared.ids.Tag.{Tag}
@@ -18,7 +18,7 @@ names_tag tag row = list_any (λ (n : Named). n.tag.0 == tag.0) row.facts
 abbrev pub may_bind : Fact → Condition → Bool
 may_bind f (Plain p) = fits p f
 
--- the tuples over one fact more: those over the older facts, and these, which all have the new one
+-- the tuples over one fact more are those over the older facts and these, which all have the new one
 pub record AreNew (facts : List Fact) (f : Fact) (cs : List Condition) (come : List Tuple) : Type 0 where
   pub grown : (t : Tuple) → In t (tuples_from (facts ++ f ∷ []) (empty_tuple ∷ []) cs) ↔ (In t come ⊎ In t (tuples_from facts (empty_tuple ∷ []) cs))
   pub bound : (t : Tuple) → In t come → In f t.facts

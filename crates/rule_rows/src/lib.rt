@@ -4,5 +4,7 @@
 
 mod bindings;
 mod finding;
+mod growing;
 
 pub use finding::rows_of;
+pub use growing::rows_with;
