@@ -1,5 +1,5 @@
 -- The rows of a rule's conditions, taken from the whole list of facts.
-use Rattle.std.specs.Prelude.{◌==◌, ◌&&◌, ℤ, Bool, List, [], ◌∷◌, ◌++◌, map}
+use Rattle.std.specs.Prelude.{◌≡◌, ◌⊎◌, ◌==◌, ◌&&◌, Bool, List, [], ◌∷◌, ◌++◌, map}
 use Rattle.std.specs.List.{filter, flat_map}
 use Rattle.fx_base.specs.declared.fact.Fact.{Fact}
 use Rattle.row_delta.specs.declared.row.Named.{Named}
@@ -8,15 +8,7 @@ use Rattle.rule_model.specs.declared.condition.Condition.{Condition}
 use Rattle.rule_model.specs.declared.condition.Condition.TheVariants.{Plain}
 use Rattle.rule_model.specs.declared.condition.Pattern.{Pattern}
 use Rattle.rule_model.specs.declared.program.Rule.{Rule}
-use Rattle.rule_model.specs.Tests.{tests_hold}
-
--- the facts and the values that conditions have bound so far, in their order
-pub record Tuple : Type 0 where
-  pub facts : List Fact
-  pub values : List ℤ
-
-abbrev pub empty_tuple : Tuple
-empty_tuple = record { facts = []; values = [] }
+use Rattle.rule_model.specs.Tests.{Tuple, empty_tuple, tests_hold}
 
 abbrev pub with_fact : Tuple → Fact → Tuple
 with_fact tuple f = record { facts = tuple.facts ++ f ∷ []; values = tuple.values }
@@ -30,14 +22,42 @@ row_of tuple = record { facts = map name_of tuple.facts; values = tuple.values }
 
 -- the facts of the pattern's type that pass its constant tests
 abbrev pub fits : Pattern → Fact → Bool
-fits p f = f.ty.0 == p.ty.0 && tests_hold p.alone f
+fits p f = f.ty.0 == p.ty.0 && tests_hold p.alone f empty_tuple
 
 abbrev pub candidates : Pattern → List Fact → List Fact
 candidates p facts = filter (fits p) facts
 
+-- the tests that name what earlier conditions bound
+abbrev pub passes : Pattern → Tuple → Fact → Bool
+passes p tuple f = tests_hold p.joined f tuple
+
+-- the candidates that pass for a tuple
+abbrev pub passing : Pattern → List Fact → Tuple → List Fact
+passing p facts tuple = filter (passes p tuple) (candidates p facts)
+
+-- ---- which tuples conditions make
+
+-- the value stands in the list
+abbrev pub In : {A : Type 0} → A → List A → Type 0
+In x [] = ⊥
+In x (y ∷ ys) = (x ≡ y) ⊎ In x ys
+
+-- Conditions, taken in their order, make the second tuple of the first.
+pub data Makes (facts : List Fact) : List Condition → Tuple → Tuple → Type 0 where
+  done : {tuple : Tuple} → Makes facts [] tuple tuple
+  by_fact : {p : Pattern} {cs : List Condition} {tuple made : Tuple} (f : Fact) → In f (passing p facts tuple) → Makes facts cs (with_fact tuple f) made → Makes facts (Plain p ∷ cs) tuple made
+
+-- a row of a rule: the row of a tuple that all its conditions make of nothing
+pub record IsRow (facts : List Fact) (rule : Rule) (row : Row) : Type 0 where
+  pub tuple : Tuple
+  pub made : Makes facts rule.conditions empty_tuple tuple
+  pub named : row_of tuple ≡ row
+
+-- ---- the same as lists
+
 -- the tuples that one condition makes of one
 abbrev pub extended : List Fact → Condition → Tuple → List Tuple
-extended facts (Plain p) tuple = map (with_fact tuple) (candidates p facts)
+extended facts (Plain p) tuple = map (with_fact tuple) (passing p facts tuple)
 
 -- the tuples that conditions make of these, condition by condition
 abbrev pub tuples_from : List Fact → List Tuple → List Condition → List Tuple

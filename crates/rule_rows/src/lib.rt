@@ -1,0 +1,10 @@
+//! Finds the rows of rules over a list of facts: all of them, or those that come with one fact more.
+//! It stands on the definitions of `rule_model` and assumes nothing of how the facts are kept.
+#![tactic(auto)]
+
+mod bindings;
+mod finding;
+mod growing;
+
+pub use finding::rows_of;
+pub use growing::rows_with;
