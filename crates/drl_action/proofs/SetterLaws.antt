@@ -1,20 +1,23 @@
 -- What is read as a setter is one, and a setter is read.
-use Rattle.std.proofs.Common.{◌≡◌, ℕ, Bool, true, false, cond, List, [], ◌∷◌, ◌++◌, take, drop, Option, Some, None, refl, sym, ap, ◌∙◌, arith}
+use Rattle.std.proofs.Common.{◌≡◌, ◌&&◌, ℕ, Bool, true, false, cond, List, [], ◌∷◌, ◌++◌, take, drop, Option, Some, None, refl, sym, ap, ◌∙◌, arith}
 use Rattle.std.proofs.lemmas.List.{take-append-drop}
 use Rattle.std.specs.Prelude.{IfSome, codes}
 use Rattle.std.specs.Str.{bytes_eq}
 use Rattle.std.proofs.lemmas.Slice.Eq.{bytes_eq-Decides}
+use Rattle.drl_lex.specs.Bytes.{begins_word}
 use Rattle.drl_expr.specs.Words.{is_ident}
 use Rattle.drl_grammar.specs.Actions.{small, IsSetter, setter}
 use Rattle.drl_action.specs.Reading.{named, field_named, setter_at}
 
-named_sound : (b : ℕ) (bytes word : List ℕ) (ok : Bool) → is_ident (small b ∷ bytes) ≡ ok → word ≡ codes "set" ++ (b ∷ bytes) → IfSome (cond ok (Some (small b ∷ bytes)) None) (λ f. IsSetter f word)
-named_sound b bytes word true e is = rw is (setter e)
-named_sound b bytes word false e is = tt
+named_sound : (b : ℕ) (bytes word : List ℕ) (begins ok : Bool) → begins_word (small b) ≡ begins → is_ident (small b ∷ bytes) ≡ ok → word ≡ codes "set" ++ (b ∷ bytes)
+    → IfSome (cond (begins && ok) (Some (small b ∷ bytes)) None) (λ f. IsSetter f word)
+named_sound b bytes word true true first e is = rw is (setter first e)
+named_sound b bytes word true false first e is = tt
+named_sound b bytes word false ok first e is = tt
 
 field_sound : (word behind : List ℕ) → word ≡ codes "set" ++ behind → IfSome (field_named behind) (λ f. IsSetter f word)
 field_sound word [] is = tt
-field_sound word (b ∷ bytes) is = named_sound b bytes word (is_ident (small b ∷ bytes)) refl is
+field_sound word (b ∷ bytes) is = named_sound b bytes word (begins_word (small b)) (is_ident (small b ∷ bytes)) refl refl is
 
 set_sound : (word : List ℕ) (set : Bool) → bytes_eq (take 3 word) (codes "set") ≡ set → IfSome (cond set (field_named (drop 3 word)) None) (λ f. IsSetter f word)
 set_sound word true e = field_sound word (drop 3 word) (sym (take-append-drop 3 word) ∙ ap (λ (front : List ℕ). front ++ drop 3 word) ((bytes_eq-Decides (take 3 word) (codes "set")).0 e))
@@ -26,4 +29,4 @@ setter_sound word = set_sound word (bytes_eq (take 3 word) (codes "set")) refl
 
 pub setter_again : (f word : List ℕ) → IsSetter f word → setter_at word ≡ Some f
 unfolding setter_at
-setter_again f word (setter {b} {bytes} h) = rw h refl
+setter_again f word (setter {b} {bytes} first h) = rw (first, h) refl

@@ -1,6 +1,7 @@
 -- Reading an action: the tree and what follows.
-use Rattle.std.specs.Prelude.{ℕ, List, [], ◌∷◌, Option, Some, None, if◌then◌else◌, take, drop, codes}
+use Rattle.std.specs.Prelude.{◌&&◌, ℕ, List, [], ◌∷◌, Option, Some, None, if◌then◌else◌, take, drop, codes}
 use Rattle.std.specs.Str.{bytes_eq}
+use Rattle.drl_lex.specs.Bytes.{begins_word}
 use Rattle.drl_lex.specs.declared.token.TokenKind.{TokenKind}
 use Rattle.drl_lex.specs.declared.token.TokenKind.TheVariants.{Word, Var, Mark}
 use Rattle.drl_lex.specs.declared.token.Mark.TheVariants.{OpenParenthesis, CloseParenthesis, OpenBrace, Assign}
@@ -18,14 +19,14 @@ use Rattle.drl_action.specs.declared.word.ActionWord.TheVariants.{InsertWord, Mo
 
 -- ---- setters
 
--- the name itself, where it may stand as one
-abbrev pub named : List ℕ → Option (List ℕ)
-named name = if is_ident name then Some name else None
+-- the name of this first letter, where it may stand as one
+abbrev pub named : ℕ → List ℕ → Option (List ℕ)
+named b bytes = if begins_word b && is_ident (b ∷ bytes) then Some (b ∷ bytes) else None
 
 -- the field of a name that stands behind `set`
 abbrev pub field_named : List ℕ → Option (List ℕ)
 field_named [] = None
-field_named (b ∷ bytes) = named (small b ∷ bytes)
+field_named (b ∷ bytes) = named (small b) bytes
 
 -- the field that a word names as a setter
 unfoldable pub setter_at : List ℕ → Option (List ℕ)

@@ -1,5 +1,6 @@
 ghost use Rattle.std.specs.Prelude.{◌≡◌, ◌≤◌, List, ℕ, IfOk, codes, take, length, IsTrue};
 ghost use Rattle.std.specs.Str.{bytes_eq};
+ghost use Rattle.drl_lex.specs.Bytes.{begins_word};
 ghost use Rattle.drl_action.specs.Reading.{setter_at};
 
 use drl_expr::is_ident_word;
@@ -11,6 +12,13 @@ fn begins_with_set(word: &[u8]) -> bool
     ensures long { IsTrue result → 3 ≤ length word.now }
 {
     word.len() >= 3 && &word[..3] == b"set".as_slice()
+}
+
+#[tactic(auto, unfolding(drl_lex::specs::Bytes::begins_word))]
+fn begins_word(b: u8) -> bool
+    ensures { result ≡ begins_word b }
+{
+    b.is_ascii_alphabetic() || b == b'_'
 }
 
 /// The field that a setter names: `set`, and a name whose first letter is made small. `None` where the word is none.
@@ -25,11 +33,12 @@ pub(crate) fn setter_field(alloc: Global, word: &str) -> Result<Option<Text>, No
     let [first, behind @ ..] = &bytes[3..] else {
         return Ok(None);
     };
+    let first = first.to_ascii_lowercase();
     let mut name = Vec::with_capacity(alloc, behind.len() + 1)?;
-    name.push(first.to_ascii_lowercase())?;
+    name.push(first)?;
     name.extend_from_slice(behind)?;
     let name = std::str::from_utf8(&name).unwrap();
-    if is_ident_word(name) {
+    if begins_word(first) && is_ident_word(name) {
         Ok(Some(Text::new(alloc, name)?))
     } else {
         Ok(None)

@@ -1,5 +1,6 @@
 -- The grammar of actions, by one case for each line and each alternative of it.
-use Rattle.std.specs.Prelude.{◌&&◌, ◌+◌, ◌++◌, nat_le, ℕ, List, ◌∷◌, if◌then◌else◌, codes}
+use Rattle.std.specs.Prelude.{◌≡◌, ◌&&◌, ◌+◌, ◌++◌, nat_le, ℕ, true, List, ◌∷◌, if◌then◌else◌, codes}
+use Rattle.drl_lex.specs.Bytes.{begins_word}
 use Rattle.drl_lex.specs.declared.token.TokenKind.{TokenKind}
 use Rattle.drl_lex.specs.declared.token.TokenKind.TheVariants.{Word, Var, Mark}
 use Rattle.drl_lex.specs.declared.token.Mark.TheVariants.{OpenParenthesis, CloseParenthesis, OpenBrace, CloseBrace, Comma, Semicolon, Assign}
@@ -14,9 +15,10 @@ use Rattle.drl_grammar.specs.Shapes.{Optional, Separated, Listed}
 abbrev pub small : ℕ → ℕ
 small b = if nat_le 65 b && nat_le b 90 then b + 32 else b
 
--- the word `set` and a rest that is not empty: the field of the name that the rest becomes with its first letter made small
+-- The word `set` and a rest that is not empty: the field of the name that the rest becomes with its first letter made small.
+-- It is a name only where it begins like a word.
 pub data IsSetter : List ℕ → List ℕ → Type 0 where
-  setter : {b : ℕ} {bytes : List ℕ} → IsIdent (small b ∷ bytes) → IsSetter (small b ∷ bytes) (codes "set" ++ (b ∷ bytes))
+  setter : {b : ℕ} {bytes : List ℕ} → begins_word (small b) ≡ true → IsIdent (small b ∷ bytes) → IsSetter (small b ∷ bytes) (codes "set" ++ (b ∷ bytes))
 
 -- assign := Ident '=' expr | Ident '(' expr ')', where the second Ident is a setter
 pub data IsAssign : List ℕ × Tree → List TokenKind → List TokenKind → Type 0 where
