@@ -4,8 +4,11 @@ use Rattle.std.proofs.lemmas.List.{append-nil}
 use Rattle.drl_lex.specs.declared.token.TokenKind.{TokenKind}
 use Rattle.drl_lex.specs.declared.token.TokenKind.TheVariants.{Word, Mark}
 use Rattle.drl_lex.specs.declared.token.Mark.{Mark as MarkData}
-use Rattle.drl_lex.specs.declared.token.Mark.TheVariants.{OpenBracket, CloseBracket, Comma}
-use Rattle.drl_show.specs.Canonical.{each, parted, number_tokens, param_tokens}
+use Rattle.drl_lex.specs.declared.token.Mark.TheVariants.{OpenParenthesis, OpenBracket, CloseBracket, Comma}
+use Rattle.std.specs.Prelude.{codes}
+use Rattle.drl_grammar.specs.declared.condition.SourceTree.{SourceTree}
+use Rattle.drl_grammar.specs.declared.condition.FoldWord.{FoldWord}
+use Rattle.drl_show.specs.Canonical.{each, parted, number_tokens, param_tokens, source_tokens, function_tokens, accumulate_tokens}
 use Rattle.drl_show.specs.Texts.{token_text, spaced, joined, added}
 
 pub added_append : (bytes : List ℕ) (xs ys : List TokenKind) → added bytes (xs ++ ys) ≡ added (added bytes xs) ys
@@ -44,3 +47,10 @@ params_end bytes next last (p ∷ ps) some e e_last = e_last ∙ ap (λ (b : Lis
 pub line_is : (bytes next last word : List ℕ) (ts : List TokenKind) → next ≡ added (bytes ++ word) ts → last ≡ next ++ (10 ∷ []) → last ≡ bytes ++ (joined (Word word ∷ ts) ++ (10 ∷ []))
 unfolding token_text
 line_is bytes next last word ts e e_last = e_last ∙ ap (λ (b : List ℕ). b ++ (10 ∷ [])) (e ∙ added_is (bytes ++ word) ts ∙ append_assoc bytes word (spaced ts)) ∙ append_assoc bytes (word ++ spaced ts) (10 ∷ [])
+
+-- an accumulate behind the tests of its result
+pub accumulate_is : (bytes next last : List ℕ) (s : SourceTree) (word : FoldWord) (arg : List ℕ) → next ≡ added (added bytes (Word (codes "from") ∷ Word (codes "accumulate") ∷ Mark OpenParenthesis ∷ [])) (source_tokens s)
+    → last ≡ added next (function_tokens word arg) → last ≡ added bytes (accumulate_tokens s word arg)
+unfolding accumulate_tokens
+accumulate_is bytes next last s word arg e e_last = e_last ∙ ap (λ (b : List ℕ). added b (function_tokens word arg)) e
+    ∙ sym (added_append (added bytes (Word (codes "from") ∷ Word (codes "accumulate") ∷ Mark OpenParenthesis ∷ [])) (source_tokens s) (function_tokens word arg))

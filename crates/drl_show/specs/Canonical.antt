@@ -1,6 +1,5 @@
 -- The tokens by which each tree is written, in the order of the grammar: of several ways that the grammar allows, one.
-use Rattle.std.specs.Prelude.{ℕ, suc, ℤ, pos, negsuc, List, [], ◌∷◌, ◌++◌, Bool, true, false, Option, Some, None, if◌then◌else◌, codes}
-use Rattle.drl_lex.specs.Bytes.{begins, begins_word}
+use Rattle.std.specs.Prelude.{ℕ, suc, ℤ, pos, negsuc, List, [], ◌∷◌, ◌++◌, Bool, true, false, Option, Some, None, codes}
 use Rattle.drl_lex.specs.declared.token.Rel.{Rel}
 use Rattle.drl_lex.specs.declared.token.TokenKind.{TokenKind}
 use Rattle.drl_lex.specs.declared.token.TokenKind.TheVariants.{Word, Var, Number, Text, Mark}
@@ -122,7 +121,7 @@ abbrev pub group_tokens : SourceTree → List TokenKind
 group_tokens s = Mark OpenParenthesis ∷ (source_tokens s ++ (Mark CloseParenthesis ∷ []))
 
 -- the function of an accumulate, behind the pattern
-abbrev pub function_tokens : FoldWord → List ℕ → List TokenKind
+unfoldable pub function_tokens : FoldWord → List ℕ → List TokenKind
 function_tokens word arg = Mark Comma ∷ Word (fold_text word) ∷ Mark OpenParenthesis ∷ Var arg ∷ Mark CloseParenthesis ∷ Mark CloseParenthesis ∷ []
 
 -- an accumulate behind the tests of its result
@@ -164,10 +163,8 @@ enclosed_tokens a = enclosed (joins a) (expr_tokens a)
 
 -- ---- actions
 
--- a field that is no word, as a setter may name one, is written as the setter
 abbrev pub assign_tokens : List ℕ × Tree → List TokenKind
-assign_tokens (f, e) = if begins begins_word f then Word f ∷ Mark Assign ∷ expr_tokens e
-    else Word (codes "set" ++ f) ∷ Mark OpenParenthesis ∷ (expr_tokens e ++ (Mark CloseParenthesis ∷ []))
+assign_tokens (f, e) = Word f ∷ Mark Assign ∷ expr_tokens e
 
 abbrev pub action_tokens : ActTree → List TokenKind
 action_tokens (action.Insert ty es) = Word (codes "insert") ∷ Mark OpenParenthesis ∷ Word (codes "new") ∷ Word ty ∷ Mark OpenParenthesis ∷ (listed expr_tokens es ++ (Mark CloseParenthesis ∷ []))

@@ -47,6 +47,7 @@ fn group(alloc: Global, out: &mut Vec<u8>, source: &SourceTree) -> Result<(), No
 }
 
 // The function of an accumulate, behind the pattern.
+#[tactic(auto, unfolding(crate::specs::Canonical::function_tokens))]
 fn function(out: &mut Vec<u8>, kind: FoldWord, arg: &str) -> Result<(), NoMemory>
     ensures { OnOk result (out.new.items ≡ added out.old.items (function_tokens kind arg.now)) }
 {

@@ -114,16 +114,16 @@ fn window(
     alloc: Global,
     out: &mut Vec<u8>,
     counted: &str,
-    measure: i64,
+    measure: &i64,
 ) -> Result<(), NoMemory>
-    ensures { OnOk result (out.new.items ≡ added out.old.items (counted_window counted.now measure)) }
+    ensures { OnOk result (out.new.items ≡ added out.old.items (counted_window counted.now measure.now)) }
 {
     word(out, "over")?;
     word(out, "window")?;
     mark(out, Mark::Colon)?;
     word(out, counted)?;
     mark(out, Mark::OpenParenthesis)?;
-    number(alloc, out, measure)?;
+    number(alloc, out, *measure)?;
     mark(out, Mark::CloseParenthesis)
 }
 
@@ -134,8 +134,8 @@ impl Written for WindowTree {
 
     fn write(&self, alloc: Global, out: &mut Vec<u8>) -> Result<(), NoMemory> {
         match self {
-            WindowTree::Time(ms) => window(alloc, out, "time", *ms),
-            WindowTree::Length(count) => window(alloc, out, "length", *count),
+            WindowTree::Time(ms) => window(alloc, out, "time", ms),
+            WindowTree::Length(count) => window(alloc, out, "length", count),
         }
     }
 }
