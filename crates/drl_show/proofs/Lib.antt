@@ -1,0 +1,11 @@
+pub mod Added
+pub mod AgainActions
+pub mod AgainConditions
+pub mod AgainExpressions
+pub mod AgainItems
+pub mod AgainShapes
+pub mod Extents
+pub mod Fine
+pub mod ItemsAgain
+pub mod ReadAgain
+pub mod Spellings

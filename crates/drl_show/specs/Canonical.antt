@@ -1,6 +1,5 @@
 -- The tokens by which each tree is written, in the order of the grammar: of several ways that the grammar allows, one.
-use Rattle.std.specs.Prelude.{ℕ, suc, ℤ, pos, negsuc, List, [], ◌∷◌, ◌++◌, Bool, true, false, Option, Some, None, if◌then◌else◌, codes}
-use Rattle.drl_lex.specs.Bytes.{begins, begins_word}
+use Rattle.std.specs.Prelude.{ℕ, suc, ℤ, pos, negsuc, List, [], ◌∷◌, ◌++◌, Bool, true, false, Option, Some, None, codes}
 use Rattle.drl_lex.specs.declared.token.Rel.{Rel}
 use Rattle.drl_lex.specs.declared.token.TokenKind.{TokenKind}
 use Rattle.drl_lex.specs.declared.token.TokenKind.TheVariants.{Word, Var, Number, Text, Mark}
@@ -20,6 +19,7 @@ use Rattle.drl_grammar.specs.declared.condition.WindowTree.TheVariants as window
 use Rattle.drl_grammar.specs.declared.condition.SourceTree.{SourceTree}
 use Rattle.drl_grammar.specs.declared.condition.CondTree.{CondTree}
 use Rattle.drl_grammar.specs.declared.condition.CondTree.TheVariants as condition
+use Rattle.drl_grammar.specs.declared.condition.FoldWord.{FoldWord}
 use Rattle.drl_grammar.specs.declared.condition.ResultWord.TheVariants.{LongValue}
 use Rattle.drl_grammar.specs.Conditions.{op_text, fold_text, result_text}
 use Rattle.drl_grammar.specs.declared.action.ActTree.{ActTree}
@@ -96,9 +96,13 @@ part_tokens (part.Bind v f) = Var v ∷ Mark Colon ∷ Word f ∷ []
 part_tokens (part.Temporal op ps v) = Word (codes "this") ∷ Word (op_text op) ∷ (param_tokens ps ++ (Var v ∷ []))
 part_tokens (part.AnyOf d) = disj_tokens d
 
+-- a window, with the word for what it counts
+abbrev pub counted_window : List ℕ → ℤ → List TokenKind
+counted_window counted z = Word (codes "over") ∷ Word (codes "window") ∷ Mark Colon ∷ Word counted ∷ Mark OpenParenthesis ∷ (number_tokens z ++ (Mark CloseParenthesis ∷ []))
+
 abbrev pub window_tokens : WindowTree → List TokenKind
-window_tokens (window.Time ms) = Word (codes "over") ∷ Word (codes "window") ∷ Mark Colon ∷ Word (codes "time") ∷ Mark OpenParenthesis ∷ (number_tokens ms ++ (Mark CloseParenthesis ∷ []))
-window_tokens (window.Length n) = Word (codes "over") ∷ Word (codes "window") ∷ Mark Colon ∷ Word (codes "length") ∷ Mark OpenParenthesis ∷ (number_tokens n ++ (Mark CloseParenthesis ∷ []))
+window_tokens (window.Time ms) = counted_window (codes "time") ms
+window_tokens (window.Length n) = counted_window (codes "length") n
 
 abbrev pub place_tokens : List ℕ → List TokenKind
 place_tokens s = Word (codes "from") ∷ Word (codes "entry") ∷ Mark Minus ∷ Word (codes "point") ∷ Text s ∷ []
@@ -106,19 +110,29 @@ place_tokens s = Word (codes "from") ∷ Word (codes "entry") ∷ Mark Minus ∷
 abbrev pub binding_tokens : Option (List ℕ) → List TokenKind
 binding_tokens = maybe (λ v. Var v ∷ Mark Colon ∷ [])
 
-abbrev pub source_tokens : SourceTree → List TokenKind
+unfoldable pub source_tokens : SourceTree → List TokenKind
 source_tokens s = binding_tokens s.var ++ (Word s.ty ∷ Mark OpenParenthesis ∷ (listed part_tokens s.parts ++ (maybe window_tokens s.window ++ maybe place_tokens s.entry)))
 
 abbrev pub test_tokens : Rel × Operand → List TokenKind
 test_tokens (r, o) = Word (result_text LongValue) ∷ Mark (Comparison r) ∷ operand_tokens o
 
+-- a pattern in parentheses
+abbrev pub group_tokens : SourceTree → List TokenKind
+group_tokens s = Mark OpenParenthesis ∷ (source_tokens s ++ (Mark CloseParenthesis ∷ []))
+
+-- the function of an accumulate, behind the pattern
+unfoldable pub function_tokens : FoldWord → List ℕ → List TokenKind
+function_tokens word arg = Mark Comma ∷ Word (fold_text word) ∷ Mark OpenParenthesis ∷ Var arg ∷ Mark CloseParenthesis ∷ Mark CloseParenthesis ∷ []
+
+-- an accumulate behind the tests of its result
+unfoldable pub accumulate_tokens : SourceTree → FoldWord → List ℕ → List TokenKind
+accumulate_tokens s word arg = Word (codes "from") ∷ Word (codes "accumulate") ∷ Mark OpenParenthesis ∷ (source_tokens s ++ function_tokens word arg)
+
 abbrev pub condition_tokens : CondTree → List TokenKind
 condition_tokens (condition.Plain s) = source_tokens s
-condition_tokens (condition.Negated s) = Word (codes "not") ∷ Mark OpenParenthesis ∷ (source_tokens s ++ (Mark CloseParenthesis ∷ []))
-condition_tokens (condition.Existing s) = Word (codes "exists") ∷ Mark OpenParenthesis ∷ (source_tokens s ++ (Mark CloseParenthesis ∷ []))
-condition_tokens (condition.Folded result s word arg tests) =
-    binding_tokens result ++ (Word (codes "Number") ∷ Mark OpenParenthesis ∷ (listed test_tokens tests ++ (Word (codes "from") ∷ Word (codes "accumulate") ∷ Mark OpenParenthesis ∷ (source_tokens s
-    ++ (Mark Comma ∷ Word (fold_text word) ∷ Mark OpenParenthesis ∷ Var arg ∷ Mark CloseParenthesis ∷ Mark CloseParenthesis ∷ [])))))
+condition_tokens (condition.Negated s) = Word (codes "not") ∷ group_tokens s
+condition_tokens (condition.Existing s) = Word (codes "exists") ∷ group_tokens s
+condition_tokens (condition.Folded result s word arg tests) = binding_tokens result ++ (Word (codes "Number") ∷ Mark OpenParenthesis ∷ (listed test_tokens tests ++ accumulate_tokens s word arg))
 
 -- ---- expressions
 
@@ -143,12 +157,14 @@ expr_tokens (add a b) = enclosed (joins a) (expr_tokens a) ++ (Mark Plus ∷ enc
 expr_tokens (sub a b) = enclosed (joins a) (expr_tokens a) ++ (Mark Minus ∷ enclosed (joins b) (expr_tokens b))
 expr_tokens (mul a b) = enclosed (joins a) (expr_tokens a) ++ (Mark Star ∷ enclosed (joins b) (expr_tokens b))
 
+-- an operand
+abbrev pub enclosed_tokens : Tree → List TokenKind
+enclosed_tokens a = enclosed (joins a) (expr_tokens a)
+
 -- ---- actions
 
--- a field that is no word, as a setter may name one, is written as the setter
 abbrev pub assign_tokens : List ℕ × Tree → List TokenKind
-assign_tokens (f, e) = if begins begins_word f then Word f ∷ Mark Assign ∷ expr_tokens e
-    else Word (codes "set" ++ f) ∷ Mark OpenParenthesis ∷ (expr_tokens e ++ (Mark CloseParenthesis ∷ []))
+assign_tokens (f, e) = Word f ∷ Mark Assign ∷ expr_tokens e
 
 abbrev pub action_tokens : ActTree → List TokenKind
 action_tokens (action.Insert ty es) = Word (codes "insert") ∷ Mark OpenParenthesis ∷ Word (codes "new") ∷ Word ty ∷ Mark OpenParenthesis ∷ (listed expr_tokens es ++ (Mark CloseParenthesis ∷ []))
@@ -157,8 +173,11 @@ action_tokens (action.Retract v) = Word (codes "retract") ∷ Mark OpenParenthes
 
 -- ---- types and entry points
 
+abbrev pub name_tokens : List ℕ → List TokenKind
+name_tokens f = Word f ∷ []
+
 abbrev pub path_tokens : List (List ℕ) → List TokenKind
-path_tokens = parted Dot (λ f. Word f ∷ [])
+path_tokens = parted Dot name_tokens
 
 abbrev pub star_tokens : Bool → List TokenKind
 star_tokens true = Mark Dot ∷ Mark Star ∷ []
@@ -168,22 +187,30 @@ abbrev pub role_word : Bool → List ℕ
 role_word true = codes "event"
 role_word false = codes "fact"
 
+-- an annotation with a word in its parentheses
+abbrev pub annotation_tokens : List ℕ → List ℕ → List TokenKind
+annotation_tokens name content = Mark At ∷ Word name ∷ Mark OpenParenthesis ∷ Word content ∷ Mark CloseParenthesis ∷ []
+
+-- an annotation with a span in its parentheses
+abbrev pub span_annotation_tokens : List ℕ → ℤ → List TokenKind
+span_annotation_tokens name ms = Mark At ∷ Word name ∷ Mark OpenParenthesis ∷ (number_tokens ms ++ (Mark CloseParenthesis ∷ []))
+
 abbrev pub meta_tokens : Meta → List TokenKind
-meta_tokens (meta.Role event) = Mark At ∷ Word (codes "role") ∷ Mark OpenParenthesis ∷ Word (role_word event) ∷ Mark CloseParenthesis ∷ []
-meta_tokens (meta.Timestamp f) = Mark At ∷ Word (codes "timestamp") ∷ Mark OpenParenthesis ∷ Word f ∷ Mark CloseParenthesis ∷ []
-meta_tokens (meta.Duration f) = Mark At ∷ Word (codes "duration") ∷ Mark OpenParenthesis ∷ Word f ∷ Mark CloseParenthesis ∷ []
-meta_tokens (meta.Expires ms) = Mark At ∷ Word (codes "expires") ∷ Mark OpenParenthesis ∷ (number_tokens ms ++ (Mark CloseParenthesis ∷ []))
+meta_tokens (meta.Role event) = annotation_tokens (codes "role") (role_word event)
+meta_tokens (meta.Timestamp f) = annotation_tokens (codes "timestamp") f
+meta_tokens (meta.Duration f) = annotation_tokens (codes "duration") f
+meta_tokens (meta.Expires ms) = span_annotation_tokens (codes "expires") ms
 
 abbrev pub field_tokens : List ℕ × List ℕ → List TokenKind
 field_tokens (f, k) = Word f ∷ Mark Colon ∷ Word k ∷ []
 
-abbrev pub type_tokens : TypeTree → List TokenKind
+unfoldable pub type_tokens : TypeTree → List TokenKind
 type_tokens t = Word t.name ∷ (each meta_tokens t.metas ++ (each field_tokens t.fields ++ (Word (codes "end") ∷ [])))
 
 abbrev pub lateness_tokens : ℤ → List TokenKind
-lateness_tokens ms = Mark At ∷ Word (codes "lateness") ∷ Mark OpenParenthesis ∷ (number_tokens ms ++ (Mark CloseParenthesis ∷ []))
+lateness_tokens = span_annotation_tokens (codes "lateness")
 
-abbrev pub entry_tokens : List ℕ → Option ℤ → List TokenKind
+unfoldable pub entry_tokens : List ℕ → Option ℤ → List TokenKind
 entry_tokens name late = Word (codes "entry") ∷ Mark Minus ∷ Word (codes "point") ∷ Text name ∷ (maybe lateness_tokens late ++ (Word (codes "end") ∷ []))
 
 -- ---- rules
@@ -192,7 +219,7 @@ abbrev pub attr_tokens : Attr → List TokenKind
 attr_tokens (attr.Salience n) = Word (codes "salience") ∷ number_tokens n
 attr_tokens (attr.Dialect s) = Word (codes "dialect") ∷ Text s ∷ []
 
-abbrev pub rule_tokens : RuleTree → List TokenKind
+unfoldable pub rule_tokens : RuleTree → List TokenKind
 rule_tokens r = Text r.name ∷ (each attr_tokens r.attrs ++ (Word (codes "when") ∷ (each condition_tokens r.conditions ++ (Word (codes "then") ∷ (each action_tokens r.actions ++ (Word (codes "end") ∷ []))))))
 
 -- ---- items

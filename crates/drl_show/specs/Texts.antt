@@ -34,3 +34,8 @@ spaced (t ∷ ts) = codes " " ++ (token_text t ++ spaced ts)
 abbrev pub joined : List TokenKind → List ℕ
 joined [] = []
 joined (t ∷ ts) = token_text t ++ spaced ts
+
+-- the bytes, and behind them the tokens, each with a space before it
+abbrev pub added : List ℕ → List TokenKind → List ℕ
+added bytes [] = bytes
+added bytes (t ∷ ts) = added (bytes ++ (codes " " ++ token_text t)) ts

@@ -2,5 +2,16 @@
 //! It assumes nothing of the trees.
 #![tactic(auto)]
 
+mod actions;
+mod conditions;
+mod expressions;
+mod items;
 mod laws;
+mod patterns;
+mod shapes;
+mod text;
 mod tokens;
+mod values;
+
+pub use laws::shown_is_read_again;
+pub use text::show;

@@ -1,7 +1,7 @@
 ghost use Rattle.std.specs.Prelude.{◌≡◌, [], ◌∷◌, ◌++◌, OnOk, pos};
 ghost use Rattle.drl_lex.specs.declared.token.TokenKind.TheVariants.{Word, Var, Number, Text, Mark as MarkToken};
 ghost use Rattle.drl_show.specs.Canonical.{number_tokens};
-ghost use Rattle.drl_show.specs.Texts.{escape, escaped, spaced, token_text};
+ghost use Rattle.drl_show.specs.Texts.{added, escape, escaped, token_text};
 ghost use Rattle.drl_lex.specs.Marks.{mark_text, rel_text};
 
 use drl_lex::{Mark, Rel};
@@ -49,7 +49,7 @@ fn mark_bytes(mark: Mark) -> &'static [u8]
 /// Appends a space and the mark.
 #[tactic(auto, unfolding(crate::specs::Texts::token_text))]
 pub(crate) fn mark(out: &mut Vec<u8>, mark: Mark) -> Result<(), NoMemory>
-    ensures { OnOk result (out.new.items ≡ out.old.items ++ spaced (MarkToken mark ∷ [])) }
+    ensures { OnOk result (out.new.items ≡ added out.old.items (MarkToken mark ∷ [])) }
 {
     out.push(b' ')?;
     out.extend_from_slice(mark_bytes(mark))?;
@@ -59,7 +59,7 @@ pub(crate) fn mark(out: &mut Vec<u8>, mark: Mark) -> Result<(), NoMemory>
 /// Appends a space and the word.
 #[tactic(auto, unfolding(crate::specs::Texts::token_text))]
 pub(crate) fn word(out: &mut Vec<u8>, word: &str) -> Result<(), NoMemory>
-    ensures { OnOk result (out.new.items ≡ out.old.items ++ spaced (Word word.now ∷ [])) }
+    ensures { OnOk result (out.new.items ≡ added out.old.items (Word word.now ∷ [])) }
 {
     out.push(b' ')?;
     out.extend_from_slice(word.as_bytes())?;
@@ -69,7 +69,7 @@ pub(crate) fn word(out: &mut Vec<u8>, word: &str) -> Result<(), NoMemory>
 /// Appends a space and the variable.
 #[tactic(auto, unfolding(crate::specs::Texts::token_text))]
 pub(crate) fn variable(out: &mut Vec<u8>, name: &str) -> Result<(), NoMemory>
-    ensures { OnOk result (out.new.items ≡ out.old.items ++ spaced (Var name.now ∷ [])) }
+    ensures { OnOk result (out.new.items ≡ added out.old.items (Var name.now ∷ [])) }
 {
     out.extend_from_slice(b" $")?;
     out.extend_from_slice(name.as_bytes())?;
@@ -78,7 +78,7 @@ pub(crate) fn variable(out: &mut Vec<u8>, name: &str) -> Result<(), NoMemory>
 
 #[tactic(auto, unfolding(crate::specs::Texts::token_text))]
 fn natural(alloc: Global, out: &mut Vec<u8>, number: u64) -> Result<(), NoMemory>
-    ensures { OnOk result (out.new.items ≡ out.old.items ++ spaced (Number number ∷ [])) }
+    ensures { OnOk result (out.new.items ≡ added out.old.items (Number number ∷ [])) }
 {
     let digits = number.to_string(alloc)?;
     out.push(b' ')?;
@@ -88,7 +88,7 @@ fn natural(alloc: Global, out: &mut Vec<u8>, number: u64) -> Result<(), NoMemory
 
 /// Appends the number, each of its tokens with a space before it.
 pub(crate) fn number(alloc: Global, out: &mut Vec<u8>, number: i64) -> Result<(), NoMemory>
-    ensures { OnOk result (out.new.items ≡ out.old.items ++ spaced (number_tokens number)) }
+    ensures { OnOk result (out.new.items ≡ added out.old.items (number_tokens number)) }
 {
     if number < 0 {
         mark(out, Mark::Minus)?;
@@ -125,7 +125,7 @@ fn text_bytes(out: &mut Vec<u8>, content: &[u8]) -> Result<(), NoMemory>
 /// Appends a space and the text in double quotes.
 #[tactic(auto, unfolding(crate::specs::Texts::token_text))]
 pub(crate) fn text(out: &mut Vec<u8>, content: &str) -> Result<(), NoMemory>
-    ensures { OnOk result (out.new.items ≡ out.old.items ++ spaced (Text content.now ∷ [])) }
+    ensures { OnOk result (out.new.items ≡ added out.old.items (Text content.now ∷ [])) }
 {
     out.extend_from_slice(b" \"")?;
     text_bytes(out, content.as_bytes())?;

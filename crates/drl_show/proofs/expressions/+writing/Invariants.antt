@@ -1,0 +1,12 @@
+use Rattle.std.proofs.Common.{◌+◌, ◌*◌, max}
+use Rattle.drl_expr.specs.Tree.{height}
+use Rattle.drl_show.proofs.expressions.+writing.Given as goal
+
+abbrev pub decreases-expr : goal.decreases-expr
+decreases-expr l = 3 * height l.tree.now
+
+abbrev pub decreases-operand : goal.decreases-operand
+decreases-operand l = 3 * height l.tree.now + 1
+
+abbrev pub decreases-pair : goal.decreases-pair
+decreases-pair l = 3 * max (height l.left.now) (height l.right.now) + 2

@@ -1,0 +1,8 @@
+use Rattle.std.proofs.Common.{◌≡◌, ◌++◌, ◌∷◌, drop}
+use Rattle.drl_lex.specs.declared.token.TokenKind.TheVariants.{Mark}
+use Rattle.drl_show.specs.Canonical.{each}
+use Rattle.drl_show.specs.Texts.{added}
+use Rattle.drl_show.proofs.shapes.write_behind.Given as goal
+
+abbrev pub invariant-loop-item : goal.invariant-loop-item
+invariant-loop-item g l = added l.out.items (each (λ y. Mark l.separator ∷ g.T.Written.tokens y) (drop l.item-index l.items)) ≡ added l.fn.out.items (each (λ y. Mark l.separator ∷ g.T.Written.tokens y) l.items)

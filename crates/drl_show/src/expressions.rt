@@ -1,0 +1,85 @@
+ghost use Rattle.std.specs.Prelude.{◌≡◌, ◌++◌, ◌∷◌, OnOk};
+ghost use Rattle.drl_lex.specs.declared.token.TokenKind.TheVariants.{Mark as MarkToken};
+ghost use Rattle.drl_show.specs.Canonical.{joins, expr_tokens, enclosed_tokens};
+ghost use Rattle.drl_show.specs.Texts.{added};
+
+use crate::shapes::Written;
+use crate::tokens::{mark, variable, word};
+use drl_expr::{ExprTree, Node};
+use drl_lex::Mark;
+use fx_base::NoMemory;
+use std::alloc::Global;
+
+/// Whether two operands are joined at the top.
+fn is_joined(tree: &ExprTree) -> bool
+    ensures { result ≡ joins tree.now }
+{
+    match tree.node() {
+        Node::Add(_, _) | Node::Sub(_, _) | Node::Mul(_, _) => true,
+        _ => false,
+    }
+}
+
+// The recursion is as deep as the tree is high, which is 32 at most for a tree that was read.
+#[cycle(writing)]
+fn expr(alloc: Global, out: &mut Vec<u8>, tree: &ExprTree) -> Result<(), NoMemory>
+    ensures { OnOk result (out.new.items ≡ added out.old.items (expr_tokens tree.now)) }
+{
+    match tree.node() {
+        Node::Lit(literal) => literal.write(alloc, out),
+        Node::Var(name) => variable(out, name.as_str()),
+        Node::VarField(name, field) => {
+            variable(out, name.as_str())?;
+            mark(out, Mark::Dot)?;
+            word(out, field.as_str())
+        }
+        Node::Neg(a) => {
+            mark(out, Mark::Minus)?;
+            operand(alloc, out, a)
+        }
+        Node::Add(a, b) => pair(alloc, out, a, Mark::Plus, b),
+        Node::Sub(a, b) => pair(alloc, out, a, Mark::Minus, b),
+        Node::Mul(a, b) => pair(alloc, out, a, Mark::Star, b),
+    }
+}
+
+// An operand, in parentheses where two operands are joined in it.
+#[cycle(writing)]
+#[tactic(auto, using(crate::proofs::Added::added_append))]
+fn operand(alloc: Global, out: &mut Vec<u8>, tree: &ExprTree) -> Result<(), NoMemory>
+    ensures { OnOk result (out.new.items ≡ added out.old.items (enclosed_tokens tree.now)) }
+{
+    if !is_joined(tree) {
+        return expr(alloc, out, tree);
+    }
+    mark(out, Mark::OpenParenthesis)?;
+    expr(alloc, out, tree)?;
+    mark(out, Mark::CloseParenthesis)
+}
+
+// Two operands, and the mark that joins them.
+#[cycle(writing)]
+#[tactic(auto, using(crate::proofs::Added::added_append))]
+fn pair(
+    alloc: Global,
+    out: &mut Vec<u8>,
+    left: &ExprTree,
+    joint: Mark,
+    right: &ExprTree,
+) -> Result<(), NoMemory>
+    ensures { OnOk result (out.new.items ≡ added out.old.items (enclosed_tokens left.now ++ (MarkToken joint ∷ enclosed_tokens right.now))) }
+{
+    operand(alloc, out, left)?;
+    mark(out, joint)?;
+    operand(alloc, out, right)
+}
+
+impl Written for ExprTree {
+    ghost use Rattle.drl_show.specs.Canonical.{expr_tokens};
+
+    ghost tokens = { expr_tokens };
+
+    fn write(&self, alloc: Global, out: &mut Vec<u8>) -> Result<(), NoMemory> {
+        expr(alloc, out, self)
+    }
+}

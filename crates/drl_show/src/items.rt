@@ -1,0 +1,171 @@
+ghost use Rattle.std.specs.Prelude.{◌≡◌, OnOk};
+ghost use Rattle.drl_show.specs.Canonical.{annotation_tokens, entry_tokens, lateness_tokens, maybe, role_word, span_annotation_tokens, star_tokens};
+ghost use Rattle.drl_show.specs.Texts.{added};
+
+use crate::shapes::{Written, write_each};
+use crate::tokens::{mark, number, text, word};
+use drl_grammar::{Attr, Meta, RuleTree, TypeTree};
+use drl_lex::Mark;
+use fx_base::{NoMemory, Text};
+use std::alloc::Global;
+
+/// A name, as a word.
+impl Written for Text {
+    ghost use Rattle.drl_show.specs.Canonical.{name_tokens};
+
+    ghost tokens = { name_tokens };
+
+    fn write(&self, _alloc: Global, out: &mut Vec<u8>) -> Result<(), NoMemory> {
+        word(out, self.as_str())
+    }
+}
+
+fn role(event: bool) -> &'static str
+    ensures { result.now ≡ role_word event }
+{
+    if event { "event" } else { "fact" }
+}
+
+// An annotation with a word in its parentheses.
+fn annotation(out: &mut Vec<u8>, name: &str, content: &str) -> Result<(), NoMemory>
+    ensures { OnOk result (out.new.items ≡ added out.old.items (annotation_tokens name.now content.now)) }
+{
+    mark(out, Mark::At)?;
+    word(out, name)?;
+    mark(out, Mark::OpenParenthesis)?;
+    word(out, content)?;
+    mark(out, Mark::CloseParenthesis)
+}
+
+// An annotation with a span in its parentheses, in milliseconds.
+#[tactic(auto, using(crate::proofs::Added::added_append))]
+fn span_annotation(
+    alloc: Global,
+    out: &mut Vec<u8>,
+    name: &str,
+    span: i64,
+) -> Result<(), NoMemory>
+    ensures { OnOk result (out.new.items ≡ added out.old.items (span_annotation_tokens name.now span)) }
+{
+    mark(out, Mark::At)?;
+    word(out, name)?;
+    mark(out, Mark::OpenParenthesis)?;
+    number(alloc, out, span)?;
+    mark(out, Mark::CloseParenthesis)
+}
+
+impl Written for Meta {
+    ghost use Rattle.drl_show.specs.Canonical.{meta_tokens};
+
+    ghost tokens = { meta_tokens };
+
+    fn write(&self, alloc: Global, out: &mut Vec<u8>) -> Result<(), NoMemory> {
+        match self {
+            Meta::Role(event) => annotation(out, "role", role(*event)),
+            Meta::Timestamp(field) => annotation(out, "timestamp", field.as_str()),
+            Meta::Duration(field) => annotation(out, "duration", field.as_str()),
+            Meta::Expires(ms) => span_annotation(alloc, out, "expires", *ms),
+        }
+    }
+}
+
+/// A field and the word of its kind.
+impl Written for (Text, Text) {
+    ghost use Rattle.drl_show.specs.Canonical.{field_tokens};
+
+    ghost tokens = { field_tokens };
+
+    fn write(&self, _alloc: Global, out: &mut Vec<u8>) -> Result<(), NoMemory> {
+        word(out, self.0.as_str())?;
+        mark(out, Mark::Colon)?;
+        word(out, self.1.as_str())
+    }
+}
+
+impl Written for TypeTree {
+    ghost use Rattle.drl_show.specs.Canonical.{type_tokens};
+
+    ghost tokens = { type_tokens };
+
+    #[tactic(auto, using(crate::proofs::Added::added_append), unfolding(crate::specs::Canonical::type_tokens))]
+    fn write(&self, alloc: Global, out: &mut Vec<u8>) -> Result<(), NoMemory> {
+        word(out, self.name.as_str())?;
+        write_each(alloc, out, self.metas.as_slice())?;
+        write_each(alloc, out, self.fields.as_slice())?;
+        word(out, "end")
+    }
+}
+
+fn lateness(alloc: Global, out: &mut Vec<u8>, late: &Option<i64>) -> Result<(), NoMemory>
+    ensures { OnOk result (out.new.items ≡ added out.old.items (maybe lateness_tokens late.now)) }
+{
+    match late {
+        None => Ok(()),
+        Some(ms) => span_annotation(alloc, out, "lateness", *ms),
+    }
+}
+
+/// Appends an entry point behind the word `declare`.
+#[tactic(auto, using(crate::proofs::Added::added_append), unfolding(crate::specs::Canonical::entry_tokens))]
+pub(crate) fn entry(
+    alloc: Global,
+    out: &mut Vec<u8>,
+    name: &Text,
+    late: &Option<i64>,
+) -> Result<(), NoMemory>
+    ensures { OnOk result (out.new.items ≡ added out.old.items (entry_tokens name.now late.now)) }
+{
+    word(out, "entry")?;
+    mark(out, Mark::Minus)?;
+    word(out, "point")?;
+    text(out, name.as_str())?;
+    lateness(alloc, out, late)?;
+    word(out, "end")
+}
+
+/// Appends what stands behind the parts of an import.
+pub(crate) fn star(out: &mut Vec<u8>, all: bool) -> Result<(), NoMemory>
+    ensures { OnOk result (out.new.items ≡ added out.old.items (star_tokens all)) }
+{
+    if !all {
+        return Ok(());
+    }
+    mark(out, Mark::Dot)?;
+    mark(out, Mark::Star)
+}
+
+impl Written for Attr {
+    ghost use Rattle.drl_show.specs.Canonical.{attr_tokens};
+
+    ghost tokens = { attr_tokens };
+
+    fn write(&self, alloc: Global, out: &mut Vec<u8>) -> Result<(), NoMemory> {
+        match self {
+            Attr::Salience(salience) => {
+                word(out, "salience")?;
+                number(alloc, out, *salience)
+            }
+            Attr::Dialect(dialect) => {
+                word(out, "dialect")?;
+                text(out, dialect.as_str())
+            }
+        }
+    }
+}
+
+impl Written for RuleTree {
+    ghost use Rattle.drl_show.specs.Canonical.{rule_tokens};
+
+    ghost tokens = { rule_tokens };
+
+    #[tactic(auto, using(crate::proofs::Added::added_append), unfolding(crate::specs::Canonical::rule_tokens))]
+    fn write(&self, alloc: Global, out: &mut Vec<u8>) -> Result<(), NoMemory> {
+        text(out, self.name.as_str())?;
+        write_each(alloc, out, self.attrs.as_slice())?;
+        word(out, "when")?;
+        write_each(alloc, out, self.conditions.as_slice())?;
+        word(out, "then")?;
+        write_each(alloc, out, self.actions.as_slice())?;
+        word(out, "end")
+    }
+}
