@@ -4,3 +4,5 @@ pub mod Pending
 pub mod Keys
 pub mod Looking
 pub mod Listed
+pub mod Named
+pub mod Once

@@ -1,6 +1,7 @@
 pub mod Tests
 pub mod Looked
 pub mod Rows
+pub mod Distinct
 pub mod Matches
 pub mod MatchOrders
 pub mod First

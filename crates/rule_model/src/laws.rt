@@ -3,9 +3,11 @@ ghost use Rattle.std.specs.Prelude.{◌≡◌, ◌↔◌, ◌<◌, ◌<ℤ◌, t
 ghost use Rattle.std.specs.declared.cmp.Ordering.{Ordering};
 ghost use Rattle.fx_base.specs.declared.fact.Fact.{Fact};
 ghost use Rattle.row_delta.specs.declared.row.Row.{Row};
+ghost use Rattle.row_delta.specs.Rows.{tags};
 ghost use Rattle.rule_model.specs.declared.matched.Match.{Match};
 ghost use Rattle.rule_model.specs.declared.program.Rule.{Rule};
 ghost use Rattle.rule_model.specs.Rows.{In, IsRow, rows};
+ghost use Rattle.rule_model.specs.Distinct.{EachOnce, HaveDistinctTags};
 ghost use Rattle.rule_model.specs.Matches.{fire_cmp, salience_of, greatest_tag, saliences, has_match};
 ghost use Rattle.rule_model.specs.Worlds.{World, pending, first_pending};
 
@@ -33,4 +35,15 @@ pub fn keys_of_firing()
 /// The list of a rule's rows has exactly the rows that its conditions make.
 pub fn listed_rows_are_the_rows()
     ensures { (facts : List Fact) (rule : Rule) (row : Row) → In row (rows facts rule) ↔ IsRow facts rule row }
+{}
+
+/// Over facts with distinct tags the tags of a rule's row settle it: no two rows differ in ids or values alone.
+pub fn tags_settle_the_rows_of_a_rule()
+    ensures { (facts : List Fact) → HaveDistinctTags facts → (rule : Rule) (a : Row) (b : Row) → IsRow facts rule a → IsRow facts rule b
+        → tags a ≡ tags b → a ≡ b }
+{}
+
+/// Over facts with distinct tags each row of a rule stands once in its list.
+pub fn each_row_stands_once()
+    ensures { (facts : List Fact) → HaveDistinctTags facts → (rule : Rule) → EachOnce (rows facts rule) }
 {}

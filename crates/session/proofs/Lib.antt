@@ -1,5 +1,4 @@
-pub mod Grown
-pub mod Single
+pub mod Rules
 pub mod Fresh
 pub mod Stands
 pub mod Firings

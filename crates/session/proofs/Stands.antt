@@ -10,7 +10,7 @@ use Rattle.rule_model.specs.Matches.{matches, has_match, match_cmp, fire_cmp, sa
 use Rattle.rule_model.specs.MatchOrders.{match_equiv, fire_total}
 use Rattle.rule_model.specs.First.{first}
 use Rattle.rule_model.specs.Worlds.{World, pending, still_fired, inserted, marked, first_pending, empty_world}
-use Rattle.rule_model.specs.Programs.{is_single}
+use Rattle.rule_model.specs.Programs.{has_conditions}
 use Rattle.rule_model.proofs.Exact.{match_exact, fire_exact}
 use Rattle.rule_model.proofs.Pending.{has_pending, has_still, by_fire}
 use Rattle.rule_model.proofs.Firsts.{first_alike, first_in}
@@ -20,8 +20,8 @@ use Rattle.fx_base.specs.declared.value.Value.{Value}
 use Rattle.rule_model.specs.declared.program.Program.{Program}
 use Rattle.rule_model.specs.Worlds.{new_fact}
 use Rattle.session.specs.Standing.{AgendaStands, Kept, Standing, Shown, Stands, tags_below}
-use Rattle.session.proofs.Single.{matches_more, no_matches}
-use Rattle.session.proofs.Fresh.{new_match, tags_grow}
+use Rattle.session.specs.Added.{Adds}
+use Rattle.session.proofs.Fresh.{new_match, tags_grow, no_matches}
 
 -- pending after an insertion: over the older matches, the new ones and the fired ones
 kernel_pending : (old new fired : Bool) → (new ≡ true → old ≡ true → ⊥) → (fired ≡ true → old ≡ true)
@@ -43,19 +43,18 @@ and_right true b e = e
 and_right false b e = cc
 
 -- a session after an insertion
-pub inserted_stands : (rules : List Rule) → list_all is_single rules ≡ true → (k : Kept) (b : Held) (f : Fact) (w : World) → Standing rules k w
+pub inserted_stands : (rules : List Rule) (k : Kept) (b : Held) (f : Fact) (w : World) → Standing rules k w
     → f.tag.0 ≡ k.next → b.saliences ≡ k.agenda.saliences
-    → ((m : Match) → has_match b.pending m ≡ (has_match k.agenda.pending m || has_match (matches rules (f ∷ [])) m))
+    → ((m : Match) → Adds (has_match (matches rules k.facts) m) (has_match (matches rules (k.facts ++ f ∷ [])) m) f m.row (has_match k.agenda.pending m) (has_match b.pending m))
     → ((m : Match) → has_match b.fired m ≡ has_match k.agenda.fired m)
     → Standing rules (record { facts = k.facts ++ f ∷ []; agenda = b; next = k.next + 1 }) (inserted rules w f)
-inserted_stands rules one k b f w s tag sal p fi =
-    let old = λ (m : Match). has_match (matches rules w.facts) m in
-    let new = λ (m : Match). has_match (matches rules (f ∷ [])) m in
+inserted_stands rules k b f w s tag sal p fi =
+    let adds : (m : Match) → Adds (has_match (matches rules w.facts) m) (has_match (matches rules (w.facts ++ f ∷ [])) m) f m.row (has_match k.agenda.pending m) (has_match b.pending m) =
+    subst (λ (facts : List Fact). (m : Match) → Adds (has_match (matches rules facts) m) (has_match (matches rules (facts ++ f ∷ [])) m) f m.row (has_match k.agenda.pending m) (has_match b.pending m)) s.facts p in
     let v : World = inserted rules w f in
-    let more : (m : Match) → has_match (matches rules (w.facts ++ f ∷ [])) m ≡ (has_match (matches rules w.facts) m || has_match (matches rules (f ∷ [])) m) = matches_more 0 rules one w.facts (f ∷ []) in
-    let still : (m : Match) → has_match (still_fired rules (w.facts ++ f ∷ []) w.fired) m ≡ (has_match w.fired m && (has_match (matches rules w.facts) m || has_match (matches rules (f ∷ [])) m)) =
-    λ m. has_still rules (w.facts ++ f ∷ []) w.fired m ∙ ap (λ z. has_match w.fired m && z) (more m) in
     let fresh : tags_below k.next w.facts ≡ true = subst (λ (facts : List Fact). tags_below k.next facts ≡ true) s.facts s.fresh in
+    let still : (m : Match) → has_match (still_fired rules (w.facts ++ f ∷ []) w.fired) m ≡ (has_match w.fired m && (has_match (matches rules w.facts) m || (adds m).come)) =
+    λ m. has_still rules (w.facts ++ f ∷ []) w.fired m ∙ ap (λ z. has_match w.fired m && z) (adds m).grown in
     record {
       facts = ap (λ (facts : List Fact). facts ++ f ∷ []) s.facts;
       next_id = ap (λ n. n + 1) s.next_id;
@@ -64,12 +63,12 @@ inserted_stands rules one k b f w s tag sal p fi =
       agenda = record {
         saliences = sal ∙ s.agenda.saliences;
         pending = λ m.
-            p m ∙ ap (λ z. z || has_match (matches rules (f ∷ [])) m) (s.agenda.pending m ∙ has_pending rules w m)
-            ∙ kernel_pending (has_match (matches rules w.facts) m) (has_match (matches rules (f ∷ [])) m) (has_match w.fired m)
-            (new_match rules one w.facts f k.next fresh tag m) (s.agenda.lawful m)
-            ∙ sym (has_pending rules v m ∙ ap (λ z. z && not (has_match v.fired m)) (more m) ∙ ap (λ z. (has_match (matches rules w.facts) m || has_match (matches rules (f ∷ [])) m) && not z) (still m));
+            (adds m).after ∙ ap (λ z. z || (adds m).come) (s.agenda.pending m ∙ has_pending rules w m)
+            ∙ kernel_pending (has_match (matches rules w.facts) m) (adds m).come (has_match w.fired m)
+            (λ new. new_match rules w.facts f k.next fresh tag m ((adds m).named new)) (s.agenda.lawful m)
+            ∙ sym (has_pending rules v m ∙ ap (λ z. z && not (has_match v.fired m)) (adds m).grown ∙ ap (λ z. (has_match (matches rules w.facts) m || (adds m).come) && not z) (still m));
         fired = λ m.
-            fi m ∙ s.agenda.fired m ∙ kernel_fired (has_match (matches rules w.facts) m) (has_match (matches rules (f ∷ [])) m) (has_match w.fired m) (s.agenda.lawful m)
+            fi m ∙ s.agenda.fired m ∙ kernel_fired (has_match (matches rules w.facts) m) (adds m).come (has_match w.fired m) (s.agenda.lawful m)
             ∙ sym (still m);
         lawful = λ m e. and_right (has_match w.fired m) (has_match (matches rules (w.facts ++ f ∷ [])) m) (sym (has_still rules (w.facts ++ f ∷ []) w.fired m) ∙ e);
       };
@@ -145,18 +144,18 @@ numbered id tag ty fields = record {
 }
 
 -- the same as methods see it
-pub insert_stands : (p : Program) (facts : List Fact) (a : Held) (n : ℕ) (s : Shown) → shown p facts a n ≡ s → list_all is_single p.rules ≡ true
+pub insert_stands : (p : Program) (facts : List Fact) (a : Held) (n : ℕ) (s : Shown) → shown p facts a n ≡ s
     → (ty : TypeId) (fields : List Value) (items : List Fact) (b : Held) (w : World) → Stands s w
     → items ≡ facts ++ numbered n n ty fields ∷ [] → b.saliences ≡ a.saliences
-    → ((m : Match) → has_match b.pending m ≡ (has_match a.pending m || has_match (matches p.rules (numbered n n ty fields ∷ [])) m))
+    → ((m : Match) → Adds (has_match (matches p.rules facts) m) (has_match (matches p.rules (facts ++ numbered n n ty fields ∷ [])) m) (numbered n n ty fields) m.row (has_match a.pending m) (has_match b.pending m))
     → ((m : Match) → has_match b.fired m ≡ has_match a.fired m)
     → Standing p.rules (record { facts = items; agenda = b; next = n + 1 }) (inserted s.program.rules w (new_fact w ty.0 fields))
-insert_stands p facts a n s e one ty fields items b w st is sal pe fi =
+insert_stands p facts a n s e ty fields items b w st is sal pe fi =
     let k : Stands (shown p facts a n) w = subst (λ (z : Shown). Stands z w) (sym e) st in
     let f : Fact = numbered n n ty fields in
     let same : numbered n n ty fields ≡ new_fact w ty.0 fields = ap (λ z. numbered z n ty fields) k.next_id ∙ ap (λ z. numbered w.next_id z ty fields) k.next_tag in
     let r : Standing p.rules (record { facts = facts ++ numbered n n ty fields ∷ []; agenda = b; next = n + 1 }) (inserted p.rules w (numbered n n ty fields)) =
-    inserted_stands p.rules one (record { facts = facts; agenda = a; next = n }) b f w k refl sal pe fi in
+    inserted_stands p.rules (record { facts = facts; agenda = a; next = n }) b f w k refl sal pe fi in
     let q : Standing p.rules (record { facts = items; agenda = b; next = n + 1 }) (inserted p.rules w (numbered n n ty fields)) =
     subst (λ (zs : List Fact). Standing p.rules (record { facts = zs; agenda = b; next = n + 1 }) (inserted p.rules w (numbered n n ty fields))) (sym is) r in
     subst (λ (z : Shown). Standing p.rules (record { facts = items; agenda = b; next = n + 1 }) (inserted z.program.rules w (new_fact w ty.0 fields))) e
@@ -185,9 +184,9 @@ shown_first p facts a n s e w st =
     let k : Stands (shown p facts a n) w = subst (λ (z : Shown). Stands z w) (sym e) st in
     same_first p.rules a w k.agenda ∙ ap (λ (z : Shown). first_pending z.program.rules w) e
 
-pub empty_stands : (rules : List Rule) → list_all is_single rules ≡ true → (facts : List Fact) (a : Held) → facts ≡ [] → a ≡ record { saliences = saliences rules; pending = []; fired = [] }
+pub empty_stands : (rules : List Rule) → list_all has_conditions rules ≡ true → (facts : List Fact) (a : Held) → facts ≡ [] → a ≡ record { saliences = saliences rules; pending = []; fired = [] }
     → Standing rules (record { facts = facts; agenda = a; next = 1 }) empty_world
-empty_stands rules one facts a e h =
+empty_stands rules some facts a e h =
     subst (λ (zs : List Fact). Standing rules (record { facts = zs; agenda = a; next = 1 }) empty_world) (sym e)
     (subst (λ (z : Held). Standing rules (record { facts = []; agenda = z; next = 1 }) empty_world) (sym h) (record {
       facts = refl;
@@ -196,7 +195,7 @@ empty_stands rules one facts a e h =
       fresh = refl;
       agenda = record {
         saliences = refl;
-        pending = λ m. sym (has_pending rules empty_world m ∙ ap (λ z. z && true) (no_matches 0 rules one m));
+        pending = λ m. sym (has_pending rules empty_world m ∙ ap (λ z. z && true) (no_matches 0 rules some m));
         fired = λ m. refl;
         lawful = λ m x. let y : false ≡ true = x in cc;
       };

@@ -1,3 +1,4 @@
 pub mod Changes
 pub mod Gives
 pub mod Standing
+pub mod Added

@@ -1,11 +1,10 @@
-ghost use Rattle.std.specs.Prelude.{◌≡◌, ℕ, ◌==◌, ◌+◌, ◌-◌, ◌<◌, ◌≤◌, ◌^◌, ◌&&◌, ◌||◌, true, [], ◌∷◌, length, List, ℤ, Ok, IfOk, is_some};
-ghost use Rattle.std.specs.List.{list_all};
+ghost use Rattle.std.specs.Prelude.{◌≡◌, ℕ, ◌==◌, ◌+◌, ◌-◌, ◌<◌, ◌≤◌, ◌^◌, ◌&&◌, true, [], ◌∷◌, ◌++◌, length, List, ℤ, Ok, IfOk, is_some};
 ghost use Rattle.row_delta.specs.Rows.{has};
-ghost use Rattle.rule_model.specs.Rows.{rows, name_of};
+ghost use Rattle.rule_model.specs.Rows.{rows};
 ghost use Rattle.rule_model.specs.Matches.{matches, has_match, saliences, fire_cmp};
 ghost use Rattle.rule_model.specs.First.{first};
-ghost use Rattle.rule_model.specs.Programs.{is_single};
 ghost use Rattle.rule_model.specs.declared.matched.Match.{Match};
+ghost use Rattle.session.specs.Added.{Adds};
 ghost use Rattle.session.specs.Gives.{fire_line, cells};
 
 use crate::Engine;
@@ -13,8 +12,9 @@ use crate::lines::{Cell, Code, Fired, Lines, OutLine};
 use crate::reading::read_change;
 use agenda::Agenda;
 use fx_base::{EntryId, Fact, FactId, NoMemory, RuleId, Seq, Tag, Times, TypeId, Value};
-use row_delta::{Delta, Named, Row};
-use rule_model::{Condition, Match, Program, Rule};
+use row_delta::{Delta, Named};
+use rule_model::{Match, Program, Rule};
+use rule_rows::rows_with;
 use script_read::Change;
 use std::alloc::Global;
 use std::marker::Model;
@@ -29,59 +29,49 @@ fn saliences_of(alloc: Global, rules: &[Rule]) -> Result<Vec<i64>, NoMemory>
     Ok(all)
 }
 
-// The rows of a rule of one pattern over one fact.
-#[tactic(auto, unfolding(rule_model::specs::Rows::rows))]
-fn rows_of_fact(alloc: Global, rule: &Rule, fact: &Fact) -> Result<Seq<Row>, NoMemory>
-    requires { length rule.now.conditions ≡ 1 }
-    ensures { IfOk result (λ found. found ≡ rows (fact.now ∷ []) rule.now) }
-{
-    let mut found = Vec::new(alloc);
-    if let [Condition::Plain(pattern)] = rule.conditions.as_slice() {
-        if fact.ty == pattern.ty && pattern.passes_alone(fact) {
-            let named = Named {
-                id: fact.id,
-                tag: fact.tag,
-            };
-            found.push(Row {
-                facts: Seq::from_vec(vec![in alloc; named]?),
-                values: Seq::from_vec(Vec::new(alloc)),
-            })?;
-        }
-    }
-    Ok(Seq::from_vec(found))
-}
-
-// Adds the matches of one rule over a new fact.
+// Adds the matches of one rule that come with a new fact.
 fn with_rule(
     alloc: Global,
     agenda: Agenda,
     rule: &Rule,
     place: RuleId,
+    facts: &[Fact],
     fact: &Fact,
 ) -> Result<Agenda, NoMemory>
-    requires { length rule.now.conditions ≡ 1 }
     ensures saliences { IfOk result (λ a. a.saliences ≡ agenda.saliences) }
-    ensures pending { IfOk result (λ a. (m : Match) → has_match a.pending m
-        ≡ (has_match agenda.pending m || (place.0 == m.rule.0 && has (rows (fact.now ∷ []) rule.now) m.row))) }
+    ensures pending { IfOk result (λ a. (m : Match) → Adds (place.0 == m.rule.0 && has (rows facts.now rule.now) m.row)
+        (place.0 == m.rule.0 && has (rows (facts.now ++ fact.now ∷ []) rule.now) m.row) fact.now m.row (has_match agenda.pending m) (has_match a.pending m)) }
     ensures fired { IfOk result (λ a. (m : Match) → has_match a.fired m ≡ has_match agenda.fired m) }
 {
-    let come = rows_of_fact(alloc, rule, fact)?;
+    let come = rows_with(alloc, facts, fact, rule)?;
     let gone = Seq::from_vec(Vec::new(alloc));
     agenda.change(alloc, place, &Delta { gone, come })
 }
 
-// Adds the matches of all rules over a new fact.
-fn with_fact(alloc: Global, agenda: Agenda, rules: &[Rule], fact: &Fact) -> Result<Agenda, NoMemory>
-    requires few { length rules.now ≤ 256 }
-    requires single { list_all is_single rules.now ≡ true }
+// Adds the matches of all rules that come with a new fact.
+fn with_fact(
+    alloc: Global,
+    agenda: Agenda,
+    rules: &[Rule],
+    facts: &[Fact],
+    fact: &Fact,
+) -> Result<Agenda, NoMemory>
+    requires { length rules.now ≤ 256 }
     ensures saliences { IfOk result (λ a. a.saliences ≡ agenda.saliences) }
-    ensures pending { IfOk result (λ a. (m : Match) → has_match a.pending m
-        ≡ (has_match agenda.pending m || has_match (matches rules.now (fact.now ∷ [])) m)) }
+    ensures pending { IfOk result (λ a. (m : Match) → Adds (has_match (matches rules.now facts.now) m)
+        (has_match (matches rules.now (facts.now ++ fact.now ∷ [])) m) fact.now m.row (has_match agenda.pending m) (has_match a.pending m)) }
     ensures fired { IfOk result (λ a. (m : Match) → has_match a.fired m ≡ has_match agenda.fired m) }
 {
     let mut agenda = agenda;
     for place in 0..rules.len() {
-        agenda = with_rule(alloc, agenda, &rules[place], RuleId(place as u16), fact)?;
+        agenda = with_rule(
+            alloc,
+            agenda,
+            &rules[place],
+            RuleId(place as u16),
+            facts,
+            fact,
+        )?;
     }
     Ok(agenda)
 }
@@ -216,7 +206,7 @@ impl Session {
             tag: Tag(next),
             times: Times { start: 0, end: 0 },
         };
-        let agenda = with_fact(alloc, agenda, program.rules.as_slice(), &fact)?;
+        let agenda = with_fact(alloc, agenda, program.rules.as_slice(), &facts, &fact)?;
         facts.push(fact)?;
         let lines = one_line(
             alloc,

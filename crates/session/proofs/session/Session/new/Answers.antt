@@ -4,4 +4,4 @@ use Rattle.session.proofs.session.Session.new.Goals as goal
 
 pub returns-clause-stands : goal.returns-clause-stands
 returns-clause-stands c =
-    empty_stands c.args.program.rules c.requires.single c.new.result.items c.in_ok-new.field-0 c.new.ensures.items (search rules)
+    empty_stands c.args.program.rules c.requires.conditions c.new.result.items c.in_ok-new.field-0 c.new.ensures.items (search rules)
