@@ -134,10 +134,12 @@ pub number_again : (v : Option (List ℕ)) (s : SourceTree) (k : FoldWord) (arg 
     → number_at ts ≡ Some (condition.Folded v s k arg tests, rest)
 unfolding number_at number_tests_at number_source_at number_call_at window_at place_at closed after
 number_again v s k arg tests ts inner source_tokens rest hv ht hs =
-    rw (binding_again v ts (codes "Number") (Mark OpenParenthesis ∷ inner) hv,
-        value_tests_exact.again tests inner (Word (codes "from") ∷ Word (codes "accumulate") ∷ Mark OpenParenthesis ∷ source_tokens) ht (omega arith),
-        source_again s source_tokens (Mark Comma ∷ Word (fold_text k) ∷ Mark OpenParenthesis ∷ Var arg ∷ Mark CloseParenthesis ∷ Mark CloseParenthesis ∷ rest) hs refl refl,
-        call_again k arg (Mark CloseParenthesis ∷ rest)) refl
+    rw (
+      binding_again v ts (codes "Number") (Mark OpenParenthesis ∷ inner) hv,
+      value_tests_exact.again tests inner (Word (codes "from") ∷ Word (codes "accumulate") ∷ Mark OpenParenthesis ∷ source_tokens) ht (omega arith),
+      source_again s source_tokens (Mark Comma ∷ Word (fold_text k) ∷ Mark OpenParenthesis ∷ Var arg ∷ Mark CloseParenthesis ∷ Mark CloseParenthesis ∷ rest) hs refl refl,
+      call_again k arg (Mark CloseParenthesis ∷ rest),
+    ) refl
 
 -- ---- accumulate(..)
 
@@ -158,8 +160,11 @@ pub accumulate_again : (v : List ℕ) (s : SourceTree) (k : FoldWord) (arg : Lis
     → AreResultTests v tests behind rest → accumulate_at (Mark OpenParenthesis ∷ ts) ≡ Some (condition.Folded (Some v) s k arg tests, rest)
 unfolding accumulate_at accumulate_call_at window_at place_at
 accumulate_again v s k arg tests ts behind rest hs ht =
-    rw (source_again s ts (Mark Semicolon ∷ Var v ∷ Mark Colon ∷ Word (fold_text k) ∷ Mark OpenParenthesis ∷ Var arg ∷ Mark CloseParenthesis ∷ behind) hs refl refl,
-        call_again k arg behind, (result_tests_exact v).again tests behind rest ht (omega arith)) refl
+    rw (
+      source_again s ts (Mark Semicolon ∷ Var v ∷ Mark Colon ∷ Word (fold_text k) ∷ Mark OpenParenthesis ∷ Var arg ∷ Mark CloseParenthesis ∷ behind) hs refl refl,
+      call_again k arg behind,
+      (result_tests_exact v).again tests behind rest ht (omega arith),
+    ) refl
 
 pub folded_shorter : (c : CondTree) (ts rest : List TokenKind) → IsFolded c ts rest → length rest < length ts
 folded_shorter c ts rest (g.number_form {result} {s} {word} {arg} {tests} {inner} {source_tokens} hv ht hs) =

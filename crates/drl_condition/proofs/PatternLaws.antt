@@ -122,8 +122,13 @@ pattern_sound v whole ts hv = tt
 pub source_again : (s : SourceTree) (ts rest : List TokenKind) → IsSource s ts rest → window_at rest ≡ None → place_at rest ≡ None → source_at ts ≡ Some (s, rest)
 unfolding source_at pattern_at
 source_again s ts rest (g.source {v} {ty} {ps} {w} {e} {inner} {behind} {middle} hv h hps hw he) no_w no_p =
-    rw (binding_again v ts ty (Mark OpenParenthesis ∷ inner) hv, ident_is ty _ h, parts_exact.again ps inner behind hps (omega arith),
-        maybe_again window_exact w behind middle hw (no_window_before e middle rest he no_w) (omega arith), maybe_again place_exact e middle rest he no_p (omega arith)) refl
+    rw (
+      binding_again v ts ty (Mark OpenParenthesis ∷ inner) hv,
+      ident_is ty _ h,
+      parts_exact.again ps inner behind hps (omega arith),
+      maybe_again window_exact w behind middle hw (no_window_before e middle rest he no_w) (omega arith),
+      maybe_again place_exact e middle rest he no_p (omega arith),
+    ) refl
 
 pub source_exact : Exact IsSource source_at 9
 unfolding source_at

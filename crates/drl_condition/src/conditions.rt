@@ -22,7 +22,7 @@ fn form_of(tokens: &[TokenKind]) -> Form
             TokenKind::Var(_),
             TokenKind::Mark(Mark::Colon),
             TokenKind::Word(word),
-            ..,
+            ..
         ] => {
             if word.as_str() == "Number" {
                 Form::Number

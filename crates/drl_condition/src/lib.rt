@@ -7,6 +7,8 @@ mod conditions;
 mod folds;
 mod parts;
 mod patterns;
+#[cfg(test)]
+mod tests;
 mod values;
 mod words;
 

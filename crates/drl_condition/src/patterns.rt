@@ -90,9 +90,9 @@ impl Phrase for PlacePhrase {
                 TokenKind::Mark(Mark::Minus),
                 TokenKind::Word(point),
                 rest @ ..,
-            ] if from.as_str() == "from" && entry.as_str() == "entry" && point.as_str() == "point" => {
-                Name::read(alloc, rest)
-            }
+            ] if from.as_str() == "from"
+                && entry.as_str() == "entry"
+                && point.as_str() == "point" => { Name::read(alloc, rest) }
             _ => Ok(None),
         }
     }
@@ -104,11 +104,10 @@ pub(crate) fn binding(tokens: &[TokenKind]) -> Result<(Option<Text>, &[TokenKind
     ensures { IfOk result (λ found. (found.0, found.1.now) ≡ binding_at tokens.now) }
 {
     match tokens {
-        [
-            TokenKind::Var(var),
-            TokenKind::Mark(Mark::Colon),
-            rest @ ..,
-        ] => Ok((Some(var.clone()?), rest)),
+        [TokenKind::Var(var), TokenKind::Mark(Mark::Colon), rest @ ..] => Ok((
+            Some(var.clone()?),
+            rest,
+        )),
         _ => Ok((None, tokens)),
     }
 }

@@ -17,10 +17,7 @@ impl Phrase for Span {
     ghost at = { span_at };
 
     #[tactic(auto, unfolding(crate::specs::Reading::span_at))]
-    fn read(
-        _alloc: Global,
-        tokens: &[TokenKind],
-    ) -> Result<Option<(i64, &[TokenKind])>, NoMemory> {
+    fn read(_alloc: Global, tokens: &[TokenKind]) -> Result<Option<(i64, &[TokenKind])>, NoMemory> {
         match tokens {
             [TokenKind::Number(number), rest @ ..] => Ok(Some((number.value(), rest))),
             [TokenKind::Time(number), rest @ ..] => Ok(Some((number.value(), rest))),

@@ -66,10 +66,7 @@ pub fn behind_word<'a>(word: &str, tokens: &'a [TokenKind]) -> Option<&'a [Token
 
 /// What all the tokens are; `None` where they are no phrase, or tokens are left behind one.
 #[tactic(auto, unfolding(crate::specs::Reading::whole_at))]
-pub fn whole<P: Phrase>(
-    alloc: Global,
-    tokens: &[TokenKind],
-) -> Result<Option<P::Tree>, NoMemory>
+pub fn whole<P: Phrase>(alloc: Global, tokens: &[TokenKind]) -> Result<Option<P::Tree>, NoMemory>
     ensures { IfOk result (λ found. found ≡ whole_at P.at tokens.now) }
 {
     let (found, rest) = match P::read(alloc, tokens)? {
