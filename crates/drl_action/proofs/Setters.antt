@@ -16,7 +16,7 @@ small_by : (b : ℕ) (bytes : List ℕ) (low : Bool) → nat_lt b 128 ≡ low �
 small_by b bytes true e text =
     let low = ltb-true b 128 e in
     IsUtf8-append (to_ascii_lowercase b ∷ []) bytes (IsUtf8-from_ascii _ (one_ascii _ (lowercase_ascii b low)))
-        (IsUtf8-drop (b ∷ bytes) 1 text (IsCharBoundary-after_ascii (b ∷ bytes) 0 text (omega arith) low))
+    (IsUtf8-drop (b ∷ bytes) 1 text (IsCharBoundary-after_ascii (b ∷ bytes) 0 text (omega arith) low))
 small_by b bytes false e text = let high = ltb-false b 128 e in let same = (lowercase_is b).2 (omega arith) in rw same text
 
 third : (x y z b : ℕ) (bytes : List ℕ) → x ∷ y ∷ z ∷ [] ≡ codes "set" → z ≡ 116

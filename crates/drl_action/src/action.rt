@@ -33,7 +33,11 @@ fn values<'a>(alloc: Global, ty: &Text, tokens: &'a [TokenKind]) -> Result<Found
 
 // The assignments of a modification, behind the opening brace.
 #[tactic(auto, unfolding(drl_phrase::specs::Reading::closed))]
-fn assignments<'a>(alloc: Global, var: &Text, tokens: &'a [TokenKind]) -> Result<Found<'a>, NoMemory>
+fn assignments<'a>(
+    alloc: Global,
+    var: &Text,
+    tokens: &'a [TokenKind],
+) -> Result<Found<'a>, NoMemory>
     ensures { IfOk result (λ found. option_map (λ f. (f.0, f.1.now)) found ≡ sets_at var.now tokens.now) }
 {
     let (sets, rest) = match separated::<Assignment>(alloc, Punctuation::Comma, tokens)? {

@@ -5,6 +5,8 @@
 mod action;
 mod assign;
 mod setter;
+#[cfg(test)]
+mod tests;
 mod word;
 
 pub use action::Action;

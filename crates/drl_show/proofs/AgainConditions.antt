@@ -239,8 +239,8 @@ folded_as result s word arg tests rest binds binds_fine tested tested_fine from 
   stands = λ k. subst (λ (all : List TokenKind). IsCondition (condition.Folded result s word arg tests) all k)
       (sym (folded_order (binding_tokens result) (listed test_tokens tests) (source_tokens s) (function_tokens word arg) k (Word (codes "Number")) (Mark OpenParenthesis) (Word (codes "from")) (Word (codes "accumulate")) (Mark OpenParenthesis)))
       (g.folded (g.number_form
-          (binds (Word (codes "Number") ∷ Mark OpenParenthesis ∷ (listed test_tokens tests ++ (Word (codes "from") ∷ Word (codes "accumulate") ∷ Mark OpenParenthesis ∷ (source_tokens s ++ (function_tokens word arg ++ k))))))
-          (tested (Word (codes "from") ∷ Word (codes "accumulate") ∷ Mark OpenParenthesis ∷ (source_tokens s ++ (function_tokens word arg ++ k)))) (from (function_tokens word arg ++ k))));
+      (binds (Word (codes "Number") ∷ Mark OpenParenthesis ∷ (listed test_tokens tests ++ (Word (codes "from") ∷ Word (codes "accumulate") ∷ Mark OpenParenthesis ∷ (source_tokens s ++ (function_tokens word arg ++ k))))))
+      (tested (Word (codes "from") ∷ Word (codes "accumulate") ∷ Mark OpenParenthesis ∷ (source_tokens s ++ (function_tokens word arg ++ k)))) (from (function_tokens word arg ++ k))));
   is_fine = fine_append (binding_tokens result) (Word (codes "Number") ∷ Mark OpenParenthesis ∷ (listed test_tokens tests ++ accumulate_tokens s word arg)) binds_fine
       (fine_append (listed test_tokens tests) (accumulate_tokens s word arg) tested_fine (fine_append (source_tokens s) (function_tokens word arg) from_fine (function_fine word arg good)));
   behind = behind;

@@ -85,7 +85,7 @@ items_say [] all at = record { tokens = []; end = at; same = refl; reads = p.don
 items_say (item ∷ items) all at =
     let is = all.0.spelled in
     one_token at (Word (item_word item.body)) (behind_word item.body) (behind_word item.body ++ all_tokens items) (shown_items items) is.0
-        (spaced_says (behind_word item.body) (all_tokens items) (shown_items items) is.1 (items_say items all.1) (at + length (token_text (Word (item_word item.body)))))
+    (spaced_says (behind_word item.body) (all_tokens items) (shown_items items) is.1 (items_say items all.1) (at + length (token_text (Word (item_word item.body)))))
 
 -- items with these bodies stand for the tokens
 record Stand (items : List Item) (lines : List ℕ) : Type 0 where
@@ -100,7 +100,7 @@ one_item b items t behind others line lines ext is more =
     let back : drop (extent t (behind ++ others)) (behind ++ others) ≡ others = rw ext (drop-append_seam behind others) in
     let rest : drop (extent t (behind ++ others)) lines ≡ drop (length behind) lines = rw ext refl in
     files.next_item (subst (λ (ts : List TokenKind). IsItem b (t ∷ ts) []) (sym front) is)
-        (subst (λ (ts : List TokenKind). AreItems items ts (drop (extent t (behind ++ others)) lines)) (sym back) (subst (λ (ls : List ℕ). AreItems items others ls) (sym rest) more))
+    (subst (λ (ts : List TokenKind). AreItems items ts (drop (extent t (behind ++ others)) lines)) (sym back) (subst (λ (ls : List ℕ). AreItems items others ls) (sym rest) more))
 
 items_start : (items : List Item) → StartsWith begins_item (all_tokens items)
 items_start [] = tt
@@ -123,11 +123,11 @@ items_stand (item ∷ items) all (line ∷ lines) e =
 pub read_again : (file : File) → InGrammar file → IsReadAgain file (shown file)
 unfolding shown
 read_again file all =
-    let again = all_again file.items all in
+    let again = all_again file.items all.items in
     let says = items_say file.items again 0 in
     let bytes : List ℕ = shown_items file.items in
     let count : length (lines_at bytes says.tokens) ≡ length (all_tokens file.items) =
-        length-map (starts says.tokens) (line_at bytes) ∙ length-map says.tokens (λ (token : Token). token.at) ∙ sym (length-map says.tokens (λ (token : Token). token.kind)) ∙ ap (λ (ks : List TokenKind). length ks) says.same in
+    length-map (starts says.tokens) (line_at bytes) ∙ length-map says.tokens (λ (token : Token). token.at) ∙ sym (length-map says.tokens (λ (token : Token). token.kind)) ∙ ap (λ (ks : List TokenKind). length ks) says.same in
     let stand = items_stand file.items again (lines_at bytes says.tokens) count in
     record {
       again = record { items = stand.found };

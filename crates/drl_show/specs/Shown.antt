@@ -30,8 +30,8 @@ pub record StandsInGrammar (body : Body) : Type 0 where
   pub stands : IsItem body tokens []
 
 -- each item stands in the grammar
-abbrev pub InGrammar : File → Type 0
-InGrammar file = All (λ item. StandsInGrammar item.body) file.items
+pub record InGrammar (file : File) : Type 0 where
+  pub items : All (λ item. StandsInGrammar item.body) file.items
 
 abbrev pub bodies : File → List Body
 bodies file = map (λ item. item.body) file.items

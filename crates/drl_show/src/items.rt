@@ -39,12 +39,7 @@ fn annotation(out: &mut Vec<u8>, name: &str, content: &str) -> Result<(), NoMemo
 
 // An annotation with a span in its parentheses, in milliseconds.
 #[tactic(auto, using(crate::proofs::Added::added_append))]
-fn span_annotation(
-    alloc: Global,
-    out: &mut Vec<u8>,
-    name: &str,
-    span: i64,
-) -> Result<(), NoMemory>
+fn span_annotation(alloc: Global, out: &mut Vec<u8>, name: &str, span: i64) -> Result<(), NoMemory>
     ensures { OnOk result (out.new.items ≡ added out.old.items (span_annotation_tokens name.now span)) }
 {
     mark(out, Mark::At)?;

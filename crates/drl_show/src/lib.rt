@@ -9,6 +9,8 @@ mod items;
 mod laws;
 mod patterns;
 mod shapes;
+#[cfg(test)]
+mod tests;
 mod text;
 mod tokens;
 mod values;

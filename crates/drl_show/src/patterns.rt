@@ -110,12 +110,7 @@ impl Written for Part {
 
 // A window, with the word for what it counts.
 #[tactic(auto, using(crate::proofs::Added::added_append))]
-fn window(
-    alloc: Global,
-    out: &mut Vec<u8>,
-    counted: &str,
-    measure: &i64,
-) -> Result<(), NoMemory>
+fn window(alloc: Global, out: &mut Vec<u8>, counted: &str, measure: &i64) -> Result<(), NoMemory>
     ensures { OnOk result (out.new.items ≡ added out.old.items (counted_window counted.now measure.now)) }
 {
     word(out, "over")?;
