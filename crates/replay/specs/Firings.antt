@@ -1,19 +1,38 @@
--- What a fire command does.
-use Rattle.std.specs.Prelude.{ℕ, zero, suc, List, [], ◌++◌, length, Option, Some, None}
+-- What a fire command does, for an engine of these meanings, when the run has so many firings left.
+use Rattle.std.specs.Prelude.{ℕ, zero, suc, List, [], ◌++◌, Option, Some, None}
 use Rattle.rule_model.specs.declared.program.Program.{Program}
-use Rattle.rule_model.specs.Worlds.{World, pending}
+use Rattle.rule_model.specs.Worlds.{World}
+use Rattle.script_read.specs.declared.asked.Change.{Change}
 use Rattle.session.specs.declared.lines.OutLine.{OutLine}
-use Rattle.session.specs.Gives.{fires}
 
-abbrev pub then_fires : Option (List OutLine × World) → World → (World → List OutLine × World) → List OutLine × World
-then_fires None w next = ([], w)
-then_fires (Some f) w next = (f.0 ++ (next f.1).0, (next f.1).1)
+-- the lines of a change in a world, and the next world
+abbrev pub Gives : Type 0
+Gives = Program → World → Change → List OutLine × World
 
--- at most so many firings, one after the other, while a match is pending
-unfoldable pub firings : ℕ → Program → World → List OutLine × World
-firings zero p w = ([], w)
-firings (suc n) p w = then_fires (fires p w) w (firings n p)
+-- the lines of one firing, and the next world; a match is pending exactly where this is something
+abbrev pub Fires : Type 0
+Fires = Program → World → Option (List OutLine × World)
 
--- firings until nothing is pending: each takes one of the pending matches
-unfoldable pub fired_all : Program → World → List OutLine × World
-fired_all p w = firings (length (pending p.rules w)) p w
+-- what the firings come to: no match is pending any more, with the world then and the firings left, or a match is
+-- pending and no firing is left
+pub data Firings : Type 0 where
+  all_fired : List OutLine → World → ℕ → Firings
+  limit_met : List OutLine → Firings
+
+-- lines in front
+abbrev pub onto_lines : List OutLine → Firings → Firings
+onto_lines lines (all_fired more w left) = all_fired (lines ++ more) w left
+onto_lines lines (limit_met more) = limit_met (lines ++ more)
+
+abbrev pub none_left : Option (List OutLine × World) → World → Firings
+none_left None w = all_fired [] w 0
+none_left (Some f) w = limit_met []
+
+abbrev pub then_fires : Option (List OutLine × World) → World → ℕ → (World → Firings) → Firings
+then_fires None w left next = all_fired [] w left
+then_fires (Some f) w left next = onto_lines f.0 (next f.1)
+
+-- firings one after the other while a match is pending, at most as many as are left
+unfoldable pub firings : Fires → Program → ℕ → World → Firings
+firings fires p zero w = none_left (fires p w) w
+firings fires p (suc left) w = then_fires (fires p w) w (suc left) (firings fires p left)

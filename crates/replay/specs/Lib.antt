@@ -3,4 +3,5 @@ pub mod Firings
 pub mod Run
 pub mod Faults
 pub mod Turns
+pub mod Refusals
 pub mod Report

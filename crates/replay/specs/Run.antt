@@ -1,63 +1,86 @@
--- The run of a script over a program: what its lines print, and whether one of them is a fault.
-use Rattle.std.specs.Prelude.{ℕ, ◌+◌, ◌||◌, ◌++◌, Bool, true, false, List, [], ◌∷◌, length, nat_lt, Option, option_map, if◌then◌else◌}
+-- The run of a script over a program by an engine of these meanings: what its lines print, and how it ends.
+use Rattle.std.specs.Prelude.{ℕ, ◌+◌, ◌||◌, ◌++◌, Bool, true, false, List, [], ◌∷◌, length, nat_lt, if◌then◌else◌}
 use Rattle.rule_model.specs.declared.program.Program.{Program}
-use Rattle.rule_model.specs.Worlds.{World}
+use Rattle.rule_model.specs.Worlds.{World, empty_world}
 use Rattle.script_read.specs.declared.asked.Command.{Command}
 use Rattle.script_read.specs.declared.asked.Command.TheVariants.{Change, Fire}
 use Rattle.script_read.specs.Asked.{Asked, asks, bad_json, bad_command, asked}
 use Rattle.script_read.specs.Blank.{is_blank}
 use Rattle.session.specs.declared.lines.OutLine.{OutLine}
-use Rattle.session.specs.Gives.{gives}
-use Rattle.replay.specs.Texts.{lines_text, fault_text, has_fault}
-use Rattle.replay.specs.Firings.{fired_all}
+use Rattle.replay.specs.declared.fault.LineCode.{LineCode}
+use Rattle.replay.specs.declared.fault.LineCode.TheVariants.{LineLong, BadJson, BadCommand}
+use Rattle.replay.specs.declared.turn.Ended.{Ended}
+use Rattle.replay.specs.declared.turn.Ended.TheVariants.{Script, Limit}
+use Rattle.replay.specs.Texts.{lines_text, fault_text, limit_text, has_fault}
+use Rattle.replay.specs.Firings.{Gives, Fires, Firings, all_fired, limit_met, firings}
 
--- what a line of the script does: what it prints, the world that it leaves, and whether it is a fault
-pub record Step : Type 0 where
+-- a line of the script after which the run goes on: what it prints, the world that it leaves, how many firings are left,
+-- and whether it is a fault
+pub record Done : Type 0 where
   pub text : List ℕ
   pub world : World
+  pub left : ℕ
   pub faulty : Bool
 
-abbrev pub printed : Program → ℕ → List OutLine × World → Step
-printed p number r = record { text = lines_text p number r.0; world = r.1; faulty = has_fault r.0 }
+-- what a line does: the run goes on, or it ends at the limit of firings, and the line prints this
+pub data Step : Type 0 where
+  goes_on : Done → Step
+  stops : List ℕ → Step
 
-abbrev pub command_step : Program → ℕ → World → Command → Step
-command_step p number w (Change change) = printed p number (gives p w change)
-command_step p number w (Fire most) = printed p number (fired_all p w)
+abbrev pub printed : Program → ℕ → ℕ → List OutLine → World → Step
+printed p number left lines w = goes_on (record { text = lines_text p number lines; world = w; left = left; faulty = has_fault lines })
+
+-- a fire command, by what its firings come to
+abbrev pub fire_step : ℕ → Program → ℕ → Firings → Step
+fire_step limit p number (all_fired lines w left) = printed p number left lines w
+fire_step limit p number (limit_met lines) = stops (lines_text p number lines ++ limit_text limit)
+
+abbrev pub command_step : Gives → Fires → ℕ → Program → ℕ → ℕ → World → Command → Step
+command_step gives fires limit p number left w (Change change) = printed p number left (gives p w change).0 (gives p w change).1
+command_step gives fires limit p number left w (Fire most) = fire_step limit p number (firings fires p left w)
 
 -- a faulty line changes nothing
-abbrev pub fault_step : ℕ → World → Step
-fault_step number w = record { text = fault_text number; world = w; faulty = true }
+abbrev pub fault_step : ℕ → ℕ → World → LineCode → Step
+fault_step number left w code = goes_on (record { text = fault_text number code; world = w; left = left; faulty = true })
 
-abbrev pub asked_step : Program → ℕ → World → Asked → Step
-asked_step p number w (asks command) = command_step p number w command
-asked_step p number w bad_json = fault_step number w
-asked_step p number w bad_command = fault_step number w
+abbrev pub asked_step : Gives → Fires → ℕ → Program → ℕ → ℕ → World → Asked → Step
+asked_step gives fires limit p number left w (asks command) = command_step gives fires limit p number left w command
+asked_step gives fires limit p number left w bad_json = fault_step number left w BadJson
+asked_step gives fires limit p number left w bad_command = fault_step number left w BadCommand
 
 -- a blank line does nothing
-abbrev pub blank_step : World → Step
-blank_step w = record { text = []; world = w; faulty = false }
+abbrev pub blank_step : ℕ → World → Step
+blank_step left w = goes_on (record { text = []; world = w; left = left; faulty = false })
 
 -- a line of the script with this number
-unfoldable pub line_step : Program → ℕ → World → List ℕ → Step
-line_step p number w line =
-    if nat_lt 65536 (length line) then fault_step number w
-    else (if is_blank line then blank_step w else asked_step p number w (asked line))
+unfoldable pub line_step : Gives → Fires → ℕ → Program → ℕ → ℕ → World → List ℕ → Step
+line_step gives fires limit p number left w line =
+    if nat_lt 65536 (length line) then fault_step number left w LineLong
+    else (if is_blank line then blank_step left w else asked_step gives fires limit p number left w (asked line))
 
--- what a run prints, and whether a line was a fault
+-- what a run prints, and how it ends
 pub record Outcome : Type 0 where
   pub bytes : List ℕ
-  pub faulted : Bool
+  pub ended : Ended
 
 abbrev pub then_run : List ℕ → Outcome → Outcome
-then_run text rest = record { bytes = text ++ rest.bytes; faulted = rest.faulted }
+then_run text rest = record { bytes = text ++ rest.bytes; ended = rest.ended }
+
+-- the limit was met, and nothing more is done
+abbrev pub at_limit : Outcome
+at_limit = record { bytes = []; ended = Limit }
+
+abbrev pub after_step : Step → (Done → Outcome) → Outcome
+after_step (goes_on done) rest = then_run done.text (rest done)
+after_step (stops text) rest = then_run text at_limit
 
 -- the lines from the one with this number on
-unfoldable pub run : Program → ℕ → World → Bool → List (List ℕ) → Outcome
-run p number w faulted [] = record { bytes = []; faulted = faulted }
-run p number w faulted (line ∷ lines) =
-    then_run (line_step p number w line).text
-    (run p (number + 1) (line_step p number w line).world (faulted || (line_step p number w line).faulty) lines)
+unfoldable pub run : Gives → Fires → ℕ → Program → ℕ → ℕ → World → Bool → List (List ℕ) → Outcome
+run gives fires limit p number left w faulted [] = record { bytes = []; ended = Script faulted }
+run gives fires limit p number left w faulted (line ∷ lines) =
+    after_step (line_step gives fires limit p number left w line)
+    (λ (done : Done). run gives fires limit p (number + 1) done.left done.world (faulted || done.faulty) lines)
 
--- the outcome of the lines ahead, where these are told
-abbrev pub ahead_run : Program → ℕ → World → Bool → Option (List (List ℕ)) → Option Outcome
-ahead_run p number w faulted ahead = option_map (run p number w faulted) ahead
+-- all lines of a script, in the empty world
+abbrev pub whole_run : Gives → Fires → ℕ → Program → List (List ℕ) → Outcome
+whole_run gives fires limit p = run gives fires limit p 1 limit empty_world false

@@ -9,6 +9,10 @@ use Rattle.session.specs.declared.lines.OutLine.{OutLine}
 use Rattle.session.specs.declared.lines.OutLine.TheVariants.{New, Fire, Fault}
 use Rattle.session.specs.declared.lines.Cell.{Cell}
 use Rattle.session.specs.declared.lines.Cell.TheVariants as cell
+use Rattle.session.specs.declared.lines.Code.{Code}
+use Rattle.session.specs.declared.lines.Code.TheVariants as code
+use Rattle.replay.specs.declared.fault.LineCode.{LineCode}
+use Rattle.replay.specs.declared.fault.LineCode.TheVariants as fault
 
 abbrev pub type_name : Option TypeInfo → List ℕ
 type_name None = []
@@ -31,16 +35,35 @@ quoted_byte b =
 abbrev pub cell_text : Cell → List ℕ
 cell_text (cell.Fact id) = codes " #" ++ decimal id.0
 
--- a line of the script had a fault; in this stage each fault of a line is printed by this code
-abbrev pub fault_text : ℕ → List ℕ
-fault_text number = codes "fault " ++ decimal number ++ codes " BadCommand" ++ 10 ∷ []
+-- the code of a faulty line
+abbrev pub code_text : LineCode → List ℕ
+code_text fault.LineLong = codes "LineLong"
+code_text fault.BadJson = codes "BadJson"
+code_text fault.BadCommand = codes "BadCommand"
+code_text fault.UnknownType = codes "UnknownType"
+code_text fault.BadFields = codes "BadFields"
+code_text fault.BadValue = codes "BadValue"
+
+-- the code of a change that the engine refuses
+abbrev pub change_code : Code → LineCode
+change_code code.UnknownType = fault.UnknownType
+change_code code.BadFields = fault.BadFields
+change_code code.BadValue = fault.BadValue
+
+-- a line of the script with this number had a fault
+abbrev pub fault_text : ℕ → LineCode → List ℕ
+fault_text number code = codes "fault " ++ decimal number ++ codes " " ++ code_text code ++ 10 ∷ []
+
+-- a match was pending after so many firings, and the run ends
+abbrev pub limit_text : ℕ → List ℕ
+limit_text limit = codes "limit " ++ decimal limit ++ 10 ∷ []
 
 -- a line that a line of the script with this number gives
 unfoldable pub line_text : Program → ℕ → OutLine → List ℕ
 line_text p number (New id ty) = codes "new #" ++ decimal id.0 ++ codes " " ++ type_name (slice_get p.types ty.0) ++ 10 ∷ []
 line_text p number (Fire rule cells) =
     codes "fire \"" ++ flat_map quoted_byte (rule_name (slice_get p.rules rule.0)) ++ codes "\"" ++ flat_map cell_text cells ++ 10 ∷ []
-line_text p number (Fault code) = fault_text number
+line_text p number (Fault code) = fault_text number (change_code code)
 
 abbrev pub lines_text : Program → ℕ → List OutLine → List ℕ
 lines_text p number lines = flat_map (line_text p number) lines

@@ -1,54 +1,80 @@
--- What the loop over the lines does in a turn.
-use Rattle.std.specs.Prelude.{◌≡◌, ◌<◌, ◌≤◌, ◌+◌, ℕ, ◌++◌, Bool, List, [], length, take, drop, Option, Result, Ok, Err, IfSome, ◌^◌}
+-- What the loop over the lines does in a turn, with an engine that stands for worlds.
+use Rattle.std.specs.Prelude.{◌≡◌, ◌≢◌, ◌<◌, ◌≤◌, ◌+◌, ◌*◌, ℕ, ◌++◌, Bool, List, [], length, take, drop, Option, Some, None, Result, Ok, Err, IfSome, ◌^◌}
 use Rattle.fx_io.specs.Outside.{append}
-use Rattle.fx_io.specs.Lines.{with_line}
+use Rattle.fx_io.specs.Lines.{with_line, lines_of, HasNoEnd}
 use Rattle.fx_io.specs.declared.line.Line.{Line}
 use Rattle.fx_io.specs.declared.line.Line.TheVariants.{End as line_end}
-use Rattle.rule_model.specs.declared.program.Program.{Program}
 use Rattle.rule_model.specs.Worlds.{World}
-use Rattle.session.specs.Standing.{Shown, Stands}
+use Rattle.session.specs.declared.lines.OutLine.{OutLine}
 use Rattle.replay.specs.declared.fault.RunFault.{RunFault}
 use Rattle.replay.specs.declared.fault.RunFault.TheVariants.{ReadFault, WriteFault, NoMemory, ScriptLong}
 use Rattle.replay.specs.declared.turn.Turn.{Turn}
-use Rattle.replay.specs.declared.turn.Turn.TheVariants.{End, Goes}
-use Rattle.replay.specs.Run.{Step, line_step}
+use Rattle.replay.specs.declared.turn.Turn.TheVariants.{Goes, Stops}
+use Rattle.replay.specs.declared.turn.Ended.{Ended}
+use Rattle.replay.specs.declared.turn.Ended.TheVariants.{Script, Limit}
+use Rattle.replay.specs.Texts.{limit_text}
+use Rattle.replay.specs.Run.{Step, goes_on, stops, Outcome}
 
--- a step was done: its text was gathered, and the session stands for its world
-pub record Does (step : Step) (before after : List ℕ) (s : Shown) (bad : Bool) : Type 0 where
-  pub text : after ≡ before ++ step.text
-  pub world : Stands s step.world
-  pub faulty : bad ≡ step.faulty
+-- a step was done: its text was gathered, and the engine stands for its world, or the limit was met
+abbrev pub Does : (World → Type 0) → Step → List ℕ → List ℕ → Turn → Type 0
+Does stands (goes_on done) before after turn = (after ≡ before ++ done.text) × stands done.world × (turn ≡ Goes done.faulty done.left)
+Does stands (stops text) before after turn = (after ≡ before ++ text) × (turn ≡ Stops)
+
+-- no firing is left: the limit is met where a match is pending
+abbrev pub EndsFirings : ℕ → Option (List OutLine × World) → Bool → List ℕ → List ℕ → Turn → Type 0
+EndsFirings limit None faulty before after turn = (after ≡ before) × (turn ≡ Goes faulty 0)
+EndsFirings limit (Some f) faulty before after turn = (after ≡ before ++ limit_text limit) × (turn ≡ Stops)
 
 -- the next of the lines ahead was done, or there was none
-abbrev pub Turns : Program → ℕ → World → List ℕ → List ℕ → Option (List (List ℕ)) → Option (List (List ℕ)) → Turn → Type 0
-Turns p number w before after ahead behind End = IfSome ahead (λ lines. lines ≡ []) × (after ≡ before)
-Turns p number w before after ahead behind (Goes s faulty) =
-    (line : List ℕ) × (ahead ≡ with_line line behind) × Does (line_step p number w line) before after s faulty
+abbrev pub Turns : (World → Type 0) → (List ℕ → Step) → List ℕ → List ℕ → Option (List (List ℕ)) → Option (List (List ℕ)) → Option Turn → Type 0
+Turns stands step before after ahead behind None = IfSome ahead (λ lines. lines ≡ []) × (after ≡ before)
+Turns stands step before after ahead behind (Some turn) =
+    (line : List ℕ) × (ahead ≡ with_line line behind) × Does stands (step line) before after turn
 
--- the session after a turn has the same program, and at most one tag more
-abbrev pub Lasts : Shown → Turn → Type 0
-Lasts before End = Unit {0}
-Lasts before (Goes s faulty) = (s.program ≡ before.program) × (s.kept.next ≤ before.kept.next + 1)
+-- the tags given, and those that the firings that are left may give, are at most so many
+abbrev pub Within : ℕ → ℕ → Turn → Type 0
+Within most tags (Goes faulty left) = tags + 16 * left ≤ most
+Within most tags Stops = Unit {0}
+
+abbrev pub AllWithin : ℕ → ℕ → Option Turn → Type 0
+AllWithin most tags None = Unit {0}
+AllWithin most tags (Some turn) = Within most tags turn
 
 -- there was no line exactly where the reader said so
-abbrev pub EndsAt : Line → Turn → Type 0
-EndsAt line End = line ≡ line_end
-EndsAt line (Goes s faulty) = Unit {0}
+abbrev pub EndsAt : Line → Option Turn → Type 0
+EndsAt line None = line ≡ line_end
+EndsAt line (Some turn) = Unit {0}
 
 -- a line was used up
-abbrev pub Smaller : Turn → ℕ → ℕ → Type 0
-Smaller End before after = Unit {0}
-Smaller (Goes s faulty) before after = after < before
+abbrev pub Smaller : Option Turn → ℕ → ℕ → Type 0
+Smaller None before after = Unit {0}
+Smaller (Some turn) before after = after < before
 
 -- a front of the gathered bytes was written
 abbrev pub Flushes : Option (List ℕ) → List ℕ → Option (List ℕ) → List ℕ → Type 0
 Flushes written gathered written' gathered' =
     (n : ℕ) × (n ≤ length gathered) × (written' ≡ append written (take n gathered)) × (gathered' ≡ drop n gathered)
 
--- how many bytes of the script a run took: more than 1 GiB exactly where it says so
-abbrev pub Takes : Result Bool RunFault → ℕ → Type 0
-Takes (Ok faulted) n = n ≤ 2 ^ 30
+-- the run came to the end of the script
+abbrev pub AtEnd : Ended → Type 0 → Type 0
+AtEnd (Script faulted) holds = holds
+AtEnd Limit holds = Unit {0}
+
+-- how many bytes of the script a run took: more than 1 GiB where it says so, and never where it came to the end
+abbrev pub Takes : Result Ended RunFault → ℕ → Type 0
+Takes (Ok ended) n = AtEnd ended (n ≤ 2 ^ 30)
 Takes (Err ReadFault) n = n ≤ 2 ^ 30
 Takes (Err WriteFault) n = Unit {0}
 Takes (Err NoMemory) n = Unit {0}
 Takes (Err ScriptLong) n = 2 ^ 30 < n
+
+-- the run of a script of more than 1 GiB that did not meet the limit of firings in the lines taken with their ends: behind
+-- these a piece without a line end was taken, with which they are more than 1 GiB, and the rest was left
+pub record Long (outcome : List (List ℕ) → Outcome) (script : List ℕ) : Type 0 where
+  pub lines : List (List ℕ)
+  pub piece : List ℕ
+  pub rest : List ℕ
+  pub parts : lines_of script ≡ lines ++ lines_of (piece ++ rest)
+  pub no_end : HasNoEnd piece
+  pub many : length rest + 2 ^ 30 < length script
+  pub not_met : (outcome lines).ended ≢ Limit

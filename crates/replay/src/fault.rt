@@ -33,6 +33,23 @@ impl From<Failed> for RunFault {
     }
 }
 
+/// Why a line of the script is faulty. The codes stand in the order in which they are tried.
+#[derive(Clone, Copy, Debug, PartialEq, Eq)]
+pub(crate) enum LineCode {
+    /// The line has more than 65,536 bytes.
+    LineLong,
+    /// The line has no reading as JSON.
+    BadJson,
+    /// Its reading has none of the forms of a command.
+    BadCommand,
+    /// The type is not declared.
+    UnknownType,
+    /// The members are not exactly the declared fields.
+    BadFields,
+    /// A value has another kind than its field, or is a text of more than 4,096 bytes.
+    BadValue,
+}
+
 pub(crate) fn of_line_fault(fault: LineFault) -> RunFault
     ensures { result ≡ run_fault fault }
 {

@@ -1,38 +1,65 @@
-ghost use Rattle.std.specs.Prelude.{◌≡◌, ◌≤◌, ◌||◌, IfOk};
+ghost use Rattle.std.specs.Prelude.{◌≡◌, ◌+◌, ◌*◌, ◌<◌, ◌≤◌, ◌^◌, ◌||◌, ℕ, IfOk};
 ghost use Rattle.rule_model.specs.Worlds.{World};
-ghost use Rattle.session.specs.Standing.{Stands};
-ghost use Rattle.replay.specs.Firings.{fired_all};
-ghost use Rattle.replay.specs.Run.{printed};
-ghost use Rattle.replay.specs.Turns.{Does};
+ghost use Rattle.replay.specs.Firings.{firings};
+ghost use Rattle.replay.specs.Run.{fire_step};
+ghost use Rattle.replay.specs.Turns.{Does, EndsFirings, Within};
 
-use crate::text::{either, push_lines};
+use crate::text::{either, push_limit, push_lines};
+use crate::turn::Turn;
 use fx_base::NoMemory;
-use session::{Fired, Session};
+use session::{Engine, Fired};
 use std::alloc::Global;
 
-/// Fires until nothing is pending, and appends the lines; answers whether one of them is a fault.
-pub(crate) fn fire_all(
+// No firing is left: appends the line of the limit where a match is pending.
+fn end_firings<E: Engine>(
     alloc: Global,
-    session: Session,
-    number: u64,
+    engine: &E,
+    limit: u64,
+    faulty: bool,
     text: &mut Vec<u8>,
-) -> Result<(Session, bool), NoMemory>
-    ensures done { IfOk result (λ r. (w : World) → Stands session w
-        → Does (printed session.program number (fired_all session.program w)) text.old.items text.new.items r.0 r.1) }
-    ensures program { IfOk result (λ r. r.0.program ≡ session.program) }
-    ensures tags { IfOk result (λ r. r.0.kept.next ≡ session.kept.next) }
+) -> Result<Turn, NoMemory>
+    ensures ends { IfOk result (λ turn. (w : World) → E.stands engine.now w
+        → EndsFirings limit (E.fires (E.made_with engine.now) w) faulty text.old.items text.new.items turn) }
+    ensures within { (tags most : ℕ) → tags ≤ most → IfOk result (Within most tags) }
 {
-    let mut session = session;
+    if engine.due() {
+        push_limit(text, alloc, limit)?;
+        return Ok(Turn::Stops);
+    }
+    Ok(Turn::Goes(faulty, 0))
+}
+
+/// Fires until nothing is pending or no firing is left, and appends the lines.
+pub(crate) fn fire_all<E: Engine>(
+    alloc: Global,
+    engine: E,
+    number: u64,
+    limit: u64,
+    left: u64,
+    text: &mut Vec<u8>,
+) -> Result<(E, Turn), NoMemory>
+    requires { E.tags engine + 16 * left < 2 ^ 62 }
+    ensures done { IfOk result (λ r. (w : World) → E.stands engine w
+        → Does (E.stands r.0) (fire_step limit (E.made_with engine) number (firings E.fires (E.made_with engine) left w))
+        text.old.items text.new.items r.1) }
+    ensures program { IfOk result (λ r. E.made_with r.0 ≡ E.made_with engine) }
+    ensures tags { IfOk result (λ r. Within (E.tags engine + 16 * left + 16) (E.tags r.0) r.1) }
+{
+    let mut engine = engine;
     let mut faulty = false;
-    loop {
-        let (next, fired) = session.fire_one(alloc)?;
+    let mut left = left;
+    while left > 0 {
+        let (next, fired) = engine.fire_one(alloc)?;
         match fired {
-            Fired::No => return Ok((next, faulty)),
+            Fired::No => return Ok((next, Turn::Goes(faulty, left))),
             Fired::Yes(lines) => {
                 let bad = push_lines(text, alloc, next.program(), number, lines.as_slice())?;
                 faulty = either(faulty, bad);
-                session = next;
+                engine = next;
+                left -= 1;
             }
         }
     }
+    let turn = end_firings(alloc, &engine, limit, faulty, text)?;
+    Ok((engine, turn))
 }

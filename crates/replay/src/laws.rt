@@ -1,11 +1,12 @@
 //! Laws of the run, each the contract of a function that does nothing.
-ghost use Rattle.std.specs.Prelude.{◌≡◌, None};
+ghost use Rattle.std.specs.Prelude.{◌≡◌, ℕ, List, None};
 ghost use Rattle.rule_model.specs.declared.program.Program.{Program};
 ghost use Rattle.rule_model.specs.Worlds.{World};
-ghost use Rattle.session.specs.Gives.{fires};
-ghost use Rattle.replay.specs.Firings.{fired_all};
+ghost use Rattle.session.specs.declared.lines.OutLine.{OutLine};
+ghost use Rattle.replay.specs.Firings.{Fires, all_fired, firings};
 
-/// After a fire command nothing is pending: as many firings as there were pending matches are enough.
+/// After a fire command that did not meet the limit nothing is pending, whatever the meaning of a firing.
 pub fn a_fire_command_leaves_nothing_pending()
-    ensures { (p : Program) (w : World) → fires p (fired_all p w).1 ≡ None }
+    ensures { (fires : Fires) (p : Program) (left more : ℕ) (w v : World) (lines : List OutLine)
+        → firings fires p left w ≡ all_fired lines v more → fires p v ≡ None }
 {}

@@ -7,6 +7,7 @@ mod firing;
 mod gathered;
 pub mod laws;
 mod obeying;
+mod refusal;
 mod rule_file;
 mod running;
 #[cfg(test)]
@@ -15,4 +16,4 @@ mod text;
 mod top;
 mod turn;
 
-pub use top::replay;
+pub use top::{replay, run_rules};

@@ -1,83 +1,95 @@
-ghost use Rattle.std.specs.Prelude.{◌≡◌, ◌+◌, ◌<◌, ◌≤◌, ◌^◌, ℕ, List, Option, length, IfOk};
+ghost use Rattle.std.specs.Prelude.{◌≡◌, ◌+◌, ◌*◌, ◌<◌, ◌≤◌, ◌^◌, ℕ, List, Option, length, IfOk};
 ghost use Rattle.fx_io.specs.Answers.{Answers, GoesOn};
 ghost use Rattle.rule_model.specs.Worlds.{World};
-ghost use Rattle.session.specs.Standing.{Stands};
-ghost use Rattle.replay.specs.Run.{command_step, line_step};
-ghost use Rattle.replay.specs.Turns.{Does, Turns, Lasts, EndsAt, Smaller};
+ghost use Rattle.replay.specs.Run.{printed, command_step, line_step};
+ghost use Rattle.replay.specs.Turns.{Does, Turns, Within, AllWithin, EndsAt, Smaller};
 
+use crate::fault::LineCode;
 use crate::firing::fire_all;
 use crate::text::{push_fault, push_lines};
 use crate::turn::Turn;
 use fx_base::NoMemory;
 use fx_io::Line;
 use script_read::{Change, Command, CommandFault, command, is_blank};
-use session::Session;
+use session::Engine;
 use std::alloc::Global;
 
 // Makes a change, and appends what it prints.
-fn change(
+fn change<E: Engine>(
     alloc: Global,
-    session: Session,
+    engine: E,
     number: u64,
+    left: u64,
     wanted: &Change,
     text: &mut Vec<u8>,
-) -> Result<(Session, bool), NoMemory>
-    requires { session.kept.next < 2 ^ 62 }
-    ensures done { IfOk result (λ r. (w : World) → Stands session w
-        → Does (command_step session.program number w (Command.Change wanted.now)) text.old.items text.new.items r.0 r.1) }
-    ensures program { IfOk result (λ r. r.0.program ≡ session.program) }
-    ensures tags { IfOk result (λ r. r.0.kept.next ≤ session.kept.next + 1) }
+) -> Result<(E, Turn), NoMemory>
+    requires { E.tags engine < 2 ^ 62 }
+    ensures done { IfOk result (λ r. (w : World) → E.stands engine w
+        → Does (E.stands r.0) (printed (E.made_with engine) number left (E.gives (E.made_with engine) w wanted.now).0 (E.gives (E.made_with engine) w wanted.now).1)
+        text.old.items text.new.items r.1) }
+    ensures program { IfOk result (λ r. E.made_with r.0 ≡ E.made_with engine) }
+    ensures tags { IfOk result (λ r. Within (E.tags engine + 16 * left + 16) (E.tags r.0) r.1) }
 {
-    let (next, lines) = session.apply(alloc, wanted)?;
+    let (next, lines) = engine.apply(alloc, wanted)?;
     let faulty = push_lines(text, alloc, next.program(), number, lines.as_slice())?;
-    Ok((next, faulty))
+    Ok((next, Turn::Goes(faulty, left)))
 }
 
 // Does what a command asks for, and appends what it prints.
-fn obey(
+fn obey<E: Engine>(
     alloc: Global,
-    session: Session,
+    engine: E,
     number: u64,
+    limit: u64,
+    left: u64,
     wanted: &Command,
     text: &mut Vec<u8>,
-) -> Result<(Session, bool), NoMemory>
-    requires { session.kept.next < 2 ^ 62 }
-    ensures done { IfOk result (λ r. (w : World) → Stands session w
-        → Does (command_step session.program number w wanted.now) text.old.items text.new.items r.0 r.1) }
-    ensures program { IfOk result (λ r. r.0.program ≡ session.program) }
-    ensures tags { IfOk result (λ r. r.0.kept.next ≤ session.kept.next + 1) }
+) -> Result<(E, Turn), NoMemory>
+    requires { E.tags engine + 16 * left < 2 ^ 62 }
+    ensures done { IfOk result (λ r. (w : World) → E.stands engine w
+        → Does (E.stands r.0) (command_step E.gives E.fires limit (E.made_with engine) number left w wanted.now)
+        text.old.items text.new.items r.1) }
+    ensures program { IfOk result (λ r. E.made_with r.0 ≡ E.made_with engine) }
+    ensures tags { IfOk result (λ r. Within (E.tags engine + 16 * left + 16) (E.tags r.0) r.1) }
 {
     match wanted {
-        Command::Change(wanted) => change(alloc, session, number, wanted, text),
-        Command::Fire(_) => fire_all(alloc, session, number, text),
+        Command::Change(wanted) => change(alloc, engine, number, left, wanted, text),
+        Command::Fire(_) => fire_all(alloc, engine, number, limit, left, text),
     }
 }
 
 // Does what a line asks for that is not too long, and appends what it prints.
 #[tactic(auto, unfolding(crate::specs::Run::line_step))]
-fn obey_line(
+fn obey_line<E: Engine>(
     alloc: Global,
-    session: Session,
+    engine: E,
     number: u64,
+    limit: u64,
+    left: u64,
     line: &[u8],
     text: &mut Vec<u8>,
-) -> Result<(Session, bool), NoMemory>
-    requires few { session.kept.next < 2 ^ 62 }
+) -> Result<(E, Turn), NoMemory>
+    requires few { E.tags engine + 16 * left < 2 ^ 62 }
     requires short { length line.now ≤ 65536 }
-    ensures done { IfOk result (λ r. (w : World) → Stands session w
-        → Does (line_step session.program number w line.now) text.old.items text.new.items r.0 r.1) }
-    ensures program { IfOk result (λ r. r.0.program ≡ session.program) }
-    ensures tags { IfOk result (λ r. r.0.kept.next ≤ session.kept.next + 1) }
+    ensures done { IfOk result (λ r. (w : World) → E.stands engine w
+        → Does (E.stands r.0) (line_step E.gives E.fires limit (E.made_with engine) number left w line.now)
+        text.old.items text.new.items r.1) }
+    ensures program { IfOk result (λ r. E.made_with r.0 ≡ E.made_with engine) }
+    ensures tags { IfOk result (λ r. Within (E.tags engine + 16 * left + 16) (E.tags r.0) r.1) }
 {
     if is_blank(line) {
-        return Ok((session, false));
+        return Ok((engine, Turn::Goes(false, left)));
     }
     match command(alloc, line) {
-        Ok(wanted) => obey(alloc, session, number, &wanted, text),
+        Ok(wanted) => obey(alloc, engine, number, limit, left, &wanted, text),
         Err(CommandFault::NoMemory) => Err(NoMemory),
-        Err(_) => {
-            push_fault(text, alloc, number)?;
-            Ok((session, true))
+        Err(CommandFault::BadJson) => {
+            push_fault(text, alloc, number, LineCode::BadJson)?;
+            Ok((engine, Turn::Goes(true, left)))
+        }
+        Err(CommandFault::BadCommand) => {
+            push_fault(text, alloc, number, LineCode::BadCommand)?;
+            Ok((engine, Turn::Goes(true, left)))
         }
     }
 }
@@ -85,34 +97,39 @@ fn obey_line(
 /// The most bytes that a line may have, without its end.
 pub(crate) const LINE_MAX: usize = 65_536;
 
-/// Does the next line, and appends what it prints.
-pub(crate) fn take_turn(
+/// Does the next line, where there is one, and appends what it prints.
+pub(crate) fn take_turn<E: Engine>(
     alloc: Global,
-    session: Session,
+    engine: E,
     number: u64,
+    limit: u64,
+    left: u64,
     line: Line,
     text: &mut Vec<u8>,
-) -> Result<Turn, NoMemory>
-    requires { session.kept.next < 2 ^ 62 }
-    ensures turn { IfOk result (λ turn. (w : World) (ahead behind : Option (List (List ℕ))) → Stands session w → Answers 65536 line ahead behind
-        → Turns session.program number w text.old.items text.new.items ahead behind turn) }
-    ensures kept { IfOk result (Lasts session) }
-    ensures ends { IfOk result (EndsAt line) }
-    ensures smaller { IfOk result (λ turn. (before after : ℕ) → GoesOn line before after → Smaller turn before after) }
+) -> Result<(E, Option<Turn>), NoMemory>
+    requires { E.tags engine + 16 * left < 2 ^ 62 }
+    ensures turn { IfOk result (λ r. (w : World) (ahead behind : Option (List (List ℕ))) → E.stands engine w → Answers 65536 line ahead behind
+        → Turns (E.stands r.0) (line_step E.gives E.fires limit (E.made_with engine) number left w)
+        text.old.items text.new.items ahead behind r.1) }
+    ensures program { IfOk result (λ r. E.made_with r.0 ≡ E.made_with engine) }
+    ensures tags { IfOk result (λ r. AllWithin (E.tags engine + 16 * left + 16) (E.tags r.0) r.1) }
+    ensures ends { IfOk result (λ r. EndsAt line r.1) }
+    ensures smaller { IfOk result (λ r. (before after : ℕ) → GoesOn line before after → Smaller r.1 before after) }
 {
     match line {
-        Line::End => Ok(Turn::End),
+        Line::End => Ok((engine, None)),
         Line::Long => {
-            push_fault(text, alloc, number)?;
-            Ok(Turn::Goes(session, true))
+            push_fault(text, alloc, number, LineCode::LineLong)?;
+            Ok((engine, Some(Turn::Goes(true, left))))
         }
         Line::Whole(bytes) => {
             if bytes.as_slice().len() > LINE_MAX {
-                push_fault(text, alloc, number)?;
-                return Ok(Turn::Goes(session, true));
+                push_fault(text, alloc, number, LineCode::LineLong)?;
+                return Ok((engine, Some(Turn::Goes(true, left))));
             }
-            let (next, faulty) = obey_line(alloc, session, number, bytes.as_slice(), text)?;
-            Ok(Turn::Goes(next, faulty))
+            let (next, turn) =
+                obey_line(alloc, engine, number, limit, left, bytes.as_slice(), text)?;
+            Ok((next, Some(turn)))
         }
     }
 }

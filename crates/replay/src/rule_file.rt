@@ -1,12 +1,12 @@
 ghost use Rattle.std.specs.Prelude.{◌≡◌, ◌<◌, ◌≤◌, ℕ, List, length, take, drop, Ok, IfOk, IfSome, IsErrOf};
 ghost use Rattle.fx_io.specs.Outside.{Rose, file_told, IsMissing, IsFound};
-ghost use Rattle.rule_model.specs.Programs.{IsAccepted};
-ghost use Rattle.replay.specs.Report.{program_within};
+ghost use Rattle.replay.specs.Refusals.{of_accepted, reading_within, IsSound};
 ghost use Rattle.std.specs.Option.{option_and_then};
 ghost use Rattle.drl_parse.specs.Files.{parsed};
 ghost use Rattle.drl_check.specs.Accepted.{accepted};
 ghost use Rattle.replay.specs.declared.rule_file.FileFault.TheVariants.{NoMemory as OutOfMemory};
 
+use crate::refusal::{Refusal, RefusalCode, whole_file};
 use drl_check::{CheckFault, check};
 use drl_parse::{ParseFault, parse};
 use fx_base::NoMemory;
@@ -87,34 +87,39 @@ pub(crate) fn read_whole<F: Shelf>(
     }
 }
 
-// The program of these bytes, where they are an accepted file.
-fn read_program(alloc: Global, bytes: &[u8]) -> Result<Option<Program>, NoMemory>
-    ensures program { IfOk result (λ found. found ≡ option_and_then accepted (parsed bytes.now)) }
-    ensures sound { IfOk result (λ found. IfSome found IsAccepted) }
+/// What a rule file is.
+#[derive(Drop)]
+pub(crate) enum Reading {
+    Accepted(Program),
+    Refused(Refusal),
+}
+
+// What these bytes are.
+fn read_program(alloc: Global, bytes: &[u8]) -> Result<Reading, NoMemory>
+    ensures reading { IfOk result (λ found. found ≡ of_accepted (option_and_then accepted (parsed bytes.now))) }
+    ensures sound { IfOk result IsSound }
 {
     let file = match parse(alloc, bytes) {
         Ok(file) => file,
-        Err(ParseFault::Syntax { .. }) => return Ok(None),
+        Err(ParseFault::Syntax { .. }) => {
+            return Ok(Reading::Refused(whole_file(RefusalCode::Syntax)));
+        }
         Err(ParseFault::NoMemory) => return Err(NoMemory),
     };
     match check(alloc, &file) {
-        Ok(program) => Ok(Some(program)),
-        Err(CheckFault::Refused) => Ok(None),
+        Ok(program) => Ok(Reading::Accepted(program)),
+        Err(CheckFault::Refused) => Ok(Reading::Refused(whole_file(RefusalCode::Syntax))),
         Err(CheckFault::NoMemory) => Err(NoMemory),
     }
 }
 
-/// The program of a rule file with at most so many bytes, where it is accepted.
-pub(crate) fn program_of(
-    alloc: Global,
-    bytes: &[u8],
-    most: usize,
-) -> Result<Option<Program>, NoMemory>
-    ensures program { IfOk result (λ found. found ≡ program_within most bytes.now) }
-    ensures sound { IfOk result (λ found. IfSome found IsAccepted) }
+/// What a rule file of at most so many bytes is.
+pub(crate) fn reading_of(alloc: Global, bytes: &[u8], most: usize) -> Result<Reading, NoMemory>
+    ensures reading { IfOk result (λ found. found ≡ reading_within most bytes.now) }
+    ensures sound { IfOk result IsSound }
 {
     if bytes.len() > most {
-        return Ok(None);
+        return Ok(Reading::Refused(whole_file(RefusalCode::Syntax)));
     }
     read_program(alloc, bytes)
 }

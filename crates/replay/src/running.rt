@@ -1,19 +1,18 @@
-ghost use Rattle.std.specs.Prelude.{◌≡◌, ◌<◌, ◌≤◌, ◌^◌, [], false, length, List, ℕ, IfOk, IfSome, OnErr, IsErrOf};
+ghost use Rattle.std.specs.Prelude.{◌≡◌, ◌+◌, ◌*◌, ◌<◌, ◌≤◌, ◌^◌, [], length, List, ℕ, IfOk, IfSome, OnErr, IsErrOf};
 ghost use Rattle.fx_io.specs.Outside.{Rose, append, AppendsFront, count_after};
 ghost use Rattle.fx_io.specs.Lines.{lines_of};
 ghost use Rattle.rule_model.specs.Programs.{IsAccepted};
-ghost use Rattle.rule_model.specs.Worlds.{empty_world};
-ghost use Rattle.replay.specs.Run.{run as run_of};
-ghost use Rattle.replay.specs.Turns.{Takes};
+ghost use Rattle.replay.specs.Run.{whole_run};
+ghost use Rattle.replay.specs.Turns.{Takes, AtEnd, Long};
 
 use crate::fault::{RunFault, of_line_fault};
 use crate::gathered::flush;
 use crate::obeying::{LINE_MAX, take_turn};
 use crate::text::either;
-use crate::turn::Turn;
+use crate::turn::{Ended, Turn};
 use fx_io::{LineReader, Sink, Source, write_all};
 use rule_model::Program;
-use session::Session;
+use session::Engine;
 use std::alloc::Global;
 
 /// The most bytes that a script may have.
@@ -22,33 +21,37 @@ const SCRIPT_MAX: u64 = 1_073_741_824;
 /// So many gathered bytes are written though the next line is at hand.
 const PIECE: usize = 65_536;
 
-/// Runs a script to its end, and answers whether a line was a fault. What lines print is gathered, and written before
-/// the next read of the script.
-pub(crate) fn run<S: Source, K: Sink>(
+/// Runs a script to its end or to the limit of firings. What lines print is gathered, and written before the next read
+/// of the script.
+pub(crate) fn run<E: Engine, S: Source, K: Sink>(
     alloc: Global,
     program: Program,
+    limit: u64,
     script: &mut S,
     out: &mut K,
-) -> Result<bool, RunFault>
-    requires { IsAccepted program }
-    ensures done { IfSome (S.left script.old) (λ bytes. IfOk result (λ faulted.
-        (faulted ≡ (run_of program 1 empty_world false (lines_of bytes)).faulted)
-        × (K.written out.new ≡ append (K.written out.old) (run_of program 1 empty_world false (lines_of bytes)).bytes))) }
+) -> Result<Ended, RunFault>
+    requires accepted { IsAccepted program }
+    requires low { limit ≤ 1000000 }
+    ensures done { IfSome (S.left script.old) (λ bytes. IfOk result (λ ended.
+        (ended ≡ (whole_run E.gives E.fires limit program (lines_of bytes)).ended)
+        × (K.written out.new ≡ append (K.written out.old) (whole_run E.gives E.fires limit program (lines_of bytes)).bytes))) }
     ensures front { IfSome (S.left script.old) (λ bytes. OnErr result
-        (AppendsFront (K.written out.old) (K.written out.new) (run_of program 1 empty_world false (lines_of bytes)).bytes)) }
+        (AppendsFront (K.written out.old) (K.written out.new) (whole_run E.gives E.fires limit program (lines_of bytes)).bytes)) }
     ensures taken { (n : ℕ) × (S.given script.new ≡ count_after (S.given script.old) n) × Takes result n }
     ensures read { IsErrOf result RunFault.ReadFault → Rose (S.faults script.old) (S.faults script.new) }
     ensures write { IsErrOf result RunFault.WriteFault → Rose (K.faults out.old) (K.faults out.new) }
-    ensures long { IsErrOf result RunFault.ScriptLong → IfSome (S.left script.old) (λ bytes. 2 ^ 30 < length bytes) }
-    ensures nothing_left { IfOk result (λ _. IfSome (S.left script.new) (λ bytes. bytes ≡ [])) }
+    ensures long { IsErrOf result RunFault.ScriptLong → IfSome (S.left script.old) (Long (whole_run E.gives E.fires limit program)) }
+    ensures over { IsErrOf result RunFault.ScriptLong → IfSome (S.left script.old) (λ bytes. 2 ^ 30 < length bytes) }
+    ensures nothing_left { IfOk result (λ ended. AtEnd ended (IfSome (S.left script.new) (λ bytes. bytes ≡ []))) }
     ensures script_counts { S.faults script.old ≤ S.faults script.new }
     ensures out_counts { K.faults out.old ≤ K.faults out.new }
 {
     let mut reader = LineReader::new(alloc, LINE_MAX, SCRIPT_MAX)?;
-    let mut session = Session::new(alloc, program)?;
+    let mut engine = E::new(alloc, program)?;
     let mut text = Vec::new(alloc);
     let mut faulted = false;
     let mut number = 1;
+    let mut left = limit;
     loop {
         let wanted = either(!reader.is_ready(), text.len() >= PIECE);
         flush(out, &mut text, wanted)?;
@@ -56,15 +59,21 @@ pub(crate) fn run<S: Source, K: Sink>(
             Ok(line) => line,
             Err(fault) => return Err(of_line_fault(fault)),
         };
-        match take_turn(alloc, session, number, line, &mut text)? {
-            Turn::End => {
+        let (next, turn) = take_turn(alloc, engine, number, limit, left, line, &mut text)?;
+        match turn {
+            None => {
                 write_all(out, &text)?;
-                return Ok(faulted);
+                return Ok(Ended::Script(faulted));
             }
-            Turn::Goes(next, bad) => {
-                session = next;
+            Some(Turn::Stops) => {
+                write_all(out, &text)?;
+                return Ok(Ended::Limit);
+            }
+            Some(Turn::Goes(bad, more)) => {
+                engine = next;
                 faulted = either(faulted, bad);
                 number += 1;
+                left = more;
             }
         }
     }

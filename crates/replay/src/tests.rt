@@ -1,6 +1,9 @@
-use crate::replay;
+ghost use Rattle.std.specs.Prelude.{◌≤◌};
+
+use crate::{replay, run_rules};
 use fx_base::{Copies, Seq, Text, Value};
 use fx_io::{MemShelf, MemSink, MemSource};
+use session::Session;
 use std::alloc::Global;
 use std::test::Fail;
 
@@ -37,7 +40,7 @@ fn run(
     let mut shelf = shelf(alloc)?;
     let mut source = MemSource::new(script.to_vec(alloc)?, bad_reads.to_vec(alloc)?);
     let mut sink = MemSink::new(alloc, 1_048_576, bad_writes.to_vec(alloc)?)?;
-    let status = replay(alloc, &given, &mut shelf, &mut source, &mut sink);
+    let status = replay::<Session, MemShelf, MemSource, MemSink>(alloc, &given, &mut shelf, &mut source, &mut sink);
     let written = sink.written().to_vec(alloc)?;
     Ok((status, written))
 }
@@ -51,8 +54,35 @@ const TWICE: &[u8] =
 const RULES_IN_ORDER: &[u8] =
     b"{\"do\":\"insert\",\"type\":\"Item\",\"fields\":{\"price\":7}}\n{\"do\":\"insert\",\"type\":\"Item\",\"fields\":{\"price\":3}}\n{\"do\":\"fire\"}\n";
 
+const MANY_FIRES: &[u8] =
+    b"{\n{\"do\":\"insert\",\"type\":\"Item\",\"fields\":{\"price\":3}}\n{\"do\":\"fire\"}\n{\"do\":\"fire\"}\n{\"do\":\"insert\",\"type\":\"Item\",\"fields\":{\"price\":4}}\n{\"do\":\"fire\"}\n{\"do\":\"fire\"}\n{\"do\":\"fly\"}\n";
+
+// Each line has the fault of its code and those of the codes behind it, as far as they can stand together.
+const CODES: &[u8] =
+    b"{\"do\":\"fly\"\n{\"do\":\"insert\",\"type\":\"Nope\"}\n{\"do\":\"insert\",\"type\":\"Nope\",\"fields\":{\"cost\":true}}\n{\"do\":\"insert\",\"type\":\"Item\",\"fields\":{\"price\":true,\"cost\":1}}\n{\"do\":\"insert\",\"type\":\"Item\",\"fields\":{\"price\":true}}\n";
+
 const FAULTY: &[u8] =
     b" \t\r\n{\"do\":\"fly\"}\n{\"do\":\"insert\",\"type\":\"Nope\",\"fields\":{}}\n{\"do\":\"insert\",\"type\":\"Item\",\"fields\":{\"price\":1.5}}\n{\n{\"do\":\"insert\",\"type\":\"Item\",\"fields\":{\"price\":10}}\n";
+
+// The status and the written bytes of a run of the file TWO with this limit of firings.
+fn run_at_most(alloc: Global, limit: u64, script: &[u8]) -> Result<(u8, Vec<u8>), Fail>
+    requires some { 1 ≤ limit }
+    requires low { limit ≤ 1000000 }
+{
+    let mut shelf = shelf(alloc)?;
+    let mut source = MemSource::new(script.to_vec(alloc)?, Vec::new(alloc));
+    let mut sink = MemSink::new(alloc, 1_048_576, Vec::new(alloc))?;
+    let status = run_rules::<Session, MemShelf, MemSource, MemSink>(
+        alloc,
+        "TWO",
+        limit,
+        &mut shelf,
+        &mut source,
+        &mut sink,
+    );
+    let written = sink.written().to_vec(alloc)?;
+    Ok((status, written))
+}
 
 #[test]
 fn runs_of_the_program(rt: HostRuntime) -> Result<(), Fail> {
@@ -75,26 +105,71 @@ fn runs_of_the_program(rt: HostRuntime) -> Result<(), Fail> {
             &["ITEM"],
             FAULTY,
             1,
-            b"fault 2 BadCommand\nfault 3 BadCommand\nfault 4 BadCommand\nfault 5 BadCommand\nnew #1 Item\n",
+            b"fault 2 BadCommand\nfault 3 UnknownType\nfault 4 BadValue\nfault 5 BadJson\nnew #1 Item\n",
         ),
         (&["ITEM"], b"", 0, b""),
         (&["NOFILE"], FAULTY, 3, b"refused item 0 line 0 Missing\n"),
         (&["OPEN"], FAULTY, 3, b"refused item 0 line 0 Syntax\n"),
         (&[], FAULTY, 2, b"usage: replay RULES\n"),
         (&["ITEM", "ITEM"], FAULTY, 2, b"usage: replay RULES\n"),
-        (&["ITEM"], b"{\"do\":\"fire\"", 1, b"fault 1 BadCommand\n"),
+        (&["ITEM"], b"{\"do\":\"fire\"", 1, b"fault 1 BadJson\n"),
     ];
     for (words, script, status, output) in rows {
         let (answer, written) = run(alloc, words, script, &[], &[])?;
         assert_eq!(rt; answer, status);
         assert_eq!(rt; written.as_slice(), output);
     }
+    let (answer, written) = run(alloc, &["ITEM"], CODES, &[], &[])?;
+    assert_eq!(rt; answer, 1);
+    assert_eq!(
+        rt;
+        written.as_slice(),
+        b"fault 1 BadJson\nfault 2 BadCommand\nfault 3 UnknownType\nfault 4 BadFields\nfault 5 BadValue\n".as_slice()
+    );
+    let mut long = Vec::new(alloc);
+    for _ in 0..65_537 {
+        long.push(b' ')?;
+    }
+    let (answer, written) = run(alloc, &["ITEM"], &long, &[], &[])?;
+    assert_eq!(rt; answer, 1);
+    assert_eq!(rt; written.as_slice(), b"fault 1 LineLong\n".as_slice());
+    let (answer, written) = run(alloc, &["ITEM"], &long[1..], &[], &[])?;
+    assert_eq!(rt; answer, 0);
+    assert_eq!(rt; written.as_slice(), b"".as_slice());
     let (answer, written) = run(alloc, &["ITEM"], ELEVEN, &[1], &[])?;
     assert_eq!(rt; answer, 5);
     assert_eq!(rt; written.as_slice(), b"".as_slice());
     let (answer, written) = run(alloc, &["ITEM"], ELEVEN, &[], &[1])?;
     assert_eq!(rt; answer, 6);
     assert_eq!(rt; written.as_slice(), b"".as_slice());
+    Ok(())
+}
+
+#[test]
+fn runs_with_few_firings(rt: HostRuntime) -> Result<(), Fail> {
+    let alloc = rt.alloc();
+    let (answer, written) = run_at_most(alloc, 3, RULES_IN_ORDER)?;
+    assert_eq!(rt; answer, 0);
+    assert_eq!(
+        rt;
+        written.as_slice(),
+        b"new #1 Item\nnew #2 Item\nfire \"a\" #2\nfire \"a\" #1\nfire \"b\" #1\n".as_slice()
+    );
+    let (answer, written) = run_at_most(alloc, 2, RULES_IN_ORDER)?;
+    assert_eq!(rt; answer, 4);
+    assert_eq!(
+        rt;
+        written.as_slice(),
+        b"new #1 Item\nnew #2 Item\nfire \"a\" #2\nfire \"a\" #1\nlimit 2\n".as_slice()
+    );
+    // The firings of all fire commands count together, and a faulty line does not change the status.
+    let (answer, written) = run_at_most(alloc, 1, MANY_FIRES)?;
+    assert_eq!(rt; answer, 4);
+    assert_eq!(
+        rt;
+        written.as_slice(),
+        b"fault 1 BadJson\nnew #1 Item\nfire \"a\" #1\nnew #2 Item\nlimit 1\n".as_slice()
+    );
     Ok(())
 }
 

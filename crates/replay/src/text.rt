@@ -1,11 +1,12 @@
 ghost use Rattle.std.specs.Prelude.{◌≡◌, ◌++◌, ◌||◌, IfOk, OnOk, slice_get};
 ghost use Rattle.std.specs.Fmt.{decimal};
 ghost use Rattle.std.specs.List.{flat_map};
-ghost use Rattle.replay.specs.Texts.{type_name, rule_name, quoted_byte, cell_text, fault_text, line_text, lines_text, is_fault, has_fault};
+ghost use Rattle.replay.specs.Texts.{type_name, rule_name, quoted_byte, cell_text, code_text, change_code, fault_text, limit_text, line_text, lines_text, is_fault, has_fault};
 
+use crate::fault::LineCode;
 use fx_base::NoMemory;
 use rule_model::{Program, Rule, TypeInfo};
-use session::{Cell, OutLine};
+use session::{Cell, Code, OutLine};
 use std::alloc::Global;
 
 fn name_of_type(types: &[TypeInfo], place: usize) -> &str
@@ -42,7 +43,8 @@ fn push_quoted(text: &mut Vec<u8>, name: &[u8]) -> Result<(), NoMemory>
     Ok(())
 }
 
-fn push_number(text: &mut Vec<u8>, alloc: Global, number: u64) -> Result<(), NoMemory>
+/// Appends a number in decimal digits.
+pub(crate) fn push_number(text: &mut Vec<u8>, alloc: Global, number: u64) -> Result<(), NoMemory>
     ensures { OnOk result (text.new.items ≡ text.old.items ++ decimal number) }
 {
     let digits = number.to_string(alloc)?;
@@ -70,13 +72,53 @@ fn push_cells(text: &mut Vec<u8>, alloc: Global, cells: &[Cell]) -> Result<(), N
     Ok(())
 }
 
+fn push_code(text: &mut Vec<u8>, code: LineCode) -> Result<(), NoMemory>
+    ensures { OnOk result (text.new.items ≡ text.old.items ++ code_text code) }
+{
+    match code {
+        LineCode::LineLong => text.extend_from_slice(b"LineLong")?,
+        LineCode::BadJson => text.extend_from_slice(b"BadJson")?,
+        LineCode::BadCommand => text.extend_from_slice(b"BadCommand")?,
+        LineCode::UnknownType => text.extend_from_slice(b"UnknownType")?,
+        LineCode::BadFields => text.extend_from_slice(b"BadFields")?,
+        LineCode::BadValue => text.extend_from_slice(b"BadValue")?,
+    }
+    Ok(())
+}
+
+fn code_of(code: Code) -> LineCode
+    ensures { result ≡ change_code code }
+{
+    match code {
+        Code::UnknownType => LineCode::UnknownType,
+        Code::BadFields => LineCode::BadFields,
+        Code::BadValue => LineCode::BadValue,
+    }
+}
+
 /// Appends the line of a faulty line of the script.
-pub(crate) fn push_fault(text: &mut Vec<u8>, alloc: Global, number: u64) -> Result<(), NoMemory>
-    ensures { OnOk result (text.new.items ≡ text.old.items ++ fault_text number) }
+pub(crate) fn push_fault(
+    text: &mut Vec<u8>,
+    alloc: Global,
+    number: u64,
+    code: LineCode,
+) -> Result<(), NoMemory>
+    ensures { OnOk result (text.new.items ≡ text.old.items ++ fault_text number code) }
 {
     text.extend_from_slice(b"fault ")?;
     push_number(text, alloc, number)?;
-    text.extend_from_slice(b" BadCommand")?;
+    text.extend_from_slice(b" ")?;
+    push_code(text, code)?;
+    text.push(b'\n')?;
+    Ok(())
+}
+
+/// Appends the line of the limit of firings.
+pub(crate) fn push_limit(text: &mut Vec<u8>, alloc: Global, limit: u64) -> Result<(), NoMemory>
+    ensures { OnOk result (text.new.items ≡ text.old.items ++ limit_text limit) }
+{
+    text.extend_from_slice(b"limit ")?;
+    push_number(text, alloc, limit)?;
     text.push(b'\n')?;
     Ok(())
 }
@@ -112,8 +154,8 @@ fn push_line(
             text.push(b'\n')?;
             Ok(false)
         }
-        OutLine::Fault(_) => {
-            push_fault(text, alloc, number)?;
+        OutLine::Fault(code) => {
+            push_fault(text, alloc, number, code_of(*code))?;
             Ok(true)
         }
     }

@@ -1,10 +1,17 @@
-use session::Session;
-
 /// What became of a line of the script.
-#[derive(Drop)]
+#[derive(Clone, Copy, Debug, PartialEq, Eq)]
 pub(crate) enum Turn {
-    /// There was none.
-    End,
-    /// It was done, with the session after it, and whether it was a fault.
-    Goes(Session, bool),
+    /// It was done: whether it was a fault, and how many firings are left to the run.
+    Goes(bool, u64),
+    /// It was a fire command, and a match was pending where no firing was left.
+    Stops,
+}
+
+/// How a run ended of which no call failed.
+#[derive(Clone, Copy, Debug, PartialEq, Eq)]
+pub(crate) enum Ended {
+    /// At the end of the script; whether one of its lines was a fault.
+    Script(bool),
+    /// At the limit of firings.
+    Limit,
 }

@@ -4,6 +4,7 @@
 
 use fx_io::{FileShelf, StdSink, StdSource};
 use replay::replay;
+use session::Session;
 use std::env;
 use std::process::ExitCode;
 
@@ -24,6 +25,12 @@ fn main(rt: HostRuntime) -> ExitCode {
     let mut shelf = FileShelf::new(&rt);
     let mut script = StdSource::new(&rt);
     let mut out = StdSink::new(&rt);
-    let status = replay(rt.alloc(), words, &mut shelf, &mut script, &mut out);
+    let status = replay::<Session, FileShelf, StdSource, StdSink>(
+        rt.alloc(),
+        words,
+        &mut shelf,
+        &mut script,
+        &mut out,
+    );
     ExitCode::from(status)
 }

@@ -1,16 +1,21 @@
-use Rattle.std.proofs.Common.{◌≡◌, ◌++◌, ◌||◌, ℕ, length}
+use Rattle.std.proofs.Common.{◌≡◌, ◌+◌, ◌*◌, ◌≤◌}
 use Rattle.rule_model.specs.Worlds.{World}
-use Rattle.session.specs.Standing.{Stands}
+use Rattle.replay.specs.Firings.{firings}
 use Rattle.replay.proofs.Fired.{Remains}
 use Rattle.replay.proofs.firing.fire_all.Given as goal
 
--- what is still to be fired, in a world for which the session stands
-abbrev pub invariant-loop-next : goal.invariant-loop-next
-invariant-loop-next l = record {
-  program : l.session.program ≡ l.fn.session.program;
-  next : l.session.kept.next ≡ l.fn.session.kept.next;
-  remains : (w : World) → Stands l.fn.session w → (v : World) × Stands l.session v × Remains l.fn.session.program l.number w v l.fn.text.items l.text.items l.faulty;
-}
+-- what is still to be fired, in a world for which the engine stands
+abbrev pub invariant-loop-left : goal.invariant-loop-left
+invariant-loop-left g l =
+    let stands = g.E.Engine.stands in
+    let fires = g.E.Engine.fires in
+    let program = g.E.Engine.made_with in
+    let tags = g.E.Engine.tags in
+    record {
+      same : program l.engine ≡ program l.fn.engine;
+      few : tags l.engine + 16 * l.left ≤ tags l.fn.engine + 16 * l.fn.left;
+      remains : (w : World) → stands l.fn.engine w → (v : World) × stands l.engine v × Remains fires (program l.fn.engine) l.number (firings fires (program l.fn.engine) l.fn.left w) l.left v l.fn.text.items l.text.items l.faulty;
+    }
 
-abbrev pub decreases-loop-next : goal.decreases-loop-next
-decreases-loop-next l = length l.session.kept.agenda.pending
+abbrev pub decreases-loop-left : goal.decreases-loop-left
+decreases-loop-left g l = l.left

@@ -1,28 +1,28 @@
-use Rattle.std.proofs.Common.{◌≡◌, ◌<◌, ◌≤◌, ◌+◌, ◌-◌, ◌++◌, ◌^◌, [], false, List, Option, Some, None, Ok, Err, ℕ, arith, sym, ap, subst, ◌∙◌, refl, take}
+use Rattle.std.proofs.Common.{◌≡◌, ◌<◌, ◌≤◌, ◌+◌, ◌-◌, ◌*◌, ◌++◌, ◌^◌, [], List, Option, Some, None, Ok, Err, ℕ, arith, sym, ap, subst, ◌∙◌, refl}
 use Rattle.std.specs.Prelude.{IfSome}
 use Rattle.fx_io.specs.Outside.{append, AppendsFront, count_after}
 use Rattle.fx_io.specs.Lines.{lines_of, lines_ahead}
 use Rattle.fx_io.specs.Reader.{Reader}
 use Rattle.rule_model.specs.Worlds.{empty_world}
 use Rattle.replay.specs.declared.fault.RunFault.TheVariants.{NoMemory, WriteFault}
-use Rattle.replay.specs.Run.{run, line_step, ahead_run}
+use Rattle.replay.specs.declared.turn.Ended.TheVariants.{Script, Limit}
+use Rattle.replay.specs.declared.turn.Turn.TheVariants.{Goes, Stops}
+use Rattle.replay.specs.Run.{run, whole_run, line_step, at_limit}
 use Rattle.replay.specs.Turns.{Takes}
-use Rattle.replay.proofs.Ahead.{turned, flushed, all_done, stopped, stopped_in, told_err, at_start, SoFar}
-use Rattle.replay.proofs.Stops.{err_of, count_more, takes_stop, exhausted, none_given}
+use Rattle.replay.proofs.Ahead.{goes_further, ends_there, flushed, all_done, no_line, no_more, run_ended, stopped, stopped_in, long_run, told_err, at_start, SoFar}
+use Rattle.replay.proofs.Stops.{err_of, count_more, takes_stop, long_stop, long_taken, exhausted, none_given}
 use Rattle.replay.proofs.running.run.Goals as goal
 
 pub returns-in_err-flush-clause-front : goal.returns-in_err-flush-clause-front
 returns-in_err-flush-clause-front g c =
     let so = c.loop-text.invariant.so_far in
-    told_err (g.S.Source.left c.args.script.now) c.from_residual-in_err-flush.result (λ bytes. AppendsFront (g.K.Sink.written c.args.out.now) (g.K.Sink.written c.flush.new.out) (run c.args.program 1 empty_world false (lines_of bytes)).bytes)
-    (stopped_in c.args.program (g.K.Sink.written c.args.out.now) (g.K.Sink.written c.loop-text.out) (g.K.Sink.written c.flush.new.out) so.2.0 c.loop-text.text.items _ (g.S.Source.left c.args.script.now) so.2.1 c.in_err-flush.ensures.err)
+    told_err (g.S.Source.left c.args.script.now) c.from_residual-in_err-flush.result (λ bytes. AppendsFront (g.K.Sink.written c.args.out.now) (g.K.Sink.written c.flush.new.out) (whole_run g.E.Engine.gives g.E.Engine.fires c.args.limit c.args.program (lines_of bytes)).bytes)
+    (stopped_in (whole_run g.E.Engine.gives g.E.Engine.fires c.args.limit c.args.program) (run g.E.Engine.gives g.E.Engine.fires c.args.limit c.args.program c.loop-text.number c.loop-text.left so.0 c.loop-text.faulted) (g.S.Source.left c.args.script.now) (lines_ahead c.loop-text.reader.kept (g.S.Source.left c.loop-text.script)) (g.K.Sink.written c.args.out.now) (g.K.Sink.written c.loop-text.out) (g.K.Sink.written c.flush.new.out) c.loop-text.text.items so.2 c.in_err-flush.ensures.err)
 
 pub returns-in-Err-clause-front : goal.returns-in-Err-clause-front
 returns-in-Err-clause-front g c =
     let so = c.loop-text.invariant.so_far in
-    let written = c.in_ok-flush.ensures.ok in
-    stopped c.args.program (g.K.Sink.written c.args.out.now) (g.K.Sink.written c.flush.new.out) (so.2.0 ++ take written.0 c.loop-text.text.items) c.flush.new.text.items _ (g.S.Source.left c.args.script.now)
-    (flushed _ (g.K.Sink.written c.args.out.now) (g.K.Sink.written c.loop-text.out) (g.K.Sink.written c.flush.new.out) c.loop-text.text.items c.flush.new.text.items so.2.0 _ so.2.1 written)
+    stopped (whole_run g.E.Engine.gives g.E.Engine.fires c.args.limit c.args.program) (run g.E.Engine.gives g.E.Engine.fires c.args.limit c.args.program c.loop-text.number c.loop-text.left so.0 c.loop-text.faulted) (g.S.Source.left c.args.script.now) (lines_ahead c.loop-text.reader.kept (g.S.Source.left c.loop-text.script)) (g.K.Sink.written c.args.out.now) (g.K.Sink.written c.flush.new.out) c.flush.new.text.items (flushed (whole_run g.E.Engine.gives g.E.Engine.fires c.args.limit c.args.program) (run g.E.Engine.gives g.E.Engine.fires c.args.limit c.args.program c.loop-text.number c.loop-text.left so.0 c.loop-text.faulted) (lines_ahead [] (g.S.Source.left c.args.script.now)) (lines_ahead c.loop-text.reader.kept (g.S.Source.left c.loop-text.script)) (g.K.Sink.written c.args.out.now) (g.K.Sink.written c.loop-text.out) (g.K.Sink.written c.flush.new.out) c.loop-text.text.items c.flush.new.text.items so.2 c.in_ok-flush.ensures.ok)
 
 pub returns-in-Err-clause-taken : goal.returns-in-Err-clause-taken
 returns-in-Err-clause-taken g c =
@@ -33,69 +33,116 @@ returns-in-Err-clause-taken g c =
     let stops = rw inv.total_max at gives.2 in
     (c.next_line.new.self.taken, all, rw c.of_line_fault.ensures (takes_stop c.in-Err.fault _ c.next_line.new.self.taken stops))
 
-pub returns-in_err-take_turn-clause-front : goal.returns-in_err-take_turn-clause-front
-returns-in_err-take_turn-clause-front g c =
+pub returns-in-Err-clause-long : goal.returns-in-Err-clause-long
+returns-in-Err-clause-long g c is =
+    let inv = c.loop-text.invariant in
+    let so = inv.so_far in
+    let gives = c.in-Err.ensures.gives inv.fault in
+    let stops = rw inv.total_max at gives.2 in
+    let taken = long_taken c.in-Err.fault c.of_line_fault.result _ c.next_line.new.self.taken (2 ^ 30) c.of_line_fault.ensures is stops in
+    let stop = long_stop c.in-Err.fault c.of_line_fault.result _ _ c.of_line_fault.ensures is (c.in-Err.ensures.stops inv.fault) in
+    long_run (whole_run g.E.Engine.gives g.E.Engine.fires c.args.limit c.args.program) (run g.E.Engine.gives g.E.Engine.fires c.args.limit c.args.program c.loop-text.number c.loop-text.left so.0 c.loop-text.faulted) (g.S.Source.left c.args.script.now) (g.S.Source.left c.loop-text.script) (g.S.Source.left c.next_line.new.source) c.loop-text.reader.kept (g.K.Sink.written c.args.out.now) (g.K.Sink.written c.flush.new.out) c.flush.new.text.items c.loop-text.faulted c.next_line.new.self.taken
+    (flushed (whole_run g.E.Engine.gives g.E.Engine.fires c.args.limit c.args.program) (run g.E.Engine.gives g.E.Engine.fires c.args.limit c.args.program c.loop-text.number c.loop-text.left so.0 c.loop-text.faulted) (lines_ahead [] (g.S.Source.left c.args.script.now)) (lines_ahead c.loop-text.reader.kept (g.S.Source.left c.loop-text.script)) (g.K.Sink.written c.args.out.now) (g.K.Sink.written c.loop-text.out) (g.K.Sink.written c.flush.new.out) c.loop-text.text.items c.flush.new.text.items so.2 c.in_ok-flush.ensures.ok)
+    (run_ended g.E.Engine.gives g.E.Engine.fires c.args.limit c.args.program c.loop-text.number c.loop-text.left so.0 c.loop-text.faulted) stop (inv.total ∙ c.next_line.ensures.total) taken
+
+pub returns-in_err-next-clause-front : goal.returns-in_err-next-clause-front
+returns-in_err-next-clause-front g c =
     let so = c.loop-text.invariant.so_far in
-    let written = c.in_ok-flush.ensures.ok in
-    told_err (g.S.Source.left c.args.script.now) c.from_residual-in_err-take_turn.result (λ bytes. AppendsFront (g.K.Sink.written c.args.out.now) (g.K.Sink.written c.flush.new.out) (run c.args.program 1 empty_world false (lines_of bytes)).bytes)
-    (stopped c.args.program (g.K.Sink.written c.args.out.now) (g.K.Sink.written c.flush.new.out) (so.2.0 ++ take written.0 c.loop-text.text.items) c.flush.new.text.items _ (g.S.Source.left c.args.script.now)
-    (flushed _ (g.K.Sink.written c.args.out.now) (g.K.Sink.written c.loop-text.out) (g.K.Sink.written c.flush.new.out) c.loop-text.text.items c.flush.new.text.items so.2.0 _ so.2.1 written))
+    told_err (g.S.Source.left c.args.script.now) c.from_residual-in_err-next.result (λ bytes. AppendsFront (g.K.Sink.written c.args.out.now) (g.K.Sink.written c.flush.new.out) (whole_run g.E.Engine.gives g.E.Engine.fires c.args.limit c.args.program (lines_of bytes)).bytes)
+    (stopped (whole_run g.E.Engine.gives g.E.Engine.fires c.args.limit c.args.program) (run g.E.Engine.gives g.E.Engine.fires c.args.limit c.args.program c.loop-text.number c.loop-text.left so.0 c.loop-text.faulted) (g.S.Source.left c.args.script.now) (lines_ahead c.loop-text.reader.kept (g.S.Source.left c.loop-text.script)) (g.K.Sink.written c.args.out.now) (g.K.Sink.written c.flush.new.out) c.flush.new.text.items (flushed (whole_run g.E.Engine.gives g.E.Engine.fires c.args.limit c.args.program) (run g.E.Engine.gives g.E.Engine.fires c.args.limit c.args.program c.loop-text.number c.loop-text.left so.0 c.loop-text.faulted) (lines_ahead [] (g.S.Source.left c.args.script.now)) (lines_ahead c.loop-text.reader.kept (g.S.Source.left c.loop-text.script)) (g.K.Sink.written c.args.out.now) (g.K.Sink.written c.loop-text.out) (g.K.Sink.written c.flush.new.out) c.loop-text.text.items c.flush.new.text.items so.2 c.in_ok-flush.ensures.ok))
 
-pub returns-in_err-take_turn-clause-taken : goal.returns-in_err-take_turn-clause-taken
-returns-in_err-take_turn-clause-taken g c =
+pub returns-in_err-next-clause-taken : goal.returns-in_err-next-clause-taken
+returns-in_err-next-clause-taken g c =
     let inv = c.loop-text.invariant in
     let given = c.next_line.ensures.together ∙ ap (λ n. count_after n (c.next_line.new.self.taken - c.loop-text.reader.taken)) inv.given in
     let all = count_more (g.S.Source.given c.args.script.now) c.loop-text.reader.taken c.next_line.new.self.taken _ c.next_line.ensures.taken given in
-    rw (err_of c.from_residual-in_err-take_turn.result NoMemory c.from_residual-in_err-take_turn.ensures.0 c.from_residual-in_err-take_turn.ensures.1) (c.next_line.new.self.taken, all, tt)
+    rw (err_of c.from_residual-in_err-next.result NoMemory c.from_residual-in_err-next.ensures.0 c.from_residual-in_err-next.ensures.1) (c.next_line.new.self.taken, all, tt)
 
-pub returns-in_err-write_all-in-End-clause-front : goal.returns-in_err-write_all-in-End-clause-front
-returns-in_err-write_all-in-End-clause-front g c =
+pub returns-in_err-write_all-in-None-clause-front : goal.returns-in_err-write_all-in-None-clause-front
+returns-in_err-write_all-in-None-clause-front g c =
     let inv = c.loop-text.invariant in
     let so = inv.so_far in
-    let written = c.in_ok-flush.ensures.ok in
     let answers = rw inv.line_max at c.in-Ok.ensures.line in
-    let ended = rw c.in-End.is at (c.in_ok-take_turn.ensures.turn so.0 _ _ so.1 answers) in
+    let ended = rw c.in-None.is at (c.in_ok-next.ensures.turn so.0 _ _ so.1 answers) in
     let part : AppendsFront (g.K.Sink.written c.flush.new.out) (g.K.Sink.written c.write_all.new.sink) c.flush.new.text.items =
-    rw (sym ended.1, sym c.deref.ensures.value) c.in_err-write_all-in-End.ensures.err in
-    told_err (g.S.Source.left c.args.script.now) c.from_residual-in_err-write_all-in-End.result (λ bytes. AppendsFront (g.K.Sink.written c.args.out.now) (g.K.Sink.written c.write_all.new.sink) (run c.args.program 1 empty_world false (lines_of bytes)).bytes)
-    (stopped_in c.args.program (g.K.Sink.written c.args.out.now) (g.K.Sink.written c.flush.new.out) (g.K.Sink.written c.write_all.new.sink) (so.2.0 ++ take written.0 c.loop-text.text.items) c.flush.new.text.items _ (g.S.Source.left c.args.script.now)
-    (flushed _ (g.K.Sink.written c.args.out.now) (g.K.Sink.written c.loop-text.out) (g.K.Sink.written c.flush.new.out) c.loop-text.text.items c.flush.new.text.items so.2.0 _ so.2.1 written) part)
+    rw (sym ended.1, sym c.deref.ensures.value) c.in_err-write_all-in-None.ensures.err in
+    told_err (g.S.Source.left c.args.script.now) c.from_residual-in_err-write_all-in-None.result (λ bytes. AppendsFront (g.K.Sink.written c.args.out.now) (g.K.Sink.written c.write_all.new.sink) (whole_run g.E.Engine.gives g.E.Engine.fires c.args.limit c.args.program (lines_of bytes)).bytes)
+    (stopped_in (whole_run g.E.Engine.gives g.E.Engine.fires c.args.limit c.args.program) (run g.E.Engine.gives g.E.Engine.fires c.args.limit c.args.program c.loop-text.number c.loop-text.left so.0 c.loop-text.faulted) (g.S.Source.left c.args.script.now) (lines_ahead c.loop-text.reader.kept (g.S.Source.left c.loop-text.script)) (g.K.Sink.written c.args.out.now) (g.K.Sink.written c.flush.new.out) (g.K.Sink.written c.write_all.new.sink) c.flush.new.text.items (flushed (whole_run g.E.Engine.gives g.E.Engine.fires c.args.limit c.args.program) (run g.E.Engine.gives g.E.Engine.fires c.args.limit c.args.program c.loop-text.number c.loop-text.left so.0 c.loop-text.faulted) (lines_ahead [] (g.S.Source.left c.args.script.now)) (lines_ahead c.loop-text.reader.kept (g.S.Source.left c.loop-text.script)) (g.K.Sink.written c.args.out.now) (g.K.Sink.written c.loop-text.out) (g.K.Sink.written c.flush.new.out) c.loop-text.text.items c.flush.new.text.items so.2 c.in_ok-flush.ensures.ok) part)
 
-pub returns-in_err-write_all-in-End-clause-taken : goal.returns-in_err-write_all-in-End-clause-taken
-returns-in_err-write_all-in-End-clause-taken g c =
+pub returns-in_err-write_all-in-None-clause-taken : goal.returns-in_err-write_all-in-None-clause-taken
+returns-in_err-write_all-in-None-clause-taken g c =
     let inv = c.loop-text.invariant in
     let given = c.next_line.ensures.together ∙ ap (λ n. count_after n (c.next_line.new.self.taken - c.loop-text.reader.taken)) inv.given in
     let all = count_more (g.S.Source.given c.args.script.now) c.loop-text.reader.taken c.next_line.new.self.taken _ c.next_line.ensures.taken given in
-    rw (err_of c.from_residual-in_err-write_all-in-End.result WriteFault c.from_residual-in_err-write_all-in-End.ensures.0 c.from_residual-in_err-write_all-in-End.ensures.1) (c.next_line.new.self.taken, all, tt)
+    rw (err_of c.from_residual-in_err-write_all-in-None.result WriteFault c.from_residual-in_err-write_all-in-None.ensures.0 c.from_residual-in_err-write_all-in-None.ensures.1) (c.next_line.new.self.taken, all, tt)
 
-pub returns-in-End-clause-done : goal.returns-in-End-clause-done
-returns-in-End-clause-done g c =
+pub returns-in-None-clause-done : goal.returns-in-None-clause-done
+returns-in-None-clause-done g c =
     let inv = c.loop-text.invariant in
     let so = inv.so_far in
-    let written = c.in_ok-flush.ensures.ok in
     let answers = rw inv.line_max at c.in-Ok.ensures.line in
-    let ended = rw c.in-End.is at (c.in_ok-take_turn.ensures.turn so.0 _ _ so.1 answers) in
-    let all : g.K.Sink.written c.write_all.new.sink ≡ append (g.K.Sink.written c.flush.new.out) c.flush.new.text.items =
-    c.in_ok-write_all-in-End.ensures.ok ∙ ap (append (g.K.Sink.written c.flush.new.out)) (c.deref.ensures.value ∙ ended.1) in
-    all_done c.args.program c.loop-text.number so.0 c.loop-text.faulted (g.K.Sink.written c.args.out.now) (g.K.Sink.written c.flush.new.out) (g.K.Sink.written c.write_all.new.sink) (so.2.0 ++ take written.0 c.loop-text.text.items) c.flush.new.text.items
-    (lines_ahead c.loop-text.reader.kept (g.S.Source.left c.loop-text.script)) (g.S.Source.left c.args.script.now)
-    (flushed _ (g.K.Sink.written c.args.out.now) (g.K.Sink.written c.loop-text.out) (g.K.Sink.written c.flush.new.out) c.loop-text.text.items c.flush.new.text.items so.2.0 _ so.2.1 written) ended.0 all
+    let ended = rw c.in-None.is at (c.in_ok-next.ensures.turn so.0 _ _ so.1 answers) in
+    let all : g.K.Sink.written c.write_all.new.sink ≡ append (g.K.Sink.written c.flush.new.out) c.flush.new.text.items = c.in_ok-write_all-in-None.ensures.ok ∙ ap (append (g.K.Sink.written c.flush.new.out)) (c.deref.ensures.value ∙ ended.1) in
+    all_done (whole_run g.E.Engine.gives g.E.Engine.fires c.args.limit c.args.program) (run g.E.Engine.gives g.E.Engine.fires c.args.limit c.args.program c.loop-text.number c.loop-text.left so.0 c.loop-text.faulted) (g.S.Source.left c.args.script.now) (lines_ahead c.loop-text.reader.kept (g.S.Source.left c.loop-text.script)) (g.K.Sink.written c.args.out.now) (g.K.Sink.written c.flush.new.out) (g.K.Sink.written c.write_all.new.sink) c.flush.new.text.items (Script c.loop-text.faulted)
+    (flushed (whole_run g.E.Engine.gives g.E.Engine.fires c.args.limit c.args.program) (run g.E.Engine.gives g.E.Engine.fires c.args.limit c.args.program c.loop-text.number c.loop-text.left so.0 c.loop-text.faulted) (lines_ahead [] (g.S.Source.left c.args.script.now)) (lines_ahead c.loop-text.reader.kept (g.S.Source.left c.loop-text.script)) (g.K.Sink.written c.args.out.now) (g.K.Sink.written c.loop-text.out) (g.K.Sink.written c.flush.new.out) c.loop-text.text.items c.flush.new.text.items so.2 c.in_ok-flush.ensures.ok)
+    (no_line g.E.Engine.gives g.E.Engine.fires c.args.limit c.args.program c.loop-text.number c.loop-text.left so.0 c.loop-text.faulted (lines_ahead c.loop-text.reader.kept (g.S.Source.left c.loop-text.script)) ended.0) all
 
-pub returns-in-End-clause-taken : goal.returns-in-End-clause-taken
-returns-in-End-clause-taken g c =
+pub returns-in-None-clause-taken : goal.returns-in-None-clause-taken
+returns-in-None-clause-taken g c =
     let inv = c.loop-text.invariant in
     let given = c.next_line.ensures.together ∙ ap (λ n. count_after n (c.next_line.new.self.taken - c.loop-text.reader.taken)) inv.given in
     let all = count_more (g.S.Source.given c.args.script.now) c.loop-text.reader.taken c.next_line.new.self.taken _ c.next_line.ensures.taken given in
-    let line = rw c.in-End.is at c.in_ok-take_turn.ensures.ends in
+    let line = rw c.in-None.is at c.in_ok-next.ensures.ends in
     let gives = c.in-Ok.ensures.gives inv.fault in
     let over = exhausted _ _ c.in-Ok.line _ _ _ _ line gives.2 in
     (c.next_line.new.self.taken, all, rw inv.total_max at over.0)
 
-pub returns-in-End-clause-nothing_left : goal.returns-in-End-clause-nothing_left
-returns-in-End-clause-nothing_left g c =
-    let line = rw c.in-End.is at c.in_ok-take_turn.ensures.ends in
-    let gives = c.in-Ok.ensures.gives c.loop-text.invariant.fault in
-    (exhausted _ _ c.in-Ok.line _ _ _ _ line gives.2).1
+pub returns-in-None-clause-nothing_left : goal.returns-in-None-clause-nothing_left
+returns-in-None-clause-nothing_left g c =
+    let inv = c.loop-text.invariant in
+    let line = rw c.in-None.is at c.in_ok-next.ensures.ends in
+    let gives = c.in-Ok.ensures.gives inv.fault in
+    let over = exhausted _ _ c.in-Ok.line _ _ _ _ line gives.2 in
+    over.1
+
+pub returns-in_err-write_all-in-Some-Stops-clause-front : goal.returns-in_err-write_all-in-Some-Stops-clause-front
+returns-in_err-write_all-in-Some-Stops-clause-front g c =
+    let inv = c.loop-text.invariant in
+    let so = inv.so_far in
+    let answers = rw inv.line_max at c.in-Ok.ensures.line in
+    let is : c.in-Some-Stops.field-0 ≡ Stops = rw c.in-Some-Stops.is at c.in-Some-Stops.field-0-is in
+    let turn = rw (c.in-Some-Stops.is, is, inv.program) at (c.in_ok-next.ensures.turn so.0 _ _ so.1 answers) in
+    let there = ends_there (whole_run g.E.Engine.gives g.E.Engine.fires c.args.limit c.args.program) g.E.Engine.gives g.E.Engine.fires c.args.limit c.args.program c.loop-text.number c.loop-text.left so.0 c.loop-text.faulted (lines_ahead [] (g.S.Source.left c.args.script.now)) (lines_ahead c.loop-text.reader.kept (g.S.Source.left c.loop-text.script)) (lines_ahead c.next_line.new.self.kept (g.S.Source.left c.next_line.new.source)) (g.K.Sink.written c.args.out.now) (g.K.Sink.written c.flush.new.out) turn.0 c.flush.new.text.items c.take_turn.new.text.items (g.E.Engine.stands c.in_ok-next.next)
+    (flushed (whole_run g.E.Engine.gives g.E.Engine.fires c.args.limit c.args.program) (run g.E.Engine.gives g.E.Engine.fires c.args.limit c.args.program c.loop-text.number c.loop-text.left so.0 c.loop-text.faulted) (lines_ahead [] (g.S.Source.left c.args.script.now)) (lines_ahead c.loop-text.reader.kept (g.S.Source.left c.loop-text.script)) (g.K.Sink.written c.args.out.now) (g.K.Sink.written c.loop-text.out) (g.K.Sink.written c.flush.new.out) c.loop-text.text.items c.flush.new.text.items so.2 c.in_ok-flush.ensures.ok) turn.1 turn.2 in
+    let part : AppendsFront (g.K.Sink.written c.flush.new.out) (g.K.Sink.written c.write_all-in-Some-Stops.new.sink) c.take_turn.new.text.items = rw (sym c.deref-in-Some-Stops.ensures.value) c.in_err-write_all-in-Some-Stops.ensures.err in
+    told_err (g.S.Source.left c.args.script.now) c.from_residual-in_err-write_all-in-Some-Stops.result (λ bytes. AppendsFront (g.K.Sink.written c.args.out.now) (g.K.Sink.written c.write_all-in-Some-Stops.new.sink) (whole_run g.E.Engine.gives g.E.Engine.fires c.args.limit c.args.program (lines_of bytes)).bytes)
+    (stopped_in (whole_run g.E.Engine.gives g.E.Engine.fires c.args.limit c.args.program) (λ more. at_limit) (g.S.Source.left c.args.script.now) (lines_ahead c.next_line.new.self.kept (g.S.Source.left c.next_line.new.source)) (g.K.Sink.written c.args.out.now) (g.K.Sink.written c.flush.new.out) (g.K.Sink.written c.write_all-in-Some-Stops.new.sink) c.take_turn.new.text.items there part)
+
+pub returns-in_err-write_all-in-Some-Stops-clause-taken : goal.returns-in_err-write_all-in-Some-Stops-clause-taken
+returns-in_err-write_all-in-Some-Stops-clause-taken g c =
+    let inv = c.loop-text.invariant in
+    let given = c.next_line.ensures.together ∙ ap (λ n. count_after n (c.next_line.new.self.taken - c.loop-text.reader.taken)) inv.given in
+    let all = count_more (g.S.Source.given c.args.script.now) c.loop-text.reader.taken c.next_line.new.self.taken _ c.next_line.ensures.taken given in
+    rw (err_of c.from_residual-in_err-write_all-in-Some-Stops.result WriteFault c.from_residual-in_err-write_all-in-Some-Stops.ensures.0 c.from_residual-in_err-write_all-in-Some-Stops.ensures.1) (c.next_line.new.self.taken, all, tt)
+
+pub returns-in-Some-Stops-clause-done : goal.returns-in-Some-Stops-clause-done
+returns-in-Some-Stops-clause-done g c =
+    let inv = c.loop-text.invariant in
+    let so = inv.so_far in
+    let answers = rw inv.line_max at c.in-Ok.ensures.line in
+    let is : c.in-Some-Stops.field-0 ≡ Stops = rw c.in-Some-Stops.is at c.in-Some-Stops.field-0-is in
+    let turn = rw (c.in-Some-Stops.is, is, inv.program) at (c.in_ok-next.ensures.turn so.0 _ _ so.1 answers) in
+    let there = ends_there (whole_run g.E.Engine.gives g.E.Engine.fires c.args.limit c.args.program) g.E.Engine.gives g.E.Engine.fires c.args.limit c.args.program c.loop-text.number c.loop-text.left so.0 c.loop-text.faulted (lines_ahead [] (g.S.Source.left c.args.script.now)) (lines_ahead c.loop-text.reader.kept (g.S.Source.left c.loop-text.script)) (lines_ahead c.next_line.new.self.kept (g.S.Source.left c.next_line.new.source)) (g.K.Sink.written c.args.out.now) (g.K.Sink.written c.flush.new.out) turn.0 c.flush.new.text.items c.take_turn.new.text.items (g.E.Engine.stands c.in_ok-next.next)
+    (flushed (whole_run g.E.Engine.gives g.E.Engine.fires c.args.limit c.args.program) (run g.E.Engine.gives g.E.Engine.fires c.args.limit c.args.program c.loop-text.number c.loop-text.left so.0 c.loop-text.faulted) (lines_ahead [] (g.S.Source.left c.args.script.now)) (lines_ahead c.loop-text.reader.kept (g.S.Source.left c.loop-text.script)) (g.K.Sink.written c.args.out.now) (g.K.Sink.written c.loop-text.out) (g.K.Sink.written c.flush.new.out) c.loop-text.text.items c.flush.new.text.items so.2 c.in_ok-flush.ensures.ok) turn.1 turn.2 in
+    let all : g.K.Sink.written c.write_all-in-Some-Stops.new.sink ≡ append (g.K.Sink.written c.flush.new.out) c.take_turn.new.text.items = c.in_ok-write_all-in-Some-Stops.ensures.ok ∙ ap (append (g.K.Sink.written c.flush.new.out)) c.deref-in-Some-Stops.ensures.value in
+    all_done (whole_run g.E.Engine.gives g.E.Engine.fires c.args.limit c.args.program) (λ more. at_limit) (g.S.Source.left c.args.script.now) (lines_ahead c.next_line.new.self.kept (g.S.Source.left c.next_line.new.source)) (g.K.Sink.written c.args.out.now) (g.K.Sink.written c.flush.new.out) (g.K.Sink.written c.write_all-in-Some-Stops.new.sink) c.take_turn.new.text.items Limit there (no_more (lines_ahead c.next_line.new.self.kept (g.S.Source.left c.next_line.new.source))) all
+
+pub returns-in-Some-Stops-clause-taken : goal.returns-in-Some-Stops-clause-taken
+returns-in-Some-Stops-clause-taken g c =
+    let inv = c.loop-text.invariant in
+    let given = c.next_line.ensures.together ∙ ap (λ n. count_after n (c.next_line.new.self.taken - c.loop-text.reader.taken)) inv.given in
+    let all = count_more (g.S.Source.given c.args.script.now) c.loop-text.reader.taken c.next_line.new.self.taken _ c.next_line.ensures.taken given in
+    (c.next_line.new.self.taken, all, tt)
 
 pub loop-text-init : goal.loop-text-init
 loop-text-init g c =
@@ -103,9 +150,9 @@ loop-text-init g c =
     let kept : c.in_ok-reader.reader.kept ≡ [] = ap (λ (r : Reader). r.kept) reader in
     let taken : c.in_ok-reader.reader.taken ≡ 0 = ap (λ (r : Reader). r.taken) reader in
     record {
-      so_far = (empty_world, c.in_ok-session.ensures.stands, ([], at_start c.args.program c.in_ok-reader.reader.kept c.new-text.result.items (g.K.Sink.written c.args.out.now) (g.S.Source.left c.args.script.now) kept c.new-text.ensures.items));
-      program = c.in_ok-session.ensures.program;
-      tags = omega (arith, c.in_ok-session.ensures.next);
+      so_far = (empty_world, c.in_ok-engine.ensures.stands, at_start (whole_run g.E.Engine.gives g.E.Engine.fires c.args.limit c.args.program) (g.S.Source.left c.args.script.now) c.in_ok-reader.reader.kept c.new-text.result.items (g.K.Sink.written c.args.out.now) kept c.new-text.ensures.items);
+      program = c.in_ok-engine.ensures.program;
+      tags = omega (arith, c.in_ok-engine.ensures.tags);
       total = rw taken refl;
       given = rw taken (none_given (g.S.Source.given c.args.script.now));
       line_max = ap (λ (r : Reader). r.line_max) reader;
@@ -120,25 +167,18 @@ pub loop-text-preserved : goal.loop-text-preserved
 loop-text-preserved g c =
     let inv = c.loop-text.invariant in
     let so = inv.so_far in
-    let written = c.in_ok-flush.ensures.ok in
     let answers = rw inv.line_max at c.in-Ok.ensures.line in
-    let turn = rw (c.in-Goes.is, inv.program) at (c.in_ok-take_turn.ensures.turn so.0 _ _ so.1 answers) in
-    let lasts = rw c.in-Goes.is at c.in_ok-take_turn.ensures.kept in
+    let is : c.in-Some-Goes.field-0 ≡ Goes c.in-Some-Goes.bad c.in-Some-Goes.more = rw c.in-Some-Goes.is at c.in-Some-Goes.field-0-is in
+    let turn = rw (c.in-Some-Goes.is, is, inv.program) at (c.in_ok-next.ensures.turn so.0 _ _ so.1 answers) in
+    let tags = rw (c.in-Some-Goes.is, is) at c.in_ok-next.ensures.tags in
     let goes_on = rw inv.total_max at c.in-Ok.ensures.goes_on in
-    let less = rw c.in-Goes.is at (c.in_ok-take_turn.ensures.smaller _ _ goes_on) in
+    let less = rw c.in-Some-Goes.is at (c.in_ok-next.ensures.smaller _ _ goes_on) in
     let given = c.next_line.ensures.together ∙ ap (λ n. count_after n (c.next_line.new.self.taken - c.loop-text.reader.taken)) inv.given in
     record {
-      so_far = (
-        (line_step c.args.program c.loop-text.number so.0 turn.0).world,
-        turn.2.world,
-        (
-          so.2.0 ++ take written.0 c.loop-text.text.items,
-          turned c.args.program c.loop-text.number so.0 c.loop-text.faulted c.in-Goes.bad c.either-faulted.result _ (g.K.Sink.written c.args.out.now) (g.K.Sink.written c.flush.new.out) turn.0 (so.2.0 ++ take written.0 c.loop-text.text.items) c.flush.new.text.items c.take_turn.new.text.items c.in-Goes.next _ _
-              (flushed _ (g.K.Sink.written c.args.out.now) (g.K.Sink.written c.loop-text.out) (g.K.Sink.written c.flush.new.out) c.loop-text.text.items c.flush.new.text.items so.2.0 _ so.2.1 written) turn.1 turn.2 c.either-faulted.ensures,
-        ),
-      );
-      program = lasts.0 ∙ inv.program;
-      tags = omega (arith, lasts.1, inv.tags);
+      so_far = goes_further (whole_run g.E.Engine.gives g.E.Engine.fires c.args.limit c.args.program) g.E.Engine.gives g.E.Engine.fires c.args.limit c.args.program c.loop-text.number c.loop-text.left so.0 c.loop-text.faulted c.in-Some-Goes.bad c.either-faulted.result c.in-Some-Goes.more (lines_ahead [] (g.S.Source.left c.args.script.now)) (lines_ahead c.loop-text.reader.kept (g.S.Source.left c.loop-text.script)) (lines_ahead c.next_line.new.self.kept (g.S.Source.left c.next_line.new.source)) (g.K.Sink.written c.args.out.now) (g.K.Sink.written c.flush.new.out) turn.0 c.flush.new.text.items c.take_turn.new.text.items (g.E.Engine.stands c.in_ok-next.next)
+          (flushed (whole_run g.E.Engine.gives g.E.Engine.fires c.args.limit c.args.program) (run g.E.Engine.gives g.E.Engine.fires c.args.limit c.args.program c.loop-text.number c.loop-text.left so.0 c.loop-text.faulted) (lines_ahead [] (g.S.Source.left c.args.script.now)) (lines_ahead c.loop-text.reader.kept (g.S.Source.left c.loop-text.script)) (g.K.Sink.written c.args.out.now) (g.K.Sink.written c.loop-text.out) (g.K.Sink.written c.flush.new.out) c.loop-text.text.items c.flush.new.text.items so.2 c.in_ok-flush.ensures.ok) turn.1 turn.2 c.either-faulted.ensures;
+      program = c.in_ok-next.ensures.program ∙ inv.program;
+      tags = omega (arith, tags, inv.tags);
       total = inv.total ∙ c.next_line.ensures.total;
       given = count_more (g.S.Source.given c.args.script.now) c.loop-text.reader.taken c.next_line.new.self.taken _ c.next_line.ensures.taken given;
       line_max = c.next_line.ensures.line_max ∙ inv.line_max;

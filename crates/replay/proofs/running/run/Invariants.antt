@@ -1,21 +1,22 @@
-use Rattle.std.proofs.Common.{◌≡◌, ◌≤◌, ◌+◌, ◌^◌, [], List, ℕ, false, None}
-use Rattle.fx_io.specs.Outside.{append, count_after}
+use Rattle.std.proofs.Common.{◌≡◌, ◌≤◌, ◌+◌, ◌*◌, ◌^◌, [], List, ℕ, None}
+use Rattle.fx_io.specs.Outside.{count_after}
 use Rattle.fx_io.specs.Lines.{lines_ahead, total_told, to_come}
-use Rattle.rule_model.specs.Worlds.{World, empty_world}
-use Rattle.session.specs.Standing.{Stands}
-use Rattle.replay.specs.Run.{ahead_run}
+use Rattle.rule_model.specs.Worlds.{World}
+use Rattle.replay.specs.Run.{run, whole_run}
 use Rattle.replay.proofs.Ahead.{SoFar}
 use Rattle.replay.proofs.running.run.Given as goal
 
--- the session stands for the world of the lines done so far; the front was written, and behind it comes what is gathered
+-- the engine stands for the world of the lines done so far; the front was written, and behind it comes what is gathered
 abbrev pub invariant-loop-text : goal.invariant-loop-text
 invariant-loop-text g l =
     let left = g.S.Source.left in
     let written = g.K.Sink.written in
+    let gives = g.E.Engine.gives in
+    let fires = g.E.Engine.fires in
     record {
-      so_far : (w : World) × Stands l.session w × ((front : List ℕ) × SoFar (ahead_run l.fn.program 1 empty_world false (lines_ahead [] (left l.fn.script))) (written l.fn.out) (written l.out) l.text.items (ahead_run l.fn.program l.number w l.faulted (lines_ahead l.reader.kept (left l.script))) front);
-      program : l.session.program ≡ l.fn.program;
-      tags : l.session.kept.next ≤ l.number;
+      so_far : (w : World) × g.E.Engine.stands l.engine w × SoFar (whole_run gives fires l.fn.limit l.fn.program) (run gives fires l.fn.limit l.fn.program l.number l.left w l.faulted) (lines_ahead [] (left l.fn.script)) (lines_ahead l.reader.kept (left l.script)) (written l.fn.out) (written l.out) l.text.items;
+      program : g.E.Engine.made_with l.engine ≡ l.fn.program;
+      tags : g.E.Engine.tags l.engine + 16 * l.left ≤ 16 * l.fn.limit + 16 * l.number;
       total : total_told 0 (left l.fn.script) ≡ total_told l.reader.taken (left l.script);
       given : g.S.Source.given l.script ≡ count_after (g.S.Source.given l.fn.script) l.reader.taken;
       line_max : l.reader.line_max ≡ 65536;
