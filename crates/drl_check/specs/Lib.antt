@@ -1,4 +1,9 @@
 pub mod Names
-pub mod Types
-pub mod Rules
-pub mod Accepted
+pub mod Declarations
+pub mod Sight
+pub mod Built
+pub mod Twice
+pub mod Limits
+pub mod Uses
+pub mod Kinds
+pub mod Checks
