@@ -7,3 +7,5 @@ pub mod Limits
 pub mod Uses
 pub mod Kinds
 pub mod Checks
+pub mod Programs
+pub mod Places

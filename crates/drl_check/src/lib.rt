@@ -3,5 +3,7 @@
 #![tactic(auto)]
 
 mod fault;
+mod names;
+mod places;
 
 pub use fault::{CheckCode, CheckFault};

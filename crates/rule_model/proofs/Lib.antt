@@ -2,3 +2,5 @@ pub mod Exact
 pub mod Firsts
 pub mod Pending
 pub mod Keys
+pub mod Looking
+pub mod Listed

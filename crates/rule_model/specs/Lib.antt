@@ -1,4 +1,5 @@
 pub mod Tests
+pub mod Looked
 pub mod Rows
 pub mod Matches
 pub mod MatchOrders

@@ -1,8 +1,11 @@
-//! Laws of the order of firing, each the contract of a function that does nothing.
-ghost use Rattle.std.specs.Prelude.{◌≡◌, ◌<◌, ◌<ℤ◌, true, [], List, ℤ, Some, None};
+//! Laws of rows and of the order of firing, each the contract of a function that does nothing.
+ghost use Rattle.std.specs.Prelude.{◌≡◌, ◌↔◌, ◌<◌, ◌<ℤ◌, true, [], List, ℤ, Some, None};
 ghost use Rattle.std.specs.declared.cmp.Ordering.{Ordering};
+ghost use Rattle.fx_base.specs.declared.fact.Fact.{Fact};
+ghost use Rattle.row_delta.specs.declared.row.Row.{Row};
 ghost use Rattle.rule_model.specs.declared.matched.Match.{Match};
 ghost use Rattle.rule_model.specs.declared.program.Rule.{Rule};
+ghost use Rattle.rule_model.specs.Rows.{In, IsRow, rows};
 ghost use Rattle.rule_model.specs.Matches.{fire_cmp, salience_of, greatest_tag, saliences, has_match};
 ghost use Rattle.rule_model.specs.Worlds.{World, pending, first_pending};
 
@@ -25,4 +28,9 @@ pub fn keys_of_firing()
     ensures earlier { (s : List ℤ) (a : Match) (b : Match) → salience_of s a.rule.0 ≡ salience_of s b.rule.0
         → greatest_tag b.row.facts ≡ greatest_tag a.row.facts → a.rule.0 < b.rule.0 → fire_cmp s a b ≡ Ordering.Less }
     ensures exact { (s : List ℤ) (a : Match) (b : Match) → fire_cmp s a b ≡ Ordering.Equal → a ≡ b }
+{}
+
+/// The list of a rule's rows has exactly the rows that its conditions make.
+pub fn listed_rows_are_the_rows()
+    ensures { (facts : List Fact) (rule : Rule) (row : Row) → In row (rows facts rule) ↔ IsRow facts rule row }
 {}

@@ -2,6 +2,7 @@
 //! It stands on values and rows alone; how an engine finds them is no matter of this crate.
 #![tactic(auto)]
 
+mod bound;
 mod condition;
 pub mod laws;
 mod matched;
