@@ -4,6 +4,7 @@ use Rattle.drl_grammar.specs.declared.file.File.{File}
 use Rattle.drl_grammar.specs.declared.file.Body.{Body}
 use Rattle.drl_grammar.specs.declared.file.Body.TheVariants as body
 use Rattle.drl_grammar.specs.declared.file.Item.{Item}
+use Rattle.drl_grammar.specs.declared.file.TypeTree.{TypeTree}
 use Rattle.drl_check.specs.declared.fault.CheckCode.{CheckCode}
 use Rattle.drl_check.specs.declared.fault.CheckCode.TheVariants.{NotBuilt, TwiceDeclared, LimitPassed, UnknownType, UnknownField, UnknownVariable, WrongKind}
 use Rattle.drl_check.specs.Declarations.{types_of}
@@ -14,32 +15,32 @@ use Rattle.drl_check.specs.Limits.{passes_limit}
 use Rattle.drl_check.specs.Uses.{any_condition, has_unknown_type, has_unknown_field, has_unknown_variable}
 use Rattle.drl_check.specs.Kinds.{has_unknown_kind, has_wrong_kind}
 
-abbrev pub lacks_type : List Item → Body → Bool
-lacks_type all (body.Rule r) = has_unknown_type (types_of all) r.conditions
-lacks_type all b = false
+abbrev pub lacks_type : List TypeTree → Body → Bool
+lacks_type types (body.Rule r) = has_unknown_type types r.conditions
+lacks_type types b = false
 
-abbrev pub lacks_field : List Item → Body → Bool
-lacks_field all (body.Rule r) = any_condition (has_unknown_field (types_of all)) (types_of all) begin r.conditions
-lacks_field all b = false
+abbrev pub lacks_field : List TypeTree → Body → Bool
+lacks_field types (body.Rule r) = any_condition (has_unknown_field types) types begin r.conditions
+lacks_field types b = false
 
-abbrev pub lacks_variable : List Item → Body → Bool
-lacks_variable all (body.Rule r) = any_condition has_unknown_variable (types_of all) begin r.conditions
-lacks_variable all b = false
+abbrev pub lacks_variable : List TypeTree → Body → Bool
+lacks_variable types (body.Rule r) = any_condition has_unknown_variable types begin r.conditions
+lacks_variable types b = false
 
-abbrev pub is_wrong_kind : List Item → Body → Bool
-is_wrong_kind all (body.Declare t) = has_unknown_kind t
-is_wrong_kind all (body.Rule r) = any_condition (has_wrong_kind (types_of all)) (types_of all) begin r.conditions
-is_wrong_kind all b = false
+abbrev pub is_wrong_kind : List TypeTree → Body → Bool
+is_wrong_kind types (body.Declare t) = has_unknown_kind t
+is_wrong_kind types (body.Rule r) = any_condition (has_wrong_kind types) types begin r.conditions
+is_wrong_kind types b = false
 
 -- whether an item fails the check of this code, given all the items of the file and those before it
 abbrev pub fails : CheckCode → List Item → List Item → Body → Bool
 fails NotBuilt all before b = not_built b
 fails TwiceDeclared all before b = is_twice before b
 fails LimitPassed all before b = passes_limit before b
-fails UnknownType all before b = lacks_type all b
-fails UnknownField all before b = lacks_field all b
-fails UnknownVariable all before b = lacks_variable all b
-fails WrongKind all before b = is_wrong_kind all b
+fails UnknownType all before b = lacks_type (types_of all) b
+fails UnknownField all before b = lacks_field (types_of all) b
+fails UnknownVariable all before b = lacks_variable (types_of all) b
+fails WrongKind all before b = is_wrong_kind (types_of all) b
 
 -- the codes, in the order in which they are tried
 abbrev pub codes_in_order : List CheckCode

@@ -78,8 +78,11 @@ rule_within r = nat_lt 0 (length r.name) && is_short 256 r.name && list_all attr
 abbrev pub type_within : TypeTree → Bool
 type_within t = is_name t.name && nat_le (length t.fields) 32 && list_all is_name (field_names t)
 
--- a file has at most 128 types and 256 rules: the one too many passes the limit
+-- a file has at most 128 types and 256 rules: the one too many passes the limit, given how many earlier items declare
+abbrev pub passes_limit_behind : ℕ → ℕ → Body → Bool
+passes_limit_behind types rules (body.Declare t) = not (nat_lt types 128 && type_within t)
+passes_limit_behind types rules (body.Rule r) = not (nat_lt rules 256 && rule_within r)
+passes_limit_behind types rules b = false
+
 abbrev pub passes_limit : List Item → Body → Bool
-passes_limit before (body.Declare t) = not (nat_lt (length (types_of before)) 128 && type_within t)
-passes_limit before (body.Rule r) = not (nat_lt (length (rules_of before)) 256 && rule_within r)
-passes_limit before b = false
+passes_limit before b = passes_limit_behind (length (types_of before)) (length (rules_of before)) b

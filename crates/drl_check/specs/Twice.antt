@@ -38,8 +38,12 @@ bound_in c = []
 abbrev pub bound_variables : RuleTree → List (List ℕ)
 bound_variables r = flat_map bound_in r.conditions
 
+-- given the names of the types and of the rules that earlier items declare
+abbrev pub is_repeated : List (List ℕ) → List (List ℕ) → Body → Bool
+is_repeated types rules (body.Declare t) = is_among types t.name || not (are_distinct (field_names t))
+is_repeated types rules (body.Rule r) = is_among rules r.name || not (are_distinct (map attr_word r.attrs)) || not (are_distinct (bound_variables r))
+is_repeated types rules b = false
+
 -- A type or a rule is declared by an earlier item, or a field, an attribute or a variable stands twice in the item.
 abbrev pub is_twice : List Item → Body → Bool
-is_twice before (body.Declare t) = is_among (type_names (types_of before)) t.name || not (are_distinct (field_names t))
-is_twice before (body.Rule r) = is_among (rule_names (rules_of before)) r.name || not (are_distinct (map attr_word r.attrs)) || not (are_distinct (bound_variables r))
-is_twice before b = false
+is_twice before b = is_repeated (type_names (types_of before)) (rule_names (rules_of before)) b

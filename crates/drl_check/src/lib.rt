@@ -2,6 +2,7 @@
 //! It takes any file of trees, and assumes nothing of it.
 #![tactic(auto)]
 
+mod declared;
 mod fault;
 mod names;
 mod places;

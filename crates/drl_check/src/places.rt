@@ -35,6 +35,16 @@ impl Places {
         }
     }
 
+    pub(crate) fn of(alloc: Global, names: &[Text]) -> Result<Places, NoMemory>
+        ensures { IfOk result (λ p. p ≡ names.now) }
+    {
+        let mut places = Places::new(alloc);
+        for name in names {
+            places = places.with(alloc, name)?;
+        }
+        Ok(places)
+    }
+
     pub(crate) fn len(&self) -> usize
         ensures { result ≡ length self.now }
     {
