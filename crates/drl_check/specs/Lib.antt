@@ -9,3 +9,5 @@ pub mod Kinds
 pub mod Checks
 pub mod Programs
 pub mod Places
+pub mod Shown
+pub mod Room

@@ -1,6 +1,7 @@
 ghost use Rattle.std.specs.Prelude.{◌≡◌, ◌++◌, List, map, option_map, IfOk};
 ghost use Rattle.drl_check.specs.Names.{place_of, is_among};
 ghost use Rattle.drl_check.specs.Declarations.{types_of, type_names, field_names, type_named, kind_of, kind_at};
+ghost use Rattle.drl_check.specs.Kinds.{field_kind};
 
 use crate::places::Places;
 use drl_grammar::{Body, Item, TypeTree};
@@ -95,6 +96,16 @@ impl<'a> DeclaredType<'a> {
         ensures { result ≡ is_among (field_names self.now) field.now }
     {
         self.fields.holds(field)
+    }
+
+    /// The kind of the field of this name.
+    pub(crate) fn kind_of(&self, field: &Text) -> Option<Kind>
+        ensures { result ≡ field_kind self.now field.now }
+    {
+        match self.find(field) {
+            Some(place) => self.kind_at(place),
+            None => None,
+        }
     }
 
     /// The kind of the field at a place.

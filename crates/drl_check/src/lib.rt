@@ -2,9 +2,14 @@
 //! It takes any file of trees, and assumes nothing of it.
 #![tactic(auto)]
 
+mod built;
 mod declared;
 mod fault;
+mod limits;
 mod names;
 mod places;
+mod room;
+mod sight;
+mod twice;
 
 pub use fault::{CheckCode, CheckFault};
