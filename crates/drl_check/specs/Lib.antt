@@ -11,3 +11,4 @@ pub mod Programs
 pub mod Places
 pub mod Shown
 pub mod Room
+pub mod Asked

@@ -2,14 +2,17 @@
 //! It takes any file of trees, and assumes nothing of it.
 #![tactic(auto)]
 
+mod asked;
 mod built;
 mod declared;
 mod fault;
+mod kinds;
 mod limits;
 mod names;
 mod places;
 mod room;
 mod sight;
 mod twice;
+mod uses;
 
 pub use fault::{CheckCode, CheckFault};
