@@ -23,6 +23,7 @@ use Rattle.drl_grammar.specs.declared.condition.Operand.TheVariants as operand
 use Rattle.drl_grammar.specs.declared.file.Attr.{Attr}
 use Rattle.drl_grammar.specs.declared.file.Attr.TheVariants as attr
 use Rattle.drl_grammar.specs.declared.file.File.{File}
+use Rattle.drl_grammar.specs.declared.file.Item.{Item}
 use Rattle.drl_grammar.specs.declared.file.TypeTree.{TypeTree}
 use Rattle.drl_grammar.specs.declared.file.RuleTree.{RuleTree}
 use Rattle.rule_model.specs.declared.program.Program.{Program}
@@ -160,8 +161,12 @@ salience_of (a ∷ attrs) = salience_with a (salience_of attrs)
 abbrev pub rule_of : List TypeTree → RuleTree → Rule
 rule_of types r = record { name = r.name; salience = salience_of r.attrs; conditions = conditions_of types begin r.conditions }
 
+-- given the types of the file
+abbrev pub program_with : List TypeTree → List Item → Program
+program_with types items = record { types = map type_info (types_of items); rules = map (rule_of types) (rules_of items) }
+
 abbrev pub program_of : File → Program
-program_of file = record { types = map type_info (types_of file.items); rules = map (rule_of (types_of file.items)) (rules_of file.items) }
+program_of file = program_with (types_of file.items) file.items
 
 -- the program of an accepted file, or the first failure
 abbrev pub checked_by : Option Failure → Program → Result Program Failure

@@ -10,8 +10,10 @@ mod kinds;
 mod limits;
 mod names;
 mod places;
+mod programs;
 mod room;
 mod sight;
+mod tests_of;
 mod twice;
 mod uses;
 

@@ -1,11 +1,13 @@
 ghost use Rattle.std.specs.Prelude.{◌≡◌, ◌<◌, ◌≤◌, ◌+◌, ◌^◌, ◌++◌, Some, option_map, IfOk, OnOk};
 ghost use Rattle.drl_check.specs.Sight.{meaning_of, seen_of, seen_in, seen_fact, begin, behind};
 ghost use Rattle.drl_check.specs.Uses.{lacks_for};
+ghost use Rattle.drl_check.specs.Programs.{small_place, variable_side, variable_field_side};
 ghost use Rattle.drl_check.specs.Kinds.{variable_kind, variable_field_kind};
 
 use crate::declared::{Declared, DeclaredType};
 use drl_grammar::{CondTree, Part, SourceTree};
 use fx_base::{Copies, Kind, NoMemory, Text};
+use rule_model::Side;
 use std::alloc::Global;
 use std::marker::Model;
 
@@ -82,6 +84,44 @@ impl<'a> Meaning<'a> {
         match self.seen {
             Seen::Fact { fact: _, ty } => Some(ty.kind_of(field)),
             Seen::Field { .. } => None,
+        }
+    }
+}
+
+/// A place as a number of 8 bits. It stands still at 255; an accepted file has none beyond 31.
+pub(crate) fn small(place: Option<usize>) -> u8
+    ensures { result ≡ small_place place }
+{
+    match place {
+        Some(place) => place.min(255) as u8,
+        None => 0,
+    }
+}
+
+impl<'a> Meaning<'a> {
+    /// What a comparison with it is against, where it is a value.
+    pub(crate) fn side(&self) -> Side
+        ensures { result ≡ variable_side (Some self.now) }
+    {
+        match self.seen {
+            Seen::Fact { .. } => Side::Own(0),
+            Seen::Field { fact, field, .. } => Side::Of {
+                fact: small(Some(fact)),
+                field: small(Some(field)),
+            },
+        }
+    }
+
+    /// What a comparison with a field of it is against, where it is a fact.
+    pub(crate) fn side_of(&self, field: &Text) -> Side
+        ensures { result ≡ variable_field_side (Some self.now) field.now }
+    {
+        match self.seen {
+            Seen::Fact { fact, ty } => Side::Of {
+                fact: small(Some(fact)),
+                field: small(ty.find(field)),
+            },
+            Seen::Field { .. } => Side::Own(0),
         }
     }
 }
