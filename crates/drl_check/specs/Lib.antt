@@ -12,3 +12,5 @@ pub mod Places
 pub mod Shown
 pub mod Room
 pub mod Asked
+pub mod Failing
+pub mod Answers

@@ -1,3 +1,6 @@
+ghost use Rattle.drl_check.specs.declared.fault.CheckFault.TheVariants.{NoMemory as OutOfMemory};
+ghost use Rattle.std.specs.Prelude.{◌≡◌};
+
 use thiserror::Error;
 
 /// Why an item is refused. The codes are tried over an item in the order in which they stand here.
@@ -26,7 +29,7 @@ pub enum CheckCode {
 #[derive(Clone, Copy, Debug, PartialEq, Eq, Error)]
 pub enum CheckFault {
     /// The item of this number, counted from 1, whose first token stands in this line, is the first that fails a check, and
-    /// this is the first check that it fails.
+    /// this is the first check that it fails. Beyond 2^32 - 1 items the number stands still.
     #[error("item {item} in line {line}: {code:?}")]
     Refused {
         item: u32,
@@ -35,4 +38,12 @@ pub enum CheckFault {
     },
     #[error("no memory")]
     NoMemory,
+}
+
+impl From<fx_base::NoMemory> for CheckFault {
+    ghost from_gives = { λ _ fault. fault ≡ OutOfMemory };
+
+    fn from(_: fx_base::NoMemory) -> Self {
+        CheckFault::NoMemory
+    }
 }

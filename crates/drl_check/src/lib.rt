@@ -4,17 +4,22 @@
 
 mod asked;
 mod built;
+mod checking;
 mod declared;
 mod fault;
 mod kinds;
+mod laws;
 mod limits;
 mod names;
 mod places;
 mod programs;
+mod refusal;
 mod room;
 mod sight;
 mod tests_of;
 mod twice;
 mod uses;
 
+pub use checking::check;
 pub use fault::{CheckCode, CheckFault};
+pub use laws::{failures_are_exact, one_failure_is_first};
