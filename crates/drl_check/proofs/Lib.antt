@@ -1,1 +1,6 @@
+pub mod NameLemmas
+pub mod Rooms
+pub mod Failures
+pub mod Exact
 pub mod Sound
+pub mod Checked

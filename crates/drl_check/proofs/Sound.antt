@@ -1,101 +1,134 @@
--- The program of an accepted file is within the limits, and each of its rules has one condition.
-use Rattle.std.proofs.Common.{◌≡◌, ◌≤◌, ◌==◌, ◌&&◌, Bool, true, false, List, [], ◌∷◌, ℕ, length, nat_le, pos, Option, Some, None, option_map, cond, refl, subst, arith}
+-- The program of an accepted file is within the limits.
+use Rattle.std.proofs.Common.{◌≡◌, ◌≤◌, ◌<◌, ◌+◌, ◌&&◌, ◌++◌, ◌∷◌, ℕ, Bool, true, false, not, List, [], map, length, nat_le, nat_lt, refl, sym, ap, subst, ◌∙◌, append_assoc, length-append, arith}
 use Rattle.std.specs.List.{list_all}
 use Rattle.std.proofs.lemmas.Bool.Decides.{nat_tests}
-use Rattle.drl_parse.specs.declared.tree.Body.{Body}
-use Rattle.drl_parse.specs.declared.tree.Body.TheVariants as body
-use Rattle.drl_parse.specs.declared.tree.Item.{Item}
-use Rattle.drl_parse.specs.declared.tree.File.{File}
-use Rattle.drl_parse.specs.declared.tree.RuleTree.{RuleTree}
-use Rattle.drl_parse.specs.declared.tree.CondTree.{CondTree}
-use Rattle.rule_model.specs.declared.program.Program.{Program}
-use Rattle.rule_model.specs.declared.program.TypeInfo.{TypeInfo}
+use Rattle.std.proofs.lemmas.List.{append-nil, length-map}
+use Rattle.drl_grammar.specs.declared.condition.CondTree.{CondTree}
+use Rattle.drl_grammar.specs.declared.condition.CondTree.TheVariants as tree
+use Rattle.drl_grammar.specs.declared.file.Body.{Body}
+use Rattle.drl_grammar.specs.declared.file.Body.TheVariants as body
+use Rattle.drl_grammar.specs.declared.file.File.{File}
+use Rattle.drl_grammar.specs.declared.file.Item.{Item}
+use Rattle.drl_grammar.specs.declared.file.TypeTree.{TypeTree}
+use Rattle.drl_grammar.specs.declared.file.RuleTree.{RuleTree}
 use Rattle.rule_model.specs.declared.program.Rule.{Rule}
-use Rattle.rule_model.specs.declared.condition.Condition.{Condition}
-use Rattle.rule_model.specs.Programs.{is_single, IsAccepted}
-use Rattle.drl_check.specs.Names.{are_distinct}
-use Rattle.drl_check.specs.Types.{infos, are_types, is_type, type_names}
-use Rattle.drl_check.specs.Rules.{condition_of, conditions_of, rule_of, with_rule, rules_with, rules_in, are_rules, short_rules, rule_names}
-use Rattle.drl_check.specs.Accepted.{accepted, program_with}
+use Rattle.rule_model.specs.Programs.{has_conditions, IsAccepted}
+use Rattle.drl_check.specs.declared.fault.CheckCode.TheVariants.{LimitPassed}
+use Rattle.drl_check.specs.Declarations.{types_of, rules_of, type_in, rule_in}
+use Rattle.drl_check.specs.Sight.{Place, begin, behind}
+use Rattle.drl_check.specs.Limits.{passes_limit_behind, passes_limit, type_within, rule_within, attr_within, condition_within, is_name}
+use Rattle.drl_check.specs.Names.{is_short}
+use Rattle.drl_check.specs.Checks.{fails, Passes, AllPass, IsAcceptedFile}
+use Rattle.drl_check.specs.Programs.{condition_of, conditions_of, rule_of, type_info, program_of}
+use Rattle.drl_check.proofs.Failures.{types_next, rules_next}
 
-some_is : {A : Type 0} (x y : A) → Some x ≡ Some y → x ≡ y
-some_is x y e = cc
+-- ---- types and rules are few
 
-one_condition : (o : Option Condition) (cs : List Condition) → option_map (λ c. c ∷ []) o ≡ Some cs → (length cs == 1) ≡ true
-one_condition None cs e = cc
-one_condition (Some c) cs e = subst (λ (z : List Condition). (length z == 1) ≡ true) (some_is (c ∷ []) cs e) refl
+not_and : (a b : Bool) → not (a && b) ≡ false → a ≡ true
+not_and true b e = refl
+not_and false b e = absurd cc
 
-conditions_one : (types : List TypeInfo) (trees : List CondTree) (cs : List Condition) → conditions_of types trees ≡ Some cs → (length cs == 1) ≡ true
-conditions_one types [] cs e = cc
-conditions_one types (only ∷ []) cs e = one_condition (condition_of types only) cs e
-conditions_one types (c ∷ d ∷ trees) cs e = cc
+under : (n m : ℕ) → nat_lt n m ≡ true → n < m
+under n m e = grind (arith, nat_tests)
 
-abbrev made : List ℕ → List Condition → Rule
-made name cs = record { name = name; salience = pos 0; conditions = cs }
+type_fits : (types rules : ℕ) (b : Body) → passes_limit_behind types rules b ≡ false → types ≤ 128 → types + length (type_in b) ≤ 128
+type_fits types rules (body.Declare t) e h = let less = under types 128 (not_and (nat_lt types 128) (type_within t) e) in omega (arith, less)
+type_fits types rules (body.Rule r) e h = omega (arith, h)
+type_fits types rules (body.Package p) e h = omega (arith, h)
+type_fits types rules (body.Import p s) e h = omega (arith, h)
+type_fits types rules (body.Dialect d) e h = omega (arith, h)
+type_fits types rules (body.Entry n l) e h = omega (arith, h)
 
-rule_with : (name : List ℕ) (o : Option (List Condition)) → ((cs : List Condition) → o ≡ Some cs → (length cs == 1) ≡ true) → (r : Rule) → option_map (made name) o ≡ Some r → is_single r ≡ true
-rule_with name None h r e = cc
-rule_with name (Some cs) h r e = subst (λ (z : Rule). is_single z ≡ true) (some_is (made name cs) r e) (h cs refl)
+rule_fits : (types rules : ℕ) (b : Body) → passes_limit_behind types rules b ≡ false → rules ≤ 256 → rules + length (rule_in b) ≤ 256
+rule_fits types rules (body.Rule r) e h = let less = under rules 256 (not_and (nat_lt rules 256) (rule_within r) e) in omega (arith, less)
+rule_fits types rules (body.Declare t) e h = omega (arith, h)
+rule_fits types rules (body.Package p) e h = omega (arith, h)
+rule_fits types rules (body.Import p s) e h = omega (arith, h)
+rule_fits types rules (body.Dialect d) e h = omega (arith, h)
+rule_fits types rules (body.Entry n l) e h = omega (arith, h)
 
-rule_one : (types : List TypeInfo) (tree : RuleTree) (r : Rule) → rule_of types tree ≡ Some r → is_single r ≡ true
-rule_one types tree r e = rule_with tree.name (conditions_of types tree.conditions) (conditions_one types tree.conditions) r e
+few_types : (all before items : List Item) → AllPass all before items → length (types_of before) ≤ 128 → length (types_of (before ++ items)) ≤ 128
+few_types all before [] p h = subst (λ (is : List Item). length (types_of is) ≤ 128) (sym (append-nil before)) h
+few_types all before (item ∷ items) p h =
+    let fits = type_fits (length (types_of before)) (length (rules_of before)) item.body (p.0 LimitPassed) h in
+    let more : length (types_of (before ++ item ∷ [])) ≤ 128 = omega (arith, fits, ap length (types_next before item), length-append (types_of before) (type_in item.body)) in
+    subst (λ (is : List Item). length (types_of is) ≤ 128) (append_assoc before (item ∷ []) items) (few_types all (before ++ item ∷ []) items p.1 more)
 
-both : (a b : Bool) → a ≡ true → b ≡ true → (a && b) ≡ true
-both true b e h = h
-both false b e h = e
+few_rules : (all before items : List Item) → AllPass all before items → length (rules_of before) ≤ 256 → length (rules_of (before ++ items)) ≤ 256
+few_rules all before [] p h = subst (λ (is : List Item). length (rules_of is) ≤ 256) (sym (append-nil before)) h
+few_rules all before (item ∷ items) p h =
+    let fits = rule_fits (length (types_of before)) (length (rules_of before)) item.body (p.0 LimitPassed) h in
+    let more : length (rules_of (before ++ item ∷ [])) ≤ 256 = omega (arith, fits, ap length (rules_next before item), length-append (rules_of before) (rule_in item.body)) in
+    subst (λ (is : List Item). length (rules_of is) ≤ 256) (append_assoc before (item ∷ []) items) (few_rules all (before ++ item ∷ []) items p.1 more)
 
-rules_one : (found : Option Rule) (rest : Option (List Rule)) (rules : List Rule) → ((r : Rule) → found ≡ Some r → is_single r ≡ true)
-    → ((rs : List Rule) → rest ≡ Some rs → list_all is_single rs ≡ true) → with_rule found rest ≡ Some rules → list_all is_single rules ≡ true
-rules_one None rest rules h k e = cc
-rules_one (Some r) None rules h k e = cc
-rules_one (Some r) (Some rs) rules h k e = subst (λ (z : List Rule). list_all is_single z ≡ true) (some_is (r ∷ rs) rules e) (both (is_single r) (list_all is_single rs) (h r refl) (k rs refl))
+-- ---- conditions are few
 
-body_one : (types : List TypeInfo) (b : Body) (rest : Option (List Rule)) (rules : List Rule) → ((rs : List Rule) → rest ≡ Some rs → list_all is_single rs ≡ true)
-    → rules_with types b rest ≡ Some rules → list_all is_single rules ≡ true
-body_one types (body.Declare t) rest rules k e = k rules e
-body_one types (body.Rule t) rest rules k e = rules_one (rule_of types t) rest rules (rule_one types t) k e
+one_condition : (types : List TypeTree) (place : Place) (c : CondTree) → length (condition_of types place c) ≤ 1
+one_condition types place (tree.Plain s) = omega arith
+one_condition types place (tree.Negated s) = omega arith
+one_condition types place (tree.Existing s) = omega arith
+one_condition types place (tree.Folded a b c d e) = omega arith
 
-all_single : (types : List TypeInfo) (items : List Item) (rules : List Rule) → rules_in types items ≡ Some rules → list_all is_single rules ≡ true
-unfolding rules_in
-all_single types [] rules e = subst (λ (z : List Rule). list_all is_single z ≡ true) (some_is [] rules e) refl
-all_single types (item ∷ items) rules e = body_one types item.body (rules_in types items) rules (all_single types items) e
-
-and_left : (a b : Bool) → (a && b) ≡ true → a ≡ true
-and_left true b e = refl
-and_left false b e = cc
+few_conditions : (types : List TypeTree) (place : Place) (cs : List CondTree) → length (conditions_of types place cs) ≤ length cs
+unfolding conditions_of
+few_conditions types place [] = omega arith
+few_conditions types place (c ∷ cs) =
+    let one = one_condition types place c in
+    let rest = few_conditions types (behind types place c) cs in
+    omega (arith, one, rest, length-append (condition_of types place c) (conditions_of types (behind types place c) cs))
 
 and_right : (a b : Bool) → (a && b) ≡ true → b ≡ true
 and_right true b e = e
-and_right false b e = cc
+and_right false b e = absurd cc
 
-at_most : (n m : ℕ) → nat_le n m ≡ true → n ≤ m
+and_left : (a b : Bool) → (a && b) ≡ true → a ≡ true
+and_left true b e = refl
+and_left false b e = absurd cc
+
+not_and_right : (a b : Bool) → not (a && b) ≡ false → b ≡ true
+not_and_right true true e = refl
+not_and_right true false e = absurd cc
+not_and_right false b e = absurd cc
+
+most : (n m : ℕ) → nat_le n m ≡ true → n ≤ m
+most n m e = grind (arith, nat_tests)
+
+at_most : (n m : ℕ) → n ≤ m → nat_le n m ≡ true
 at_most n m e = grind (arith, nat_tests)
 
-few_types : (types : List TypeInfo) → are_types types ≡ true → length types ≤ 128
-few_types types e = at_most (length types) 128 (and_left (nat_le (length types) 128) (list_all is_type types) (and_left _ (are_distinct (type_names types)) e))
+-- a rule within the limits has few conditions
+rule_sound : (types : List TypeTree) (r : RuleTree) → rule_within r ≡ true → has_conditions (rule_of types r) ≡ true
+rule_sound types r e =
+    let many = few_conditions types begin r.conditions in
+    let tests = list_all condition_within r.conditions in
+    let before = nat_lt 0 (length r.name) && is_short 256 r.name && list_all attr_within r.attrs in
+    let h : nat_le (length r.conditions) 8 ≡ true = and_right before (nat_le (length r.conditions) 8) (and_left (before && nat_le (length r.conditions) 8) tests e) in
+    at_most (length (conditions_of types begin r.conditions)) 8 (omega (arith, many, most (length r.conditions) 8 h))
 
-few_rules : (rules : List Rule) → are_rules rules ≡ true → length rules ≤ 256
-few_rules rules e = at_most (length rules) 256 (and_left (nat_le (length rules) 256) (short_rules rules) (and_left _ (are_distinct (rule_names rules)) e))
+both : (a b : Bool) → a ≡ true → b ≡ true → (a && b) ≡ true
+both true b e h = h
+both false b e h = absurd cc
 
-abbrev program : List TypeInfo → List Rule → Program
-program types rules = record { types = types; rules = rules }
+body_sound : (types : List TypeTree) (n m : ℕ) (b : Body) (rest : List RuleTree) → passes_limit_behind n m b ≡ false → list_all has_conditions (map (rule_of types) rest) ≡ true
+    → list_all has_conditions (map (rule_of types) (rule_in b ++ rest)) ≡ true
+body_sound types n m (body.Rule r) rest e h = both (has_conditions (rule_of types r)) (list_all has_conditions (map (rule_of types) rest)) (rule_sound types r (not_and_right (nat_lt m 256) (rule_within r) e)) h
+body_sound types n m (body.Declare t) rest e h = h
+body_sound types n m (body.Package p) rest e h = h
+body_sound types n m (body.Import p s) rest e h = h
+body_sound types n m (body.Dialect d) rest e h = h
+body_sound types n m (body.Entry a l) rest e h = h
 
-judged : (types : List TypeInfo) (rules : List Rule) (p : Program) (b : Bool) → (are_types types && are_rules rules) ≡ b → list_all is_single rules ≡ true
-    → cond b (Some (program types rules)) None ≡ Some p → IsAccepted p
-judged types rules p true h one e =
-    let a : IsAccepted (program types rules) = record {
-      few_types = few_types types (and_left (are_types types) (are_rules rules) h);
-      few_rules = few_rules rules (and_right (are_types types) (are_rules rules) h);
-      single = one;
-    } in
-    subst IsAccepted (some_is (program types rules) p e) a
-judged types rules p false h one e = cc
+all_sound : (types : List TypeTree) (all before items : List Item) → AllPass all before items → list_all has_conditions (map (rule_of types) (rules_of items)) ≡ true
+all_sound types all before [] p = refl
+all_sound types all before (item ∷ items) p =
+    body_sound types (length (types_of before)) (length (rules_of before)) item.body (rules_of items) (p.0 LimitPassed) (all_sound types all (before ++ item ∷ []) items p.1)
 
-with_program : (types : List TypeInfo) (o : Option (List Rule)) (p : Program) → ((rules : List Rule) → o ≡ Some rules → list_all is_single rules ≡ true)
-    → program_with types o ≡ Some p → IsAccepted p
-with_program types None p k e = cc
-with_program types (Some rules) p k e = judged types rules p (are_types types && are_rules rules) refl (k rules refl) e
-
-pub accepted_sound : (file : File) (p : Program) → accepted file ≡ Some p → IsAccepted p
-unfolding accepted
-accepted_sound file p e = with_program (infos file.items) (rules_in (infos file.items) file.items) p (all_single (infos file.items) file.items) e
+pub accepted_sound : (file : File) → IsAcceptedFile file → IsAccepted (program_of file)
+accepted_sound file a =
+    let types = few_types file.items [] file.items a (omega arith) in
+    let rules = few_rules file.items [] file.items a (omega arith) in
+    record {
+      few_types = omega (arith, types, length-map (types_of file.items) type_info);
+      few_rules = omega (arith, rules, length-map (rules_of file.items) (rule_of (types_of file.items)));
+      conditions = all_sound (types_of file.items) file.items [] file.items a;
+    }

@@ -1,16 +1,23 @@
--- Limits and distinctness of names.
-use Rattle.std.specs.Prelude.{ℕ, ◌&&◌, not, Bool, true, List, [], ◌∷◌, length, nat_le}
+-- Names: their lengths, their places in a list, and whether one stands twice.
+use Rattle.std.specs.Prelude.{ℕ, ◌+◌, ◌&&◌, Bool, true, not, List, [], ◌∷◌, length, nat_le, Option, Some, None, if◌then◌else◌}
 use Rattle.std.specs.List.{list_any}
 use Rattle.std.specs.Str.{bytes_eq}
 
--- at most so many bytes
 abbrev pub is_short : ℕ → List ℕ → Bool
 is_short most name = nat_le (length name) most
 
 abbrev pub is_among : List (List ℕ) → List ℕ → Bool
-is_among names name = list_any (λ other. bytes_eq other name) names
+is_among names name = list_any (bytes_eq name) names
 
 -- no name stands twice
 unfoldable pub are_distinct : List (List ℕ) → Bool
 are_distinct [] = true
 are_distinct (name ∷ names) = not (is_among names name) && are_distinct names
+
+-- the place of the first that has this name, the first of the list having the given place
+unfoldable pub place_from : ℕ → List (List ℕ) → List ℕ → Option ℕ
+place_from k [] name = None
+place_from k (first ∷ names) name = if bytes_eq first name then Some k else place_from (k + 1) names name
+
+abbrev pub place_of : List (List ℕ) → List ℕ → Option ℕ
+place_of names name = place_from 0 names name

@@ -1,44 +1,50 @@
-ghost use Rattle.std.specs.Prelude.{◌≡◌, Some, None, IfOk, IsErrOf};
-ghost use Rattle.drl_check.specs.Accepted.{accepted};
+ghost use Rattle.std.specs.Prelude.{◌≡◌, ℕ, [], Err, IfOk};
 ghost use Rattle.rule_model.specs.Programs.{IsAccepted};
+ghost use Rattle.drl_check.specs.declared.fault.CheckCode.{CheckCode};
+ghost use Rattle.drl_check.specs.Checks.{IsAcceptedFile, IsFirstFailure, failure_from};
+ghost use Rattle.drl_check.specs.Programs.{program_of, program_with, checked, checked_by};
+ghost use Rattle.drl_check.specs.Declarations.{types_of};
+ghost use Rattle.drl_check.specs.Answers.{within_32_bits, Gives};
 
-use crate::fault::CheckFault;
-use crate::rules::rules_of;
-use crate::types::types_of;
-use crate::{rules, types};
-use drl_parse::File;
-use fx_base::Seq;
+use crate::CheckFault;
+use crate::declared::Declared;
+use crate::programs::program;
+use crate::refusal::refusal;
+use drl_grammar::{File, Item};
 use rule_model::Program;
 use std::alloc::Global;
 
-#[tactic(auto, unfolding(crate::specs::Accepted::accepted))]
-fn checked(alloc: Global, file: &File) -> Result<Program, CheckFault>
-    ensures program { IfOk result (λ program. accepted file.now ≡ Some program) }
-    ensures refused { IsErrOf result CheckFault.Refused → accepted file.now ≡ None }
+#[tactic(auto, unfolding(crate::specs::Programs::checked))]
+fn checked_with<'a>(
+    alloc: Global,
+    types: &'a Declared<'a>,
+    items: &[Item],
+) -> Result<Program, CheckFault>
+    requires { types.now ≡ types_of items.now }
+    ensures { Gives (λ program. program) result (checked_by (failure_from items.now [] items.now) (program_with types.now items.now)) }
 {
-    let items = file.items.as_slice();
-    let types = types_of(alloc, items)?;
-    if !types::are_sound(alloc, &types)? {
-        return Err(CheckFault::Refused);
-    }
-    let Some(rules) = rules_of(alloc, &types, items)? else {
-        return Err(CheckFault::Refused);
-    };
-    if !rules::are_sound(alloc, &rules)? {
-        return Err(CheckFault::Refused);
-    }
-    Ok(Program {
-        types: Seq::from_vec(types),
-        rules: Seq::from_vec(rules),
-    })
+    refusal(alloc, types, items)?;
+    Ok(program(alloc, types, items)?)
 }
 
-/// The program of a file. `Refused` comes exactly where the file is not accepted: a name is declared twice, a limit is
-/// passed, or a type or a field is not declared.
-pub fn check(alloc: Global, file: &File) -> Result<Program, CheckFault>
-    ensures program { IfOk result (λ program. accepted file.now ≡ Some program) }
-    ensures refused { IsErrOf result CheckFault.Refused → accepted file.now ≡ None }
-    ensures sound { IfOk result IsAccepted }
+#[tactic(auto, unfolding(crate::specs::Programs::checked))]
+fn checked_program(alloc: Global, file: &File) -> Result<Program, CheckFault>
+    ensures { Gives (λ program. program) result (checked file.now) }
 {
-    checked(alloc, file)
+    let items = file.items.as_slice();
+    let types = Declared::of(alloc, items)?;
+    checked_with(alloc, &types, items)
+}
+
+/// The program of a file, exactly where all its items pass all the checks; else the first item that fails one, with the
+/// first check that it fails. It takes a time that grows with the file alone.
+pub fn check(alloc: Global, file: &File) -> Result<Program, CheckFault>
+    ensures program { IfOk result (λ program. program ≡ program_of file.now) }
+    ensures accepted { IfOk result (λ _. IsAcceptedFile file.now) }
+    ensures refused { (item : ℕ) (line : ℕ) (code : CheckCode) → result ≡ Err (CheckFault.Refused item line code)
+        → (number : ℕ) × (item ≡ within_32_bits number) × IsFirstFailure file.now number line code }
+    ensures sound { IfOk result IsAccepted }
+    ensures gives { Gives (λ program. program) result (checked file.now) }
+{
+    checked_program(alloc, file)
 }

@@ -3,12 +3,39 @@ ghost use Rattle.std.specs.Prelude.{◌≡◌};
 
 use thiserror::Error;
 
-/// Why a file gives no program.
+/// Why an item is refused. The codes are tried over an item in the order in which they stand here.
+#[derive(Clone, Copy, Debug, PartialEq, Eq)]
+pub enum CheckCode {
+    /// It has a construct that this version of the engine does not serve.
+    NotBuilt,
+    /// An earlier item declares the same type or rule; or a field, an attribute or a variable stands twice in it.
+    TwiceDeclared,
+    /// It passes a limit: 128 types, 256 rules, 32 fields, 8 conditions, 32 comparisons and bindings of a pattern, 32
+    /// operands of `in`, names of 64 bytes, rule names of 1 to 256 bytes, texts of 4,096 bytes, a salience of 2^31 - 1 in
+    /// size.
+    LimitPassed,
+    /// A pattern names a type that the file does not declare.
+    UnknownType,
+    /// A test or a binding names a field that the type does not have.
+    UnknownField,
+    /// A variable is used that no earlier pattern of the rule binds.
+    UnknownVariable,
+    /// A kind word is none of the seven; a comparison is between two kinds, or an order between other values than whole
+    /// numbers; a fact stands for a value, or a value for a fact.
+    WrongKind,
+}
+
+/// Why `check` gave no program.
 #[derive(Clone, Copy, Debug, PartialEq, Eq, Error)]
 pub enum CheckFault {
-    /// A check refuses the file.
-    #[error("the rule file is refused")]
-    Refused,
+    /// The item of this number, counted from 1, whose first token stands in this line, is the first that fails a check, and
+    /// this is the first check that it fails. Beyond 2^32 - 1 items the number stands still.
+    #[error("item {item} in line {line}: {code:?}")]
+    Refused {
+        item: u32,
+        line: u32,
+        code: CheckCode,
+    },
     #[error("no memory")]
     NoMemory,
 }

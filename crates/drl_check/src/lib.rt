@@ -1,12 +1,25 @@
 //! The checks of a rule file, and the program of a file that they accept.
-//! It takes a file of the grammar, and assumes nothing more of it.
+//! It takes any file of trees, and assumes nothing of it.
 #![tactic(auto)]
 
+mod asked;
+mod built;
 mod checking;
+mod declared;
 mod fault;
+mod kinds;
+mod laws;
+mod limits;
 mod names;
-mod rules;
-mod types;
+mod places;
+mod programs;
+mod refusal;
+mod room;
+mod sight;
+mod tests_of;
+mod twice;
+mod uses;
 
 pub use checking::check;
-pub use fault::CheckFault;
+pub use fault::{CheckCode, CheckFault};
+pub use laws::{failures_are_exact, one_failure_is_first};

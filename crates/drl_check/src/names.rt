@@ -1,30 +1,27 @@
-ghost use Rattle.std.specs.Prelude.{◌≡◌, nat_le, length};
-ghost use Rattle.drl_check.specs.Names.{is_short, is_among, are_distinct};
+ghost use Rattle.std.specs.Prelude.{◌≡◌, nat_le, length, IfOk};
+ghost use Rattle.drl_check.specs.Names.{is_short, are_distinct};
 
-use fx_base::Text;
+use crate::places::Places;
+use fx_base::{NoMemory, Text};
+use std::alloc::Global;
 
-/// Whether a name has at most so many bytes.
-pub(crate) fn has_at_most(most: usize, name: &Text) -> bool
-    ensures { result ≡ is_short most name.now }
+/// Whether a text has at most so many bytes.
+pub(crate) fn has_at_most(most: usize, text: &Text) -> bool
+    ensures { result ≡ is_short most text.now }
 {
-    name.as_str().len() <= most
-}
-
-fn contains(names: &[Text], name: &Text) -> bool
-    ensures { result ≡ is_among names.now name.now }
-{
-    names.iter().any(|other| *other == *name)
+    text.as_str().len() <= most
 }
 
 /// Whether no name stands twice.
-#[tactic(auto, unfolding(crate::specs::Names::are_distinct))]
-pub(crate) fn differ(names: &[Text]) -> bool
-    ensures { result ≡ are_distinct names.now }
+pub(crate) fn differ(alloc: Global, names: &[Text]) -> Result<bool, NoMemory>
+    ensures { IfOk result (λ apart. apart ≡ are_distinct names.now) }
 {
-    for place in 0..names.len() {
-        if contains(&names[place + 1..], &names[place]) {
-            return false;
+    let mut earlier = Places::new(alloc);
+    for name in names {
+        if earlier.holds(name) {
+            return Ok(false);
         }
+        earlier = earlier.with(alloc, name)?;
     }
-    true
+    Ok(true)
 }

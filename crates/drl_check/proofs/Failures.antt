@@ -1,0 +1,79 @@
+-- The first failure of a list of items, read from its front.
+use Rattle.std.proofs.Common.{◌≡◌, ◌+◌, ◌++◌, ◌∷◌, ◌<◌, ◌≤◌, ℕ, zero, suc, List, [], map, length, get_or, take, drop, Option, Some, None, cond, refl, sym, ap, subst, ◌∙◌, append_assoc, add-one, drop-cons, arith}
+use Rattle.std.proofs.lemmas.List.{append-nil, length-map, length-take-le, map-append}
+use Rattle.drl_grammar.specs.declared.file.Body.{Body}
+use Rattle.drl_grammar.specs.declared.file.Item.{Item}
+use Rattle.drl_grammar.specs.declared.file.TypeTree.{TypeTree}
+use Rattle.drl_grammar.specs.declared.file.RuleTree.{RuleTree}
+use Rattle.drl_check.specs.declared.fault.CheckCode.{CheckCode}
+use Rattle.drl_check.specs.Declarations.{types_of, rules_of, type_in, rule_in, type_names, rule_names}
+use Rattle.drl_check.specs.Checks.{Failure, codes_in_order, first_code, failure_at, failure_from}
+use Rattle.drl_check.specs.Failing.{first_failing}
+
+take_suc : {A : Type 0} (all : List A) (k : ℕ) (x : A) → k < length all → x ≡ get_or all k x → take (suc k) all ≡ take k all ++ x ∷ []
+take_suc [] k x lt e = absurd (omega (arith, lt))
+take_suc (y ∷ all) zero x lt e = ap (λ z. z ∷ []) (sym e)
+take_suc (y ∷ all) (suc k) x lt e = let less : k < length all = omega (arith, lt) in ap (λ zs. y ∷ zs) (take_suc all k x less e)
+
+pub take_next : {A : Type 0} (all : List A) (k : ℕ) (x : A) → k < length all → x ≡ get_or all k x → take (k + 1) all ≡ take k all ++ x ∷ []
+take_next all k x lt e = rw add-one (take_suc all k x lt e)
+
+pub drop_next : {A : Type 0} (all : List A) (k : ℕ) (x : A) → k < length all → x ≡ get_or all k x → drop k all ≡ x ∷ drop (k + 1) all
+drop_next all k x lt e = rw (add-one, drop-cons all k x lt) (ap (λ z. z ∷ drop (suc k) all) (sym e))
+
+pub drop_end : {A : Type 0} (all : List A) (k : ℕ) → length all ≤ k → drop k all ≡ []
+drop_end [] zero le = refl
+drop_end [] (suc k) le = refl
+drop_end (x ∷ all) zero le = absurd (omega (arith, le))
+drop_end (x ∷ all) (suc k) le = drop_end all k (omega (arith, le))
+
+pub types_next : (before : List Item) (item : Item) → types_of (before ++ item ∷ []) ≡ types_of before ++ type_in item.body
+types_next [] item = append-nil (type_in item.body)
+types_next (b ∷ before) item = ap (λ ts. type_in b.body ++ ts) (types_next before item) ∙ sym (append_assoc (type_in b.body) (types_of before) (type_in item.body))
+
+pub rules_next : (before : List Item) (item : Item) → rules_of (before ++ item ∷ []) ≡ rules_of before ++ rule_in item.body
+rules_next [] item = append-nil (rule_in item.body)
+rules_next (b ∷ before) item = ap (λ rs. rule_in b.body ++ rs) (rules_next before item) ∙ sym (append_assoc (rule_in b.body) (rules_of before) (rule_in item.body))
+
+pub type_names_next : (all : List Item) (k : ℕ) (item : Item) (names : List (List ℕ)) → k < length all → item ≡ get_or all k item → names ≡ type_names (types_of (take k all))
+    → names ++ type_names (type_in item.body) ≡ type_names (types_of (take (k + 1) all))
+type_names_next all k item names lt e is =
+    ap (λ ns. ns ++ type_names (type_in item.body)) is ∙ sym (map-append (λ (t : TypeTree). t.name) (types_of (take k all)) (type_in item.body))
+      ∙ ap type_names (sym (types_next (take k all) item)) ∙ ap (λ items. type_names (types_of items)) (sym (take_next all k item lt e))
+
+pub rule_names_next : (all : List Item) (k : ℕ) (item : Item) (names : List (List ℕ)) → k < length all → item ≡ get_or all k item → names ≡ rule_names (rules_of (take k all))
+    → names ++ rule_names (rule_in item.body) ≡ rule_names (rules_of (take (k + 1) all))
+rule_names_next all k item names lt e is =
+    ap (λ ns. ns ++ rule_names (rule_in item.body)) is ∙ sym (map-append (λ (r : RuleTree). r.name) (rules_of (take k all)) (rule_in item.body))
+      ∙ ap rule_names (sym (rules_next (take k all) item)) ∙ ap (λ items. rule_names (rules_of items)) (sym (take_next all k item lt e))
+
+pub failing_is : (all before : List Item) (declared : List TypeTree) (types rules : List (List ℕ)) (b : Body) → declared ≡ types_of all → types ≡ type_names (types_of before)
+    → rules ≡ rule_names (rules_of before) → first_failing declared types rules b ≡ first_code codes_in_order all before b
+failing_is all before declared types rules b d t r =
+    rw (d, t, r, length-map (types_of before) (λ (t : TypeTree). t.name), length-map (rules_of before) (λ (r : RuleTree). r.name)) refl
+
+-- ---- one item
+
+abbrev failure : ℕ → ℕ → CheckCode → Failure
+failure number line code = record { number = number; line = line; code = code }
+
+pub loop_found : (all : List Item) (k : ℕ) (item : Item) (code : CheckCode) → k < length all → item ≡ get_or all k item → first_code codes_in_order all (take k all) item.body ≡ Some code
+    → failure_from all (take k all) (drop k all) ≡ Some (failure (k + 1) item.line code)
+unfolding failure_from
+loop_found all k item code lt e h =
+    let n : length (take k all) ≡ k = length-take-le k all (omega (arith, lt)) in
+    ap (failure_from all (take k all)) (drop_next all k item lt e)
+      ∙ ap (λ o. failure_at (length (take k all) + 1) item.line o (failure_from all (take k all ++ item ∷ []) (drop (k + 1) all))) h
+      ∙ ap (λ j. Some (failure (j + 1) item.line code)) n
+
+pub loop_passed : (all : List Item) (k : ℕ) (item : Item) → k < length all → item ≡ get_or all k item → first_code codes_in_order all (take k all) item.body ≡ None
+    → failure_from all (take k all) (drop k all) ≡ failure_from all (take (k + 1) all) (drop (k + 1) all)
+unfolding failure_from
+loop_passed all k item lt e h =
+    ap (failure_from all (take k all)) (drop_next all k item lt e)
+      ∙ ap (λ o. failure_at (length (take k all) + 1) item.line o (failure_from all (take k all ++ item ∷ []) (drop (k + 1) all))) h
+      ∙ ap (λ before. failure_from all before (drop (k + 1) all)) (sym (take_next all k item lt e))
+
+pub loop_ended : (all before : List Item) (k : ℕ) → length all ≤ k → failure_from all before (drop k all) ≡ None
+unfolding failure_from
+loop_ended all before k le = ap (failure_from all before) (drop_end all k le)

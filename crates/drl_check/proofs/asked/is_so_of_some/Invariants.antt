@@ -1,0 +1,11 @@
+use Rattle.std.proofs.Common.{◌≡◌, ◌≤◌, drop}
+use Rattle.drl_check.specs.Asked.{asked_of}
+use Rattle.drl_check.specs.Sight.{begin}
+use Rattle.drl_check.specs.Uses.{any_condition}
+use Rattle.drl_check.proofs.asked.is_so_of_some.Given as goal
+
+abbrev pub invariant-loop-condition : goal.invariant-loop-condition
+invariant-loop-condition l = record {
+  same : any_condition (asked_of l.asked l.types) l.types l.place (drop l.condition-index l.conditions) ≡ any_condition (asked_of l.asked l.types) l.types begin l.conditions;
+  counts : l.place.facts ≤ l.condition-index;
+}

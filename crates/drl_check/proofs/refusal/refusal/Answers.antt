@@ -1,0 +1,35 @@
+use Rattle.std.proofs.Common.{◌≡◌, ◌+◌, Some, None, take, refl, sym, ap, ◌∙◌, arith}
+use Rattle.drl_check.specs.Checks.{first_code, codes_in_order, failure_from}
+use Rattle.drl_check.specs.Failing.{first_failing}
+use Rattle.drl_check.proofs.Failures.{failing_is, loop_found, loop_passed, loop_ended, type_names_next, rule_names_next}
+use Rattle.drl_check.specs.declared.fault.CheckFault.TheVariants.{Refused}
+use Rattle.drl_check.proofs.refusal.refusal.Goals as goal
+
+pub returns-in-Some : goal.returns-in-Some
+returns-in-Some c =
+    let items = c.args.items.now in
+    let place = c.loop-place.place in
+    let item = c.index-items-place.result in
+    let code : first_code codes_in_order items (take place items) item.body ≡ Some c.in-Some.code =
+      sym (failing_is items (take place items) c.args.types.now c.loop-place.earlier_types c.loop-place.earlier_rules item.body c.requires c.loop-place.invariant.types c.loop-place.invariant.rules)
+        ∙ sym c.in_ok-code.ensures ∙ c.in-Some.is in
+    (record { number = place + 1; line = item.line; code = c.in-Some.code },
+      sym c.loop-place.invariant.same ∙ loop_found items place item c.in-Some.code (omega arith) c.index-items-place.is code,
+        ap (λ n. Refused n item.line c.in-Some.code) (sym c.number_of.ensures))
+
+pub loop-place-preserved : goal.loop-place-preserved
+loop-place-preserved c =
+    let items = c.args.items.now in
+    let place = c.loop-place.place in
+    let item = c.index-items-place.result in
+    let code : first_code codes_in_order items (take place items) item.body ≡ None =
+      sym (failing_is items (take place items) c.args.types.now c.loop-place.earlier_types c.loop-place.earlier_rules item.body c.requires c.loop-place.invariant.types c.loop-place.invariant.rules)
+        ∙ sym c.in_ok-code.ensures ∙ c.in-None.is in
+    record {
+      types = c.in_ok-earlier_types.ensures ∙ type_names_next items place item c.loop-place.earlier_types (omega arith) c.index-items-place.is c.loop-place.invariant.types;
+      rules = c.in_ok-earlier_rules.ensures ∙ rule_names_next items place item c.loop-place.earlier_rules (omega arith) c.index-items-place.is c.loop-place.invariant.rules;
+      same = sym (loop_passed items place item (omega arith) c.index-items-place.is code) ∙ c.loop-place.invariant.same;
+    }
+
+pub returns : goal.returns
+returns c = sym c.loop-place.invariant.same ∙ loop_ended c.args.items.now (take c.loop-place.place c.args.items.now) c.loop-place.place (omega arith)

@@ -1,0 +1,7 @@
+use Rattle.std.proofs.Common.{◌≡◌, ◌++◌, drop}
+use Rattle.std.specs.List.{flat_map}
+use Rattle.drl_check.specs.Twice.{part_variable, source_variables}
+use Rattle.drl_check.proofs.twice.add_source.Given as goal
+
+abbrev pub invariant-loop-part : goal.invariant-loop-part
+invariant-loop-part l = l.names.items ++ flat_map part_variable (drop l.part-index l.source.parts) ≡ l.fn.names.items ++ source_variables l.source

@@ -1,0 +1,100 @@
+-- The checks of a file, by their codes; the first item that fails one, and the first code that it fails.
+use Rattle.std.specs.Prelude.{◌≡◌, ◌⊎◌, ℕ, ◌+◌, Bool, true, false, List, [], ◌∷◌, ◌++◌, length, Option, Some, None, if◌then◌else◌}
+use Rattle.drl_grammar.specs.declared.file.File.{File}
+use Rattle.drl_grammar.specs.declared.file.Body.{Body}
+use Rattle.drl_grammar.specs.declared.file.Body.TheVariants as body
+use Rattle.drl_grammar.specs.declared.file.Item.{Item}
+use Rattle.drl_grammar.specs.declared.file.TypeTree.{TypeTree}
+use Rattle.drl_check.specs.declared.fault.CheckCode.{CheckCode}
+use Rattle.drl_check.specs.declared.fault.CheckCode.TheVariants.{NotBuilt, TwiceDeclared, LimitPassed, UnknownType, UnknownField, UnknownVariable, WrongKind}
+use Rattle.drl_check.specs.Declarations.{types_of}
+use Rattle.drl_check.specs.Sight.{begin}
+use Rattle.drl_check.specs.Built.{not_built}
+use Rattle.drl_check.specs.Twice.{is_twice}
+use Rattle.drl_check.specs.Limits.{passes_limit}
+use Rattle.drl_check.specs.Uses.{any_condition, has_unknown_type, has_unknown_field, has_unknown_variable}
+use Rattle.drl_check.specs.Kinds.{has_unknown_kind, has_wrong_kind}
+
+abbrev pub lacks_type : List TypeTree → Body → Bool
+lacks_type types (body.Rule r) = has_unknown_type types r.conditions
+lacks_type types b = false
+
+abbrev pub lacks_field : List TypeTree → Body → Bool
+lacks_field types (body.Rule r) = any_condition (has_unknown_field types) types begin r.conditions
+lacks_field types b = false
+
+abbrev pub lacks_variable : List TypeTree → Body → Bool
+lacks_variable types (body.Rule r) = any_condition has_unknown_variable types begin r.conditions
+lacks_variable types b = false
+
+abbrev pub is_wrong_kind : List TypeTree → Body → Bool
+is_wrong_kind types (body.Declare t) = has_unknown_kind t
+is_wrong_kind types (body.Rule r) = any_condition (has_wrong_kind types) types begin r.conditions
+is_wrong_kind types b = false
+
+-- whether an item fails the check of this code, given all the items of the file and those before it
+abbrev pub fails : CheckCode → List Item → List Item → Body → Bool
+fails NotBuilt all before b = not_built b
+fails TwiceDeclared all before b = is_twice before b
+fails LimitPassed all before b = passes_limit before b
+fails UnknownType all before b = lacks_type (types_of all) b
+fails UnknownField all before b = lacks_field (types_of all) b
+fails UnknownVariable all before b = lacks_variable (types_of all) b
+fails WrongKind all before b = is_wrong_kind (types_of all) b
+
+-- the codes, in the order in which they are tried
+abbrev pub codes_in_order : List CheckCode
+codes_in_order = NotBuilt ∷ TwiceDeclared ∷ LimitPassed ∷ UnknownType ∷ UnknownField ∷ UnknownVariable ∷ WrongKind ∷ []
+
+-- an item passes all checks
+abbrev pub Passes : List Item → List Item → Body → Type 0
+Passes all before b = (code : CheckCode) → fails code all before b ≡ false
+
+-- every item, of those behind `before`, passes all checks
+abbrev pub AllPass : List Item → List Item → List Item → Type 0
+AllPass all before [] = Unit {0}
+AllPass all before (item ∷ items) = Passes all before item.body × AllPass all (before ++ item ∷ []) items
+
+-- a file is accepted: no item fails a check
+abbrev pub IsAcceptedFile : File → Type 0
+IsAcceptedFile file = AllPass file.items [] file.items
+
+-- a code fails, and those before it do not
+abbrev pub FailsFirst : List CheckCode → CheckCode → List Item → List Item → Body → Type 0
+FailsFirst [] code all before b = ⊥
+FailsFirst (c ∷ cs) code all before b = ((c ≡ code) × (fails c all before b ≡ true)) ⊎ ((fails c all before b ≡ false) × FailsFirst cs code all before b)
+
+-- the item of this number, counted from 1, is the first that fails a check, and this is the first check that it fails
+pub record IsFirstFailure (file : File) (number line : ℕ) (code : CheckCode) : Type 0 where
+  pub before : List Item
+  pub item : Item
+  pub after : List Item
+  pub parts : file.items ≡ before ++ (item ∷ after)
+  pub earlier : (front : List Item) (passed : Item) (behind : List Item) → before ≡ front ++ (passed ∷ behind) → Passes file.items front passed.body
+  pub number_is : number ≡ length before + 1
+  pub line_is : line ≡ item.line
+  pub first : FailsFirst codes_in_order code file.items before item.body
+
+-- ---- the same as functions
+
+abbrev pub first_code : List CheckCode → List Item → List Item → Body → Option CheckCode
+first_code [] all before b = None
+first_code (c ∷ cs) all before b = if fails c all before b then Some c else first_code cs all before b
+
+-- what refuses a file: the number of the item, its line and the code
+pub record Failure : Type 0 where
+  pub number : ℕ
+  pub line : ℕ
+  pub code : CheckCode
+
+abbrev pub failure_at : ℕ → ℕ → Option CheckCode → Option Failure → Option Failure
+failure_at number line None others = others
+failure_at number line (Some code) others = Some (record { number = number; line = line; code = code })
+
+-- the first failure of the items behind `before`
+unfoldable pub failure_from : List Item → List Item → List Item → Option Failure
+failure_from all before [] = None
+failure_from all before (item ∷ items) = failure_at (length before + 1) item.line (first_code codes_in_order all before item.body) (failure_from all (before ++ item ∷ []) items)
+
+abbrev pub failure_of : File → Option Failure
+failure_of file = failure_from file.items [] file.items

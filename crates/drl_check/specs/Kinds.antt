@@ -1,0 +1,88 @@
+-- Values of a kind that does not fit where they stand.
+use Rattle.std.specs.Prelude.{ℕ, ◌&&◌, Bool, true, false, not, List, Option, Some, None, is_some}
+use Rattle.std.specs.List.{list_any}
+use Rattle.std.specs.Option.{option_and_then}
+use Rattle.fx_base.specs.declared.kind.Kind.{Kind}
+use Rattle.fx_base.specs.declared.kind.Kind.TheVariants as kind
+use Rattle.drl_lex.specs.declared.token.Rel.{Rel}
+use Rattle.drl_lex.specs.declared.token.Rel.TheVariants.{Equal, NotEqual}
+use Rattle.drl_expr.specs.declared.literal.LitTree.{LitTree}
+use Rattle.drl_expr.specs.declared.literal.LitTree.TheVariants as lit
+use Rattle.drl_grammar.specs.declared.condition.CondTree.{CondTree}
+use Rattle.drl_grammar.specs.declared.condition.CondTree.TheVariants as condition
+use Rattle.drl_grammar.specs.declared.condition.SourceTree.{SourceTree}
+use Rattle.drl_grammar.specs.declared.condition.Part.{Part}
+use Rattle.drl_grammar.specs.declared.condition.Part.TheVariants as part
+use Rattle.drl_grammar.specs.declared.condition.Cmp.{Cmp}
+use Rattle.drl_grammar.specs.declared.condition.Cmp.TheVariants as cmp
+use Rattle.drl_grammar.specs.declared.condition.Operand.{Operand}
+use Rattle.drl_grammar.specs.declared.condition.Operand.TheVariants as operand
+use Rattle.drl_grammar.specs.declared.file.TypeTree.{TypeTree}
+use Rattle.drl_check.specs.Names.{place_of}
+use Rattle.drl_check.specs.Declarations.{type_named, field_names, kind_of, kind_at}
+use Rattle.drl_check.specs.Sight.{Sight, Meaning, of_fact, of_field, meaning_of, Place}
+
+-- a field whose kind word is none of the seven
+abbrev pub has_unknown_kind : TypeTree → Bool
+has_unknown_kind t = list_any (λ (field : List ℕ × List ℕ). not (is_some (kind_of field.1))) t.fields
+
+-- the kind of a field of a type, by its name
+abbrev pub field_kind : TypeTree → List ℕ → Option Kind
+field_kind t f = option_and_then (kind_at t) (place_of (field_names t) f)
+
+abbrev pub literal_kind : LitTree → Kind
+literal_kind (lit.Int n) = kind.Int
+literal_kind (lit.Bool b) = kind.Bool
+literal_kind (lit.Text s) = kind.Text
+
+abbrev pub variable_kind : Option Meaning → Option (Option Kind)
+variable_kind (Some (of_field fact field k)) = Some k
+variable_kind m = None
+
+abbrev pub variable_field_kind : Option Meaning → List ℕ → Option (Option Kind)
+variable_field_kind (Some (of_fact fact t)) f = Some (field_kind t f)
+variable_field_kind m f = None
+
+-- The kind of an operand, which a field may lack; nothing where a fact stands for a value, or a value for a fact.
+abbrev pub operand_kind : TypeTree → Sight → Operand → Option (Option Kind)
+operand_kind t sight (operand.Lit l) = Some (Some (literal_kind l))
+operand_kind t sight (operand.Own f) = Some (field_kind t f)
+operand_kind t sight (operand.Var v) = variable_kind (meaning_of sight v)
+operand_kind t sight (operand.VarField v f) = variable_field_kind (meaning_of sight v) f
+
+abbrev pub is_int : Option Kind → Bool
+is_int (Some kind.Int) = true
+is_int k = false
+
+abbrev pub is_same_kind : Option Kind → Option Kind → Bool
+is_same_kind None None = true
+is_same_kind (Some kind.Int) (Some kind.Int) = true
+is_same_kind (Some kind.Bool) (Some kind.Bool) = true
+is_same_kind (Some kind.Text) (Some kind.Text) = true
+is_same_kind a b = false
+
+-- an order is between whole numbers alone
+abbrev pub kinds_fit : Rel → Option Kind → Option Kind → Bool
+kinds_fit Equal a b = is_same_kind a b
+kinds_fit NotEqual a b = is_same_kind a b
+kinds_fit r a b = is_int a && is_int b
+
+abbrev pub misfits : Rel → Option Kind → Option (Option Kind) → Bool
+misfits r left None = true
+misfits r left (Some right) = not (kinds_fit r left right)
+
+abbrev pub cmp_misfits : TypeTree → Sight → Cmp → Bool
+cmp_misfits t sight (cmp.Rel f r o) = misfits r (field_kind t f) (operand_kind t sight o)
+cmp_misfits t sight (cmp.OneOf f os) = list_any (λ (o : Operand). misfits Equal (field_kind t f) (operand_kind t sight o)) os
+
+abbrev pub part_misfits : TypeTree → Sight → Part → Bool
+part_misfits t sight (part.AnyOf groups) = list_any (λ (group : List Cmp). list_any (cmp_misfits t sight) group) groups
+part_misfits t sight p = false
+
+abbrev pub source_misfits : Option TypeTree → Sight → SourceTree → Bool
+source_misfits None sight s = false
+source_misfits (Some t) sight s = list_any (part_misfits t sight) s.parts
+
+abbrev pub has_wrong_kind : List TypeTree → Place → CondTree → Bool
+has_wrong_kind types place (condition.Plain s) = source_misfits (type_named types s.ty) place.sight s
+has_wrong_kind types place c = false

@@ -1,0 +1,88 @@
+-- The limits of a rule file: how many there may be of a thing, how long names and texts are, how large numbers.
+use Rattle.std.specs.Prelude.{ℕ, ℤ, ◌+◌, ◌&&◌, Bool, true, false, not, List, [], ◌∷◌, map, length, nat_le, nat_lt, Option, Some, None, unsigned_abs, sum_by}
+use Rattle.std.specs.List.{list_all}
+use Rattle.drl_expr.specs.declared.literal.LitTree.{LitTree}
+use Rattle.drl_expr.specs.declared.literal.LitTree.TheVariants as lit
+use Rattle.drl_grammar.specs.declared.condition.CondTree.{CondTree}
+use Rattle.drl_grammar.specs.declared.condition.CondTree.TheVariants as condition
+use Rattle.drl_grammar.specs.declared.condition.SourceTree.{SourceTree}
+use Rattle.drl_grammar.specs.declared.condition.Part.{Part}
+use Rattle.drl_grammar.specs.declared.condition.Part.TheVariants as part
+use Rattle.drl_grammar.specs.declared.condition.Cmp.{Cmp}
+use Rattle.drl_grammar.specs.declared.condition.Cmp.TheVariants as cmp
+use Rattle.drl_grammar.specs.declared.condition.Operand.{Operand}
+use Rattle.drl_grammar.specs.declared.condition.Operand.TheVariants as operand
+use Rattle.drl_grammar.specs.declared.file.Attr.{Attr}
+use Rattle.drl_grammar.specs.declared.file.Attr.TheVariants as attr
+use Rattle.drl_grammar.specs.declared.file.Body.{Body}
+use Rattle.drl_grammar.specs.declared.file.Body.TheVariants as body
+use Rattle.drl_grammar.specs.declared.file.Item.{Item}
+use Rattle.drl_grammar.specs.declared.file.TypeTree.{TypeTree}
+use Rattle.drl_grammar.specs.declared.file.RuleTree.{RuleTree}
+use Rattle.drl_check.specs.Names.{is_short}
+use Rattle.drl_check.specs.Declarations.{types_of, rules_of, field_names}
+
+-- names of types, fields and variables have at most 64 bytes, texts at most 4,096
+abbrev pub is_name : List ℕ → Bool
+is_name name = is_short 64 name
+
+abbrev pub is_text : List ℕ → Bool
+is_text text = is_short 4096 text
+
+abbrev pub literal_within : LitTree → Bool
+literal_within (lit.Text text) = is_text text
+literal_within l = true
+
+abbrev pub operand_within : Operand → Bool
+operand_within (operand.Lit l) = literal_within l
+operand_within (operand.Var v) = is_name v
+operand_within (operand.VarField v f) = is_name v && is_name f
+operand_within (operand.Own f) = is_name f
+
+-- `in` has at most 32 operands
+abbrev pub cmp_within : Cmp → Bool
+cmp_within (cmp.Rel f r o) = is_name f && operand_within o
+cmp_within (cmp.OneOf f os) = is_name f && nat_le (length os) 32 && list_all operand_within os
+
+abbrev pub part_within : Part → Bool
+part_within (part.Bind v f) = is_name v && is_name f
+part_within (part.Temporal op params other) = is_name other
+part_within (part.AnyOf groups) = list_all (λ (group : List Cmp). list_all cmp_within group) groups
+
+-- how many bindings, temporal tests and comparisons a part is
+abbrev pub weight : Part → ℕ
+weight (part.Bind v f) = 1
+weight (part.Temporal op params other) = 1
+weight (part.AnyOf groups) = sum_by (λ (group : List Cmp). length group) groups
+
+abbrev pub variable_within : Option (List ℕ) → Bool
+variable_within None = true
+variable_within (Some v) = is_name v
+
+abbrev pub source_within : SourceTree → Bool
+source_within s = variable_within s.var && is_name s.ty && nat_le (sum_by weight s.parts) 32 && list_all part_within s.parts
+
+abbrev pub condition_within : CondTree → Bool
+condition_within (condition.Plain s) = source_within s
+condition_within c = true
+
+abbrev pub attr_within : Attr → Bool
+attr_within (attr.Salience n) = nat_le (unsigned_abs n) 2147483647
+attr_within (attr.Dialect text) = is_text text
+
+-- a rule's name has 1 to 256 bytes; a rule has at most 8 conditions
+abbrev pub rule_within : RuleTree → Bool
+rule_within r = nat_lt 0 (length r.name) && is_short 256 r.name && list_all attr_within r.attrs && nat_le (length r.conditions) 8 && list_all condition_within r.conditions
+
+-- a type has at most 32 fields
+abbrev pub type_within : TypeTree → Bool
+type_within t = is_name t.name && nat_le (length t.fields) 32 && list_all is_name (field_names t)
+
+-- a file has at most 128 types and 256 rules: the one too many passes the limit, given how many earlier items declare
+abbrev pub passes_limit_behind : ℕ → ℕ → Body → Bool
+passes_limit_behind types rules (body.Declare t) = not (nat_lt types 128 && type_within t)
+passes_limit_behind types rules (body.Rule r) = not (nat_lt rules 256 && rule_within r)
+passes_limit_behind types rules b = false
+
+abbrev pub passes_limit : List Item → Body → Bool
+passes_limit before b = passes_limit_behind (length (types_of before)) (length (rules_of before)) b

@@ -1,0 +1,49 @@
+-- What may stand once and stands twice.
+use Rattle.std.specs.Prelude.{ℕ, ◌||◌, Bool, false, not, List, [], ◌∷◌, ◌++◌, map, Option, Some, None, codes}
+use Rattle.std.specs.List.{flat_map}
+use Rattle.drl_grammar.specs.declared.condition.CondTree.{CondTree}
+use Rattle.drl_grammar.specs.declared.condition.CondTree.TheVariants as condition
+use Rattle.drl_grammar.specs.declared.condition.SourceTree.{SourceTree}
+use Rattle.drl_grammar.specs.declared.condition.Part.{Part}
+use Rattle.drl_grammar.specs.declared.condition.Part.TheVariants as part
+use Rattle.drl_grammar.specs.declared.file.Attr.{Attr}
+use Rattle.drl_grammar.specs.declared.file.Attr.TheVariants as attr
+use Rattle.drl_grammar.specs.declared.file.Body.{Body}
+use Rattle.drl_grammar.specs.declared.file.Body.TheVariants as body
+use Rattle.drl_grammar.specs.declared.file.Item.{Item}
+use Rattle.drl_grammar.specs.declared.file.RuleTree.{RuleTree}
+use Rattle.drl_check.specs.Names.{is_among, are_distinct}
+use Rattle.drl_check.specs.Declarations.{types_of, rules_of, type_names, rule_names, field_names}
+
+abbrev pub attr_word : Attr → List ℕ
+attr_word (attr.Salience n) = codes "salience"
+attr_word (attr.Dialect s) = codes "dialect"
+
+abbrev pub own_variable : Option (List ℕ) → List (List ℕ)
+own_variable None = []
+own_variable (Some v) = v ∷ []
+
+abbrev pub part_variable : Part → List (List ℕ)
+part_variable (part.Bind v f) = v ∷ []
+part_variable p = []
+
+abbrev pub source_variables : SourceTree → List (List ℕ)
+source_variables s = own_variable s.var ++ flat_map part_variable s.parts
+
+-- the variables that a condition binds
+abbrev pub bound_in : CondTree → List (List ℕ)
+bound_in (condition.Plain s) = source_variables s
+bound_in c = []
+
+abbrev pub bound_variables : RuleTree → List (List ℕ)
+bound_variables r = flat_map bound_in r.conditions
+
+-- given the names of the types and of the rules that earlier items declare
+abbrev pub is_repeated : List (List ℕ) → List (List ℕ) → Body → Bool
+is_repeated types rules (body.Declare t) = is_among types t.name || not (are_distinct (field_names t))
+is_repeated types rules (body.Rule r) = is_among rules r.name || not (are_distinct (map attr_word r.attrs)) || not (are_distinct (bound_variables r))
+is_repeated types rules b = false
+
+-- A type or a rule is declared by an earlier item, or a field, an attribute or a variable stands twice in the item.
+abbrev pub is_twice : List Item → Body → Bool
+is_twice before b = is_repeated (type_names (types_of before)) (rule_names (rules_of before)) b

@@ -1,0 +1,85 @@
+-- Types, fields and variables that are used and are not there.
+use Rattle.std.specs.Prelude.{ℕ, ◌||◌, Bool, true, false, not, List, [], ◌∷◌, Option, Some, None, is_some}
+use Rattle.std.specs.List.{list_any}
+use Rattle.drl_grammar.specs.declared.condition.CondTree.{CondTree}
+use Rattle.drl_grammar.specs.declared.condition.CondTree.TheVariants as condition
+use Rattle.drl_grammar.specs.declared.condition.SourceTree.{SourceTree}
+use Rattle.drl_grammar.specs.declared.condition.Part.{Part}
+use Rattle.drl_grammar.specs.declared.condition.Part.TheVariants as part
+use Rattle.drl_grammar.specs.declared.condition.Cmp.{Cmp}
+use Rattle.drl_grammar.specs.declared.condition.Cmp.TheVariants as cmp
+use Rattle.drl_grammar.specs.declared.condition.Operand.{Operand}
+use Rattle.drl_grammar.specs.declared.condition.Operand.TheVariants as operand
+use Rattle.drl_grammar.specs.declared.file.TypeTree.{TypeTree}
+use Rattle.drl_check.specs.Names.{is_among}
+use Rattle.drl_check.specs.Declarations.{type_named, field_names}
+use Rattle.drl_check.specs.Sight.{Sight, Meaning, of_fact, of_field, meaning_of, Place, behind}
+
+-- whether one of the conditions has this, given what is in sight there
+unfoldable pub any_condition : (Place → CondTree → Bool) → List TypeTree → Place → List CondTree → Bool
+any_condition test types place [] = false
+any_condition test types place (c ∷ cs) = test place c || any_condition test types (behind types place c) cs
+
+-- whether one of the operands of a comparison, of a part, of a pattern has this
+abbrev pub any_of_cmp : (Operand → Bool) → Cmp → Bool
+any_of_cmp test (cmp.Rel f r o) = test o
+any_of_cmp test (cmp.OneOf f os) = list_any test os
+
+abbrev pub any_of_part : (Operand → Bool) → Part → Bool
+any_of_part test (part.AnyOf groups) = list_any (λ (group : List Cmp). list_any (any_of_cmp test) group) groups
+any_of_part test p = false
+
+-- ---- types
+
+abbrev pub is_type_unknown : List TypeTree → CondTree → Bool
+is_type_unknown types (condition.Plain s) = not (is_some (type_named types s.ty))
+is_type_unknown types c = false
+
+abbrev pub has_unknown_type : List TypeTree → List CondTree → Bool
+has_unknown_type types cs = list_any (is_type_unknown types) cs
+
+-- ---- fields
+
+abbrev pub lacks : TypeTree → List ℕ → Bool
+lacks t f = not (is_among (field_names t) f)
+
+abbrev pub lacks_for : Option Meaning → List ℕ → Bool
+lacks_for (Some (of_fact fact t)) f = lacks t f
+lacks_for meaning f = false
+
+-- a field of the pattern's type, or of a fact variable in sight
+abbrev pub operand_lacks : TypeTree → Sight → Operand → Bool
+operand_lacks t sight (operand.Own f) = lacks t f
+operand_lacks t sight (operand.VarField v f) = lacks_for (meaning_of sight v) f
+operand_lacks t sight o = false
+
+abbrev pub cmp_field : Cmp → List ℕ
+cmp_field (cmp.Rel f r o) = f
+cmp_field (cmp.OneOf f os) = f
+
+abbrev pub cmp_lacks : TypeTree → Sight → Cmp → Bool
+cmp_lacks t sight c = lacks t (cmp_field c) || any_of_cmp (operand_lacks t sight) c
+
+abbrev pub part_lacks : TypeTree → Sight → Part → Bool
+part_lacks t sight (part.Bind v f) = lacks t f
+part_lacks t sight (part.Temporal op params other) = false
+part_lacks t sight (part.AnyOf groups) = list_any (λ (group : List Cmp). list_any (cmp_lacks t sight) group) groups
+
+abbrev pub source_lacks : Option TypeTree → Sight → SourceTree → Bool
+source_lacks None sight s = false
+source_lacks (Some t) sight s = list_any (part_lacks t sight) s.parts
+
+abbrev pub has_unknown_field : List TypeTree → Place → CondTree → Bool
+has_unknown_field types place (condition.Plain s) = source_lacks (type_named types s.ty) place.sight s
+has_unknown_field types place c = false
+
+-- ---- variables
+
+abbrev pub operand_unseen : Sight → Operand → Bool
+operand_unseen sight (operand.Var v) = not (is_some (meaning_of sight v))
+operand_unseen sight (operand.VarField v f) = not (is_some (meaning_of sight v))
+operand_unseen sight o = false
+
+abbrev pub has_unknown_variable : Place → CondTree → Bool
+has_unknown_variable place (condition.Plain s) = list_any (any_of_part (operand_unseen place.sight)) s.parts
+has_unknown_variable place c = false

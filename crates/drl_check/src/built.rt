@@ -1,0 +1,59 @@
+ghost use Rattle.std.specs.Prelude.{◌≡◌};
+ghost use Rattle.std.specs.List.{list_any};
+ghost use Rattle.drl_check.specs.Built.{part_unbuilt, source_unbuilt, condition_unbuilt, not_built};
+
+use drl_grammar::{Body, CondTree, Part, SourceTree};
+
+fn is_part_unbuilt(part: &Part) -> bool
+    ensures { result ≡ part_unbuilt part.now }
+{
+    match part {
+        Part::Temporal { .. } => true,
+        _ => false,
+    }
+}
+
+fn has_unbuilt_part(parts: &[Part]) -> bool
+    ensures { result ≡ list_any part_unbuilt parts.now }
+{
+    parts.iter().any(|part| is_part_unbuilt(part))
+}
+
+fn is_source_unbuilt(source: &SourceTree) -> bool
+    ensures { result ≡ source_unbuilt source.now }
+{
+    source.window.is_some()
+        || source.entry.is_some()
+        || has_unbuilt_part(source.parts.as_slice())
+}
+
+fn is_condition_unbuilt(condition: &CondTree) -> bool
+    ensures { result ≡ condition_unbuilt condition.now }
+{
+    match condition {
+        CondTree::Plain(source) => is_source_unbuilt(source),
+        _ => true,
+    }
+}
+
+fn has_unbuilt_condition(conditions: &[CondTree]) -> bool
+    ensures { result ≡ list_any condition_unbuilt conditions.now }
+{
+    conditions
+        .iter()
+        .any(|condition| is_condition_unbuilt(condition))
+}
+
+/// Whether an item has a construct that nothing serves yet.
+pub(crate) fn is_unbuilt(body: &Body) -> bool
+    ensures { result ≡ not_built body.now }
+{
+    match body {
+        Body::Declare(tree) => tree.metas.as_slice().len() > 0,
+        Body::Entry { .. } => true,
+        Body::Rule(tree) => {
+            tree.actions.as_slice().len() > 0 || has_unbuilt_condition(tree.conditions.as_slice())
+        }
+        _ => false,
+    }
+}

@@ -1,0 +1,155 @@
+ghost use Rattle.std.specs.Prelude.{◌≡◌, List};
+ghost use Rattle.std.specs.List.{list_any};
+ghost use Rattle.drl_lex.specs.declared.token.Rel.TheVariants.{Equal};
+ghost use Rattle.drl_grammar.specs.declared.condition.Cmp.{Cmp};
+ghost use Rattle.drl_grammar.specs.declared.condition.Operand.{Operand};
+ghost use Rattle.drl_check.specs.Kinds.{has_unknown_kind, field_kind, literal_kind, operand_kind, is_int, is_same_kind, kinds_fit, misfits, cmp_misfits, part_misfits, has_wrong_kind};
+
+use crate::declared::{Declared, DeclaredType, kind_of_word};
+use crate::sight::Place;
+use drl_expr::LitTree;
+use drl_grammar::{Cmp, CondTree, Operand, Part, TypeTree};
+use drl_lex::Rel;
+use fx_base::{Kind, Seq};
+
+/// Whether a field's kind word is none of the seven.
+pub(crate) fn lacks_kind(tree: &TypeTree) -> bool
+    ensures { result ≡ has_unknown_kind tree.now }
+{
+    tree.fields
+        .as_slice()
+        .iter()
+        .any(|field| kind_of_word(&field.1).is_none())
+}
+
+fn kind_of_literal(literal: &LitTree) -> Kind
+    ensures { result ≡ literal_kind literal.now }
+{
+    match literal {
+        LitTree::Int(_) => Kind::Int,
+        LitTree::Bool(_) => Kind::Bool,
+        LitTree::Text(_) => Kind::Text,
+    }
+}
+
+// The kind of an operand, which a field may lack; nothing where a fact stands for a value, or a value for a fact.
+fn kind_of_operand(ty: &DeclaredType, place: &Place, operand: &Operand) -> Option<Option<Kind>>
+    ensures { result ≡ operand_kind ty.now place.now.sight operand.now }
+{
+    match operand {
+        Operand::Lit(literal) => Some(Some(kind_of_literal(literal))),
+        Operand::Own(field) => Some(ty.kind_of(field)),
+        Operand::Var(var) => match place.find(var) {
+            Some(meaning) => meaning.kind(),
+            None => None,
+        },
+        Operand::VarField(var, field) => match place.find(var) {
+            Some(meaning) => meaning.kind_of(field),
+            None => None,
+        },
+    }
+}
+
+fn is_whole(kind: Option<Kind>) -> bool
+    ensures { result ≡ is_int kind }
+{
+    match kind {
+        Some(Kind::Int) => true,
+        _ => false,
+    }
+}
+
+fn are_same(left: Option<Kind>, right: Option<Kind>) -> bool
+    ensures { result ≡ is_same_kind left right }
+{
+    left == right
+}
+
+fn do_fit(rel: Rel, left: Option<Kind>, right: Option<Kind>) -> bool
+    ensures { result ≡ kinds_fit rel left right }
+{
+    match rel {
+        Rel::Equal => are_same(left, right),
+        Rel::NotEqual => are_same(left, right),
+        _ => is_whole(left) && is_whole(right),
+    }
+}
+
+fn does_misfit(rel: Rel, left: Option<Kind>, right: Option<Option<Kind>>) -> bool
+    ensures { result ≡ misfits rel left right }
+{
+    match right {
+        Some(kind) => !do_fit(rel, left, kind),
+        None => true,
+    }
+}
+
+fn misfits_some(
+    ty: &DeclaredType,
+    place: &Place,
+    left: Option<Kind>,
+    operands: &[Operand],
+) -> bool
+    ensures { result ≡ list_any (λ (o : Operand). misfits Equal left (operand_kind ty.now place.now.sight o)) operands.now }
+{
+    operands
+        .iter()
+        .any(|operand| does_misfit(Rel::Equal, left, kind_of_operand(ty, place, operand)))
+}
+
+fn misfits_in_cmp(ty: &DeclaredType, place: &Place, cmp: &Cmp) -> bool
+    ensures { result ≡ cmp_misfits ty.now place.now.sight cmp.now }
+{
+    match cmp {
+        Cmp::Rel {
+            field,
+            rel,
+            operand,
+        } => does_misfit(*rel, ty.kind_of(field), kind_of_operand(ty, place, operand)),
+        Cmp::OneOf { field, operands } => {
+            misfits_some(ty, place, ty.kind_of(field), operands.as_slice())
+        }
+    }
+}
+
+fn misfits_in_group(ty: &DeclaredType, place: &Place, group: &[Cmp]) -> bool
+    ensures { result ≡ list_any (cmp_misfits ty.now place.now.sight) group.now }
+{
+    group.iter().any(|cmp| misfits_in_cmp(ty, place, cmp))
+}
+
+fn misfits_in_groups(ty: &DeclaredType, place: &Place, groups: &[Seq<Cmp>]) -> bool
+    ensures { result ≡ list_any (λ (group : List Cmp). list_any (cmp_misfits ty.now place.now.sight) group) groups.now }
+{
+    groups
+        .iter()
+        .any(|group| misfits_in_group(ty, place, group.as_slice()))
+}
+
+fn misfits_in_part(ty: &DeclaredType, place: &Place, part: &Part) -> bool
+    ensures { result ≡ part_misfits ty.now place.now.sight part.now }
+{
+    match part {
+        Part::AnyOf(groups) => misfits_in_groups(ty, place, groups.as_slice()),
+        _ => false,
+    }
+}
+
+fn misfits_in_parts(ty: &DeclaredType, place: &Place, parts: &[Part]) -> bool
+    ensures { result ≡ list_any (part_misfits ty.now place.now.sight) parts.now }
+{
+    parts.iter().any(|part| misfits_in_part(ty, place, part))
+}
+
+/// Whether a condition compares what does not fit.
+pub(crate) fn misfits_in(types: &Declared, place: &Place, condition: &CondTree) -> bool
+    ensures { result ≡ has_wrong_kind types.now place.now condition.now }
+{
+    match condition {
+        CondTree::Plain(source) => match types.find(&source.ty) {
+            Some(ty) => misfits_in_parts(ty, place, source.parts.as_slice()),
+            None => false,
+        },
+        _ => false,
+    }
+}

@@ -1,0 +1,186 @@
+ghost use Rattle.std.specs.Prelude.{◌≡◌, List, map, length};
+ghost use Rattle.std.specs.List.{list_all};
+ghost use Rattle.drl_grammar.specs.declared.condition.Cmp.{Cmp};
+ghost use Rattle.drl_check.specs.Declarations.{field_names};
+ghost use Rattle.drl_check.specs.Limits.{is_name, is_text, literal_within, operand_within, cmp_within, part_within, variable_within, source_within, condition_within, attr_within, rule_within, type_within, passes_limit_behind};
+
+use crate::names::has_at_most;
+use crate::room::are_at_most;
+use drl_expr::LitTree;
+use drl_grammar::{Attr, Body, Cmp, CondTree, Operand, Part, RuleTree, SourceTree, TypeTree};
+use fx_base::{Seq, Text};
+
+const NAME_MAX: usize = 64;
+
+const TEXT_MAX: usize = 4096;
+
+const RULE_NAME_MAX: usize = 256;
+
+const OPERANDS_MAX: usize = 32;
+
+const WEIGHT_MAX: usize = 32;
+
+const CONDITIONS_MAX: usize = 8;
+
+const FIELDS_MAX: usize = 32;
+
+const TYPES_MAX: usize = 128;
+
+const RULES_MAX: usize = 256;
+
+const SALIENCE_MAX: u64 = 2_147_483_647;
+
+fn is_short_name(name: &Text) -> bool
+    ensures { result ≡ is_name name.now }
+{
+    has_at_most(NAME_MAX, name)
+}
+
+fn is_operand_within(operand: &Operand) -> bool
+    ensures { result ≡ operand_within operand.now }
+{
+    match operand {
+        Operand::Lit(LitTree::Text(text)) => has_at_most(TEXT_MAX, text),
+        Operand::Lit(_) => true,
+        Operand::Var(var) => is_short_name(var),
+        Operand::VarField(var, field) => is_short_name(var) && is_short_name(field),
+        Operand::Own(field) => is_short_name(field),
+    }
+}
+
+fn are_operands_within(operands: &[Operand]) -> bool
+    ensures { result ≡ list_all operand_within operands.now }
+{
+    operands.iter().all(|operand| is_operand_within(operand))
+}
+
+fn is_cmp_within(cmp: &Cmp) -> bool
+    ensures { result ≡ cmp_within cmp.now }
+{
+    match cmp {
+        Cmp::Rel { field, operand, .. } => is_short_name(field) && is_operand_within(operand),
+        Cmp::OneOf { field, operands } => {
+            is_short_name(field)
+                && operands.as_slice().len() <= OPERANDS_MAX
+                && are_operands_within(operands.as_slice())
+        }
+    }
+}
+
+fn is_group_within(group: &[Cmp]) -> bool
+    ensures { result ≡ list_all cmp_within group.now }
+{
+    group.iter().all(|cmp| is_cmp_within(cmp))
+}
+
+fn are_groups_within(groups: &[Seq<Cmp>]) -> bool
+    ensures { result ≡ list_all (λ (group : List Cmp). list_all cmp_within group) groups.now }
+{
+    groups.iter().all(|group| is_group_within(group.as_slice()))
+}
+
+fn is_part_within(part: &Part) -> bool
+    ensures { result ≡ part_within part.now }
+{
+    match part {
+        Part::Bind { var, field } => is_short_name(var) && is_short_name(field),
+        Part::Temporal { other, .. } => is_short_name(other),
+        Part::AnyOf(groups) => are_groups_within(groups.as_slice()),
+    }
+}
+
+fn are_parts_within(parts: &[Part]) -> bool
+    ensures { result ≡ list_all part_within parts.now }
+{
+    parts.iter().all(|part| is_part_within(part))
+}
+
+fn is_variable_within(var: &Option<Text>) -> bool
+    ensures { result ≡ variable_within var.now }
+{
+    match var {
+        Some(name) => is_short_name(name),
+        None => true,
+    }
+}
+
+fn is_source_within(source: &SourceTree) -> bool
+    ensures { result ≡ source_within source.now }
+{
+    is_variable_within(&source.var)
+        && is_short_name(&source.ty)
+        && are_at_most(WEIGHT_MAX, source.parts.as_slice())
+        && are_parts_within(source.parts.as_slice())
+}
+
+fn is_condition_within(condition: &CondTree) -> bool
+    ensures { result ≡ condition_within condition.now }
+{
+    match condition {
+        CondTree::Plain(source) => is_source_within(source),
+        _ => true,
+    }
+}
+
+fn are_conditions_within(conditions: &[CondTree]) -> bool
+    ensures { result ≡ list_all condition_within conditions.now }
+{
+    conditions
+        .iter()
+        .all(|condition| is_condition_within(condition))
+}
+
+fn is_attr_within(attr: &Attr) -> bool
+    ensures { result ≡ attr_within attr.now }
+{
+    match attr {
+        Attr::Salience(number) => number.unsigned_abs() <= SALIENCE_MAX,
+        Attr::Dialect(text) => has_at_most(TEXT_MAX, text),
+    }
+}
+
+fn are_attrs_within(attrs: &[Attr]) -> bool
+    ensures { result ≡ list_all attr_within attrs.now }
+{
+    attrs.iter().all(|attr| is_attr_within(attr))
+}
+
+fn is_rule_within(tree: &RuleTree) -> bool
+    ensures { result ≡ rule_within tree.now }
+{
+    tree.name.as_str().len() > 0
+        && has_at_most(RULE_NAME_MAX, &tree.name)
+        && are_attrs_within(tree.attrs.as_slice())
+        && tree.conditions.as_slice().len() <= CONDITIONS_MAX
+        && are_conditions_within(tree.conditions.as_slice())
+}
+
+fn are_fields_within(tree: &TypeTree) -> bool
+    ensures { result ≡ list_all is_name (field_names tree.now) }
+{
+    for field in tree.fields.as_slice() {
+        if !is_short_name(&field.0) {
+            return false;
+        }
+    }
+    true
+}
+
+fn is_type_within(tree: &TypeTree) -> bool
+    ensures { result ≡ type_within tree.now }
+{
+    is_short_name(&tree.name)
+        && tree.fields.as_slice().len() <= FIELDS_MAX
+        && are_fields_within(tree)
+}
+
+/// Whether an item passes a limit, where so many types and rules are declared before it.
+pub(crate) fn passes_limits(types: usize, rules: usize, body: &Body) -> bool
+    ensures { result ≡ passes_limit_behind types rules body.now }
+{
+    match body {
+        Body::Declare(tree) => !(types < TYPES_MAX && is_type_within(tree)),
+        Body::Rule(tree) => !(rules < RULES_MAX && is_rule_within(tree)),
+        _ => false,
+    }
+}

@@ -1,0 +1,182 @@
+ghost use Rattle.std.specs.Prelude.{◌≡◌, ◌<◌, ◌+◌, ◌^◌, ◌++◌, [], IfOk};
+ghost use Rattle.drl_check.specs.Declarations.{types_of, type_in, rule_in, type_names, rule_names};
+ghost use Rattle.drl_check.specs.Checks.{lacks_type, lacks_field as lacks_field_of, lacks_variable as lacks_variable_of, is_wrong_kind, failure_from};
+ghost use Rattle.drl_check.specs.Failing.{first_failing, first_failing_use};
+ghost use Rattle.drl_check.specs.Answers.{within_32_bits, Judges};
+
+use crate::asked::{Asked, is_so_of_some};
+use crate::built::is_unbuilt;
+use crate::declared::Declared;
+use crate::kinds::lacks_kind;
+use crate::limits::passes_limits;
+use crate::places::Places;
+use crate::twice::repeats;
+use crate::uses::lack_type;
+use crate::{CheckCode, CheckFault};
+use drl_grammar::{Body, Item};
+use fx_base::NoMemory;
+use std::alloc::Global;
+
+fn is_type_missing(types: &Declared, body: &Body) -> bool
+    ensures { result ≡ lacks_type types.now body.now }
+{
+    match body {
+        Body::Rule(tree) => lack_type(types, tree.conditions.as_slice()),
+        _ => false,
+    }
+}
+
+fn is_field_missing<'a>(
+    alloc: Global,
+    types: &'a Declared<'a>,
+    body: &Body,
+) -> Result<bool, NoMemory>
+    ensures { IfOk result (λ missing. missing ≡ lacks_field_of types.now body.now) }
+{
+    match body {
+        Body::Rule(tree) => is_so_of_some(
+            alloc,
+            Asked::LacksField,
+            types,
+            tree.conditions.as_slice(),
+        ),
+        _ => Ok(false),
+    }
+}
+
+fn is_variable_missing<'a>(
+    alloc: Global,
+    types: &'a Declared<'a>,
+    body: &Body,
+) -> Result<bool, NoMemory>
+    ensures { IfOk result (λ missing. missing ≡ lacks_variable_of types.now body.now) }
+{
+    match body {
+        Body::Rule(tree) => is_so_of_some(
+            alloc,
+            Asked::LacksVariable,
+            types,
+            tree.conditions.as_slice(),
+        ),
+        _ => Ok(false),
+    }
+}
+
+fn is_kind_wrong<'a>(
+    alloc: Global,
+    types: &'a Declared<'a>,
+    body: &Body,
+) -> Result<bool, NoMemory>
+    ensures { IfOk result (λ wrong. wrong ≡ is_wrong_kind types.now body.now) }
+{
+    match body {
+        Body::Declare(tree) => Ok(lacks_kind(tree)),
+        Body::Rule(tree) => is_so_of_some(
+            alloc,
+            Asked::HasWrongKind,
+            types,
+            tree.conditions.as_slice(),
+        ),
+        _ => Ok(false),
+    }
+}
+
+// The first code that an item fails, which looks into the conditions of rules.
+fn failing_use<'a>(
+    alloc: Global,
+    types: &'a Declared<'a>,
+    body: &Body,
+) -> Result<Option<CheckCode>, NoMemory>
+    ensures { IfOk result (λ code. code ≡ first_failing_use types.now body.now) }
+{
+    if is_type_missing(types, body) {
+        return Ok(Some(CheckCode::UnknownType));
+    }
+    if is_field_missing(alloc, types, body)? {
+        return Ok(Some(CheckCode::UnknownField));
+    }
+    if is_variable_missing(alloc, types, body)? {
+        return Ok(Some(CheckCode::UnknownVariable));
+    }
+    if is_kind_wrong(alloc, types, body)? {
+        return Ok(Some(CheckCode::WrongKind));
+    }
+    Ok(None)
+}
+
+// The first code that an item fails, behind items that declare types and rules of these names. The limits are tried before
+// the uses, so that these walk few variables.
+fn failing<'a>(
+    alloc: Global,
+    types: &'a Declared<'a>,
+    earlier_types: &Places,
+    earlier_rules: &Places,
+    body: &Body,
+) -> Result<Option<CheckCode>, NoMemory>
+    ensures { IfOk result (λ code. code ≡ first_failing types.now earlier_types.now earlier_rules.now body.now) }
+{
+    if is_unbuilt(body) {
+        return Ok(Some(CheckCode::NotBuilt));
+    }
+    if repeats(alloc, earlier_types, earlier_rules, body)? {
+        return Ok(Some(CheckCode::TwiceDeclared));
+    }
+    if passes_limits(earlier_types.len(), earlier_rules.len(), body) {
+        return Ok(Some(CheckCode::LimitPassed));
+    }
+    failing_use(alloc, types, body)
+}
+
+fn with_type(alloc: Global, names: Places, body: &Body) -> Result<Places, NoMemory>
+    ensures { IfOk result (λ more. more ≡ names ++ type_names (type_in body.now)) }
+{
+    match body {
+        Body::Declare(tree) => names.with(alloc, &tree.name),
+        _ => Ok(names),
+    }
+}
+
+fn with_rule(alloc: Global, names: Places, body: &Body) -> Result<Places, NoMemory>
+    ensures { IfOk result (λ more. more ≡ names ++ rule_names (rule_in body.now)) }
+{
+    match body {
+        Body::Rule(tree) => names.with(alloc, &tree.name),
+        _ => Ok(names),
+    }
+}
+
+// The number of the item at a place, counted from 1. It stands still at 2^32 - 1.
+fn number_of(place: usize) -> u32
+    requires { place < 2 ^ 63 }
+    ensures { result ≡ within_32_bits (place + 1) }
+{
+    (place + 1).min(4_294_967_295) as u32
+}
+
+/// The first failure of the items of a file, whose types these are.
+pub(crate) fn refusal<'a>(
+    alloc: Global,
+    types: &'a Declared<'a>,
+    items: &[Item],
+) -> Result<(), CheckFault>
+    requires { types.now ≡ types_of items.now }
+    ensures { Judges result (failure_from items.now [] items.now) }
+{
+    let mut earlier_types = Places::new(alloc);
+    let mut earlier_rules = Places::new(alloc);
+    for (place, item) in items.iter().enumerate() {
+        match failing(alloc, types, &earlier_types, &earlier_rules, &item.body)? {
+            Some(code) => {
+                return Err(CheckFault::Refused {
+                    item: number_of(place),
+                    line: item.line,
+                    code,
+                });
+            }
+            None => {}
+        }
+        earlier_types = with_type(alloc, earlier_types, &item.body)?;
+        earlier_rules = with_rule(alloc, earlier_rules, &item.body)?;
+    }
+    Ok(())
+}

@@ -1,0 +1,121 @@
+ghost use Rattle.std.specs.Prelude.{◌≡◌, ◌++◌, map, IfOk, OnOk};
+ghost use Rattle.drl_check.specs.Twice.{attr_word, own_variable, part_variable, source_variables, bound_in, bound_variables, is_repeated};
+ghost use Rattle.drl_check.specs.Names.{are_distinct};
+ghost use Rattle.drl_check.specs.Declarations.{field_names};
+
+use crate::declared::names_of_fields;
+use crate::names::differ;
+use crate::places::Places;
+use drl_grammar::{Attr, Body, CondTree, Part, RuleTree, SourceTree, TypeTree};
+use fx_base::{Copies, NoMemory, Text};
+use std::alloc::Global;
+
+fn word_of_attr(attr: &Attr) -> &'static str
+    ensures { result.now ≡ attr_word attr.now }
+{
+    match attr {
+        Attr::Salience(_) => "salience",
+        Attr::Dialect(_) => "dialect",
+    }
+}
+
+fn words_of_attrs(alloc: Global, attrs: &[Attr]) -> Result<Vec<Text>, NoMemory>
+    ensures { IfOk result (λ words. words.items ≡ map attr_word attrs.now) }
+{
+    let mut words = Vec::with_capacity(alloc, attrs.len())?;
+    for attr in attrs {
+        words.push(Text::new(alloc, word_of_attr(attr))?)?;
+    }
+    Ok(words)
+}
+
+fn add_own(alloc: Global, names: &mut Vec<Text>, var: &Option<Text>) -> Result<(), NoMemory>
+    ensures { OnOk result (names.new.items ≡ names.old.items ++ own_variable var.now) }
+{
+    match var {
+        Some(name) => names.push(name.copy(alloc)?)?,
+        None => {}
+    }
+    Ok(())
+}
+
+fn add_part(alloc: Global, names: &mut Vec<Text>, part: &Part) -> Result<(), NoMemory>
+    ensures { OnOk result (names.new.items ≡ names.old.items ++ part_variable part.now) }
+{
+    match part {
+        Part::Bind { var, field: _ } => names.push(var.copy(alloc)?)?,
+        _ => {}
+    }
+    Ok(())
+}
+
+fn add_source(alloc: Global, names: &mut Vec<Text>, source: &SourceTree) -> Result<(), NoMemory>
+    ensures { OnOk result (names.new.items ≡ names.old.items ++ source_variables source.now) }
+{
+    add_own(alloc, names, &source.var)?;
+    for part in source.parts.as_slice() {
+        add_part(alloc, names, part)?;
+    }
+    Ok(())
+}
+
+fn add_condition(
+    alloc: Global,
+    names: &mut Vec<Text>,
+    condition: &CondTree,
+) -> Result<(), NoMemory>
+    ensures { OnOk result (names.new.items ≡ names.old.items ++ bound_in condition.now) }
+{
+    match condition {
+        CondTree::Plain(source) => add_source(alloc, names, source),
+        _ => Ok(()),
+    }
+}
+
+fn variables_of_rule(alloc: Global, tree: &RuleTree) -> Result<Vec<Text>, NoMemory>
+    ensures { IfOk result (λ names. names.items ≡ bound_variables tree.now) }
+{
+    let mut names = Vec::new(alloc);
+    for condition in tree.conditions.as_slice() {
+        add_condition(alloc, &mut names, condition)?;
+    }
+    Ok(names)
+}
+
+fn have_fields_apart(alloc: Global, tree: &TypeTree) -> Result<bool, NoMemory>
+    ensures { IfOk result (λ apart. apart ≡ are_distinct (field_names tree.now)) }
+{
+    differ(alloc, &names_of_fields(alloc, tree)?)
+}
+
+fn have_attrs_apart(alloc: Global, tree: &RuleTree) -> Result<bool, NoMemory>
+    ensures { IfOk result (λ apart. apart ≡ are_distinct (map attr_word tree.now.attrs)) }
+{
+    differ(alloc, &words_of_attrs(alloc, tree.attrs.as_slice())?)
+}
+
+fn have_variables_apart(alloc: Global, tree: &RuleTree) -> Result<bool, NoMemory>
+    ensures { IfOk result (λ apart. apart ≡ are_distinct (bound_variables tree.now)) }
+{
+    differ(alloc, &variables_of_rule(alloc, tree)?)
+}
+
+/// Whether an item declares what one of these types or rules declares, or has a field, an attribute or a variable twice.
+pub(crate) fn repeats(
+    alloc: Global,
+    types: &Places,
+    rules: &Places,
+    body: &Body,
+) -> Result<bool, NoMemory>
+    ensures { IfOk result (λ twice. twice ≡ is_repeated types.now rules.now body.now) }
+{
+    match body {
+        Body::Declare(tree) => {
+            Ok(types.holds(&tree.name) || !have_fields_apart(alloc, tree)?)
+        }
+        Body::Rule(tree) => Ok(rules.holds(&tree.name)
+            || !have_attrs_apart(alloc, tree)?
+            || !have_variables_apart(alloc, tree)?),
+        _ => Ok(false),
+    }
+}
