@@ -1,5 +1,5 @@
 -- The report, by what was found.
-use Rattle.std.proofs.Common.{◌≡◌, ◌≢◌, ◌<◌, ◌≤◌, ◌+◌, ℕ, Bool, true, false, List, length, take, nat_le, min, Option, Some, None, refl, sym, ap, subst, ◌∙◌, arith, String, Global, ◌⊎◌, inl, inr}
+use Rattle.std.proofs.Common.{◌≡◌, ◌≢◌, ◌<◌, ◌≤◌, ◌+◌, ℕ, Bool, true, false, List, length, take, nat_lt, min, Option, Some, None, refl, sym, ap, subst, ◌∙◌, arith, String, Global, ◌⊎◌, inl, inr}
 use Rattle.std.specs.Prelude.{IfSome}
 use Rattle.std.proofs.lemmas.Bool.Decides.{nat_tests}
 use Rattle.std.proofs.lemmas.List.{take_all, length-take}
@@ -9,7 +9,8 @@ use Rattle.replay.specs.declared.refusal.Refusal.{Refusal}
 use Rattle.replay.specs.declared.rule_file.Reading.{Reading}
 use Rattle.replay.specs.declared.rule_file.Reading.TheVariants.{Refused}
 use Rattle.replay.specs.Firings.{Gives, Fires}
-use Rattle.replay.specs.Refusals.{reading, reading_within, file_limit, refusal_text, whole_file, IsRefused}
+use Rattle.drl_parse.specs.Parsed.{file_limit, parsed, parsed_by}
+use Rattle.replay.specs.Refusals.{reading, refusal_text, whole_file, IsRefused}
 use Rattle.replay.specs.Report.{Report, report, rules_report, word_report, single, reading_report, file_report, usage, firing_limit, IsLong, FileIsLong, WordIsLong}
 
 abbrev Files : Type 0
@@ -29,31 +30,24 @@ pub no_file : (gives : Gives) (fires : Fires) (limit : ℕ) (name : List ℕ) (t
 unfolding rules_report
 no_file gives fires limit name told files script e gone = let none : files name ≡ None = rw e at gone in rw none refl
 
-over : (n m : ℕ) → m < n → nat_le n m ≡ false
-over n m h = grind (arith, nat_tests)
+short_file : (n m : ℕ) → nat_lt n m ≡ false → m ≤ n + 1
+short_file n m e = grind (arith, nat_tests)
 
-long_taken : (n : ℕ) (file : List ℕ) → n < length file → n < length (take (n + 1) file)
-long_taken n file h = rw (length-take (n + 1) file) (grind arith)
+long_taken : (n : ℕ) (file : List ℕ) → nat_lt n (length file) ≡ true → nat_lt n (length (take (n + 1) file)) ≡ true
+long_taken n file e = rw (length-take (n + 1) file) (grind (arith, nat_tests))
+
+taken_by : (long : Bool) (file : List ℕ) → nat_lt file_limit (length file) ≡ long → reading (take (file_limit + 1) file) ≡ reading file
+unfolding parsed parsed_by
+taken_by false file e = ap reading (take_all (file_limit + 1) file (short_file file_limit (length file) e))
+taken_by true file e = rw (long_taken file_limit file e, e) refl
 
 -- one byte more than a file may have tells whether it has too many
-pub within_taken : (n : ℕ) (file : List ℕ) → reading_within n (take (n + 1) file) ≡ reading_within n file
-within_taken n file = here (nat_le (length file) n) refl
-  where
-    short : (a b : ℕ) → nat_le a b ≡ true → a ≤ b + 1
-    short a b e = grind (arith, nat_tests)
-
-    long : (a b : ℕ) → nat_le a b ≡ false → b < a
-    long a b e = grind (arith, nat_tests)
-
-    here : (b : Bool) → nat_le (length file) n ≡ b → reading_within n (take (n + 1) file) ≡ reading_within n file
-    here true e = ap (reading_within n) (take_all (n + 1) file (short (length file) n e))
-    here false e =
-        let a = over (length (take (n + 1) file)) n (long_taken n file (long (length file) n e)) in
-        rw (a, e) refl
+pub within_taken : (file : List ℕ) → reading (take (file_limit + 1) file) ≡ reading file
+within_taken file = taken_by (nat_lt file_limit (length file)) file refl
 
 found_reading : (o : Option (List ℕ)) (read : List ℕ) → (o ≢ None) → IfSome o (λ file. read ≡ take (file_limit + 1) file) → (file : List ℕ) × (o ≡ Some file) × (reading file ≡ reading read)
 found_reading None read found h = absurd (found refl)
-found_reading (Some file) read found h = (file, refl, sym (within_taken file_limit file) ∙ ap (reading_within file_limit) (sym h))
+found_reading (Some file) read found h = (file, refl, sym (within_taken file) ∙ ap reading (sym h))
 
 -- the file that was read
 pub a_file : (gives : Gives) (fires : Fires) (limit : ℕ) (name : List ℕ) (told : Option Files) (files : Files) (script read : List ℕ) → told ≡ Some files → IsFound told name
@@ -79,7 +73,7 @@ a_long_file gives fires limit name told files script read e found h long =
 pub refused_file : (o : Option (List ℕ)) (read : List ℕ) (refusal : Refusal) → IfSome o (λ file. read ≡ take (file_limit + 1) file) → reading read ≡ Refused refusal → IfSome o (λ file. IsRefused (reading file))
 refused_file None read refusal h e = tt
 refused_file (Some file) read refusal h e =
-    let is : reading file ≡ Refused refusal = sym (within_taken file_limit file) ∙ ap (reading_within file_limit) (sym h) ∙ e in
+    let is : reading file ≡ Refused refusal = sym (within_taken file) ∙ ap reading (sym h) ∙ e in
     subst IsRefused (sym is) tt
 
 pub long_word : (gives : Gives) (fires : Fires) (o : Option (List ℕ)) (name : List ℕ) (files : Files) (script : List ℕ) → o ≡ Some name → FileIsLong gives fires firing_limit (files name) script → WordIsLong gives fires o files script

@@ -1,9 +1,14 @@
 -- What a rule file is: a program, or refused.
-use Rattle.std.specs.Prelude.{ℕ, ◌++◌, List, [], ◌∷◌, length, nat_le, Option, Some, None, if◌then◌else◌, codes}
+use Rattle.std.specs.Prelude.{ℕ, ◌++◌, List, [], ◌∷◌, Result, Ok, Err, codes}
 use Rattle.std.specs.Fmt.{decimal}
-use Rattle.std.specs.Option.{option_and_then}
-use Rattle.drl_parse.specs.Files.{parsed}
-use Rattle.drl_check.specs.Accepted.{accepted}
+use Rattle.drl_lex.specs.declared.fault.LexCode.{LexCode}
+use Rattle.drl_lex.specs.declared.fault.LexCode.TheVariants as lex
+use Rattle.drl_parse.specs.Parsed.{Parsed, is_file, outside, too_long, lexical, parsed}
+use Rattle.drl_check.specs.declared.fault.CheckCode.{CheckCode}
+use Rattle.drl_check.specs.declared.fault.CheckCode.TheVariants as check
+use Rattle.drl_check.specs.Answers.{within_32_bits}
+use Rattle.drl_check.specs.Checks.{Failure}
+use Rattle.drl_check.specs.Programs.{checked}
 use Rattle.rule_model.specs.declared.program.Program.{Program}
 use Rattle.rule_model.specs.Programs.{IsAccepted}
 use Rattle.replay.specs.declared.refusal.RefusalCode.{RefusalCode}
@@ -12,24 +17,21 @@ use Rattle.replay.specs.declared.refusal.Refusal.{Refusal}
 use Rattle.replay.specs.declared.rule_file.Reading.{Reading}
 use Rattle.replay.specs.declared.rule_file.Reading.TheVariants.{Accepted, Refused}
 
--- the most bytes that a rule file may have; kept closed, so that nothing computes that many steps
-unfoldable pub file_limit : ℕ
-file_limit = 1048576
+-- a file that passes all checks, or its first failure
+abbrev pub of_checked : Result Program Failure → Reading
+of_checked (Ok program) = Accepted program
+of_checked (Err failure) = Refused (record { item = within_32_bits failure.number; line = failure.line; code = check_code failure.code })
 
-abbrev pub whole_file : RefusalCode → Refusal
-whole_file reason = record { item = 0; line = 0; code = reason }
+-- bytes that are a file, or what is refused first
+abbrev pub of_parsed : Parsed → Reading
+of_parsed (is_file file) = of_checked (checked file)
+of_parsed (outside item line) = Refused (record { item = item; line = line; code = code.Syntax })
+of_parsed too_long = Refused (whole_file code.TooLong)
+of_parsed (lexical reason line) = Refused (record { item = 0; line = line; code = lexical_code reason })
 
--- a file that is accepted, and every other; in this stage each refusal is one of syntax, of the whole file
-abbrev pub of_accepted : Option Program → Reading
-of_accepted None = Refused (whole_file code.Syntax)
-of_accepted (Some program) = Accepted program
-
--- what the bytes of a rule file of at most so many bytes are
-abbrev pub reading_within : ℕ → List ℕ → Reading
-reading_within most bytes = of_accepted (if nat_le (length bytes) most then option_and_then accepted (parsed bytes) else None)
-
+-- what the bytes of a rule file are
 abbrev pub reading : List ℕ → Reading
-reading bytes = reading_within file_limit bytes
+reading bytes = of_parsed (parsed bytes)
 
 -- a program is one that the engine may run
 abbrev pub IsSound : Reading → Type 0

@@ -1,7 +1,9 @@
 ghost use Rattle.std.specs.Prelude.{◌≡◌, ◌++◌, OnOk};
-ghost use Rattle.replay.specs.Refusals.{refusal_code_text, refusal_text, whole_file as whole_file_of};
+ghost use Rattle.replay.specs.Refusals.{check_code, lexical_code, refusal_code_text, refusal_text, whole_file as whole_file_of};
 
 use crate::text::push_number;
+use drl_check::CheckCode;
+use drl_parse::LexCode;
 use fx_base::NoMemory;
 use std::alloc::Global;
 
@@ -42,6 +44,33 @@ pub(crate) fn whole_file(code: RefusalCode) -> Refusal
         item: 0,
         line: 0,
         code,
+    }
+}
+
+/// The code of a fault of the lexer.
+pub(crate) fn of_lexer(code: LexCode) -> RefusalCode
+    ensures { result ≡ lexical_code code }
+{
+    match code {
+        LexCode::BadChar => RefusalCode::BadChar,
+        LexCode::OpenText => RefusalCode::OpenText,
+        LexCode::OpenComment => RefusalCode::OpenComment,
+        LexCode::NumberLarge => RefusalCode::NumberLarge,
+    }
+}
+
+/// The code of a check.
+pub(crate) fn of_check(code: CheckCode) -> RefusalCode
+    ensures { result ≡ check_code code }
+{
+    match code {
+        CheckCode::NotBuilt => RefusalCode::NotBuilt,
+        CheckCode::TwiceDeclared => RefusalCode::TwiceDeclared,
+        CheckCode::LimitPassed => RefusalCode::LimitPassed,
+        CheckCode::UnknownType => RefusalCode::UnknownType,
+        CheckCode::UnknownField => RefusalCode::UnknownField,
+        CheckCode::UnknownVariable => RefusalCode::UnknownVariable,
+        CheckCode::WrongKind => RefusalCode::WrongKind,
     }
 }
 

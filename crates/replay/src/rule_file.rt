@@ -1,14 +1,17 @@
-ghost use Rattle.std.specs.Prelude.{◌≡◌, ◌<◌, ◌≤◌, ℕ, List, length, take, drop, Ok, IfOk, IfSome, IsErrOf};
+ghost use Rattle.std.specs.Prelude.{◌≡◌, ◌<◌, ◌≤◌, ℕ, List, length, take, drop, Ok, Err, Result, IfOk, IfSome, IsErrOf};
 ghost use Rattle.fx_io.specs.Outside.{Rose, file_told, IsMissing, IsFound};
-ghost use Rattle.replay.specs.Refusals.{of_accepted, reading_within, IsSound};
-ghost use Rattle.std.specs.Option.{option_and_then};
-ghost use Rattle.drl_parse.specs.Files.{parsed};
-ghost use Rattle.drl_check.specs.Accepted.{accepted};
+ghost use Rattle.drl_parse.specs.Parsed.{Parsed, Gives as GivesFile};
+ghost use Rattle.drl_check.specs.Answers.{Fails};
+ghost use Rattle.drl_check.specs.Checks.{Failure};
+ghost use Rattle.drl_check.specs.Programs.{checked};
+ghost use Rattle.rule_model.specs.declared.program.Program.{Program as ProgramData};
+ghost use Rattle.replay.specs.Refusals.{of_parsed, of_checked, reading, IsSound};
+ghost use Rattle.replay.specs.declared.rule_file.Reading.TheVariants.{Refused};
 ghost use Rattle.replay.specs.declared.rule_file.FileFault.TheVariants.{NoMemory as OutOfMemory};
 
-use crate::refusal::{Refusal, RefusalCode, whole_file};
+use crate::refusal::{Refusal, RefusalCode, of_check, of_lexer, whole_file};
 use drl_check::{CheckFault, check};
-use drl_parse::{ParseFault, parse};
+use drl_parse::{File, ParseFault, parse};
 use fx_base::NoMemory;
 use fx_io::{Shelf, ShelfFault};
 use rule_model::Program;
@@ -94,32 +97,58 @@ pub(crate) enum Reading {
     Refused(Refusal),
 }
 
-// What these bytes are.
-fn read_program(alloc: Global, bytes: &[u8]) -> Result<Reading, NoMemory>
-    ensures reading { IfOk result (λ found. found ≡ of_accepted (option_and_then accepted (parsed bytes.now))) }
-    ensures sound { IfOk result IsSound }
+// The place and the code of a fault of the parser.
+fn parse_refusal(fault: ParseFault) -> Result<Refusal, NoMemory>
+    ensures told { IfOk result (λ refusal. (read : Parsed) → GivesFile (Err fault) read → of_parsed read ≡ Refused refusal) }
 {
-    let file = match parse(alloc, bytes) {
-        Ok(file) => file,
-        Err(ParseFault::Syntax { .. }) => {
-            return Ok(Reading::Refused(whole_file(RefusalCode::Syntax)));
-        }
-        Err(ParseFault::NoMemory) => return Err(NoMemory),
-    };
-    match check(alloc, &file) {
-        Ok(program) => Ok(Reading::Accepted(program)),
-        Err(CheckFault::Refused) => Ok(Reading::Refused(whole_file(RefusalCode::Syntax))),
-        Err(CheckFault::NoMemory) => Err(NoMemory),
+    match fault {
+        ParseFault::TooLong => Ok(whole_file(RefusalCode::TooLong)),
+        ParseFault::Lexical { code, line } => Ok(Refusal {
+            item: 0,
+            line: u64::from(line),
+            code: of_lexer(code),
+        }),
+        ParseFault::Syntax { item, line } => Ok(Refusal {
+            item: u64::from(item),
+            line: u64::from(line),
+            code: RefusalCode::Syntax,
+        }),
+        ParseFault::NoMemory => Err(NoMemory),
     }
 }
 
-/// What a rule file of at most so many bytes is.
-pub(crate) fn reading_of(alloc: Global, bytes: &[u8], most: usize) -> Result<Reading, NoMemory>
-    ensures reading { IfOk result (λ found. found ≡ reading_within most bytes.now) }
+// The place and the code of a fault of the checks.
+fn check_refusal(fault: CheckFault) -> Result<Refusal, NoMemory>
+    ensures told { IfOk result (λ refusal. (found : Result ProgramData Failure) → Fails fault found → of_checked found ≡ Refused refusal) }
+{
+    match fault {
+        CheckFault::Refused { item, line, code } => Ok(Refusal {
+            item: u64::from(item),
+            line: u64::from(line),
+            code: of_check(code),
+        }),
+        CheckFault::NoMemory => Err(NoMemory),
+    }
+}
+
+// What a file is.
+fn read_file(alloc: Global, file: &File) -> Result<Reading, NoMemory>
+    ensures reading { IfOk result (λ found. found ≡ of_checked (checked file.now)) }
     ensures sound { IfOk result IsSound }
 {
-    if bytes.len() > most {
-        return Ok(Reading::Refused(whole_file(RefusalCode::Syntax)));
+    match check(alloc, file) {
+        Ok(program) => Ok(Reading::Accepted(program)),
+        Err(fault) => Ok(Reading::Refused(check_refusal(fault)?)),
     }
-    read_program(alloc, bytes)
+}
+
+/// What the bytes of a rule file are.
+pub(crate) fn reading_of(alloc: Global, bytes: &[u8]) -> Result<Reading, NoMemory>
+    ensures reading { IfOk result (λ found. found ≡ reading bytes.now) }
+    ensures sound { IfOk result IsSound }
+{
+    match parse(alloc, bytes) {
+        Ok(file) => read_file(alloc, &file),
+        Err(fault) => Ok(Reading::Refused(parse_refusal(fault)?)),
+    }
 }

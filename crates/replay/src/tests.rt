@@ -1,5 +1,7 @@
 ghost use Rattle.std.specs.Prelude.{◌≤◌};
 
+mod refusals;
+
 use crate::{replay, run_rules};
 use fx_base::{Copies, Seq, Text, Value};
 use fx_io::{MemShelf, MemSink, MemSource};
@@ -84,6 +86,20 @@ fn run_at_most(alloc: Global, limit: u64, script: &[u8]) -> Result<(u8, Vec<u8>)
     Ok((status, written))
 }
 
+// The status and the written bytes of a run of these rules.
+fn run_of(alloc: Global, rules: &[u8], script: &[u8]) -> Result<(u8, Vec<u8>), Fail> {
+    let mut files = Vec::new(alloc);
+    files.push(file(alloc, "RULES", rules)?)?;
+    let mut shelf = MemShelf::new(files, Vec::new(alloc));
+    let mut source = MemSource::new(script.to_vec(alloc)?, Vec::new(alloc));
+    let mut sink = MemSink::new(alloc, 1_048_576, Vec::new(alloc))?;
+    let mut words = Vec::new(alloc);
+    words.push(String::from_str(alloc, "RULES")?)?;
+    let status = replay::<Session, MemShelf, MemSource, MemSink>(alloc, &words, &mut shelf, &mut source, &mut sink);
+    let written = sink.written().to_vec(alloc)?;
+    Ok((status, written))
+}
+
 #[test]
 fn runs_of_the_program(rt: HostRuntime) -> Result<(), Fail> {
     let alloc = rt.alloc();
@@ -109,7 +125,7 @@ fn runs_of_the_program(rt: HostRuntime) -> Result<(), Fail> {
         ),
         (&["ITEM"], b"", 0, b""),
         (&["NOFILE"], FAULTY, 3, b"refused item 0 line 0 Missing\n"),
-        (&["OPEN"], FAULTY, 3, b"refused item 0 line 0 Syntax\n"),
+        (&["OPEN"], FAULTY, 3, b"refused item 1 line 1 Syntax\n"),
         (&[], FAULTY, 2, b"usage: replay RULES\n"),
         (&["ITEM", "ITEM"], FAULTY, 2, b"usage: replay RULES\n"),
         (&["ITEM"], b"{\"do\":\"fire\"", 1, b"fault 1 BadJson\n"),

@@ -129,7 +129,7 @@ pub fn run_rules<E: Engine, F: Shelf, S: Source, K: Sink>(
         Err(FileFault::ReadFault) => return 5,
         Err(FileFault::NoMemory) => return 7,
     };
-    match reading_of(alloc, &file, FILE_MAX) {
+    match reading_of(alloc, &file) {
         Ok(Reading::Accepted(program)) => {
             run_program::<E, S, K>(alloc, program, limit, script, out)
         }

@@ -2,7 +2,8 @@ use Rattle.std.proofs.Common.{◌≡◌, ◌+◌, ℕ, List, Option, Some, None,
 use Rattle.std.specs.Prelude.{IfSome}
 use Rattle.fx_io.specs.Outside.{file_told}
 use Rattle.replay.specs.declared.rule_file.Reading.TheVariants.{Accepted, Refused}
-use Rattle.replay.specs.Refusals.{reading_within, file_limit}
+use Rattle.drl_parse.specs.Parsed.{file_limit}
+use Rattle.replay.specs.Refusals.{reading}
 use Rattle.replay.proofs.Reports.{no_file, a_file, a_long_file, refused_file}
 use Rattle.replay.proofs.top.run_rules.Goals as goal
 
@@ -22,20 +23,20 @@ pub returns-in-Ok-Accepted-clause-exact : goal.returns-in-Ok-Accepted-clause-exa
 unfolding file_limit
 returns-in-Ok-Accepted-clause-exact g c files bytes told tells low =
     let r = a_file g.E.Engine.gives g.E.Engine.fires c.args.limit c.args.name.now _ files bytes c.in-Ok.file.items told c.in-Ok.ensures.found c.in-Ok.ensures.bytes in
-    let accepted : reading_within file_limit c.in-Ok.file.items ≡ Accepted c.in-Ok-Accepted.program = ap (reading_within file_limit) (sym c.deref.ensures.value) ∙ sym c.in-Ok-Accepted.ensures.reading ∙ c.in-Ok-Accepted.field-0-is in
+    let accepted : reading c.in-Ok.file.items ≡ Accepted c.in-Ok-Accepted.program = ap reading (sym c.deref.ensures.value) ∙ sym c.in-Ok-Accepted.ensures.reading ∙ c.in-Ok-Accepted.field-0-is in
     rw (r, accepted) (c.run_program.ensures.exact bytes tells low)
 
 pub returns-in-Ok-Accepted-clause-front : goal.returns-in-Ok-Accepted-clause-front
 unfolding file_limit
 returns-in-Ok-Accepted-clause-front g c files bytes told tells high =
     let r = a_file g.E.Engine.gives g.E.Engine.fires c.args.limit c.args.name.now _ files bytes c.in-Ok.file.items told c.in-Ok.ensures.found c.in-Ok.ensures.bytes in
-    let accepted : reading_within file_limit c.in-Ok.file.items ≡ Accepted c.in-Ok-Accepted.program = ap (reading_within file_limit) (sym c.deref.ensures.value) ∙ sym c.in-Ok-Accepted.ensures.reading ∙ c.in-Ok-Accepted.field-0-is in
+    let accepted : reading c.in-Ok.file.items ≡ Accepted c.in-Ok-Accepted.program = ap reading (sym c.deref.ensures.value) ∙ sym c.in-Ok-Accepted.ensures.reading ∙ c.in-Ok-Accepted.field-0-is in
     rw (r, accepted) (c.run_program.ensures.front bytes tells high)
 
 pub returns-in-Ok-Accepted-clause-long : goal.returns-in-Ok-Accepted-clause-long
 unfolding file_limit
 returns-in-Ok-Accepted-clause-long g c files bytes told tells eight =
-    let accepted : reading_within file_limit c.in-Ok.file.items ≡ Accepted c.in-Ok-Accepted.program = ap (reading_within file_limit) (sym c.deref.ensures.value) ∙ sym c.in-Ok-Accepted.ensures.reading ∙ c.in-Ok-Accepted.field-0-is in
+    let accepted : reading c.in-Ok.file.items ≡ Accepted c.in-Ok-Accepted.program = ap reading (sym c.deref.ensures.value) ∙ sym c.in-Ok-Accepted.ensures.reading ∙ c.in-Ok-Accepted.field-0-is in
     a_long_file g.E.Engine.gives g.E.Engine.fires c.args.limit c.args.name.now _ files bytes c.in-Ok.file.items told c.in-Ok.ensures.found c.in-Ok.ensures.bytes
     (rw accepted (c.run_program.ensures.long bytes tells eight))
 
@@ -44,18 +45,18 @@ unfolding file_limit
 returns-in-Ok-Refused-clause-exact g c files bytes told tells low =
     let said = c.refuse-in-Ok-Refused.ensures.said low in
     let r = a_file g.E.Engine.gives g.E.Engine.fires c.args.limit c.args.name.now _ files bytes c.in-Ok.file.items told c.in-Ok.ensures.found c.in-Ok.ensures.bytes in
-    let refused : reading_within file_limit c.in-Ok.file.items ≡ Refused c.in-Ok-Refused.refusal = ap (reading_within file_limit) (sym c.deref.ensures.value) ∙ sym c.in-Ok-Refused.ensures.reading ∙ c.in-Ok-Refused.field-0-is in
+    let refused : reading c.in-Ok.file.items ≡ Refused c.in-Ok-Refused.refusal = ap reading (sym c.deref.ensures.value) ∙ sym c.in-Ok-Refused.ensures.reading ∙ c.in-Ok-Refused.field-0-is in
     rw (r, refused) (said.0, said.1)
 
 pub returns-in-Ok-Refused-clause-front : goal.returns-in-Ok-Refused-clause-front
 unfolding file_limit
 returns-in-Ok-Refused-clause-front g c files bytes told tells high =
     let r = a_file g.E.Engine.gives g.E.Engine.fires c.args.limit c.args.name.now _ files bytes c.in-Ok.file.items told c.in-Ok.ensures.found c.in-Ok.ensures.bytes in
-    let refused : reading_within file_limit c.in-Ok.file.items ≡ Refused c.in-Ok-Refused.refusal = ap (reading_within file_limit) (sym c.deref.ensures.value) ∙ sym c.in-Ok-Refused.ensures.reading ∙ c.in-Ok-Refused.field-0-is in
+    let refused : reading c.in-Ok.file.items ≡ Refused c.in-Ok-Refused.refusal = ap reading (sym c.deref.ensures.value) ∙ sym c.in-Ok-Refused.ensures.reading ∙ c.in-Ok-Refused.field-0-is in
     rw (r, refused) (c.refuse-in-Ok-Refused.ensures.front high)
 
 pub returns-in-Ok-Refused-clause-file : goal.returns-in-Ok-Refused-clause-file
 unfolding file_limit
 returns-in-Ok-Refused-clause-file g c is =
-    let refused : reading_within file_limit c.in-Ok.file.items ≡ Refused c.in-Ok-Refused.refusal = ap (reading_within file_limit) (sym c.deref.ensures.value) ∙ sym c.in-Ok-Refused.ensures.reading ∙ c.in-Ok-Refused.field-0-is in
+    let refused : reading c.in-Ok.file.items ≡ Refused c.in-Ok-Refused.refusal = ap reading (sym c.deref.ensures.value) ∙ sym c.in-Ok-Refused.ensures.reading ∙ c.in-Ok-Refused.field-0-is in
     inr (refused_file _ c.in-Ok.file.items c.in-Ok-Refused.refusal c.in-Ok.ensures.bytes refused)
