@@ -1,16 +1,15 @@
 -- The report, by what was found.
-use Rattle.std.proofs.Common.{◌≡◌, ◌≢◌, ◌<◌, ◌≤◌, ◌+◌, ℕ, Bool, true, false, List, length, take, nat_le, min, Option, Some, None, refl, sym, ap, subst, ◌∙◌, arith, String, Global, ◌⊎◌, inl, inr}
+use Rattle.std.proofs.Common.{◌≡◌, ◌≢◌, ◌<◌, ◌≤◌, ◌+◌, ℕ, Bool, true, false, List, length, take, nat_le, Option, Some, None, refl, sym, ap, subst, ◌∙◌, arith, String, Global}
 use Rattle.std.specs.Prelude.{IfSome}
 use Rattle.std.proofs.lemmas.Bool.Decides.{nat_tests}
 use Rattle.std.proofs.lemmas.List.{take_all, length-take}
 use Rattle.fx_io.specs.Outside.{IsMissing, IsFound, file_told}
 use Rattle.replay.specs.declared.refusal.RefusalCode.TheVariants.{Missing}
 use Rattle.replay.specs.declared.refusal.Refusal.{Refusal}
-use Rattle.replay.specs.declared.rule_file.Reading.{Reading}
 use Rattle.replay.specs.declared.rule_file.Reading.TheVariants.{Refused}
 use Rattle.replay.specs.Firings.{Gives, Fires}
 use Rattle.replay.specs.Refusals.{reading, reading_within, file_limit, refusal_text, whole_file, IsRefused}
-use Rattle.replay.specs.Report.{Report, report, rules_report, word_report, single, reading_report, file_report, usage, firing_limit, IsLong, FileIsLong, WordIsLong}
+use Rattle.replay.specs.Report.{report, rules_report, word_report, single, reading_report, file_report, usage, firing_limit, IsLong, FileIsLong, WordIsLong}
 
 abbrev Files : Type 0
 Files = List ℕ → Option (List ℕ)

@@ -1,6 +1,4 @@
-use Rattle.std.proofs.Common.{◌≡◌, ◌+◌, ℕ, List, Option, Some, None, Err, take, sym, ap, ◌∙◌, inr}
-use Rattle.std.specs.Prelude.{IfSome}
-use Rattle.fx_io.specs.Outside.{file_told}
+use Rattle.std.proofs.Common.{◌≡◌, Err, sym, ap, ◌∙◌, inr}
 use Rattle.replay.specs.declared.rule_file.Reading.TheVariants.{Accepted, Refused}
 use Rattle.replay.specs.Refusals.{reading_within, file_limit}
 use Rattle.replay.proofs.Reports.{no_file, a_file, a_long_file, refused_file}
