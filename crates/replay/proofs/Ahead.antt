@@ -1,5 +1,5 @@
 -- The outcome of the lines ahead, line by line, against what was written and what is gathered.
-use Rattle.std.proofs.Common.{◌≡◌, ◌≢◌, ◌<◌, ◌≤◌, ◌+◌, ◌^◌, ◌++◌, ◌||◌, ℕ, Bool, true, false, List, [], ◌∷◌, length, take, drop, Option, Some, None, Result, Ok, Err, option_map, refl, sym, ap, subst, ◌∙◌, append_assoc, arith}
+use Rattle.std.proofs.Common.{◌≡◌, ◌<◌, ◌+◌, ◌^◌, ◌++◌, ◌||◌, ℕ, Bool, List, [], ◌∷◌, length, take, drop, Option, Some, None, Result, Ok, Err, option_map, refl, sym, ap, subst, ◌∙◌, append_assoc, arith}
 use Rattle.std.specs.Prelude.{IfSome, OnErr}
 use Rattle.std.proofs.lemmas.List.{append-nil, length-append, take_at, take-append-drop}
 use Rattle.fx_io.specs.Outside.{prepend, append, AppendsFront}
@@ -7,7 +7,6 @@ use Rattle.fx_io.specs.Lines.{lines_of, lines_ahead, with_line, total_told, HasN
 use Rattle.fx_io.proofs.Told.{append-append}
 use Rattle.rule_model.specs.declared.program.Program.{Program}
 use Rattle.rule_model.specs.Worlds.{World}
-use Rattle.replay.specs.declared.turn.Turn.{Turn}
 use Rattle.replay.specs.declared.turn.Turn.TheVariants.{Goes, Stops}
 use Rattle.replay.specs.declared.turn.Ended.{Ended}
 use Rattle.replay.specs.declared.turn.Ended.TheVariants.{Script, Limit}
@@ -99,9 +98,12 @@ goes_further all gives fires limit p number left w faulted bad faulted' more scr
     let g = goes_of stands (line_step gives fires limit p number left w line) gathered gathered' bad more d in
     let next : SoFar all (run gives fires limit p (number + 1) g.0.left g.0.world (faulted || g.0.faulty)) script after first written gathered' =
     turned all _ _ script before after first written line g.0.text gathered gathered' h e g.2 (run_goes gives fires limit p number left w faulted line g.0 g.1) in
-    let same : (faulted || g.0.faulty) ≡ faulted' = ap (λ (b : Bool). faulted || b) (sym g.4) ∙ sym f in
-    (g.0.world, g.3, subst (λ (b : Bool). SoFar all (run gives fires limit p (number + 1) more g.0.world b) script after first written gathered') same
-    (subst (λ (n : ℕ). SoFar all (run gives fires limit p (number + 1) n g.0.world (faulted || g.0.faulty)) script after first written gathered') (sym g.5) next))
+    let same : (faulted || g.0.faulty) ≡ faulted' = ap (λ (b : Bool). faulted || b) (sym g.4) ∙ sym f in (
+      g.0.world,
+      g.3,
+      subst (λ (b : Bool). SoFar all (run gives fires limit p (number + 1) more g.0.world b) script after first written gathered') same
+          (subst (λ (n : ℕ). SoFar all (run gives fires limit p (number + 1) n g.0.world (faulted || g.0.faulty)) script after first written gathered') (sym g.5) next),
+    )
 
 -- the limit was met at a line: nothing more is done
 pub ends_there : (all : Rest) (gives : Gives) (fires : Fires) (limit : ℕ) (p : Program) (number left : ℕ) (w : World) (faulted : Bool)

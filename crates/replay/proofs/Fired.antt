@@ -1,5 +1,5 @@
 -- The firings of a fire command, one by one.
-use Rattle.std.proofs.Common.{◌≡◌, ℕ, zero, suc, ◌+◌, ◌≤◌, ◌||◌, Bool, true, false, List, [], ◌∷◌, ◌++◌, Option, Some, None, refl, sym, ◌∙◌, ap, subst, append_assoc, is_some, arith}
+use Rattle.std.proofs.Common.{◌≡◌, ℕ, zero, suc, ◌||◌, Bool, true, false, List, [], ◌++◌, Option, Some, None, refl, sym, ◌∙◌, ap, append_assoc, is_some}
 use Rattle.std.proofs.lemmas.Grind.{flat_map-append}
 use Rattle.std.proofs.lemmas.List.Folds.{list_any-append}
 use Rattle.std.proofs.lemmas.List.{append-nil}
@@ -11,7 +11,7 @@ use Rattle.session.specs.Standing.{FiringAnswers}
 use Rattle.replay.specs.declared.turn.Turn.{Turn}
 use Rattle.replay.specs.declared.turn.Turn.TheVariants.{Goes, Stops}
 use Rattle.replay.specs.Firings.{Fires, Firings, all_fired, limit_met, onto_lines, none_left, then_fires, firings}
-use Rattle.replay.specs.Run.{Step, fire_step}
+use Rattle.replay.specs.Run.{fire_step}
 use Rattle.replay.specs.Turns.{Does, EndsFirings}
 use Rattle.replay.specs.Texts.{line_text, lines_text, limit_text, has_fault, is_fault}
 

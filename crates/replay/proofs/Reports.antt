@@ -6,7 +6,6 @@ use Rattle.std.proofs.lemmas.List.{take_all, length-take}
 use Rattle.fx_io.specs.Outside.{IsMissing, IsFound, file_told}
 use Rattle.replay.specs.declared.refusal.RefusalCode.TheVariants.{Missing}
 use Rattle.replay.specs.declared.refusal.Refusal.{Refusal}
-use Rattle.replay.specs.declared.rule_file.Reading.{Reading}
 use Rattle.replay.specs.declared.rule_file.Reading.TheVariants.{Refused}
 use Rattle.replay.specs.Firings.{Gives, Fires}
 use Rattle.drl_parse.specs.Parsed.{file_limit, parsed, parsed_by}

@@ -1,6 +1,6 @@
 -- Why a run stops, and how many bytes it took.
-use Rattle.std.proofs.Common.{◌≡◌, ◌<◌, ◌≤◌, ◌+◌, ◌-◌, ◌^◌, ◌++◌, ℕ, Bool, List, min, max, Option, Result, Ok, Err, refl, sym, ap, ◌∙◌, arith}
-use Rattle.std.specs.Prelude.{IsErr, IsErrAnd, IfSome}
+use Rattle.std.proofs.Common.{◌≡◌, ◌<◌, ◌≤◌, ◌-◌, ◌^◌, ℕ, List, Option, Result, Ok, Err, sym, ap, ◌∙◌, arith}
+use Rattle.std.specs.Prelude.{IsErr, IsErrAnd}
 use Rattle.fx_io.specs.Outside.{prepend, count_after, IsExhausted}
 use Rattle.fx_io.specs.Lines.{HasNoEnd}
 use Rattle.fx_io.specs.Answers.{Stops, LeavesNoEnd, Gives}

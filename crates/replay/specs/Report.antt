@@ -1,5 +1,5 @@
 -- What the program writes, and its status, with an engine of these meanings.
-use Rattle.std.specs.Prelude.{◌≡◌, ◌⊎◌, ◌<◌, ◌≤◌, ◌+◌, ◌^◌, ◌++◌, ℕ, Bool, true, false, List, [], ◌∷◌, length, Option, Some, None, codes, string_bytes}
+use Rattle.std.specs.Prelude.{◌≡◌, ◌<◌, ◌≤◌, ◌^◌, ◌++◌, ℕ, true, false, List, [], ◌∷◌, Option, Some, None, codes, string_bytes}
 use Rattle.std.proofs.Common.{String, Global}
 use Rattle.fx_io.specs.Outside.{append}
 use Rattle.fx_io.specs.Lines.{lines_of}

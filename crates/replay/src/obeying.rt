@@ -127,8 +127,15 @@ pub(crate) fn take_turn<E: Engine>(
                 push_fault(text, alloc, number, LineCode::LineLong)?;
                 return Ok((engine, Some(Turn::Goes(true, left))));
             }
-            let (next, turn) =
-                obey_line(alloc, engine, number, limit, left, bytes.as_slice(), text)?;
+            let (next, turn) = obey_line(
+                alloc,
+                engine,
+                number,
+                limit,
+                left,
+                bytes.as_slice(),
+                text,
+            )?;
             Ok((next, Some(turn)))
         }
     }

@@ -42,7 +42,13 @@ fn run(
     let mut shelf = shelf(alloc)?;
     let mut source = MemSource::new(script.to_vec(alloc)?, bad_reads.to_vec(alloc)?);
     let mut sink = MemSink::new(alloc, 1_048_576, bad_writes.to_vec(alloc)?)?;
-    let status = replay::<Session, MemShelf, MemSource, MemSink>(alloc, &given, &mut shelf, &mut source, &mut sink);
+    let status = replay::<Session, MemShelf, MemSource, MemSink>(
+        alloc,
+        &given,
+        &mut shelf,
+        &mut source,
+        &mut sink,
+    );
     let written = sink.written().to_vec(alloc)?;
     Ok((status, written))
 }
@@ -137,8 +143,7 @@ fn runs_of_the_program(rt: HostRuntime) -> Result<(), Fail> {
     }
     let (answer, written) = run(alloc, &["ITEM"], CODES, &[], &[])?;
     assert_eq!(rt; answer, 1);
-    assert_eq!(
-        rt;
+    assert_eq!(rt;
         written.as_slice(),
         b"fault 1 BadJson\nfault 2 BadCommand\nfault 3 UnknownType\nfault 4 BadFields\nfault 5 BadValue\n".as_slice()
     );
@@ -166,23 +171,20 @@ fn runs_with_few_firings(rt: HostRuntime) -> Result<(), Fail> {
     let alloc = rt.alloc();
     let (answer, written) = run_at_most(alloc, 3, RULES_IN_ORDER)?;
     assert_eq!(rt; answer, 0);
-    assert_eq!(
-        rt;
+    assert_eq!(rt;
         written.as_slice(),
         b"new #1 Item\nnew #2 Item\nfire \"a\" #2\nfire \"a\" #1\nfire \"b\" #1\n".as_slice()
     );
     let (answer, written) = run_at_most(alloc, 2, RULES_IN_ORDER)?;
     assert_eq!(rt; answer, 4);
-    assert_eq!(
-        rt;
+    assert_eq!(rt;
         written.as_slice(),
         b"new #1 Item\nnew #2 Item\nfire \"a\" #2\nfire \"a\" #1\nlimit 2\n".as_slice()
     );
     // The firings of all fire commands count together, and a faulty line does not change the status.
     let (answer, written) = run_at_most(alloc, 1, MANY_FIRES)?;
     assert_eq!(rt; answer, 4);
-    assert_eq!(
-        rt;
+    assert_eq!(rt;
         written.as_slice(),
         b"fault 1 BadJson\nnew #1 Item\nfire \"a\" #1\nnew #2 Item\nlimit 1\n".as_slice()
     );

@@ -1,4 +1,4 @@
-use Rattle.std.proofs.Common.{◌≡◌, ◌<◌, ◌≤◌, ◌+◌, ◌-◌, ◌*◌, ◌++◌, ◌||◌, ℕ, suc, ◌∙◌, ap, sym, refl, arith}
+use Rattle.std.proofs.Common.{◌≡◌, ◌+◌, ◌-◌, ◌*◌, ◌++◌, ◌||◌, suc, ◌∙◌, ap, arith}
 use Rattle.replay.specs.Firings.{firings}
 use Rattle.replay.specs.Texts.{lines_text, has_fault}
 use Rattle.replay.proofs.Fired.{no_answer, yes_answer, next_remains, done_remains, end_remains}

@@ -1,5 +1,4 @@
-use Rattle.std.proofs.Common.{◌≡◌, ◌<◌, ◌≤◌, ◌+◌, ◌-◌, ◌*◌, ◌++◌, ◌^◌, [], List, Option, Some, None, Ok, Err, ℕ, arith, sym, ap, subst, ◌∙◌, refl}
-use Rattle.std.specs.Prelude.{IfSome}
+use Rattle.std.proofs.Common.{◌≡◌, ◌-◌, ◌^◌, [], arith, sym, ap, ◌∙◌, refl}
 use Rattle.fx_io.specs.Outside.{append, AppendsFront, count_after}
 use Rattle.fx_io.specs.Lines.{lines_of, lines_ahead}
 use Rattle.fx_io.specs.Reader.{Reader}
@@ -7,9 +6,8 @@ use Rattle.rule_model.specs.Worlds.{empty_world}
 use Rattle.replay.specs.declared.fault.RunFault.TheVariants.{NoMemory, WriteFault}
 use Rattle.replay.specs.declared.turn.Ended.TheVariants.{Script, Limit}
 use Rattle.replay.specs.declared.turn.Turn.TheVariants.{Goes, Stops}
-use Rattle.replay.specs.Run.{run, whole_run, line_step, at_limit}
-use Rattle.replay.specs.Turns.{Takes}
-use Rattle.replay.proofs.Ahead.{goes_further, ends_there, flushed, all_done, no_line, no_more, run_ended, stopped, stopped_in, long_run, told_err, at_start, SoFar}
+use Rattle.replay.specs.Run.{run, whole_run, at_limit}
+use Rattle.replay.proofs.Ahead.{goes_further, ends_there, flushed, all_done, no_line, no_more, run_ended, stopped, stopped_in, long_run, told_err, at_start}
 use Rattle.replay.proofs.Stops.{err_of, count_more, takes_stop, long_stop, long_taken, exhausted, none_given}
 use Rattle.replay.proofs.running.run.Goals as goal
 

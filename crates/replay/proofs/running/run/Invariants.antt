@@ -1,4 +1,4 @@
-use Rattle.std.proofs.Common.{◌≡◌, ◌≤◌, ◌+◌, ◌*◌, ◌^◌, [], List, ℕ, None}
+use Rattle.std.proofs.Common.{◌≡◌, ◌≤◌, ◌+◌, ◌*◌, ◌^◌, [], None}
 use Rattle.fx_io.specs.Outside.{count_after}
 use Rattle.fx_io.specs.Lines.{lines_ahead, total_told, to_come}
 use Rattle.rule_model.specs.Worlds.{World}

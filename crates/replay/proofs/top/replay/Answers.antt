@@ -1,4 +1,4 @@
-use Rattle.std.proofs.Common.{◌≡◌, Some, None, sym}
+use Rattle.std.proofs.Common.{sym}
 use Rattle.replay.specs.Report.{firing_limit}
 use Rattle.replay.proofs.Reports.{not_one_word, one_word, long_word}
 use Rattle.replay.proofs.top.replay.Goals as goal

@@ -1,6 +1,4 @@
-use Rattle.std.proofs.Common.{◌≡◌, ◌+◌, ℕ, List, Option, Some, None, Err, take, sym, ap, ◌∙◌, inr}
-use Rattle.std.specs.Prelude.{IfSome}
-use Rattle.fx_io.specs.Outside.{file_told}
+use Rattle.std.proofs.Common.{◌≡◌, Err, sym, ap, ◌∙◌, inr}
 use Rattle.replay.specs.declared.rule_file.Reading.TheVariants.{Accepted, Refused}
 use Rattle.drl_parse.specs.Parsed.{file_limit}
 use Rattle.replay.specs.Refusals.{reading}
