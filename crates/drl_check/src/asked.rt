@@ -31,10 +31,10 @@ fn is_so(asked: Asked, types: &Declared, place: &Place, condition: &CondTree) ->
 
 /// Whether it is so of one of the conditions of a rule.
 #[tactic(auto, unfolding(crate::specs::Uses::any_condition))]
-pub(crate) fn is_so_of_some<'a>(
+pub(crate) fn is_so_of_some(
     alloc: Global,
     asked: Asked,
-    types: &'a Declared<'a>,
+    types: &Declared,
     conditions: &[CondTree],
 ) -> Result<bool, NoMemory>
     ensures { IfOk result (λ so. so ≡ any_condition (asked_of asked types.now) types.now begin conditions.now) }

@@ -1,31 +1,17 @@
-ghost use Rattle.std.specs.Prelude.{◌≡◌, ℕ, [], Err, IfOk};
+ghost use Rattle.std.specs.Prelude.{◌≡◌, ℕ, Err, IfOk};
 ghost use Rattle.rule_model.specs.Programs.{IsAccepted};
 ghost use Rattle.drl_check.specs.declared.fault.CheckCode.{CheckCode};
-ghost use Rattle.drl_check.specs.Checks.{IsAcceptedFile, IsFirstFailure, failure_from};
-ghost use Rattle.drl_check.specs.Programs.{program_of, program_with, checked, checked_by};
-ghost use Rattle.drl_check.specs.Declarations.{types_of};
+ghost use Rattle.drl_check.specs.Checks.{IsAcceptedFile, IsFirstFailure};
+ghost use Rattle.drl_check.specs.Programs.{program_of, checked};
 ghost use Rattle.drl_check.specs.Answers.{within_32_bits, Gives};
 
 use crate::CheckFault;
 use crate::declared::Declared;
 use crate::programs::program;
 use crate::refusal::refusal;
-use drl_grammar::{File, Item};
+use drl_grammar::File;
 use rule_model::Program;
 use std::alloc::Global;
-
-#[tactic(auto, unfolding(crate::specs::Programs::checked))]
-fn checked_with<'a>(
-    alloc: Global,
-    types: &'a Declared<'a>,
-    items: &[Item],
-) -> Result<Program, CheckFault>
-    requires { types.now ≡ types_of items.now }
-    ensures { Gives (λ program. program) result (checked_by (failure_from items.now [] items.now) (program_with types.now items.now)) }
-{
-    refusal(alloc, types, items)?;
-    Ok(program(alloc, types, items)?)
-}
 
 #[tactic(auto, unfolding(crate::specs::Programs::checked))]
 fn checked_program(alloc: Global, file: &File) -> Result<Program, CheckFault>
@@ -33,7 +19,8 @@ fn checked_program(alloc: Global, file: &File) -> Result<Program, CheckFault>
 {
     let items = file.items.as_slice();
     let types = Declared::of(alloc, items)?;
-    checked_with(alloc, &types, items)
+    refusal(alloc, &types, items)?;
+    Ok(program(alloc, &types, items)?)
 }
 
 /// The program of a file, exactly where all its items pass all the checks; else the first item that fails one, with the

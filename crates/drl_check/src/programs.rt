@@ -133,9 +133,9 @@ fn add_condition(
 }
 
 #[tactic(auto, unfolding(crate::specs::Programs::conditions_of))]
-fn conditions<'a>(
+fn conditions(
     alloc: Global,
-    types: &'a Declared<'a>,
+    types: &Declared,
     trees: &[CondTree],
 ) -> Result<Seq<Condition>, NoMemory>
     ensures { IfOk result (λ conditions. conditions ≡ conditions_of types.now begin trees.now) }
@@ -161,7 +161,7 @@ fn salience(attrs: &[Attr]) -> i64
     0
 }
 
-fn rule<'a>(alloc: Global, types: &'a Declared<'a>, tree: &RuleTree) -> Result<Rule, NoMemory>
+fn rule(alloc: Global, types: &Declared, tree: &RuleTree) -> Result<Rule, NoMemory>
     ensures { IfOk result (λ rule. rule ≡ rule_of types.now tree.now) }
 {
     Ok(Rule {
@@ -171,9 +171,9 @@ fn rule<'a>(alloc: Global, types: &'a Declared<'a>, tree: &RuleTree) -> Result<R
     })
 }
 
-fn rules<'a>(
+fn rules(
     alloc: Global,
-    types: &'a Declared<'a>,
+    types: &Declared,
     items: &[Item],
 ) -> Result<Seq<Rule>, NoMemory>
     ensures { IfOk result (λ rules. rules ≡ map (rule_of types.now) (rules_of items.now)) }
@@ -189,9 +189,9 @@ fn rules<'a>(
 }
 
 /// The program of the items of a file, whose types these are.
-pub(crate) fn program<'a>(
+pub(crate) fn program(
     alloc: Global,
-    types: &'a Declared<'a>,
+    types: &Declared,
     items: &[Item],
 ) -> Result<Program, NoMemory>
     ensures { IfOk result (λ program. program ≡ program_with types.now items.now) }

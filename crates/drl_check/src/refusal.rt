@@ -26,9 +26,9 @@ fn is_type_missing(types: &Declared, body: &Body) -> bool
     }
 }
 
-fn is_field_missing<'a>(
+fn is_field_missing(
     alloc: Global,
-    types: &'a Declared<'a>,
+    types: &Declared,
     body: &Body,
 ) -> Result<bool, NoMemory>
     ensures { IfOk result (λ missing. missing ≡ lacks_field_of types.now body.now) }
@@ -44,9 +44,9 @@ fn is_field_missing<'a>(
     }
 }
 
-fn is_variable_missing<'a>(
+fn is_variable_missing(
     alloc: Global,
-    types: &'a Declared<'a>,
+    types: &Declared,
     body: &Body,
 ) -> Result<bool, NoMemory>
     ensures { IfOk result (λ missing. missing ≡ lacks_variable_of types.now body.now) }
@@ -62,9 +62,9 @@ fn is_variable_missing<'a>(
     }
 }
 
-fn is_kind_wrong<'a>(
+fn is_kind_wrong(
     alloc: Global,
-    types: &'a Declared<'a>,
+    types: &Declared,
     body: &Body,
 ) -> Result<bool, NoMemory>
     ensures { IfOk result (λ wrong. wrong ≡ is_wrong_kind types.now body.now) }
@@ -82,9 +82,9 @@ fn is_kind_wrong<'a>(
 }
 
 // The first code that an item fails, which looks into the conditions of rules.
-fn failing_use<'a>(
+fn failing_use(
     alloc: Global,
-    types: &'a Declared<'a>,
+    types: &Declared,
     body: &Body,
 ) -> Result<Option<CheckCode>, NoMemory>
     ensures { IfOk result (λ code. code ≡ first_failing_use types.now body.now) }
@@ -106,9 +106,9 @@ fn failing_use<'a>(
 
 // The first code that an item fails, behind items that declare types and rules of these names. The limits are tried before
 // the uses, so that these walk few variables.
-fn failing<'a>(
+fn failing(
     alloc: Global,
-    types: &'a Declared<'a>,
+    types: &Declared,
     earlier_types: &Places,
     earlier_rules: &Places,
     body: &Body,
@@ -154,9 +154,9 @@ fn number_of(place: usize) -> u32
 }
 
 /// The first failure of the items of a file, whose types these are.
-pub(crate) fn refusal<'a>(
+pub(crate) fn refusal(
     alloc: Global,
-    types: &'a Declared<'a>,
+    types: &Declared,
     items: &[Item],
 ) -> Result<(), CheckFault>
     requires { types.now ≡ types_of items.now }

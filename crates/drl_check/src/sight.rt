@@ -13,10 +13,10 @@ use std::marker::Model;
 
 /// What a variable stands for. Facts count from 0 in the order of the rule's patterns.
 #[derive(Clone, Copy)]
-pub(crate) enum Seen<'a> {
+pub(crate) enum Seen<'a, 'b> {
     Fact {
         fact: usize,
-        ty: &'a DeclaredType<'a>,
+        ty: &'a DeclaredType<'b>,
     },
     /// A field of a fact, by its place. A field whose kind word is none of the seven has no kind.
     Field {
@@ -28,11 +28,11 @@ pub(crate) enum Seen<'a> {
 
 /// What a variable means.
 #[derive(Drop)]
-pub(crate) struct Meaning<'a> {
-    seen: Seen<'a>,
+pub(crate) struct Meaning<'a, 'b> {
+    seen: Seen<'a, 'b>,
 }
 
-impl<'a> Model for Meaning<'a> {
+impl<'a, 'b> Model for Meaning<'a, 'b> {
     ghost use Rattle.drl_check.specs.Sight.{Meaning};
     ghost use Rattle.drl_check.specs.Shown.{meant};
 
@@ -43,12 +43,12 @@ impl<'a> Model for Meaning<'a> {
 
 /// The variables in sight behind some conditions of a rule, and the number of the next fact.
 #[derive(Drop)]
-pub(crate) struct Place<'a> {
-    seen: Vec<(Text, Meaning<'a>)>,
+pub(crate) struct Place<'a, 'b> {
+    seen: Vec<(Text, Meaning<'a, 'b>)>,
     facts: usize,
 }
 
-impl<'a> Model for Place<'a> {
+impl<'a, 'b> Model for Place<'a, 'b> {
     ghost use Rattle.drl_check.specs.Sight.{Place};
 
     ghost Value = { Place };
@@ -56,7 +56,7 @@ impl<'a> Model for Place<'a> {
     ghost view = { λ p. record { sight = p.seen.items; facts = p.facts } };
 }
 
-impl<'a> Meaning<'a> {
+impl<'a, 'b> Meaning<'a, 'b> {
     /// Whether it is a fact whose type has no field of this name.
     pub(crate) fn lacks(&self, field: &Text) -> bool
         ensures { result ≡ lacks_for (Some self.now) field.now }
@@ -98,7 +98,7 @@ pub(crate) fn small(place: Option<usize>) -> u8
     }
 }
 
-impl<'a> Meaning<'a> {
+impl<'a, 'b> Meaning<'a, 'b> {
     /// What a comparison with it is against, where it is a value.
     pub(crate) fn side(&self) -> Side
         ensures { result ≡ variable_side (Some self.now) }
@@ -127,11 +127,11 @@ impl<'a> Meaning<'a> {
 }
 
 // Adds the variable of a pattern's fact.
-fn see_fact<'a>(
+fn see_fact<'a, 'b>(
     alloc: Global,
-    seen: &mut Vec<(Text, Meaning<'a>)>,
+    seen: &mut Vec<(Text, Meaning<'a, 'b>)>,
     fact: usize,
-    ty: &'a DeclaredType<'a>,
+    ty: &'a DeclaredType<'b>,
     var: &Option<Text>,
 ) -> Result<(), NoMemory>
     ensures { OnOk result (seen.new.items ≡ seen.old.items ++ seen_fact fact ty.now var.now) }
@@ -149,11 +149,11 @@ fn see_fact<'a>(
 }
 
 // Adds the variable that a part binds, if it binds one to a field of the type.
-fn see_field<'a>(
+fn see_field<'a, 'b>(
     alloc: Global,
-    seen: &mut Vec<(Text, Meaning<'a>)>,
+    seen: &mut Vec<(Text, Meaning<'a, 'b>)>,
     fact: usize,
-    ty: &'a DeclaredType<'a>,
+    ty: &'a DeclaredType<'b>,
     part: &Part,
 ) -> Result<(), NoMemory>
     ensures { OnOk result (seen.new.items ≡ seen.old.items ++ seen_in fact ty.now part.now) }
@@ -178,11 +178,11 @@ fn see_field<'a>(
 }
 
 // Adds what a pattern brings into sight.
-fn see_pattern<'a>(
+fn see_pattern<'a, 'b>(
     alloc: Global,
-    seen: &mut Vec<(Text, Meaning<'a>)>,
+    seen: &mut Vec<(Text, Meaning<'a, 'b>)>,
     fact: usize,
-    ty: &'a DeclaredType<'a>,
+    ty: &'a DeclaredType<'b>,
     source: &SourceTree,
 ) -> Result<(), NoMemory>
     ensures { OnOk result (seen.new.items ≡ seen.old.items ++ seen_of fact source.now (Some ty.now)) }
@@ -194,9 +194,9 @@ fn see_pattern<'a>(
     Ok(())
 }
 
-impl<'a> Place<'a> {
+impl<'a, 'b> Place<'a, 'b> {
     /// Before the first condition.
-    pub(crate) fn begin(alloc: Global) -> Place<'a>
+    pub(crate) fn begin(alloc: Global) -> Place<'a, 'b>
         ensures { result ≡ begin }
     {
         Place {
@@ -207,7 +207,7 @@ impl<'a> Place<'a> {
 
     /// What a variable means. It walks the variables in sight: a rule within the limits has at most 264.
     #[tactic(auto, unfolding(crate::specs::Sight::meaning_of))]
-    pub(crate) fn find(&self, name: &Text) -> Option<&Meaning<'a>>
+    pub(crate) fn find(&self, name: &Text) -> Option<&Meaning<'a, 'b>>
         ensures { option_map (λ m. m.now) result ≡ meaning_of self.now.sight name.now }
     {
         for seen in &self.seen {
@@ -222,9 +222,9 @@ impl<'a> Place<'a> {
     pub(crate) fn behind(
         self,
         alloc: Global,
-        types: &'a Declared<'a>,
+        types: &'a Declared<'b>,
         condition: &CondTree,
-    ) -> Result<Place<'a>, NoMemory>
+    ) -> Result<Place<'a, 'b>, NoMemory>
         requires { self.facts < 2 ^ 63 }
         ensures { IfOk result (λ p. p ≡ behind types.now self.entry condition.now) }
     {
