@@ -15,7 +15,7 @@ use Rattle.drl_grammar.specs.Shapes.{Optional, absent, present}
 use Rattle.drl_grammar.specs.Shapes as m
 use Rattle.drl_phrase.specs.declared.phrase.Punctuation.TheVariants as p
 use Rattle.drl_phrase.specs.Exact.{binds, Exact}
-use Rattle.drl_phrase.specs.Reading.{◌>>=◌, optional_at, whole_at}
+use Rattle.drl_phrase.specs.Reading.{◌>>=◌, whole_at}
 use Rattle.drl_phrase.proofs.ShapeLaws.{then, same_bytes, optional_sound, optional_again, optional_shorter, whole_found}
 use Rattle.drl_parse.specs.declared.words.ItemWord.{ItemWord}
 use Rattle.drl_parse.specs.declared.words.ItemWord.TheVariants.{PackageWord, ImportWord, DialectWord, DeclareWord, RuleWord}

@@ -1,18 +1,15 @@
 -- What the bytes are is what is read of them.
-use Rattle.std.proofs.Common.{◌≡◌, ◌↔◌, ℕ, zero, suc, ◌+◌, ◌-◌, ◌<◌, ◌≤◌, nat_lt, Bool, true, false, cond, List, [], ◌∷◌, length, map, Option, Some, None, Result, Ok, Err, refl, sym, ap, ◌∙◌, arith}
+use Rattle.std.proofs.Common.{◌≡◌, ◌↔◌, ℕ, zero, suc, ◌+◌, ◌-◌, ◌<◌, ◌≤◌, nat_lt, Bool, true, false, cond, List, [], ◌∷◌, length, Option, Some, None, Result, Ok, Err, refl, sym, ap, arith}
 use Rattle.std.proofs.lemmas.Bool.{ltb-true, ltb-false, lt-ltb, le-ltb}
 use Rattle.drl_lex.specs.declared.token.Token.{Token}
 use Rattle.drl_lex.specs.declared.token.TokenKind.{TokenKind}
 use Rattle.drl_lex.specs.declared.fault.LexCode.{LexCode}
-use Rattle.drl_lex.specs.Faults as lexer
-use Rattle.drl_lex.specs.Kinds.{kinds, starts}
+use Rattle.drl_lex.specs.Kinds.{kinds}
 use Rattle.drl_lex.specs.Tokens.{AreTokens}
-use Rattle.drl_lex.specs.Reading.{Read, piece_at, with_token, behind_piece, lexed_step, lexed_from, lexed}
+use Rattle.drl_lex.specs.Reading.{Read, piece_at, behind_piece, lexed_step, lexed_from, lexed}
 use Rattle.drl_lex.proofs.FileLaws.{tokens_sound, tokens_again, refused_sound, refused_again}
-use Rattle.drl_grammar.specs.declared.file.Item.{Item}
 use Rattle.drl_grammar.specs.declared.file.Body.{Body}
-use Rattle.drl_grammar.specs.declared.file.File.{File}
-use Rattle.drl_grammar.specs.Files.{line_at, lines_at, IsFile, IsOutside}
+use Rattle.drl_grammar.specs.Files.{lines_at, IsFile, IsOutside}
 use Rattle.drl_parse.specs.Items.{ItemsRead, items_at}
 use Rattle.drl_parse.specs.Parsed.{file_limit, IsLexical, Parsed, is_file, outside, too_long, lexical, items_parsed, tokens_parsed, parsed_by}
 use Rattle.drl_parse.proofs.ItemLaws as items

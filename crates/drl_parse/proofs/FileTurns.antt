@@ -1,9 +1,8 @@
 -- The steps of reading a file.
-use Rattle.std.proofs.Common.{◌≡◌, ℕ, ◌<◌, ◌≤◌, ◌^◌, nat_lt, true, false, List, length, Option, Result, Ok, Err, refl, arith}
+use Rattle.std.proofs.Common.{◌≡◌, ℕ, ◌<◌, ◌≤◌, ◌^◌, nat_lt, true, false, List, length, Result, Ok, Err, refl, arith}
 use Rattle.std.specs.Prelude.{IfOk, IfErr, IsErrAnd}
 use Rattle.std.proofs.lemmas.Bool.{ltb-false}
 use Rattle.drl_lex.specs.declared.token.Token.{Token}
-use Rattle.drl_lex.specs.declared.token.TokenKind.{TokenKind}
 use Rattle.drl_lex.specs.declared.fault.LexFault.{LexFault}
 use Rattle.drl_lex.specs.declared.fault.LexFault.TheVariants as lexer
 use Rattle.drl_lex.specs.Answers.{Fails}
@@ -12,7 +11,6 @@ use Rattle.drl_lex.specs.Reading.{lexed}
 use Rattle.drl_lex.specs.Tokens.{AreTokens}
 use Rattle.drl_lex.proofs.FileLaws.{tokens_again}
 use Rattle.drl_grammar.specs.declared.file.Item.{Item}
-use Rattle.drl_grammar.specs.declared.file.Body.{Body}
 use Rattle.drl_grammar.specs.declared.file.File.{File}
 use Rattle.drl_grammar.specs.Files.{lines_at, IsFile}
 use Rattle.drl_parse.specs.declared.fault.ParseFault.{ParseFault}

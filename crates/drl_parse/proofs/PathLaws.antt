@@ -1,5 +1,5 @@
 -- Names with dots are read exactly.
-use Rattle.std.proofs.Common.{◌≡◌, ℕ, ◌<◌, ◌≤◌, Bool, true, false, List, [], ◌∷◌, length, Some, None, refl, arith}
+use Rattle.std.proofs.Common.{◌≡◌, ℕ, ◌<◌, ◌≤◌, Bool, List, ◌∷◌, length, Some, None, refl, arith}
 use Rattle.drl_lex.specs.declared.token.TokenKind.{TokenKind}
 use Rattle.drl_lex.specs.declared.token.TokenKind.TheVariants.{Word, Mark}
 use Rattle.drl_lex.specs.declared.token.Mark.TheVariants.{Dot, Star}
@@ -8,7 +8,7 @@ use Rattle.drl_grammar.specs.Items as g
 use Rattle.drl_grammar.specs.Items.{IsStep, IsPath, IsStar}
 use Rattle.drl_grammar.specs.Shapes.{Many}
 use Rattle.drl_phrase.specs.Exact.{binds, Exact}
-use Rattle.drl_phrase.specs.Reading.{◌>>=◌, many_at}
+use Rattle.drl_phrase.specs.Reading.{many_at}
 use Rattle.drl_phrase.proofs.ShapeLaws.{then, ident_then, ident_is, Begins, many_sound, many_again, many_shorter}
 use Rattle.drl_parse.specs.Reading.{step_at, path_at, star_at}
 

@@ -7,7 +7,6 @@ use Rattle.drl_lex.specs.declared.token.TokenKind.TheVariants.{Word, Number, Tex
 use Rattle.drl_lex.specs.declared.token.Mark.TheVariants.{OpenParenthesis, Comma, Minus}
 use Rattle.drl_expr.specs.Exact.{Found}
 use Rattle.drl_expr.specs.Words.{is_ident}
-use Rattle.drl_grammar.specs.declared.condition.CondTree.{CondTree}
 use Rattle.drl_grammar.specs.declared.file.Attr.{Attr}
 use Rattle.drl_grammar.specs.declared.file.Attr.TheVariants as attr
 use Rattle.drl_grammar.specs.declared.file.RuleTree.{RuleTree}

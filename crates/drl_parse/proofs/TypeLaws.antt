@@ -17,9 +17,9 @@ use Rattle.drl_grammar.specs.Shapes.{Maybe, Many}
 use Rattle.drl_grammar.specs.Shapes as m
 use Rattle.drl_phrase.specs.declared.phrase.Punctuation.TheVariants as p
 use Rattle.drl_phrase.specs.Exact.{binds, Exact}
-use Rattle.drl_phrase.specs.Reading.{◌>>=◌, after, closed, ended, ident, many_at, maybe_at, span_at, name_at}
+use Rattle.drl_phrase.specs.Reading.{◌>>=◌, after, closed, ident, many_at, maybe_at, span_at, name_at}
 use Rattle.drl_phrase.proofs.NameLaws.{span_exact, name_exact}
-use Rattle.drl_phrase.proofs.ShapeLaws.{then, guarded, ident_then, ident_is, same_bytes, closed_then, closed_is, ended_then, ended_is, Begins, many_sound, many_again, many_shorter, maybe_sound, maybe_again, maybe_shorter}
+use Rattle.drl_phrase.proofs.ShapeLaws.{then, guarded, ident_then, ident_is, same_bytes, closed_then, ended_then, ended_is, Begins, many_sound, many_again, many_shorter, maybe_sound, maybe_again, maybe_shorter}
 use Rattle.drl_parse.specs.declared.words.MetaWord.{MetaWord}
 use Rattle.drl_parse.specs.declared.words.MetaWord.TheVariants.{RoleWord, TimestampWord, DurationWord, ExpiresWord}
 use Rattle.drl_parse.specs.Reading.{meta_text, meta_word, role_word, behind_meta, meta_at, field_at, type_at, lateness_at, behind_point, entry_at}

@@ -10,7 +10,7 @@ use Rattle.drl_lex.specs.Kinds.{kinds}
 use Rattle.drl_lex.specs.Reading.{lexed}
 use Rattle.drl_grammar.specs.declared.file.File.{File}
 use Rattle.drl_grammar.specs.declared.file.Body.{Body}
-use Rattle.drl_grammar.specs.Files.{line_at, lines_at, IsFile, IsOutside}
+use Rattle.drl_grammar.specs.Files.{line_at, lines_at, IsOutside}
 use Rattle.drl_parse.specs.declared.fault.ParseFault.{ParseFault}
 use Rattle.drl_parse.specs.declared.fault.ParseFault.TheVariants.{Syntax, TooLong, Lexical, NoMemory}
 use Rattle.drl_phrase.specs.Reading.{whole_at}

@@ -1,5 +1,5 @@
 -- Reading the items of a file: the value of the phrase at the front and the tokens behind it.
-use Rattle.std.specs.Prelude.{ℕ, ℤ, List, [], ◌∷◌, pos, neg_ℤ, Bool, true, false, Option, Some, None, if◌then◌else◌, codes}
+use Rattle.std.specs.Prelude.{ℕ, ℤ, List, ◌∷◌, pos, neg_ℤ, Bool, true, false, Option, Some, None, if◌then◌else◌, codes}
 use Rattle.std.specs.Str.{bytes_eq}
 use Rattle.drl_lex.specs.declared.token.TokenKind.{TokenKind}
 use Rattle.drl_lex.specs.declared.token.TokenKind.TheVariants.{Word, Number, Text, Mark}
