@@ -1,5 +1,5 @@
 -- What is read as an action stands in the grammar, and what stands in it is read.
-use Rattle.std.proofs.Common.{◌≡◌, ℕ, ◌<◌, ◌≤◌, Bool, true, false, cond, List, [], ◌∷◌, length, Option, Some, None, refl, arith}
+use Rattle.std.proofs.Common.{◌≡◌, ℕ, ◌<◌, ◌≤◌, Bool, true, false, cond, List, ◌∷◌, length, Some, None, refl, arith}
 use Rattle.std.specs.Prelude.{IfSome, codes}
 use Rattle.std.specs.Str.{bytes_eq}
 use Rattle.drl_lex.specs.declared.token.TokenKind.{TokenKind}
@@ -14,10 +14,10 @@ use Rattle.drl_grammar.specs.Actions as g
 use Rattle.drl_grammar.specs.Actions.{IsSetter, IsAssign, IsAction}
 use Rattle.drl_grammar.specs.Shapes.{Optional, Separated, Listed}
 use Rattle.drl_grammar.specs.declared.action.ActTree.{ActTree}
-use Rattle.drl_grammar.specs.declared.action.ActTree.TheVariants.{Insert, Modify, Retract}
+use Rattle.drl_grammar.specs.declared.action.ActTree.TheVariants.{Insert, Modify}
 use Rattle.drl_phrase.specs.declared.phrase.Punctuation.TheVariants as p
 use Rattle.drl_phrase.specs.Exact.{binds, Exact}
-use Rattle.drl_phrase.specs.Reading.{◌>>=◌, separated_at, listed_at, optional_at}
+use Rattle.drl_phrase.specs.Reading.{separated_at, listed_at, optional_at}
 use Rattle.drl_phrase.proofs.Carried.{carried}
 use Rattle.drl_phrase.proofs.ShapeLaws.{then, if_some_then, guarded, ident_then, ident_is, same_bytes, closed_then, closed_is, separated_exact, listed_exact, optional_sound, optional_again, optional_shorter}
 use Rattle.drl_action.specs.declared.word.ActionWord.{ActionWord}

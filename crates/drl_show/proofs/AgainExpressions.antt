@@ -1,22 +1,19 @@
 -- The tokens of an expression stand for it again: parentheses are never deeper than the tree is high.
-use Rattle.std.proofs.Common.{◌≡◌, ℕ, ℤ, zero, suc, pos, negsuc, ◌<◌, ◌≤◌, ◌+◌, ◌^◌, max, Bool, true, false, List, [], ◌∷◌, ◌++◌, refl, sym, ap, subst, append_assoc, arith}
-use Rattle.std.specs.Prelude.{codes}
+use Rattle.std.proofs.Common.{◌≡◌, ℕ, zero, suc, pos, negsuc, ◌≤◌, Bool, true, false, List, [], ◌∷◌, ◌++◌, refl, sym, subst, append_assoc, arith}
 use Rattle.std.specs.List.{list_all}
-use Rattle.std.specs.Str.{is_utf8}
 use Rattle.drl_lex.specs.Bytes.{begins_word, is_word_byte}
 use Rattle.drl_lex.specs.declared.token.TokenKind.{TokenKind}
 use Rattle.drl_lex.specs.declared.token.TokenKind.TheVariants.{Word, Var, Number, Text, Mark}
 use Rattle.drl_lex.specs.declared.token.Mark.TheVariants.{OpenParenthesis, CloseParenthesis, Dot, Plus, Minus, Star}
 use Rattle.drl_expr.specs.declared.literal.LitTree.{LitTree}
 use Rattle.drl_expr.specs.declared.literal.LitTree.TheVariants as l
-use Rattle.drl_expr.specs.Exact.{Phrase}
 use Rattle.drl_expr.specs.Tree.{Tree, lit, var, var_field, neg, add, sub, mul, height}
 use Rattle.drl_expr.specs.Words.{IsIdent}
 use Rattle.drl_expr.specs.Grammar as g
 use Rattle.drl_expr.specs.Grammar.{IsExpr, IsTerm, IsFactor, IsExpression}
 use Rattle.drl_show.specs.Canonical.{literal_tokens, joins, enclosed, expr_tokens, enclosed_tokens}
 use Rattle.drl_show.proofs.Fine.{Good, AllGood, fine, fine_word, fine_var, fine_number, fine_text, fine_append}
-use Rattle.drl_show.proofs.AgainShapes.{Again, Agains, regroup}
+use Rattle.drl_show.proofs.AgainShapes.{Agains, regroup}
 
 -- ---- what an expression in the grammar is made of
 

@@ -1,5 +1,5 @@
 -- The tokens of a tree stand for it again, whatever follows: for the shapes of the grammar.
-use Rattle.std.proofs.Common.{◌≡◌, ℕ, true, List, [], ◌∷◌, ◌++◌, Option, Some, None, refl, sym, ap, subst, append_assoc, arith}
+use Rattle.std.proofs.Common.{◌≡◌, true, List, [], ◌∷◌, ◌++◌, refl, sym, subst, append_assoc}
 use Rattle.std.proofs.lemmas.List.{append-nil}
 use Rattle.std.specs.List.{list_all}
 use Rattle.drl_lex.specs.declared.token.TokenKind.{TokenKind}

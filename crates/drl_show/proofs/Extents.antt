@@ -1,5 +1,5 @@
 -- The tokens of an item are as many as its first token takes from the file.
-use Rattle.std.proofs.Common.{◌≡◌, ℕ, zero, suc, ◌<◌, ◌≤◌, ◌+◌, ◌&&◌, ◌||◌, min, Bool, true, false, not, cond, List, [], ◌∷◌, ◌++◌, length, refl, sym, ap, subst, ◌∙◌, length-append, arith}
+use Rattle.std.proofs.Common.{◌≡◌, ℕ, ◌+◌, ◌&&◌, ◌||◌, Bool, true, false, not, List, [], ◌∷◌, ◌++◌, length, refl, ap, ◌∙◌, length-append, arith}
 use Rattle.std.specs.Prelude.{codes}
 use Rattle.std.specs.List.{list_all, prefix_len}
 use Rattle.std.proofs.lemmas.List.Folds.{length-prefix_len}
@@ -9,7 +9,7 @@ use Rattle.drl_lex.specs.declared.token.TokenKind.{TokenKind}
 use Rattle.drl_lex.specs.declared.token.TokenKind.TheVariants.{Word, Var, Number, Time, Text, Mark}
 use Rattle.drl_expr.specs.Words.{is_among, condition_words, value_words, is_ident, IsIdent}
 use Rattle.drl_grammar.specs.Files.{opens_block, begins_item, ends_block, count_before, extent}
-use Rattle.drl_show.proofs.Fine.{fine, both, fine_append}
+use Rattle.drl_show.proofs.Fine.{fine, both}
 
 -- no token passes the test
 abbrev pub Calm : (TokenKind → Bool) → List TokenKind → Type 0

@@ -1,8 +1,7 @@
 -- The text of a file is a file with the same items.
-use Rattle.std.proofs.Common.{◌≡◌, ℕ, zero, suc, ◌<◌, ◌≤◌, ◌+◌, ◌-◌, true, false, List, [], ◌∷◌, ◌++◌, None, length, take, drop, map, refl, sym, ap, subst, ◌∙◌, append_assoc, length-append, length-drop, arith}
+use Rattle.std.proofs.Common.{◌≡◌, ℕ, suc, ◌+◌, true, false, List, [], ◌∷◌, ◌++◌, None, length, take, drop, map, refl, sym, ap, subst, ◌∙◌, append_assoc, length-append, length-drop, arith}
 use Rattle.std.proofs.lemmas.List.{length-map}
 use Rattle.std.proofs.Math.Seq.{take-append_seam, drop-append_seam}
-use Rattle.std.specs.Prelude.{codes}
 use Rattle.std.specs.List.{All}
 use Rattle.drl_lex.specs.Bytes.{begins, is_blank}
 use Rattle.drl_lex.specs.Kinds.{kinds, starts}
@@ -20,7 +19,7 @@ use Rattle.drl_grammar.specs.declared.file.Item.{Item}
 use Rattle.drl_grammar.specs.declared.file.Body.{Body}
 use Rattle.drl_show.specs.Canonical.{each, item_word, behind_word, tokens_of_item}
 use Rattle.drl_show.specs.Shown.{shown_items, shown, StandsInGrammar, InGrammar, IsReadAgain}
-use Rattle.drl_show.specs.Texts.{token_text, spaced, joined}
+use Rattle.drl_show.specs.Texts.{token_text, spaced}
 use Rattle.drl_show.proofs.Fine.{all_good}
 use Rattle.drl_show.proofs.Spellings.{AllSpelled, ended_by_space, ended_by_newline}
 use Rattle.drl_show.proofs.Extents.{StartsWith}

@@ -1,6 +1,4 @@
-use Rattle.std.proofs.Common.{◌≡◌, List, ℕ, ◌+◌, ◌∷◌, ◌++◌, take, drop, get_or, length, ◌<◌, arith}
-use Rattle.std.specs.Str.{bytes_eq}
-use Rattle.std.specs.Prelude.{codes}
+use Rattle.std.proofs.Common.{◌≡◌, ◌∷◌, drop, get_or, arith}
 use Rattle.std.specs.Char.{to_ascii_lowercase}
 use Rattle.drl_action.proofs.Setters.{renamed_is_text}
 use Rattle.std.proofs.lemmas.Grind.{common_steps}

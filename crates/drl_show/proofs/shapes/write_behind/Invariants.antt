@@ -1,4 +1,4 @@
-use Rattle.std.proofs.Common.{◌≡◌, ◌++◌, ◌∷◌, drop}
+use Rattle.std.proofs.Common.{◌≡◌, ◌∷◌, drop}
 use Rattle.drl_lex.specs.declared.token.TokenKind.TheVariants.{Mark}
 use Rattle.drl_show.specs.Canonical.{each}
 use Rattle.drl_show.specs.Texts.{added}

@@ -1,4 +1,3 @@
-use Rattle.std.proofs.Common.{arith}
 use Rattle.drl_show.proofs.Added.{each_turn}
 use Rattle.drl_show.proofs.shapes.write_each.Goals as goal
 
