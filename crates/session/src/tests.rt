@@ -1,4 +1,5 @@
 ghost use Rattle.std.specs.Prelude.{◌≡◌, ◌<◌, ◌≤◌, ◌+◌, IfOk, IfSome};
+ghost use Rattle.std.specs.List.{list_all};
 ghost use Rattle.rule_model.specs.Programs.{IsAccepted, has_conditions};
 
 use crate::{Cell, Fired, OutLine, Session};
@@ -59,16 +60,24 @@ fn has_a_few(rule: &Rule) -> bool
     1 <= count && count <= 8
 }
 
+fn all_have_a_few(rules: &[Rule]) -> bool
+    ensures { result ≡ list_all has_conditions rules.now }
+{
+    rules.iter().all(|rule| has_a_few(rule))
+}
+
 fn accepted(program: Program) -> Option<Program>
     ensures { IfSome result IsAccepted }
 {
     let types = program.types.as_slice().len();
-    let rules = program.rules.as_slice();
-    if types <= 128 && rules.len() <= 256 && rules.iter().all(|rule| has_a_few(rule)) {
-        Some(program)
-    } else {
-        None
+    let rules = program.rules.as_slice().len();
+    if types > 128 || rules > 256 {
+        return None;
     }
+    if !all_have_a_few(program.rules.as_slice()) {
+        return None;
+    }
+    Some(program)
 }
 
 fn session(alloc: Global) -> Result<Option<Session>, NoMemory>
