@@ -5,6 +5,8 @@
 mod bindings;
 mod finding;
 mod growing;
+#[cfg(test)]
+mod tests;
 
 pub use finding::rows_of;
 pub use growing::rows_with;

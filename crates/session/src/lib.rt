@@ -6,6 +6,8 @@ mod engine;
 mod lines;
 mod reading;
 mod session;
+#[cfg(test)]
+mod tests;
 
 pub use engine::Engine;
 pub use lines::{Cell, Code, Fired, Lines, OutLine};
