@@ -8,7 +8,6 @@ use Rattle.row_delta.specs.declared.row.Row.{Row}
 use Rattle.row_delta.specs.Rows.{tags}
 use Rattle.rule_model.specs.declared.condition.Condition.{Condition}
 use Rattle.rule_model.specs.declared.condition.Condition.TheVariants.{Plain}
-use Rattle.rule_model.specs.declared.condition.Pattern.{Pattern}
 use Rattle.rule_model.specs.declared.program.Rule.{Rule}
 use Rattle.rule_model.specs.Tests.{Tuple, empty_tuple}
 use Rattle.rule_model.specs.Rows.{In, IsRow, Makes, with_fact, name_of, row_of, fits, passes, passing, candidates, extended, tuples_from, rows}
