@@ -18,6 +18,8 @@ mod room;
 mod sight;
 mod tests_of;
 mod twice;
+#[cfg(test)]
+mod tests;
 mod uses;
 
 pub use checking::check;
