@@ -25,12 +25,6 @@ fn main(rt: HostRuntime) -> ExitCode {
     let mut shelf = FileShelf::new(&rt);
     let mut script = StdSource::new(&rt);
     let mut out = StdSink::new(&rt);
-    let status = replay::<Session, FileShelf, StdSource, StdSink>(
-        rt.alloc(),
-        words,
-        &mut shelf,
-        &mut script,
-        &mut out,
-    );
+    let status = replay::<Session, _, _, _>(rt.alloc(), words, &mut shelf, &mut script, &mut out);
     ExitCode::from(status)
 }
