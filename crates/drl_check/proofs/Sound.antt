@@ -1,6 +1,6 @@
 -- The program of an accepted file is within the limits.
-use Rattle.std.proofs.Common.{◌≡◌, ◌≤◌, ◌<◌, ◌+◌, ◌&&◌, ◌++◌, ◌∷◌, ℕ, Bool, true, false, not, List, [], map, length, nat_le, nat_lt, refl, sym, ap, subst, ◌∙◌, append_assoc, length-append, arith}
-use Rattle.std.specs.List.{list_all}
+use Rattle.std.proofs.Common.{◌≡◌, ◌≤◌, ◌<◌, ◌+◌, ◌&&◌, ◌||◌, ◌++◌, ◌∷◌, ℕ, Bool, true, false, not, List, [], map, length, nat_le, nat_lt, refl, sym, ap, subst, ◌∙◌, append_assoc, length-append, arith}
+use Rattle.std.specs.List.{list_all, list_any}
 use Rattle.std.proofs.lemmas.Bool.Decides.{nat_tests}
 use Rattle.std.proofs.lemmas.List.{append-nil, length-map}
 use Rattle.drl_grammar.specs.declared.condition.CondTree.{CondTree}
@@ -13,10 +13,11 @@ use Rattle.drl_grammar.specs.declared.file.TypeTree.{TypeTree}
 use Rattle.drl_grammar.specs.declared.file.RuleTree.{RuleTree}
 use Rattle.rule_model.specs.declared.program.Rule.{Rule}
 use Rattle.rule_model.specs.Programs.{has_conditions, IsAccepted}
-use Rattle.drl_check.specs.declared.fault.CheckCode.TheVariants.{LimitPassed}
+use Rattle.drl_check.specs.declared.fault.CheckCode.TheVariants.{NotBuilt, LimitPassed}
 use Rattle.drl_check.specs.Declarations.{types_of, rules_of, type_in, rule_in}
 use Rattle.drl_check.specs.Sight.{Place, begin, behind}
 use Rattle.drl_check.specs.Limits.{passes_limit_behind, passes_limit, type_within, rule_within, attr_within, condition_within, is_name}
+use Rattle.drl_check.specs.Built.{condition_unbuilt, not_built}
 use Rattle.drl_check.specs.Names.{is_short}
 use Rattle.drl_check.specs.Checks.{fails, Passes, AllPass, IsAcceptedFile}
 use Rattle.drl_check.specs.Programs.{condition_of, conditions_of, rule_of, type_info, program_of}
@@ -61,21 +62,7 @@ few_rules all before (item ∷ items) p h =
     let more : length (rules_of (before ++ item ∷ [])) ≤ 256 = omega (arith, fits, ap length (rules_next before item), length-append (rules_of before) (rule_in item.body)) in
     subst (λ (is : List Item). length (rules_of is) ≤ 256) (append_assoc before (item ∷ []) items) (few_rules all (before ++ item ∷ []) items p.1 more)
 
--- ---- conditions are few
-
-one_condition : (types : List TypeTree) (place : Place) (c : CondTree) → length (condition_of types place c) ≤ 1
-one_condition types place (tree.Plain s) = omega arith
-one_condition types place (tree.Negated s) = omega arith
-one_condition types place (tree.Existing s) = omega arith
-one_condition types place (tree.Folded a b c d e) = omega arith
-
-few_conditions : (types : List TypeTree) (place : Place) (cs : List CondTree) → length (conditions_of types place cs) ≤ length cs
-unfolding conditions_of
-few_conditions types place [] = omega arith
-few_conditions types place (c ∷ cs) =
-    let one = one_condition types place c in
-    let rest = few_conditions types (behind types place c) cs in
-    omega (arith, one, rest, length-append (condition_of types place c) (conditions_of types (behind types place c) cs))
+-- ---- conditions are few, and there are some
 
 and_right : (a b : Bool) → (a && b) ≡ true → b ≡ true
 and_right true b e = e
@@ -90,38 +77,60 @@ not_and_right true true e = refl
 not_and_right true false e = absurd cc
 not_and_right false b e = absurd cc
 
-most : (n m : ℕ) → nat_le n m ≡ true → n ≤ m
-most n m e = grind (arith, nat_tests)
-
-at_most : (n m : ℕ) → n ≤ m → nat_le n m ≡ true
-at_most n m e = grind (arith, nat_tests)
-
--- a rule within the limits has few conditions
-rule_sound : (types : List TypeTree) (r : RuleTree) → rule_within r ≡ true → has_conditions (rule_of types r) ≡ true
-rule_sound types r e =
-    let many = few_conditions types begin r.conditions in
-    let tests = list_all condition_within r.conditions in
-    let before = nat_lt 0 (length r.name) && is_short 256 r.name && list_all attr_within r.attrs in
-    let h : nat_le (length r.conditions) 8 ≡ true = and_right before (nat_le (length r.conditions) 8) (and_left (before && nat_le (length r.conditions) 8) tests e) in
-    at_most (length (conditions_of types begin r.conditions)) 8 (omega (arith, many, most (length r.conditions) 8 h))
-
 both : (a b : Bool) → a ≡ true → b ≡ true → (a && b) ≡ true
 both true b e h = h
 both false b e h = absurd cc
 
-body_sound : (types : List TypeTree) (n m : ℕ) (b : Body) (rest : List RuleTree) → passes_limit_behind n m b ≡ false → list_all has_conditions (map (rule_of types) rest) ≡ true
+-- each condition that is built is one of the program
+exactly_one : (types : List TypeTree) (place : Place) (c : CondTree) → condition_unbuilt c ≡ false → length (condition_of types place c) ≡ 1
+exactly_one types place (tree.Plain s) e = refl
+exactly_one types place (tree.Negated s) e = absurd cc
+exactly_one types place (tree.Existing s) e = absurd cc
+exactly_one types place (tree.Folded a b c d e) h = absurd cc
+
+or_left : (a b : Bool) → (a || b) ≡ false → a ≡ false
+or_left false b e = refl
+or_left true b e = absurd cc
+
+or_right : (a b : Bool) → (a || b) ≡ false → b ≡ false
+or_right false b e = e
+or_right true b e = absurd cc
+
+as_many : (types : List TypeTree) (place : Place) (cs : List CondTree) → list_any condition_unbuilt cs ≡ false → length (conditions_of types place cs) ≡ length cs
+unfolding conditions_of
+as_many types place [] e = refl
+as_many types place (c ∷ cs) e =
+    let one = exactly_one types place c (or_left (condition_unbuilt c) (list_any condition_unbuilt cs) e) in
+    let rest = as_many types (behind types place c) cs (or_right (condition_unbuilt c) (list_any condition_unbuilt cs) e) in
+    omega (arith, one, rest, length-append (condition_of types place c) (conditions_of types (behind types place c) cs))
+
+some : (n : ℕ) → nat_lt 0 n ≡ true → nat_le 1 n ≡ true
+some n e = grind (arith, nat_tests)
+
+-- a built rule within the limits has few conditions, and one at least
+rule_sound : (types : List TypeTree) (r : RuleTree) → list_any condition_unbuilt r.conditions ≡ false → rule_within r ≡ true → has_conditions (rule_of types r) ≡ true
+rule_sound types r built e =
+    let n = length r.conditions in
+    let tests = list_all condition_within r.conditions in
+    let before = nat_lt 0 (length r.name) && is_short 256 r.name && list_all attr_within r.attrs in
+    let front = and_left (before && nat_lt 0 n && nat_le n 8) tests e in
+    let few : nat_le n 8 ≡ true = and_right (before && nat_lt 0 n) (nat_le n 8) front in
+    let one : nat_lt 0 n ≡ true = and_right before (nat_lt 0 n) (and_left (before && nat_lt 0 n) (nat_le n 8) front) in
+    rw (as_many types begin r.conditions built) (both (nat_le 1 n) (nat_le n 8) (some n one) few)
+
+body_sound : (types : List TypeTree) (n m : ℕ) (b : Body) (rest : List RuleTree) → not_built b ≡ false → passes_limit_behind n m b ≡ false → list_all has_conditions (map (rule_of types) rest) ≡ true
     → list_all has_conditions (map (rule_of types) (rule_in b ++ rest)) ≡ true
-body_sound types n m (body.Rule r) rest e h = both (has_conditions (rule_of types r)) (list_all has_conditions (map (rule_of types) rest)) (rule_sound types r (not_and_right (nat_lt m 256) (rule_within r) e)) h
-body_sound types n m (body.Declare t) rest e h = h
-body_sound types n m (body.Package p) rest e h = h
-body_sound types n m (body.Import p s) rest e h = h
-body_sound types n m (body.Dialect d) rest e h = h
-body_sound types n m (body.Entry a l) rest e h = h
+body_sound types n m (body.Rule r) rest built e h = both (has_conditions (rule_of types r)) (list_all has_conditions (map (rule_of types) rest)) (rule_sound types r (or_right (nat_lt 0 (length r.actions)) (list_any condition_unbuilt r.conditions) built) (not_and_right (nat_lt m 256) (rule_within r) e)) h
+body_sound types n m (body.Declare t) rest built e h = h
+body_sound types n m (body.Package p) rest built e h = h
+body_sound types n m (body.Import p s) rest built e h = h
+body_sound types n m (body.Dialect d) rest built e h = h
+body_sound types n m (body.Entry a l) rest built e h = h
 
 all_sound : (types : List TypeTree) (all before items : List Item) → AllPass all before items → list_all has_conditions (map (rule_of types) (rules_of items)) ≡ true
 all_sound types all before [] p = refl
 all_sound types all before (item ∷ items) p =
-    body_sound types (length (types_of before)) (length (rules_of before)) item.body (rules_of items) (p.0 LimitPassed) (all_sound types all (before ++ item ∷ []) items p.1)
+    body_sound types (length (types_of before)) (length (rules_of before)) item.body (rules_of items) (p.0 NotBuilt) (p.0 LimitPassed) (all_sound types all (before ++ item ∷ []) items p.1)
 
 pub accepted_sound : (file : File) → IsAcceptedFile file → IsAccepted (program_of file)
 accepted_sound file a =

@@ -70,9 +70,9 @@ abbrev pub attr_within : Attr → Bool
 attr_within (attr.Salience n) = nat_le (unsigned_abs n) 2147483647
 attr_within (attr.Dialect text) = is_text text
 
--- a rule's name has 1 to 256 bytes; a rule has at most 8 conditions
+-- a rule's name has 1 to 256 bytes; a rule has 1 to 8 conditions
 abbrev pub rule_within : RuleTree → Bool
-rule_within r = nat_lt 0 (length r.name) && is_short 256 r.name && list_all attr_within r.attrs && nat_le (length r.conditions) 8 && list_all condition_within r.conditions
+rule_within r = nat_lt 0 (length r.name) && is_short 256 r.name && list_all attr_within r.attrs && nat_lt 0 (length r.conditions) && nat_le (length r.conditions) 8 && list_all condition_within r.conditions
 
 -- a type has at most 32 fields
 abbrev pub type_within : TypeTree → Bool

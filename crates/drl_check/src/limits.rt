@@ -151,6 +151,7 @@ fn is_rule_within(tree: &RuleTree) -> bool
     tree.name.as_str().len() > 0
         && has_at_most(RULE_NAME_MAX, &tree.name)
         && are_attrs_within(tree.attrs.as_slice())
+        && tree.conditions.as_slice().len() > 0
         && tree.conditions.as_slice().len() <= CONDITIONS_MAX
         && are_conditions_within(tree.conditions.as_slice())
 }

@@ -1,12 +1,12 @@
 -- What the program of every accepted file has.
-use Rattle.std.specs.Prelude.{◌≡◌, ◌≤◌, Bool, true, length, nat_le}
+use Rattle.std.specs.Prelude.{◌≡◌, ◌≤◌, ◌&&◌, Bool, true, length, nat_le}
 use Rattle.std.specs.List.{list_all}
 use Rattle.rule_model.specs.declared.program.Program.{Program}
 use Rattle.rule_model.specs.declared.program.Rule.{Rule}
 
--- at most eight conditions
+-- one to eight conditions
 abbrev pub has_conditions : Rule → Bool
-has_conditions rule = nat_le (length rule.conditions) 8
+has_conditions rule = nat_le 1 (length rule.conditions) && nat_le (length rule.conditions) 8
 
 pub record IsAccepted (p : Program) : Type 0 where
   pub few_types : length p.types ≤ 128
