@@ -145,14 +145,14 @@ refound all before [] item after f earlier n l first =
     let number : length before + 1 ≡ f.number = omega (arith, n) in
     let made : ℕ → ℕ → Failure = λ n l. record { number = n; line = l; code = f.code } in
     ap (λ o. failure_at (length before + 1) item.line o (failure_from all (before ++ item ∷ []) after)) (is_first all before item.body codes_in_order f.code h)
-      ∙ ap (λ n. Some (made n item.line)) number ∙ ap (λ l. Some (made f.number l)) (sym l)
+    ∙ ap (λ n. Some (made n item.line)) number ∙ ap (λ l. Some (made f.number l)) (sym l)
 refound all before (x ∷ front) item after f earlier n l first =
     let passes : Passes all before x.body = subst (λ (bs : List Item). Passes all bs x.body) (append-nil before) (earlier [] x front refl) in
     ap (λ o. failure_at (length before + 1) x.line o (failure_from all (before ++ x ∷ []) (front ++ (item ∷ after)))) (none_of all before x.body codes_in_order passes)
-      ∙ refound all (before ++ x ∷ []) front item after f
-          (λ a p c e. subst (λ (bs : List Item). Passes all bs p.body) (sym (one_more before x a)) (earlier (x ∷ a) p c (ap (λ zs. x ∷ zs) e)))
-          (omega (arith, n, length-append before (x ∷ []))) l
-          (subst (λ (bs : List Item). FailsFirst codes_in_order f.code all bs item.body) (sym (one_more before x front)) first)
+    ∙ refound all (before ++ x ∷ []) front item after f
+    (λ a p c e. subst (λ (bs : List Item). Passes all bs p.body) (sym (one_more before x a)) (earlier (x ∷ a) p c (ap (λ zs. x ∷ zs) e)))
+    (omega (arith, n, length-append before (x ∷ []))) l
+    (subst (λ (bs : List Item). FailsFirst codes_in_order f.code all bs item.body) (sym (one_more before x front)) first)
 
 pub exact_none : (file : File) → failure_of file ≡ None ↔ IsAcceptedFile file
 exact_none file = (none_passes file.items [] file.items, passes_none file.items [] file.items)

@@ -39,13 +39,13 @@ pub type_names_next : (all : List Item) (k : ℕ) (item : Item) (names : List (L
     → names ++ type_names (type_in item.body) ≡ type_names (types_of (take (k + 1) all))
 type_names_next all k item names lt e is =
     ap (λ ns. ns ++ type_names (type_in item.body)) is ∙ sym (map-append (λ (t : TypeTree). t.name) (types_of (take k all)) (type_in item.body))
-      ∙ ap type_names (sym (types_next (take k all) item)) ∙ ap (λ items. type_names (types_of items)) (sym (take_next all k item lt e))
+    ∙ ap type_names (sym (types_next (take k all) item)) ∙ ap (λ items. type_names (types_of items)) (sym (take_next all k item lt e))
 
 pub rule_names_next : (all : List Item) (k : ℕ) (item : Item) (names : List (List ℕ)) → k < length all → item ≡ get_or all k item → names ≡ rule_names (rules_of (take k all))
     → names ++ rule_names (rule_in item.body) ≡ rule_names (rules_of (take (k + 1) all))
 rule_names_next all k item names lt e is =
     ap (λ ns. ns ++ rule_names (rule_in item.body)) is ∙ sym (map-append (λ (r : RuleTree). r.name) (rules_of (take k all)) (rule_in item.body))
-      ∙ ap rule_names (sym (rules_next (take k all) item)) ∙ ap (λ items. rule_names (rules_of items)) (sym (take_next all k item lt e))
+    ∙ ap rule_names (sym (rules_next (take k all) item)) ∙ ap (λ items. rule_names (rules_of items)) (sym (take_next all k item lt e))
 
 pub failing_is : (all before : List Item) (declared : List TypeTree) (types rules : List (List ℕ)) (b : Body) → declared ≡ types_of all → types ≡ type_names (types_of before)
     → rules ≡ rule_names (rules_of before) → first_failing declared types rules b ≡ first_code codes_in_order all before b
@@ -63,16 +63,16 @@ unfolding failure_from
 loop_found all k item code lt e h =
     let n : length (take k all) ≡ k = length-take-le k all (omega (arith, lt)) in
     ap (failure_from all (take k all)) (drop_next all k item lt e)
-      ∙ ap (λ o. failure_at (length (take k all) + 1) item.line o (failure_from all (take k all ++ item ∷ []) (drop (k + 1) all))) h
-      ∙ ap (λ j. Some (failure (j + 1) item.line code)) n
+    ∙ ap (λ o. failure_at (length (take k all) + 1) item.line o (failure_from all (take k all ++ item ∷ []) (drop (k + 1) all))) h
+    ∙ ap (λ j. Some (failure (j + 1) item.line code)) n
 
 pub loop_passed : (all : List Item) (k : ℕ) (item : Item) → k < length all → item ≡ get_or all k item → first_code codes_in_order all (take k all) item.body ≡ None
     → failure_from all (take k all) (drop k all) ≡ failure_from all (take (k + 1) all) (drop (k + 1) all)
 unfolding failure_from
 loop_passed all k item lt e h =
     ap (failure_from all (take k all)) (drop_next all k item lt e)
-      ∙ ap (λ o. failure_at (length (take k all) + 1) item.line o (failure_from all (take k all ++ item ∷ []) (drop (k + 1) all))) h
-      ∙ ap (λ before. failure_from all before (drop (k + 1) all)) (sym (take_next all k item lt e))
+    ∙ ap (λ o. failure_at (length (take k all) + 1) item.line o (failure_from all (take k all ++ item ∷ []) (drop (k + 1) all))) h
+    ∙ ap (λ before. failure_from all before (drop (k + 1) all)) (sym (take_next all k item lt e))
 
 pub loop_ended : (all before : List Item) (k : ℕ) → length all ≤ k → failure_from all before (drop k all) ≡ None
 unfolding failure_from

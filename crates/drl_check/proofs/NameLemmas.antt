@@ -126,8 +126,8 @@ unfolding are_distinct
 still_distinct [] name e h = refl
 still_distinct (first ∷ names) name e h =
     still_apart (is_among names first) (are_distinct names) (is_among (names ++ name ∷ []) first) (are_distinct (names ++ name ∷ [])) e
-      (λ g. among_last names name first g (turned first name ∙ or_left_false (bytes_eq name first) (is_among names name) h))
-      (λ g. still_distinct names name g (or_right_false (bytes_eq name first) (is_among names name) h))
+    (λ g. among_last names name first g (turned first name ∙ or_left_false (bytes_eq name first) (is_among names name) h))
+    (λ g. still_distinct names name g (or_right_false (bytes_eq name first) (is_among names name) h))
 
 -- ---- the same, of a list that is read from its front
 

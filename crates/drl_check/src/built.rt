@@ -22,9 +22,7 @@ fn has_unbuilt_part(parts: &[Part]) -> bool
 fn is_source_unbuilt(source: &SourceTree) -> bool
     ensures { result ≡ source_unbuilt source.now }
 {
-    source.window.is_some()
-        || source.entry.is_some()
-        || has_unbuilt_part(source.parts.as_slice())
+    source.window.is_some() || source.entry.is_some() || has_unbuilt_part(source.parts.as_slice())
 }
 
 fn is_condition_unbuilt(condition: &CondTree) -> bool

@@ -84,17 +84,14 @@ fn does_misfit(rel: Rel, left: Option<Kind>, right: Option<Option<Kind>>) -> boo
     }
 }
 
-fn misfits_some(
-    ty: &DeclaredType,
-    place: &Place,
-    left: Option<Kind>,
-    operands: &[Operand],
-) -> bool
+fn misfits_some(ty: &DeclaredType, place: &Place, left: Option<Kind>, operands: &[Operand]) -> bool
     ensures { result ≡ list_any (λ (o : Operand). misfits Equal left (operand_kind ty.now place.now.sight o)) operands.now }
 {
-    operands
-        .iter()
-        .any(|operand| does_misfit(Rel::Equal, left, kind_of_operand(ty, place, operand)))
+    operands.iter().any(|operand| does_misfit(
+        Rel::Equal,
+        left,
+        kind_of_operand(ty, place, operand),
+    ))
 }
 
 fn misfits_in_cmp(ty: &DeclaredType, place: &Place, cmp: &Cmp) -> bool

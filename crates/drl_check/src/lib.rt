@@ -16,10 +16,10 @@ mod programs;
 mod refusal;
 mod room;
 mod sight;
-mod tests_of;
-mod twice;
 #[cfg(test)]
 mod tests;
+mod tests_of;
+mod twice;
 mod uses;
 
 pub use checking::check;

@@ -171,11 +171,7 @@ fn rule(alloc: Global, types: &Declared, tree: &RuleTree) -> Result<Rule, NoMemo
     })
 }
 
-fn rules(
-    alloc: Global,
-    types: &Declared,
-    items: &[Item],
-) -> Result<Seq<Rule>, NoMemory>
+fn rules(alloc: Global, types: &Declared, items: &[Item]) -> Result<Seq<Rule>, NoMemory>
     ensures { IfOk result (λ rules. rules ≡ map (rule_of types.now) (rules_of items.now)) }
 {
     let mut rules = Vec::new(alloc);
@@ -189,11 +185,7 @@ fn rules(
 }
 
 /// The program of the items of a file, whose types these are.
-pub(crate) fn program(
-    alloc: Global,
-    types: &Declared,
-    items: &[Item],
-) -> Result<Program, NoMemory>
+pub(crate) fn program(alloc: Global, types: &Declared, items: &[Item]) -> Result<Program, NoMemory>
     ensures { IfOk result (λ program. program ≡ program_with types.now items.now) }
 {
     Ok(Program {

@@ -26,11 +26,7 @@ fn is_type_missing(types: &Declared, body: &Body) -> bool
     }
 }
 
-fn is_field_missing(
-    alloc: Global,
-    types: &Declared,
-    body: &Body,
-) -> Result<bool, NoMemory>
+fn is_field_missing(alloc: Global, types: &Declared, body: &Body) -> Result<bool, NoMemory>
     ensures { IfOk result (λ missing. missing ≡ lacks_field_of types.now body.now) }
 {
     match body {
@@ -44,11 +40,7 @@ fn is_field_missing(
     }
 }
 
-fn is_variable_missing(
-    alloc: Global,
-    types: &Declared,
-    body: &Body,
-) -> Result<bool, NoMemory>
+fn is_variable_missing(alloc: Global, types: &Declared, body: &Body) -> Result<bool, NoMemory>
     ensures { IfOk result (λ missing. missing ≡ lacks_variable_of types.now body.now) }
 {
     match body {
@@ -62,11 +54,7 @@ fn is_variable_missing(
     }
 }
 
-fn is_kind_wrong(
-    alloc: Global,
-    types: &Declared,
-    body: &Body,
-) -> Result<bool, NoMemory>
+fn is_kind_wrong(alloc: Global, types: &Declared, body: &Body) -> Result<bool, NoMemory>
     ensures { IfOk result (λ wrong. wrong ≡ is_wrong_kind types.now body.now) }
 {
     match body {
@@ -82,11 +70,7 @@ fn is_kind_wrong(
 }
 
 // The first code that an item fails, which looks into the conditions of rules.
-fn failing_use(
-    alloc: Global,
-    types: &Declared,
-    body: &Body,
-) -> Result<Option<CheckCode>, NoMemory>
+fn failing_use(alloc: Global, types: &Declared, body: &Body) -> Result<Option<CheckCode>, NoMemory>
     ensures { IfOk result (λ code. code ≡ first_failing_use types.now body.now) }
 {
     if is_type_missing(types, body) {
@@ -154,11 +138,7 @@ fn number_of(place: usize) -> u32
 }
 
 /// The first failure of the items of a file, whose types these are.
-pub(crate) fn refusal(
-    alloc: Global,
-    types: &Declared,
-    items: &[Item],
-) -> Result<(), CheckFault>
+pub(crate) fn refusal(alloc: Global, types: &Declared, items: &[Item]) -> Result<(), CheckFault>
     requires { types.now ≡ types_of items.now }
     ensures { Judges result (failure_from items.now [] items.now) }
 {

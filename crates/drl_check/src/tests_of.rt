@@ -79,12 +79,7 @@ fn sides(
     Ok(Seq::from_vec(sides))
 }
 
-fn compare(
-    alloc: Global,
-    ty: &DeclaredType,
-    place: &Place,
-    cmp: &Cmp,
-) -> Result<Compare, NoMemory>
+fn compare(alloc: Global, ty: &DeclaredType, place: &Place, cmp: &Cmp) -> Result<Compare, NoMemory>
     ensures { IfOk result (λ compare. compare ≡ compare_of ty.now place.now.sight cmp.now) }
 {
     match cmp {

@@ -59,11 +59,7 @@ fn add_source(alloc: Global, names: &mut Vec<Text>, source: &SourceTree) -> Resu
     Ok(())
 }
 
-fn add_condition(
-    alloc: Global,
-    names: &mut Vec<Text>,
-    condition: &CondTree,
-) -> Result<(), NoMemory>
+fn add_condition(alloc: Global, names: &mut Vec<Text>, condition: &CondTree) -> Result<(), NoMemory>
     ensures { OnOk result (names.new.items ≡ names.old.items ++ bound_in condition.now) }
 {
     match condition {
@@ -110,12 +106,12 @@ pub(crate) fn repeats(
     ensures { IfOk result (λ twice. twice ≡ is_repeated types.now rules.now body.now) }
 {
     match body {
-        Body::Declare(tree) => {
-            Ok(types.holds(&tree.name) || !have_fields_apart(alloc, tree)?)
-        }
-        Body::Rule(tree) => Ok(rules.holds(&tree.name)
-            || !have_attrs_apart(alloc, tree)?
-            || !have_variables_apart(alloc, tree)?),
+        Body::Declare(tree) => { Ok(types.holds(&tree.name) || !have_fields_apart(alloc, tree)?) }
+        Body::Rule(tree) => Ok(
+            rules.holds(&tree.name)
+                || !have_attrs_apart(alloc, tree)?
+                || !have_variables_apart(alloc, tree)?,
+        ),
         _ => Ok(false),
     }
 }

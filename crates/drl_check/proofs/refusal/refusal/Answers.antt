@@ -11,11 +11,12 @@ returns-in-Some c =
     let place = c.loop-place.place in
     let item = c.index-items-place.result in
     let code : first_code codes_in_order items (take place items) item.body ≡ Some c.in-Some.code =
-      sym (failing_is items (take place items) c.args.types.now c.loop-place.earlier_types c.loop-place.earlier_rules item.body c.requires c.loop-place.invariant.types c.loop-place.invariant.rules)
-        ∙ sym c.in_ok-code.ensures ∙ c.in-Some.is in
-    (record { number = place + 1; line = item.line; code = c.in-Some.code },
+    sym (failing_is items (take place items) c.args.types.now c.loop-place.earlier_types c.loop-place.earlier_rules item.body c.requires c.loop-place.invariant.types c.loop-place.invariant.rules)
+    ∙ sym c.in_ok-code.ensures ∙ c.in-Some.is in (
+      record { number = place + 1; line = item.line; code = c.in-Some.code },
       sym c.loop-place.invariant.same ∙ loop_found items place item c.in-Some.code (omega arith) c.index-items-place.is code,
-        ap (λ n. Refused n item.line c.in-Some.code) (sym c.number_of.ensures))
+      ap (λ n. Refused n item.line c.in-Some.code) (sym c.number_of.ensures),
+    )
 
 pub loop-place-preserved : goal.loop-place-preserved
 loop-place-preserved c =
@@ -23,8 +24,8 @@ loop-place-preserved c =
     let place = c.loop-place.place in
     let item = c.index-items-place.result in
     let code : first_code codes_in_order items (take place items) item.body ≡ None =
-      sym (failing_is items (take place items) c.args.types.now c.loop-place.earlier_types c.loop-place.earlier_rules item.body c.requires c.loop-place.invariant.types c.loop-place.invariant.rules)
-        ∙ sym c.in_ok-code.ensures ∙ c.in-None.is in
+    sym (failing_is items (take place items) c.args.types.now c.loop-place.earlier_types c.loop-place.earlier_rules item.body c.requires c.loop-place.invariant.types c.loop-place.invariant.rules)
+    ∙ sym c.in_ok-code.ensures ∙ c.in-None.is in
     record {
       types = c.in_ok-earlier_types.ensures ∙ type_names_next items place item c.loop-place.earlier_types (omega arith) c.index-items-place.is c.loop-place.invariant.types;
       rules = c.in_ok-earlier_rules.ensures ∙ rule_names_next items place item c.loop-place.earlier_rules (omega arith) c.index-items-place.is c.loop-place.invariant.rules;

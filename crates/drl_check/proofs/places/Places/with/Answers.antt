@@ -14,10 +14,10 @@ pub invariant_of-result : goal.invariant_of-result
 invariant_of-result c = λ name.
     let names = c.self.inside.names.items in
     let found : is_some (place_of names c.args.name.now) ≡ not c.is_none.result =
-      ap is_some (sym (c.self.invariant c.args.name.now)) ∙ ap is_some (sym c.get.ensures.value) ∙ copied c.get.result ∙ c.is_none.ensures in
+    ap is_some (sym (c.self.invariant c.args.name.now)) ∙ ap is_some (sym c.get.ensures.value) ∙ copied c.get.result ∙ c.is_none.ensures in
     elim c.if-is_none.branch [
-        then-is_none+in_ok-copy-2+in_ok-insert w ↦ let u = w.in_ok-insert.ensures.updates.0 name in let k = added names c.args.name.now name (found ∙ ap not w.if-is_none.true) in
+      | then-is_none+in_ok-copy-2+in_ok-insert w ↦ let u = w.in_ok-insert.ensures.updates.0 name in let k = added names c.args.name.now name (found ∙ ap not w.if-is_none.true) in
           grind (arith, u, k, w.first-is, c.in_ok-push.ensures.items, c.in_ok-copy.ensures, w.in_ok-copy-2.ensures, c.len-place.ensures, c.self.invariant name)
       | else-is_none w ↦ let k = kept names c.args.name.now name (found ∙ ap not w.if-is_none.false) in
           grind (arith, k, w.first-is, c.in_ok-push.ensures.items, c.in_ok-copy.ensures, c.self.invariant name)
-      ]
+    ]
