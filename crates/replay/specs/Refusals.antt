@@ -17,6 +17,25 @@ use Rattle.replay.specs.declared.refusal.Refusal.{Refusal}
 use Rattle.replay.specs.declared.rule_file.Reading.{Reading}
 use Rattle.replay.specs.declared.rule_file.Reading.TheVariants.{Accepted, Refused}
 
+-- the file as a whole
+abbrev pub whole_file : RefusalCode → Refusal
+whole_file reason = record { item = 0; line = 0; code = reason }
+
+abbrev pub lexical_code : LexCode → RefusalCode
+lexical_code lex.BadChar = code.BadChar
+lexical_code lex.OpenText = code.OpenText
+lexical_code lex.OpenComment = code.OpenComment
+lexical_code lex.NumberLarge = code.NumberLarge
+
+abbrev pub check_code : CheckCode → RefusalCode
+check_code check.NotBuilt = code.NotBuilt
+check_code check.TwiceDeclared = code.TwiceDeclared
+check_code check.LimitPassed = code.LimitPassed
+check_code check.UnknownType = code.UnknownType
+check_code check.UnknownField = code.UnknownField
+check_code check.UnknownVariable = code.UnknownVariable
+check_code check.WrongKind = code.WrongKind
+
 -- a file that passes all checks, or its first failure
 abbrev pub of_checked : Result Program Failure → Reading
 of_checked (Ok program) = Accepted program
