@@ -101,7 +101,13 @@ fn run_of(alloc: Global, rules: &[u8], script: &[u8]) -> Result<(u8, Vec<u8>), F
     let mut sink = MemSink::new(alloc, 1_048_576, Vec::new(alloc))?;
     let mut words = Vec::new(alloc);
     words.push(String::from_str(alloc, "RULES")?)?;
-    let status = replay::<Session, MemShelf, MemSource, MemSink>(alloc, &words, &mut shelf, &mut source, &mut sink);
+    let status = replay::<Session, MemShelf, MemSource, MemSink>(
+        alloc,
+        &words,
+        &mut shelf,
+        &mut source,
+        &mut sink,
+    );
     let written = sink.written().to_vec(alloc)?;
     Ok((status, written))
 }

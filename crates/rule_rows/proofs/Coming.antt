@@ -137,6 +137,7 @@ module _ (facts : List Fact) (f : Fact) where
       only true (inl e) = e
       only true (inr j) = absurd j
       only false j = absurd j
+
       by : (d : Bool) → In g (filter test (cond d (f ∷ []) [])) → g ≡ f
       by true j = only (test f) j
       by false j = absurd j

@@ -15,35 +15,119 @@ const REFUSED: [(&str, &str); 38] = [
     ("declare A x : long", "item 1 line 1 Syntax"),
     ("declare A end\n\ndeclare A : end", "item 2 line 3 Syntax"),
     ("declare A end declare A end (", "item 2 line 1 Syntax"),
-    ("declare A @role( event ) x : long x : long end", "item 1 line 1 NotBuilt"),
+    (
+        "declare A @role( event ) x : long x : long end",
+        "item 1 line 1 NotBuilt",
+    ),
     ("declare entry-point X end", "item 1 line 1 NotBuilt"),
-    ("declare A end rule \"r\" when $a : A() then retract( $a ) end", "item 2 line 1 NotBuilt"),
-    ("declare A end rule \"r\" when not( A() ) then end", "item 2 line 1 NotBuilt"),
-    ("declare A end rule \"r\" when A() over window:length( 2 ) then end", "item 2 line 1 NotBuilt"),
-    ("declare A end rule \"r\" when A() from entry-point \"X\" then end", "item 2 line 1 NotBuilt"),
-    ("declare A end rule \"r\" when $a : A() A( this after $a ) then end", "item 2 line 1 NotBuilt"),
-    ("declare A end rule \"r\" when Number() from accumulate( A( $x : y ), count( $x ) ) then end", "item 2 line 1 NotBuilt"),
-    ("declare A end\ndeclare A end", "item 2 line 2 TwiceDeclared"),
-    ("declare A x : long x : long end", "item 1 line 1 TwiceDeclared"),
-    ("declare A end rule a when A() then end rule \"a\" when A() then end", "item 3 line 1 TwiceDeclared"),
-    ("declare A end rule a salience 1, salience 2 when A() then end", "item 2 line 1 TwiceDeclared"),
-    ("declare A end\nrule \"\" when $a : A() $a : A() then end", "item 2 line 2 TwiceDeclared"),
-    ("rule \"\" when Nope() then end", "item 1 line 1 LimitPassed"),
-    ("declare A end rule a salience 2147483648 when A() then end", "item 2 line 1 LimitPassed"),
-    ("declare A end rule a when A() A() A() A() A() A() A() A() A() then end", "item 2 line 1 LimitPassed"),
-    ("rule r when Nope( y == $z ) then end", "item 1 line 1 UnknownType"),
-    ("declare A x : long end rule r when A( y == $z ) then end", "item 2 line 1 UnknownField"),
-    ("declare A x : long end rule r when A( $v : y ) then end", "item 2 line 1 UnknownField"),
-    ("declare A x : long end declare B y : long end rule r when A( y == 1 ) then end", "item 3 line 1 UnknownField"),
-    ("declare A x : long end rule r when $a : A() A( x == $a.y ) then end", "item 2 line 1 UnknownField"),
-    ("declare A x : long end rule r when A( x == $z, x == \"a\" ) then end", "item 2 line 1 UnknownVariable"),
-    ("declare A x : long end rule r when A( $v : x, x == $v ) then end", "item 2 line 1 UnknownVariable"),
-    ("declare A x : long end rule r when A( x == \"a\" ) then end", "item 2 line 1 WrongKind"),
-    ("declare A x : String end rule r when A( x < \"a\" ) then end", "item 2 line 1 WrongKind"),
-    ("declare A x : long end rule r when A( x in ( 1, true ) ) then end", "item 2 line 1 WrongKind"),
-    ("declare A x : long end rule r when $a : A() A( x == $a ) then end", "item 2 line 1 WrongKind"),
-    ("declare A x : long end rule r when A( $v : x ) A( x == $v.x ) then end", "item 2 line 1 WrongKind"),
-    ("declare A x : float end declare A end", "item 1 line 1 WrongKind"),
+    (
+        "declare A end rule \"r\" when $a : A() then retract( $a ) end",
+        "item 2 line 1 NotBuilt",
+    ),
+    (
+        "declare A end rule \"r\" when not( A() ) then end",
+        "item 2 line 1 NotBuilt",
+    ),
+    (
+        "declare A end rule \"r\" when A() over window:length( 2 ) then end",
+        "item 2 line 1 NotBuilt",
+    ),
+    (
+        "declare A end rule \"r\" when A() from entry-point \"X\" then end",
+        "item 2 line 1 NotBuilt",
+    ),
+    (
+        "declare A end rule \"r\" when $a : A() A( this after $a ) then end",
+        "item 2 line 1 NotBuilt",
+    ),
+    (
+        "declare A end rule \"r\" when Number() from accumulate( A( $x : y ), count( $x ) ) then end",
+        "item 2 line 1 NotBuilt",
+    ),
+    (
+        "declare A end\ndeclare A end",
+        "item 2 line 2 TwiceDeclared",
+    ),
+    (
+        "declare A x : long x : long end",
+        "item 1 line 1 TwiceDeclared",
+    ),
+    (
+        "declare A end rule a when A() then end rule \"a\" when A() then end",
+        "item 3 line 1 TwiceDeclared",
+    ),
+    (
+        "declare A end rule a salience 1, salience 2 when A() then end",
+        "item 2 line 1 TwiceDeclared",
+    ),
+    (
+        "declare A end\nrule \"\" when $a : A() $a : A() then end",
+        "item 2 line 2 TwiceDeclared",
+    ),
+    (
+        "rule \"\" when Nope() then end",
+        "item 1 line 1 LimitPassed",
+    ),
+    (
+        "declare A end rule a salience 2147483648 when A() then end",
+        "item 2 line 1 LimitPassed",
+    ),
+    (
+        "declare A end rule a when A() A() A() A() A() A() A() A() A() then end",
+        "item 2 line 1 LimitPassed",
+    ),
+    (
+        "rule r when Nope( y == $z ) then end",
+        "item 1 line 1 UnknownType",
+    ),
+    (
+        "declare A x : long end rule r when A( y == $z ) then end",
+        "item 2 line 1 UnknownField",
+    ),
+    (
+        "declare A x : long end rule r when A( $v : y ) then end",
+        "item 2 line 1 UnknownField",
+    ),
+    (
+        "declare A x : long end declare B y : long end rule r when A( y == 1 ) then end",
+        "item 3 line 1 UnknownField",
+    ),
+    (
+        "declare A x : long end rule r when $a : A() A( x == $a.y ) then end",
+        "item 2 line 1 UnknownField",
+    ),
+    (
+        "declare A x : long end rule r when A( x == $z, x == \"a\" ) then end",
+        "item 2 line 1 UnknownVariable",
+    ),
+    (
+        "declare A x : long end rule r when A( $v : x, x == $v ) then end",
+        "item 2 line 1 UnknownVariable",
+    ),
+    (
+        "declare A x : long end rule r when A( x == \"a\" ) then end",
+        "item 2 line 1 WrongKind",
+    ),
+    (
+        "declare A x : String end rule r when A( x < \"a\" ) then end",
+        "item 2 line 1 WrongKind",
+    ),
+    (
+        "declare A x : long end rule r when A( x in ( 1, true ) ) then end",
+        "item 2 line 1 WrongKind",
+    ),
+    (
+        "declare A x : long end rule r when $a : A() A( x == $a ) then end",
+        "item 2 line 1 WrongKind",
+    ),
+    (
+        "declare A x : long end rule r when A( $v : x ) A( x == $v.x ) then end",
+        "item 2 line 1 WrongKind",
+    ),
+    (
+        "declare A x : float end declare A end",
+        "item 1 line 1 WrongKind",
+    ),
 ];
 
 // What is printed for a rule file, with a script that is not to be read.
@@ -73,7 +157,10 @@ fn files_are_refused_by_their_first_code(rt: HostRuntime) -> Result<(), Fail> {
     long.push(b'^')?;
     let (status, written) = printed(alloc, &long)?;
     assert_eq!(rt; status, 3);
-    assert_eq!(rt; written.as_slice(), b"refused item 0 line 0 TooLong\n".as_slice());
+    assert_eq!(rt;
+        written.as_slice(),
+        b"refused item 0 line 0 TooLong\n".as_slice()
+    );
     Ok(())
 }
 
