@@ -1,8 +1,7 @@
 -- The places of names in a list that grows at its end, and names that stand once.
-use Rattle.std.proofs.Common.{◌≡◌, ◌+◌, ◌++◌, ◌∷◌, ◌&&◌, ◌||◌, ℕ, ◌<◌, Bool, true, false, not, List, [], length, get_or, drop, drop-cons, add-one, Option, Some, None, is_some, cond, refl, sym, ap, subst, ◌∙◌, append_assoc, suc, arith, rules}
+use Rattle.std.proofs.Common.{◌≡◌, ◌+◌, ◌++◌, ◌∷◌, ◌&&◌, ◌||◌, ℕ, ◌<◌, Bool, true, false, not, List, [], length, get_or, drop, drop-cons, add-one, Option, Some, None, is_some, cond, refl, sym, ap, subst, ◌∙◌, append_assoc, suc, arith}
 use Rattle.std.specs.Str.{bytes_eq}
 use Rattle.std.specs.Cmp.Lexicographic.{nat_list_eq_equiv}
-use Rattle.std.specs.List.{list_any}
 use Rattle.drl_check.specs.Names.{place_from, place_of, is_among, are_distinct}
 
 abbrev turned : (a b : List ℕ) → bytes_eq a b ≡ bytes_eq b a

@@ -1,5 +1,5 @@
 -- The program of an accepted file is within the limits.
-use Rattle.std.proofs.Common.{◌≡◌, ◌≤◌, ◌<◌, ◌+◌, ◌&&◌, ◌||◌, ◌++◌, ◌∷◌, ℕ, Bool, true, false, not, List, [], map, length, nat_le, nat_lt, refl, sym, ap, subst, ◌∙◌, append_assoc, length-append, arith}
+use Rattle.std.proofs.Common.{◌≡◌, ◌≤◌, ◌<◌, ◌+◌, ◌&&◌, ◌||◌, ◌++◌, ◌∷◌, ℕ, Bool, true, false, not, List, [], map, length, nat_le, nat_lt, refl, sym, ap, subst, append_assoc, length-append, arith}
 use Rattle.std.specs.List.{list_all, list_any}
 use Rattle.std.proofs.lemmas.Bool.Decides.{nat_tests}
 use Rattle.std.proofs.lemmas.List.{append-nil, length-map}
@@ -11,15 +11,14 @@ use Rattle.drl_grammar.specs.declared.file.File.{File}
 use Rattle.drl_grammar.specs.declared.file.Item.{Item}
 use Rattle.drl_grammar.specs.declared.file.TypeTree.{TypeTree}
 use Rattle.drl_grammar.specs.declared.file.RuleTree.{RuleTree}
-use Rattle.rule_model.specs.declared.program.Rule.{Rule}
 use Rattle.rule_model.specs.Programs.{has_conditions, IsAccepted}
 use Rattle.drl_check.specs.declared.fault.CheckCode.TheVariants.{NotBuilt, LimitPassed}
 use Rattle.drl_check.specs.Declarations.{types_of, rules_of, type_in, rule_in}
 use Rattle.drl_check.specs.Sight.{Place, begin, behind}
-use Rattle.drl_check.specs.Limits.{passes_limit_behind, passes_limit, type_within, rule_within, attr_within, condition_within, is_name}
+use Rattle.drl_check.specs.Limits.{passes_limit_behind, type_within, rule_within, attr_within, condition_within}
 use Rattle.drl_check.specs.Built.{condition_unbuilt, not_built}
 use Rattle.drl_check.specs.Names.{is_short}
-use Rattle.drl_check.specs.Checks.{fails, Passes, AllPass, IsAcceptedFile}
+use Rattle.drl_check.specs.Checks.{AllPass, IsAcceptedFile}
 use Rattle.drl_check.specs.Programs.{condition_of, conditions_of, rule_of, type_info, program_of}
 use Rattle.drl_check.proofs.Failures.{types_next, rules_next}
 

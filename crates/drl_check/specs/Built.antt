@@ -1,6 +1,6 @@
 -- The constructs that nothing serves yet: annotations and entry points, windows and temporal tests, negative patterns,
 -- accumulates, and actions.
-use Rattle.std.specs.Prelude.{◌||◌, ◌<◌, Bool, true, false, length, nat_lt, is_some}
+use Rattle.std.specs.Prelude.{◌||◌, Bool, true, false, length, nat_lt, is_some}
 use Rattle.std.specs.List.{list_any}
 use Rattle.drl_grammar.specs.declared.condition.CondTree.{CondTree}
 use Rattle.drl_grammar.specs.declared.condition.CondTree.TheVariants as condition

@@ -1,8 +1,7 @@
 -- The program of a file. Each name has a place in what was declared; a name that was not declared, which no accepted file
 -- has, counts as the first.
-use Rattle.std.specs.Prelude.{ℕ, ℤ, ◌+◌, min, Bool, true, false, not, List, [], ◌∷◌, ◌++◌, map, pos, Option, Some, None, Result, Ok, Err, slice_get}
+use Rattle.std.specs.Prelude.{ℕ, ℤ, min, Bool, true, false, not, List, [], ◌∷◌, ◌++◌, map, pos, Option, Some, None, Result, Ok, Err}
 use Rattle.std.specs.List.{filter, flat_map}
-use Rattle.fx_base.specs.declared.ids.TypeId.{TypeId}
 use Rattle.fx_base.specs.declared.kind.Kind.{Kind}
 use Rattle.fx_base.specs.declared.kind.Kind.TheVariants as kind
 use Rattle.fx_base.specs.declared.value.Value.{Value}

@@ -1,5 +1,4 @@
 -- What the program keeps of a variable, as a meaning.
-use Rattle.std.specs.Prelude.{ℕ}
 use Rattle.drl_check.specs.declared.sight.Seen.{Seen}
 use Rattle.drl_check.specs.declared.sight.Seen.TheVariants as seen
 use Rattle.drl_check.specs.Sight.{Meaning, of_fact, of_field}

@@ -1,5 +1,5 @@
 -- Types, fields and variables that are used and are not there.
-use Rattle.std.specs.Prelude.{ℕ, ◌||◌, Bool, true, false, not, List, [], ◌∷◌, Option, Some, None, is_some}
+use Rattle.std.specs.Prelude.{ℕ, ◌||◌, Bool, false, not, List, [], ◌∷◌, Option, Some, None, is_some}
 use Rattle.std.specs.List.{list_any}
 use Rattle.drl_grammar.specs.declared.condition.CondTree.{CondTree}
 use Rattle.drl_grammar.specs.declared.condition.CondTree.TheVariants as condition
@@ -13,7 +13,7 @@ use Rattle.drl_grammar.specs.declared.condition.Operand.TheVariants as operand
 use Rattle.drl_grammar.specs.declared.file.TypeTree.{TypeTree}
 use Rattle.drl_check.specs.Names.{is_among}
 use Rattle.drl_check.specs.Declarations.{type_named, field_names}
-use Rattle.drl_check.specs.Sight.{Sight, Meaning, of_fact, of_field, meaning_of, Place, behind}
+use Rattle.drl_check.specs.Sight.{Sight, Meaning, of_fact, meaning_of, Place, behind}
 
 -- whether one of the conditions has this, given what is in sight there
 unfoldable pub any_condition : (Place → CondTree → Bool) → List TypeTree → Place → List CondTree → Bool

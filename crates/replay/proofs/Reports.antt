@@ -1,5 +1,5 @@
 -- The report, by what was found.
-use Rattle.std.proofs.Common.{◌≡◌, ◌≢◌, ◌<◌, ◌≤◌, ◌+◌, ℕ, Bool, true, false, List, length, take, nat_lt, min, Option, Some, None, refl, sym, ap, subst, ◌∙◌, arith, String, Global, ◌⊎◌, inl, inr}
+use Rattle.std.proofs.Common.{◌≡◌, ◌≢◌, ◌≤◌, ◌+◌, ℕ, Bool, true, false, List, length, take, nat_lt, Option, Some, None, refl, sym, ap, subst, ◌∙◌, arith, String, Global}
 use Rattle.std.specs.Prelude.{IfSome}
 use Rattle.std.proofs.lemmas.Bool.Decides.{nat_tests}
 use Rattle.std.proofs.lemmas.List.{take_all, length-take}
@@ -10,7 +10,7 @@ use Rattle.replay.specs.declared.rule_file.Reading.TheVariants.{Refused}
 use Rattle.replay.specs.Firings.{Gives, Fires}
 use Rattle.drl_parse.specs.Parsed.{file_limit, parsed, parsed_by}
 use Rattle.replay.specs.Refusals.{reading, refusal_text, whole_file, IsRefused}
-use Rattle.replay.specs.Report.{Report, report, rules_report, word_report, single, reading_report, file_report, usage, firing_limit, IsLong, FileIsLong, WordIsLong}
+use Rattle.replay.specs.Report.{report, rules_report, word_report, single, reading_report, file_report, usage, firing_limit, IsLong, FileIsLong, WordIsLong}
 
 abbrev Files : Type 0
 Files = List ℕ → Option (List ℕ)

@@ -1,5 +1,5 @@
 -- Rows as a set, and what new tuples say of it.
-use Rattle.std.proofs.Common.{◌≡◌, ◌⊎◌, ℕ, ◌==◌, ◌||◌, inl, inr, Bool, true, false, List, [], ◌∷◌, ◌++◌, map, refl, sym, ◌∙◌, ap, subst, arith}
+use Rattle.std.proofs.Common.{◌≡◌, ◌⊎◌, ℕ, ◌==◌, ◌||◌, inl, inr, Bool, true, false, List, [], ◌∷◌, ◌++◌, map, refl, sym, ap, subst, arith}
 use Rattle.std.specs.Prelude.{Result, Ok, Err, IfOk}
 use Rattle.std.specs.List.{list_any}
 use Rattle.std.specs.Ordering.{eq_by_cmp}
@@ -11,9 +11,8 @@ use Rattle.row_delta.specs.declared.row.Row.{Row}
 use Rattle.row_delta.specs.Rows.{row_cmp, has}
 use Rattle.row_delta.specs.RowOrder.{row_exact, same_equiv}
 use Rattle.rule_model.specs.declared.condition.Condition.{Condition}
-use Rattle.rule_model.specs.declared.program.Rule.{Rule}
 use Rattle.rule_model.specs.Tests.{Tuple, empty_tuple}
-use Rattle.rule_model.specs.Rows.{In, name_of, row_of, tuples_from, rows}
+use Rattle.rule_model.specs.Rows.{In, name_of, row_of, tuples_from}
 use Rattle.rule_model.proofs.Listed.{in_map, of_map}
 use Rattle.rule_rows.specs.Found.{AreNew, names_tag}
 

@@ -1,4 +1,4 @@
-use Rattle.std.proofs.Common.{◌≡◌, true, sym, ap, refl, subst, ◌∙◌, arith}
+use Rattle.std.proofs.Common.{sym, refl, ◌∙◌, arith}
 use Rattle.drl_check.specs.Names.{are_distinct}
 use Rattle.drl_check.proofs.NameLemmas.{next_of, twice_in, still_distinct}
 use Rattle.drl_check.proofs.names.differ.Goals as goal

@@ -1,6 +1,5 @@
-use Rattle.std.proofs.Common.{◌≡◌, ◌+◌, Some, None, take, refl, sym, ap, ◌∙◌, arith}
-use Rattle.drl_check.specs.Checks.{first_code, codes_in_order, failure_from}
-use Rattle.drl_check.specs.Failing.{first_failing}
+use Rattle.std.proofs.Common.{◌≡◌, ◌+◌, Some, None, take, sym, ap, ◌∙◌, arith}
+use Rattle.drl_check.specs.Checks.{first_code, codes_in_order}
 use Rattle.drl_check.proofs.Failures.{failing_is, loop_found, loop_passed, loop_ended, type_names_next, rule_names_next}
 use Rattle.drl_check.specs.declared.fault.CheckFault.TheVariants.{Refused}
 use Rattle.drl_check.proofs.refusal.refusal.Goals as goal

@@ -1,4 +1,4 @@
-use Rattle.std.proofs.Common.{◌≡◌, None, refl}
+use Rattle.std.proofs.Common.{refl}
 use Rattle.drl_check.specs.Names.{place_from}
 use Rattle.drl_check.proofs.places.Places.new.Goals as goal
 

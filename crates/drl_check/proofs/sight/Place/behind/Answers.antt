@@ -1,4 +1,4 @@
-use Rattle.std.proofs.Common.{◌≡◌, ◌+◌, ◌++◌, sym, ap, subst, ◌∙◌}
+use Rattle.std.proofs.Common.{◌≡◌, ◌+◌, ◌++◌, ap, subst, ◌∙◌}
 use Rattle.drl_grammar.specs.declared.condition.CondTree.TheVariants.{Plain as plain}
 use Rattle.drl_check.specs.Sight.{Sight, Place, seen_of, behind}
 use Rattle.drl_check.proofs.sight.Place.behind.Goals as goal
