@@ -5,7 +5,7 @@ use std::alloc::Global;
 use std::test::Fail;
 
 /// Rule files, and the place and the code of their refusal.
-const REFUSED: [(&str, &str); 38] = [
+const REFUSED: [(&str, &str); 40] = [
     ("\n^", "item 0 line 2 BadChar"),
     ("declare A end\n3q", "item 0 line 2 BadChar"),
     ("rule \"x", "item 0 line 1 OpenText"),
@@ -126,6 +126,14 @@ const REFUSED: [(&str, &str); 38] = [
     ),
     (
         "declare A x : float end declare A end",
+        "item 1 line 1 WrongKind",
+    ),
+    (
+        "rule r when A( x == y ) then end declare A x : float y : float end",
+        "item 2 line 1 WrongKind",
+    ),
+    (
+        "rule r when A( x == 1 ) then end declare A x : float end",
         "item 1 line 1 WrongKind",
     ),
 ];
