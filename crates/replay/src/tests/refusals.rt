@@ -14,7 +14,7 @@ const REFUSED: [(&str, &str); 40] = [
     ("^ (", "item 0 line 1 BadChar"),
     ("declare A x : long", "item 1 line 1 Syntax"),
     ("declare A end\n\ndeclare A : end", "item 2 line 3 Syntax"),
-    ("declare A end declare A end (", "item 2 line 1 Syntax"),
+    ("declare A end declare A end (", "item 3 line 1 Syntax"),
     (
         "declare A @role( event ) x : long x : long end",
         "item 1 line 1 NotBuilt",
