@@ -92,6 +92,15 @@ fn run_at_most(alloc: Global, limit: u64, script: &[u8]) -> Result<(u8, Vec<u8>)
     Ok((status, written))
 }
 
+// So many spaces.
+fn blanks(alloc: Global, count: usize) -> Result<Vec<u8>, Fail> {
+    let mut bytes = Vec::new(alloc);
+    for _ in 0..count {
+        bytes.push(b' ')?;
+    }
+    Ok(bytes)
+}
+
 // The status and the written bytes of a run of these rules.
 fn run_of(alloc: Global, rules: &[u8], script: &[u8]) -> Result<(u8, Vec<u8>), Fail> {
     let mut files = Vec::new(alloc);
@@ -153,14 +162,10 @@ fn runs_of_the_program(rt: HostRuntime) -> Result<(), Fail> {
         written.as_slice(),
         b"fault 1 BadJson\nfault 2 BadCommand\nfault 3 UnknownType\nfault 4 BadFields\nfault 5 BadValue\n".as_slice()
     );
-    let mut long = Vec::new(alloc);
-    for _ in 0..65_537 {
-        long.push(b' ')?;
-    }
-    let (answer, written) = run(alloc, &["ITEM"], &long, &[], &[])?;
+    let (answer, written) = run(alloc, &["ITEM"], &blanks(alloc, 65_537)?, &[], &[])?;
     assert_eq!(rt; answer, 1);
     assert_eq!(rt; written.as_slice(), b"fault 1 LineLong\n".as_slice());
-    let (answer, written) = run(alloc, &["ITEM"], &long[1..], &[], &[])?;
+    let (answer, written) = run(alloc, &["ITEM"], &blanks(alloc, 65_536)?, &[], &[])?;
     assert_eq!(rt; answer, 0);
     assert_eq!(rt; written.as_slice(), b"".as_slice());
     let (answer, written) = run(alloc, &["ITEM"], ELEVEN, &[1], &[])?;

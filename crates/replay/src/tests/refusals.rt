@@ -1,4 +1,4 @@
-use super::run_of;
+use super::{blanks, run_of};
 use drl_check::check;
 use drl_parse::parse;
 use std::alloc::Global;
@@ -155,10 +155,7 @@ fn files_are_refused_by_their_first_code(rt: HostRuntime) -> Result<(), Fail> {
         assert_eq!(rt; written.as_slice(), line.as_slice(), "{}", rules);
         assert_eq!(rt; status, 3);
     }
-    let mut long = Vec::new(alloc);
-    for _ in 0..1_048_576 {
-        long.push(b' ')?;
-    }
+    let mut long = blanks(alloc, 1_048_576)?;
     let (status, written) = printed(alloc, &long)?;
     assert_eq!(rt; status, 1);
     assert_eq!(rt; written.as_slice(), b"fault 1 BadJson\n".as_slice());
