@@ -5,5 +5,9 @@ pub mod Distinct
 pub mod Matches
 pub mod MatchOrders
 pub mod First
+pub mod Expressions
+pub mod ExpressionNodes
+pub mod ExpressionCode
+pub mod Numbers
 pub mod Worlds
 pub mod Programs

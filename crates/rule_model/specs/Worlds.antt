@@ -1,10 +1,12 @@
 -- The world: what was inserted, in its order, and which matches were fired; its steps and its firings.
-use Rattle.std.specs.Prelude.{ℕ, ◌+◌, not, List, [], ◌∷◌, ◌++◌, pos, Option}
-use Rattle.std.specs.List.{filter}
+use Rattle.std.specs.Prelude.{ℕ, ◌+◌, ◌==◌, Bool, true, not, List, [], ◌∷◌, ◌++◌, map, pos, Option, slice_set, if◌then◌else◌}
+use Rattle.std.specs.List.{filter, list_any}
 use Rattle.fx_base.specs.declared.value.Value.{Value}
 use Rattle.fx_base.specs.declared.fact.Fact.{Fact}
 use Rattle.rule_model.specs.declared.matched.Match.{Match}
 use Rattle.rule_model.specs.declared.program.Rule.{Rule}
+use Rattle.rule_model.specs.declared.step.Step.{Step}
+use Rattle.rule_model.specs.declared.step.Step.TheVariants.{Insert, Modify, Retract}
 use Rattle.rule_model.specs.Matches.{matches, saliences, fire_cmp, has_match}
 use Rattle.rule_model.specs.First.{first}
 
@@ -38,14 +40,49 @@ new_fact w ty fields = record {
   times = record { start = pos 0; end = pos 0 };
 }
 
--- the step of an insertion: it takes the next id and the next tag
-abbrev pub inserted : List Rule → World → Fact → World
-inserted rules w f = record {
-  facts = w.facts ++ f ∷ [];
-  next_id = w.next_id + 1;
-  next_tag = w.next_tag + 1;
-  fired = still_fired rules (w.facts ++ f ∷ []) w.fired;
+-- a fact, with these values in these fields
+abbrev pub with_values : List (ℕ × Value) → List Value → List Value
+with_values [] fields = fields
+with_values (set ∷ sets) fields = with_values sets (slice_set fields set.0 set.1)
+
+-- the version of a fact that a modification makes; it keeps the id
+abbrev pub revised : ℕ → List (ℕ × Value) → Fact → Fact
+revised tag sets f = record {
+  id = f.id;
+  ty = f.ty;
+  entry = f.entry;
+  fields = with_values sets f.fields;
+  tag = record { 0 = tag };
+  times = f.times;
 }
+
+abbrev pub has_id : ℕ → Fact → Bool
+has_id id f = f.id.0 == id
+
+-- facts, of which the one with the id is revised in its place
+abbrev pub revised_in : ℕ → ℕ → List (ℕ × Value) → List Fact → List Fact
+revised_in id tag sets facts = map (λ (f : Fact). if has_id id f then revised tag sets f else f) facts
+
+-- the facts without the one of the id
+abbrev pub without : ℕ → List Fact → List Fact
+without id facts = filter (λ (f : Fact). not (has_id id f)) facts
+
+-- the world that a step leaves: these facts, these next numbers, and of the fired matches those that are still matches
+abbrev pub left_with : List Rule → World → List Fact → ℕ → ℕ → World
+left_with rules w facts next_id next_tag = record { facts = facts; next_id = next_id; next_tag = next_tag; fired = still_fired rules facts w.fired }
+
+-- An insertion takes the next id and the next tag. A modification takes the next tag, and keeps the id and the place. A
+-- retraction takes no number.
+unfoldable pub stepped : List Rule → World → Step → World
+stepped rules w (Insert ty fields) = left_with rules w (w.facts ++ new_fact w ty.0 fields ∷ []) (w.next_id + 1) (w.next_tag + 1)
+stepped rules w (Modify id sets) = left_with rules w (revised_in id.0 w.next_tag sets w.facts) w.next_id (w.next_tag + 1)
+stepped rules w (Retract id) = left_with rules w (without id.0 w.facts) w.next_id w.next_tag
+
+-- a step that changes or takes away a fact is possible where the fact is present
+abbrev pub is_possible : List Fact → Step → Bool
+is_possible facts (Insert ty fields) = true
+is_possible facts (Modify id sets) = list_any (has_id id.0) facts
+is_possible facts (Retract id) = list_any (has_id id.0) facts
 
 -- the pending match that fires first
 abbrev pub first_pending : List Rule → World → Option Match

@@ -1,4 +1,4 @@
-use crate::Condition;
+use crate::{Action, Condition};
 use fx_base::{Kind, Seq, Text};
 
 /// An accepted rule file. Types and rules stand in the order of the file.
@@ -15,10 +15,11 @@ pub struct TypeInfo {
     pub fields: Seq<(Text, Kind)>,
 }
 
-/// A rule: where all its conditions hold it fires, the rule of the greatest salience first.
+/// A rule: where all its conditions hold it fires, the rule of the greatest salience first, and does its actions in order.
 #[derive(Debug, Drop)]
 pub struct Rule {
     pub name: Text,
     pub salience: i64,
     pub conditions: Seq<Condition>,
+    pub actions: Seq<Action>,
 }
