@@ -3,10 +3,10 @@ use Rattle.std.specs.Prelude.{◌≡◌, ℕ, ◌==◌, Bool, false, List, Optio
 use Rattle.std.specs.Str.{bytes_eq}
 use Rattle.serde_json.specs.Data.{Data, Members}
 use Rattle.script_read.specs.Given.{givens}
-use Rattle.script_read.specs.Members.{text_member, object_member, count}
+use Rattle.script_read.specs.Members.{text_member, object_member, id_member, count_member, count}
 use Rattle.script_read.specs.declared.asked.Command.{Command}
 use Rattle.script_read.specs.declared.asked.Command.TheVariants.{Change, Fire}
-use Rattle.script_read.specs.declared.asked.Change.TheVariants.{Insert}
+use Rattle.script_read.specs.declared.asked.Change.TheVariants.{Insert, Modify, Retract}
 
 -- The forms, one for each kind of line: an object with exactly the members that are named. Since each name stands once,
 -- an object of n members that has n given names has no other.
@@ -15,18 +15,38 @@ pub data IsForm : Data → Command → Type 0 where
   fire : {d : Data} → text_member (codes "do") d ≡ Some (codes "fire")
       → count d ≡ Some 1
       → IsForm d (Fire None)
+  -- {"do":"fire","max":n}
+  fire_most : {d : Data} {n : ℕ} → text_member (codes "do") d ≡ Some (codes "fire")
+      → count_member (codes "max") d ≡ Some n
+      → count d ≡ Some 2
+      → IsForm d (Fire (Some n))
   -- {"do":"insert","type":T,"fields":{..}}
   insert : {d : Data} {ty : List ℕ} {fields : Members} → text_member (codes "do") d ≡ Some (codes "insert")
       → text_member (codes "type") d ≡ Some ty → object_member (codes "fields") d ≡ Some fields
       → count d ≡ Some 3
       → IsForm d (Change (Insert ty (givens fields)))
+  -- {"do":"modify","type":T,"id":n,"fields":{..}}
+  modify : {d : Data} {ty : List ℕ} {id : ℕ} {fields : Members} → text_member (codes "do") d ≡ Some (codes "modify")
+      → text_member (codes "type") d ≡ Some ty → id_member (codes "id") d ≡ Some id → object_member (codes "fields") d ≡ Some fields
+      → count d ≡ Some 4
+      → IsForm d (Change (Modify ty (record { 0 = id }) (givens fields)))
+  -- {"do":"retract","type":T,"id":n}
+  retract : {d : Data} {ty : List ℕ} {id : ℕ} → text_member (codes "do") d ≡ Some (codes "retract")
+      → text_member (codes "type") d ≡ Some ty → id_member (codes "id") d ≡ Some id
+      → count d ≡ Some 3
+      → IsForm d (Change (Retract ty (record { 0 = id })))
 
 abbrev pub has_count : ℕ → Option ℕ → Bool
 has_count n None = false
 has_count n (Some m) = m == n
 
+abbrev pub fire_parts : Option ℕ → Option Command
+fire_parts None = None
+fire_parts (Some n) = Some (Fire (Some n))
+
 unfoldable pub fire_of : Data → Option Command
-fire_of d = if has_count 1 (count d) then Some (Fire None) else None
+fire_of d = if has_count 1 (count d) then Some (Fire None)
+    else (if has_count 2 (count d) then fire_parts (count_member (codes "max") d) else None)
 
 abbrev pub insert_parts : Option (List ℕ) → Option Members → Option Command
 insert_parts None fields = None
@@ -36,11 +56,27 @@ insert_parts (Some ty) (Some fields) = Some (Change (Insert ty (givens fields)))
 unfoldable pub insert_of : Data → Option Command
 insert_of d = if has_count 3 (count d) then insert_parts (text_member (codes "type") d) (object_member (codes "fields") d) else None
 
+abbrev pub modify_parts : Option (List ℕ) → Option ℕ → Option Members → Option Command
+modify_parts (Some ty) (Some id) (Some fields) = Some (Change (Modify ty (record { 0 = id }) (givens fields)))
+modify_parts _ _ _ = None
+
+unfoldable pub modify_of : Data → Option Command
+modify_of d = if has_count 4 (count d) then modify_parts (text_member (codes "type") d) (id_member (codes "id") d) (object_member (codes "fields") d) else None
+
+abbrev pub retract_parts : Option (List ℕ) → Option ℕ → Option Command
+retract_parts (Some ty) (Some id) = Some (Change (Retract ty (record { 0 = id })))
+retract_parts _ _ = None
+
+unfoldable pub retract_of : Data → Option Command
+retract_of d = if has_count 3 (count d) then retract_parts (text_member (codes "type") d) (id_member (codes "id") d) else None
+
 -- by the word after `do`
 abbrev pub command_by_word : Data → Option (List ℕ) → Option Command
 command_by_word d None = None
 command_by_word d (Some word) = if bytes_eq word (codes "fire") then fire_of d
-    else (if bytes_eq word (codes "insert") then insert_of d else None)
+    else (if bytes_eq word (codes "insert") then insert_of d
+    else (if bytes_eq word (codes "modify") then modify_of d
+    else (if bytes_eq word (codes "retract") then retract_of d else None)))
 
 -- the command whose form a value has
 unfoldable pub command_of : Data → Option Command

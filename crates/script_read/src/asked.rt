@@ -1,20 +1,31 @@
 use crate::given::Given;
-use fx_base::{Seq, Text};
+use fx_base::{FactId, Seq, Text};
 
 /// What a line of the script asks for.
 #[derive(Debug, PartialEq, Drop)]
 pub enum Command {
     Change(Change),
-    /// To fire until nothing is pending, or until this many firings.
+    /// To fire until nothing is pending, or until this many firings, from 0 to 2^53.
     Fire(Option<u64>),
 }
 
-/// A change of the facts.
+/// A change of the facts. The fields stand in the byte order of their names.
 #[derive(Debug, PartialEq, Drop)]
 pub enum Change {
-    /// A new fact of the type with this name. The fields stand in the byte order of their names.
+    /// A new fact of the type with this name.
     Insert {
         ty: Text,
         fields: Seq<(Text, Given)>,
+    },
+    /// Other values for some fields of the fact of this type with this id, which is from 1 to 2^63 - 1.
+    Modify {
+        ty: Text,
+        id: FactId,
+        fields: Seq<(Text, Given)>,
+    },
+    /// The fact of this type with this id, which is from 1 to 2^63 - 1, is taken away.
+    Retract {
+        ty: Text,
+        id: FactId,
     },
 }
