@@ -9,5 +9,6 @@ pub mod Expressions
 pub mod ExpressionNodes
 pub mod ExpressionCode
 pub mod Numbers
+pub mod Planned
 pub mod Worlds
 pub mod Programs

@@ -1,0 +1,13 @@
+//! What the actions of a firing are to do: the values of their expressions, or that one leaves 64 bits.
+//! It stands on the definitions of `rule_model` and assumes nothing of the facts that a row names.
+#![tactic(auto)]
+
+mod fault;
+mod planning;
+#[cfg(test)]
+mod tests;
+mod value;
+
+pub use fault::EvalFault;
+pub use planning::planned_step;
+pub use value::value;
