@@ -11,4 +11,5 @@ pub mod ExpressionCode
 pub mod Numbers
 pub mod Planned
 pub mod Worlds
+pub mod Lawful
 pub mod Programs

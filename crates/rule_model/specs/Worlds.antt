@@ -1,6 +1,6 @@
 -- The world: what was inserted, in its order, and which matches were fired; its steps and its firings.
-use Rattle.std.specs.Prelude.{ℕ, ◌+◌, ◌==◌, Bool, true, not, List, [], ◌∷◌, ◌++◌, map, pos, Option, slice_set, if◌then◌else◌}
-use Rattle.std.specs.List.{filter, list_any}
+use Rattle.std.specs.Prelude.{ℕ, ◌+◌, ◌==◌, Bool, true, not, List, [], ◌∷◌, ◌++◌, map, pos, Option, Some, None, is_some, slice_set, if◌then◌else◌}
+use Rattle.std.specs.List.{filter}
 use Rattle.fx_base.specs.declared.value.Value.{Value}
 use Rattle.fx_base.specs.declared.fact.Fact.{Fact}
 use Rattle.rule_model.specs.declared.matched.Match.{Match}
@@ -59,6 +59,11 @@ revised tag sets f = record {
 abbrev pub has_id : ℕ → Fact → Bool
 has_id id f = f.id.0 == id
 
+-- the fact of an id
+unfoldable pub fact_of : List Fact → ℕ → Option Fact
+fact_of [] id = None
+fact_of (f ∷ facts) id = if has_id id f then Some f else fact_of facts id
+
 -- facts, of which the one with the id is revised in its place
 abbrev pub revised_in : ℕ → ℕ → List (ℕ × Value) → List Fact → List Fact
 revised_in id tag sets facts = map (λ (f : Fact). if has_id id f then revised tag sets f else f) facts
@@ -81,8 +86,8 @@ stepped rules w (Retract id) = left_with rules w (without id.0 w.facts) w.next_i
 -- a step that changes or takes away a fact is possible where the fact is present
 abbrev pub is_possible : List Fact → Step → Bool
 is_possible facts (Insert ty fields) = true
-is_possible facts (Modify id sets) = list_any (has_id id.0) facts
-is_possible facts (Retract id) = list_any (has_id id.0) facts
+is_possible facts (Modify id sets) = is_some (fact_of facts id.0)
+is_possible facts (Retract id) = is_some (fact_of facts id.0)
 
 -- the pending match that fires first
 abbrev pub first_pending : List Rule → World → Option Match

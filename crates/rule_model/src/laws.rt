@@ -9,7 +9,9 @@ ghost use Rattle.rule_model.specs.declared.program.Rule.{Rule};
 ghost use Rattle.rule_model.specs.Rows.{In, IsRow, rows};
 ghost use Rattle.rule_model.specs.Distinct.{EachOnce, HaveDistinctTags};
 ghost use Rattle.rule_model.specs.Matches.{fire_cmp, salience_of, greatest_tag, saliences, has_match};
-ghost use Rattle.rule_model.specs.Worlds.{World, pending, first_pending};
+ghost use Rattle.rule_model.specs.declared.step.Step.{Step};
+ghost use Rattle.rule_model.specs.Worlds.{World, empty_world, stepped, pending, first_pending, marked};
+ghost use Rattle.rule_model.specs.Lawful.{IsLawful};
 
 /// The first pending match is pending, and no pending match fires before it; there is none only where nothing is
 /// pending.
@@ -46,4 +48,17 @@ pub fn tags_settle_the_rows_of_a_rule()
 /// Over facts with distinct tags each row of a rule stands once in its list.
 pub fn each_row_stands_once()
     ensures { (facts : List Fact) → HaveDistinctTags facts → (rule : Rule) → EachOnce (rows facts rule) }
+{}
+
+/// The rows of a rule do not ask for the order of the facts.
+pub fn order_of_facts_is_no_matter()
+    ensures { (facts : List Fact) (others : List Fact) → ((f : Fact) → In f facts ↔ In f others) → (rule : Rule) (row : Row)
+        → In row (rows facts rule) ↔ In row (rows others rule) }
+{}
+
+/// The empty world is lawful, and steps and firings lead from lawful worlds to lawful ones.
+pub fn worlds_stay_lawful()
+    ensures empty { (rules : List Rule) → IsLawful rules empty_world }
+    ensures step { (rules : List Rule) (w : World) (step : Step) → IsLawful rules w → IsLawful rules (stepped rules w step) }
+    ensures firing { (rules : List Rule) (w : World) (m : Match) → IsLawful rules w → has_match (pending rules w) m ≡ true → IsLawful rules (marked w m) }
 {}

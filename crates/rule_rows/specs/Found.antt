@@ -1,10 +1,12 @@
 -- What comes with one fact more.
-use Rattle.std.specs.Prelude.{◌==◌, ◌⊎◌, ◌↔◌, Bool, List, [], ◌∷◌, ◌++◌}
+use Rattle.std.specs.Prelude.{◌≡◌, ◌==◌, ◌⊎◌, ◌↔◌, ◌&&◌, not, Bool, List, [], ◌∷◌, ◌++◌, Option, Some, None}
 use Rattle.std.specs.List.{list_any}
 use Rattle.fx_base.specs.declared.fact.Fact.{Fact}
 use Rattle.fx_base.specs.declared.ids.Tag.{Tag}
 use Rattle.row_delta.specs.declared.row.Named.{Named}
 use Rattle.row_delta.specs.declared.row.Row.{Row}
+use Rattle.row_delta.specs.declared.delta.Delta.{Delta}
+use Rattle.row_delta.specs.Rows.{has}
 use Rattle.rule_model.specs.declared.condition.Condition.{Condition}
 use Rattle.rule_model.specs.declared.condition.Condition.TheVariants.{Plain}
 use Rattle.rule_model.specs.Tests.{Tuple, empty_tuple}
@@ -22,3 +24,13 @@ may_bind f (Plain p) = fits p f
 pub record AreNew (facts : List Fact) (f : Fact) (cs : List Condition) (come : List Tuple) : Type 0 where
   pub grown : (t : Tuple) → In t (tuples_from (facts ++ f ∷ []) (empty_tuple ∷ []) cs) ↔ (In t come ⊎ In t (tuples_from facts (empty_tuple ∷ []) cs))
   pub bound : (t : Tuple) → In t come → In f t.facts
+
+-- a difference that leads from the old rows to the new ones, as sets
+pub record IsDifference (old new : List Row) (d : Delta) : Type 0 where
+  pub gone : (row : Row) → has d.gone row ≡ (has old row && not (has new row))
+  pub come : (row : Row) → has d.come row ≡ (has new row && not (has old row))
+
+-- a fact behind others, if there is one
+abbrev pub behind : List Fact → Option Fact → List Fact
+behind facts None = facts
+behind facts (Some f) = facts ++ f ∷ []

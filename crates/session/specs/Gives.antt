@@ -1,28 +1,75 @@
 -- What the engine answers in a world: the lines of a change or of a firing, and the next world.
-use Rattle.std.specs.Prelude.{List, [], ◌∷◌, map, Option, Some, None, Result, Ok, Err}
-use Rattle.fx_base.specs.declared.ids.TypeId.{TypeId}
-use Rattle.fx_base.specs.declared.value.Value.{Value}
+use Rattle.std.specs.Prelude.{ℕ, List, [], ◌∷◌, ◌++◌, map, Option, Some, None, Result, Ok, Err, slice_get, if◌then◌else◌}
+use Rattle.std.specs.Prelude.{◌==◌}
+use Rattle.fx_base.specs.declared.ids.Tag.{Tag}
+use Rattle.fx_base.specs.declared.fact.Fact.{Fact}
 use Rattle.row_delta.specs.declared.row.Named.{Named}
+use Rattle.row_delta.specs.declared.row.Row.{Row}
+use Rattle.rule_model.specs.declared.action.Action.{Action}
 use Rattle.rule_model.specs.declared.matched.Match.{Match}
 use Rattle.rule_model.specs.declared.program.Program.{Program}
 use Rattle.rule_model.specs.declared.program.Rule.{Rule}
-use Rattle.rule_model.specs.Worlds.{World, new_fact, inserted, first_pending, marked}
+use Rattle.rule_model.specs.declared.step.Step.{Step}
+use Rattle.rule_model.specs.declared.step.Step.TheVariants.{Insert, Modify, Retract}
+use Rattle.rule_model.specs.Looked.{named_at}
+use Rattle.rule_model.specs.Planned.{step_of}
+use Rattle.rule_model.specs.Worlds.{World, stepped, is_possible, fact_of, first_pending, marked}
 use Rattle.script_read.specs.declared.asked.Change.{Change}
-use Rattle.session.specs.declared.lines.Code.{Code}
+use Rattle.change_read.specs.declared.code.Code.{Code}
+use Rattle.change_read.specs.declared.code.Code.TheVariants.{Absent, Overflow}
+use Rattle.change_read.specs.Changes.{change_step}
 use Rattle.session.specs.declared.lines.OutLine.{OutLine}
 use Rattle.session.specs.declared.lines.OutLine.TheVariants.{New, Fire, Fault}
 use Rattle.session.specs.declared.lines.Cell.{Cell}
 use Rattle.session.specs.declared.lines.Cell.TheVariants as cell
-use Rattle.session.specs.Changes.{change_read}
 
--- an insertion, or its fault, which changes nothing
-abbrev pub inserts : List Rule → World → Result (TypeId × List Value) Code → List OutLine × World
-inserts rules w (Err code) = (Fault code ∷ [], w)
-inserts rules w (Ok read) = (New (record { 0 = w.next_id }) read.0 ∷ [], inserted rules w (new_fact w read.0.0 read.1))
+-- ---- steps
 
--- a change
+-- an insertion prints the new fact, any other step nothing
+abbrev pub step_lines : World → Step → List OutLine
+step_lines w (Insert ty fields) = New (record { 0 = w.next_id }) ty ∷ []
+step_lines w (Modify id sets) = []
+step_lines w (Retract id) = []
+
+-- a step, or the fault of one that asks for a fact that is not present
+abbrev pub tries : List Rule → World → Step → List OutLine × World
+tries rules w step = if is_possible w.facts step then (step_lines w step, stepped rules w step) else (Fault Absent ∷ [], w)
+
+-- a step or a fault, which changes nothing
+abbrev pub does : List Rule → World → Result Step Code → List OutLine × World
+does rules w (Err code) = (Fault code ∷ [], w)
+does rules w (Ok step) = tries rules w step
+
+-- a change of the script
 unfoldable pub gives : Program → World → Change → List OutLine × World
-gives p w change = inserts p.rules w (change_read p.types change)
+gives p w change = does p.rules w (change_step p.types (fact_of w.facts) change)
+
+-- ---- firings
+
+abbrev pub then_does : List OutLine × World → (World → List OutLine × World) → List OutLine × World
+then_does done next = (done.0 ++ (next done.1).0, (next done.1).1)
+
+-- one after the other
+unfoldable pub does_all : List Rule → World → List (Result Step Code) → List OutLine × World
+does_all rules w [] = ([], w)
+does_all rules w (wanted ∷ more) = then_does (does rules w wanted) (λ next. does_all rules next more)
+
+-- the version of a fact with a tag
+unfoldable pub version_of : List Fact → Tag → Option Fact
+version_of [] tag = None
+version_of (f ∷ facts) tag = if f.tag.0 == tag.0 then Some f else version_of facts tag
+
+abbrev pub step_or_overflow : Option Step → Result Step Code
+step_or_overflow None = Err Overflow
+step_or_overflow (Some step) = Ok step
+
+-- what actions are to do for a row, with the values that the facts have now
+abbrev pub wanted : List Fact → Row → List Action → List (Result Step Code)
+wanted facts row actions = map (λ (a : Action). step_or_overflow (step_of (named_at (version_of facts) row.facts) row.facts a)) actions
+
+abbrev pub actions_of : Option Rule → List Action
+actions_of None = []
+actions_of (Some rule) = rule.actions
 
 abbrev pub cells : List Named → List Cell
 cells facts = map (λ (n : Named). cell.Fact n.id) facts
@@ -30,10 +77,14 @@ cells facts = map (λ (n : Named). cell.Fact n.id) facts
 abbrev pub fire_line : Match → OutLine
 fire_line m = Fire m.rule (cells m.row.facts)
 
-abbrev pub fires_with : World → Option Match → Option (List OutLine × World)
-fires_with w None = None
-fires_with w (Some m) = Some (fire_line m ∷ [], marked w m)
+-- a match is marked and printed, and its rule's actions are done in their order; their values are those of the world before
+abbrev pub fires_match : List Rule → World → Match → List OutLine × World
+fires_match rules w m = then_does (fire_line m ∷ [], marked w m) (λ next. does_all rules next (wanted w.facts m.row (actions_of (slice_get rules m.rule.0))))
+
+abbrev pub fires_with : List Rule → World → Option Match → Option (List OutLine × World)
+fires_with rules w None = None
+fires_with rules w (Some m) = Some (fires_match rules w m)
 
 -- a firing of the first pending match; nothing where nothing is pending
 unfoldable pub fires : Program → World → Option (List OutLine × World)
-fires p w = fires_with w (first_pending p.rules w)
+fires p w = fires_with p.rules w (first_pending p.rules w)

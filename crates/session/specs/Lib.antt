@@ -1,4 +1,3 @@
-pub mod Changes
 pub mod Gives
 pub mod Standing
 pub mod Added

@@ -1,6 +1,7 @@
+use change_read::Code;
 use fx_base::{FactId, RuleId, Seq, TypeId};
 
-/// The lines of a change or a firing, in their order.
+/// The lines of a change or a firing, in their order. Those of a firing are its own line and those of its actions.
 pub type Lines = Seq<OutLine>;
 
 /// A line that the engine answers.
@@ -10,7 +11,7 @@ pub enum OutLine {
     New { id: FactId, ty: TypeId },
     /// A rule fired for the facts of its conditions, in their order.
     Fire { rule: RuleId, cells: Seq<Cell> },
-    /// The change had this fault and changed nothing.
+    /// The change or the action had this fault and changed nothing.
     Fault(Code),
 }
 
@@ -18,17 +19,6 @@ pub enum OutLine {
 #[derive(Clone, Copy, Debug, PartialEq, Eq)]
 pub enum Cell {
     Fact(FactId),
-}
-
-/// Why a change is refused. They stand in the order in which they are tried.
-#[derive(Clone, Copy, Debug, PartialEq, Eq)]
-pub enum Code {
-    /// The type is not declared.
-    UnknownType,
-    /// The members are not exactly the declared fields.
-    BadFields,
-    /// A value has another kind than its field, or is a text of more than 4,096 bytes.
-    BadValue,
 }
 
 /// What a firing answers.

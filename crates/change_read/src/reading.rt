@@ -139,14 +139,15 @@ fn read_insert(
     }
 }
 
-/// What a change asks for, or its fault.
-pub(crate) fn read_change(
+/// The step that a change asks for, or its fault.
+pub fn asked_step<P: Present>(
     alloc: Global,
     types: &[TypeInfo],
+    present: &P,
     change: &Change,
-) -> Result<Result<(TypeId, Seq<Value>), Code>, NoMemory>
-    requires { length types.now < 2 ^ 16 }
-    ensures { IfOk result (λ read. read ≡ change_read types.now change.now) }
+) -> Result<Result<Step, Code>, NoMemory>
+    requires { length types.now ≤ 2 ^ 16 }
+    ensures { IfOk result (λ step. step ≡ change_step types.now (P.present present.now) change.now) }
 {
     match change {
         Change::Insert { ty, fields } => read_insert(alloc, types, ty, fields.as_slice()),

@@ -1,0 +1,14 @@
+//! The steps that the changes of a script ask for, or their faults, in the order in which faults are tried.
+//! It stands on the definitions of `rule_model` and `script_read`, and assumes nothing of a change.
+#![tactic(auto)]
+
+mod code;
+mod fields;
+mod present;
+mod reading;
+#[cfg(test)]
+mod tests;
+
+pub use code::Code;
+pub use present::Present;
+pub use reading::asked_step;
