@@ -9,7 +9,10 @@ use Rattle.fx_base.specs.declared.value.Value.TheVariants as value
 use Rattle.drl_lex.specs.declared.token.Rel.{Rel}
 use Rattle.drl_lex.specs.declared.token.Rel.TheVariants as rel
 use Rattle.drl_expr.specs.declared.literal.LitTree.{LitTree}
-use Rattle.drl_expr.specs.declared.literal.LitTree.TheVariants as lit
+use Rattle.drl_expr.specs.declared.literal.LitTree.TheVariants as literal
+use Rattle.drl_expr.specs.Tree.{Tree, lit, var, var_field, neg, add, sub, mul}
+use Rattle.drl_grammar.specs.declared.action.ActTree.{ActTree}
+use Rattle.drl_grammar.specs.declared.action.ActTree.TheVariants as act
 use Rattle.drl_grammar.specs.declared.condition.CondTree.{CondTree}
 use Rattle.drl_grammar.specs.declared.condition.CondTree.TheVariants as tree
 use Rattle.drl_grammar.specs.declared.condition.SourceTree.{SourceTree}
@@ -25,6 +28,10 @@ use Rattle.drl_grammar.specs.declared.file.File.{File}
 use Rattle.drl_grammar.specs.declared.file.Item.{Item}
 use Rattle.drl_grammar.specs.declared.file.TypeTree.{TypeTree}
 use Rattle.drl_grammar.specs.declared.file.RuleTree.{RuleTree}
+use Rattle.rule_model.specs.Expressions.{Expression, bound}
+use Rattle.rule_model.specs.Expressions as expression
+use Rattle.rule_model.specs.declared.action.Action.{Action}
+use Rattle.rule_model.specs.declared.action.Action.TheVariants.{Insert, Modify, Retract}
 use Rattle.rule_model.specs.declared.program.Program.{Program}
 use Rattle.rule_model.specs.declared.program.TypeInfo.{TypeInfo}
 use Rattle.rule_model.specs.declared.program.Rule.{Rule}
@@ -39,7 +46,7 @@ use Rattle.rule_model.specs.declared.test.Side.{Side}
 use Rattle.rule_model.specs.declared.test.Side.TheVariants.{Lit, Own, Of}
 use Rattle.drl_check.specs.Names.{place_of}
 use Rattle.drl_check.specs.Declarations.{types_of, rules_of, type_names, field_names, type_named, kind_of}
-use Rattle.drl_check.specs.Sight.{Sight, Meaning, of_fact, of_field, meaning_of, Place, begin, behind}
+use Rattle.drl_check.specs.Sight.{Sight, Meaning, of_fact, of_field, meaning_of, Place, begin, behind, sight_of_actions}
 use Rattle.drl_check.specs.Uses.{any_of_part}
 use Rattle.drl_check.specs.Checks.{Failure, failure_of}
 
@@ -79,9 +86,9 @@ rel_tag rel.Greater = tag.Greater
 rel_tag rel.GreaterOrEqual = tag.GreaterOrEqual
 
 abbrev pub literal_value : LitTree → Value
-literal_value (lit.Int n) = value.Int n
-literal_value (lit.Bool b) = value.Bool b
-literal_value (lit.Text s) = value.Text s
+literal_value (literal.Int n) = value.Int n
+literal_value (literal.Bool b) = value.Bool b
+literal_value (literal.Text s) = value.Text s
 
 abbrev pub variable_side : Option Meaning → Side
 variable_side (Some (of_field fact field k)) = Of (min fact 255) (min field 255)
@@ -148,6 +155,42 @@ unfoldable pub conditions_of : List TypeTree → Place → List CondTree → Lis
 conditions_of types place [] = []
 conditions_of types place (c ∷ cs) = condition_of types place c ++ conditions_of types (behind types place c) cs
 
+-- ---- actions, given what is in sight behind all conditions
+
+abbrev pub variable_value : Option Meaning → Expression
+variable_value (Some (of_field fact field k)) = bound (min fact 255) (min field 255)
+variable_value m = expression.lit (value.Int (pos 0))
+
+abbrev pub variable_field_value : Option Meaning → List ℕ → Expression
+variable_field_value (Some (of_fact fact t)) f = bound (min fact 255) (field_place t f)
+variable_field_value m f = expression.lit (value.Int (pos 0))
+
+abbrev pub expression_in : Sight → Tree → Expression
+expression_in sight (lit l) = expression.lit (literal_value l)
+expression_in sight (var v) = variable_value (meaning_of sight v)
+expression_in sight (var_field v f) = variable_field_value (meaning_of sight v) f
+expression_in sight (neg a) = expression.neg (expression_in sight a)
+expression_in sight (add a b) = expression.add (expression_in sight a) (expression_in sight b)
+expression_in sight (sub a b) = expression.sub (expression_in sight a) (expression_in sight b)
+expression_in sight (mul a b) = expression.mul (expression_in sight a) (expression_in sight b)
+
+-- the number of the fact that a variable means, and its type
+abbrev pub fact_meant : Option Meaning → ℕ
+fact_meant (Some (of_fact fact t)) = min fact 255
+fact_meant m = 0
+
+abbrev pub type_meant : Option Meaning → TypeTree
+type_meant (Some (of_fact fact t)) = t
+type_meant m = no_type
+
+abbrev pub set_in : TypeTree → Sight → List ℕ × Tree → ℕ × Expression
+set_in t sight set = (field_place t set.0, expression_in sight set.1)
+
+abbrev pub action_of : List TypeTree → Sight → ActTree → Action
+action_of types sight (act.Insert ty args) = Insert (record { 0 = type_place (place_of (type_names types) ty) }) (map (expression_in sight) args)
+action_of types sight (act.Modify v sets) = Modify (fact_meant (meaning_of sight v)) (map (set_in (type_meant (meaning_of sight v)) sight) sets)
+action_of types sight (act.Retract v) = Retract (fact_meant (meaning_of sight v))
+
 -- the salience that is written, or 0
 abbrev pub salience_with : Attr → ℤ → ℤ
 salience_with (attr.Salience n) others = n
@@ -158,7 +201,7 @@ salience_of [] = pos 0
 salience_of (a ∷ attrs) = salience_with a (salience_of attrs)
 
 abbrev pub rule_of : List TypeTree → RuleTree → Rule
-rule_of types r = record { name = r.name; salience = salience_of r.attrs; conditions = conditions_of types begin r.conditions }
+rule_of types r = record { name = r.name; salience = salience_of r.attrs; conditions = conditions_of types begin r.conditions; actions = map (action_of types (sight_of_actions types r.conditions)) r.actions }
 
 -- given the types of the file
 abbrev pub program_with : List TypeTree → List Item → Program

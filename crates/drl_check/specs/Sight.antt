@@ -55,3 +55,11 @@ begin = record { sight = []; facts = 0 }
 abbrev pub behind : List TypeTree → Place → CondTree → Place
 behind types place (condition.Plain s) = record { sight = place.sight ++ seen_of place.facts s (type_named types s.ty); facts = place.facts + 1 }
 behind types place c = place
+
+-- what is in sight behind all conditions, which is what actions see
+unfoldable pub behind_all : List TypeTree → Place → List CondTree → Place
+behind_all types place [] = place
+behind_all types place (c ∷ cs) = behind_all types (behind types place c) cs
+
+abbrev pub sight_of_actions : List TypeTree → List CondTree → Sight
+sight_of_actions types cs = (behind_all types begin cs).sight
