@@ -8,8 +8,8 @@ use Rattle.drl_grammar.specs.declared.file.Item.{Item}
 use Rattle.drl_grammar.specs.declared.file.TypeTree.{TypeTree}
 use Rattle.drl_check.specs.declared.fault.CheckCode.{CheckCode}
 use Rattle.drl_check.specs.declared.fault.CheckCode.TheVariants.{NotBuilt, TwiceDeclared, LimitPassed, UnknownType, UnknownField, UnknownVariable, WrongKind}
-use Rattle.drl_check.specs.Declarations.{types_of}
-use Rattle.drl_check.specs.Sight.{begin, sight_of_actions}
+use Rattle.drl_sight.specs.Declarations.{types_of}
+use Rattle.drl_sight.specs.Sight.{begin, sight_of_actions}
 use Rattle.drl_check.specs.Built.{not_built}
 use Rattle.drl_check.specs.Twice.{is_twice}
 use Rattle.drl_check.specs.Limits.{passes_limit}

@@ -21,30 +21,19 @@ use Rattle.drl_grammar.specs.declared.condition.Cmp.TheVariants as cmp
 use Rattle.drl_grammar.specs.declared.condition.Operand.{Operand}
 use Rattle.drl_grammar.specs.declared.condition.Operand.TheVariants as operand
 use Rattle.drl_grammar.specs.declared.file.TypeTree.{TypeTree}
-use Rattle.drl_check.specs.Names.{place_of}
-use Rattle.drl_check.specs.Declarations.{type_named, field_names, kind_of, kind_at}
-use Rattle.drl_check.specs.Sight.{Sight, Meaning, of_fact, of_field, meaning_of, Place}
+use Rattle.drl_sight.specs.Names.{place_of}
+use Rattle.drl_sight.specs.Declarations.{type_named, field_names, kind_of, kind_at}
+use Rattle.drl_sight.specs.Meanings.{field_kind, variable_kind, variable_field_kind}
+use Rattle.drl_sight.specs.Sight.{Sight, Meaning, of_fact, of_field, meaning_of, Place}
 
 -- a field whose kind word is none of the seven
 abbrev pub has_unknown_kind : TypeTree → Bool
 has_unknown_kind t = list_any (λ (field : List ℕ × List ℕ). not (is_some (kind_of field.1))) t.fields
 
--- the kind of a field of a type, by its name
-abbrev pub field_kind : TypeTree → List ℕ → Option Kind
-field_kind t f = option_and_then (kind_at t) (place_of (field_names t) f)
-
 abbrev pub literal_kind : LitTree → Kind
 literal_kind (literal.Int n) = kind.Int
 literal_kind (literal.Bool b) = kind.Bool
 literal_kind (literal.Text s) = kind.Text
-
-abbrev pub variable_kind : Option Meaning → Option (Option Kind)
-variable_kind (Some (of_field fact field k)) = Some k
-variable_kind m = None
-
-abbrev pub variable_field_kind : Option Meaning → List ℕ → Option (Option Kind)
-variable_field_kind (Some (of_fact fact t)) f = Some (field_kind t f)
-variable_field_kind m f = None
 
 -- The kind of an operand, which a field may lack; nothing where a fact stands for a value, or a value for a fact.
 abbrev pub operand_kind : TypeTree → Sight → Operand → Option (Option Kind)

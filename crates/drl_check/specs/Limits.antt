@@ -22,8 +22,8 @@ use Rattle.drl_grammar.specs.declared.file.Body.TheVariants as body
 use Rattle.drl_grammar.specs.declared.file.Item.{Item}
 use Rattle.drl_grammar.specs.declared.file.TypeTree.{TypeTree}
 use Rattle.drl_grammar.specs.declared.file.RuleTree.{RuleTree}
-use Rattle.drl_check.specs.Names.{is_short}
-use Rattle.drl_check.specs.Declarations.{types_of, rules_of, field_names}
+use Rattle.drl_sight.specs.Names.{is_short}
+use Rattle.drl_sight.specs.Declarations.{types_of, rules_of, field_names}
 
 -- names of types, fields and variables have at most 64 bytes, texts at most 4,096
 abbrev pub is_name : List ℕ → Bool

@@ -15,8 +15,8 @@ use Rattle.drl_grammar.specs.declared.file.Body.{Body}
 use Rattle.drl_grammar.specs.declared.file.Body.TheVariants as body
 use Rattle.drl_grammar.specs.declared.file.Item.{Item}
 use Rattle.drl_grammar.specs.declared.file.RuleTree.{RuleTree}
-use Rattle.drl_check.specs.Names.{is_among, are_distinct}
-use Rattle.drl_check.specs.Declarations.{types_of, rules_of, type_names, rule_names, field_names}
+use Rattle.drl_sight.specs.Names.{is_among, are_distinct}
+use Rattle.drl_sight.specs.Declarations.{types_of, rules_of, type_names, rule_names, field_names}
 
 abbrev pub attr_word : Attr → List ℕ
 attr_word (attr.Salience n) = codes "salience"

@@ -14,38 +14,16 @@ use Rattle.drl_grammar.specs.declared.condition.Cmp.TheVariants as cmp
 use Rattle.drl_grammar.specs.declared.condition.Operand.{Operand}
 use Rattle.drl_grammar.specs.declared.condition.Operand.TheVariants as operand
 use Rattle.drl_grammar.specs.declared.file.TypeTree.{TypeTree}
-use Rattle.drl_check.specs.Names.{is_among}
-use Rattle.drl_check.specs.Declarations.{type_named, field_names}
-use Rattle.drl_check.specs.Sight.{Sight, Meaning, of_fact, meaning_of, Place, behind}
+use Rattle.drl_sight.specs.Names.{is_among}
+use Rattle.drl_sight.specs.Declarations.{type_named, field_names}
+use Rattle.drl_sight.specs.Meanings.{lacks, lacks_for}
+use Rattle.drl_sight.specs.Operands.{any_of_cmp, any_of_part, any_leaf_of}
+use Rattle.drl_sight.specs.Sight.{Sight, Meaning, of_fact, meaning_of, Place, behind}
 
 -- whether one of the conditions has this, given what is in sight there
 unfoldable pub any_condition : (Place → CondTree → Bool) → List TypeTree → Place → List CondTree → Bool
 any_condition test types place [] = false
 any_condition test types place (c ∷ cs) = test place c || any_condition test types (behind types place c) cs
-
--- whether one of the operands of a comparison, of a part, of a pattern has this
-abbrev pub any_of_cmp : (Operand → Bool) → Cmp → Bool
-any_of_cmp test (cmp.Rel f r o) = test o
-any_of_cmp test (cmp.OneOf f os) = list_any test os
-
-abbrev pub any_of_part : (Operand → Bool) → Part → Bool
-any_of_part test (part.AnyOf groups) = list_any (λ (group : List Cmp). list_any (any_of_cmp test) group) groups
-any_of_part test p = false
-
--- whether one of the leaves of an expression, of the expressions of an action has this
-abbrev pub any_leaf : (Tree → Bool) → Tree → Bool
-any_leaf test (lit l) = test (lit l)
-any_leaf test (var v) = test (var v)
-any_leaf test (var_field v f) = test (var_field v f)
-any_leaf test (neg a) = any_leaf test a
-any_leaf test (add a b) = any_leaf test a || any_leaf test b
-any_leaf test (sub a b) = any_leaf test a || any_leaf test b
-any_leaf test (mul a b) = any_leaf test a || any_leaf test b
-
-abbrev pub any_leaf_of : (Tree → Bool) → ActTree → Bool
-any_leaf_of test (action.Insert ty args) = list_any (any_leaf test) args
-any_leaf_of test (action.Modify v sets) = list_any (λ (set : List ℕ × Tree). any_leaf test set.1) sets
-any_leaf_of test (action.Retract v) = false
 
 -- ---- types
 
@@ -61,13 +39,6 @@ inserts_unknown_type types (action.Insert ty args) = not (is_some (type_named ty
 inserts_unknown_type types a = false
 
 -- ---- fields
-
-abbrev pub lacks : TypeTree → List ℕ → Bool
-lacks t f = not (is_among (field_names t) f)
-
-abbrev pub lacks_for : Option Meaning → List ℕ → Bool
-lacks_for (Some (of_fact fact t)) f = lacks t f
-lacks_for meaning f = false
 
 -- a field of the pattern's type, or of a fact variable in sight
 abbrev pub operand_lacks : TypeTree → Sight → Operand → Bool
