@@ -1,4 +1,4 @@
-use super::{blanks, run_of};
+use crate::runs::{blanks, run_of};
 use drl_check::check;
 use drl_parse::parse;
 use std::alloc::Global;

@@ -1,9 +1,10 @@
-use crate::{
+use crate::tokens::kinds;
+use drl_phrase::{
     Name, Phrase, Punctuation, Span, behind, behind_word, listed, many, maybe, non_empty, optional,
     separated, whole,
 };
-use drl_lex::{TokenKind, kinds_and_starts, lex};
-use fx_base::{NoMemory, Seq};
+use drl_lex::TokenKind;
+use fx_base::NoMemory;
 use std::alloc::Global;
 use std::test::Fail;
 
@@ -55,13 +56,6 @@ const SPANS: [(&str, Option<i64>); 7] = [
     ("5 5", None),
     ("five", None),
 ];
-
-fn kinds(alloc: Global, source: &str) -> Result<Seq<TokenKind>, NoMemory> {
-    match lex(alloc, source.as_bytes()) {
-        Ok(tokens) => Ok(kinds_and_starts(alloc, tokens)?.0),
-        Err(_) => Err(NoMemory),
-    }
-}
 
 /// The numbers of the members and of the tokens behind them.
 fn counts(

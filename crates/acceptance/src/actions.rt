@@ -1,8 +1,6 @@
-use crate::Action;
-use drl_lex::{TokenKind, kinds_and_starts, lex};
+use crate::tokens::kinds;
+use drl_action::Action;
 use drl_phrase::Phrase;
-use fx_base::{NoMemory, Seq};
-use std::alloc::Global;
 use std::test::Fail;
 
 /// Source, and the action at its front with the number of tokens behind it.
@@ -29,13 +27,6 @@ const ROWS: [(&str, &str); 15] = [
     ("retract(a)", "none"),
     ("", "none"),
 ];
-
-fn kinds(alloc: Global, source: &str) -> Result<Seq<TokenKind>, NoMemory> {
-    match lex(alloc, source.as_bytes()) {
-        Ok(tokens) => Ok(kinds_and_starts(alloc, tokens)?.0),
-        Err(_) => Err(NoMemory),
-    }
-}
 
 #[test]
 fn actions_are_read(rt: HostRuntime) -> Result<(), Fail> {

@@ -1,10 +1,8 @@
 ghost use Rattle.std.specs.Prelude.{◌≤◌};
 
-mod refusals;
-
-use crate::{replay, run_rules};
 use fx_base::{Copies, Seq, Text, Value};
 use fx_io::{MemShelf, MemSink, MemSource};
+use replay::{replay, run_rules};
 use session::Session;
 use std::alloc::Global;
 use std::test::Fail;
@@ -73,7 +71,7 @@ const FAULTY: &[u8] =
     b" \t\r\n{\"do\":\"fly\"}\n{\"do\":\"insert\",\"type\":\"Nope\",\"fields\":{}}\n{\"do\":\"insert\",\"type\":\"Item\",\"fields\":{\"price\":1.5}}\n{\n{\"do\":\"insert\",\"type\":\"Item\",\"fields\":{\"price\":10}}\n";
 
 // The status and the written bytes of a run of the file TWO with this limit of firings.
-fn run_at_most(alloc: Global, limit: u64, script: &[u8]) -> Result<(u8, Vec<u8>), Fail>
+pub(crate) fn run_at_most(alloc: Global, limit: u64, script: &[u8]) -> Result<(u8, Vec<u8>), Fail>
     requires some { 1 ≤ limit }
     requires low { limit ≤ 1000000 }
 {
@@ -93,7 +91,7 @@ fn run_at_most(alloc: Global, limit: u64, script: &[u8]) -> Result<(u8, Vec<u8>)
 }
 
 // So many spaces.
-fn blanks(alloc: Global, count: usize) -> Result<Vec<u8>, Fail> {
+pub(crate) fn blanks(alloc: Global, count: usize) -> Result<Vec<u8>, Fail> {
     let mut bytes = Vec::new(alloc);
     for _ in 0..count {
         bytes.push(b' ')?;
@@ -102,7 +100,7 @@ fn blanks(alloc: Global, count: usize) -> Result<Vec<u8>, Fail> {
 }
 
 // The status and the written bytes of a run of these rules.
-fn run_of(alloc: Global, rules: &[u8], script: &[u8]) -> Result<(u8, Vec<u8>), Fail> {
+pub(crate) fn run_of(alloc: Global, rules: &[u8], script: &[u8]) -> Result<(u8, Vec<u8>), Fail> {
     let mut files = Vec::new(alloc);
     files.push(file(alloc, "RULES", rules)?)?;
     let mut shelf = MemShelf::new(files, Vec::new(alloc));

@@ -1,7 +1,7 @@
-use crate::{ConditionPhrase, Phrase, condition};
-use drl_lex::{TokenKind, kinds_and_starts, lex};
-use fx_base::{NoMemory, Seq};
-use std::alloc::Global;
+use crate::tokens::kinds;
+use drl_condition::{ConditionPhrase, condition};
+use drl_lex::TokenKind;
+use drl_phrase::Phrase;
 use std::test::Fail;
 
 /// Source, and its tree.
@@ -57,13 +57,6 @@ const NONE: [&str; 18] = [
     "accumulate( E( ); $n : count( $x ); $m > 1 )",
     "accumulate( E( ); $n : count( $x ); $n > 1, )",
 ];
-
-fn kinds(alloc: Global, source: &str) -> Result<Seq<TokenKind>, NoMemory> {
-    match lex(alloc, source.as_bytes()) {
-        Ok(tokens) => Ok(kinds_and_starts(alloc, tokens)?.0),
-        Err(_) => Err(NoMemory),
-    }
-}
 
 #[test]
 fn conditions_are_read(rt: HostRuntime) -> Result<(), Fail> {

@@ -1,4 +1,6 @@
-use crate::{Body, File, ParseFault, parse};
+use drl_grammar::{Body, File};
+use drl_parse::{ParseFault, parse};
+use drl_show::show;
 use std::alloc::{AllocError, Global};
 use std::test::Fail;
 
@@ -232,5 +234,49 @@ fn a_file_has_at_most_a_mebibyte(rt: HostRuntime) -> Result<(), Fail> {
     );
     bytes.push(b'^')?;
     assert_eq!(rt; parse(rt.alloc(), &bytes).err(), Some(ParseFault::TooLong));
+    Ok(())
+}
+
+/// Files as they are written, and as they are shown.
+const SHOWN: [(&str, &str); 5] = [
+    (
+        "declare Item\n  price : long name : String\nend",
+        "declare Item price : long name : String end\n",
+    ),
+    (
+        "package a.b; import c.*\ndialect 'x'",
+        "package a . b\nimport c . *\ndialect \"x\"\n",
+    ),
+    (
+        "rule r salience -3, when $a : A(x > 1, y in (1, 'b') || z == $b.c && t) then retract($a); end",
+        "Syntax",
+    ),
+    (
+        "rule r salience -3, when $a : A(x > 1, y in (1, 'b') || z == $b.c && t != true) then retract($a); modify($a) { setX(1 + 2 * 3) } end",
+        "rule \"r\" salience - 3 when $a : A ( x > 1 , y in ( 1 , \"b\" ) || z == $b . c && t != true ) then retract ( $a ) modify ( $a ) { x = 1 + ( 2 * 3 ) } end\n",
+    ),
+    (
+        "rule r when not E(this after[1s, 2s] $a) over window:time(1m) from entry-point X then end",
+        "rule \"r\" when not ( E ( this after [ 1000 , 2000 ] $a ) over window : time ( 60000 ) from entry - point \"X\" ) then end\n",
+    ),
+];
+
+// What is shown of a file, if it is read.
+fn shown(alloc: Global, source: &[u8]) -> Result<Vec<u8>, Fail> {
+    match parse(alloc, source) {
+        Ok(file) => Ok(show(alloc, &file)?),
+        Err(_) => Ok(b"Syntax".to_vec(alloc)?),
+    }
+}
+
+#[test]
+fn files_are_shown_and_read_again(rt: HostRuntime) -> Result<(), Fail> {
+    let alloc = rt.alloc();
+    for (source, want) in SHOWN {
+        let text = shown(alloc, source.as_bytes())?;
+        assert_eq!(rt; text.as_slice(), want.as_bytes(), "{source}");
+        let again = shown(alloc, &text)?;
+        assert_eq!(rt; again.as_slice(), want.as_bytes(), "{source}");
+    }
     Ok(())
 }
