@@ -28,12 +28,9 @@ fn read_value(alloc: Global, line: &[u8]) -> Result<Option<Value>, NoMemory>
 fn fire(value: &Value) -> Option<Command>
     ensures { result ≡ fire_of (view value.now) }
 {
-    match count(value) {
-        Some(1) => Some(Command::Fire(None)),
-        Some(2) => match count_member(value, "max") {
-            Some(most) => Some(Command::Fire(Some(most))),
-            None => None,
-        },
+    match count(value)? {
+        1 => Some(Command::Fire(None)),
+        2 => Some(Command::Fire(Some(count_member(value, "max")?))),
         _ => None,
     }
 }
@@ -99,19 +96,13 @@ fn form(alloc: Global, value: &Value) -> Result<Option<Command>, NoMemory>
     let Some(word) = text_member(value, "do") else {
         return Ok(None);
     };
-    if word == "fire" {
-        return Ok(fire(value));
+    match word {
+        "fire" => Ok(fire(value)),
+        "insert" => insert(alloc, value),
+        "modify" => modify(alloc, value),
+        "retract" => retract(alloc, value),
+        _ => Ok(None),
     }
-    if word == "insert" {
-        return insert(alloc, value);
-    }
-    if word == "modify" {
-        return modify(alloc, value);
-    }
-    if word == "retract" {
-        return retract(alloc, value);
-    }
-    Ok(None)
 }
 
 /// The command that a line asks for. `BadJson` comes exactly where the bytes are no UTF-8 or have no
@@ -177,7 +168,7 @@ mod tests {
                 "Err(BadCommand)",
             ),
             (
-                b"{\"do\":\"retract\",\"type\":\"Item\"}",
+                b"{\"do\":\"retract\",\"type\":\"Item\",\"fields\":{}}",
                 "Err(BadCommand)",
             ),
             (

@@ -48,7 +48,7 @@ pub fn id_member(value: &Value, name: &str) -> Option<FactId>
     ensures { option_map (λ id. id.0) result ≡ id_under name.now (view value.now) }
 {
     match whole_member(value, name) {
-        Some(number) if number >= 1 => Some(FactId(number as u64)),
+        Some(number @ 1..) => Some(FactId(number as u64)),
         _ => None,
     }
 }
@@ -59,7 +59,7 @@ pub fn count_member(value: &Value, name: &str) -> Option<u64>
     ensures { result ≡ count_under name.now (view value.now) }
 {
     match whole_member(value, name) {
-        Some(number) if number >= 0 && number <= MOST_FIRINGS => Some(number as u64),
+        Some(number @ 0..=MOST_FIRINGS) => Some(number as u64),
         _ => None,
     }
 }
