@@ -6,3 +6,4 @@ pub mod Looking
 pub mod Listed
 pub mod Named
 pub mod Once
+pub mod Order
