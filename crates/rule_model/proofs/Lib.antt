@@ -7,3 +7,6 @@ pub mod Listed
 pub mod Named
 pub mod Once
 pub mod Order
+pub mod Ids
+pub mod Fresh
+pub mod Steps
