@@ -7,9 +7,15 @@ mod actions;
 #[cfg(test)]
 mod conditions;
 #[cfg(test)]
+mod engine;
+#[cfg(test)]
 mod files;
 #[cfg(test)]
+mod programs;
+#[cfg(test)]
 mod refusals;
+#[cfg(test)]
+mod rows;
 #[cfg(test)]
 mod runs;
 #[cfg(test)]
