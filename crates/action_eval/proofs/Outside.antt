@@ -1,5 +1,5 @@
 -- A whole number is outside 64 bits exactly where it does not fit them.
-use Rattle.std.proofs.Common.{◌≡◌, ◌^◌, ◌<◌, Bool, true, false, not, nat_lt, ℤ, pos, negsuc, FitsSigned, w64, arith, ⊎_elim}
+use Rattle.std.proofs.Common.{◌≡◌, ◌^◌, ◌<◌, true, false, ℤ, pos, negsuc, FitsSigned, w64, arith, ⊎_elim}
 use Rattle.std.proofs.lemmas.Int.{ints}
 use Rattle.std.proofs.lemmas.Bool.{cases_Bool}
 use Rattle.std.proofs.lemmas.Bool.Decides.{nat_tests}
