@@ -59,13 +59,13 @@ fn planned_sets<F: Facts>(
     sets: &[(u8, Expr)],
     row: &Row,
     facts: &F,
-) -> Result<Seq<(u8, Value)>, EvalFault>
+) -> Result<Seq<(usize, Value)>, EvalFault>
     ensures sets { IfOk result (λ vs. Some vs ≡ sets_of (named_at (F.map facts.now) row.now.facts) sets.now) }
     ensures overflow { IsErrOf result EvalFault.Overflow → sets_of (named_at (F.map facts.now) row.now.facts) sets.now ≡ None }
 {
     let mut planned = Vec::new(alloc);
     for (field, expr) in sets {
-        planned.push((*field, value(alloc, expr, row, facts)?))?;
+        planned.push((usize::from(*field), value(alloc, expr, row, facts)?))?;
     }
     Ok(Seq::from_vec(planned))
 }
