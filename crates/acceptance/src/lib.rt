@@ -3,6 +3,8 @@
 #![tactic(auto)]
 
 #[cfg(test)]
+mod action_refusals;
+#[cfg(test)]
 mod actions;
 #[cfg(test)]
 mod conditions;

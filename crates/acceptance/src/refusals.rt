@@ -5,7 +5,7 @@ use std::alloc::Global;
 use std::test::Fail;
 
 /// Rule files, and the place and the code of their refusal.
-const REFUSED: [(&str, &str); 40] = [
+const REFUSED: [(&str, &str); 39] = [
     ("\n^", "item 0 line 2 BadChar"),
     ("declare A end\n3q", "item 0 line 2 BadChar"),
     ("rule \"x", "item 0 line 1 OpenText"),
@@ -20,10 +20,6 @@ const REFUSED: [(&str, &str); 40] = [
         "item 1 line 1 NotBuilt",
     ),
     ("declare entry-point X end", "item 1 line 1 NotBuilt"),
-    (
-        "declare A end rule \"r\" when $a : A() then retract( $a ) end",
-        "item 2 line 1 NotBuilt",
-    ),
     (
         "declare A end rule \"r\" when not( A() ) then end",
         "item 2 line 1 NotBuilt",
