@@ -1,4 +1,2 @@
+pub mod Ids
 pub mod Rules
-pub mod Fresh
-pub mod Stands
-pub mod Firings

@@ -3,12 +3,16 @@
 #![tactic(auto)]
 
 mod engine;
-mod lines;
-mod reading;
-mod session;
-#[cfg(test)]
-mod tests;
 
+mod lines;
+mod refreshing;
+
+mod state;
+mod steps;
+
+
+
+pub use change_read::Code;
 pub use engine::Engine;
-pub use lines::{Cell, Code, Fired, Lines, OutLine};
-pub use session::Session;
+pub use lines::{Cell, Fired, Lines, OutLine};
+
