@@ -5,16 +5,19 @@ use Rattle.std.specs.Str.{bytes_eq}
 use Rattle.std.proofs.lemmas.Slice.Eq.{bytes_eq-Decides}
 use Rattle.std.proofs.lemmas.Bool.Decides.{Decides-eqb}
 use Rattle.serde_json.specs.Data.{Data, Members}
-use Rattle.script_read.specs.Members.{text_member, object_member, count}
-use Rattle.script_read.specs.Form.{IsForm, fire, insert, fire_of, insert_of, has_count, insert_parts, command_by_word, command_of}
+use Rattle.script_read.specs.Members.{text_member, object_member, id_member, count_member, count}
+use Rattle.script_read.specs.Form.{IsForm, fire, fire_most, insert, modify, retract, fire_of, insert_of, modify_of, retract_of, has_count, fire_parts, insert_parts, modify_parts, retract_parts, command_by_word, command_of}
 use Rattle.script_read.specs.declared.asked.Command.{Command}
 use Rattle.script_read.specs.declared.asked.Command.TheVariants.{Fire}
 
 -- every command with the form of a value is the one that is found
 pub form_again : {d : Data} {c : Command} → IsForm d c → command_of d ≡ Some c
-unfolding command_of fire_of insert_of
+unfolding command_of fire_of insert_of modify_of retract_of
 form_again (fire word members) = rw (word, members) refl
+form_again (fire_most word most members) = rw (word, members, most) refl
 form_again (insert word ty fields members) = rw (word, members, ty, fields) refl
+form_again (modify word ty id fields members) = rw (word, members, ty, id, fields) refl
+form_again (retract word ty id members) = rw (word, members, ty, id) refl
 
 -- a value has the form of at most one command
 pub one_form : {d : Data} {c other : Command} → IsForm d c → IsForm d other → c ≡ other
@@ -35,16 +38,23 @@ counted : (n : ℕ) (m : Option ℕ) → has_count n m ≡ true → m ≡ Some n
 counted n None e = cc
 counted n (Some m) e = ap Some ((Decides-eqb m n).0 e)
 
--- at each case of the count
-fire_counted : (b : Bool) (d : Data) (c : Command) → has_count 1 (count d) ≡ b → text_member (codes "do") d ≡ Some (codes "fire")
-    → Some c ≡ (if b then Some (Fire None) else None) → IsForm d c
-fire_counted true d c members word found = subst (IsForm d) (some_injective (sym found)) (fire word (counted 1 (count d) members))
-fire_counted false d c members word found = cc
+-- at each case of the two counts and of the number of firings
+fire_counted : (alone two : Bool) (most : Option ℕ) (d : Data) (c : Command)
+    → has_count 1 (count d) ≡ alone → has_count 2 (count d) ≡ two → count_member (codes "max") d ≡ most
+    → text_member (codes "do") d ≡ Some (codes "fire")
+    → Some c ≡ (if alone then Some (Fire None) else (if two then fire_parts most else None)) → IsForm d c
+fire_counted true two most d c members more given word found =
+    subst (IsForm d) (some_injective (sym found)) (fire word (counted 1 (count d) members))
+fire_counted false true (Some n) d c members more given word found =
+    subst (IsForm d) (some_injective (sym found)) (fire_most word given (counted 2 (count d) more))
+fire_counted false true None d c members more given word found = cc
+fire_counted false false most d c members more given word found = cc
 
 -- a fire that is found has its form
 fire_sound : (d : Data) (c : Command) → text_member (codes "do") d ≡ Some (codes "fire") → Some c ≡ fire_of d → IsForm d c
 unfolding fire_of
-fire_sound d c word found = fire_counted (has_count 1 (count d)) d c refl word found
+fire_sound d c word found =
+    fire_counted (has_count 1 (count d)) (has_count 2 (count d)) (count_member (codes "max") d) d c refl refl refl word found
 
 -- at each case of the count and of the two members
 insert_counted : (b : Bool) (ty : Option (List ℕ)) (fields : Option Members) (d : Data) (c : Command)
@@ -63,6 +73,42 @@ unfolding insert_of
 insert_sound d c word found =
     insert_counted (has_count 3 (count d)) (text_member (codes "type") d) (object_member (codes "fields") d) d c refl refl refl word found
 
+-- at each case of the count and of the three members
+modify_counted : (b : Bool) (ty : Option (List ℕ)) (id : Option ℕ) (fields : Option Members) (d : Data) (c : Command)
+    → has_count 4 (count d) ≡ b → text_member (codes "type") d ≡ ty → id_member (codes "id") d ≡ id → object_member (codes "fields") d ≡ fields
+    → text_member (codes "do") d ≡ Some (codes "modify")
+    → Some c ≡ (if b then modify_parts ty id fields else None) → IsForm d c
+modify_counted true (Some ty) (Some id) (Some fields) d c members named numbered given word found =
+    subst (IsForm d) (some_injective (sym found)) (modify word named numbered given (counted 4 (count d) members))
+modify_counted true (Some ty) (Some id) None d c members named numbered given word found = cc
+modify_counted true (Some ty) None fields d c members named numbered given word found = cc
+modify_counted true None id fields d c members named numbered given word found = cc
+modify_counted false ty id fields d c members named numbered given word found = cc
+
+-- a modify that is found has its form
+modify_sound : (d : Data) (c : Command) → text_member (codes "do") d ≡ Some (codes "modify") → Some c ≡ modify_of d → IsForm d c
+unfolding modify_of
+modify_sound d c word found =
+    modify_counted (has_count 4 (count d)) (text_member (codes "type") d) (id_member (codes "id") d) (object_member (codes "fields") d) d c
+    refl refl refl refl word found
+
+-- at each case of the count and of the two members
+retract_counted : (b : Bool) (ty : Option (List ℕ)) (id : Option ℕ) (d : Data) (c : Command)
+    → has_count 3 (count d) ≡ b → text_member (codes "type") d ≡ ty → id_member (codes "id") d ≡ id
+    → text_member (codes "do") d ≡ Some (codes "retract")
+    → Some c ≡ (if b then retract_parts ty id else None) → IsForm d c
+retract_counted true (Some ty) (Some id) d c members named numbered word found =
+    subst (IsForm d) (some_injective (sym found)) (retract word named numbered (counted 3 (count d) members))
+retract_counted true (Some ty) None d c members named numbered word found = cc
+retract_counted true None id d c members named numbered word found = cc
+retract_counted false ty id d c members named numbered word found = cc
+
+-- a retract that is found has its form
+retract_sound : (d : Data) (c : Command) → text_member (codes "do") d ≡ Some (codes "retract") → Some c ≡ retract_of d → IsForm d c
+unfolding retract_of
+retract_sound d c word found =
+    retract_counted (has_count 3 (count d)) (text_member (codes "type") d) (id_member (codes "id") d) d c refl refl refl word found
+
 -- what is found by a test comes from one of its two sides
 by_test : (b : Bool) (front rest : Option Command) (P : Command → Type 0) → (b ≡ true → (c : Command) → Some c ≡ front → P c)
     → ((c : Command) → Some c ≡ rest → P c) → (c : Command) → Some c ≡ (if b then front else rest) → P c
@@ -80,7 +126,9 @@ by_word None d stands = λ c found. cc
 by_word (Some word) d stands =
     by_test (bytes_eq word (codes "fire")) _ _ (IsForm d) (λ same c. fire_sound d c (word_is (codes "fire") word d stands same))
     (by_test (bytes_eq word (codes "insert")) _ _ (IsForm d) (λ same c. insert_sound d c (word_is (codes "insert") word d stands same))
-    (λ c found. cc))
+    (by_test (bytes_eq word (codes "modify")) _ _ (IsForm d) (λ same c. modify_sound d c (word_is (codes "modify") word d stands same))
+    (by_test (bytes_eq word (codes "retract")) _ _ (IsForm d) (λ same c. retract_sound d c (word_is (codes "retract") word d stands same))
+    (λ c found. cc))))
 
 -- a value has the form of the command that is found in it
 pub form_sound : (d : Data) (c : Command) → Some c ≡ command_of d → IsForm d c

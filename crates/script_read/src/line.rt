@@ -1,13 +1,13 @@
 ghost use Rattle.std.specs.Prelude.{◌≡◌, IfOk, IsErrOf, option_map};
 ghost use Rattle.serde_json.specs.Data.{Data};
 ghost use Rattle.serde_json.specs.View.{view};
-ghost use Rattle.script_read.specs.Form.{IsForm, fire_of, insert_of, command_of};
+ghost use Rattle.script_read.specs.Form.{IsForm, fire_of, insert_of, modify_of, retract_of, command_of};
 ghost use Rattle.script_read.specs.Asked.{IsReading, reading, asked, Answers};
 
 use crate::asked::{Change, Command};
 use crate::fault::CommandFault;
 use crate::given::fields_of;
-use crate::members::{count, object_member, text_member};
+use crate::members::{count, count_member, id_member, object_member, text_member};
 use fx_base::{NoMemory, Text};
 use serde_json::Value;
 use std::alloc::Global;
@@ -28,10 +28,11 @@ fn read_value(alloc: Global, line: &[u8]) -> Result<Option<Value>, NoMemory>
 fn fire(value: &Value) -> Option<Command>
     ensures { result ≡ fire_of (view value.now) }
 {
-    if count(value) != Some(1) {
-        return None;
+    match count(value)? {
+        1 => Some(Command::Fire(None)),
+        2 => Some(Command::Fire(Some(count_member(value, "max")?))),
+        _ => None,
     }
-    Some(Command::Fire(None))
 }
 
 #[tactic(auto, unfolding(crate::specs::Form::insert_of))]
@@ -50,6 +51,43 @@ fn insert(alloc: Global, value: &Value) -> Result<Option<Command>, NoMemory>
     }
 }
 
+#[tactic(auto, unfolding(crate::specs::Form::modify_of))]
+fn modify(alloc: Global, value: &Value) -> Result<Option<Command>, NoMemory>
+    ensures { IfOk result (λ found. found ≡ modify_of (view value.now)) }
+{
+    if count(value) != Some(4) {
+        return Ok(None);
+    }
+    match (
+        text_member(value, "type"),
+        id_member(value, "id"),
+        object_member(value, "fields"),
+    ) {
+        (Some(ty), Some(id), Some(members)) => Ok(Some(Command::Change(Change::Modify {
+            ty: Text::new(alloc, ty)?,
+            id,
+            fields: fields_of(alloc, members)?,
+        }))),
+        _ => Ok(None),
+    }
+}
+
+#[tactic(auto, unfolding(crate::specs::Form::retract_of))]
+fn retract(alloc: Global, value: &Value) -> Result<Option<Command>, NoMemory>
+    ensures { IfOk result (λ found. found ≡ retract_of (view value.now)) }
+{
+    if count(value) != Some(3) {
+        return Ok(None);
+    }
+    match (text_member(value, "type"), id_member(value, "id")) {
+        (Some(ty), Some(id)) => Ok(Some(Command::Change(Change::Retract {
+            ty: Text::new(alloc, ty)?,
+            id,
+        }))),
+        _ => Ok(None),
+    }
+}
+
 // The command whose form the value has.
 #[tactic(auto, unfolding(crate::specs::Form::command_of))]
 fn form(alloc: Global, value: &Value) -> Result<Option<Command>, NoMemory>
@@ -58,13 +96,13 @@ fn form(alloc: Global, value: &Value) -> Result<Option<Command>, NoMemory>
     let Some(word) = text_member(value, "do") else {
         return Ok(None);
     };
-    if word == "fire" {
-        return Ok(fire(value));
+    match word {
+        "fire" => Ok(fire(value)),
+        "insert" => insert(alloc, value),
+        "modify" => modify(alloc, value),
+        "retract" => retract(alloc, value),
+        _ => Ok(None),
     }
-    if word == "insert" {
-        return insert(alloc, value);
-    }
-    Ok(None)
 }
 
 /// The command that a line asks for. `BadJson` comes exactly where the bytes are no UTF-8 or have no
@@ -93,7 +131,7 @@ mod tests {
     #[test]
     fn lines_ask_for_commands(rt: HostRuntime) -> Result<(), Fail> {
         let alloc = rt.alloc();
-        let table: [(&[u8], &str); 17] = [
+        let table: [(&[u8], &str); 30] = [
             (b"{", "Err(BadJson)"),
             (b"", "Err(BadJson)"),
             (b"{\"do\":\"\xff\"}", "Err(BadJson)"),
@@ -114,7 +152,44 @@ mod tests {
                 b"{\"do\":\"insert\",\"kind\":\"Item\",\"fields\":{}}",
                 "Err(BadCommand)",
             ),
+            (b"{\"do\":\"fire\",\"max\":-1}", "Err(BadCommand)"),
+            (
+                b"{\"do\":\"fire\",\"max\":9007199254740993}",
+                "Err(BadCommand)",
+            ),
+            (b"{\"do\":\"fire\",\"max\":1.0}", "Err(BadCommand)"),
+            (b"{\"do\":\"fire\",\"max\":null}", "Err(BadCommand)"),
+            (
+                b"{\"do\":\"modify\",\"type\":\"Item\",\"id\":0,\"fields\":{}}",
+                "Err(BadCommand)",
+            ),
+            (
+                b"{\"do\":\"modify\",\"type\":\"Item\",\"id\":1}",
+                "Err(BadCommand)",
+            ),
+            (
+                b"{\"do\":\"retract\",\"type\":\"Item\",\"fields\":{}}",
+                "Err(BadCommand)",
+            ),
+            (
+                b"{\"do\":\"retract\",\"type\":\"Item\",\"id\":1,\"fields\":{}}",
+                "Err(BadCommand)",
+            ),
             (b"{\"do\":\"fire\"}", "Ok(Fire(None))"),
+            (b"{\"do\":\"fire\",\"max\":0}", "Ok(Fire(Some(0)))"),
+            (b"{\"max\":2,\"do\":\"fire\"}", "Ok(Fire(Some(2)))"),
+            (
+                b"{\"do\":\"fire\",\"max\":9007199254740992}",
+                "Ok(Fire(Some(9007199254740992)))",
+            ),
+            (
+                b"{\"do\":\"modify\",\"type\":\"Item\",\"id\":9223372036854775807,\"fields\":{\"price\":12}}",
+                "Ok(Change(Modify { ty: \"Item\", id: FactId(9223372036854775807), fields: [(\"price\", Int(12))] }))",
+            ),
+            (
+                b"{\"do\":\"retract\",\"type\":\"Item\",\"id\":1}",
+                "Ok(Change(Retract { ty: \"Item\", id: FactId(1) }))",
+            ),
             (b" { \"d\\u006f\" : \"fire\" } \r", "Ok(Fire(None))"),
             (
                 b"{\"do\":\"insert\",\"type\":\"Nope\",\"fields\":{}}",

@@ -1,8 +1,12 @@
 ghost use Rattle.std.specs.Prelude.{◌≡◌, option_map};
 ghost use Rattle.serde_json.specs.View.{view, members_view};
-ghost use Rattle.script_read.specs.Members.{text_member as text_under, object_member as object_under, count as count_of};
+ghost use Rattle.script_read.specs.Members.{text_member as text_under, object_member as object_under, whole_member as whole_under, id_member as id_under, count_member as count_under, count as count_of};
 
+use fx_base::FactId;
 use serde_json::{Map, Value};
+
+// The greatest number of firings that a line may ask for.
+const MOST_FIRINGS: i64 = 1 << 53;
 
 // The text under this name.
 #[tactic(auto, unfolding(crate::specs::Members::text_member))]
@@ -24,6 +28,39 @@ pub fn object_member<'a>(value: &'a Value, name: &str) -> Option<&'a Map<String,
     match value.get(name) {
         Some(member) => member.as_object(),
         None => None,
+    }
+}
+
+// The whole number of 64 bits with sign under this name.
+#[tactic(auto, unfolding(crate::specs::Members::whole_member))]
+fn whole_member(value: &Value, name: &str) -> Option<i64>
+    ensures { result ≡ whole_under name.now (view value.now) }
+{
+    match value.get(name) {
+        Some(member) => member.as_i64(),
+        None => None,
+    }
+}
+
+// The id under this name: a whole number from 1 on.
+#[tactic(auto, unfolding(crate::specs::Members::id_member))]
+pub fn id_member(value: &Value, name: &str) -> Option<FactId>
+    ensures { option_map (λ id. id.0) result ≡ id_under name.now (view value.now) }
+{
+    match whole_member(value, name) {
+        Some(number @ 1..) => Some(FactId(number as u64)),
+        _ => None,
+    }
+}
+
+// The number of firings under this name: a whole number from 0 to 2^53.
+#[tactic(auto, unfolding(crate::specs::Members::count_member, crate::specs::Members::most_firings))]
+pub fn count_member(value: &Value, name: &str) -> Option<u64>
+    ensures { result ≡ count_under name.now (view value.now) }
+{
+    match whole_member(value, name) {
+        Some(number @ 0..=MOST_FIRINGS) => Some(number as u64),
+        _ => None,
     }
 }
 
