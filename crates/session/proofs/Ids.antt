@@ -10,6 +10,7 @@ use Rattle.rule_model.specs.Rows.{In}
 use Rattle.rule_model.specs.Worlds.{fact_of, without, revised, revised_in, has_id}
 use Rattle.rule_model.specs.Lawful.{IdsRise}
 use Rattle.rule_model.proofs.Listed.{in_right}
+use Rattle.rule_model.proofs.Ids.{id_from, ids_lower}
 use Rattle.session.specs.Places.{IsAt}
 
 equal_ids : (m n : ℕ) → m ≡ n → (m == n) ≡ true
@@ -21,18 +22,8 @@ smaller_id m n lt = grind (arith, nat_tests)
 greater_id : (m n : ℕ) → n < m → (m == n) ≡ false
 greater_id m n lt = grind (arith, nat_tests)
 
--- ids are at least the first bound
-above : (low next : ℕ) (facts : List Fact) (g : Fact) → IdsRise low facts next → In g facts → low ≤ g.id.0
-above low next [] g r i = absurd i
-above low next (f ∷ facts) g r (inl e) = let h : g.id.0 ≡ f.id.0 = ap (λ (z : Fact). z.id.0) e in let k : low ≤ f.id.0 = r.0 in omega arith
-above low next (f ∷ facts) g r (inr i) = let h : f.id.0 + 1 ≤ g.id.0 = above (f.id.0 + 1) next facts g r.1 i in let k : low ≤ f.id.0 = r.0 in omega arith
-
 middle_above : (low next : ℕ) (xs : List Fact) (f : Fact) (ys : List Fact) → IdsRise low (xs ++ f ∷ ys) next → low ≤ f.id.0
-middle_above low next xs f ys r = above low next (xs ++ f ∷ ys) f r (in_right f xs (f ∷ ys) (inl refl))
-
-lowered : (low high next : ℕ) (facts : List Fact) → low ≤ high → IdsRise high facts next → IdsRise low facts next
-lowered low high next [] le r = omega arith
-lowered low high next (f ∷ facts) le r = let k : high ≤ f.id.0 = r.0 in (omega arith, r.1)
+middle_above low next xs f ys r = id_from (xs ++ f ∷ ys) low next f r (in_right f xs (f ∷ ys) (inl refl))
 
 -- ---- the fact of an id
 
@@ -51,6 +42,20 @@ fact_none (f ∷ facts) id h =
   where
     other : (f.id.0 ≡ id → ⊥) → (f.id.0 == id) ≡ false
     other n = grind (arith, nat_tests)
+
+-- ---- the place of a fact parts the list
+
+pub split_at : (facts : List Fact) (place : ℕ) (f : Fact) → place < length facts → f ≡ get_or facts place f → facts ≡ take place facts ++ f ∷ drop (suc place) facts
+split_at [] place f lt e = absurd (omega arith)
+split_at (x ∷ facts) zero f lt e = ap (λ z. z ∷ facts) (sym e)
+split_at (x ∷ facts) (suc place) f lt e = ap (λ zs. x ∷ zs) (split_at facts place f (omega arith) e)
+
+pub present_at : (facts : List Fact) (next id place : ℕ) (f : Fact) → IdsRise 1 facts next → IsAt facts id place → f ≡ get_or facts place f → Some f ≡ fact_of facts id
+present_at facts next id place f r at e =
+    let s : facts ≡ take place facts ++ f ∷ drop (suc place) facts = split_at facts place f at.within e in
+    let n : f.id.0 ≡ id = ap (λ (z : Fact). z.id.0) e ∙ at.has_id f in
+    sym (ap (λ zs. fact_of zs id) s ∙ ap (fact_of (take place facts ++ f ∷ drop (suc place) facts)) (sym n)
+    ∙ fact_at 1 next (take place facts) f (drop (suc place) facts) (subst (λ zs. IdsRise 1 zs next) s r))
 
 -- ---- a list without the fact of an id, and with a revised one in its place
 
@@ -87,16 +92,12 @@ revised_at tag sets low next (x ∷ xs) f ys r =
 -- ---- the ids still rise
 
 pub rise_without : (low next : ℕ) (xs : List Fact) (f : Fact) (ys : List Fact) → IdsRise low (xs ++ f ∷ ys) next → IdsRise low (xs ++ ys) next
-rise_without low next [] f ys r = let k : low ≤ f.id.0 = r.0 in lowered low (f.id.0 + 1) next ys (omega arith) r.1
+rise_without low next [] f ys r = let k : low ≤ f.id.0 = r.0 in ids_lower ys low (f.id.0 + 1) next (omega arith) r.1
 rise_without low next (x ∷ xs) f ys r = (r.0, rise_without (x.id.0 + 1) next xs f ys r.1)
 
 pub rise_revised : (low next : ℕ) (xs : List Fact) (f g : Fact) (ys : List Fact) → g.id.0 ≡ f.id.0 → IdsRise low (xs ++ f ∷ ys) next → IdsRise low (xs ++ g ∷ ys) next
 rise_revised low next [] f g ys e r = subst (λ n. (low ≤ n) × IdsRise (n + 1) ys next) (sym e) r
 rise_revised low next (x ∷ xs) f g ys e r = (r.0, rise_revised (x.id.0 + 1) next xs f g ys e r.1)
-
-pub rise_added : (low next : ℕ) (facts : List Fact) (f : Fact) → f.id.0 ≡ next → IdsRise low facts next → IdsRise low (facts ++ f ∷ []) (next + 1)
-rise_added low next [] f e r = (omega arith, omega arith)
-rise_added low next (x ∷ facts) f e r = (r.0, rise_added (x.id.0 + 1) next facts f e r.1)
 
 -- ---- a binary search by ids
 

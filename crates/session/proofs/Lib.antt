@@ -1,2 +1,4 @@
 pub mod Ids
 pub mod Rules
+pub mod Reordered
+pub mod Stands
