@@ -1,6 +1,6 @@
 use Rattle.std.proofs.Common.{◌≡◌, drop}
-use Rattle.session.specs.Changes.{type_named}
-use Rattle.session.proofs.reading.declared_type.Given as goal
+use Rattle.change_read.specs.Changes.{type_named}
+use Rattle.change_read.proofs.reading.declared_type.Given as goal
 
 abbrev pub invariant-loop-place : goal.invariant-loop-place
 invariant-loop-place l = type_named l.name (drop l.place l.types) l.place ≡ type_named l.name l.types 0

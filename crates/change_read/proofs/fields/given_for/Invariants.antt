@@ -1,6 +1,6 @@
 use Rattle.std.proofs.Common.{◌≡◌, drop}
-use Rattle.session.specs.Changes.{given_under}
-use Rattle.session.proofs.reading.given_for.Given as goal
+use Rattle.change_read.specs.Fields.{given_under}
+use Rattle.change_read.proofs.fields.given_for.Given as goal
 
 abbrev pub invariant-loop-member : goal.invariant-loop-member
 invariant-loop-member l = given_under l.name (drop l.member-index l.members) ≡ given_under l.name l.members
