@@ -2,3 +2,4 @@ pub mod Ids
 pub mod Rules
 pub mod Reordered
 pub mod Stands
+pub mod Tried

@@ -3,16 +3,14 @@
 #![tactic(auto)]
 
 mod engine;
-
+mod firing;
 mod lines;
 mod refreshing;
-
+mod session;
 mod state;
 mod steps;
-
-
 
 pub use change_read::Code;
 pub use engine::Engine;
 pub use lines::{Cell, Fired, Lines, OutLine};
-
+pub use session::Session;

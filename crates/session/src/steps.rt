@@ -1,8 +1,8 @@
-ghost use Rattle.std.specs.Prelude.{◌≡◌, ◌+◌, ◌<◌, ◌≤◌, ◌^◌, ◌++◌, length, Ok, IfOk, Result};
+ghost use Rattle.std.specs.Prelude.{◌≡◌, ◌+◌, ◌<◌, ◌≤◌, ◌^◌, [], ◌∷◌, ◌++◌, length, IfOk, OnOk};
 ghost use Rattle.rule_model.specs.Worlds.{World, stepped, with_values, revised as revised_fact};
-ghost use Rattle.rule_model.specs.declared.step.Step.{Step as StepData};
 ghost use Rattle.rule_model.specs.declared.step.Step.TheVariants.{Insert, Modify, Retract};
-ghost use Rattle.session.specs.Gives.{step_lines, tries, does, does_all};
+ghost use Rattle.session.specs.declared.lines.OutLine.TheVariants.{Fault};
+ghost use Rattle.session.specs.Gives.{tries, does, does_all};
 ghost use Rattle.session.specs.Standing.{Standing};
 ghost use Rattle.session.specs.Places.{IsAt};
 
@@ -15,13 +15,13 @@ use rule_model::{Rule, Step};
 use std::alloc::Global;
 
 // The fields with these values in these places.
-fn with_sets(fields: Vec<Value>, sets: Vec<(u8, Value)>) -> Vec<Value>
+fn with_sets(fields: Vec<Value>, sets: Vec<(usize, Value)>) -> Vec<Value>
     ensures { result.items ≡ with_values sets.items fields.items }
 {
     let mut fields = fields;
     for (place, value) in sets {
-        if (place as usize) < fields.len() {
-            fields[place as usize] = value;
+        if place < fields.len() {
+            fields[place] = value;
         }
     }
     fields
@@ -31,7 +31,7 @@ fn with_sets(fields: Vec<Value>, sets: Vec<(u8, Value)>) -> Vec<Value>
 fn revised(
     alloc: Global,
     fact: &Fact,
-    sets: Seq<(u8, Value)>,
+    sets: Seq<(usize, Value)>,
     tag: Tag,
 ) -> Result<Fact, NoMemory>
     ensures { IfOk result (λ f. f ≡ revised_fact tag.0 sets fact.now) }
@@ -90,7 +90,7 @@ impl State {
         rules: &[Rule],
         id: FactId,
         place: usize,
-        sets: Seq<(u8, Value)>,
+        sets: Seq<(usize, Value)>,
     ) -> Result<State, NoMemory>
         requires few { length rules.now ≤ 256 }
         requires low { self.next_tag < 2 ^ 63 }
@@ -142,5 +142,87 @@ impl State {
             next_id,
             next_tag,
         })
+    }
+
+    // A step, whose line is added to these, or the fault that the fact is not present.
+    fn step(
+        self,
+        alloc: Global,
+        rules: &[Rule],
+        step: Step,
+        lines: &mut Vec<OutLine>,
+    ) -> Result<State, NoMemory>
+        requires few { length rules.now ≤ 256 }
+        requires low { self.next_tag < 2 ^ 63 }
+        ensures stands { IfOk result (λ s. (w : World) → Standing rules.now self w → Standing rules.now s (tries rules.now w step).1) }
+        ensures lines { OnOk result ((w : World) → Standing rules.now self w → lines.new.items ≡ lines.old.items ++ (tries rules.now w step).0) }
+        ensures tags { IfOk result (λ s. s.next_tag ≤ self.next_tag + 1) }
+    {
+        match step {
+            Step::Insert { ty, fields } => {
+                lines.push(OutLine::New {
+                    id: FactId(self.next_id),
+                    ty,
+                })?;
+                self.insert(alloc, rules, ty, fields)
+            }
+            Step::Modify { id, sets } => match self.place(id) {
+                Some(place) => self.modify(alloc, rules, id, place, sets),
+                None => self.refuse(Code::Absent, lines),
+            },
+            Step::Retract { id } => match self.place(id) {
+                Some(place) => self.retract(alloc, rules, id, place),
+                None => self.refuse(Code::Absent, lines),
+            },
+        }
+    }
+
+    fn refuse(self, code: Code, lines: &mut Vec<OutLine>) -> Result<State, NoMemory>
+        ensures state { IfOk result (λ s. s ≡ self) }
+        ensures lines { OnOk result (lines.new.items ≡ lines.old.items ++ Fault code ∷ []) }
+    {
+        lines.push(OutLine::Fault(code))?;
+        Ok(self)
+    }
+
+    /// Does a step, or refuses it for its fault, and adds the line of either.
+    pub(crate) fn take(
+        self,
+        alloc: Global,
+        rules: &[Rule],
+        wanted: Result<Step, Code>,
+        lines: &mut Vec<OutLine>,
+    ) -> Result<State, NoMemory>
+        requires few { length rules.now ≤ 256 }
+        requires low { self.next_tag < 2 ^ 63 }
+        ensures stands { IfOk result (λ s. (w : World) → Standing rules.now self w → Standing rules.now s (does rules.now w wanted).1) }
+        ensures lines { OnOk result ((w : World) → Standing rules.now self w → lines.new.items ≡ lines.old.items ++ (does rules.now w wanted).0) }
+        ensures tags { IfOk result (λ s. s.next_tag ≤ self.next_tag + 1) }
+    {
+        match wanted {
+            Ok(step) => self.step(alloc, rules, step, lines),
+            Err(code) => self.refuse(code, lines),
+        }
+    }
+
+    /// The same for steps and faults one after the other: one that is refused stops none of the later ones.
+    pub(crate) fn take_all(
+        self,
+        alloc: Global,
+        rules: &[Rule],
+        plan: Vec<Result<Step, Code>>,
+        lines: &mut Vec<OutLine>,
+    ) -> Result<State, NoMemory>
+        requires few { length rules.now ≤ 256 }
+        requires low { self.next_tag + length plan.items ≤ 2 ^ 63 }
+        ensures stands { IfOk result (λ s. (w : World) → Standing rules.now self w → Standing rules.now s (does_all rules.now w plan.items).1) }
+        ensures lines { OnOk result ((w : World) → Standing rules.now self w → lines.new.items ≡ lines.old.items ++ (does_all rules.now w plan.items).0) }
+        ensures tags { IfOk result (λ s. s.next_tag ≤ self.next_tag + length plan.items) }
+    {
+        let mut state = self;
+        for wanted in plan {
+            state = state.take(alloc, rules, wanted, lines)?;
+        }
+        Ok(state)
     }
 }

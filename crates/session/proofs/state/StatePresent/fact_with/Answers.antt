@@ -1,4 +1,4 @@
-use Rattle.std.proofs.Common.{Some, subst}
+use Rattle.std.proofs.Common.{◌≡◌, Some, subst}
 use Rattle.rule_model.specs.Worlds.{fact_of}
 use Rattle.session.specs.Places.{IsAt}
 use Rattle.session.specs.Standing.{Kept}

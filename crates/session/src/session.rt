@@ -1,0 +1,152 @@
+ghost use Rattle.std.specs.Prelude.{◌≡◌, ◌+◌, ◌≤◌, ◌^◌, IfOk, is_some};
+ghost use Rattle.rule_model.specs.Matches.{saliences};
+
+use crate::Engine;
+use crate::lines::{Fired, Lines};
+use crate::state::State;
+use change_read::asked_step;
+use fx_base::{NoMemory, Seq};
+use rule_model::{Program, Rule};
+use script_read::Change;
+use std::alloc::Global;
+use std::marker::Model;
+
+fn saliences_of(alloc: Global, rules: &[Rule]) -> Result<Vec<i64>, NoMemory>
+    ensures { IfOk result (λ v. v.items ≡ saliences rules.now) }
+{
+    let mut all = Vec::with_capacity(alloc, rules.len())?;
+    for rule in rules {
+        all.push(rule.salience)?;
+    }
+    Ok(all)
+}
+
+/// An engine in some world of its program. It keeps the facts in the order of insertion, and an agenda.
+#[derive(Drop)]
+pub struct Session {
+    program: Program,
+    state: State,
+}
+
+impl Model for Session {
+    ghost use Rattle.rule_model.specs.Programs.{IsAccepted};
+    ghost use Rattle.session.specs.Standing.{Shown};
+
+    ghost Value = { Shown };
+
+    ghost use Rattle.std.specs.Coded.{codes};
+    ghost use Rattle.rule_model.specs.ExpressionCode.{expression_code};
+
+    ghost coded = { Prim.hlevel (codes, expression_code) };
+
+    ghost view = { λ s. record { program = s.program; kept = s.state } };
+
+    ghost invariant = { λ s. IsAccepted s.program };
+}
+
+impl Session {
+    ghost use Rattle.rule_model.specs.Programs.{IsAccepted};
+    ghost use Rattle.rule_model.specs.Worlds.{World, empty_world};
+    ghost use Rattle.session.specs.Gives.{gives, fires};
+    ghost use Rattle.session.specs.Standing.{Stands, FiringAnswers};
+
+    /// An engine in the empty world of a program.
+    pub fn new(alloc: Global, program: Program) -> Result<Session, NoMemory>
+        requires { IsAccepted program }
+        ensures stands { IfOk result (λ s. Stands s empty_world) }
+        ensures program { IfOk result (λ s. s.program ≡ program) }
+        ensures next { IfOk result (λ s. s.kept.next_tag ≡ 1) }
+    {
+        let saliences = saliences_of(alloc, program.rules.as_slice())?;
+        Ok(Session {
+            program,
+            state: State::new(alloc, &saliences)?,
+        })
+    }
+
+    /// The lines of a change, or its fault, which leaves the world as it is.
+    pub fn apply(self, alloc: Global, change: &Change) -> Result<(Session, Lines), NoMemory>
+        requires { self.kept.next_tag ≤ 2 ^ 62 }
+        ensures lines { IfOk result (λ r. (w : World) → Stands self w → r.1 ≡ (gives self.program w change.now).0) }
+        ensures next { IfOk result (λ r. (w : World) → Stands self w → Stands r.0 (gives self.program w change.now).1) }
+        ensures program { IfOk result (λ r. r.0.program ≡ self.program) }
+        ensures tags { IfOk result (λ r. r.0.kept.next_tag ≤ self.kept.next_tag + 1) }
+    {
+        let Session { program, state } = self;
+        let asked = asked_step(alloc, program.types.as_slice(), &state, change)?;
+        let mut lines = Vec::new(alloc);
+        let state = state.take(alloc, program.rules.as_slice(), asked, &mut lines)?;
+        Ok((Session { program, state }, Seq::from_vec(lines)))
+    }
+
+    /// The lines of one firing; `No` exactly where nothing is pending.
+    pub fn fire_one(self, alloc: Global) -> Result<(Session, Fired), NoMemory>
+        requires { self.kept.next_tag ≤ 2 ^ 62 }
+        ensures answers { IfOk result (λ r. (w : World) → Stands self w → FiringAnswers (fires self.program w) r.1 w (Stands r.0)) }
+        ensures program { IfOk result (λ r. r.0.program ≡ self.program) }
+        ensures tags { IfOk result (λ r. r.0.kept.next_tag ≤ self.kept.next_tag + 16) }
+    {
+        let Session { program, state } = self;
+        match state.plan(alloc, program.rules.as_slice())? {
+            Some(plan) => {
+                let mut lines = Vec::new(alloc);
+                let state = state.fire(alloc, program.rules.as_slice(), plan, &mut lines)?;
+                Ok((
+                    Session { program, state },
+                    Fired::Yes(Seq::from_vec(lines)),
+                ))
+            }
+            None => Ok((Session { program, state }, Fired::No)),
+        }
+    }
+
+    /// Whether a match is pending. Takes no memory.
+    pub fn due(&self) -> bool
+        ensures { (w : World) → Stands self.now w → result ≡ is_some (fires self.now.program w) }
+    {
+        self.state.top().is_some()
+    }
+
+    /// The program that the session was made with. Takes no memory.
+    pub fn program(&self) -> &Program
+        ensures { result.now ≡ self.now.program }
+    {
+        &self.program
+    }
+}
+
+impl Engine for Session {
+    ghost use Rattle.std.specs.Prelude.{◌-◌};
+    ghost use Rattle.session.specs.Gives.{gives as session_gives, fires as session_fires};
+    ghost use Rattle.session.specs.Standing.{Stands};
+
+    ghost stands = { Stands };
+
+    ghost made_with = { λ s. s.program };
+
+    ghost tags = { λ s. s.kept.next_tag - 1 };
+
+    ghost gives = { session_gives };
+
+    ghost fires = { session_fires };
+
+    fn new(alloc: Global, program: Program) -> Result<Session, NoMemory> {
+        Session::new(alloc, program)
+    }
+
+    fn apply(self, alloc: Global, change: &Change) -> Result<(Session, Lines), NoMemory> {
+        Session::apply(self, alloc, change)
+    }
+
+    fn fire_one(self, alloc: Global) -> Result<(Session, Fired), NoMemory> {
+        Session::fire_one(self, alloc)
+    }
+
+    fn due(&self) -> bool {
+        Session::due(self)
+    }
+
+    fn program(&self) -> &Program {
+        Session::program(self)
+    }
+}
