@@ -1,6 +1,7 @@
 ghost use Rattle.std.specs.Prelude.{◌≡◌};
 
 use fx_base::NoMemory;
+use std::alloc::AllocFailed;
 
 /// Why an expression has no value.
 #[derive(Clone, Copy, Debug, PartialEq, Eq)]
@@ -17,6 +18,16 @@ impl From<NoMemory> for EvalFault {
     ghost from_gives = { λ _ fault. fault ≡ Refused };
 
     fn from(_: NoMemory) -> EvalFault {
+        EvalFault::NoMemory
+    }
+}
+
+impl<T: Drop> From<AllocFailed<T>> for EvalFault {
+    ghost use Rattle.action_eval.specs.declared.fault.EvalFault.TheVariants.{NoMemory as Refused};
+
+    ghost from_gives = { λ _ fault. fault ≡ Refused };
+
+    fn from(_: AllocFailed<T>) -> EvalFault {
         EvalFault::NoMemory
     }
 }

@@ -2,12 +2,13 @@
 //! It stands on the definitions of `rule_model` and assumes nothing of the facts that a row names.
 #![tactic(auto)]
 
+mod evaluating;
 mod fault;
+mod number;
 mod planning;
 #[cfg(test)]
 mod tests;
-mod value;
 
+pub use evaluating::value;
 pub use fault::EvalFault;
 pub use planning::planned_step;
-pub use value::value;

@@ -1,5 +1,81 @@
+ghost use Rattle.std.specs.Prelude.{◌≡◌, Some, None, option_map, map, IfOk, IsErrOf};
+ghost use Rattle.rule_model.specs.Looked.{named_at};
+ghost use Rattle.rule_model.specs.Numbers.{values_of};
+ghost use Rattle.rule_model.specs.Planned.{id_at, sets_of, step_of};
+
+use crate::{EvalFault, value};
+use fx_base::{FactId, Facts, Seq, Value};
+use row_delta::Row;
+use rule_model::{Action, Expr, Step};
+use std::alloc::Global;
+
 /// The step that an action is for the facts that a row names, which `facts` has at their tags. `Overflow` comes exactly where
 /// one of its expressions has it.
-pub fn planned_step<F: Facts>(alloc: Global, action: &Action, row: &Row, facts: &F) -> Result<Step, EvalFault>
+#[tactic(auto, unfolding(rule_model::specs::Planned::step_of))]
+pub fn planned_step<F: Facts>(
+    alloc: Global,
+    action: &Action,
+    row: &Row,
+    facts: &F,
+) -> Result<Step, EvalFault>
     ensures step { IfOk result (λ step. Some step ≡ step_of (named_at (F.map facts.now) row.now.facts) row.now.facts action.now) }
     ensures overflow { IsErrOf result EvalFault.Overflow → step_of (named_at (F.map facts.now) row.now.facts) row.now.facts action.now ≡ None }
+{
+    match action {
+        Action::Insert { ty, args } => Ok(Step::Insert {
+            ty: *ty,
+            fields: values(alloc, args.as_slice(), row, facts)?,
+        }),
+        Action::Modify { fact, sets } => Ok(Step::Modify {
+            id: bound_id(row, *fact),
+            sets: planned_sets(alloc, sets.as_slice(), row, facts)?,
+        }),
+        Action::Retract { fact } => Ok(Step::Retract {
+            id: bound_id(row, *fact),
+        }),
+    }
+}
+
+// The values of expressions, in their order.
+fn values<F: Facts>(
+    alloc: Global,
+    exprs: &[Expr],
+    row: &Row,
+    facts: &F,
+) -> Result<Seq<Value>, EvalFault>
+    ensures values { IfOk result (λ vs. Some vs ≡ values_of (named_at (F.map facts.now) row.now.facts) exprs.now) }
+    ensures overflow { IsErrOf result EvalFault.Overflow → values_of (named_at (F.map facts.now) row.now.facts) exprs.now ≡ None }
+{
+    let mut values = Vec::new(alloc);
+    for expr in exprs {
+        values.push(value(alloc, expr, row, facts)?)?;
+    }
+    Ok(Seq::from_vec(values))
+}
+
+// The values for the fields of these places, in their order.
+fn planned_sets<F: Facts>(
+    alloc: Global,
+    sets: &[(u8, Expr)],
+    row: &Row,
+    facts: &F,
+) -> Result<Seq<(usize, Value)>, EvalFault>
+    ensures sets { IfOk result (λ vs. Some vs ≡ sets_of (named_at (F.map facts.now) row.now.facts) sets.now) }
+    ensures overflow { IsErrOf result EvalFault.Overflow → sets_of (named_at (F.map facts.now) row.now.facts) sets.now ≡ None }
+{
+    let mut planned = Vec::new(alloc);
+    for (field, expr) in sets {
+        planned.push((usize::from(*field), value(alloc, expr, row, facts)?))?;
+    }
+    Ok(Seq::from_vec(planned))
+}
+
+// The id that a row names in this place; 0, which no fact has, where it names none.
+fn bound_id(row: &Row, place: u8) -> FactId
+    ensures { result ≡ id_at row.now.facts place }
+{
+    match row.facts.as_slice().get(place as usize) {
+        Some(named) => named.id,
+        None => FactId(0),
+    }
+}

@@ -5,8 +5,6 @@
 mod action;
 mod assign;
 mod setter;
-#[cfg(test)]
-mod tests;
 mod word;
 
 pub use action::Action;

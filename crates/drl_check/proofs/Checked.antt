@@ -7,7 +7,8 @@ use Rattle.drl_check.specs.declared.fault.CheckCode.{CheckCode}
 use Rattle.drl_check.specs.declared.fault.CheckFault.{CheckFault}
 use Rattle.drl_check.specs.declared.fault.CheckFault.TheVariants.{Refused, NoMemory}
 use Rattle.drl_check.specs.Checks.{Failure, failure_of, IsAcceptedFile, IsFirstFailure}
-use Rattle.drl_check.specs.Programs.{program_of, checked_by, checked}
+use Rattle.drl_program.specs.Programs.{program_of}
+use Rattle.drl_check.specs.Outcomes.{checked_by, checked}
 use Rattle.drl_check.specs.Answers.{within_32_bits, fault_of, Gives}
 use Rattle.drl_check.proofs.Exact.{exact_none, is_first_failure}
 use Rattle.drl_check.proofs.Sound.{accepted_sound}

@@ -6,7 +6,7 @@ use Rattle.drl_grammar.specs.declared.file.Item.{Item}
 use Rattle.drl_grammar.specs.declared.file.TypeTree.{TypeTree}
 use Rattle.drl_grammar.specs.declared.file.RuleTree.{RuleTree}
 use Rattle.drl_check.specs.declared.fault.CheckCode.{CheckCode}
-use Rattle.drl_check.specs.Declarations.{types_of, rules_of, type_in, rule_in, type_names, rule_names}
+use Rattle.drl_sight.specs.Declarations.{types_of, rules_of, type_in, rule_in, type_names, rule_names}
 use Rattle.drl_check.specs.Checks.{Failure, codes_in_order, first_code, failure_at, failure_from}
 use Rattle.drl_check.specs.Failing.{first_failing}
 

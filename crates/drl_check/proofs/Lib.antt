@@ -1,4 +1,3 @@
-pub mod NameLemmas
 pub mod Rooms
 pub mod Failures
 pub mod Exact

@@ -13,13 +13,13 @@ use Rattle.drl_grammar.specs.declared.file.TypeTree.{TypeTree}
 use Rattle.drl_grammar.specs.declared.file.RuleTree.{RuleTree}
 use Rattle.rule_model.specs.Programs.{has_conditions, IsAccepted}
 use Rattle.drl_check.specs.declared.fault.CheckCode.TheVariants.{NotBuilt, LimitPassed}
-use Rattle.drl_check.specs.Declarations.{types_of, rules_of, type_in, rule_in}
-use Rattle.drl_check.specs.Sight.{Place, begin, behind}
+use Rattle.drl_sight.specs.Declarations.{types_of, rules_of, type_in, rule_in}
+use Rattle.drl_sight.specs.Sight.{Place, begin, behind}
 use Rattle.drl_check.specs.Limits.{passes_limit_behind, type_within, rule_within, attr_within, condition_within}
 use Rattle.drl_check.specs.Built.{condition_unbuilt, not_built}
-use Rattle.drl_check.specs.Names.{is_short}
+use Rattle.drl_sight.specs.Names.{is_short}
 use Rattle.drl_check.specs.Checks.{AllPass, IsAcceptedFile}
-use Rattle.drl_check.specs.Programs.{condition_of, conditions_of, rule_of, type_info, program_of}
+use Rattle.drl_program.specs.Programs.{condition_of, conditions_of, rule_of, type_info, program_of}
 use Rattle.drl_check.proofs.Failures.{types_next, rules_next}
 
 -- ---- types and rules are few

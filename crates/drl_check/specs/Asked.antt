@@ -4,7 +4,7 @@ use Rattle.drl_grammar.specs.declared.condition.CondTree.{CondTree}
 use Rattle.drl_grammar.specs.declared.file.TypeTree.{TypeTree}
 use Rattle.drl_check.specs.declared.asked.Asked.{Asked}
 use Rattle.drl_check.specs.declared.asked.Asked.TheVariants.{LacksField, LacksVariable, HasWrongKind}
-use Rattle.drl_check.specs.Sight.{Place}
+use Rattle.drl_sight.specs.Sight.{Place}
 use Rattle.drl_check.specs.Uses.{has_unknown_field, has_unknown_variable}
 use Rattle.drl_check.specs.Kinds.{has_wrong_kind}
 

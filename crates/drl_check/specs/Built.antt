@@ -1,5 +1,5 @@
--- The constructs that nothing serves yet: annotations and entry points, windows and temporal tests, negative patterns,
--- accumulates, and actions.
+-- The constructs that nothing serves yet: annotations and entry points, windows and temporal tests, negative patterns and
+-- accumulates.
 use Rattle.std.specs.Prelude.{◌||◌, Bool, true, false, length, nat_lt, is_some}
 use Rattle.std.specs.List.{list_any}
 use Rattle.drl_grammar.specs.declared.condition.CondTree.{CondTree}
@@ -24,5 +24,5 @@ condition_unbuilt c = true
 abbrev pub not_built : Body → Bool
 not_built (body.Declare t) = nat_lt 0 (length t.metas)
 not_built (body.Entry name lateness) = true
-not_built (body.Rule r) = nat_lt 0 (length r.actions) || list_any condition_unbuilt r.conditions
+not_built (body.Rule r) = list_any condition_unbuilt r.conditions
 not_built b = false

@@ -1,5 +1,6 @@
 -- The checks of a file, by their codes; the first item that fails one, and the first code that it fails.
-use Rattle.std.specs.Prelude.{◌≡◌, ◌⊎◌, ℕ, ◌+◌, Bool, true, false, List, [], ◌∷◌, ◌++◌, length, Option, Some, None, if◌then◌else◌}
+use Rattle.std.specs.Prelude.{◌≡◌, ◌⊎◌, ℕ, ◌+◌, ◌||◌, Bool, true, false, List, [], ◌∷◌, ◌++◌, length, Option, Some, None, if◌then◌else◌}
+use Rattle.std.specs.List.{list_any}
 use Rattle.drl_grammar.specs.declared.file.File.{File}
 use Rattle.drl_grammar.specs.declared.file.Body.{Body}
 use Rattle.drl_grammar.specs.declared.file.Body.TheVariants as body
@@ -7,29 +8,29 @@ use Rattle.drl_grammar.specs.declared.file.Item.{Item}
 use Rattle.drl_grammar.specs.declared.file.TypeTree.{TypeTree}
 use Rattle.drl_check.specs.declared.fault.CheckCode.{CheckCode}
 use Rattle.drl_check.specs.declared.fault.CheckCode.TheVariants.{NotBuilt, TwiceDeclared, LimitPassed, UnknownType, UnknownField, UnknownVariable, WrongKind}
-use Rattle.drl_check.specs.Declarations.{types_of}
-use Rattle.drl_check.specs.Sight.{begin}
+use Rattle.drl_sight.specs.Declarations.{types_of}
+use Rattle.drl_sight.specs.Sight.{begin, sight_of_actions}
 use Rattle.drl_check.specs.Built.{not_built}
 use Rattle.drl_check.specs.Twice.{is_twice}
 use Rattle.drl_check.specs.Limits.{passes_limit}
-use Rattle.drl_check.specs.Uses.{any_condition, has_unknown_type, has_unknown_field, has_unknown_variable}
-use Rattle.drl_check.specs.Kinds.{has_unknown_kind, has_wrong_kind}
+use Rattle.drl_check.specs.Uses.{any_condition, has_unknown_type, has_unknown_field, has_unknown_variable, inserts_unknown_type, action_lacks, action_unseen}
+use Rattle.drl_check.specs.Kinds.{has_unknown_kind, has_wrong_kind, action_misfits}
 
 abbrev pub lacks_type : List TypeTree → Body → Bool
-lacks_type types (body.Rule r) = has_unknown_type types r.conditions
+lacks_type types (body.Rule r) = has_unknown_type types r.conditions || list_any (inserts_unknown_type types) r.actions
 lacks_type types b = false
 
 abbrev pub lacks_field : List TypeTree → Body → Bool
-lacks_field types (body.Rule r) = any_condition (has_unknown_field types) types begin r.conditions
+lacks_field types (body.Rule r) = any_condition (has_unknown_field types) types begin r.conditions || list_any (action_lacks (sight_of_actions types r.conditions)) r.actions
 lacks_field types b = false
 
 abbrev pub lacks_variable : List TypeTree → Body → Bool
-lacks_variable types (body.Rule r) = any_condition has_unknown_variable types begin r.conditions
+lacks_variable types (body.Rule r) = any_condition has_unknown_variable types begin r.conditions || list_any (action_unseen (sight_of_actions types r.conditions)) r.actions
 lacks_variable types b = false
 
 abbrev pub is_wrong_kind : List TypeTree → Body → Bool
 is_wrong_kind types (body.Declare t) = has_unknown_kind t
-is_wrong_kind types (body.Rule r) = any_condition (has_wrong_kind types) types begin r.conditions
+is_wrong_kind types (body.Rule r) = any_condition (has_wrong_kind types) types begin r.conditions || list_any (action_misfits types (sight_of_actions types r.conditions)) r.actions
 is_wrong_kind types b = false
 
 -- whether an item fails the check of this code, given all the items of the file and those before it

@@ -1,5 +1,5 @@
 -- Values of a kind that does not fit where they stand.
-use Rattle.std.specs.Prelude.{ℕ, ◌&&◌, Bool, true, false, not, List, Option, Some, None, is_some}
+use Rattle.std.specs.Prelude.{ℕ, ◌&&◌, ◌||◌, Bool, true, false, not, List, [], ◌∷◌, Option, Some, None, is_some}
 use Rattle.std.specs.List.{list_any}
 use Rattle.std.specs.Option.{option_and_then}
 use Rattle.fx_base.specs.declared.kind.Kind.{Kind}
@@ -7,7 +7,10 @@ use Rattle.fx_base.specs.declared.kind.Kind.TheVariants as kind
 use Rattle.drl_lex.specs.declared.token.Rel.{Rel}
 use Rattle.drl_lex.specs.declared.token.Rel.TheVariants.{Equal, NotEqual}
 use Rattle.drl_expr.specs.declared.literal.LitTree.{LitTree}
-use Rattle.drl_expr.specs.declared.literal.LitTree.TheVariants as lit
+use Rattle.drl_expr.specs.declared.literal.LitTree.TheVariants as literal
+use Rattle.drl_expr.specs.Tree.{Tree, lit, var, var_field, neg, add, sub, mul}
+use Rattle.drl_grammar.specs.declared.action.ActTree.{ActTree}
+use Rattle.drl_grammar.specs.declared.action.ActTree.TheVariants as action
 use Rattle.drl_grammar.specs.declared.condition.CondTree.{CondTree}
 use Rattle.drl_grammar.specs.declared.condition.CondTree.TheVariants as condition
 use Rattle.drl_grammar.specs.declared.condition.SourceTree.{SourceTree}
@@ -18,30 +21,19 @@ use Rattle.drl_grammar.specs.declared.condition.Cmp.TheVariants as cmp
 use Rattle.drl_grammar.specs.declared.condition.Operand.{Operand}
 use Rattle.drl_grammar.specs.declared.condition.Operand.TheVariants as operand
 use Rattle.drl_grammar.specs.declared.file.TypeTree.{TypeTree}
-use Rattle.drl_check.specs.Names.{place_of}
-use Rattle.drl_check.specs.Declarations.{type_named, field_names, kind_of, kind_at}
-use Rattle.drl_check.specs.Sight.{Sight, Meaning, of_fact, of_field, meaning_of, Place}
+use Rattle.drl_sight.specs.Names.{place_of}
+use Rattle.drl_sight.specs.Declarations.{type_named, field_names, kind_of, kind_at}
+use Rattle.drl_sight.specs.Meanings.{field_kind, variable_kind, variable_field_kind}
+use Rattle.drl_sight.specs.Sight.{Sight, Meaning, of_fact, of_field, meaning_of, Place}
 
 -- a field whose kind word is none of the seven
 abbrev pub has_unknown_kind : TypeTree → Bool
 has_unknown_kind t = list_any (λ (field : List ℕ × List ℕ). not (is_some (kind_of field.1))) t.fields
 
--- the kind of a field of a type, by its name
-abbrev pub field_kind : TypeTree → List ℕ → Option Kind
-field_kind t f = option_and_then (kind_at t) (place_of (field_names t) f)
-
 abbrev pub literal_kind : LitTree → Kind
-literal_kind (lit.Int n) = kind.Int
-literal_kind (lit.Bool b) = kind.Bool
-literal_kind (lit.Text s) = kind.Text
-
-abbrev pub variable_kind : Option Meaning → Option (Option Kind)
-variable_kind (Some (of_field fact field k)) = Some k
-variable_kind m = None
-
-abbrev pub variable_field_kind : Option Meaning → List ℕ → Option (Option Kind)
-variable_field_kind (Some (of_fact fact t)) f = Some (field_kind t f)
-variable_field_kind m f = None
+literal_kind (literal.Int n) = kind.Int
+literal_kind (literal.Bool b) = kind.Bool
+literal_kind (literal.Text s) = kind.Text
 
 -- The kind of an operand, which a field may lack; nothing where a fact stands for a value, or a value for a fact.
 abbrev pub operand_kind : TypeTree → Sight → Operand → Option (Option Kind)
@@ -86,3 +78,56 @@ source_misfits (Some t) sight s = list_any (part_misfits t sight) s.parts
 abbrev pub has_wrong_kind : List TypeTree → Place → CondTree → Bool
 has_wrong_kind types place (condition.Plain s) = source_misfits (type_named types s.ty) place.sight s
 has_wrong_kind types place c = false
+
+-- ---- actions
+
+abbrev pub is_number : Option (Option Kind) → Bool
+is_number None = false
+is_number (Some k) = is_int k
+
+abbrev pub number_where : Bool → Option (Option Kind)
+number_where false = None
+number_where true = Some (Some kind.Int)
+
+-- The kind of an expression; nothing where a fact stands for a value, a value for a fact, or an operator has an operand that is
+-- no whole number.
+abbrev pub tree_kind : Sight → Tree → Option (Option Kind)
+tree_kind sight (lit l) = Some (Some (literal_kind l))
+tree_kind sight (var v) = variable_kind (meaning_of sight v)
+tree_kind sight (var_field v f) = variable_field_kind (meaning_of sight v) f
+tree_kind sight (neg a) = number_where (is_number (tree_kind sight a))
+tree_kind sight (add a b) = number_where (is_number (tree_kind sight a) && is_number (tree_kind sight b))
+tree_kind sight (sub a b) = number_where (is_number (tree_kind sight a) && is_number (tree_kind sight b))
+tree_kind sight (mul a b) = number_where (is_number (tree_kind sight a) && is_number (tree_kind sight b))
+
+-- a field that has no kind can be set to nothing
+abbrev pub set_misfits : Option Kind → Option (Option Kind) → Bool
+set_misfits None given = true
+set_misfits field None = true
+set_misfits field (Some given) = not (is_same_kind field given)
+
+-- one expression for each field, of its kind
+unfoldable pub args_misfit : Sight → List (List ℕ × List ℕ) → List Tree → Bool
+args_misfit sight [] [] = false
+args_misfit sight (field ∷ fields) (e ∷ es) = set_misfits (kind_of field.1) (tree_kind sight e) || args_misfit sight fields es
+args_misfit sight fields es = true
+
+abbrev pub insert_misfits : Option TypeTree → Sight → List Tree → Bool
+insert_misfits None sight args = false
+insert_misfits (Some t) sight args = args_misfit sight t.fields args
+
+-- a value can not be modified
+abbrev pub modify_misfits : Option Meaning → Sight → List (List ℕ × Tree) → Bool
+modify_misfits None sight sets = false
+modify_misfits (Some (of_fact fact t)) sight sets = list_any (λ (set : List ℕ × Tree). set_misfits (field_kind t set.0) (tree_kind sight set.1)) sets
+modify_misfits (Some (of_field fact field k)) sight sets = true
+
+-- nor retracted
+abbrev pub retract_misfits : Option Meaning → Bool
+retract_misfits (Some (of_field fact field k)) = true
+retract_misfits m = false
+
+abbrev pub action_misfits : List TypeTree → Sight → ActTree → Bool
+action_misfits types sight (action.Insert ty args) = insert_misfits (type_named types ty) sight args
+action_misfits types sight (action.Modify v sets) = modify_misfits (meaning_of sight v) sight sets
+action_misfits types sight (action.Retract v) = retract_misfits (meaning_of sight v)

@@ -1,15 +1,10 @@
-pub mod Names
-pub mod Declarations
-pub mod Sight
 pub mod Built
 pub mod Twice
 pub mod Limits
 pub mod Uses
 pub mod Kinds
 pub mod Checks
-pub mod Programs
-pub mod Places
-pub mod Shown
+pub mod Outcomes
 pub mod Room
 pub mod Asked
 pub mod Failing

@@ -2,7 +2,10 @@
 use Rattle.std.specs.Prelude.{ℕ, ◌&&◌, Bool, true, false, not, List, length, nat_le, nat_lt, Option, Some, None, unsigned_abs, sum_by}
 use Rattle.std.specs.List.{list_all}
 use Rattle.drl_expr.specs.declared.literal.LitTree.{LitTree}
-use Rattle.drl_expr.specs.declared.literal.LitTree.TheVariants as lit
+use Rattle.drl_expr.specs.declared.literal.LitTree.TheVariants as literal
+use Rattle.drl_expr.specs.Tree.{Tree, lit, var, var_field, neg, add, sub, mul}
+use Rattle.drl_grammar.specs.declared.action.ActTree.{ActTree}
+use Rattle.drl_grammar.specs.declared.action.ActTree.TheVariants as action
 use Rattle.drl_grammar.specs.declared.condition.CondTree.{CondTree}
 use Rattle.drl_grammar.specs.declared.condition.CondTree.TheVariants as condition
 use Rattle.drl_grammar.specs.declared.condition.SourceTree.{SourceTree}
@@ -19,8 +22,8 @@ use Rattle.drl_grammar.specs.declared.file.Body.TheVariants as body
 use Rattle.drl_grammar.specs.declared.file.Item.{Item}
 use Rattle.drl_grammar.specs.declared.file.TypeTree.{TypeTree}
 use Rattle.drl_grammar.specs.declared.file.RuleTree.{RuleTree}
-use Rattle.drl_check.specs.Names.{is_short}
-use Rattle.drl_check.specs.Declarations.{types_of, rules_of, field_names}
+use Rattle.drl_sight.specs.Names.{is_short}
+use Rattle.drl_sight.specs.Declarations.{types_of, rules_of, field_names}
 
 -- names of types, fields and variables have at most 64 bytes, texts at most 4,096
 abbrev pub is_name : List ℕ → Bool
@@ -30,7 +33,7 @@ abbrev pub is_text : List ℕ → Bool
 is_text text = is_short 4096 text
 
 abbrev pub literal_within : LitTree → Bool
-literal_within (lit.Text text) = is_text text
+literal_within (literal.Text text) = is_text text
 literal_within l = true
 
 abbrev pub operand_within : Operand → Bool
@@ -70,9 +73,31 @@ abbrev pub attr_within : Attr → Bool
 attr_within (attr.Salience n) = nat_le (unsigned_abs n) 2147483647
 attr_within (attr.Dialect text) = is_text text
 
+-- the names and the texts of an expression
+abbrev pub tree_within : Tree → Bool
+tree_within (lit l) = literal_within l
+tree_within (var v) = is_name v
+tree_within (var_field v f) = is_name v && is_name f
+tree_within (neg a) = tree_within a
+tree_within (add a b) = tree_within a && tree_within b
+tree_within (sub a b) = tree_within a && tree_within b
+tree_within (mul a b) = tree_within a && tree_within b
+
+abbrev pub set_within : List ℕ × Tree → Bool
+set_within set = is_name set.0 && tree_within set.1
+
+abbrev pub action_within : ActTree → Bool
+action_within (action.Insert ty args) = is_name ty && list_all tree_within args
+action_within (action.Modify v sets) = is_name v && list_all set_within sets
+action_within (action.Retract v) = is_name v
+
+-- a rule has at most 16 actions
+abbrev pub actions_within : List ActTree → Bool
+actions_within actions = nat_le (length actions) 16 && list_all action_within actions
+
 -- a rule's name has 1 to 256 bytes; a rule has 1 to 8 conditions
 abbrev pub rule_within : RuleTree → Bool
-rule_within r = nat_lt 0 (length r.name) && is_short 256 r.name && list_all attr_within r.attrs && nat_lt 0 (length r.conditions) && nat_le (length r.conditions) 8 && list_all condition_within r.conditions
+rule_within r = nat_lt 0 (length r.name) && is_short 256 r.name && list_all attr_within r.attrs && nat_lt 0 (length r.conditions) && nat_le (length r.conditions) 8 && list_all condition_within r.conditions && actions_within r.actions
 
 -- a type has at most 32 fields
 abbrev pub type_within : TypeTree → Bool

@@ -1,6 +1,9 @@
 -- What may stand once and stands twice.
-use Rattle.std.specs.Prelude.{ℕ, ◌||◌, Bool, false, not, List, [], ◌∷◌, ◌++◌, map, Option, Some, None, codes}
-use Rattle.std.specs.List.{flat_map}
+use Rattle.std.specs.Prelude.{ℕ, ◌||◌, Bool, true, false, not, List, [], ◌∷◌, ◌++◌, map, Option, Some, None, codes}
+use Rattle.std.specs.List.{flat_map, list_all}
+use Rattle.drl_expr.specs.Tree.{Tree}
+use Rattle.drl_grammar.specs.declared.action.ActTree.{ActTree}
+use Rattle.drl_grammar.specs.declared.action.ActTree.TheVariants as action
 use Rattle.drl_grammar.specs.declared.condition.CondTree.{CondTree}
 use Rattle.drl_grammar.specs.declared.condition.CondTree.TheVariants as condition
 use Rattle.drl_grammar.specs.declared.condition.SourceTree.{SourceTree}
@@ -12,8 +15,8 @@ use Rattle.drl_grammar.specs.declared.file.Body.{Body}
 use Rattle.drl_grammar.specs.declared.file.Body.TheVariants as body
 use Rattle.drl_grammar.specs.declared.file.Item.{Item}
 use Rattle.drl_grammar.specs.declared.file.RuleTree.{RuleTree}
-use Rattle.drl_check.specs.Names.{is_among, are_distinct}
-use Rattle.drl_check.specs.Declarations.{types_of, rules_of, type_names, rule_names, field_names}
+use Rattle.drl_sight.specs.Names.{is_among, are_distinct}
+use Rattle.drl_sight.specs.Declarations.{types_of, rules_of, type_names, rule_names, field_names}
 
 abbrev pub attr_word : Attr → List ℕ
 attr_word (attr.Salience n) = codes "salience"
@@ -38,12 +41,21 @@ bound_in c = []
 abbrev pub bound_variables : RuleTree → List (List ℕ)
 bound_variables r = flat_map bound_in r.conditions
 
+abbrev pub set_names : List (List ℕ × Tree) → List (List ℕ)
+set_names sets = map (λ (set : List ℕ × Tree). set.0) sets
+
+-- a modification assigns no field twice
+abbrev pub assigns_once : ActTree → Bool
+assigns_once (action.Modify v sets) = are_distinct (set_names sets)
+assigns_once a = true
+
 -- given the names of the types and of the rules that earlier items declare
 abbrev pub is_repeated : List (List ℕ) → List (List ℕ) → Body → Bool
 is_repeated types rules (body.Declare t) = is_among types t.name || not (are_distinct (field_names t))
-is_repeated types rules (body.Rule r) = is_among rules r.name || not (are_distinct (map attr_word r.attrs)) || not (are_distinct (bound_variables r))
+is_repeated types rules (body.Rule r) = is_among rules r.name || not (are_distinct (map attr_word r.attrs)) || not (are_distinct (bound_variables r)) || not (list_all assigns_once r.actions)
 is_repeated types rules b = false
 
--- A type or a rule is declared by an earlier item, or a field, an attribute or a variable stands twice in the item.
+-- A type or a rule is declared by an earlier item, a field, an attribute or a variable stands twice in the item, or a field is
+-- assigned twice in one modification.
 abbrev pub is_twice : List Item → Body → Bool
 is_twice before b = is_repeated (type_names (types_of before)) (rule_names (rules_of before)) b

@@ -1,6 +1,9 @@
 -- Types, fields and variables that are used and are not there.
 use Rattle.std.specs.Prelude.{ℕ, ◌||◌, Bool, false, not, List, [], ◌∷◌, Option, Some, None, is_some}
 use Rattle.std.specs.List.{list_any}
+use Rattle.drl_expr.specs.Tree.{Tree, lit, var, var_field, neg, add, sub, mul}
+use Rattle.drl_grammar.specs.declared.action.ActTree.{ActTree}
+use Rattle.drl_grammar.specs.declared.action.ActTree.TheVariants as action
 use Rattle.drl_grammar.specs.declared.condition.CondTree.{CondTree}
 use Rattle.drl_grammar.specs.declared.condition.CondTree.TheVariants as condition
 use Rattle.drl_grammar.specs.declared.condition.SourceTree.{SourceTree}
@@ -11,23 +14,16 @@ use Rattle.drl_grammar.specs.declared.condition.Cmp.TheVariants as cmp
 use Rattle.drl_grammar.specs.declared.condition.Operand.{Operand}
 use Rattle.drl_grammar.specs.declared.condition.Operand.TheVariants as operand
 use Rattle.drl_grammar.specs.declared.file.TypeTree.{TypeTree}
-use Rattle.drl_check.specs.Names.{is_among}
-use Rattle.drl_check.specs.Declarations.{type_named, field_names}
-use Rattle.drl_check.specs.Sight.{Sight, Meaning, of_fact, meaning_of, Place, behind}
+use Rattle.drl_sight.specs.Names.{is_among}
+use Rattle.drl_sight.specs.Declarations.{type_named, field_names}
+use Rattle.drl_sight.specs.Meanings.{lacks, lacks_for}
+use Rattle.drl_sight.specs.Operands.{any_of_cmp, any_of_part, any_leaf_of}
+use Rattle.drl_sight.specs.Sight.{Sight, Meaning, of_fact, meaning_of, Place, behind}
 
 -- whether one of the conditions has this, given what is in sight there
 unfoldable pub any_condition : (Place → CondTree → Bool) → List TypeTree → Place → List CondTree → Bool
 any_condition test types place [] = false
 any_condition test types place (c ∷ cs) = test place c || any_condition test types (behind types place c) cs
-
--- whether one of the operands of a comparison, of a part, of a pattern has this
-abbrev pub any_of_cmp : (Operand → Bool) → Cmp → Bool
-any_of_cmp test (cmp.Rel f r o) = test o
-any_of_cmp test (cmp.OneOf f os) = list_any test os
-
-abbrev pub any_of_part : (Operand → Bool) → Part → Bool
-any_of_part test (part.AnyOf groups) = list_any (λ (group : List Cmp). list_any (any_of_cmp test) group) groups
-any_of_part test p = false
 
 -- ---- types
 
@@ -38,14 +34,11 @@ is_type_unknown types c = false
 abbrev pub has_unknown_type : List TypeTree → List CondTree → Bool
 has_unknown_type types cs = list_any (is_type_unknown types) cs
 
+abbrev pub inserts_unknown_type : List TypeTree → ActTree → Bool
+inserts_unknown_type types (action.Insert ty args) = not (is_some (type_named types ty))
+inserts_unknown_type types a = false
+
 -- ---- fields
-
-abbrev pub lacks : TypeTree → List ℕ → Bool
-lacks t f = not (is_among (field_names t) f)
-
-abbrev pub lacks_for : Option Meaning → List ℕ → Bool
-lacks_for (Some (of_fact fact t)) f = lacks t f
-lacks_for meaning f = false
 
 -- a field of the pattern's type, or of a fact variable in sight
 abbrev pub operand_lacks : TypeTree → Sight → Operand → Bool
@@ -73,11 +66,41 @@ abbrev pub has_unknown_field : List TypeTree → Place → CondTree → Bool
 has_unknown_field types place (condition.Plain s) = source_lacks (type_named types s.ty) place.sight s
 has_unknown_field types place c = false
 
+-- a field of a fact variable in sight, in an expression
+abbrev pub leaf_lacks : Sight → Tree → Bool
+leaf_lacks sight (var_field v f) = lacks_for (meaning_of sight v) f
+leaf_lacks sight e = false
+
+-- a field that is assigned
+abbrev pub assigned_lacks : Sight → ActTree → Bool
+assigned_lacks sight (action.Modify v sets) = list_any (λ (set : List ℕ × Tree). lacks_for (meaning_of sight v) set.0) sets
+assigned_lacks sight a = false
+
+abbrev pub action_lacks : Sight → ActTree → Bool
+action_lacks sight a = assigned_lacks sight a || any_leaf_of (leaf_lacks sight) a
+
 -- ---- variables
 
+abbrev pub is_unseen : Sight → List ℕ → Bool
+is_unseen sight v = not (is_some (meaning_of sight v))
+
+abbrev pub leaf_unseen : Sight → Tree → Bool
+leaf_unseen sight (var v) = is_unseen sight v
+leaf_unseen sight (var_field v f) = is_unseen sight v
+leaf_unseen sight e = false
+
+-- the variable of the fact that is changed or taken away
+abbrev pub target_unseen : Sight → ActTree → Bool
+target_unseen sight (action.Insert ty args) = false
+target_unseen sight (action.Modify v sets) = is_unseen sight v
+target_unseen sight (action.Retract v) = is_unseen sight v
+
+abbrev pub action_unseen : Sight → ActTree → Bool
+action_unseen sight a = target_unseen sight a || any_leaf_of (leaf_unseen sight) a
+
 abbrev pub operand_unseen : Sight → Operand → Bool
-operand_unseen sight (operand.Var v) = not (is_some (meaning_of sight v))
-operand_unseen sight (operand.VarField v f) = not (is_some (meaning_of sight v))
+operand_unseen sight (operand.Var v) = is_unseen sight v
+operand_unseen sight (operand.VarField v f) = is_unseen sight v
 operand_unseen sight o = false
 
 abbrev pub has_unknown_variable : Place → CondTree → Bool

@@ -1,11 +1,11 @@
 ghost use Rattle.std.specs.Prelude.{◌≡◌, IfOk};
 ghost use Rattle.drl_check.specs.Asked.{asked_of};
-ghost use Rattle.drl_check.specs.Sight.{begin};
+ghost use Rattle.drl_sight.specs.Sight.{begin};
 ghost use Rattle.drl_check.specs.Uses.{any_condition};
 
-use crate::declared::Declared;
+use drl_sight::Declared;
 use crate::kinds::misfits_in;
-use crate::sight::Place;
+use drl_sight::Place;
 use crate::uses::{lacks_field, lacks_variable};
 use drl_grammar::CondTree;
 use fx_base::NoMemory;

@@ -2,18 +2,19 @@ ghost use Rattle.std.specs.Prelude.{◌≡◌, ℕ, Err, IfOk};
 ghost use Rattle.rule_model.specs.Programs.{IsAccepted};
 ghost use Rattle.drl_check.specs.declared.fault.CheckCode.{CheckCode};
 ghost use Rattle.drl_check.specs.Checks.{IsAcceptedFile, IsFirstFailure};
-ghost use Rattle.drl_check.specs.Programs.{program_of, checked};
+ghost use Rattle.drl_program.specs.Programs.{program_of};
+ghost use Rattle.drl_check.specs.Outcomes.{checked};
 ghost use Rattle.drl_check.specs.Answers.{within_32_bits, Gives};
 
 use crate::CheckFault;
-use crate::declared::Declared;
-use crate::programs::program;
+use drl_sight::Declared;
+use drl_program::program;
 use crate::refusal::refusal;
 use drl_grammar::File;
 use rule_model::Program;
 use std::alloc::Global;
 
-#[tactic(auto, unfolding(crate::specs::Programs::checked))]
+#[tactic(auto, unfolding(crate::specs::Outcomes::checked))]
 fn checked_program(alloc: Global, file: &File) -> Result<Program, CheckFault>
     ensures { Gives (λ program. program) result (checked file.now) }
 {

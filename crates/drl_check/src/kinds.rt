@@ -3,10 +3,11 @@ ghost use Rattle.std.specs.List.{list_any};
 ghost use Rattle.drl_lex.specs.declared.token.Rel.TheVariants.{Equal};
 ghost use Rattle.drl_grammar.specs.declared.condition.Cmp.{Cmp};
 ghost use Rattle.drl_grammar.specs.declared.condition.Operand.{Operand};
-ghost use Rattle.drl_check.specs.Kinds.{has_unknown_kind, field_kind, literal_kind, operand_kind, is_int, is_same_kind, kinds_fit, misfits, cmp_misfits, part_misfits, has_wrong_kind};
+ghost use Rattle.drl_check.specs.Kinds.{has_unknown_kind, literal_kind, operand_kind, is_int, is_same_kind, kinds_fit, misfits, cmp_misfits, part_misfits, has_wrong_kind};
+ghost use Rattle.drl_sight.specs.Meanings.{field_kind};
 
-use crate::declared::{Declared, DeclaredType, kind_of_word};
-use crate::sight::Place;
+use drl_sight::{Declared, DeclaredType, kind_of_word};
+use drl_sight::Place;
 use drl_expr::LitTree;
 use drl_grammar::{Cmp, CondTree, Operand, Part, TypeTree};
 use drl_lex::Rel;

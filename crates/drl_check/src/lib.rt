@@ -5,20 +5,14 @@
 mod asked;
 mod built;
 mod checking;
-mod declared;
 mod fault;
 mod kinds;
 mod laws;
 mod limits;
-mod names;
-mod places;
-mod programs;
 mod refusal;
 mod room;
-mod sight;
 #[cfg(test)]
 mod tests;
-mod tests_of;
 mod twice;
 mod uses;
 

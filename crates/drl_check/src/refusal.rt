@@ -1,15 +1,15 @@
 ghost use Rattle.std.specs.Prelude.{◌≡◌, ◌<◌, ◌+◌, ◌^◌, ◌++◌, [], IfOk};
-ghost use Rattle.drl_check.specs.Declarations.{types_of, type_in, rule_in, type_names, rule_names};
+ghost use Rattle.drl_sight.specs.Declarations.{types_of, type_in, rule_in, type_names, rule_names};
 ghost use Rattle.drl_check.specs.Checks.{lacks_type, lacks_field as lacks_field_of, lacks_variable as lacks_variable_of, is_wrong_kind, failure_from};
 ghost use Rattle.drl_check.specs.Failing.{first_failing, first_failing_use};
 ghost use Rattle.drl_check.specs.Answers.{within_32_bits, Judges};
 
 use crate::asked::{Asked, is_so_of_some};
 use crate::built::is_unbuilt;
-use crate::declared::Declared;
+use drl_sight::Declared;
 use crate::kinds::lacks_kind;
 use crate::limits::passes_limits;
-use crate::places::Places;
+use drl_sight::Places;
 use crate::twice::repeats;
 use crate::uses::lack_type;
 use crate::{CheckCode, CheckFault};

@@ -1,11 +1,11 @@
 ghost use Rattle.std.specs.Prelude.{◌≡◌, ◌++◌, map, IfOk, OnOk};
 ghost use Rattle.drl_check.specs.Twice.{attr_word, own_variable, part_variable, source_variables, bound_in, bound_variables, is_repeated};
-ghost use Rattle.drl_check.specs.Names.{are_distinct};
-ghost use Rattle.drl_check.specs.Declarations.{field_names};
+ghost use Rattle.drl_sight.specs.Names.{are_distinct};
+ghost use Rattle.drl_sight.specs.Declarations.{field_names};
 
-use crate::declared::names_of_fields;
-use crate::names::differ;
-use crate::places::Places;
+use drl_sight::names_of_fields;
+use drl_sight::differ;
+use drl_sight::Places;
 use drl_grammar::{Attr, Body, CondTree, Part, RuleTree, SourceTree, TypeTree};
 use fx_base::{Copies, NoMemory, Text};
 use std::alloc::Global;

@@ -1,12 +1,14 @@
 ghost use Rattle.std.specs.Prelude.{◌≡◌, List, IfOk};
 ghost use Rattle.std.specs.List.{list_any};
 ghost use Rattle.drl_grammar.specs.declared.condition.Cmp.{Cmp};
-ghost use Rattle.drl_check.specs.Sight.{begin};
-ghost use Rattle.drl_check.specs.Uses.{any_of_cmp, any_of_part, any_condition, is_type_unknown, has_unknown_type, lacks, operand_lacks, cmp_lacks, part_lacks, source_lacks, has_unknown_field, operand_unseen, has_unknown_variable};
+ghost use Rattle.drl_sight.specs.Sight.{begin};
+ghost use Rattle.drl_check.specs.Uses.{any_condition, is_type_unknown, has_unknown_type, operand_lacks, cmp_lacks, part_lacks, source_lacks, has_unknown_field, operand_unseen, has_unknown_variable};
+ghost use Rattle.drl_sight.specs.Operands.{any_of_cmp, any_of_part};
+ghost use Rattle.drl_sight.specs.Meanings.{lacks};
 ghost use Rattle.std.specs.Prelude.{Some};
 
-use crate::declared::{Declared, DeclaredType};
-use crate::sight::Place;
+use drl_sight::{Declared, DeclaredType};
+use drl_sight::Place;
 use drl_grammar::{Cmp, CondTree, Operand, Part, SourceTree};
 use fx_base::{Seq, Text};
 

@@ -7,8 +7,6 @@ mod conditions;
 mod folds;
 mod parts;
 mod patterns;
-#[cfg(test)]
-mod tests;
 mod values;
 mod words;
 

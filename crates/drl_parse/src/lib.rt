@@ -9,8 +9,6 @@ mod parsing;
 mod paths;
 mod rules;
 mod splitting;
-#[cfg(test)]
-mod tests;
 mod types;
 mod words;
 

@@ -5,8 +5,6 @@
 mod names;
 mod phrase;
 mod shapes;
-#[cfg(test)]
-mod tests;
 
 pub use names::{Name, Span};
 pub use phrase::{Phrase, Punctuation, behind, behind_word, whole};

@@ -9,8 +9,6 @@ mod items;
 mod laws;
 mod patterns;
 mod shapes;
-#[cfg(test)]
-mod tests;
 mod text;
 mod tokens;
 mod values;

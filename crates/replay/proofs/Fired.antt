@@ -10,26 +10,33 @@ use Rattle.session.specs.declared.lines.Fired.TheVariants.{No, Yes}
 use Rattle.session.specs.Standing.{FiringAnswers}
 use Rattle.replay.specs.declared.turn.Turn.{Turn}
 use Rattle.replay.specs.declared.turn.Turn.TheVariants.{Goes, Stops}
-use Rattle.replay.specs.Firings.{Fires, Firings, all_fired, limit_met, onto_lines, none_left, then_fires, firings}
+use Rattle.replay.specs.Firings.{Fires, Firings, all_fired, limit_met, onto_lines, none_left, then_fires, wants_one, one_less, firings}
 use Rattle.replay.specs.Run.{fire_step}
 use Rattle.replay.specs.Turns.{Does, EndsFirings}
 use Rattle.replay.specs.Texts.{line_text, lines_text, limit_text, has_fault, is_fault}
 
--- nothing is pending
-fires_none : (fires : Fires) (p : Program) (left : ℕ) (w : World) → fires p w ≡ None → firings fires p left w ≡ all_fired [] w left
+-- the command wants no more
+fires_enough : (fires : Fires) (p : Program) (most : Option ℕ) (left : ℕ) (w : World) → wants_one most ≡ false → firings fires p most left w ≡ all_fired [] w left
 unfolding firings
-fires_none fires p zero w e = ap (λ o. none_left o w) e
-fires_none fires p (suc n) w e = ap (λ o. then_fires o w (suc n) (firings fires p n)) e
+fires_enough fires p most zero w no = rw no refl
+fires_enough fires p most (suc n) w no = rw no refl
+
+-- nothing is pending
+fires_none : (fires : Fires) (p : Program) (most : Option ℕ) (left : ℕ) (w : World) → wants_one most ≡ true → fires p w ≡ None → firings fires p most left w ≡ all_fired [] w left
+unfolding firings
+fires_none fires p most zero w yes e = rw (yes, e) refl
+fires_none fires p most (suc n) w yes e = rw (yes, e) refl
 
 -- a firing more
-fires_some : (fires : Fires) (p : Program) (left n : ℕ) (w : World) (f : List OutLine × World) → left ≡ suc n → fires p w ≡ Some f → firings fires p left w ≡ onto_lines f.0 (firings fires p n f.1)
+fires_some : (fires : Fires) (p : Program) (most : Option ℕ) (left n : ℕ) (w : World) (f : List OutLine × World) → wants_one most ≡ true → left ≡ suc n → fires p w ≡ Some f
+    → firings fires p most left w ≡ onto_lines f.0 (firings fires p (one_less most) n f.1)
 unfolding firings
-fires_some fires p left n w f at e = ap (λ k. firings fires p k w) at ∙ ap (λ o. then_fires o w (suc n) (firings fires p n)) e
+fires_some fires p most left n w f yes at e = ap (λ k. firings fires p most k w) at ∙ rw (yes, e) refl
 
 -- no firing is left
-fires_over : (fires : Fires) (p : Program) (left : ℕ) (w : World) (f : List OutLine × World) → left ≡ 0 → fires p w ≡ Some f → firings fires p left w ≡ limit_met []
+fires_over : (fires : Fires) (p : Program) (most : Option ℕ) (left : ℕ) (w : World) (f : List OutLine × World) → wants_one most ≡ true → left ≡ 0 → fires p w ≡ Some f → firings fires p most left w ≡ limit_met []
 unfolding firings
-fires_over fires p left w f at e = ap (λ k. firings fires p k w) at ∙ ap (λ o. none_left o w) e
+fires_over fires p most left w f yes at e = ap (λ k. firings fires p most k w) at ∙ rw (yes, e) refl
 
 onto_nothing : (r : Firings) → onto_lines [] r ≡ r
 onto_nothing (all_fired lines w left) = refl
@@ -40,55 +47,69 @@ onto_onto a b (all_fired lines w left) = ap (λ z. all_fired z w left) (sym (app
 onto_onto a b (limit_met lines) = ap limit_met (sym (append_assoc a b lines))
 
 -- what a fire command comes to is what was fired so far and what is fired from the present world on
-pub record Remains (fires : Fires) (p : Program) (number : ℕ) (all : Firings) (left : ℕ) (v : World) (before after : List ℕ) (bad : Bool) : Type 0 where
+pub record Remains (fires : Fires) (p : Program) (number : ℕ) (all : Firings) (most : Option ℕ) (left : ℕ) (v : World) (before after : List ℕ) (bad : Bool) : Type 0 where
   pub lines : List OutLine
-  pub all-is : all ≡ onto_lines lines (firings fires p left v)
+  pub all-is : all ≡ onto_lines lines (firings fires p most left v)
   pub text : after ≡ before ++ lines_text p number lines
   pub faulty : bad ≡ has_fault lines
 
 -- nothing was fired yet
-pub begin_remains : (fires : Fires) (p : Program) (number left : ℕ) (w : World) (text : List ℕ) → Remains fires p number (firings fires p left w) left w text text false
-begin_remains fires p number left w text = record { lines = []; all-is = sym (onto_nothing (firings fires p left w)); text = sym (append-nil text); faulty = refl }
+pub begin_remains : (fires : Fires) (p : Program) (number : ℕ) (most : Option ℕ) (left : ℕ) (w : World) (text : List ℕ) → Remains fires p number (firings fires p most left w) most left w text text false
+begin_remains fires p number most left w text = record { lines = []; all-is = sym (onto_nothing (firings fires p most left w)); text = sym (append-nil text); faulty = refl }
 
 -- one firing more
-pub next_remains : (fires : Fires) (p : Program) (number : ℕ) (all : Firings) (left n : ℕ) (v : World) (before after : List ℕ) (bad : Bool) (f : List OutLine × World) (after' : List ℕ) (bad' : Bool)
-    → Remains fires p number all left v before after bad → left ≡ suc n → fires p v ≡ Some f → after' ≡ after ++ lines_text p number f.0 → bad' ≡ (bad || has_fault f.0)
-    → Remains fires p number all n f.1 before after' bad'
-next_remains fires p number all left n v before after bad f after' bad' r at e t b = record {
+pub next_remains : (fires : Fires) (p : Program) (number : ℕ) (all : Firings) (most : Option ℕ) (left n : ℕ) (v : World) (before after : List ℕ) (bad : Bool) (f : List OutLine × World) (after' : List ℕ) (bad' : Bool)
+    → Remains fires p number all most left v before after bad → wants_one most ≡ true → left ≡ suc n → fires p v ≡ Some f → after' ≡ after ++ lines_text p number f.0 → bad' ≡ (bad || has_fault f.0)
+    → Remains fires p number all (one_less most) n f.1 before after' bad'
+next_remains fires p number all most left n v before after bad f after' bad' r yes at e t b = record {
   lines = r.lines ++ f.0;
-  all-is = r.all-is ∙ ap (onto_lines r.lines) (fires_some fires p left n v f at e) ∙ onto_onto r.lines f.0 (firings fires p n f.1);
+  all-is = r.all-is ∙ ap (onto_lines r.lines) (fires_some fires p most left n v f yes at e) ∙ onto_onto r.lines f.0 (firings fires p (one_less most) n f.1);
   text = t ∙ ap (λ z. z ++ lines_text p number f.0) r.text ∙ append_assoc before (lines_text p number r.lines) (lines_text p number f.0)
       ∙ ap (λ z. before ++ z) (sym (flat_map-append (line_text p number) r.lines f.0));
   faulty = b ∙ ap (λ z. z || has_fault f.0) r.faulty ∙ sym (list_any-append is_fault r.lines f.0);
 }
 
--- nothing is pending any more
-pub done_remains : (fires : Fires) (p : Program) (number limit : ℕ) (all : Firings) (left : ℕ) (v : World) (before after : List ℕ) (bad : Bool) (stands : World → Type 0)
-    → Remains fires p number all left v before after bad → fires p v ≡ None → stands v
+-- no more is fired
+over_remains : (fires : Fires) (p : Program) (number limit : ℕ) (all : Firings) (most : Option ℕ) (left : ℕ) (v : World) (before after : List ℕ) (bad : Bool) (stands : World → Type 0)
+    → Remains fires p number all most left v before after bad → firings fires p most left v ≡ all_fired [] v left → stands v
     → Does stands (fire_step limit p number all) before after (Goes bad left)
-done_remains fires p number limit all left v before after bad stands r e st =
-    let is : all ≡ all_fired r.lines v left = r.all-is ∙ ap (onto_lines r.lines) (fires_none fires p left v e) ∙ ap (λ z. all_fired z v left) (append-nil r.lines) in
+over_remains fires p number limit all most left v before after bad stands r e st =
+    let is : all ≡ all_fired r.lines v left = r.all-is ∙ ap (onto_lines r.lines) e ∙ ap (λ z. all_fired z v left) (append-nil r.lines) in
     rw is (r.text, st, ap (λ b. Goes b left) r.faulty)
 
+-- the command wants no more
+pub enough_remains : (fires : Fires) (p : Program) (number limit : ℕ) (all : Firings) (most : Option ℕ) (left : ℕ) (v : World) (before after : List ℕ) (bad : Bool) (stands : World → Type 0)
+    → Remains fires p number all most left v before after bad → wants_one most ≡ false → stands v
+    → Does stands (fire_step limit p number all) before after (Goes bad left)
+enough_remains fires p number limit all most left v before after bad stands r no st =
+    over_remains fires p number limit all most left v before after bad stands r (fires_enough fires p most left v no) st
+
+-- nothing is pending any more
+pub done_remains : (fires : Fires) (p : Program) (number limit : ℕ) (all : Firings) (most : Option ℕ) (left : ℕ) (v : World) (before after : List ℕ) (bad : Bool) (stands : World → Type 0)
+    → Remains fires p number all most left v before after bad → wants_one most ≡ true → fires p v ≡ None → stands v
+    → Does stands (fire_step limit p number all) before after (Goes bad left)
+done_remains fires p number limit all most left v before after bad stands r yes e st =
+    over_remains fires p number limit all most left v before after bad stands r (fires_none fires p most left v yes e) st
+
 -- a match is pending, and no firing is left
-limit_remains : (fires : Fires) (p : Program) (number limit : ℕ) (all : Firings) (left : ℕ) (v : World) (before after after' : List ℕ) (bad : Bool) (f : List OutLine × World) (stands : World → Type 0)
-    → Remains fires p number all left v before after bad → left ≡ 0 → fires p v ≡ Some f → after' ≡ after ++ limit_text limit
+limit_remains : (fires : Fires) (p : Program) (number limit : ℕ) (all : Firings) (most : Option ℕ) (left : ℕ) (v : World) (before after after' : List ℕ) (bad : Bool) (f : List OutLine × World) (stands : World → Type 0)
+    → Remains fires p number all most left v before after bad → wants_one most ≡ true → left ≡ 0 → fires p v ≡ Some f → after' ≡ after ++ limit_text limit
     → Does stands (fire_step limit p number all) before after' Stops
-limit_remains fires p number limit all left v before after after' bad f stands r at e t =
-    let is : all ≡ limit_met r.lines = r.all-is ∙ ap (onto_lines r.lines) (fires_over fires p left v f at e) ∙ ap limit_met (append-nil r.lines) in
+limit_remains fires p number limit all most left v before after after' bad f stands r yes at e t =
+    let is : all ≡ limit_met r.lines = r.all-is ∙ ap (onto_lines r.lines) (fires_over fires p most left v f yes at e) ∙ ap limit_met (append-nil r.lines) in
     rw is (t ∙ ap (λ z. z ++ limit_text limit) r.text ∙ append_assoc before (lines_text p number r.lines) (limit_text limit), refl)
 
--- the loop of firings has ended with none left
-pub end_remains : (fires : Fires) (p : Program) (number limit : ℕ) (all : Firings) (left : ℕ) (v : World) (before after after' : List ℕ) (bad : Bool) (turn : Turn) (stands : World → Type 0)
-    → Remains fires p number all left v before after bad → left ≡ 0 → stands v → EndsFirings limit (fires p v) bad after after' turn
+-- the loop of firings has ended with none left, and the command wants one
+pub end_remains : (fires : Fires) (p : Program) (number limit : ℕ) (all : Firings) (most : Option ℕ) (left : ℕ) (v : World) (before after after' : List ℕ) (bad : Bool) (turn : Turn) (stands : World → Type 0)
+    → Remains fires p number all most left v before after bad → wants_one most ≡ true → left ≡ 0 → stands v → EndsFirings limit (fires p v) bad after after' turn
     → Does stands (fire_step limit p number all) before after' turn
-end_remains fires p number limit all left v before after after' bad turn stands r at st h = here (fires p v) refl h
+end_remains fires p number limit all most left v before after after' bad turn stands r yes at st h = here (fires p v) refl h
   where
     here : (o : Option (List OutLine × World)) → fires p v ≡ o → EndsFirings limit o bad after after' turn → Does stands (fire_step limit p number all) before after' turn
     here None e k =
-        let d : Does stands (fire_step limit p number all) before after (Goes bad left) = done_remains fires p number limit all left v before after bad stands r e st in
+        let d : Does stands (fire_step limit p number all) before after (Goes bad left) = done_remains fires p number limit all most left v before after bad stands r yes e st in
         rw (k.0, k.1, sym at) d
-    here (Some f) e k = rw k.1 (limit_remains fires p number limit all left v before after after' bad f stands r at e k.0)
+    here (Some f) e k = rw k.1 (limit_remains fires p number limit all most left v before after after' bad f stands r yes at e k.0)
 
 -- what an answer says of the firing
 pub yes_answer : (o : Option (List OutLine × World)) (lines : List OutLine) (v : World) (S : World → Type 0) → FiringAnswers o (Yes lines) v S
@@ -112,8 +133,8 @@ pub none_pending : (limit : ℕ) (o : Option (List OutLine × World)) (faulty : 
 none_pending limit None faulty text e = (refl, refl)
 none_pending limit (Some f) faulty text e = absurd (let k : false ≡ true = e in cc)
 
--- nothing is pending where the limit was not met
-pub settled : (fires : Fires) (p : Program) (left : ℕ) (w : World) (lines : List OutLine) (v : World) (more : ℕ) → firings fires p left w ≡ all_fired lines v more → fires p v ≡ None
+-- nothing is pending where the limit was not met, for a command that wants all firings
+pub settled : (fires : Fires) (p : Program) (left : ℕ) (w : World) (lines : List OutLine) (v : World) (more : ℕ) → firings fires p None left w ≡ all_fired lines v more → fires p v ≡ None
 unfolding firings
 settled fires p zero w lines v more h = here (fires p w) refl h
   where
@@ -135,7 +156,7 @@ settled fires p (suc n) w lines v more h = here (fires p w) refl h (λ u ls k. s
     inner ls (all_fired us x m) k = (us, ap (λ z. all_fired us z m) (world_is _ _ _ _ _ _ k) ∙ ap (all_fired us v) (left_is _ _ _ _ _ _ k))
     inner ls (limit_met us) k = absurd cc
 
-    here : (o : Option (List OutLine × World)) → fires p w ≡ o → then_fires o w (suc n) (firings fires p n) ≡ all_fired lines v more
-        → ((u : World) (ls : List OutLine) → firings fires p n u ≡ all_fired ls v more → fires p v ≡ None) → fires p v ≡ None
+    here : (o : Option (List OutLine × World)) → fires p w ≡ o → then_fires o w (suc n) (firings fires p None n) ≡ all_fired lines v more
+        → ((u : World) (ls : List OutLine) → firings fires p None n u ≡ all_fired ls v more → fires p v ≡ None) → fires p v ≡ None
     here None e k rest = ap (fires p) (sym (world_is _ _ _ _ _ _ k)) ∙ e
-    here (Some f) e k rest = let i = inner f.0 (firings fires p n f.1) k in rest f.1 i.0 i.1
+    here (Some f) e k rest = let i = inner f.0 (firings fires p None n f.1) k in rest f.1 i.0 i.1

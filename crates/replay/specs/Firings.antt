@@ -1,5 +1,5 @@
 -- What a fire command does, for an engine of these meanings, when the run has so many firings left.
-use Rattle.std.specs.Prelude.{ℕ, zero, suc, List, [], ◌++◌, Option, Some, None}
+use Rattle.std.specs.Prelude.{ℕ, zero, suc, pred, Bool, true, nat_lt, List, [], ◌++◌, Option, Some, None, option_map, if◌then◌else◌}
 use Rattle.rule_model.specs.declared.program.Program.{Program}
 use Rattle.rule_model.specs.Worlds.{World}
 use Rattle.script_read.specs.declared.asked.Change.{Change}
@@ -13,8 +13,8 @@ Gives = Program → World → Change → List OutLine × World
 abbrev pub Fires : Type 0
 Fires = Program → World → Option (List OutLine × World)
 
--- what the firings come to: no match is pending any more, with the world then and the firings left, or a match is
--- pending and no firing is left
+-- what the firings come to: no match is pending any more or the command wants no more, with the world then and the firings
+-- left, or a match is pending and no firing is left
 pub data Firings : Type 0 where
   all_fired : List OutLine → World → ℕ → Firings
   limit_met : List OutLine → Firings
@@ -32,7 +32,16 @@ abbrev pub then_fires : Option (List OutLine × World) → World → ℕ → (Wo
 then_fires None w left next = all_fired [] w left
 then_fires (Some f) w left next = onto_lines f.0 (next f.1)
 
--- firings one after the other while a match is pending, at most as many as are left
-unfoldable pub firings : Fires → Program → ℕ → World → Firings
-firings fires p zero w = none_left (fires p w) w
-firings fires p (suc left) w = then_fires (fires p w) w (suc left) (firings fires p left)
+-- whether a command that wants so many firings, or as many as there are, wants one
+abbrev pub wants_one : Option ℕ → Bool
+wants_one None = true
+wants_one (Some most) = nat_lt 0 most
+
+abbrev pub one_less : Option ℕ → Option ℕ
+one_less most = option_map pred most
+
+-- firings one after the other while a match is pending, at most as many as the command wants, and as many as are left
+unfoldable pub firings : Fires → Program → Option ℕ → ℕ → World → Firings
+firings fires p most zero w = if wants_one most then none_left (fires p w) w else all_fired [] w zero
+firings fires p most (suc left) w =
+    if wants_one most then then_fires (fires p w) w (suc left) (firings fires p (one_less most) left) else all_fired [] w (suc left)

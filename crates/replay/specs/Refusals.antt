@@ -8,7 +8,7 @@ use Rattle.drl_check.specs.declared.fault.CheckCode.{CheckCode}
 use Rattle.drl_check.specs.declared.fault.CheckCode.TheVariants as check
 use Rattle.drl_check.specs.Answers.{within_32_bits}
 use Rattle.drl_check.specs.Checks.{Failure}
-use Rattle.drl_check.specs.Programs.{checked}
+use Rattle.drl_check.specs.Outcomes.{checked}
 use Rattle.rule_model.specs.declared.program.Program.{Program}
 use Rattle.rule_model.specs.Programs.{IsAccepted}
 use Rattle.replay.specs.declared.refusal.RefusalCode.{RefusalCode}

@@ -37,7 +37,7 @@ fire_step limit p number (limit_met lines) = stops (lines_text p number lines ++
 
 abbrev pub command_step : Gives → Fires → ℕ → Program → ℕ → ℕ → World → Command → Step
 command_step gives fires limit p number left w (Change change) = printed p number left (gives p w change).0 (gives p w change).1
-command_step gives fires limit p number left w (Fire most) = fire_step limit p number (firings fires p left w)
+command_step gives fires limit p number left w (Fire most) = fire_step limit p number (firings fires p most left w)
 
 -- a faulty line changes nothing
 abbrev pub fault_step : ℕ → ℕ → World → LineCode → Step

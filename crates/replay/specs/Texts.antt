@@ -9,8 +9,8 @@ use Rattle.session.specs.declared.lines.OutLine.{OutLine}
 use Rattle.session.specs.declared.lines.OutLine.TheVariants.{New, Fire, Fault}
 use Rattle.session.specs.declared.lines.Cell.{Cell}
 use Rattle.session.specs.declared.lines.Cell.TheVariants as cell
-use Rattle.session.specs.declared.lines.Code.{Code}
-use Rattle.session.specs.declared.lines.Code.TheVariants as code
+use Rattle.change_read.specs.declared.code.Code.{Code}
+use Rattle.change_read.specs.declared.code.Code.TheVariants as code
 use Rattle.replay.specs.declared.fault.LineCode.{LineCode}
 use Rattle.replay.specs.declared.fault.LineCode.TheVariants as fault
 
@@ -41,14 +41,18 @@ code_text fault.LineLong = codes "LineLong"
 code_text fault.BadJson = codes "BadJson"
 code_text fault.BadCommand = codes "BadCommand"
 code_text fault.UnknownType = codes "UnknownType"
+code_text fault.Absent = codes "Absent"
 code_text fault.BadFields = codes "BadFields"
 code_text fault.BadValue = codes "BadValue"
+code_text fault.Overflow = codes "Overflow"
 
--- the code of a change that the engine refuses
+-- the code of a change or an action that the engine refuses
 abbrev pub change_code : Code → LineCode
 change_code code.UnknownType = fault.UnknownType
+change_code code.Absent = fault.Absent
 change_code code.BadFields = fault.BadFields
 change_code code.BadValue = fault.BadValue
+change_code code.Overflow = fault.Overflow
 
 -- a line of the script with this number had a fault
 abbrev pub fault_text : ℕ → LineCode → List ℕ

@@ -33,7 +33,7 @@ impl From<Failed> for RunFault {
     }
 }
 
-/// Why a line of the script is faulty. The codes stand in the order in which they are tried.
+/// Why a line of the script, or an action of a firing, is faulty. The codes stand in the order in which they are tried.
 #[derive(Clone, Copy, Debug, PartialEq, Eq)]
 pub(crate) enum LineCode {
     /// The line has more than 65,536 bytes.
@@ -44,10 +44,15 @@ pub(crate) enum LineCode {
     BadCommand,
     /// The type is not declared.
     UnknownType,
-    /// The members are not exactly the declared fields.
+    /// No present fact of the type has the id.
+    Absent,
+    /// The members of an insertion are not exactly the declared fields; or those of a modification are none, or one of them is no
+    /// declared field.
     BadFields,
     /// A value has another kind than its field, or is a text of more than 4,096 bytes.
     BadValue,
+    /// An expression of an action, or a part of one, is outside 64 bits.
+    Overflow,
 }
 
 pub(crate) fn of_line_fault(fault: LineFault) -> RunFault

@@ -1,6 +1,6 @@
-ghost use Rattle.std.specs.Prelude.{◌≡◌, ◌+◌, ◌*◌, ◌<◌, ◌≤◌, ◌^◌, ◌||◌, ℕ, IfOk};
+ghost use Rattle.std.specs.Prelude.{◌≡◌, ◌+◌, ◌*◌, ◌<◌, ◌≤◌, ◌^◌, ◌||◌, true, ℕ, IfOk};
 ghost use Rattle.rule_model.specs.Worlds.{World};
-ghost use Rattle.replay.specs.Firings.{firings};
+ghost use Rattle.replay.specs.Firings.{wants_one, one_less, firings};
 ghost use Rattle.replay.specs.Run.{fire_step};
 ghost use Rattle.replay.specs.Turns.{Does, EndsFirings, Within};
 
@@ -29,26 +29,50 @@ fn end_firings<E: Engine>(
     Ok(Turn::Goes(faulty, 0))
 }
 
-/// Fires until nothing is pending or no firing is left, and appends the lines.
+// Whether a command that wants so many firings, or as many as there are, wants one.
+fn is_wanting(most: Option<u64>) -> bool
+    ensures { result ≡ wants_one most }
+{
+    match most {
+        Some(most) => most > 0,
+        None => true,
+    }
+}
+
+fn with_one_less(most: Option<u64>) -> Option<u64>
+    ensures { wants_one most ≡ true → result ≡ one_less most }
+{
+    match most {
+        Some(most) => most.checked_sub(1),
+        None => None,
+    }
+}
+
+/// Fires until nothing is pending, the command wants no more, or no firing is left, and appends the lines.
 pub(crate) fn fire_all<E: Engine>(
     alloc: Global,
     engine: E,
     number: u64,
     limit: u64,
+    most: Option<u64>,
     left: u64,
     text: &mut Vec<u8>,
 ) -> Result<(E, Turn), NoMemory>
     requires { E.tags engine + 16 * left < 2 ^ 62 }
     ensures done { IfOk result (λ r. (w : World) → E.stands engine w
-        → Does (E.stands r.0) (fire_step limit (E.made_with engine) number (firings E.fires (E.made_with engine) left w))
+        → Does (E.stands r.0) (fire_step limit (E.made_with engine) number (firings E.fires (E.made_with engine) most left w))
         text.old.items text.new.items r.1) }
     ensures program { IfOk result (λ r. E.made_with r.0 ≡ E.made_with engine) }
     ensures tags { IfOk result (λ r. Within (E.tags engine + 16 * left + 16) (E.tags r.0) r.1) }
 {
     let mut engine = engine;
     let mut faulty = false;
+    let mut most = most;
     let mut left = left;
     while left > 0 {
+        if !is_wanting(most) {
+            return Ok((engine, Turn::Goes(faulty, left)));
+        }
         let (next, fired) = engine.fire_one(alloc)?;
         match fired {
             Fired::No => return Ok((next, Turn::Goes(faulty, left))),
@@ -56,9 +80,13 @@ pub(crate) fn fire_all<E: Engine>(
                 let bad = push_lines(text, alloc, next.program(), number, lines.as_slice())?;
                 faulty = either(faulty, bad);
                 engine = next;
+                most = with_one_less(most);
                 left -= 1;
             }
         }
+    }
+    if !is_wanting(most) {
+        return Ok((engine, Turn::Goes(faulty, 0)));
     }
     let turn = end_firings(alloc, &engine, limit, faulty, text)?;
     Ok((engine, turn))

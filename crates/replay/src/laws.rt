@@ -8,5 +8,5 @@ ghost use Rattle.replay.specs.Firings.{Fires, all_fired, firings};
 /// After a fire command that did not meet the limit nothing is pending, whatever the meaning of a firing.
 pub fn a_fire_command_leaves_nothing_pending()
     ensures { (fires : Fires) (p : Program) (left more : ℕ) (w v : World) (lines : List OutLine)
-        → firings fires p left w ≡ all_fired lines v more → fires p v ≡ None }
+        → firings fires p None left w ≡ all_fired lines v more → fires p v ≡ None }
 {}

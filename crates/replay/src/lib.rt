@@ -10,8 +10,6 @@ mod obeying;
 mod refusal;
 mod rule_file;
 mod running;
-#[cfg(test)]
-mod tests;
 mod text;
 mod top;
 mod turn;

@@ -54,7 +54,7 @@ fn obey<E: Engine>(
 {
     match wanted {
         Command::Change(wanted) => change(alloc, engine, number, left, wanted, text),
-        Command::Fire(_) => fire_all(alloc, engine, number, limit, left, text),
+        Command::Fire(most) => fire_all(alloc, engine, number, limit, *most, left, text),
     }
 }
 

@@ -3,7 +3,7 @@ ghost use Rattle.fx_io.specs.Outside.{Rose, file_told, IsMissing, IsFound};
 ghost use Rattle.drl_parse.specs.Parsed.{Parsed, Gives as GivesFile};
 ghost use Rattle.drl_check.specs.Answers.{Fails};
 ghost use Rattle.drl_check.specs.Checks.{Failure};
-ghost use Rattle.drl_check.specs.Programs.{checked};
+ghost use Rattle.drl_check.specs.Outcomes.{checked};
 ghost use Rattle.rule_model.specs.declared.program.Program.{Program as ProgramData};
 ghost use Rattle.replay.specs.Refusals.{of_parsed, of_checked, reading, IsSound};
 ghost use Rattle.replay.specs.declared.rule_file.Reading.TheVariants.{Refused};

@@ -6,7 +6,8 @@ ghost use Rattle.replay.specs.Texts.{type_name, rule_name, quoted_byte, cell_tex
 use crate::fault::LineCode;
 use fx_base::NoMemory;
 use rule_model::{Program, Rule, TypeInfo};
-use session::{Cell, Code, OutLine};
+use change_read::Code;
+use session::{Cell, OutLine};
 use std::alloc::Global;
 
 fn name_of_type(types: &[TypeInfo], place: usize) -> &str
@@ -80,8 +81,10 @@ fn push_code(text: &mut Vec<u8>, code: LineCode) -> Result<(), NoMemory>
         LineCode::BadJson => text.extend_from_slice(b"BadJson")?,
         LineCode::BadCommand => text.extend_from_slice(b"BadCommand")?,
         LineCode::UnknownType => text.extend_from_slice(b"UnknownType")?,
+        LineCode::Absent => text.extend_from_slice(b"Absent")?,
         LineCode::BadFields => text.extend_from_slice(b"BadFields")?,
         LineCode::BadValue => text.extend_from_slice(b"BadValue")?,
+        LineCode::Overflow => text.extend_from_slice(b"Overflow")?,
     }
     Ok(())
 }
@@ -91,8 +94,10 @@ fn code_of(code: Code) -> LineCode
 {
     match code {
         Code::UnknownType => LineCode::UnknownType,
+        Code::Absent => LineCode::Absent,
         Code::BadFields => LineCode::BadFields,
         Code::BadValue => LineCode::BadValue,
+        Code::Overflow => LineCode::Overflow,
     }
 }
 

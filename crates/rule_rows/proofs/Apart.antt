@@ -1,5 +1,5 @@
 -- Where all tags differ, the rows that name a fact's tag are none of those over other facts.
-use Rattle.std.proofs.Common.{◌≡◌, ◌⊎◌, ℕ, ◌==◌, ◌||◌, ◌&&◌, not, inl, inr, Bool, true, false, List, [], ◌∷◌, ◌++◌, map, Option, Some, None, refl, sym, ◌∙◌, ap, subst, arith}
+use Rattle.std.proofs.Common.{◌≡◌, ℕ, ◌==◌, ◌||◌, ◌&&◌, not, inl, inr, Bool, true, false, List, [], ◌∷◌, ◌++◌, map, Option, Some, None, refl, sym, ◌∙◌, ap, subst, arith}
 use Rattle.std.specs.List.{list_any}
 use Rattle.std.proofs.lemmas.List.{map-append}
 use Rattle.std.proofs.lemmas.Bool.Decides.{nat_tests}
@@ -7,11 +7,10 @@ use Rattle.fx_base.specs.declared.ids.Tag.{Tag}
 use Rattle.fx_base.specs.declared.fact.Fact.{Fact}
 use Rattle.row_delta.specs.declared.row.Named.{Named}
 use Rattle.row_delta.specs.declared.row.Row.{Row}
-use Rattle.row_delta.specs.declared.delta.Delta.{Delta}
 use Rattle.row_delta.specs.Rows.{has}
 use Rattle.rule_model.specs.declared.program.Rule.{Rule}
-use Rattle.rule_model.specs.Rows.{In, name_of, rows}
-use Rattle.rule_model.specs.Distinct.{EachOnce, HaveDistinctTags}
+use Rattle.rule_model.specs.Rows.{In, rows}
+use Rattle.rule_model.specs.Distinct.{HaveDistinctTags}
 use Rattle.rule_model.proofs.Listed.{in_map, in_left, in_right, listed_row}
 use Rattle.rule_model.proofs.Named.{named_of}
 use Rattle.rule_rows.specs.Found.{names_tag, names_added, behind, IsDifference}
@@ -46,9 +45,9 @@ same_number m n e = grind (arith, nat_tests)
 named_in : (t : Tag) (names : List Named) → list_any (λ (n : Named). n.tag.0 == t.0) names ≡ true → (n : Named) × In n names × (n.tag ≡ t)
 named_in t [] e = absurd (let h : false ≡ true = e in cc)
 named_in t (n ∷ names) e = elim (or_split (n.tag.0 == t.0) (list_any (λ (m : Named). m.tag.0 == t.0) names) e) [
-    | inl h ↦ (n, inl refl, ap tag_of (same_number n.tag.0 t.0 h))
-    | inr h ↦ later (named_in t names h)
-  ]
+  | inl h ↦ (n, inl refl, ap tag_of (same_number n.tag.0 t.0 h))
+  | inr h ↦ later (named_in t names h)
+]
   where
     later : (m : Named) × In m names × (m.tag ≡ t) → (m : Named) × In m (n ∷ names) × (m.tag ≡ t)
     later r = (r.0, inr r.1, r.2)
@@ -87,13 +86,13 @@ pub apart : (others : List Fact) (before after : Option Fact) (rule : Rule) (gon
     → IsDifference (rows (behind others before) rule) (rows (behind others after) rule) (record { gone = gone; come = come })
 apart others before after rule gone come d grown named regrown renamed = record {
   gone = λ row. (both row).0 ∙ ap (λ b. b && not (has (rows others rule) row || has come row)) (sym (grown row))
-    ∙ ap (λ b. has (rows (behind others before) rule) row && not b) (sym (regrown row));
+      ∙ ap (λ b. has (rows (behind others before) rule) row && not b) (sym (regrown row));
   come = λ row. (both row).1 ∙ ap (λ b. b && not (has (rows others rule) row || has gone row)) (sym (regrown row))
-    ∙ ap (λ b. has (rows (behind others after) rule) row && not b) (sym (grown row));
+      ∙ ap (λ b. has (rows (behind others after) rule) row && not b) (sym (grown row));
 }
   where
     both : (row : Row) → (has gone row ≡ ((has (rows others rule) row || has gone row) && not (has (rows others rule) row || has come row)))
-      × (has come row ≡ ((has (rows others rule) row || has come row) && not (has (rows others rule) row || has gone row)))
+        × (has come row ≡ ((has (rows others rule) row || has come row) && not (has (rows others rule) row || has gone row)))
     both row = parted (has (rows others rule) row) (has gone row) (has come row)
-      (λ o g. none_named others before (front_too (behind others before) after d) rule row o (named row g))
-      (λ o c. none_named (behind others before) after d rule row (grown row ∙ o) (renamed row c))
+        (λ o g. none_named others before (front_too (behind others before) after d) rule row o (named row g))
+        (λ o c. none_named (behind others before) after d rule row (grown row ∙ o) (renamed row c))

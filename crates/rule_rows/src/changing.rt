@@ -39,7 +39,7 @@ pub fn difference(
 ) -> Result<Delta, NoMemory>
     ensures { HaveDistinctTags (behind (behind others.now (option_map (λ f. f.now) before.entry)) (option_map (λ f. f.now) after.entry))
         → IfOk result (IsDifference (rows (behind others.now (option_map (λ f. f.now) before.entry)) rule.now)
-            (rows (behind others.now (option_map (λ f. f.now) after.entry)) rule.now)) }
+        (rows (behind others.now (option_map (λ f. f.now) after.entry)) rule.now)) }
 {
     let gone = rows_added(alloc, others, before, rule)?;
     let come = rows_added(alloc, others, after, rule)?;

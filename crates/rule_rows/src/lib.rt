@@ -7,8 +7,6 @@ mod bindings;
 mod changing;
 mod finding;
 mod growing;
-#[cfg(test)]
-mod tests;
 
 pub use changing::difference;
 pub use finding::rows_of;

@@ -1,6 +1,6 @@
 use Rattle.std.proofs.Common.{◌≡◌, ◌≤◌, drop}
 use Rattle.drl_check.specs.Asked.{asked_of}
-use Rattle.drl_check.specs.Sight.{begin}
+use Rattle.drl_sight.specs.Sight.{begin}
 use Rattle.drl_check.specs.Uses.{any_condition}
 use Rattle.drl_check.proofs.asked.is_so_of_some.Given as goal
 

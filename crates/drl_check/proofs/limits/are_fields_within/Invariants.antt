@@ -1,6 +1,6 @@
 use Rattle.std.proofs.Common.{◌≡◌, ℕ, List, map, drop}
 use Rattle.std.specs.List.{list_all}
-use Rattle.drl_check.specs.Declarations.{field_names}
+use Rattle.drl_sight.specs.Declarations.{field_names}
 use Rattle.drl_check.specs.Limits.{is_name}
 use Rattle.drl_check.proofs.limits.are_fields_within.Given as goal
 

@@ -9,7 +9,7 @@ returns-in-No-clause-done g c w st =
     let inv = c.loop-left.invariant.remains w st in
     let answer = rw (c.in-No.is, c.loop-left.invariant.same) at (c.in_ok-next.ensures.answers inv.0 inv.1) in
     let none = no_answer _ inv.0 _ answer in
-    done_remains g.E.Engine.fires (g.E.Engine.made_with c.args.engine) c.args.number c.args.limit (firings g.E.Engine.fires (g.E.Engine.made_with c.args.engine) c.args.left w) c.loop-left.left inv.0 c.args.text.now.items c.loop-left.text.items c.loop-left.faulty (g.E.Engine.stands c.in_ok-next.next)
+    done_remains g.E.Engine.fires (g.E.Engine.made_with c.args.engine) c.args.number c.args.limit (firings g.E.Engine.fires (g.E.Engine.made_with c.args.engine) c.args.most c.args.left w) c.loop-left.most c.loop-left.left inv.0 c.args.text.now.items c.loop-left.text.items c.loop-left.faulty (g.E.Engine.stands c.in_ok-next.next)
     inv.2 none.0 none.1
 
 pub loop-left-preserved : goal.loop-left-preserved
@@ -28,7 +28,7 @@ loop-left-preserved g c =
           let bad = c.either-faulty.ensures ∙ ap (λ z. c.loop-left.faulty || z) (c.in_ok-bad-in-Yes.ensures.fault ∙ ap has_fault (c.as_slice.ensures ∙ some.1.1)) in (
             some.0.1,
             some.1.2,
-            next_remains g.E.Engine.fires (g.E.Engine.made_with c.args.engine) c.args.number (firings g.E.Engine.fires (g.E.Engine.made_with c.args.engine) c.args.left w) c.loop-left.left (c.loop-left.left - 1) inv.0
+            next_remains g.E.Engine.fires (g.E.Engine.made_with c.args.engine) c.args.number (firings g.E.Engine.fires (g.E.Engine.made_with c.args.engine) c.args.most c.args.left w) c.loop-left.most c.loop-left.left (c.loop-left.left - 1) inv.0
                 c.args.text.now.items c.loop-left.text.items c.loop-left.faulty some.0 c.push_lines.new.text.items c.either-faulty.result
                 inv.2 more some.1.0 text bad,
           );
@@ -38,7 +38,7 @@ pub returns-clause-done : goal.returns-clause-done
 returns-clause-done g c w st =
     let inv = c.loop-left.invariant.remains w st in
     let ends = rw c.loop-left.invariant.same at (c.in_ok-turn.ensures.ends inv.0 inv.1) in
-    end_remains g.E.Engine.fires (g.E.Engine.made_with c.args.engine) c.args.number c.args.limit (firings g.E.Engine.fires (g.E.Engine.made_with c.args.engine) c.args.left w) c.loop-left.left inv.0 c.args.text.now.items c.loop-left.text.items c.end_firings.new.text.items c.loop-left.faulty c.in_ok-turn.turn (g.E.Engine.stands c.loop-left.engine)
+    end_remains g.E.Engine.fires (g.E.Engine.made_with c.args.engine) c.args.number c.args.limit (firings g.E.Engine.fires (g.E.Engine.made_with c.args.engine) c.args.most c.args.left w) c.loop-left.most c.loop-left.left inv.0 c.args.text.now.items c.loop-left.text.items c.end_firings.new.text.items c.loop-left.faulty c.in_ok-turn.turn (g.E.Engine.stands c.loop-left.engine)
     inv.2 (omega (arith, c.loop-left-test.false)) inv.1 ends
 
 pub returns-in-No-clause-tags : goal.returns-in-No-clause-tags

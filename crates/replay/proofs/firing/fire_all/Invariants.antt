@@ -14,7 +14,7 @@ invariant-loop-left g l =
     record {
       same : program l.engine ≡ program l.fn.engine;
       few : tags l.engine + 16 * l.left ≤ tags l.fn.engine + 16 * l.fn.left;
-      remains : (w : World) → stands l.fn.engine w → (v : World) × stands l.engine v × Remains fires (program l.fn.engine) l.number (firings fires (program l.fn.engine) l.fn.left w) l.left v l.fn.text.items l.text.items l.faulty;
+      remains : (w : World) → stands l.fn.engine w → (v : World) × stands l.engine v × Remains fires (program l.fn.engine) l.number (firings fires (program l.fn.engine) l.fn.most l.fn.left w) l.most l.left v l.fn.text.items l.text.items l.faulty;
     }
 
 abbrev pub decreases-loop-left : goal.decreases-loop-left

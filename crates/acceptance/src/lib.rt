@@ -1,0 +1,24 @@
+//! Tests that cross the crates: rule files as texts through each reader and the checks, and runs of the program in memory.
+//! It has no function of its own, so that the crates below are proved once, without their tests.
+#![tactic(auto)]
+
+#[cfg(test)]
+mod actions;
+#[cfg(test)]
+mod conditions;
+#[cfg(test)]
+mod engine;
+#[cfg(test)]
+mod files;
+#[cfg(test)]
+mod programs;
+#[cfg(test)]
+mod refusals;
+#[cfg(test)]
+mod rows;
+#[cfg(test)]
+mod runs;
+#[cfg(test)]
+mod shapes;
+#[cfg(test)]
+mod tokens;

@@ -1,0 +1,17 @@
+ghost use Rattle.std.specs.Prelude.{IfSome};
+ghost use Rattle.rule_model.specs.Programs.{IsAccepted};
+
+use drl_check::check;
+use drl_parse::parse;
+use rule_model::Program;
+use std::alloc::Global;
+
+/// The program of a rule file, if it is accepted.
+pub(crate) fn program(alloc: Global, rules: &str) -> Option<Program>
+    ensures { IfSome result IsAccepted }
+{
+    match parse(alloc, rules.as_bytes()) {
+        Ok(file) => check(alloc, &file).ok(),
+        Err(_) => None,
+    }
+}

@@ -1,9 +1,0 @@
-use Rattle.std.proofs.Common.{◌≡◌, ◌++◌, drop}
-use Rattle.drl_check.specs.Declarations.{types_of, type_names}
-use Rattle.drl_check.proofs.declared.Declared.of.Given as goal
-
-abbrev pub invariant-loop-item : goal.invariant-loop-item
-invariant-loop-item l = record {
-  types : l.types.items ++ types_of (drop l.item-index l.items) ≡ types_of l.items;
-  names : l.names ≡ type_names l.types.items;
-}

@@ -1,0 +1,210 @@
+-- The program of a file. Each name has a place in what was declared; a name that was not declared, which no accepted file
+-- has, counts as the first.
+use Rattle.std.specs.Prelude.{ℕ, ℤ, min, Bool, true, false, not, List, [], ◌∷◌, ◌++◌, map, pos, Option, Some, None}
+use Rattle.std.specs.List.{filter, flat_map}
+use Rattle.fx_base.specs.declared.kind.Kind.{Kind}
+use Rattle.fx_base.specs.declared.kind.Kind.TheVariants as kind
+use Rattle.fx_base.specs.declared.value.Value.{Value}
+use Rattle.fx_base.specs.declared.value.Value.TheVariants as value
+use Rattle.drl_lex.specs.declared.token.Rel.{Rel}
+use Rattle.drl_lex.specs.declared.token.Rel.TheVariants as rel
+use Rattle.drl_expr.specs.declared.literal.LitTree.{LitTree}
+use Rattle.drl_expr.specs.declared.literal.LitTree.TheVariants as literal
+use Rattle.drl_expr.specs.Tree.{Tree, lit, var, var_field, neg, add, sub, mul}
+use Rattle.drl_grammar.specs.declared.action.ActTree.{ActTree}
+use Rattle.drl_grammar.specs.declared.action.ActTree.TheVariants as act
+use Rattle.drl_grammar.specs.declared.condition.CondTree.{CondTree}
+use Rattle.drl_grammar.specs.declared.condition.CondTree.TheVariants as tree
+use Rattle.drl_grammar.specs.declared.condition.SourceTree.{SourceTree}
+use Rattle.drl_grammar.specs.declared.condition.Part.{Part}
+use Rattle.drl_grammar.specs.declared.condition.Part.TheVariants as part
+use Rattle.drl_grammar.specs.declared.condition.Cmp.{Cmp}
+use Rattle.drl_grammar.specs.declared.condition.Cmp.TheVariants as cmp
+use Rattle.drl_grammar.specs.declared.condition.Operand.{Operand}
+use Rattle.drl_grammar.specs.declared.condition.Operand.TheVariants as operand
+use Rattle.drl_grammar.specs.declared.file.Attr.{Attr}
+use Rattle.drl_grammar.specs.declared.file.Attr.TheVariants as attr
+use Rattle.drl_grammar.specs.declared.file.File.{File}
+use Rattle.drl_grammar.specs.declared.file.Item.{Item}
+use Rattle.drl_grammar.specs.declared.file.TypeTree.{TypeTree}
+use Rattle.drl_grammar.specs.declared.file.RuleTree.{RuleTree}
+use Rattle.rule_model.specs.Expressions.{Expression, bound}
+use Rattle.rule_model.specs.Expressions as expression
+use Rattle.rule_model.specs.declared.action.Action.{Action}
+use Rattle.rule_model.specs.declared.action.Action.TheVariants.{Insert, Modify, Retract}
+use Rattle.rule_model.specs.declared.program.Program.{Program}
+use Rattle.rule_model.specs.declared.program.TypeInfo.{TypeInfo}
+use Rattle.rule_model.specs.declared.program.Rule.{Rule}
+use Rattle.rule_model.specs.declared.condition.Condition.{Condition}
+use Rattle.rule_model.specs.declared.condition.Condition.TheVariants.{Plain}
+use Rattle.rule_model.specs.declared.condition.Pattern.{Pattern}
+use Rattle.rule_model.specs.declared.test.Test.{Test}
+use Rattle.rule_model.specs.declared.test.Compare.{Compare}
+use Rattle.rule_model.specs.declared.test.RelTag.{RelTag}
+use Rattle.rule_model.specs.declared.test.RelTag.TheVariants as tag
+use Rattle.rule_model.specs.declared.test.Side.{Side}
+use Rattle.rule_model.specs.declared.test.Side.TheVariants.{Lit, Own, Of}
+use Rattle.drl_sight.specs.Names.{place_of}
+use Rattle.drl_sight.specs.Declarations.{types_of, rules_of, type_names, field_names, type_named, kind_of}
+use Rattle.drl_sight.specs.Sight.{Sight, Meaning, of_fact, of_field, meaning_of, Place, begin, behind, sight_of_actions}
+use Rattle.drl_sight.specs.Operands.{any_of_part}
+
+-- a place as a number of 8 or 16 bits
+abbrev pub small_place : Option ℕ → ℕ
+small_place None = 0
+small_place (Some k) = min k 255
+
+abbrev pub type_place : Option ℕ → ℕ
+type_place None = 0
+type_place (Some k) = min k 65535
+
+abbrev pub field_place : TypeTree → List ℕ → ℕ
+field_place t f = small_place (place_of (field_names t) f)
+
+-- ---- types
+
+-- a kind word that is none of the seven, which no accepted file has, counts as whole numbers
+abbrev pub kind_or_int : Option Kind → Kind
+kind_or_int None = kind.Int
+kind_or_int (Some k) = k
+
+abbrev pub field_info : List ℕ × List ℕ → List ℕ × Kind
+field_info field = (field.0, kind_or_int (kind_of field.1))
+
+abbrev pub type_info : TypeTree → TypeInfo
+type_info t = record { name = t.name; fields = map field_info t.fields }
+
+-- ---- tests
+
+abbrev pub rel_tag : Rel → RelTag
+rel_tag rel.Equal = tag.Equal
+rel_tag rel.NotEqual = tag.NotEqual
+rel_tag rel.Less = tag.Less
+rel_tag rel.LessOrEqual = tag.LessOrEqual
+rel_tag rel.Greater = tag.Greater
+rel_tag rel.GreaterOrEqual = tag.GreaterOrEqual
+
+abbrev pub literal_value : LitTree → Value
+literal_value (literal.Int n) = value.Int n
+literal_value (literal.Bool b) = value.Bool b
+literal_value (literal.Text s) = value.Text s
+
+abbrev pub variable_side : Option Meaning → Side
+variable_side (Some (of_field fact field k)) = Of (min fact 255) (min field 255)
+variable_side m = Own 0
+
+abbrev pub variable_field_side : Option Meaning → List ℕ → Side
+variable_field_side (Some (of_fact fact t)) f = Of (min fact 255) (field_place t f)
+variable_field_side m f = Own 0
+
+abbrev pub side_of : TypeTree → Sight → Operand → Side
+side_of t sight (operand.Lit l) = Lit (literal_value l)
+side_of t sight (operand.Own f) = Own (field_place t f)
+side_of t sight (operand.Var v) = variable_side (meaning_of sight v)
+side_of t sight (operand.VarField v f) = variable_field_side (meaning_of sight v) f
+
+abbrev pub compare_of : TypeTree → Sight → Cmp → Compare
+compare_of t sight (cmp.Rel f r o) = record { field = field_place t f; rel = rel_tag r; against = side_of t sight o ∷ [] }
+compare_of t sight (cmp.OneOf f os) = record { field = field_place t f; rel = tag.OneOf; against = map (side_of t sight) os }
+
+abbrev pub test_of : TypeTree → Sight → List (List Cmp) → Test
+test_of t sight groups = record { choices = map (λ (group : List Cmp). map (compare_of t sight) group) groups }
+
+-- the test that a part is, where it is one
+abbrev pub tests_in : TypeTree → Sight → Part → List Test
+tests_in t sight (part.AnyOf groups) = test_of t sight groups ∷ []
+tests_in t sight p = []
+
+abbrev pub is_variable : Operand → Bool
+is_variable (operand.Var v) = true
+is_variable (operand.VarField v f) = true
+is_variable o = false
+
+-- a test that names a variable is no constant one
+abbrev pub is_joined : Part → Bool
+is_joined p = any_of_part is_variable p
+
+abbrev pub is_constant : Part → Bool
+is_constant p = not (is_joined p)
+
+-- ---- rules
+
+abbrev pub pattern_in : TypeTree → ℕ → Sight → SourceTree → Pattern
+pattern_in t ty sight s = record {
+  ty = record { 0 = ty };
+  alone = flat_map (tests_in t sight) (filter is_constant s.parts);
+  joined = flat_map (tests_in t sight) (filter is_joined s.parts);
+}
+
+abbrev pub no_type : TypeTree
+no_type = record { name = []; metas = []; fields = [] }
+
+abbrev pub type_or_none : Option TypeTree → TypeTree
+type_or_none None = no_type
+type_or_none (Some t) = t
+
+abbrev pub pattern_of : List TypeTree → Sight → SourceTree → Pattern
+pattern_of types sight s = pattern_in (type_or_none (type_named types s.ty)) (type_place (place_of (type_names types) s.ty)) sight s
+
+abbrev pub condition_of : List TypeTree → Place → CondTree → List Condition
+condition_of types place (tree.Plain s) = Plain (pattern_of types place.sight s) ∷ []
+condition_of types place c = []
+
+unfoldable pub conditions_of : List TypeTree → Place → List CondTree → List Condition
+conditions_of types place [] = []
+conditions_of types place (c ∷ cs) = condition_of types place c ++ conditions_of types (behind types place c) cs
+
+-- ---- actions, given what is in sight behind all conditions
+
+abbrev pub variable_value : Option Meaning → Expression
+variable_value (Some (of_field fact field k)) = bound (min fact 255) (min field 255)
+variable_value m = expression.lit (value.Int (pos 0))
+
+abbrev pub variable_field_value : Option Meaning → List ℕ → Expression
+variable_field_value (Some (of_fact fact t)) f = bound (min fact 255) (field_place t f)
+variable_field_value m f = expression.lit (value.Int (pos 0))
+
+abbrev pub expression_in : Sight → Tree → Expression
+expression_in sight (lit l) = expression.lit (literal_value l)
+expression_in sight (var v) = variable_value (meaning_of sight v)
+expression_in sight (var_field v f) = variable_field_value (meaning_of sight v) f
+expression_in sight (neg a) = expression.neg (expression_in sight a)
+expression_in sight (add a b) = expression.add (expression_in sight a) (expression_in sight b)
+expression_in sight (sub a b) = expression.sub (expression_in sight a) (expression_in sight b)
+expression_in sight (mul a b) = expression.mul (expression_in sight a) (expression_in sight b)
+
+-- the number of the fact that a variable means, and its type
+abbrev pub fact_meant : Option Meaning → ℕ
+fact_meant (Some (of_fact fact t)) = min fact 255
+fact_meant m = 0
+
+abbrev pub type_meant : Option Meaning → TypeTree
+type_meant (Some (of_fact fact t)) = t
+type_meant m = no_type
+
+abbrev pub set_in : TypeTree → Sight → List ℕ × Tree → ℕ × Expression
+set_in t sight set = (field_place t set.0, expression_in sight set.1)
+
+abbrev pub action_of : List TypeTree → Sight → ActTree → Action
+action_of types sight (act.Insert ty args) = Insert (record { 0 = type_place (place_of (type_names types) ty) }) (map (expression_in sight) args)
+action_of types sight (act.Modify v sets) = Modify (fact_meant (meaning_of sight v)) (map (set_in (type_meant (meaning_of sight v)) sight) sets)
+action_of types sight (act.Retract v) = Retract (fact_meant (meaning_of sight v))
+
+-- the salience that is written, or 0
+abbrev pub salience_with : Attr → ℤ → ℤ
+salience_with (attr.Salience n) others = n
+salience_with (attr.Dialect s) others = others
+
+abbrev pub salience_of : List Attr → ℤ
+salience_of [] = pos 0
+salience_of (a ∷ attrs) = salience_with a (salience_of attrs)
+
+abbrev pub rule_of : List TypeTree → RuleTree → Rule
+rule_of types r = record { name = r.name; salience = salience_of r.attrs; conditions = conditions_of types begin r.conditions; actions = map (action_of types (sight_of_actions types r.conditions)) r.actions }
+
+-- given the types of the file
+abbrev pub program_with : List TypeTree → List Item → Program
+program_with types items = record { types = map type_info (types_of items); rules = map (rule_of types) (rules_of items) }
+
+abbrev pub program_of : File → Program
+program_of file = program_with (types_of file.items) file.items

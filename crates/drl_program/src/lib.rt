@@ -1,0 +1,10 @@
+//! From the trees of a rule file to its program.
+//! It takes any trees of the grammar: a name that is not declared, which no accepted file has, counts as the first.
+#![tactic(auto)]
+
+mod actions_of;
+mod numbers;
+mod programs;
+mod tests_of;
+
+pub use programs::program;

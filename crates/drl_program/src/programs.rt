@@ -1,0 +1,195 @@
+ghost use Rattle.std.specs.Prelude.{◌≡◌, ◌++◌, List, map, Some, IfOk, OnOk};
+ghost use Rattle.drl_sight.specs.Declarations.{types_of, rules_of};
+ghost use Rattle.drl_program.specs.Programs.{type_place, kind_or_int, field_info, type_info, pattern_in, no_type, pattern_of, condition_of, conditions_of, salience_of, rule_of, program_with};
+ghost use Rattle.drl_sight.specs.Sight.{begin};
+
+use drl_sight::{Declared, DeclaredType, kind_of_word};
+use drl_sight::Place;
+use crate::tests_of::{constant_tests, joined_tests};
+use drl_grammar::{Attr, Body, CondTree, Item, RuleTree, SourceTree, TypeTree};
+use fx_base::{Copies, Kind, NoMemory, Seq, Text, TypeId};
+use rule_model::{Condition, Pattern, Program, Rule, TypeInfo};
+use std::alloc::Global;
+
+// ---- types
+
+fn info_of_field(alloc: Global, field: &(Text, Text)) -> Result<(Text, Kind), NoMemory>
+    ensures { IfOk result (λ info. info ≡ field_info field.now) }
+{
+    let kind = match kind_of_word(&field.1) {
+        Some(kind) => kind,
+        None => Kind::Int,
+    };
+    Ok((field.0.copy(alloc)?, kind))
+}
+
+fn infos_of_fields(alloc: Global, fields: &[(Text, Text)]) -> Result<Seq<(Text, Kind)>, NoMemory>
+    ensures { IfOk result (λ infos. infos ≡ map field_info fields.now) }
+{
+    let mut infos = Vec::with_capacity(alloc, fields.len())?;
+    for field in fields {
+        infos.push(info_of_field(alloc, field)?)?;
+    }
+    Ok(Seq::from_vec(infos))
+}
+
+fn info_of_type(alloc: Global, tree: &TypeTree) -> Result<TypeInfo, NoMemory>
+    ensures { IfOk result (λ info. info ≡ type_info tree.now) }
+{
+    Ok(TypeInfo {
+        name: tree.name.copy(alloc)?,
+        fields: infos_of_fields(alloc, tree.fields.as_slice())?,
+    })
+}
+
+fn infos_of_types(alloc: Global, items: &[Item]) -> Result<Seq<TypeInfo>, NoMemory>
+    ensures { IfOk result (λ infos. infos ≡ map type_info (types_of items.now)) }
+{
+    let mut infos = Vec::new(alloc);
+    for item in items {
+        match &item.body {
+            Body::Declare(tree) => infos.push(info_of_type(alloc, tree)?)?,
+            _ => {}
+        }
+    }
+    Ok(Seq::from_vec(infos))
+}
+
+// ---- patterns
+
+fn type_number(place: Option<usize>) -> u16
+    ensures { result ≡ type_place place }
+{
+    match place {
+        Some(place) => place.min(65_535) as u16,
+        None => 0,
+    }
+}
+
+fn pattern_over(
+    alloc: Global,
+    ty: &DeclaredType,
+    number: u16,
+    place: &Place,
+    source: &SourceTree,
+) -> Result<Pattern, NoMemory>
+    ensures { IfOk result (λ pattern. pattern ≡ pattern_in ty.now number place.now.sight source.now) }
+{
+    Ok(Pattern {
+        ty: TypeId(number),
+        alone: constant_tests(alloc, ty, place, source.parts.as_slice())?,
+        joined: joined_tests(alloc, ty, place, source.parts.as_slice())?,
+    })
+}
+
+// A type without fields, which stands where the type is not declared.
+fn fieldless(alloc: Global) -> Result<TypeTree, NoMemory>
+    ensures { IfOk result (λ tree. tree ≡ no_type) }
+{
+    Ok(TypeTree {
+        name: Text::new(alloc, "")?,
+        metas: Seq::from_vec(Vec::new(alloc)),
+        fields: Seq::from_vec(Vec::new(alloc)),
+    })
+}
+
+fn pattern(
+    alloc: Global,
+    types: &Declared,
+    place: &Place,
+    source: &SourceTree,
+) -> Result<Pattern, NoMemory>
+    ensures { IfOk result (λ pattern. pattern ≡ pattern_of types.now place.now.sight source.now) }
+{
+    let number = type_number(types.place(&source.ty));
+    match types.find(&source.ty) {
+        Some(ty) => pattern_over(alloc, ty, number, place, source),
+        None => {
+            let tree = fieldless(alloc)?;
+            let ty = DeclaredType::of(alloc, &tree)?;
+            pattern_over(alloc, &ty, number, place, source)
+        }
+    }
+}
+
+// ---- rules
+
+fn add_condition(
+    alloc: Global,
+    conditions: &mut Vec<Condition>,
+    types: &Declared,
+    place: &Place,
+    tree: &CondTree,
+) -> Result<(), NoMemory>
+    ensures { OnOk result (conditions.new.items ≡ conditions.old.items ++ condition_of types.now place.now tree.now) }
+{
+    match tree {
+        CondTree::Plain(source) => {
+            conditions.push(Condition::Plain(pattern(alloc, types, place, source)?))?;
+            Ok(())
+        }
+        _ => Ok(()),
+    }
+}
+
+#[tactic(auto, unfolding(crate::specs::Programs::conditions_of))]
+fn conditions(
+    alloc: Global,
+    types: &Declared,
+    trees: &[CondTree],
+) -> Result<Seq<Condition>, NoMemory>
+    ensures { IfOk result (λ conditions. conditions ≡ conditions_of types.now begin trees.now) }
+{
+    let mut conditions = Vec::with_capacity(alloc, trees.len())?;
+    let mut place = Place::begin(alloc);
+    for tree in trees {
+        add_condition(alloc, &mut conditions, types, &place, tree)?;
+        place = place.behind(alloc, types, tree)?;
+    }
+    Ok(Seq::from_vec(conditions))
+}
+
+fn salience(attrs: &[Attr]) -> i64
+    ensures { result ≡ salience_of attrs.now }
+{
+    for attr in attrs {
+        match attr {
+            Attr::Salience(number) => return *number,
+            Attr::Dialect(_) => {}
+        }
+    }
+    0
+}
+
+fn rule(alloc: Global, types: &Declared, tree: &RuleTree) -> Result<Rule, NoMemory>
+    ensures { IfOk result (λ rule. rule ≡ rule_of types.now tree.now) }
+{
+    Ok(Rule {
+        name: tree.name.copy(alloc)?,
+        salience: salience(tree.attrs.as_slice()),
+        conditions: conditions(alloc, types, tree.conditions.as_slice())?,
+    })
+}
+
+fn rules(alloc: Global, types: &Declared, items: &[Item]) -> Result<Seq<Rule>, NoMemory>
+    ensures { IfOk result (λ rules. rules ≡ map (rule_of types.now) (rules_of items.now)) }
+{
+    let mut rules = Vec::new(alloc);
+    for item in items {
+        match &item.body {
+            Body::Rule(tree) => rules.push(rule(alloc, types, tree)?)?,
+            _ => {}
+        }
+    }
+    Ok(Seq::from_vec(rules))
+}
+
+/// The program of the items of a file, whose types these are.
+pub fn program(alloc: Global, types: &Declared, items: &[Item]) -> Result<Program, NoMemory>
+    ensures { IfOk result (λ program. program ≡ program_with types.now items.now) }
+{
+    Ok(Program {
+        types: infos_of_types(alloc, items)?,
+        rules: rules(alloc, types, items)?,
+    })
+}

@@ -1,0 +1,9 @@
+use Rattle.std.proofs.Common.{◌≡◌, ◌++◌, drop, true}
+use Rattle.drl_sight.specs.Names.{are_distinct}
+use Rattle.drl_check.proofs.names.differ.Given as goal
+
+abbrev pub invariant-loop-name : goal.invariant-loop-name
+invariant-loop-name l = record {
+  parts : l.earlier ++ drop l.name-index l.names ≡ l.names;
+  apart : are_distinct l.earlier ≡ true;
+}

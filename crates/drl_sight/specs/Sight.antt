@@ -1,0 +1,65 @@
+-- The variables that are in sight at a condition of a rule, and what they mean there.
+use Rattle.std.specs.Prelude.{ℕ, ◌+◌, List, [], ◌∷◌, ◌++◌, Option, Some, None, if◌then◌else◌}
+use Rattle.std.specs.List.{flat_map}
+use Rattle.std.specs.Str.{bytes_eq}
+use Rattle.fx_base.specs.declared.kind.Kind.{Kind}
+use Rattle.drl_grammar.specs.declared.condition.CondTree.{CondTree}
+use Rattle.drl_grammar.specs.declared.condition.CondTree.TheVariants as condition
+use Rattle.drl_grammar.specs.declared.condition.SourceTree.{SourceTree}
+use Rattle.drl_grammar.specs.declared.condition.Part.{Part}
+use Rattle.drl_grammar.specs.declared.condition.Part.TheVariants as part
+use Rattle.drl_grammar.specs.declared.file.TypeTree.{TypeTree}
+use Rattle.drl_sight.specs.Names.{place_of}
+use Rattle.drl_sight.specs.Declarations.{type_named, field_names, kind_at}
+
+-- what a variable means: the fact of a positive pattern, by its number and its type, or a field of such a fact, by its place
+pub data Meaning : Type 0 where
+  of_fact : (fact : ℕ) → TypeTree → Meaning
+  of_field : (fact field : ℕ) → Option Kind → Meaning
+
+-- variables with their meanings
+abbrev pub Sight : Type 0
+Sight = List (List ℕ × Meaning)
+
+-- what the first variable of this name means
+unfoldable pub meaning_of : Sight → List ℕ → Option Meaning
+meaning_of [] name = None
+meaning_of (x ∷ sight) name = if bytes_eq x.0 name then Some x.1 else meaning_of sight name
+
+abbrev pub seen_fact : ℕ → TypeTree → Option (List ℕ) → Sight
+seen_fact fact t None = []
+seen_fact fact t (Some v) = (v, of_fact fact t) ∷ []
+
+abbrev pub seen_field : ℕ → TypeTree → List ℕ → Option ℕ → Sight
+seen_field fact t v None = []
+seen_field fact t v (Some k) = (v, of_field fact k (kind_at t k)) ∷ []
+
+abbrev pub seen_in : ℕ → TypeTree → Part → Sight
+seen_in fact t (part.Bind v f) = seen_field fact t v (place_of (field_names t) f)
+seen_in fact t p = []
+
+-- what a positive pattern, whose fact has this number, brings into sight
+abbrev pub seen_of : ℕ → SourceTree → Option TypeTree → Sight
+seen_of fact s None = []
+seen_of fact s (Some t) = seen_fact fact t s.var ++ flat_map (seen_in fact t) s.parts
+
+-- what is in sight behind a condition, and the number of the next fact
+pub record Place : Type 0 where
+  pub sight : Sight
+  pub facts : ℕ
+
+abbrev pub begin : Place
+begin = record { sight = []; facts = 0 }
+
+-- variables inside not, exists and accumulate are in sight nowhere else
+abbrev pub behind : List TypeTree → Place → CondTree → Place
+behind types place (condition.Plain s) = record { sight = place.sight ++ seen_of place.facts s (type_named types s.ty); facts = place.facts + 1 }
+behind types place c = place
+
+-- what is in sight behind all conditions, which is what actions see
+unfoldable pub behind_all : List TypeTree → Place → List CondTree → Place
+behind_all types place [] = place
+behind_all types place (c ∷ cs) = behind_all types (behind types place c) cs
+
+abbrev pub sight_of_actions : List TypeTree → List CondTree → Sight
+sight_of_actions types cs = (behind_all types begin cs).sight

@@ -1,0 +1,15 @@
+//! What a rule file declares, and which variables are in sight where: names with their places, types, and meanings.
+//! It takes any trees of the grammar, and assumes nothing of them.
+#![tactic(auto)]
+
+mod declared;
+mod names;
+mod operands;
+mod places;
+mod sight;
+
+pub use declared::{Declared, DeclaredType, kind_of_word, names_of_fields};
+pub use names::{differ, has_at_most};
+pub use operands::{LeafTest, OperandTest, some_leaf, some_operand};
+pub use places::Places;
+pub use sight::{Meaning, Place, Seen};
