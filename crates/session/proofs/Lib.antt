@@ -3,3 +3,6 @@ pub mod Rules
 pub mod Reordered
 pub mod Stands
 pub mod Tried
+pub mod Versions
+pub mod Firings
+pub mod Sessions

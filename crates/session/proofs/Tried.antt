@@ -45,6 +45,10 @@ pub on_ok : {T E P : Type 0} (r : Result T E) → P → OnOk r P
 on_ok (Ok x) p = p
 on_ok (Err e) p = tt
 
+pub nothing_left : {A : Type 0} (xs : List A) (n : ℕ) → n ≡ length xs → n ≡ 0 → xs ≡ []
+nothing_left [] n e z = refl
+nothing_left (x ∷ xs) n e z = absurd (omega arith)
+
 -- ---- steps one after the other
 
 -- some were done, and the world that they lead to has the rest before it
@@ -67,7 +71,7 @@ one_done rules w plan before lines later s t wanted rest f stands written =
     record {
       world = done.1;
       stands = stands f.world f.stands;
-      written = f.written ∙ sym (append_assoc {xs = lines} {ys = done.0} {zs = (does_all rules done.1 rest).0}) ∙ ap (λ z. z ++ (does_all rules done.1 rest).0) (sym (written f.world f.stands));
+      written = f.written ∙ sym (append_assoc lines done.0 (does_all rules done.1 rest).0) ∙ ap (λ z. z ++ (does_all rules done.1 rest).0) (sym (written f.world f.stands));
       left = f.left;
     }
 
