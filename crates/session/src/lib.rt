@@ -3,12 +3,14 @@
 #![tactic(auto)]
 
 mod engine;
+mod firing;
 mod lines;
-mod reading;
+mod refreshing;
 mod session;
-#[cfg(test)]
-mod tests;
+mod state;
+mod steps;
 
+pub use change_read::Code;
 pub use engine::Engine;
-pub use lines::{Cell, Code, Fired, Lines, OutLine};
+pub use lines::{Cell, Fired, Lines, OutLine};
 pub use session::Session;
