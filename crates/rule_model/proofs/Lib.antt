@@ -6,3 +6,7 @@ pub mod Looking
 pub mod Listed
 pub mod Named
 pub mod Once
+pub mod Order
+pub mod Ids
+pub mod Fresh
+pub mod Steps

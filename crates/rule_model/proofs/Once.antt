@@ -19,7 +19,7 @@ use Rattle.rule_model.proofs.Named.{AllOf, of_filter, made_of}
 -- ---- tags settle a row
 
 -- two facts of the list with one tag are the same
-one_fact : (facts : List Fact) → HaveDistinctTags facts → (f g : Fact) → In f facts → In g facts → f.tag ≡ g.tag → f ≡ g
+pub one_fact : (facts : List Fact) → HaveDistinctTags facts → (f g : Fact) → In f facts → In g facts → f.tag ≡ g.tag → f ≡ g
 one_fact [] d f g i j e = absurd i
 one_fact (x ∷ facts) d f g (inl a) (inl b) e = a ∙ sym b
 one_fact (x ∷ facts) d f g (inl a) (inr b) e =
@@ -61,7 +61,7 @@ tags_settle facts d rule a b is also e =
 
 -- ---- each row stands once
 
-once_append : {A : Type 0} (xs ys : List A) → EachOnce xs → EachOnce ys → ((x : A) → In x xs → In x ys → ⊥) → EachOnce (xs ++ ys)
+pub once_append : {A : Type 0} (xs ys : List A) → EachOnce xs → EachOnce ys → ((x : A) → In x xs → In x ys → ⊥) → EachOnce (xs ++ ys)
 once_append [] ys a b h = b
 once_append (x ∷ xs) ys a b h = (λ i. fresh (of_append x xs ys i), once_append xs ys a.1 b (λ z i j. h z (inr i) j))
   where
@@ -78,14 +78,14 @@ once_filter test [] o = o
 once_filter test (x ∷ xs) o = once_if (test x) x (filter test xs) (λ i. o.0 (of_filter test x xs i)) (once_filter test xs o.1)
 
 -- what is mapped to different members stands once
-once_map : {A B : Type 0} (g : A → B) (xs : List A) → EachOnce xs → ((x y : A) → In x xs → In y xs → g x ≡ g y → x ≡ y) → EachOnce (map g xs)
+pub once_map : {A B : Type 0} (g : A → B) (xs : List A) → EachOnce xs → ((x y : A) → In x xs → In y xs → g x ≡ g y → x ≡ y) → EachOnce (map g xs)
 once_map g [] o h = o
 once_map {A} {B} g (x ∷ xs) o h = (λ i. fresh (of_map g (g x) xs i), once_map g xs o.1 (λ a b i j. h a b (inr i) (inr j)))
   where
     fresh : (y : A) × In y xs × (g y ≡ g x) → ⊥
     fresh q = o.0 (subst (λ (z : A). In z xs) (h q.0 x (inr q.1) (inl refl) q.2) q.1)
 
-once_facts : (facts : List Fact) → HaveDistinctTags facts → EachOnce facts
+pub once_facts : (facts : List Fact) → HaveDistinctTags facts → EachOnce facts
 once_facts [] d = d
 once_facts (f ∷ facts) d = (λ i. d.0 (in_map (λ (y : Fact). y.tag) f facts i), once_facts facts d.1)
 

@@ -1,5 +1,5 @@
 -- What comes with one fact more.
-use Rattle.std.specs.Prelude.{◌≡◌, ◌==◌, ◌⊎◌, ◌↔◌, ◌&&◌, not, Bool, List, [], ◌∷◌, ◌++◌, Option, Some, None}
+use Rattle.std.specs.Prelude.{◌≡◌, ◌==◌, ◌⊎◌, ◌↔◌, ◌&&◌, not, Bool, false, List, [], ◌∷◌, ◌++◌, Option, Some, None}
 use Rattle.std.specs.List.{list_any}
 use Rattle.fx_base.specs.declared.fact.Fact.{Fact}
 use Rattle.fx_base.specs.declared.ids.Tag.{Tag}
@@ -34,3 +34,8 @@ pub record IsDifference (old new : List Row) (d : Delta) : Type 0 where
 abbrev pub behind : List Fact → Option Fact → List Fact
 behind facts None = facts
 behind facts (Some f) = facts ++ f ∷ []
+
+-- the row names the fact, if there is one
+abbrev pub names_added : Option Fact → Row → Bool
+names_added None row = false
+names_added (Some f) row = names_tag f.tag row

@@ -4,12 +4,12 @@
 #![tactic(auto)]
 
 mod bindings;
-mod difference;
+mod changing;
 mod finding;
 mod growing;
 #[cfg(test)]
 mod tests;
 
-pub use difference::difference;
+pub use changing::difference;
 pub use finding::rows_of;
 pub use growing::rows_with;

@@ -1,4 +1,4 @@
-use crate::{rows_of, rows_with};
+use crate::{difference, rows_of, rows_with};
 use fx_base::{EntryId, Fact, FactId, NoMemory, Seq, Tag, Text, Times, TypeId, Value};
 use row_delta::Row;
 use rule_model::{Compare, Condition, Pattern, RelTag, Rule, Side, Test};
@@ -41,6 +41,7 @@ fn rule(alloc: Global, conditions: Vec<Condition>) -> Result<Rule, NoMemory> {
         name: Text::new(alloc, "j")?,
         salience: 0,
         conditions: Seq::from_vec(conditions),
+        actions: Seq::from_vec(Vec::new(alloc)),
     })
 }
 
@@ -147,5 +148,22 @@ fn rows_are_found(rt: HostRuntime) -> Result<(), Fail> {
     for (rule, given, want) in rows {
         assert_eq!(rt; found(alloc, rule, given)?.as_str(), want);
     }
+    Ok(())
+}
+
+// An M is revised: it leaves the K of key 1 for the K of key 2.
+#[test]
+fn differences_are_found(rt: HostRuntime) -> Result<(), Fail> {
+    let alloc = rt.alloc();
+    let rule = join(alloc)?;
+    let others = vec![in alloc; fact(alloc, 1, K, (1, 0))?, fact(alloc, 2, K, (2, 0))?]?;
+    let before = fact(alloc, 3, M, (1, 0))?;
+    let after = fact(alloc, 4, M, (2, 0))?;
+    let delta = difference(alloc, &others, Some(&before), Some(&after), &rule)?;
+    let mut text = String::new(alloc);
+    push_rows(alloc, &mut text, delta.gone.as_slice())?;
+    text.push_str("/ ")?;
+    push_rows(alloc, &mut text, delta.come.as_slice())?;
+    assert_eq!(rt; text.as_str(), "#1#3 / #2#4 ");
     Ok(())
 }
