@@ -35,11 +35,11 @@ pub(crate) fn insert_unknown(types: &Declared, actions: &[ActTree]) -> bool
 
 // A leaf that names a field which the type of the variable's fact does not have.
 #[derive(Drop)]
-struct Lacking<'p, 'a, 'b> {
-    place: &'p Place<'a, 'b>,
+struct Lacking<'p> {
+    place: &'p Place<'p, 'p>,
 }
 
-impl<'p, 'a, 'b> LeafTest for Lacking<'p, 'a, 'b> {
+impl<'p> LeafTest for Lacking<'p> {
     ghost use Rattle.drl_check.specs.Uses.{leaf_lacks};
 
     ghost test = { λ s. leaf_lacks s.place.now.sight };
@@ -76,7 +76,7 @@ pub(crate) fn lacks_field_in(place: &Place, action: &ActTree) -> bool
 
 // ---- variables
 
-impl<'p, 'a, 'b> LeafTest for Unseen<'p, 'a, 'b> {
+impl<'p> LeafTest for Unseen<'p> {
     ghost use Rattle.drl_check.specs.Uses.{leaf_unseen};
 
     ghost test = { λ s. leaf_unseen s.place.now.sight };

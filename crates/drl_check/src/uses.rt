@@ -127,11 +127,11 @@ pub(crate) fn lacks_field(types: &Declared, place: &Place, condition: &CondTree)
 
 /// An operand, or a leaf of an expression, that names a variable which is not in sight.
 #[derive(Drop)]
-pub(crate) struct Unseen<'p, 'a, 'b> {
-    pub(crate) place: &'p Place<'a, 'b>,
+pub(crate) struct Unseen<'p> {
+    pub(crate) place: &'p Place<'p, 'p>,
 }
 
-impl<'p, 'a, 'b> OperandTest for Unseen<'p, 'a, 'b> {
+impl<'p> OperandTest for Unseen<'p> {
     ghost use Rattle.drl_check.specs.Uses.{operand_unseen};
 
     ghost test = { λ s. operand_unseen s.place.now.sight };
