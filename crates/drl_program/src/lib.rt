@@ -6,5 +6,6 @@ mod actions_of;
 mod numbers;
 mod programs;
 mod tests_of;
+mod undeclared;
 
 pub use programs::program;

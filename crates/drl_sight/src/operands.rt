@@ -15,6 +15,7 @@ pub trait OperandTest {
 
     ghost test: { Self → Operand → Bool };
 
+    /// Whether the test holds of an operand.
     fn holds(&self, operand: &Operand) -> bool
         ensures { result ≡ test self.now operand.now };
 }
@@ -26,6 +27,7 @@ pub trait LeafTest {
 
     ghost test: { Self → Tree → Bool };
 
+    /// Whether the test holds of a leaf.
     fn holds(&self, leaf: &ExprTree) -> bool
         ensures { result ≡ test self.now leaf.now };
 }
