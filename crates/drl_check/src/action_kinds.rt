@@ -83,8 +83,7 @@ fn do_args_misfit(place: &Place, fields: &[(Text, Text)], args: &[ExprTree]) -> 
 fn do_sets_misfit(ty: &DeclaredType, place: &Place, sets: &[(Text, ExprTree)]) -> bool
     ensures { result ≡ list_any (λ (set : List ℕ × Tree). set_misfits (field_kind ty.now set.0) (tree_kind place.now.sight set.1)) sets.now }
 {
-    sets.iter()
-        .any(|set| does_set_misfit(ty.kind_of(&set.0), kind_of_tree(place, &set.1)))
+    sets.iter().any(|set| does_set_misfit(ty.kind_of(&set.0), kind_of_tree(place, &set.1)))
 }
 
 fn does_modify_misfit(meaning: &Meaning, place: &Place, sets: &[(Text, ExprTree)]) -> bool

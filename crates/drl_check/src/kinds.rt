@@ -45,7 +45,11 @@ pub(crate) fn kind_of_variable(place: &Place, var: &Text) -> Option<Option<Kind>
 }
 
 /// The kind of a field of a variable that is a fact.
-pub(crate) fn kind_of_variable_field(place: &Place, var: &Text, field: &Text) -> Option<Option<Kind>>
+pub(crate) fn kind_of_variable_field(
+    place: &Place,
+    var: &Text,
+    field: &Text,
+) -> Option<Option<Kind>>
     ensures { result ≡ variable_field_kind (meaning_of place.now.sight var.now) field.now }
 {
     match place.find(var) {
