@@ -1,6 +1,12 @@
-// from sight.rt
+ghost use Rattle.std.specs.Prelude.{◌≡◌, Some};
+ghost use Rattle.drl_program.specs.Programs.{small_place, type_place, field_place, fact_meant, variable_side, variable_field_side};
+
+use drl_sight::{DeclaredType, Meaning, Seen};
+use fx_base::Text;
+use rule_model::Side;
+
 /// A place as a number of 8 bits. It stands still at 255; an accepted file has none beyond 31.
-pub fn small(place: Option<usize>) -> u8
+pub(crate) fn small(place: Option<usize>) -> u8
     ensures { result ≡ small_place place }
 {
     match place {
@@ -9,31 +15,55 @@ pub fn small(place: Option<usize>) -> u8
     }
 }
 
-impl<'a, 'b> Meaning<'a, 'b> {
-    /// What a comparison with it is against, where it is a value.
-    pub fn side(&self) -> Side
-        ensures { result ≡ variable_side (Some self.now) }
-    {
-        match self.seen {
-            Seen::Fact { .. } => Side::Own(0),
-            Seen::Field { fact, field, .. } => Side::Of {
-                fact: small(Some(fact)),
-                field: small(Some(field)),
-            },
-        }
-    }
-
-    /// What a comparison with a field of it is against, where it is a fact.
-    pub fn side_of(&self, field: &Text) -> Side
-        ensures { result ≡ variable_field_side (Some self.now) field.now }
-    {
-        match self.seen {
-            Seen::Fact { fact, ty } => Side::Of {
-                fact: small(Some(fact)),
-                field: small(ty.find(field)),
-            },
-            Seen::Field { .. } => Side::Own(0),
-        }
+/// The place of a type as a number of 16 bits. It stands still at 65,535.
+pub(crate) fn type_number(place: Option<usize>) -> u16
+    ensures { result ≡ type_place place }
+{
+    match place {
+        Some(place) => place.min(65_535) as u16,
+        None => 0,
     }
 }
 
+/// The number of a field of a type.
+pub(crate) fn field_number(ty: &DeclaredType, field: &Text) -> u8
+    ensures { result ≡ field_place ty.now field.now }
+{
+    small(ty.find(field))
+}
+
+/// The number of the fact that a variable means.
+pub(crate) fn fact_number(meaning: &Meaning) -> u8
+    ensures { result ≡ fact_meant (Some meaning.now) }
+{
+    match meaning.seen() {
+        Seen::Fact { fact, .. } => small(Some(fact)),
+        Seen::Field { .. } => 0,
+    }
+}
+
+/// What a comparison with a variable is against, where it is a value.
+pub(crate) fn variable_against(meaning: &Meaning) -> Side
+    ensures { result ≡ variable_side (Some meaning.now) }
+{
+    match meaning.seen() {
+        Seen::Fact { .. } => Side::Own(0),
+        Seen::Field { fact, field, .. } => Side::Of {
+            fact: small(Some(fact)),
+            field: small(Some(field)),
+        },
+    }
+}
+
+/// What a comparison with a field of a variable is against, where it is a fact.
+pub(crate) fn variable_field_against(meaning: &Meaning, field: &Text) -> Side
+    ensures { result ≡ variable_field_side (Some meaning.now) field.now }
+{
+    match meaning.seen() {
+        Seen::Fact { fact, ty } => Side::Of {
+            fact: small(Some(fact)),
+            field: field_number(ty, field),
+        },
+        Seen::Field { .. } => Side::Own(0),
+    }
+}

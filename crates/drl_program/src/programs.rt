@@ -1,14 +1,16 @@
 ghost use Rattle.std.specs.Prelude.{◌≡◌, ◌++◌, List, map, Some, IfOk, OnOk};
 ghost use Rattle.drl_sight.specs.Declarations.{types_of, rules_of};
-ghost use Rattle.drl_program.specs.Programs.{type_place, kind_or_int, field_info, type_info, pattern_in, no_type, pattern_of, condition_of, conditions_of, salience_of, rule_of, program_with};
-ghost use Rattle.drl_sight.specs.Sight.{begin};
+ghost use Rattle.drl_program.specs.Programs.{field_info, type_info, pattern_in, pattern_of, condition_of, conditions_of, action_of, salience_of, rule_of, program_with};
+ghost use Rattle.drl_sight.specs.Sight.{begin, behind_all};
 
-use drl_sight::{Declared, DeclaredType, kind_of_word};
-use drl_sight::Place;
+use crate::actions_of::action;
+use crate::numbers::type_number;
 use crate::tests_of::{constant_tests, joined_tests};
-use drl_grammar::{Attr, Body, CondTree, Item, RuleTree, SourceTree, TypeTree};
+use crate::undeclared::fieldless;
+use drl_grammar::{ActTree, Attr, Body, CondTree, Item, RuleTree, SourceTree, TypeTree};
+use drl_sight::{Declared, DeclaredType, Place, kind_of_word};
 use fx_base::{Copies, Kind, NoMemory, Seq, Text, TypeId};
-use rule_model::{Condition, Pattern, Program, Rule, TypeInfo};
+use rule_model::{Action, Condition, Pattern, Program, Rule, TypeInfo};
 use std::alloc::Global;
 
 // ---- types
@@ -57,15 +59,6 @@ fn infos_of_types(alloc: Global, items: &[Item]) -> Result<Seq<TypeInfo>, NoMemo
 
 // ---- patterns
 
-fn type_number(place: Option<usize>) -> u16
-    ensures { result ≡ type_place place }
-{
-    match place {
-        Some(place) => place.min(65_535) as u16,
-        None => 0,
-    }
-}
-
 fn pattern_over(
     alloc: Global,
     ty: &DeclaredType,
@@ -79,17 +72,6 @@ fn pattern_over(
         ty: TypeId(number),
         alone: constant_tests(alloc, ty, place, source.parts.as_slice())?,
         joined: joined_tests(alloc, ty, place, source.parts.as_slice())?,
-    })
-}
-
-// A type without fields, which stands where the type is not declared.
-fn fieldless(alloc: Global) -> Result<TypeTree, NoMemory>
-    ensures { IfOk result (λ tree. tree ≡ no_type) }
-{
-    Ok(TypeTree {
-        name: Text::new(alloc, "")?,
-        metas: Seq::from_vec(Vec::new(alloc)),
-        fields: Seq::from_vec(Vec::new(alloc)),
     })
 }
 
@@ -132,13 +114,15 @@ fn add_condition(
     }
 }
 
-#[tactic(auto, unfolding(crate::specs::Programs::conditions_of))]
-fn conditions(
+// The conditions, and what is in sight behind all of them.
+#[tactic(auto, unfolding(crate::specs::Programs::conditions_of, drl_sight::specs::Sight::behind_all))]
+fn conditions<'a, 'b>(
     alloc: Global,
-    types: &Declared,
+    types: &'a Declared<'b>,
     trees: &[CondTree],
-) -> Result<Seq<Condition>, NoMemory>
-    ensures { IfOk result (λ conditions. conditions ≡ conditions_of types.now begin trees.now) }
+) -> Result<(Seq<Condition>, Place<'a, 'b>), NoMemory>
+    ensures conditions { IfOk result (λ made. made.0 ≡ conditions_of types.now begin trees.now) }
+    ensures place { IfOk result (λ made. made.1 ≡ behind_all types.now begin trees.now) }
 {
     let mut conditions = Vec::with_capacity(alloc, trees.len())?;
     let mut place = Place::begin(alloc);
@@ -146,7 +130,22 @@ fn conditions(
         add_condition(alloc, &mut conditions, types, &place, tree)?;
         place = place.behind(alloc, types, tree)?;
     }
-    Ok(Seq::from_vec(conditions))
+    Ok((Seq::from_vec(conditions), place))
+}
+
+fn actions(
+    alloc: Global,
+    types: &Declared,
+    place: &Place,
+    trees: &[ActTree],
+) -> Result<Seq<Action>, NoMemory>
+    ensures { IfOk result (λ actions. actions ≡ map (action_of types.now place.now.sight) trees.now) }
+{
+    let mut actions = Vec::with_capacity(alloc, trees.len())?;
+    for tree in trees {
+        actions.push(action(alloc, types, place, tree)?)?;
+    }
+    Ok(Seq::from_vec(actions))
 }
 
 fn salience(attrs: &[Attr]) -> i64
@@ -164,10 +163,12 @@ fn salience(attrs: &[Attr]) -> i64
 fn rule(alloc: Global, types: &Declared, tree: &RuleTree) -> Result<Rule, NoMemory>
     ensures { IfOk result (λ rule. rule ≡ rule_of types.now tree.now) }
 {
+    let (conditions, place) = conditions(alloc, types, tree.conditions.as_slice())?;
     Ok(Rule {
         name: tree.name.copy(alloc)?,
         salience: salience(tree.attrs.as_slice()),
-        conditions: conditions(alloc, types, tree.conditions.as_slice())?,
+        conditions,
+        actions: actions(alloc, types, &place, tree.actions.as_slice())?,
     })
 }
 

@@ -1,14 +1,12 @@
-ghost use Rattle.std.specs.Prelude.{◌≡◌, ◌++◌, List, map, Some, IfOk, OnOk};
-ghost use Rattle.std.specs.List.{list_any, filter, flat_map};
-ghost use Rattle.drl_grammar.specs.declared.condition.Cmp.{Cmp};
-ghost use Rattle.drl_program.specs.Programs.{field_place, rel_tag, literal_value, side_of, compare_of, test_of, tests_in, is_variable, is_joined, is_constant};
-ghost use Rattle.drl_sight.specs.Operands.{any_of_cmp};
+ghost use Rattle.std.specs.Prelude.{◌≡◌, ◌++◌, map, IfOk, OnOk};
+ghost use Rattle.std.specs.List.{filter, flat_map};
+ghost use Rattle.drl_program.specs.Programs.{rel_tag, literal_value, side_of, compare_of, test_of, tests_in, is_joined, is_constant};
 
-use drl_sight::DeclaredType;
-use drl_sight::{Place, small};
+use crate::numbers::{field_number, variable_against, variable_field_against};
 use drl_expr::LitTree;
 use drl_grammar::{Cmp, Operand, Part};
 use drl_lex::Rel;
+use drl_sight::{DeclaredType, OperandTest, Place, some_operand};
 use fx_base::{Copies, NoMemory, Seq, Text, Value};
 use rule_model::{Compare, RelTag, Side, Test};
 use std::alloc::Global;
@@ -26,7 +24,8 @@ fn relation(rel: Rel) -> RelTag
     }
 }
 
-fn value(alloc: Global, literal: &LitTree) -> Result<Value, NoMemory>
+/// The value of a literal.
+pub(crate) fn value(alloc: Global, literal: &LitTree) -> Result<Value, NoMemory>
     ensures { IfOk result (λ value. value ≡ literal_value literal.now) }
 {
     match literal {
@@ -34,12 +33,6 @@ fn value(alloc: Global, literal: &LitTree) -> Result<Value, NoMemory>
         LitTree::Bool(truth) => Ok(Value::Bool(*truth)),
         LitTree::Text(text) => Ok(Value::Text(text.copy(alloc)?)),
     }
-}
-
-fn field_number(ty: &DeclaredType, field: &Text) -> u8
-    ensures { result ≡ field_place ty.now field.now }
-{
-    small(ty.find(field))
 }
 
 fn side(
@@ -54,11 +47,11 @@ fn side(
         Operand::Lit(literal) => Ok(Side::Lit(value(alloc, literal)?)),
         Operand::Own(field) => Ok(Side::Own(field_number(ty, field))),
         Operand::Var(var) => match place.find(var) {
-            Some(meaning) => Ok(meaning.side()),
+            Some(meaning) => Ok(variable_against(meaning)),
             None => Ok(Side::Own(0)),
         },
         Operand::VarField(var, field) => match place.find(var) {
-            Some(meaning) => Ok(meaning.side_of(field)),
+            Some(meaning) => Ok(variable_field_against(meaning, field)),
             None => Ok(Side::Own(0)),
         },
     }
@@ -151,54 +144,32 @@ fn add_test(
     }
 }
 
-fn names_variable(operand: &Operand) -> bool
-    ensures { result ≡ is_variable operand.now }
-{
-    match operand {
-        Operand::Var(_) => true,
-        Operand::VarField(_, _) => true,
-        _ => false,
+// Whether an operand is a variable, or a field of one.
+#[derive(Drop)]
+struct NamesVariable;
+
+impl OperandTest for NamesVariable {
+    ghost use Rattle.drl_program.specs.Programs.{is_variable};
+
+    ghost test = { λ _ operand. is_variable operand };
+
+    fn holds(&self, operand: &Operand) -> bool {
+        match operand {
+            Operand::Var(_) => true,
+            Operand::VarField(_, _) => true,
+            _ => false,
+        }
     }
-}
-
-fn is_some_variable(operands: &[Operand]) -> bool
-    ensures { result ≡ list_any is_variable operands.now }
-{
-    operands.iter().any(|operand| names_variable(operand))
-}
-
-fn is_cmp_joined(cmp: &Cmp) -> bool
-    ensures { result ≡ any_of_cmp is_variable cmp.now }
-{
-    match cmp {
-        Cmp::Rel { operand, .. } => names_variable(operand),
-        Cmp::OneOf { operands, .. } => is_some_variable(operands.as_slice()),
-    }
-}
-
-fn is_group_joined(group: &[Cmp]) -> bool
-    ensures { result ≡ list_any (any_of_cmp is_variable) group.now }
-{
-    group.iter().any(|cmp| is_cmp_joined(cmp))
-}
-
-fn is_some_group_joined(groups: &[Seq<Cmp>]) -> bool
-    ensures { result ≡ list_any (λ (group : List Cmp). list_any (any_of_cmp is_variable) group) groups.now }
-{
-    groups.iter().any(|group| is_group_joined(group.as_slice()))
 }
 
 fn is_part_joined(part: &Part) -> bool
     ensures { result ≡ is_joined part.now }
 {
-    match part {
-        Part::AnyOf(groups) => is_some_group_joined(groups.as_slice()),
-        _ => false,
-    }
+    some_operand(&NamesVariable, part)
 }
 
 /// The tests that name no variable.
-pub fn constant_tests(
+pub(crate) fn constant_tests(
     alloc: Global,
     ty: &DeclaredType,
     place: &Place,
@@ -216,7 +187,7 @@ pub fn constant_tests(
 }
 
 /// The tests that name a variable.
-pub fn joined_tests(
+pub(crate) fn joined_tests(
     alloc: Global,
     ty: &DeclaredType,
     place: &Place,

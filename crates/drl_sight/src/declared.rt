@@ -76,12 +76,20 @@ pub fn kind_of_word(word: &Text) -> Option<Kind>
 }
 
 impl<'a> DeclaredType<'a> {
+    /// The declared type that a tree is.
     pub fn of(alloc: Global, tree: &'a TypeTree) -> Result<DeclaredType<'a>, NoMemory>
         ensures { IfOk result (λ t. t ≡ tree.now) }
     {
         let names = names_of_fields(alloc, tree)?;
         let fields = Places::of(alloc, &names)?;
         Ok(DeclaredType { tree, fields })
+    }
+
+    /// Its fields, each with its name and the word of its kind.
+    pub fn fields(&self) -> &[(Text, Text)]
+        ensures { result.now ≡ self.now.fields }
+    {
+        self.tree.fields.as_slice()
     }
 
     /// The place of a field among the fields of the type.
@@ -120,6 +128,7 @@ impl<'a> DeclaredType<'a> {
 }
 
 impl<'a> Declared<'a> {
+    /// The types that the items declare.
     pub fn of(alloc: Global, items: &'a [Item]) -> Result<Declared<'a>, NoMemory>
         ensures { IfOk result (λ d. d ≡ types_of items.now) }
     {

@@ -26,6 +26,7 @@ impl Model for Places {
 }
 
 impl Places {
+    /// No names. Takes no memory.
     pub fn new(alloc: Global) -> Places
         ensures { result ≡ [] }
     {
@@ -35,6 +36,7 @@ impl Places {
         }
     }
 
+    /// The names of a slice, in its order.
     pub fn of(alloc: Global, names: &[Text]) -> Result<Places, NoMemory>
         ensures { IfOk result (λ p. p ≡ names.now) }
     {
@@ -45,6 +47,7 @@ impl Places {
         Ok(places)
     }
 
+    /// How many names there are.
     pub fn len(&self) -> usize
         ensures { result ≡ length self.now }
     {

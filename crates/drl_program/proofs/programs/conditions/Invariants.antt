@@ -1,10 +1,11 @@
 use Rattle.std.proofs.Common.{◌≡◌, ◌++◌, ◌≤◌, drop}
-use Rattle.drl_sight.specs.Sight.{begin}
+use Rattle.drl_sight.specs.Sight.{begin, behind_all}
 use Rattle.drl_program.specs.Programs.{conditions_of}
-use Rattle.drl_check.proofs.programs.conditions.Given as goal
+use Rattle.drl_program.proofs.programs.conditions.Given as goal
 
 abbrev pub invariant-loop-tree : goal.invariant-loop-tree
 invariant-loop-tree l = record {
   same : l.conditions.items ++ conditions_of l.types l.place (drop l.tree-index l.trees) ≡ conditions_of l.types begin l.trees;
+  last : behind_all l.types l.place (drop l.tree-index l.trees) ≡ behind_all l.types begin l.trees;
   counts : l.place.facts ≤ l.tree-index;
 }

@@ -1,7 +1,7 @@
 use Rattle.std.proofs.Common.{◌≡◌, ◌++◌, map, drop}
 use Rattle.drl_sight.specs.Declarations.{rules_of}
 use Rattle.drl_program.specs.Programs.{rule_of}
-use Rattle.drl_check.proofs.programs.rules.Given as goal
+use Rattle.drl_program.proofs.programs.rules.Given as goal
 
 abbrev pub invariant-loop-item : goal.invariant-loop-item
 invariant-loop-item l = l.rules.items ++ map (rule_of l.types) (rules_of (drop l.item-index l.items)) ≡ map (rule_of l.types) (rules_of l.items)

@@ -1,6 +1,6 @@
 use Rattle.std.proofs.Common.{◌≡◌, drop}
 use Rattle.drl_program.specs.Programs.{salience_of}
-use Rattle.drl_check.proofs.programs.salience.Given as goal
+use Rattle.drl_program.proofs.programs.salience.Given as goal
 
 abbrev pub invariant-loop-attr : goal.invariant-loop-attr
 invariant-loop-attr l = salience_of (drop l.attr-index l.attrs) ≡ salience_of l.attrs

@@ -1,7 +1,7 @@
 use Rattle.std.proofs.Common.{◌≡◌, ◌++◌, drop}
 use Rattle.std.specs.List.{filter, flat_map}
 use Rattle.drl_program.specs.Programs.{tests_in, is_constant}
-use Rattle.drl_check.proofs.tests_of.constant_tests.Given as goal
+use Rattle.drl_program.proofs.tests_of.constant_tests.Given as goal
 
 abbrev pub invariant-loop-part : goal.invariant-loop-part
 invariant-loop-part l = l.tests.items ++ flat_map (tests_in l.ty l.place.sight) (filter is_constant (drop l.part-index l.parts)) ≡ flat_map (tests_in l.ty l.place.sight) (filter is_constant l.parts)

@@ -1,6 +1,6 @@
 use Rattle.std.proofs.Common.{◌≡◌, ◌++◌, map, drop}
 use Rattle.drl_program.specs.Programs.{side_of}
-use Rattle.drl_check.proofs.tests_of.sides.Given as goal
+use Rattle.drl_program.proofs.tests_of.sides.Given as goal
 
 abbrev pub invariant-loop-operand : goal.invariant-loop-operand
 invariant-loop-operand l = l.sides.items ++ map (side_of l.ty l.place.sight) (drop l.operand-index l.operands) ≡ map (side_of l.ty l.place.sight) l.operands

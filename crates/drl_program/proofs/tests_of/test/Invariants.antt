@@ -1,7 +1,7 @@
 use Rattle.std.proofs.Common.{◌≡◌, ◌++◌, List, map, drop}
 use Rattle.drl_grammar.specs.declared.condition.Cmp.{Cmp}
 use Rattle.drl_program.specs.Programs.{compare_of}
-use Rattle.drl_check.proofs.tests_of.test.Given as goal
+use Rattle.drl_program.proofs.tests_of.test.Given as goal
 
 abbrev pub invariant-loop-group : goal.invariant-loop-group
 invariant-loop-group l = l.choices.items ++ map (λ (group : List Cmp). map (compare_of l.ty l.place.sight) group) (drop l.group-index l.groups) ≡ map (λ (group : List Cmp). map (compare_of l.ty l.place.sight) group) l.groups

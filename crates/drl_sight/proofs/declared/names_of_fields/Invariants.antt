@@ -1,6 +1,6 @@
 use Rattle.std.proofs.Common.{◌≡◌, ◌++◌, ℕ, List, map, drop}
 use Rattle.drl_sight.specs.Declarations.{field_names}
-use Rattle.drl_check.proofs.declared.names_of_fields.Given as goal
+use Rattle.drl_sight.proofs.declared.names_of_fields.Given as goal
 
 abbrev pub invariant-loop-field : goal.invariant-loop-field
 invariant-loop-field l = l.names.items ++ map (λ (field : List ℕ × List ℕ). field.0) (drop l.field-index l.tree.fields) ≡ field_names l.tree

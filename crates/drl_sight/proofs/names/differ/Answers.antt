@@ -1,7 +1,7 @@
 use Rattle.std.proofs.Common.{sym, refl, ◌∙◌, arith}
 use Rattle.drl_sight.specs.Names.{are_distinct}
 use Rattle.drl_sight.proofs.NameLemmas.{next_of, twice_in, still_distinct}
-use Rattle.drl_check.proofs.names.differ.Goals as goal
+use Rattle.drl_sight.proofs.names.differ.Goals as goal
 
 pub loop-name-init : goal.loop-name-init
 unfolding are_distinct

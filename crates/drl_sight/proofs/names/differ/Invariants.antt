@@ -1,6 +1,6 @@
 use Rattle.std.proofs.Common.{◌≡◌, ◌++◌, drop, true}
 use Rattle.drl_sight.specs.Names.{are_distinct}
-use Rattle.drl_check.proofs.names.differ.Given as goal
+use Rattle.drl_sight.proofs.names.differ.Given as goal
 
 abbrev pub invariant-loop-name : goal.invariant-loop-name
 invariant-loop-name l = record {

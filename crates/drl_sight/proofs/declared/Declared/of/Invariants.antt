@@ -1,6 +1,6 @@
 use Rattle.std.proofs.Common.{◌≡◌, ◌++◌, drop}
 use Rattle.drl_sight.specs.Declarations.{types_of, type_names}
-use Rattle.drl_check.proofs.declared.Declared.of.Given as goal
+use Rattle.drl_sight.proofs.declared.Declared.of.Given as goal
 
 abbrev pub invariant-loop-item : goal.invariant-loop-item
 invariant-loop-item l = record {

@@ -1,6 +1,6 @@
 use Rattle.std.proofs.Common.{◌∙◌, ap, is_some}
 use Rattle.drl_sight.proofs.NameLemmas.{placed_among}
-use Rattle.drl_check.proofs.places.Places.holds.Goals as goal
+use Rattle.drl_sight.proofs.places.Places.holds.Goals as goal
 
 pub returns : goal.returns
 returns c = c.is_some.ensures ∙ ap is_some c.find.ensures ∙ placed_among 0 c.args.self.now c.args.name.now

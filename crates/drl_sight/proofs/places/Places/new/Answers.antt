@@ -1,6 +1,6 @@
 use Rattle.std.proofs.Common.{refl}
 use Rattle.drl_sight.specs.Names.{place_from}
-use Rattle.drl_check.proofs.places.Places.new.Goals as goal
+use Rattle.drl_sight.proofs.places.Places.new.Goals as goal
 
 pub invariant_of-result : goal.invariant_of-result
 unfolding place_from

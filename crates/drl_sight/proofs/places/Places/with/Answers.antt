@@ -3,8 +3,8 @@ use Rattle.std.specs.Borrow.{Bor}
 use Rattle.std.specs.Option.{option_copied}
 use Rattle.drl_sight.specs.Names.{place_of}
 use Rattle.drl_sight.proofs.NameLemmas.{kept, added}
-use Rattle.drl_check.proofs.places.Places.with.Goals.{then-is_none+in_ok-copy-2+in_ok-insert, else-is_none}
-use Rattle.drl_check.proofs.places.Places.with.Goals as goal
+use Rattle.drl_sight.proofs.places.Places.with.Goals.{then-is_none+in_ok-copy-2+in_ok-insert, else-is_none}
+use Rattle.drl_sight.proofs.places.Places.with.Goals as goal
 
 copied : (o : Option (Bor ℕ)) → is_some (option_copied o) ≡ is_some o
 copied None = refl

@@ -1,7 +1,7 @@
 use Rattle.std.proofs.Common.{◌≡◌, ◌+◌, ◌++◌, ap, subst, ◌∙◌}
 use Rattle.drl_grammar.specs.declared.condition.CondTree.TheVariants.{Plain as plain}
 use Rattle.drl_sight.specs.Sight.{Sight, Place, seen_of, behind}
-use Rattle.drl_check.proofs.sight.Place.behind.Goals as goal
+use Rattle.drl_sight.proofs.sight.Place.behind.Goals as goal
 
 pub returns-in_ok-see_pattern-in-Some : goal.returns-in_ok-see_pattern-in-Some
 returns-in_ok-see_pattern-in-Some c =

@@ -1,6 +1,6 @@
 use Rattle.std.proofs.Common.{◌≡◌, drop}
 use Rattle.drl_sight.specs.Sight.{meaning_of}
-use Rattle.drl_check.proofs.sight.Place.find.Given as goal
+use Rattle.drl_sight.proofs.sight.Place.find.Given as goal
 
 abbrev pub invariant-loop-seen : goal.invariant-loop-seen
 invariant-loop-seen l = meaning_of (drop l.seen-index l.self.sight) l.name ≡ meaning_of l.self.sight l.name

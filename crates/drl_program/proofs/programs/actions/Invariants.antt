@@ -1,0 +1,6 @@
+use Rattle.std.proofs.Common.{◌≡◌, ◌++◌, map, drop}
+use Rattle.drl_program.specs.Programs.{action_of}
+use Rattle.drl_program.proofs.programs.actions.Given as goal
+
+abbrev pub invariant-loop-tree : goal.invariant-loop-tree
+invariant-loop-tree l = l.actions.items ++ map (action_of l.types l.place.sight) (drop l.tree-index l.trees) ≡ map (action_of l.types l.place.sight) l.trees
