@@ -1,6 +1,5 @@
 ghost use Rattle.std.specs.Prelude.{◌≡◌, map, Some, IfOk};
 ghost use Rattle.drl_sight.specs.Sight.{meaning_of};
-ghost use Rattle.rule_model.specs.declared.action.Action.TheVariants as action_form;
 ghost use Rattle.drl_program.specs.Programs.{variable_value, variable_field_value, expression_in, fact_meant, type_meant, no_type, set_in, action_of};
 
 use crate::numbers::{fact_number, field_number, small, type_number};
@@ -116,9 +115,13 @@ fn set(
 ) -> Result<(u8, Expr), NoMemory>
     ensures { IfOk result (λ set. set ≡ set_in ty.now place.now.sight tree.now) }
 {
-    Ok((field_number(ty, &tree.0), expression(alloc, place, &tree.1)?))
+    Ok((
+        field_number(ty, &tree.0),
+        expression(alloc, place, &tree.1)?,
+    ))
 }
 
+// The values of fields of a type.
 fn sets(
     alloc: Global,
     ty: &DeclaredType,
@@ -134,7 +137,7 @@ fn sets(
     Ok(Seq::from_vec(sets))
 }
 
-// The values of fields where the variable means no fact.
+// The same where the type is not declared.
 fn sets_of_no_type(
     alloc: Global,
     place: &Place,
@@ -161,36 +164,29 @@ fn sets_meant(
     }
 }
 
-// ---- actions
-
-fn modification(
+// The values of the fields of the fact that a variable means.
+fn sets_of_variable(
     alloc: Global,
     place: &Place,
     var: &Text,
     trees: &[(Text, ExprTree)],
-) -> Result<Action, NoMemory>
-    ensures { IfOk result (λ action. action ≡ action_form.Modify (fact_meant (meaning_of place.now.sight var.now)) (map (set_in (type_meant (meaning_of place.now.sight var.now)) place.now.sight) trees.now)) }
+) -> Result<Seq<(u8, Expr)>, NoMemory>
+    ensures { IfOk result (λ sets. sets ≡ map (set_in (type_meant (meaning_of place.now.sight var.now)) place.now.sight) trees.now) }
 {
     match place.find(var) {
-        Some(meaning) => Ok(Action::Modify {
-            fact: fact_number(meaning),
-            sets: sets_meant(alloc, meaning, place, trees)?,
-        }),
-        None => Ok(Action::Modify {
-            fact: 0,
-            sets: sets_of_no_type(alloc, place, trees)?,
-        }),
+        Some(meaning) => sets_meant(alloc, meaning, place, trees),
+        None => sets_of_no_type(alloc, place, trees),
     }
 }
 
-fn retraction(place: &Place, var: &Text) -> Action
-    ensures { result ≡ action_form.Retract (fact_meant (meaning_of place.now.sight var.now)) }
+// ---- actions
+
+fn fact_of_variable(place: &Place, var: &Text) -> u8
+    ensures { result ≡ fact_meant (meaning_of place.now.sight var.now) }
 {
     match place.find(var) {
-        Some(meaning) => Action::Retract {
-            fact: fact_number(meaning),
-        },
-        None => Action::Retract { fact: 0 },
+        Some(meaning) => fact_number(meaning),
+        None => 0,
     }
 }
 
@@ -208,7 +204,12 @@ pub(crate) fn action(
             ty: TypeId(type_number(types.place(ty))),
             args: expressions(alloc, place, args.as_slice())?,
         }),
-        ActTree::Modify { var, sets } => modification(alloc, place, var, sets.as_slice()),
-        ActTree::Retract(var) => Ok(retraction(place, var)),
+        ActTree::Modify { var, sets } => Ok(Action::Modify {
+            fact: fact_of_variable(place, var),
+            sets: sets_of_variable(alloc, place, var, sets.as_slice())?,
+        }),
+        ActTree::Retract(var) => Ok(Action::Retract {
+            fact: fact_of_variable(place, var),
+        }),
     }
 }

@@ -5,6 +5,8 @@
 mod actions_of;
 mod numbers;
 mod programs;
+#[cfg(test)]
+mod tests;
 mod tests_of;
 mod undeclared;
 
