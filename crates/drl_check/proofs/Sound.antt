@@ -11,15 +11,16 @@ use Rattle.drl_grammar.specs.declared.file.File.{File}
 use Rattle.drl_grammar.specs.declared.file.Item.{Item}
 use Rattle.drl_grammar.specs.declared.file.TypeTree.{TypeTree}
 use Rattle.drl_grammar.specs.declared.file.RuleTree.{RuleTree}
-use Rattle.rule_model.specs.Programs.{has_conditions, IsAccepted}
+use Rattle.rule_model.specs.declared.program.Rule.{Rule}
+use Rattle.rule_model.specs.Programs.{has_conditions, has_few_actions, IsAccepted}
 use Rattle.drl_check.specs.declared.fault.CheckCode.TheVariants.{NotBuilt, LimitPassed}
 use Rattle.drl_sight.specs.Declarations.{types_of, rules_of, type_in, rule_in}
-use Rattle.drl_sight.specs.Sight.{Place, begin, behind}
-use Rattle.drl_check.specs.Limits.{passes_limit_behind, type_within, rule_within, attr_within, condition_within}
+use Rattle.drl_sight.specs.Sight.{Place, begin, behind, sight_of_actions}
+use Rattle.drl_check.specs.Limits.{passes_limit_behind, type_within, rule_within, attr_within, condition_within, action_within, actions_within}
 use Rattle.drl_check.specs.Built.{condition_unbuilt, not_built}
 use Rattle.drl_sight.specs.Names.{is_short}
 use Rattle.drl_check.specs.Checks.{AllPass, IsAcceptedFile}
-use Rattle.drl_program.specs.Programs.{condition_of, conditions_of, rule_of, type_info, program_of}
+use Rattle.drl_program.specs.Programs.{condition_of, conditions_of, rule_of, type_info, action_of, program_of}
 use Rattle.drl_check.proofs.Failures.{types_next, rules_next}
 
 -- ---- types and rules are few
@@ -107,36 +108,50 @@ some : (n : ℕ) → nat_lt 0 n ≡ true → nat_le 1 n ≡ true
 some n e = grind (arith, nat_tests)
 
 -- a built rule within the limits has few conditions, and one at least
-rule_sound : (types : List TypeTree) (r : RuleTree) → list_any condition_unbuilt r.conditions ≡ false → rule_within r ≡ true → has_conditions (rule_of types r) ≡ true
-rule_sound types r built e =
+conditions_sound : (types : List TypeTree) (r : RuleTree) → list_any condition_unbuilt r.conditions ≡ false → rule_within r ≡ true → has_conditions (rule_of types r) ≡ true
+conditions_sound types r built e =
     let n = length r.conditions in
     let tests = list_all condition_within r.conditions in
     let before = nat_lt 0 (length r.name) && is_short 256 r.name && list_all attr_within r.attrs in
-    let front = and_left (before && nat_lt 0 n && nat_le n 8) tests e in
+    let all = and_left (before && nat_lt 0 n && nat_le n 8 && tests) (actions_within r.actions) e in
+    let front = and_left (before && nat_lt 0 n && nat_le n 8) tests all in
     let few : nat_le n 8 ≡ true = and_right (before && nat_lt 0 n) (nat_le n 8) front in
     let one : nat_lt 0 n ≡ true = and_right before (nat_lt 0 n) (and_left (before && nat_lt 0 n) (nat_le n 8) front) in
     rw (as_many types begin r.conditions built) (both (nat_le 1 n) (nat_le n 8) (some n one) few)
 
-body_sound : (types : List TypeTree) (n m : ℕ) (b : Body) (rest : List RuleTree) → not_built b ≡ false → passes_limit_behind n m b ≡ false → list_all has_conditions (map (rule_of types) rest) ≡ true
-    → list_all has_conditions (map (rule_of types) (rule_in b ++ rest)) ≡ true
-body_sound types n m (body.Rule r) rest built e h = both (has_conditions (rule_of types r)) (list_all has_conditions (map (rule_of types) rest)) (rule_sound types r (or_right (nat_lt 0 (length r.actions)) (list_any condition_unbuilt r.conditions) built) (not_and_right (nat_lt m 256) (rule_within r) e)) h
-body_sound types n m (body.Declare t) rest built e h = h
-body_sound types n m (body.Package p) rest built e h = h
-body_sound types n m (body.Import p s) rest built e h = h
-body_sound types n m (body.Dialect d) rest built e h = h
-body_sound types n m (body.Entry a l) rest built e h = h
+-- and few actions
+actions_sound : (types : List TypeTree) (r : RuleTree) → list_any condition_unbuilt r.conditions ≡ false → rule_within r ≡ true → has_few_actions (rule_of types r) ≡ true
+actions_sound types r built e =
+    let n = length r.actions in
+    let front = nat_lt 0 (length r.name) && is_short 256 r.name && list_all attr_within r.attrs && nat_lt 0 (length r.conditions) && nat_le (length r.conditions) 8 && list_all condition_within r.conditions in
+    let few : nat_le n 16 ≡ true = and_left (nat_le n 16) (list_all action_within r.actions) (and_right front (actions_within r.actions) e) in
+    rw (length-map r.actions (action_of types (sight_of_actions types r.conditions))) few
 
-all_sound : (types : List TypeTree) (all before items : List Item) → AllPass all before items → list_all has_conditions (map (rule_of types) (rules_of items)) ≡ true
-all_sound types all before [] p = refl
-all_sound types all before (item ∷ items) p =
-    body_sound types (length (types_of before)) (length (rules_of before)) item.body (rules_of items) (p.0 NotBuilt) (p.0 LimitPassed) (all_sound types all (before ++ item ∷ []) items p.1)
+-- ---- what is so of each built rule within the limits is so of all rules of an accepted file
+
+module _ (types : List TypeTree) (test : Rule → Bool) (sound : (r : RuleTree) → list_any condition_unbuilt r.conditions ≡ false → rule_within r ≡ true → test (rule_of types r) ≡ true) where
+  body_sound : (n m : ℕ) (b : Body) (rest : List RuleTree) → not_built b ≡ false → passes_limit_behind n m b ≡ false → list_all test (map (rule_of types) rest) ≡ true
+      → list_all test (map (rule_of types) (rule_in b ++ rest)) ≡ true
+  body_sound n m (body.Rule r) rest built e h = both (test (rule_of types r)) (list_all test (map (rule_of types) rest)) (sound r built (not_and_right (nat_lt m 256) (rule_within r) e)) h
+  body_sound n m (body.Declare t) rest built e h = h
+  body_sound n m (body.Package p) rest built e h = h
+  body_sound n m (body.Import p s) rest built e h = h
+  body_sound n m (body.Dialect d) rest built e h = h
+  body_sound n m (body.Entry a l) rest built e h = h
+
+  all_sound : (all before items : List Item) → AllPass all before items → list_all test (map (rule_of types) (rules_of items)) ≡ true
+  all_sound all before [] p = refl
+  all_sound all before (item ∷ items) p =
+      body_sound (length (types_of before)) (length (rules_of before)) item.body (rules_of items) (p.0 NotBuilt) (p.0 LimitPassed) (all_sound all (before ++ item ∷ []) items p.1)
 
 pub accepted_sound : (file : File) → IsAcceptedFile file → IsAccepted (program_of file)
 accepted_sound file a =
-    let types = few_types file.items [] file.items a (omega arith) in
+    let types = types_of file.items in
+    let few = few_types file.items [] file.items a (omega arith) in
     let rules = few_rules file.items [] file.items a (omega arith) in
     record {
-      few_types = omega (arith, types, length-map (types_of file.items) type_info);
-      few_rules = omega (arith, rules, length-map (rules_of file.items) (rule_of (types_of file.items)));
-      conditions = all_sound (types_of file.items) file.items [] file.items a;
+      few_types = omega (arith, few, length-map types type_info);
+      few_rules = omega (arith, rules, length-map (rules_of file.items) (rule_of types));
+      conditions = all_sound types has_conditions (conditions_sound types) file.items [] file.items a;
+      actions = all_sound types has_few_actions (actions_sound types) file.items [] file.items a;
     }

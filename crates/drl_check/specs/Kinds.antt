@@ -1,7 +1,6 @@
 -- Values of a kind that does not fit where they stand.
 use Rattle.std.specs.Prelude.{ℕ, ◌&&◌, ◌||◌, Bool, true, false, not, List, [], ◌∷◌, Option, Some, None, is_some}
 use Rattle.std.specs.List.{list_any}
-use Rattle.std.specs.Option.{option_and_then}
 use Rattle.fx_base.specs.declared.kind.Kind.{Kind}
 use Rattle.fx_base.specs.declared.kind.Kind.TheVariants as kind
 use Rattle.drl_lex.specs.declared.token.Rel.{Rel}
@@ -21,8 +20,7 @@ use Rattle.drl_grammar.specs.declared.condition.Cmp.TheVariants as cmp
 use Rattle.drl_grammar.specs.declared.condition.Operand.{Operand}
 use Rattle.drl_grammar.specs.declared.condition.Operand.TheVariants as operand
 use Rattle.drl_grammar.specs.declared.file.TypeTree.{TypeTree}
-use Rattle.drl_sight.specs.Names.{place_of}
-use Rattle.drl_sight.specs.Declarations.{type_named, field_names, kind_of, kind_at}
+use Rattle.drl_sight.specs.Declarations.{type_named, kind_of}
 use Rattle.drl_sight.specs.Meanings.{field_kind, variable_kind, variable_field_kind}
 use Rattle.drl_sight.specs.Sight.{Sight, Meaning, of_fact, of_field, meaning_of, Place}
 

@@ -1,7 +1,7 @@
 -- Types, fields and variables that are used and are not there.
 use Rattle.std.specs.Prelude.{ℕ, ◌||◌, Bool, false, not, List, [], ◌∷◌, Option, Some, None, is_some}
 use Rattle.std.specs.List.{list_any}
-use Rattle.drl_expr.specs.Tree.{Tree, lit, var, var_field, neg, add, sub, mul}
+use Rattle.drl_expr.specs.Tree.{Tree, var, var_field}
 use Rattle.drl_grammar.specs.declared.action.ActTree.{ActTree}
 use Rattle.drl_grammar.specs.declared.action.ActTree.TheVariants as action
 use Rattle.drl_grammar.specs.declared.condition.CondTree.{CondTree}
@@ -14,11 +14,10 @@ use Rattle.drl_grammar.specs.declared.condition.Cmp.TheVariants as cmp
 use Rattle.drl_grammar.specs.declared.condition.Operand.{Operand}
 use Rattle.drl_grammar.specs.declared.condition.Operand.TheVariants as operand
 use Rattle.drl_grammar.specs.declared.file.TypeTree.{TypeTree}
-use Rattle.drl_sight.specs.Names.{is_among}
-use Rattle.drl_sight.specs.Declarations.{type_named, field_names}
+use Rattle.drl_sight.specs.Declarations.{type_named}
 use Rattle.drl_sight.specs.Meanings.{lacks, lacks_for}
 use Rattle.drl_sight.specs.Operands.{any_of_cmp, any_of_part, any_leaf_of}
-use Rattle.drl_sight.specs.Sight.{Sight, Meaning, of_fact, meaning_of, Place, behind}
+use Rattle.drl_sight.specs.Sight.{Sight, meaning_of, Place, behind}
 
 -- whether one of the conditions has this, given what is in sight there
 unfoldable pub any_condition : (Place → CondTree → Bool) → List TypeTree → Place → List CondTree → Bool

@@ -49,9 +49,7 @@ pub(crate) fn is_unbuilt(body: &Body) -> bool
     match body {
         Body::Declare(tree) => tree.metas.as_slice().len() > 0,
         Body::Entry { .. } => true,
-        Body::Rule(tree) => {
-            tree.actions.as_slice().len() > 0 || has_unbuilt_condition(tree.conditions.as_slice())
-        }
+        Body::Rule(tree) => has_unbuilt_condition(tree.conditions.as_slice()),
         _ => false,
     }
 }

@@ -7,10 +7,10 @@ ghost use Rattle.drl_check.specs.Outcomes.{checked};
 ghost use Rattle.drl_check.specs.Answers.{within_32_bits, Gives};
 
 use crate::CheckFault;
-use drl_sight::Declared;
-use drl_program::program;
 use crate::refusal::refusal;
 use drl_grammar::File;
+use drl_program::program;
+use drl_sight::Declared;
 use rule_model::Program;
 use std::alloc::Global;
 

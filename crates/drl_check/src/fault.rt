@@ -8,20 +8,22 @@ use thiserror::Error;
 pub enum CheckCode {
     /// It has a construct that this version of the engine does not serve.
     NotBuilt,
-    /// An earlier item declares the same type or rule; or a field, an attribute or a variable stands twice in it.
+    /// An earlier item declares the same type or rule; or a field, an attribute or a variable stands twice in it; or a
+    /// modification assigns a field twice.
     TwiceDeclared,
-    /// It passes a limit: 128 types, 256 rules, 32 fields, 8 conditions, 32 comparisons and bindings of a pattern, 32
-    /// operands of `in`, names of 64 bytes, rule names of 1 to 256 bytes, texts of 4,096 bytes, a salience of 2^31 - 1 in
-    /// size.
+    /// It passes a limit: 128 types, 256 rules, 32 fields, 8 conditions, 16 actions, 32 comparisons and bindings of a
+    /// pattern, 32 operands of `in`, names of 64 bytes, rule names of 1 to 256 bytes, texts of 4,096 bytes, a salience of
+    /// 2^31 - 1 in size.
     LimitPassed,
-    /// A pattern names a type that the file does not declare.
+    /// A pattern or an insert names a type that the file does not declare.
     UnknownType,
-    /// A test or a binding names a field that the type does not have.
+    /// A test, a binding, a modification or an expression names a field that the type does not have.
     UnknownField,
-    /// A variable is used that no earlier pattern of the rule binds.
+    /// A variable is used that no earlier pattern of the rule binds; in an action, no pattern.
     UnknownVariable,
     /// A kind word is none of the seven; a comparison is between two kinds, or an order between other values than whole
-    /// numbers; a fact stands for a value, or a value for a fact.
+    /// numbers; a fact stands for a value, or a value for a fact; an insert has too few or too many expressions; an
+    /// expression is of another kind than its field; an operator has an operand that is no whole number.
     WrongKind,
 }
 

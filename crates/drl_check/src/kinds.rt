@@ -4,14 +4,14 @@ ghost use Rattle.drl_lex.specs.declared.token.Rel.TheVariants.{Equal};
 ghost use Rattle.drl_grammar.specs.declared.condition.Cmp.{Cmp};
 ghost use Rattle.drl_grammar.specs.declared.condition.Operand.{Operand};
 ghost use Rattle.drl_check.specs.Kinds.{has_unknown_kind, literal_kind, operand_kind, is_int, is_same_kind, kinds_fit, misfits, cmp_misfits, part_misfits, has_wrong_kind};
-ghost use Rattle.drl_sight.specs.Meanings.{field_kind};
+ghost use Rattle.drl_sight.specs.Sight.{meaning_of};
+ghost use Rattle.drl_sight.specs.Meanings.{field_kind, variable_kind, variable_field_kind};
 
-use drl_sight::{Declared, DeclaredType, kind_of_word};
-use drl_sight::Place;
 use drl_expr::LitTree;
 use drl_grammar::{Cmp, CondTree, Operand, Part, TypeTree};
 use drl_lex::Rel;
-use fx_base::{Kind, Seq};
+use drl_sight::{Declared, DeclaredType, Place, kind_of_word};
+use fx_base::{Kind, Seq, Text};
 
 /// Whether a field's kind word is none of the seven.
 pub(crate) fn lacks_kind(tree: &TypeTree) -> bool
@@ -23,13 +23,38 @@ pub(crate) fn lacks_kind(tree: &TypeTree) -> bool
         .any(|field| kind_of_word(&field.1).is_none())
 }
 
-fn kind_of_literal(literal: &LitTree) -> Kind
+/// The kind of a literal.
+pub(crate) fn kind_of_literal(literal: &LitTree) -> Kind
     ensures { result ≡ literal_kind literal.now }
 {
     match literal {
         LitTree::Int(_) => Kind::Int,
         LitTree::Bool(_) => Kind::Bool,
         LitTree::Text(_) => Kind::Text,
+    }
+}
+
+/// The kind of a variable that is a value.
+pub(crate) fn kind_of_variable(place: &Place, var: &Text) -> Option<Option<Kind>>
+    ensures { result ≡ variable_kind (meaning_of place.now.sight var.now) }
+{
+    match place.find(var) {
+        Some(meaning) => meaning.kind(),
+        None => None,
+    }
+}
+
+/// The kind of a field of a variable that is a fact.
+pub(crate) fn kind_of_variable_field(
+    place: &Place,
+    var: &Text,
+    field: &Text,
+) -> Option<Option<Kind>>
+    ensures { result ≡ variable_field_kind (meaning_of place.now.sight var.now) field.now }
+{
+    match place.find(var) {
+        Some(meaning) => meaning.kind_of(field),
+        None => None,
     }
 }
 
@@ -40,18 +65,13 @@ fn kind_of_operand(ty: &DeclaredType, place: &Place, operand: &Operand) -> Optio
     match operand {
         Operand::Lit(literal) => Some(Some(kind_of_literal(literal))),
         Operand::Own(field) => Some(ty.kind_of(field)),
-        Operand::Var(var) => match place.find(var) {
-            Some(meaning) => meaning.kind(),
-            None => None,
-        },
-        Operand::VarField(var, field) => match place.find(var) {
-            Some(meaning) => meaning.kind_of(field),
-            None => None,
-        },
+        Operand::Var(var) => kind_of_variable(place, var),
+        Operand::VarField(var, field) => kind_of_variable_field(place, var, field),
     }
 }
 
-fn is_whole(kind: Option<Kind>) -> bool
+/// Whether it is the kind of whole numbers.
+pub(crate) fn is_whole(kind: Option<Kind>) -> bool
     ensures { result ≡ is_int kind }
 {
     match kind {
@@ -60,7 +80,8 @@ fn is_whole(kind: Option<Kind>) -> bool
     }
 }
 
-fn are_same(left: Option<Kind>, right: Option<Kind>) -> bool
+/// Whether the two are the same kind, or both none.
+pub(crate) fn are_same(left: Option<Kind>, right: Option<Kind>) -> bool
     ensures { result ≡ is_same_kind left right }
 {
     left == right

@@ -2,6 +2,9 @@
 //! It takes any file of trees, and assumes nothing of it.
 #![tactic(auto)]
 
+mod action_kinds;
+mod action_limits;
+mod action_uses;
 mod asked;
 mod built;
 mod checking;

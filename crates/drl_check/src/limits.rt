@@ -4,10 +4,11 @@ ghost use Rattle.drl_grammar.specs.declared.condition.Cmp.{Cmp};
 ghost use Rattle.drl_sight.specs.Declarations.{field_names};
 ghost use Rattle.drl_check.specs.Limits.{is_name, is_text, literal_within, operand_within, cmp_within, part_within, variable_within, source_within, condition_within, attr_within, rule_within, type_within, passes_limit_behind};
 
-use drl_sight::has_at_most;
+use crate::action_limits::are_actions_within;
 use crate::room::are_at_most;
 use drl_expr::LitTree;
 use drl_grammar::{Attr, Body, Cmp, CondTree, Operand, Part, RuleTree, SourceTree, TypeTree};
+use drl_sight::has_at_most;
 use fx_base::{Seq, Text};
 
 const NAME_MAX: usize = 64;
@@ -30,18 +31,28 @@ const RULES_MAX: usize = 256;
 
 const SALIENCE_MAX: u64 = 2_147_483_647;
 
-fn is_short_name(name: &Text) -> bool
+/// Whether a name of a type, a field or a variable is short enough.
+pub(crate) fn is_short_name(name: &Text) -> bool
     ensures { result ≡ is_name name.now }
 {
     has_at_most(NAME_MAX, name)
+}
+
+/// Whether a literal is no text that is too long.
+pub(crate) fn is_literal_within(literal: &LitTree) -> bool
+    ensures { result ≡ literal_within literal.now }
+{
+    match literal {
+        LitTree::Text(text) => has_at_most(TEXT_MAX, text),
+        _ => true,
+    }
 }
 
 fn is_operand_within(operand: &Operand) -> bool
     ensures { result ≡ operand_within operand.now }
 {
     match operand {
-        Operand::Lit(LitTree::Text(text)) => has_at_most(TEXT_MAX, text),
-        Operand::Lit(_) => true,
+        Operand::Lit(literal) => is_literal_within(literal),
         Operand::Var(var) => is_short_name(var),
         Operand::VarField(var, field) => is_short_name(var) && is_short_name(field),
         Operand::Own(field) => is_short_name(field),
@@ -154,6 +165,7 @@ fn is_rule_within(tree: &RuleTree) -> bool
         && tree.conditions.as_slice().len() > 0
         && tree.conditions.as_slice().len() <= CONDITIONS_MAX
         && are_conditions_within(tree.conditions.as_slice())
+        && are_actions_within(tree.actions.as_slice())
 }
 
 fn are_fields_within(tree: &TypeTree) -> bool

@@ -4,16 +4,16 @@ ghost use Rattle.drl_check.specs.Checks.{lacks_type, lacks_field as lacks_field_
 ghost use Rattle.drl_check.specs.Failing.{first_failing, first_failing_use};
 ghost use Rattle.drl_check.specs.Answers.{within_32_bits, Judges};
 
-use crate::asked::{Asked, is_so_of_some};
+use crate::action_uses::insert_unknown;
+use crate::asked::{Asked, is_so_in_rule};
 use crate::built::is_unbuilt;
-use drl_sight::Declared;
 use crate::kinds::lacks_kind;
 use crate::limits::passes_limits;
-use drl_sight::Places;
 use crate::twice::repeats;
 use crate::uses::lack_type;
 use crate::{CheckCode, CheckFault};
 use drl_grammar::{Body, Item};
+use drl_sight::{Declared, Places};
 use fx_base::NoMemory;
 use std::alloc::Global;
 
@@ -21,7 +21,10 @@ fn is_type_missing(types: &Declared, body: &Body) -> bool
     ensures { result ≡ lacks_type types.now body.now }
 {
     match body {
-        Body::Rule(tree) => lack_type(types, tree.conditions.as_slice()),
+        Body::Rule(tree) => {
+            lack_type(types, tree.conditions.as_slice())
+                || insert_unknown(types, tree.actions.as_slice())
+        }
         _ => false,
     }
 }
@@ -30,12 +33,7 @@ fn is_field_missing(alloc: Global, types: &Declared, body: &Body) -> Result<bool
     ensures { IfOk result (λ missing. missing ≡ lacks_field_of types.now body.now) }
 {
     match body {
-        Body::Rule(tree) => is_so_of_some(
-            alloc,
-            Asked::LacksField,
-            types,
-            tree.conditions.as_slice(),
-        ),
+        Body::Rule(tree) => is_so_in_rule(alloc, Asked::LacksField, types, tree),
         _ => Ok(false),
     }
 }
@@ -44,12 +42,7 @@ fn is_variable_missing(alloc: Global, types: &Declared, body: &Body) -> Result<b
     ensures { IfOk result (λ missing. missing ≡ lacks_variable_of types.now body.now) }
 {
     match body {
-        Body::Rule(tree) => is_so_of_some(
-            alloc,
-            Asked::LacksVariable,
-            types,
-            tree.conditions.as_slice(),
-        ),
+        Body::Rule(tree) => is_so_in_rule(alloc, Asked::LacksVariable, types, tree),
         _ => Ok(false),
     }
 }
@@ -59,17 +52,12 @@ fn is_kind_wrong(alloc: Global, types: &Declared, body: &Body) -> Result<bool, N
 {
     match body {
         Body::Declare(tree) => Ok(lacks_kind(tree)),
-        Body::Rule(tree) => is_so_of_some(
-            alloc,
-            Asked::HasWrongKind,
-            types,
-            tree.conditions.as_slice(),
-        ),
+        Body::Rule(tree) => is_so_in_rule(alloc, Asked::HasWrongKind, types, tree),
         _ => Ok(false),
     }
 }
 
-// The first code that an item fails, which looks into the conditions of rules.
+// The first code that an item fails, which looks into the conditions and the actions of rules.
 fn failing_use(alloc: Global, types: &Declared, body: &Body) -> Result<Option<CheckCode>, NoMemory>
     ensures { IfOk result (λ code. code ≡ first_failing_use types.now body.now) }
 {

@@ -1,12 +1,12 @@
 ghost use Rattle.std.specs.Prelude.{◌≡◌, ◌++◌, map, IfOk, OnOk};
-ghost use Rattle.drl_check.specs.Twice.{attr_word, own_variable, part_variable, source_variables, bound_in, bound_variables, is_repeated};
+ghost use Rattle.std.specs.List.{list_all};
+ghost use Rattle.drl_check.specs.Twice.{attr_word, own_variable, part_variable, source_variables, bound_in, bound_variables, set_names, assigns_once, is_repeated};
 ghost use Rattle.drl_sight.specs.Names.{are_distinct};
 ghost use Rattle.drl_sight.specs.Declarations.{field_names};
 
-use drl_sight::names_of_fields;
-use drl_sight::differ;
-use drl_sight::Places;
-use drl_grammar::{Attr, Body, CondTree, Part, RuleTree, SourceTree, TypeTree};
+use drl_expr::ExprTree;
+use drl_grammar::{ActTree, Attr, Body, CondTree, Part, RuleTree, SourceTree, TypeTree};
+use drl_sight::{Places, differ, names_of_fields};
 use fx_base::{Copies, NoMemory, Text};
 use std::alloc::Global;
 
@@ -78,6 +78,36 @@ fn variables_of_rule(alloc: Global, tree: &RuleTree) -> Result<Vec<Text>, NoMemo
     Ok(names)
 }
 
+fn names_of_sets(alloc: Global, sets: &[(Text, ExprTree)]) -> Result<Vec<Text>, NoMemory>
+    ensures { IfOk result (λ names. names.items ≡ set_names sets.now) }
+{
+    let mut names = Vec::with_capacity(alloc, sets.len())?;
+    for set in sets {
+        names.push(set.0.copy(alloc)?)?;
+    }
+    Ok(names)
+}
+
+fn has_sets_apart(alloc: Global, action: &ActTree) -> Result<bool, NoMemory>
+    ensures { IfOk result (λ apart. apart ≡ assigns_once action.now) }
+{
+    match action {
+        ActTree::Modify { sets, .. } => differ(alloc, &names_of_sets(alloc, sets.as_slice())?),
+        _ => Ok(true),
+    }
+}
+
+fn have_sets_apart(alloc: Global, actions: &[ActTree]) -> Result<bool, NoMemory>
+    ensures { IfOk result (λ apart. apart ≡ list_all assigns_once actions.now) }
+{
+    for action in actions {
+        if !has_sets_apart(alloc, action)? {
+            return Ok(false);
+        }
+    }
+    Ok(true)
+}
+
 fn have_fields_apart(alloc: Global, tree: &TypeTree) -> Result<bool, NoMemory>
     ensures { IfOk result (λ apart. apart ≡ are_distinct (field_names tree.now)) }
 {
@@ -96,7 +126,8 @@ fn have_variables_apart(alloc: Global, tree: &RuleTree) -> Result<bool, NoMemory
     differ(alloc, &variables_of_rule(alloc, tree)?)
 }
 
-/// Whether an item declares what one of these types or rules declares, or has a field, an attribute or a variable twice.
+/// Whether an item declares what one of these types or rules declares, or has a field, an attribute or a variable twice, or
+/// assigns a field twice in one modification.
 pub(crate) fn repeats(
     alloc: Global,
     types: &Places,
@@ -110,7 +141,8 @@ pub(crate) fn repeats(
         Body::Rule(tree) => Ok(
             rules.holds(&tree.name)
                 || !have_attrs_apart(alloc, tree)?
-                || !have_variables_apart(alloc, tree)?,
+                || !have_variables_apart(alloc, tree)?
+                || !have_sets_apart(alloc, tree.actions.as_slice())?,
         ),
         _ => Ok(false),
     }

@@ -1,15 +1,13 @@
-ghost use Rattle.std.specs.Prelude.{◌≡◌, List, IfOk};
+ghost use Rattle.std.specs.Prelude.{◌≡◌, List};
 ghost use Rattle.std.specs.List.{list_any};
 ghost use Rattle.drl_grammar.specs.declared.condition.Cmp.{Cmp};
-ghost use Rattle.drl_sight.specs.Sight.{begin};
-ghost use Rattle.drl_check.specs.Uses.{any_condition, is_type_unknown, has_unknown_type, operand_lacks, cmp_lacks, part_lacks, source_lacks, has_unknown_field, operand_unseen, has_unknown_variable};
-ghost use Rattle.drl_sight.specs.Operands.{any_of_cmp, any_of_part};
-ghost use Rattle.drl_sight.specs.Meanings.{lacks};
-ghost use Rattle.std.specs.Prelude.{Some};
+ghost use Rattle.drl_sight.specs.Sight.{meaning_of};
+ghost use Rattle.drl_sight.specs.Operands.{any_of_part};
+ghost use Rattle.drl_sight.specs.Meanings.{lacks, lacks_for};
+ghost use Rattle.drl_check.specs.Uses.{is_type_unknown, has_unknown_type, operand_lacks, cmp_lacks, part_lacks, has_unknown_field, is_unseen, operand_unseen, has_unknown_variable};
 
-use drl_sight::{Declared, DeclaredType};
-use drl_sight::Place;
-use drl_grammar::{Cmp, CondTree, Operand, Part, SourceTree};
+use drl_grammar::{Cmp, CondTree, Operand, Part};
+use drl_sight::{Declared, DeclaredType, OperandTest, Place, some_operand};
 use fx_base::{Seq, Text};
 
 // ---- types
@@ -40,15 +38,22 @@ fn is_lacking(ty: &DeclaredType, field: &Text) -> bool
     !ty.has(field)
 }
 
+/// Whether a variable is a fact whose type has no field of this name.
+pub(crate) fn is_lacking_in(place: &Place, var: &Text, field: &Text) -> bool
+    ensures { result ≡ lacks_for (meaning_of place.now.sight var.now) field.now }
+{
+    match place.find(var) {
+        Some(meaning) => meaning.lacks(field),
+        None => false,
+    }
+}
+
 fn lacks_operand(ty: &DeclaredType, place: &Place, operand: &Operand) -> bool
     ensures { result ≡ operand_lacks ty.now place.now.sight operand.now }
 {
     match operand {
         Operand::Own(field) => is_lacking(ty, field),
-        Operand::VarField(var, field) => match place.find(var) {
-            Some(meaning) => meaning.lacks(field),
-            None => false,
-        },
+        Operand::VarField(var, field) => is_lacking_in(place, var, field),
         Operand::Lit(_) => false,
         Operand::Var(_) => false,
     }
@@ -120,59 +125,38 @@ pub(crate) fn lacks_field(types: &Declared, place: &Place, condition: &CondTree)
 
 // ---- variables
 
-fn is_unseen(place: &Place, operand: &Operand) -> bool
-    ensures { result ≡ operand_unseen place.now.sight operand.now }
-{
-    match operand {
-        Operand::Var(var) => place.find(var).is_none(),
-        Operand::VarField(var, _) => place.find(var).is_none(),
-        Operand::Lit(_) => false,
-        Operand::Own(_) => false,
+/// An operand, or a leaf of an expression, that names a variable which is not in sight.
+#[derive(Drop)]
+pub(crate) struct Unseen<'p> {
+    pub(crate) place: &'p Place<'p, 'p>,
+}
+
+impl<'p> OperandTest for Unseen<'p> {
+    ghost use Rattle.drl_check.specs.Uses.{operand_unseen};
+
+    ghost test = { λ s. operand_unseen s.place.now.sight };
+
+    fn holds(&self, operand: &Operand) -> bool {
+        match operand {
+            Operand::Var(var) => is_out_of_sight(self.place, var),
+            Operand::VarField(var, _) => is_out_of_sight(self.place, var),
+            _ => false,
+        }
     }
 }
 
-fn is_some_unseen(place: &Place, operands: &[Operand]) -> bool
-    ensures { result ≡ list_any (operand_unseen place.now.sight) operands.now }
+/// Whether no variable of this name is in sight.
+pub(crate) fn is_out_of_sight(place: &Place, name: &Text) -> bool
+    ensures { result ≡ is_unseen place.now.sight name.now }
 {
-    operands.iter().any(|operand| is_unseen(place, operand))
+    place.find(name).is_none()
 }
 
-fn is_unseen_in_cmp(place: &Place, cmp: &Cmp) -> bool
-    ensures { result ≡ any_of_cmp (operand_unseen place.now.sight) cmp.now }
-{
-    match cmp {
-        Cmp::Rel { operand, .. } => is_unseen(place, operand),
-        Cmp::OneOf { operands, .. } => is_some_unseen(place, operands.as_slice()),
-    }
-}
-
-fn is_unseen_in_group(place: &Place, group: &[Cmp]) -> bool
-    ensures { result ≡ list_any (any_of_cmp (operand_unseen place.now.sight)) group.now }
-{
-    group.iter().any(|cmp| is_unseen_in_cmp(place, cmp))
-}
-
-fn is_unseen_in_groups(place: &Place, groups: &[Seq<Cmp>]) -> bool
-    ensures { result ≡ list_any (λ (group : List Cmp). list_any (any_of_cmp (operand_unseen place.now.sight)) group) groups.now }
-{
-    groups
-        .iter()
-        .any(|group| is_unseen_in_group(place, group.as_slice()))
-}
-
-fn is_unseen_in_part(place: &Place, part: &Part) -> bool
-    ensures { result ≡ any_of_part (operand_unseen place.now.sight) part.now }
-{
-    match part {
-        Part::AnyOf(groups) => is_unseen_in_groups(place, groups.as_slice()),
-        _ => false,
-    }
-}
-
-fn is_unseen_in_parts(place: &Place, parts: &[Part]) -> bool
+fn is_some_unseen(place: &Place, parts: &[Part]) -> bool
     ensures { result ≡ list_any (any_of_part (operand_unseen place.now.sight)) parts.now }
 {
-    parts.iter().any(|part| is_unseen_in_part(place, part))
+    let test = Unseen { place };
+    parts.iter().any(|part| some_operand(&test, part))
 }
 
 /// Whether a condition names a variable that is not in sight.
@@ -180,7 +164,7 @@ pub(crate) fn lacks_variable(place: &Place, condition: &CondTree) -> bool
     ensures { result ≡ has_unknown_variable place.now condition.now }
 {
     match condition {
-        CondTree::Plain(source) => is_unseen_in_parts(place, source.parts.as_slice()),
+        CondTree::Plain(source) => is_some_unseen(place, source.parts.as_slice()),
         _ => false,
     }
 }

@@ -1,0 +1,9 @@
+use Rattle.std.proofs.Common.{◌≡◌, ◌≤◌, drop, length}
+use Rattle.drl_check.specs.Kinds.{args_misfit}
+use Rattle.drl_check.proofs.action_kinds.do_args_misfit.Given as goal
+
+abbrev pub invariant-loop-k : goal.invariant-loop-k
+invariant-loop-k l = record {
+  same : args_misfit l.place.sight (drop l.k l.fields) (drop l.k l.args) ≡ args_misfit l.place.sight l.fields l.args;
+  within : l.k ≤ length l.fields;
+}
