@@ -1,5 +1,5 @@
 -- What a session answers in the worlds for which it stands.
-use Rattle.std.proofs.Common.{◌≡◌, ℕ, ◌+◌, ◌&&◌, ◌≤◌, Bool, true, false, List, [], ◌∷◌, ◌++◌, map, length, nat_le, Option, Some, None, is_some, Result, refl, sym, ◌∙◌, ap, subst, arith}
+use Rattle.std.proofs.Common.{◌≡◌, ℕ, ◌+◌, ◌&&◌, ◌≤◌, Bool, true, false, List, [], ◌∷◌, ◌++◌, map, length, nat_le, Option, Some, None, is_some, option_map, Result, refl, sym, ◌∙◌, ap, subst, arith}
 use Rattle.std.specs.List.{flat_map, list_all}
 use Rattle.std.proofs.lemmas.Bool.Decides.{nat_tests}
 use Rattle.fx_base.specs.declared.fact.Fact.{Fact}
@@ -81,6 +81,10 @@ kept facts a id tag = record { facts = facts; agenda = a; next_id = id; next_tag
 pub from_parts : (k : Kept) (facts : List Fact) (a : Held) (id tag : ℕ) → k.facts ≡ facts → k.agenda ≡ a → k.next_id ≡ id → k.next_tag ≡ tag → k ≡ kept facts a id tag
 from_parts k facts a id tag f h i t =
     ap (λ z. kept z k.agenda k.next_id k.next_tag) f ∙ ap (λ z. kept facts z k.next_id k.next_tag) h ∙ ap (λ z. kept facts a z k.next_tag) i ∙ ap (kept facts a id) t
+
+pub some_mapped : {A B : Type 0} (f : A → B) (o : Option A) → is_some o ≡ is_some (option_map f o)
+some_mapped f None = refl
+some_mapped f (Some x) = refl
 
 -- ---- changes
 
