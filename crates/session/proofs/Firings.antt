@@ -1,23 +1,119 @@
--- What a firing answers.
-use Rattle.std.proofs.Common.{◌≡◌, true, false, List, [], ◌∷◌, Option, Some, None, is_some, refl, sym, ◌∙◌, ap, subst}
+-- What fires, and the world in which a match is marked.
+use Rattle.std.proofs.Common.{◌≡◌, ℕ, ◌&&◌, ◌||◌, not, Bool, true, false, List, [], ◌∷◌, ◌++◌, Option, Some, None, is_some, option_map, slice_get, Result, refl, sym, ◌∙◌, ap, subst}
+use Rattle.std.specs.Ordering.{eq_by_cmp}
+use Rattle.fx_base.specs.declared.fact.Fact.{Fact}
 use Rattle.rule_model.specs.declared.matched.Match.{Match}
-use Rattle.rule_model.specs.Worlds.{World, marked}
+use Rattle.rule_model.specs.declared.program.Rule.{Rule}
+use Rattle.rule_model.specs.declared.step.Step.{Step}
+use Rattle.rule_model.specs.Matches.{matches, has_match, match_cmp, fire_cmp, saliences}
+use Rattle.rule_model.specs.MatchOrders.{match_equiv, fire_total}
+use Rattle.rule_model.specs.First.{first}
+use Rattle.rule_model.specs.Worlds.{World, pending, marked, first_pending}
+use Rattle.rule_model.proofs.Exact.{fire_exact}
+use Rattle.rule_model.proofs.Firsts.{first_alike, first_in}
+use Rattle.rule_model.proofs.Fresh.{and_parts}
+use Rattle.rule_model.proofs.Pending.{has_pending, by_fire}
+use Rattle.rule_model.proofs.Steps.{firing_lawful}
+use Rattle.agenda.specs.Agendas.{Held}
+use Rattle.change_read.specs.declared.code.Code.{Code}
 use Rattle.session.specs.declared.lines.OutLine.{OutLine}
 use Rattle.session.specs.declared.lines.Fired.TheVariants.{No, Yes}
-use Rattle.session.specs.Gives.{fires_with, fire_line}
-use Rattle.session.specs.Standing.{FiringAnswers}
+use Rattle.session.specs.Gives.{actions_of, does_all, fire_line, fires_with, wanted}
+use Rattle.session.specs.Places.{planned}
+use Rattle.session.specs.Standing.{AgendaStands, FiringAnswers, Kept, Standing}
+use Rattle.session.proofs.Stands.{kept}
+use Rattle.session.proofs.Versions.{planned_wanted}
 
-pub some_fires : (w : World) (o : Option Match) → is_some (fires_with w o) ≡ is_some o
-some_fires w None = refl
-some_fires w (Some m) = refl
+-- the pending match that fires first
+abbrev pub top_of : Held → Option Match
+top_of a = first (fire_cmp a.saliences) a.pending
 
-pub no_fire : (o : Option Match) (w : World) (S : World → Type 0) → is_some o ≡ false → S w → FiringAnswers (fires_with w o) No w S
-no_fire None w S e s = (refl, s)
-no_fire (Some m) w S e s = absurd (let h : true ≡ false = e in cc)
+-- the agenda's first is the world's
+pub same_first : (rules : List Rule) (a : Held) (w : World) → AgendaStands rules a w → top_of a ≡ first_pending rules w
+same_first rules a w s =
+    ap (λ z. first (fire_cmp z) a.pending) s.saliences
+    ∙ first_alike (fire_cmp (saliences rules)) (fire_total (saliences rules)) (fire_exact (saliences rules)) a.pending (pending rules w)
+    (λ q. by_fire (saliences rules) q a.pending ∙ s.pending q ∙ sym (by_fire (saliences rules) q (pending rules w)))
 
-pub yes_fire : (o : Option Match) (w : World) (S : World → Type 0) (m : Match) (lines : List OutLine) → o ≡ Some m → lines ≡ fire_line m ∷ []
-    → S (marked w m) → FiringAnswers (fires_with w o) (Yes lines) w S
-yes_fire None w S m lines e l s = absurd (cc)
-yes_fire (Some n) w S m lines e l s =
-    let h : n ≡ m = cc in
-    (ap Yes (l ∙ ap (λ z. fire_line z ∷ []) (sym h)), subst (λ z. S (marked w z)) (sym h) s)
+top_pending : (rules : List Rule) (a : Held) (w : World) (m : Match) → AgendaStands rules a w → Some m ≡ top_of a → has_match (pending rules w) m ≡ true
+top_pending rules a w m s top =
+    sym (s.pending m) ∙ sym (by_fire a.saliences m a.pending) ∙ first_in (fire_cmp a.saliences) (fire_total a.saliences) (fire_exact a.saliences) a.pending m (sym top)
+
+top_match : (rules : List Rule) (a : Held) (w : World) (m : Match) → AgendaStands rules a w → Some m ≡ top_of a → has_match (matches rules w.facts) m ≡ true
+top_match rules a w m s top =
+    (and_parts (has_match (matches rules w.facts) m) (not (has_match w.fired m)) (sym (has_pending rules w m) ∙ top_pending rules a w m s top)).0
+
+-- ---- marking
+
+moved : (r f s : Bool) → ((r && not f) && not s) ≡ (r && not (s || f))
+moved true true true = refl
+moved true true false = refl
+moved true false true = refl
+moved true false false = refl
+moved false f s = refl
+
+or_flip : (a b : Bool) → (a || b) ≡ (b || a)
+or_flip true true = refl
+or_flip true false = refl
+or_flip false true = refl
+or_flip false false = refl
+
+-- a session whose first match was marked
+pub marked_stands : (rules : List Rule) (facts : List Fact) (a b : Held) (id tag : ℕ) (w : World) (m : Match) → Standing rules (kept facts a id tag) w → b.saliences ≡ a.saliences
+    → Some m ≡ top_of a
+    → ((q : Match) → has_match b.pending q ≡ (has_match a.pending q && not (eq_by_cmp match_cmp m q)))
+    → ((q : Match) → has_match b.fired q ≡ (has_match a.fired q || eq_by_cmp match_cmp m q))
+    → Standing rules (kept facts b id tag) (marked w m)
+marked_stands rules facts a b id tag w m st sal top p f =
+    let s : AgendaStands rules a w = st.agenda in
+    record {
+      lawful = firing_lawful rules w m st.lawful (top_pending rules a w m s top);
+      facts = st.facts;
+      next_id = st.next_id;
+      next_tag = st.next_tag;
+      agenda = record {
+        saliences = sal ∙ s.saliences;
+        pending = λ q.
+            p q ∙ ap (λ z. z && not (eq_by_cmp match_cmp m q)) (s.pending q ∙ has_pending rules w q)
+            ∙ ap (λ z. (has_match (matches rules w.facts) q && not (has_match w.fired q)) && not z) (match_equiv.symm m q)
+            ∙ moved (has_match (matches rules w.facts) q) (has_match w.fired q) (eq_by_cmp match_cmp q m)
+            ∙ sym (has_pending rules (marked w m) q);
+        fired = λ q.
+            f q ∙ ap (λ z. z || eq_by_cmp match_cmp m q) (s.fired q) ∙ ap (λ z. has_match w.fired q || z) (match_equiv.symm m q)
+            ∙ or_flip (has_match w.fired q) (eq_by_cmp match_cmp q m);
+      };
+    }
+
+-- ---- answers
+
+some_fires : (rules : List Rule) (w : World) (o : Option Match) → is_some (fires_with rules w o) ≡ is_some o
+some_fires rules w None = refl
+some_fires rules w (Some m) = refl
+
+pub due_fires : (rules : List Rule) (k : Kept) (w : World) → Standing rules k w → is_some (top_of k.agenda) ≡ is_some (fires_with rules w (first_pending rules w))
+due_fires rules k w st = ap is_some (same_first rules k.agenda w st.agenda) ∙ sym (some_fires rules w (first_pending rules w))
+
+abbrev pub plan_of : List Rule → Kept → Option Match → Option (List (Result Step Code))
+plan_of rules k o = option_map (λ (m : Match). planned k.facts m.row (actions_of (slice_get rules m.rule.0))) o
+
+pub no_fire : (rules : List Rule) (k : Kept) (w : World) (o : Option Match) → None ≡ plan_of rules k o → Standing rules k w → o ≡ first_pending rules w
+    → FiringAnswers (fires_with rules w (first_pending rules w)) No w (Standing rules k)
+no_fire rules k w None e st top = subst (λ (z : Option Match). FiringAnswers (fires_with rules w z) No w (Standing rules k)) top (refl, st)
+no_fire rules k w (Some m) e st top = absurd (cc)
+
+abbrev answers : List Rule → World → Kept → List OutLine → Option Match → Type 0
+answers rules w t lines o = FiringAnswers (fires_with rules w o) (Yes lines) w (Standing rules t)
+
+pub yes_fire : (rules : List Rule) (k t : Kept) (w : World) (plan : List (Result Step Code)) (lines : List OutLine) (o : Option Match) → Some plan ≡ plan_of rules k o → Standing rules k w → o ≡ top_of k.agenda
+    → ((m : Match) → Some m ≡ top_of k.agenda → Standing rules t (does_all rules (marked w m) plan).1)
+    → ((m : Match) → Some m ≡ top_of k.agenda → lines ≡ fire_line m ∷ [] ++ (does_all rules (marked w m) plan).0)
+    → answers rules w t lines (first_pending rules w)
+yes_fire rules k t w plan lines None e st top stands written = absurd (cc)
+yes_fire rules k t w plan lines (Some m) e st top stands written =
+    let actions = actions_of (slice_get rules m.rule.0) in
+    let first_is : first_pending rules w ≡ Some m = sym (top ∙ same_first rules k.agenda w st.agenda) in
+    let given : plan ≡ planned k.facts m.row actions = cc in
+    let same : plan ≡ wanted w.facts m.row actions =
+    given ∙ ap (λ facts. planned facts m.row actions) st.facts ∙ planned_wanted rules w m actions st.lawful (top_match rules k.agenda w m st.agenda top) in
+    subst (answers rules w t lines) (sym first_is)
+    (ap Yes (written m top ∙ ap (λ z. fire_line m ∷ [] ++ (does_all rules (marked w m) z).0) same), subst (λ z. Standing rules t (does_all rules (marked w m) z).1) same (stands m top))

@@ -1,4 +1,8 @@
+pub mod Ids
 pub mod Rules
-pub mod Fresh
+pub mod Reordered
 pub mod Stands
+pub mod Tried
+pub mod Versions
 pub mod Firings
+pub mod Sessions

@@ -1,5 +1,5 @@
--- Matches, rule by rule, and those that come with a fact.
-use Rattle.std.proofs.Common.{◌≡◌, ℕ, ◌+◌, ◌<◌, ◌≤◌, ◌==◌, ◌&&◌, ◌||◌, ◌⊎◌, inl, inr, not, Bool, true, false, List, [], ◌∷◌, ◌++◌, map, length, take, get_or, refl, sym, ◌∙◌, ap, subst, arith}
+-- Matches, rule by rule, and what the differences of the rules do to an agenda.
+use Rattle.std.proofs.Common.{◌≡◌, ℕ, ◌+◌, ◌<◌, ◌≤◌, ◌==◌, ◌&&◌, ◌||◌, not, Bool, true, false, List, [], ◌∷◌, ◌++◌, map, length, take, get_or, refl, sym, ◌∙◌, ap, subst, arith}
 use Rattle.std.specs.Ordering.{eq_by_cmp}
 use Rattle.std.proofs.lemmas.Bool.Decides.{nat_tests}
 use Rattle.std.proofs.lemmas.Grind.{common_steps}
@@ -14,9 +14,9 @@ use Rattle.rule_model.specs.declared.program.Rule.{Rule}
 use Rattle.rule_model.specs.Rows.{rows}
 use Rattle.rule_model.specs.Matches.{match_of, match_cmp, matches, matches_from, rows_by_rule, has_match}
 use Rattle.rule_model.proofs.Exact.{match_parts}
-use Rattle.rule_rows.specs.Found.{names_tag}
+use Rattle.rule_rows.specs.Found.{IsDifference}
 use Rattle.agenda.specs.Agendas.{Held, IsChanged}
-use Rattle.session.specs.Added.{Adds}
+use Rattle.session.specs.Refreshed.{IsRefreshed}
 
 flip : (a b : ℕ) (t : Bool) → (a == b) ≡ t → (b == a) ≡ t
 flip a b t e = grind (arith, nat_tests)
@@ -36,15 +36,13 @@ or_assoc : (a b c : Bool) → ((a || b) || c) ≡ (a || (b || c))
 or_assoc true b c = refl
 or_assoc false b c = refl
 
+and_true : (a : Bool) → (a && true) ≡ a
+and_true true = refl
+and_true false = refl
+
 or_false : (a : Bool) → (a || false) ≡ a
 or_false true = refl
 or_false false = refl
-
-shuffled : (a b c d : Bool) → ((a || b) || (c || d)) ≡ ((a || c) || (b || d))
-shuffled true b c d = refl
-shuffled false true true d = refl
-shuffled false true false d = refl
-shuffled false false c d = refl
 
 -- the matches of one rule more
 rule_more : (facts : List Fact) (j : ℕ) (rules : List Rule) (rule : Rule) (m : Match)
@@ -76,68 +74,96 @@ upto_more facts rules k rule m lt is =
     ap (λ rs. has_match (matches rs facts) m) s ∙ rule_more facts 0 (take k rules) rule m
     ∙ ap (λ z. upto facts rules k m || (z == m.rule.0 && has (rows facts rule) m.row)) n
 
-or_split : (a b : Bool) → (a || b) ≡ true → (a ≡ true) ⊎ (b ≡ true)
-or_split true b e = inl refl
-or_split false b e = inr e
-
--- nothing is added
-pub adds_none : (f : Fact) (row : Row) (before : Bool) → Adds false false f row before before
-adds_none f row before = record { come = false; after = sym (or_false before); grown = refl; named = λ e. let h : false ≡ true = e in cc }
-
-pub none_yet : (facts : List Fact) (f : Fact) (rules : List Rule) (m : Match) (before : Bool) → Adds (upto facts rules 0 m) (upto (facts ++ f ∷ []) rules 0 m) f m.row before before
-unfolding matches_from
-none_yet facts f rules m before = adds_none f m.row before
-
--- the loop over the rules: one rule more
-pub rule_turn : (facts : List Fact) (f : Fact) (rules : List Rule) (k : ℕ) (rule : Rule) (m : Match) (before between after : Bool) → k < length rules → rule ≡ get_or rules k rule
-    → Adds (upto facts rules k m) (upto (facts ++ f ∷ []) rules k m) f m.row before between
-    → Adds (k == m.rule.0 && has (rows facts rule) m.row) (k == m.rule.0 && has (rows (facts ++ f ∷ []) rule) m.row) f m.row between after
-    → Adds (upto facts rules (k + 1) m) (upto (facts ++ f ∷ []) rules (k + 1) m) f m.row before after
-rule_turn facts f rules k rule m before between after lt is a b = record {
-  come = a.come || b.come;
-  after = b.after ∙ ap (λ z. z || b.come) a.after ∙ or_assoc before a.come b.come;
-  grown =
-      upto_more (facts ++ f ∷ []) rules k rule m lt is
-      ∙ ap (λ z. z || (k == m.rule.0 && has (rows (facts ++ f ∷ []) rule) m.row)) a.grown
-      ∙ ap (λ z. (upto facts rules k m || a.come) || z) b.grown
-      ∙ shuffled (upto facts rules k m) a.come (k == m.rule.0 && has (rows facts rule) m.row) b.come
-      ∙ ap (λ z. z || (a.come || b.come)) (sym (upto_more facts rules k rule m lt is));
-  named = λ e. elim (or_split a.come b.come e) [ inl h ↦ a.named h | inr h ↦ b.named h ];
-}
-
 all_taken : (rules : List Rule) (k : ℕ) → length rules ≤ k → take k rules ≡ rules
 all_taken rules k h = grind (arith, common_steps)
 
--- the loop over the rules is done
-pub rules_done : (facts : List Fact) (f : Fact) (rules : List Rule) (k : ℕ) (m : Match) (before after : Bool) → length rules ≤ k
-    → Adds (upto facts rules k m) (upto (facts ++ f ∷ []) rules k m) f m.row before after
-    → Adds (has_match (matches rules facts) m) (has_match (matches rules (facts ++ f ∷ [])) m) f m.row before after
-rules_done facts f rules k m before after h a =
-    subst (λ (rs : List Rule). Adds (has_match (matches rs facts) m) (has_match (matches rs (facts ++ f ∷ [])) m) f m.row before after) (all_taken rules k h) a
+-- ---- the first rules have no match of a later one
 
-and_right : (a b : Bool) → (a && b) ≡ true → b ≡ true
-and_right true b e = e
-and_right false b e = cc
+or_no : (a b : Bool) → a ≡ false → b ≡ false → (a || b) ≡ false
+or_no true b e h = cc
+or_no false b e h = h
 
-none_gone : (p t : Bool) (c : Bool) → ((p && not (t && false)) || c) ≡ (p || c)
-none_gone true true c = refl
-none_gone true false c = refl
-none_gone false t c = refl
+other_number : (j n : ℕ) → j + 1 ≤ n → (j == n) ≡ false
+other_number j n le = grind (arith, nat_tests)
 
-parted : (t a o c : Bool) → a ≡ (o || c) → (t && a) ≡ ((t && o) || (t && c))
-parted true a o c e = e
-parted false a o c e = refl
+before_rule : (facts : List Fact) (j : ℕ) (rules : List Rule) (m : Match) → j + length rules ≤ m.rule.0 → has_match (matches_from j (rows_by_rule facts rules)) m ≡ false
+unfolding matches_from
+before_rule facts j [] m le = refl
+before_rule facts j (rule ∷ rules) m le =
+    list_any-append (eq_by_cmp match_cmp m) (map (match_of j) (rows facts rule)) (matches_from (j + 1) (rows_by_rule facts rules))
+    ∙ or_no _ _ (with_rule j (rows facts rule) m false (other_number j m.rule.0 (omega arith))) (before_rule facts (j + 1) rules m (omega arith))
 
--- what a difference with these rows adds to an agenda
-pub change_adds : (place : ℕ) (facts : List Fact) (f : Fact) (rule : Rule) (d : Delta) (a b : Held) → IsChanged place d a b → d.gone ≡ []
-    → ((row : Row) → has (rows (facts ++ f ∷ []) rule) row ≡ (has (rows facts rule) row || has d.come row))
-    → ((row : Row) → has d.come row ≡ true → names_tag f.tag row ≡ true)
-    → (m : Match) → Adds (place == m.rule.0 && has (rows facts rule) m.row) (place == m.rule.0 && has (rows (facts ++ f ∷ []) rule) m.row) f m.row (has_match a.pending m) (has_match b.pending m)
-change_adds place facts f rule d a b ch gone grown named m = record {
-  come = place == m.rule.0 && has d.come m.row;
-  after =
-      ch.pending m ∙ ap (λ (rs : List Row). (has_match a.pending m && not (place == m.rule.0 && has rs m.row)) || (place == m.rule.0 && has d.come m.row)) gone
-      ∙ none_gone (has_match a.pending m) (place == m.rule.0) (place == m.rule.0 && has d.come m.row);
-  grown = parted (place == m.rule.0) (has (rows (facts ++ f ∷ []) rule) m.row) (has (rows facts rule) m.row) (has d.come m.row) (grown m.row);
-  named = λ e. named m.row (and_right (place == m.rule.0) (has d.come m.row) e);
+upto_none : (facts : List Fact) (rules : List Rule) (k : ℕ) (m : Match) → k < length rules → (k == m.rule.0) ≡ true → upto facts rules k m ≡ false
+upto_none facts rules k m lt e =
+    let same : k ≡ m.rule.0 = grind (arith, nat_tests) in
+    let n : 0 + length (take k rules) ≡ k = grind (arith, common_steps) in
+    before_rule facts 0 (take k rules) m (omega arith)
+
+-- ---- the loop over the rules
+
+-- for a match of this rule (t), for another match (not t): before the turn, over the old and the new facts; the rule's own rows
+turned_pending : (t : Bool) (p was is old new : Bool) → (t ≡ true → was ≡ false) → (t ≡ true → is ≡ false)
+    → ((((p && not (was && not is)) || (is && not was)) && not (t && (old && not new))) || (t && (new && not old)))
+    ≡ ((p && not ((was || (t && old)) && not (is || (t && new)))) || ((is || (t && new)) && not (was || (t && old))))
+turned_pending false p was is old new w i =
+    let a : (was || false) ≡ was = or_false was in
+    let b : (is || false) ≡ is = or_false is in
+    or_false _ ∙ and_true ((p && not (was && not is)) || (is && not was)) ∙ ap (λ z. (p && not (z && not is)) || (is && not z)) (sym a) ∙ ap (λ z. (p && not ((was || false) && not z)) || (z && not (was || false))) (sym b)
+turned_pending true p true is old new w i = let e : true ≡ false = w refl in cc
+turned_pending true p false true old new w i = let e : true ≡ false = i refl in cc
+turned_pending true true false false old new w i = refl
+turned_pending true false false false old new w i = refl
+
+turned_fired : (t : Bool) (p was is old new : Bool) → (t ≡ true → was ≡ false) → (t ≡ true → is ≡ false)
+    → ((p && not (was && not is)) && not (t && (old && not new))) ≡ (p && not ((was || (t && old)) && not (is || (t && new))))
+turned_fired false p was is old new w i =
+    and_true (p && not (was && not is)) ∙ ap (λ z. p && not (z && not is)) (sym (or_false was)) ∙ ap (λ z. p && not ((was || false) && not z)) (sym (or_false is))
+turned_fired true p true is old new w i = let e : true ≡ false = w refl in cc
+turned_fired true p false true old new w i = let e : true ≡ false = i refl in cc
+turned_fired true true false false old new w i = refl
+turned_fired true false false false old new w i = refl
+
+-- nothing is done before the first turn
+pub none_yet : (old new : List Fact) (rules : List Rule) (a : Held) → IsRefreshed (take 0 rules) old new a a
+unfolding matches_from
+none_yet old new rules a = record {
+  saliences = refl;
+  pending = λ m. sym (or_false _ ∙ and_true (has_match a.pending m));
+  fired = λ m. sym (and_true (has_match a.fired m));
 }
+
+-- one rule more
+pub rule_turn : (old new : List Fact) (rules : List Rule) (k : ℕ) (rule : Rule) (d : Delta) (a b c : Held) → k < length rules → rule ≡ get_or rules k rule
+    → IsDifference (rows old rule) (rows new rule) d → IsRefreshed (take k rules) old new a b → IsChanged k d b c → IsRefreshed (take (k + 1) rules) old new a c
+rule_turn old new rules k rule d a b c lt is diff r ch = record {
+  saliences = ch.saliences ∙ r.saliences;
+  pending = λ m.
+      let t = k == m.rule.0 in
+      let was = upto old rules k m in
+      let now = upto new rules k m in
+      let before = has (rows old rule) m.row in
+      let after = has (rows new rule) m.row in
+      ch.pending m
+      ∙ ap (λ z. (z && not (t && has d.gone m.row)) || (t && has d.come m.row)) (r.pending m)
+      ∙ ap (λ z. (((has_match a.pending m && not (was && not now)) || (now && not was)) && not (t && z)) || (t && has d.come m.row)) (diff.gone m.row)
+      ∙ ap (λ z. (((has_match a.pending m && not (was && not now)) || (now && not was)) && not (t && (before && not after))) || (t && z)) (diff.come m.row)
+      ∙ turned_pending t (has_match a.pending m) was now before after (upto_none old rules k m lt) (upto_none new rules k m lt)
+      ∙ ap (λ z. (has_match a.pending m && not (z && not (now || (t && after)))) || ((now || (t && after)) && not z)) (sym (upto_more old rules k rule m lt is))
+      ∙ ap (λ z. (has_match a.pending m && not (upto old rules (k + 1) m && not z)) || (z && not (upto old rules (k + 1) m))) (sym (upto_more new rules k rule m lt is));
+  fired = λ m.
+      let t = k == m.rule.0 in
+      let was = upto old rules k m in
+      let now = upto new rules k m in
+      let before = has (rows old rule) m.row in
+      let after = has (rows new rule) m.row in
+      ch.fired m
+      ∙ ap (λ z. z && not (t && has d.gone m.row)) (r.fired m)
+      ∙ ap (λ z. (has_match a.fired m && not (was && not now)) && not (t && z)) (diff.gone m.row)
+      ∙ turned_fired t (has_match a.fired m) was now before after (upto_none old rules k m lt) (upto_none new rules k m lt)
+      ∙ ap (λ z. has_match a.fired m && not (z && not (now || (t && after)))) (sym (upto_more old rules k rule m lt is))
+      ∙ ap (λ z. has_match a.fired m && not (upto old rules (k + 1) m && not z)) (sym (upto_more new rules k rule m lt is));
+}
+
+-- all rules are done
+pub rules_done : (old new : List Fact) (rules : List Rule) (k : ℕ) (a b : Held) → length rules ≤ k → IsRefreshed (take k rules) old new a b → IsRefreshed rules old new a b
+rules_done old new rules k a b h r = subst (λ (rs : List Rule). IsRefreshed rs old new a b) (all_taken rules k h) r

@@ -1,137 +1,88 @@
--- An agenda stands for the world after an insertion, and after a firing.
-use Rattle.std.proofs.Common.{◌≡◌, ℕ, pos, ◌+◌, ◌&&◌, ◌||◌, ◌⊎◌, inl, inr, not, Bool, true, false, List, [], ◌∷◌, ◌++◌, Some, refl, sym, ◌∙◌, ap, subst}
-use Rattle.std.specs.Ordering.{eq_by_cmp}
-use Rattle.std.specs.List.{list_all}
-use Rattle.std.proofs.lemmas.Map.Views.{tells_apart}
+-- A session stands for the world after a step.
+use Rattle.std.proofs.Common.{◌≡◌, ℕ, suc, pos, ◌+◌, ◌<◌, ◌&&◌, ◌||◌, not, Bool, true, false, List, [], ◌∷◌, ◌++◌, length, take, drop, get_or, refl, sym, ◌∙◌, ap, subst, arith}
+use Rattle.std.specs.List.{insert, remove}
+use Rattle.std.proofs.lemmas.Grind.{common_steps}
+use Rattle.fx_base.specs.declared.ids.FactId.{FactId}
+use Rattle.fx_base.specs.declared.ids.TypeId.{TypeId}
+use Rattle.fx_base.specs.declared.value.Value.{Value}
 use Rattle.fx_base.specs.declared.fact.Fact.{Fact}
 use Rattle.rule_model.specs.declared.matched.Match.{Match}
 use Rattle.rule_model.specs.declared.program.Rule.{Rule}
-use Rattle.rule_model.specs.Matches.{matches, has_match, match_cmp, fire_cmp, saliences}
-use Rattle.rule_model.specs.MatchOrders.{match_equiv, fire_total}
-use Rattle.rule_model.specs.First.{first}
-use Rattle.rule_model.specs.Worlds.{World, pending, still_fired, inserted, marked, first_pending, empty_world}
-use Rattle.rule_model.specs.Programs.{has_conditions}
-use Rattle.rule_model.proofs.Exact.{match_exact, fire_exact}
-use Rattle.rule_model.proofs.Pending.{has_pending, has_still, by_fire}
-use Rattle.rule_model.proofs.Firsts.{first_alike, first_in}
+use Rattle.rule_model.specs.declared.step.Step.TheVariants.{Insert, Modify, Retract}
+use Rattle.rule_model.specs.Distinct.{HaveDistinctTags}
+use Rattle.rule_model.specs.Lawful.{IsLawful, IdsRise}
+use Rattle.rule_model.specs.Matches.{matches, has_match}
+use Rattle.rule_model.specs.Worlds.{World, revised, revised_in, without, left_with, stepped}
+use Rattle.rule_model.proofs.Fresh.{below_of, distinct_more}
+use Rattle.rule_model.proofs.Pending.{has_pending, has_still}
+use Rattle.rule_model.proofs.Steps.{step_lawful}
 use Rattle.agenda.specs.Agendas.{Held}
-use Rattle.fx_base.specs.declared.ids.TypeId.{TypeId}
-use Rattle.fx_base.specs.declared.value.Value.{Value}
-use Rattle.rule_model.specs.declared.program.Program.{Program}
-use Rattle.rule_model.specs.Worlds.{new_fact}
-use Rattle.session.specs.Standing.{AgendaStands, Kept, Standing, Shown, Stands, tags_below}
-use Rattle.session.specs.Added.{Adds}
-use Rattle.session.proofs.Fresh.{new_match, tags_grow, no_matches}
+use Rattle.session.specs.Places.{IsAt}
+use Rattle.session.specs.Refreshed.{IsRefreshed}
+use Rattle.session.specs.Standing.{AgendaStands, Kept, Standing}
+use Rattle.session.proofs.Ids.{split_at, without_at, revised_at, rise_without, rise_revised}
+use Rattle.session.proofs.Reordered.{moved_matches, distinct_end, distinct_both}
 
--- pending after an insertion: over the older matches, the new ones and the fired ones
-kernel_pending : (old new fired : Bool) → (new ≡ true → old ≡ true → ⊥) → (fired ≡ true → old ≡ true)
-    → ((old && not fired) || new) ≡ ((old || new) && not (fired && (old || new)))
-kernel_pending true true fired apart lawful = absurd (apart refl refl)
-kernel_pending true false true apart lawful = refl
-kernel_pending true false false apart lawful = refl
-kernel_pending false true true apart lawful = let e : false ≡ true = lawful refl in cc
-kernel_pending false true false apart lawful = refl
-kernel_pending false false fired apart lawful = refl
+-- of one match: whether it was one before, is one now, and was fired
+kernel_pending : (was is fired : Bool) → (fired ≡ true → was ≡ true)
+    → (((was && not fired) && not (was && not is)) || (is && not was)) ≡ (is && not (fired && is))
+kernel_pending true true true lawful = refl
+kernel_pending true true false lawful = refl
+kernel_pending true false true lawful = refl
+kernel_pending true false false lawful = refl
+kernel_pending false is true lawful = let e : false ≡ true = lawful refl in cc
+kernel_pending false true false lawful = refl
+kernel_pending false false false lawful = refl
 
-kernel_fired : (old new fired : Bool) → (fired ≡ true → old ≡ true) → fired ≡ (fired && (old || new))
-kernel_fired old new false lawful = refl
-kernel_fired true new true lawful = refl
-kernel_fired false new true lawful = let e : false ≡ true = lawful refl in cc
+kernel_fired : (was is fired : Bool) → (fired ≡ true → was ≡ true) → (fired && not (was && not is)) ≡ (fired && is)
+kernel_fired true true true lawful = refl
+kernel_fired true false true lawful = refl
+kernel_fired false is true lawful = let e : false ≡ true = lawful refl in cc
+kernel_fired was is false lawful = refl
 
-and_right : (a b : Bool) → (a && b) ≡ true → b ≡ true
-and_right true b e = e
-and_right false b e = cc
+-- an agenda that was refreshed stands for the world with the new facts
+pub refreshed_stands : (rules : List Rule) (a b : Held) (w : World) (old new facts : List Fact) (id tag : ℕ) → IsLawful rules w → AgendaStands rules a w
+    → ((m : Match) → has_match (matches rules old) m ≡ has_match (matches rules w.facts) m) → ((m : Match) → has_match (matches rules new) m ≡ has_match (matches rules facts) m)
+    → IsRefreshed rules old new a b → AgendaStands rules b (left_with rules w facts id tag)
+refreshed_stands rules a b w old new facts id tag lawful s before after r = record {
+  saliences = r.saliences ∙ s.saliences;
+  pending = λ m.
+      let p = has_match (matches rules old) m in
+      let q = has_match (matches rules new) m in
+      let was = has_match (matches rules w.facts) m in
+      let now = has_match (matches rules facts) m in
+      let fired = has_match w.fired m in
+      r.pending m
+      ∙ ap (λ z. (z && not (p && not q)) || (q && not p)) (s.pending m ∙ has_pending rules w m)
+      ∙ ap (λ z. ((was && not fired) && not (z && not q)) || (q && not z)) (before m)
+      ∙ ap (λ z. ((was && not fired) && not (was && not z)) || (z && not was)) (after m)
+      ∙ kernel_pending was now fired (lawful.fired m)
+      ∙ sym (has_pending rules (left_with rules w facts id tag) m ∙ ap (λ z. now && not z) (has_still rules facts w.fired m));
+  fired = λ m.
+      let q = has_match (matches rules new) m in
+      let was = has_match (matches rules w.facts) m in
+      let fired = has_match w.fired m in
+      r.fired m
+      ∙ ap (λ z. z && not (has_match (matches rules old) m && not q)) (s.fired m)
+      ∙ ap (λ z. fired && not (z && not q)) (before m)
+      ∙ ap (λ z. fired && not (was && not z)) (after m)
+      ∙ kernel_fired was (has_match (matches rules facts) m) fired (lawful.fired m)
+      ∙ sym (has_still rules facts w.fired m);
+}
 
--- a session after an insertion
-pub inserted_stands : (rules : List Rule) (k : Kept) (b : Held) (f : Fact) (w : World) → Standing rules k w
-    → f.tag.0 ≡ k.next → b.saliences ≡ k.agenda.saliences
-    → ((m : Match) → Adds (has_match (matches rules k.facts) m) (has_match (matches rules (k.facts ++ f ∷ [])) m) f m.row (has_match k.agenda.pending m) (has_match b.pending m))
-    → ((m : Match) → has_match b.fired m ≡ has_match k.agenda.fired m)
-    → Standing rules (record { facts = k.facts ++ f ∷ []; agenda = b; next = k.next + 1 }) (inserted rules w f)
-inserted_stands rules k b f w s tag sal p fi =
-    let adds : (m : Match) → Adds (has_match (matches rules w.facts) m) (has_match (matches rules (w.facts ++ f ∷ [])) m) f m.row (has_match k.agenda.pending m) (has_match b.pending m) =
-    subst (λ (facts : List Fact). (m : Match) → Adds (has_match (matches rules facts) m) (has_match (matches rules (facts ++ f ∷ [])) m) f m.row (has_match k.agenda.pending m) (has_match b.pending m)) s.facts p in
-    let v : World = inserted rules w f in
-    let fresh : tags_below k.next w.facts ≡ true = subst (λ (facts : List Fact). tags_below k.next facts ≡ true) s.facts s.fresh in
-    let still : (m : Match) → has_match (still_fired rules (w.facts ++ f ∷ []) w.fired) m ≡ (has_match w.fired m && (has_match (matches rules w.facts) m || (adds m).come)) =
-    λ m. has_still rules (w.facts ++ f ∷ []) w.fired m ∙ ap (λ z. has_match w.fired m && z) (adds m).grown in
-    record {
-      facts = ap (λ (facts : List Fact). facts ++ f ∷ []) s.facts;
-      next_id = ap (λ n. n + 1) s.next_id;
-      next_tag = ap (λ n. n + 1) s.next_tag;
-      fresh = tags_grow k.next k.facts f s.fresh tag;
-      agenda = record {
-        saliences = sal ∙ s.agenda.saliences;
-        pending = λ m.
-            (adds m).after ∙ ap (λ z. z || (adds m).come) (s.agenda.pending m ∙ has_pending rules w m)
-            ∙ kernel_pending (has_match (matches rules w.facts) m) (adds m).come (has_match w.fired m)
-            (λ new. new_match rules w.facts f k.next fresh tag m ((adds m).named new)) (s.agenda.lawful m)
-            ∙ sym (has_pending rules v m ∙ ap (λ z. z && not (has_match v.fired m)) (adds m).grown ∙ ap (λ z. (has_match (matches rules w.facts) m || (adds m).come) && not z) (still m));
-        fired = λ m.
-            fi m ∙ s.agenda.fired m ∙ kernel_fired (has_match (matches rules w.facts) m) (adds m).come (has_match w.fired m) (s.agenda.lawful m)
-            ∙ sym (still m);
-        lawful = λ m e. and_right (has_match w.fired m) (has_match (matches rules (w.facts ++ f ∷ [])) m) (sym (has_still rules (w.facts ++ f ∷ []) w.fired m) ∙ e);
-      };
-    }
+abbrev pub world_of : List Fact → ℕ → ℕ → List Match → World
+world_of facts id tag fired = record { facts = facts; next_id = id; next_tag = tag; fired = fired }
 
--- the agenda's first is the world's
-pub same_first : (rules : List Rule) (a : Held) (w : World) → AgendaStands rules a w → first (fire_cmp a.saliences) a.pending ≡ first_pending rules w
-same_first rules a w s =
-    ap (λ z. first (fire_cmp z) a.pending) s.saliences
-    ∙ first_alike (fire_cmp (saliences rules)) (fire_total (saliences rules)) (fire_exact (saliences rules)) a.pending (pending rules w)
-    (λ q. by_fire (saliences rules) q a.pending ∙ s.pending q ∙ sym (by_fire (saliences rules) q (pending rules w)))
+abbrev pub kept : List Fact → Held → ℕ → ℕ → Kept
+kept facts a id tag = record { facts = facts; agenda = a; next_id = id; next_tag = tag }
 
-and_left : (a b : Bool) → (a && b) ≡ true → a ≡ true
-and_left true b e = refl
-and_left false b e = cc
-
-or_split : (a b : Bool) → (a || b) ≡ true → (a ≡ true) ⊎ (b ≡ true)
-or_split true b e = inl refl
-or_split false b e = inr e
-
-moved : (r f s : Bool) → ((r && not f) && not s) ≡ (r && not (s || f))
-moved true true true = refl
-moved true true false = refl
-moved true false true = refl
-moved true false false = refl
-moved false f s = refl
-
-or_flip : (a b : Bool) → (a || b) ≡ (b || a)
-or_flip true true = refl
-or_flip true false = refl
-or_flip false true = refl
-or_flip false false = refl
-
--- an agenda whose first match was fired
-pub fired_stands : (rules : List Rule) (a b : Held) (w : World) (m : Match) → AgendaStands rules a w → b.saliences ≡ a.saliences
-    → Some m ≡ first (fire_cmp a.saliences) a.pending
-    → ((q : Match) → has_match b.pending q ≡ (has_match a.pending q && not (eq_by_cmp match_cmp m q)))
-    → ((q : Match) → has_match b.fired q ≡ (has_match a.fired q || eq_by_cmp match_cmp m q))
-    → AgendaStands rules b (marked w m)
-fired_stands rules a b w m s sal top p f =
-    let v : World = marked w m in
-    let in_agenda : has_match a.pending m ≡ true =
-    sym (by_fire a.saliences m a.pending) ∙ first_in (fire_cmp a.saliences) (fire_total a.saliences) (fire_exact a.saliences) a.pending m (sym top) in
-    let is_match : has_match (matches rules w.facts) m ≡ true =
-    and_left (has_match (matches rules w.facts) m) (not (has_match w.fired m)) (sym (has_pending rules w m) ∙ sym (s.pending m) ∙ in_agenda) in
-    record {
-      saliences = sal ∙ s.saliences;
-      pending = λ q.
-          p q ∙ ap (λ z. z && not (eq_by_cmp match_cmp m q)) (s.pending q ∙ has_pending rules w q)
-          ∙ ap (λ z. (has_match (matches rules w.facts) q && not (has_match w.fired q)) && not z) (match_equiv.symm m q)
-          ∙ moved (has_match (matches rules w.facts) q) (has_match w.fired q) (eq_by_cmp match_cmp q m)
-          ∙ sym (has_pending rules v q);
-      fired = λ q.
-          f q ∙ ap (λ z. z || eq_by_cmp match_cmp m q) (s.fired q) ∙ ap (λ z. has_match w.fired q || z) (match_equiv.symm m q)
-          ∙ or_flip (has_match w.fired q) (eq_by_cmp match_cmp q m);
-      lawful = λ q e. elim (or_split (eq_by_cmp match_cmp q m) (has_match w.fired q) e) [
-        | inl h ↦ ap (has_match (matches rules w.facts)) (tells_apart match_exact q m h) ∙ is_match
-        | inr h ↦ s.lawful q h
-      ];
-    }
-
-abbrev shown : Program → List Fact → Held → ℕ → Shown
-shown p facts a n = record { program = p; kept = record { facts = facts; agenda = a; next = n } }
+-- what holds of the world of these facts and numbers holds of a world for which a session with them stands
+pub for_world : (rules : List Rule) (facts : List Fact) (a : Held) (id tag : ℕ) (w : World) (P : World → Type 0) → Standing rules (kept facts a id tag) w
+    → (Standing rules (kept facts a id tag) (world_of facts id tag w.fired) → P (world_of facts id tag w.fired)) → P w
+for_world rules facts a id tag w P s h =
+    let e : world_of facts id tag w.fired ≡ w =
+    ap (λ z. world_of z id tag w.fired) s.facts ∙ ap (λ z. world_of w.facts z tag w.fired) s.next_id ∙ ap (λ z. world_of w.facts w.next_id z w.fired) s.next_tag in
+    subst P e (h (subst (Standing rules (kept facts a id tag)) (sym e) s))
 
 abbrev pub numbered : ℕ → ℕ → TypeId → List Value → Fact
 numbered id tag ty fields = record {
@@ -143,60 +94,104 @@ numbered id tag ty fields = record {
   times = record { start = pos 0; end = pos 0 };
 }
 
--- the same as methods see it
-pub insert_stands : (p : Program) (facts : List Fact) (a : Held) (n : ℕ) (s : Shown) → shown p facts a n ≡ s
-    → (ty : TypeId) (fields : List Value) (items : List Fact) (b : Held) (w : World) → Stands s w
-    → items ≡ facts ++ numbered n n ty fields ∷ [] → b.saliences ≡ a.saliences
-    → ((m : Match) → Adds (has_match (matches p.rules facts) m) (has_match (matches p.rules (facts ++ numbered n n ty fields ∷ [])) m) (numbered n n ty fields) m.row (has_match a.pending m) (has_match b.pending m))
-    → ((m : Match) → has_match b.fired m ≡ has_match a.fired m)
-    → Standing p.rules (record { facts = items; agenda = b; next = n + 1 }) (inserted s.program.rules w (new_fact w ty.0 fields))
-insert_stands p facts a n s e ty fields items b w st is sal pe fi =
-    let k : Stands (shown p facts a n) w = subst (λ (z : Shown). Stands z w) (sym e) st in
-    let f : Fact = numbered n n ty fields in
-    let same : numbered n n ty fields ≡ new_fact w ty.0 fields = ap (λ z. numbered z n ty fields) k.next_id ∙ ap (λ z. numbered w.next_id z ty fields) k.next_tag in
-    let r : Standing p.rules (record { facts = facts ++ numbered n n ty fields ∷ []; agenda = b; next = n + 1 }) (inserted p.rules w (numbered n n ty fields)) =
-    inserted_stands p.rules (record { facts = facts; agenda = a; next = n }) b f w k refl sal pe fi in
-    let q : Standing p.rules (record { facts = items; agenda = b; next = n + 1 }) (inserted p.rules w (numbered n n ty fields)) =
-    subst (λ (zs : List Fact). Standing p.rules (record { facts = zs; agenda = b; next = n + 1 }) (inserted p.rules w (numbered n n ty fields))) (sym is) r in
-    subst (λ (z : Shown). Standing p.rules (record { facts = items; agenda = b; next = n + 1 }) (inserted z.program.rules w (new_fact w ty.0 fields))) e
-    (subst (λ (z : Fact). Standing p.rules (record { facts = items; agenda = b; next = n + 1 }) (inserted p.rules w z)) same q)
+-- ---- the three steps
 
-pub fire_stands : (p : Program) (facts : List Fact) (a : Held) (n : ℕ) (s : Shown) → shown p facts a n ≡ s
-    → (b : Held) (m : Match) (w : World) → Stands s w → b.saliences ≡ a.saliences
-    → Some m ≡ first (fire_cmp a.saliences) a.pending
-    → ((q : Match) → has_match b.pending q ≡ (has_match a.pending q && not (eq_by_cmp match_cmp m q)))
-    → ((q : Match) → has_match b.fired q ≡ (has_match a.fired q || eq_by_cmp match_cmp m q))
-    → Stands (shown p facts b n) (marked w m)
-fire_stands p facts a n s e b m w st sal top pe fi =
-    let k : Stands (shown p facts a n) w = subst (λ (z : Shown). Stands z w) (sym e) st in
-    record {
-      facts = k.facts;
-      next_id = k.next_id;
-      next_tag = k.next_tag;
-      fresh = k.fresh;
-      agenda = fired_stands p.rules a b w m k.agenda sal top pe fi;
-    }
-
--- the first of the agenda is what fires in the world
-pub shown_first : (p : Program) (facts : List Fact) (a : Held) (n : ℕ) (s : Shown) → shown p facts a n ≡ s → (w : World) → Stands s w
-    → first (fire_cmp a.saliences) a.pending ≡ first_pending s.program.rules w
-shown_first p facts a n s e w st =
-    let k : Stands (shown p facts a n) w = subst (λ (z : Shown). Stands z w) (sym e) st in
-    same_first p.rules a w k.agenda ∙ ap (λ (z : Shown). first_pending z.program.rules w) e
-
-pub empty_stands : (rules : List Rule) → list_all has_conditions rules ≡ true → (facts : List Fact) (a : Held) → facts ≡ [] → a ≡ record { saliences = saliences rules; pending = []; fired = [] }
-    → Standing rules (record { facts = facts; agenda = a; next = 1 }) empty_world
-empty_stands rules some facts a e h =
-    subst (λ (zs : List Fact). Standing rules (record { facts = zs; agenda = a; next = 1 }) empty_world) (sym e)
-    (subst (λ (z : Held). Standing rules (record { facts = []; agenda = z; next = 1 }) empty_world) (sym h) (record {
-      facts = refl;
+pub insert_stands : (rules : List Rule) (facts : List Fact) (a b : Held) (id tag : ℕ) (w : World) (ty : TypeId) (fields : List Value) (items : List Fact)
+    → Standing rules (kept facts a id tag) w → items ≡ facts ++ numbered id tag ty fields ∷ []
+    → (HaveDistinctTags (facts ++ numbered id tag ty fields ∷ []) → IsRefreshed rules facts (facts ++ numbered id tag ty fields ∷ []) a b)
+    → Standing rules (kept items b (id + 1) (tag + 1)) (stepped rules w (Insert ty fields))
+unfolding stepped
+insert_stands rules facts a b id tag w ty fields items st is refreshed =
+    let f : Fact = numbered id tag ty fields in
+    for_world rules facts a id tag w (λ v. Standing rules (kept items b (id + 1) (tag + 1)) (stepped rules v (Insert ty fields))) st (λ s. record {
+      lawful = step_lawful rules (world_of facts id tag w.fired) (Insert ty fields) s.lawful;
+      facts = is;
       next_id = refl;
       next_tag = refl;
-      fresh = refl;
-      agenda = record {
-        saliences = refl;
-        pending = λ m. sym (has_pending rules empty_world m ∙ ap (λ z. z && true) (no_matches 0 rules some m));
-        fired = λ m. refl;
-        lawful = λ m x. let y : false ≡ true = x in cc;
-      };
-    }))
+      agenda = refreshed_stands rules a b (world_of facts id tag w.fired) facts (facts ++ f ∷ []) (facts ++ f ∷ []) (id + 1) (tag + 1) s.lawful s.agenda (λ m. refl) (λ m. refl)
+          (refreshed (distinct_more facts f s.lawful.tags (below_of tag facts s.lawful.fresh)));
+    })
+
+modify_middle : (rules : List Rule) (xs : List Fact) (f : Fact) (ys : List Fact) (a b : Held) (id tag : ℕ) (w : World) (of : FactId) (sets : List (ℕ × Value))
+    → f.id.0 ≡ of.0 → Standing rules (kept (xs ++ f ∷ ys) a id tag) w
+    → (HaveDistinctTags (((xs ++ ys) ++ f ∷ []) ++ revised tag sets f ∷ []) → IsRefreshed rules ((xs ++ ys) ++ f ∷ []) ((xs ++ ys) ++ revised tag sets f ∷ []) a b)
+    → Standing rules (kept (xs ++ revised tag sets f ∷ ys) b id (tag + 1)) (stepped rules w (Modify of sets))
+unfolding stepped
+modify_middle rules xs f ys a b id tag w of sets same st refreshed =
+    let g : Fact = revised tag sets f in
+    for_world rules (xs ++ f ∷ ys) a id tag w (λ v. Standing rules (kept (xs ++ g ∷ ys) b id (tag + 1)) (stepped rules v (Modify of sets))) st (λ s.
+    let e : revised_in of.0 tag sets (xs ++ f ∷ ys) ≡ xs ++ g ∷ ys =
+    ap (λ n. revised_in n tag sets (xs ++ f ∷ ys)) (sym same) ∙ revised_at tag sets 1 id xs f ys s.lawful.ids in
+    record {
+      lawful = step_lawful rules (world_of (xs ++ f ∷ ys) id tag w.fired) (Modify of sets) s.lawful;
+      facts = sym e;
+      next_id = refl;
+      next_tag = refl;
+      agenda = refreshed_stands rules a b (world_of (xs ++ f ∷ ys) id tag w.fired) ((xs ++ ys) ++ f ∷ []) ((xs ++ ys) ++ g ∷ []) (revised_in of.0 tag sets (xs ++ f ∷ ys)) id (tag + 1)
+          s.lawful s.agenda (λ m. moved_matches xs f ys rules m) (λ m. moved_matches xs g ys rules m ∙ ap (λ zs. has_match (matches rules zs) m) (sym e))
+          (refreshed (distinct_both xs f ys g s.lawful.tags s.lawful.fresh));
+    })
+
+retract_middle : (rules : List Rule) (xs : List Fact) (f : Fact) (ys : List Fact) (a b : Held) (id tag : ℕ) (w : World) (of : FactId)
+    → f.id.0 ≡ of.0 → Standing rules (kept (xs ++ f ∷ ys) a id tag) w
+    → (HaveDistinctTags ((xs ++ ys) ++ f ∷ []) → IsRefreshed rules ((xs ++ ys) ++ f ∷ []) (xs ++ ys) a b)
+    → Standing rules (kept (xs ++ ys) b id tag) (stepped rules w (Retract of))
+unfolding stepped
+retract_middle rules xs f ys a b id tag w of same st refreshed =
+    for_world rules (xs ++ f ∷ ys) a id tag w (λ v. Standing rules (kept (xs ++ ys) b id tag) (stepped rules v (Retract of))) st (λ s.
+    let e : without of.0 (xs ++ f ∷ ys) ≡ xs ++ ys = ap (λ n. without n (xs ++ f ∷ ys)) (sym same) ∙ without_at 1 id xs f ys s.lawful.ids in
+    record {
+      lawful = step_lawful rules (world_of (xs ++ f ∷ ys) id tag w.fired) (Retract of) s.lawful;
+      facts = sym e;
+      next_id = refl;
+      next_tag = refl;
+      agenda = refreshed_stands rules a b (world_of (xs ++ f ∷ ys) id tag w.fired) ((xs ++ ys) ++ f ∷ []) (xs ++ ys) (without of.0 (xs ++ f ∷ ys)) id tag
+          s.lawful s.agenda (λ m. moved_matches xs f ys rules m) (λ m. ap (λ zs. has_match (matches rules zs) m) (sym e))
+          (refreshed (distinct_end xs f ys s.lawful.tags));
+    })
+
+-- ---- at a place of the list
+
+insert_back : (xs ys : List Fact) (n : ℕ) (g : Fact) → length xs ≡ n → insert (xs ++ ys) n g ≡ xs ++ g ∷ ys
+insert_back xs ys n g e = grind (arith, common_steps)
+
+taken_length : (facts : List Fact) (n : ℕ) → n < length facts → length (take n facts) ≡ n
+taken_length facts n lt = grind (arith, common_steps)
+
+pub put_back : (facts : List Fact) (place : ℕ) (g : Fact) → place < length facts → insert (remove facts place) place g ≡ take place facts ++ g ∷ drop (suc place) facts
+put_back facts place g lt = insert_back (take place facts) (drop (suc place) facts) place g (taken_length facts place lt)
+
+pub modify_stands : (rules : List Rule) (facts : List Fact) (a b : Held) (id tag : ℕ) (w : World) (of : FactId) (place : ℕ) (f : Fact) (sets : List (ℕ × Value)) (items : List Fact)
+    → Standing rules (kept facts a id tag) w → IsAt facts of.0 place → f ≡ get_or facts place f
+    → items ≡ insert (remove facts place) place (revised tag sets f)
+    → (HaveDistinctTags ((remove facts place ++ f ∷ []) ++ revised tag sets f ∷ []) → IsRefreshed rules (remove facts place ++ f ∷ []) (remove facts place ++ revised tag sets f ∷ []) a b)
+    → Standing rules (kept items b id (tag + 1)) (stepped rules w (Modify of sets))
+modify_stands rules facts a b id tag w of place f sets items st at is made refreshed =
+    let xs = take place facts in
+    let ys = drop (suc place) facts in
+    let s : Standing rules (kept (xs ++ f ∷ ys) a id tag) w = subst (λ (zs : List Fact). Standing rules (kept zs a id tag) w) (split_at facts place f at.within is) st in
+    subst (λ (zs : List Fact). Standing rules (kept zs b id (tag + 1)) (stepped rules w (Modify of sets))) (sym (made ∙ put_back facts place (revised tag sets f) at.within))
+    (modify_middle rules xs f ys a b id tag w of sets (ap (λ (z : Fact). z.id.0) is ∙ at.has_id f) s refreshed)
+
+pub retract_stands : (rules : List Rule) (facts : List Fact) (a b : Held) (id tag : ℕ) (w : World) (of : FactId) (place : ℕ) (f : Fact) (items : List Fact)
+    → Standing rules (kept facts a id tag) w → IsAt facts of.0 place → f ≡ get_or facts place f → items ≡ remove facts place
+    → (HaveDistinctTags (remove facts place ++ f ∷ []) → IsRefreshed rules (remove facts place ++ f ∷ []) (remove facts place) a b)
+    → Standing rules (kept items b id tag) (stepped rules w (Retract of))
+retract_stands rules facts a b id tag w of place f items st at is made refreshed =
+    let xs = take place facts in
+    let ys = drop (suc place) facts in
+    let s : Standing rules (kept (xs ++ f ∷ ys) a id tag) w = subst (λ (zs : List Fact). Standing rules (kept zs a id tag) w) (split_at facts place f at.within is) st in
+    subst (λ (zs : List Fact). Standing rules (kept zs b id tag) (stepped rules w (Retract of))) (sym made)
+    (retract_middle rules xs f ys a b id tag w of (ap (λ (z : Fact). z.id.0) is ∙ at.has_id f) s refreshed)
+
+-- ---- the ids still rise
+
+pub rise_put_back : (facts : List Fact) (next place : ℕ) (f g : Fact) → IdsRise 1 facts next → place < length facts → f ≡ get_or facts place f → g.id.0 ≡ f.id.0
+    → IdsRise 1 (insert (remove facts place) place g) next
+rise_put_back facts next place f g r lt is same =
+    subst (λ (zs : List Fact). IdsRise 1 zs next) (sym (put_back facts place g lt))
+    (rise_revised 1 next (take place facts) f g (drop (suc place) facts) same (subst (λ (zs : List Fact). IdsRise 1 zs next) (split_at facts place f lt is) r))
+
+pub rise_removed : (facts : List Fact) (next place : ℕ) (f : Fact) → IdsRise 1 facts next → place < length facts → f ≡ get_or facts place f → IdsRise 1 (remove facts place) next
+rise_removed facts next place f r lt is =
+    rise_without 1 next (take place facts) f (drop (suc place) facts) (subst (λ (zs : List Fact). IdsRise 1 zs next) (split_at facts place f lt is) r)

@@ -1,3 +1,4 @@
 pub mod Gives
 pub mod Standing
-pub mod Added
+pub mod Refreshed
+pub mod Places

@@ -3,12 +3,16 @@
 #![tactic(auto)]
 
 mod engine;
+mod firing;
 mod lines;
-mod reading;
+mod refreshing;
 mod session;
+mod state;
+mod steps;
 #[cfg(test)]
 mod tests;
 
+pub use change_read::Code;
 pub use engine::Engine;
-pub use lines::{Cell, Code, Fired, Lines, OutLine};
+pub use lines::{Cell, Fired, Lines, OutLine};
 pub use session::Session;

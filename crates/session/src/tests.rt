@@ -1,10 +1,13 @@
 ghost use Rattle.std.specs.Prelude.{◌≡◌, ◌<◌, ◌≤◌, ◌+◌, IfOk, IfSome};
 ghost use Rattle.std.specs.List.{list_all};
-ghost use Rattle.rule_model.specs.Programs.{IsAccepted, has_conditions};
+ghost use Rattle.rule_model.specs.Programs.{IsAccepted, has_conditions, has_few_actions};
 
 use crate::{Cell, Fired, OutLine, Session};
 use fx_base::{Kind, NoMemory, Seq, Text, TypeId, Value};
-use rule_model::{Compare, Condition, Pattern, Program, RelTag, Rule, Side, Test, TypeInfo};
+use rule_model::{
+    Action, Compare, Condition, Expr, ExprNode, Pattern, Program, RelTag, Rule, Side, Test,
+    TypeInfo,
+};
 use script_read::{Change, Given};
 use std::alloc::Global;
 use std::test::Fail;
@@ -32,24 +35,31 @@ fn pattern(ty: u16, alloc: Global, joined: Vec<Test>) -> Condition {
     })
 }
 
-// rule "j" when $a : K(), M( k == $a.k || k in ( 9, 10 ) ) then end
+// insert( new M( $a.k ) )
+fn insertion(alloc: Global) -> Result<Action, NoMemory> {
+    let k = Expr::of(ExprNode::Of { fact: 0, field: 0 });
+    Ok(Action::Insert {
+        ty: TypeId(1),
+        args: Seq::from_vec(vec![in alloc; k]?),
+    })
+}
+
+// rule "j" when $a : K(), M( k == $a.k ) then insert( new M( $a.k ) ); end
 fn join(alloc: Global) -> Result<Rule, NoMemory> {
     let same = compare(
         RelTag::Equal,
         vec![in alloc; Side::Of { fact: 0, field: 0 }]?,
     );
-    let sides = vec![in alloc; Side::Lit(Value::Int(9)), Side::Lit(Value::Int(10))]?;
-    let equal = Seq::from_vec(vec![in alloc; same]?);
-    let among = Seq::from_vec(vec![in alloc; compare(RelTag::OneOf, sides)]?);
-    let either = Test {
-        choices: Seq::from_vec(vec![in alloc; equal, among]?),
+    let equal = Test {
+        choices: Seq::from_vec(vec![in alloc; Seq::from_vec(vec![in alloc; same]?)]?),
     };
     let k = pattern(0, alloc, Vec::new(alloc));
-    let m = pattern(1, alloc, vec![in alloc; either]?);
+    let m = pattern(1, alloc, vec![in alloc; equal]?);
     Ok(Rule {
         name: Text::new(alloc, "j")?,
         salience: 0,
         conditions: Seq::from_vec(vec![in alloc; k, m]?),
+        actions: Seq::from_vec(vec![in alloc; insertion(alloc)?]?),
     })
 }
 
@@ -66,6 +76,12 @@ fn all_have_a_few(rules: &[Rule]) -> bool
     rules.iter().all(|rule| has_a_few(rule))
 }
 
+fn all_do_little(rules: &[Rule]) -> bool
+    ensures { result ≡ list_all has_few_actions rules.now }
+{
+    rules.iter().all(|rule| rule.actions.as_slice().len() <= 16)
+}
+
 fn accepted(program: Program) -> Option<Program>
     ensures { IfSome result IsAccepted }
 {
@@ -74,14 +90,14 @@ fn accepted(program: Program) -> Option<Program>
     if types > 128 || rules > 256 {
         return None;
     }
-    if !all_have_a_few(program.rules.as_slice()) {
+    if !all_have_a_few(program.rules.as_slice()) || !all_do_little(program.rules.as_slice()) {
         return None;
     }
     Some(program)
 }
 
 fn session(alloc: Global) -> Result<Option<Session>, NoMemory>
-    ensures { IfOk result (λ made. IfSome made (λ s. s.kept.next ≡ 1)) }
+    ensures { IfOk result (λ made. IfSome made (λ s. s.kept.next_tag ≡ 1)) }
 {
     let program = Program {
         types: Seq::from_vec(vec![in alloc; ty(alloc, "K")?, ty(alloc, "M")?]?),
@@ -94,8 +110,8 @@ fn session(alloc: Global) -> Result<Option<Session>, NoMemory>
 }
 
 fn with(alloc: Global, session: Session, name: &str, k: i64) -> Result<Session, NoMemory>
-    requires { session.kept.next < 100 }
-    ensures { IfOk result (λ s. s.kept.next ≤ session.kept.next + 1) }
+    requires { session.kept.next_tag < 100 }
+    ensures { IfOk result (λ s. s.kept.next_tag ≤ session.kept.next_tag + 1) }
 {
     let given = (Text::new(alloc, "k")?, Given::Int(k));
     let change = Change::Insert {
@@ -114,16 +130,27 @@ fn text_of(alloc: Global, fired: &Fired) -> Result<String, NoMemory> {
         Fired::No => text.push_str("no")?,
         Fired::Yes(lines) => {
             for line in lines.as_slice() {
-                if let OutLine::Fire { rule, cells } = line {
-                    text.push_str(&format!(in alloc; "{}", rule.0)?)?;
-                    for Cell::Fact(id) in cells.as_slice() {
-                        text.push_str(&format!(in alloc; " #{}", id.0)?)?;
-                    }
-                }
+                push_line(alloc, &mut text, line)?;
             }
         }
     }
     Ok(text)
+}
+
+fn push_line(alloc: Global, text: &mut String, line: &OutLine) -> Result<(), NoMemory> {
+    match line {
+        OutLine::New { id, ty } => {
+            text.push_str(&format!(in alloc; "new #{} {}", id.0, ty.0)?)?;
+        }
+        OutLine::Fire { rule, cells } => {
+            text.push_str(&format!(in alloc; "{}", rule.0)?)?;
+            for Cell::Fact(id) in cells.as_slice() {
+                text.push_str(&format!(in alloc; " #{} ", id.0)?)?;
+            }
+        }
+        OutLine::Fault(_) => text.push_str("fault")?,
+    }
+    Ok(())
 }
 
 #[test]
@@ -137,14 +164,11 @@ fn a_join_fires(rt: HostRuntime) -> Result<(), Fail> {
     assert!(rt; !session.due());
     let session = with(alloc, session, "M", 1)?;
     assert!(rt; session.due());
-    let session = with(alloc, session, "M", 2)?;
-    let session = with(alloc, session, "M", 9)?;
     let (session, first) = session.fire_one(alloc)?;
     let (session, second) = session.fire_one(alloc)?;
-    let (session, third) = session.fire_one(alloc)?;
-    assert_eq!(rt; text_of(alloc, &first)?.as_str(), "0 #1 #4");
-    assert_eq!(rt; text_of(alloc, &second)?.as_str(), "0 #1 #2");
-    assert_eq!(rt; text_of(alloc, &third)?.as_str(), "no");
-    assert!(rt; !session.due());
+    assert_eq!(rt; text_of(alloc, &first)?.as_str(), "0 #1  #2 new #3 1");
+    assert_eq!(rt; text_of(alloc, &second)?.as_str(), "0 #1  #3 new #4 1");
+    assert!(rt; session.due());
+    assert_eq!(rt; session.program().rules.as_slice().len(), 1);
     Ok(())
 }

@@ -1,11 +1,7 @@
-use Rattle.std.proofs.Common.{◌∙◌, ap, sym, is_some}
-use Rattle.session.specs.Gives.{fires}
-use Rattle.session.proofs.Stands.{shown_first}
-use Rattle.session.proofs.Firings.{some_fires}
+use Rattle.std.proofs.Common.{◌∙◌, ap, is_some}
+use Rattle.session.proofs.Sessions.{shown_due, some_mapped}
 use Rattle.session.proofs.session.Session.due.Goals as goal
 
 pub returns : goal.returns
-unfolding fires
 returns c w s =
-    c.is_due.ensures.due ∙ ap is_some (shown_first c.self.inside.program c.self.inside.facts.items c.self.inside.agenda c.self.inside.next c.args.self.now c.self.view_is w s)
-    ∙ sym (some_fires w _)
+    c.is_some.ensures ∙ some_mapped (λ m. m.now) c.top.result ∙ ap is_some c.top.ensures ∙ shown_due c.self.inside.program c.self.inside.state c.args.self.now c.self.view_is w s

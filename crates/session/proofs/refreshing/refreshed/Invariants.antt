@@ -1,0 +1,10 @@
+use Rattle.std.proofs.Common.{take, option_map}
+use Rattle.rule_model.specs.Distinct.{HaveDistinctTags}
+use Rattle.rule_rows.specs.Found.{behind}
+use Rattle.session.specs.Refreshed.{IsRefreshed}
+use Rattle.session.proofs.refreshing.refreshed.Given as goal
+
+-- the rules before this place have had their turn
+abbrev pub invariant-loop-place : goal.invariant-loop-place
+invariant-loop-place l = HaveDistinctTags (behind (behind l.others (option_map (λ f. f.now) l.before)) (option_map (λ f. f.now) l.after))
+    → IsRefreshed (take l.place l.rules) (behind l.others (option_map (λ f. f.now) l.before)) (behind l.others (option_map (λ f. f.now) l.after)) l.fn.agenda l.agenda

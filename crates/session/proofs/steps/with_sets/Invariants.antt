@@ -1,0 +1,7 @@
+use Rattle.std.proofs.Common.{◌≡◌}
+use Rattle.rule_model.specs.Worlds.{with_values}
+use Rattle.session.proofs.steps.with_sets.Given as goal
+
+-- the sets that are left lead to the end
+abbrev pub invariant-loop-place : goal.invariant-loop-place
+invariant-loop-place l = with_values l.place-iterator.rest.items l.fields.items ≡ with_values l.fn.sets.items l.fn.fields.items

@@ -1,0 +1,166 @@
+ghost use Rattle.std.specs.Prelude.{◌≡◌, ◌+◌, ◌<◌, ◌≤◌, ◌^◌, ◌∷◌, ◌++◌, [], true, length, slice_get, option_map, Some, IfOk, OnOk, IfSome, List};
+ghost use Rattle.std.specs.List.{list_all};
+ghost use Rattle.rule_model.specs.declared.matched.Match.{Match as MatchData};
+ghost use Rattle.rule_model.specs.declared.program.Rule.{Rule as RuleData};
+ghost use Rattle.rule_model.specs.Matches.{fire_cmp};
+ghost use Rattle.rule_model.specs.First.{first};
+ghost use Rattle.rule_model.specs.Programs.{has_few_actions};
+ghost use Rattle.rule_model.specs.Worlds.{World, marked};
+ghost use Rattle.session.specs.Gives.{cells, fire_line, actions_of, does_all};
+ghost use Rattle.session.specs.Standing.{Standing};
+ghost use Rattle.session.specs.Places.{planned_for, planned};
+
+use crate::lines::{Cell, OutLine};
+use crate::state::State;
+use crate::steps::Plan;
+use action_eval::{EvalFault, planned_step};
+use change_read::{Code, Present};
+use fx_base::{Fact, Facts, NoMemory, Seq, Tag};
+use row_delta::{Named, Row};
+use rule_model::{Action, Match, Rule, Step};
+use std::alloc::Global;
+
+/// The facts that a row names, which a session has at their ids.
+#[derive(Drop)]
+struct RowFacts<'a> {
+    row: &'a Row,
+    state: &'a State,
+}
+
+impl<'a> Facts for RowFacts<'a> {
+    ghost use Rattle.session.specs.Places.{fact_named};
+
+    ghost map = { λ f. fact_named f.state.now.facts f.row.now.facts };
+
+    #[tactic(auto, unfolding(crate::specs::Places::fact_named))]
+    fn fact(&self, tag: Tag) -> Option<&Fact> {
+        for named in self.row.facts.as_slice() {
+            if named.tag == tag {
+                return self.state.fact_with(named.id);
+            }
+        }
+        None
+    }
+}
+
+// What an action is to do for a row.
+fn plan_action(
+    alloc: Global,
+    action: &Action,
+    row: &Row,
+    state: &State,
+) -> Result<Result<Step, Code>, NoMemory>
+    ensures { IfOk result (λ wanted. wanted ≡ planned_for state.now.facts row.now action.now) }
+{
+    match planned_step(alloc, action, row, &RowFacts { row, state }) {
+        Ok(step) => Ok(Ok(step)),
+        Err(EvalFault::Overflow) => Ok(Err(Code::Overflow)),
+        Err(EvalFault::NoMemory) => Err(NoMemory),
+    }
+}
+
+fn plan_actions(
+    alloc: Global,
+    actions: &[Action],
+    row: &Row,
+    state: &State,
+) -> Result<Plan, NoMemory>
+    ensures { IfOk result (λ plan. plan.items ≡ planned state.now.facts row.now actions.now) }
+{
+    let mut plan = Vec::with_capacity(alloc, actions.len())?;
+    for action in actions {
+        plan.push(plan_action(alloc, action, row, state)?)?;
+    }
+    Ok(plan)
+}
+
+// The actions of the rule of a match.
+fn actions_for<'r>(rules: &'r [Rule], fired: &Match) -> &'r [Action]
+    ensures actions { result.now ≡ actions_of (slice_get rules.now fired.now.rule.0) }
+    ensures few { list_all has_few_actions rules.now ≡ true → length result.now ≤ 16 }
+{
+    match rules.get(fired.rule.0 as usize) {
+        Some(rule) => rule.actions.as_slice(),
+        None => &[],
+    }
+}
+
+fn cells_of(alloc: Global, facts: &[Named]) -> Result<Vec<Cell>, NoMemory>
+    ensures { IfOk result (λ found. found.items ≡ cells facts.now) }
+{
+    let mut found = Vec::with_capacity(alloc, facts.len())?;
+    for named in facts {
+        found.push(Cell::Fact(named.id))?;
+    }
+    Ok(found)
+}
+
+fn line_of(alloc: Global, fired: &Match) -> Result<OutLine, NoMemory>
+    ensures { IfOk result (λ line. line ≡ fire_line fired.now) }
+{
+    Ok(OutLine::Fire {
+        rule: fired.rule,
+        cells: Seq::from_vec(cells_of(alloc, fired.row.facts.as_slice())?),
+    })
+}
+
+impl State {
+    /// What the actions of the match that fires first are to do, with the values that the facts have now; `None` exactly where
+    /// nothing is pending.
+    pub(crate) fn plan(&self, alloc: Global, rules: &[Rule]) -> Result<Option<Plan>, NoMemory>
+        ensures plan { IfOk result (λ plan. option_map (λ steps. steps.items) plan ≡ option_map (λ (m : MatchData). planned self.now.facts m.row (actions_of (slice_get rules.now m.rule.0)))
+            (first (fire_cmp self.now.agenda.saliences) self.now.agenda.pending)) }
+        ensures few { list_all has_few_actions rules.now ≡ true → IfOk result (λ plan. IfSome plan (λ steps. length steps.items ≤ 16)) }
+        ensures pending { IfOk result (λ plan. IfSome plan (λ _. 0 < length self.now.agenda.pending)) }
+    {
+        match self.top() {
+            Some(top) => Ok(Some(plan_actions(alloc, actions_for(rules, top), &top.row, self)?)),
+            None => Ok(None),
+        }
+    }
+
+    /// Marks the match that fires first, and does what is planned.
+    pub(crate) fn fire(
+        self,
+        alloc: Global,
+        rules: &[Rule],
+        plan: Plan,
+        lines: &mut Vec<OutLine>,
+    ) -> Result<State, NoMemory>
+        requires few { length rules.now ≤ 256 }
+        requires low { self.next_tag + length plan.items ≤ 2 ^ 63 }
+        requires pending { 0 < length self.agenda.pending }
+        ensures stands { IfOk result (λ s. (w : World) (m : MatchData) → Standing rules.now self w → Some m ≡ first (fire_cmp self.agenda.saliences) self.agenda.pending
+            → Standing rules.now s (does_all rules.now (marked w m) plan.items).1) }
+        ensures lines { OnOk result ((w : World) (m : MatchData) → Standing rules.now self w → Some m ≡ first (fire_cmp self.agenda.saliences) self.agenda.pending
+            → lines.new.items ≡ lines.old.items ++ fire_line m ∷ [] ++ (does_all rules.now (marked w m) plan.items).0) }
+        ensures tags { IfOk result (λ s. s.next_tag ≤ self.next_tag + length plan.items) }
+    {
+        let (state, fired) = self.mark(alloc)?;
+        lines.push(line_of(alloc, &fired)?)?;
+        state.take_all(alloc, rules, plan, lines)
+    }
+
+    // Marks the match that fires first.
+    fn mark(self, alloc: Global) -> Result<(State, Match), NoMemory>
+        requires { 0 < length self.agenda.pending }
+        ensures top { IfOk result (λ r. Some r.1 ≡ first (fire_cmp self.agenda.saliences) self.agenda.pending) }
+        ensures stands { IfOk result (λ r. (rules : List RuleData) (w : World) → Standing rules self w → Standing rules r.0 (marked w r.1)) }
+        ensures tags { IfOk result (λ r. r.0.next_tag ≡ self.next_tag) }
+    {
+        let State {
+            facts,
+            agenda,
+            next_id,
+            next_tag,
+        } = self;
+        let (agenda, fired) = agenda.fire_top(alloc)?;
+        let state = State {
+            facts,
+            agenda,
+            next_id,
+            next_tag,
+        };
+        Ok((state, fired))
+    }
+}
