@@ -52,7 +52,7 @@ fn are_numbers(place: &Place, left: &ExprTree, right: &ExprTree) -> bool
 
 // ---- actions
 
-// Whether a field of this kind cannot be set to what is given. A field that has no kind can be set to nothing.
+// Whether a field of this kind cannot be set to what is given. Nothing fits a field that has no kind.
 fn does_set_misfit(field: Option<Kind>, given: Option<Option<Kind>>) -> bool
     ensures { result ≡ set_misfits field given }
 {

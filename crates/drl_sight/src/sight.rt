@@ -1,8 +1,7 @@
 ghost use Rattle.std.specs.Prelude.{◌≡◌, ◌<◌, ◌≤◌, ◌+◌, ◌^◌, ◌++◌, Some, option_map, IfOk, OnOk};
 ghost use Rattle.drl_sight.specs.Sight.{meaning_of, seen_of, seen_in, seen_fact, begin, behind, behind_all};
-ghost use Rattle.drl_sight.specs.Meanings.{lacks_for};
+ghost use Rattle.drl_sight.specs.Meanings.{lacks_for, variable_kind, variable_field_kind};
 ghost use Rattle.drl_sight.specs.Shown.{meant};
-ghost use Rattle.drl_sight.specs.Meanings.{variable_kind, variable_field_kind};
 
 use crate::declared::{Declared, DeclaredType};
 use drl_grammar::{CondTree, Part, SourceTree};

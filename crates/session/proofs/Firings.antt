@@ -1,9 +1,8 @@
 -- What fires, and the world in which a match is marked.
-use Rattle.std.proofs.Common.{◌≡◌, ℕ, ◌<◌, ◌&&◌, ◌||◌, not, Bool, true, false, List, [], ◌∷◌, ◌++◌, length, Option, Some, None, is_some, option_map, slice_get, Result, refl, sym, ◌∙◌, ap, subst, arith}
+use Rattle.std.proofs.Common.{◌≡◌, ℕ, ◌&&◌, ◌||◌, not, Bool, true, false, List, [], ◌∷◌, ◌++◌, Option, Some, None, is_some, option_map, slice_get, Result, refl, sym, ◌∙◌, ap, subst}
 use Rattle.std.specs.Ordering.{eq_by_cmp}
 use Rattle.fx_base.specs.declared.fact.Fact.{Fact}
 use Rattle.rule_model.specs.declared.matched.Match.{Match}
-use Rattle.rule_model.specs.declared.program.Program.{Program}
 use Rattle.rule_model.specs.declared.program.Rule.{Rule}
 use Rattle.rule_model.specs.declared.step.Step.{Step}
 use Rattle.rule_model.specs.Matches.{matches, has_match, match_cmp, fire_cmp, saliences}
@@ -19,7 +18,7 @@ use Rattle.agenda.specs.Agendas.{Held}
 use Rattle.change_read.specs.declared.code.Code.{Code}
 use Rattle.session.specs.declared.lines.OutLine.{OutLine}
 use Rattle.session.specs.declared.lines.Fired.TheVariants.{No, Yes}
-use Rattle.session.specs.Gives.{actions_of, does_all, fire_line, fires_with, fires_match, wanted}
+use Rattle.session.specs.Gives.{actions_of, does_all, fire_line, fires_with, wanted}
 use Rattle.session.specs.Places.{planned}
 use Rattle.session.specs.Standing.{AgendaStands, FiringAnswers, Kept, Standing}
 use Rattle.session.proofs.Stands.{kept}

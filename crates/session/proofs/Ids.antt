@@ -1,19 +1,18 @@
 -- Facts whose ids rise: where one of an id stands, and what a list is without it or with another in its place.
-use Rattle.std.proofs.Common.{◌≡◌, ◌≢◌, ℕ, suc, zero, ◌+◌, ◌<◌, ◌≤◌, ◌==◌, ◌⊎◌, inl, inr, not, Bool, true, false, cond, List, [], ◌∷◌, ◌++◌, length, take, drop, get_or, Some, None, Result, Ok, Err, IfOk, IfErr, refl, sym, ◌∙◌, ap, subst, arith}
+use Rattle.std.proofs.Common.{◌≡◌, ℕ, suc, zero, ◌+◌, ◌<◌, ◌≤◌, ◌==◌, inl, not, true, false, cond, List, [], ◌∷◌, ◌++◌, length, take, drop, get_or, Some, None, Result, Ok, Err, IfOk, IfErr, refl, sym, ◌∙◌, ap, subst, arith}
 use Rattle.std.specs.List.Sorted.{IsSearchInRange, IsBinarySearchResult, IsNonDecreasingBy}
 use Rattle.std.specs.Ordering.{nat_cmp, ordering_index}
 use Rattle.std.proofs.lemmas.Cmp.{ranked}
 use Rattle.std.proofs.lemmas.Bool.Decides.{nat_tests}
 use Rattle.fx_base.specs.declared.value.Value.{Value}
 use Rattle.fx_base.specs.declared.fact.Fact.{Fact}
-use Rattle.rule_model.specs.Rows.{In}
-use Rattle.rule_model.specs.Worlds.{fact_of, without, revised, revised_in, has_id}
+use Rattle.rule_model.specs.Worlds.{fact_of, without, revised, revised_in}
 use Rattle.rule_model.specs.Lawful.{IdsRise}
 use Rattle.rule_model.proofs.Listed.{in_right}
 use Rattle.rule_model.proofs.Ids.{id_from, ids_lower}
 use Rattle.session.specs.Places.{IsAt}
 
-equal_ids : (m n : ℕ) → m ≡ n → (m == n) ≡ true
+pub equal_ids : (m n : ℕ) → m ≡ n → (m == n) ≡ true
 equal_ids m n e = grind (arith, nat_tests)
 
 smaller_id : (m n : ℕ) → m < n → (m == n) ≡ false

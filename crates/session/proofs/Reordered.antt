@@ -1,5 +1,5 @@
 -- Matches do not ask for the order of the facts: one of them may be taken to the end.
-use Rattle.std.proofs.Common.{◌≡◌, ℕ, ◌+◌, ◌<◌, ◌||◌, ◌&&◌, ◌==◌, ◌⊎◌, inl, inr, Bool, true, false, List, [], ◌∷◌, ◌++◌, map, refl, sym, ◌∙◌, ap, subst, arith}
+use Rattle.std.proofs.Common.{◌≡◌, ℕ, ◌+◌, ◌||◌, ◌&&◌, ◌==◌, inl, inr, Bool, true, false, List, [], ◌∷◌, ◌++◌, map, refl, sym, ◌∙◌, ap, subst}
 use Rattle.std.specs.Ordering.{eq_by_cmp}
 use Rattle.std.proofs.lemmas.List.{map-append}
 use Rattle.std.proofs.lemmas.List.Folds.{list_any-append}
@@ -17,7 +17,7 @@ use Rattle.rule_model.proofs.Listed.{in_left, in_right, of_append}
 use Rattle.rule_model.proofs.Named.{AllOf}
 use Rattle.rule_model.proofs.Once.{once_append}
 use Rattle.rule_model.proofs.Order.{rows_over}
-use Rattle.rule_model.proofs.Fresh.{AllBelow, below_of, distinct_more}
+use Rattle.rule_model.proofs.Fresh.{below_of, distinct_more}
 use Rattle.rule_rows.proofs.Sets.{in_has, has_in}
 use Rattle.session.proofs.Rules.{with_rule}
 

@@ -1,5 +1,5 @@
 -- Matches, rule by rule, and what the differences of the rules do to an agenda.
-use Rattle.std.proofs.Common.{◌≡◌, ℕ, ◌+◌, ◌<◌, ◌≤◌, ◌==◌, ◌&&◌, ◌||◌, ◌⊎◌, inl, inr, not, Bool, true, false, List, [], ◌∷◌, ◌++◌, map, length, take, get_or, refl, sym, ◌∙◌, ap, subst, arith}
+use Rattle.std.proofs.Common.{◌≡◌, ℕ, ◌+◌, ◌<◌, ◌≤◌, ◌==◌, ◌&&◌, ◌||◌, not, Bool, true, false, List, [], ◌∷◌, ◌++◌, map, length, take, get_or, refl, sym, ◌∙◌, ap, subst, arith}
 use Rattle.std.specs.Ordering.{eq_by_cmp}
 use Rattle.std.proofs.lemmas.Bool.Decides.{nat_tests}
 use Rattle.std.proofs.lemmas.Grind.{common_steps}
@@ -16,7 +16,7 @@ use Rattle.rule_model.specs.Matches.{match_of, match_cmp, matches, matches_from,
 use Rattle.rule_model.proofs.Exact.{match_parts}
 use Rattle.rule_rows.specs.Found.{IsDifference}
 use Rattle.agenda.specs.Agendas.{Held, IsChanged}
-use Rattle.session.specs.Refreshed.{IsRefreshed, parts}
+use Rattle.session.specs.Refreshed.{IsRefreshed}
 
 flip : (a b : ℕ) (t : Bool) → (a == b) ≡ t → (b == a) ≡ t
 flip a b t e = grind (arith, nat_tests)

@@ -1,5 +1,5 @@
 -- What a session answers in the worlds for which it stands.
-use Rattle.std.proofs.Common.{◌≡◌, ℕ, ◌+◌, ◌&&◌, ◌≤◌, Bool, true, false, List, [], ◌∷◌, ◌++◌, map, length, nat_le, Option, Some, None, is_some, Result, refl, sym, ◌∙◌, ap, subst, arith}
+use Rattle.std.proofs.Common.{◌≡◌, ℕ, ◌+◌, ◌&&◌, true, false, List, [], ◌∷◌, ◌++◌, map, length, nat_le, Option, Some, None, is_some, option_map, Result, refl, sym, ◌∙◌, ap, subst, arith}
 use Rattle.std.specs.List.{flat_map, list_all}
 use Rattle.std.proofs.lemmas.Bool.Decides.{nat_tests}
 use Rattle.fx_base.specs.declared.fact.Fact.{Fact}
@@ -14,7 +14,7 @@ use Rattle.rule_model.specs.Matches.{match_of, matches_from, rows_by_rule, has_m
 use Rattle.rule_model.specs.Programs.{has_conditions}
 use Rattle.rule_model.specs.Rows.{extended, tuples_from, row_of, rows}
 use Rattle.rule_model.specs.Tests.{Tuple, empty_tuple}
-use Rattle.rule_model.specs.Worlds.{World, empty_world, fact_of, first_pending}
+use Rattle.rule_model.specs.Worlds.{World, empty_world, fact_of, marked}
 use Rattle.rule_model.proofs.Fresh.{and_parts}
 use Rattle.rule_model.proofs.Pending.{has_pending}
 use Rattle.agenda.specs.Agendas.{Held}
@@ -25,8 +25,8 @@ use Rattle.session.specs.declared.lines.OutLine.{OutLine}
 use Rattle.session.specs.declared.lines.Fired.TheVariants.{No, Yes}
 use Rattle.session.specs.Gives.{does, does_all, fire_line, fires, gives}
 use Rattle.session.specs.Standing.{FiringAnswers, Kept, Shown, Standing, Stands}
+use Rattle.session.proofs.Stands.{kept}
 use Rattle.session.proofs.Firings.{top_of, plan_of, due_fires, no_fire, yes_fire, same_first}
-use Rattle.rule_model.specs.Worlds.{marked}
 
 abbrev pub shown : Program → Kept → Shown
 shown p k = record { program = p; kept = k }
@@ -75,12 +75,13 @@ empty_stands rules k some e = subst (λ z. Standing rules z empty_world) (sym e)
   };
 })
 
-abbrev kept : List Fact → Held → ℕ → ℕ → Kept
-kept facts a id tag = record { facts = facts; agenda = a; next_id = id; next_tag = tag }
-
 pub from_parts : (k : Kept) (facts : List Fact) (a : Held) (id tag : ℕ) → k.facts ≡ facts → k.agenda ≡ a → k.next_id ≡ id → k.next_tag ≡ tag → k ≡ kept facts a id tag
 from_parts k facts a id tag f h i t =
     ap (λ z. kept z k.agenda k.next_id k.next_tag) f ∙ ap (λ z. kept facts z k.next_id k.next_tag) h ∙ ap (λ z. kept facts a z k.next_tag) i ∙ ap (kept facts a id) t
+
+pub some_mapped : {A B : Type 0} (f : A → B) (o : Option A) → is_some o ≡ is_some (option_map f o)
+some_mapped f None = refl
+some_mapped f (Some x) = refl
 
 -- ---- changes
 

@@ -12,7 +12,7 @@ use Rattle.rule_model.specs.declared.step.Step.TheVariants.{Insert, Modify, Retr
 use Rattle.rule_model.specs.Distinct.{HaveDistinctTags}
 use Rattle.rule_model.specs.Lawful.{IsLawful, IdsRise}
 use Rattle.rule_model.specs.Matches.{matches, has_match}
-use Rattle.rule_model.specs.Worlds.{World, new_fact, revised, revised_in, without, left_with, stepped}
+use Rattle.rule_model.specs.Worlds.{World, revised, revised_in, without, left_with, stepped}
 use Rattle.rule_model.proofs.Fresh.{below_of, distinct_more}
 use Rattle.rule_model.proofs.Pending.{has_pending, has_still}
 use Rattle.rule_model.proofs.Steps.{step_lawful}
@@ -120,17 +120,17 @@ unfolding stepped
 modify_middle rules xs f ys a b id tag w of sets same st refreshed =
     let g : Fact = revised tag sets f in
     for_world rules (xs ++ f ∷ ys) a id tag w (λ v. Standing rules (kept (xs ++ g ∷ ys) b id (tag + 1)) (stepped rules v (Modify of sets))) st (λ s.
-      let e : revised_in of.0 tag sets (xs ++ f ∷ ys) ≡ xs ++ g ∷ ys =
-      ap (λ n. revised_in n tag sets (xs ++ f ∷ ys)) (sym same) ∙ revised_at tag sets 1 id xs f ys s.lawful.ids in
-      record {
-        lawful = step_lawful rules (world_of (xs ++ f ∷ ys) id tag w.fired) (Modify of sets) s.lawful;
-        facts = sym e;
-        next_id = refl;
-        next_tag = refl;
-        agenda = refreshed_stands rules a b (world_of (xs ++ f ∷ ys) id tag w.fired) ((xs ++ ys) ++ f ∷ []) ((xs ++ ys) ++ g ∷ []) (revised_in of.0 tag sets (xs ++ f ∷ ys)) id (tag + 1)
-            s.lawful s.agenda (λ m. moved_matches xs f ys rules m) (λ m. moved_matches xs g ys rules m ∙ ap (λ zs. has_match (matches rules zs) m) (sym e))
-            (refreshed (distinct_both xs f ys g s.lawful.tags s.lawful.fresh));
-      })
+    let e : revised_in of.0 tag sets (xs ++ f ∷ ys) ≡ xs ++ g ∷ ys =
+    ap (λ n. revised_in n tag sets (xs ++ f ∷ ys)) (sym same) ∙ revised_at tag sets 1 id xs f ys s.lawful.ids in
+    record {
+      lawful = step_lawful rules (world_of (xs ++ f ∷ ys) id tag w.fired) (Modify of sets) s.lawful;
+      facts = sym e;
+      next_id = refl;
+      next_tag = refl;
+      agenda = refreshed_stands rules a b (world_of (xs ++ f ∷ ys) id tag w.fired) ((xs ++ ys) ++ f ∷ []) ((xs ++ ys) ++ g ∷ []) (revised_in of.0 tag sets (xs ++ f ∷ ys)) id (tag + 1)
+          s.lawful s.agenda (λ m. moved_matches xs f ys rules m) (λ m. moved_matches xs g ys rules m ∙ ap (λ zs. has_match (matches rules zs) m) (sym e))
+          (refreshed (distinct_both xs f ys g s.lawful.tags s.lawful.fresh));
+    })
 
 retract_middle : (rules : List Rule) (xs : List Fact) (f : Fact) (ys : List Fact) (a b : Held) (id tag : ℕ) (w : World) (of : FactId)
     → f.id.0 ≡ of.0 → Standing rules (kept (xs ++ f ∷ ys) a id tag) w
@@ -139,16 +139,16 @@ retract_middle : (rules : List Rule) (xs : List Fact) (f : Fact) (ys : List Fact
 unfolding stepped
 retract_middle rules xs f ys a b id tag w of same st refreshed =
     for_world rules (xs ++ f ∷ ys) a id tag w (λ v. Standing rules (kept (xs ++ ys) b id tag) (stepped rules v (Retract of))) st (λ s.
-      let e : without of.0 (xs ++ f ∷ ys) ≡ xs ++ ys = ap (λ n. without n (xs ++ f ∷ ys)) (sym same) ∙ without_at 1 id xs f ys s.lawful.ids in
-      record {
-        lawful = step_lawful rules (world_of (xs ++ f ∷ ys) id tag w.fired) (Retract of) s.lawful;
-        facts = sym e;
-        next_id = refl;
-        next_tag = refl;
-        agenda = refreshed_stands rules a b (world_of (xs ++ f ∷ ys) id tag w.fired) ((xs ++ ys) ++ f ∷ []) (xs ++ ys) (without of.0 (xs ++ f ∷ ys)) id tag
-            s.lawful s.agenda (λ m. moved_matches xs f ys rules m) (λ m. ap (λ zs. has_match (matches rules zs) m) (sym e))
-            (refreshed (distinct_end xs f ys s.lawful.tags));
-      })
+    let e : without of.0 (xs ++ f ∷ ys) ≡ xs ++ ys = ap (λ n. without n (xs ++ f ∷ ys)) (sym same) ∙ without_at 1 id xs f ys s.lawful.ids in
+    record {
+      lawful = step_lawful rules (world_of (xs ++ f ∷ ys) id tag w.fired) (Retract of) s.lawful;
+      facts = sym e;
+      next_id = refl;
+      next_tag = refl;
+      agenda = refreshed_stands rules a b (world_of (xs ++ f ∷ ys) id tag w.fired) ((xs ++ ys) ++ f ∷ []) (xs ++ ys) (without of.0 (xs ++ f ∷ ys)) id tag
+          s.lawful s.agenda (λ m. moved_matches xs f ys rules m) (λ m. ap (λ zs. has_match (matches rules zs) m) (sym e))
+          (refreshed (distinct_end xs f ys s.lawful.tags));
+    })
 
 -- ---- at a place of the list
 

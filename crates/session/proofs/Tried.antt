@@ -1,29 +1,26 @@
 -- Steps that are possible, or refused, one after the other.
-use Rattle.std.proofs.Common.{◌≡◌, ℕ, suc, zero, ◌+◌, ◌<◌, ◌==◌, Bool, true, false, cond, List, [], ◌∷◌, ◌++◌, length, get_or, Option, Some, None, is_some, Result, Ok, Err, refl, sym, ◌∙◌, ap, subst, append_assoc, arith}
+use Rattle.std.proofs.Common.{◌≡◌, ℕ, suc, zero, ◌<◌, ◌==◌, Bool, true, false, cond, List, [], ◌∷◌, ◌++◌, length, get_or, Option, Some, is_some, Result, Ok, Err, refl, sym, ◌∙◌, ap, subst, append_assoc, arith}
 use Rattle.std.specs.Prelude.{OnOk, if◌then◌else◌}
 use Rattle.std.proofs.lemmas.List.{append-nil}
-use Rattle.std.proofs.lemmas.Bool.Decides.{nat_tests}
 use Rattle.fx_base.specs.declared.ids.FactId.{FactId}
 use Rattle.fx_base.specs.declared.value.Value.{Value}
 use Rattle.fx_base.specs.declared.fact.Fact.{Fact}
 use Rattle.rule_model.specs.declared.program.Rule.{Rule}
 use Rattle.rule_model.specs.declared.step.Step.{Step}
 use Rattle.rule_model.specs.declared.step.Step.TheVariants.{Modify, Retract}
-use Rattle.rule_model.specs.Worlds.{World, fact_of, is_possible, stepped}
+use Rattle.rule_model.specs.Worlds.{World, fact_of, stepped}
 use Rattle.change_read.specs.declared.code.Code.{Code}
 use Rattle.change_read.specs.declared.code.Code.TheVariants.{Absent}
 use Rattle.session.specs.declared.lines.OutLine.{OutLine}
 use Rattle.session.specs.declared.lines.OutLine.TheVariants.{Fault}
-use Rattle.session.specs.Gives.{step_lines, tries, does, does_all}
+use Rattle.session.specs.Gives.{tries, does, does_all}
 use Rattle.session.specs.Places.{IsAt}
 use Rattle.session.specs.Standing.{Kept, Standing}
+use Rattle.session.proofs.Ids.{equal_ids}
 
 or_later : (b : Bool) (f : Fact) (o : Option Fact) → is_some o ≡ true → is_some (cond b (Some f) o) ≡ true
 or_later true f o e = refl
 or_later false f o e = e
-
-equal_ids : (m n : ℕ) → m ≡ n → (m == n) ≡ true
-equal_ids m n e = grind (arith, nat_tests)
 
 some_at : (facts : List Fact) (id place : ℕ) → place < length facts → ((d : Fact) → (get_or facts place d).id.0 ≡ id) → is_some (fact_of facts id) ≡ true
 unfolding fact_of

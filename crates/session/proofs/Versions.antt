@@ -1,5 +1,5 @@
 -- The facts that a match names, found by their ids or by their tags.
-use Rattle.std.proofs.Common.{◌≡◌, ℕ, zero, suc, ◌+◌, ◌&&◌, ◌||◌, ◌==◌, ◌⊎◌, inl, inr, Bool, true, false, cond, List, [], ◌∷◌, ◌++◌, map, slice_get, Option, Some, None, refl, sym, ◌∙◌, ap, subst, arith}
+use Rattle.std.proofs.Common.{◌≡◌, ℕ, zero, suc, ◌+◌, ◌==◌, ◌⊎◌, inl, inr, Bool, true, false, cond, List, [], ◌∷◌, map, slice_get, Option, Some, None, refl, sym, ◌∙◌, ap, arith}
 use Rattle.std.specs.Ordering.{eq_by_cmp}
 use Rattle.std.specs.Option.{option_and_then}
 use Rattle.std.proofs.lemmas.Bool.Decides.{nat_tests}
@@ -8,7 +8,6 @@ use mathlib.Core.Path.{fun_ext}
 use Rattle.fx_base.specs.declared.ids.Tag.{Tag}
 use Rattle.fx_base.specs.declared.fact.Fact.{Fact}
 use Rattle.row_delta.specs.declared.row.Named.{Named}
-use Rattle.row_delta.specs.declared.row.Row.{Row}
 use Rattle.row_delta.specs.Rows.{has}
 use Rattle.rule_model.specs.declared.action.Action.{Action}
 use Rattle.rule_model.specs.declared.matched.Match.{Match}
@@ -123,5 +122,5 @@ planned_wanted rules w m actions l e =
     let names = m.row.facts in
     let same : named_at (fact_named w.facts names) names ≡ named_at (version_of w.facts) names =
     fun_ext (λ place. both_ways (fact_named w.facts names) (version_of w.facts) (slice_get names place)
-      (λ q g. same_version w.facts w.next_id l.ids l.tags names q (all_named rules w.facts m e) (got_in names place q g))) in
+    (λ q g. same_version w.facts w.next_id l.ids l.tags names q (all_named rules w.facts m e) (got_in names place q g))) in
     ap (λ look. map (λ (a : Action). step_or_overflow (step_of look names a)) actions) same

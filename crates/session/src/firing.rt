@@ -12,6 +12,7 @@ ghost use Rattle.session.specs.Places.{planned_for, planned};
 
 use crate::lines::{Cell, OutLine};
 use crate::state::State;
+use crate::steps::Plan;
 use action_eval::{EvalFault, planned_step};
 use change_read::{Code, Present};
 use fx_base::{Fact, Facts, NoMemory, Seq, Tag};
@@ -63,7 +64,7 @@ fn plan_actions(
     actions: &[Action],
     row: &Row,
     state: &State,
-) -> Result<Vec<Result<Step, Code>>, NoMemory>
+) -> Result<Plan, NoMemory>
     ensures { IfOk result (λ plan. plan.items ≡ planned state.now.facts row.now actions.now) }
 {
     let mut plan = Vec::with_capacity(alloc, actions.len())?;
@@ -73,6 +74,7 @@ fn plan_actions(
     Ok(plan)
 }
 
+// The actions of the rule of a match.
 fn actions_for<'r>(rules: &'r [Rule], fired: &Match) -> &'r [Action]
     ensures actions { result.now ≡ actions_of (slice_get rules.now fired.now.rule.0) }
     ensures few { list_all has_few_actions rules.now ≡ true → length result.now ≤ 16 }
@@ -105,23 +107,14 @@ fn line_of(alloc: Global, fired: &Match) -> Result<OutLine, NoMemory>
 impl State {
     /// What the actions of the match that fires first are to do, with the values that the facts have now; `None` exactly where
     /// nothing is pending.
-    pub(crate) fn plan(
-        &self,
-        alloc: Global,
-        rules: &[Rule],
-    ) -> Result<Option<Vec<Result<Step, Code>>>, NoMemory>
+    pub(crate) fn plan(&self, alloc: Global, rules: &[Rule]) -> Result<Option<Plan>, NoMemory>
         ensures plan { IfOk result (λ plan. option_map (λ steps. steps.items) plan ≡ option_map (λ (m : MatchData). planned self.now.facts m.row (actions_of (slice_get rules.now m.rule.0)))
             (first (fire_cmp self.now.agenda.saliences) self.now.agenda.pending)) }
         ensures few { list_all has_few_actions rules.now ≡ true → IfOk result (λ plan. IfSome plan (λ steps. length steps.items ≤ 16)) }
         ensures pending { IfOk result (λ plan. IfSome plan (λ _. 0 < length self.now.agenda.pending)) }
     {
         match self.top() {
-            Some(top) => Ok(Some(plan_actions(
-                alloc,
-                actions_for(rules, top),
-                &top.row,
-                self,
-            )?)),
+            Some(top) => Ok(Some(plan_actions(alloc, actions_for(rules, top), &top.row, self)?)),
             None => Ok(None),
         }
     }
@@ -131,7 +124,7 @@ impl State {
         self,
         alloc: Global,
         rules: &[Rule],
-        plan: Vec<Result<Step, Code>>,
+        plan: Plan,
         lines: &mut Vec<OutLine>,
     ) -> Result<State, NoMemory>
         requires few { length rules.now ≤ 256 }
@@ -148,6 +141,7 @@ impl State {
         state.take_all(alloc, rules, plan, lines)
     }
 
+    // Marks the match that fires first.
     fn mark(self, alloc: Global) -> Result<(State, Match), NoMemory>
         requires { 0 < length self.agenda.pending }
         ensures top { IfOk result (λ r. Some r.1 ≡ first (fire_cmp self.agenda.saliences) self.agenda.pending) }

@@ -9,6 +9,8 @@ mod refreshing;
 mod session;
 mod state;
 mod steps;
+#[cfg(test)]
+mod tests;
 
 pub use change_read::Code;
 pub use engine::Engine;

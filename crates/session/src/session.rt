@@ -79,7 +79,8 @@ impl Session {
         Ok((Session { program, state }, Seq::from_vec(lines)))
     }
 
-    /// The lines of one firing; `No` exactly where nothing is pending.
+    /// The lines of one firing and of its actions, whose values are those of the world before it; `No` exactly where nothing is
+    /// pending.
     pub fn fire_one(self, alloc: Global) -> Result<(Session, Fired), NoMemory>
         requires { self.kept.next_tag ≤ 2 ^ 62 }
         ensures answers { IfOk result (λ r. (w : World) → Stands self w → FiringAnswers (fires self.program w) r.1 w (Stands r.0)) }
@@ -91,10 +92,7 @@ impl Session {
             Some(plan) => {
                 let mut lines = Vec::new(alloc);
                 let state = state.fire(alloc, program.rules.as_slice(), plan, &mut lines)?;
-                Ok((
-                    Session { program, state },
-                    Fired::Yes(Seq::from_vec(lines)),
-                ))
+                Ok((Session { program, state }, Fired::Yes(Seq::from_vec(lines))))
             }
             None => Ok((Session { program, state }, Fired::No)),
         }

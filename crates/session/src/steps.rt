@@ -14,6 +14,9 @@ use fx_base::{Copies, EntryId, Fact, FactId, NoMemory, Seq, Tag, Times, TypeId, 
 use rule_model::{Rule, Step};
 use std::alloc::Global;
 
+/// What the actions of a firing are to do, in their order: a step, or the fault for which an action is refused.
+pub(crate) type Plan = Vec<Result<Step, Code>>;
+
 // The fields with these values in these places.
 fn with_sets(fields: Vec<Value>, sets: Vec<(usize, Value)>) -> Vec<Value>
     ensures { result.items ≡ with_values sets.items fields.items }
@@ -48,6 +51,7 @@ fn revised(
 }
 
 impl State {
+    // The state after an insertion.
     fn insert(
         self,
         alloc: Global,
@@ -84,6 +88,7 @@ impl State {
         })
     }
 
+    // The state after a modification of the fact at this place, which has the id.
     fn modify(
         self,
         alloc: Global,
@@ -116,6 +121,7 @@ impl State {
         })
     }
 
+    // The state after a retraction of the fact at this place, which has the id.
     fn retract(
         self,
         alloc: Global,
@@ -177,6 +183,7 @@ impl State {
         }
     }
 
+    // The same state: the fault changes nothing.
     fn refuse(self, code: Code, lines: &mut Vec<OutLine>) -> Result<State, NoMemory>
         ensures state { IfOk result (λ s. s ≡ self) }
         ensures lines { OnOk result (lines.new.items ≡ lines.old.items ++ Fault code ∷ []) }
@@ -210,7 +217,7 @@ impl State {
         self,
         alloc: Global,
         rules: &[Rule],
-        plan: Vec<Result<Step, Code>>,
+        plan: Plan,
         lines: &mut Vec<OutLine>,
     ) -> Result<State, NoMemory>
         requires few { length rules.now ≤ 256 }

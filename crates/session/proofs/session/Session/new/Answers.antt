@@ -1,4 +1,4 @@
-use Rattle.std.proofs.Common.{rules, ap, ◌∙◌}
+use Rattle.std.proofs.Common.{rules}
 use Rattle.session.proofs.Sessions.{empty_stands, from_parts}
 use Rattle.session.proofs.session.Session.new.Goals as goal
 

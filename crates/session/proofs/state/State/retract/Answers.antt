@@ -1,4 +1,4 @@
-use Rattle.std.proofs.Common.{sym, subst, refl}
+use Rattle.std.proofs.Common.{sym, subst}
 use Rattle.session.specs.Places.{IsAt}
 use Rattle.session.specs.Standing.{Kept, Standing}
 use Rattle.session.proofs.Stands.{retract_stands, rise_removed}

@@ -1,13 +1,6 @@
-use Rattle.std.proofs.Common.{◌≡◌, ◌++◌, [], sym, ◌∙◌, ap, subst}
-use Rattle.std.specs.Prelude.{IfOk, OnOk}
+use Rattle.std.proofs.Common.{sym}
 use Rattle.std.proofs.lemmas.List.{append-nil}
 use Rattle.std.proofs.lemmas.Result.{IfOk-weaker}
-use Rattle.rule_model.specs.declared.step.Step.{Step}
-use Rattle.rule_model.specs.declared.step.Step.TheVariants.{Modify, Retract}
-use Rattle.rule_model.specs.Worlds.{World}
-use Rattle.session.specs.declared.lines.OutLine.{OutLine}
-use Rattle.session.specs.Gives.{tries}
-use Rattle.session.specs.Standing.{Kept, Standing}
 use Rattle.session.proofs.Tried.{modify_tried, retract_tried, on_ok}
 use Rattle.session.proofs.state.State.step.Goals as goal
 

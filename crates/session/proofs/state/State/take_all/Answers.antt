@@ -1,11 +1,18 @@
-use Rattle.std.proofs.Common.{◌≡◌, [], ◌∷◌, List, Result, ap, length, subst, arith}
+use Rattle.std.proofs.Common.{◌≡◌, [], ◌∷◌, List, Result, ap, length, sym, subst, arith}
 use Rattle.rule_model.specs.declared.step.Step.{Step}
 use Rattle.change_read.specs.declared.code.Code.{Code}
 use Rattle.session.proofs.Tried.{SoFar, none_done, one_done, all_done_stands, all_done_lines, nothing_left}
 use Rattle.session.proofs.state.State.take_all.Goals as goal
 
 pub loop-wanted-init : goal.loop-wanted-init
-loop-wanted-init c = ?
+loop-wanted-init c =
+    let all : c.into_iter-wanted-iterator.result.rest.items ≡ c.args.plan.items = c.into_iter-wanted-iterator.ensures.into_iter_gives.0 in
+    record {
+      tags = omega (arith, ap length all);
+      done = λ w s.
+          subst (λ (rest : List (Result Step Code)). SoFar c.args.rules.now w c.args.plan.items c.args.lines.now.items c.args.lines.now.items c.args.self rest) (sym all)
+          (none_done c.args.rules.now w c.args.plan.items c.args.lines.now.items c.args.self s);
+    }
 
 pub loop-wanted-preserved : goal.loop-wanted-preserved
 loop-wanted-preserved c =
