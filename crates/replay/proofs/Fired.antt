@@ -18,25 +18,25 @@ use Rattle.replay.specs.Texts.{line_text, lines_text, limit_text, has_fault, is_
 -- the command wants no more
 fires_enough : (fires : Fires) (p : Program) (most : Option ℕ) (left : ℕ) (w : World) → wants_one most ≡ false → firings fires p most left w ≡ all_fired [] w left
 unfolding firings
-fires_enough fires p most zero w no = rw no refl
-fires_enough fires p most (suc n) w no = rw no refl
+fires_enough fires p most zero w enough = rw enough refl
+fires_enough fires p most (suc n) w enough = rw enough refl
 
 -- nothing is pending
 fires_none : (fires : Fires) (p : Program) (most : Option ℕ) (left : ℕ) (w : World) → wants_one most ≡ true → fires p w ≡ None → firings fires p most left w ≡ all_fired [] w left
 unfolding firings
-fires_none fires p most zero w yes e = rw (yes, e) refl
-fires_none fires p most (suc n) w yes e = rw (yes, e) refl
+fires_none fires p most zero w wants e = rw (wants, e) refl
+fires_none fires p most (suc n) w wants e = rw (wants, e) refl
 
 -- a firing more
 fires_some : (fires : Fires) (p : Program) (most : Option ℕ) (left n : ℕ) (w : World) (f : List OutLine × World) → wants_one most ≡ true → left ≡ suc n → fires p w ≡ Some f
     → firings fires p most left w ≡ onto_lines f.0 (firings fires p (one_less most) n f.1)
 unfolding firings
-fires_some fires p most left n w f yes at e = ap (λ k. firings fires p most k w) at ∙ rw (yes, e) refl
+fires_some fires p most left n w f wants at e = ap (λ k. firings fires p most k w) at ∙ rw (wants, e) refl
 
 -- no firing is left
 fires_over : (fires : Fires) (p : Program) (most : Option ℕ) (left : ℕ) (w : World) (f : List OutLine × World) → wants_one most ≡ true → left ≡ 0 → fires p w ≡ Some f → firings fires p most left w ≡ limit_met []
 unfolding firings
-fires_over fires p most left w f yes at e = ap (λ k. firings fires p most k w) at ∙ rw (yes, e) refl
+fires_over fires p most left w f wants at e = ap (λ k. firings fires p most k w) at ∙ rw (wants, e) refl
 
 onto_nothing : (r : Firings) → onto_lines [] r ≡ r
 onto_nothing (all_fired lines w left) = refl
@@ -61,9 +61,9 @@ begin_remains fires p number most left w text = record { lines = []; all-is = sy
 pub next_remains : (fires : Fires) (p : Program) (number : ℕ) (all : Firings) (most : Option ℕ) (left n : ℕ) (v : World) (before after : List ℕ) (bad : Bool) (f : List OutLine × World) (after' : List ℕ) (bad' : Bool)
     → Remains fires p number all most left v before after bad → wants_one most ≡ true → left ≡ suc n → fires p v ≡ Some f → after' ≡ after ++ lines_text p number f.0 → bad' ≡ (bad || has_fault f.0)
     → Remains fires p number all (one_less most) n f.1 before after' bad'
-next_remains fires p number all most left n v before after bad f after' bad' r yes at e t b = record {
+next_remains fires p number all most left n v before after bad f after' bad' r wants at e t b = record {
   lines = r.lines ++ f.0;
-  all-is = r.all-is ∙ ap (onto_lines r.lines) (fires_some fires p most left n v f yes at e) ∙ onto_onto r.lines f.0 (firings fires p (one_less most) n f.1);
+  all-is = r.all-is ∙ ap (onto_lines r.lines) (fires_some fires p most left n v f wants at e) ∙ onto_onto r.lines f.0 (firings fires p (one_less most) n f.1);
   text = t ∙ ap (λ z. z ++ lines_text p number f.0) r.text ∙ append_assoc before (lines_text p number r.lines) (lines_text p number f.0)
       ∙ ap (λ z. before ++ z) (sym (flat_map-append (line_text p number) r.lines f.0));
   faulty = b ∙ ap (λ z. z || has_fault f.0) r.faulty ∙ sym (list_any-append is_fault r.lines f.0);
@@ -81,35 +81,35 @@ over_remains fires p number limit all most left v before after bad stands r e st
 pub enough_remains : (fires : Fires) (p : Program) (number limit : ℕ) (all : Firings) (most : Option ℕ) (left : ℕ) (v : World) (before after : List ℕ) (bad : Bool) (stands : World → Type 0)
     → Remains fires p number all most left v before after bad → wants_one most ≡ false → stands v
     → Does stands (fire_step limit p number all) before after (Goes bad left)
-enough_remains fires p number limit all most left v before after bad stands r no st =
-    over_remains fires p number limit all most left v before after bad stands r (fires_enough fires p most left v no) st
+enough_remains fires p number limit all most left v before after bad stands r enough st =
+    over_remains fires p number limit all most left v before after bad stands r (fires_enough fires p most left v enough) st
 
 -- nothing is pending any more
 pub done_remains : (fires : Fires) (p : Program) (number limit : ℕ) (all : Firings) (most : Option ℕ) (left : ℕ) (v : World) (before after : List ℕ) (bad : Bool) (stands : World → Type 0)
     → Remains fires p number all most left v before after bad → wants_one most ≡ true → fires p v ≡ None → stands v
     → Does stands (fire_step limit p number all) before after (Goes bad left)
-done_remains fires p number limit all most left v before after bad stands r yes e st =
-    over_remains fires p number limit all most left v before after bad stands r (fires_none fires p most left v yes e) st
+done_remains fires p number limit all most left v before after bad stands r wants e st =
+    over_remains fires p number limit all most left v before after bad stands r (fires_none fires p most left v wants e) st
 
 -- a match is pending, and no firing is left
 limit_remains : (fires : Fires) (p : Program) (number limit : ℕ) (all : Firings) (most : Option ℕ) (left : ℕ) (v : World) (before after after' : List ℕ) (bad : Bool) (f : List OutLine × World) (stands : World → Type 0)
     → Remains fires p number all most left v before after bad → wants_one most ≡ true → left ≡ 0 → fires p v ≡ Some f → after' ≡ after ++ limit_text limit
     → Does stands (fire_step limit p number all) before after' Stops
-limit_remains fires p number limit all most left v before after after' bad f stands r yes at e t =
-    let is : all ≡ limit_met r.lines = r.all-is ∙ ap (onto_lines r.lines) (fires_over fires p most left v f yes at e) ∙ ap limit_met (append-nil r.lines) in
+limit_remains fires p number limit all most left v before after after' bad f stands r wants at e t =
+    let is : all ≡ limit_met r.lines = r.all-is ∙ ap (onto_lines r.lines) (fires_over fires p most left v f wants at e) ∙ ap limit_met (append-nil r.lines) in
     rw is (t ∙ ap (λ z. z ++ limit_text limit) r.text ∙ append_assoc before (lines_text p number r.lines) (limit_text limit), refl)
 
 -- the loop of firings has ended with none left, and the command wants one
 pub end_remains : (fires : Fires) (p : Program) (number limit : ℕ) (all : Firings) (most : Option ℕ) (left : ℕ) (v : World) (before after after' : List ℕ) (bad : Bool) (turn : Turn) (stands : World → Type 0)
     → Remains fires p number all most left v before after bad → wants_one most ≡ true → left ≡ 0 → stands v → EndsFirings limit (fires p v) bad after after' turn
     → Does stands (fire_step limit p number all) before after' turn
-end_remains fires p number limit all most left v before after after' bad turn stands r yes at st h = here (fires p v) refl h
+end_remains fires p number limit all most left v before after after' bad turn stands r wants at st h = here (fires p v) refl h
   where
     here : (o : Option (List OutLine × World)) → fires p v ≡ o → EndsFirings limit o bad after after' turn → Does stands (fire_step limit p number all) before after' turn
     here None e k =
-        let d : Does stands (fire_step limit p number all) before after (Goes bad left) = done_remains fires p number limit all most left v before after bad stands r yes e st in
+        let d : Does stands (fire_step limit p number all) before after (Goes bad left) = done_remains fires p number limit all most left v before after bad stands r wants e st in
         rw (k.0, k.1, sym at) d
-    here (Some f) e k = rw k.1 (limit_remains fires p number limit all most left v before after after' bad f stands r yes at e k.0)
+    here (Some f) e k = rw k.1 (limit_remains fires p number limit all most left v before after after' bad f stands r wants at e k.0)
 
 -- what an answer says of the firing
 pub yes_answer : (o : Option (List OutLine × World)) (lines : List OutLine) (v : World) (S : World → Type 0) → FiringAnswers o (Yes lines) v S

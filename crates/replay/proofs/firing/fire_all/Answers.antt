@@ -1,8 +1,14 @@
-use Rattle.std.proofs.Common.{◌≡◌, ◌+◌, ◌-◌, ◌*◌, ◌++◌, ◌||◌, suc, ◌∙◌, ap, arith}
-use Rattle.replay.specs.Firings.{firings}
+use Rattle.std.proofs.Common.{◌≡◌, ◌+◌, ◌-◌, ◌*◌, ◌++◌, ◌||◌, suc, ◌∙◌, sym, ap, arith}
+use Rattle.replay.specs.Firings.{firings, wants_one, one_less}
 use Rattle.replay.specs.Texts.{lines_text, has_fault}
-use Rattle.replay.proofs.Fired.{no_answer, yes_answer, next_remains, done_remains, end_remains}
+use Rattle.replay.proofs.Fired.{no_answer, yes_answer, next_remains, done_remains, enough_remains, end_remains}
 use Rattle.replay.proofs.firing.fire_all.Goals as goal
+
+pub returns-then-not-is_wanting-clause-done : goal.returns-then-not-is_wanting-clause-done
+returns-then-not-is_wanting-clause-done g c w st =
+    let inv = c.loop-left.invariant.remains w st in
+    enough_remains g.E.Engine.fires (g.E.Engine.made_with c.args.engine) c.args.number c.args.limit (firings g.E.Engine.fires (g.E.Engine.made_with c.args.engine) c.args.most c.args.left w) c.loop-left.most c.loop-left.left inv.0 c.args.text.now.items c.loop-left.text.items c.loop-left.faulty (g.E.Engine.stands c.loop-left.engine)
+    inv.2 (sym c.is_wanting.ensures ∙ c.if-not-is_wanting.true) inv.1
 
 pub returns-in-No-clause-done : goal.returns-in-No-clause-done
 returns-in-No-clause-done g c w st =
@@ -10,11 +16,12 @@ returns-in-No-clause-done g c w st =
     let answer = rw (c.in-No.is, c.loop-left.invariant.same) at (c.in_ok-next.ensures.answers inv.0 inv.1) in
     let none = no_answer _ inv.0 _ answer in
     done_remains g.E.Engine.fires (g.E.Engine.made_with c.args.engine) c.args.number c.args.limit (firings g.E.Engine.fires (g.E.Engine.made_with c.args.engine) c.args.most c.args.left w) c.loop-left.most c.loop-left.left inv.0 c.args.text.now.items c.loop-left.text.items c.loop-left.faulty (g.E.Engine.stands c.in_ok-next.next)
-    inv.2 none.0 none.1
+    inv.2 (sym c.is_wanting.ensures ∙ c.if-not-is_wanting.false) none.0 none.1
 
 pub loop-left-preserved : goal.loop-left-preserved
 loop-left-preserved g c =
     let more : c.loop-left.left ≡ suc (c.loop-left.left - 1) = omega (arith, c.loop-left-test.true) in
+    let wants = sym c.is_wanting.ensures ∙ c.if-not-is_wanting.false in
     record {
       same = c.in_ok-next.ensures.program ∙ c.loop-left.invariant.same;
       few = omega (arith, c.in_ok-next.ensures.tags, c.loop-left.invariant.few, c.loop-left-test.true);
@@ -28,21 +35,22 @@ loop-left-preserved g c =
           let bad = c.either-faulty.ensures ∙ ap (λ z. c.loop-left.faulty || z) (c.in_ok-bad-in-Yes.ensures.fault ∙ ap has_fault (c.as_slice.ensures ∙ some.1.1)) in (
             some.0.1,
             some.1.2,
-            next_remains g.E.Engine.fires (g.E.Engine.made_with c.args.engine) c.args.number (firings g.E.Engine.fires (g.E.Engine.made_with c.args.engine) c.args.most c.args.left w) c.loop-left.most c.loop-left.left (c.loop-left.left - 1) inv.0
+            rw (c.with_one_less-most.ensures wants) (next_remains g.E.Engine.fires (g.E.Engine.made_with c.args.engine) c.args.number (firings g.E.Engine.fires (g.E.Engine.made_with c.args.engine) c.args.most c.args.left w) c.loop-left.most c.loop-left.left (c.loop-left.left - 1) inv.0
                 c.args.text.now.items c.loop-left.text.items c.loop-left.faulty some.0 c.push_lines.new.text.items c.either-faulty.result
-                inv.2 more some.1.0 text bad,
+                inv.2 wants more some.1.0 text bad),
           );
     }
+
+pub returns-then-not-is_wanting-2-clause-done : goal.returns-then-not-is_wanting-2-clause-done
+returns-then-not-is_wanting-2-clause-done g c w st =
+    let inv = c.loop-left.invariant.remains w st in
+    let none : c.loop-left.left ≡ 0 = omega (arith, c.loop-left-test.false) in
+    rw (sym none) (enough_remains g.E.Engine.fires (g.E.Engine.made_with c.args.engine) c.args.number c.args.limit (firings g.E.Engine.fires (g.E.Engine.made_with c.args.engine) c.args.most c.args.left w) c.loop-left.most c.loop-left.left inv.0 c.args.text.now.items c.loop-left.text.items c.loop-left.faulty (g.E.Engine.stands c.loop-left.engine)
+    inv.2 (sym c.is_wanting-2.ensures ∙ c.if-not-is_wanting-2.true) inv.1)
 
 pub returns-clause-done : goal.returns-clause-done
 returns-clause-done g c w st =
     let inv = c.loop-left.invariant.remains w st in
     let ends = rw c.loop-left.invariant.same at (c.in_ok-turn.ensures.ends inv.0 inv.1) in
     end_remains g.E.Engine.fires (g.E.Engine.made_with c.args.engine) c.args.number c.args.limit (firings g.E.Engine.fires (g.E.Engine.made_with c.args.engine) c.args.most c.args.left w) c.loop-left.most c.loop-left.left inv.0 c.args.text.now.items c.loop-left.text.items c.end_firings.new.text.items c.loop-left.faulty c.in_ok-turn.turn (g.E.Engine.stands c.loop-left.engine)
-    inv.2 (omega (arith, c.loop-left-test.false)) inv.1 ends
-
-pub returns-in-No-clause-tags : goal.returns-in-No-clause-tags
-returns-in-No-clause-tags g c = omega (arith, c.in_ok-next.ensures.tags, c.loop-left.invariant.few)
-
-pub returns-clause-tags : goal.returns-clause-tags
-returns-clause-tags g c = c.in_ok-turn.ensures.within (g.E.Engine.tags c.loop-left.engine) (g.E.Engine.tags c.args.engine + 16 * c.args.left + 16) (omega (arith, c.loop-left.invariant.few))
+    inv.2 (sym c.is_wanting-2.ensures ∙ c.if-not-is_wanting-2.false) (omega (arith, c.loop-left-test.false)) inv.1 ends
