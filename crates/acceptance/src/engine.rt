@@ -30,7 +30,7 @@ fn text_of(alloc: Global, lines: &[OutLine]) -> Result<String, NoMemory> {
 
 fn fired_text(alloc: Global, fired: &Fired) -> Result<String, NoMemory> {
     match fired {
-        Fired::No => String::from_str(alloc, "no"),
+        Fired::No => Ok(String::from_str(alloc, "no")?),
         Fired::Yes(lines) => text_of(alloc, lines.as_slice()),
     }
 }

@@ -1,5 +1,5 @@
-use Rattle.std.proofs.Common.{◌≡◌, ◌+◌, ◌-◌, ◌*◌, ◌++◌, ◌||◌, suc, ◌∙◌, sym, ap, arith}
-use Rattle.replay.specs.Firings.{firings, wants_one, one_less}
+use Rattle.std.proofs.Common.{◌≡◌, ◌-◌, ◌++◌, ◌||◌, suc, ◌∙◌, sym, ap, arith}
+use Rattle.replay.specs.Firings.{firings}
 use Rattle.replay.specs.Texts.{lines_text, has_fault}
 use Rattle.replay.proofs.Fired.{no_answer, yes_answer, next_remains, done_remains, enough_remains, end_remains}
 use Rattle.replay.proofs.firing.fire_all.Goals as goal
