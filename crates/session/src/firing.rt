@@ -138,7 +138,7 @@ impl State {
     {
         let (state, fired) = self.mark(alloc)?;
         lines.push(line_of(alloc, &fired)?)?;
-        state.take_all(alloc, rules, plan, lines)
+        state.apply_all(alloc, rules, plan, lines)
     }
 
     // Marks the match that fires first.

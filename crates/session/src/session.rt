@@ -75,7 +75,7 @@ impl Session {
         let Session { program, state } = self;
         let asked = asked_step(alloc, program.types.as_slice(), &state, change)?;
         let mut lines = Vec::new(alloc);
-        let state = state.take(alloc, program.rules.as_slice(), asked, &mut lines)?;
+        let state = state.apply(alloc, program.rules.as_slice(), asked, &mut lines)?;
         Ok((Session { program, state }, Seq::from_vec(lines)))
     }
 

@@ -193,7 +193,7 @@ impl State {
     }
 
     /// Does a step, or refuses it for its fault, and adds the line of either.
-    pub(crate) fn take(
+    pub(crate) fn apply(
         self,
         alloc: Global,
         rules: &[Rule],
@@ -213,7 +213,7 @@ impl State {
     }
 
     /// The same for steps and faults one after the other: one that is refused stops none of the later ones.
-    pub(crate) fn take_all(
+    pub(crate) fn apply_all(
         self,
         alloc: Global,
         rules: &[Rule],
@@ -228,7 +228,7 @@ impl State {
     {
         let mut state = self;
         for wanted in plan {
-            state = state.take(alloc, rules, wanted, lines)?;
+            state = state.apply(alloc, rules, wanted, lines)?;
         }
         Ok(state)
     }

@@ -4,10 +4,7 @@ ghost use Rattle.rule_model.specs.Programs.{IsAccepted, has_conditions, has_few_
 
 use crate::{Cell, Fired, OutLine, Session};
 use fx_base::{Kind, NoMemory, Seq, Text, TypeId, Value};
-use rule_model::{
-    Action, Compare, Condition, Expr, ExprNode, Pattern, Program, RelTag, Rule, Side, Test,
-    TypeInfo,
-};
+use rule_model::{Action, Condition, Expr, ExprNode, Pattern, Program, Rule, TypeInfo};
 use script_read::{Change, Given};
 use std::alloc::Global;
 use std::test::Fail;
@@ -19,19 +16,11 @@ fn ty(alloc: Global, name: &str) -> Result<TypeInfo, NoMemory> {
     })
 }
 
-fn compare(rel: RelTag, sides: Vec<Side>) -> Compare {
-    Compare {
-        field: 0,
-        rel,
-        against: Seq::from_vec(sides),
-    }
-}
-
-fn pattern(ty: u16, alloc: Global, joined: Vec<Test>) -> Condition {
+fn pattern(alloc: Global, ty: u16) -> Condition {
     Condition::Plain(Pattern {
         ty: TypeId(ty),
         alone: Seq::from_vec(Vec::new(alloc)),
-        joined: Seq::from_vec(joined),
+        joined: Seq::from_vec(Vec::new(alloc)),
     })
 }
 
@@ -44,21 +33,13 @@ fn insertion(alloc: Global) -> Result<Action, NoMemory> {
     })
 }
 
-// rule "j" when $a : K(), M( k == $a.k ) then insert( new M( $a.k ) ); end
-fn join(alloc: Global) -> Result<Rule, NoMemory> {
-    let same = compare(
-        RelTag::Equal,
-        vec![in alloc; Side::Of { fact: 0, field: 0 }]?,
-    );
-    let equal = Test {
-        choices: Seq::from_vec(vec![in alloc; Seq::from_vec(vec![in alloc; same]?)]?),
-    };
-    let k = pattern(0, alloc, Vec::new(alloc));
-    let m = pattern(1, alloc, vec![in alloc; equal]?);
+// rule "j" when $a : K(), M() then insert( new M( $a.k ) ); end
+fn rule(alloc: Global) -> Result<Rule, NoMemory> {
+    let conditions = vec![in alloc; pattern(alloc, 0), pattern(alloc, 1)]?;
     Ok(Rule {
         name: Text::new(alloc, "j")?,
         salience: 0,
-        conditions: Seq::from_vec(vec![in alloc; k, m]?),
+        conditions: Seq::from_vec(conditions),
         actions: Seq::from_vec(vec![in alloc; insertion(alloc)?]?),
     })
 }
@@ -101,7 +82,7 @@ fn session(alloc: Global) -> Result<Option<Session>, NoMemory>
 {
     let program = Program {
         types: Seq::from_vec(vec![in alloc; ty(alloc, "K")?, ty(alloc, "M")?]?),
-        rules: Seq::from_vec(vec![in alloc; join(alloc)?]?),
+        rules: Seq::from_vec(vec![in alloc; rule(alloc)?]?),
     };
     match accepted(program) {
         Some(program) => Ok(Some(Session::new(alloc, program)?)),
@@ -123,7 +104,7 @@ fn with(alloc: Global, session: Session, name: &str, k: i64) -> Result<Session, 
     Ok(session)
 }
 
-// The facts of the lines of a firing, or `no`.
+// The lines of a firing, or `no`.
 fn text_of(alloc: Global, fired: &Fired) -> Result<String, NoMemory> {
     let mut text = String::new(alloc);
     match fired {
@@ -154,7 +135,7 @@ fn push_line(alloc: Global, text: &mut String, line: &OutLine) -> Result<(), NoM
 }
 
 #[test]
-fn a_join_fires(rt: HostRuntime) -> Result<(), Fail> {
+fn a_firing_inserts(rt: HostRuntime) -> Result<(), Fail> {
     let alloc = rt.alloc();
     let Some(session) = session(alloc)? else {
         assert!(rt; false);

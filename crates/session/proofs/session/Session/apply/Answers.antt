@@ -9,7 +9,7 @@ returns-clause-lines c w s =
     let is : c.in_ok-asked.asked ≡ change_step c.self.inside.program.types (fact_of c.self.inside.state.facts) c.args.change.now =
     c.in_ok-asked.ensures ∙ ap (λ types. change_step types (fact_of c.self.inside.state.facts) c.args.change.now) c.as_slice.ensures in
     let taken = simp (c.as_slice-2.ensures, c.new-lines.ensures.items) at c.in_ok-state.ensures.lines in
-    c.from_vec.ensures ∙ change_lines c.self.inside.program c.self.inside.state c.args.self c.self.view_is w s c.args.change.now c.in_ok-asked.asked is c.take.new.lines.items taken
+    c.from_vec.ensures ∙ change_lines c.self.inside.program c.self.inside.state c.args.self c.self.view_is w s c.args.change.now c.in_ok-asked.asked is c.apply.new.lines.items taken
 
 pub returns-clause-next : goal.returns-clause-next
 returns-clause-next c w s =

@@ -2,7 +2,7 @@ use Rattle.std.proofs.Common.{◌≡◌, [], ◌∷◌, List, Result, ap, length
 use Rattle.rule_model.specs.declared.step.Step.{Step}
 use Rattle.change_read.specs.declared.code.Code.{Code}
 use Rattle.session.proofs.Tried.{SoFar, none_done, one_done, all_done_stands, all_done_lines, nothing_left}
-use Rattle.session.proofs.state.State.take_all.Goals as goal
+use Rattle.session.proofs.state.State.apply_all.Goals as goal
 
 pub loop-wanted-init : goal.loop-wanted-init
 loop-wanted-init c =
@@ -20,7 +20,7 @@ loop-wanted-preserved c =
     record {
       tags = omega (arith, ap length step, c.loop-wanted.invariant.tags, c.in_ok-state.ensures.tags);
       done = λ w s.
-          one_done c.args.rules.now w c.args.plan.items c.args.lines.now.items c.loop-wanted.lines.items c.take.new.lines.items c.loop-wanted.state c.in_ok-state.state c.in-Some.wanted c.next.new.self.rest.items
+          one_done c.args.rules.now w c.args.plan.items c.args.lines.now.items c.loop-wanted.lines.items c.apply.new.lines.items c.loop-wanted.state c.in_ok-state.state c.in-Some.wanted c.next.new.self.rest.items
           (subst (λ (rest : List (Result Step Code)). SoFar c.args.rules.now w c.args.plan.items c.args.lines.now.items c.loop-wanted.lines.items c.loop-wanted.state rest) step (c.loop-wanted.invariant.done w s))
           c.in_ok-state.ensures.stands c.in_ok-state.ensures.lines;
     }

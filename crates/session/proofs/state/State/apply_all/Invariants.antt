@@ -2,7 +2,7 @@ use Rattle.std.proofs.Common.{◌≤◌, ◌+◌, length}
 use Rattle.rule_model.specs.Worlds.{World}
 use Rattle.session.specs.Standing.{Standing}
 use Rattle.session.proofs.Tried.{SoFar}
-use Rattle.session.proofs.state.State.take_all.Given as goal
+use Rattle.session.proofs.state.State.apply_all.Given as goal
 
 abbrev pub invariant-loop-wanted : goal.invariant-loop-wanted
 invariant-loop-wanted l = record {
