@@ -7,6 +7,7 @@ use std::alloc::Global;
 use std::test::Fail;
 
 const K: u16 = 0;
+
 const M: u16 = 1;
 
 const RULES: &str = "declare K k : long l : long end declare M k : long l : long end
@@ -74,11 +75,7 @@ fn rows_are_found(rt: HostRuntime) -> Result<(), Fail> {
             "/ / #3#1 #3#2 / #4#1 / #3#1 #3#2 #4#1 ",
         ),
         (0, &[], ""),
-        (
-            1,
-            &[(K, (1, 2)), (K, (2, 2)), (M, (1, 2))],
-            "#1 / / / #1 ",
-        ),
+        (1, &[(K, (1, 2)), (K, (2, 2)), (M, (1, 2))], "#1 / / / #1 "),
         (2, &[(K, (1, 0))], "#1#1 / #1#1 "),
         (
             2,

@@ -79,7 +79,12 @@ const FAULTY: &[u8] =
     b" \t\r\n{\"do\":\"fly\"}\n{\"do\":\"insert\",\"type\":\"Nope\",\"fields\":{}}\n{\"do\":\"insert\",\"type\":\"Item\",\"fields\":{\"price\":1.5}}\n{\n{\"do\":\"insert\",\"type\":\"Item\",\"fields\":{\"price\":10}}\n";
 
 // The status and the written bytes of a run of this file with this limit of firings.
-pub(crate) fn run_at_most(alloc: Global, name: &str, limit: u64, script: &[u8]) -> Result<(u8, Vec<u8>), Fail>
+pub(crate) fn run_at_most(
+    alloc: Global,
+    name: &str,
+    limit: u64,
+    script: &[u8],
+) -> Result<(u8, Vec<u8>), Fail>
     requires some { 1 ≤ limit }
     requires low { limit ≤ 1000000 }
 {

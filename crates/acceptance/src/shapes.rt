@@ -1,9 +1,9 @@
 use crate::tokens::kinds;
+use drl_lex::TokenKind;
 use drl_phrase::{
     Name, Phrase, Punctuation, Span, behind, behind_word, listed, many, maybe, non_empty, optional,
     separated, whole,
 };
-use drl_lex::TokenKind;
 use fx_base::NoMemory;
 use std::alloc::Global;
 use std::test::Fail;

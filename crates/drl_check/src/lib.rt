@@ -14,8 +14,6 @@ mod laws;
 mod limits;
 mod refusal;
 mod room;
-#[cfg(test)]
-mod tests;
 mod twice;
 mod uses;
 

@@ -5,8 +5,6 @@
 mod actions_of;
 mod numbers;
 mod programs;
-#[cfg(test)]
-mod tests;
 mod tests_of;
 mod undeclared;
 

@@ -7,8 +7,6 @@ mod names;
 mod operands;
 mod places;
 mod sight;
-#[cfg(test)]
-mod tests;
 
 pub use declared::{Declared, DeclaredType, kind_of_word, names_of_fields};
 pub use names::{differ, has_at_most};

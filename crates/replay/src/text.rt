@@ -4,9 +4,9 @@ ghost use Rattle.std.specs.List.{flat_map};
 ghost use Rattle.replay.specs.Texts.{type_name, rule_name, quoted_byte, cell_text, code_text, change_code, fault_text, limit_text, line_text, lines_text, is_fault, has_fault};
 
 use crate::fault::LineCode;
+use change_read::Code;
 use fx_base::NoMemory;
 use rule_model::{Program, Rule, TypeInfo};
-use change_read::Code;
 use session::{Cell, OutLine};
 use std::alloc::Global;
 

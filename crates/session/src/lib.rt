@@ -9,8 +9,6 @@ mod refreshing;
 mod session;
 mod state;
 mod steps;
-#[cfg(test)]
-mod tests;
 
 pub use change_read::Code;
 pub use engine::Engine;
