@@ -5,14 +5,18 @@ use Rattle.fx_base.specs.declared.ids.FactId.{FactId}
 use Rattle.fx_base.specs.declared.kind.Kind.{Kind}
 use Rattle.fx_base.specs.declared.value.Value.{Value}
 use Rattle.fx_base.specs.declared.fact.Fact.{Fact}
+use Rattle.fx_base.specs.declared.ids.TypeId.{TypeId}
+use Rattle.rule_model.specs.declared.program.EntryInfo.{EntryInfo}
+use Rattle.rule_model.specs.declared.program.Program.{Program}
 use Rattle.rule_model.specs.declared.program.TypeInfo.{TypeInfo}
 use Rattle.rule_model.specs.declared.step.Step.{Step}
 use Rattle.rule_model.specs.declared.step.Step.TheVariants as step
 use Rattle.script_read.specs.declared.given.Given.{Given}
 use Rattle.script_read.specs.declared.asked.Change.{Change}
-use Rattle.script_read.specs.declared.asked.Change.TheVariants.{Insert, Modify, Retract}
-use Rattle.change_read.specs.declared.code.Code.{Code}
-use Rattle.change_read.specs.declared.code.Code.TheVariants.{UnknownType, Absent, BadFields, BadValue}
+use Rattle.script_read.specs.declared.asked.Change.TheVariants.{Insert, Modify, Retract, Advance, At}
+use Rattle.rule_model.specs.declared.code.Code.{Code}
+use Rattle.rule_model.specs.declared.code.Code.TheVariants.{UnknownType, UnknownEntry, EventFixed, Absent, BadFields, BadValue}
+use Rattle.rule_model.specs.Worlds.{is_of_type}
 use Rattle.change_read.specs.Fields.{are_fields, are_some_fields, values_given, sets_given}
 
 -- the declared type of a name, and its place, the first type having this one
@@ -20,21 +24,27 @@ unfoldable pub type_named : List ℕ → List TypeInfo → ℕ → Option (ℕ �
 type_named name [] place = None
 type_named name (ty ∷ types) place = if bytes_eq ty.name name then Some (place, ty) else type_named name types (place + 1)
 
--- a present fact of a type
-abbrev pub is_of_type : ℕ → Option Fact → Bool
-is_of_type ty None = false
-is_of_type ty (Some f) = f.ty.0 == ty
+-- the place of the entry point of a name, the first having this one
+unfoldable pub entry_named : List ℕ → List EntryInfo → ℕ → Option ℕ
+entry_named name [] place = None
+entry_named name (entry ∷ entries) place = if bytes_eq entry.name name then Some place else entry_named name entries (place + 1)
+
+-- the entry point that a change asks for; the default one, which is the first, where it asks for none
+abbrev pub entry_asked : Option (List ℕ) → List EntryInfo → Option ℕ
+entry_asked None entries = Some 0
+entry_asked (Some name) entries = entry_named name entries 0
 
 -- ---- insertions
 
-abbrev pub values_step : ℕ → Option (List Value) → Result Step Code
-values_step ty None = Err BadValue
-values_step ty (Some values) = Ok (step.Insert (record { 0 = ty }) values)
+abbrev pub values_step : ℕ → ℕ → Option (List Value) → Result Step Code
+values_step ty entry None = Err BadValue
+values_step ty entry (Some values) = Ok (step.Insert (record { 0 = ty }) (record { 0 = entry }) values)
 
-abbrev pub insert_step : Option (ℕ × TypeInfo) → List (List ℕ × Given) → Result Step Code
-insert_step None members = Err UnknownType
-insert_step (Some ty) members =
-    if are_fields ty.1.fields members then values_step ty.0 (values_given ty.1.fields members) else Err BadFields
+abbrev pub insert_step : Option (ℕ × TypeInfo) → Option ℕ → List (List ℕ × Given) → Result Step Code
+insert_step None entry members = Err UnknownType
+insert_step (Some ty) None members = Err UnknownEntry
+insert_step (Some ty) (Some entry) members =
+    if are_fields ty.1.fields members then values_step ty.0 entry (values_given ty.1.fields members) else Err BadFields
 
 -- ---- modifications; the fact that has the id, if one has it, is given
 
@@ -47,16 +57,24 @@ fields_step id fields members = if are_some_fields fields members then sets_step
 
 abbrev pub modify_step : Option (ℕ × TypeInfo) → FactId → Option Fact → List (List ℕ × Given) → Result Step Code
 modify_step None id fact members = Err UnknownType
-modify_step (Some ty) id fact members = if is_of_type ty.0 fact then fields_step id ty.1.fields members else Err Absent
+modify_step (Some ty) id fact members =
+    if ty.1.event then Err EventFixed
+    else if is_of_type ty.0 fact then fields_step id ty.1.fields members
+    else Err Absent
 
--- ---- retractions
+-- ---- retractions; an event need not be there
 
 abbrev pub retract_step : Option (ℕ × TypeInfo) → FactId → Option Fact → Result Step Code
 retract_step None id fact = Err UnknownType
-retract_step (Some ty) id fact = if is_of_type ty.0 fact then Ok (step.Retract id) else Err Absent
+retract_step (Some ty) id fact =
+    if ty.1.event then Ok (step.Retract (record { 0 = ty.0 }) id)
+    else if is_of_type ty.0 fact then Ok (step.Retract (record { 0 = ty.0 }) id)
+    else Err Absent
 
 -- the step of a change, given the present facts by their ids
-unfoldable pub change_step : List TypeInfo → (ℕ → Option Fact) → Change → Result Step Code
-change_step types present (Insert ty fields) = insert_step (type_named ty types 0) fields
-change_step types present (Modify ty id fields) = modify_step (type_named ty types 0) id (present id.0) fields
-change_step types present (Retract ty id) = retract_step (type_named ty types 0) id (present id.0)
+unfoldable pub change_step : Program → (ℕ → Option Fact) → Change → Result Step Code
+change_step p present (Insert ty entry fields) = insert_step (type_named ty p.types 0) (entry_asked entry p.entries) fields
+change_step p present (Modify ty id fields) = modify_step (type_named ty p.types 0) id (present id.0) fields
+change_step p present (Retract ty id) = retract_step (type_named ty p.types 0) id (present id.0)
+change_step p present (Advance by) = Ok (step.Advance by)
+change_step p present (At moment) = Ok (step.At moment)

@@ -2,13 +2,12 @@
 //! It stands on the definitions of `rule_model` and `script_read`, and assumes nothing of a change.
 #![tactic(auto)]
 
-mod code;
 mod fields;
 mod present;
 mod reading;
 #[cfg(test)]
 mod tests;
 
-pub use code::Code;
 pub use present::Present;
 pub use reading::asked_step;
+pub use rule_model::Code;

@@ -1,4 +1,3 @@
-pub mod Rooms
 pub mod Failures
 pub mod Exact
 pub mod Sound

@@ -16,7 +16,7 @@ use Rattle.rule_model.specs.Programs.{has_conditions, has_few_actions, IsAccepte
 use Rattle.drl_check.specs.declared.fault.CheckCode.TheVariants.{NotBuilt, LimitPassed}
 use Rattle.drl_sight.specs.Declarations.{types_of, rules_of, type_in, rule_in}
 use Rattle.drl_sight.specs.Sight.{Place, begin, behind, sight_of_actions}
-use Rattle.drl_check.specs.Limits.{passes_limit_behind, type_within, rule_within, attr_within, condition_within, action_within, actions_within}
+use Rattle.drl_limits.specs.Limits.{passes_limit_behind, type_within, rule_within, attr_within, condition_within, action_within, actions_within}
 use Rattle.drl_check.specs.Built.{condition_unbuilt, not_built}
 use Rattle.drl_sight.specs.Names.{is_short}
 use Rattle.drl_check.specs.Checks.{AllPass, IsAcceptedFile}

@@ -1,6 +1,5 @@
--- The constructs that nothing serves yet: annotations and entry points, windows and temporal tests, negative patterns and
--- accumulates.
-use Rattle.std.specs.Prelude.{◌||◌, Bool, true, false, length, nat_lt, is_some}
+-- The constructs that nothing serves yet: explicit expiry, windows and temporal tests, negative patterns and accumulates.
+use Rattle.std.specs.Prelude.{◌||◌, Bool, true, false, is_some}
 use Rattle.std.specs.List.{list_any}
 use Rattle.drl_grammar.specs.declared.condition.CondTree.{CondTree}
 use Rattle.drl_grammar.specs.declared.condition.CondTree.TheVariants as condition
@@ -9,20 +8,25 @@ use Rattle.drl_grammar.specs.declared.condition.Part.{Part}
 use Rattle.drl_grammar.specs.declared.condition.Part.TheVariants as part
 use Rattle.drl_grammar.specs.declared.file.Body.{Body}
 use Rattle.drl_grammar.specs.declared.file.Body.TheVariants as body
+use Rattle.drl_grammar.specs.declared.file.Meta.{Meta}
+use Rattle.drl_grammar.specs.declared.file.Meta.TheVariants as meta
 
 abbrev pub part_unbuilt : Part → Bool
 part_unbuilt (part.Temporal op params other) = true
 part_unbuilt p = false
 
 abbrev pub source_unbuilt : SourceTree → Bool
-source_unbuilt s = is_some s.window || is_some s.entry || list_any part_unbuilt s.parts
+source_unbuilt s = is_some s.window || list_any part_unbuilt s.parts
 
 abbrev pub condition_unbuilt : CondTree → Bool
 condition_unbuilt (condition.Plain s) = source_unbuilt s
 condition_unbuilt c = true
 
+abbrev pub meta_unbuilt : Meta → Bool
+meta_unbuilt (meta.Expires offset) = true
+meta_unbuilt m = false
+
 abbrev pub not_built : Body → Bool
-not_built (body.Declare t) = nat_lt 0 (length t.metas)
-not_built (body.Entry name lateness) = true
+not_built (body.Declare t) = list_any meta_unbuilt t.metas
 not_built (body.Rule r) = list_any condition_unbuilt r.conditions
 not_built b = false

@@ -7,13 +7,14 @@ use Rattle.drl_grammar.specs.declared.file.Body.TheVariants as body
 use Rattle.drl_grammar.specs.declared.file.Item.{Item}
 use Rattle.drl_grammar.specs.declared.file.TypeTree.{TypeTree}
 use Rattle.drl_check.specs.declared.fault.CheckCode.{CheckCode}
-use Rattle.drl_check.specs.declared.fault.CheckCode.TheVariants.{NotBuilt, TwiceDeclared, LimitPassed, UnknownType, UnknownField, UnknownVariable, WrongKind}
+use Rattle.drl_check.specs.declared.fault.CheckCode.TheVariants.{NotBuilt, TwiceDeclared, LimitPassed, UnknownType, UnknownField, UnknownVariable, WrongKind, NotAnEvent, BadTimestamp, EventFixed, BadParams}
 use Rattle.drl_sight.specs.Declarations.{types_of}
 use Rattle.drl_sight.specs.Sight.{begin, sight_of_actions}
 use Rattle.drl_check.specs.Built.{not_built}
 use Rattle.drl_check.specs.Twice.{is_twice}
-use Rattle.drl_check.specs.Limits.{passes_limit}
+use Rattle.drl_limits.specs.Limits.{passes_limit}
 use Rattle.drl_check.specs.Uses.{any_condition, has_unknown_type, has_unknown_field, has_unknown_variable, inserts_unknown_type, action_lacks, action_unseen}
+use Rattle.drl_check.specs.Events.{annotation_lacks, is_no_event, has_bad_timestamp, is_negative, modifies_event}
 use Rattle.drl_check.specs.Kinds.{has_unknown_kind, has_wrong_kind, action_misfits}
 
 abbrev pub lacks_type : List TypeTree → Body → Bool
@@ -21,6 +22,7 @@ lacks_type types (body.Rule r) = has_unknown_type types r.conditions || list_any
 lacks_type types b = false
 
 abbrev pub lacks_field : List TypeTree → Body → Bool
+lacks_field types (body.Declare t) = annotation_lacks t
 lacks_field types (body.Rule r) = any_condition (has_unknown_field types) types begin r.conditions || list_any (action_lacks (sight_of_actions types r.conditions)) r.actions
 lacks_field types b = false
 
@@ -33,6 +35,22 @@ is_wrong_kind types (body.Declare t) = has_unknown_kind t
 is_wrong_kind types (body.Rule r) = any_condition (has_wrong_kind types) types begin r.conditions || list_any (action_misfits types (sight_of_actions types r.conditions)) r.actions
 is_wrong_kind types b = false
 
+abbrev pub needs_event : Body → Bool
+needs_event (body.Declare t) = is_no_event t
+needs_event b = false
+
+abbrev pub needs_whole_times : Body → Bool
+needs_whole_times (body.Declare t) = has_bad_timestamp t
+needs_whole_times b = false
+
+abbrev pub fixes_event : List TypeTree → Body → Bool
+fixes_event types (body.Rule r) = list_any (modifies_event (sight_of_actions types r.conditions)) r.actions
+fixes_event types b = false
+
+abbrev pub has_bad_params : Body → Bool
+has_bad_params (body.Entry name lateness) = is_negative lateness
+has_bad_params b = false
+
 -- whether an item fails the check of this code, given all the items of the file and those before it
 abbrev pub fails : CheckCode → List Item → List Item → Body → Bool
 fails NotBuilt all before b = not_built b
@@ -42,10 +60,14 @@ fails UnknownType all before b = lacks_type (types_of all) b
 fails UnknownField all before b = lacks_field (types_of all) b
 fails UnknownVariable all before b = lacks_variable (types_of all) b
 fails WrongKind all before b = is_wrong_kind (types_of all) b
+fails NotAnEvent all before b = needs_event b
+fails BadTimestamp all before b = needs_whole_times b
+fails EventFixed all before b = fixes_event (types_of all) b
+fails BadParams all before b = has_bad_params b
 
 -- the codes, in the order in which they are tried
 abbrev pub codes_in_order : List CheckCode
-codes_in_order = NotBuilt ∷ TwiceDeclared ∷ LimitPassed ∷ UnknownType ∷ UnknownField ∷ UnknownVariable ∷ WrongKind ∷ []
+codes_in_order = NotBuilt ∷ TwiceDeclared ∷ LimitPassed ∷ UnknownType ∷ UnknownField ∷ UnknownVariable ∷ WrongKind ∷ NotAnEvent ∷ BadTimestamp ∷ EventFixed ∷ BadParams ∷ []
 
 -- an item passes all checks
 abbrev pub Passes : List Item → List Item → Body → Type 0

@@ -1,11 +1,10 @@
 pub mod Built
 pub mod Twice
-pub mod Limits
 pub mod Uses
 pub mod Kinds
+pub mod Events
 pub mod Checks
 pub mod Outcomes
-pub mod Room
 pub mod Asked
 pub mod Failing
 pub mod Answers

@@ -14,9 +14,12 @@ use Rattle.drl_grammar.specs.declared.file.Attr.TheVariants as attr
 use Rattle.drl_grammar.specs.declared.file.Body.{Body}
 use Rattle.drl_grammar.specs.declared.file.Body.TheVariants as body
 use Rattle.drl_grammar.specs.declared.file.Item.{Item}
+use Rattle.drl_grammar.specs.declared.file.Meta.{Meta}
+use Rattle.drl_grammar.specs.declared.file.Meta.TheVariants as meta
 use Rattle.drl_grammar.specs.declared.file.RuleTree.{RuleTree}
 use Rattle.drl_sight.specs.Names.{is_among, are_distinct}
 use Rattle.drl_sight.specs.Declarations.{types_of, rules_of, type_names, rule_names, field_names}
+use Rattle.drl_sight.specs.EntryPoints.{declared_entries}
 
 abbrev pub attr_word : Attr → List ℕ
 attr_word (attr.Salience n) = codes "salience"
@@ -49,13 +52,20 @@ abbrev pub assigns_once : ActTree → Bool
 assigns_once (action.Modify v sets) = are_distinct (set_names sets)
 assigns_once a = true
 
--- given the names of the types and of the rules that earlier items declare
-abbrev pub is_repeated : List (List ℕ) → List (List ℕ) → Body → Bool
-is_repeated types rules (body.Declare t) = is_among types t.name || not (are_distinct (field_names t))
-is_repeated types rules (body.Rule r) = is_among rules r.name || not (are_distinct (map attr_word r.attrs)) || not (are_distinct (bound_variables r)) || not (list_all assigns_once r.actions)
-is_repeated types rules b = false
+abbrev pub meta_word : Meta → List ℕ
+meta_word (meta.Role event) = codes "role"
+meta_word (meta.Timestamp field) = codes "timestamp"
+meta_word (meta.Duration field) = codes "duration"
+meta_word (meta.Expires offset) = codes "expires"
 
--- A type or a rule is declared by an earlier item, a field, an attribute or a variable stands twice in the item, or a field is
--- assigned twice in one modification.
+-- given the names of the types, of the entry points and of the rules that earlier items declare
+abbrev pub is_repeated : List (List ℕ) → List (List ℕ) → List (List ℕ) → Body → Bool
+is_repeated types entries rules (body.Declare t) = is_among types t.name || not (are_distinct (map meta_word t.metas)) || not (are_distinct (field_names t))
+is_repeated types entries rules (body.Entry name lateness) = is_among entries name
+is_repeated types entries rules (body.Rule r) = is_among rules r.name || not (are_distinct (map attr_word r.attrs)) || not (are_distinct (bound_variables r)) || not (list_all assigns_once r.actions)
+is_repeated types entries rules b = false
+
+-- A type, an entry point or a rule is declared by an earlier item, an annotation, a field, an attribute or a variable stands twice
+-- in the item, or a field is assigned twice in one modification.
 abbrev pub is_twice : List Item → Body → Bool
-is_twice before b = is_repeated (type_names (types_of before)) (rule_names (rules_of before)) b
+is_twice before b = is_repeated (type_names (types_of before)) (declared_entries before) (rule_names (rules_of before)) b

@@ -8,16 +8,16 @@ use thiserror::Error;
 pub enum CheckCode {
     /// It has a construct that this version of the engine does not serve.
     NotBuilt,
-    /// An earlier item declares the same type or rule; or a field, an attribute or a variable stands twice in it; or a
-    /// modification assigns a field twice.
+    /// An earlier item declares the same type, entry point or rule; or an annotation, a field, an attribute or a variable stands
+    /// twice in it; or a modification assigns a field twice.
     TwiceDeclared,
-    /// It passes a limit: 128 types, 256 rules, 32 fields, 8 conditions, 16 actions, 32 comparisons and bindings of a
-    /// pattern, 32 operands of `in`, names of 64 bytes, rule names of 1 to 256 bytes, texts of 4,096 bytes, a salience of
-    /// 2^31 - 1 in size.
+    /// It passes a limit: 128 types, 64 entry points with `DEFAULT`, 256 rules, 32 fields, 8 conditions, 16 actions, 32
+    /// comparisons and bindings of a pattern, 32 operands of `in`, names of 64 bytes, names of entry points of 1 to 64 bytes, rule
+    /// names of 1 to 256 bytes, texts of 4,096 bytes, a salience of 2^31 - 1 in size, a lateness of 2^53 ms in size.
     LimitPassed,
     /// A pattern or an insert names a type that the file does not declare.
     UnknownType,
-    /// A test, a binding, a modification or an expression names a field that the type does not have.
+    /// An annotation, a test, a binding, a modification or an expression names a field that the type does not have.
     UnknownField,
     /// A variable is used that no earlier pattern of the rule binds; in an action, no pattern.
     UnknownVariable,
@@ -25,6 +25,14 @@ pub enum CheckCode {
     /// numbers; a fact stands for a value, or a value for a fact; an insert has too few or too many expressions; an
     /// expression is of another kind than its field; an operator has an operand that is no whole number.
     WrongKind,
+    /// A plain type has a timestamp or a duration.
+    NotAnEvent,
+    /// The field of a timestamp or a duration holds no whole numbers.
+    BadTimestamp,
+    /// An action modifies an event.
+    EventFixed,
+    /// A lateness is below 0.
+    BadParams,
 }
 
 /// Why `check` gave no program.

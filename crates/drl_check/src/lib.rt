@@ -3,7 +3,6 @@
 #![tactic(auto)]
 
 mod action_kinds;
-mod action_limits;
 mod action_uses;
 mod asked;
 mod built;
@@ -11,9 +10,7 @@ mod checking;
 mod fault;
 mod kinds;
 mod laws;
-mod limits;
 mod refusal;
-mod room;
 mod twice;
 mod uses;
 

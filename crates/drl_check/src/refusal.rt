@@ -8,11 +8,12 @@ use crate::action_uses::insert_unknown;
 use crate::asked::{Asked, is_so_in_rule};
 use crate::built::is_unbuilt;
 use crate::kinds::lacks_kind;
-use crate::limits::passes_limits;
+
 use crate::twice::repeats;
 use crate::uses::lack_type;
 use crate::{CheckCode, CheckFault};
 use drl_grammar::{Body, Item};
+use drl_limits::passes_limits;
 use drl_sight::{Declared, Places};
 use fx_base::NoMemory;
 use std::alloc::Global;

@@ -1,6 +1,6 @@
 -- The program of a file. Each name has a place in what was declared; a name that was not declared, which no accepted file
 -- has, counts as the first.
-use Rattle.std.specs.Prelude.{ℕ, ℤ, min, Bool, true, false, not, List, [], ◌∷◌, ◌++◌, map, pos, Option, Some, None}
+use Rattle.std.specs.Prelude.{ℕ, ℤ, min, Bool, true, false, not, List, [], ◌∷◌, ◌++◌, map, pos, Option, Some, None, option_map}
 use Rattle.std.specs.List.{filter, flat_map}
 use Rattle.fx_base.specs.declared.kind.Kind.{Kind}
 use Rattle.fx_base.specs.declared.kind.Kind.TheVariants as kind
@@ -34,6 +34,7 @@ use Rattle.rule_model.specs.declared.action.Action.{Action}
 use Rattle.rule_model.specs.declared.action.Action.TheVariants.{Insert, Modify, Retract}
 use Rattle.rule_model.specs.declared.program.Program.{Program}
 use Rattle.rule_model.specs.declared.program.TypeInfo.{TypeInfo}
+use Rattle.rule_model.specs.declared.program.EntryInfo.{EntryInfo}
 use Rattle.rule_model.specs.declared.program.Rule.{Rule}
 use Rattle.rule_model.specs.declared.condition.Condition.{Condition}
 use Rattle.rule_model.specs.declared.condition.Condition.TheVariants.{Plain}
@@ -46,10 +47,12 @@ use Rattle.rule_model.specs.declared.test.Side.{Side}
 use Rattle.rule_model.specs.declared.test.Side.TheVariants.{Lit, Own, Of}
 use Rattle.drl_sight.specs.Names.{place_of}
 use Rattle.drl_sight.specs.Declarations.{types_of, rules_of, type_names, field_names, type_named, kind_of}
+use Rattle.drl_sight.specs.Annotations.{is_event, timestamp_of, duration_of}
+use Rattle.drl_sight.specs.EntryPoints.{entry_names, lateness_named}
 use Rattle.drl_sight.specs.Sight.{Sight, Meaning, of_fact, of_field, meaning_of, Place, begin, behind, sight_of_actions}
 use Rattle.drl_sight.specs.Operands.{any_of_part}
 
--- a place as a number of 8 or 16 bits
+-- a place as a number of 8 or 16 bits; types and entry points have 16
 abbrev pub small_place : Option ℕ → ℕ
 small_place None = 0
 small_place (Some k) = min k 255
@@ -72,7 +75,23 @@ abbrev pub field_info : List ℕ × List ℕ → List ℕ × Kind
 field_info field = (field.0, kind_or_int (kind_of field.1))
 
 abbrev pub type_info : TypeTree → TypeInfo
-type_info t = record { name = t.name; fields = map field_info t.fields }
+type_info t = record {
+  name = t.name;
+  event = is_event t;
+  fields = map field_info t.fields;
+  timestamp = option_map (field_place t) (timestamp_of t.metas);
+  duration = option_map (field_place t) (duration_of t.metas);
+}
+
+-- ---- entry points, given the items of the file
+
+abbrev pub entry_info : List Item → List ℕ → EntryInfo
+entry_info items name = record { name = name; lateness = lateness_named items name }
+
+-- the place of the entry point that a pattern names; without a name it is the default one
+abbrev pub entry_place : List (List ℕ) → Option (List ℕ) → ℕ
+entry_place entries None = 0
+entry_place entries (Some name) = type_place (place_of entries name)
 
 -- ---- tests
 
@@ -127,11 +146,12 @@ is_joined p = any_of_part is_variable p
 abbrev pub is_constant : Part → Bool
 is_constant p = not (is_joined p)
 
--- ---- rules
+-- ---- rules, given the types and the entry points of the file
 
-abbrev pub pattern_in : TypeTree → ℕ → Sight → SourceTree → Pattern
-pattern_in t ty sight s = record {
+abbrev pub pattern_in : TypeTree → ℕ → ℕ → Sight → SourceTree → Pattern
+pattern_in t ty entry sight s = record {
   ty = record { 0 = ty };
+  entry = record { 0 = entry };
   alone = flat_map (tests_in t sight) (filter is_constant s.parts);
   joined = flat_map (tests_in t sight) (filter is_joined s.parts);
 }
@@ -143,16 +163,17 @@ abbrev pub type_or_none : Option TypeTree → TypeTree
 type_or_none None = no_type
 type_or_none (Some t) = t
 
-abbrev pub pattern_of : List TypeTree → Sight → SourceTree → Pattern
-pattern_of types sight s = pattern_in (type_or_none (type_named types s.ty)) (type_place (place_of (type_names types) s.ty)) sight s
+abbrev pub pattern_of : List TypeTree → List (List ℕ) → Sight → SourceTree → Pattern
+pattern_of types entries sight s =
+    pattern_in (type_or_none (type_named types s.ty)) (type_place (place_of (type_names types) s.ty)) (entry_place entries s.entry) sight s
 
-abbrev pub condition_of : List TypeTree → Place → CondTree → List Condition
-condition_of types place (tree.Plain s) = Plain (pattern_of types place.sight s) ∷ []
-condition_of types place c = []
+abbrev pub condition_of : List TypeTree → List (List ℕ) → Place → CondTree → List Condition
+condition_of types entries place (tree.Plain s) = Plain (pattern_of types entries place.sight s) ∷ []
+condition_of types entries place c = []
 
-unfoldable pub conditions_of : List TypeTree → Place → List CondTree → List Condition
-conditions_of types place [] = []
-conditions_of types place (c ∷ cs) = condition_of types place c ++ conditions_of types (behind types place c) cs
+unfoldable pub conditions_of : List TypeTree → List (List ℕ) → Place → List CondTree → List Condition
+conditions_of types entries place [] = []
+conditions_of types entries place (c ∷ cs) = condition_of types entries place c ++ conditions_of types entries (behind types place c) cs
 
 -- ---- actions, given what is in sight behind all conditions
 
@@ -199,12 +220,21 @@ abbrev pub salience_of : List Attr → ℤ
 salience_of [] = pos 0
 salience_of (a ∷ attrs) = salience_with a (salience_of attrs)
 
-abbrev pub rule_of : List TypeTree → RuleTree → Rule
-rule_of types r = record { name = r.name; salience = salience_of r.attrs; conditions = conditions_of types begin r.conditions; actions = map (action_of types (sight_of_actions types r.conditions)) r.actions }
+abbrev pub rule_of : List TypeTree → List (List ℕ) → RuleTree → Rule
+rule_of types entries r = record {
+  name = r.name;
+  salience = salience_of r.attrs;
+  conditions = conditions_of types entries begin r.conditions;
+  actions = map (action_of types (sight_of_actions types r.conditions)) r.actions;
+}
 
--- given the types of the file
-abbrev pub program_with : List TypeTree → List Item → Program
-program_with types items = record { types = map type_info (types_of items); rules = map (rule_of types) (rules_of items) }
+-- given the types of the file and the names of its entry points
+abbrev pub program_with : List TypeTree → List (List ℕ) → List Item → Program
+program_with types entries items = record {
+  types = map type_info (types_of items);
+  entries = map (entry_info items) entries;
+  rules = map (rule_of types entries) (rules_of items);
+}
 
 abbrev pub program_of : File → Program
-program_of file = program_with (types_of file.items) file.items
+program_of file = program_with (types_of file.items) (entry_names file.items) file.items

@@ -1,5 +1,5 @@
 -- Held facts: a finite map from tags to facts, and what is asked of it by ids and by types.
-use Rattle.std.specs.Prelude.{◌≡◌, ◌≤◌, ◌&&◌, ℕ, Bool, false, Option, Some, None, nat_eq}
+use Rattle.std.specs.Prelude.{◌≡◌, ◌≤◌, ◌&&◌, ℕ, Bool, false, List, Option, Some, None, nat_eq}
 use Rattle.std.specs.Ordering.{nat_cmp}
 use Rattle.std.specs.FinMap as map
 use Rattle.fx_base.specs.declared.fact.Fact.{Fact}
@@ -13,6 +13,10 @@ HeldFacts = map.FinMap nat_cmp Fact
 -- the tag with this number
 abbrev pub tag_of : ℕ → Tag
 tag_of number = record { 0 = number }
+
+-- the held facts, in the order of their tags
+abbrev pub facts_of : HeldFacts → List Fact
+facts_of held = map.values held
 
 -- the fact is held, has this id, and no held fact with this id has a greater tag
 pub record IsNewest (held : HeldFacts) (id : ℕ) (fact : Fact) : Type 0 where

@@ -10,6 +10,8 @@ pub mod ExpressionNodes
 pub mod ExpressionCode
 pub mod Numbers
 pub mod Planned
+pub mod Events
 pub mod Worlds
+pub mod Kinds
 pub mod Lawful
 pub mod Programs

@@ -4,6 +4,7 @@
 
 mod action;
 mod bound;
+mod code;
 mod condition;
 mod expr;
 pub mod laws;
@@ -13,9 +14,10 @@ mod step;
 mod test;
 
 pub use action::Action;
+pub use code::Code;
 pub use condition::{Condition, Pattern};
 pub use expr::{Expr, ExprNode};
 pub use matched::Match;
-pub use program::{Program, Rule, TypeInfo};
+pub use program::{EntryInfo, Program, Rule, TypeInfo};
 pub use step::Step;
 pub use test::{Compare, RelTag, Side, Test};

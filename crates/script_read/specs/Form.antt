@@ -1,12 +1,12 @@
 -- Which values are commands.
-use Rattle.std.specs.Prelude.{◌≡◌, ℕ, ◌==◌, Bool, false, List, Option, Some, None, if◌then◌else◌, codes}
+use Rattle.std.specs.Prelude.{◌≡◌, ℕ, ℤ, ◌==◌, Bool, false, List, Option, Some, None, if◌then◌else◌, codes}
 use Rattle.std.specs.Str.{bytes_eq}
 use Rattle.serde_json.specs.Data.{Data, Members}
 use Rattle.script_read.specs.Given.{givens}
-use Rattle.script_read.specs.Members.{text_member, object_member, id_member, count_member, count}
+use Rattle.script_read.specs.Members.{text_member, object_member, whole_member, id_member, count_member, count}
 use Rattle.script_read.specs.declared.asked.Command.{Command}
 use Rattle.script_read.specs.declared.asked.Command.TheVariants.{Change, Fire}
-use Rattle.script_read.specs.declared.asked.Change.TheVariants.{Insert, Modify, Retract}
+use Rattle.script_read.specs.declared.asked.Change.TheVariants.{Insert, Modify, Retract, Advance, At}
 
 -- The forms, one for each kind of line: an object with exactly the members that are named. Since each name stands once,
 -- an object of n members that has n given names has no other.
@@ -24,7 +24,12 @@ pub data IsForm : Data → Command → Type 0 where
   insert : {d : Data} {ty : List ℕ} {fields : Members} → text_member (codes "do") d ≡ Some (codes "insert")
       → text_member (codes "type") d ≡ Some ty → object_member (codes "fields") d ≡ Some fields
       → count d ≡ Some 3
-      → IsForm d (Change (Insert ty (givens fields)))
+      → IsForm d (Change (Insert ty None (givens fields)))
+  -- {"do":"insert","type":T,"entry":X,"fields":{..}}
+  insert_into : {d : Data} {ty entry : List ℕ} {fields : Members} → text_member (codes "do") d ≡ Some (codes "insert")
+      → text_member (codes "type") d ≡ Some ty → text_member (codes "entry") d ≡ Some entry → object_member (codes "fields") d ≡ Some fields
+      → count d ≡ Some 4
+      → IsForm d (Change (Insert ty (Some entry) (givens fields)))
   -- {"do":"modify","type":T,"id":n,"fields":{..}}
   modify : {d : Data} {ty : List ℕ} {id : ℕ} {fields : Members} → text_member (codes "do") d ≡ Some (codes "modify")
       → text_member (codes "type") d ≡ Some ty → id_member (codes "id") d ≡ Some id → object_member (codes "fields") d ≡ Some fields
@@ -35,6 +40,16 @@ pub data IsForm : Data → Command → Type 0 where
       → text_member (codes "type") d ≡ Some ty → id_member (codes "id") d ≡ Some id
       → count d ≡ Some 3
       → IsForm d (Change (Retract ty (record { 0 = id })))
+  -- {"do":"advance","by":ms}
+  advance : {d : Data} {by : ℤ} → text_member (codes "do") d ≡ Some (codes "advance")
+      → whole_member (codes "by") d ≡ Some by
+      → count d ≡ Some 2
+      → IsForm d (Change (Advance by))
+  -- {"do":"at","ms":t}
+  at : {d : Data} {moment : ℤ} → text_member (codes "do") d ≡ Some (codes "at")
+      → whole_member (codes "ms") d ≡ Some moment
+      → count d ≡ Some 2
+      → IsForm d (Change (At moment))
 
 abbrev pub has_count : ℕ → Option ℕ → Bool
 has_count n None = false
@@ -51,10 +66,16 @@ fire_of d = if has_count 1 (count d) then Some (Fire None)
 abbrev pub insert_parts : Option (List ℕ) → Option Members → Option Command
 insert_parts None fields = None
 insert_parts (Some ty) None = None
-insert_parts (Some ty) (Some fields) = Some (Change (Insert ty (givens fields)))
+insert_parts (Some ty) (Some fields) = Some (Change (Insert ty None (givens fields)))
+
+abbrev pub insert_into_parts : Option (List ℕ) → Option (List ℕ) → Option Members → Option Command
+insert_into_parts (Some ty) (Some entry) (Some fields) = Some (Change (Insert ty (Some entry) (givens fields)))
+insert_into_parts _ _ _ = None
 
 unfoldable pub insert_of : Data → Option Command
-insert_of d = if has_count 3 (count d) then insert_parts (text_member (codes "type") d) (object_member (codes "fields") d) else None
+insert_of d = if has_count 3 (count d) then insert_parts (text_member (codes "type") d) (object_member (codes "fields") d)
+    else (if has_count 4 (count d) then insert_into_parts (text_member (codes "type") d) (text_member (codes "entry") d) (object_member (codes "fields") d)
+    else None)
 
 abbrev pub modify_parts : Option (List ℕ) → Option ℕ → Option Members → Option Command
 modify_parts (Some ty) (Some id) (Some fields) = Some (Change (Modify ty (record { 0 = id }) (givens fields)))
@@ -70,13 +91,29 @@ retract_parts _ _ = None
 unfoldable pub retract_of : Data → Option Command
 retract_of d = if has_count 3 (count d) then retract_parts (text_member (codes "type") d) (id_member (codes "id") d) else None
 
+abbrev pub advance_parts : Option ℤ → Option Command
+advance_parts None = None
+advance_parts (Some by) = Some (Change (Advance by))
+
+unfoldable pub advance_of : Data → Option Command
+advance_of d = if has_count 2 (count d) then advance_parts (whole_member (codes "by") d) else None
+
+abbrev pub at_parts : Option ℤ → Option Command
+at_parts None = None
+at_parts (Some moment) = Some (Change (At moment))
+
+unfoldable pub at_of : Data → Option Command
+at_of d = if has_count 2 (count d) then at_parts (whole_member (codes "ms") d) else None
+
 -- by the word after `do`
 abbrev pub command_by_word : Data → Option (List ℕ) → Option Command
 command_by_word d None = None
 command_by_word d (Some word) = if bytes_eq word (codes "fire") then fire_of d
     else (if bytes_eq word (codes "insert") then insert_of d
     else (if bytes_eq word (codes "modify") then modify_of d
-    else (if bytes_eq word (codes "retract") then retract_of d else None)))
+    else (if bytes_eq word (codes "retract") then retract_of d
+    else (if bytes_eq word (codes "advance") then advance_of d
+    else (if bytes_eq word (codes "at") then at_of d else None)))))
 
 -- the command whose form a value has
 unfoldable pub command_of : Data → Option Command

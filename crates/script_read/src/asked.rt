@@ -1,5 +1,5 @@
 use crate::given::Given;
-use fx_base::{FactId, Seq, Text};
+use fx_base::{FactId, Millis, Seq, Text};
 
 /// What a line of the script asks for.
 #[derive(Debug, PartialEq, Drop)]
@@ -9,12 +9,13 @@ pub enum Command {
     Fire(Option<u64>),
 }
 
-/// A change of the facts. The fields stand in the byte order of their names.
+/// A change of the world. The fields stand in the byte order of their names.
 #[derive(Debug, PartialEq, Drop)]
 pub enum Change {
-    /// A new fact of the type with this name.
+    /// A new fact of the type with this name, in the entry point with this name; without one, in the default entry point.
     Insert {
         ty: Text,
+        entry: Option<Text>,
         fields: Seq<(Text, Given)>,
     },
     /// Other values for some fields of the fact of this type with this id, which is from 1 to 2^63 - 1.
@@ -28,4 +29,8 @@ pub enum Change {
         ty: Text,
         id: FactId,
     },
+    /// The clock goes forward by so many milliseconds.
+    Advance(Millis),
+    /// The clock goes to this moment.
+    At(Millis),
 }

@@ -10,13 +10,13 @@ use Rattle.rule_model.specs.declared.matched.Match.{Match}
 use Rattle.rule_model.specs.declared.program.Program.{Program}
 use Rattle.rule_model.specs.declared.program.Rule.{Rule}
 use Rattle.rule_model.specs.declared.step.Step.{Step}
-use Rattle.rule_model.specs.declared.step.Step.TheVariants.{Insert, Modify, Retract}
+use Rattle.rule_model.specs.declared.step.Step.TheVariants.{Insert, Modify, Retract, Advance, At}
 use Rattle.rule_model.specs.Looked.{named_at}
 use Rattle.rule_model.specs.Planned.{step_of}
-use Rattle.rule_model.specs.Worlds.{World, stepped, is_possible, fact_of, first_pending, marked}
+use Rattle.rule_model.specs.Worlds.{World, stepped, step_fault, fact_of, first_pending, marked}
 use Rattle.script_read.specs.declared.asked.Change.{Change}
-use Rattle.change_read.specs.declared.code.Code.{Code}
-use Rattle.change_read.specs.declared.code.Code.TheVariants.{Absent, Overflow}
+use Rattle.rule_model.specs.declared.code.Code.{Code}
+use Rattle.rule_model.specs.declared.code.Code.TheVariants.{Overflow}
 use Rattle.change_read.specs.Changes.{change_step}
 use Rattle.session.specs.declared.lines.OutLine.{OutLine}
 use Rattle.session.specs.declared.lines.OutLine.TheVariants.{New, Fire, Fault}
@@ -27,22 +27,32 @@ use Rattle.session.specs.declared.lines.Cell.TheVariants as cell
 
 -- an insertion prints the new fact, any other step nothing
 abbrev pub step_lines : World → Step → List OutLine
-step_lines w (Insert ty fields) = New (record { 0 = w.next_id }) ty ∷ []
+step_lines w (Insert ty entry fields) = New (record { 0 = w.next_id }) ty ∷ []
 step_lines w (Modify id sets) = []
-step_lines w (Retract id) = []
+step_lines w (Retract ty id) = []
+step_lines w (Advance by) = []
+step_lines w (At moment) = []
 
--- a step, or the fault of one that asks for a fact that is not present
-abbrev pub tries : List Rule → World → Step → List OutLine × World
-tries rules w step = if is_possible w.facts step then (step_lines w step, stepped rules w step) else (Fault Absent ∷ [], w)
+-- a fault changes nothing
+abbrev pub refused : World → Code → List OutLine × World
+refused w code = (Fault code ∷ [], w)
 
--- a step or a fault, which changes nothing
-abbrev pub does : List Rule → World → Result Step Code → List OutLine × World
-does rules w (Err code) = (Fault code ∷ [], w)
-does rules w (Ok step) = tries rules w step
+abbrev pub tries_with : Program → World → Step → Option Code → List OutLine × World
+tries_with p w step None = (step_lines w step, stepped p w step)
+tries_with p w step (Some code) = refused w code
+
+-- a step, or its fault in the world
+abbrev pub tries : Program → World → Step → List OutLine × World
+tries p w step = tries_with p w step (step_fault p w step)
+
+-- a step or a fault
+abbrev pub does : Program → World → Result Step Code → List OutLine × World
+does p w (Err code) = refused w code
+does p w (Ok step) = tries p w step
 
 -- a change of the script
 unfoldable pub gives : Program → World → Change → List OutLine × World
-gives p w change = does p.rules w (change_step p.types (fact_of w.facts) change)
+gives p w change = does p w (change_step p (fact_of w.facts) change)
 
 -- ---- firings
 
@@ -50,9 +60,9 @@ abbrev pub then_does : List OutLine × World → (World → List OutLine × Worl
 then_does done next = (done.0 ++ (next done.1).0, (next done.1).1)
 
 -- one after the other
-unfoldable pub does_all : List Rule → World → List (Result Step Code) → List OutLine × World
-does_all rules w [] = ([], w)
-does_all rules w (wanted ∷ more) = then_does (does rules w wanted) (λ next. does_all rules next more)
+unfoldable pub does_all : Program → World → List (Result Step Code) → List OutLine × World
+does_all p w [] = ([], w)
+does_all p w (wanted ∷ more) = then_does (does p w wanted) (λ next. does_all p next more)
 
 -- the version of a fact with a tag
 unfoldable pub version_of : List Fact → Tag → Option Fact
@@ -78,13 +88,13 @@ abbrev pub fire_line : Match → OutLine
 fire_line m = Fire m.rule (cells m.row.facts)
 
 -- a match is marked and printed, and its rule's actions are done in their order; their values are those of the world before
-abbrev pub fires_match : List Rule → World → Match → List OutLine × World
-fires_match rules w m = then_does (fire_line m ∷ [], marked w m) (λ next. does_all rules next (wanted w.facts m.row (actions_of (slice_get rules m.rule.0))))
+abbrev pub fires_match : Program → World → Match → List OutLine × World
+fires_match p w m = then_does (fire_line m ∷ [], marked w m) (λ next. does_all p next (wanted w.facts m.row (actions_of (slice_get p.rules m.rule.0))))
 
-abbrev pub fires_with : List Rule → World → Option Match → Option (List OutLine × World)
-fires_with rules w None = None
-fires_with rules w (Some m) = Some (fires_match rules w m)
+abbrev pub fires_with : Program → World → Option Match → Option (List OutLine × World)
+fires_with p w None = None
+fires_with p w (Some m) = Some (fires_match p w m)
 
 -- a firing of the first pending match; nothing where nothing is pending
 unfoldable pub fires : Program → World → Option (List OutLine × World)
-fires p w = fires_with p.rules w (first_pending p.rules w)
+fires p w = fires_with p w (first_pending p.rules w)

@@ -1,5 +1,5 @@
 -- The limits of a rule file: how many there may be of a thing, how long names and texts are, how large numbers.
-use Rattle.std.specs.Prelude.{ℕ, ◌&&◌, Bool, true, false, not, List, length, nat_le, nat_lt, Option, Some, None, unsigned_abs, sum_by}
+use Rattle.std.specs.Prelude.{ℕ, ℤ, ◌^◌, ◌&&◌, Bool, true, false, not, List, length, nat_le, nat_lt, Option, Some, None, unsigned_abs, sum_by}
 use Rattle.std.specs.List.{list_all}
 use Rattle.drl_expr.specs.declared.literal.LitTree.{LitTree}
 use Rattle.drl_expr.specs.declared.literal.LitTree.TheVariants as literal
@@ -20,10 +20,13 @@ use Rattle.drl_grammar.specs.declared.file.Attr.TheVariants as attr
 use Rattle.drl_grammar.specs.declared.file.Body.{Body}
 use Rattle.drl_grammar.specs.declared.file.Body.TheVariants as body
 use Rattle.drl_grammar.specs.declared.file.Item.{Item}
+use Rattle.drl_grammar.specs.declared.file.Meta.{Meta}
+use Rattle.drl_grammar.specs.declared.file.Meta.TheVariants as meta
 use Rattle.drl_grammar.specs.declared.file.TypeTree.{TypeTree}
 use Rattle.drl_grammar.specs.declared.file.RuleTree.{RuleTree}
 use Rattle.drl_sight.specs.Names.{is_short}
 use Rattle.drl_sight.specs.Declarations.{types_of, rules_of, field_names}
+use Rattle.drl_sight.specs.EntryPoints.{entries_named, with_names, entry_names}
 
 -- names of types, fields and variables have at most 64 bytes, texts at most 4,096
 abbrev pub is_name : List ℕ → Bool
@@ -41,6 +44,17 @@ operand_within (operand.Lit l) = literal_within l
 operand_within (operand.Var v) = is_name v
 operand_within (operand.VarField v f) = is_name v && is_name f
 operand_within (operand.Own f) = is_name f
+
+-- spans of time have at most 2^53 ms in size
+unfoldable pub span_limit : ℕ
+span_limit = 2 ^ 53
+
+abbrev pub is_span : ℤ → Bool
+is_span n = nat_le (unsigned_abs n) span_limit
+
+-- names of entry points have 1 to 64 bytes
+abbrev pub is_entry_name : List ℕ → Bool
+is_entry_name name = nat_lt 0 (length name) && is_name name
 
 -- `in` has at most 32 operands
 abbrev pub cmp_within : Cmp → Bool
@@ -62,8 +76,12 @@ abbrev pub variable_within : Option (List ℕ) → Bool
 variable_within None = true
 variable_within (Some v) = is_name v
 
+abbrev pub entry_within : Option (List ℕ) → Bool
+entry_within None = true
+entry_within (Some name) = is_entry_name name
+
 abbrev pub source_within : SourceTree → Bool
-source_within s = variable_within s.var && is_name s.ty && nat_le (sum_by weight s.parts) 32 && list_all part_within s.parts
+source_within s = variable_within s.var && is_name s.ty && nat_le (sum_by weight s.parts) 32 && list_all part_within s.parts && entry_within s.entry
 
 abbrev pub condition_within : CondTree → Bool
 condition_within (condition.Plain s) = source_within s
@@ -99,15 +117,33 @@ actions_within actions = nat_le (length actions) 16 && list_all action_within ac
 abbrev pub rule_within : RuleTree → Bool
 rule_within r = nat_lt 0 (length r.name) && is_short 256 r.name && list_all attr_within r.attrs && nat_lt 0 (length r.conditions) && nat_le (length r.conditions) 8 && list_all condition_within r.conditions && actions_within r.actions
 
+-- the field that an annotation names
+abbrev pub meta_within : Meta → Bool
+meta_within (meta.Timestamp field) = is_name field
+meta_within (meta.Duration field) = is_name field
+meta_within (meta.Role event) = true
+meta_within (meta.Expires offset) = is_span offset
+
 -- a type has at most 32 fields
 abbrev pub type_within : TypeTree → Bool
-type_within t = is_name t.name && nat_le (length t.fields) 32 && list_all is_name (field_names t)
+type_within t = is_name t.name && nat_le (length t.fields) 32 && list_all is_name (field_names t) && list_all meta_within t.metas
 
--- a file has at most 128 types and 256 rules: the one too many passes the limit, given how many earlier items declare
-abbrev pub passes_limit_behind : ℕ → ℕ → Body → Bool
-passes_limit_behind types rules (body.Declare t) = not (nat_lt types 128 && type_within t)
-passes_limit_behind types rules (body.Rule r) = not (nat_lt rules 256 && rule_within r)
-passes_limit_behind types rules b = false
+abbrev pub lateness_within : Option ℤ → Bool
+lateness_within None = true
+lateness_within (Some lateness) = is_span lateness
+
+-- there are at most 64 entry points with those that an item names, where these are known before it
+abbrev pub has_few_entries : List (List ℕ) → Body → Bool
+has_few_entries known b = nat_le (length (with_names known (entries_named b))) 64
+
+-- A file has at most 128 types, 256 rules and 64 entry points: the one too many passes the limit, given how many types and rules
+-- earlier items declare, and which entry points are known.
+abbrev pub passes_limit_behind : ℕ → ℕ → List (List ℕ) → Body → Bool
+passes_limit_behind types rules known (body.Declare t) = not (nat_lt types 128 && type_within t)
+passes_limit_behind types rules known (body.Entry name lateness) =
+    not (has_few_entries known (body.Entry name lateness) && is_entry_name name && lateness_within lateness)
+passes_limit_behind types rules known (body.Rule r) = not (nat_lt rules 256 && has_few_entries known (body.Rule r) && rule_within r)
+passes_limit_behind types rules known b = false
 
 abbrev pub passes_limit : List Item → Body → Bool
-passes_limit before b = passes_limit_behind (length (types_of before)) (length (rules_of before)) b
+passes_limit before b = passes_limit_behind (length (types_of before)) (length (rules_of before)) (entry_names before) b

@@ -1,8 +1,8 @@
 ghost use Rattle.std.specs.Prelude.{◌≡◌, ◌≤◌, List, length, nat_le, is_some};
 ghost use Rattle.std.specs.List.{sum_by};
 ghost use Rattle.drl_grammar.specs.declared.condition.Cmp.{Cmp};
-ghost use Rattle.drl_check.specs.Room.{left_of};
-ghost use Rattle.drl_check.specs.Limits.{weight};
+ghost use Rattle.drl_limits.specs.Room.{left_of};
+ghost use Rattle.drl_limits.specs.Limits.{weight};
 
 use drl_grammar::{Cmp, Part};
 use fx_base::Seq;

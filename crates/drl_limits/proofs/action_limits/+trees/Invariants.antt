@@ -1,6 +1,6 @@
 use Rattle.std.proofs.Common.{◌+◌, ◌*◌, max}
 use Rattle.drl_expr.specs.Tree.{height}
-use Rattle.drl_check.proofs.action_limits.+trees.Given as goal
+use Rattle.drl_limits.proofs.action_limits.+trees.Given as goal
 
 abbrev pub decreases-is_tree_within : goal.decreases-is_tree_within
 decreases-is_tree_within l = 2 * height l.tree.now

@@ -3,7 +3,7 @@ use Rattle.std.proofs.Common.{◌≡◌, ◌+◌, ◌-◌, ◌∷◌, ℕ, Bool,
 use Rattle.std.specs.List.{sum_by}
 use Rattle.std.proofs.lemmas.Bool.Decides.{nat_tests}
 use Rattle.std.proofs.lemmas.List.Sums.{sum_by-cons}
-use Rattle.drl_check.specs.Room.{left_of}
+use Rattle.drl_limits.specs.Room.{left_of}
 
 left_more : (r a b q : ℕ) → left_of r a ≡ Some q → left_of q b ≡ left_of r (a + b)
 left_more r a b q e = grind (arith, nat_tests)

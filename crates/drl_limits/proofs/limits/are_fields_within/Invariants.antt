@@ -1,8 +1,8 @@
 use Rattle.std.proofs.Common.{◌≡◌, ℕ, List, map, drop}
 use Rattle.std.specs.List.{list_all}
 use Rattle.drl_sight.specs.Declarations.{field_names}
-use Rattle.drl_check.specs.Limits.{is_name}
-use Rattle.drl_check.proofs.limits.are_fields_within.Given as goal
+use Rattle.drl_limits.specs.Limits.{is_name}
+use Rattle.drl_limits.proofs.limits.are_fields_within.Given as goal
 
 abbrev pub invariant-loop-field : goal.invariant-loop-field
 invariant-loop-field l = list_all is_name (map (λ (field : List ℕ × List ℕ). field.0) (drop l.field-index l.tree.fields)) ≡ list_all is_name (field_names l.tree)

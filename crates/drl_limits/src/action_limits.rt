@@ -1,6 +1,6 @@
 ghost use Rattle.std.specs.Prelude.{◌≡◌, ◌&&◌};
 ghost use Rattle.std.specs.List.{list_all};
-ghost use Rattle.drl_check.specs.Limits.{tree_within, set_within, action_within, actions_within};
+ghost use Rattle.drl_limits.specs.Limits.{tree_within, set_within, action_within, actions_within};
 
 use crate::limits::{is_literal_within, is_short_name};
 use drl_expr::{ExprTree, Node};

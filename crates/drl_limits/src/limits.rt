@@ -2,7 +2,7 @@ ghost use Rattle.std.specs.Prelude.{◌≡◌, List, map, length};
 ghost use Rattle.std.specs.List.{list_all};
 ghost use Rattle.drl_grammar.specs.declared.condition.Cmp.{Cmp};
 ghost use Rattle.drl_sight.specs.Declarations.{field_names};
-ghost use Rattle.drl_check.specs.Limits.{is_name, is_text, literal_within, operand_within, cmp_within, part_within, variable_within, source_within, condition_within, attr_within, rule_within, type_within, passes_limit_behind};
+ghost use Rattle.drl_limits.specs.Limits.{is_name, is_text, literal_within, operand_within, cmp_within, part_within, variable_within, source_within, condition_within, attr_within, rule_within, type_within, passes_limit_behind};
 
 use crate::action_limits::are_actions_within;
 use crate::room::are_at_most;

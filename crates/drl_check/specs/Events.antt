@@ -1,0 +1,59 @@
+-- What an annotation, an entry point and an action do with events.
+use Rattle.std.specs.Prelude.{ℕ, ℤ, pos, ◌&&◌, Bool, true, false, not, int_lt, List, Option, Some, None}
+use Rattle.std.specs.List.{list_any}
+use Rattle.drl_grammar.specs.declared.action.ActTree.{ActTree}
+use Rattle.drl_grammar.specs.declared.action.ActTree.TheVariants as action
+use Rattle.drl_grammar.specs.declared.file.Meta.{Meta}
+use Rattle.drl_grammar.specs.declared.file.Meta.TheVariants as meta
+use Rattle.drl_grammar.specs.declared.file.TypeTree.{TypeTree}
+use Rattle.drl_sight.specs.Annotations.{is_event}
+use Rattle.drl_sight.specs.Meanings.{lacks, field_kind}
+use Rattle.drl_sight.specs.Sight.{Sight, Meaning, of_fact, of_field, meaning_of}
+use Rattle.drl_check.specs.Kinds.{is_int}
+
+-- ---- annotations
+
+-- the field of a timestamp or a duration is not there
+abbrev pub meta_lacks : TypeTree → Meta → Bool
+meta_lacks t (meta.Timestamp field) = lacks t field
+meta_lacks t (meta.Duration field) = lacks t field
+meta_lacks t m = false
+
+abbrev pub annotation_lacks : TypeTree → Bool
+annotation_lacks t = list_any (meta_lacks t) t.metas
+
+-- it speaks of the times of events
+abbrev pub is_of_events : Meta → Bool
+is_of_events (meta.Role event) = false
+is_of_events m = true
+
+-- a plain type has an annotation that speaks of the times of events
+abbrev pub is_no_event : TypeTree → Bool
+is_no_event t = not (is_event t) && list_any is_of_events t.metas
+
+-- the field of a timestamp or a duration holds no whole numbers
+abbrev pub meta_misfits : TypeTree → Meta → Bool
+meta_misfits t (meta.Timestamp field) = not (is_int (field_kind t field))
+meta_misfits t (meta.Duration field) = not (is_int (field_kind t field))
+meta_misfits t m = false
+
+abbrev pub has_bad_timestamp : TypeTree → Bool
+has_bad_timestamp t = list_any (meta_misfits t) t.metas
+
+-- ---- entry points
+
+abbrev pub is_negative : Option ℤ → Bool
+is_negative None = false
+is_negative (Some lateness) = int_lt lateness (pos 0)
+
+-- ---- actions
+
+abbrev pub is_event_meant : Option Meaning → Bool
+is_event_meant None = false
+is_event_meant (Some (of_fact fact t)) = is_event t
+is_event_meant (Some (of_field fact field k)) = false
+
+-- an event is modified
+abbrev pub modifies_event : Sight → ActTree → Bool
+modifies_event sight (action.Modify v sets) = is_event_meant (meaning_of sight v)
+modifies_event sight a = false

@@ -1,0 +1,35 @@
+-- What the annotations of a type say. Of annotations of one word the first counts.
+use Rattle.std.specs.Prelude.{ℕ, Bool, false, List, [], ◌∷◌, Option, Some, None}
+use Rattle.drl_grammar.specs.declared.file.Meta.{Meta}
+use Rattle.drl_grammar.specs.declared.file.Meta.TheVariants as meta
+use Rattle.drl_grammar.specs.declared.file.TypeTree.{TypeTree}
+
+abbrev pub role_with : Meta → Bool → Bool
+role_with (meta.Role event) others = event
+role_with m others = others
+
+-- whether the role is that of events; without one it is that of facts
+abbrev pub role_of : List Meta → Bool
+role_of [] = false
+role_of (m ∷ metas) = role_with m (role_of metas)
+
+abbrev pub is_event : TypeTree → Bool
+is_event t = role_of t.metas
+
+abbrev pub timestamp_with : Meta → Option (List ℕ) → Option (List ℕ)
+timestamp_with (meta.Timestamp field) others = Some field
+timestamp_with m others = others
+
+-- the field that holds the start
+abbrev pub timestamp_of : List Meta → Option (List ℕ)
+timestamp_of [] = None
+timestamp_of (m ∷ metas) = timestamp_with m (timestamp_of metas)
+
+abbrev pub duration_with : Meta → Option (List ℕ) → Option (List ℕ)
+duration_with (meta.Duration field) others = Some field
+duration_with m others = others
+
+-- the field that holds the duration
+abbrev pub duration_of : List Meta → Option (List ℕ)
+duration_of [] = None
+duration_of (m ∷ metas) = duration_with m (duration_of metas)
