@@ -1,7 +1,8 @@
 ghost use Rattle.std.specs.Prelude.{◌≡◌, ◌≢◌, ◌<◌};
 
-use super::*;
-use fx_base::Bound;
+use fx_base::{Bound, Seq};
+use std::alloc::Global;
+use temporal_net::{Minimal, Net, NetEdge, NetFault};
 use std::process::Abort;
 use std::test::Fail;
 

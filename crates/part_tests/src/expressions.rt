@@ -1,4 +1,4 @@
-use crate::{ExprTree, LitTree, Node, expression, whole_expression};
+use drl_expr::{ExprTree, LitTree, Node, expression, whole_expression};
 use drl_lex::{Mark, TokenKind, kinds_and_starts, lex};
 use fx_base::{NoMemory, Seq};
 use std::alloc::Global;

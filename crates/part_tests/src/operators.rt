@@ -1,9 +1,9 @@
 ghost use Rattle.std.specs.Prelude.{◌^◌};
 ghost use Rattle.temporal_ops.specs.Edges.{AreWithin};
 
-use crate::{Op, OpFault, OpWord, Window, possible_start};
 use fx_base::{Copies, Times};
 use std::test::Fail;
+use temporal_ops::{Op, OpFault, OpWord, Window, possible_start};
 
 fn times(points: (i32, i32)) -> Times
     ensures { AreWithin (2 ^ 54) result }

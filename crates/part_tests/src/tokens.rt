@@ -1,5 +1,4 @@
-use super::lex;
-use crate::{LexFault, Mark, TokenKind, kinds_and_starts};
+use drl_lex::{LexFault, Mark, TokenKind, kinds_and_starts, lex};
 use std::alloc::{AllocError, Global};
 use std::test::Fail;
 

@@ -1,6 +1,6 @@
 use Rattle.std.proofs.Common.{rules}
 use Rattle.std.specs.FinMap.{gets}
-use Rattle.due_queue.proofs.queue.tests.due_keys_come_in_the_order_of_their_moments.Goals as goal
+use Rattle.part_tests.proofs.timers.due_keys_come_in_the_order_of_their_moments.Goals as goal
 
 pub put-requires : goal.put-requires
 put-requires g c = grind (gets, rules)

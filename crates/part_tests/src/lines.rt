@@ -1,4 +1,4 @@
-use super::*;
+use fx_io::*;
 use std::alloc::Global;
 use std::test::Fail;
 
