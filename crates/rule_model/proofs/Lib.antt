@@ -10,3 +10,5 @@ pub mod Order
 pub mod Ids
 pub mod Fresh
 pub mod Steps
+pub mod Found
+pub mod Vain
