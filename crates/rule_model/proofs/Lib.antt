@@ -12,3 +12,5 @@ pub mod Fresh
 pub mod Steps
 pub mod Found
 pub mod Vain
+pub mod Faultless
+pub mod Fitting
