@@ -66,7 +66,7 @@ fn plain_insert(alloc: Global, value: &Value) -> Result<Option<Command>, NoMemor
 fn entry_insert(alloc: Global, value: &Value) -> Result<Option<Command>, NoMemory>
     ensures { IfOk result (λ found. found
         ≡ insert_into_parts (text_under (codes "type") (view value.now)) (text_under (codes "entry") (view value.now))
-            (object_under (codes "fields") (view value.now))) }
+        (object_under (codes "fields") (view value.now))) }
 {
     match (
         text_member(value, "type"),
