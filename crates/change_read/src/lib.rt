@@ -5,8 +5,6 @@
 mod fields;
 mod present;
 mod reading;
-#[cfg(test)]
-mod tests;
 
 pub use present::Present;
 pub use reading::asked_step;

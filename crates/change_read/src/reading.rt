@@ -1,10 +1,11 @@
 ghost use Rattle.std.specs.Prelude.{◌≡◌, ◌≤◌, ◌^◌, length, option_map, IfOk};
-ghost use Rattle.change_read.specs.Changes.{type_named, is_of_type, insert_step, modify_step, retract_step, change_step};
+ghost use Rattle.rule_model.specs.Worlds.{is_of_type};
+ghost use Rattle.change_read.specs.Changes.{type_named, entry_named, entry_asked, insert_step, modify_step, retract_step, change_step};
 
 use crate::fields::{has_fields, has_some_fields, sets_for, values_for};
 use crate::{Code, Present};
-use fx_base::{FactId, NoMemory, Text, TypeId};
-use rule_model::{Step, TypeInfo};
+use fx_base::{EntryId, FactId, NoMemory, Text, TypeId};
+use rule_model::{EntryInfo, Program, Step, TypeInfo};
 use script_read::{Change, Given};
 use std::alloc::Global;
 
@@ -22,6 +23,31 @@ fn declared_type<'a>(types: &'a [TypeInfo], name: &Text) -> Option<(TypeId, &'a 
     None
 }
 
+// The entry point of this name.
+#[tactic(auto, unfolding(crate::specs::Changes::entry_named))]
+fn declared_entry(entries: &[EntryInfo], name: &Text) -> Option<EntryId>
+    requires { length entries.now ≤ 2 ^ 16 }
+    ensures { option_map (λ found. found.0) result ≡ entry_named name.now entries.now 0 }
+{
+    for (place, entry) in entries.iter().enumerate() {
+        if entry.name == *name {
+            return Some(EntryId(place as u16));
+        }
+    }
+    None
+}
+
+// The entry point that is asked for; without a name the default one.
+fn entry_for(entries: &[EntryInfo], name: &Option<Text>) -> Option<EntryId>
+    requires { length entries.now ≤ 2 ^ 16 }
+    ensures { option_map (λ found. found.0) result ≡ entry_asked name.now entries.now }
+{
+    match name {
+        Some(name) => declared_entry(entries, name),
+        None => Some(EntryId(0)),
+    }
+}
+
 // Whether a present fact of this type has the id.
 fn is_present<P: Present>(present: &P, id: FactId, ty: TypeId) -> bool
     ensures { result ≡ is_of_type ty.0 (P.present present.now id.0) }
@@ -35,21 +61,27 @@ fn is_present<P: Present>(present: &P, id: FactId, ty: TypeId) -> bool
 // The step of an insertion, or its fault.
 fn read_insert(
     alloc: Global,
-    types: &[TypeInfo],
+    program: &Program,
     name: &Text,
+    entry: &Option<Text>,
     members: &[(Text, Given)],
 ) -> Result<Result<Step, Code>, NoMemory>
-    requires { length types.now ≤ 2 ^ 16 }
-    ensures { IfOk result (λ step. step ≡ insert_step (type_named name.now types.now 0) members.now) }
+    requires types { length program.now.types ≤ 2 ^ 16 }
+    requires entries { length program.now.entries ≤ 2 ^ 16 }
+    ensures { IfOk result (λ step. step
+        ≡ insert_step (type_named name.now program.now.types 0) (entry_asked entry.now program.now.entries) members.now) }
 {
-    let Some((ty, info)) = declared_type(types, name) else {
+    let Some((ty, info)) = declared_type(program.types.as_slice(), name) else {
         return Ok(Err(Code::UnknownType));
+    };
+    let Some(entry) = entry_for(program.entries.as_slice(), entry) else {
+        return Ok(Err(Code::UnknownEntry));
     };
     if !has_fields(info.fields.as_slice(), members) {
         return Ok(Err(Code::BadFields));
     }
     match values_for(alloc, info.fields.as_slice(), members)? {
-        Some(fields) => Ok(Ok(Step::Insert { ty, fields })),
+        Some(fields) => Ok(Ok(Step::Insert { ty, entry, fields })),
         None => Ok(Err(Code::BadValue)),
     }
 }
@@ -69,6 +101,9 @@ fn read_modify<P: Present>(
     let Some((ty, info)) = declared_type(types, name) else {
         return Ok(Err(Code::UnknownType));
     };
+    if info.event {
+        return Ok(Err(Code::EventFixed));
+    }
     if !is_present(present, id, ty) {
         return Ok(Err(Code::Absent));
     }
@@ -81,7 +116,7 @@ fn read_modify<P: Present>(
     }
 }
 
-// The step of a retraction, or its fault.
+// The step of a retraction, or its fault. An event need not be there.
 fn read_retract<P: Present>(
     types: &[TypeInfo],
     present: &P,
@@ -91,32 +126,39 @@ fn read_retract<P: Present>(
     requires { length types.now ≤ 2 ^ 16 }
     ensures { result ≡ retract_step (type_named name.now types.now 0) id (P.present present.now id.0) }
 {
-    let Some((ty, _)) = declared_type(types, name) else {
+    let Some((ty, info)) = declared_type(types, name) else {
         return Err(Code::UnknownType);
     };
-    if !is_present(present, id, ty) {
+    if !info.event && !is_present(present, id, ty) {
         return Err(Code::Absent);
     }
-    Ok(Step::Retract { id })
+    Ok(Step::Retract { ty, id })
 }
 
 /// The step that a change asks for, or the first of its faults in the order of `Code`. A new fact has its values in the order of
-/// the declaration; a modification has its sets in the order of the members. `NoMemory` comes only where memory is refused.
+/// the declaration; a modification has its sets in the order of the members. Whether the times of an event and the moves of the
+/// clock are lawful is not asked here. `NoMemory` comes only where memory is refused.
 #[tactic(auto, unfolding(crate::specs::Changes::change_step))]
 pub fn asked_step<P: Present>(
     alloc: Global,
-    types: &[TypeInfo],
+    program: &Program,
     present: &P,
     change: &Change,
 ) -> Result<Result<Step, Code>, NoMemory>
-    requires { length types.now ≤ 2 ^ 16 }
-    ensures { IfOk result (λ step. step ≡ change_step types.now (P.present present.now) change.now) }
+    requires types { length program.now.types ≤ 2 ^ 16 }
+    requires entries { length program.now.entries ≤ 2 ^ 16 }
+    ensures { IfOk result (λ step. step ≡ change_step program.now (P.present present.now) change.now) }
 {
+    let types = program.types.as_slice();
     match change {
-        Change::Insert { ty, fields } => read_insert(alloc, types, ty, fields.as_slice()),
+        Change::Insert { ty, entry, fields } => {
+            read_insert(alloc, program, ty, entry, fields.as_slice())
+        }
         Change::Modify { ty, id, fields } => {
             read_modify(alloc, types, present, ty, *id, fields.as_slice())
         }
         Change::Retract { ty, id } => Ok(read_retract(types, present, ty, *id)),
+        Change::Advance(by) => Ok(Ok(Step::Advance(*by))),
+        Change::At(moment) => Ok(Ok(Step::At(*moment))),
     }
 }

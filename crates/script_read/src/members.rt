@@ -33,7 +33,7 @@ pub fn object_member<'a>(value: &'a Value, name: &str) -> Option<&'a Map<String,
 
 // The whole number of 64 bits with sign under this name.
 #[tactic(auto, unfolding(crate::specs::Members::whole_member))]
-fn whole_member(value: &Value, name: &str) -> Option<i64>
+pub fn whole_member(value: &Value, name: &str) -> Option<i64>
     ensures { result ≡ whole_under name.now (view value.now) }
 {
     match value.get(name) {
