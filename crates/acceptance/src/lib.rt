@@ -7,6 +7,8 @@ mod action_refusals;
 #[cfg(test)]
 mod actions;
 #[cfg(test)]
+mod changes;
+#[cfg(test)]
 mod conditions;
 #[cfg(test)]
 mod engine;
