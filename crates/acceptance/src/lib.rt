@@ -13,6 +13,10 @@ mod conditions;
 #[cfg(test)]
 mod engine;
 #[cfg(test)]
+mod event_refusals;
+#[cfg(test)]
+mod event_runs;
+#[cfg(test)]
 mod files;
 #[cfg(test)]
 mod programs;
