@@ -39,6 +39,7 @@ fn price(alloc: Global, number: i64) -> Result<Change, NoMemory> {
     let given = (Text::new(alloc, "price")?, Given::Int(number));
     Ok(Change::Insert {
         ty: Text::new(alloc, "Item")?,
+        entry: None,
         fields: Seq::from_vec(vec![in alloc; given]?),
     })
 }
@@ -56,6 +57,9 @@ fn an_engine_answers_lines(rt: HostRuntime) -> Result<(), Fail> {
     let (session, lines) = session.apply(alloc, &price(alloc, 11)?)?;
     assert_eq!(rt; text_of(alloc, lines.as_slice())?.as_str(), "new #1 0 ");
     assert!(rt; session.due());
+    let (session, lines) = session.apply(alloc, &Change::Advance(5))?;
+    assert!(rt; lines.as_slice().is_empty());
+    assert_eq!(rt; session.clock(), 5);
     let (session, first) = session.fire_one(alloc)?;
     let (session, second) = session.fire_one(alloc)?;
     assert_eq!(rt; fired_text(alloc, &first)?.as_str(), "fire 0 #1 ");

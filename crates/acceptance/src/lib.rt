@@ -7,9 +7,15 @@ mod action_refusals;
 #[cfg(test)]
 mod actions;
 #[cfg(test)]
+mod changes;
+#[cfg(test)]
 mod conditions;
 #[cfg(test)]
 mod engine;
+#[cfg(test)]
+mod event_refusals;
+#[cfg(test)]
+mod event_runs;
 #[cfg(test)]
 mod files;
 #[cfg(test)]

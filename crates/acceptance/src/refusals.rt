@@ -5,7 +5,7 @@ use std::alloc::Global;
 use std::test::Fail;
 
 /// Rule files, and the place and the code of their refusal.
-const REFUSED: [(&str, &str); 39] = [
+const REFUSED: [(&str, &str); 37] = [
     ("\n^", "item 0 line 2 BadChar"),
     ("declare A end\n3q", "item 0 line 2 BadChar"),
     ("rule \"x", "item 0 line 1 OpenText"),
@@ -16,20 +16,15 @@ const REFUSED: [(&str, &str); 39] = [
     ("declare A end\n\ndeclare A : end", "item 2 line 3 Syntax"),
     ("declare A end declare A end (", "item 3 line 1 Syntax"),
     (
-        "declare A @role( event ) x : long x : long end",
+        "declare A @expires( 1s ) x : long x : long end",
         "item 1 line 1 NotBuilt",
     ),
-    ("declare entry-point X end", "item 1 line 1 NotBuilt"),
     (
         "declare A end rule \"r\" when not( A() ) then end",
         "item 2 line 1 NotBuilt",
     ),
     (
         "declare A end rule \"r\" when A() over window:length( 2 ) then end",
-        "item 2 line 1 NotBuilt",
-    ),
-    (
-        "declare A end rule \"r\" when A() from entry-point \"X\" then end",
         "item 2 line 1 NotBuilt",
     ),
     (

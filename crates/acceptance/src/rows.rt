@@ -1,5 +1,6 @@
 use crate::programs::program;
-use fx_base::{EntryId, Fact, FactId, NoMemory, Seq, Tag, Times, TypeId, Value};
+use fact_store::FactStore;
+use fx_base::{EntryId, Fact, FactId, Facts, NoMemory, Seq, Tag, Times, TypeId, Value};
 use row_delta::Row;
 use rule_model::Rule;
 use rule_rows::{difference, rows_of, rows_with};
@@ -27,6 +28,17 @@ fn fact(alloc: Global, tag: u64, ty: u16, fields: (i64, i64)) -> Result<Fact, No
     })
 }
 
+// Puts a fact into the store; one with a tag that is there already stays out.
+fn hold(store: &mut FactStore, fact: Fact) -> Result<(), NoMemory> {
+    if store.fact(fact.tag).is_some() {
+        return Ok(());
+    }
+    match store.put(fact) {
+        Ok(()) => Ok(()),
+        Err(refused) => Err(refused.1),
+    }
+}
+
 // The tags of each row.
 fn push_rows(alloc: Global, text: &mut String, rows: &[Row]) -> Result<(), NoMemory> {
     for row in rows {
@@ -41,7 +53,7 @@ fn push_rows(alloc: Global, text: &mut String, rows: &[Row]) -> Result<(), NoMem
 // The rows that come with each of the facts, and behind them all rows.
 fn found(alloc: Global, rule: &Rule, given: &[(u16, (i64, i64))]) -> Result<String, NoMemory> {
     let mut text = String::new(alloc);
-    let mut facts = Vec::new(alloc);
+    let mut facts = FactStore::new(alloc);
     let mut tag = 0;
     for (ty, fields) in given {
         tag = if tag < 99 { tag + 1 } else { tag };
@@ -49,7 +61,7 @@ fn found(alloc: Global, rule: &Rule, given: &[(u16, (i64, i64))]) -> Result<Stri
         let come = rows_with(alloc, &facts, &new, rule)?;
         push_rows(alloc, &mut text, come.as_slice())?;
         text.push_str("/ ")?;
-        facts.push(new)?;
+        hold(&mut facts, new)?;
     }
     let all = rows_of(alloc, &facts, rule)?;
     push_rows(alloc, &mut text, all.as_slice())?;
@@ -99,7 +111,9 @@ fn differences_are_found(rt: HostRuntime) -> Result<(), Fail> {
         assert!(rt; false, "the rules were refused");
         return Ok(());
     };
-    let others = vec![in alloc; fact(alloc, 1, K, (1, 0))?, fact(alloc, 2, K, (2, 0))?]?;
+    let mut others = FactStore::new(alloc);
+    hold(&mut others, fact(alloc, 1, K, (1, 0))?)?;
+    hold(&mut others, fact(alloc, 2, K, (2, 0))?)?;
     let before = fact(alloc, 3, M, (1, 0))?;
     let after = fact(alloc, 4, M, (2, 0))?;
     let mut text = String::new(alloc);

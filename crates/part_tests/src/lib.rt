@@ -3,9 +3,15 @@
 #![tactic(auto)]
 
 #[cfg(test)]
+mod actions;
+#[cfg(test)]
+mod commands;
+#[cfg(test)]
 mod expressions;
 #[cfg(test)]
 mod folds;
+#[cfg(test)]
+mod held_facts;
 #[cfg(test)]
 mod lines;
 #[cfg(test)]
