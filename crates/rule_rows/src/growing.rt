@@ -10,6 +10,7 @@ ghost use Rattle.rule_rows.specs.Found.{may_bind, names_tag, AreNew};
 
 use crate::bindings::{Bindings, candidates, does_fit, extend_all, rows_named};
 use crate::finding::unbound;
+use crate::older::Older;
 use fact_store::FactStore;
 use fx_base::{Fact, NoMemory, Seq};
 use row_delta::Row;
@@ -36,13 +37,14 @@ fn some_may_bind(conditions: &[Condition], fact: &Fact) -> bool
 fn older_candidates<'f>(
     alloc: Global,
     pattern: &Pattern,
-    facts: &'f FactStore,
+    facts: &mut Older<'f>,
     needed: bool,
 ) -> Result<Vec<&'f Fact>, NoMemory>
-    ensures { IfOk result (λ found. needed ≡ true → lent found.items ≡ candidates_of pattern.now (facts_of facts.now)) }
+    ensures same { facts.new ≡ facts.old }
+    ensures found { IfOk result (λ found. needed ≡ true → lent found.items ≡ candidates_of pattern.now facts.old) }
 {
     if needed {
-        candidates(alloc, pattern, &facts.facts(alloc)?)
+        facts.candidates(alloc, pattern)
     } else {
         Ok(Vec::new(alloc))
     }
@@ -107,13 +109,14 @@ impl<'f> Growing<'f> {
         &self,
         alloc: Global,
         pattern: &Pattern,
-        facts: &'f FactStore,
+        facts: &mut Older<'f>,
         fact: &'f Fact,
         more: bool,
     ) -> Result<Growing<'f>, NoMemory>
-        ensures with { IfOk result (λ next. next.with.items ≡ flat_map (extended (facts_of facts.now) (Plain pattern.now)) self.now.with.items
+        ensures same { facts.new ≡ facts.old }
+        ensures with { IfOk result (λ next. next.with.items ≡ flat_map (extended facts.old (Plain pattern.now)) self.now.with.items
             ++ (flat_map (extended (fact.now ∷ []) (Plain pattern.now)) self.now.with.items ++ flat_map (extended (fact.now ∷ []) (Plain pattern.now)) self.now.without.items)) }
-        ensures without { more ≡ true → IfOk result (λ next. next.without.items ≡ flat_map (extended (facts_of facts.now) (Plain pattern.now)) self.now.without.items) }
+        ensures without { more ≡ true → IfOk result (λ next. next.without.items ≡ flat_map (extended facts.old (Plain pattern.now)) self.now.without.items) }
     {
         let needed = self.needs_older(more);
         let older = older_candidates(alloc, pattern, facts, needed)?;
@@ -128,13 +131,14 @@ impl<'f> Growing<'f> {
         &self,
         alloc: Global,
         condition: &Condition,
-        facts: &'f FactStore,
+        facts: &mut Older<'f>,
         fact: &'f Fact,
         more: bool,
     ) -> Result<Growing<'f>, NoMemory>
-        ensures with { IfOk result (λ next. next.with.items ≡ flat_map (extended (facts_of facts.now) condition.now) self.now.with.items
+        ensures same { facts.new ≡ facts.old }
+        ensures with { IfOk result (λ next. next.with.items ≡ flat_map (extended facts.old condition.now) self.now.with.items
             ++ (flat_map (extended (fact.now ∷ []) condition.now) self.now.with.items ++ flat_map (extended (fact.now ∷ []) condition.now) self.now.without.items)) }
-        ensures without { more ≡ true → IfOk result (λ next. next.without.items ≡ flat_map (extended (facts_of facts.now) condition.now) self.now.without.items) }
+        ensures without { more ≡ true → IfOk result (λ next. next.without.items ≡ flat_map (extended facts.old condition.now) self.now.without.items) }
     {
         match condition {
             Condition::Plain(pattern) => self.next_plain(alloc, pattern, facts, fact, more),
@@ -154,13 +158,14 @@ fn new_bindings<'f>(
     if !some_may_bind(conditions, fact) {
         return Ok(Vec::new(alloc));
     }
+    let mut older = Older::of(facts);
     let mut growing = Growing {
         with: Vec::new(alloc),
         without: unbound(alloc)?,
     };
     for (place, condition) in conditions.iter().enumerate() {
         let more = some_may_bind(&conditions[place + 1..], fact);
-        growing = growing.next(alloc, condition, facts, fact, more)?;
+        growing = growing.next(alloc, condition, &mut older, fact, more)?;
     }
     Ok(growing.with)
 }
