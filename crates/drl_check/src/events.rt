@@ -1,10 +1,10 @@
 ghost use Rattle.std.specs.Prelude.{◌≡◌, Some, IfOk};
 ghost use Rattle.std.specs.List.{list_any};
 ghost use Rattle.drl_check.specs.Events.{meta_lacks, annotation_lacks, is_of_events, is_no_event, meta_misfits, has_bad_timestamp, is_negative, is_event_meant, modifies_event};
-ghost use Rattle.drl_sight.specs.Sight.{sight_of_actions};
+ghost use Rattle.drl_sight.specs.Sight.{begin, behind_all, sight_of_actions};
 
 use crate::kinds::is_whole;
-use drl_grammar::{ActTree, Meta, RuleTree, TypeTree};
+use drl_grammar::{ActTree, CondTree, Meta, RuleTree, TypeTree};
 use drl_sight::{Declared, DeclaredType, Meaning, Place, Seen, is_event_tree};
 use fx_base::NoMemory;
 use std::alloc::Global;
@@ -124,6 +124,22 @@ fn do_modify_event(place: &Place, actions: &[ActTree]) -> bool
         .any(|action| does_modify_event(place, action))
 }
 
+// What is in sight behind all conditions of a rule, which is what its actions see.
+#[tactic(auto, unfolding(drl_sight::specs::Sight::behind_all))]
+fn behind_conditions<'a, 'b>(
+    alloc: Global,
+    types: &'a Declared<'b>,
+    conditions: &[CondTree],
+) -> Result<Place<'a, 'b>, NoMemory>
+    ensures { IfOk result (λ p. p ≡ behind_all types.now begin conditions.now) }
+{
+    let mut place = Place::begin(alloc);
+    for condition in conditions {
+        place = place.behind(alloc, types, condition)?;
+    }
+    Ok(place)
+}
+
 /// Whether one of the actions of a rule modifies an event.
 pub(crate) fn modifies_some_event(
     alloc: Global,
@@ -132,6 +148,6 @@ pub(crate) fn modifies_some_event(
 ) -> Result<bool, NoMemory>
     ensures { IfOk result (λ modifies. modifies ≡ list_any (modifies_event (sight_of_actions types.now tree.now.conditions)) tree.now.actions) }
 {
-    let place = Place::behind_all(alloc, types, tree.conditions.as_slice())?;
+    let place = behind_conditions(alloc, types, tree.conditions.as_slice())?;
     Ok(do_modify_event(&place, tree.actions.as_slice()))
 }
