@@ -8,7 +8,8 @@ use Rattle.drl_grammar.specs.declared.file.TypeTree.{TypeTree}
 use Rattle.drl_grammar.specs.declared.file.RuleTree.{RuleTree}
 use Rattle.drl_check.specs.declared.fault.CheckCode.{CheckCode}
 use Rattle.drl_sight.specs.Declarations.{types_of, rules_of, type_in, rule_in, type_names, rule_names}
-use Rattle.drl_sight.specs.EntryPoints.{entries_named, entries_declared, declared_entries, default_name, with_name, with_names, entry_names}
+use Rattle.drl_sight.specs.EntryPoints.{entries_named, entries_declared, declared_entries, default_name, with_names, entry_names}
+use Rattle.drl_sight.proofs.EntryLemmas.{with_both}
 use Rattle.drl_check.specs.Checks.{Failure, codes_in_order, first_code, failure_at, failure_from}
 use Rattle.drl_check.specs.Failing.{first_failing}
 
@@ -60,11 +61,6 @@ entries_next all k item names lt e is =
 
 -- ---- entry points that are known
 
-with_names_append : (known a b : List (List ℕ)) → with_names known (a ++ b) ≡ with_names (with_names known a) b
-unfolding with_names
-with_names_append known [] b = refl
-with_names_append known (name ∷ a) b = with_names_append (with_name known name) a b
-
 all_named : List Item → List (List ℕ)
 all_named items = flat_map (λ (item : Item). entries_named item.body) items
 
@@ -75,7 +71,7 @@ named_next (b ∷ before) item = ap (λ ns. entries_named b.body ++ ns) (named_n
 
 pub known_next : (before : List Item) (item : Item) → entry_names (before ++ item ∷ []) ≡ with_names (entry_names before) (entries_named item.body)
 unfolding all_named
-known_next before item = ap (with_names (default_name ∷ [])) (named_next before item) ∙ with_names_append (default_name ∷ []) (all_named before) (entries_named item.body)
+known_next before item = ap (with_names (default_name ∷ [])) (named_next before item) ∙ with_both (default_name ∷ []) (all_named before) (entries_named item.body)
 
 pub known_names_next : (all : List Item) (k : ℕ) (item : Item) (known more : List (List ℕ)) → k < length all → item ≡ get_or all k item → known ≡ entry_names (take k all)
     → more ≡ with_names known (entries_named item.body) → more ≡ entry_names (take (k + 1) all)
