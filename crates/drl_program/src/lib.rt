@@ -3,6 +3,7 @@
 #![tactic(auto)]
 
 mod actions_of;
+mod infos_of;
 mod numbers;
 mod programs;
 mod tests_of;

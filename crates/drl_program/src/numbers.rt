@@ -1,7 +1,7 @@
 ghost use Rattle.std.specs.Prelude.{◌≡◌, Some};
-ghost use Rattle.drl_program.specs.Programs.{small_place, type_place, field_place, fact_meant, variable_side, variable_field_side};
+ghost use Rattle.drl_program.specs.Programs.{small_place, type_place, entry_place, field_place, fact_meant, variable_side, variable_field_side};
 
-use drl_sight::{DeclaredType, Meaning, Seen};
+use drl_sight::{DeclaredType, Meaning, Places, Seen};
 use fx_base::Text;
 use rule_model::Side;
 
@@ -15,12 +15,22 @@ pub(crate) fn small(place: Option<usize>) -> u8
     }
 }
 
-/// The place of a type as a number of 16 bits. It stands still at 65,535.
+/// The place of a type or an entry point as a number of 16 bits. It stands still at 65,535.
 pub(crate) fn type_number(place: Option<usize>) -> u16
     ensures { result ≡ type_place place }
 {
     match place {
         Some(place) => place.min(65_535) as u16,
+        None => 0,
+    }
+}
+
+/// The number of the entry point that a pattern names. Without a name it is the default one, which is the first.
+pub(crate) fn entry_number(entries: &Places, entry: &Option<Text>) -> u16
+    ensures { result ≡ entry_place entries.now entry.now }
+{
+    match entry {
+        Some(name) => type_number(entries.find(name)),
         None => 0,
     }
 }

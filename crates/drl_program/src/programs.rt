@@ -1,61 +1,18 @@
 ghost use Rattle.std.specs.Prelude.{◌≡◌, ◌++◌, List, map, Some, IfOk, OnOk};
-ghost use Rattle.drl_sight.specs.Declarations.{types_of, rules_of};
-ghost use Rattle.drl_program.specs.Programs.{field_info, type_info, pattern_in, pattern_of, condition_of, conditions_of, action_of, salience_of, rule_of, program_with};
+ghost use Rattle.drl_sight.specs.Declarations.{rules_of};
+ghost use Rattle.drl_program.specs.Programs.{pattern_in, pattern_of, condition_of, conditions_of, action_of, salience_of, rule_of, program_with};
 ghost use Rattle.drl_sight.specs.Sight.{begin, behind_all};
 
 use crate::actions_of::action;
-use crate::numbers::type_number;
+use crate::infos_of::{infos_of_entries, infos_of_types};
+use crate::numbers::{entry_number, type_number};
 use crate::tests_of::{constant_tests, joined_tests};
 use crate::undeclared::fieldless;
-use drl_grammar::{ActTree, Attr, Body, CondTree, Item, RuleTree, SourceTree, TypeTree};
-use drl_sight::{Declared, DeclaredType, Place, kind_of_word};
-use fx_base::{Copies, Kind, NoMemory, Seq, Text, TypeId};
-use rule_model::{Action, Condition, Pattern, Program, Rule, TypeInfo};
+use drl_grammar::{ActTree, Attr, Body, CondTree, Item, RuleTree, SourceTree};
+use drl_sight::{Declared, DeclaredType, Place, Places};
+use fx_base::{Copies, EntryId, NoMemory, Seq, Text, TypeId};
+use rule_model::{Action, Condition, Pattern, Program, Rule};
 use std::alloc::Global;
-
-// ---- types
-
-fn info_of_field(alloc: Global, field: &(Text, Text)) -> Result<(Text, Kind), NoMemory>
-    ensures { IfOk result (λ info. info ≡ field_info field.now) }
-{
-    let kind = match kind_of_word(&field.1) {
-        Some(kind) => kind,
-        None => Kind::Int,
-    };
-    Ok((field.0.copy(alloc)?, kind))
-}
-
-fn infos_of_fields(alloc: Global, fields: &[(Text, Text)]) -> Result<Seq<(Text, Kind)>, NoMemory>
-    ensures { IfOk result (λ infos. infos ≡ map field_info fields.now) }
-{
-    let mut infos = Vec::with_capacity(alloc, fields.len())?;
-    for field in fields {
-        infos.push(info_of_field(alloc, field)?)?;
-    }
-    Ok(Seq::from_vec(infos))
-}
-
-fn info_of_type(alloc: Global, tree: &TypeTree) -> Result<TypeInfo, NoMemory>
-    ensures { IfOk result (λ info. info ≡ type_info tree.now) }
-{
-    Ok(TypeInfo {
-        name: tree.name.copy(alloc)?,
-        fields: infos_of_fields(alloc, tree.fields.as_slice())?,
-    })
-}
-
-fn infos_of_types(alloc: Global, items: &[Item]) -> Result<Seq<TypeInfo>, NoMemory>
-    ensures { IfOk result (λ infos. infos ≡ map type_info (types_of items.now)) }
-{
-    let mut infos = Vec::new(alloc);
-    for item in items {
-        match &item.body {
-            Body::Declare(tree) => infos.push(info_of_type(alloc, tree)?)?,
-            _ => {}
-        }
-    }
-    Ok(Seq::from_vec(infos))
-}
 
 // ---- patterns
 
@@ -63,13 +20,15 @@ fn pattern_over(
     alloc: Global,
     ty: &DeclaredType,
     number: u16,
+    entry: u16,
     place: &Place,
     source: &SourceTree,
 ) -> Result<Pattern, NoMemory>
-    ensures { IfOk result (λ pattern. pattern ≡ pattern_in ty.now number place.now.sight source.now) }
+    ensures { IfOk result (λ pattern. pattern ≡ pattern_in ty.now number entry place.now.sight source.now) }
 {
     Ok(Pattern {
         ty: TypeId(number),
+        entry: EntryId(entry),
         alone: constant_tests(alloc, ty, place, source.parts.as_slice())?,
         joined: joined_tests(alloc, ty, place, source.parts.as_slice())?,
     })
@@ -78,18 +37,20 @@ fn pattern_over(
 fn pattern(
     alloc: Global,
     types: &Declared,
+    entries: &Places,
     place: &Place,
     source: &SourceTree,
 ) -> Result<Pattern, NoMemory>
-    ensures { IfOk result (λ pattern. pattern ≡ pattern_of types.now place.now.sight source.now) }
+    ensures { IfOk result (λ pattern. pattern ≡ pattern_of types.now entries.now place.now.sight source.now) }
 {
     let number = type_number(types.place(&source.ty));
+    let entry = entry_number(entries, &source.entry);
     match types.find(&source.ty) {
-        Some(ty) => pattern_over(alloc, ty, number, place, source),
+        Some(ty) => pattern_over(alloc, ty, number, entry, place, source),
         None => {
             let tree = fieldless(alloc)?;
             let ty = DeclaredType::of(alloc, &tree)?;
-            pattern_over(alloc, &ty, number, place, source)
+            pattern_over(alloc, &ty, number, entry, place, source)
         }
     }
 }
@@ -100,14 +61,15 @@ fn add_condition(
     alloc: Global,
     conditions: &mut Vec<Condition>,
     types: &Declared,
+    entries: &Places,
     place: &Place,
     tree: &CondTree,
 ) -> Result<(), NoMemory>
-    ensures { OnOk result (conditions.new.items ≡ conditions.old.items ++ condition_of types.now place.now tree.now) }
+    ensures { OnOk result (conditions.new.items ≡ conditions.old.items ++ condition_of types.now entries.now place.now tree.now) }
 {
     match tree {
         CondTree::Plain(source) => {
-            conditions.push(Condition::Plain(pattern(alloc, types, place, source)?))?;
+            conditions.push(Condition::Plain(pattern(alloc, types, entries, place, source)?))?;
             Ok(())
         }
         _ => Ok(()),
@@ -119,15 +81,16 @@ fn add_condition(
 fn conditions<'a, 'b>(
     alloc: Global,
     types: &'a Declared<'b>,
+    entries: &Places,
     trees: &[CondTree],
 ) -> Result<(Seq<Condition>, Place<'a, 'b>), NoMemory>
-    ensures conditions { IfOk result (λ made. made.0 ≡ conditions_of types.now begin trees.now) }
+    ensures conditions { IfOk result (λ made. made.0 ≡ conditions_of types.now entries.now begin trees.now) }
     ensures place { IfOk result (λ made. made.1 ≡ behind_all types.now begin trees.now) }
 {
     let mut conditions = Vec::with_capacity(alloc, trees.len())?;
     let mut place = Place::begin(alloc);
     for tree in trees {
-        add_condition(alloc, &mut conditions, types, &place, tree)?;
+        add_condition(alloc, &mut conditions, types, entries, &place, tree)?;
         place = place.behind(alloc, types, tree)?;
     }
     Ok((Seq::from_vec(conditions), place))
@@ -160,10 +123,15 @@ fn salience(attrs: &[Attr]) -> i64
     0
 }
 
-fn rule(alloc: Global, types: &Declared, tree: &RuleTree) -> Result<Rule, NoMemory>
-    ensures { IfOk result (λ rule. rule ≡ rule_of types.now tree.now) }
+fn rule(
+    alloc: Global,
+    types: &Declared,
+    entries: &Places,
+    tree: &RuleTree,
+) -> Result<Rule, NoMemory>
+    ensures { IfOk result (λ rule. rule ≡ rule_of types.now entries.now tree.now) }
 {
-    let (conditions, place) = conditions(alloc, types, tree.conditions.as_slice())?;
+    let (conditions, place) = conditions(alloc, types, entries, tree.conditions.as_slice())?;
     Ok(Rule {
         name: tree.name.copy(alloc)?,
         salience: salience(tree.attrs.as_slice()),
@@ -172,25 +140,36 @@ fn rule(alloc: Global, types: &Declared, tree: &RuleTree) -> Result<Rule, NoMemo
     })
 }
 
-fn rules(alloc: Global, types: &Declared, items: &[Item]) -> Result<Seq<Rule>, NoMemory>
-    ensures { IfOk result (λ rules. rules ≡ map (rule_of types.now) (rules_of items.now)) }
+fn rules(
+    alloc: Global,
+    types: &Declared,
+    entries: &Places,
+    items: &[Item],
+) -> Result<Seq<Rule>, NoMemory>
+    ensures { IfOk result (λ rules. rules ≡ map (rule_of types.now entries.now) (rules_of items.now)) }
 {
     let mut rules = Vec::new(alloc);
     for item in items {
         match &item.body {
-            Body::Rule(tree) => rules.push(rule(alloc, types, tree)?)?,
+            Body::Rule(tree) => rules.push(rule(alloc, types, entries, tree)?)?,
             _ => {}
         }
     }
     Ok(Seq::from_vec(rules))
 }
 
-/// The program of the items of a file, whose types these are.
-pub fn program(alloc: Global, types: &Declared, items: &[Item]) -> Result<Program, NoMemory>
-    ensures { IfOk result (λ program. program ≡ program_with types.now items.now) }
+/// The program of the items of a file, whose types and entry points these are.
+pub fn program(
+    alloc: Global,
+    types: &Declared,
+    entries: &Places,
+    items: &[Item],
+) -> Result<Program, NoMemory>
+    ensures { IfOk result (λ program. program ≡ program_with types.now entries.now items.now) }
 {
     Ok(Program {
         types: infos_of_types(alloc, items)?,
-        rules: rules(alloc, types, items)?,
+        entries: infos_of_entries(alloc, entries.names(), items)?,
+        rules: rules(alloc, types, entries, items)?,
     })
 }

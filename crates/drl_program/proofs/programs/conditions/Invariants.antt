@@ -5,7 +5,7 @@ use Rattle.drl_program.proofs.programs.conditions.Given as goal
 
 abbrev pub invariant-loop-tree : goal.invariant-loop-tree
 invariant-loop-tree l = record {
-  same : l.conditions.items ++ conditions_of l.types l.place (drop l.tree-index l.trees) ≡ conditions_of l.types begin l.trees;
+  same : l.conditions.items ++ conditions_of l.types l.entries l.place (drop l.tree-index l.trees) ≡ conditions_of l.types l.entries begin l.trees;
   last : behind_all l.types l.place (drop l.tree-index l.trees) ≡ behind_all l.types begin l.trees;
   counts : l.place.facts ≤ l.tree-index;
 }

@@ -1,6 +1,6 @@
 use Rattle.std.proofs.Common.{◌≡◌, ◌++◌, map, drop}
 use Rattle.drl_program.specs.Programs.{field_info}
-use Rattle.drl_program.proofs.programs.infos_of_fields.Given as goal
+use Rattle.drl_program.proofs.infos_of.infos_of_fields.Given as goal
 
 abbrev pub invariant-loop-field : goal.invariant-loop-field
 invariant-loop-field l = l.infos.items ++ map field_info (drop l.field-index l.fields) ≡ map field_info l.fields
