@@ -13,9 +13,9 @@ use Rattle.drl_sight.specs.Sight.{begin, sight_of_actions}
 use Rattle.drl_check.specs.Built.{not_built}
 use Rattle.drl_check.specs.Twice.{is_twice}
 use Rattle.drl_limits.specs.Limits.{passes_limit}
-use Rattle.drl_check.specs.Uses.{any_condition, has_unknown_type, has_unknown_field, has_unknown_variable, inserts_unknown_type, action_lacks, action_unseen}
+use Rattle.drl_uses.specs.Uses.{any_condition, has_unknown_type, has_unknown_field, has_unknown_variable, inserts_unknown_type, action_lacks, action_unseen}
 use Rattle.drl_check.specs.Events.{annotation_lacks, is_no_event, has_bad_timestamp, is_negative, modifies_event}
-use Rattle.drl_check.specs.Kinds.{has_unknown_kind, has_wrong_kind, action_misfits}
+use Rattle.drl_uses.specs.Kinds.{has_unknown_kind, has_wrong_kind, action_misfits}
 
 abbrev pub lacks_type : List TypeTree → Body → Bool
 lacks_type types (body.Rule r) = has_unknown_type types r.conditions || list_any (inserts_unknown_type types) r.actions

@@ -9,7 +9,7 @@ use Rattle.drl_grammar.specs.declared.file.TypeTree.{TypeTree}
 use Rattle.drl_sight.specs.Annotations.{is_event}
 use Rattle.drl_sight.specs.Meanings.{lacks, field_kind}
 use Rattle.drl_sight.specs.Sight.{Sight, Meaning, of_fact, of_field, meaning_of}
-use Rattle.drl_check.specs.Kinds.{is_int}
+use Rattle.drl_uses.specs.Kinds.{is_int}
 
 -- ---- annotations
 

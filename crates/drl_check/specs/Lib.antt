@@ -1,10 +1,7 @@
 pub mod Built
 pub mod Twice
-pub mod Uses
-pub mod Kinds
 pub mod Events
 pub mod Checks
 pub mod Outcomes
-pub mod Asked
 pub mod Failing
 pub mod Answers

@@ -3,9 +3,9 @@ ghost use Rattle.std.specs.List.{list_any};
 ghost use Rattle.drl_check.specs.Events.{meta_lacks, annotation_lacks, is_of_events, is_no_event, meta_misfits, has_bad_timestamp, is_negative, is_event_meant, modifies_event};
 ghost use Rattle.drl_sight.specs.Sight.{begin, behind_all, sight_of_actions};
 
-use crate::kinds::is_whole;
 use drl_grammar::{ActTree, CondTree, Meta, RuleTree, TypeTree};
 use drl_sight::{Declared, DeclaredType, Meaning, Place, Seen, is_event_tree};
+use drl_uses::is_whole;
 use fx_base::NoMemory;
 use std::alloc::Global;
 

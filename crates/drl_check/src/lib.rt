@@ -2,18 +2,13 @@
 //! It takes any file of trees, and assumes nothing of it.
 #![tactic(auto)]
 
-mod action_kinds;
-mod action_uses;
-mod asked;
 mod built;
 mod checking;
 mod events;
 mod fault;
-mod kinds;
 mod laws;
 mod refusal;
 mod twice;
-mod uses;
 
 pub use checking::check;
 pub use fault::{CheckCode, CheckFault};

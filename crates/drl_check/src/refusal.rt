@@ -5,19 +5,16 @@ ghost use Rattle.drl_check.specs.Checks.{lacks_type, lacks_field as lacks_field_
 ghost use Rattle.drl_check.specs.Failing.{first_failing, first_failing_event, first_failing_use};
 ghost use Rattle.drl_check.specs.Answers.{within_32_bits, Judges};
 
-use crate::action_uses::insert_unknown;
-use crate::asked::{Asked, is_so_in_rule};
 use crate::built::is_unbuilt;
 use crate::events::{
     is_below_zero, is_plain_with_times, lacks_annotated, misfits_annotated, modifies_some_event,
 };
-use crate::kinds::lacks_kind;
 use crate::twice::repeats;
-use crate::uses::lack_type;
 use crate::{CheckCode, CheckFault};
 use drl_grammar::{Body, Item};
 use drl_limits::passes_limits;
 use drl_sight::{Declared, Places, default_entry, with_entries};
+use drl_uses::{Asked, insert_unknown, is_so_in_rule, lack_type, lacks_kind};
 use fx_base::NoMemory;
 use std::alloc::Global;
 

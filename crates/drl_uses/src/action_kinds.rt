@@ -2,7 +2,7 @@ ghost use Rattle.std.specs.Prelude.{◌≡◌, ◌&&◌, ℕ, List, Some};
 ghost use Rattle.std.specs.List.{list_any};
 ghost use Rattle.drl_expr.specs.Tree.{Tree};
 ghost use Rattle.drl_sight.specs.Meanings.{field_kind};
-ghost use Rattle.drl_check.specs.Kinds.{is_number, number_where, tree_kind, set_misfits, args_misfit, modify_misfits, retract_misfits, action_misfits};
+ghost use Rattle.drl_uses.specs.Kinds.{is_number, number_where, tree_kind, set_misfits, args_misfit, modify_misfits, retract_misfits, action_misfits};
 
 use crate::kinds::{are_same, is_whole, kind_of_literal, kind_of_variable, kind_of_variable_field};
 use drl_expr::{ExprTree, Node};

@@ -1,6 +1,6 @@
 ghost use Rattle.std.specs.Prelude.{◌≡◌, IfOk};
 ghost use Rattle.std.specs.List.{list_any};
-ghost use Rattle.drl_check.specs.Asked.{asked_of, asked_of_action, asked_of_rule};
+ghost use Rattle.drl_uses.specs.Asked.{asked_of, asked_of_action, asked_of_rule};
 
 use crate::action_kinds::misfits_in_action;
 use crate::action_uses::{lacks_field_in, lacks_variable_in};
@@ -13,7 +13,7 @@ use std::alloc::Global;
 
 /// What is asked of each condition and of each action of a rule.
 #[derive(Clone, Copy)]
-pub(crate) enum Asked {
+pub enum Asked {
     LacksField,
     LacksVariable,
     HasWrongKind,
@@ -49,7 +49,7 @@ fn is_so_of_some(asked: Asked, types: &Declared, place: &Place, actions: &[ActTr
 
 /// Whether it is so of one of the conditions of a rule, or of one of its actions. What is in sight is gathered once.
 #[tactic(auto, unfolding(crate::specs::Uses::any_condition, drl_sight::specs::Sight::behind_all))]
-pub(crate) fn is_so_in_rule(
+pub fn is_so_in_rule(
     alloc: Global,
     asked: Asked,
     types: &Declared,

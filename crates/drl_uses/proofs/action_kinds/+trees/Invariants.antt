@@ -1,6 +1,6 @@
 use Rattle.std.proofs.Common.{◌+◌, ◌*◌, max}
 use Rattle.drl_expr.specs.Tree.{height}
-use Rattle.drl_check.proofs.action_kinds.+trees.Given as goal
+use Rattle.drl_uses.proofs.action_kinds.+trees.Given as goal
 
 abbrev pub decreases-kind_of_tree : goal.decreases-kind_of_tree
 decreases-kind_of_tree l = 2 * height l.tree.now

@@ -3,7 +3,7 @@ ghost use Rattle.std.specs.List.{list_any};
 ghost use Rattle.drl_expr.specs.Tree.{Tree};
 ghost use Rattle.drl_sight.specs.Sight.{meaning_of};
 ghost use Rattle.drl_sight.specs.Meanings.{lacks_for};
-ghost use Rattle.drl_check.specs.Uses.{inserts_unknown_type, assigned_lacks, action_lacks, target_unseen, action_unseen};
+ghost use Rattle.drl_uses.specs.Uses.{inserts_unknown_type, assigned_lacks, action_lacks, target_unseen, action_unseen};
 
 use crate::uses::{Unseen, is_lacking_in, is_out_of_sight};
 use drl_expr::{ExprTree, Node};
@@ -23,7 +23,7 @@ fn is_insert_unknown(types: &Declared, action: &ActTree) -> bool
 }
 
 /// Whether one of the actions inserts a fact of a type that is not declared.
-pub(crate) fn insert_unknown(types: &Declared, actions: &[ActTree]) -> bool
+pub fn insert_unknown(types: &Declared, actions: &[ActTree]) -> bool
     ensures { result ≡ list_any (inserts_unknown_type types.now) actions.now }
 {
     actions
@@ -40,7 +40,7 @@ struct Lacking<'p> {
 }
 
 impl<'p> LeafTest for Lacking<'p> {
-    ghost use Rattle.drl_check.specs.Uses.{leaf_lacks};
+    ghost use Rattle.drl_uses.specs.Uses.{leaf_lacks};
 
     ghost test = { λ s. leaf_lacks s.place.now.sight };
 
@@ -77,7 +77,7 @@ pub(crate) fn lacks_field_in(place: &Place, action: &ActTree) -> bool
 // ---- variables
 
 impl<'p> LeafTest for Unseen<'p> {
-    ghost use Rattle.drl_check.specs.Uses.{leaf_unseen};
+    ghost use Rattle.drl_uses.specs.Uses.{leaf_unseen};
 
     ghost test = { λ s. leaf_unseen s.place.now.sight };
 

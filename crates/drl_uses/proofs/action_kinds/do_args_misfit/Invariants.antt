@@ -1,6 +1,6 @@
 use Rattle.std.proofs.Common.{◌≡◌, ◌≤◌, drop, length}
-use Rattle.drl_check.specs.Kinds.{args_misfit}
-use Rattle.drl_check.proofs.action_kinds.do_args_misfit.Given as goal
+use Rattle.drl_uses.specs.Kinds.{args_misfit}
+use Rattle.drl_uses.proofs.action_kinds.do_args_misfit.Given as goal
 
 abbrev pub invariant-loop-k : goal.invariant-loop-k
 invariant-loop-k l = record {

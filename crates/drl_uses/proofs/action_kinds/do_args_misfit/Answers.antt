@@ -2,8 +2,8 @@ use Rattle.std.proofs.Common.{◌≡◌, ◌-◌, ◌∷◌, ℕ, suc, true, Lis
 use Rattle.std.proofs.lemmas.Bool.Decides.{nat_tests}
 use Rattle.std.proofs.lemmas.List.{drop_all}
 use Rattle.drl_sight.specs.Sight.{Sight}
-use Rattle.drl_check.specs.Kinds.{args_misfit}
-use Rattle.drl_check.proofs.action_kinds.do_args_misfit.Goals as goal
+use Rattle.drl_uses.specs.Kinds.{args_misfit}
+use Rattle.drl_uses.proofs.action_kinds.do_args_misfit.Goals as goal
 
 is_positive : (n : ℕ) → true ≡ nat_lt 0 (suc n)
 is_positive n = grind (arith, nat_tests)

@@ -3,7 +3,7 @@ ghost use Rattle.std.specs.List.{list_any};
 ghost use Rattle.drl_lex.specs.declared.token.Rel.TheVariants.{Equal};
 ghost use Rattle.drl_grammar.specs.declared.condition.Cmp.{Cmp};
 ghost use Rattle.drl_grammar.specs.declared.condition.Operand.{Operand};
-ghost use Rattle.drl_check.specs.Kinds.{has_unknown_kind, literal_kind, operand_kind, is_int, is_same_kind, kinds_fit, misfits, cmp_misfits, part_misfits, has_wrong_kind};
+ghost use Rattle.drl_uses.specs.Kinds.{has_unknown_kind, literal_kind, operand_kind, is_int, is_same_kind, kinds_fit, misfits, cmp_misfits, part_misfits, has_wrong_kind};
 ghost use Rattle.drl_sight.specs.Sight.{meaning_of};
 ghost use Rattle.drl_sight.specs.Meanings.{field_kind, variable_kind, variable_field_kind};
 
@@ -14,7 +14,7 @@ use drl_sight::{Declared, DeclaredType, Place, kind_of_word};
 use fx_base::{Kind, Seq, Text};
 
 /// Whether a field's kind word is none of the seven.
-pub(crate) fn lacks_kind(tree: &TypeTree) -> bool
+pub fn lacks_kind(tree: &TypeTree) -> bool
     ensures { result ≡ has_unknown_kind tree.now }
 {
     tree.fields
@@ -71,7 +71,7 @@ fn kind_of_operand(ty: &DeclaredType, place: &Place, operand: &Operand) -> Optio
 }
 
 /// Whether it is the kind of whole numbers.
-pub(crate) fn is_whole(kind: Option<Kind>) -> bool
+pub fn is_whole(kind: Option<Kind>) -> bool
     ensures { result ≡ is_int kind }
 {
     match kind {

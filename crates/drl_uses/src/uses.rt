@@ -4,7 +4,7 @@ ghost use Rattle.drl_grammar.specs.declared.condition.Cmp.{Cmp};
 ghost use Rattle.drl_sight.specs.Sight.{meaning_of};
 ghost use Rattle.drl_sight.specs.Operands.{any_of_part};
 ghost use Rattle.drl_sight.specs.Meanings.{lacks, lacks_for};
-ghost use Rattle.drl_check.specs.Uses.{is_type_unknown, has_unknown_type, operand_lacks, cmp_lacks, part_lacks, has_unknown_field, is_unseen, operand_unseen, has_unknown_variable};
+ghost use Rattle.drl_uses.specs.Uses.{is_type_unknown, has_unknown_type, operand_lacks, cmp_lacks, part_lacks, has_unknown_field, is_unseen, operand_unseen, has_unknown_variable};
 
 use drl_grammar::{Cmp, CondTree, Operand, Part};
 use drl_sight::{Declared, DeclaredType, OperandTest, Place, some_operand};
@@ -22,7 +22,7 @@ fn is_unknown_type(types: &Declared, condition: &CondTree) -> bool
 }
 
 /// Whether one of the conditions names a type that is not declared.
-pub(crate) fn lack_type(types: &Declared, conditions: &[CondTree]) -> bool
+pub fn lack_type(types: &Declared, conditions: &[CondTree]) -> bool
     ensures { result ≡ has_unknown_type types.now conditions.now }
 {
     conditions
@@ -132,7 +132,7 @@ pub(crate) struct Unseen<'p> {
 }
 
 impl<'p> OperandTest for Unseen<'p> {
-    ghost use Rattle.drl_check.specs.Uses.{operand_unseen};
+    ghost use Rattle.drl_uses.specs.Uses.{operand_unseen};
 
     ghost test = { λ s. operand_unseen s.place.now.sight };
 

@@ -1,0 +1,14 @@
+//! What the conditions and the actions of a rule use: whether types, fields and variables are there, and whether kinds fit.
+//! It takes any rule with the types of its file, and assumes nothing of them.
+#![tactic(auto)]
+
+mod action_kinds;
+mod action_uses;
+mod asked;
+mod kinds;
+mod uses;
+
+pub use action_uses::insert_unknown;
+pub use asked::{Asked, is_so_in_rule};
+pub use kinds::{is_whole, lacks_kind};
+pub use uses::lack_type;
