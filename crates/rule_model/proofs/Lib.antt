@@ -14,3 +14,5 @@ pub mod Found
 pub mod Vain
 pub mod Faultless
 pub mod Fitting
+pub mod Sound
+pub mod Lawfuls

@@ -1,4 +1,4 @@
-//! Laws of rows and of the order of firing, each the contract of a function that does nothing.
+//! Laws of rows, of the order of firing and of worlds, each the contract of a function that does nothing.
 ghost use Rattle.std.specs.Prelude.{◌≡◌, ◌↔◌, ◌⊎◌, ◌<◌, ◌<ℤ◌, true, false, [], List, ℤ, pos, Some, None};
 ghost use Rattle.std.specs.declared.cmp.Ordering.{Ordering};
 ghost use Rattle.fx_base.specs.declared.fact.Fact.{Fact};
