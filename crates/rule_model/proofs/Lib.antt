@@ -16,3 +16,7 @@ pub mod Faultless
 pub mod Fitting
 pub mod Sound
 pub mod Lawfuls
+pub mod Typing
+pub mod Bindings
+pub mod Acting
+pub mod Staying
