@@ -6,3 +6,4 @@ pub mod Tried
 pub mod Versions
 pub mod Firings
 pub mod Sessions
+pub mod Acting
