@@ -1,5 +1,6 @@
 -- The first failure of a list of items, read from its front.
 use Rattle.std.proofs.Common.{◌≡◌, ◌+◌, ◌++◌, ◌∷◌, ◌<◌, ◌≤◌, ℕ, zero, suc, List, [], length, get_or, take, drop, Some, None, refl, sym, ap, ◌∙◌, append_assoc, add-one, drop-cons, arith}
+use Rattle.std.specs.List.{flat_map}
 use Rattle.std.proofs.lemmas.List.{append-nil, length-map, length-take-le, map-append}
 use Rattle.drl_grammar.specs.declared.file.Body.{Body}
 use Rattle.drl_grammar.specs.declared.file.Item.{Item}
@@ -7,6 +8,8 @@ use Rattle.drl_grammar.specs.declared.file.TypeTree.{TypeTree}
 use Rattle.drl_grammar.specs.declared.file.RuleTree.{RuleTree}
 use Rattle.drl_check.specs.declared.fault.CheckCode.{CheckCode}
 use Rattle.drl_sight.specs.Declarations.{types_of, rules_of, type_in, rule_in, type_names, rule_names}
+use Rattle.drl_sight.specs.EntryPoints.{entries_named, entries_declared, declared_entries, default_name, with_names, entry_names}
+use Rattle.drl_sight.proofs.EntryLemmas.{with_both}
 use Rattle.drl_check.specs.Checks.{Failure, codes_in_order, first_code, failure_at, failure_from}
 use Rattle.drl_check.specs.Failing.{first_failing}
 
@@ -47,10 +50,40 @@ rule_names_next all k item names lt e is =
     ap (λ ns. ns ++ rule_names (rule_in item.body)) is ∙ sym (map-append (λ (r : RuleTree). r.name) (rules_of (take k all)) (rule_in item.body))
     ∙ ap rule_names (sym (rules_next (take k all) item)) ∙ ap (λ items. rule_names (rules_of items)) (sym (take_next all k item lt e))
 
-pub failing_is : (all before : List Item) (declared : List TypeTree) (types rules : List (List ℕ)) (b : Body) → declared ≡ types_of all → types ≡ type_names (types_of before)
-    → rules ≡ rule_names (rules_of before) → first_failing declared types rules b ≡ first_code codes_in_order all before b
-failing_is all before declared types rules b d t r =
-    rw (d, t, r, length-map (types_of before) (λ (t : TypeTree). t.name), length-map (rules_of before) (λ (r : RuleTree). r.name)) refl
+pub declared_next : (before : List Item) (item : Item) → declared_entries (before ++ item ∷ []) ≡ declared_entries before ++ entries_declared item.body
+declared_next [] item = append-nil (entries_declared item.body)
+declared_next (b ∷ before) item = ap (λ ns. entries_declared b.body ++ ns) (declared_next before item) ∙ sym (append_assoc (entries_declared b.body) (declared_entries before) (entries_declared item.body))
+
+pub entries_next : (all : List Item) (k : ℕ) (item : Item) (names : List (List ℕ)) → k < length all → item ≡ get_or all k item → names ≡ declared_entries (take k all)
+    → names ++ entries_declared item.body ≡ declared_entries (take (k + 1) all)
+entries_next all k item names lt e is =
+    ap (λ ns. ns ++ entries_declared item.body) is ∙ sym (declared_next (take k all) item) ∙ ap declared_entries (sym (take_next all k item lt e))
+
+-- ---- entry points that are known
+
+all_named : List Item → List (List ℕ)
+all_named items = flat_map (λ (item : Item). entries_named item.body) items
+
+named_next : (before : List Item) (item : Item) → all_named (before ++ item ∷ []) ≡ all_named before ++ entries_named item.body
+unfolding all_named
+named_next [] item = append-nil (entries_named item.body)
+named_next (b ∷ before) item = ap (λ ns. entries_named b.body ++ ns) (named_next before item) ∙ sym (append_assoc (entries_named b.body) (all_named before) (entries_named item.body))
+
+pub known_next : (before : List Item) (item : Item) → entry_names (before ++ item ∷ []) ≡ with_names (entry_names before) (entries_named item.body)
+unfolding all_named
+known_next before item = ap (with_names (default_name ∷ [])) (named_next before item) ∙ with_both (default_name ∷ []) (all_named before) (entries_named item.body)
+
+pub known_names_next : (all : List Item) (k : ℕ) (item : Item) (known more : List (List ℕ)) → k < length all → item ≡ get_or all k item → known ≡ entry_names (take k all)
+    → more ≡ with_names known (entries_named item.body) → more ≡ entry_names (take (k + 1) all)
+known_names_next all k item known more lt e is new =
+    new ∙ ap (λ ns. with_names ns (entries_named item.body)) is ∙ sym (known_next (take k all) item) ∙ ap entry_names (sym (take_next all k item lt e))
+
+-- ---- what an item fails
+
+pub failing_is : (all before : List Item) (declared : List TypeTree) (types entries rules known : List (List ℕ)) (b : Body) → declared ≡ types_of all → types ≡ type_names (types_of before)
+    → entries ≡ declared_entries before → rules ≡ rule_names (rules_of before) → known ≡ entry_names before → first_failing declared types entries rules known b ≡ first_code codes_in_order all before b
+failing_is all before declared types entries rules known b d t e r k =
+    rw (d, t, e, r, k, length-map (types_of before) (λ (t : TypeTree). t.name), length-map (rules_of before) (λ (r : RuleTree). r.name)) refl
 
 -- ---- one item
 

@@ -1,6 +1,7 @@
 -- The program of an accepted file is within the limits.
-use Rattle.std.proofs.Common.{◌≡◌, ◌≤◌, ◌<◌, ◌+◌, ◌&&◌, ◌||◌, ◌++◌, ◌∷◌, ℕ, Bool, true, false, not, List, [], map, length, nat_le, nat_lt, refl, sym, ap, subst, append_assoc, length-append, arith}
-use Rattle.std.specs.List.{list_all, list_any}
+use Rattle.std.proofs.Common.{◌≡◌, ◌≤◌, ◌<◌, ◌+◌, ◌^◌, ◌&&◌, ◌||◌, ◌++◌, ◌∷◌, ℕ, ℤ, pos, negsuc, Bool, true, false, not, List, [], map, length, nat_le, nat_lt, int_le, int_lt, unsigned_abs, Option, Some, None, cond, refl, sym, ap, subst, append_assoc, length-append, arith}
+use Rattle.std.specs.List.{list_all, list_any, flat_map}
+use Rattle.std.specs.Str.{bytes_eq}
 use Rattle.std.proofs.lemmas.Bool.Decides.{nat_tests}
 use Rattle.std.proofs.lemmas.List.{append-nil, length-map}
 use Rattle.drl_grammar.specs.declared.condition.CondTree.{CondTree}
@@ -12,57 +13,19 @@ use Rattle.drl_grammar.specs.declared.file.Item.{Item}
 use Rattle.drl_grammar.specs.declared.file.TypeTree.{TypeTree}
 use Rattle.drl_grammar.specs.declared.file.RuleTree.{RuleTree}
 use Rattle.rule_model.specs.declared.program.Rule.{Rule}
-use Rattle.rule_model.specs.Programs.{has_conditions, has_few_actions, IsAccepted}
-use Rattle.drl_check.specs.declared.fault.CheckCode.TheVariants.{NotBuilt, LimitPassed}
+use Rattle.rule_model.specs.Events.{most_millis}
+use Rattle.rule_model.specs.Programs.{has_conditions, has_few_actions, has_lateness, IsAccepted}
+use Rattle.drl_check.specs.declared.fault.CheckCode.TheVariants.{NotBuilt, LimitPassed, BadParams}
 use Rattle.drl_sight.specs.Declarations.{types_of, rules_of, type_in, rule_in}
+use Rattle.drl_sight.specs.EntryPoints.{default_name, entries_named, with_name, with_names, entry_names, lateness_or_zero, lateness_with, lateness_named}
+use Rattle.drl_sight.specs.Names.{is_short, is_among}
 use Rattle.drl_sight.specs.Sight.{Place, begin, behind, sight_of_actions}
-use Rattle.drl_limits.specs.Limits.{passes_limit_behind, type_within, rule_within, attr_within, condition_within, action_within, actions_within}
+use Rattle.drl_limits.specs.Limits.{span_limit, is_entry_name, has_few_entries, lateness_within, passes_limit_behind, type_within, rule_within, attr_within, condition_within, action_within, actions_within}
+use Rattle.drl_program.specs.Programs.{entry_info, condition_of, conditions_of, rule_of, type_info, action_of, program_of}
 use Rattle.drl_check.specs.Built.{condition_unbuilt, not_built}
-use Rattle.drl_sight.specs.Names.{is_short}
-use Rattle.drl_check.specs.Checks.{AllPass, IsAcceptedFile}
-use Rattle.drl_program.specs.Programs.{condition_of, conditions_of, rule_of, type_info, action_of, program_of}
-use Rattle.drl_check.proofs.Failures.{types_next, rules_next}
-
--- ---- types and rules are few
-
-not_and : (a b : Bool) → not (a && b) ≡ false → a ≡ true
-not_and true b e = refl
-not_and false b e = absurd cc
-
-under : (n m : ℕ) → nat_lt n m ≡ true → n < m
-under n m e = grind (arith, nat_tests)
-
-type_fits : (types rules : ℕ) (b : Body) → passes_limit_behind types rules b ≡ false → types ≤ 128 → types + length (type_in b) ≤ 128
-type_fits types rules (body.Declare t) e h = let less = under types 128 (not_and (nat_lt types 128) (type_within t) e) in omega (arith, less)
-type_fits types rules (body.Rule r) e h = omega (arith, h)
-type_fits types rules (body.Package p) e h = omega (arith, h)
-type_fits types rules (body.Import p s) e h = omega (arith, h)
-type_fits types rules (body.Dialect d) e h = omega (arith, h)
-type_fits types rules (body.Entry n l) e h = omega (arith, h)
-
-rule_fits : (types rules : ℕ) (b : Body) → passes_limit_behind types rules b ≡ false → rules ≤ 256 → rules + length (rule_in b) ≤ 256
-rule_fits types rules (body.Rule r) e h = let less = under rules 256 (not_and (nat_lt rules 256) (rule_within r) e) in omega (arith, less)
-rule_fits types rules (body.Declare t) e h = omega (arith, h)
-rule_fits types rules (body.Package p) e h = omega (arith, h)
-rule_fits types rules (body.Import p s) e h = omega (arith, h)
-rule_fits types rules (body.Dialect d) e h = omega (arith, h)
-rule_fits types rules (body.Entry n l) e h = omega (arith, h)
-
-few_types : (all before items : List Item) → AllPass all before items → length (types_of before) ≤ 128 → length (types_of (before ++ items)) ≤ 128
-few_types all before [] p h = subst (λ (is : List Item). length (types_of is) ≤ 128) (sym (append-nil before)) h
-few_types all before (item ∷ items) p h =
-    let fits = type_fits (length (types_of before)) (length (rules_of before)) item.body (p.0 LimitPassed) h in
-    let more : length (types_of (before ++ item ∷ [])) ≤ 128 = omega (arith, fits, ap length (types_next before item), length-append (types_of before) (type_in item.body)) in
-    subst (λ (is : List Item). length (types_of is) ≤ 128) (append_assoc before (item ∷ []) items) (few_types all (before ++ item ∷ []) items p.1 more)
-
-few_rules : (all before items : List Item) → AllPass all before items → length (rules_of before) ≤ 256 → length (rules_of (before ++ items)) ≤ 256
-few_rules all before [] p h = subst (λ (is : List Item). length (rules_of is) ≤ 256) (sym (append-nil before)) h
-few_rules all before (item ∷ items) p h =
-    let fits = rule_fits (length (types_of before)) (length (rules_of before)) item.body (p.0 LimitPassed) h in
-    let more : length (rules_of (before ++ item ∷ [])) ≤ 256 = omega (arith, fits, ap length (rules_next before item), length-append (rules_of before) (rule_in item.body)) in
-    subst (λ (is : List Item). length (rules_of is) ≤ 256) (append_assoc before (item ∷ []) items) (few_rules all (before ++ item ∷ []) items p.1 more)
-
--- ---- conditions are few, and there are some
+use Rattle.drl_check.specs.Checks.{has_bad_params, AllPass, IsAcceptedFile}
+use Rattle.drl_check.specs.Events.{is_negative}
+use Rattle.drl_check.proofs.Failures.{types_next, rules_next, known_next}
 
 and_right : (a b : Bool) → (a && b) ≡ true → b ≡ true
 and_right true b e = e
@@ -71,6 +34,10 @@ and_right false b e = absurd cc
 and_left : (a b : Bool) → (a && b) ≡ true → a ≡ true
 and_left true b e = refl
 and_left false b e = absurd cc
+
+not_and_left : (a b : Bool) → not (a && b) ≡ false → a ≡ true
+not_and_left true b e = refl
+not_and_left false b e = absurd cc
 
 not_and_right : (a b : Bool) → not (a && b) ≡ false → b ≡ true
 not_and_right true true e = refl
@@ -81,12 +48,143 @@ both : (a b : Bool) → a ≡ true → b ≡ true → (a && b) ≡ true
 both true b e h = h
 both false b e h = absurd cc
 
+under : (n m : ℕ) → nat_lt n m ≡ true → n < m
+under n m e = grind (arith, nat_tests)
+
+within : (n m : ℕ) → nat_le n m ≡ true → n ≤ m
+within n m e = grind (arith, nat_tests)
+
+-- ---- types, entry points and rules are few
+
+type_fits : (types rules : ℕ) (known : List (List ℕ)) (b : Body) → passes_limit_behind types rules known b ≡ false → types ≤ 128 → types + length (type_in b) ≤ 128
+type_fits types rules known (body.Declare t) e h = let less = under types 128 (not_and_left (nat_lt types 128) (type_within t) e) in omega (arith, less)
+type_fits types rules known (body.Rule r) e h = omega (arith, h)
+type_fits types rules known (body.Package p) e h = omega (arith, h)
+type_fits types rules known (body.Import p s) e h = omega (arith, h)
+type_fits types rules known (body.Dialect d) e h = omega (arith, h)
+type_fits types rules known (body.Entry n l) e h = omega (arith, h)
+
+rule_fits : (types rules : ℕ) (known : List (List ℕ)) (b : Body) → passes_limit_behind types rules known b ≡ false → rules ≤ 256 → rules + length (rule_in b) ≤ 256
+rule_fits types rules known (body.Rule r) e h =
+    let few = has_few_entries known (body.Rule r) in
+    let less = under rules 256 (and_left (nat_lt rules 256) few (not_and_left (nat_lt rules 256 && few) (rule_within r) e)) in
+    omega (arith, less)
+rule_fits types rules known (body.Declare t) e h = omega (arith, h)
+rule_fits types rules known (body.Package p) e h = omega (arith, h)
+rule_fits types rules known (body.Import p s) e h = omega (arith, h)
+rule_fits types rules known (body.Dialect d) e h = omega (arith, h)
+rule_fits types rules known (body.Entry n l) e h = omega (arith, h)
+
+entries_fit : (types rules : ℕ) (known : List (List ℕ)) (b : Body) → passes_limit_behind types rules known b ≡ false → length known ≤ 64 → length (with_names known (entries_named b)) ≤ 64
+unfolding with_names
+entries_fit types rules known (body.Rule r) e h =
+    let few = has_few_entries known (body.Rule r) in
+    within (length (with_names known (entries_named (body.Rule r)))) 64 (and_right (nat_lt rules 256) few (not_and_left (nat_lt rules 256 && few) (rule_within r) e))
+entries_fit types rules known (body.Entry name lateness) e h =
+    let few = has_few_entries known (body.Entry name lateness) in
+    within (length (with_names known (name ∷ []))) 64 (and_left few (is_entry_name name) (not_and_left (few && is_entry_name name) (lateness_within lateness) e))
+entries_fit types rules known (body.Declare t) e h = h
+entries_fit types rules known (body.Package p) e h = h
+entries_fit types rules known (body.Import p s) e h = h
+entries_fit types rules known (body.Dialect d) e h = h
+
+few_types : (all before items : List Item) → AllPass all before items → length (types_of before) ≤ 128 → length (types_of (before ++ items)) ≤ 128
+few_types all before [] p h = subst (λ (is : List Item). length (types_of is) ≤ 128) (sym (append-nil before)) h
+few_types all before (item ∷ items) p h =
+    let fits = type_fits (length (types_of before)) (length (rules_of before)) (entry_names before) item.body (p.0 LimitPassed) h in
+    let more : length (types_of (before ++ item ∷ [])) ≤ 128 = omega (arith, fits, ap length (types_next before item), length-append (types_of before) (type_in item.body)) in
+    subst (λ (is : List Item). length (types_of is) ≤ 128) (append_assoc before (item ∷ []) items) (few_types all (before ++ item ∷ []) items p.1 more)
+
+few_rules : (all before items : List Item) → AllPass all before items → length (rules_of before) ≤ 256 → length (rules_of (before ++ items)) ≤ 256
+few_rules all before [] p h = subst (λ (is : List Item). length (rules_of is) ≤ 256) (sym (append-nil before)) h
+few_rules all before (item ∷ items) p h =
+    let fits = rule_fits (length (types_of before)) (length (rules_of before)) (entry_names before) item.body (p.0 LimitPassed) h in
+    let more : length (rules_of (before ++ item ∷ [])) ≤ 256 = omega (arith, fits, ap length (rules_next before item), length-append (rules_of before) (rule_in item.body)) in
+    subst (λ (is : List Item). length (rules_of is) ≤ 256) (append_assoc before (item ∷ []) items) (few_rules all (before ++ item ∷ []) items p.1 more)
+
+few_entries : (all before items : List Item) → AllPass all before items → length (entry_names before) ≤ 64 → length (entry_names (before ++ items)) ≤ 64
+few_entries all before [] p h = subst (λ (is : List Item). length (entry_names is) ≤ 64) (sym (append-nil before)) h
+few_entries all before (item ∷ items) p h =
+    let fits = entries_fit (length (types_of before)) (length (rules_of before)) (entry_names before) item.body (p.0 LimitPassed) h in
+    let more : length (entry_names (before ++ item ∷ [])) ≤ 64 = subst (λ (names : List (List ℕ)). length names ≤ 64) (sym (known_next before item)) fits in
+    subst (λ (is : List Item). length (entry_names is) ≤ 64) (append_assoc before (item ∷ []) items) (few_entries all (before ++ item ∷ []) items p.1 more)
+
+one_entry : length (entry_names []) ≤ 64
+unfolding with_names
+one_entry = omega arith
+
+-- ---- there is an entry point
+
+no_fewer_by : (b : Bool) (known : List (List ℕ)) (name : List ℕ) → length known ≤ length (cond b known (known ++ name ∷ []))
+no_fewer_by true known name = omega arith
+no_fewer_by false known name = omega (arith, length-append known (name ∷ []))
+
+no_fewer : (known names : List (List ℕ)) → length known ≤ length (with_names known names)
+unfolding with_names
+no_fewer known [] = omega arith
+no_fewer known (name ∷ names) =
+    let one = no_fewer_by (is_among known name) known name in
+    let rest = no_fewer (with_name known name) names in
+    omega (arith, one, rest)
+
+some_entry : (names : List (List ℕ)) → 1 ≤ length (with_names (default_name ∷ []) names)
+some_entry names = no_fewer (default_name ∷ []) names
+
+-- ---- each lateness is from 0 to 2^53 ms
+
+is_lateness : ℤ → Bool
+is_lateness n = int_le (pos 0) n && int_le n most_millis
+
+zero_late : is_lateness (pos 0) ≡ true
+unfolding is_lateness most_millis
+zero_late = refl
+
+from_zero : (n : ℕ) → nat_le 0 n ≡ true
+from_zero n = grind (arith, nat_tests)
+
+given_late : (n : ℤ) → int_lt n (pos 0) ≡ false → nat_le (unsigned_abs n) span_limit ≡ true → is_lateness n ≡ true
+unfolding is_lateness most_millis span_limit
+given_late (pos n) e h = both (int_le (pos 0) (pos n)) (int_le (pos n) most_millis) (from_zero n) h
+given_late (negsuc n) e h = absurd cc
+
+entry_late : (lateness : Option ℤ) → is_negative lateness ≡ false → lateness_within lateness ≡ true → is_lateness (lateness_or_zero lateness) ≡ true
+entry_late None e h = zero_late
+entry_late (Some n) e h = given_late n e h
+
+either_late : (b : Bool) (n m : ℤ) → is_lateness n ≡ true → is_lateness m ≡ true → is_lateness (cond b n m) ≡ true
+either_late true n m h k = h
+either_late false n m h k = k
+
+body_late : (types rules : ℕ) (known : List (List ℕ)) (b : Body) (name : List ℕ) (others : ℤ) → passes_limit_behind types rules known b ≡ false → has_bad_params b ≡ false
+    → is_lateness others ≡ true → is_lateness (lateness_with b name others) ≡ true
+body_late types rules known (body.Entry declared lateness) name others e f h =
+    let span = not_and_right (has_few_entries known (body.Entry declared lateness) && is_entry_name declared) (lateness_within lateness) e in
+    either_late (bytes_eq declared name) (lateness_or_zero lateness) others (entry_late lateness f span) h
+body_late types rules known (body.Rule r) name others e f h = h
+body_late types rules known (body.Declare t) name others e f h = h
+body_late types rules known (body.Package p) name others e f h = h
+body_late types rules known (body.Import p s) name others e f h = h
+body_late types rules known (body.Dialect d) name others e f h = h
+
+late : (all before items : List Item) → AllPass all before items → (name : List ℕ) → is_lateness (lateness_named items name) ≡ true
+unfolding lateness_named
+late all before [] p name = zero_late
+late all before (item ∷ items) p name =
+    body_late (length (types_of before)) (length (rules_of before)) (entry_names before) item.body name (lateness_named items name) (p.0 LimitPassed) (p.0 BadParams) (late all (before ++ item ∷ []) items p.1 name)
+
+all_late : (items : List Item) (names : List (List ℕ)) → ((name : List ℕ) → is_lateness (lateness_named items name) ≡ true) → list_all has_lateness (map (entry_info items) names) ≡ true
+unfolding is_lateness
+all_late items [] h = refl
+all_late items (name ∷ names) h = both (is_lateness (lateness_named items name)) (list_all has_lateness (map (entry_info items) names)) (h name) (all_late items names h)
+
+-- ---- conditions are few, and there are some
+
 -- each condition that is built is one of the program
-exactly_one : (types : List TypeTree) (place : Place) (c : CondTree) → condition_unbuilt c ≡ false → length (condition_of types place c) ≡ 1
-exactly_one types place (tree.Plain s) e = refl
-exactly_one types place (tree.Negated s) e = absurd cc
-exactly_one types place (tree.Existing s) e = absurd cc
-exactly_one types place (tree.Folded a b c d e) h = absurd cc
+exactly_one : (types : List TypeTree) (entries : List (List ℕ)) (place : Place) (c : CondTree) → condition_unbuilt c ≡ false → length (condition_of types entries place c) ≡ 1
+exactly_one types entries place (tree.Plain s) e = refl
+exactly_one types entries place (tree.Negated s) e = absurd cc
+exactly_one types entries place (tree.Existing s) e = absurd cc
+exactly_one types entries place (tree.Folded a b c d e) h = absurd cc
 
 or_left : (a b : Bool) → (a || b) ≡ false → a ≡ false
 or_left false b e = refl
@@ -96,20 +194,21 @@ or_right : (a b : Bool) → (a || b) ≡ false → b ≡ false
 or_right false b e = e
 or_right true b e = absurd cc
 
-as_many : (types : List TypeTree) (place : Place) (cs : List CondTree) → list_any condition_unbuilt cs ≡ false → length (conditions_of types place cs) ≡ length cs
+as_many : (types : List TypeTree) (entries : List (List ℕ)) (place : Place) (cs : List CondTree) → list_any condition_unbuilt cs ≡ false → length (conditions_of types entries place cs) ≡ length cs
 unfolding conditions_of
-as_many types place [] e = refl
-as_many types place (c ∷ cs) e =
-    let one = exactly_one types place c (or_left (condition_unbuilt c) (list_any condition_unbuilt cs) e) in
-    let rest = as_many types (behind types place c) cs (or_right (condition_unbuilt c) (list_any condition_unbuilt cs) e) in
-    omega (arith, one, rest, length-append (condition_of types place c) (conditions_of types (behind types place c) cs))
+as_many types entries place [] e = refl
+as_many types entries place (c ∷ cs) e =
+    let one = exactly_one types entries place c (or_left (condition_unbuilt c) (list_any condition_unbuilt cs) e) in
+    let rest = as_many types entries (behind types place c) cs (or_right (condition_unbuilt c) (list_any condition_unbuilt cs) e) in
+    omega (arith, one, rest, length-append (condition_of types entries place c) (conditions_of types entries (behind types place c) cs))
 
 some : (n : ℕ) → nat_lt 0 n ≡ true → nat_le 1 n ≡ true
 some n e = grind (arith, nat_tests)
 
 -- a built rule within the limits has few conditions, and one at least
-conditions_sound : (types : List TypeTree) (r : RuleTree) → list_any condition_unbuilt r.conditions ≡ false → rule_within r ≡ true → has_conditions (rule_of types r) ≡ true
-conditions_sound types r built e =
+conditions_sound : (types : List TypeTree) (entries : List (List ℕ)) (r : RuleTree) → list_any condition_unbuilt r.conditions ≡ false → rule_within r ≡ true
+    → has_conditions (rule_of types entries r) ≡ true
+conditions_sound types entries r built e =
     let n = length r.conditions in
     let tests = list_all condition_within r.conditions in
     let before = nat_lt 0 (length r.name) && is_short 256 r.name && list_all attr_within r.attrs in
@@ -117,11 +216,12 @@ conditions_sound types r built e =
     let front = and_left (before && nat_lt 0 n && nat_le n 8) tests all in
     let few : nat_le n 8 ≡ true = and_right (before && nat_lt 0 n) (nat_le n 8) front in
     let one : nat_lt 0 n ≡ true = and_right before (nat_lt 0 n) (and_left (before && nat_lt 0 n) (nat_le n 8) front) in
-    rw (as_many types begin r.conditions built) (both (nat_le 1 n) (nat_le n 8) (some n one) few)
+    rw (as_many types entries begin r.conditions built) (both (nat_le 1 n) (nat_le n 8) (some n one) few)
 
 -- and few actions
-actions_sound : (types : List TypeTree) (r : RuleTree) → list_any condition_unbuilt r.conditions ≡ false → rule_within r ≡ true → has_few_actions (rule_of types r) ≡ true
-actions_sound types r built e =
+actions_sound : (types : List TypeTree) (entries : List (List ℕ)) (r : RuleTree) → list_any condition_unbuilt r.conditions ≡ false → rule_within r ≡ true
+    → has_few_actions (rule_of types entries r) ≡ true
+actions_sound types entries r built e =
     let n = length r.actions in
     let front = nat_lt 0 (length r.name) && is_short 256 r.name && list_all attr_within r.attrs && nat_lt 0 (length r.conditions) && nat_le (length r.conditions) 8 && list_all condition_within r.conditions in
     let few : nat_le n 16 ≡ true = and_left (nat_le n 16) (list_all action_within r.actions) (and_right front (actions_within r.actions) e) in
@@ -129,29 +229,36 @@ actions_sound types r built e =
 
 -- ---- what is so of each built rule within the limits is so of all rules of an accepted file
 
-module _ (types : List TypeTree) (test : Rule → Bool) (sound : (r : RuleTree) → list_any condition_unbuilt r.conditions ≡ false → rule_within r ≡ true → test (rule_of types r) ≡ true) where
-  body_sound : (n m : ℕ) (b : Body) (rest : List RuleTree) → not_built b ≡ false → passes_limit_behind n m b ≡ false → list_all test (map (rule_of types) rest) ≡ true
-      → list_all test (map (rule_of types) (rule_in b ++ rest)) ≡ true
-  body_sound n m (body.Rule r) rest built e h = both (test (rule_of types r)) (list_all test (map (rule_of types) rest)) (sound r built (not_and_right (nat_lt m 256) (rule_within r) e)) h
-  body_sound n m (body.Declare t) rest built e h = h
-  body_sound n m (body.Package p) rest built e h = h
-  body_sound n m (body.Import p s) rest built e h = h
-  body_sound n m (body.Dialect d) rest built e h = h
-  body_sound n m (body.Entry a l) rest built e h = h
+module _ (types : List TypeTree) (entries : List (List ℕ)) (test : Rule → Bool) (sound : (r : RuleTree) → list_any condition_unbuilt r.conditions ≡ false → rule_within r ≡ true → test (rule_of types entries r) ≡ true) where
+  body_sound : (n m : ℕ) (known : List (List ℕ)) (b : Body) (rest : List RuleTree) → not_built b ≡ false → passes_limit_behind n m known b ≡ false → list_all test (map (rule_of types entries) rest) ≡ true
+      → list_all test (map (rule_of types entries) (rule_in b ++ rest)) ≡ true
+  body_sound n m known (body.Rule r) rest built e h =
+      let inside = not_and_right (nat_lt m 256 && has_few_entries known (body.Rule r)) (rule_within r) e in
+      both (test (rule_of types entries r)) (list_all test (map (rule_of types entries) rest)) (sound r built inside) h
+  body_sound n m known (body.Declare t) rest built e h = h
+  body_sound n m known (body.Package p) rest built e h = h
+  body_sound n m known (body.Import p s) rest built e h = h
+  body_sound n m known (body.Dialect d) rest built e h = h
+  body_sound n m known (body.Entry a l) rest built e h = h
 
-  all_sound : (all before items : List Item) → AllPass all before items → list_all test (map (rule_of types) (rules_of items)) ≡ true
+  all_sound : (all before items : List Item) → AllPass all before items → list_all test (map (rule_of types entries) (rules_of items)) ≡ true
   all_sound all before [] p = refl
   all_sound all before (item ∷ items) p =
-      body_sound (length (types_of before)) (length (rules_of before)) item.body (rules_of items) (p.0 NotBuilt) (p.0 LimitPassed) (all_sound all (before ++ item ∷ []) items p.1)
+      body_sound (length (types_of before)) (length (rules_of before)) (entry_names before) item.body (rules_of items) (p.0 NotBuilt) (p.0 LimitPassed) (all_sound all (before ++ item ∷ []) items p.1)
 
 pub accepted_sound : (file : File) → IsAcceptedFile file → IsAccepted (program_of file)
 accepted_sound file a =
     let types = types_of file.items in
+    let entries = entry_names file.items in
     let few = few_types file.items [] file.items a (omega arith) in
+    let ways = few_entries file.items [] file.items a one_entry in
     let rules = few_rules file.items [] file.items a (omega arith) in
     record {
       few_types = omega (arith, few, length-map types type_info);
-      few_rules = omega (arith, rules, length-map (rules_of file.items) (rule_of types));
-      conditions = all_sound types has_conditions (conditions_sound types) file.items [] file.items a;
-      actions = all_sound types has_few_actions (actions_sound types) file.items [] file.items a;
+      some_entry = omega (arith, some_entry (flat_map (λ (item : Item). entries_named item.body) file.items), length-map entries (entry_info file.items));
+      few_entries = omega (arith, ways, length-map entries (entry_info file.items));
+      lateness = all_late file.items entries (late file.items [] file.items a);
+      few_rules = omega (arith, rules, length-map (rules_of file.items) (rule_of types entries));
+      conditions = all_sound types entries has_conditions (conditions_sound types entries) file.items [] file.items a;
+      actions = all_sound types entries has_few_actions (actions_sound types entries) file.items [] file.items a;
     }

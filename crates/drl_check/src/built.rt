@@ -1,8 +1,8 @@
 ghost use Rattle.std.specs.Prelude.{◌≡◌};
 ghost use Rattle.std.specs.List.{list_any};
-ghost use Rattle.drl_check.specs.Built.{part_unbuilt, source_unbuilt, condition_unbuilt, not_built};
+ghost use Rattle.drl_check.specs.Built.{part_unbuilt, source_unbuilt, condition_unbuilt, meta_unbuilt, not_built};
 
-use drl_grammar::{Body, CondTree, Part, SourceTree};
+use drl_grammar::{Body, CondTree, Meta, Part, SourceTree};
 
 fn is_part_unbuilt(part: &Part) -> bool
     ensures { result ≡ part_unbuilt part.now }
@@ -22,7 +22,7 @@ fn has_unbuilt_part(parts: &[Part]) -> bool
 fn is_source_unbuilt(source: &SourceTree) -> bool
     ensures { result ≡ source_unbuilt source.now }
 {
-    source.window.is_some() || source.entry.is_some() || has_unbuilt_part(source.parts.as_slice())
+    source.window.is_some() || has_unbuilt_part(source.parts.as_slice())
 }
 
 fn is_condition_unbuilt(condition: &CondTree) -> bool
@@ -42,13 +42,27 @@ fn has_unbuilt_condition(conditions: &[CondTree]) -> bool
         .any(|condition| is_condition_unbuilt(condition))
 }
 
+fn is_meta_unbuilt(meta: &Meta) -> bool
+    ensures { result ≡ meta_unbuilt meta.now }
+{
+    match meta {
+        Meta::Expires(_) => true,
+        _ => false,
+    }
+}
+
+fn has_unbuilt_meta(metas: &[Meta]) -> bool
+    ensures { result ≡ list_any meta_unbuilt metas.now }
+{
+    metas.iter().any(|meta| is_meta_unbuilt(meta))
+}
+
 /// Whether an item has a construct that nothing serves yet.
 pub(crate) fn is_unbuilt(body: &Body) -> bool
     ensures { result ≡ not_built body.now }
 {
     match body {
-        Body::Declare(tree) => tree.metas.as_slice().len() > 0,
-        Body::Entry { .. } => true,
+        Body::Declare(tree) => has_unbuilt_meta(tree.metas.as_slice()),
         Body::Rule(tree) => has_unbuilt_condition(tree.conditions.as_slice()),
         _ => false,
     }

@@ -10,7 +10,7 @@ use crate::CheckFault;
 use crate::refusal::refusal;
 use drl_grammar::File;
 use drl_program::program;
-use drl_sight::Declared;
+use drl_sight::{Declared, entry_points};
 use rule_model::Program;
 use std::alloc::Global;
 
@@ -21,7 +21,8 @@ fn checked_program(alloc: Global, file: &File) -> Result<Program, CheckFault>
     let items = file.items.as_slice();
     let types = Declared::of(alloc, items)?;
     refusal(alloc, &types, items)?;
-    Ok(program(alloc, &types, items)?)
+    let entries = entry_points(alloc, items)?;
+    Ok(program(alloc, &types, &entries, items)?)
 }
 
 /// The program of a file, exactly where all its items pass all the checks; else the first item that fails one, with the

@@ -7,6 +7,7 @@ mod action_uses;
 mod asked;
 mod built;
 mod checking;
+mod events;
 mod fault;
 mod kinds;
 mod laws;

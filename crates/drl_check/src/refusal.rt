@@ -1,20 +1,23 @@
-ghost use Rattle.std.specs.Prelude.{◌≡◌, ◌<◌, ◌+◌, ◌^◌, ◌++◌, [], IfOk};
+ghost use Rattle.std.specs.Prelude.{◌≡◌, ◌<◌, ◌+◌, ◌^◌, ◌++◌, [], List, ℕ, IfOk};
 ghost use Rattle.drl_sight.specs.Declarations.{types_of, type_in, rule_in, type_names, rule_names};
-ghost use Rattle.drl_check.specs.Checks.{lacks_type, lacks_field as lacks_field_of, lacks_variable as lacks_variable_of, is_wrong_kind, failure_from};
-ghost use Rattle.drl_check.specs.Failing.{first_failing, first_failing_use};
+ghost use Rattle.drl_sight.specs.EntryPoints.{entries_declared, entries_named, with_names};
+ghost use Rattle.drl_check.specs.Checks.{lacks_type, lacks_field as lacks_field_of, lacks_variable as lacks_variable_of, is_wrong_kind, needs_event, needs_whole_times, fixes_event, has_bad_params, failure_from};
+ghost use Rattle.drl_check.specs.Failing.{first_failing, first_failing_event, first_failing_use};
 ghost use Rattle.drl_check.specs.Answers.{within_32_bits, Judges};
 
 use crate::action_uses::insert_unknown;
 use crate::asked::{Asked, is_so_in_rule};
 use crate::built::is_unbuilt;
+use crate::events::{
+    is_below_zero, is_plain_with_times, lacks_annotated, misfits_annotated, modifies_some_event,
+};
 use crate::kinds::lacks_kind;
-
 use crate::twice::repeats;
 use crate::uses::lack_type;
 use crate::{CheckCode, CheckFault};
 use drl_grammar::{Body, Item};
 use drl_limits::passes_limits;
-use drl_sight::{Declared, Places};
+use drl_sight::{Declared, Places, default_entry, with_entries};
 use fx_base::NoMemory;
 use std::alloc::Global;
 
@@ -34,6 +37,7 @@ fn is_field_missing(alloc: Global, types: &Declared, body: &Body) -> Result<bool
     ensures { IfOk result (λ missing. missing ≡ lacks_field_of types.now body.now) }
 {
     match body {
+        Body::Declare(tree) => lacks_annotated(alloc, tree),
         Body::Rule(tree) => is_so_in_rule(alloc, Asked::LacksField, types, tree),
         _ => Ok(false),
     }
@@ -58,7 +62,66 @@ fn is_kind_wrong(alloc: Global, types: &Declared, body: &Body) -> Result<bool, N
     }
 }
 
-// The first code that an item fails, which looks into the conditions and the actions of rules.
+fn is_event_missing(body: &Body) -> bool
+    ensures { result ≡ needs_event body.now }
+{
+    match body {
+        Body::Declare(tree) => is_plain_with_times(tree),
+        _ => false,
+    }
+}
+
+fn is_timestamp_bad(alloc: Global, body: &Body) -> Result<bool, NoMemory>
+    ensures { IfOk result (λ bad. bad ≡ needs_whole_times body.now) }
+{
+    match body {
+        Body::Declare(tree) => misfits_annotated(alloc, tree),
+        _ => Ok(false),
+    }
+}
+
+fn is_event_modified(alloc: Global, types: &Declared, body: &Body) -> Result<bool, NoMemory>
+    ensures { IfOk result (λ modified. modified ≡ fixes_event types.now body.now) }
+{
+    match body {
+        Body::Rule(tree) => modifies_some_event(alloc, types, tree),
+        _ => Ok(false),
+    }
+}
+
+fn are_params_bad(body: &Body) -> bool
+    ensures { result ≡ has_bad_params body.now }
+{
+    match body {
+        Body::Entry { lateness, .. } => is_below_zero(*lateness),
+        _ => false,
+    }
+}
+
+// The first code that an item fails, which looks at events.
+fn failing_event(
+    alloc: Global,
+    types: &Declared,
+    body: &Body,
+) -> Result<Option<CheckCode>, NoMemory>
+    ensures { IfOk result (λ code. code ≡ first_failing_event types.now body.now) }
+{
+    if is_event_missing(body) {
+        return Ok(Some(CheckCode::NotAnEvent));
+    }
+    if is_timestamp_bad(alloc, body)? {
+        return Ok(Some(CheckCode::BadTimestamp));
+    }
+    if is_event_modified(alloc, types, body)? {
+        return Ok(Some(CheckCode::EventFixed));
+    }
+    if are_params_bad(body) {
+        return Ok(Some(CheckCode::BadParams));
+    }
+    Ok(None)
+}
+
+// The first code that an item fails, which looks into annotations, conditions and actions.
 fn failing_use(alloc: Global, types: &Declared, body: &Body) -> Result<Option<CheckCode>, NoMemory>
     ensures { IfOk result (λ code. code ≡ first_failing_use types.now body.now) }
 {
@@ -74,27 +137,30 @@ fn failing_use(alloc: Global, types: &Declared, body: &Body) -> Result<Option<Ch
     if is_kind_wrong(alloc, types, body)? {
         return Ok(Some(CheckCode::WrongKind));
     }
-    Ok(None)
+    failing_event(alloc, types, body)
 }
 
-// The first code that an item fails, behind items that declare types and rules of these names. The limits are tried before
-// the uses, so that these walk few variables.
+// The first code that an item fails, behind items that declare types, entry points and rules of these names; `known` are the
+// entry points known behind it. The limits are tried before the uses, so that these walk few variables.
 fn failing(
     alloc: Global,
     types: &Declared,
     earlier_types: &Places,
+    earlier_entries: &Places,
     earlier_rules: &Places,
+    known: &Places,
     body: &Body,
 ) -> Result<Option<CheckCode>, NoMemory>
-    ensures { IfOk result (λ code. code ≡ first_failing types.now earlier_types.now earlier_rules.now body.now) }
+    ensures { (before : List (List ℕ)) → known.now ≡ with_names before (entries_named body.now)
+        → IfOk result (λ code. code ≡ first_failing types.now earlier_types.now earlier_entries.now earlier_rules.now before body.now) }
 {
     if is_unbuilt(body) {
         return Ok(Some(CheckCode::NotBuilt));
     }
-    if repeats(alloc, earlier_types, earlier_rules, body)? {
+    if repeats(alloc, earlier_types, earlier_entries, earlier_rules, body)? {
         return Ok(Some(CheckCode::TwiceDeclared));
     }
-    if passes_limits(earlier_types.len(), earlier_rules.len(), body) {
+    if passes_limits(earlier_types.len(), known.len(), earlier_rules.len(), body) {
         return Ok(Some(CheckCode::LimitPassed));
     }
     failing_use(alloc, types, body)
@@ -105,6 +171,15 @@ fn with_type(alloc: Global, names: Places, body: &Body) -> Result<Places, NoMemo
 {
     match body {
         Body::Declare(tree) => names.with(alloc, &tree.name),
+        _ => Ok(names),
+    }
+}
+
+fn with_entry(alloc: Global, names: Places, body: &Body) -> Result<Places, NoMemory>
+    ensures { IfOk result (λ more. more ≡ names ++ entries_declared body.now) }
+{
+    match body {
+        Body::Entry { name, .. } => names.with(alloc, name),
         _ => Ok(names),
     }
 }
@@ -132,9 +207,20 @@ pub(crate) fn refusal(alloc: Global, types: &Declared, items: &[Item]) -> Result
     ensures { Judges result (failure_from items.now [] items.now) }
 {
     let mut earlier_types = Places::new(alloc);
+    let mut earlier_entries = Places::new(alloc);
     let mut earlier_rules = Places::new(alloc);
+    let mut known = default_entry(alloc)?;
     for (place, item) in items.iter().enumerate() {
-        match failing(alloc, types, &earlier_types, &earlier_rules, &item.body)? {
+        known = with_entries(alloc, known, &item.body)?;
+        match failing(
+            alloc,
+            types,
+            &earlier_types,
+            &earlier_entries,
+            &earlier_rules,
+            &known,
+            &item.body,
+        )? {
             Some(code) => {
                 return Err(CheckFault::Refused {
                     item: number_of(place),
@@ -145,6 +231,7 @@ pub(crate) fn refusal(alloc: Global, types: &Declared, items: &[Item]) -> Result
             None => {}
         }
         earlier_types = with_type(alloc, earlier_types, &item.body)?;
+        earlier_entries = with_entry(alloc, earlier_entries, &item.body)?;
         earlier_rules = with_rule(alloc, earlier_rules, &item.body)?;
     }
     Ok(())

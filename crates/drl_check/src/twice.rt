@@ -1,11 +1,11 @@
 ghost use Rattle.std.specs.Prelude.{◌≡◌, ◌++◌, map, IfOk, OnOk};
 ghost use Rattle.std.specs.List.{list_all};
-ghost use Rattle.drl_check.specs.Twice.{attr_word, own_variable, part_variable, source_variables, bound_in, bound_variables, set_names, assigns_once, is_repeated};
+ghost use Rattle.drl_check.specs.Twice.{attr_word, own_variable, part_variable, source_variables, bound_in, bound_variables, set_names, assigns_once, meta_word, is_repeated};
 ghost use Rattle.drl_sight.specs.Names.{are_distinct};
 ghost use Rattle.drl_sight.specs.Declarations.{field_names};
 
 use drl_expr::ExprTree;
-use drl_grammar::{ActTree, Attr, Body, CondTree, Part, RuleTree, SourceTree, TypeTree};
+use drl_grammar::{ActTree, Attr, Body, CondTree, Meta, Part, RuleTree, SourceTree, TypeTree};
 use drl_sight::{Places, differ, names_of_fields};
 use fx_base::{Copies, NoMemory, Text};
 use std::alloc::Global;
@@ -108,6 +108,33 @@ fn have_sets_apart(alloc: Global, actions: &[ActTree]) -> Result<bool, NoMemory>
     Ok(true)
 }
 
+fn word_of_meta(meta: &Meta) -> &'static str
+    ensures { result.now ≡ meta_word meta.now }
+{
+    match meta {
+        Meta::Role(_) => "role",
+        Meta::Timestamp(_) => "timestamp",
+        Meta::Duration(_) => "duration",
+        Meta::Expires(_) => "expires",
+    }
+}
+
+fn words_of_metas(alloc: Global, metas: &[Meta]) -> Result<Vec<Text>, NoMemory>
+    ensures { IfOk result (λ words. words.items ≡ map meta_word metas.now) }
+{
+    let mut words = Vec::with_capacity(alloc, metas.len())?;
+    for meta in metas {
+        words.push(Text::new(alloc, word_of_meta(meta))?)?;
+    }
+    Ok(words)
+}
+
+fn have_metas_apart(alloc: Global, tree: &TypeTree) -> Result<bool, NoMemory>
+    ensures { IfOk result (λ apart. apart ≡ are_distinct (map meta_word tree.now.metas)) }
+{
+    differ(alloc, &words_of_metas(alloc, tree.metas.as_slice())?)
+}
+
 fn have_fields_apart(alloc: Global, tree: &TypeTree) -> Result<bool, NoMemory>
     ensures { IfOk result (λ apart. apart ≡ are_distinct (field_names tree.now)) }
 {
@@ -126,18 +153,24 @@ fn have_variables_apart(alloc: Global, tree: &RuleTree) -> Result<bool, NoMemory
     differ(alloc, &variables_of_rule(alloc, tree)?)
 }
 
-/// Whether an item declares what one of these types or rules declares, or has a field, an attribute or a variable twice, or
-/// assigns a field twice in one modification.
+/// Whether an item declares what one of these types, entry points or rules declares, or has an annotation, a field, an
+/// attribute or a variable twice, or assigns a field twice in one modification.
 pub(crate) fn repeats(
     alloc: Global,
     types: &Places,
+    entries: &Places,
     rules: &Places,
     body: &Body,
 ) -> Result<bool, NoMemory>
-    ensures { IfOk result (λ twice. twice ≡ is_repeated types.now rules.now body.now) }
+    ensures { IfOk result (λ twice. twice ≡ is_repeated types.now entries.now rules.now body.now) }
 {
     match body {
-        Body::Declare(tree) => { Ok(types.holds(&tree.name) || !have_fields_apart(alloc, tree)?) }
+        Body::Declare(tree) => Ok(
+            types.holds(&tree.name)
+                || !have_metas_apart(alloc, tree)?
+                || !have_fields_apart(alloc, tree)?,
+        ),
+        Body::Entry { name, .. } => Ok(entries.holds(name)),
         Body::Rule(tree) => Ok(
             rules.holds(&tree.name)
                 || !have_attrs_apart(alloc, tree)?

@@ -1,0 +1,6 @@
+use Rattle.std.proofs.Common.{◌≡◌, ◌++◌, map, drop}
+use Rattle.drl_check.specs.Twice.{meta_word}
+use Rattle.drl_check.proofs.twice.words_of_metas.Given as goal
+
+abbrev pub invariant-loop-meta : goal.invariant-loop-meta
+invariant-loop-meta l = l.words.items ++ map meta_word (drop l.meta-index l.metas) ≡ map meta_word l.metas

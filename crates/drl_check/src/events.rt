@@ -1,0 +1,153 @@
+ghost use Rattle.std.specs.Prelude.{◌≡◌, Some, IfOk};
+ghost use Rattle.std.specs.List.{list_any};
+ghost use Rattle.drl_check.specs.Events.{meta_lacks, annotation_lacks, is_of_events, is_no_event, meta_misfits, has_bad_timestamp, is_negative, is_event_meant, modifies_event};
+ghost use Rattle.drl_sight.specs.Sight.{begin, behind_all, sight_of_actions};
+
+use crate::kinds::is_whole;
+use drl_grammar::{ActTree, CondTree, Meta, RuleTree, TypeTree};
+use drl_sight::{Declared, DeclaredType, Meaning, Place, Seen, is_event_tree};
+use fx_base::NoMemory;
+use std::alloc::Global;
+
+// ---- annotations
+
+fn is_meta_lacking(ty: &DeclaredType, meta: &Meta) -> bool
+    ensures { result ≡ meta_lacks ty.now meta.now }
+{
+    match meta {
+        Meta::Timestamp(field) => !ty.has(field),
+        Meta::Duration(field) => !ty.has(field),
+        _ => false,
+    }
+}
+
+fn is_some_lacking(ty: &DeclaredType, metas: &[Meta]) -> bool
+    ensures { result ≡ list_any (meta_lacks ty.now) metas.now }
+{
+    metas.iter().any(|meta| is_meta_lacking(ty, meta))
+}
+
+/// Whether an annotation names a field that the type does not have.
+pub(crate) fn lacks_annotated(alloc: Global, tree: &TypeTree) -> Result<bool, NoMemory>
+    ensures { IfOk result (λ lacks. lacks ≡ annotation_lacks tree.now) }
+{
+    let ty = DeclaredType::of(alloc, tree)?;
+    Ok(is_some_lacking(&ty, tree.metas.as_slice()))
+}
+
+fn speaks_of_events(meta: &Meta) -> bool
+    ensures { result ≡ is_of_events meta.now }
+{
+    match meta {
+        Meta::Role(_) => false,
+        _ => true,
+    }
+}
+
+fn some_of_events(metas: &[Meta]) -> bool
+    ensures { result ≡ list_any is_of_events metas.now }
+{
+    metas.iter().any(|meta| speaks_of_events(meta))
+}
+
+/// Whether a plain type has an annotation that speaks of the times of events.
+pub(crate) fn is_plain_with_times(tree: &TypeTree) -> bool
+    ensures { result ≡ is_no_event tree.now }
+{
+    !is_event_tree(tree) && some_of_events(tree.metas.as_slice())
+}
+
+fn is_meta_misfit(ty: &DeclaredType, meta: &Meta) -> bool
+    ensures { result ≡ meta_misfits ty.now meta.now }
+{
+    match meta {
+        Meta::Timestamp(field) => !is_whole(ty.kind_of(field)),
+        Meta::Duration(field) => !is_whole(ty.kind_of(field)),
+        _ => false,
+    }
+}
+
+fn is_some_misfit(ty: &DeclaredType, metas: &[Meta]) -> bool
+    ensures { result ≡ list_any (meta_misfits ty.now) metas.now }
+{
+    metas.iter().any(|meta| is_meta_misfit(ty, meta))
+}
+
+/// Whether the field of a timestamp or a duration holds no whole numbers.
+pub(crate) fn misfits_annotated(alloc: Global, tree: &TypeTree) -> Result<bool, NoMemory>
+    ensures { IfOk result (λ misfits. misfits ≡ has_bad_timestamp tree.now) }
+{
+    let ty = DeclaredType::of(alloc, tree)?;
+    Ok(is_some_misfit(&ty, tree.metas.as_slice()))
+}
+
+// ---- entry points
+
+/// Whether a lateness is below 0.
+pub(crate) fn is_below_zero(lateness: Option<i64>) -> bool
+    ensures { result ≡ is_negative lateness }
+{
+    match lateness {
+        Some(lateness) => lateness < 0,
+        None => false,
+    }
+}
+
+// ---- actions
+
+fn is_event_seen(meaning: &Meaning) -> bool
+    ensures { result ≡ is_event_meant (Some meaning.now) }
+{
+    match meaning.seen() {
+        Seen::Fact { fact: _, ty } => ty.is_event(),
+        Seen::Field { .. } => false,
+    }
+}
+
+fn does_modify_event(place: &Place, action: &ActTree) -> bool
+    ensures { result ≡ modifies_event place.now.sight action.now }
+{
+    match action {
+        ActTree::Modify { var, .. } => match place.find(var) {
+            Some(meaning) => is_event_seen(meaning),
+            None => false,
+        },
+        _ => false,
+    }
+}
+
+fn do_modify_event(place: &Place, actions: &[ActTree]) -> bool
+    ensures { result ≡ list_any (modifies_event place.now.sight) actions.now }
+{
+    actions
+        .iter()
+        .any(|action| does_modify_event(place, action))
+}
+
+// What is in sight behind all conditions of a rule, which is what its actions see.
+#[tactic(auto, unfolding(drl_sight::specs::Sight::behind_all))]
+fn behind_conditions<'a, 'b>(
+    alloc: Global,
+    types: &'a Declared<'b>,
+    conditions: &[CondTree],
+) -> Result<Place<'a, 'b>, NoMemory>
+    ensures { IfOk result (λ p. p ≡ behind_all types.now begin conditions.now) }
+{
+    let mut place = Place::begin(alloc);
+    for condition in conditions {
+        place = place.behind(alloc, types, condition)?;
+    }
+    Ok(place)
+}
+
+/// Whether one of the actions of a rule modifies an event.
+pub(crate) fn modifies_some_event(
+    alloc: Global,
+    types: &Declared,
+    tree: &RuleTree,
+) -> Result<bool, NoMemory>
+    ensures { IfOk result (λ modifies. modifies ≡ list_any (modifies_event (sight_of_actions types.now tree.now.conditions)) tree.now.actions) }
+{
+    let place = behind_conditions(alloc, types, tree.conditions.as_slice())?;
+    Ok(do_modify_event(&place, tree.actions.as_slice()))
+}
