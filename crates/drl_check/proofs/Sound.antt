@@ -1,5 +1,5 @@
 -- The program of an accepted file is within the limits.
-use Rattle.std.proofs.Common.{◌≡◌, ◌≤◌, ◌<◌, ◌+◌, ◌^◌, ◌&&◌, ◌||◌, ◌++◌, ◌∷◌, ℕ, ℤ, pos, negsuc, Bool, true, false, not, List, [], map, length, nat_le, nat_lt, int_le, int_lt, unsigned_abs, Option, Some, None, cond, refl, sym, ap, subst, append_assoc, length-append, arith}
+use Rattle.std.proofs.Common.{◌≡◌, ◌≤◌, ◌<◌, ◌+◌, ◌&&◌, ◌||◌, ◌++◌, ◌∷◌, ℕ, ℤ, pos, negsuc, Bool, true, false, not, List, [], map, length, nat_le, nat_lt, int_le, int_lt, unsigned_abs, Option, Some, None, cond, refl, sym, ap, subst, append_assoc, length-append, arith}
 use Rattle.std.specs.List.{list_all, list_any, flat_map}
 use Rattle.std.specs.Str.{bytes_eq}
 use Rattle.std.proofs.lemmas.Bool.Decides.{nat_tests}

@@ -1,5 +1,5 @@
 -- What an annotation, an entry point and an action do with events.
-use Rattle.std.specs.Prelude.{ℕ, ℤ, pos, ◌&&◌, Bool, true, false, not, int_lt, List, Option, Some, None}
+use Rattle.std.specs.Prelude.{ℤ, pos, ◌&&◌, Bool, true, false, not, int_lt, Option, Some, None}
 use Rattle.std.specs.List.{list_any}
 use Rattle.drl_grammar.specs.declared.action.ActTree.{ActTree}
 use Rattle.drl_grammar.specs.declared.action.ActTree.TheVariants as action

@@ -34,7 +34,7 @@ fn infos_of_fields(alloc: Global, fields: &[(Text, Text)]) -> Result<Seq<(Text, 
 }
 
 fn field_named(ty: &DeclaredType, name: Option<&Text>) -> Option<u8>
-    ensures { result ≡ option_map (field_place ty.now) (option_map (λ f. f.now) name) }
+    ensures { result ≡ option_map (field_place ty.now) (option_map (λ f. f.now) name.entry) }
 {
     match name {
         Some(name) => Some(field_number(ty, name)),

@@ -1,8 +1,19 @@
-use Rattle.std.proofs.Common.{◌≡◌, ◌+◌, Some, None, take, sym, ap, ◌∙◌, arith}
+use Rattle.std.proofs.Common.{◌≡◌, ◌+◌, Some, None, take, refl, sym, ap, ◌∙◌, arith}
+use Rattle.drl_sight.specs.EntryPoints.{with_names}
 use Rattle.drl_check.specs.Checks.{first_code, codes_in_order}
 use Rattle.drl_check.proofs.Failures.{failing_is, loop_found, loop_passed, loop_ended, type_names_next, entries_next, rule_names_next, known_names_next}
 use Rattle.drl_check.specs.declared.fault.CheckFault.TheVariants.{Refused}
 use Rattle.drl_check.proofs.refusal.refusal.Goals as goal
+
+pub loop-place-init : goal.loop-place-init
+unfolding with_names
+loop-place-init c = record {
+  types = c.new-earlier_types.ensures;
+  entries = c.new-earlier_entries.ensures;
+  rules = c.new-earlier_rules.ensures;
+  known = c.in_ok-known.ensures;
+  same = refl;
+}
 
 pub returns-in-Some : goal.returns-in-Some
 returns-in-Some c =
@@ -12,7 +23,7 @@ returns-in-Some c =
     let code : first_code codes_in_order items (take place items) item.body ≡ Some c.in-Some.code =
     sym (failing_is items (take place items) c.args.types.now c.loop-place.earlier_types c.loop-place.earlier_entries c.loop-place.earlier_rules c.loop-place.known item.body c.requires
     c.loop-place.invariant.types c.loop-place.invariant.entries c.loop-place.invariant.rules c.loop-place.invariant.known)
-    ∙ sym (c.in_ok-code.ensures c.loop-place.known c.in_ok-known.ensures) ∙ c.in-Some.is in (
+    ∙ sym (c.in_ok-code.ensures c.loop-place.known c.in_ok-known-2.ensures) ∙ c.in-Some.is in (
       record { number = place + 1; line = item.line; code = c.in-Some.code },
       sym c.loop-place.invariant.same ∙ loop_found items place item c.in-Some.code (omega arith) c.index-items-place.is code,
       ap (λ n. Refused n item.line c.in-Some.code) (sym c.number_of.ensures),
@@ -26,12 +37,12 @@ loop-place-preserved c =
     let code : first_code codes_in_order items (take place items) item.body ≡ None =
     sym (failing_is items (take place items) c.args.types.now c.loop-place.earlier_types c.loop-place.earlier_entries c.loop-place.earlier_rules c.loop-place.known item.body c.requires
     c.loop-place.invariant.types c.loop-place.invariant.entries c.loop-place.invariant.rules c.loop-place.invariant.known)
-    ∙ sym (c.in_ok-code.ensures c.loop-place.known c.in_ok-known.ensures) ∙ c.in-None.is in
+    ∙ sym (c.in_ok-code.ensures c.loop-place.known c.in_ok-known-2.ensures) ∙ c.in-None.is in
     record {
       types = c.in_ok-earlier_types.ensures ∙ type_names_next items place item c.loop-place.earlier_types (omega arith) c.index-items-place.is c.loop-place.invariant.types;
       entries = c.in_ok-earlier_entries.ensures ∙ entries_next items place item c.loop-place.earlier_entries (omega arith) c.index-items-place.is c.loop-place.invariant.entries;
       rules = c.in_ok-earlier_rules.ensures ∙ rule_names_next items place item c.loop-place.earlier_rules (omega arith) c.index-items-place.is c.loop-place.invariant.rules;
-      known = known_names_next items place item c.loop-place.known c.in_ok-known.field-0 (omega arith) c.index-items-place.is c.loop-place.invariant.known c.in_ok-known.ensures;
+      known = known_names_next items place item c.loop-place.known c.in_ok-known-2.known (omega arith) c.index-items-place.is c.loop-place.invariant.known c.in_ok-known-2.ensures;
       same = sym (loop_passed items place item (omega arith) c.index-items-place.is code) ∙ c.loop-place.invariant.same;
     }
 
