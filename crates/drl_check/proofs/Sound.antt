@@ -27,31 +27,31 @@ use Rattle.drl_check.specs.Checks.{has_bad_params, AllPass, IsAcceptedFile}
 use Rattle.drl_check.specs.Events.{is_negative}
 use Rattle.drl_check.proofs.Failures.{types_next, rules_next, known_next}
 
-and_right : (a b : Bool) → (a && b) ≡ true → b ≡ true
+pub and_right : (a b : Bool) → (a && b) ≡ true → b ≡ true
 and_right true b e = e
 and_right false b e = absurd cc
 
-and_left : (a b : Bool) → (a && b) ≡ true → a ≡ true
+pub and_left : (a b : Bool) → (a && b) ≡ true → a ≡ true
 and_left true b e = refl
 and_left false b e = absurd cc
 
-not_and_left : (a b : Bool) → not (a && b) ≡ false → a ≡ true
+pub not_and_left : (a b : Bool) → not (a && b) ≡ false → a ≡ true
 not_and_left true b e = refl
 not_and_left false b e = absurd cc
 
-not_and_right : (a b : Bool) → not (a && b) ≡ false → b ≡ true
+pub not_and_right : (a b : Bool) → not (a && b) ≡ false → b ≡ true
 not_and_right true true e = refl
 not_and_right true false e = absurd cc
 not_and_right false b e = absurd cc
 
-both : (a b : Bool) → a ≡ true → b ≡ true → (a && b) ≡ true
+pub both : (a b : Bool) → a ≡ true → b ≡ true → (a && b) ≡ true
 both true b e h = h
 both false b e h = absurd cc
 
 under : (n m : ℕ) → nat_lt n m ≡ true → n < m
 under n m e = grind (arith, nat_tests)
 
-within : (n m : ℕ) → nat_le n m ≡ true → n ≤ m
+pub within : (n m : ℕ) → nat_le n m ≡ true → n ≤ m
 within n m e = grind (arith, nat_tests)
 
 -- ---- types, entry points and rules are few
@@ -88,7 +88,7 @@ entries_fit types rules known (body.Package p) e h = h
 entries_fit types rules known (body.Import p s) e h = h
 entries_fit types rules known (body.Dialect d) e h = h
 
-few_types : (all before items : List Item) → AllPass all before items → length (types_of before) ≤ 128 → length (types_of (before ++ items)) ≤ 128
+pub few_types : (all before items : List Item) → AllPass all before items → length (types_of before) ≤ 128 → length (types_of (before ++ items)) ≤ 128
 few_types all before [] p h = subst (λ (is : List Item). length (types_of is) ≤ 128) (sym (append-nil before)) h
 few_types all before (item ∷ items) p h =
     let fits = type_fits (length (types_of before)) (length (rules_of before)) (entry_names before) item.body (p.0 LimitPassed) h in
@@ -186,11 +186,11 @@ exactly_one types entries place (tree.Negated s) e = absurd cc
 exactly_one types entries place (tree.Existing s) e = absurd cc
 exactly_one types entries place (tree.Folded a b c d e) h = absurd cc
 
-or_left : (a b : Bool) → (a || b) ≡ false → a ≡ false
+pub or_left : (a b : Bool) → (a || b) ≡ false → a ≡ false
 or_left false b e = refl
 or_left true b e = absurd cc
 
-or_right : (a b : Bool) → (a || b) ≡ false → b ≡ false
+pub or_right : (a b : Bool) → (a || b) ≡ false → b ≡ false
 or_right false b e = e
 or_right true b e = absurd cc
 

@@ -1,0 +1,164 @@
+-- The actions of the rules of an accepted file make values of the declared kinds.
+use Rattle.std.proofs.Common.{◌≡◌, ◌≤◌, ◌<◌, ◌++◌, ◌∷◌, ◌&&◌, ℕ, zero, suc, min, Bool, true, false, not, List, [], map, length, nat_le, nat_lt, slice_get, Option, Some, None, is_some, refl, sym, subst, arith}
+use Rattle.std.specs.List.{list_all, list_any}
+use Rattle.std.proofs.lemmas.Bool.Decides.{nat_tests}
+use Rattle.std.proofs.lemmas.List.{length-map}
+use Rattle.std.proofs.lemmas.Option.{slice_get_within}
+use Rattle.drl_expr.specs.Tree.{Tree}
+use Rattle.drl_grammar.specs.declared.action.ActTree.{ActTree}
+use Rattle.drl_grammar.specs.declared.action.ActTree.TheVariants as act
+use Rattle.drl_grammar.specs.declared.file.Body.{Body}
+use Rattle.drl_grammar.specs.declared.file.Body.TheVariants as body
+use Rattle.drl_grammar.specs.declared.file.File.{File}
+use Rattle.drl_grammar.specs.declared.file.Item.{Item}
+use Rattle.drl_grammar.specs.declared.file.RuleTree.{RuleTree}
+use Rattle.drl_grammar.specs.declared.file.TypeTree.{TypeTree}
+use Rattle.rule_model.specs.Expressions.{Expression}
+use Rattle.rule_model.specs.declared.action.Action.TheVariants.{Modify}
+use Rattle.rule_model.specs.Typed.{bound_types, fields_in, bound_fields, expression_kind, args_fit, set_of_kind, action_fits, rule_fits, is_typed}
+use Rattle.drl_sight.specs.Names.{is_short, place_of}
+use Rattle.drl_sight.specs.Declarations.{types_of, rules_of, type_in, rule_in, type_names, type_named, field_names}
+use Rattle.drl_sight.specs.EntryPoints.{entry_names}
+use Rattle.drl_sight.specs.Operands.{any_leaf_of}
+use Rattle.drl_sight.specs.Sight.{Meaning, of_fact, of_field, Sight, meaning_of, begin, sight_of_actions}
+use Rattle.drl_limits.specs.Limits.{is_name, has_few_entries, attr_within, condition_within, meta_within, actions_within, passes_limit_behind, type_within, rule_within}
+use Rattle.drl_program.specs.Programs.{type_place, type_info, conditions_of, expression_in, set_in, fact_meant, type_meant, action_of, rule_of, program_of}
+use Rattle.drl_check.specs.declared.fault.CheckCode.TheVariants.{LimitPassed, UnknownType, UnknownVariable, WrongKind}
+use Rattle.drl_check.specs.Checks.{lacks_type, lacks_variable, is_wrong_kind, AllPass, IsAcceptedFile}
+use Rattle.drl_check.specs.Kinds.{insert_misfits, modify_misfits, has_wrong_kind, action_misfits}
+use Rattle.drl_check.specs.Uses.{any_condition, has_unknown_type, has_unknown_variable, inserts_unknown_type, action_unseen, target_unseen, leaf_unseen}
+use Rattle.drl_check.proofs.Places.{taken_of, type_placed, few_bound, sight_stands}
+use Rattle.drl_check.proofs.Fitting.{HaveFewFields, InSight, fields_at, args_are_fit, sets_are_fit}
+use Rattle.drl_check.proofs.Sound.{and_left, and_right, not_and_right, both, or_left, or_right, within, few_types}
+
+less : (n m : ℕ) → n < m → nat_lt n m ≡ true
+less n m h = grind (arith, nat_tests)
+
+-- ---- types have few fields
+
+has_few_fields : TypeTree → Bool
+has_few_fields t = nat_le (length t.fields) 32
+
+type_small : (types rules : ℕ) (known : List (List ℕ)) (b : Body) (rest : List TypeTree) → passes_limit_behind types rules known b ≡ false → list_all has_few_fields rest ≡ true
+    → list_all has_few_fields (type_in b ++ rest) ≡ true
+unfolding has_few_fields
+type_small types rules known (body.Declare t) rest e h =
+    let few = nat_le (length t.fields) 32 in
+    let names = list_all is_name (field_names t) in
+    let inside = not_and_right (nat_lt types 128) (type_within t) e in
+    let front = and_left (is_name t.name && few) names (and_left (is_name t.name && few && names) (list_all meta_within t.metas) inside) in
+    both few (list_all has_few_fields rest) (and_right (is_name t.name) few front) h
+type_small types rules known (body.Rule r) rest e h = h
+type_small types rules known (body.Package p) rest e h = h
+type_small types rules known (body.Import p s) rest e h = h
+type_small types rules known (body.Dialect d) rest e h = h
+type_small types rules known (body.Entry n l) rest e h = h
+
+types_small : (all before items : List Item) → AllPass all before items → list_all has_few_fields (types_of items) ≡ true
+types_small all before [] p = refl
+types_small all before (item ∷ items) p =
+    type_small (length (types_of before)) (length (rules_of before)) (entry_names before) item.body (types_of items) (p.0 LimitPassed) (types_small all (before ++ item ∷ []) items p.1)
+
+small_at : (types : List TypeTree) → list_all has_few_fields types ≡ true → HaveFewFields types
+unfolding has_few_fields
+small_at [] h ty t e = absurd cc
+small_at (x ∷ types) h zero t e =
+    let same : x ≡ t = cc in
+    subst (λ (t : TypeTree). length t.fields ≤ 32) same (within (length x.fields) 32 (and_left (has_few_fields x) (list_all has_few_fields types) h))
+small_at (x ∷ types) h (suc ty) t e = small_at types (and_right (has_few_fields x) (list_all has_few_fields types) h) ty t e
+
+-- ---- actions
+
+module _ (types : List TypeTree) (few : length types ≤ 128) (small : HaveFewFields types) (entries : List (List ℕ)) where
+  module _ (taken : List ℕ) (sight : Sight) (bound : length taken ≤ 8) (seen : InSight types taken sight) where
+    insert_typed : (ty : List ℕ) (args : List Tree) (o : Option TypeTree) → type_named types ty ≡ o → not (is_some o) ≡ false → insert_misfits o sight args ≡ false
+        → action_fits (map type_info types) taken (action_of types sight (act.Insert ty args)) ≡ true
+    insert_typed ty args None is e m = absurd cc
+    insert_typed ty args (Some t) is e m =
+        let place = type_place (place_of (type_names types) ty) in
+        let at = type_placed types few entries ty t is in
+        let there = slice_get_within types place t at in
+        let es = map (expression_in sight) args in
+        let fields = bound_fields (map type_info types) taken in
+        both (nat_lt place (length (map type_info types))) (args_fit fields (fields_in (slice_get (map type_info types) place)) es)
+        (less place (length (map type_info types)) (omega (arith, there, length-map types type_info)))
+        (subst (λ fs. args_fit fields fs es ≡ true) (sym (fields_at types place t at)) (args_are_fit types taken sight small bound seen t.fields args m))
+
+    modify_typed : (v : List ℕ) (sets : List (List ℕ × Tree)) (o : Option Meaning) → meaning_of sight v ≡ o → not (is_some o) ≡ false → modify_misfits o sight sets ≡ false
+        → action_fits (map type_info types) taken (Modify (fact_meant o) (map (set_in (type_meant o) sight) sets)) ≡ true
+    modify_typed v sets None is e m = absurd cc
+    modify_typed v sets (Some (of_field fact field k)) is e m = absurd cc
+    modify_typed v sets (Some (of_fact fact t)) is e m =
+        let h = seen v (of_fact fact t) is in
+        let of = taken_of types taken fact t h in
+        let there = slice_get_within taken fact of.0 of.1 in
+        let fields = bound_fields (map type_info types) taken in
+        both (nat_lt (min fact 255) (length taken))
+        (list_all (λ (set : ℕ × Expression). set_of_kind (slice_get (fields (min fact 255)) set.0) (expression_kind fields set.1)) (map (set_in t sight) sets))
+        (less (min fact 255) (length taken) (omega (arith, there, bound)))
+        (sets_are_fit types taken sight small bound seen fact t sets h m)
+
+    action_typed : (a : ActTree) → inserts_unknown_type types a ≡ false → action_unseen sight a ≡ false → action_misfits types sight a ≡ false
+        → action_fits (map type_info types) taken (action_of types sight a) ≡ true
+    action_typed (act.Insert ty args) t v m = insert_typed ty args (type_named types ty) refl t m
+    action_typed (act.Modify x sets) t v m =
+        modify_typed x sets (meaning_of sight x) refl (or_left (target_unseen sight (act.Modify x sets)) (any_leaf_of (leaf_unseen sight) (act.Modify x sets)) v) m
+    action_typed (act.Retract x) t v m = refl
+
+    actions_typed : (actions : List ActTree) → list_any (inserts_unknown_type types) actions ≡ false → list_any (action_unseen sight) actions ≡ false → list_any (action_misfits types sight) actions ≡ false
+        → list_all (action_fits (map type_info types) taken) (map (action_of types sight) actions) ≡ true
+    actions_typed [] t v m = refl
+    actions_typed (a ∷ actions) t v m =
+        both (action_fits (map type_info types) taken (action_of types sight a)) (list_all (action_fits (map type_info types) taken) (map (action_of types sight) actions))
+        (action_typed a
+        (or_left (inserts_unknown_type types a) (list_any (inserts_unknown_type types) actions) t)
+        (or_left (action_unseen sight a) (list_any (action_unseen sight) actions) v)
+        (or_left (action_misfits types sight a) (list_any (action_misfits types sight) actions) m))
+        (actions_typed actions
+        (or_right (inserts_unknown_type types a) (list_any (inserts_unknown_type types) actions) t)
+        (or_right (action_unseen sight a) (list_any (action_unseen sight) actions) v)
+        (or_right (action_misfits types sight a) (list_any (action_misfits types sight) actions) m))
+
+  -- ---- rules
+
+  few_conditions : (r : RuleTree) → rule_within r ≡ true → length r.conditions ≤ 8
+  few_conditions r e =
+      let n = length r.conditions in
+      let tests = list_all condition_within r.conditions in
+      let before = nat_lt 0 (length r.name) && is_short 256 r.name && list_all attr_within r.attrs && nat_lt 0 n in
+      within n 8 (and_right before (nat_le n 8) (and_left (before && nat_le n 8) tests (and_left (before && nat_le n 8 && tests) (actions_within r.actions) e)))
+
+  rule_typed : (r : RuleTree) → rule_within r ≡ true → lacks_type types (body.Rule r) ≡ false → lacks_variable types (body.Rule r) ≡ false → is_wrong_kind types (body.Rule r) ≡ false
+      → rule_fits (map type_info types) (rule_of types entries r) ≡ true
+  rule_typed r e t v m =
+      let taken = bound_types (conditions_of types entries begin r.conditions) in
+      let sight = sight_of_actions types r.conditions in
+      let most : length taken ≤ 8 = omega (arith, few_bound types few entries begin r.conditions, few_conditions r e) in
+      actions_typed taken sight most (sight_stands types few entries r.conditions) r.actions
+      (or_right (has_unknown_type types r.conditions) (list_any (inserts_unknown_type types) r.actions) t)
+      (or_right (any_condition has_unknown_variable types begin r.conditions) (list_any (action_unseen sight) r.actions) v)
+      (or_right (any_condition (has_wrong_kind types) types begin r.conditions) (list_any (action_misfits types sight) r.actions) m)
+
+  body_typed : (n m : ℕ) (known : List (List ℕ)) (b : Body) (rest : List RuleTree) → passes_limit_behind n m known b ≡ false → lacks_type types b ≡ false → lacks_variable types b ≡ false
+      → is_wrong_kind types b ≡ false → list_all (rule_fits (map type_info types)) (map (rule_of types entries) rest) ≡ true
+      → list_all (rule_fits (map type_info types)) (map (rule_of types entries) (rule_in b ++ rest)) ≡ true
+  body_typed n m known (body.Rule r) rest e t v k h =
+      let inside = not_and_right (nat_lt m 256 && has_few_entries known (body.Rule r)) (rule_within r) e in
+      both (rule_fits (map type_info types) (rule_of types entries r)) (list_all (rule_fits (map type_info types)) (map (rule_of types entries) rest)) (rule_typed r inside t v k) h
+  body_typed n m known (body.Declare d) rest e t v k h = h
+  body_typed n m known (body.Package p) rest e t v k h = h
+  body_typed n m known (body.Import p s) rest e t v k h = h
+  body_typed n m known (body.Dialect d) rest e t v k h = h
+  body_typed n m known (body.Entry a l) rest e t v k h = h
+
+rules_typed : (all : List Item) (entries : List (List ℕ)) → length (types_of all) ≤ 128 → HaveFewFields (types_of all) → (before items : List Item) → AllPass all before items
+    → list_all (rule_fits (map type_info (types_of all))) (map (rule_of (types_of all) entries) (rules_of items)) ≡ true
+rules_typed all entries few small before [] p = refl
+rules_typed all entries few small before (item ∷ items) p =
+    body_typed (types_of all) few small entries (length (types_of before)) (length (rules_of before)) (entry_names before) item.body (rules_of items)
+    (p.0 LimitPassed) (p.0 UnknownType) (p.0 UnknownVariable) (p.0 WrongKind) (rules_typed all entries few small (before ++ item ∷ []) items p.1)
+
+pub accepted_typed : (file : File) → IsAcceptedFile file → is_typed (program_of file) ≡ true
+unfolding is_typed
+accepted_typed file a =
+    rules_typed file.items (entry_names file.items) (few_types file.items [] file.items a (omega arith)) (small_at (types_of file.items) (types_small file.items [] file.items a)) [] file.items a
