@@ -25,8 +25,8 @@ use Rattle.drl_limits.specs.Limits.{is_name, has_few_entries, attr_within, condi
 use Rattle.drl_program.specs.Programs.{type_place, type_info, conditions_of, expression_in, set_in, fact_meant, type_meant, action_of, rule_of, program_of}
 use Rattle.drl_check.specs.declared.fault.CheckCode.TheVariants.{LimitPassed, UnknownType, UnknownVariable, WrongKind}
 use Rattle.drl_check.specs.Checks.{lacks_type, lacks_variable, is_wrong_kind, AllPass, IsAcceptedFile}
-use Rattle.drl_check.specs.Kinds.{insert_misfits, modify_misfits, has_wrong_kind, action_misfits}
-use Rattle.drl_check.specs.Uses.{any_condition, has_unknown_type, has_unknown_variable, inserts_unknown_type, action_unseen, target_unseen, leaf_unseen}
+use Rattle.drl_uses.specs.Kinds.{insert_misfits, modify_misfits, has_wrong_kind, action_misfits}
+use Rattle.drl_uses.specs.Uses.{any_condition, has_unknown_type, has_unknown_variable, inserts_unknown_type, action_unseen, target_unseen, leaf_unseen}
 use Rattle.drl_check.proofs.Places.{taken_of, type_placed, few_bound, sight_stands}
 use Rattle.drl_check.proofs.Fitting.{HaveFewFields, InSight, fields_at, args_are_fit, sets_are_fit}
 use Rattle.drl_check.proofs.Sound.{and_left, and_right, not_and_right, both, or_left, or_right, within, few_types}
