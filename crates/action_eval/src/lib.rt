@@ -6,8 +6,6 @@ mod evaluating;
 mod fault;
 mod number;
 mod planning;
-#[cfg(test)]
-mod tests;
 
 pub use evaluating::value;
 pub use fault::EvalFault;

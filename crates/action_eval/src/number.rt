@@ -17,8 +17,8 @@ fn whole_number(value: &Value) -> i64
     }
 }
 
-// The fact that a row names in this place, as the map has it.
-fn bound_fact<'a, F: Facts>(row: &Row, facts: &'a F, place: u8) -> Option<&'a Fact>
+/// The fact that a row names in this place, as the map has it.
+pub(crate) fn bound_fact<'a, F: Facts>(row: &Row, facts: &'a F, place: u8) -> Option<&'a Fact>
     ensures { option_map (λ f. f.now) result ≡ named_at (F.map facts.now) row.now.facts place }
 {
     let named = row.facts.as_slice().get(place as usize)?;

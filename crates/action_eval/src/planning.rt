@@ -1,16 +1,17 @@
 ghost use Rattle.std.specs.Prelude.{◌≡◌, Some, None, option_map, map, IfOk, IsErrOf};
 ghost use Rattle.rule_model.specs.Looked.{named_at};
 ghost use Rattle.rule_model.specs.Numbers.{values_of};
-ghost use Rattle.rule_model.specs.Planned.{id_at, sets_of, step_of};
+ghost use Rattle.rule_model.specs.Planned.{id_at, type_or_first, sets_of, step_of};
 
+use crate::number::bound_fact;
 use crate::{EvalFault, value};
-use fx_base::{FactId, Facts, Seq, Value};
+use fx_base::{EntryId, FactId, Facts, Seq, TypeId, Value};
 use row_delta::Row;
 use rule_model::{Action, Expr, Step};
 use std::alloc::Global;
 
-/// The step that an action is for the facts that a row names, which `facts` has at their tags. `Overflow` comes exactly where
-/// one of its expressions has it.
+/// The step that an action is for the facts that a row names, which `facts` has at their tags; what is new is inserted into
+/// the entry point `DEFAULT`. `Overflow` comes exactly where one of its expressions has it.
 #[tactic(auto, unfolding(rule_model::specs::Planned::step_of))]
 pub fn planned_step<F: Facts>(
     alloc: Global,
@@ -24,6 +25,7 @@ pub fn planned_step<F: Facts>(
     match action {
         Action::Insert { ty, args } => Ok(Step::Insert {
             ty: *ty,
+            entry: EntryId(0),
             fields: values(alloc, args.as_slice(), row, facts)?,
         }),
         Action::Modify { fact, sets } => Ok(Step::Modify {
@@ -31,6 +33,7 @@ pub fn planned_step<F: Facts>(
             sets: planned_sets(alloc, sets.as_slice(), row, facts)?,
         }),
         Action::Retract { fact } => Ok(Step::Retract {
+            ty: bound_type(row, facts, *fact),
             id: bound_id(row, *fact),
         }),
     }
@@ -77,5 +80,15 @@ fn bound_id(row: &Row, place: u8) -> FactId
     match row.facts.as_slice().get(place as usize) {
         Some(named) => named.id,
         None => FactId(0),
+    }
+}
+
+// The type of the fact that a row names in this place, as the map has it; the first where there is none.
+fn bound_type<F: Facts>(row: &Row, facts: &F, place: u8) -> TypeId
+    ensures { result ≡ type_or_first (named_at (F.map facts.now) row.now.facts place) }
+{
+    match bound_fact(row, facts, place) {
+        Some(fact) => fact.ty,
+        None => TypeId(0),
     }
 }
