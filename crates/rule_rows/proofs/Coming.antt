@@ -246,13 +246,14 @@ pub rest_is : (f : Fact) (cs : List Condition) (k : ℕ) (more : Bool) → more 
 rest_is f cs k more e = e ∙ ap (list_any (may_bind f)) (grind (arith, common_steps))
 
 -- the loop over the conditions, at a place
-pub place_turn : (facts : List Fact) (f : Fact) (cs : List Condition) (k : ℕ) (c : Condition) (with without next others all : List Tuple) (more : Bool)
-    → k < length cs → c ≡ get_or cs k c → more ≡ list_any (may_bind f) (drop (k + 1) cs)
-    → next ≡ with_next facts f c with without → (more ≡ true → others ≡ flat_map (extended facts c) without)
+pub place_turn : (facts older : List Fact) (f : Fact) (cs : List Condition) (k : ℕ) (c : Condition) (with without next others all : List Tuple) (more : Bool)
+    → older ≡ facts → k < length cs → c ≡ get_or cs k c → more ≡ list_any (may_bind f) (drop (k + 1) cs)
+    → next ≡ with_next older f c with without → (more ≡ true → others ≡ flat_map (extended older c) without)
     → come_from facts f with without (drop k cs) ≡ all → come_from facts f next others (drop (k + 1) cs) ≡ all
-place_turn facts f cs k c with without next others all more lt is m e r h =
+place_turn facts older f cs k c with without next others all more same lt is m e r h =
     let s : drop k cs ≡ c ∷ drop (k + 1) cs = rw (add-one, drop-cons cs k c) (ap (λ z. z ∷ drop (suc k) cs) (sym is)) in
-    turn facts f c (drop (k + 1) cs) with without next others all more m e r (ap (λ ds. come_from facts f with without ds) (sym s) ∙ h)
+    turn facts f c (drop (k + 1) cs) with without next others all more m (e ∙ ap (λ fs. with_next fs f c with without) same)
+    (λ some. r some ∙ ap (λ fs. flat_map (extended fs c) without) same) (ap (λ ds. come_from facts f with without ds) (sym s) ∙ h)
 
 no_more : {A : Type 0} (cs : List A) (k : ℕ) → length cs ≤ k → drop k cs ≡ []
 no_more cs k h = grind (arith, common_steps)

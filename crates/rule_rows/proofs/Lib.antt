@@ -1,3 +1,4 @@
 pub mod Coming
 pub mod Sets
 pub mod Apart
+pub mod Held

@@ -69,21 +69,21 @@ impl<'f> Bindings<'f> {
 pub(crate) fn does_fit(pattern: &Pattern, fact: &Fact) -> bool
     ensures { result ≡ fits pattern.now fact.now }
 {
-    fact.ty == pattern.ty && pattern.passes_alone(fact)
+    fact.ty == pattern.ty && fact.entry == pattern.entry && pattern.passes_alone(fact)
 }
 
-// The facts of the pattern's type that pass its constant tests.
+// The facts of the pattern's type and entry point that pass its constant tests.
 pub(crate) fn candidates<'f>(
     alloc: Global,
     pattern: &Pattern,
-    facts: &'f [Fact],
+    facts: &[&'f Fact],
 ) -> Result<Vec<&'f Fact>, NoMemory>
-    ensures { IfOk result (λ found. lent found.items ≡ candidates_of pattern.now facts.now) }
+    ensures { IfOk result (λ found. lent found.items ≡ candidates_of pattern.now (lent facts.now)) }
 {
     let mut found = Vec::new(alloc);
     for fact in facts {
         if does_fit(pattern, fact) {
-            found.push(fact)?;
+            found.push(*fact)?;
         }
     }
     Ok(found)

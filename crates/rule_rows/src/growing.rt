@@ -1,5 +1,6 @@
 ghost use Rattle.std.specs.Prelude.{◌≡◌, ◌++◌, ◌∷◌, [], ◌⊎◌, ◌<◌, ◌||◌, true, length, map, IfOk};
 ghost use Rattle.std.specs.List.{filter, flat_map, list_any};
+ghost use Rattle.fact_store.specs.Held.{facts_of};
 ghost use Rattle.row_delta.specs.Rows.{has};
 ghost use Rattle.row_delta.specs.declared.row.Row.{Row};
 ghost use Rattle.rule_model.specs.declared.condition.Condition.TheVariants.{Plain};
@@ -9,6 +10,8 @@ ghost use Rattle.rule_rows.specs.Found.{may_bind, names_tag, AreNew};
 
 use crate::bindings::{Bindings, candidates, does_fit, extend_all, rows_named};
 use crate::finding::unbound;
+use crate::older::Older;
+use fact_store::FactStore;
 use fx_base::{Fact, NoMemory, Seq};
 use row_delta::Row;
 use rule_model::{Condition, Pattern, Rule};
@@ -34,13 +37,14 @@ fn some_may_bind(conditions: &[Condition], fact: &Fact) -> bool
 fn older_candidates<'f>(
     alloc: Global,
     pattern: &Pattern,
-    facts: &'f [Fact],
+    facts: &mut Older<'f>,
     needed: bool,
 ) -> Result<Vec<&'f Fact>, NoMemory>
-    ensures { IfOk result (λ found. needed ≡ true → lent found.items ≡ candidates_of pattern.now facts.now) }
+    ensures same { facts.new ≡ facts.old }
+    ensures found { IfOk result (λ found. needed ≡ true → lent found.items ≡ candidates_of pattern.now facts.old) }
 {
     if needed {
-        candidates(alloc, pattern, facts)
+        facts.candidates(alloc, pattern)
     } else {
         Ok(Vec::new(alloc))
     }
@@ -105,17 +109,18 @@ impl<'f> Growing<'f> {
         &self,
         alloc: Global,
         pattern: &Pattern,
-        facts: &'f [Fact],
+        facts: &mut Older<'f>,
         fact: &'f Fact,
         more: bool,
     ) -> Result<Growing<'f>, NoMemory>
-        ensures with { IfOk result (λ next. next.with.items ≡ flat_map (extended facts.now (Plain pattern.now)) self.now.with.items
+        ensures same { facts.new ≡ facts.old }
+        ensures with { IfOk result (λ next. next.with.items ≡ flat_map (extended facts.old (Plain pattern.now)) self.now.with.items
             ++ (flat_map (extended (fact.now ∷ []) (Plain pattern.now)) self.now.with.items ++ flat_map (extended (fact.now ∷ []) (Plain pattern.now)) self.now.without.items)) }
-        ensures without { more ≡ true → IfOk result (λ next. next.without.items ≡ flat_map (extended facts.now (Plain pattern.now)) self.now.without.items) }
+        ensures without { more ≡ true → IfOk result (λ next. next.without.items ≡ flat_map (extended facts.old (Plain pattern.now)) self.now.without.items) }
     {
         let needed = self.needs_older(more);
         let older = older_candidates(alloc, pattern, facts, needed)?;
-        let new = candidates(alloc, pattern, std::slice::from_ref(fact))?;
+        let new = candidates(alloc, pattern, &[fact])?;
         let with = with_new(alloc, pattern, &self.with, &self.without, &older, &new)?;
         let without = extended_if(alloc, pattern, &self.without, &older, more)?;
         Ok(Growing { with, without })
@@ -126,13 +131,14 @@ impl<'f> Growing<'f> {
         &self,
         alloc: Global,
         condition: &Condition,
-        facts: &'f [Fact],
+        facts: &mut Older<'f>,
         fact: &'f Fact,
         more: bool,
     ) -> Result<Growing<'f>, NoMemory>
-        ensures with { IfOk result (λ next. next.with.items ≡ flat_map (extended facts.now condition.now) self.now.with.items
+        ensures same { facts.new ≡ facts.old }
+        ensures with { IfOk result (λ next. next.with.items ≡ flat_map (extended facts.old condition.now) self.now.with.items
             ++ (flat_map (extended (fact.now ∷ []) condition.now) self.now.with.items ++ flat_map (extended (fact.now ∷ []) condition.now) self.now.without.items)) }
-        ensures without { more ≡ true → IfOk result (λ next. next.without.items ≡ flat_map (extended facts.now condition.now) self.now.without.items) }
+        ensures without { more ≡ true → IfOk result (λ next. next.without.items ≡ flat_map (extended facts.old condition.now) self.now.without.items) }
     {
         match condition {
             Condition::Plain(pattern) => self.next_plain(alloc, pattern, facts, fact, more),
@@ -143,37 +149,38 @@ impl<'f> Growing<'f> {
 // The bindings that come with the new fact.
 fn new_bindings<'f>(
     alloc: Global,
-    facts: &'f [Fact],
+    facts: &'f FactStore,
     fact: &'f Fact,
     conditions: &[Condition],
 ) -> Result<Vec<Bindings<'f>>, NoMemory>
-    ensures { IfOk result (λ come. AreNew facts.now fact.now conditions.now come.items) }
+    ensures { IfOk result (λ come. AreNew (facts_of facts.now) fact.now conditions.now come.items) }
 {
     if !some_may_bind(conditions, fact) {
         return Ok(Vec::new(alloc));
     }
+    let mut older = Older::of(facts);
     let mut growing = Growing {
         with: Vec::new(alloc),
         without: unbound(alloc)?,
     };
     for (place, condition) in conditions.iter().enumerate() {
         let more = some_may_bind(&conditions[place + 1..], fact);
-        growing = growing.next(alloc, condition, facts, fact, more)?;
+        growing = growing.next(alloc, condition, &mut older, fact, more)?;
     }
     Ok(growing.with)
 }
 
-/// The rows of a rule that come when a fact is added behind these: each of them names it. Where none of the patterns
-/// takes the fact, no other fact is looked at.
+/// The rows of a rule that come when a fact is added behind those of a store: each of them names it. Where none of the
+/// patterns takes the fact, no other fact is looked at.
 pub fn rows_with(
     alloc: Global,
-    facts: &[Fact],
+    facts: &FactStore,
     fact: &Fact,
     rule: &Rule,
 ) -> Result<Seq<Row>, NoMemory>
-    ensures grown { IfOk result (λ come. (row : Row) → has (rows (facts.now ++ fact.now ∷ []) rule.now) row ≡ (has (rows facts.now rule.now) row || has come row)) }
+    ensures grown { IfOk result (λ come. (row : Row) → has (rows (facts_of facts.now ++ fact.now ∷ []) rule.now) row ≡ (has (rows (facts_of facts.now) rule.now) row || has come row)) }
     ensures named { IfOk result (λ come. (row : Row) → has come row ≡ true → names_tag fact.now.tag row ≡ true) }
-    ensures rows { IfOk result (λ come. (row : Row) → has come row ≡ true → has (rows (facts.now ++ fact.now ∷ []) rule.now) row ≡ true) }
+    ensures rows { IfOk result (λ come. (row : Row) → has come row ≡ true → has (rows (facts_of facts.now ++ fact.now ∷ []) rule.now) row ≡ true) }
 {
     let come = new_bindings(alloc, facts, fact, rule.conditions.as_slice())?;
     rows_named(alloc, &come)

@@ -1,12 +1,13 @@
-//! Finds the rows of rules over a list of facts: all of them, those that come with one fact more, or what a change of one fact does
-//! to them.
-//! It stands on the definitions of `rule_model` and assumes nothing of how the facts are kept.
+//! Finds the rows of rules over the facts of a store: all of them, those that come with one fact more, or what a change of one fact
+//! does to them.
+//! It stands on the definitions of `rule_model` and on the calls of `fact_store`.
 #![tactic(auto)]
 
 mod bindings;
 mod changing;
 mod finding;
 mod growing;
+mod older;
 
 pub use changing::difference;
 pub use finding::rows_of;

@@ -5,4 +5,4 @@ use Rattle.rule_model.specs.Rows.{fits}
 use Rattle.rule_rows.proofs.bindings.candidates.Given as goal
 
 abbrev pub invariant-loop-fact : goal.invariant-loop-fact
-invariant-loop-fact l = lent l.found.items ++ filter (fits l.pattern) (drop l.fact-index l.facts) ≡ filter (fits l.pattern) l.facts
+invariant-loop-fact l = lent l.found.items ++ filter (fits l.pattern) (lent (drop l.fact-index l.facts)) ≡ filter (fits l.pattern) (lent l.facts)

@@ -1,7 +1,0 @@
-use Rattle.std.proofs.Common.{◌≡◌, [], ◌∷◌, drop}
-use Rattle.rule_model.specs.Tests.{empty_tuple}
-use Rattle.rule_model.specs.Rows.{tuples_from}
-use Rattle.rule_rows.proofs.finding.rows_of.Given as goal
-
-abbrev pub invariant-loop-condition : goal.invariant-loop-condition
-invariant-loop-condition l = tuples_from l.facts l.all.items (drop l.condition-index l.rule.conditions) ≡ tuples_from l.facts (empty_tuple ∷ []) l.rule.conditions
