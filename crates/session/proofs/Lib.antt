@@ -1,1 +1,9 @@
 pub mod Rules
+pub mod Reordered
+pub mod Members
+pub mod Newest
+pub mod Stands
+pub mod Faults
+pub mod Tried
+pub mod Firings
+pub mod Sessions

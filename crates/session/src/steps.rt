@@ -1,6 +1,6 @@
-ghost use Rattle.std.specs.Prelude.{◌≡◌, ◌+◌, ◌<◌, ◌≤◌, ◌^◌, ◌≤ℤ◌, pos, true, [], ◌∷◌, ◌++◌, length, None, IfOk, OnOk};
+ghost use Rattle.std.specs.Prelude.{◌≡◌, ◌+◌, ◌<◌, ◌≤◌, ◌^◌, ◌≤ℤ◌, pos, true, [], ◌∷◌, ◌++◌, length, None, Some, slice_get, IfOk, IfErr, OnOk};
 ghost use Rattle.std.specs.FinMap as map;
-ghost use Rattle.rule_model.specs.Events.{clock_fault, most_millis};
+ghost use Rattle.rule_model.specs.Events.{most_millis, new_fault, times_of};
 ghost use Rattle.rule_model.specs.declared.program.Program.{Program as ProgramData};
 ghost use Rattle.rule_model.specs.Programs.{IsAccepted};
 ghost use Rattle.rule_model.specs.Worlds.{World, stepped, at_clock, with_new, with_values, is_of_type, revised as revised_fact};
@@ -8,15 +8,15 @@ ghost use Rattle.rule_model.specs.declared.step.Step.TheVariants.{Insert, Modify
 ghost use Rattle.session.specs.declared.lines.OutLine.TheVariants.{Fault};
 ghost use Rattle.session.specs.Gives.{tries, does, does_all};
 ghost use Rattle.session.specs.Standing.{Standing};
-ghost use Rattle.session.specs.Places.{IsNewestTag, newest};
+ghost use Rattle.session.specs.Places.{IsNewestTag, floor_in, newest};
 
 use crate::lines::OutLine;
 use crate::refreshing::refreshed;
 use crate::state::State;
-use crate::times::{clock_after, clock_at, floor, is_event, last_starts_behind, new_times};
+use crate::times::{clock_after, clock_at, floor, is_event, last_starts_behind, new_times, type_info};
 use change_read::Code;
 use fact_store::FactStore;
-use fx_base::{Copies, EntryId, Fact, FactId, Millis, NoMemory, Seq, Tag, TypeId, Value};
+use fx_base::{Copies, EntryId, Fact, FactId, Millis, NoMemory, Seq, Tag, Times, TypeId, Value};
 use rule_model::{Program, Step};
 use std::alloc::Global;
 
@@ -214,6 +214,23 @@ impl State {
 
 // Steps and their faults.
 impl State {
+    // The times of a new fact with these values, or its fault.
+    fn times_for(
+        &self,
+        program: &Program,
+        ty: TypeId,
+        entry: EntryId,
+        fields: &[Value],
+    ) -> Result<Times, Code>
+        requires { IsAccepted program.now }
+        ensures times { IfOk result (λ times. times ≡ times_of (slice_get program.now.types ty.0) self.now.clock fields.now) }
+        ensures none { IfOk result (λ _. new_fault (slice_get program.now.types ty.0) (floor_in program.now.entries self.now.last_starts self.now.clock entry.0) self.now.clock fields.now ≡ None) }
+        ensures fault { IfErr result (λ code. new_fault (slice_get program.now.types ty.0) (floor_in program.now.entries self.now.last_starts self.now.clock entry.0) self.now.clock fields.now ≡ Some code) }
+    {
+        let floor = floor(program.entries.as_slice(), self.last_starts.as_slice(), self.clock, entry);
+        new_times(type_info(program.types.as_slice(), ty), floor, self.clock, fields)
+    }
+
     // A new fact with the next numbers.
     fn insert(
         self,
@@ -230,9 +247,7 @@ impl State {
         ensures lines { OnOk result ((w : World) → Standing program.now.rules self w → lines.new.items ≡ lines.old.items ++ (tries program.now w (Insert ty entry fields)).0) }
         ensures tags { IfOk result (λ s. s.next_tag ≤ self.next_tag + 1) }
     {
-        let floor = floor(program.entries.as_slice(), &self.last_starts, self.clock, entry);
-        let info = program.types.as_slice().get(ty.0 as usize);
-        match new_times(info, floor, self.clock, fields.as_slice()) {
+        match self.times_for(program, ty, entry, fields.as_slice()) {
             Ok(times) => {
                 let id = FactId(self.next_id);
                 let tag = Tag(self.next_tag);

@@ -2,7 +2,7 @@ ghost use Rattle.std.specs.Prelude.{◌≡◌, ◌≤ℤ◌, ◌-ℤ◌, ◌+ℤ
 ghost use Rattle.std.specs.List.{list_all};
 ghost use Rattle.rule_model.specs.Events.{is_event_type, field_number, start_of as start_of_event, duration_of as duration_of_event, event_fault, event_times as times_of_event, times_of, new_fault, clock_fault, most_millis};
 ghost use Rattle.rule_model.specs.Programs.{has_lateness};
-ghost use Rattle.rule_model.specs.Worlds.{last_start_with};
+ghost use Rattle.rule_model.specs.Worlds.{lateness_of, last_start_with};
 ghost use Rattle.session.specs.Places.{floor_in};
 ghost use Rattle.session.specs.Standing.{last_start_in};
 
@@ -23,8 +23,28 @@ pub(crate) fn is_event(types: &[TypeInfo], ty: TypeId) -> bool
     }
 }
 
+#[tactic(auto, unfolding(rule_model::specs::Events::most_millis))]
+fn lateness(entries: &[EntryInfo], entry: EntryId) -> Millis
+    requires { list_all has_lateness entries.now ≡ true }
+    ensures lateness { result ≡ lateness_of (slice_get entries.now entry.0) }
+    ensures low { pos 0 ≤ℤ result }
+    ensures high { result ≤ℤ most_millis }
+{
+    match entries.get(entry.0 as usize) {
+        Some(info) => info.lateness,
+        None => 0,
+    }
+}
+
+fn last_start(last_starts: &[Millis], entry: EntryId) -> Millis
+    ensures { result ≡ last_start_in last_starts.now entry.0 }
+{
+    last_starts.get(entry.0 as usize).copied().unwrap_or(0)
+}
+
 /// The floor of an entry point, in milliseconds, below which no event may start: its last start, or the clock less its lateness,
-/// whichever is later.
+/// whichever is later. Takes no memory.
+#[tactic(auto, unfolding(rule_model::specs::Events::most_millis))]
 pub(crate) fn floor(
     entries: &[EntryInfo],
     last_starts: &[Millis],
@@ -36,10 +56,7 @@ pub(crate) fn floor(
     ensures floor { result ≡ floor_in entries.now last_starts.now clock entry.0 }
     ensures low { (pos 0 -ℤ most_millis) ≤ℤ result }
 {
-    let place = entry.0 as usize;
-    let last_start = last_starts.get(place).copied().unwrap_or(0);
-    let lateness = entries.get(place).map_or(0, |info| info.lateness);
-    last_start.max(clock - lateness)
+    last_start(last_starts, entry).max(clock - lateness(entries, entry))
 }
 
 // The whole number that a field holds.
@@ -101,7 +118,8 @@ fn event_times(
     })
 }
 
-/// The times of a new fact with these values, or its fault, by the floor of its entry point and the clock. Takes no memory.
+/// The times of a new fact of a type with these values, or its fault, by the floor of its entry point and the clock. Takes no
+/// memory.
 pub(crate) fn new_times(
     info: Option<&TypeInfo>,
     floor: Millis,
@@ -118,6 +136,13 @@ pub(crate) fn new_times(
         Some(info) if info.event => event_times(info, floor, clock, fields),
         _ => Ok(Times { start: 0, end: 0 }),
     }
+}
+
+/// The declared type. Takes no memory.
+pub(crate) fn type_info(types: &[TypeInfo], ty: TypeId) -> Option<&TypeInfo>
+    ensures { option_map (λ t. t.now) result ≡ slice_get types.now ty.0 }
+{
+    types.get(ty.0 as usize)
 }
 
 /// The last starts behind a new fact: an event moves that of its entry point.

@@ -1,0 +1,12 @@
+use Rattle.std.proofs.Common.{◌∙◌}
+use Rattle.session.proofs.Sessions.{change_lines, change_stands}
+use Rattle.session.proofs.session.Session.apply.Goals as goal
+
+pub returns-clause-lines : goal.returns-clause-lines
+returns-clause-lines c w s =
+    let taken = simp c.new-lines.ensures.items at c.in_ok-state.ensures.lines in
+    c.from_vec.ensures ∙ change_lines c.self.inside.program c.self.inside.state c.args.self c.self.view_is w s c.args.change.now c.in_ok-asked.asked c.in_ok-asked.ensures c.apply.new.lines.items taken
+
+pub returns-clause-next : goal.returns-clause-next
+returns-clause-next c w s =
+    change_stands c.self.inside.program c.self.inside.state c.args.self c.self.view_is w s c.args.change.now c.in_ok-asked.asked c.in_ok-asked.ensures c.in_ok-state.state c.in_ok-state.ensures.stands

@@ -1,0 +1,14 @@
+use Rattle.session.proofs.Sessions.{shown_none, shown_fires}
+use Rattle.session.proofs.session.Session.fire_one.Goals as goal
+
+pub returns-in-None-clause-answers : goal.returns-in-None-clause-answers
+returns-in-None-clause-answers c w s =
+    let none = simp c.in-None.is at c.in_ok-plan.ensures.plan in
+    shown_none c.self.inside.program c.self.inside.state c.args.self c.self.view_is w s none
+
+pub returns-in_ok-state-in-Some-clause-answers : goal.returns-in_ok-state-in-Some-clause-answers
+returns-in_ok-state-in-Some-clause-answers c w s =
+    let planned = simp c.in-Some.is at c.in_ok-plan.ensures.plan in
+    let written = simp c.new-lines.ensures.items at c.in_ok-state-in-Some.ensures.lines in
+    rw c.from_vec.ensures
+    (shown_fires c.self.inside.program c.self.inside.state c.args.self c.self.view_is w s c.in_ok-state-in-Some.state c.in-Some.plan.items c.fire.new.lines.items planned c.in_ok-state-in-Some.ensures.stands written)
