@@ -1,5 +1,5 @@
 -- The facts of a map and those of a list: where both have the same, each at its tag.
-use Rattle.std.proofs.Common.{◌≡◌, ℕ, ◌+◌, ◌<◌, ◌==◌, ◌⊎◌, inl, inr, not, ◌&&◌, Bool, true, false, cond, List, [], ◌∷◌, ◌++◌, map as list_map, Option, Some, None, refl, sym, ◌∙◌, ap, subst, arith}
+use Rattle.std.proofs.Common.{◌≡◌, ℕ, ◌<◌, ◌==◌, ◌⊎◌, inl, inr, not, ◌&&◌, Bool, true, false, cond, List, [], ◌∷◌, ◌++◌, map as list_map, Option, Some, None, refl, sym, ◌∙◌, ap, subst, arith}
 use Rattle.std.specs.Prelude.{if◌then◌else◌}
 use Rattle.std.specs.FinMap as map
 use Rattle.std.specs.FinMap.{get-insert, get-remove}
@@ -16,7 +16,7 @@ use Rattle.rule_model.specs.Distinct.{EachOnce, HaveDistinctTags}
 use Rattle.rule_model.specs.Lawful.{IdsRise}
 use Rattle.rule_model.specs.Rows.{In}
 use Rattle.rule_model.specs.Worlds.{has_id, revised, revised_in, without}
-use Rattle.rule_model.proofs.Fresh.{AllBelow, distinct_more, revise, has_number}
+use Rattle.rule_model.proofs.Fresh.{AllBelow, revise, has_number}
 use Rattle.rule_model.proofs.Ids.{one_id}
 use Rattle.rule_model.proofs.Listed.{in_left, in_right, in_map, of_append, of_map}
 use Rattle.rule_model.proofs.Named.{AllOf, of_filter}
@@ -155,9 +155,9 @@ module _ (m : HeldFacts) (f : Fact) (new : map.get m f.tag.0 ≡ None) where
     pub behind_of : AllOf facts (facts_of m ++ f ∷ [])
     behind_of g i = elim (of_append g (facts_of m) (f ∷ []) i) [
       | inl j ↦ (
-        let r = held_of m g j in
-        let apart : r.0 ≡ f.tag.0 → ⊥ = λ e. let n : None ≡ Some g = sym new ∙ ap (map.get m) (sym e) ∙ r.1 in absurd (cc) in
-        (h.to r.0 g (got_old m f r.0 apart ∙ r.1)).0)
+          let r = held_of m g j in
+          let apart : r.0 ≡ f.tag.0 → ⊥ = λ e. let n : None ≡ Some g = sym new ∙ ap (map.get m) (sym e) ∙ r.1 in absurd (cc) in
+          (h.to r.0 g (got_old m f r.0 apart ∙ r.1)).0)
       | inr (inl e) ↦ subst (λ (z : Fact). In z facts) (sym e) (h.to f.tag.0 f (got_new m f)).0
       | inr (inr k) ↦ absurd k
     ]
@@ -195,8 +195,8 @@ module _ (held : HeldFacts) (facts : List Fact) (h : Holds held facts) where
     ];
     from = λ g i. elim (of_append g facts (f ∷ []) i) [
       | inl j ↦ (
-        let apart : g.tag.0 ≡ f.tag.0 → ⊥ = λ e. let n : None ≡ Some g = sym new ∙ ap (map.get held) (sym e) ∙ h.from g j in absurd (cc) in
-        got_old held f g.tag.0 apart ∙ h.from g j)
+          let apart : g.tag.0 ≡ f.tag.0 → ⊥ = λ e. let n : None ≡ Some g = sym new ∙ ap (map.get held) (sym e) ∙ h.from g j in absurd (cc) in
+          got_old held f g.tag.0 apart ∙ h.from g j)
       | inr (inl e) ↦ subst (λ (z : Fact). map.get (map.insert held f.tag.0 f) z.tag.0 ≡ Some z) (sym e) (got_new held f)
       | inr (inr k) ↦ absurd k
     ];
@@ -274,8 +274,8 @@ module _ (held : HeldFacts) (facts : List Fact) (h : Holds held facts) where
           ap (λ (z : Fact). z.tag.0) r.0 ∙ sym r.1,
         )
         | inr e ↦ (
-          let j = h.to tag g (of_remove held g f.tag.0 tag e) in
-          (subst (λ (z : Fact). In z (revised_in id next sets facts)) (kept_is g (has_id id g) refl (other_id g tag e)) (in_map (revise id next sets) g facts j.0), j.1))
+            let j = h.to tag g (of_remove held g f.tag.0 tag e) in
+            (subst (λ (z : Fact). In z (revised_in id next sets facts)) (kept_is g (has_id id g) refl (other_id g tag e)) (in_map (revise id next sets) g facts j.0), j.1))
       ];
       from = λ g j.
           let q = of_map (revise id next sets) g facts j in

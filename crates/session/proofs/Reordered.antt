@@ -1,23 +1,16 @@
 -- Matches do not ask for the order of the facts.
-use Rattle.std.proofs.Common.{◌≡◌, ℕ, ◌+◌, ◌||◌, ◌&&◌, ◌==◌, inl, inr, Bool, true, false, List, [], ◌∷◌, ◌++◌, map, refl, sym, ◌∙◌, ap, subst}
+use Rattle.std.proofs.Common.{◌≡◌, ℕ, ◌+◌, ◌||◌, ◌&&◌, ◌==◌, Bool, true, false, List, [], ◌∷◌, map, refl, sym, ◌∙◌, ap}
 use Rattle.std.specs.Ordering.{eq_by_cmp}
-use Rattle.std.proofs.lemmas.List.{map-append}
 use Rattle.std.proofs.lemmas.List.Folds.{list_any-append}
-use Rattle.fx_base.specs.declared.ids.Tag.{Tag}
 use Rattle.fx_base.specs.declared.fact.Fact.{Fact}
 use Rattle.row_delta.specs.declared.row.Row.{Row}
 use Rattle.row_delta.specs.Rows.{has}
 use Rattle.rule_model.specs.declared.matched.Match.{Match}
 use Rattle.rule_model.specs.declared.program.Rule.{Rule}
-use Rattle.rule_model.specs.Distinct.{EachOnce, HaveDistinctTags}
-use Rattle.rule_model.specs.Lawful.{tags_below}
 use Rattle.rule_model.specs.Matches.{match_of, match_cmp, matches, matches_from, rows_by_rule, has_match}
-use Rattle.rule_model.specs.Rows.{In, rows}
-use Rattle.rule_model.proofs.Listed.{in_left, in_right, of_append}
+use Rattle.rule_model.specs.Rows.{rows}
 use Rattle.rule_model.proofs.Named.{AllOf}
-use Rattle.rule_model.proofs.Once.{once_append}
 use Rattle.rule_model.proofs.Order.{rows_over}
-use Rattle.rule_model.proofs.Fresh.{below_of, distinct_more}
 use Rattle.rule_rows.proofs.Sets.{in_has, has_in}
 use Rattle.session.proofs.Rules.{with_rule}
 

@@ -7,7 +7,6 @@ use Rattle.std.specs.Ordering.{nat_cmp}
 use mathlib.Core.Path.{fun_ext}
 use Rattle.fact_store.specs.Held.{HeldFacts}
 use Rattle.std.proofs.lemmas.Bool.Decides.{nat_tests}
-use Rattle.fx_base.specs.declared.fact.Fact.{Fact}
 use Rattle.rule_model.specs.declared.condition.Condition.{Condition}
 use Rattle.rule_model.specs.declared.condition.Condition.TheVariants.{Plain}
 use Rattle.rule_model.specs.declared.matched.Match.{Match}

@@ -15,7 +15,7 @@ use Rattle.rule_model.specs.Distinct.{HaveDistinctTags}
 use Rattle.rule_model.specs.Lawful.{IsOrdered}
 use Rattle.rule_model.specs.Matches.{matches, has_match}
 use Rattle.rule_model.specs.Rows.{In}
-use Rattle.rule_model.specs.Worlds.{World, at_clock, is_event, is_of_type, last_start_with, revised, revised_in, still_fired, stepped, with_new, without}
+use Rattle.rule_model.specs.Worlds.{World, at_clock, is_of_type, last_start_with, revised, revised_in, still_fired, stepped, with_new, without}
 use Rattle.rule_model.proofs.Fresh.{AllBelow, and_parts, below_all, below_more, below_of, distinct_more}
 use Rattle.rule_model.proofs.Ids.{ids_more}
 use Rattle.rule_model.proofs.Pending.{has_pending, has_still}
@@ -209,7 +209,7 @@ module _ (p : Program) (k : Kept) (b : Held) (f : Fact) where
 -- ---- the same, for what a session took out
 
 module _ (p : Program) (k : Kept) (b : Held) (w : World) (st : Standing p.rules k w) (id : FactId) (tag : Tag) (is : IsNewestTag k.facts id.0 tag) (before : Fact) (others : HeldFacts)
-  (taken : Some before ≡ map.get k.facts tag.0) (left : others ≡ map.remove k.facts tag.0) where
+    (taken : Some before ≡ map.get k.facts tag.0) (left : others ≡ map.remove k.facts tag.0) where
   before_is : before ≡ is.fact
   before_is = let s : Some before ≡ Some is.fact = taken ∙ ap (λ (t : Tag). map.get k.facts t.0) (sym is.tagged) ∙ is.is_newest.found in cc
 

@@ -1,5 +1,5 @@
 -- What is asked of the facts that a session has at their tags, and what its parts keep to.
-use Rattle.std.specs.Prelude.{◌≡◌, ◌≤◌, ℕ, zero, suc, ℤ, pos, ◌-ℤ◌, ◌≤ℤ◌, List, map as list_map, Option, Some, None, Result, slice_get, if◌then◌else◌}
+use Rattle.std.specs.Prelude.{◌≡◌, ◌≤◌, ℕ, zero, suc, ℤ, pos, ◌-ℤ◌, ◌≤ℤ◌, List, map as list_map, Option, None, Result, slice_get, if◌then◌else◌}
 use Rattle.std.specs.FinMap as map
 use Rattle.std.specs.Int.{int_max}
 use Rattle.fx_base.specs.declared.ids.Tag.{Tag}

@@ -13,7 +13,9 @@ ghost use Rattle.session.specs.Places.{IsNewestTag, floor_in, newest};
 use crate::lines::OutLine;
 use crate::refreshing::refreshed;
 use crate::state::State;
-use crate::times::{clock_after, clock_at, floor, is_event, last_starts_behind, new_times, type_info};
+use crate::times::{
+    clock_after, clock_at, floor, is_event, last_starts_behind, new_times, type_info,
+};
 use change_read::Code;
 use fact_store::FactStore;
 use fx_base::{Copies, EntryId, Fact, FactId, Millis, NoMemory, Seq, Tag, Times, TypeId, Value};
@@ -71,12 +73,7 @@ fn with_fact(facts: FactStore, fact: Fact) -> Result<FactStore, NoMemory>
 // Steps without a fault.
 impl State {
     // The state with one fact more, which has the next numbers.
-    fn with_new(
-        self,
-        alloc: Global,
-        program: &Program,
-        fact: Fact,
-    ) -> Result<State, NoMemory>
+    fn with_new(self, alloc: Global, program: &Program, fact: Fact) -> Result<State, NoMemory>
         requires accepted { IsAccepted program.now }
         requires low { self.next_tag < 2 ^ 63 }
         requires id { fact.id.0 ≡ self.next_id }
@@ -92,7 +89,14 @@ impl State {
             next_id,
             next_tag,
         } = self;
-        let agenda = refreshed(alloc, agenda, program.rules.as_slice(), &facts, None, Some(&fact))?;
+        let agenda = refreshed(
+            alloc,
+            agenda,
+            program.rules.as_slice(),
+            &facts,
+            None,
+            Some(&fact),
+        )?;
         let last_starts = last_starts_behind(program, &fact, last_starts)?;
         let facts = with_fact(facts, fact)?;
         Ok(State {
@@ -130,7 +134,14 @@ impl State {
         } = self;
         let before = facts.take(tag).unwrap();
         let after = revised(alloc, &before, sets, Tag(next_tag))?;
-        let agenda = refreshed(alloc, agenda, program.rules.as_slice(), &facts, Some(&before), Some(&after))?;
+        let agenda = refreshed(
+            alloc,
+            agenda,
+            program.rules.as_slice(),
+            &facts,
+            Some(&before),
+            Some(&after),
+        )?;
         let facts = with_fact(facts, after)?;
         Ok(State {
             facts,
@@ -166,7 +177,14 @@ impl State {
             next_tag,
         } = self;
         let before = facts.take(tag).unwrap();
-        let agenda = refreshed(alloc, agenda, program.rules.as_slice(), &facts, Some(&before), None)?;
+        let agenda = refreshed(
+            alloc,
+            agenda,
+            program.rules.as_slice(),
+            &facts,
+            Some(&before),
+            None,
+        )?;
         Ok(State {
             facts,
             clock,
@@ -227,8 +245,18 @@ impl State {
         ensures none { IfOk result (λ _. new_fault (slice_get program.now.types ty.0) (floor_in program.now.entries self.now.last_starts self.now.clock entry.0) self.now.clock fields.now ≡ None) }
         ensures fault { IfErr result (λ code. new_fault (slice_get program.now.types ty.0) (floor_in program.now.entries self.now.last_starts self.now.clock entry.0) self.now.clock fields.now ≡ Some code) }
     {
-        let floor = floor(program.entries.as_slice(), self.last_starts.as_slice(), self.clock, entry);
-        new_times(type_info(program.types.as_slice(), ty), floor, self.clock, fields)
+        let floor = floor(
+            program.entries.as_slice(),
+            self.last_starts.as_slice(),
+            self.clock,
+            entry,
+        );
+        new_times(
+            type_info(program.types.as_slice(), ty),
+            floor,
+            self.clock,
+            fields,
+        )
     }
 
     // A new fact with the next numbers.

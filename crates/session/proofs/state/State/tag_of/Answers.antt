@@ -1,4 +1,4 @@
-use Rattle.std.proofs.Common.{◌≡◌, Some, None, sym, ◌∙◌, ap}
+use Rattle.std.proofs.Common.{sym, ◌∙◌, ap}
 use Rattle.rule_model.specs.Worlds.{is_of_type}
 use Rattle.session.specs.Places.{newest}
 use Rattle.session.specs.Standing.{Kept}

@@ -1,7 +1,6 @@
-use Rattle.std.proofs.Common.{◌≡◌, ◌+◌, ◌∙◌, None, Some, refl, sym, subst, ap, to_z, of_z, w64, arith}
+use Rattle.std.proofs.Common.{◌≡◌, ◌+◌, ◌∙◌, Some, sym, subst, ap, to_z, of_z, w64, arith}
 use Rattle.std.specs.FinMap as map
 use Rattle.fx_base.specs.declared.fact.Fact.{Fact}
-use Rattle.fact_store.specs.Held.{HeldFacts}
 use Rattle.session.specs.Places.{IsNewestTag, IsSafe}
 use Rattle.session.specs.Standing.{Kept, Standing}
 use Rattle.session.proofs.Faults.{clock_same, safe_again, safe_less}
