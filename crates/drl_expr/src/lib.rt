@@ -7,8 +7,6 @@ mod literal;
 mod marks;
 mod measured;
 mod reading;
-#[cfg(test)]
-mod tests;
 mod tree;
 mod words;
 

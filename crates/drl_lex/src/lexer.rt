@@ -90,6 +90,3 @@ pub fn lex(alloc: Global, bytes: &[u8]) -> Result<Seq<Token>, LexFault>
     }
     Ok(Seq::from_vec(tokens))
 }
-
-#[cfg(test)]
-mod tests;

@@ -1,13 +1,14 @@
-ghost use Rattle.std.specs.Prelude.{◌≡◌, List, map, length};
+ghost use Rattle.std.specs.Prelude.{◌≡◌, ℕ, List, map, length};
 ghost use Rattle.std.specs.List.{list_all};
 ghost use Rattle.drl_grammar.specs.declared.condition.Cmp.{Cmp};
 ghost use Rattle.drl_sight.specs.Declarations.{field_names};
-ghost use Rattle.drl_limits.specs.Limits.{is_name, is_text, literal_within, operand_within, cmp_within, part_within, variable_within, source_within, condition_within, attr_within, rule_within, type_within, passes_limit_behind};
+ghost use Rattle.drl_sight.specs.EntryPoints.{entries_named, with_names};
+ghost use Rattle.drl_limits.specs.Limits.{is_name, is_text, is_span, is_entry_name, literal_within, operand_within, cmp_within, part_within, variable_within, entry_within, source_within, condition_within, attr_within, rule_within, meta_within, type_within, lateness_within, passes_limit_behind};
 
 use crate::action_limits::are_actions_within;
 use crate::room::are_at_most;
 use drl_expr::LitTree;
-use drl_grammar::{Attr, Body, Cmp, CondTree, Operand, Part, RuleTree, SourceTree, TypeTree};
+use drl_grammar::{Attr, Body, Cmp, CondTree, Meta, Operand, Part, RuleTree, SourceTree, TypeTree};
 use drl_sight::has_at_most;
 use fx_base::{Seq, Text};
 
@@ -29,13 +30,31 @@ const TYPES_MAX: usize = 128;
 
 const RULES_MAX: usize = 256;
 
+const ENTRIES_MAX: usize = 64;
+
 const SALIENCE_MAX: u64 = 2_147_483_647;
+
+// In milliseconds: 2^53.
+const SPAN_MAX: u64 = 9_007_199_254_740_992;
 
 /// Whether a name of a type, a field or a variable is short enough.
 pub(crate) fn is_short_name(name: &Text) -> bool
     ensures { result ≡ is_name name.now }
 {
     has_at_most(NAME_MAX, name)
+}
+
+fn is_entry_name_within(name: &Text) -> bool
+    ensures { result ≡ is_entry_name name.now }
+{
+    name.as_str().len() > 0 && is_short_name(name)
+}
+
+#[tactic(auto, unfolding(crate::specs::Limits::span_limit))]
+fn is_span_within(millis: i64) -> bool
+    ensures { result ≡ is_span millis }
+{
+    millis.unsigned_abs() <= SPAN_MAX
 }
 
 /// Whether a literal is no text that is too long.
@@ -115,6 +134,15 @@ fn is_variable_within(var: &Option<Text>) -> bool
     }
 }
 
+fn is_entry_within(entry: &Option<Text>) -> bool
+    ensures { result ≡ entry_within entry.now }
+{
+    match entry {
+        Some(name) => is_entry_name_within(name),
+        None => true,
+    }
+}
+
 fn is_source_within(source: &SourceTree) -> bool
     ensures { result ≡ source_within source.now }
 {
@@ -122,6 +150,7 @@ fn is_source_within(source: &SourceTree) -> bool
         && is_short_name(&source.ty)
         && are_at_most(WEIGHT_MAX, source.parts.as_slice())
         && are_parts_within(source.parts.as_slice())
+        && is_entry_within(&source.entry)
 }
 
 fn is_condition_within(condition: &CondTree) -> bool
@@ -179,21 +208,52 @@ fn are_fields_within(tree: &TypeTree) -> bool
     true
 }
 
+fn is_meta_within(meta: &Meta) -> bool
+    ensures { result ≡ meta_within meta.now }
+{
+    match meta {
+        Meta::Timestamp(field) => is_short_name(field),
+        Meta::Duration(field) => is_short_name(field),
+        Meta::Role(_) => true,
+        Meta::Expires(offset) => is_span_within(*offset),
+    }
+}
+
+fn are_metas_within(metas: &[Meta]) -> bool
+    ensures { result ≡ list_all meta_within metas.now }
+{
+    metas.iter().all(|meta| is_meta_within(meta))
+}
+
 fn is_type_within(tree: &TypeTree) -> bool
     ensures { result ≡ type_within tree.now }
 {
     is_short_name(&tree.name)
         && tree.fields.as_slice().len() <= FIELDS_MAX
         && are_fields_within(tree)
+        && are_metas_within(tree.metas.as_slice())
 }
 
-/// Whether an item passes a limit, where so many types and rules are declared before it.
-pub(crate) fn passes_limits(types: usize, rules: usize, body: &Body) -> bool
-    ensures { result ≡ passes_limit_behind types rules body.now }
+fn is_lateness_within(lateness: &Option<i64>) -> bool
+    ensures { result ≡ lateness_within lateness.now }
+{
+    match lateness {
+        Some(lateness) => is_span_within(*lateness),
+        None => true,
+    }
+}
+
+/// Whether an item passes a limit, where so many types and rules are declared before it, and there are so many entry points
+/// with those that it names.
+pub fn passes_limits(types: usize, entries: usize, rules: usize, body: &Body) -> bool
+    ensures { (known : List (List ℕ)) → entries ≡ length (with_names known (entries_named body.now)) → result ≡ passes_limit_behind types rules known body.now }
 {
     match body {
         Body::Declare(tree) => !(types < TYPES_MAX && is_type_within(tree)),
-        Body::Rule(tree) => !(rules < RULES_MAX && is_rule_within(tree)),
+        Body::Entry { name, lateness } => {
+            !(entries <= ENTRIES_MAX && is_entry_name_within(name) && is_lateness_within(lateness))
+        }
+        Body::Rule(tree) => !(rules < RULES_MAX && entries <= ENTRIES_MAX && is_rule_within(tree)),
         _ => false,
     }
 }

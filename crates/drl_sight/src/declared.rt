@@ -2,7 +2,9 @@ ghost use Rattle.std.specs.Prelude.{◌≡◌, ◌++◌, List, map, option_map, 
 ghost use Rattle.drl_sight.specs.Names.{place_of, is_among};
 ghost use Rattle.drl_sight.specs.Declarations.{types_of, type_names, field_names, type_named, kind_of, kind_at};
 ghost use Rattle.drl_sight.specs.Meanings.{field_kind};
+ghost use Rattle.drl_sight.specs.Annotations.{is_event};
 
+use crate::annotations::is_event_tree;
 use crate::places::Places;
 use drl_grammar::{Body, Item, TypeTree};
 use fx_base::{Copies, Kind, NoMemory, Text};
@@ -83,6 +85,13 @@ impl<'a> DeclaredType<'a> {
         let names = names_of_fields(alloc, tree)?;
         let fields = Places::of(alloc, &names)?;
         Ok(DeclaredType { tree, fields })
+    }
+
+    /// Whether it is a type of events.
+    pub fn is_event(&self) -> bool
+        ensures { result ≡ is_event self.now }
+    {
+        is_event_tree(self.tree)
     }
 
     /// Its fields, each with its name and the word of its kind.

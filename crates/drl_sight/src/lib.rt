@@ -1,14 +1,19 @@
-//! What a rule file declares, and which variables are in sight where: names with their places, types, and meanings.
+//! What a rule file declares, and which variables are in sight where: names with their places, types, entry points, and
+//! meanings.
 //! It takes any trees of the grammar, and assumes nothing of them.
 #![tactic(auto)]
 
+mod annotations;
 mod declared;
+mod entries;
 mod names;
 mod operands;
 mod places;
 mod sight;
 
+pub use annotations::{duration_field, is_event_tree, timestamp_field};
 pub use declared::{Declared, DeclaredType, kind_of_word, names_of_fields};
+pub use entries::{default_entry, entry_points, lateness_of_entry, source_of, with_entries};
 pub use names::{differ, has_at_most};
 pub use operands::{LeafTest, OperandTest, some_leaf, some_operand};
 pub use places::Places;

@@ -1,5 +1,6 @@
 ghost use Rattle.std.specs.Prelude.{◌≡◌, ◌<◌, ◌++◌, ◌∷◌, [], length, is_some, IfOk, IfSome};
 ghost use Rattle.drl_sight.specs.Names.{place_of, is_among, are_distinct};
+ghost use Rattle.drl_sight.specs.EntryPoints.{with_name};
 
 use fx_base::{Copies, NoMemory, Text};
 use std::alloc::Global;
@@ -82,5 +83,23 @@ impl Places {
             first.insert(name.copy(alloc)?, place)?;
         }
         Ok(Places { names, first })
+    }
+
+    /// The same, with the name at the end where it is new.
+    pub fn with_new(self, alloc: Global, name: &Text) -> Result<Places, NoMemory>
+        ensures { IfOk result (λ p. p ≡ with_name self name.now) }
+    {
+        if self.holds(name) {
+            Ok(self)
+        } else {
+            self.with(alloc, name)
+        }
+    }
+
+    /// The names, in their order.
+    pub fn names(&self) -> &[Text]
+        ensures { result.now ≡ self.now }
+    {
+        &self.names
     }
 }

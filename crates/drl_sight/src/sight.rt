@@ -1,5 +1,5 @@
 ghost use Rattle.std.specs.Prelude.{◌≡◌, ◌<◌, ◌≤◌, ◌+◌, ◌^◌, ◌++◌, Some, option_map, IfOk, OnOk};
-ghost use Rattle.drl_sight.specs.Sight.{meaning_of, seen_of, seen_in, seen_fact, begin, behind, behind_all};
+ghost use Rattle.drl_sight.specs.Sight.{meaning_of, seen_of, seen_in, seen_fact, begin, behind};
 ghost use Rattle.drl_sight.specs.Meanings.{lacks_for, variable_kind, variable_field_kind};
 ghost use Rattle.drl_sight.specs.Shown.{meant};
 
@@ -214,21 +214,5 @@ impl<'a, 'b> Place<'a, 'b> {
             }
             _ => Ok(self),
         }
-    }
-
-    /// Behind all conditions, which is what actions see.
-    #[tactic(auto, unfolding(crate::specs::Sight::behind_all))]
-    pub fn behind_all(
-        alloc: Global,
-        types: &'a Declared<'b>,
-        conditions: &[CondTree],
-    ) -> Result<Place<'a, 'b>, NoMemory>
-        ensures { IfOk result (λ p. p ≡ behind_all types.now begin conditions.now) }
-    {
-        let mut place = Place::begin(alloc);
-        for condition in conditions {
-            place = place.behind(alloc, types, condition)?;
-        }
-        Ok(place)
     }
 }

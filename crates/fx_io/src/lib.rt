@@ -15,8 +15,6 @@ mod reader;
 mod reading;
 mod serving;
 mod standard;
-#[cfg(test)]
-mod tests;
 mod window;
 mod writing;
 

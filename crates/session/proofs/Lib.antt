@@ -7,3 +7,4 @@ pub mod Faults
 pub mod Tried
 pub mod Firings
 pub mod Sessions
+pub mod Acting

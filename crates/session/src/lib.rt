@@ -4,6 +4,7 @@
 
 mod engine;
 mod firing;
+pub mod laws;
 mod lines;
 mod refreshing;
 mod session;

@@ -105,6 +105,3 @@ fn round_trip(
     cycle.extend_from_slice(&table::way(alloc, edges, rows, via, point)?)?;
     Ok(Seq::from_vec(cycle))
 }
-
-#[cfg(test)]
-mod tests;

@@ -8,8 +8,6 @@ mod laws;
 mod op;
 mod room;
 mod table;
-#[cfg(test)]
-mod tests;
 mod window;
 mod word;
 

@@ -1,0 +1,44 @@
+ghost use Rattle.std.specs.Prelude.{◌≡◌, option_map};
+ghost use Rattle.drl_sight.specs.Annotations.{role_of, is_event, timestamp_of, duration_of};
+
+use drl_grammar::{Meta, TypeTree};
+use fx_base::Text;
+
+/// Whether a type is one of events.
+pub fn is_event_tree(tree: &TypeTree) -> bool
+    ensures { result ≡ is_event tree.now }
+{
+    for meta in tree.metas.as_slice() {
+        match meta {
+            Meta::Role(event) => return *event,
+            _ => {}
+        }
+    }
+    false
+}
+
+/// The field that holds the start of an event, as the annotations name it.
+pub fn timestamp_field(tree: &TypeTree) -> Option<&Text>
+    ensures { option_map (λ f. f.now) result ≡ timestamp_of tree.now.metas }
+{
+    for meta in tree.metas.as_slice() {
+        match meta {
+            Meta::Timestamp(field) => return Some(field),
+            _ => {}
+        }
+    }
+    None
+}
+
+/// The field that holds the duration of an event, as the annotations name it.
+pub fn duration_field(tree: &TypeTree) -> Option<&Text>
+    ensures { option_map (λ f. f.now) result ≡ duration_of tree.now.metas }
+{
+    for meta in tree.metas.as_slice() {
+        match meta {
+            Meta::Duration(field) => return Some(field),
+            _ => {}
+        }
+    }
+    None
+}

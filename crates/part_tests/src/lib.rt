@@ -1,0 +1,22 @@
+//! Tests of the lower crates, by their public calls.
+//! It has no function of its own, so that those crates are proved once, without their tests.
+#![tactic(auto)]
+
+#[cfg(test)]
+mod expressions;
+#[cfg(test)]
+mod folds;
+#[cfg(test)]
+mod lines;
+#[cfg(test)]
+mod loads;
+#[cfg(test)]
+mod networks;
+#[cfg(test)]
+mod operators;
+#[cfg(test)]
+mod rows;
+#[cfg(test)]
+mod timers;
+#[cfg(test)]
+mod tokens;

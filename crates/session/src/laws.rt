@@ -1,0 +1,15 @@
+//! Laws of firings, each the contract of a function that does nothing.
+ghost use Rattle.std.specs.Prelude.{◌≡◌, true, List, Some};
+ghost use Rattle.rule_model.specs.declared.program.Program.{Program};
+ghost use Rattle.rule_model.specs.Lawful.{IsLawful};
+ghost use Rattle.rule_model.specs.Programs.{IsAccepted};
+ghost use Rattle.rule_model.specs.Typed.{is_typed};
+ghost use Rattle.rule_model.specs.Worlds.{World};
+ghost use Rattle.session.specs.declared.lines.OutLine.{OutLine};
+ghost use Rattle.session.specs.Gives.{fires};
+
+/// A firing leads from a lawful world to a lawful one, where the actions of the program make values of the declared kinds.
+pub fn firings_keep_worlds_lawful()
+    ensures { (p : Program) (w : World) (lines : List OutLine) (next : World) → IsAccepted p → is_typed p ≡ true → IsLawful p w
+        → fires p w ≡ Some (lines, next) → IsLawful p next }
+{}
