@@ -8,3 +8,4 @@ pub mod Tried
 pub mod Firings
 pub mod Sessions
 pub mod Acting
+pub mod Asking
