@@ -1,28 +1,36 @@
 -- What fires, and the world in which a match is marked.
-use Rattle.std.proofs.Common.{◌≡◌, ℕ, ◌&&◌, ◌||◌, not, Bool, true, false, List, [], ◌∷◌, ◌++◌, Option, Some, None, is_some, option_map, slice_get, Result, refl, sym, ◌∙◌, ap, subst}
+use Rattle.std.proofs.Common.{◌≡◌, ◌&&◌, ◌||◌, not, Bool, true, false, List, [], ◌∷◌, ◌++◌, map, Option, Some, None, is_some, option_map, slice_get, Result, refl, sym, ◌∙◌, ap, subst}
 use Rattle.std.specs.Ordering.{eq_by_cmp}
-use Rattle.fx_base.specs.declared.fact.Fact.{Fact}
+use mathlib.Core.Path.{fun_ext}
+use Rattle.rule_model.specs.declared.action.Action.{Action}
+use Rattle.rule_model.specs.declared.code.Code.{Code}
 use Rattle.rule_model.specs.declared.matched.Match.{Match}
+use Rattle.rule_model.specs.declared.program.Program.{Program}
 use Rattle.rule_model.specs.declared.program.Rule.{Rule}
 use Rattle.rule_model.specs.declared.step.Step.{Step}
+use Rattle.rule_model.specs.Looked.{named_at}
 use Rattle.rule_model.specs.Matches.{matches, has_match, match_cmp, fire_cmp, saliences}
 use Rattle.rule_model.specs.MatchOrders.{match_equiv, fire_total}
 use Rattle.rule_model.specs.First.{first}
+use Rattle.rule_model.specs.Planned.{step_of}
 use Rattle.rule_model.specs.Worlds.{World, pending, marked, first_pending}
 use Rattle.rule_model.proofs.Exact.{fire_exact}
 use Rattle.rule_model.proofs.Firsts.{first_alike, first_in}
-use Rattle.rule_model.proofs.Fresh.{and_parts}
 use Rattle.rule_model.proofs.Pending.{has_pending, by_fire}
-use Rattle.rule_model.proofs.Steps.{firing_lawful}
+use Rattle.rule_model.proofs.Steps.{firing_in_order}
+use Rattle.row_delta.specs.declared.row.Row.{Row}
 use Rattle.agenda.specs.Agendas.{Held}
-use Rattle.change_read.specs.declared.code.Code.{Code}
 use Rattle.session.specs.declared.lines.OutLine.{OutLine}
 use Rattle.session.specs.declared.lines.Fired.TheVariants.{No, Yes}
-use Rattle.session.specs.Gives.{actions_of, does_all, fire_line, fires_with, wanted}
+use Rattle.session.specs.Gives.{actions_of, does_all, fire_line, fires_with, step_or_overflow, wanted}
 use Rattle.session.specs.Places.{planned}
 use Rattle.session.specs.Standing.{AgendaStands, FiringAnswers, Kept, Standing}
 use Rattle.session.proofs.Stands.{kept}
-use Rattle.session.proofs.Versions.{planned_wanted}
+
+-- what is planned is what is wanted
+pub planned_wanted : (rules : List Rule) (k : Kept) (w : World) (row : Row) (actions : List Action) → Standing rules k w → planned k.facts row actions ≡ wanted w.facts row actions
+planned_wanted rules k w row actions st =
+    ap (λ look. map (λ (a : Action). step_or_overflow (step_of (named_at look row.facts) row.facts a)) actions) (fun_ext (λ tag. st.facts tag.0))
 
 -- the pending match that fires first
 abbrev pub top_of : Held → Option Match
@@ -38,10 +46,6 @@ same_first rules a w s =
 top_pending : (rules : List Rule) (a : Held) (w : World) (m : Match) → AgendaStands rules a w → Some m ≡ top_of a → has_match (pending rules w) m ≡ true
 top_pending rules a w m s top =
     sym (s.pending m) ∙ sym (by_fire a.saliences m a.pending) ∙ first_in (fire_cmp a.saliences) (fire_total a.saliences) (fire_exact a.saliences) a.pending m (sym top)
-
-top_match : (rules : List Rule) (a : Held) (w : World) (m : Match) → AgendaStands rules a w → Some m ≡ top_of a → has_match (matches rules w.facts) m ≡ true
-top_match rules a w m s top =
-    (and_parts (has_match (matches rules w.facts) m) (not (has_match w.fired m)) (sym (has_pending rules w m) ∙ top_pending rules a w m s top)).0
 
 -- ---- marking
 
@@ -59,16 +63,18 @@ or_flip false true = refl
 or_flip false false = refl
 
 -- a session whose first match was marked
-pub marked_stands : (rules : List Rule) (facts : List Fact) (a b : Held) (id tag : ℕ) (w : World) (m : Match) → Standing rules (kept facts a id tag) w → b.saliences ≡ a.saliences
-    → Some m ≡ top_of a
-    → ((q : Match) → has_match b.pending q ≡ (has_match a.pending q && not (eq_by_cmp match_cmp m q)))
-    → ((q : Match) → has_match b.fired q ≡ (has_match a.fired q || eq_by_cmp match_cmp m q))
-    → Standing rules (kept facts b id tag) (marked w m)
-marked_stands rules facts a b id tag w m st sal top p f =
-    let s : AgendaStands rules a w = st.agenda in
+pub marked_stands : (rules : List Rule) (k : Kept) (b : Held) (w : World) (m : Match) → Standing rules k w → b.saliences ≡ k.agenda.saliences
+    → Some m ≡ top_of k.agenda
+    → ((q : Match) → has_match b.pending q ≡ (has_match k.agenda.pending q && not (eq_by_cmp match_cmp m q)))
+    → ((q : Match) → has_match b.fired q ≡ (has_match k.agenda.fired q || eq_by_cmp match_cmp m q))
+    → Standing rules (kept k.facts k.clock k.last_starts b k.next_id k.next_tag) (marked w m)
+marked_stands rules k b w m st sal top p f =
+    let s : AgendaStands rules k.agenda w = st.agenda in
     record {
-      lawful = firing_lawful rules w m st.lawful (top_pending rules a w m s top);
+      ordered = firing_in_order rules w m st.ordered (top_pending rules k.agenda w m s top);
       facts = st.facts;
+      clock = st.clock;
+      last_starts = st.last_starts;
       next_id = st.next_id;
       next_tag = st.next_tag;
       agenda = record {
@@ -86,34 +92,33 @@ marked_stands rules facts a b id tag w m st sal top p f =
 
 -- ---- answers
 
-some_fires : (rules : List Rule) (w : World) (o : Option Match) → is_some (fires_with rules w o) ≡ is_some o
-some_fires rules w None = refl
-some_fires rules w (Some m) = refl
+some_fires : (p : Program) (w : World) (o : Option Match) → is_some (fires_with p w o) ≡ is_some o
+some_fires p w None = refl
+some_fires p w (Some m) = refl
 
-pub due_fires : (rules : List Rule) (k : Kept) (w : World) → Standing rules k w → is_some (top_of k.agenda) ≡ is_some (fires_with rules w (first_pending rules w))
-due_fires rules k w st = ap is_some (same_first rules k.agenda w st.agenda) ∙ sym (some_fires rules w (first_pending rules w))
+pub due_fires : (p : Program) (k : Kept) (w : World) → Standing p.rules k w → is_some (top_of k.agenda) ≡ is_some (fires_with p w (first_pending p.rules w))
+due_fires p k w st = ap is_some (same_first p.rules k.agenda w st.agenda) ∙ sym (some_fires p w (first_pending p.rules w))
 
 abbrev pub plan_of : List Rule → Kept → Option Match → Option (List (Result Step Code))
 plan_of rules k o = option_map (λ (m : Match). planned k.facts m.row (actions_of (slice_get rules m.rule.0))) o
 
-pub no_fire : (rules : List Rule) (k : Kept) (w : World) (o : Option Match) → None ≡ plan_of rules k o → Standing rules k w → o ≡ first_pending rules w
-    → FiringAnswers (fires_with rules w (first_pending rules w)) No w (Standing rules k)
-no_fire rules k w None e st top = subst (λ (z : Option Match). FiringAnswers (fires_with rules w z) No w (Standing rules k)) top (refl, st)
-no_fire rules k w (Some m) e st top = absurd (cc)
+pub no_fire : (p : Program) (k : Kept) (w : World) (o : Option Match) → None ≡ plan_of p.rules k o → Standing p.rules k w → o ≡ first_pending p.rules w
+    → FiringAnswers (fires_with p w (first_pending p.rules w)) No w (Standing p.rules k)
+no_fire p k w None e st top = subst (λ (z : Option Match). FiringAnswers (fires_with p w z) No w (Standing p.rules k)) top (refl, st)
+no_fire p k w (Some m) e st top = absurd (cc)
 
-abbrev answers : List Rule → World → Kept → List OutLine → Option Match → Type 0
-answers rules w t lines o = FiringAnswers (fires_with rules w o) (Yes lines) w (Standing rules t)
+abbrev pub answers : Program → World → Kept → List OutLine → Option Match → Type 0
+answers p w t lines o = FiringAnswers (fires_with p w o) (Yes lines) w (Standing p.rules t)
 
-pub yes_fire : (rules : List Rule) (k t : Kept) (w : World) (plan : List (Result Step Code)) (lines : List OutLine) (o : Option Match) → Some plan ≡ plan_of rules k o → Standing rules k w → o ≡ top_of k.agenda
-    → ((m : Match) → Some m ≡ top_of k.agenda → Standing rules t (does_all rules (marked w m) plan).1)
-    → ((m : Match) → Some m ≡ top_of k.agenda → lines ≡ fire_line m ∷ [] ++ (does_all rules (marked w m) plan).0)
-    → answers rules w t lines (first_pending rules w)
-yes_fire rules k t w plan lines None e st top stands written = absurd (cc)
-yes_fire rules k t w plan lines (Some m) e st top stands written =
-    let actions = actions_of (slice_get rules m.rule.0) in
-    let first_is : first_pending rules w ≡ Some m = sym (top ∙ same_first rules k.agenda w st.agenda) in
+pub yes_fire : (p : Program) (k t : Kept) (w : World) (plan : List (Result Step Code)) (lines : List OutLine) (o : Option Match) → Some plan ≡ plan_of p.rules k o → Standing p.rules k w → o ≡ top_of k.agenda
+    → ((m : Match) → Some m ≡ top_of k.agenda → Standing p.rules t (does_all p (marked w m) plan).1)
+    → ((m : Match) → Some m ≡ top_of k.agenda → lines ≡ fire_line m ∷ [] ++ (does_all p (marked w m) plan).0)
+    → answers p w t lines (first_pending p.rules w)
+yes_fire p k t w plan lines None e st top stands written = absurd (cc)
+yes_fire p k t w plan lines (Some m) e st top stands written =
+    let actions = actions_of (slice_get p.rules m.rule.0) in
+    let first_is : first_pending p.rules w ≡ Some m = sym (top ∙ same_first p.rules k.agenda w st.agenda) in
     let given : plan ≡ planned k.facts m.row actions = cc in
-    let same : plan ≡ wanted w.facts m.row actions =
-    given ∙ ap (λ facts. planned facts m.row actions) st.facts ∙ planned_wanted rules w m actions st.lawful (top_match rules k.agenda w m st.agenda top) in
-    subst (answers rules w t lines) (sym first_is)
-    (ap Yes (written m top ∙ ap (λ z. fire_line m ∷ [] ++ (does_all rules (marked w m) z).0) same), subst (λ z. Standing rules t (does_all rules (marked w m) z).1) same (stands m top))
+    let same : plan ≡ wanted w.facts m.row actions = given ∙ planned_wanted p.rules k w m.row actions st in
+    subst (answers p w t lines) (sym first_is)
+    (ap Yes (written m top ∙ ap (λ z. fire_line m ∷ [] ++ (does_all p (marked w m) z).0) same), subst (λ z. Standing p.rules t (does_all p (marked w m) z).1) same (stands m top))

@@ -1,9 +1,11 @@
-pub mod Ids
 pub mod Rules
 pub mod Reordered
+pub mod Members
+pub mod Newest
 pub mod Stands
+pub mod Faults
 pub mod Tried
-pub mod Versions
 pub mod Firings
 pub mod Sessions
 pub mod Acting
+pub mod Asking

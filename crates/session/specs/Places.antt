@@ -1,16 +1,53 @@
--- What actions are to do, with the facts that a session has at their tags.
-use Rattle.std.specs.Prelude.{List, map as list_map, Option, Result}
+-- What is asked of the facts that a session has at their tags, and what its parts keep to.
+use Rattle.std.specs.Prelude.{◌≡◌, ◌≤◌, ℕ, zero, suc, ℤ, pos, ◌-ℤ◌, ◌≤ℤ◌, List, map as list_map, Option, None, Result, slice_get, if◌then◌else◌}
 use Rattle.std.specs.FinMap as map
+use Rattle.std.specs.Int.{int_max}
 use Rattle.fx_base.specs.declared.ids.Tag.{Tag}
 use Rattle.fx_base.specs.declared.fact.Fact.{Fact}
-use Rattle.fact_store.specs.Held.{HeldFacts}
+use Rattle.fact_store.specs.Held.{HeldFacts, IsNewest, is_id}
 use Rattle.row_delta.specs.declared.row.Row.{Row}
 use Rattle.rule_model.specs.declared.action.Action.{Action}
 use Rattle.rule_model.specs.declared.code.Code.{Code}
+use Rattle.rule_model.specs.declared.program.EntryInfo.{EntryInfo}
 use Rattle.rule_model.specs.declared.step.Step.{Step}
+use Rattle.rule_model.specs.Events.{most_millis}
 use Rattle.rule_model.specs.Looked.{named_at}
 use Rattle.rule_model.specs.Planned.{step_of}
+use Rattle.rule_model.specs.Worlds.{lateness_of}
 use Rattle.session.specs.Gives.{step_or_overflow}
+use Rattle.session.specs.Standing.{Kept, last_start_in}
+
+-- ---- the facts
+
+-- of the facts with an id that stand below a tag, the one that stands at the greatest
+unfoldable pub newest_below : HeldFacts → ℕ → ℕ → Option Fact
+newest_below held id zero = None
+newest_below held id (suc tag) = if is_id id (map.get held tag) then map.get held tag else newest_below held id tag
+
+-- the fact of an id
+abbrev pub newest : Kept → ℕ → Option Fact
+newest k id = newest_below k.facts id k.next_tag
+
+-- the newest version of the id has this tag
+pub record IsNewestTag (held : HeldFacts) (id : ℕ) (tag : Tag) : Type 0 where
+  pub fact : Fact
+  pub is_newest : IsNewest held id fact
+  pub tagged : fact.tag ≡ tag
+
+-- no fact stands at the next tag or behind it, no id is ahead of the tags, and the clock is from 0 to 2^53
+pub record IsSafe (facts : HeldFacts) (clock : ℤ) (next_id next_tag : ℕ) : Type 0 where
+  pub fresh : (tag : ℕ) → next_tag ≤ tag → map.get facts tag ≡ None
+  pub ids : next_id ≤ next_tag
+  pub clock_low : pos 0 ≤ℤ clock
+  pub clock_high : clock ≤ℤ most_millis
+
+-- ---- times
+
+-- the floor of an entry point
+abbrev pub floor_in : List EntryInfo → List ℤ → ℤ → ℕ → ℤ
+floor_in entries starts clock entry = int_max (last_start_in starts entry) (clock -ℤ lateness_of (slice_get entries entry))
+
+-- ---- what actions are to do
 
 abbrev pub held_at : HeldFacts → Tag → Option Fact
 held_at held tag = map.get held tag.0

@@ -4,7 +4,7 @@ ghost use Rattle.rule_model.specs.declared.matched.Match.{Match as MatchData};
 ghost use Rattle.rule_model.specs.declared.program.Rule.{Rule as RuleData};
 ghost use Rattle.rule_model.specs.Matches.{fire_cmp};
 ghost use Rattle.rule_model.specs.First.{first};
-ghost use Rattle.rule_model.specs.Programs.{has_few_actions};
+ghost use Rattle.rule_model.specs.Programs.{has_few_actions, IsAccepted};
 ghost use Rattle.rule_model.specs.Worlds.{World, marked};
 ghost use Rattle.session.specs.Gives.{cells, fire_line, actions_of, does_all};
 ghost use Rattle.session.specs.Standing.{Standing};
@@ -14,45 +14,23 @@ use crate::lines::{Cell, OutLine};
 use crate::state::State;
 use crate::steps::Plan;
 use action_eval::{EvalFault, planned_step};
-use change_read::{Code, Present};
-use fx_base::{Fact, Facts, NoMemory, Seq, Tag};
+use change_read::Code;
+use fact_store::FactStore;
+use fx_base::{NoMemory, Seq};
 use row_delta::{Named, Row};
-use rule_model::{Action, Match, Rule, Step};
+use rule_model::{Action, Match, Program, Rule, Step};
 use std::alloc::Global;
-
-/// The facts that a row names, which a session has at their ids.
-#[derive(Drop)]
-struct RowFacts<'a> {
-    row: &'a Row,
-    state: &'a State,
-}
-
-impl<'a> Facts for RowFacts<'a> {
-    ghost use Rattle.session.specs.Places.{fact_named};
-
-    ghost map = { λ f. fact_named f.state.now.facts f.row.now.facts };
-
-    #[tactic(auto, unfolding(crate::specs::Places::fact_named))]
-    fn fact(&self, tag: Tag) -> Option<&Fact> {
-        for named in self.row.facts.as_slice() {
-            if named.tag == tag {
-                return self.state.fact_with(named.id);
-            }
-        }
-        None
-    }
-}
 
 // What an action is to do for a row.
 fn plan_action(
     alloc: Global,
     action: &Action,
     row: &Row,
-    state: &State,
+    facts: &FactStore,
 ) -> Result<Result<Step, Code>, NoMemory>
-    ensures { IfOk result (λ wanted. wanted ≡ planned_for state.now.facts row.now action.now) }
+    ensures { IfOk result (λ wanted. wanted ≡ planned_for facts.now row.now action.now) }
 {
-    match planned_step(alloc, action, row, &RowFacts { row, state }) {
+    match planned_step(alloc, action, row, facts) {
         Ok(step) => Ok(Ok(step)),
         Err(EvalFault::Overflow) => Ok(Err(Code::Overflow)),
         Err(EvalFault::NoMemory) => Err(NoMemory),
@@ -63,13 +41,13 @@ fn plan_actions(
     alloc: Global,
     actions: &[Action],
     row: &Row,
-    state: &State,
+    facts: &FactStore,
 ) -> Result<Plan, NoMemory>
-    ensures { IfOk result (λ plan. plan.items ≡ planned state.now.facts row.now actions.now) }
+    ensures { IfOk result (λ plan. plan.items ≡ planned facts.now row.now actions.now) }
 {
     let mut plan = Vec::with_capacity(alloc, actions.len())?;
     for action in actions {
-        plan.push(plan_action(alloc, action, row, state)?)?;
+        plan.push(plan_action(alloc, action, row, facts)?)?;
     }
     Ok(plan)
 }
@@ -107,14 +85,17 @@ fn line_of(alloc: Global, fired: &Match) -> Result<OutLine, NoMemory>
 impl State {
     /// What the actions of the match that fires first are to do, with the values that the facts have now; `None` exactly where
     /// nothing is pending.
-    pub(crate) fn plan(&self, alloc: Global, rules: &[Rule]) -> Result<Option<Plan>, NoMemory>
-        ensures plan { IfOk result (λ plan. option_map (λ steps. steps.items) plan ≡ option_map (λ (m : MatchData). planned self.now.facts m.row (actions_of (slice_get rules.now m.rule.0)))
+    pub(crate) fn plan(&self, alloc: Global, program: &Program) -> Result<Option<Plan>, NoMemory>
+        ensures plan { IfOk result (λ plan. option_map (λ steps. steps.items) plan ≡ option_map (λ (m : MatchData). planned self.now.facts m.row (actions_of (slice_get program.now.rules m.rule.0)))
             (first (fire_cmp self.now.agenda.saliences) self.now.agenda.pending)) }
-        ensures few { list_all has_few_actions rules.now ≡ true → IfOk result (λ plan. IfSome plan (λ steps. length steps.items ≤ 16)) }
+        ensures few { IsAccepted program.now → IfOk result (λ plan. IfSome plan (λ steps. length steps.items ≤ 16)) }
         ensures pending { IfOk result (λ plan. IfSome plan (λ _. 0 < length self.now.agenda.pending)) }
     {
         match self.top() {
-            Some(top) => Ok(Some(plan_actions(alloc, actions_for(rules, top), &top.row, self)?)),
+            Some(top) => {
+                let actions = actions_for(program.rules.as_slice(), top);
+                Ok(Some(plan_actions(alloc, actions, &top.row, &self.facts)?))
+            }
             None => Ok(None),
         }
     }
@@ -123,22 +104,22 @@ impl State {
     pub(crate) fn fire(
         self,
         alloc: Global,
-        rules: &[Rule],
+        program: &Program,
         plan: Plan,
         lines: &mut Vec<OutLine>,
     ) -> Result<State, NoMemory>
-        requires few { length rules.now ≤ 256 }
+        requires accepted { IsAccepted program.now }
         requires low { self.next_tag + length plan.items ≤ 2 ^ 63 }
         requires pending { 0 < length self.agenda.pending }
-        ensures stands { IfOk result (λ s. (w : World) (m : MatchData) → Standing rules.now self w → Some m ≡ first (fire_cmp self.agenda.saliences) self.agenda.pending
-            → Standing rules.now s (does_all rules.now (marked w m) plan.items).1) }
-        ensures lines { OnOk result ((w : World) (m : MatchData) → Standing rules.now self w → Some m ≡ first (fire_cmp self.agenda.saliences) self.agenda.pending
-            → lines.new.items ≡ lines.old.items ++ fire_line m ∷ [] ++ (does_all rules.now (marked w m) plan.items).0) }
+        ensures stands { IfOk result (λ s. (w : World) (m : MatchData) → Standing program.now.rules self w → Some m ≡ first (fire_cmp self.agenda.saliences) self.agenda.pending
+            → Standing program.now.rules s (does_all program.now (marked w m) plan.items).1) }
+        ensures lines { OnOk result ((w : World) (m : MatchData) → Standing program.now.rules self w → Some m ≡ first (fire_cmp self.agenda.saliences) self.agenda.pending
+            → lines.new.items ≡ lines.old.items ++ fire_line m ∷ [] ++ (does_all program.now (marked w m) plan.items).0) }
         ensures tags { IfOk result (λ s. s.next_tag ≤ self.next_tag + length plan.items) }
     {
         let (state, fired) = self.mark(alloc)?;
         lines.push(line_of(alloc, &fired)?)?;
-        state.apply_all(alloc, rules, plan, lines)
+        state.apply_all(alloc, program, plan, lines)
     }
 
     // Marks the match that fires first.
@@ -150,6 +131,8 @@ impl State {
     {
         let State {
             facts,
+            clock,
+            last_starts,
             agenda,
             next_id,
             next_tag,
@@ -157,6 +140,8 @@ impl State {
         let (agenda, fired) = agenda.fire_top(alloc)?;
         let state = State {
             facts,
+            clock,
+            last_starts,
             agenda,
             next_id,
             next_tag,

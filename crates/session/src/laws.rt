@@ -1,12 +1,18 @@
-//! Laws of firings, each the contract of a function that does nothing.
+//! Laws of changes and firings, each the contract of a function that does nothing.
 ghost use Rattle.std.specs.Prelude.{◌≡◌, true, List, Some};
 ghost use Rattle.rule_model.specs.declared.program.Program.{Program};
 ghost use Rattle.rule_model.specs.Lawful.{IsLawful};
 ghost use Rattle.rule_model.specs.Programs.{IsAccepted};
 ghost use Rattle.rule_model.specs.Typed.{is_typed};
 ghost use Rattle.rule_model.specs.Worlds.{World};
+ghost use Rattle.script_read.specs.declared.asked.Change.{Change};
 ghost use Rattle.session.specs.declared.lines.OutLine.{OutLine};
-ghost use Rattle.session.specs.Gives.{fires};
+ghost use Rattle.session.specs.Gives.{gives, fires};
+
+/// A change leads from a lawful world to a lawful one.
+pub fn changes_keep_worlds_lawful()
+    ensures { (p : Program) (w : World) (change : Change) → IsAccepted p → IsLawful p w → IsLawful p (gives p w change).1 }
+{}
 
 /// A firing leads from a lawful world to a lawful one, where the actions of the program make values of the declared kinds.
 pub fn firings_keep_worlds_lawful()

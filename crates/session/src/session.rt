@@ -5,7 +5,7 @@ use crate::Engine;
 use crate::lines::{Fired, Lines};
 use crate::state::State;
 use change_read::asked_step;
-use fx_base::{NoMemory, Seq};
+use fx_base::{Millis, NoMemory, Seq};
 use rule_model::{Program, Rule};
 use script_read::Change;
 use std::alloc::Global;
@@ -36,8 +36,9 @@ impl Model for Session {
 
     ghost use Rattle.std.specs.Coded.{codes};
     ghost use Rattle.rule_model.specs.ExpressionCode.{expression_code};
+    ghost use Rattle.session.specs.Codes.{held_code};
 
-    ghost coded = { Prim.hlevel (codes, expression_code) };
+    ghost coded = { Prim.hlevel (codes, expression_code, held_code) };
 
     ghost view = { λ s. record { program = s.program; kept = s.state } };
 
@@ -73,9 +74,9 @@ impl Session {
         ensures tags { IfOk result (λ r. r.0.kept.next_tag ≤ self.kept.next_tag + 1) }
     {
         let Session { program, state } = self;
-        let asked = asked_step(alloc, program.types.as_slice(), &state, change)?;
+        let asked = asked_step(alloc, &program, &state, change)?;
         let mut lines = Vec::new(alloc);
-        let state = state.apply(alloc, program.rules.as_slice(), asked, &mut lines)?;
+        let state = state.apply(alloc, &program, asked, &mut lines)?;
         Ok((Session { program, state }, Seq::from_vec(lines)))
     }
 
@@ -88,10 +89,10 @@ impl Session {
         ensures tags { IfOk result (λ r. r.0.kept.next_tag ≤ self.kept.next_tag + 16) }
     {
         let Session { program, state } = self;
-        match state.plan(alloc, program.rules.as_slice())? {
+        match state.plan(alloc, &program)? {
             Some(plan) => {
                 let mut lines = Vec::new(alloc);
-                let state = state.fire(alloc, program.rules.as_slice(), plan, &mut lines)?;
+                let state = state.fire(alloc, &program, plan, &mut lines)?;
                 Ok((Session { program, state }, Fired::Yes(Seq::from_vec(lines))))
             }
             None => Ok((Session { program, state }, Fired::No)),
@@ -103,6 +104,13 @@ impl Session {
         ensures { (w : World) → Stands self.now w → result ≡ is_some (fires self.now.program w) }
     {
         self.state.top().is_some()
+    }
+
+    /// The clock, in milliseconds. Takes no memory.
+    pub fn clock(&self) -> Millis
+        ensures { (w : World) → Stands self.now w → result ≡ w.clock }
+    {
+        self.state.clock()
     }
 
     /// The program that the session was made with. Takes no memory.

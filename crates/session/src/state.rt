@@ -1,82 +1,114 @@
-ghost use Rattle.std.specs.Prelude.{◌≡◌, [], length, None, IfOk, IfSome, option_map, IsNone};
+ghost use Rattle.std.specs.Prelude.{◌≡◌, [], length, pos, IfOk, option_map, false, true, IsSome, IsNone, IfSome, IfErr, None, Some};
+ghost use Rattle.std.specs.FinMap as map;
 ghost use Rattle.rule_model.specs.Matches.{fire_cmp};
 ghost use Rattle.rule_model.specs.First.{first};
-ghost use Rattle.rule_model.specs.Worlds.{fact_of};
-ghost use Rattle.session.specs.Places.{IsAt};
+ghost use Rattle.rule_model.specs.Worlds.{modify_fault, is_of_type};
+ghost use Rattle.session.specs.Places.{IsNewestTag, newest};
 
+use crate::times::is_event;
 use agenda::Agenda;
-use change_read::Present;
-use fx_base::{Fact, FactId, NoMemory};
-use rule_model::Match;
+use change_read::{Code, Present};
+use fact_store::FactStore;
+use fx_base::{Fact, FactId, Millis, NoMemory, Tag, TypeId};
+use rule_model::{Match, Program};
 use std::alloc::Global;
 use std::marker::Model;
 
-/// What a session keeps of its world: the facts in the order of insertion, in which their ids rise, the agenda and the next
-/// numbers.
+/// What a session keeps of its world: the facts by their tags, the clock, the last starts of the entry points, the agenda and the
+/// next numbers.
 #[derive(Drop)]
 pub(crate) struct State {
-    pub(crate) facts: Vec<Fact>,
+    pub(crate) facts: FactStore,
+    /// In milliseconds, from 0 to 2^53.
+    pub(crate) clock: Millis,
+    /// In milliseconds, by the places of the entry points; 0 for those beyond the end.
+    pub(crate) last_starts: Vec<Millis>,
     pub(crate) agenda: Agenda,
     pub(crate) next_id: u64,
     pub(crate) next_tag: u64,
 }
 
 impl Model for State {
-    ghost use Rattle.std.specs.Prelude.{◌≤◌};
-    ghost use Rattle.rule_model.specs.Lawful.{IdsRise};
+    ghost use Rattle.std.specs.Coded.{codes};
+    ghost use Rattle.session.specs.Codes.{held_code};
+    ghost use Rattle.session.specs.Places.{IsSafe};
     ghost use Rattle.session.specs.Standing.{Kept};
 
     ghost Value = { Kept };
 
-    ghost view = { λ s. record { facts = s.facts.items; agenda = s.agenda; next_id = s.next_id; next_tag = s.next_tag } };
+    ghost coded = { Prim.hlevel (codes, held_code) };
 
-    ghost invariant = { λ s. IdsRise 1 s.facts.items s.next_id × (s.next_id ≤ s.next_tag) };
+    ghost view = { λ s. record { facts = s.facts; clock = s.clock; last_starts = s.last_starts.items; agenda = s.agenda; next_id = s.next_id; next_tag = s.next_tag } };
+
+    ghost invariant = { λ s. IsSafe s.facts s.clock s.next_id s.next_tag };
 }
 
 impl State {
-    /// No facts, and nothing pending.
+    /// No facts, the clock at 0, and nothing pending.
     pub(crate) fn new(alloc: Global, saliences: &[i64]) -> Result<State, NoMemory>
-        ensures facts { IfOk result (λ s. s.facts ≡ []) }
+        ensures facts { IfOk result (λ s. s.facts ≡ map.empty) }
+        ensures clock { IfOk result (λ s. s.clock ≡ pos 0) }
+        ensures last_starts { IfOk result (λ s. s.last_starts ≡ []) }
         ensures agenda { IfOk result (λ s. s.agenda ≡ record { saliences = saliences.now; pending = []; fired = [] }) }
         ensures next_id { IfOk result (λ s. s.next_id ≡ 1) }
         ensures next_tag { IfOk result (λ s. s.next_tag ≡ 1) }
     {
         Ok(State {
-            facts: Vec::new(alloc),
+            facts: FactStore::new(alloc),
+            clock: 0,
+            last_starts: Vec::new(alloc),
             agenda: Agenda::new(alloc, saliences)?,
             next_id: 1,
             next_tag: 1,
         })
     }
 
-    /// The pending match that fires first. Takes no memory.
+    /// The match that fires first among the pending ones. Takes no memory.
     pub(crate) fn top(&self) -> Option<&Match>
         ensures { option_map (λ m. m.now) result ≡ first (fire_cmp self.now.agenda.saliences) self.now.agenda.pending }
     {
         self.agenda.top()
     }
 
-    /// The place of the fact with the id. Takes no memory.
-    pub(crate) fn place(&self, id: FactId) -> Option<usize>
-        ensures found { IfSome result (IsAt self.now.facts id.0) }
-        ensures absent { IsNone result → fact_of self.now.facts id.0 ≡ None }
+    /// The clock, in milliseconds. Takes no memory.
+    pub(crate) fn clock(&self) -> Millis
+        ensures { result ≡ self.now.clock }
     {
-        match self.facts.binary_search_by_key(&id.0, |fact| fact.id.0) {
-            Ok(place) => Some(place),
-            Err(_) => None,
+        self.clock
+    }
+
+    /// The tag of the fact that is to be modified, or why it is not to be. Takes no memory.
+    pub(crate) fn modifiable(&self, program: &Program, id: FactId) -> Result<Tag, Code>
+        ensures tag { IfOk result (IsNewestTag self.now.facts id.0) }
+        ensures none { IfOk result (λ _. modify_fault program.now (newest self.now id.0) ≡ None) }
+        ensures fault { IfErr result (λ code. modify_fault program.now (newest self.now id.0) ≡ Some code) }
+    {
+        match self.facts.get(id) {
+            Some(fact) if is_event(program.types.as_slice(), fact.ty) => Err(Code::EventFixed),
+            Some(fact) => Ok(fact.tag),
+            None => Err(Code::Absent),
+        }
+    }
+
+    /// The tag of the fact of the type that has the id. Takes no memory.
+    pub(crate) fn tag_of(&self, ty: TypeId, id: FactId) -> Option<Tag>
+        ensures tag { IfSome result (IsNewestTag self.now.facts id.0) }
+        ensures some { IsSome result → is_of_type ty.0 (newest self.now id.0) ≡ true }
+        ensures none { IsNone result → is_of_type ty.0 (newest self.now id.0) ≡ false }
+    {
+        match self.facts.get(id) {
+            Some(fact) if fact.ty == ty => Some(fact.tag),
+            _ => None,
         }
     }
 }
 
 impl Present for State {
-    ghost use Rattle.rule_model.specs.Worlds.{fact_of};
+    ghost use Rattle.session.specs.Places.{newest};
 
-    ghost present = { λ s. fact_of s.facts };
+    ghost present = { newest };
 
     fn fact_with(&self, id: FactId) -> Option<&Fact> {
-        match self.place(id) {
-            Some(place) => Some(&self.facts[place]),
-            None => None,
-        }
+        self.facts.get(id)
     }
 }

@@ -3,4 +3,4 @@ use Rattle.session.specs.Places.{planned}
 use Rattle.session.proofs.firing.plan_actions.Given as goal
 
 abbrev pub invariant-loop-action : goal.invariant-loop-action
-invariant-loop-action l = l.plan.items ++ planned l.state.facts l.row (drop l.action-index l.actions) ≡ planned l.state.facts l.row l.actions
+invariant-loop-action l = l.plan.items ++ planned l.facts l.row (drop l.action-index l.actions) ≡ planned l.facts l.row l.actions

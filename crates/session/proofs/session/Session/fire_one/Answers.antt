@@ -3,13 +3,12 @@ use Rattle.session.proofs.session.Session.fire_one.Goals as goal
 
 pub returns-in-None-clause-answers : goal.returns-in-None-clause-answers
 returns-in-None-clause-answers c w s =
-    let none = simp (c.as_slice.ensures, c.in-None.is) at c.in_ok-plan.ensures.plan in
+    let none = simp c.in-None.is at c.in_ok-plan.ensures.plan in
     shown_none c.self.inside.program c.self.inside.state c.args.self c.self.view_is w s none
 
 pub returns-in_ok-state-in-Some-clause-answers : goal.returns-in_ok-state-in-Some-clause-answers
 returns-in_ok-state-in-Some-clause-answers c w s =
-    let planned = simp (c.as_slice.ensures, c.in-Some.is) at c.in_ok-plan.ensures.plan in
-    let stands = simp (c.as_slice-in-Some.ensures) at c.in_ok-state-in-Some.ensures.stands in
-    let written = simp (c.as_slice-in-Some.ensures, c.new-lines.ensures.items) at c.in_ok-state-in-Some.ensures.lines in
+    let planned = simp c.in-Some.is at c.in_ok-plan.ensures.plan in
+    let written = simp c.new-lines.ensures.items at c.in_ok-state-in-Some.ensures.lines in
     rw c.from_vec.ensures
-    (shown_fires c.self.inside.program c.self.inside.state c.args.self c.self.view_is w s c.in_ok-state-in-Some.state c.in-Some.plan.items c.fire.new.lines.items planned stands written)
+    (shown_fires c.self.inside.program c.self.inside.state c.args.self c.self.view_is w s c.in_ok-state-in-Some.state c.in-Some.plan.items c.fire.new.lines.items planned c.in_ok-state-in-Some.ensures.stands written)

@@ -1,6 +1,6 @@
 use Rattle.std.proofs.Common.{◌≡◌, [], ◌∷◌, List, Result, ap, length, sym, subst, arith}
 use Rattle.rule_model.specs.declared.step.Step.{Step}
-use Rattle.change_read.specs.declared.code.Code.{Code}
+use Rattle.rule_model.specs.declared.code.Code.{Code}
 use Rattle.session.proofs.Tried.{SoFar, none_done, one_done, all_done_stands, all_done_lines, nothing_left}
 use Rattle.session.proofs.state.State.apply_all.Goals as goal
 
@@ -10,8 +10,8 @@ loop-wanted-init c =
     record {
       tags = omega (arith, ap length all);
       done = λ w s.
-          subst (λ (rest : List (Result Step Code)). SoFar c.args.rules.now w c.args.plan.items c.args.lines.now.items c.args.lines.now.items c.args.self rest) (sym all)
-          (none_done c.args.rules.now w c.args.plan.items c.args.lines.now.items c.args.self s);
+          subst (λ (rest : List (Result Step Code)). SoFar c.args.program.now w c.args.plan.items c.args.lines.now.items c.args.lines.now.items c.args.self rest) (sym all)
+          (none_done c.args.program.now w c.args.plan.items c.args.lines.now.items c.args.self s);
     }
 
 pub loop-wanted-preserved : goal.loop-wanted-preserved
@@ -20,19 +20,19 @@ loop-wanted-preserved c =
     record {
       tags = omega (arith, ap length step, c.loop-wanted.invariant.tags, c.in_ok-state.ensures.tags);
       done = λ w s.
-          one_done c.args.rules.now w c.args.plan.items c.args.lines.now.items c.loop-wanted.lines.items c.apply.new.lines.items c.loop-wanted.state c.in_ok-state.state c.in-Some.wanted c.next.new.self.rest.items
-          (subst (λ (rest : List (Result Step Code)). SoFar c.args.rules.now w c.args.plan.items c.args.lines.now.items c.loop-wanted.lines.items c.loop-wanted.state rest) step (c.loop-wanted.invariant.done w s))
+          one_done c.args.program.now w c.args.plan.items c.args.lines.now.items c.loop-wanted.lines.items c.apply.new.lines.items c.loop-wanted.state c.in_ok-state.state c.in-Some.wanted c.next.new.self.rest.items
+          (subst (λ (rest : List (Result Step Code)). SoFar c.args.program.now w c.args.plan.items c.args.lines.now.items c.loop-wanted.lines.items c.loop-wanted.state rest) step (c.loop-wanted.invariant.done w s))
           c.in_ok-state.ensures.stands c.in_ok-state.ensures.lines;
     }
 
 pub returns-clause-stands : goal.returns-clause-stands
 returns-clause-stands c w s =
     let none : c.loop-wanted.wanted-iterator.rest.items ≡ [] = nothing_left c.loop-wanted.wanted-iterator.rest.items c.loop-wanted.wanted-iterator.rest.len c.loop-wanted.wanted-iterator.rest.ok.0 c.in-None.ensures.steps.0 in
-    all_done_stands c.args.rules.now w c.args.plan.items c.args.lines.now.items c.loop-wanted.lines.items c.loop-wanted.state
-    (subst (λ (rest : List (Result Step Code)). SoFar c.args.rules.now w c.args.plan.items c.args.lines.now.items c.loop-wanted.lines.items c.loop-wanted.state rest) none (c.loop-wanted.invariant.done w s))
+    all_done_stands c.args.program.now w c.args.plan.items c.args.lines.now.items c.loop-wanted.lines.items c.loop-wanted.state
+    (subst (λ (rest : List (Result Step Code)). SoFar c.args.program.now w c.args.plan.items c.args.lines.now.items c.loop-wanted.lines.items c.loop-wanted.state rest) none (c.loop-wanted.invariant.done w s))
 
 pub returns-clause-lines : goal.returns-clause-lines
 returns-clause-lines c w s =
     let none : c.loop-wanted.wanted-iterator.rest.items ≡ [] = nothing_left c.loop-wanted.wanted-iterator.rest.items c.loop-wanted.wanted-iterator.rest.len c.loop-wanted.wanted-iterator.rest.ok.0 c.in-None.ensures.steps.0 in
-    all_done_lines c.args.rules.now w c.args.plan.items c.args.lines.now.items c.loop-wanted.lines.items c.loop-wanted.state
-    (subst (λ (rest : List (Result Step Code)). SoFar c.args.rules.now w c.args.plan.items c.args.lines.now.items c.loop-wanted.lines.items c.loop-wanted.state rest) none (c.loop-wanted.invariant.done w s))
+    all_done_lines c.args.program.now w c.args.plan.items c.args.lines.now.items c.loop-wanted.lines.items c.loop-wanted.state
+    (subst (λ (rest : List (Result Step Code)). SoFar c.args.program.now w c.args.plan.items c.args.lines.now.items c.loop-wanted.lines.items c.loop-wanted.state rest) none (c.loop-wanted.invariant.done w s))

@@ -7,5 +7,5 @@ use Rattle.session.proofs.state.State.apply_all.Given as goal
 abbrev pub invariant-loop-wanted : goal.invariant-loop-wanted
 invariant-loop-wanted l = record {
   tags : l.state.next_tag + length l.wanted-iterator.rest.items ≤ l.fn.self.next_tag + length l.fn.plan.items;
-  done : (w : World) → Standing l.rules l.fn.self w → SoFar l.rules w l.fn.plan.items l.fn.lines.items l.lines.items l.state l.wanted-iterator.rest.items;
+  done : (w : World) → Standing l.program.rules l.fn.self w → SoFar l.program w l.fn.plan.items l.fn.lines.items l.lines.items l.state l.wanted-iterator.rest.items;
 }

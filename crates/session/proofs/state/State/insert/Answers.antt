@@ -1,15 +1,43 @@
-use Rattle.std.proofs.Common.{refl, sym, subst, arith}
-use Rattle.rule_model.proofs.Ids.{ids_more}
+use Rattle.std.proofs.Common.{◌≡◌, Some, None, [], ◌∷◌, ◌++◌, sym, subst, ap}
+use Rattle.std.proofs.lemmas.Result.{IfOk-weaker}
+use Rattle.rule_model.specs.declared.step.Step.TheVariants.{Insert}
+use Rattle.rule_model.specs.Worlds.{with_new}
+use Rattle.session.specs.declared.lines.OutLine.TheVariants.{New}
 use Rattle.session.specs.Standing.{Kept, Standing}
-use Rattle.session.proofs.Stands.{insert_stands, numbered}
+use Rattle.session.proofs.Faults.{insert_done, insert_fault, numbered}
+use Rattle.session.proofs.Tried.{done_stands, done_lines, on_ok, on_ok_weaker, refused_stands, refused_lines}
 use Rattle.session.proofs.state.State.insert.Goals as goal
 
-pub invariant_of-result : goal.invariant_of-result
-invariant_of-result c =
-    (rw c.in_ok-push.ensures.items (ids_more c.self.inside.facts.items 1 c.self.inside.next_id (numbered c.self.inside.next_id c.self.inside.next_tag c.args.ty c.args.fields) refl c.self.invariant.0), omega arith)
+pub returns-in_ok-push-in-Ok-clause-stands : goal.returns-in_ok-push-in-Ok-clause-stands
+returns-in_ok-push-in-Ok-clause-stands c =
+    let k = c.args.self in
+    let p = c.args.program.now in
+    let none = simp c.as_slice.ensures at c.in-Ok.ensures.none in
+    let times = simp c.as_slice.ensures at c.in-Ok.ensures.times in
+    IfOk-weaker c.with_new.result _ _ (λ s h w st. done_stands p w (Insert c.args.ty c.args.entry c.args.fields) s (with_new p w (numbered k c.args.ty c.args.entry c.args.fields c.in-Ok.times))
+    (insert_fault p k w st c.args.ty c.args.entry c.args.fields None none) (insert_done p k w st c.args.ty c.args.entry c.args.fields c.in-Ok.times times)
+    (subst (λ (z : Kept). Standing p.rules s (with_new p w (numbered z c.args.ty c.args.entry c.args.fields c.in-Ok.times))) c.self.view_is (h w st))) c.with_new.ensures.stands
 
-pub returns-clause-stands : goal.returns-clause-stands
-returns-clause-stands c w s =
-    let p = simp (c.deref.ensures.value) at c.in_ok-agenda.ensures in
-    insert_stands c.args.rules.now c.self.inside.facts.items c.self.inside.agenda c.in_ok-agenda.agenda c.self.inside.next_id c.self.inside.next_tag w c.args.ty c.args.fields
-    c.push.new.self.items (subst (λ (k : Kept). Standing c.args.rules.now k w) (sym c.self.view_is) s) c.in_ok-push.ensures.items p
+pub returns-in_ok-push-in-Ok-clause-lines : goal.returns-in_ok-push-in-Ok-clause-lines
+returns-in_ok-push-in-Ok-clause-lines c =
+    let k = c.args.self in
+    let p = c.args.program.now in
+    let none = simp c.as_slice.ensures at c.in-Ok.ensures.none in
+    on_ok c.with_new.result (λ w st. done_lines p w (Insert c.args.ty c.args.entry c.args.fields) c.args.lines.now.items c.push.new.self.items (New (record { 0 = k.next_id }) c.args.ty ∷ [])
+    (insert_fault p k w st c.args.ty c.args.entry c.args.fields None none) (ap (λ n. New (record { 0 = n }) c.args.ty ∷ []) (sym st.next_id))
+    (subst (λ (z : Kept). c.push.new.self.items ≡ c.args.lines.now.items ++ New (record { 0 = z.next_id }) c.args.ty ∷ []) c.self.view_is c.in_ok-push-in-Ok.ensures.items))
+
+pub returns-in-Err-clause-stands : goal.returns-in-Err-clause-stands
+returns-in-Err-clause-stands c =
+    let k = c.args.self in
+    let p = c.args.program.now in
+    let fault = simp c.as_slice.ensures at c.in-Err.ensures.fault in
+    IfOk-weaker c.refuse.result _ _ (λ s e w st. refused_stands p w (Insert c.args.ty c.args.entry c.args.fields) c.in-Err.code (insert_fault p k w st c.args.ty c.args.entry c.args.fields (Some c.in-Err.code) fault) k s e st) c.refuse.ensures.state
+
+pub returns-in-Err-clause-lines : goal.returns-in-Err-clause-lines
+returns-in-Err-clause-lines c =
+    let k = c.args.self in
+    let p = c.args.program.now in
+    let fault = simp c.as_slice.ensures at c.in-Err.ensures.fault in
+    on_ok_weaker c.refuse.result (λ e w st. refused_lines p w (Insert c.args.ty c.args.entry c.args.fields) c.in-Err.code (insert_fault p k w st c.args.ty c.args.entry c.args.fields (Some c.in-Err.code) fault)
+    c.args.lines.now.items c.refuse.new.lines.items e) c.refuse.ensures.lines

@@ -1,27 +1,30 @@
-use Rattle.std.proofs.Common.{◌≡◌, ◌≤◌, refl, sym, ◌∙◌, ap, subst, arith}
-use Rattle.std.specs.List.{insert, remove}
-use Rattle.rule_model.specs.Worlds.{revised}
-use Rattle.session.specs.Places.{IsAt}
-use Rattle.session.specs.Standing.{Kept, Standing}
-use Rattle.session.proofs.Stands.{modify_stands, rise_put_back}
+use Rattle.std.proofs.Common.{Some, None, refl}
+use Rattle.std.proofs.lemmas.Result.{IfOk-weaker}
+use Rattle.rule_model.specs.declared.step.Step.TheVariants.{Modify}
+use Rattle.rule_model.specs.Worlds.{stepped}
+use Rattle.session.proofs.Faults.{modify_fault_is}
+use Rattle.session.proofs.Tried.{done_stands, no_lines, on_ok, on_ok_weaker, refused_stands, refused_lines}
 use Rattle.session.proofs.state.State.modify.Goals as goal
 
-pub invariant_of-result : goal.invariant_of-result
-invariant_of-result c =
-    let at : IsAt c.self.inside.facts.items c.args.id.0 c.args.place = subst (λ (k : Kept). IsAt k.facts c.args.id.0 c.args.place) (sym c.self.view_is) c.requires.at in
-    let made : c.insert.new.self.items ≡ insert (remove c.self.inside.facts.items c.args.place) c.args.place (revised c.self.inside.next_tag c.args.sets c.remove-before.result) =
-    c.in_ok-insert.ensures.items ∙ ap (λ zs. insert zs c.args.place c.in_ok-after.after) c.remove-before.ensures.items ∙ ap (insert (remove c.self.inside.facts.items c.args.place) c.args.place) c.in_ok-after.ensures in
-    let le : c.self.inside.next_id ≤ c.self.inside.next_tag = c.self.invariant.1 in (
-      rw made (rise_put_back c.self.inside.facts.items c.self.inside.next_id c.args.place c.remove-before.result (revised c.self.inside.next_tag c.args.sets c.remove-before.result)
-          c.self.invariant.0 at.within c.remove-before.ensures.value refl),
-      omega arith,
-    )
+pub returns-in-Ok-clause-stands : goal.returns-in-Ok-clause-stands
+returns-in-Ok-clause-stands c =
+    let p = c.args.program.now in
+    IfOk-weaker c.with_sets.result _ _ (λ s h w st. done_stands p w (Modify c.args.id c.args.sets) s (stepped p w (Modify c.args.id c.args.sets))
+    (modify_fault_is p c.args.self w st c.args.id c.args.sets None c.in-Ok.ensures.none) refl (h w st)) c.with_sets.ensures.stands
 
-pub returns-clause-stands : goal.returns-clause-stands
-returns-clause-stands c w s =
-    let at : IsAt c.self.inside.facts.items c.args.id.0 c.args.place = subst (λ (k : Kept). IsAt k.facts c.args.id.0 c.args.place) (sym c.self.view_is) c.requires.at in
-    let made : c.insert.new.self.items ≡ insert (remove c.self.inside.facts.items c.args.place) c.args.place (revised c.self.inside.next_tag c.args.sets c.remove-before.result) =
-    c.in_ok-insert.ensures.items ∙ ap (λ zs. insert zs c.args.place c.in_ok-after.after) c.remove-before.ensures.items ∙ ap (insert (remove c.self.inside.facts.items c.args.place) c.args.place) c.in_ok-after.ensures in
-    let p = simp (c.deref.ensures.value, c.remove-before.ensures.items, c.in_ok-after.ensures) at c.in_ok-agenda.ensures in
-    modify_stands c.args.rules.now c.self.inside.facts.items c.self.inside.agenda c.in_ok-agenda.agenda c.self.inside.next_id c.self.inside.next_tag w c.args.id c.args.place c.remove-before.result c.args.sets
-    c.insert.new.self.items (subst (λ (k : Kept). Standing c.args.rules.now k w) (sym c.self.view_is) s) at c.remove-before.ensures.value made p
+pub returns-in-Ok-clause-lines : goal.returns-in-Ok-clause-lines
+returns-in-Ok-clause-lines c =
+    let p = c.args.program.now in
+    on_ok c.with_sets.result (λ w st. no_lines p w (Modify c.args.id c.args.sets) c.args.lines.now.items (modify_fault_is p c.args.self w st c.args.id c.args.sets None c.in-Ok.ensures.none) refl)
+
+pub returns-in-Err-clause-stands : goal.returns-in-Err-clause-stands
+returns-in-Err-clause-stands c =
+    let p = c.args.program.now in
+    IfOk-weaker c.refuse.result _ _ (λ s e w st. refused_stands p w (Modify c.args.id c.args.sets) c.in-Err.code
+    (modify_fault_is p c.args.self w st c.args.id c.args.sets (Some c.in-Err.code) c.in-Err.ensures.fault) c.args.self s e st) c.refuse.ensures.state
+
+pub returns-in-Err-clause-lines : goal.returns-in-Err-clause-lines
+returns-in-Err-clause-lines c =
+    let p = c.args.program.now in
+    on_ok_weaker c.refuse.result (λ e w st. refused_lines p w (Modify c.args.id c.args.sets) c.in-Err.code
+    (modify_fault_is p c.args.self w st c.args.id c.args.sets (Some c.in-Err.code) c.in-Err.ensures.fault) c.args.lines.now.items c.refuse.new.lines.items e) c.refuse.ensures.lines

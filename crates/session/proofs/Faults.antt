@@ -1,0 +1,160 @@
+-- The faults of steps, by what a session has.
+use Rattle.std.proofs.Common.{◌≡◌, ◌≤◌, ◌^◌, ℕ, ℤ, pos, negsuc, ◌+◌, ◌+ℤ◌, ◌-ℤ◌, ◌≤ℤ◌, Bool, true, false, List, Option, Some, None, slice_get, Bor, FitsSigned, to_z, of_z, to_z-of_z, w64, refl, sym, ◌∙◌, ap, arith}
+use Rattle.std.specs.Prelude.{if◌then◌else◌, int_lt, IfNone, IfSome, option_map}
+use Rattle.std.specs.FinMap as map
+use Rattle.std.specs.Int.{int_max}
+use Rattle.std.proofs.lemmas.Int.{ints}
+use Rattle.fx_base.specs.declared.ids.EntryId.{EntryId}
+use Rattle.fx_base.specs.declared.ids.FactId.{FactId}
+use Rattle.fx_base.specs.declared.ids.TypeId.{TypeId}
+use Rattle.fx_base.specs.declared.times.Times.{Times}
+use Rattle.fx_base.specs.declared.value.Value.{Value}
+use Rattle.fx_base.specs.declared.fact.Fact.{Fact}
+use Rattle.fact_store.specs.Held.{HeldFacts, HoldsNone, IsNewest}
+use Rattle.rule_model.specs.declared.code.Code.{Code}
+use Rattle.rule_model.specs.declared.code.Code.TheVariants.{Absent, ClockBack, ClockEnd}
+use Rattle.rule_model.specs.declared.program.Program.{Program}
+use Rattle.rule_model.specs.declared.step.Step.TheVariants.{Insert, Modify, Retract, Advance, At}
+use Rattle.rule_model.specs.Events.{clock_fault, most_millis, new_fault, times_of}
+use Rattle.rule_model.specs.Worlds.{World, at_clock, floor, is_event, is_of_type, lateness_of, modify_fault, retract_fault, step_fault, stepped, with_new}
+use Rattle.rule_model.proofs.Vain.{vain_retraction}
+use Rattle.session.specs.Places.{IsSafe, floor_in, newest}
+use Rattle.session.specs.Standing.{Kept, Standing}
+use Rattle.session.proofs.Members.{got_old, none_left}
+use Rattle.session.proofs.Newest.{store_found, store_none, world_found}
+use Rattle.session.proofs.Stands.{for_world, own}
+
+-- ---- numbers
+
+-- a clock fits
+pub clock_same : (clock : ℤ) → pos 0 ≤ℤ clock → clock ≤ℤ most_millis → to_z w64 (of_z w64 clock) ≡ clock
+unfolding most_millis
+clock_same (pos n) low high = let less : n ≤ 2 ^ 53 = omega (arith, ints) in let fits : FitsSigned w64 (pos n) = omega (arith, ints) in to_z-of_z fits
+clock_same (negsuc n) low high = absurd (omega (arith, ints))
+
+moved_by : (a b : Bool) → ◌≡◌ {A = Option Code} (if a then Some ClockBack else if b then Some ClockEnd else None) None → (a ≡ false) × (b ≡ false)
+moved_by true b e = absurd (let n : Some ClockBack ≡ None = e in cc)
+moved_by false true e = absurd (let n : Some ClockEnd ≡ None = e in cc)
+moved_by false false e = (refl, refl)
+
+not_before : (x y : ℤ) → int_lt x y ≡ false → y ≤ℤ x
+not_before x y e = grind (arith, ints)
+
+later : (x y z : ℤ) → x ≤ℤ y → y ≤ℤ z → x ≤ℤ z
+later x y z a b = omega (arith, ints)
+
+-- and so does the one to which it moves
+pub moved_same : (now next : ℤ) → pos 0 ≤ℤ now → clock_fault now next ≡ None → to_z w64 (of_z w64 next) ≡ next
+moved_same now next low e =
+    let r = moved_by (int_lt next now) (int_lt most_millis next) e in
+    clock_same next (later (pos 0) now next low (not_before next now r.0)) (not_before most_millis next r.1)
+
+pub zero_clock : (pos 0 ≤ℤ pos 0) × (pos 0 ≤ℤ most_millis)
+unfolding most_millis
+zero_clock = (omega (arith, ints), omega (arith, ints))
+
+-- ---- insertions
+
+abbrev pub numbered : Kept → TypeId → EntryId → List Value → Times → Fact
+numbered k ty entry fields times = record {
+  id = record { 0 = k.next_id };
+  ty = ty;
+  entry = entry;
+  fields = fields;
+  tag = record { 0 = k.next_tag };
+  times = times;
+}
+
+module _ (p : Program) (k : Kept) (w : World) (st : Standing p.rules k w) where
+  module _ (ty : TypeId) (entry : EntryId) (fields : List Value) where
+    pub insert_fault : (o : Option Code) → new_fault (slice_get p.types ty.0) (floor_in p.entries k.last_starts k.clock entry.0) k.clock fields ≡ o → step_fault p w (Insert ty entry fields) ≡ o
+    unfolding step_fault floor
+    insert_fault o e =
+        ap (λ z. new_fault (slice_get p.types ty.0) (int_max z (w.clock -ℤ lateness_of (slice_get p.entries entry.0))) w.clock fields) (sym (st.last_starts entry.0))
+        ∙ ap (λ z. new_fault (slice_get p.types ty.0) (floor_in p.entries k.last_starts z entry.0) z fields) (sym st.clock) ∙ e
+
+    pub insert_done : (times : Times) → times ≡ times_of (slice_get p.types ty.0) k.clock fields → stepped p w (Insert ty entry fields) ≡ with_new p w (numbered k ty entry fields times)
+    unfolding stepped
+    insert_done times e =
+        for_world p.rules k w (λ v. stepped p v (Insert ty entry fields) ≡ with_new p v (numbered k ty entry fields times)) st
+        (λ s. ap (λ t. with_new p (own k w) (numbered k ty entry fields t)) (sym e))
+
+  -- ---- modifications and retractions
+
+  pub modify_fault_is : (id : FactId) (sets : List (ℕ × Value)) (o : Option Code) → modify_fault p (newest k id.0) ≡ o → step_fault p w (Modify id sets) ≡ o
+  unfolding step_fault
+  modify_fault_is id sets o e = ap (modify_fault p) (sym (world_found p.rules k w st id.0)) ∙ e
+
+  pub retract_fault_is : (ty : TypeId) (id : FactId) (o : Option Code) → retract_fault p ty.0 (newest k id.0) ≡ o → step_fault p w (Retract ty id) ≡ o
+  unfolding step_fault
+  retract_fault_is ty id o e = ap (retract_fault p ty.0) (sym (world_found p.rules k w st id.0)) ∙ e
+
+  pub retract_vain : (ty : TypeId) (id : FactId) → is_of_type ty.0 (newest k id.0) ≡ false → stepped p w (Retract ty id) ≡ w
+  retract_vain ty id e = vain_retraction p w ty id st.ordered (ap (is_of_type ty.0) (sym (world_found p.rules k w st id.0)) ∙ e)
+
+  -- ---- moves of the clock
+
+  pub advance_fault : (by : ℤ) (o : Option Code) → clock_fault k.clock (k.clock +ℤ by) ≡ o → step_fault p w (Advance by) ≡ o
+  unfolding step_fault
+  advance_fault by o e = ap (λ z. clock_fault z (z +ℤ by)) (sym st.clock) ∙ e
+
+  pub advance_done : (by clock : ℤ) → clock ≡ k.clock +ℤ by → stepped p w (Advance by) ≡ at_clock p w clock
+  unfolding stepped
+  advance_done by clock e = ap (at_clock p w) (ap (λ z. z +ℤ by) (sym st.clock) ∙ sym e)
+
+  pub at_fault : (moment : ℤ) (o : Option Code) → clock_fault k.clock moment ≡ o → step_fault p w (At moment) ≡ o
+  unfolding step_fault
+  at_fault moment o e = ap (λ z. clock_fault z moment) (sym st.clock) ∙ e
+
+pub at_done : (p : Program) (w : World) (moment clock : ℤ) → clock ≡ moment → stepped p w (At moment) ≡ at_clock p w clock
+unfolding stepped
+at_done p w moment clock e = ap (at_clock p w) (sym e)
+
+-- ---- the fault of a retraction
+
+retract_by : (a b : Bool) → b ≡ true → ◌≡◌ {A = Option Code} (if a then None else if b then None else Some Absent) None
+retract_by true b e = refl
+retract_by false true e = refl
+retract_by false false e = let n : false ≡ true = e in cc
+
+pub retract_found : (p : Program) (ty : ℕ) (o : Option Fact) → is_of_type ty o ≡ true → retract_fault p ty o ≡ None
+retract_found p ty o e = retract_by (is_event p ty) (is_of_type ty o) e
+
+pub retract_event : (p : Program) (ty : ℕ) (o : Option Fact) → is_event p ty ≡ true → retract_fault p ty o ≡ None
+retract_event p ty o e = ap (λ b. if b then None else if is_of_type ty o then None else Some Absent) e
+
+pub retract_absent : (p : Program) (ty : ℕ) (o : Option Fact) → is_event p ty ≡ false → is_of_type ty o ≡ false → retract_fault p ty o ≡ Some Absent
+retract_absent p ty o e h =
+    ap (λ b. if b then None else if is_of_type ty o then None else Some Absent) e ∙ ap (λ b. if b then None else Some Absent) h
+
+-- ---- what the store finds
+
+pub presented : (k : Kept) → IsSafe k.facts k.clock k.next_id k.next_tag → (id : ℕ) (o : Option (Bor Fact)) → IfSome o (λ f. IsNewest k.facts id f.now) → IfNone o (HoldsNone k.facts id)
+    → option_map (λ (f : Bor Fact). f.now) o ≡ newest k id
+presented k safe id None some none = sym (store_none k id none)
+presented k safe id (Some f) some none = sym (store_found k safe id f.now some)
+
+-- ---- what the parts of a session keep to
+
+pub safe_new : (facts more : HeldFacts) (clock : ℤ) (id tag : ℕ) (f : Fact) → IsSafe facts clock id tag → f.tag.0 ≡ tag → more ≡ map.insert facts f.tag.0 f → IsSafe more clock (id + 1) (tag + 1)
+safe_new facts more clock id tag f safe at made = record {
+  fresh = λ t le.
+      let apart : t ≡ f.tag.0 → ⊥ = λ (e : t ≡ f.tag.0). absurd (omega (arith, e, at, le)) in
+      ap (λ m. map.get m t) made ∙ got_old facts f t apart ∙ safe.fresh t (omega (arith, le));
+  ids = let le : id ≤ tag = safe.ids in omega arith;
+  clock_low = safe.clock_low;
+  clock_high = safe.clock_high;
+}
+
+pub safe_less : (facts less : HeldFacts) (clock : ℤ) (id tag out : ℕ) → IsSafe facts clock id tag → less ≡ map.remove facts out → IsSafe less clock id tag
+safe_less facts less clock id tag out safe made = record {
+  fresh = λ t le. ap (λ m. map.get m t) made ∙ none_left facts out t (safe.fresh t le);
+  ids = safe.ids;
+  clock_low = safe.clock_low;
+  clock_high = safe.clock_high;
+}
+
+pub safe_again : (less more : HeldFacts) (clock : ℤ) (id tag : ℕ) (f : Fact) → IsSafe less clock id tag → f.tag.0 ≡ tag → more ≡ map.insert less f.tag.0 f → IsSafe more clock id (tag + 1)
+safe_again less more clock id tag f safe at made =
+    let s = safe_new less more clock id tag f safe at made in
+    record { fresh = s.fresh; ids = (let le : id ≤ tag = safe.ids in omega arith); clock_low = s.clock_low; clock_high = s.clock_high }

@@ -1,0 +1,5 @@
+use Rattle.session.proofs.Asking.{gives_lawful}
+use Rattle.session.proofs.laws.changes_keep_worlds_lawful.Goals as goal
+
+pub returns : goal.returns
+returns c p w change accepted l = gives_lawful p w change accepted l
