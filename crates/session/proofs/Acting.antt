@@ -1,7 +1,6 @@
 -- Firings lead from lawful worlds to lawful ones.
-use Rattle.std.proofs.Common.{◌≡◌, ◌==◌, ℕ, inl, inr, not, Bool, true, false, cond, List, [], ◌∷◌, map, Option, Some, None, refl, sym, ◌∙◌, ap, subst, arith}
-use Rattle.std.specs.Prelude.{Result, Ok, Err, slice_get, if◌then◌else◌}
-use Rattle.std.proofs.lemmas.Bool.Decides.{nat_tests}
+use Rattle.std.proofs.Common.{◌≡◌, inl, inr, not, true, List, [], ◌∷◌, Option, Some, None, refl, sym, ◌∙◌, subst}
+use Rattle.std.specs.Prelude.{Result, Ok, Err, slice_get}
 use Rattle.fx_base.specs.declared.ids.Tag.{Tag}
 use Rattle.fx_base.specs.declared.fact.Fact.{Fact}
 use Rattle.rule_model.specs.declared.action.Action.{Action}
@@ -23,33 +22,15 @@ use Rattle.rule_model.specs.Worlds.{World, stepped, step_fault, fact_of, pending
 use Rattle.rule_model.proofs.Acting.{steps_fit}
 use Rattle.rule_model.proofs.Fresh.{and_parts}
 use Rattle.rule_model.proofs.Lawfuls.{step_lawful, firing_lawful}
-use Rattle.rule_model.proofs.Listed.{of_map, in_map}
+use Rattle.rule_model.proofs.Listed.{of_map}
 use Rattle.rule_model.proofs.Pending.{has_pending, first_is_pending}
 use Rattle.rule_model.proofs.RuleOf.{IsMatchOf, rule_of, in_place}
 use Rattle.rule_model.proofs.Staying.{Stays, step_stays, same_stays, stays_on, fits_later}
 use Rattle.session.specs.declared.lines.OutLine.{OutLine}
+use Rattle.session.proofs.Members.{version_in}
 use Rattle.session.specs.Gives.{tries_with, does, does_all, version_of, step_or_overflow, wanted, actions_of, fires_match, fires_with, fires}
 
--- ---- the version with a tag
-
-same_tag : (a b : Tag) → (a.0 == b.0) ≡ true → a ≡ b
-same_tag a b e = let n : a.0 ≡ b.0 = grind (arith, nat_tests) in ap (λ (n : ℕ). record { 0 = n }) n
-
-tag_itself : (a b : Tag) → a ≡ b → (a.0 == b.0) ≡ true
-tag_itself a b e = let n : a.0 ≡ b.0 = ap (λ (t : Tag). t.0) e in grind (arith, nat_tests)
-
--- over distinct tags a fact is the version with its tag
-version_in : (facts : List Fact) (f : Fact) → HaveDistinctTags facts → In f facts → version_of facts f.tag ≡ Some f
-unfolding version_of
-version_in [] f d i = absurd i
-version_in (x ∷ facts) f d (inl e) =
-    ap (λ b. cond b (Some x) (version_of facts f.tag)) (tag_itself x.tag f.tag (ap (λ (z : Fact). z.tag) (sym e))) ∙ ap Some (sym e)
-version_in (x ∷ facts) f d (inr i) = by (x.tag.0 == f.tag.0) refl (version_in facts f d.1 i)
-  where
-    by : (b : Bool) → (x.tag.0 == f.tag.0) ≡ b → version_of facts f.tag ≡ Some f → (if x.tag.0 == f.tag.0 then Some x else version_of facts f.tag) ≡ Some f
-    by true e k =
-        absurd (d.0 (subst (λ (t : Tag). In t (map (λ (g : Fact). g.tag) facts)) (sym (same_tag x.tag f.tag e)) (in_map (λ (g : Fact). g.tag) f facts i)))
-    by false e k = ap (λ b. cond b (Some x) (version_of facts f.tag)) e ∙ k
+-- ---- the versions with the tags
 
 holds_each : (facts_at : Tag → Option Fact) (facts : List Fact) → ((f : Fact) → In f facts → facts_at f.tag ≡ Some f) → Holds facts_at facts
 holds_each facts_at [] h = tt
