@@ -21,32 +21,17 @@ use Rattle.replay.specs.declared.rule_file.Reading.TheVariants.{Accepted, Refuse
 abbrev pub whole_file : RefusalCode → Refusal
 whole_file reason = record { item = 0; line = 0; code = reason }
 
-abbrev pub lexical_code : LexCode → RefusalCode
-lexical_code lex.BadChar = code.BadChar
-lexical_code lex.OpenText = code.OpenText
-lexical_code lex.OpenComment = code.OpenComment
-lexical_code lex.NumberLarge = code.NumberLarge
-
-abbrev pub check_code : CheckCode → RefusalCode
-check_code check.NotBuilt = code.NotBuilt
-check_code check.TwiceDeclared = code.TwiceDeclared
-check_code check.LimitPassed = code.LimitPassed
-check_code check.UnknownType = code.UnknownType
-check_code check.UnknownField = code.UnknownField
-check_code check.UnknownVariable = code.UnknownVariable
-check_code check.WrongKind = code.WrongKind
-
 -- a file that passes all checks, or its first failure
 abbrev pub of_checked : Result Program Failure → Reading
 of_checked (Ok program) = Accepted program
-of_checked (Err failure) = Refused (record { item = within_32_bits failure.number; line = failure.line; code = check_code failure.code })
+of_checked (Err failure) = Refused (record { item = within_32_bits failure.number; line = failure.line; code = code.Checked failure.code })
 
 -- bytes that are a file, or what is refused first
 abbrev pub of_parsed : Parsed → Reading
 of_parsed (is_file file) = of_checked (checked file)
 of_parsed (outside item line) = Refused (record { item = item; line = line; code = code.Syntax })
 of_parsed too_long = Refused (whole_file code.TooLong)
-of_parsed (lexical reason line) = Refused (record { item = 0; line = line; code = lexical_code reason })
+of_parsed (lexical reason line) = Refused (record { item = 0; line = line; code = code.Lexical reason })
 
 -- what the bytes of a rule file are
 abbrev pub reading : List ℕ → Reading
@@ -61,21 +46,31 @@ abbrev pub IsRefused : Reading → Type 0
 IsRefused (Accepted program) = ⊥
 IsRefused (Refused refusal) = Unit {0}
 
+abbrev pub lexical_code_text : LexCode → List ℕ
+lexical_code_text lex.BadChar = codes "BadChar"
+lexical_code_text lex.OpenText = codes "OpenText"
+lexical_code_text lex.OpenComment = codes "OpenComment"
+lexical_code_text lex.NumberLarge = codes "NumberLarge"
+
+abbrev pub check_code_text : CheckCode → List ℕ
+check_code_text check.NotBuilt = codes "NotBuilt"
+check_code_text check.TwiceDeclared = codes "TwiceDeclared"
+check_code_text check.LimitPassed = codes "LimitPassed"
+check_code_text check.UnknownType = codes "UnknownType"
+check_code_text check.UnknownField = codes "UnknownField"
+check_code_text check.UnknownVariable = codes "UnknownVariable"
+check_code_text check.WrongKind = codes "WrongKind"
+check_code_text check.NotAnEvent = codes "NotAnEvent"
+check_code_text check.BadTimestamp = codes "BadTimestamp"
+check_code_text check.EventFixed = codes "EventFixed"
+check_code_text check.BadParams = codes "BadParams"
+
 abbrev pub refusal_code_text : RefusalCode → List ℕ
 refusal_code_text code.Missing = codes "Missing"
 refusal_code_text code.TooLong = codes "TooLong"
-refusal_code_text code.BadChar = codes "BadChar"
-refusal_code_text code.OpenText = codes "OpenText"
-refusal_code_text code.OpenComment = codes "OpenComment"
-refusal_code_text code.NumberLarge = codes "NumberLarge"
 refusal_code_text code.Syntax = codes "Syntax"
-refusal_code_text code.NotBuilt = codes "NotBuilt"
-refusal_code_text code.TwiceDeclared = codes "TwiceDeclared"
-refusal_code_text code.LimitPassed = codes "LimitPassed"
-refusal_code_text code.UnknownType = codes "UnknownType"
-refusal_code_text code.UnknownField = codes "UnknownField"
-refusal_code_text code.UnknownVariable = codes "UnknownVariable"
-refusal_code_text code.WrongKind = codes "WrongKind"
+refusal_code_text (code.Lexical reason) = lexical_code_text reason
+refusal_code_text (code.Checked reason) = check_code_text reason
 
 -- the line of a refused file
 abbrev pub refusal_text : Refusal → List ℕ

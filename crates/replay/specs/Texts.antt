@@ -9,8 +9,8 @@ use Rattle.session.specs.declared.lines.OutLine.{OutLine}
 use Rattle.session.specs.declared.lines.OutLine.TheVariants.{New, Fire, Fault}
 use Rattle.session.specs.declared.lines.Cell.{Cell}
 use Rattle.session.specs.declared.lines.Cell.TheVariants as cell
-use Rattle.change_read.specs.declared.code.Code.{Code}
-use Rattle.change_read.specs.declared.code.Code.TheVariants as code
+use Rattle.rule_model.specs.declared.code.Code.{Code}
+use Rattle.rule_model.specs.declared.code.Code.TheVariants as code
 use Rattle.replay.specs.declared.fault.LineCode.{LineCode}
 use Rattle.replay.specs.declared.fault.LineCode.TheVariants as fault
 
@@ -35,24 +35,27 @@ quoted_byte b =
 abbrev pub cell_text : Cell → List ℕ
 cell_text (cell.Fact id) = codes " #" ++ decimal id.0
 
+-- the code of a change or an action that the engine refuses
+abbrev pub change_code_text : Code → List ℕ
+change_code_text code.UnknownType = codes "UnknownType"
+change_code_text code.UnknownEntry = codes "UnknownEntry"
+change_code_text code.EventFixed = codes "EventFixed"
+change_code_text code.Absent = codes "Absent"
+change_code_text code.BadFields = codes "BadFields"
+change_code_text code.BadValue = codes "BadValue"
+change_code_text code.BadDuration = codes "BadDuration"
+change_code_text code.Late = codes "Late"
+change_code_text code.Ahead = codes "Ahead"
+change_code_text code.ClockBack = codes "ClockBack"
+change_code_text code.ClockEnd = codes "ClockEnd"
+change_code_text code.Overflow = codes "Overflow"
+
 -- the code of a faulty line
 abbrev pub code_text : LineCode → List ℕ
 code_text fault.LineLong = codes "LineLong"
 code_text fault.BadJson = codes "BadJson"
 code_text fault.BadCommand = codes "BadCommand"
-code_text fault.UnknownType = codes "UnknownType"
-code_text fault.Absent = codes "Absent"
-code_text fault.BadFields = codes "BadFields"
-code_text fault.BadValue = codes "BadValue"
-code_text fault.Overflow = codes "Overflow"
-
--- the code of a change or an action that the engine refuses
-abbrev pub change_code : Code → LineCode
-change_code code.UnknownType = fault.UnknownType
-change_code code.Absent = fault.Absent
-change_code code.BadFields = fault.BadFields
-change_code code.BadValue = fault.BadValue
-change_code code.Overflow = fault.Overflow
+code_text (fault.Refused code) = change_code_text code
 
 -- a line of the script with this number had a fault
 abbrev pub fault_text : ℕ → LineCode → List ℕ
@@ -67,7 +70,7 @@ unfoldable pub line_text : Program → ℕ → OutLine → List ℕ
 line_text p number (New id ty) = codes "new #" ++ decimal id.0 ++ codes " " ++ type_name (slice_get p.types ty.0) ++ 10 ∷ []
 line_text p number (Fire rule cells) =
     codes "fire \"" ++ flat_map quoted_byte (rule_name (slice_get p.rules rule.0)) ++ codes "\"" ++ flat_map cell_text cells ++ 10 ∷ []
-line_text p number (Fault code) = fault_text number (change_code code)
+line_text p number (Fault code) = fault_text number (fault.Refused code)
 
 abbrev pub lines_text : Program → ℕ → List OutLine → List ℕ
 lines_text p number lines = flat_map (line_text p number) lines

@@ -2,6 +2,7 @@ ghost use Rattle.std.specs.Prelude.{◌≡◌};
 ghost use Rattle.replay.specs.declared.fault.RunFault.TheVariants.{WriteFault, NoMemory as OutOfMemory};
 ghost use Rattle.replay.specs.Faults.{run_fault};
 
+use change_read::Code;
 use fx_base::NoMemory;
 use fx_io::{Failed, LineFault};
 
@@ -42,17 +43,8 @@ pub(crate) enum LineCode {
     BadJson,
     /// Its reading has none of the forms of a command.
     BadCommand,
-    /// The type is not declared.
-    UnknownType,
-    /// No present fact of the type has the id.
-    Absent,
-    /// The members of an insertion are not exactly the declared fields; or those of a modification are none, or one of them is no
-    /// declared field.
-    BadFields,
-    /// A value has another kind than its field, or is a text of more than 4,096 bytes.
-    BadValue,
-    /// An expression of an action, or a part of one, is outside 64 bits.
-    Overflow,
+    /// The engine refuses the change or the action.
+    Refused(Code),
 }
 
 pub(crate) fn of_line_fault(fault: LineFault) -> RunFault

@@ -1,5 +1,5 @@
 ghost use Rattle.std.specs.Prelude.{◌≡◌, ◌++◌, OnOk};
-ghost use Rattle.replay.specs.Refusals.{check_code, lexical_code, refusal_code_text, refusal_text, whole_file as whole_file_of};
+ghost use Rattle.replay.specs.Refusals.{check_code_text, lexical_code_text, refusal_code_text, refusal_text, whole_file as whole_file_of};
 
 use crate::text::push_number;
 use drl_check::CheckCode;
@@ -14,18 +14,12 @@ pub(crate) enum RefusalCode {
     Missing,
     /// The file has more than 1,048,576 bytes.
     TooLong,
-    BadChar,
-    OpenText,
-    OpenComment,
-    NumberLarge,
+    /// It is not made of tokens.
+    Lexical(LexCode),
+    /// An item is outside the grammar.
     Syntax,
-    NotBuilt,
-    TwiceDeclared,
-    LimitPassed,
-    UnknownType,
-    UnknownField,
-    UnknownVariable,
-    WrongKind,
+    /// An item fails a check.
+    Checked(CheckCode),
 }
 
 /// Why a rule file is refused, and where. Items and lines are counted from 1; 0 stands for none of them.
@@ -47,31 +41,35 @@ pub(crate) fn whole_file(code: RefusalCode) -> Refusal
     }
 }
 
-/// The code of a fault of the lexer.
-pub(crate) fn of_lexer(code: LexCode) -> RefusalCode
-    ensures { result ≡ lexical_code code }
+fn push_lexical_code(text: &mut Vec<u8>, code: LexCode) -> Result<(), NoMemory>
+    ensures { OnOk result (text.new.items ≡ text.old.items ++ lexical_code_text code) }
 {
     match code {
-        LexCode::BadChar => RefusalCode::BadChar,
-        LexCode::OpenText => RefusalCode::OpenText,
-        LexCode::OpenComment => RefusalCode::OpenComment,
-        LexCode::NumberLarge => RefusalCode::NumberLarge,
+        LexCode::BadChar => text.extend_from_slice(b"BadChar")?,
+        LexCode::OpenText => text.extend_from_slice(b"OpenText")?,
+        LexCode::OpenComment => text.extend_from_slice(b"OpenComment")?,
+        LexCode::NumberLarge => text.extend_from_slice(b"NumberLarge")?,
     }
+    Ok(())
 }
 
-/// The code of a check.
-pub(crate) fn of_check(code: CheckCode) -> RefusalCode
-    ensures { result ≡ check_code code }
+fn push_check_code(text: &mut Vec<u8>, code: CheckCode) -> Result<(), NoMemory>
+    ensures { OnOk result (text.new.items ≡ text.old.items ++ check_code_text code) }
 {
     match code {
-        CheckCode::NotBuilt => RefusalCode::NotBuilt,
-        CheckCode::TwiceDeclared => RefusalCode::TwiceDeclared,
-        CheckCode::LimitPassed => RefusalCode::LimitPassed,
-        CheckCode::UnknownType => RefusalCode::UnknownType,
-        CheckCode::UnknownField => RefusalCode::UnknownField,
-        CheckCode::UnknownVariable => RefusalCode::UnknownVariable,
-        CheckCode::WrongKind => RefusalCode::WrongKind,
+        CheckCode::NotBuilt => text.extend_from_slice(b"NotBuilt")?,
+        CheckCode::TwiceDeclared => text.extend_from_slice(b"TwiceDeclared")?,
+        CheckCode::LimitPassed => text.extend_from_slice(b"LimitPassed")?,
+        CheckCode::UnknownType => text.extend_from_slice(b"UnknownType")?,
+        CheckCode::UnknownField => text.extend_from_slice(b"UnknownField")?,
+        CheckCode::UnknownVariable => text.extend_from_slice(b"UnknownVariable")?,
+        CheckCode::WrongKind => text.extend_from_slice(b"WrongKind")?,
+        CheckCode::NotAnEvent => text.extend_from_slice(b"NotAnEvent")?,
+        CheckCode::BadTimestamp => text.extend_from_slice(b"BadTimestamp")?,
+        CheckCode::EventFixed => text.extend_from_slice(b"EventFixed")?,
+        CheckCode::BadParams => text.extend_from_slice(b"BadParams")?,
     }
+    Ok(())
 }
 
 fn push_refusal_code(text: &mut Vec<u8>, code: RefusalCode) -> Result<(), NoMemory>
@@ -80,18 +78,9 @@ fn push_refusal_code(text: &mut Vec<u8>, code: RefusalCode) -> Result<(), NoMemo
     match code {
         RefusalCode::Missing => text.extend_from_slice(b"Missing")?,
         RefusalCode::TooLong => text.extend_from_slice(b"TooLong")?,
-        RefusalCode::BadChar => text.extend_from_slice(b"BadChar")?,
-        RefusalCode::OpenText => text.extend_from_slice(b"OpenText")?,
-        RefusalCode::OpenComment => text.extend_from_slice(b"OpenComment")?,
-        RefusalCode::NumberLarge => text.extend_from_slice(b"NumberLarge")?,
         RefusalCode::Syntax => text.extend_from_slice(b"Syntax")?,
-        RefusalCode::NotBuilt => text.extend_from_slice(b"NotBuilt")?,
-        RefusalCode::TwiceDeclared => text.extend_from_slice(b"TwiceDeclared")?,
-        RefusalCode::LimitPassed => text.extend_from_slice(b"LimitPassed")?,
-        RefusalCode::UnknownType => text.extend_from_slice(b"UnknownType")?,
-        RefusalCode::UnknownField => text.extend_from_slice(b"UnknownField")?,
-        RefusalCode::UnknownVariable => text.extend_from_slice(b"UnknownVariable")?,
-        RefusalCode::WrongKind => text.extend_from_slice(b"WrongKind")?,
+        RefusalCode::Lexical(code) => push_lexical_code(text, code)?,
+        RefusalCode::Checked(code) => push_check_code(text, code)?,
     }
     Ok(())
 }

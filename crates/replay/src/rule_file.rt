@@ -9,7 +9,7 @@ ghost use Rattle.replay.specs.Refusals.{of_parsed, of_checked, reading, IsSound}
 ghost use Rattle.replay.specs.declared.rule_file.Reading.TheVariants.{Refused};
 ghost use Rattle.replay.specs.declared.rule_file.FileFault.TheVariants.{NoMemory as OutOfMemory};
 
-use crate::refusal::{Refusal, RefusalCode, of_check, of_lexer, whole_file};
+use crate::refusal::{Refusal, RefusalCode, whole_file};
 use drl_check::{CheckFault, check};
 use drl_parse::{File, ParseFault, parse};
 use fx_base::NoMemory;
@@ -106,7 +106,7 @@ fn parse_refusal(fault: ParseFault) -> Result<Refusal, NoMemory>
         ParseFault::Lexical { code, line } => Ok(Refusal {
             item: 0,
             line: u64::from(line),
-            code: of_lexer(code),
+            code: RefusalCode::Lexical(code),
         }),
         ParseFault::Syntax { item, line } => Ok(Refusal {
             item: u64::from(item),
@@ -125,7 +125,7 @@ fn check_refusal(fault: CheckFault) -> Result<Refusal, NoMemory>
         CheckFault::Refused { item, line, code } => Ok(Refusal {
             item: u64::from(item),
             line: u64::from(line),
-            code: of_check(code),
+            code: RefusalCode::Checked(code),
         }),
         CheckFault::NoMemory => Err(NoMemory),
     }

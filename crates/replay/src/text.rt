@@ -1,7 +1,7 @@
 ghost use Rattle.std.specs.Prelude.{◌≡◌, ◌++◌, ◌||◌, IfOk, OnOk, slice_get};
 ghost use Rattle.std.specs.Fmt.{decimal};
 ghost use Rattle.std.specs.List.{flat_map};
-ghost use Rattle.replay.specs.Texts.{type_name, rule_name, quoted_byte, cell_text, code_text, change_code, fault_text, limit_text, line_text, lines_text, is_fault, has_fault};
+ghost use Rattle.replay.specs.Texts.{type_name, rule_name, quoted_byte, cell_text, code_text, change_code_text, fault_text, limit_text, line_text, lines_text, is_fault, has_fault};
 
 use crate::fault::LineCode;
 use change_read::Code;
@@ -73,6 +73,26 @@ fn push_cells(text: &mut Vec<u8>, alloc: Global, cells: &[Cell]) -> Result<(), N
     Ok(())
 }
 
+fn push_change_code_text(text: &mut Vec<u8>, code: Code) -> Result<(), NoMemory>
+    ensures { OnOk result (text.new.items ≡ text.old.items ++ change_code_text code) }
+{
+    match code {
+        Code::UnknownType => text.extend_from_slice(b"UnknownType")?,
+        Code::UnknownEntry => text.extend_from_slice(b"UnknownEntry")?,
+        Code::EventFixed => text.extend_from_slice(b"EventFixed")?,
+        Code::Absent => text.extend_from_slice(b"Absent")?,
+        Code::BadFields => text.extend_from_slice(b"BadFields")?,
+        Code::BadValue => text.extend_from_slice(b"BadValue")?,
+        Code::BadDuration => text.extend_from_slice(b"BadDuration")?,
+        Code::Late => text.extend_from_slice(b"Late")?,
+        Code::Ahead => text.extend_from_slice(b"Ahead")?,
+        Code::ClockBack => text.extend_from_slice(b"ClockBack")?,
+        Code::ClockEnd => text.extend_from_slice(b"ClockEnd")?,
+        Code::Overflow => text.extend_from_slice(b"Overflow")?,
+    }
+    Ok(())
+}
+
 fn push_code(text: &mut Vec<u8>, code: LineCode) -> Result<(), NoMemory>
     ensures { OnOk result (text.new.items ≡ text.old.items ++ code_text code) }
 {
@@ -80,25 +100,9 @@ fn push_code(text: &mut Vec<u8>, code: LineCode) -> Result<(), NoMemory>
         LineCode::LineLong => text.extend_from_slice(b"LineLong")?,
         LineCode::BadJson => text.extend_from_slice(b"BadJson")?,
         LineCode::BadCommand => text.extend_from_slice(b"BadCommand")?,
-        LineCode::UnknownType => text.extend_from_slice(b"UnknownType")?,
-        LineCode::Absent => text.extend_from_slice(b"Absent")?,
-        LineCode::BadFields => text.extend_from_slice(b"BadFields")?,
-        LineCode::BadValue => text.extend_from_slice(b"BadValue")?,
-        LineCode::Overflow => text.extend_from_slice(b"Overflow")?,
+        LineCode::Refused(code) => push_change_code_text(text, code)?,
     }
     Ok(())
-}
-
-fn code_of(code: Code) -> LineCode
-    ensures { result ≡ change_code code }
-{
-    match code {
-        Code::UnknownType => LineCode::UnknownType,
-        Code::Absent => LineCode::Absent,
-        Code::BadFields => LineCode::BadFields,
-        Code::BadValue => LineCode::BadValue,
-        Code::Overflow => LineCode::Overflow,
-    }
 }
 
 /// Appends the line of a faulty line of the script.
@@ -160,7 +164,7 @@ fn push_line(
             Ok(false)
         }
         OutLine::Fault(code) => {
-            push_fault(text, alloc, number, code_of(*code))?;
+            push_fault(text, alloc, number, LineCode::Refused(*code))?;
             Ok(true)
         }
     }
