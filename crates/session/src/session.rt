@@ -21,7 +21,8 @@ fn saliences_of(alloc: Global, rules: &[Rule]) -> Result<Vec<i64>, NoMemory>
     Ok(all)
 }
 
-/// An engine in some world of its program. It keeps the facts in the order of insertion, and an agenda.
+/// An engine in some world of its program. It keeps the facts under their tags, the clock, the last starts of the entry points, and
+/// an agenda.
 #[derive(Drop)]
 pub struct Session {
     program: Program,

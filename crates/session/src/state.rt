@@ -1,4 +1,4 @@
-ghost use Rattle.std.specs.Prelude.{◌≡◌, [], length, pos, IfOk, option_map, false, true, IsSome, IsNone, IfSome, IfErr, None, Some};
+ghost use Rattle.std.specs.Prelude.{◌≡◌, [], pos, IfOk, option_map, false, true, IsSome, IsNone, IfSome, IfErr, None, Some};
 ghost use Rattle.std.specs.FinMap as map;
 ghost use Rattle.rule_model.specs.Matches.{fire_cmp};
 ghost use Rattle.rule_model.specs.First.{first};

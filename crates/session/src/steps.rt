@@ -109,7 +109,7 @@ impl State {
         })
     }
 
-    // The state with a modification of the fact of the id, which has this tag.
+    // The state with a modification of the fact of the id, which has this tag and is there.
     fn with_sets(
         self,
         alloc: Global,
@@ -153,7 +153,7 @@ impl State {
         })
     }
 
-    // The state without the fact of the type and the id, which has this tag.
+    // The state without the fact of the type and the id, which has this tag and is there.
     fn without(
         self,
         alloc: Global,
