@@ -107,7 +107,10 @@ fn lines_ask_for_commands(rt: HostRuntime) -> Result<(), Fail> {
         (b"{\"do\":\"advance\",\"ms\":1}", "Err(BadCommand)"),
         (b"{\"do\":\"at\",\"by\":1}", "Err(BadCommand)"),
         (b"{\"do\":\"at\",\"ms\":1.0}", "Err(BadCommand)"),
-        (b"{\"do\":\"advance\",\"by\":9223372036854775808}", "Err(BadCommand)"),
+        (
+            b"{\"do\":\"advance\",\"by\":9223372036854775808}",
+            "Err(BadCommand)",
+        ),
         (b"{\"do\":\"advance\",\"by\":1,\"ms\":1}", "Err(BadCommand)"),
         (b"{\"do\":\"at\"}", "Err(BadCommand)"),
     ];

@@ -5,9 +5,7 @@ use std::test::Fail;
 fn the_load_1_has_its_rules_and_lines(rt: HostRuntime) -> Result<(), Fail> {
     let generated = generate(rt.alloc(), 1)?;
     let rules = generated.rules.as_slice();
-    assert!(rt;
-        rules.starts_with(b"declare Card @role( event ) acct : long amount : long end\n")
-    );
+    assert!(rt; rules.starts_with(b"declare Card @role( event ) acct : long amount : long end\n"));
     assert!(rt; rules.ends_with(b"over window:time( 20s ), count( $m ) ) then end\n"));
     let script = generated.script.as_slice();
     let first: &[u8] = br#"{"do":"advance","by":838}

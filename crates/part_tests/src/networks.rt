@@ -2,9 +2,9 @@ ghost use Rattle.std.specs.Prelude.{◌≡◌, ◌≢◌, ◌<◌};
 
 use fx_base::{Bound, Seq};
 use std::alloc::Global;
-use temporal_net::{Minimal, Net, NetEdge, NetFault};
 use std::process::Abort;
 use std::test::Fail;
+use temporal_net::{Minimal, Net, NetEdge, NetFault};
 
 #[test]
 fn worked_networks(rt: HostRuntime) -> Result<(), Fail> {

@@ -1,7 +1,6 @@
 -- What is asked of the facts that a session has at their tags, and what its parts keep to.
-use Rattle.std.specs.Prelude.{◌≡◌, ◌≤◌, ℕ, zero, suc, ℤ, pos, ◌-ℤ◌, ◌≤ℤ◌, List, map as list_map, Option, None, Result, slice_get, if◌then◌else◌}
+use Rattle.std.specs.Prelude.{◌≡◌, ◌≤◌, ℕ, zero, suc, ℤ, pos, ◌≤ℤ◌, List, map as list_map, Option, None, Result, slice_get, if◌then◌else◌}
 use Rattle.std.specs.FinMap as map
-use Rattle.std.specs.Int.{int_max}
 use Rattle.fx_base.specs.declared.ids.Tag.{Tag}
 use Rattle.fx_base.specs.declared.fact.Fact.{Fact}
 use Rattle.fact_store.specs.Held.{HeldFacts, IsNewest, is_id}
@@ -13,7 +12,7 @@ use Rattle.rule_model.specs.declared.step.Step.{Step}
 use Rattle.rule_model.specs.Events.{most_millis}
 use Rattle.rule_model.specs.Looked.{named_at}
 use Rattle.rule_model.specs.Planned.{step_of}
-use Rattle.rule_model.specs.Worlds.{lateness_of}
+use Rattle.rule_model.specs.Worlds.{floor_of}
 use Rattle.session.specs.Gives.{step_or_overflow}
 use Rattle.session.specs.Standing.{Kept, last_start_in}
 
@@ -43,9 +42,9 @@ pub record IsSafe (facts : HeldFacts) (clock : ℤ) (next_id next_tag : ℕ) : T
 
 -- ---- times
 
--- the floor of an entry point
+-- the floor of an entry point, by the last starts that are kept
 abbrev pub floor_in : List EntryInfo → List ℤ → ℤ → ℕ → ℤ
-floor_in entries starts clock entry = int_max (last_start_in starts entry) (clock -ℤ lateness_of (slice_get entries entry))
+floor_in entries starts clock entry = floor_of (slice_get entries entry) (last_start_in starts entry) clock
 
 -- ---- what actions are to do
 
