@@ -68,7 +68,7 @@ module _ (p : Program) (v : World) (first : IsLawful p v) where
 
 -- ---- a firing
 
-asked_step : (found : Option Step) (step : Step) → step_or_overflow found ≡ Ok step → found ≡ Some step
+pub asked_step : (found : Option Step) (step : Step) → step_or_overflow found ≡ Ok step → found ≡ Some step
 asked_step None step e = absurd cc
 asked_step (Some other) step e = cc
 

@@ -43,7 +43,7 @@ same_first rules a w s =
     ∙ first_alike (fire_cmp (saliences rules)) (fire_total (saliences rules)) (fire_exact (saliences rules)) a.pending (pending rules w)
     (λ q. by_fire (saliences rules) q a.pending ∙ s.pending q ∙ sym (by_fire (saliences rules) q (pending rules w)))
 
-top_pending : (rules : List Rule) (a : Held) (w : World) (m : Match) → AgendaStands rules a w → Some m ≡ top_of a → has_match (pending rules w) m ≡ true
+pub top_pending : (rules : List Rule) (a : Held) (w : World) (m : Match) → AgendaStands rules a w → Some m ≡ top_of a → has_match (pending rules w) m ≡ true
 top_pending rules a w m s top =
     sym (s.pending m) ∙ sym (by_fire a.saliences m a.pending) ∙ first_in (fire_cmp a.saliences) (fire_total a.saliences) (fire_exact a.saliences) a.pending m (sym top)
 

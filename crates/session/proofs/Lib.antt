@@ -9,3 +9,4 @@ pub mod Firings
 pub mod Sessions
 pub mod Acting
 pub mod Asking
+pub mod Knowing

@@ -65,7 +65,7 @@ no_matches k (rule ∷ rules) some m =
 empty_ordered : (rules : List Rule) → IsOrdered rules empty_world
 empty_ordered rules = record { ids = omega arith; tags = tt; fresh = refl; fired = λ m e. absurd (let h : false ≡ true = e in cc) }
 
-abbrev start : List Rule → Kept
+abbrev pub start : List Rule → Kept
 start rules = kept map_of.empty (pos 0) [] (record { saliences = saliences rules; pending = []; fired = [] }) 1 1
 
 pub empty_stands : (rules : List Rule) (k : Kept) → list_all has_conditions rules ≡ true → k ≡ start rules → Standing rules k empty_world

@@ -1,4 +1,5 @@
 pub mod Gives
+pub mod Known
 pub mod Standing
 pub mod Refreshed
 pub mod Places

@@ -6,6 +6,7 @@ use Rattle.rule_model.specs.declared.matched.Match.{Match}
 use Rattle.rule_model.specs.declared.program.Program.{Program}
 use Rattle.rule_model.specs.declared.program.Rule.{Rule}
 use Rattle.rule_model.specs.Matches.{saliences, has_match}
+use Rattle.rule_model.specs.Programs.{IsAccepted}
 use Rattle.rule_model.specs.Worlds.{World, pending}
 use Rattle.rule_model.specs.Lawful.{IsOrdered}
 use Rattle.agenda.specs.Agendas.{Held}
@@ -50,6 +51,12 @@ pub record Shown : Type 0 where
 
 abbrev pub Stands : Shown → World → Type 0
 Stands s w = Standing s.program.rules s.kept w
+
+-- a session's program is accepted, and there is a world for which the session stands
+pub record StandsForSome (p : Program) (k : Kept) : Type 0 where
+  pub accepted : IsAccepted p
+  pub world : World
+  pub stands : Standing p.rules k world
 
 -- what a firing answers, by what fires in the world
 abbrev pub FiringAnswers : Option (List OutLine × World) → Fired → World → (World → Type 0) → Type 0

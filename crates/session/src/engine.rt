@@ -1,9 +1,11 @@
-ghost use Rattle.std.specs.Prelude.{◌≡◌, ◌+◌, ◌≤◌, ◌<◌, ◌^◌, ℕ, List, Option, IfOk, is_some};
+ghost use Rattle.std.specs.Prelude.{◌≡◌, ◌+◌, ◌≤◌, ◌<◌, ◌^◌, ℕ, true, List, Option, IfOk, is_some};
 ghost use Rattle.rule_model.specs.declared.program.Program.{Program as ProgramData};
 ghost use Rattle.rule_model.specs.Programs.{IsAccepted};
+ghost use Rattle.rule_model.specs.Typed.{is_typed};
 ghost use Rattle.rule_model.specs.Worlds.{World, empty_world};
 ghost use Rattle.script_read.specs.declared.asked.Change.{Change as ChangeData};
 ghost use Rattle.session.specs.declared.lines.OutLine.{OutLine as OutLineData};
+ghost use Rattle.session.specs.Known.{are_known, is_known_firing};
 ghost use Rattle.session.specs.Standing.{FiringAnswers};
 
 use crate::lines::{Fired, Lines};
@@ -41,6 +43,7 @@ pub trait Engine: Sized + Drop {
         requires { tags self < 2 ^ 62 }
         ensures lines { IfOk result (λ r. (w : World) → stands self w → r.1 ≡ (gives (made_with self) w change.now).0) }
         ensures next { IfOk result (λ r. (w : World) → stands self w → stands r.0 (gives (made_with self) w change.now).1) }
+        ensures known { is_typed (made_with self) ≡ true → IfOk result (λ r. are_known (made_with self) r.1 ≡ true) }
         ensures program { IfOk result (λ r. made_with r.0 ≡ made_with self) }
         ensures tags { IfOk result (λ r. tags r.0 ≤ tags self + 1) };
 
@@ -48,6 +51,7 @@ pub trait Engine: Sized + Drop {
     fn fire_one(self, alloc: Global) -> Result<(Self, Fired), NoMemory>
         requires { tags self < 2 ^ 62 }
         ensures answers { IfOk result (λ r. (w : World) → stands self w → FiringAnswers (fires (made_with self) w) r.1 w (stands r.0)) }
+        ensures known { is_typed (made_with self) ≡ true → IfOk result (λ r. is_known_firing (made_with self) r.1 ≡ true) }
         ensures program { IfOk result (λ r. made_with r.0 ≡ made_with self) }
         ensures tags { IfOk result (λ r. tags r.0 ≤ tags self + 16) };
 

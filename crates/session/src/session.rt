@@ -1,4 +1,4 @@
-ghost use Rattle.std.specs.Prelude.{◌≡◌, ◌+◌, ◌≤◌, ◌^◌, IfOk, is_some};
+ghost use Rattle.std.specs.Prelude.{◌≡◌, ◌+◌, ◌≤◌, ◌^◌, true, IfOk, is_some};
 ghost use Rattle.rule_model.specs.Matches.{saliences};
 
 use crate::Engine;
@@ -30,8 +30,7 @@ pub struct Session {
 }
 
 impl Model for Session {
-    ghost use Rattle.rule_model.specs.Programs.{IsAccepted};
-    ghost use Rattle.session.specs.Standing.{Shown};
+    ghost use Rattle.session.specs.Standing.{Shown, StandsForSome};
 
     ghost Value = { Shown };
 
@@ -43,13 +42,15 @@ impl Model for Session {
 
     ghost view = { λ s. record { program = s.program; kept = s.state } };
 
-    ghost invariant = { λ s. IsAccepted s.program };
+    ghost invariant = { λ s. StandsForSome s.program s.state };
 }
 
 impl Session {
     ghost use Rattle.rule_model.specs.Programs.{IsAccepted};
+    ghost use Rattle.rule_model.specs.Typed.{is_typed};
     ghost use Rattle.rule_model.specs.Worlds.{World, empty_world};
     ghost use Rattle.session.specs.Gives.{gives, fires};
+    ghost use Rattle.session.specs.Known.{are_known, is_known_firing};
     ghost use Rattle.session.specs.Standing.{Stands, FiringAnswers};
 
     /// An engine in the empty world of a program.
@@ -71,6 +72,7 @@ impl Session {
         requires { self.kept.next_tag ≤ 2 ^ 62 }
         ensures lines { IfOk result (λ r. (w : World) → Stands self w → r.1 ≡ (gives self.program w change.now).0) }
         ensures next { IfOk result (λ r. (w : World) → Stands self w → Stands r.0 (gives self.program w change.now).1) }
+        ensures known { is_typed self.program ≡ true → IfOk result (λ r. are_known self.program r.1 ≡ true) }
         ensures program { IfOk result (λ r. r.0.program ≡ self.program) }
         ensures tags { IfOk result (λ r. r.0.kept.next_tag ≤ self.kept.next_tag + 1) }
     {
@@ -86,6 +88,7 @@ impl Session {
     pub fn fire_one(self, alloc: Global) -> Result<(Session, Fired), NoMemory>
         requires { self.kept.next_tag ≤ 2 ^ 62 }
         ensures answers { IfOk result (λ r. (w : World) → Stands self w → FiringAnswers (fires self.program w) r.1 w (Stands r.0)) }
+        ensures known { is_typed self.program ≡ true → IfOk result (λ r. is_known_firing self.program r.1 ≡ true) }
         ensures program { IfOk result (λ r. r.0.program ≡ self.program) }
         ensures tags { IfOk result (λ r. r.0.kept.next_tag ≤ self.kept.next_tag + 16) }
     {

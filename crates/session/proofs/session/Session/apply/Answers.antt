@@ -1,4 +1,5 @@
 use Rattle.std.proofs.Common.{◌∙◌}
+use Rattle.session.proofs.Knowing.{change_known, some_changed}
 use Rattle.session.proofs.Sessions.{change_lines, change_stands}
 use Rattle.session.proofs.session.Session.apply.Goals as goal
 
@@ -10,3 +11,13 @@ returns-clause-lines c w s =
 pub returns-clause-next : goal.returns-clause-next
 returns-clause-next c w s =
     change_stands c.self.inside.program c.self.inside.state c.args.self c.self.view_is w s c.args.change.now c.in_ok-asked.asked c.in_ok-asked.ensures c.in_ok-state.state c.in_ok-state.ensures.stands
+
+pub returns-clause-known : goal.returns-clause-known
+returns-clause-known c typed =
+    let taken = simp c.new-lines.ensures.items at c.in_ok-state.ensures.lines in
+    rw c.from_vec.ensures
+    (change_known c.self.inside.program c.self.inside.state c.args.self c.self.view_is c.self.invariant c.args.change.now c.in_ok-asked.asked c.in_ok-asked.ensures c.apply.new.lines.items taken)
+
+pub invariant_of-result : goal.invariant_of-result
+invariant_of-result c =
+    some_changed c.self.inside.program c.self.inside.state c.in_ok-state.state c.in_ok-asked.asked c.self.invariant c.in_ok-state.ensures.stands

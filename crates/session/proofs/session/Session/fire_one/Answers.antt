@@ -1,3 +1,4 @@
+use Rattle.session.proofs.Knowing.{fired_known, some_fired}
 use Rattle.session.proofs.Sessions.{shown_none, shown_fires}
 use Rattle.session.proofs.session.Session.fire_one.Goals as goal
 
@@ -12,3 +13,15 @@ returns-in_ok-state-in-Some-clause-answers c w s =
     let written = simp c.new-lines.ensures.items at c.in_ok-state-in-Some.ensures.lines in
     rw c.from_vec.ensures
     (shown_fires c.self.inside.program c.self.inside.state c.args.self c.self.view_is w s c.in_ok-state-in-Some.state c.in-Some.plan.items c.fire.new.lines.items planned c.in_ok-state-in-Some.ensures.stands written)
+
+pub returns-in_ok-state-in-Some-clause-known : goal.returns-in_ok-state-in-Some-clause-known
+returns-in_ok-state-in-Some-clause-known c typed =
+    let planned = simp c.in-Some.is at c.in_ok-plan.ensures.plan in
+    let written = simp c.new-lines.ensures.items at c.in_ok-state-in-Some.ensures.lines in
+    rw c.from_vec.ensures
+    (fired_known c.self.inside.program c.self.inside.state c.args.self c.self.view_is c.self.invariant typed c.in-Some.plan.items c.fire.new.lines.items planned written)
+
+pub invariant_of-result : goal.invariant_of-result
+invariant_of-result c =
+    let planned = simp c.in-Some.is at c.in_ok-plan.ensures.plan in
+    some_fired c.self.inside.program c.self.inside.state c.in_ok-state-in-Some.state c.in-Some.plan.items c.self.invariant planned c.in_ok-state-in-Some.ensures.stands

@@ -1,0 +1,21 @@
+-- Lines that name types and rules of the program alone.
+use Rattle.std.specs.Prelude.{Bool, true, List, length, nat_lt}
+use Rattle.std.specs.List.{list_all}
+use Rattle.rule_model.specs.declared.program.Program.{Program}
+use Rattle.session.specs.declared.lines.Fired.{Fired}
+use Rattle.session.specs.declared.lines.Fired.TheVariants.{No, Yes}
+use Rattle.session.specs.declared.lines.OutLine.{OutLine}
+use Rattle.session.specs.declared.lines.OutLine.TheVariants.{New, Fire, Fault}
+
+-- the type or the rule that a line names is one of the program
+abbrev pub is_known : Program → OutLine → Bool
+is_known p (New id ty) = nat_lt ty.0 (length p.types)
+is_known p (Fire rule cells) = nat_lt rule.0 (length p.rules)
+is_known p (Fault code) = true
+
+abbrev pub are_known : Program → List OutLine → Bool
+are_known p lines = list_all (is_known p) lines
+
+abbrev pub is_known_firing : Program → Fired → Bool
+is_known_firing p No = true
+is_known_firing p (Yes lines) = are_known p lines
