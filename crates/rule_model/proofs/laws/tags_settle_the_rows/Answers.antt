@@ -1,0 +1,5 @@
+use Rattle.rule_model.proofs.Once.{tags_settle}
+use Rattle.rule_model.proofs.laws.tags_settle_the_rows.Goals as goal
+
+pub returns : goal.returns
+returns c p s d cs a b is also e = tags_settle p s d cs a b is also e

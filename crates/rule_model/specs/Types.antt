@@ -1,0 +1,43 @@
+-- What a program says of a type or of an entry point, by its place. What is no type of the program is a plain one of points that never
+-- expires, and what is no entry point of it has no lateness.
+use Rattle.std.specs.Prelude.{ℕ, ℤ, pos, Bool, true, false, Option, Some, None, slice_get}
+use Rattle.rule_model.specs.declared.program.EntryInfo.{EntryInfo}
+use Rattle.rule_model.specs.declared.program.Program.{Program}
+use Rattle.rule_model.specs.declared.program.TypeInfo.{TypeInfo}
+
+abbrev pub is_event_type : Option TypeInfo → Bool
+is_event_type None = false
+is_event_type (Some ty) = ty.event
+
+-- a type without a duration is one of points
+abbrev pub is_point_type : Option TypeInfo → Bool
+is_point_type None = true
+is_point_type (Some ty) = without_duration ty.duration
+  where
+    without_duration : Option ℕ → Bool
+    without_duration None = true
+    without_duration (Some place) = false
+
+abbrev pub expiry_in : Option TypeInfo → Option ℤ
+expiry_in None = None
+expiry_in (Some ty) = ty.expires
+
+abbrev pub lateness_in : Option EntryInfo → ℤ
+lateness_in None = pos 0
+lateness_in (Some entry) = entry.lateness
+
+-- whether the facts of a type are events
+unfoldable pub is_event : Program → ℕ → Bool
+is_event p ty = is_event_type (slice_get p.types ty)
+
+-- whether the events of a type end where they start
+unfoldable pub is_point : Program → ℕ → Bool
+is_point p ty = is_point_type (slice_get p.types ty)
+
+-- how long behind its start an event of a type is present, in milliseconds; nothing where the type has no explicit expiry
+unfoldable pub expiry_of : Program → ℕ → Option ℤ
+expiry_of p ty = expiry_in (slice_get p.types ty)
+
+-- how far behind the clock an event may start in an entry point, in milliseconds
+unfoldable pub lateness_of : Program → ℕ → ℤ
+lateness_of p entry = lateness_in (slice_get p.entries entry)
