@@ -1,16 +1,17 @@
 ghost use Rattle.std.specs.Prelude.{◌≡◌, ◌+◌, ◌≤◌, ◌<◌, ◌^◌, ℕ, true, List, Option, IfOk, is_some};
+ghost use Rattle.rule_model.specs.declared.life.LifeTable.{LifeTable as LifeTableData};
 ghost use Rattle.rule_model.specs.declared.program.Program.{Program as ProgramData};
-ghost use Rattle.rule_model.specs.Programs.{IsAccepted};
-ghost use Rattle.rule_model.specs.Typed.{is_typed};
-ghost use Rattle.rule_model.specs.Worlds.{World, empty_world};
+ghost use Rattle.rule_model.specs.Lives.{IsTable};
+ghost use Rattle.rule_world.specs.Programs.{IsRunnable};
+ghost use Rattle.rule_world.specs.Worlds.{World, empty_world};
 ghost use Rattle.script_read.specs.declared.asked.Change.{Change as ChangeData};
-ghost use Rattle.session.specs.declared.lines.OutLine.{OutLine as OutLineData};
-ghost use Rattle.session.specs.Known.{are_known, is_known_firing};
-ghost use Rattle.session.specs.Standing.{FiringAnswers};
+ghost use Rattle.engine.specs.declared.lines.OutLine.{OutLine as OutLineData};
+ghost use Rattle.engine.specs.Known.{are_known, is_known_firing};
+ghost use Rattle.engine.specs.Answers.{FiringAnswers};
 
 use crate::lines::{Fired, Lines};
 use fx_base::NoMemory;
-use rule_model::Program;
+use rule_model::{LifeTable, Program};
 use script_read::Change;
 use std::alloc::Global;
 
@@ -22,6 +23,9 @@ pub trait Engine: Sized + Drop {
 
     ghost made_with: { Self → ProgramData };
 
+    // the table of lives that it was made with
+    ghost table: { Self → LifeTableData };
+
     // how many tags it has given at most
     ghost tags: { Self → ℕ };
 
@@ -31,11 +35,13 @@ pub trait Engine: Sized + Drop {
     // the lines of one firing, and the next world; nothing where nothing is pending
     ghost fires: { ProgramData → World → Option (List OutLineData × World) };
 
-    /// An engine in the empty world of a program.
-    fn new(alloc: Global, program: Program) -> Result<Self, NoMemory>
-        requires { IsAccepted program }
+    /// An engine in the empty world of a program, with a table of the lives of its types.
+    fn new(alloc: Global, program: Program, lives: LifeTable) -> Result<Self, NoMemory>
+        requires runnable { IsRunnable program }
+        requires table { IsTable program lives }
         ensures stands { IfOk result (λ e. stands e empty_world) }
         ensures program { IfOk result (λ e. made_with e ≡ program) }
+        ensures table { IfOk result (λ e. table e ≡ lives) }
         ensures tags { IfOk result (λ e. tags e ≡ 0) };
 
     /// The lines of a change, or its fault, which leaves the world as it is.
@@ -43,16 +49,18 @@ pub trait Engine: Sized + Drop {
         requires { tags self < 2 ^ 62 }
         ensures lines { IfOk result (λ r. (w : World) → stands self w → r.1 ≡ (gives (made_with self) w change.now).0) }
         ensures next { IfOk result (λ r. (w : World) → stands self w → stands r.0 (gives (made_with self) w change.now).1) }
-        ensures known { is_typed (made_with self) ≡ true → IfOk result (λ r. are_known (made_with self) r.1 ≡ true) }
+        ensures known { IfOk result (λ r. are_known (made_with self) r.1 ≡ true) }
         ensures program { IfOk result (λ r. made_with r.0 ≡ made_with self) }
+        ensures table { IfOk result (λ r. table r.0 ≡ table self) }
         ensures tags { IfOk result (λ r. tags r.0 ≤ tags self + 1) };
 
     /// The lines of one firing; `No` exactly where nothing is pending.
     fn fire_one(self, alloc: Global) -> Result<(Self, Fired), NoMemory>
         requires { tags self < 2 ^ 62 }
         ensures answers { IfOk result (λ r. (w : World) → stands self w → FiringAnswers (fires (made_with self) w) r.1 w (stands r.0)) }
-        ensures known { is_typed (made_with self) ≡ true → IfOk result (λ r. is_known_firing (made_with self) r.1 ≡ true) }
+        ensures known { IfOk result (λ r. is_known_firing (made_with self) r.1 ≡ true) }
         ensures program { IfOk result (λ r. made_with r.0 ≡ made_with self) }
+        ensures table { IfOk result (λ r. table r.0 ≡ table self) }
         ensures tags { IfOk result (λ r. tags r.0 ≤ tags self + 16) };
 
     /// Whether a match is pending. Takes no memory.

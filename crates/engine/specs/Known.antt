@@ -2,10 +2,10 @@
 use Rattle.std.specs.Prelude.{Bool, true, List, length, nat_lt}
 use Rattle.std.specs.List.{list_all}
 use Rattle.rule_model.specs.declared.program.Program.{Program}
-use Rattle.session.specs.declared.lines.Fired.{Fired}
-use Rattle.session.specs.declared.lines.Fired.TheVariants.{No, Yes}
-use Rattle.session.specs.declared.lines.OutLine.{OutLine}
-use Rattle.session.specs.declared.lines.OutLine.TheVariants.{New, Fire, Fault}
+use Rattle.engine.specs.declared.lines.Fired.{Fired}
+use Rattle.engine.specs.declared.lines.Fired.TheVariants.{No, Yes}
+use Rattle.engine.specs.declared.lines.OutLine.{OutLine}
+use Rattle.engine.specs.declared.lines.OutLine.TheVariants.{New, Fire, Fault}
 
 -- the type or the rule that a line names is one of the program
 abbrev pub is_known : Program → OutLine → Bool

@@ -1,5 +1,5 @@
-use change_read::Code;
 use fx_base::{FactId, RuleId, Seq, TypeId};
+use rule_world::Code;
 
 /// The lines of a change or a firing, in their order. Those of a firing are its own line and those of its actions.
 pub type Lines = Seq<OutLine>;

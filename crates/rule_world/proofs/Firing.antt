@@ -1,0 +1,26 @@
+-- The first pending match.
+use Rattle.std.proofs.Common.{◌≡◌, List, [], ◌∷◌, true, Some, None, refl, ◌∙◌}
+use Rattle.std.specs.declared.cmp.Ordering.{Ordering}
+use Rattle.std.specs.declared.cmp.Ordering.TheVariants.{Less}
+use Rattle.rule_model.specs.declared.matched.Match.{Match}
+use Rattle.rule_model.specs.declared.program.Program.{Program}
+use Rattle.rule_model.specs.First.{first}
+use Rattle.rule_model.specs.Matches.{fire_cmp, saliences, has_match}
+use Rattle.rule_model.specs.MatchOrders.{fire_total}
+use Rattle.rule_model.proofs.Exact.{fire_exact}
+use Rattle.rule_model.proofs.Firsts.{first_least, AllFrom}
+use Rattle.rule_world.specs.Worlds.{World, pending, first_pending}
+use Rattle.rule_world.proofs.Pending.{by_fire}
+
+-- no pending match fires before the first
+pub none_before : (p : Program) (w : World) (m n : Match) → first_pending p w ≡ Some m → has_match (pending p w) n ≡ true → fire_cmp (saliences p.rules) n m ≡ Less → ⊥
+unfolding AllFrom
+none_before p w m n e h less =
+    first_least (fire_cmp (saliences p.rules)) (fire_total (saliences p.rules)) (fire_exact (saliences p.rules)) (pending p w) m e n (by_fire (saliences p.rules) n (pending p w) ∙ h) less
+
+nothing_first : {M : Type 0} (c : M → M → Ordering) (ms : List M) → first c ms ≡ None → ms ≡ []
+nothing_first c [] e = refl
+nothing_first c (m ∷ ms) e = cc
+
+pub none_pending : (p : Program) (w : World) → first_pending p w ≡ None → pending p w ≡ []
+none_pending p w e = nothing_first (fire_cmp (saliences p.rules)) (pending p w) e

@@ -1,0 +1,15 @@
+pub mod Pending
+pub mod Firing
+pub mod Ids
+pub mod Fresh
+pub mod Steps
+pub mod Found
+pub mod Vain
+pub mod Faultless
+pub mod Fitting
+pub mod Sound
+pub mod Lawfuls
+pub mod Typing
+pub mod Bindings
+pub mod Acting
+pub mod Staying

@@ -1,0 +1,18 @@
+-- The names of the codes of faults, as lines print them.
+use Rattle.std.specs.Prelude.{ℕ, List, codes}
+use Rattle.rule_world.specs.declared.code.Code.{Code}
+use Rattle.rule_world.specs.declared.code.Code.TheVariants.{UnknownType, UnknownEntry, EventFixed, Absent, BadFields, BadValue, BadDuration, Late, Ahead, ClockBack, ClockEnd, Overflow}
+
+abbrev pub code_name : Code → List ℕ
+code_name UnknownType = codes "UnknownType"
+code_name UnknownEntry = codes "UnknownEntry"
+code_name EventFixed = codes "EventFixed"
+code_name Absent = codes "Absent"
+code_name BadFields = codes "BadFields"
+code_name BadValue = codes "BadValue"
+code_name BadDuration = codes "BadDuration"
+code_name Late = codes "Late"
+code_name Ahead = codes "Ahead"
+code_name ClockBack = codes "ClockBack"
+code_name ClockEnd = codes "ClockEnd"
+code_name Overflow = codes "Overflow"

@@ -1,0 +1,7 @@
+pub mod CodeNames
+pub mod Events
+pub mod Worlds
+pub mod Kinds
+pub mod Typed
+pub mod Lawful
+pub mod Programs
