@@ -8,24 +8,24 @@ use Rattle.fx_base.specs.declared.fact.Fact.{Fact}
 use Rattle.fx_base.specs.declared.ids.FactId.{FactId}
 use Rattle.fx_base.specs.declared.ids.TypeId.{TypeId}
 use Rattle.fx_base.specs.declared.kind.Kind.{Kind}
-use Rattle.fx_base.specs.declared.kind.Kind.TheVariants as kind
 use Rattle.fx_base.specs.declared.value.Value.{Value}
-use Rattle.fx_base.specs.declared.value.Value.TheVariants as value
-use Rattle.rule_model.specs.Kinds.{has_kind, have_kinds, set_fits, step_fits}
-use Rattle.rule_model.specs.Worlds.{is_of_type}
+use Rattle.rule_world.specs.Kinds.{has_kind, have_kinds, set_fits, step_fits}
+use Rattle.rule_world.specs.Worlds.{is_of_type}
 use Rattle.rule_model.specs.declared.program.Program.{Program}
 use Rattle.rule_model.specs.declared.program.TypeInfo.{TypeInfo}
 use Rattle.rule_model.specs.declared.step.Step.{Step}
-use Rattle.rule_model.specs.declared.step.Step.TheVariants as step
-use Rattle.rule_model.specs.declared.code.Code.{Code}
-use Rattle.rule_model.specs.declared.code.Code.TheVariants.{EventFixed, Absent, BadFields}
+use Rattle.rule_world.specs.declared.code.Code.{Code}
+use Rattle.rule_world.specs.declared.code.Code.TheVariants.{EventFixed, Absent, BadFields}
 use Rattle.script_read.specs.declared.asked.Change.{Change}
 use Rattle.script_read.specs.declared.asked.Change.TheVariants.{Insert, Modify, Retract, Advance, At}
 use Rattle.script_read.specs.declared.given.Given.{Given}
-use Rattle.script_read.specs.declared.given.Given.TheVariants as given
 use Rattle.change_read.specs.Changes.{type_named, entry_asked, values_step, insert_step, sets_step, modify_step, retract_step, change_step}
 use Rattle.change_read.specs.Fields.{are_fields, are_some_fields, given_under, value_given, field_value, values_given, field_named, set_for, sets_given}
 use Rattle.change_read.proofs.Places.{some_is, stands, type_stands, entry_within, FieldAt, field_stands}
+use Rattle.fx_base.specs.declared.kind.Kind.TheVariants as kind
+use Rattle.fx_base.specs.declared.value.Value.TheVariants as value
+use Rattle.rule_model.specs.declared.step.Step.TheVariants as step
+use Rattle.script_read.specs.declared.given.Given.TheVariants as given
 
 -- ---- values
 
@@ -199,18 +199,10 @@ modify_fits p present (Some ty) id (Some f) members s is there e =
     ((Decides-eqb f.ty.0 ty.0).0 of_type) (sets_fit_fields ty.1.fields members)) e
 
 -- a retraction has no values
-retract_tested : (event of_type : Truth) (ty : TypeId) (id : FactId) (s : Step) (p : Program) (present : ℕ → Option Fact)
-    → cond event (Ok (step.Retract ty id)) (cond of_type (Ok (step.Retract ty id)) (Err Absent)) ≡ Ok s → step_fits p present s ≡ true
+retract_fits : (p : Program) (present : ℕ → Option Fact) (ty : Option (ℕ × TypeInfo)) (id : FactId) (s : Step) → retract_step ty id ≡ Ok s → step_fits p present s ≡ true
 unfolding step_fits
-retract_tested true of_type ty id s p present e = subst (λ (t : Step). step_fits p present t ≡ true) (ok_is e) refl
-retract_tested false true ty id s p present e = subst (λ (t : Step). step_fits p present t ≡ true) (ok_is e) refl
-retract_tested false false ty id s p present e = cc
-
--- at each case of the type
-retract_fits : (p : Program) (present : ℕ → Option Fact) (ty : Option (ℕ × TypeInfo)) (id : FactId) (fact : Option Fact) (s : Step)
-    → retract_step ty id fact ≡ Ok s → step_fits p present s ≡ true
-retract_fits p present None id fact s e = cc
-retract_fits p present (Some ty) id fact s e = retract_tested ty.1.event (is_of_type ty.0 fact) (record { 0 = ty.0 }) id s p present e
+retract_fits p present None id s e = cc
+retract_fits p present (Some ty) id s e = subst (λ (t : Step). step_fits p present t ≡ true) (ok_is e) refl
 
 -- at each change
 pub asked_fits : (p : Program) (present : ℕ → Option Fact) (change : Change) (s : Step) → 1 ≤ length p.entries → change_step p present change ≡ Ok s
@@ -221,6 +213,6 @@ asked_fits p present (Insert ty entry members) s some e =
     (λ place. entry_is entry p place some) e
 asked_fits p present (Modify ty id members) s some e =
     modify_fits p present (type_named ty p.types 0) id (present id.0) members s (named ty p.types) refl e
-asked_fits p present (Retract ty id) s some e = retract_fits p present (type_named ty p.types 0) id (present id.0) s e
+asked_fits p present (Retract ty id) s some e = retract_fits p present (type_named ty p.types 0) id s e
 asked_fits p present (Advance by) s some e = subst (λ (t : Step). step_fits p present t ≡ true) (ok_is e) refl
 asked_fits p present (At moment) s some e = subst (λ (t : Step). step_fits p present t ≡ true) (ok_is e) refl

@@ -9,14 +9,14 @@ use Rattle.rule_model.specs.declared.program.EntryInfo.{EntryInfo}
 use Rattle.rule_model.specs.declared.program.Program.{Program}
 use Rattle.rule_model.specs.declared.program.TypeInfo.{TypeInfo}
 use Rattle.rule_model.specs.declared.step.Step.{Step}
-use Rattle.rule_model.specs.declared.step.Step.TheVariants as step
 use Rattle.script_read.specs.declared.given.Given.{Given}
 use Rattle.script_read.specs.declared.asked.Change.{Change}
 use Rattle.script_read.specs.declared.asked.Change.TheVariants.{Insert, Modify, Retract, Advance, At}
-use Rattle.rule_model.specs.declared.code.Code.{Code}
-use Rattle.rule_model.specs.declared.code.Code.TheVariants.{UnknownType, UnknownEntry, EventFixed, Absent, BadFields, BadValue}
-use Rattle.rule_model.specs.Worlds.{is_of_type}
+use Rattle.rule_world.specs.declared.code.Code.{Code}
+use Rattle.rule_world.specs.declared.code.Code.TheVariants.{UnknownType, UnknownEntry, EventFixed, Absent, BadFields, BadValue}
+use Rattle.rule_world.specs.Worlds.{is_of_type}
 use Rattle.change_read.specs.Fields.{are_fields, are_some_fields, values_given, sets_given}
+use Rattle.rule_model.specs.declared.step.Step.TheVariants as step
 
 -- the declared type of a name, and its place, the first type having this one
 unfoldable pub type_named : List ℕ → List TypeInfo → ℕ → Option (ℕ × TypeInfo)
@@ -61,19 +61,16 @@ modify_step (Some ty) id fact members =
     else if is_of_type ty.0 fact then fields_step id ty.1.fields members
     else Err Absent
 
--- ---- retractions; an event need not be there
+-- ---- retractions; whether the fact is there is asked when the step is done
 
-abbrev pub retract_step : Option (ℕ × TypeInfo) → FactId → Option Fact → Result Step Code
-retract_step None id fact = Err UnknownType
-retract_step (Some ty) id fact =
-    if ty.1.event then Ok (step.Retract (record { 0 = ty.0 }) id)
-    else if is_of_type ty.0 fact then Ok (step.Retract (record { 0 = ty.0 }) id)
-    else Err Absent
+abbrev pub retract_step : Option (ℕ × TypeInfo) → FactId → Result Step Code
+retract_step None id = Err UnknownType
+retract_step (Some ty) id = Ok (step.Retract (record { 0 = ty.0 }) id)
 
 -- the step of a change, given the present facts by their ids
 unfoldable pub change_step : Program → (ℕ → Option Fact) → Change → Result Step Code
 change_step p present (Insert ty entry fields) = insert_step (type_named ty p.types 0) (entry_asked entry p.entries) fields
 change_step p present (Modify ty id fields) = modify_step (type_named ty p.types 0) id (present id.0) fields
-change_step p present (Retract ty id) = retract_step (type_named ty p.types 0) id (present id.0)
+change_step p present (Retract ty id) = retract_step (type_named ty p.types 0) id
 change_step p present (Advance by) = Ok (step.Advance by)
 change_step p present (At moment) = Ok (step.At moment)

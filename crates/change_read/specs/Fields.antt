@@ -4,10 +4,10 @@ use Rattle.std.specs.List.{list_any, list_all}
 use Rattle.std.specs.Option.{option_and_then}
 use Rattle.std.specs.Str.{bytes_eq}
 use Rattle.fx_base.specs.declared.kind.Kind.{Kind}
-use Rattle.fx_base.specs.declared.kind.Kind.TheVariants as kind
 use Rattle.fx_base.specs.declared.value.Value.{Value}
-use Rattle.fx_base.specs.declared.value.Value.TheVariants as value
 use Rattle.script_read.specs.declared.given.Given.{Given}
+use Rattle.fx_base.specs.declared.kind.Kind.TheVariants as kind
+use Rattle.fx_base.specs.declared.value.Value.TheVariants as value
 use Rattle.script_read.specs.declared.given.Given.TheVariants as given
 
 -- what is given under a name

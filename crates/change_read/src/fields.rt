@@ -1,6 +1,7 @@
 ghost use Rattle.std.specs.Prelude.{◌≡◌, is_some, option_map, IfOk};
 ghost use Rattle.change_read.specs.Fields.{given_under, are_given, are_declared, are_fields, are_some_fields, is_field, value_given, field_value, values_given, field_named, set_for as set_of, sets_given};
 
+use fx_base::limits::TEXT_MAX;
 use fx_base::{Copies, Kind, NoMemory, Seq, Text, Value};
 use script_read::Given;
 use std::alloc::Global;
@@ -42,21 +43,19 @@ fn all_declared(fields: &[(Text, Kind)], members: &[(Text, Given)]) -> bool
     members.iter().all(|member| is_declared(fields, &member.0))
 }
 
-// Whether the members are exactly the declared fields.
-pub fn has_fields(fields: &[(Text, Kind)], members: &[(Text, Given)]) -> bool
+/// Whether the members are exactly the declared fields. Takes no memory.
+pub(crate) fn has_fields(fields: &[(Text, Kind)], members: &[(Text, Given)]) -> bool
     ensures { result ≡ are_fields fields.now members.now }
 {
     all_given(fields, members) && all_declared(fields, members)
 }
 
-// Whether there is a member, and each is a declared field.
-pub fn has_some_fields(fields: &[(Text, Kind)], members: &[(Text, Given)]) -> bool
+/// Whether there is a member, and each is a declared field. Takes no memory.
+pub(crate) fn has_some_fields(fields: &[(Text, Kind)], members: &[(Text, Given)]) -> bool
     ensures { result ≡ are_some_fields fields.now members.now }
 {
     !members.is_empty() && all_declared(fields, members)
 }
-
-const TEXT_MAX: usize = 4096;
 
 // The value that is given to a field of this kind.
 fn value_of(alloc: Global, kind: Kind, given: &Given) -> Result<Option<Value>, NoMemory>
@@ -88,9 +87,9 @@ fn value_for(
     }
 }
 
-// The values of the fields, in the order of their declaration.
+/// The values of the fields, in the order of their declaration; `None` where one has not the kind of its field.
 #[tactic(auto, unfolding(crate::specs::Fields::values_given))]
-pub fn values_for(
+pub(crate) fn values_for(
     alloc: Global,
     fields: &[(Text, Kind)],
     members: &[(Text, Given)],
@@ -138,9 +137,9 @@ fn set_for(
     }
 }
 
-// The values that members give to fields by their places, in the order of the members.
+/// The values that members give to fields by their places, in the order of the members; `None` where one has not the kind of its field.
 #[tactic(auto, unfolding(crate::specs::Fields::sets_given))]
-pub fn sets_for(
+pub(crate) fn sets_for(
     alloc: Global,
     fields: &[(Text, Kind)],
     members: &[(Text, Given)],

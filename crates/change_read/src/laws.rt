@@ -3,7 +3,7 @@ ghost use Rattle.std.specs.Prelude.{◌≡◌, ◌≤◌, ℕ, true, length, Opt
 ghost use Rattle.fx_base.specs.declared.fact.Fact.{Fact};
 ghost use Rattle.rule_model.specs.declared.program.Program.{Program};
 ghost use Rattle.rule_model.specs.declared.step.Step.{Step};
-ghost use Rattle.rule_model.specs.Kinds.{step_fits};
+ghost use Rattle.rule_world.specs.Kinds.{step_fits};
 ghost use Rattle.script_read.specs.declared.asked.Change.{Change};
 ghost use Rattle.change_read.specs.Changes.{change_step};
 

@@ -1,5 +1,5 @@
 //! The steps that the changes of a script ask for, or their faults, in the order in which faults are tried.
-//! It stands on the definitions of `rule_model` and `script_read`, and assumes nothing of a change.
+//! It stands on the definitions of `rule_world` and `script_read`, and assumes nothing of a change.
 #![tactic(auto)]
 
 mod fields;
@@ -9,4 +9,3 @@ mod reading;
 
 pub use present::Present;
 pub use reading::asked_step;
-pub use rule_model::Code;

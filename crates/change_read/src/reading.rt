@@ -1,11 +1,12 @@
 ghost use Rattle.std.specs.Prelude.{◌≡◌, ◌≤◌, ◌^◌, length, option_map, IfOk};
-ghost use Rattle.rule_model.specs.Worlds.{is_of_type};
+ghost use Rattle.rule_world.specs.Worlds.{is_of_type};
 ghost use Rattle.change_read.specs.Changes.{type_named, entry_named, entry_asked, insert_step, modify_step, retract_step, change_step};
 
+use crate::Present;
 use crate::fields::{has_fields, has_some_fields, sets_for, values_for};
-use crate::{Code, Present};
 use fx_base::{EntryId, FactId, NoMemory, Text, TypeId};
 use rule_model::{EntryInfo, Program, Step, TypeInfo};
+use rule_world::Code;
 use script_read::{Change, Given};
 use std::alloc::Global;
 
@@ -116,28 +117,20 @@ fn read_modify<P: Present>(
     }
 }
 
-// The step of a retraction, or its fault. An event need not be there.
-fn read_retract<P: Present>(
-    types: &[TypeInfo],
-    present: &P,
-    name: &Text,
-    id: FactId,
-) -> Result<Step, Code>
+// The step of a retraction, or its fault.
+fn read_retract(types: &[TypeInfo], name: &Text, id: FactId) -> Result<Step, Code>
     requires { length types.now ≤ 2 ^ 16 }
-    ensures { result ≡ retract_step (type_named name.now types.now 0) id (P.present present.now id.0) }
+    ensures { result ≡ retract_step (type_named name.now types.now 0) id }
 {
-    let Some((ty, info)) = declared_type(types, name) else {
-        return Err(Code::UnknownType);
-    };
-    if !info.event && !is_present(present, id, ty) {
-        return Err(Code::Absent);
+    match declared_type(types, name) {
+        Some((ty, _)) => Ok(Step::Retract { ty, id }),
+        None => Err(Code::UnknownType),
     }
-    Ok(Step::Retract { ty, id })
 }
 
 /// The step that a change asks for, or the first of its faults in the order of `Code`. A new fact has its values in the order of
-/// the declaration; a modification has its sets in the order of the members. Whether the times of an event and the moves of the
-/// clock are lawful is not asked here. `NoMemory` comes only where memory is refused.
+/// the declaration; a modification has its sets in the order of the members. Whether a fact that is to be
+/// retracted is there, the times of an event are lawful and the clock may move so is not asked here. `NoMemory` comes only where memory is refused.
 #[tactic(auto, unfolding(crate::specs::Changes::change_step))]
 pub fn asked_step<P: Present>(
     alloc: Global,
@@ -157,7 +150,7 @@ pub fn asked_step<P: Present>(
         Change::Modify { ty, id, fields } => {
             read_modify(alloc, types, present, ty, *id, fields.as_slice())
         }
-        Change::Retract { ty, id } => Ok(read_retract(types, present, ty, *id)),
+        Change::Retract { ty, id } => Ok(read_retract(types, ty, *id)),
         Change::Advance(by) => Ok(Ok(Step::Advance(*by))),
         Change::At(moment) => Ok(Ok(Step::At(*moment))),
     }
