@@ -6,7 +6,7 @@ use Rattle.fx_io.specs.Outside.{prepend, append, AppendsFront}
 use Rattle.fx_io.specs.Lines.{lines_of, lines_ahead, with_line, total_told, HasNoEnd}
 use Rattle.fx_io.proofs.Told.{append-append}
 use Rattle.rule_model.specs.declared.program.Program.{Program}
-use Rattle.rule_model.specs.Worlds.{World}
+use Rattle.rule_world.specs.Worlds.{World}
 use Rattle.replay.specs.declared.turn.Turn.TheVariants.{Goes, Stops}
 use Rattle.replay.specs.declared.turn.Ended.{Ended}
 use Rattle.replay.specs.declared.turn.Ended.TheVariants.{Script, Limit}

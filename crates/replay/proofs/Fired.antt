@@ -4,10 +4,10 @@ use Rattle.std.proofs.lemmas.Grind.{flat_map-append}
 use Rattle.std.proofs.lemmas.List.Folds.{list_any-append}
 use Rattle.std.proofs.lemmas.List.{append-nil}
 use Rattle.rule_model.specs.declared.program.Program.{Program}
-use Rattle.rule_model.specs.Worlds.{World}
-use Rattle.session.specs.declared.lines.OutLine.{OutLine}
-use Rattle.session.specs.declared.lines.Fired.TheVariants.{No, Yes}
-use Rattle.session.specs.Standing.{FiringAnswers}
+use Rattle.rule_world.specs.Worlds.{World}
+use Rattle.engine.specs.declared.lines.OutLine.{OutLine}
+use Rattle.engine.specs.declared.lines.Fired.TheVariants.{No, Yes}
+use Rattle.engine.specs.Answers.{FiringAnswers}
 use Rattle.replay.specs.declared.turn.Turn.{Turn}
 use Rattle.replay.specs.declared.turn.Turn.TheVariants.{Goes, Stops}
 use Rattle.replay.specs.Firings.{Fires, Firings, all_fired, limit_met, onto_lines, none_left, then_fires, wants_one, one_less, firings}

@@ -2,7 +2,7 @@
 use Rattle.std.proofs.Common.{◌≡◌, ℕ, ◌<◌, ◌++◌, true, List, length, nat_lt, refl, sym, subst, arith}
 use Rattle.std.proofs.lemmas.Bool.Decides.{nat_tests}
 use Rattle.rule_model.specs.declared.program.Program.{Program}
-use Rattle.rule_model.specs.Worlds.{World}
+use Rattle.rule_world.specs.Worlds.{World}
 use Rattle.replay.specs.declared.fault.LineCode.TheVariants.{LineLong}
 use Rattle.replay.specs.declared.turn.Turn.TheVariants.{Goes}
 use Rattle.replay.specs.Firings.{Gives, Fires}

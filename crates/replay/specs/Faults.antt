@@ -1,8 +1,8 @@
 -- Why a run stops before the end of the script.
 use Rattle.fx_io.specs.declared.line.LineFault.{LineFault}
-use Rattle.fx_io.specs.declared.line.LineFault.TheVariants as line
 use Rattle.replay.specs.declared.fault.RunFault.{RunFault}
 use Rattle.replay.specs.declared.fault.RunFault.TheVariants.{ReadFault, ScriptLong, NoMemory}
+use Rattle.fx_io.specs.declared.line.LineFault.TheVariants as line
 
 abbrev pub run_fault : LineFault → RunFault
 run_fault line.ReadFault = ReadFault

@@ -1,9 +1,9 @@
 -- What a fire command does, for an engine of these meanings, when the run has so many firings left.
 use Rattle.std.specs.Prelude.{ℕ, zero, suc, pred, Bool, true, nat_lt, List, [], ◌++◌, Option, Some, None, option_map, if◌then◌else◌}
 use Rattle.rule_model.specs.declared.program.Program.{Program}
-use Rattle.rule_model.specs.Worlds.{World}
+use Rattle.rule_world.specs.Worlds.{World}
 use Rattle.script_read.specs.declared.asked.Change.{Change}
-use Rattle.session.specs.declared.lines.OutLine.{OutLine}
+use Rattle.engine.specs.declared.lines.OutLine.{OutLine}
 
 -- the lines of a change in a world, and the next world
 abbrev pub Gives : Type 0

@@ -2,20 +2,20 @@
 use Rattle.std.specs.Prelude.{ℕ, ◌++◌, List, [], ◌∷◌, Result, Ok, Err, codes}
 use Rattle.std.specs.Fmt.{decimal}
 use Rattle.drl_lex.specs.declared.fault.LexCode.{LexCode}
-use Rattle.drl_lex.specs.declared.fault.LexCode.TheVariants as lex
 use Rattle.drl_parse.specs.Parsed.{Parsed, is_file, outside, too_long, lexical, parsed}
 use Rattle.drl_check.specs.declared.fault.CheckCode.{CheckCode}
-use Rattle.drl_check.specs.declared.fault.CheckCode.TheVariants as check
 use Rattle.drl_check.specs.Answers.{within_32_bits}
 use Rattle.drl_check.specs.Checks.{Failure}
 use Rattle.drl_check.specs.Outcomes.{checked}
 use Rattle.rule_model.specs.declared.program.Program.{Program}
-use Rattle.rule_model.specs.Programs.{IsAccepted}
+use Rattle.rule_world.specs.Programs.{IsAccepted}
 use Rattle.replay.specs.declared.refusal.RefusalCode.{RefusalCode}
-use Rattle.replay.specs.declared.refusal.RefusalCode.TheVariants as code
 use Rattle.replay.specs.declared.refusal.Refusal.{Refusal}
 use Rattle.replay.specs.declared.rule_file.Reading.{Reading}
 use Rattle.replay.specs.declared.rule_file.Reading.TheVariants.{Accepted, Refused}
+use Rattle.drl_lex.specs.declared.fault.LexCode.TheVariants as lex
+use Rattle.drl_check.specs.declared.fault.CheckCode.TheVariants as check
+use Rattle.replay.specs.declared.refusal.RefusalCode.TheVariants as code
 
 -- the file as a whole
 abbrev pub whole_file : RefusalCode → Refusal

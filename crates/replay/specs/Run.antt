@@ -1,12 +1,12 @@
 -- The run of a script over a program by an engine of these meanings: what its lines print, and how it ends.
 use Rattle.std.specs.Prelude.{ℕ, ◌+◌, ◌||◌, ◌++◌, Bool, true, false, List, [], ◌∷◌, length, nat_lt, if◌then◌else◌}
 use Rattle.rule_model.specs.declared.program.Program.{Program}
-use Rattle.rule_model.specs.Worlds.{World, empty_world}
+use Rattle.rule_world.specs.Worlds.{World, empty_world}
 use Rattle.script_read.specs.declared.asked.Command.{Command}
 use Rattle.script_read.specs.declared.asked.Command.TheVariants.{Change, Fire}
 use Rattle.script_read.specs.Asked.{Asked, asks, bad_json, bad_command, asked}
 use Rattle.script_read.specs.Blank.{is_blank}
-use Rattle.session.specs.declared.lines.OutLine.{OutLine}
+use Rattle.engine.specs.declared.lines.OutLine.{OutLine}
 use Rattle.replay.specs.declared.fault.LineCode.{LineCode}
 use Rattle.replay.specs.declared.fault.LineCode.TheVariants.{LineLong, BadJson, BadCommand}
 use Rattle.replay.specs.declared.turn.Ended.{Ended}

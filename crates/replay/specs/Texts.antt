@@ -5,13 +5,13 @@ use Rattle.std.specs.List.{flat_map, list_any}
 use Rattle.rule_model.specs.declared.program.Program.{Program}
 use Rattle.rule_model.specs.declared.program.TypeInfo.{TypeInfo}
 use Rattle.rule_model.specs.declared.program.Rule.{Rule}
-use Rattle.session.specs.declared.lines.OutLine.{OutLine}
-use Rattle.session.specs.declared.lines.OutLine.TheVariants.{New, Fire, Fault}
-use Rattle.session.specs.declared.lines.Cell.{Cell}
-use Rattle.session.specs.declared.lines.Cell.TheVariants as cell
-use Rattle.rule_model.specs.declared.code.Code.{Code}
-use Rattle.rule_model.specs.declared.code.Code.TheVariants as code
+use Rattle.engine.specs.declared.lines.OutLine.{OutLine}
+use Rattle.engine.specs.declared.lines.OutLine.TheVariants.{New, Fire, Fault}
+use Rattle.engine.specs.declared.lines.Cell.{Cell}
+use Rattle.rule_world.specs.declared.code.Code.{Code}
 use Rattle.replay.specs.declared.fault.LineCode.{LineCode}
+use Rattle.engine.specs.declared.lines.Cell.TheVariants as cell
+use Rattle.rule_world.specs.declared.code.Code.TheVariants as code
 use Rattle.replay.specs.declared.fault.LineCode.TheVariants as fault
 
 abbrev pub type_name : Option TypeInfo → List ℕ

@@ -4,8 +4,8 @@ use Rattle.fx_io.specs.Outside.{append}
 use Rattle.fx_io.specs.Lines.{with_line, lines_of, HasNoEnd}
 use Rattle.fx_io.specs.declared.line.Line.{Line}
 use Rattle.fx_io.specs.declared.line.Line.TheVariants.{End as line_end}
-use Rattle.rule_model.specs.Worlds.{World}
-use Rattle.session.specs.declared.lines.OutLine.{OutLine}
+use Rattle.rule_world.specs.Worlds.{World}
+use Rattle.engine.specs.declared.lines.OutLine.{OutLine}
 use Rattle.replay.specs.declared.fault.RunFault.{RunFault}
 use Rattle.replay.specs.declared.fault.RunFault.TheVariants.{ReadFault, WriteFault, NoMemory, ScriptLong}
 use Rattle.replay.specs.declared.turn.Turn.{Turn}

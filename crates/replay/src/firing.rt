@@ -1,5 +1,5 @@
 ghost use Rattle.std.specs.Prelude.{◌≡◌, ◌+◌, ◌*◌, ◌<◌, ◌≤◌, ◌^◌, ◌||◌, true, ℕ, IfOk};
-ghost use Rattle.rule_model.specs.Worlds.{World};
+ghost use Rattle.rule_world.specs.Worlds.{World};
 ghost use Rattle.replay.specs.Firings.{wants_one, one_less, firings};
 ghost use Rattle.replay.specs.Run.{fire_step};
 ghost use Rattle.replay.specs.Turns.{Does, EndsFirings, Within};

@@ -1,8 +1,8 @@
 //! Laws of the run, each the contract of a function that does nothing.
 ghost use Rattle.std.specs.Prelude.{◌≡◌, ℕ, List, None};
 ghost use Rattle.rule_model.specs.declared.program.Program.{Program};
-ghost use Rattle.rule_model.specs.Worlds.{World};
-ghost use Rattle.session.specs.declared.lines.OutLine.{OutLine};
+ghost use Rattle.rule_world.specs.Worlds.{World};
+ghost use Rattle.engine.specs.declared.lines.OutLine.{OutLine};
 ghost use Rattle.replay.specs.Firings.{Fires, all_fired, firings};
 
 /// After a fire command that did not meet the limit nothing is pending, whatever the meaning of a firing.

@@ -1,6 +1,6 @@
 ghost use Rattle.std.specs.Prelude.{◌≡◌, ◌+◌, ◌*◌, ◌<◌, ◌≤◌, ◌^◌, ℕ, List, Option, length, IfOk};
 ghost use Rattle.fx_io.specs.Answers.{Answers, GoesOn};
-ghost use Rattle.rule_model.specs.Worlds.{World};
+ghost use Rattle.rule_world.specs.Worlds.{World};
 ghost use Rattle.replay.specs.Run.{printed, command_step, line_step};
 ghost use Rattle.replay.specs.Turns.{Does, Turns, Within, AllWithin, EndsAt, Smaller};
 

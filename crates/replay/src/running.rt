@@ -1,7 +1,7 @@
 ghost use Rattle.std.specs.Prelude.{◌≡◌, ◌+◌, ◌*◌, ◌<◌, ◌≤◌, ◌^◌, [], length, List, ℕ, IfOk, IfSome, OnErr, IsErrOf};
 ghost use Rattle.fx_io.specs.Outside.{Rose, append, AppendsFront, count_after};
 ghost use Rattle.fx_io.specs.Lines.{lines_of};
-ghost use Rattle.rule_model.specs.Programs.{IsAccepted};
+ghost use Rattle.rule_world.specs.Programs.{IsAccepted};
 ghost use Rattle.replay.specs.Run.{whole_run};
 ghost use Rattle.replay.specs.Turns.{Takes, AtEnd, Long};
 

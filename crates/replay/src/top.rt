@@ -1,6 +1,6 @@
 ghost use Rattle.std.specs.Prelude.{◌≡◌, ◌≢◌, ◌⊎◌, ◌<◌, ◌≤◌, ◌^◌, [], List, Option, ℕ, length, take, drop, Some, None, Ok, option_map, IfOk, IfErr, IfSome, IsErrOf, OnErr};
 ghost use Rattle.fx_io.specs.Outside.{Rose, append, AppendsFront, count_after, file_told, IsMissing, IsFound};
-ghost use Rattle.rule_model.specs.Programs.{IsAccepted};
+ghost use Rattle.rule_world.specs.Programs.{IsAccepted};
 ghost use Rattle.replay.specs.Refusals.{refusal_text, reading, IsRefused};
 ghost use Rattle.replay.specs.Report.{report, rules_report, reading_report, Reports, TakesFor, IsLong, FileIsLong, WordIsLong, single};
 

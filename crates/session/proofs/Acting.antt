@@ -4,29 +4,29 @@ use Rattle.std.specs.Prelude.{Result, Ok, Err, slice_get}
 use Rattle.fx_base.specs.declared.ids.Tag.{Tag}
 use Rattle.fx_base.specs.declared.fact.Fact.{Fact}
 use Rattle.rule_model.specs.declared.action.Action.{Action}
-use Rattle.rule_model.specs.declared.code.Code.{Code}
+use Rattle.rule_world.specs.declared.code.Code.{Code}
 use Rattle.rule_model.specs.declared.matched.Match.{Match}
 use Rattle.rule_model.specs.declared.program.Program.{Program}
 use Rattle.rule_model.specs.declared.program.Rule.{Rule}
 use Rattle.rule_model.specs.declared.step.Step.{Step}
 use Rattle.rule_model.specs.Distinct.{HaveDistinctTags}
-use Rattle.rule_model.specs.Kinds.{step_fits}
-use Rattle.rule_model.specs.Lawful.{IsLawful}
-use Rattle.rule_model.specs.Looked.{Holds, named_at}
+use Rattle.rule_world.specs.Kinds.{step_fits}
+use Rattle.rule_world.specs.Lawful.{IsLawful}
+use Rattle.rule_model.specs.Lent.{Holds, named_at}
 use Rattle.rule_model.specs.Matches.{matches, has_match}
 use Rattle.rule_model.specs.Planned.{step_of}
-use Rattle.rule_model.specs.Programs.{IsAccepted}
-use Rattle.rule_model.specs.Rows.{In}
-use Rattle.rule_model.specs.Typed.{is_typed}
-use Rattle.rule_model.specs.Worlds.{World, stepped, step_fault, fact_of, pending, first_pending, marked}
-use Rattle.rule_model.proofs.Acting.{steps_fit}
-use Rattle.rule_model.proofs.Fresh.{and_parts}
-use Rattle.rule_model.proofs.Lawfuls.{step_lawful, firing_lawful}
+use Rattle.rule_world.specs.Programs.{IsAccepted}
+use Rattle.fx_base.specs.Lists.{In}
+use Rattle.rule_world.specs.Typed.{is_typed}
+use Rattle.rule_world.specs.Worlds.{World, stepped, step_fault, fact_of, pending, first_pending, marked}
+use Rattle.rule_world.proofs.Acting.{steps_fit}
+use Rattle.rule_world.proofs.Fresh.{and_parts}
+use Rattle.rule_world.proofs.Lawfuls.{step_lawful, firing_lawful}
 use Rattle.rule_model.proofs.Listed.{of_map}
-use Rattle.rule_model.proofs.Pending.{has_pending, first_is_pending}
+use Rattle.rule_world.proofs.Pending.{has_pending, first_is_pending}
 use Rattle.rule_model.proofs.RuleOf.{IsMatchOf, rule_of, in_place}
-use Rattle.rule_model.proofs.Staying.{Stays, step_stays, same_stays, stays_on, fits_later}
-use Rattle.session.specs.declared.lines.OutLine.{OutLine}
+use Rattle.rule_world.proofs.Staying.{Stays, step_stays, same_stays, stays_on, fits_later}
+use Rattle.engine.specs.declared.lines.OutLine.{OutLine}
 use Rattle.session.proofs.Members.{version_in}
 use Rattle.session.specs.Gives.{tries_with, does, does_all, version_of, step_or_overflow, wanted, actions_of, fires_match, fires_with, fires}
 

@@ -1,13 +1,13 @@
 -- Changes lead from lawful worlds to lawful ones.
 use Rattle.std.proofs.Common.{◌≡◌, true, Option, Some, None, Result, Ok, Err, refl}
-use Rattle.rule_model.specs.declared.code.Code.{Code}
+use Rattle.rule_world.specs.declared.code.Code.{Code}
 use Rattle.rule_model.specs.declared.program.Program.{Program}
 use Rattle.rule_model.specs.declared.step.Step.{Step}
-use Rattle.rule_model.specs.Kinds.{step_fits}
-use Rattle.rule_model.specs.Lawful.{IsLawful}
-use Rattle.rule_model.specs.Programs.{IsAccepted}
-use Rattle.rule_model.specs.Worlds.{World, fact_of, step_fault}
-use Rattle.rule_model.proofs.Lawfuls.{step_lawful}
+use Rattle.rule_world.specs.Kinds.{step_fits}
+use Rattle.rule_world.specs.Lawful.{IsLawful}
+use Rattle.rule_world.specs.Programs.{IsAccepted}
+use Rattle.rule_world.specs.Worlds.{World, fact_of, step_fault}
+use Rattle.rule_world.proofs.Lawfuls.{step_lawful}
 use Rattle.script_read.specs.declared.asked.Change.{Change}
 use Rattle.change_read.specs.Changes.{change_step}
 use Rattle.change_read.proofs.Fitting.{asked_fits}

@@ -1,7 +1,6 @@
 -- The faults of steps, by what a session has.
 use Rattle.std.proofs.Common.{◌≡◌, ◌≤◌, ◌^◌, ℕ, ℤ, pos, negsuc, ◌+◌, ◌+ℤ◌, ◌-ℤ◌, ◌≤ℤ◌, Bool, true, false, List, Option, Some, None, slice_get, Bor, FitsSigned, to_z, of_z, to_z-of_z, w64, refl, sym, ◌∙◌, ap, arith}
 use Rattle.std.specs.Prelude.{if◌then◌else◌, int_lt, IfNone, IfSome, option_map}
-use Rattle.std.specs.FinMap as map
 use Rattle.std.specs.Int.{int_max}
 use Rattle.std.proofs.lemmas.Int.{ints}
 use Rattle.fx_base.specs.declared.ids.EntryId.{EntryId}
@@ -11,18 +10,21 @@ use Rattle.fx_base.specs.declared.times.Times.{Times}
 use Rattle.fx_base.specs.declared.value.Value.{Value}
 use Rattle.fx_base.specs.declared.fact.Fact.{Fact}
 use Rattle.fact_store.specs.Held.{HeldFacts, HoldsNone, IsNewest}
-use Rattle.rule_model.specs.declared.code.Code.{Code}
-use Rattle.rule_model.specs.declared.code.Code.TheVariants.{Absent, ClockBack, ClockEnd}
+use Rattle.rule_world.specs.declared.code.Code.{Code}
+use Rattle.rule_world.specs.declared.code.Code.TheVariants.{Absent, ClockBack, ClockEnd}
 use Rattle.rule_model.specs.declared.program.Program.{Program}
 use Rattle.rule_model.specs.declared.step.Step.TheVariants.{Insert, Modify, Retract, Advance, At}
-use Rattle.rule_model.specs.Events.{clock_fault, most_millis, new_fault, times_of}
-use Rattle.rule_model.specs.Worlds.{World, at_clock, floor, is_event, is_of_type, lateness_of, modify_fault, retract_fault, step_fault, stepped, with_new}
-use Rattle.rule_model.proofs.Vain.{vain_retraction}
+use Rattle.rule_world.specs.Events.{clock_fault, most_millis, new_fault, times_of}
+use Rattle.rule_world.specs.Worlds.{World, at_clock, is_of_type, lateness_of, modify_fault, retract_fault, step_fault, stepped, with_new}
+use Rattle.rule_model.specs.Snapshots.{floor}
+use Rattle.rule_model.specs.Types.{is_event}
+use Rattle.rule_world.proofs.Vain.{vain_retraction}
 use Rattle.session.specs.Places.{IsSafe, floor_in, newest}
 use Rattle.session.specs.Standing.{Kept, Standing}
 use Rattle.session.proofs.Members.{got_old, none_left}
 use Rattle.session.proofs.Newest.{store_found, store_none, world_found}
 use Rattle.session.proofs.Stands.{for_world, own}
+use Rattle.std.specs.FinMap as map
 
 -- ---- numbers
 

@@ -3,28 +3,29 @@ use Rattle.std.proofs.Common.{◌≡◌, ◌&&◌, ◌||◌, not, Bool, true, fa
 use Rattle.std.specs.Ordering.{eq_by_cmp}
 use mathlib.Core.Path.{fun_ext}
 use Rattle.rule_model.specs.declared.action.Action.{Action}
-use Rattle.rule_model.specs.declared.code.Code.{Code}
+use Rattle.rule_world.specs.declared.code.Code.{Code}
 use Rattle.rule_model.specs.declared.matched.Match.{Match}
 use Rattle.rule_model.specs.declared.program.Program.{Program}
 use Rattle.rule_model.specs.declared.program.Rule.{Rule}
 use Rattle.rule_model.specs.declared.step.Step.{Step}
-use Rattle.rule_model.specs.Looked.{named_at}
+use Rattle.rule_model.specs.Lent.{named_at}
 use Rattle.rule_model.specs.Matches.{matches, has_match, match_cmp, fire_cmp, saliences}
 use Rattle.rule_model.specs.MatchOrders.{match_equiv, fire_total}
 use Rattle.rule_model.specs.First.{first}
 use Rattle.rule_model.specs.Planned.{step_of}
-use Rattle.rule_model.specs.Worlds.{World, pending, marked, first_pending}
+use Rattle.rule_world.specs.Worlds.{World, pending, marked, first_pending}
 use Rattle.rule_model.proofs.Exact.{fire_exact}
 use Rattle.rule_model.proofs.Firsts.{first_alike, first_in}
-use Rattle.rule_model.proofs.Pending.{has_pending, by_fire}
-use Rattle.rule_model.proofs.Steps.{firing_in_order}
+use Rattle.rule_world.proofs.Pending.{has_pending, by_fire}
+use Rattle.rule_world.proofs.Steps.{firing_in_order}
 use Rattle.row_delta.specs.declared.row.Row.{Row}
 use Rattle.agenda.specs.Agendas.{Held}
-use Rattle.session.specs.declared.lines.OutLine.{OutLine}
-use Rattle.session.specs.declared.lines.Fired.TheVariants.{No, Yes}
+use Rattle.engine.specs.declared.lines.OutLine.{OutLine}
+use Rattle.engine.specs.declared.lines.Fired.TheVariants.{No, Yes}
 use Rattle.session.specs.Gives.{actions_of, does_all, fire_line, fires_with, step_or_overflow, wanted}
 use Rattle.session.specs.Places.{planned}
-use Rattle.session.specs.Standing.{AgendaStands, FiringAnswers, Kept, Standing}
+use Rattle.session.specs.Standing.{AgendaStands, Kept, Standing}
+use Rattle.engine.specs.Answers.{FiringAnswers}
 use Rattle.session.proofs.Stands.{kept}
 
 -- what is planned is what is wanted

@@ -10,39 +10,39 @@ use Rattle.fact_store.specs.Held.{HeldFacts}
 use Rattle.row_delta.specs.declared.row.Named.{Named}
 use Rattle.row_delta.specs.declared.row.Row.{Row}
 use Rattle.rule_model.specs.declared.action.Action.{Action}
-use Rattle.rule_model.specs.declared.action.Action.TheVariants as action
-use Rattle.rule_model.specs.declared.code.Code.{Code}
+use Rattle.rule_world.specs.declared.code.Code.{Code}
 use Rattle.rule_model.specs.declared.matched.Match.{Match}
 use Rattle.rule_model.specs.declared.program.Program.{Program}
 use Rattle.rule_model.specs.declared.program.Rule.{Rule}
 use Rattle.rule_model.specs.declared.program.TypeInfo.{TypeInfo}
 use Rattle.rule_model.specs.declared.step.Step.{Step}
-use Rattle.rule_model.specs.declared.step.Step.TheVariants as step
-use Rattle.rule_model.specs.Kinds.{values_fit, step_fits}
-use Rattle.rule_model.specs.Looked.{named_at}
+use Rattle.rule_world.specs.Kinds.{values_fit, step_fits}
+use Rattle.rule_model.specs.Lent.{named_at}
 use Rattle.rule_model.specs.Matches.{matches, has_match}
 use Rattle.rule_model.specs.Numbers.{values_of}
 use Rattle.rule_model.specs.Planned.{id_at, sets_of, type_or_first, step_of}
-use Rattle.rule_model.specs.Programs.{IsAccepted}
-use Rattle.rule_model.specs.Rows.{In}
-use Rattle.rule_model.specs.Typed.{bound_types, bound_fields, fields_in, args_fit, action_fits, rule_fits, is_typed}
-use Rattle.rule_model.specs.Worlds.{World, empty_world, step_fault, marked}
-use Rattle.rule_model.proofs.Acting.{all_of}
-use Rattle.rule_model.proofs.Fresh.{and_both, and_parts}
+use Rattle.rule_world.specs.Programs.{IsAccepted}
+use Rattle.fx_base.specs.Lists.{In}
+use Rattle.rule_world.specs.Typed.{bound_types, bound_fields, fields_in, args_fit, action_fits, rule_fits, is_typed}
+use Rattle.rule_world.specs.Worlds.{World, empty_world, step_fault, marked}
+use Rattle.rule_world.proofs.Acting.{all_of}
+use Rattle.rule_world.proofs.Fresh.{and_both, and_parts}
 use Rattle.rule_model.proofs.Listed.{of_map}
-use Rattle.rule_model.proofs.Pending.{has_pending}
+use Rattle.rule_world.proofs.Pending.{has_pending}
 use Rattle.rule_model.proofs.RuleOf.{rule_of, in_place}
 use Rattle.script_read.specs.declared.asked.Change.{Change}
 use Rattle.change_read.specs.Changes.{change_step}
 use Rattle.change_read.proofs.Fitting.{asked_fits}
-use Rattle.session.specs.declared.lines.OutLine.{OutLine}
+use Rattle.engine.specs.declared.lines.OutLine.{OutLine}
 use Rattle.session.specs.Gives.{tries_with, does, does_all, actions_of, fire_line}
-use Rattle.session.specs.Known.{is_known, are_known}
+use Rattle.engine.specs.Known.{is_known, are_known}
 use Rattle.session.specs.Places.{newest, planned, planned_for, held_at}
 use Rattle.session.specs.Standing.{Kept, Shown, Standing, StandsForSome}
 use Rattle.session.proofs.Acting.{asked_step}
 use Rattle.session.proofs.Firings.{plan_of, top_of, top_pending}
 use Rattle.session.proofs.Sessions.{shown, start, empty_stands}
+use Rattle.rule_model.specs.declared.action.Action.TheVariants as action
+use Rattle.rule_model.specs.declared.step.Step.TheVariants as step
 
 -- ---- places
 

@@ -1,7 +1,6 @@
 -- The facts of a map and those of a list: where both have the same, each at its tag.
 use Rattle.std.proofs.Common.{◌≡◌, ℕ, ◌<◌, ◌==◌, ◌⊎◌, inl, inr, not, ◌&&◌, Bool, true, false, cond, List, [], ◌∷◌, ◌++◌, map as list_map, Option, Some, None, refl, sym, ◌∙◌, ap, subst, arith}
 use Rattle.std.specs.Prelude.{if◌then◌else◌}
-use Rattle.std.specs.FinMap as map
 use Rattle.std.specs.FinMap.{get-insert, get-remove}
 use Rattle.std.specs.Cmp.{nat_cmp_total}
 use Rattle.std.specs.Ordering.{nat_cmp, eq_by_cmp}
@@ -12,19 +11,20 @@ use Rattle.fx_base.specs.declared.value.Value.{Value}
 use Rattle.fx_base.specs.declared.fact.Fact.{Fact}
 use Rattle.fact_store.specs.Held.{HeldFacts, facts_of, tag_of}
 use Rattle.fact_store.proofs.Stored.{tied, itself}
-use Rattle.rule_model.specs.Distinct.{EachOnce, HaveDistinctTags}
-use Rattle.rule_model.specs.Lawful.{IdsRise}
-use Rattle.rule_model.specs.Rows.{In}
-use Rattle.rule_model.specs.Worlds.{has_id, revised, revised_in, without}
-use Rattle.rule_model.proofs.Fresh.{AllBelow, revise, has_number}
-use Rattle.rule_model.proofs.Ids.{one_id}
+use Rattle.fx_base.specs.Lists.{EachOnce, In}
+use Rattle.rule_model.specs.Distinct.{HaveDistinctTags}
+use Rattle.rule_world.specs.Lawful.{IdsRise}
+use Rattle.rule_world.specs.Worlds.{has_id, revised, revised_in, without}
+use Rattle.rule_world.proofs.Fresh.{AllBelow, revise, has_number}
+use Rattle.rule_world.proofs.Ids.{one_id}
 use Rattle.rule_model.proofs.Listed.{in_left, in_right, in_map, of_append, of_map}
 use Rattle.rule_model.proofs.Named.{AllOf, of_filter}
 use Rattle.rule_model.proofs.Once.{one_fact, once_append}
 use Rattle.rule_model.proofs.Order.{in_filter, passed}
-use Rattle.rule_model.proofs.Steps.{stays}
+use Rattle.rule_world.proofs.Steps.{stays}
 use Rattle.rule_rows.proofs.Held.{held_of, in_held, held_distinct}
 use Rattle.session.specs.Gives.{version_of}
+use Rattle.std.specs.FinMap as map
 
 same_number : (m n : ℕ) → (m == n) ≡ true → m ≡ n
 same_number m n e = grind (arith, nat_tests)

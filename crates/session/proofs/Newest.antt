@@ -1,20 +1,20 @@
 -- The fact of an id, as a session has it and as the world has it.
 use Rattle.std.proofs.Common.{◌≡◌, ℕ, suc, zero, ◌<◌, ◌≤◌, ◌⊎◌, inl, inr, Bool, true, false, cond, List, [], ◌∷◌, Option, Some, None, refl, sym, ◌∙◌, ap, subst, arith}
 use Rattle.std.specs.Prelude.{nat_eq, nat_lt, if◌then◌else◌}
-use Rattle.std.specs.FinMap as map
 use Rattle.std.proofs.lemmas.Bool.Decides.{nat_tests}
 use Rattle.fx_base.specs.declared.ids.Tag.{Tag}
 use Rattle.fx_base.specs.declared.fact.Fact.{Fact}
 use Rattle.fact_store.specs.Held.{HeldFacts, IsNewest, HoldsNone, is_id}
 use Rattle.rule_model.specs.declared.program.Rule.{Rule}
-use Rattle.rule_model.specs.Rows.{In}
-use Rattle.rule_model.specs.Worlds.{World, fact_of, has_id}
-use Rattle.rule_model.proofs.Fresh.{below_of, has_number}
-use Rattle.rule_model.proofs.Found.{fact_in}
-use Rattle.rule_model.proofs.Ids.{one_id}
+use Rattle.fx_base.specs.Lists.{In}
+use Rattle.rule_world.specs.Worlds.{World, fact_of, has_id}
+use Rattle.rule_world.proofs.Fresh.{below_of, has_number}
+use Rattle.rule_world.proofs.Found.{fact_in}
+use Rattle.rule_world.proofs.Ids.{one_id}
 use Rattle.session.specs.Places.{IsNewestTag, IsSafe, newest, newest_below}
 use Rattle.session.specs.Standing.{Kept, Standing}
 use Rattle.session.proofs.Members.{Holds, of_versions}
+use Rattle.std.specs.FinMap as map
 
 same_id : (m n : ℕ) → nat_eq m n ≡ true → m ≡ n
 same_id m n e = grind (arith, nat_tests)

@@ -1,6 +1,5 @@
 -- What a session answers in the worlds for which it stands.
 use Rattle.std.proofs.Common.{◌≡◌, ℕ, ℤ, pos, ◌+◌, ◌&&◌, true, false, List, [], ◌∷◌, ◌++◌, map, length, nat_le, Option, Some, None, is_some, option_map, Result, refl, sym, ◌∙◌, ap, subst, arith}
-use Rattle.std.specs.FinMap as map_of
 use Rattle.std.specs.FinMap.{get-empty}
 use Rattle.std.specs.List.{flat_map, list_all}
 use Rattle.std.specs.Ordering.{nat_cmp}
@@ -13,26 +12,27 @@ use Rattle.rule_model.specs.declared.matched.Match.{Match}
 use Rattle.rule_model.specs.declared.program.Program.{Program}
 use Rattle.rule_model.specs.declared.program.Rule.{Rule}
 use Rattle.rule_model.specs.declared.step.Step.{Step}
-use Rattle.rule_model.specs.Lawful.{IsOrdered}
+use Rattle.rule_world.specs.Lawful.{IsOrdered}
 use Rattle.rule_model.specs.Matches.{match_of, matches_from, rows_by_rule, has_match, saliences}
-use Rattle.rule_model.specs.Programs.{has_conditions}
-use Rattle.rule_model.specs.Rows.{extended, tuples_from, row_of, rows}
-use Rattle.rule_model.specs.Tests.{Tuple, empty_tuple}
-use Rattle.rule_model.specs.Worlds.{World, empty_world, fact_of, marked}
-use Rattle.rule_model.proofs.Fresh.{and_parts}
-use Rattle.rule_model.proofs.Pending.{has_pending}
+use Rattle.rule_world.specs.Programs.{has_conditions}
+use Rattle.rule_model.specs.Rows.{extended, tuples_from, row_of, rows, Tuple, empty_tuple}
+use Rattle.rule_world.specs.Worlds.{World, empty_world, fact_of, marked}
+use Rattle.rule_world.proofs.Fresh.{and_parts}
+use Rattle.rule_world.proofs.Pending.{has_pending}
 use Rattle.agenda.specs.Agendas.{Held}
 use Rattle.script_read.specs.declared.asked.Change.{Change}
-use Rattle.rule_model.specs.declared.code.Code.{Code}
+use Rattle.rule_world.specs.declared.code.Code.{Code}
 use Rattle.change_read.specs.Changes.{change_step}
-use Rattle.session.specs.declared.lines.OutLine.{OutLine}
-use Rattle.session.specs.declared.lines.Fired.TheVariants.{No, Yes}
+use Rattle.engine.specs.declared.lines.OutLine.{OutLine}
+use Rattle.engine.specs.declared.lines.Fired.TheVariants.{No, Yes}
 use Rattle.session.specs.Places.{newest}
 use Rattle.session.proofs.Newest.{world_found}
 use Rattle.session.specs.Gives.{version_of, does, does_all, fire_line, fires, gives}
-use Rattle.session.specs.Standing.{FiringAnswers, Kept, Shown, Standing, Stands}
+use Rattle.engine.specs.Answers.{FiringAnswers}
+use Rattle.session.specs.Standing.{Kept, Shown, Standing, Stands}
 use Rattle.session.proofs.Stands.{kept}
 use Rattle.session.proofs.Firings.{top_of, plan_of, due_fires, no_fire, yes_fire, same_first}
+use Rattle.std.specs.FinMap as map_of
 
 abbrev pub shown : Program → Kept → Shown
 shown p k = record { program = p; kept = k }

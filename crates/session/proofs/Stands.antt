@@ -1,6 +1,5 @@
 -- A session stands for the world after a step.
 use Rattle.std.proofs.Common.{◌≡◌, ℕ, ℤ, ◌+◌, ◌<◌, ◌&&◌, ◌||◌, ◌==◌, not, Bool, true, false, List, [], ◌∷◌, ◌++◌, Option, Some, None, refl, sym, ◌∙◌, ap, subst, arith}
-use Rattle.std.specs.FinMap as map
 use Rattle.fx_base.specs.declared.ids.FactId.{FactId}
 use Rattle.fx_base.specs.declared.ids.Tag.{Tag}
 use Rattle.fx_base.specs.declared.ids.TypeId.{TypeId}
@@ -12,14 +11,14 @@ use Rattle.rule_model.specs.declared.program.Program.{Program}
 use Rattle.rule_model.specs.declared.program.Rule.{Rule}
 use Rattle.rule_model.specs.declared.step.Step.TheVariants.{Modify, Retract, At}
 use Rattle.rule_model.specs.Distinct.{HaveDistinctTags}
-use Rattle.rule_model.specs.Lawful.{IsOrdered}
+use Rattle.rule_world.specs.Lawful.{IsOrdered}
 use Rattle.rule_model.specs.Matches.{matches, has_match}
-use Rattle.rule_model.specs.Rows.{In}
-use Rattle.rule_model.specs.Worlds.{World, at_clock, is_of_type, last_start_with, revised, revised_in, still_fired, stepped, with_new, without}
-use Rattle.rule_model.proofs.Fresh.{AllBelow, and_parts, below_all, below_more, below_of, distinct_more}
-use Rattle.rule_model.proofs.Ids.{ids_more}
-use Rattle.rule_model.proofs.Pending.{has_pending, has_still}
-use Rattle.rule_model.proofs.Steps.{step_in_order}
+use Rattle.fx_base.specs.Lists.{In}
+use Rattle.rule_world.specs.Worlds.{World, at_clock, is_of_type, last_start_with, revised, revised_in, still_fired, stepped, with_new, without}
+use Rattle.rule_world.proofs.Fresh.{AllBelow, and_parts, below_all, below_more, below_of, distinct_more}
+use Rattle.rule_world.proofs.Ids.{ids_more}
+use Rattle.rule_world.proofs.Pending.{has_pending, has_still}
+use Rattle.rule_world.proofs.Steps.{step_in_order}
 use Rattle.agenda.specs.Agendas.{Held}
 use Rattle.session.specs.Places.{IsNewestTag, newest}
 use Rattle.session.specs.Refreshed.{IsRefreshed}
@@ -27,6 +26,7 @@ use Rattle.session.specs.Standing.{AgendaStands, Kept, Standing, last_start_in}
 use Rattle.session.proofs.Members.{Holds, all_listed, behind_of, distinct_behind, holds_again, holds_less, holds_new, holds_revised, is_out, listed, none_left, of_behind, of_remove, own_tags, versions}
 use Rattle.session.proofs.Newest.{holds, tagged_in, tagged_found, world_found}
 use Rattle.session.proofs.Reordered.{same_matches}
+use Rattle.std.specs.FinMap as map
 
 -- of one match: whether it was one before, is one now, and was fired
 kernel_pending : (was is fired : Bool) → (fired ≡ true → was ≡ true)

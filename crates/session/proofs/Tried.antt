@@ -2,12 +2,12 @@
 use Rattle.std.proofs.Common.{◌≡◌, ℕ, List, [], ◌∷◌, ◌++◌, length, Some, None, Result, Ok, Err, refl, sym, ◌∙◌, ap, subst, append_assoc, arith}
 use Rattle.std.specs.Prelude.{OnOk}
 use Rattle.std.proofs.lemmas.List.{append-nil}
-use Rattle.rule_model.specs.declared.code.Code.{Code}
+use Rattle.rule_world.specs.declared.code.Code.{Code}
 use Rattle.rule_model.specs.declared.program.Program.{Program}
 use Rattle.rule_model.specs.declared.step.Step.{Step}
-use Rattle.rule_model.specs.Worlds.{World, step_fault, stepped}
-use Rattle.session.specs.declared.lines.OutLine.{OutLine}
-use Rattle.session.specs.declared.lines.OutLine.TheVariants.{Fault}
+use Rattle.rule_world.specs.Worlds.{World, step_fault, stepped}
+use Rattle.engine.specs.declared.lines.OutLine.{OutLine}
+use Rattle.engine.specs.declared.lines.OutLine.TheVariants.{Fault}
 use Rattle.session.specs.Gives.{does, does_all, refused, step_lines, tries, tries_with}
 use Rattle.session.specs.Standing.{Kept, Standing}
 

@@ -1,11 +1,11 @@
 -- How the facts of a session are stored.
 use Rattle.std.specs.Prelude.{ℕ, ℤ, List, refl}
 use Rattle.std.specs.Coded.{Coded, code_by, coded_list, coded_ℕ, coded_ℤ, coded×}
-use Rattle.std.specs.FinMap as map
 use Rattle.fx_base.specs.declared.value.Value.{Value}
 use Rattle.fx_base.specs.declared.fact.Fact.{Fact}
 use Rattle.fact_store.specs.Held.{HeldFacts}
 use Rattle.rule_model.specs.ExpressionCode.{value_code}
+use Rattle.std.specs.FinMap as map
 
 abbrev pub fact_code : Coded Fact
 fact_code =

@@ -1,6 +1,5 @@
 -- What the engine answers in a world: the lines of a change or of a firing, and the next world.
-use Rattle.std.specs.Prelude.{List, [], ◌∷◌, ◌++◌, map, Option, Some, None, Result, Ok, Err, slice_get, if◌then◌else◌}
-use Rattle.std.specs.Prelude.{◌==◌}
+use Rattle.std.specs.Prelude.{List, [], ◌∷◌, ◌++◌, map, Option, Some, None, Result, Ok, Err, slice_get, if◌then◌else◌, ◌==◌}
 use Rattle.fx_base.specs.declared.ids.Tag.{Tag}
 use Rattle.fx_base.specs.declared.fact.Fact.{Fact}
 use Rattle.row_delta.specs.declared.row.Named.{Named}
@@ -11,17 +10,17 @@ use Rattle.rule_model.specs.declared.program.Program.{Program}
 use Rattle.rule_model.specs.declared.program.Rule.{Rule}
 use Rattle.rule_model.specs.declared.step.Step.{Step}
 use Rattle.rule_model.specs.declared.step.Step.TheVariants.{Insert, Modify, Retract, Advance, At}
-use Rattle.rule_model.specs.Looked.{named_at}
+use Rattle.rule_model.specs.Lent.{named_at}
 use Rattle.rule_model.specs.Planned.{step_of}
-use Rattle.rule_model.specs.Worlds.{World, stepped, step_fault, fact_of, first_pending, marked}
+use Rattle.rule_world.specs.Worlds.{World, stepped, step_fault, fact_of, first_pending, marked}
 use Rattle.script_read.specs.declared.asked.Change.{Change}
-use Rattle.rule_model.specs.declared.code.Code.{Code}
-use Rattle.rule_model.specs.declared.code.Code.TheVariants.{Overflow}
+use Rattle.rule_world.specs.declared.code.Code.{Code}
+use Rattle.rule_world.specs.declared.code.Code.TheVariants.{Overflow}
 use Rattle.change_read.specs.Changes.{change_step}
-use Rattle.session.specs.declared.lines.OutLine.{OutLine}
-use Rattle.session.specs.declared.lines.OutLine.TheVariants.{New, Fire, Fault}
-use Rattle.session.specs.declared.lines.Cell.{Cell}
-use Rattle.session.specs.declared.lines.Cell.TheVariants as cell
+use Rattle.engine.specs.declared.lines.OutLine.{OutLine}
+use Rattle.engine.specs.declared.lines.OutLine.TheVariants.{New, Fire, Fault}
+use Rattle.engine.specs.declared.lines.Cell.{Cell}
+use Rattle.engine.specs.declared.lines.Cell.TheVariants as cell
 
 -- ---- steps
 
@@ -97,4 +96,4 @@ fires_with p w (Some m) = Some (fires_match p w m)
 
 -- a firing of the first pending match; nothing where nothing is pending
 unfoldable pub fires : Program → World → Option (List OutLine × World)
-fires p w = fires_with p w (first_pending p.rules w)
+fires p w = fires_with p w (first_pending p w)

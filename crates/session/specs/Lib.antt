@@ -1,5 +1,4 @@
 pub mod Gives
-pub mod Known
 pub mod Standing
 pub mod Refreshed
 pub mod Places

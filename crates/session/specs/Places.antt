@@ -1,20 +1,21 @@
 -- What is asked of the facts that a session has at their tags, and what its parts keep to.
 use Rattle.std.specs.Prelude.{◌≡◌, ◌≤◌, ℕ, zero, suc, ℤ, pos, ◌≤ℤ◌, List, map as list_map, Option, None, Result, slice_get, if◌then◌else◌}
-use Rattle.std.specs.FinMap as map
 use Rattle.fx_base.specs.declared.ids.Tag.{Tag}
 use Rattle.fx_base.specs.declared.fact.Fact.{Fact}
 use Rattle.fact_store.specs.Held.{HeldFacts, IsNewest, is_id}
 use Rattle.row_delta.specs.declared.row.Row.{Row}
 use Rattle.rule_model.specs.declared.action.Action.{Action}
-use Rattle.rule_model.specs.declared.code.Code.{Code}
-use Rattle.rule_model.specs.declared.program.EntryInfo.{EntryInfo}
+use Rattle.rule_world.specs.declared.code.Code.{Code}
+use Rattle.rule_model.specs.declared.program.Program.{Program}
 use Rattle.rule_model.specs.declared.step.Step.{Step}
-use Rattle.rule_model.specs.Events.{most_millis}
-use Rattle.rule_model.specs.Looked.{named_at}
+use Rattle.rule_world.specs.Events.{most_millis}
+use Rattle.rule_model.specs.Lent.{named_at}
 use Rattle.rule_model.specs.Planned.{step_of}
-use Rattle.rule_model.specs.Worlds.{floor_of}
+use Rattle.rule_model.specs.Snapshots.{floor_by}
+use Rattle.rule_model.specs.Types.{lateness_of}
 use Rattle.session.specs.Gives.{step_or_overflow}
-use Rattle.session.specs.Standing.{Kept, last_start_in}
+use Rattle.session.specs.Standing.{Contents, last_start_in}
+use Rattle.std.specs.FinMap as map
 
 -- ---- the facts
 
@@ -24,7 +25,7 @@ newest_below held id zero = None
 newest_below held id (suc tag) = if is_id id (map.get held tag) then map.get held tag else newest_below held id tag
 
 -- the fact of an id
-abbrev pub newest : Kept → ℕ → Option Fact
+abbrev pub newest : Contents → ℕ → Option Fact
 newest k id = newest_below k.facts id k.next_tag
 
 -- the newest version of the id has this tag
@@ -43,8 +44,8 @@ pub record IsSafe (facts : HeldFacts) (clock : ℤ) (next_id next_tag : ℕ) : T
 -- ---- times
 
 -- the floor of an entry point, by the last starts that are kept
-abbrev pub floor_in : List EntryInfo → List ℤ → ℤ → ℕ → ℤ
-floor_in entries starts clock entry = floor_of (slice_get entries entry) (last_start_in starts entry) clock
+abbrev pub floor_in : Program → List ℤ → ℤ → ℕ → ℤ
+floor_in p starts clock entry = floor_by (lateness_of p entry) (last_start_in starts entry) clock
 
 -- ---- what actions are to do
 

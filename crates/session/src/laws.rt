@@ -1,12 +1,12 @@
 //! Laws of changes and firings, each the contract of a function that does nothing.
 ghost use Rattle.std.specs.Prelude.{◌≡◌, true, List, Some};
 ghost use Rattle.rule_model.specs.declared.program.Program.{Program};
-ghost use Rattle.rule_model.specs.Lawful.{IsLawful};
-ghost use Rattle.rule_model.specs.Programs.{IsAccepted};
-ghost use Rattle.rule_model.specs.Typed.{is_typed};
-ghost use Rattle.rule_model.specs.Worlds.{World};
+ghost use Rattle.rule_world.specs.Lawful.{IsLawful};
+ghost use Rattle.rule_world.specs.Programs.{IsAccepted};
+ghost use Rattle.rule_world.specs.Typed.{is_typed};
+ghost use Rattle.rule_world.specs.Worlds.{World};
 ghost use Rattle.script_read.specs.declared.asked.Change.{Change};
-ghost use Rattle.session.specs.declared.lines.OutLine.{OutLine};
+ghost use Rattle.engine.specs.declared.lines.OutLine.{OutLine};
 ghost use Rattle.session.specs.Gives.{gives, fires};
 
 /// A change leads from a lawful world to a lawful one.

@@ -1,9 +1,9 @@
 ghost use Rattle.std.specs.Prelude.{◌≡◌, [], pos, IfOk, option_map, false, true, IsSome, IsNone, IfSome, IfErr, None, Some};
-ghost use Rattle.std.specs.FinMap as map;
 ghost use Rattle.rule_model.specs.Matches.{fire_cmp};
 ghost use Rattle.rule_model.specs.First.{first};
-ghost use Rattle.rule_model.specs.Worlds.{modify_fault, is_of_type};
+ghost use Rattle.rule_world.specs.Worlds.{modify_fault, is_of_type};
 ghost use Rattle.session.specs.Places.{IsNewestTag, newest};
+ghost use Rattle.std.specs.FinMap as map;
 
 use crate::times::is_event;
 use agenda::Agenda;

@@ -1,14 +1,14 @@
 ghost use Rattle.std.specs.Prelude.{◌≡◌, ◌+◌, ◌<◌, ◌≤◌, ◌^◌, ◌≤ℤ◌, pos, true, [], ◌∷◌, ◌++◌, length, None, Some, slice_get, IfOk, IfErr, OnOk};
-ghost use Rattle.std.specs.FinMap as map;
-ghost use Rattle.rule_model.specs.Events.{most_millis, new_fault, times_of};
+ghost use Rattle.rule_world.specs.Events.{most_millis, new_fault, times_of};
 ghost use Rattle.rule_model.specs.declared.program.Program.{Program as ProgramData};
-ghost use Rattle.rule_model.specs.Programs.{IsAccepted};
-ghost use Rattle.rule_model.specs.Worlds.{World, stepped, at_clock, with_new, with_values, is_of_type, revised as revised_fact};
+ghost use Rattle.rule_world.specs.Programs.{IsAccepted};
+ghost use Rattle.rule_world.specs.Worlds.{World, stepped, at_clock, with_new, with_values, is_of_type, revised as revised_fact};
 ghost use Rattle.rule_model.specs.declared.step.Step.TheVariants.{Insert, Modify, Retract, Advance, At};
-ghost use Rattle.session.specs.declared.lines.OutLine.TheVariants.{Fault};
+ghost use Rattle.engine.specs.declared.lines.OutLine.TheVariants.{Fault};
 ghost use Rattle.session.specs.Gives.{tries, does, does_all};
 ghost use Rattle.session.specs.Standing.{Standing};
 ghost use Rattle.session.specs.Places.{IsNewestTag, floor_in, newest};
+ghost use Rattle.std.specs.FinMap as map;
 
 use crate::lines::OutLine;
 use crate::refreshing::refreshed;

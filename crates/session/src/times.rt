@@ -1,8 +1,9 @@
 ghost use Rattle.std.specs.Prelude.{◌≡◌, ◌≤ℤ◌, ◌-ℤ◌, ◌+ℤ◌, ℕ, pos, true, length, slice_get, slice_index_or, option_map, Some, None, IfOk, IfErr, OnOk, ◌<◌, ◌^◌};
 ghost use Rattle.std.specs.List.{list_all};
-ghost use Rattle.rule_model.specs.Events.{is_event_type, field_number, start_of as start_of_event, duration_of as duration_of_event, event_fault, event_times as times_of_event, times_of, new_fault, clock_fault, most_millis};
-ghost use Rattle.rule_model.specs.Programs.{has_lateness};
-ghost use Rattle.rule_model.specs.Worlds.{lateness_of, last_start_with};
+ghost use Rattle.rule_model.specs.Types.{is_event_type};
+ghost use Rattle.rule_world.specs.Events.{field_number, start_of as start_of_event, duration_of as duration_of_event, event_fault, event_times as times_of_event, times_of, new_fault, clock_fault, most_millis};
+ghost use Rattle.rule_world.specs.Programs.{has_lateness};
+ghost use Rattle.rule_world.specs.Worlds.{lateness_of, last_start_with};
 ghost use Rattle.session.specs.Places.{floor_in};
 ghost use Rattle.session.specs.Standing.{last_start_in};
 

@@ -1,5 +1,5 @@
 use Rattle.std.proofs.Common.{◌≡◌, ◌+◌, ◌*◌, ◌≤◌}
-use Rattle.rule_model.specs.Worlds.{World}
+use Rattle.rule_world.specs.Worlds.{World}
 use Rattle.replay.specs.Firings.{firings}
 use Rattle.replay.proofs.Fired.{Remains}
 use Rattle.replay.proofs.firing.fire_all.Given as goal

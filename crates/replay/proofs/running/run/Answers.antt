@@ -2,7 +2,7 @@ use Rattle.std.proofs.Common.{◌≡◌, ◌-◌, ◌^◌, [], arith, sym, ap, �
 use Rattle.fx_io.specs.Outside.{append, AppendsFront, count_after}
 use Rattle.fx_io.specs.Lines.{lines_of, lines_ahead}
 use Rattle.fx_io.specs.Reader.{Reader}
-use Rattle.rule_model.specs.Worlds.{empty_world}
+use Rattle.rule_world.specs.Worlds.{empty_world}
 use Rattle.replay.specs.declared.fault.RunFault.TheVariants.{NoMemory, WriteFault}
 use Rattle.replay.specs.declared.turn.Ended.TheVariants.{Script, Limit}
 use Rattle.replay.specs.declared.turn.Turn.TheVariants.{Goes, Stops}

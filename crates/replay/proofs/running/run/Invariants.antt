@@ -1,7 +1,7 @@
 use Rattle.std.proofs.Common.{◌≡◌, ◌≤◌, ◌+◌, ◌*◌, ◌^◌, [], None}
 use Rattle.fx_io.specs.Outside.{count_after}
 use Rattle.fx_io.specs.Lines.{lines_ahead, total_told, to_come}
-use Rattle.rule_model.specs.Worlds.{World}
+use Rattle.rule_world.specs.Worlds.{World}
 use Rattle.replay.specs.Run.{run, whole_run}
 use Rattle.replay.proofs.Ahead.{SoFar}
 use Rattle.replay.proofs.running.run.Given as goal

@@ -1,5 +1,5 @@
 use Rattle.std.proofs.Common.{◌≡◌}
-use Rattle.rule_model.specs.Worlds.{with_values}
+use Rattle.rule_world.specs.Worlds.{with_values}
 use Rattle.session.proofs.steps.values_with.Given as goal
 
 -- the sets that are left lead to the end

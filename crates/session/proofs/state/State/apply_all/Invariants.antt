@@ -1,5 +1,5 @@
 use Rattle.std.proofs.Common.{◌≤◌, ◌+◌, length}
-use Rattle.rule_model.specs.Worlds.{World}
+use Rattle.rule_world.specs.Worlds.{World}
 use Rattle.session.specs.Standing.{Standing}
 use Rattle.session.proofs.Tried.{SoFar}
 use Rattle.session.proofs.state.State.apply_all.Given as goal

@@ -1,8 +1,8 @@
 use Rattle.std.proofs.Common.{◌≡◌, Some, None, refl, sym, ◌∙◌, ap, subst, to_z, of_z, to_z-of_z, w64}
 use Rattle.std.proofs.lemmas.Result.{IfOk-weaker}
 use Rattle.rule_model.specs.declared.step.Step.TheVariants.{At}
-use Rattle.rule_model.specs.Events.{clock_fault}
-use Rattle.rule_model.specs.Worlds.{at_clock}
+use Rattle.rule_world.specs.Events.{clock_fault}
+use Rattle.rule_world.specs.Worlds.{at_clock}
 use Rattle.session.specs.Standing.{Kept, Standing}
 use Rattle.session.proofs.Faults.{at_done, at_fault, clock_same}
 use Rattle.session.proofs.Tried.{done_stands, no_lines, on_ok_weaker, refused_stands, refused_lines}

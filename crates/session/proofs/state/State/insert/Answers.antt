@@ -1,8 +1,8 @@
 use Rattle.std.proofs.Common.{◌≡◌, Some, None, [], ◌∷◌, ◌++◌, sym, subst, ap}
 use Rattle.std.proofs.lemmas.Result.{IfOk-weaker}
 use Rattle.rule_model.specs.declared.step.Step.TheVariants.{Insert}
-use Rattle.rule_model.specs.Worlds.{with_new}
-use Rattle.session.specs.declared.lines.OutLine.TheVariants.{New}
+use Rattle.rule_world.specs.Worlds.{with_new}
+use Rattle.engine.specs.declared.lines.OutLine.TheVariants.{New}
 use Rattle.session.specs.Standing.{Kept, Standing}
 use Rattle.session.proofs.Faults.{insert_done, insert_fault, numbered}
 use Rattle.session.proofs.Tried.{done_stands, done_lines, on_ok, on_ok_weaker, refused_stands, refused_lines}

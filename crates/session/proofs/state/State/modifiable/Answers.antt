@@ -1,8 +1,8 @@
 use Rattle.std.proofs.Common.{◌≡◌, Some, None, sym, ◌∙◌, ap}
 use Rattle.std.specs.Prelude.{if◌then◌else◌, slice_get}
-use Rattle.rule_model.specs.declared.code.Code.TheVariants.{EventFixed}
-use Rattle.rule_model.specs.Events.{is_event_type}
-use Rattle.rule_model.specs.Worlds.{modify_fault}
+use Rattle.rule_world.specs.declared.code.Code.TheVariants.{EventFixed}
+use Rattle.rule_model.specs.Types.{is_event_type}
+use Rattle.rule_world.specs.Worlds.{modify_fault}
 use Rattle.session.specs.Places.{newest}
 use Rattle.session.specs.Standing.{Kept}
 use Rattle.session.proofs.Newest.{store_found, store_none}

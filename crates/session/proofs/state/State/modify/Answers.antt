@@ -1,7 +1,7 @@
 use Rattle.std.proofs.Common.{Some, None, refl}
 use Rattle.std.proofs.lemmas.Result.{IfOk-weaker}
 use Rattle.rule_model.specs.declared.step.Step.TheVariants.{Modify}
-use Rattle.rule_model.specs.Worlds.{stepped}
+use Rattle.rule_world.specs.Worlds.{stepped}
 use Rattle.session.proofs.Faults.{modify_fault_is}
 use Rattle.session.proofs.Tried.{done_stands, no_lines, on_ok, on_ok_weaker, refused_stands, refused_lines}
 use Rattle.session.proofs.state.State.modify.Goals as goal

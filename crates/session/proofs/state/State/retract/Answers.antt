@@ -1,10 +1,10 @@
 use Rattle.std.proofs.Common.{◌≡◌, Some, None, true, false, refl, sym, ◌∙◌, ap}
 use Rattle.std.specs.Prelude.{slice_get}
 use Rattle.std.proofs.lemmas.Result.{IfOk-weaker}
-use Rattle.rule_model.specs.declared.code.Code.TheVariants.{Absent}
+use Rattle.rule_world.specs.declared.code.Code.TheVariants.{Absent}
 use Rattle.rule_model.specs.declared.step.Step.TheVariants.{Retract}
-use Rattle.rule_model.specs.Events.{is_event_type}
-use Rattle.rule_model.specs.Worlds.{is_event, stepped}
+use Rattle.rule_model.specs.Types.{is_event_type, is_event}
+use Rattle.rule_world.specs.Worlds.{stepped}
 use Rattle.session.specs.Places.{newest}
 use Rattle.session.proofs.Faults.{retract_absent, retract_event, retract_fault_is, retract_found, retract_vain}
 use Rattle.session.proofs.Tried.{done_stands, no_lines, on_ok, on_ok_weaker, refused_stands, refused_lines}

@@ -1,5 +1,5 @@
 use Rattle.std.proofs.Common.{sym, ◌∙◌, ap}
-use Rattle.rule_model.specs.Worlds.{is_of_type}
+use Rattle.rule_world.specs.Worlds.{is_of_type}
 use Rattle.session.specs.Places.{newest}
 use Rattle.session.specs.Standing.{Kept}
 use Rattle.session.proofs.Newest.{store_found, store_none}

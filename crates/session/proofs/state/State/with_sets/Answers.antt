@@ -1,10 +1,10 @@
 use Rattle.std.proofs.Common.{◌≡◌, ◌+◌, ◌∙◌, Some, sym, subst, ap, to_z, of_z, w64, arith}
-use Rattle.std.specs.FinMap as map
 use Rattle.fx_base.specs.declared.fact.Fact.{Fact}
 use Rattle.session.specs.Places.{IsNewestTag, IsSafe}
 use Rattle.session.specs.Standing.{Kept, Standing}
 use Rattle.session.proofs.Faults.{clock_same, safe_again, safe_less}
 use Rattle.session.proofs.Stands.{kept, modify_stands}
+use Rattle.std.specs.FinMap as map
 use Rattle.session.proofs.state.State.with_sets.Goals as goal
 
 pub with_fact-requires : goal.with_fact-requires

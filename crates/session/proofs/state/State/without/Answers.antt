@@ -1,10 +1,10 @@
 use Rattle.std.proofs.Common.{◌≡◌, ◌∙◌, Some, true, sym, subst, to_z, of_z, w64}
-use Rattle.std.specs.FinMap as map
-use Rattle.rule_model.specs.Worlds.{is_of_type}
+use Rattle.rule_world.specs.Worlds.{is_of_type}
 use Rattle.session.specs.Places.{IsNewestTag, IsSafe, newest}
 use Rattle.session.specs.Standing.{Kept, Standing}
 use Rattle.session.proofs.Faults.{clock_same, safe_less}
 use Rattle.session.proofs.Stands.{kept, retract_stands}
+use Rattle.std.specs.FinMap as map
 use Rattle.session.proofs.state.State.without.Goals as goal
 
 pub invariant_of-result : goal.invariant_of-result
