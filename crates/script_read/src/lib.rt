@@ -6,6 +6,7 @@ mod asked;
 mod blank;
 mod fault;
 mod given;
+pub mod laws;
 mod line;
 mod members;
 

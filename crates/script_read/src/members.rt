@@ -8,9 +8,9 @@ use serde_json::{Map, Value};
 // The greatest number of firings that a line may ask for.
 const MOST_FIRINGS: i64 = 1 << 53;
 
-// The text under this name.
+/// The text under this name. Takes no memory.
 #[tactic(auto, unfolding(crate::specs::Members::text_member))]
-pub fn text_member<'a>(value: &'a Value, name: &str) -> Option<&'a str>
+pub(crate) fn text_member<'a>(value: &'a Value, name: &str) -> Option<&'a str>
     ensures { option_map (λ text. text.now) result ≡ text_under name.now (view value.now) }
 {
     match value.get(name) {
@@ -19,9 +19,9 @@ pub fn text_member<'a>(value: &'a Value, name: &str) -> Option<&'a str>
     }
 }
 
-// The members of the object under this name.
+/// The members of the object under this name. Takes no memory.
 #[tactic(auto, unfolding(crate::specs::Members::object_member))]
-pub fn object_member<'a>(value: &'a Value, name: &str) -> Option<&'a Map<String, Value>>
+pub(crate) fn object_member<'a>(value: &'a Value, name: &str) -> Option<&'a Map<String, Value>>
     ensures { option_map (λ map. members_view map.now.entries) result
         ≡ object_under name.now (view value.now) }
 {
@@ -31,9 +31,9 @@ pub fn object_member<'a>(value: &'a Value, name: &str) -> Option<&'a Map<String,
     }
 }
 
-// The whole number of 64 bits with sign under this name.
+/// The whole number of 64 bits with sign under this name. Takes no memory.
 #[tactic(auto, unfolding(crate::specs::Members::whole_member))]
-pub fn whole_member(value: &Value, name: &str) -> Option<i64>
+pub(crate) fn whole_member(value: &Value, name: &str) -> Option<i64>
     ensures { result ≡ whole_under name.now (view value.now) }
 {
     match value.get(name) {
@@ -42,9 +42,9 @@ pub fn whole_member(value: &Value, name: &str) -> Option<i64>
     }
 }
 
-// The id under this name: a whole number from 1 on.
+/// The id under this name: a whole number from 1 on. Takes no memory.
 #[tactic(auto, unfolding(crate::specs::Members::id_member))]
-pub fn id_member(value: &Value, name: &str) -> Option<FactId>
+pub(crate) fn id_member(value: &Value, name: &str) -> Option<FactId>
     ensures { option_map (λ id. id.0) result ≡ id_under name.now (view value.now) }
 {
     match whole_member(value, name) {
@@ -53,9 +53,9 @@ pub fn id_member(value: &Value, name: &str) -> Option<FactId>
     }
 }
 
-// The number of firings under this name: a whole number from 0 to 2^53.
+/// The number of firings under this name: a whole number from 0 to 2^53. Takes no memory.
 #[tactic(auto, unfolding(crate::specs::Members::count_member, crate::specs::Members::most_firings))]
-pub fn count_member(value: &Value, name: &str) -> Option<u64>
+pub(crate) fn count_member(value: &Value, name: &str) -> Option<u64>
     ensures { result ≡ count_under name.now (view value.now) }
 {
     match whole_member(value, name) {
@@ -64,9 +64,9 @@ pub fn count_member(value: &Value, name: &str) -> Option<u64>
     }
 }
 
-// How many members an object has.
+/// How many members an object has. Takes no memory.
 #[tactic(auto, using(crate::proofs::Counts::members_are_entries), unfolding(crate::specs::Members::count))]
-pub fn count(value: &Value) -> Option<usize>
+pub(crate) fn count(value: &Value) -> Option<usize>
     ensures { result ≡ count_of (view value.now) }
 {
     match value.as_object() {
