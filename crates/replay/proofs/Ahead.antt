@@ -12,7 +12,8 @@ use Rattle.replay.specs.declared.turn.Ended.{Ended}
 use Rattle.replay.specs.declared.turn.Ended.TheVariants.{Script, Limit}
 use Rattle.replay.specs.Firings.{Gives, Fires}
 use Rattle.replay.specs.Run.{Outcome, Done, Step, goes_on, stops, run, then_run, at_limit, line_step}
-use Rattle.replay.specs.Turns.{Does, Flushes, Long}
+use Rattle.replay.specs.Turns.{Does, Flushes}
+use Rattle.replay.specs.Report.{Long}
 
 -- the outcome of the lines ahead
 abbrev pub Rest : Type 0

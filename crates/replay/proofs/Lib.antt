@@ -4,3 +4,4 @@ pub mod Ahead
 pub mod Stops
 pub mod Files
 pub mod Reports
+pub mod RuleFileLaws

@@ -1,33 +1,28 @@
--- The report, by what was found.
+-- What is wanted, by what was found.
 use Rattle.std.proofs.Common.{◌≡◌, ◌≢◌, ◌≤◌, ◌+◌, ℕ, Bool, true, false, List, length, take, nat_lt, Option, Some, None, refl, sym, ap, subst, ◌∙◌, arith, String, Global}
 use Rattle.std.specs.Prelude.{IfSome}
 use Rattle.std.proofs.lemmas.Bool.Decides.{nat_tests}
 use Rattle.std.proofs.lemmas.List.{take_all, length-take}
 use Rattle.fx_io.specs.Outside.{IsMissing, IsFound, file_told}
+use Rattle.drl_parse.specs.Parsed.{file_limit, parsed, parsed_by}
 use Rattle.replay.specs.declared.refusal.RefusalCode.TheVariants.{Missing}
 use Rattle.replay.specs.declared.refusal.Refusal.{Refusal}
+use Rattle.replay.specs.declared.rule_file.Reading.{Reading}
 use Rattle.replay.specs.declared.rule_file.Reading.TheVariants.{Refused}
-use Rattle.replay.specs.Firings.{Gives, Fires}
-use Rattle.drl_parse.specs.Parsed.{file_limit, parsed, parsed_by}
-use Rattle.replay.specs.Refusals.{reading, refusal_text, whole_file, IsRefused}
-use Rattle.replay.specs.Report.{report, rules_report, word_report, single, reading_report, file_report, usage, firing_limit, IsLong, FileIsLong, WordIsLong}
+use Rattle.replay.specs.Refusals.{reading, whole_file, IsRefused}
+use Rattle.replay.specs.Wanted.{Files, Wanted, usage_line, refuses, wanted, wanted_by_word, wanted_by_name, wanted_by_file, wanted_by_reading, single}
 
-abbrev Files : Type 0
-Files = List ℕ → Option (List ℕ)
+pub not_one_word : (words : List (String Global)) (files : Files) → single words ≡ None → wanted words files ≡ usage_line
+unfolding wanted
+not_one_word words files e = ap (wanted_by_word files) e
 
-pub not_one_word : (gives : Gives) (fires : Fires) (words : List (String Global)) (files : Files) (script : List ℕ) → single words ≡ None → report gives fires words files script ≡ record { bytes = usage; status = 2 }
-unfolding report
-not_one_word gives fires words files script e = rw e refl
+pub one_word : (words : List (String Global)) (name : List ℕ) (files : Files) → single words ≡ Some name → wanted words files ≡ wanted_by_name files name
+unfolding wanted
+one_word words name files e = ap (wanted_by_word files) e
 
-pub one_word : (gives : Gives) (fires : Fires) (words : List (String Global)) (name : List ℕ) (files : Files) (script : List ℕ) → single words ≡ Some name
-    → report gives fires words files script ≡ rules_report gives fires firing_limit name files script
-unfolding report
-one_word gives fires words name files script e = ap (λ o. word_report gives fires o files script) e
-
-pub no_file : (gives : Gives) (fires : Fires) (limit : ℕ) (name : List ℕ) (told : Option Files) (files : Files) (script : List ℕ) → told ≡ Some files → IsMissing told name
-    → rules_report gives fires limit name files script ≡ record { bytes = refusal_text (whole_file Missing); status = 3 }
-unfolding rules_report
-no_file gives fires limit name told files script e gone = let none : files name ≡ None = rw e at gone in rw none refl
+pub no_file : (name : List ℕ) (told : Option Files) (files : Files) → told ≡ Some files → IsMissing told name → wanted_by_name files name ≡ refuses (whole_file Missing)
+unfolding wanted_by_name
+no_file name told files e gone = let none : files name ≡ None = rw e at gone in ap wanted_by_file none
 
 short_file : (n m : ℕ) → nat_lt n m ≡ false → m ≤ n + 1
 short_file n m e = grind (arith, nat_tests)
@@ -49,31 +44,17 @@ found_reading None read found h = absurd (found refl)
 found_reading (Some file) read found h = (file, refl, sym (within_taken file) ∙ ap reading (sym h))
 
 -- the file that was read
-pub a_file : (gives : Gives) (fires : Fires) (limit : ℕ) (name : List ℕ) (told : Option Files) (files : Files) (script read : List ℕ) → told ≡ Some files → IsFound told name
-    → IfSome (file_told told name) (λ file. read ≡ take (file_limit + 1) file)
-    → rules_report gives fires limit name files script ≡ reading_report gives fires limit (reading read) script
-unfolding rules_report
-a_file gives fires limit name told files script read e found h =
-    let is_found : files name ≢ None = rw e at found in
+pub a_file : (name : List ℕ) (told : Option Files) (files : Files) (read : List ℕ) (found : Reading) → told ≡ Some files → IsFound told name
+    → IfSome (file_told told name) (λ file. read ≡ take (file_limit + 1) file) → reading read ≡ found → wanted_by_name files name ≡ wanted_by_reading found
+unfolding wanted_by_name
+a_file name told files read found e there h is =
+    let is_found : files name ≢ None = rw e at there in
     let whole : IfSome (files name) (λ file. read ≡ take (file_limit + 1) file) = rw e at h in
     let r = found_reading (files name) read is_found whole in
-    ap (λ o. file_report gives fires limit o script) r.1 ∙ ap (λ z. reading_report gives fires limit z script) r.2
-
-pub a_long_file : (gives : Gives) (fires : Fires) (limit : ℕ) (name : List ℕ) (told : Option Files) (files : Files) (script read : List ℕ) → told ≡ Some files → IsFound told name
-    → IfSome (file_told told name) (λ file. read ≡ take (file_limit + 1) file)
-    → IsLong gives fires limit (reading read) script → FileIsLong gives fires limit (files name) script
-unfolding FileIsLong
-a_long_file gives fires limit name told files script read e found h long =
-    let is_found : files name ≢ None = rw e at found in
-    let whole : IfSome (files name) (λ file. read ≡ take (file_limit + 1) file) = rw e at h in
-    let r = found_reading (files name) read is_found whole in
-    subst (λ o. FileIsLong gives fires limit o script) (sym r.1) (subst (λ z. IsLong gives fires limit z script) (sym r.2) long)
+    ap wanted_by_file r.1 ∙ ap wanted_by_reading (r.2 ∙ is)
 
 pub refused_file : (o : Option (List ℕ)) (read : List ℕ) (refusal : Refusal) → IfSome o (λ file. read ≡ take (file_limit + 1) file) → reading read ≡ Refused refusal → IfSome o (λ file. IsRefused (reading file))
 refused_file None read refusal h e = tt
 refused_file (Some file) read refusal h e =
     let is : reading file ≡ Refused refusal = sym (within_taken file) ∙ ap reading (sym h) ∙ e in
     subst IsRefused (sym is) tt
-
-pub long_word : (gives : Gives) (fires : Fires) (o : Option (List ℕ)) (name : List ℕ) (files : Files) (script : List ℕ) → o ≡ Some name → FileIsLong gives fires firing_limit (files name) script → WordIsLong gives fires o files script
-long_word gives fires o name files script e h = subst (λ z. WordIsLong gives fires z files script) (sym e) h

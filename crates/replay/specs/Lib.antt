@@ -4,4 +4,6 @@ pub mod Run
 pub mod Faults
 pub mod Turns
 pub mod Refusals
+pub mod RuleFiles
+pub mod Wanted
 pub mod Report

@@ -1,20 +1,18 @@
 -- What a rule file is: a program, or refused.
 use Rattle.std.specs.Prelude.{ℕ, ◌++◌, List, [], ◌∷◌, Result, Ok, Err, codes}
 use Rattle.std.specs.Fmt.{decimal}
-use Rattle.drl_lex.specs.declared.fault.LexCode.{LexCode}
+use Rattle.drl_lex.specs.CodeNames.{lex_code_name}
 use Rattle.drl_parse.specs.Parsed.{Parsed, is_file, outside, too_long, lexical, parsed}
-use Rattle.drl_check.specs.declared.fault.CheckCode.{CheckCode}
+use Rattle.drl_check.specs.CodeNames.{check_code_name}
 use Rattle.drl_check.specs.Answers.{within_32_bits}
 use Rattle.drl_check.specs.Checks.{Failure}
 use Rattle.drl_check.specs.Outcomes.{checked}
 use Rattle.rule_model.specs.declared.program.Program.{Program}
-use Rattle.rule_world.specs.Programs.{IsAccepted}
+use Rattle.rule_world.specs.Programs.{IsRunnable}
 use Rattle.replay.specs.declared.refusal.RefusalCode.{RefusalCode}
 use Rattle.replay.specs.declared.refusal.Refusal.{Refusal}
 use Rattle.replay.specs.declared.rule_file.Reading.{Reading}
 use Rattle.replay.specs.declared.rule_file.Reading.TheVariants.{Accepted, Refused}
-use Rattle.drl_lex.specs.declared.fault.LexCode.TheVariants as lex
-use Rattle.drl_check.specs.declared.fault.CheckCode.TheVariants as check
 use Rattle.replay.specs.declared.refusal.RefusalCode.TheVariants as code
 
 -- the file as a whole
@@ -39,38 +37,20 @@ reading bytes = of_parsed (parsed bytes)
 
 -- a program is one that the engine may run
 abbrev pub IsSound : Reading → Type 0
-IsSound (Accepted program) = IsAccepted program
+IsSound (Accepted program) = IsRunnable program
 IsSound (Refused refusal) = Unit {0}
 
 abbrev pub IsRefused : Reading → Type 0
 IsRefused (Accepted program) = ⊥
 IsRefused (Refused refusal) = Unit {0}
 
-abbrev pub lexical_code_text : LexCode → List ℕ
-lexical_code_text lex.BadChar = codes "BadChar"
-lexical_code_text lex.OpenText = codes "OpenText"
-lexical_code_text lex.OpenComment = codes "OpenComment"
-lexical_code_text lex.NumberLarge = codes "NumberLarge"
-
-abbrev pub check_code_text : CheckCode → List ℕ
-check_code_text check.NotBuilt = codes "NotBuilt"
-check_code_text check.TwiceDeclared = codes "TwiceDeclared"
-check_code_text check.LimitPassed = codes "LimitPassed"
-check_code_text check.UnknownType = codes "UnknownType"
-check_code_text check.UnknownField = codes "UnknownField"
-check_code_text check.UnknownVariable = codes "UnknownVariable"
-check_code_text check.WrongKind = codes "WrongKind"
-check_code_text check.NotAnEvent = codes "NotAnEvent"
-check_code_text check.BadTimestamp = codes "BadTimestamp"
-check_code_text check.EventFixed = codes "EventFixed"
-check_code_text check.BadParams = codes "BadParams"
-
+-- the name of a code, as the line prints it
 abbrev pub refusal_code_text : RefusalCode → List ℕ
 refusal_code_text code.Missing = codes "Missing"
 refusal_code_text code.TooLong = codes "TooLong"
 refusal_code_text code.Syntax = codes "Syntax"
-refusal_code_text (code.Lexical reason) = lexical_code_text reason
-refusal_code_text (code.Checked reason) = check_code_text reason
+refusal_code_text (code.Lexical reason) = lex_code_name reason
+refusal_code_text (code.Checked reason) = check_code_name reason
 
 -- the line of a refused file
 abbrev pub refusal_text : Refusal → List ℕ

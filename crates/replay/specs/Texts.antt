@@ -8,10 +8,9 @@ use Rattle.rule_model.specs.declared.program.Rule.{Rule}
 use Rattle.engine.specs.declared.lines.OutLine.{OutLine}
 use Rattle.engine.specs.declared.lines.OutLine.TheVariants.{New, Fire, Fault}
 use Rattle.engine.specs.declared.lines.Cell.{Cell}
-use Rattle.rule_world.specs.declared.code.Code.{Code}
+use Rattle.rule_world.specs.CodeNames.{code_name}
 use Rattle.replay.specs.declared.fault.LineCode.{LineCode}
 use Rattle.engine.specs.declared.lines.Cell.TheVariants as cell
-use Rattle.rule_world.specs.declared.code.Code.TheVariants as code
 use Rattle.replay.specs.declared.fault.LineCode.TheVariants as fault
 
 abbrev pub type_name : Option TypeInfo → List ℕ
@@ -35,27 +34,12 @@ quoted_byte b =
 abbrev pub cell_text : Cell → List ℕ
 cell_text (cell.Fact id) = codes " #" ++ decimal id.0
 
--- the code of a change or an action that the engine refuses
-abbrev pub change_code_text : Code → List ℕ
-change_code_text code.UnknownType = codes "UnknownType"
-change_code_text code.UnknownEntry = codes "UnknownEntry"
-change_code_text code.EventFixed = codes "EventFixed"
-change_code_text code.Absent = codes "Absent"
-change_code_text code.BadFields = codes "BadFields"
-change_code_text code.BadValue = codes "BadValue"
-change_code_text code.BadDuration = codes "BadDuration"
-change_code_text code.Late = codes "Late"
-change_code_text code.Ahead = codes "Ahead"
-change_code_text code.ClockBack = codes "ClockBack"
-change_code_text code.ClockEnd = codes "ClockEnd"
-change_code_text code.Overflow = codes "Overflow"
-
 -- the code of a faulty line
 abbrev pub code_text : LineCode → List ℕ
 code_text fault.LineLong = codes "LineLong"
 code_text fault.BadJson = codes "BadJson"
 code_text fault.BadCommand = codes "BadCommand"
-code_text (fault.Refused code) = change_code_text code
+code_text (fault.Refused code) = code_name code
 
 -- a line of the script with this number had a fault
 abbrev pub fault_text : ℕ → LineCode → List ℕ

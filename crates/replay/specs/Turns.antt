@@ -67,14 +67,3 @@ Takes (Err ReadFault) n = n ≤ 2 ^ 30
 Takes (Err WriteFault) n = Unit {0}
 Takes (Err NoMemory) n = Unit {0}
 Takes (Err ScriptLong) n = 2 ^ 30 < n
-
--- the run of a script of more than 1 GiB that did not meet the limit of firings in the lines taken with their ends: behind
--- these a piece without a line end was taken, with which they are more than 1 GiB, and the rest was left
-pub record Long (outcome : List (List ℕ) → Outcome) (script : List ℕ) : Type 0 where
-  pub lines : List (List ℕ)
-  pub piece : List ℕ
-  pub rest : List ℕ
-  pub parts : lines_of script ≡ lines ++ lines_of (piece ++ rest)
-  pub no_end : HasNoEnd piece
-  pub many : length rest + 2 ^ 30 < length script
-  pub not_met : (outcome lines).ended ≢ Limit

@@ -1,10 +1,11 @@
 ghost use Rattle.std.specs.Prelude.{◌≡◌};
 ghost use Rattle.replay.specs.declared.fault.RunFault.TheVariants.{WriteFault, NoMemory as OutOfMemory};
 ghost use Rattle.replay.specs.Faults.{run_fault};
+ghost use Rattle.replay.specs.Texts.{code_text};
 
-use change_read::Code;
 use fx_base::NoMemory;
 use fx_io::{Failed, LineFault};
+use rule_world::Code;
 
 /// Why a run stopped before the end of the script.
 #[derive(Clone, Copy, Debug, PartialEq, Eq)]
@@ -45,6 +46,20 @@ pub(crate) enum LineCode {
     BadCommand,
     /// The engine refuses the change or the action.
     Refused(Code),
+}
+
+impl LineCode {
+    /// The name of the code, as the line prints it.
+    pub(crate) fn name(self) -> &'static str
+        ensures { result.now ≡ code_text self }
+    {
+        match self {
+            LineCode::LineLong => "LineLong",
+            LineCode::BadJson => "BadJson",
+            LineCode::BadCommand => "BadCommand",
+            LineCode::Refused(code) => code.name(),
+        }
+    }
 }
 
 pub(crate) fn of_line_fault(fault: LineFault) -> RunFault

@@ -6,8 +6,8 @@ ghost use Rattle.replay.specs.Turns.{Does, EndsFirings, Within};
 
 use crate::text::{either, push_limit, push_lines};
 use crate::turn::Turn;
+use engine::{Engine, Fired};
 use fx_base::NoMemory;
-use session::{Engine, Fired};
 use std::alloc::Global;
 
 // No firing is left: appends the line of the limit where a match is pending.

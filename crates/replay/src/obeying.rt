@@ -8,10 +8,11 @@ use crate::fault::LineCode;
 use crate::firing::fire_all;
 use crate::text::{push_fault, push_lines};
 use crate::turn::Turn;
+use engine::Engine;
 use fx_base::NoMemory;
+use fx_base::limits::LINE_MAX;
 use fx_io::Line;
 use script_read::{Change, Command, CommandFault, command, is_blank};
-use session::Engine;
 use std::alloc::Global;
 
 // Makes a change, and appends what it prints.
@@ -93,9 +94,6 @@ fn obey_line<E: Engine>(
         }
     }
 }
-
-/// The most bytes that a line may have, without its end.
-pub(crate) const LINE_MAX: usize = 65_536;
 
 /// Does the next line, where there is one, and appends what it prints.
 pub(crate) fn take_turn<E: Engine>(

@@ -1,5 +1,5 @@
 ghost use Rattle.std.specs.Prelude.{◌≡◌, ◌++◌, OnOk};
-ghost use Rattle.replay.specs.Refusals.{check_code_text, lexical_code_text, refusal_code_text, refusal_text, whole_file as whole_file_of};
+ghost use Rattle.replay.specs.Refusals.{refusal_code_text, refusal_text, whole_file as whole_file_of};
 
 use crate::text::push_number;
 use drl_check::CheckCode;
@@ -41,48 +41,19 @@ pub(crate) fn whole_file(code: RefusalCode) -> Refusal
     }
 }
 
-fn push_lexical_code(text: &mut Vec<u8>, code: LexCode) -> Result<(), NoMemory>
-    ensures { OnOk result (text.new.items ≡ text.old.items ++ lexical_code_text code) }
-{
-    match code {
-        LexCode::BadChar => text.extend_from_slice(b"BadChar")?,
-        LexCode::OpenText => text.extend_from_slice(b"OpenText")?,
-        LexCode::OpenComment => text.extend_from_slice(b"OpenComment")?,
-        LexCode::NumberLarge => text.extend_from_slice(b"NumberLarge")?,
+impl RefusalCode {
+    /// The name of the code, as the line prints it.
+    fn name(self) -> &'static str
+        ensures { result.now ≡ refusal_code_text self }
+    {
+        match self {
+            RefusalCode::Missing => "Missing",
+            RefusalCode::TooLong => "TooLong",
+            RefusalCode::Syntax => "Syntax",
+            RefusalCode::Lexical(code) => code.name(),
+            RefusalCode::Checked(code) => code.name(),
+        }
     }
-    Ok(())
-}
-
-fn push_check_code(text: &mut Vec<u8>, code: CheckCode) -> Result<(), NoMemory>
-    ensures { OnOk result (text.new.items ≡ text.old.items ++ check_code_text code) }
-{
-    match code {
-        CheckCode::NotBuilt => text.extend_from_slice(b"NotBuilt")?,
-        CheckCode::TwiceDeclared => text.extend_from_slice(b"TwiceDeclared")?,
-        CheckCode::LimitPassed => text.extend_from_slice(b"LimitPassed")?,
-        CheckCode::UnknownType => text.extend_from_slice(b"UnknownType")?,
-        CheckCode::UnknownField => text.extend_from_slice(b"UnknownField")?,
-        CheckCode::UnknownVariable => text.extend_from_slice(b"UnknownVariable")?,
-        CheckCode::WrongKind => text.extend_from_slice(b"WrongKind")?,
-        CheckCode::NotAnEvent => text.extend_from_slice(b"NotAnEvent")?,
-        CheckCode::BadTimestamp => text.extend_from_slice(b"BadTimestamp")?,
-        CheckCode::EventFixed => text.extend_from_slice(b"EventFixed")?,
-        CheckCode::BadParams => text.extend_from_slice(b"BadParams")?,
-    }
-    Ok(())
-}
-
-fn push_refusal_code(text: &mut Vec<u8>, code: RefusalCode) -> Result<(), NoMemory>
-    ensures { OnOk result (text.new.items ≡ text.old.items ++ refusal_code_text code) }
-{
-    match code {
-        RefusalCode::Missing => text.extend_from_slice(b"Missing")?,
-        RefusalCode::TooLong => text.extend_from_slice(b"TooLong")?,
-        RefusalCode::Syntax => text.extend_from_slice(b"Syntax")?,
-        RefusalCode::Lexical(code) => push_lexical_code(text, code)?,
-        RefusalCode::Checked(code) => push_check_code(text, code)?,
-    }
-    Ok(())
 }
 
 /// Appends the line of a refused file.
@@ -98,7 +69,7 @@ pub(crate) fn push_refusal(
     text.extend_from_slice(b" line ")?;
     push_number(text, alloc, refusal.line)?;
     text.extend_from_slice(b" ")?;
-    push_refusal_code(text, refusal.code)?;
+    text.extend_from_slice(refusal.code.name().as_bytes())?;
     text.push(b'\n')?;
     Ok(())
 }

@@ -1,18 +1,20 @@
 ghost use Rattle.std.specs.Prelude.{◌≡◌, ◌+◌, ◌*◌, ◌<◌, ◌≤◌, ◌^◌, [], length, List, ℕ, IfOk, IfSome, OnErr, IsErrOf};
 ghost use Rattle.fx_io.specs.Outside.{Rose, append, AppendsFront, count_after};
 ghost use Rattle.fx_io.specs.Lines.{lines_of};
-ghost use Rattle.rule_world.specs.Programs.{IsAccepted};
+ghost use Rattle.rule_world.specs.Programs.{IsRunnable};
 ghost use Rattle.replay.specs.Run.{whole_run};
-ghost use Rattle.replay.specs.Turns.{Takes, AtEnd, Long};
+ghost use Rattle.replay.specs.Turns.{Takes, AtEnd};
+ghost use Rattle.replay.specs.Report.{Long};
 
 use crate::fault::{RunFault, of_line_fault};
 use crate::gathered::flush;
-use crate::obeying::{LINE_MAX, take_turn};
+use crate::obeying::take_turn;
 use crate::text::either;
 use crate::turn::{Ended, Turn};
+use engine::Engine;
+use fx_base::limits::LINE_MAX;
 use fx_io::{LineReader, Sink, Source, write_all};
-use rule_model::Program;
-use session::Engine;
+use rule_model::{LifeTable, Program};
 use std::alloc::Global;
 
 /// The most bytes that a script may have.
@@ -30,14 +32,14 @@ pub(crate) fn run<E: Engine, S: Source, K: Sink>(
     script: &mut S,
     out: &mut K,
 ) -> Result<Ended, RunFault>
-    requires accepted { IsAccepted program }
+    requires runnable { IsRunnable program }
     requires low { limit ≤ 1000000 }
     ensures done { IfSome (S.left script.old) (λ bytes. IfOk result (λ ended.
         (ended ≡ (whole_run E.gives E.fires limit program (lines_of bytes)).ended)
         × (K.written out.new ≡ append (K.written out.old) (whole_run E.gives E.fires limit program (lines_of bytes)).bytes))) }
     ensures front { IfSome (S.left script.old) (λ bytes. OnErr result
         (AppendsFront (K.written out.old) (K.written out.new) (whole_run E.gives E.fires limit program (lines_of bytes)).bytes)) }
-    ensures taken { (n : ℕ) × (S.given script.new ≡ count_after (S.given script.old) n) × Takes result n }
+    ensures taken { (n : ℕ) × (S.given script.new ≡ count_after (S.given script.old) n) × Takes result n × (n ≤ 2 ^ 30 + 1) }
     ensures read { IsErrOf result RunFault.ReadFault → Rose (S.faults script.old) (S.faults script.new) }
     ensures write { IsErrOf result RunFault.WriteFault → Rose (K.faults out.old) (K.faults out.new) }
     ensures long { IsErrOf result RunFault.ScriptLong → IfSome (S.left script.old) (Long (whole_run E.gives E.fires limit program)) }
@@ -47,7 +49,8 @@ pub(crate) fn run<E: Engine, S: Source, K: Sink>(
     ensures out_counts { K.faults out.old ≤ K.faults out.new }
 {
     let mut reader = LineReader::new(alloc, LINE_MAX, SCRIPT_MAX)?;
-    let mut engine = E::new(alloc, program)?;
+    let lives = LifeTable::without(alloc, &program)?;
+    let mut engine = E::new(alloc, program, lives)?;
     let mut text = Vec::new(alloc);
     let mut faulted = false;
     let mut number = 1;

@@ -1,13 +1,13 @@
 ghost use Rattle.std.specs.Prelude.{◌≡◌, ◌++◌, ◌||◌, IfOk, OnOk, slice_get};
 ghost use Rattle.std.specs.Fmt.{decimal};
 ghost use Rattle.std.specs.List.{flat_map};
-ghost use Rattle.replay.specs.Texts.{type_name, rule_name, quoted_byte, cell_text, code_text, change_code_text, fault_text, limit_text, line_text, lines_text, is_fault, has_fault};
+ghost use Rattle.replay.specs.Texts.{type_name, rule_name, quoted_byte, cell_text, fault_text, limit_text, line_text, lines_text, is_fault, has_fault};
 
 use crate::fault::LineCode;
-use change_read::Code;
+use engine::{Cell, OutLine};
 use fx_base::NoMemory;
 use rule_model::{Program, Rule, TypeInfo};
-use session::{Cell, OutLine};
+
 use std::alloc::Global;
 
 fn name_of_type(types: &[TypeInfo], place: usize) -> &str
@@ -73,38 +73,6 @@ fn push_cells(text: &mut Vec<u8>, alloc: Global, cells: &[Cell]) -> Result<(), N
     Ok(())
 }
 
-fn push_change_code_text(text: &mut Vec<u8>, code: Code) -> Result<(), NoMemory>
-    ensures { OnOk result (text.new.items ≡ text.old.items ++ change_code_text code) }
-{
-    match code {
-        Code::UnknownType => text.extend_from_slice(b"UnknownType")?,
-        Code::UnknownEntry => text.extend_from_slice(b"UnknownEntry")?,
-        Code::EventFixed => text.extend_from_slice(b"EventFixed")?,
-        Code::Absent => text.extend_from_slice(b"Absent")?,
-        Code::BadFields => text.extend_from_slice(b"BadFields")?,
-        Code::BadValue => text.extend_from_slice(b"BadValue")?,
-        Code::BadDuration => text.extend_from_slice(b"BadDuration")?,
-        Code::Late => text.extend_from_slice(b"Late")?,
-        Code::Ahead => text.extend_from_slice(b"Ahead")?,
-        Code::ClockBack => text.extend_from_slice(b"ClockBack")?,
-        Code::ClockEnd => text.extend_from_slice(b"ClockEnd")?,
-        Code::Overflow => text.extend_from_slice(b"Overflow")?,
-    }
-    Ok(())
-}
-
-fn push_code(text: &mut Vec<u8>, code: LineCode) -> Result<(), NoMemory>
-    ensures { OnOk result (text.new.items ≡ text.old.items ++ code_text code) }
-{
-    match code {
-        LineCode::LineLong => text.extend_from_slice(b"LineLong")?,
-        LineCode::BadJson => text.extend_from_slice(b"BadJson")?,
-        LineCode::BadCommand => text.extend_from_slice(b"BadCommand")?,
-        LineCode::Refused(code) => push_change_code_text(text, code)?,
-    }
-    Ok(())
-}
-
 /// Appends the line of a faulty line of the script.
 pub(crate) fn push_fault(
     text: &mut Vec<u8>,
@@ -117,7 +85,7 @@ pub(crate) fn push_fault(
     text.extend_from_slice(b"fault ")?;
     push_number(text, alloc, number)?;
     text.extend_from_slice(b" ")?;
-    push_code(text, code)?;
+    text.extend_from_slice(code.name().as_bytes())?;
     text.push(b'\n')?;
     Ok(())
 }

@@ -1,17 +1,18 @@
 ghost use Rattle.std.specs.Prelude.{◌≡◌, ◌≢◌, ◌⊎◌, ◌<◌, ◌≤◌, ◌^◌, [], List, Option, ℕ, length, take, drop, Some, None, Ok, option_map, IfOk, IfErr, IfSome, IsErrOf, OnErr};
 ghost use Rattle.fx_io.specs.Outside.{Rose, append, AppendsFront, count_after, file_told, IsMissing, IsFound};
-ghost use Rattle.rule_world.specs.Programs.{IsAccepted};
+ghost use Rattle.rule_world.specs.Programs.{IsRunnable};
 ghost use Rattle.replay.specs.Refusals.{refusal_text, reading, IsRefused};
-ghost use Rattle.replay.specs.Report.{report, rules_report, reading_report, Reports, TakesFor, IsLong, FileIsLong, WordIsLong, single};
+ghost use Rattle.replay.specs.Report.{report, usage, firing_limit, Reports, TakesFor, IsLong};
+ghost use Rattle.replay.specs.Wanted.{Files, runs, single, wanted, wanted_by_name, IfRefuses};
 
 use crate::fault::RunFault;
 use crate::refusal::{Refusal, RefusalCode, push_refusal, whole_file};
 use crate::rule_file::{FileFault, Reading, read_whole, reading_of};
 use crate::running::run;
 use crate::turn::Ended;
+use engine::Engine;
 use fx_io::{Shelf, Sink, Source, write_all};
 use rule_model::Program;
-use session::Engine;
 use std::alloc::Global;
 
 /// The most bytes that a rule file may have.
@@ -56,18 +57,18 @@ fn run_program<E: Engine, S: Source, K: Sink>(
     script: &mut S,
     out: &mut K,
 ) -> u8
-    requires accepted { IsAccepted program }
+    requires runnable { IsRunnable program }
     requires low { limit ≤ 1000000 }
     ensures exact { (bytes : List ℕ) → S.left script.old ≡ Some bytes → result ≤ 4
-        → Reports (K.written out.old) (K.written out.new) result (reading_report E.gives E.fires limit (Reading.Accepted program) bytes) }
+        → Reports (K.written out.old) (K.written out.new) result (report E.gives E.fires limit (runs program) bytes) }
     ensures front { (bytes : List ℕ) → S.left script.old ≡ Some bytes → 5 ≤ result
-        → AppendsFront (K.written out.old) (K.written out.new) (reading_report E.gives E.fires limit (Reading.Accepted program) bytes).bytes }
+        → AppendsFront (K.written out.old) (K.written out.new) (report E.gives E.fires limit (runs program) bytes).bytes }
     ensures answers { (result ≤ 1) ⊎ ((4 ≤ result) × (result ≤ 8)) }
     ensures taken { (n : ℕ) × (S.given script.new ≡ count_after (S.given script.old) n) × TakesFor result n }
     ensures read { result ≡ 5 → Rose (S.faults script.old) (S.faults script.new) }
     ensures write { result ≡ 6 → Rose (K.faults out.old) (K.faults out.new) }
     ensures long { (bytes : List ℕ) → S.left script.old ≡ Some bytes → result ≡ 8
-        → IsLong E.gives E.fires limit (Reading.Accepted program) bytes }
+        → IsLong E.gives E.fires limit (runs program) bytes }
     ensures over { result ≡ 8 → IfSome (S.left script.old) (λ bytes. 2 ^ 30 < length bytes) }
     ensures nothing_left { result ≤ 1 → IfSome (S.left script.new) (λ bytes. bytes ≡ []) }
 {
@@ -98,12 +99,16 @@ pub fn run_rules<E: Engine, F: Shelf, S: Source, K: Sink>(
     requires low { limit ≤ 1000000 }
 
     // Where the shelf and the script tell their bytes: with a status up to 4 exactly the report, else a front of it.
-    ensures exact { (files : List ℕ → Option (List ℕ)) (bytes : List ℕ) → F.files shelf.old ≡ Some files → S.left script.old ≡ Some bytes
-        → result ≤ 4 → Reports (K.written out.old) (K.written out.new) result (rules_report E.gives E.fires limit name.now files bytes) }
-    ensures front { (files : List ℕ → Option (List ℕ)) (bytes : List ℕ) → F.files shelf.old ≡ Some files → S.left script.old ≡ Some bytes
-        → 5 ≤ result → AppendsFront (K.written out.old) (K.written out.new) (rules_report E.gives E.fires limit name.now files bytes).bytes }
-    ensures long { (files : List ℕ → Option (List ℕ)) (bytes : List ℕ) → F.files shelf.old ≡ Some files → S.left script.old ≡ Some bytes
-        → result ≡ 8 → FileIsLong E.gives E.fires limit (files name.now) bytes }
+    ensures exact { (files : Files) (bytes : List ℕ) → F.files shelf.old ≡ Some files → S.left script.old ≡ Some bytes
+        → result ≤ 4 → Reports (K.written out.old) (K.written out.new) result (report E.gives E.fires limit (wanted_by_name files name.now) bytes) }
+    ensures front { (files : Files) (bytes : List ℕ) → F.files shelf.old ≡ Some files → S.left script.old ≡ Some bytes
+        → 5 ≤ result → AppendsFront (K.written out.old) (K.written out.new) (report E.gives E.fires limit (wanted_by_name files name.now) bytes).bytes }
+    ensures long { (files : Files) (bytes : List ℕ) → F.files shelf.old ≡ Some files → S.left script.old ≡ Some bytes
+        → result ≡ 8 → IsLong E.gives E.fires limit (wanted_by_name files name.now) bytes }
+
+    // Where the shelf tells its files, and the script may tell nothing: a refusal is the one that is wanted.
+    ensures refusal { (files : Files) → F.files shelf.old ≡ Some files → result ≡ 3
+        → IfRefuses (wanted_by_name files name.now) (λ refusal. K.written out.new ≡ append (K.written out.old) (refusal_text refusal)) }
 
     // Where nothing of the outside failed and the script has at most 1 GiB, the report is done, or memory was refused.
     ensures completes { (bytes : List ℕ) → S.left script.old ≡ Some bytes → length bytes ≤ 2 ^ 30
@@ -139,7 +144,7 @@ pub fn run_rules<E: Engine, F: Shelf, S: Source, K: Sink>(
 }
 
 // The word, where there is just one.
-#[tactic(auto, unfolding(crate::specs::Report::single))]
+#[tactic(auto, unfolding(crate::specs::Wanted::single))]
 fn one_word(words: &[String]) -> Option<&str>
     ensures { option_map (λ word. word.now) result ≡ single words.now }
 {
@@ -160,12 +165,17 @@ pub fn replay<E: Engine, F: Shelf, S: Source, K: Sink>(
     out: &mut K,
 ) -> u8
     // Where the shelf and the script tell their bytes: with a status up to 4 exactly the report, else a front of it.
-    ensures exact { (files : List ℕ → Option (List ℕ)) (bytes : List ℕ) → F.files shelf.old ≡ Some files → S.left script.old ≡ Some bytes
-        → result ≤ 4 → Reports (K.written out.old) (K.written out.new) result (report E.gives E.fires words.now files bytes) }
-    ensures front { (files : List ℕ → Option (List ℕ)) (bytes : List ℕ) → F.files shelf.old ≡ Some files → S.left script.old ≡ Some bytes
-        → 5 ≤ result → AppendsFront (K.written out.old) (K.written out.new) (report E.gives E.fires words.now files bytes).bytes }
-    ensures long { (files : List ℕ → Option (List ℕ)) (bytes : List ℕ) → F.files shelf.old ≡ Some files → S.left script.old ≡ Some bytes
-        → result ≡ 8 → WordIsLong E.gives E.fires (single words.now) files bytes }
+    ensures exact { (files : Files) (bytes : List ℕ) → F.files shelf.old ≡ Some files → S.left script.old ≡ Some bytes
+        → result ≤ 4 → Reports (K.written out.old) (K.written out.new) result (report E.gives E.fires firing_limit (wanted words.now files) bytes) }
+    ensures front { (files : Files) (bytes : List ℕ) → F.files shelf.old ≡ Some files → S.left script.old ≡ Some bytes
+        → 5 ≤ result → AppendsFront (K.written out.old) (K.written out.new) (report E.gives E.fires firing_limit (wanted words.now files) bytes).bytes }
+    ensures long { (files : Files) (bytes : List ℕ) → F.files shelf.old ≡ Some files → S.left script.old ≡ Some bytes
+        → result ≡ 8 → IsLong E.gives E.fires firing_limit (wanted words.now files) bytes }
+
+    // Whatever the script tells: the usage line, and, where the shelf tells its files, the refusal that is wanted.
+    ensures usage { result ≡ 2 → K.written out.new ≡ append (K.written out.old) usage }
+    ensures refusal { (files : Files) → F.files shelf.old ≡ Some files → result ≡ 3
+        → IfRefuses (wanted words.now files) (λ refusal. K.written out.new ≡ append (K.written out.old) (refusal_text refusal)) }
 
     // Where nothing of the outside failed and the script has at most 1 GiB, the report is done, or memory was refused.
     ensures completes { (bytes : List ℕ) → S.left script.old ≡ Some bytes → length bytes ≤ 2 ^ 30

@@ -25,11 +25,12 @@ returns-in-Err-clause-front g c =
 pub returns-in-Err-clause-taken : goal.returns-in-Err-clause-taken
 returns-in-Err-clause-taken g c =
     let inv = c.loop-text.invariant in
+    let most = rw inv.total_max at c.next_line.ensures.at_most in
     let given = c.next_line.ensures.together ∙ ap (λ n. count_after n (c.next_line.new.self.taken - c.loop-text.reader.taken)) inv.given in
     let all = count_more (g.S.Source.given c.args.script.now) c.loop-text.reader.taken c.next_line.new.self.taken _ c.next_line.ensures.taken given in
     let gives = c.in-Err.ensures.gives inv.fault in
     let stops = rw inv.total_max at gives.2 in
-    (c.next_line.new.self.taken, all, rw c.of_line_fault.ensures (takes_stop c.in-Err.fault _ c.next_line.new.self.taken stops))
+    (c.next_line.new.self.taken, all, rw c.of_line_fault.ensures (takes_stop c.in-Err.fault _ c.next_line.new.self.taken stops), most)
 
 pub returns-in-Err-clause-long : goal.returns-in-Err-clause-long
 returns-in-Err-clause-long g c is =
@@ -52,9 +53,10 @@ returns-in_err-next-clause-front g c =
 pub returns-in_err-next-clause-taken : goal.returns-in_err-next-clause-taken
 returns-in_err-next-clause-taken g c =
     let inv = c.loop-text.invariant in
+    let most = rw inv.total_max at c.next_line.ensures.at_most in
     let given = c.next_line.ensures.together ∙ ap (λ n. count_after n (c.next_line.new.self.taken - c.loop-text.reader.taken)) inv.given in
     let all = count_more (g.S.Source.given c.args.script.now) c.loop-text.reader.taken c.next_line.new.self.taken _ c.next_line.ensures.taken given in
-    rw (err_of c.from_residual-in_err-next.result NoMemory c.from_residual-in_err-next.ensures.0 c.from_residual-in_err-next.ensures.1) (c.next_line.new.self.taken, all, tt)
+    rw (err_of c.from_residual-in_err-next.result NoMemory c.from_residual-in_err-next.ensures.0 c.from_residual-in_err-next.ensures.1) (c.next_line.new.self.taken, all, tt, most)
 
 pub returns-in_err-write_all-in-None-clause-front : goal.returns-in_err-write_all-in-None-clause-front
 returns-in_err-write_all-in-None-clause-front g c =
@@ -70,9 +72,10 @@ returns-in_err-write_all-in-None-clause-front g c =
 pub returns-in_err-write_all-in-None-clause-taken : goal.returns-in_err-write_all-in-None-clause-taken
 returns-in_err-write_all-in-None-clause-taken g c =
     let inv = c.loop-text.invariant in
+    let most = rw inv.total_max at c.next_line.ensures.at_most in
     let given = c.next_line.ensures.together ∙ ap (λ n. count_after n (c.next_line.new.self.taken - c.loop-text.reader.taken)) inv.given in
     let all = count_more (g.S.Source.given c.args.script.now) c.loop-text.reader.taken c.next_line.new.self.taken _ c.next_line.ensures.taken given in
-    rw (err_of c.from_residual-in_err-write_all-in-None.result WriteFault c.from_residual-in_err-write_all-in-None.ensures.0 c.from_residual-in_err-write_all-in-None.ensures.1) (c.next_line.new.self.taken, all, tt)
+    rw (err_of c.from_residual-in_err-write_all-in-None.result WriteFault c.from_residual-in_err-write_all-in-None.ensures.0 c.from_residual-in_err-write_all-in-None.ensures.1) (c.next_line.new.self.taken, all, tt, most)
 
 pub returns-in-None-clause-done : goal.returns-in-None-clause-done
 returns-in-None-clause-done g c =
@@ -88,12 +91,13 @@ returns-in-None-clause-done g c =
 pub returns-in-None-clause-taken : goal.returns-in-None-clause-taken
 returns-in-None-clause-taken g c =
     let inv = c.loop-text.invariant in
+    let most = rw inv.total_max at c.next_line.ensures.at_most in
     let given = c.next_line.ensures.together ∙ ap (λ n. count_after n (c.next_line.new.self.taken - c.loop-text.reader.taken)) inv.given in
     let all = count_more (g.S.Source.given c.args.script.now) c.loop-text.reader.taken c.next_line.new.self.taken _ c.next_line.ensures.taken given in
     let line = rw c.in-None.is at c.in_ok-next.ensures.ends in
     let gives = c.in-Ok.ensures.gives inv.fault in
     let over = exhausted _ _ c.in-Ok.line _ _ _ _ line gives.2 in
-    (c.next_line.new.self.taken, all, rw inv.total_max at over.0)
+    (c.next_line.new.self.taken, all, rw inv.total_max at over.0, most)
 
 pub returns-in-None-clause-nothing_left : goal.returns-in-None-clause-nothing_left
 returns-in-None-clause-nothing_left g c =
@@ -119,9 +123,10 @@ returns-in_err-write_all-in-Some-Stops-clause-front g c =
 pub returns-in_err-write_all-in-Some-Stops-clause-taken : goal.returns-in_err-write_all-in-Some-Stops-clause-taken
 returns-in_err-write_all-in-Some-Stops-clause-taken g c =
     let inv = c.loop-text.invariant in
+    let most = rw inv.total_max at c.next_line.ensures.at_most in
     let given = c.next_line.ensures.together ∙ ap (λ n. count_after n (c.next_line.new.self.taken - c.loop-text.reader.taken)) inv.given in
     let all = count_more (g.S.Source.given c.args.script.now) c.loop-text.reader.taken c.next_line.new.self.taken _ c.next_line.ensures.taken given in
-    rw (err_of c.from_residual-in_err-write_all-in-Some-Stops.result WriteFault c.from_residual-in_err-write_all-in-Some-Stops.ensures.0 c.from_residual-in_err-write_all-in-Some-Stops.ensures.1) (c.next_line.new.self.taken, all, tt)
+    rw (err_of c.from_residual-in_err-write_all-in-Some-Stops.result WriteFault c.from_residual-in_err-write_all-in-Some-Stops.ensures.0 c.from_residual-in_err-write_all-in-Some-Stops.ensures.1) (c.next_line.new.self.taken, all, tt, most)
 
 pub returns-in-Some-Stops-clause-done : goal.returns-in-Some-Stops-clause-done
 returns-in-Some-Stops-clause-done g c =
@@ -138,9 +143,10 @@ returns-in-Some-Stops-clause-done g c =
 pub returns-in-Some-Stops-clause-taken : goal.returns-in-Some-Stops-clause-taken
 returns-in-Some-Stops-clause-taken g c =
     let inv = c.loop-text.invariant in
+    let most = rw inv.total_max at c.next_line.ensures.at_most in
     let given = c.next_line.ensures.together ∙ ap (λ n. count_after n (c.next_line.new.self.taken - c.loop-text.reader.taken)) inv.given in
     let all = count_more (g.S.Source.given c.args.script.now) c.loop-text.reader.taken c.next_line.new.self.taken _ c.next_line.ensures.taken given in
-    (c.next_line.new.self.taken, all, tt)
+    (c.next_line.new.self.taken, all, tt, most)
 
 pub loop-text-init : goal.loop-text-init
 loop-text-init g c =

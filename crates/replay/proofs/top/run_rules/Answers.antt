@@ -1,57 +1,65 @@
-use Rattle.std.proofs.Common.{◌≡◌, Err, sym, ap, ◌∙◌, inr}
+use Rattle.std.proofs.Common.{◌≡◌, Err, sym, ap, ◌∙◌, inr, arith}
 use Rattle.replay.specs.declared.rule_file.Reading.TheVariants.{Accepted, Refused}
 use Rattle.drl_parse.specs.Parsed.{file_limit}
 use Rattle.replay.specs.Refusals.{reading}
-use Rattle.replay.proofs.Reports.{no_file, a_file, a_long_file, refused_file}
+use Rattle.replay.proofs.Reports.{no_file, a_file, refused_file}
 use Rattle.replay.proofs.top.run_rules.Goals as goal
 
 pub returns-in-Err-Missing-clause-exact : goal.returns-in-Err-Missing-clause-exact
 returns-in-Err-Missing-clause-exact g c files bytes told tells low =
     let gone = c.in-Err-Missing.ensures.missing (ap Err c.in-Err-Missing.field-0-is) in
     let said = rw c.whole_file.ensures at (c.refuse.ensures.said low) in
-    rw (no_file g.E.Engine.gives g.E.Engine.fires c.args.limit c.args.name.now _ files bytes told gone) (said.0, said.1)
+    rw (no_file c.args.name.now _ files told gone) (said.0, said.1)
 
 pub returns-in-Err-Missing-clause-front : goal.returns-in-Err-Missing-clause-front
 returns-in-Err-Missing-clause-front g c files bytes told tells high =
     let gone = c.in-Err-Missing.ensures.missing (ap Err c.in-Err-Missing.field-0-is) in
     let front = rw c.whole_file.ensures at (c.refuse.ensures.front high) in
-    rw (no_file g.E.Engine.gives g.E.Engine.fires c.args.limit c.args.name.now _ files bytes told gone) front
+    rw (no_file c.args.name.now _ files told gone) front
+
+pub returns-in-Err-Missing-clause-refusal : goal.returns-in-Err-Missing-clause-refusal
+returns-in-Err-Missing-clause-refusal g c files told three =
+    let gone = c.in-Err-Missing.ensures.missing (ap Err c.in-Err-Missing.field-0-is) in
+    let said = rw c.whole_file.ensures at (c.refuse.ensures.said (omega arith)) in
+    rw (no_file c.args.name.now _ files told gone) said.0
 
 pub returns-in-Ok-Accepted-clause-exact : goal.returns-in-Ok-Accepted-clause-exact
 unfolding file_limit
 returns-in-Ok-Accepted-clause-exact g c files bytes told tells low =
-    let r = a_file g.E.Engine.gives g.E.Engine.fires c.args.limit c.args.name.now _ files bytes c.in-Ok.file.items told c.in-Ok.ensures.found c.in-Ok.ensures.bytes in
     let accepted : reading c.in-Ok.file.items ≡ Accepted c.in-Ok-Accepted.program = ap reading (sym c.deref.ensures.value) ∙ sym c.in-Ok-Accepted.ensures.reading ∙ c.in-Ok-Accepted.field-0-is in
-    rw (r, accepted) (c.run_program.ensures.exact bytes tells low)
+    rw (a_file c.args.name.now _ files c.in-Ok.file.items (Accepted c.in-Ok-Accepted.program) told c.in-Ok.ensures.found c.in-Ok.ensures.bytes accepted) (c.run_program.ensures.exact bytes tells low)
 
 pub returns-in-Ok-Accepted-clause-front : goal.returns-in-Ok-Accepted-clause-front
 unfolding file_limit
 returns-in-Ok-Accepted-clause-front g c files bytes told tells high =
-    let r = a_file g.E.Engine.gives g.E.Engine.fires c.args.limit c.args.name.now _ files bytes c.in-Ok.file.items told c.in-Ok.ensures.found c.in-Ok.ensures.bytes in
     let accepted : reading c.in-Ok.file.items ≡ Accepted c.in-Ok-Accepted.program = ap reading (sym c.deref.ensures.value) ∙ sym c.in-Ok-Accepted.ensures.reading ∙ c.in-Ok-Accepted.field-0-is in
-    rw (r, accepted) (c.run_program.ensures.front bytes tells high)
+    rw (a_file c.args.name.now _ files c.in-Ok.file.items (Accepted c.in-Ok-Accepted.program) told c.in-Ok.ensures.found c.in-Ok.ensures.bytes accepted) (c.run_program.ensures.front bytes tells high)
 
 pub returns-in-Ok-Accepted-clause-long : goal.returns-in-Ok-Accepted-clause-long
 unfolding file_limit
 returns-in-Ok-Accepted-clause-long g c files bytes told tells eight =
     let accepted : reading c.in-Ok.file.items ≡ Accepted c.in-Ok-Accepted.program = ap reading (sym c.deref.ensures.value) ∙ sym c.in-Ok-Accepted.ensures.reading ∙ c.in-Ok-Accepted.field-0-is in
-    a_long_file g.E.Engine.gives g.E.Engine.fires c.args.limit c.args.name.now _ files bytes c.in-Ok.file.items told c.in-Ok.ensures.found c.in-Ok.ensures.bytes
-    (rw accepted (c.run_program.ensures.long bytes tells eight))
+    rw (a_file c.args.name.now _ files c.in-Ok.file.items (Accepted c.in-Ok-Accepted.program) told c.in-Ok.ensures.found c.in-Ok.ensures.bytes accepted) (c.run_program.ensures.long bytes tells eight)
 
 pub returns-in-Ok-Refused-clause-exact : goal.returns-in-Ok-Refused-clause-exact
 unfolding file_limit
 returns-in-Ok-Refused-clause-exact g c files bytes told tells low =
     let said = c.refuse-in-Ok-Refused.ensures.said low in
-    let r = a_file g.E.Engine.gives g.E.Engine.fires c.args.limit c.args.name.now _ files bytes c.in-Ok.file.items told c.in-Ok.ensures.found c.in-Ok.ensures.bytes in
     let refused : reading c.in-Ok.file.items ≡ Refused c.in-Ok-Refused.refusal = ap reading (sym c.deref.ensures.value) ∙ sym c.in-Ok-Refused.ensures.reading ∙ c.in-Ok-Refused.field-0-is in
-    rw (r, refused) (said.0, said.1)
+    rw (a_file c.args.name.now _ files c.in-Ok.file.items (Refused c.in-Ok-Refused.refusal) told c.in-Ok.ensures.found c.in-Ok.ensures.bytes refused) (said.0, said.1)
 
 pub returns-in-Ok-Refused-clause-front : goal.returns-in-Ok-Refused-clause-front
 unfolding file_limit
 returns-in-Ok-Refused-clause-front g c files bytes told tells high =
-    let r = a_file g.E.Engine.gives g.E.Engine.fires c.args.limit c.args.name.now _ files bytes c.in-Ok.file.items told c.in-Ok.ensures.found c.in-Ok.ensures.bytes in
     let refused : reading c.in-Ok.file.items ≡ Refused c.in-Ok-Refused.refusal = ap reading (sym c.deref.ensures.value) ∙ sym c.in-Ok-Refused.ensures.reading ∙ c.in-Ok-Refused.field-0-is in
-    rw (r, refused) (c.refuse-in-Ok-Refused.ensures.front high)
+    rw (a_file c.args.name.now _ files c.in-Ok.file.items (Refused c.in-Ok-Refused.refusal) told c.in-Ok.ensures.found c.in-Ok.ensures.bytes refused) (c.refuse-in-Ok-Refused.ensures.front high)
+
+pub returns-in-Ok-Refused-clause-refusal : goal.returns-in-Ok-Refused-clause-refusal
+unfolding file_limit
+returns-in-Ok-Refused-clause-refusal g c files told three =
+    let said = c.refuse-in-Ok-Refused.ensures.said (omega arith) in
+    let refused : reading c.in-Ok.file.items ≡ Refused c.in-Ok-Refused.refusal = ap reading (sym c.deref.ensures.value) ∙ sym c.in-Ok-Refused.ensures.reading ∙ c.in-Ok-Refused.field-0-is in
+    rw (a_file c.args.name.now _ files c.in-Ok.file.items (Refused c.in-Ok-Refused.refusal) told c.in-Ok.ensures.found c.in-Ok.ensures.bytes refused) said.0
 
 pub returns-in-Ok-Refused-clause-file : goal.returns-in-Ok-Refused-clause-file
 unfolding file_limit

@@ -1,0 +1,63 @@
+//! The program `replay`: the top call with the engine `Session`. Its one contract is what the project promises of a run.
+#![tactic(auto)]
+
+ghost use Rattle.std.specs.Prelude.{◌≡◌, ◌⊎◌, ◌<◌, ◌≤◌, ◌^◌, [], List, ℕ, length, Some, None, IfSome};
+ghost use Rattle.fx_io.specs.Outside.{Rose, append, AppendsFront, count_after, file_told};
+ghost use Rattle.replay.specs.Refusals.{refusal_text, reading, IsRefused};
+ghost use Rattle.replay.specs.Report.{report, usage, firing_limit, Reports, TakesFor, IsLong};
+ghost use Rattle.replay.specs.Wanted.{Files, single, wanted, IfRefuses};
+ghost use Rattle.session.specs.Gives.{gives, fires};
+
+use fx_io::{Shelf, Sink, Source};
+use replay::replay;
+use session::Session;
+use std::alloc::Global;
+
+/// Does all that the program does for the words behind its own name, and answers the status. The report is that of an engine which
+/// keeps everything that was inserted and takes every match anew after each change (`gives` and `fires` of
+/// `session/specs/Gives.antt`): 0 where the script was read to its end, 1 where one of its lines was a fault, 2 where there is not
+/// just one word, 3 where the rule file is missing or refused, 4 where a match was pending when no firing was left, 5 where a read
+/// failed, 6 where a write failed, 7 where memory was refused, and 8 where the script has more than 1 GiB.
+pub fn run<F: Shelf, S: Source, K: Sink>(
+    alloc: Global,
+    words: &[String],
+    shelf: &mut F,
+    script: &mut S,
+    out: &mut K,
+) -> u8
+    // Where the shelf and the script tell their bytes: with a status up to 4 exactly the report, else a front of it.
+    ensures exact { (files : Files) (bytes : List ℕ) → F.files shelf.old ≡ Some files → S.left script.old ≡ Some bytes
+        → result ≤ 4 → Reports (K.written out.old) (K.written out.new) result (report gives fires firing_limit (wanted words.now files) bytes) }
+    ensures front { (files : Files) (bytes : List ℕ) → F.files shelf.old ≡ Some files → S.left script.old ≡ Some bytes
+        → 5 ≤ result → AppendsFront (K.written out.old) (K.written out.new) (report gives fires firing_limit (wanted words.now files) bytes).bytes }
+    ensures long { (files : Files) (bytes : List ℕ) → F.files shelf.old ≡ Some files → S.left script.old ≡ Some bytes
+        → result ≡ 8 → IsLong gives fires firing_limit (wanted words.now files) bytes }
+
+    // Whatever the script tells: the usage line, and, where the shelf tells its files, the refusal that is wanted.
+    ensures usage { result ≡ 2 → K.written out.new ≡ append (K.written out.old) usage }
+    ensures refusal { (files : Files) → F.files shelf.old ≡ Some files → result ≡ 3
+        → IfRefuses (wanted words.now files) (λ refusal. K.written out.new ≡ append (K.written out.old) (refusal_text refusal)) }
+
+    // Where nothing of the outside failed and the script has at most 1 GiB, the report is done, or memory was refused.
+    ensures completes { (bytes : List ℕ) → S.left script.old ≡ Some bytes → length bytes ≤ 2 ^ 30
+        → ((name : List ℕ) → Rose (F.faults shelf.old name) (F.faults shelf.new name) → ⊥)
+        → (Rose (S.faults script.old) (S.faults script.new) → ⊥) → (Rose (K.faults out.old) (K.faults out.new) → ⊥)
+        → (result ≤ 4) ⊎ (result ≡ 7) }
+    ensures answers { result ≤ 8 }
+
+    // The causes of the answers, of whatever shelf, script and sink.
+    ensures words { result ≡ 2 → single words.now ≡ None }
+    ensures not_words { single words.now ≡ None → (result ≡ 2) ⊎ (result ≡ 6) }
+    ensures file { result ≡ 3 → IfSome (single words.now) (λ name. Rose (F.misses shelf.old name) (F.misses shelf.new name)
+        ⊎ IfSome (file_told (F.files shelf.old) name) (λ file. IsRefused (reading file))) }
+    ensures read { result ≡ 5 → (name : List ℕ) × (single words.now ≡ Some name)
+        × (Rose (F.faults shelf.old name) (F.faults shelf.new name) ⊎ Rose (S.faults script.old) (S.faults script.new)) }
+    ensures write { result ≡ 6 → Rose (K.faults out.old) (K.faults out.new) }
+    ensures taken { (n : ℕ) × (S.given script.new ≡ count_after (S.given script.old) n) × TakesFor result n }
+
+    // The script is left alone where it is not run, and read to its end where its run comes there.
+    ensures untouched { (result ≡ 2) ⊎ (result ≡ 3) → script.new ≡ script.old }
+    ensures nothing_left { result ≤ 1 → IfSome (S.left script.new) (λ bytes. bytes ≡ []) }
+{
+    replay::<Session, F, S, K>(alloc, words, shelf, script, out)
+}
