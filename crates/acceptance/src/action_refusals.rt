@@ -148,7 +148,8 @@ const RULES: [(&str, &str); 52] = [
         "item 3 line 2 UnknownVariable",
     ),
     (
-        "rule r when $a : A() then insert( new B( true ) ) end\nrule q when A() then retract( $a ) end",
+        "rule r when $a : A() then insert( new B( true ) ) end\n\
+            rule q when A() then retract( $a ) end",
         "item 4 line 3 UnknownVariable",
     ),
     (

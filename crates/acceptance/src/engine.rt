@@ -2,6 +2,7 @@ ghost use Rattle.std.specs.Prelude.{◌≡◌, ◌≤◌, ◌+◌, ◌<◌, IfOk
 
 use crate::programs::program;
 use fx_base::{NoMemory, Seq, Text};
+use rule_model::{Life, LifeTable};
 use script_read::{Change, Given};
 use session::{Cell, Fired, OutLine, Session};
 use std::alloc::Global;
@@ -52,7 +53,8 @@ fn an_engine_answers_lines(rt: HostRuntime) -> Result<(), Fail> {
         assert!(rt; false, "the rules were refused");
         return Ok(());
     };
-    let session = Session::new(alloc, program)?;
+    let lives = LifeTable::without(alloc, &program)?;
+    let session = Session::new(alloc, program, lives)?;
     assert!(rt; !session.due());
     let (session, lines) = session.apply(alloc, &price(alloc, 11)?)?;
     assert_eq!(rt; text_of(alloc, lines.as_slice())?.as_str(), "new #1 0 ");
@@ -65,5 +67,20 @@ fn an_engine_answers_lines(rt: HostRuntime) -> Result<(), Fail> {
     assert_eq!(rt; fired_text(alloc, &first)?.as_str(), "fire 0 #1 ");
     assert_eq!(rt; fired_text(alloc, &second)?.as_str(), "no");
     assert!(rt; !session.due());
+    Ok(())
+}
+
+#[test]
+fn events_live_for_ever(rt: HostRuntime) -> Result<(), Fail> {
+    let alloc = rt.alloc();
+    let rules = "declare A @role( event ) end declare B @role( event ) end declare P end
+        rule r when A() B() P() then end";
+    let Some(program) = program(alloc, rules) else {
+        assert!(rt; false, "the rules were refused");
+        return Ok(());
+    };
+    let table = LifeTable::without(alloc, &program)?;
+    let lives = [Life::Infinite, Life::Infinite, Life::Plain];
+    assert_eq!(rt; table.lives.as_slice(), lives.as_slice());
     Ok(())
 }

@@ -11,10 +11,15 @@ const FILES: [(&str, &str); 61] = [
     (" \t\r\n# nothing\n/* at\nall */", ""),
     (
         "package a.b.c;\nimport d import e.*;\n\ndialect \"mvel\"",
-        "1 Package([\"a\", \"b\", \"c\"])\n2 Import { path: [\"d\"], star: false }\n2 Import { path: [\"e\"], star: true }\n4 Dialect(\"mvel\")\n",
+        "1 Package([\"a\", \"b\", \"c\"])\n\
+            2 Import { path: [\"d\"], star: false }\n\
+            2 Import { path: [\"e\"], star: true }\n\
+            4 Dialect(\"mvel\")\n",
     ),
     (
-        "/*\n*/ declare Reading @role(event) @timestamp(at) @duration(length) @expires(1h)\nvalue : long text : String end",
+        "/*\n\
+            */ declare Reading @role(event) @timestamp(at) @duration(length) @expires(1h)\n\
+            value : long text : String end",
         "2 Declare(TypeTree { name: \"Reading\", metas: [Role(true), Timestamp(\"at\"), Duration(\"length\"), Expires(3600000)], fields: [(\"value\", \"long\"), (\"text\", \"String\")] })\n",
     ),
     (
@@ -38,8 +43,10 @@ const FILES: [(&str, &str); 61] = [
         "1 rule the end, attributes [], 1 conditions, 0 actions\n",
     ),
     (
-        "rule r salience -5, dialect \"java\" salience 7 when $a : A(x == \"end\") not B() exists (C()) then retract($a); insert(new B(1)) end\nrule s when A() then end",
-        "1 rule r, attributes [Salience(-5), Dialect(\"java\"), Salience(7)], 3 conditions, 2 actions\n2 rule s, attributes [], 1 conditions, 0 actions\n",
+        "rule r salience -5, dialect \"java\" salience 7 when $a : A(x == \"end\") not B() exists (C()) then retract($a); insert(new B(1)) end\n\
+            rule s when A() then end",
+        "1 rule r, attributes [Salience(-5), Dialect(\"java\"), Salience(7)], 3 conditions, 2 actions\n\
+            2 rule s, attributes [], 1 conditions, 0 actions\n",
     ),
     // what the lexer refuses
     ("package a\n ^", "BadChar on line 2"),

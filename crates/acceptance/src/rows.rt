@@ -2,7 +2,7 @@ use crate::programs::program;
 use fact_store::FactStore;
 use fx_base::{EntryId, Fact, FactId, Facts, NoMemory, Seq, Tag, Times, TypeId, Value};
 use row_delta::Row;
-use rule_model::Rule;
+use rule_model::{Condition, Program};
 use rule_rows::{difference, rows_of, rows_with};
 use std::alloc::Global;
 use std::test::Fail;
@@ -51,19 +51,24 @@ fn push_rows(alloc: Global, text: &mut String, rows: &[Row]) -> Result<(), NoMem
 }
 
 // The rows that come with each of the facts, and behind them all rows.
-fn found(alloc: Global, rule: &Rule, given: &[(u16, (i64, i64))]) -> Result<String, NoMemory> {
+fn found(
+    alloc: Global,
+    program: &Program,
+    conditions: &[Condition],
+    given: &[(u16, (i64, i64))],
+) -> Result<String, NoMemory> {
     let mut text = String::new(alloc);
     let mut facts = FactStore::new(alloc);
     let mut tag = 0;
     for (ty, fields) in given {
         tag = if tag < 99 { tag + 1 } else { tag };
         let new = fact(alloc, tag, *ty, *fields)?;
-        let come = rows_with(alloc, &facts, &new, rule)?;
+        let come = rows_with(alloc, program, 0, &facts, &new, conditions)?;
         push_rows(alloc, &mut text, come.as_slice())?;
         text.push_str("/ ")?;
         hold(&mut facts, new)?;
     }
-    let all = rows_of(alloc, &facts, rule)?;
+    let all = rows_of(alloc, program, 0, &facts, conditions)?;
     push_rows(alloc, &mut text, all.as_slice())?;
     Ok(text)
 }
@@ -97,7 +102,8 @@ fn rows_are_found(rt: HostRuntime) -> Result<(), Fail> {
     ];
     for (place, given, want) in rows {
         if let Some(rule) = program.rules.as_slice().get(place) {
-            assert_eq!(rt; found(alloc, rule, given)?.as_str(), want);
+            let conditions = rule.conditions.as_slice();
+            assert_eq!(rt; found(alloc, &program, conditions, given)?.as_str(), want);
         }
     }
     Ok(())
@@ -118,7 +124,15 @@ fn differences_are_found(rt: HostRuntime) -> Result<(), Fail> {
     let after = fact(alloc, 4, M, (2, 0))?;
     let mut text = String::new(alloc);
     if let Some(rule) = program.rules.as_slice().get(0) {
-        let delta = difference(alloc, &others, Some(&before), Some(&after), rule)?;
+        let delta = difference(
+            alloc,
+            &program,
+            0,
+            &others,
+            Some(&before),
+            Some(&after),
+            rule.conditions.as_slice(),
+        )?;
         push_rows(alloc, &mut text, delta.gone.as_slice())?;
         text.push_str("/ ")?;
         push_rows(alloc, &mut text, delta.come.as_slice())?;

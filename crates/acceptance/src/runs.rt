@@ -2,7 +2,7 @@ ghost use Rattle.std.specs.Prelude.{◌≤◌};
 
 use fx_base::{Copies, Seq, Text, Value};
 use fx_io::{MemShelf, MemSink, MemSource};
-use replay::{replay, run_rules};
+use replay::run_rules;
 use session::Session;
 use std::alloc::Global;
 use std::test::Fail;
@@ -11,7 +11,9 @@ const ITEM: &[u8] =
     b"declare Item price : long end\nrule \"dear\" when Item( price > 10 ) then end\n";
 
 const TWO: &[u8] =
-    b"declare Item price : long end\nrule \"a\" when Item( price > 0 ) then end\nrule \"b\" when Item( price > 5 ) then end\n";
+    b"declare Item price : long end\n\
+        rule \"a\" when Item( price > 0 ) then end\n\
+        rule \"b\" when Item( price > 5 ) then end\n";
 
 fn file(alloc: Global, name: &str, bytes: &[u8]) -> Result<(Text, Seq<u8>), Fail> {
     Ok((Text::new(alloc, name)?, Seq::from_vec(bytes.to_vec(alloc)?)))
@@ -21,7 +23,8 @@ const GROW: &[u8] =
     b"declare N v : long end\nrule \"grow\" when $n : N() then insert( new N( $n.v + 1 ) ); end\n";
 
 const ACT: &[u8] =
-    b"declare Q v : long end\nrule \"x\" when $q : Q( v == 0 ) then retract( $q ) modify( $q ) { v = 1 } insert( new Q( 5 ) ) end\n";
+    b"declare Q v : long end\n\
+        rule \"x\" when $q : Q( v == 0 ) then retract( $q ) modify( $q ) { v = 1 } insert( new Q( 5 ) ) end\n";
 
 fn shelf(alloc: Global) -> Result<MemShelf, Fail> {
     let mut files = Vec::new(alloc);
@@ -48,13 +51,7 @@ fn run(
     let mut shelf = shelf(alloc)?;
     let mut source = MemSource::new(script.to_vec(alloc)?, bad_reads.to_vec(alloc)?);
     let mut sink = MemSink::new(alloc, 1_048_576, bad_writes.to_vec(alloc)?)?;
-    let status = replay::<Session, MemShelf, MemSource, MemSink>(
-        alloc,
-        &given,
-        &mut shelf,
-        &mut source,
-        &mut sink,
-    );
+    let status = sozhipen::run(alloc, &given, &mut shelf, &mut source, &mut sink);
     let written = sink.written().to_vec(alloc)?;
     Ok((status, written))
 }
@@ -63,20 +60,41 @@ const ELEVEN: &[u8] =
     b"{\"do\":\"insert\",\"type\":\"Item\",\"fields\":{\"price\":11}}\n{\"do\":\"fire\"}\n";
 
 const TWICE: &[u8] =
-    b"{\"do\":\"insert\",\"type\":\"Item\",\"fields\":{\"price\":11}}\n{\"do\":\"insert\",\"type\":\"Item\",\"fields\":{\"price\":12}}\n\n{\"do\":\"fire\"}\n{\"do\":\"fire\"}";
+    b"{\"do\":\"insert\",\"type\":\"Item\",\"fields\":{\"price\":11}}\n\
+        {\"do\":\"insert\",\"type\":\"Item\",\"fields\":{\"price\":12}}\n\n\
+        {\"do\":\"fire\"}\n\
+        {\"do\":\"fire\"}";
 
 const RULES_IN_ORDER: &[u8] =
-    b"{\"do\":\"insert\",\"type\":\"Item\",\"fields\":{\"price\":7}}\n{\"do\":\"insert\",\"type\":\"Item\",\"fields\":{\"price\":3}}\n{\"do\":\"fire\"}\n";
+    b"{\"do\":\"insert\",\"type\":\"Item\",\"fields\":{\"price\":7}}\n\
+        {\"do\":\"insert\",\"type\":\"Item\",\"fields\":{\"price\":3}}\n\
+        {\"do\":\"fire\"}\n";
 
 const MANY_FIRES: &[u8] =
-    b"{\n{\"do\":\"insert\",\"type\":\"Item\",\"fields\":{\"price\":3}}\n{\"do\":\"fire\"}\n{\"do\":\"fire\"}\n{\"do\":\"insert\",\"type\":\"Item\",\"fields\":{\"price\":4}}\n{\"do\":\"fire\"}\n{\"do\":\"fire\"}\n{\"do\":\"fly\"}\n";
+    b"{\n\
+        {\"do\":\"insert\",\"type\":\"Item\",\"fields\":{\"price\":3}}\n\
+        {\"do\":\"fire\"}\n\
+        {\"do\":\"fire\"}\n\
+        {\"do\":\"insert\",\"type\":\"Item\",\"fields\":{\"price\":4}}\n\
+        {\"do\":\"fire\"}\n\
+        {\"do\":\"fire\"}\n\
+        {\"do\":\"fly\"}\n";
 
 // Each line has the fault of its code and those of the codes behind it, as far as they can stand together.
 const CODES: &[u8] =
-    b"{\"do\":\"fly\"\n{\"do\":\"insert\",\"type\":\"Nope\"}\n{\"do\":\"insert\",\"type\":\"Nope\",\"fields\":{\"cost\":true}}\n{\"do\":\"insert\",\"type\":\"Item\",\"fields\":{\"price\":true,\"cost\":1}}\n{\"do\":\"insert\",\"type\":\"Item\",\"fields\":{\"price\":true}}\n";
+    b"{\"do\":\"fly\"\n\
+        {\"do\":\"insert\",\"type\":\"Nope\"}\n\
+        {\"do\":\"insert\",\"type\":\"Nope\",\"fields\":{\"cost\":true}}\n\
+        {\"do\":\"insert\",\"type\":\"Item\",\"fields\":{\"price\":true,\"cost\":1}}\n\
+        {\"do\":\"insert\",\"type\":\"Item\",\"fields\":{\"price\":true}}\n";
 
 const FAULTY: &[u8] =
-    b" \t\r\n{\"do\":\"fly\"}\n{\"do\":\"insert\",\"type\":\"Nope\",\"fields\":{}}\n{\"do\":\"insert\",\"type\":\"Item\",\"fields\":{\"price\":1.5}}\n{\n{\"do\":\"insert\",\"type\":\"Item\",\"fields\":{\"price\":10}}\n";
+    b" \t\r\n\
+        {\"do\":\"fly\"}\n\
+        {\"do\":\"insert\",\"type\":\"Nope\",\"fields\":{}}\n\
+        {\"do\":\"insert\",\"type\":\"Item\",\"fields\":{\"price\":1.5}}\n\
+        {\n\
+        {\"do\":\"insert\",\"type\":\"Item\",\"fields\":{\"price\":10}}\n";
 
 // The status and the written bytes of a run of this file with this limit of firings.
 pub(crate) fn run_at_most(
@@ -121,13 +139,7 @@ pub(crate) fn run_of(alloc: Global, rules: &[u8], script: &[u8]) -> Result<(u8, 
     let mut sink = MemSink::new(alloc, 1_048_576, Vec::new(alloc))?;
     let mut words = Vec::new(alloc);
     words.push(String::from_str(alloc, "RULES")?)?;
-    let status = replay::<Session, MemShelf, MemSource, MemSink>(
-        alloc,
-        &words,
-        &mut shelf,
-        &mut source,
-        &mut sink,
-    );
+    let status = sozhipen::run(alloc, &words, &mut shelf, &mut source, &mut sink);
     let written = sink.written().to_vec(alloc)?;
     Ok((status, written))
 }
@@ -153,7 +165,11 @@ fn runs_of_the_program(rt: HostRuntime) -> Result<(), Fail> {
             &["ITEM"],
             FAULTY,
             1,
-            b"fault 2 BadCommand\nfault 3 UnknownType\nfault 4 BadValue\nfault 5 BadJson\nnew #1 Item\n",
+            b"fault 2 BadCommand\n\
+                fault 3 UnknownType\n\
+                fault 4 BadValue\n\
+                fault 5 BadJson\n\
+                new #1 Item\n",
         ),
         (&["ITEM"], b"", 0, b""),
         (&["NOFILE"], FAULTY, 3, b"refused item 0 line 0 Missing\n"),
@@ -171,7 +187,11 @@ fn runs_of_the_program(rt: HostRuntime) -> Result<(), Fail> {
     assert_eq!(rt; answer, 1);
     assert_eq!(rt;
         written.as_slice(),
-        b"fault 1 BadJson\nfault 2 BadCommand\nfault 3 UnknownType\nfault 4 BadFields\nfault 5 BadValue\n".as_slice()
+        b"fault 1 BadJson\n\
+            fault 2 BadCommand\n\
+            fault 3 UnknownType\n\
+            fault 4 BadFields\n\
+            fault 5 BadValue\n".as_slice()
     );
     let (answer, written) = run(alloc, &["ITEM"], &blanks(alloc, 65_537)?, &[], &[])?;
     assert_eq!(rt; answer, 1);
@@ -218,20 +238,40 @@ const GROWING: &[u8] =
     b"{\"do\":\"insert\",\"type\":\"N\",\"fields\":{\"v\":0}}\n{\"do\":\"fire\"}\n";
 
 const GREATEST: &[u8] =
-    b"{\"do\":\"insert\",\"type\":\"N\",\"fields\":{\"v\":9223372036854775807}}\n{\"do\":\"fire\"}\n";
+    b"{\"do\":\"insert\",\"type\":\"N\",\"fields\":{\"v\":9223372036854775807}}\n\
+        {\"do\":\"fire\"}\n";
 
 const ACTING: &[u8] =
     b"{\"do\":\"insert\",\"type\":\"Q\",\"fields\":{\"v\":0}}\n{\"do\":\"fire\"}\n";
 
 const LIMITED: &[u8] =
-    b"{\"do\":\"insert\",\"type\":\"Item\",\"fields\":{\"price\":11}}\n{\"do\":\"fire\"}\n{\"do\":\"fire\"}\n";
+    b"{\"do\":\"insert\",\"type\":\"Item\",\"fields\":{\"price\":11}}\n\
+        {\"do\":\"fire\"}\n\
+        {\"do\":\"fire\"}\n";
 
 const LIMITED_BY_NUMBER: &[u8] =
-    b"{\"do\":\"insert\",\"type\":\"Item\",\"fields\":{\"price\":11}}\n{\"do\":\"insert\",\"type\":\"Item\",\"fields\":{\"price\":12}}\n{\"do\":\"fire\",\"max\":1}\n{\"do\":\"fire\",\"max\":0}\n{\"do\":\"fire\"}\n";
+    b"{\"do\":\"insert\",\"type\":\"Item\",\"fields\":{\"price\":11}}\n\
+        {\"do\":\"insert\",\"type\":\"Item\",\"fields\":{\"price\":12}}\n\
+        {\"do\":\"fire\",\"max\":1}\n\
+        {\"do\":\"fire\",\"max\":0}\n\
+        {\"do\":\"fire\"}\n";
 
 // Each line has the fault of its code and those of the codes behind it, as far as they can stand together.
 const CHANGES: &[u8] =
-    b"{\"do\":\"insert\",\"type\":\"Item\",\"fields\":{\"price\":3}}\n{\"do\":\"modify\",\"type\":\"Nope\",\"id\":9,\"fields\":{\"cost\":true}}\n{\"do\":\"modify\",\"type\":\"Item\",\"id\":9,\"fields\":{\"cost\":true}}\n{\"do\":\"modify\",\"type\":\"Item\",\"id\":1,\"fields\":{\"cost\":true}}\n{\"do\":\"modify\",\"type\":\"Item\",\"id\":1,\"fields\":{}}\n{\"do\":\"modify\",\"type\":\"Item\",\"id\":1,\"fields\":{\"price\":true}}\n{\"do\":\"modify\",\"type\":\"Item\",\"id\":0,\"fields\":{\"price\":1}}\n{\"do\":\"retract\",\"type\":\"Nope\",\"id\":1}\n{\"do\":\"retract\",\"type\":\"Item\",\"id\":2}\n{\"do\":\"fire\"}\n{\"do\":\"modify\",\"type\":\"Item\",\"id\":1,\"fields\":{\"price\":12}}\n{\"do\":\"fire\"}\n{\"do\":\"retract\",\"type\":\"Item\",\"id\":1}\n{\"do\":\"fire\"}\n";
+    b"{\"do\":\"insert\",\"type\":\"Item\",\"fields\":{\"price\":3}}\n\
+        {\"do\":\"modify\",\"type\":\"Nope\",\"id\":9,\"fields\":{\"cost\":true}}\n\
+        {\"do\":\"modify\",\"type\":\"Item\",\"id\":9,\"fields\":{\"cost\":true}}\n\
+        {\"do\":\"modify\",\"type\":\"Item\",\"id\":1,\"fields\":{\"cost\":true}}\n\
+        {\"do\":\"modify\",\"type\":\"Item\",\"id\":1,\"fields\":{}}\n\
+        {\"do\":\"modify\",\"type\":\"Item\",\"id\":1,\"fields\":{\"price\":true}}\n\
+        {\"do\":\"modify\",\"type\":\"Item\",\"id\":0,\"fields\":{\"price\":1}}\n\
+        {\"do\":\"retract\",\"type\":\"Nope\",\"id\":1}\n\
+        {\"do\":\"retract\",\"type\":\"Item\",\"id\":2}\n\
+        {\"do\":\"fire\"}\n\
+        {\"do\":\"modify\",\"type\":\"Item\",\"id\":1,\"fields\":{\"price\":12}}\n\
+        {\"do\":\"fire\"}\n\
+        {\"do\":\"retract\",\"type\":\"Item\",\"id\":1}\n\
+        {\"do\":\"fire\"}\n";
 
 #[test]
 fn actions_and_changes(rt: HostRuntime) -> Result<(), Fail> {
@@ -242,7 +282,14 @@ fn actions_and_changes(rt: HostRuntime) -> Result<(), Fail> {
             3,
             GROWING,
             4,
-            b"new #1 N\nfire \"grow\" #1\nnew #2 N\nfire \"grow\" #2\nnew #3 N\nfire \"grow\" #3\nnew #4 N\nlimit 3\n",
+            b"new #1 N\n\
+                fire \"grow\" #1\n\
+                new #2 N\n\
+                fire \"grow\" #2\n\
+                new #3 N\n\
+                fire \"grow\" #3\n\
+                new #4 N\n\
+                limit 3\n",
         ),
         (
             "GROW",
@@ -271,7 +318,16 @@ fn actions_and_changes(rt: HostRuntime) -> Result<(), Fail> {
             9,
             CHANGES,
             1,
-            b"new #1 Item\nfault 2 UnknownType\nfault 3 Absent\nfault 4 BadFields\nfault 5 BadFields\nfault 6 BadValue\nfault 7 BadCommand\nfault 8 UnknownType\nfault 9 Absent\nfire \"dear\" #1\n",
+            b"new #1 Item\n\
+                fault 2 UnknownType\n\
+                fault 3 Absent\n\
+                fault 4 BadFields\n\
+                fault 5 BadFields\n\
+                fault 6 BadValue\n\
+                fault 7 BadCommand\n\
+                fault 8 UnknownType\n\
+                fault 9 Absent\n\
+                fire \"dear\" #1\n",
         ),
     ];
     for (name, limit, script, status, output) in rows {
