@@ -83,7 +83,7 @@ fn lines_ask_for_steps(rt: HostRuntime) -> Result<(), Fail> {
         ),
         (
             b"{\"do\":\"retract\",\"type\":\"Shelf\",\"id\":1}",
-            "Err(Absent)",
+            "Ok(Retract { ty: TypeId(1), id: FactId(1) })",
         ),
         (
             b"{\"do\":\"insert\",\"type\":\"Item\",\"fields\":{\"price\":true}}",

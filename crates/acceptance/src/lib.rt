@@ -1,9 +1,8 @@
 //! Tests that cross the crates: rule files as texts through each reader and the checks, and runs of the program in memory.
-//! It has no function of its own, so that the crates below are proved once, without their tests.
+//! It has no function of its own, so that the crates below are proved once, without their tests. What a rule file and a script print is
+//! shown by the crate `cases`, whose cases are data.
 #![tactic(auto)]
 
-#[cfg(test)]
-mod action_refusals;
 #[cfg(test)]
 mod actions;
 #[cfg(test)]
@@ -12,10 +11,6 @@ mod changes;
 mod conditions;
 #[cfg(test)]
 mod engine;
-#[cfg(test)]
-mod event_refusals;
-#[cfg(test)]
-mod event_runs;
 #[cfg(test)]
 mod files;
 #[cfg(test)]

@@ -1,5 +1,5 @@
 ghost use Rattle.std.specs.Prelude.{IfSome};
-ghost use Rattle.rule_model.specs.Programs.{IsAccepted};
+ghost use Rattle.rule_world.specs.Programs.{IsRunnable};
 
 use drl_check::check;
 use drl_parse::parse;
@@ -8,7 +8,7 @@ use std::alloc::Global;
 
 /// The program of a rule file, if it is accepted.
 pub(crate) fn program(alloc: Global, rules: &str) -> Option<Program>
-    ensures { IfSome result IsAccepted }
+    ensures { IfSome result IsRunnable }
 {
     match parse(alloc, rules.as_bytes()) {
         Ok(file) => check(alloc, &file).ok(),
