@@ -23,6 +23,8 @@ mod operators;
 #[cfg(test)]
 mod rows;
 #[cfg(test)]
+mod texts;
+#[cfg(test)]
 mod timers;
 #[cfg(test)]
 mod tokens;
