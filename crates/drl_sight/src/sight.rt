@@ -26,7 +26,9 @@ pub enum Seen<'a, 'b> {
         kind: Option<Kind>,
     },
     /// The result of an accumulate, a whole number.
-    Result { result: usize },
+    Result {
+        result: usize,
+    },
 }
 
 /// What a variable means.
@@ -243,11 +245,7 @@ impl<'a, 'b> Place<'a, 'b> {
     }
 
     // Behind an accumulate.
-    fn behind_result(
-        self,
-        alloc: Global,
-        var: &Option<Text>,
-    ) -> Result<Place<'a, 'b>, NoMemory>
+    fn behind_result(self, alloc: Global, var: &Option<Text>) -> Result<Place<'a, 'b>, NoMemory>
         requires { self.results < 2 ^ 63 }
         ensures { IfOk result (λ p. p ≡ record { sight = self.entry.sight ++ seen_result self.entry.results var.now; facts = self.entry.facts; results = self.entry.results + 1 }) }
     {

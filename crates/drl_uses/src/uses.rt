@@ -226,7 +226,10 @@ pub(crate) fn lacks_variable(place: &Place, condition: &CondTree) -> bool
         CondTree::Negated(source) => is_source_unseen(place, source),
         CondTree::Existing(source) => is_source_unseen(place, source),
         CondTree::Folded {
-            source, arg, tests, ..
+            source,
+            arg,
+            tests,
+            ..
         } => {
             is_source_unseen(place, source)
                 || !binds(source, arg)
