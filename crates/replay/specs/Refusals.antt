@@ -1,7 +1,7 @@
 -- What a rule file is: a program, or refused.
 use Rattle.std.specs.Prelude.{ℕ, ◌++◌, List, [], ◌∷◌, Result, Ok, Err, codes}
 use Rattle.std.specs.Fmt.{decimal}
-use Rattle.drl_lex.specs.CodeNames.{lex_code_name}
+use Rattle.drl_lex.specs.Faults.{lex_code_name}
 use Rattle.drl_parse.specs.Parsed.{Parsed, is_file, outside, too_long, lexical, parsed}
 use Rattle.drl_check.specs.CodeNames.{check_code_name}
 use Rattle.drl_check.specs.Answers.{within_32_bits}
