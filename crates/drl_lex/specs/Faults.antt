@@ -68,3 +68,10 @@ pub record IsRefused (code : LexCode) (place : ℕ) (bytes : List ℕ) : Type 0 
 abbrev pub IsFirstFault : LexFault → List ℕ → Type 0
 IsFirstFault (Refused code place) bytes = IsRefused code place bytes
 IsFirstFault NoMemory bytes = Unit {0}
+
+-- the name of a code, as a refusal shows it
+abbrev pub lex_code_name : LexCode → List ℕ
+lex_code_name BadChar = codes "BadChar"
+lex_code_name OpenText = codes "OpenText"
+lex_code_name OpenComment = codes "OpenComment"
+lex_code_name NumberLarge = codes "NumberLarge"

@@ -1,4 +1,5 @@
 ghost use Rattle.std.specs.Prelude.{◌≡◌};
+ghost use Rattle.drl_lex.specs.Faults.{lex_code_name};
 
 use fx_base::NoMemory;
 use std::alloc::{AllocError, AllocFailed};
@@ -17,6 +18,20 @@ pub enum LexCode {
     OpenComment,
     /// A number above 2^63 - 1 or a time above 2^53 ms, at its first byte.
     NumberLarge,
+}
+
+impl LexCode {
+    /// The name of the code, as a refusal shows it.
+    pub fn name(self) -> &'static str
+        ensures { result.now ≡ lex_code_name self }
+    {
+        match self {
+            LexCode::BadChar => "BadChar",
+            LexCode::OpenText => "OpenText",
+            LexCode::OpenComment => "OpenComment",
+            LexCode::NumberLarge => "NumberLarge",
+        }
+    }
 }
 
 /// Why `lex` gave no tokens.

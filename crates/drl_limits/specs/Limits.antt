@@ -1,6 +1,8 @@
 -- The limits of a rule file: how many there may be of a thing, how long names and texts are, how large numbers.
-use Rattle.std.specs.Prelude.{ℕ, ℤ, ◌^◌, ◌&&◌, Bool, true, false, not, List, length, nat_le, nat_lt, Option, Some, None, unsigned_abs, sum_by}
+use Rattle.std.specs.Prelude.{ℕ, ℤ, ◌&&◌, Bool, true, false, not, List, length, nat_le, nat_lt, Option, Some, None, unsigned_abs, sum_by}
 use Rattle.std.specs.List.{list_all}
+use Rattle.fx_base.specs.declared.limits.TheConstants.{MOST_MILLIS, TEXT_MAX}
+use Rattle.drl_lex.specs.declared.token.Rel.{Rel}
 use Rattle.drl_expr.specs.declared.literal.LitTree.{LitTree}
 use Rattle.drl_expr.specs.declared.literal.LitTree.TheVariants as literal
 use Rattle.drl_expr.specs.Tree.{Tree, lit, var, var_field, neg, add, sub, mul}
@@ -9,6 +11,8 @@ use Rattle.drl_grammar.specs.declared.action.ActTree.TheVariants as action
 use Rattle.drl_grammar.specs.declared.condition.CondTree.{CondTree}
 use Rattle.drl_grammar.specs.declared.condition.CondTree.TheVariants as condition
 use Rattle.drl_grammar.specs.declared.condition.SourceTree.{SourceTree}
+use Rattle.drl_grammar.specs.declared.condition.WindowTree.{WindowTree}
+use Rattle.drl_grammar.specs.declared.condition.WindowTree.TheVariants as window
 use Rattle.drl_grammar.specs.declared.condition.Part.{Part}
 use Rattle.drl_grammar.specs.declared.condition.Part.TheVariants as part
 use Rattle.drl_grammar.specs.declared.condition.Cmp.{Cmp}
@@ -33,11 +37,12 @@ abbrev pub is_name : List ℕ → Bool
 is_name name = is_short 64 name
 
 abbrev pub is_text : List ℕ → Bool
-is_text text = is_short 4096 text
+is_text text = is_short TEXT_MAX text
 
 abbrev pub literal_within : LitTree → Bool
 literal_within (literal.Text text) = is_text text
-literal_within l = true
+literal_within (literal.Int n) = true
+literal_within (literal.Bool b) = true
 
 abbrev pub operand_within : Operand → Bool
 operand_within (operand.Lit l) = literal_within l
@@ -47,7 +52,7 @@ operand_within (operand.Own f) = is_name f
 
 -- spans of time have at most 2^53 ms in size
 unfoldable pub span_limit : ℕ
-span_limit = 2 ^ 53
+span_limit = unsigned_abs MOST_MILLIS
 
 abbrev pub is_span : ℤ → Bool
 is_span n = nat_le (unsigned_abs n) span_limit
@@ -63,7 +68,7 @@ cmp_within (cmp.OneOf f os) = is_name f && nat_le (length os) 32 && list_all ope
 
 abbrev pub part_within : Part → Bool
 part_within (part.Bind v f) = is_name v && is_name f
-part_within (part.Temporal op params other) = is_name other
+part_within (part.Temporal op params other) = list_all is_span params && is_name other
 part_within (part.AnyOf groups) = list_all (λ (group : List Cmp). list_all cmp_within group) groups
 
 -- how many bindings, temporal tests and comparisons a part is
@@ -80,12 +85,28 @@ abbrev pub entry_within : Option (List ℕ) → Bool
 entry_within None = true
 entry_within (Some name) = is_entry_name name
 
+-- a window of length has at most 1,000,000 events
+abbrev pub window_within : Option WindowTree → Bool
+window_within None = true
+window_within (Some (window.Time span)) = is_span span
+window_within (Some (window.Length count)) = nat_le (unsigned_abs count) 1000000
+
+-- a pattern has at most 32 bindings, temporal tests and comparisons together
 abbrev pub source_within : SourceTree → Bool
-source_within s = variable_within s.var && is_name s.ty && nat_le (sum_by weight s.parts) 32 && list_all part_within s.parts && entry_within s.entry
+source_within s = variable_within s.var && is_name s.ty && nat_le (sum_by weight s.parts) 32 && list_all part_within s.parts && window_within s.window && entry_within s.entry
+
+abbrev pub test_within : Rel × Operand → Bool
+test_within test = operand_within test.1
+
+-- an accumulate has at most 32 tests of its result
+abbrev pub tests_within : List (Rel × Operand) → Bool
+tests_within tests = nat_le (length tests) 32 && list_all test_within tests
 
 abbrev pub condition_within : CondTree → Bool
 condition_within (condition.Plain s) = source_within s
-condition_within c = true
+condition_within (condition.Negated s) = source_within s
+condition_within (condition.Existing s) = source_within s
+condition_within (condition.Folded result s kind arg tests) = variable_within result && source_within s && is_name arg && tests_within tests
 
 abbrev pub attr_within : Attr → Bool
 attr_within (attr.Salience n) = nat_le (unsigned_abs n) 2147483647
@@ -136,14 +157,16 @@ lateness_within (Some lateness) = is_span lateness
 abbrev pub has_few_entries : List (List ℕ) → Body → Bool
 has_few_entries known b = nat_le (length (with_names known (entries_named b))) 64
 
--- A file has at most 128 types, 256 rules and 64 entry points: the one too many passes the limit, given how many types and rules
+-- A file has at most 128 types, 256 rules and 64 entry points: the one too many exceeds the limit, given how many types and rules
 -- earlier items declare, and which entry points are known.
-abbrev pub passes_limit_behind : ℕ → ℕ → List (List ℕ) → Body → Bool
-passes_limit_behind types rules known (body.Declare t) = not (nat_lt types 128 && type_within t)
-passes_limit_behind types rules known (body.Entry name lateness) =
+abbrev pub exceeds_limit_behind : ℕ → ℕ → List (List ℕ) → Body → Bool
+exceeds_limit_behind types rules known (body.Declare t) = not (nat_lt types 128 && type_within t)
+exceeds_limit_behind types rules known (body.Entry name lateness) =
     not (has_few_entries known (body.Entry name lateness) && is_entry_name name && lateness_within lateness)
-passes_limit_behind types rules known (body.Rule r) = not (nat_lt rules 256 && has_few_entries known (body.Rule r) && rule_within r)
-passes_limit_behind types rules known b = false
+exceeds_limit_behind types rules known (body.Rule r) = not (nat_lt rules 256 && has_few_entries known (body.Rule r) && rule_within r)
+exceeds_limit_behind types rules known (body.Package path) = false
+exceeds_limit_behind types rules known (body.Import path star) = false
+exceeds_limit_behind types rules known (body.Dialect text) = false
 
-abbrev pub passes_limit : List Item → Body → Bool
-passes_limit before b = passes_limit_behind (length (types_of before)) (length (rules_of before)) (entry_names before) b
+abbrev pub exceeds_limit : List Item → Body → Bool
+exceeds_limit before b = exceeds_limit_behind (length (types_of before)) (length (rules_of before)) (entry_names before) b

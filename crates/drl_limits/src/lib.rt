@@ -6,4 +6,4 @@ mod action_limits;
 mod limits;
 mod room;
 
-pub use limits::passes_limits;
+pub use limits::exceeds_limits;

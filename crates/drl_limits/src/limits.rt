@@ -3,24 +3,30 @@ ghost use Rattle.std.specs.List.{list_all};
 ghost use Rattle.drl_grammar.specs.declared.condition.Cmp.{Cmp};
 ghost use Rattle.drl_sight.specs.Declarations.{field_names};
 ghost use Rattle.drl_sight.specs.EntryPoints.{entries_named, with_names};
-ghost use Rattle.drl_limits.specs.Limits.{is_name, is_text, is_span, is_entry_name, literal_within, operand_within, cmp_within, part_within, variable_within, entry_within, source_within, condition_within, attr_within, rule_within, meta_within, type_within, lateness_within, passes_limit_behind};
+ghost use Rattle.drl_limits.specs.Limits.{is_name, is_text, is_span, is_entry_name, literal_within, operand_within, cmp_within, part_within, variable_within, entry_within, window_within, source_within, test_within, tests_within, condition_within, attr_within, rule_within, meta_within, type_within, lateness_within, exceeds_limit_behind};
 
 use crate::action_limits::are_actions_within;
 use crate::room::are_at_most;
 use drl_expr::LitTree;
-use drl_grammar::{Attr, Body, Cmp, CondTree, Meta, Operand, Part, RuleTree, SourceTree, TypeTree};
+use drl_grammar::{
+    Attr, Body, Cmp, CondTree, Meta, Operand, Part, RuleTree, SourceTree, TypeTree, WindowTree,
+};
+use drl_lex::Rel;
 use drl_sight::has_at_most;
+use fx_base::limits::{MOST_MILLIS, TEXT_MAX};
 use fx_base::{Seq, Text};
 
 const NAME_MAX: usize = 64;
-
-const TEXT_MAX: usize = 4096;
 
 const RULE_NAME_MAX: usize = 256;
 
 const OPERANDS_MAX: usize = 32;
 
 const WEIGHT_MAX: usize = 32;
+
+const TESTS_MAX: usize = 32;
+
+const LENGTH_MAX: u64 = 1_000_000;
 
 const CONDITIONS_MAX: usize = 8;
 
@@ -33,9 +39,6 @@ const RULES_MAX: usize = 256;
 const ENTRIES_MAX: usize = 64;
 
 const SALIENCE_MAX: u64 = 2_147_483_647;
-
-// In milliseconds: 2^53.
-const SPAN_MAX: u64 = 9_007_199_254_740_992;
 
 /// Whether a name of a type, a field or a variable is short enough.
 pub(crate) fn is_short_name(name: &Text) -> bool
@@ -54,7 +57,13 @@ fn is_entry_name_within(name: &Text) -> bool
 fn is_span_within(millis: i64) -> bool
     ensures { result ≡ is_span millis }
 {
-    millis.unsigned_abs() <= SPAN_MAX
+    millis.unsigned_abs() <= MOST_MILLIS.unsigned_abs()
+}
+
+fn are_spans_within(spans: &[i64]) -> bool
+    ensures { result ≡ list_all is_span spans.now }
+{
+    spans.iter().all(|span| is_span_within(*span))
 }
 
 /// Whether a literal is no text that is too long.
@@ -63,7 +72,7 @@ pub(crate) fn is_literal_within(literal: &LitTree) -> bool
 {
     match literal {
         LitTree::Text(text) => has_at_most(TEXT_MAX, text),
-        _ => true,
+        LitTree::Int(_) | LitTree::Bool(_) => true,
     }
 }
 
@@ -114,7 +123,9 @@ fn is_part_within(part: &Part) -> bool
 {
     match part {
         Part::Bind { var, field } => is_short_name(var) && is_short_name(field),
-        Part::Temporal { other, .. } => is_short_name(other),
+        Part::Temporal { params, other, .. } => {
+            are_spans_within(params.as_slice()) && is_short_name(other)
+        }
         Part::AnyOf(groups) => are_groups_within(groups.as_slice()),
     }
 }
@@ -143,6 +154,16 @@ fn is_entry_within(entry: &Option<Text>) -> bool
     }
 }
 
+fn is_window_within(window: &Option<WindowTree>) -> bool
+    ensures { result ≡ window_within window.now }
+{
+    match window {
+        Some(WindowTree::Time(span)) => is_span_within(*span),
+        Some(WindowTree::Length(count)) => count.unsigned_abs() <= LENGTH_MAX,
+        None => true,
+    }
+}
+
 fn is_source_within(source: &SourceTree) -> bool
     ensures { result ≡ source_within source.now }
 {
@@ -150,7 +171,26 @@ fn is_source_within(source: &SourceTree) -> bool
         && is_short_name(&source.ty)
         && are_at_most(WEIGHT_MAX, source.parts.as_slice())
         && are_parts_within(source.parts.as_slice())
+        && is_window_within(&source.window)
         && is_entry_within(&source.entry)
+}
+
+fn is_test_within(test: &(Rel, Operand)) -> bool
+    ensures { result ≡ test_within test.now }
+{
+    is_operand_within(&test.1)
+}
+
+fn are_all_tests_within(tests: &[(Rel, Operand)]) -> bool
+    ensures { result ≡ list_all test_within tests.now }
+{
+    tests.iter().all(|test| is_test_within(test))
+}
+
+fn are_tests_within(tests: &[(Rel, Operand)]) -> bool
+    ensures { result ≡ tests_within tests.now }
+{
+    tests.len() <= TESTS_MAX && are_all_tests_within(tests)
 }
 
 fn is_condition_within(condition: &CondTree) -> bool
@@ -158,7 +198,20 @@ fn is_condition_within(condition: &CondTree) -> bool
 {
     match condition {
         CondTree::Plain(source) => is_source_within(source),
-        _ => true,
+        CondTree::Negated(source) => is_source_within(source),
+        CondTree::Existing(source) => is_source_within(source),
+        CondTree::Folded {
+            result,
+            source,
+            kind: _,
+            arg,
+            tests,
+        } => {
+            is_variable_within(result)
+                && is_source_within(source)
+                && is_short_name(arg)
+                && are_tests_within(tests.as_slice())
+        }
     }
 }
 
@@ -243,10 +296,10 @@ fn is_lateness_within(lateness: &Option<i64>) -> bool
     }
 }
 
-/// Whether an item passes a limit, where so many types and rules are declared before it, and there are so many entry points
+/// Whether an item exceeds a limit, where so many types and rules are declared before it, and there are so many entry points
 /// with those that it names.
-pub fn passes_limits(types: usize, entries: usize, rules: usize, body: &Body) -> bool
-    ensures { (known : List (List ℕ)) → entries ≡ length (with_names known (entries_named body.now)) → result ≡ passes_limit_behind types rules known body.now }
+pub fn exceeds_limits(types: usize, entries: usize, rules: usize, body: &Body) -> bool
+    ensures { (known : List (List ℕ)) → entries ≡ length (with_names known (entries_named body.now)) → result ≡ exceeds_limit_behind types rules known body.now }
 {
     match body {
         Body::Declare(tree) => !(types < TYPES_MAX && is_type_within(tree)),
@@ -254,6 +307,6 @@ pub fn passes_limits(types: usize, entries: usize, rules: usize, body: &Body) ->
             !(entries <= ENTRIES_MAX && is_entry_name_within(name) && is_lateness_within(lateness))
         }
         Body::Rule(tree) => !(rules < RULES_MAX && entries <= ENTRIES_MAX && is_rule_within(tree)),
-        _ => false,
+        Body::Package(_) | Body::Import { .. } | Body::Dialect(_) => false,
     }
 }

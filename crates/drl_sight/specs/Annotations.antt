@@ -6,7 +6,9 @@ use Rattle.drl_grammar.specs.declared.file.TypeTree.{TypeTree}
 
 abbrev pub role_with : Meta → Bool → Bool
 role_with (meta.Role event) others = event
-role_with m others = others
+role_with (meta.Timestamp field) others = others
+role_with (meta.Duration field) others = others
+role_with (meta.Expires offset) others = others
 
 -- whether the role is that of events; without one it is that of facts
 abbrev pub role_of : List Meta → Bool
@@ -18,7 +20,9 @@ is_event t = role_of t.metas
 
 abbrev pub timestamp_with : Meta → Option (List ℕ) → Option (List ℕ)
 timestamp_with (meta.Timestamp field) others = Some field
-timestamp_with m others = others
+timestamp_with (meta.Role event) others = others
+timestamp_with (meta.Duration field) others = others
+timestamp_with (meta.Expires offset) others = others
 
 -- the field that holds the start
 abbrev pub timestamp_of : List Meta → Option (List ℕ)
@@ -27,7 +31,9 @@ timestamp_of (m ∷ metas) = timestamp_with m (timestamp_of metas)
 
 abbrev pub duration_with : Meta → Option (List ℕ) → Option (List ℕ)
 duration_with (meta.Duration field) others = Some field
-duration_with m others = others
+duration_with (meta.Role event) others = others
+duration_with (meta.Timestamp field) others = others
+duration_with (meta.Expires offset) others = others
 
 -- the field that holds the duration
 abbrev pub duration_of : List Meta → Option (List ℕ)

@@ -13,11 +13,19 @@ use Rattle.drl_sight.specs.Names.{is_among, place_of}
 
 abbrev pub type_in : Body → List TypeTree
 type_in (body.Declare t) = t ∷ []
-type_in b = []
+type_in (body.Package path) = []
+type_in (body.Import path star) = []
+type_in (body.Dialect text) = []
+type_in (body.Entry name lateness) = []
+type_in (body.Rule r) = []
 
 abbrev pub rule_in : Body → List RuleTree
 rule_in (body.Rule r) = r ∷ []
-rule_in b = []
+rule_in (body.Package path) = []
+rule_in (body.Import path star) = []
+rule_in (body.Dialect text) = []
+rule_in (body.Declare t) = []
+rule_in (body.Entry name lateness) = []
 
 -- the declared types and the rules, in the order of the file
 abbrev pub types_of : List Item → List TypeTree

@@ -29,12 +29,19 @@ given_name (Some name) = name ∷ []
 abbrev pub entries_named : Body → List (List ℕ)
 entries_named (body.Entry name lateness) = name ∷ []
 entries_named (body.Rule r) = flat_map (λ (c : CondTree). given_name (source_of c).entry) r.conditions
-entries_named b = []
+entries_named (body.Package path) = []
+entries_named (body.Import path star) = []
+entries_named (body.Dialect text) = []
+entries_named (body.Declare t) = []
 
 -- the entry points that an item declares
 abbrev pub entries_declared : Body → List (List ℕ)
 entries_declared (body.Entry name lateness) = name ∷ []
-entries_declared b = []
+entries_declared (body.Package path) = []
+entries_declared (body.Import path star) = []
+entries_declared (body.Dialect text) = []
+entries_declared (body.Declare t) = []
+entries_declared (body.Rule r) = []
 
 abbrev pub declared_entries : List Item → List (List ℕ)
 declared_entries items = flat_map (λ (item : Item). entries_declared item.body) items
@@ -59,7 +66,11 @@ lateness_or_zero (Some lateness) = lateness
 
 abbrev pub lateness_with : Body → List ℕ → ℤ → ℤ
 lateness_with (body.Entry declared lateness) name others = if bytes_eq declared name then lateness_or_zero lateness else others
-lateness_with b name others = others
+lateness_with (body.Package path) name others = others
+lateness_with (body.Import path star) name others = others
+lateness_with (body.Dialect text) name others = others
+lateness_with (body.Declare t) name others = others
+lateness_with (body.Rule r) name others = others
 
 -- the lateness that the first declaration of the name gives; 0 where none does
 unfoldable pub lateness_named : List Item → List ℕ → ℤ

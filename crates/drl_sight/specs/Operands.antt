@@ -10,14 +10,15 @@ use Rattle.drl_grammar.specs.declared.condition.Cmp.{Cmp}
 use Rattle.drl_grammar.specs.declared.condition.Cmp.TheVariants as cmp
 use Rattle.drl_grammar.specs.declared.condition.Operand.{Operand}
 
--- whether one of the operands of a comparison, of a part, of a pattern has this
+-- whether one of the operands of a comparison, of a part of a pattern has this; a binding and a temporal test have none
 abbrev pub any_of_cmp : (Operand → Bool) → Cmp → Bool
 any_of_cmp test (cmp.Rel f r o) = test o
 any_of_cmp test (cmp.OneOf f os) = list_any test os
 
 abbrev pub any_of_part : (Operand → Bool) → Part → Bool
+any_of_part test (part.Bind v f) = false
+any_of_part test (part.Temporal op params other) = false
 any_of_part test (part.AnyOf groups) = list_any (λ (group : List Cmp). list_any (any_of_cmp test) group) groups
-any_of_part test p = false
 
 -- whether one of the leaves of an expression, of the expressions of an action has this
 abbrev pub any_leaf : (Tree → Bool) → Tree → Bool

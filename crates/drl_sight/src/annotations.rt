@@ -11,7 +11,7 @@ pub fn is_event_tree(tree: &TypeTree) -> bool
     for meta in tree.metas.as_slice() {
         match meta {
             Meta::Role(event) => return *event,
-            _ => {}
+            Meta::Timestamp(_) | Meta::Duration(_) | Meta::Expires(_) => {}
         }
     }
     false
@@ -24,7 +24,7 @@ pub fn timestamp_field(tree: &TypeTree) -> Option<&Text>
     for meta in tree.metas.as_slice() {
         match meta {
             Meta::Timestamp(field) => return Some(field),
-            _ => {}
+            Meta::Role(_) | Meta::Duration(_) | Meta::Expires(_) => {}
         }
     }
     None
@@ -37,7 +37,7 @@ pub fn duration_field(tree: &TypeTree) -> Option<&Text>
     for meta in tree.metas.as_slice() {
         match meta {
             Meta::Duration(field) => return Some(field),
-            _ => {}
+            Meta::Role(_) | Meta::Timestamp(_) | Meta::Expires(_) => {}
         }
     }
     None

@@ -149,7 +149,11 @@ impl<'a> Declared<'a> {
                     types.push(DeclaredType::of(alloc, tree)?)?;
                     names = names.with(alloc, &tree.name)?;
                 }
-                _ => {}
+                Body::Package(_)
+                | Body::Import { .. }
+                | Body::Dialect(_)
+                | Body::Entry { .. }
+                | Body::Rule(_) => {}
             }
         }
         Ok(Declared { types, names })

@@ -62,7 +62,7 @@ pub fn with_entries(alloc: Global, known: Places, body: &Body) -> Result<Places,
     match body {
         Body::Entry { name, .. } => known.with_new(alloc, name),
         Body::Rule(tree) => with_conditions(alloc, known, tree.conditions.as_slice()),
-        _ => Ok(known),
+        Body::Package(_) | Body::Import { .. } | Body::Dialect(_) | Body::Declare(_) => Ok(known),
     }
 }
 
@@ -103,7 +103,11 @@ pub fn lateness_of_entry(items: &[Item], name: &Text) -> i64
                     return lateness_or_none(lateness);
                 }
             }
-            _ => {}
+            Body::Package(_)
+            | Body::Import { .. }
+            | Body::Dialect(_)
+            | Body::Declare(_)
+            | Body::Rule(_) => {}
         }
     }
     0

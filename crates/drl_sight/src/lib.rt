@@ -17,4 +17,4 @@ pub use entries::{default_entry, entry_points, lateness_of_entry, source_of, wit
 pub use names::{differ, has_at_most};
 pub use operands::{LeafTest, OperandTest, some_leaf, some_operand};
 pub use places::Places;
-pub use sight::{Meaning, Place, Seen};
+pub use sight::{Meaning, Place, Seen, binds};

@@ -63,13 +63,13 @@ fn some_of_groups<T: OperandTest>(test: &T, groups: &[Seq<Cmp>]) -> bool
         .any(|group| some_of_group(test, group.as_slice()))
 }
 
-/// Whether the test holds of one of the operands of a part.
+/// Whether the test holds of one of the operands of a part. A binding and a temporal test have none.
 pub fn some_operand<T: OperandTest>(test: &T, part: &Part) -> bool
     ensures { result ≡ any_of_part (T.test test.now) part.now }
 {
     match part {
         Part::AnyOf(groups) => some_of_groups(test, groups.as_slice()),
-        _ => false,
+        Part::Bind { .. } | Part::Temporal { .. } => false,
     }
 }
 

@@ -1,5 +1,7 @@
 ghost use Rattle.std.specs.Prelude.{◌≡◌, ◌<◌, ◌≤◌, ◌+◌, ◌^◌, ◌++◌, Some, option_map, IfOk, OnOk};
-ghost use Rattle.drl_sight.specs.Sight.{meaning_of, seen_of, seen_in, seen_fact, begin, behind};
+ghost use Rattle.std.specs.List.{list_any};
+ghost use Rattle.drl_sight.specs.Sight.{meaning_of, seen_of, seen_in, seen_fact, seen_result, begin, behind, is_own, is_bound_in, is_bound_by};
+ghost use Rattle.drl_sight.specs.Declarations.{type_named};
 ghost use Rattle.drl_sight.specs.Meanings.{lacks_for, variable_kind, variable_field_kind};
 ghost use Rattle.drl_sight.specs.Shown.{meant};
 
@@ -9,7 +11,8 @@ use fx_base::{Copies, Kind, NoMemory, Text};
 use std::alloc::Global;
 use std::marker::Model;
 
-/// What a variable stands for. Facts count from 0 in the order of the rule's patterns.
+/// What a variable stands for. Facts count from 0 in the order of the rule's positive patterns, results in the order of its
+/// accumulates.
 #[derive(Clone, Copy)]
 pub enum Seen<'a, 'b> {
     Fact {
@@ -21,6 +24,10 @@ pub enum Seen<'a, 'b> {
         fact: usize,
         field: usize,
         kind: Option<Kind>,
+    },
+    /// The result of an accumulate, a whole number.
+    Result {
+        result: usize,
     },
 }
 
@@ -39,11 +46,12 @@ impl<'a, 'b> Model for Meaning<'a, 'b> {
     ghost view = { λ m. meant m.seen };
 }
 
-/// The variables in sight behind some conditions of a rule, and the number of the next fact.
+/// The variables in sight behind some conditions of a rule, and the numbers of the next fact and of the next result.
 #[derive(Drop)]
 pub struct Place<'a, 'b> {
     seen: Vec<(Text, Meaning<'a, 'b>)>,
     facts: usize,
+    results: usize,
 }
 
 impl<'a, 'b> Model for Place<'a, 'b> {
@@ -51,7 +59,7 @@ impl<'a, 'b> Model for Place<'a, 'b> {
 
     ghost Value = { Place };
 
-    ghost view = { λ p. record { sight = p.seen.items; facts = p.facts } };
+    ghost view = { λ p. record { sight = p.seen.items; facts = p.facts; results = p.results } };
 }
 
 impl<'a, 'b> Meaning<'a, 'b> {
@@ -69,6 +77,7 @@ impl<'a, 'b> Meaning<'a, 'b> {
         match self.seen {
             Seen::Fact { fact: _, ty } => !ty.has(field),
             Seen::Field { .. } => false,
+            Seen::Result { .. } => false,
         }
     }
 
@@ -79,6 +88,7 @@ impl<'a, 'b> Meaning<'a, 'b> {
         match self.seen {
             Seen::Fact { .. } => None,
             Seen::Field { kind, .. } => Some(kind),
+            Seen::Result { .. } => Some(Some(Kind::Int)),
         }
     }
 
@@ -89,6 +99,7 @@ impl<'a, 'b> Meaning<'a, 'b> {
         match self.seen {
             Seen::Fact { fact: _, ty } => Some(ty.kind_of(field)),
             Seen::Field { .. } => None,
+            Seen::Result { .. } => None,
         }
     }
 }
@@ -140,7 +151,28 @@ fn see_field<'a, 'b>(
             }
             None => Ok(()),
         },
-        _ => Ok(()),
+        Part::Temporal { .. } | Part::AnyOf(_) => Ok(()),
+    }
+}
+
+// Adds the variable of an accumulate's result.
+fn see_result<'a, 'b>(
+    alloc: Global,
+    seen: &mut Vec<(Text, Meaning<'a, 'b>)>,
+    number: usize,
+    var: &Option<Text>,
+) -> Result<(), NoMemory>
+    ensures { OnOk result (seen.new.items ≡ seen.old.items ++ seen_result number var.now) }
+{
+    match var {
+        Some(name) => {
+            let meaning = Meaning {
+                seen: Seen::Result { result: number },
+            };
+            seen.push((name.copy(alloc)?, meaning))?;
+            Ok(())
+        }
+        None => Ok(()),
     }
 }
 
@@ -169,6 +201,7 @@ impl<'a, 'b> Place<'a, 'b> {
         Place {
             seen: Vec::new(alloc),
             facts: 0,
+            results: 0,
         }
     }
 
@@ -185,34 +218,98 @@ impl<'a, 'b> Place<'a, 'b> {
         None
     }
 
-    /// Behind one more condition.
+    // Behind a positive pattern.
+    fn behind_pattern(
+        self,
+        alloc: Global,
+        types: &'a Declared<'b>,
+        source: &SourceTree,
+    ) -> Result<Place<'a, 'b>, NoMemory>
+        requires { self.facts < 2 ^ 63 }
+        ensures { IfOk result (λ p. p ≡ record { sight = self.entry.sight ++ seen_of self.entry.facts source.now (type_named types.now source.now.ty); facts = self.entry.facts + 1; results = self.entry.results }) }
+    {
+        let Place {
+            mut seen,
+            facts,
+            results,
+        } = self;
+        match types.find(&source.ty) {
+            Some(ty) => see_pattern(alloc, &mut seen, facts, ty, source)?,
+            None => {}
+        }
+        Ok(Place {
+            seen,
+            facts: facts + 1,
+            results,
+        })
+    }
+
+    // Behind an accumulate.
+    fn behind_result(self, alloc: Global, var: &Option<Text>) -> Result<Place<'a, 'b>, NoMemory>
+        requires { self.results < 2 ^ 63 }
+        ensures { IfOk result (λ p. p ≡ record { sight = self.entry.sight ++ seen_result self.entry.results var.now; facts = self.entry.facts; results = self.entry.results + 1 }) }
+    {
+        let Place {
+            mut seen,
+            facts,
+            results,
+        } = self;
+        see_result(alloc, &mut seen, results, var)?;
+        Ok(Place {
+            seen,
+            facts,
+            results: results + 1,
+        })
+    }
+
+    /// Behind one more condition. What is bound inside not, exists and accumulate is in sight nowhere else.
     pub fn behind(
         self,
         alloc: Global,
         types: &'a Declared<'b>,
         condition: &CondTree,
     ) -> Result<Place<'a, 'b>, NoMemory>
-        requires { self.facts < 2 ^ 63 }
+        requires { self.facts + self.results < 2 ^ 63 }
         ensures { IfOk result (λ p. p ≡ behind types.now self.entry condition.now) }
     {
         match condition {
-            CondTree::Plain(source) => {
-                let Place { mut seen, facts } = self;
-                match types.find(&source.ty) {
-                    Some(ty) => {
-                        see_pattern(alloc, &mut seen, facts, ty, source)?;
-                        Ok(Place {
-                            seen,
-                            facts: facts + 1,
-                        })
-                    }
-                    None => Ok(Place {
-                        seen,
-                        facts: facts + 1,
-                    }),
-                }
-            }
-            _ => Ok(self),
+            CondTree::Plain(source) => self.behind_pattern(alloc, types, source),
+            CondTree::Negated(_) | CondTree::Existing(_) => Ok(self),
+            CondTree::Folded { result, .. } => self.behind_result(alloc, result),
         }
     }
+}
+
+// ---- inside a condition
+
+fn is_own_of(var: &Option<Text>, name: &Text) -> bool
+    ensures { result ≡ is_own var.now name.now }
+{
+    match var {
+        Some(own) => *own == *name,
+        None => false,
+    }
+}
+
+fn binds_in(name: &Text, part: &Part) -> bool
+    ensures { result ≡ is_bound_in name.now part.now }
+{
+    match part {
+        Part::Bind { var, .. } => *var == *name,
+        Part::Temporal { .. } | Part::AnyOf(_) => false,
+    }
+}
+
+fn binds_in_some(name: &Text, parts: &[Part]) -> bool
+    ensures { result ≡ list_any (is_bound_in name.now) parts.now }
+{
+    parts.iter().any(|part| binds_in(name, part))
+}
+
+/// Whether a pattern binds a variable, to its fact or to one of its fields. The argument of an accumulate sees these of its
+/// own pattern alone.
+pub fn binds(source: &SourceTree, name: &Text) -> bool
+    ensures { result ≡ is_bound_by source.now name.now }
+{
+    is_own_of(&source.var, name) || binds_in_some(name, source.parts.as_slice())
 }

@@ -1,10 +1,11 @@
 -- Values of a kind that does not fit where they stand.
 use Rattle.std.specs.Prelude.{ℕ, ◌&&◌, ◌||◌, Bool, true, false, not, List, [], ◌∷◌, Option, Some, None, is_some}
 use Rattle.std.specs.List.{list_any}
+use Rattle.std.specs.Str.{bytes_eq}
 use Rattle.fx_base.specs.declared.kind.Kind.{Kind}
 use Rattle.fx_base.specs.declared.kind.Kind.TheVariants as kind
 use Rattle.drl_lex.specs.declared.token.Rel.{Rel}
-use Rattle.drl_lex.specs.declared.token.Rel.TheVariants.{Equal, NotEqual}
+use Rattle.drl_lex.specs.declared.token.Rel.TheVariants.{Equal, NotEqual, Less, LessOrEqual, Greater, GreaterOrEqual}
 use Rattle.drl_expr.specs.declared.literal.LitTree.{LitTree}
 use Rattle.drl_expr.specs.declared.literal.LitTree.TheVariants as literal
 use Rattle.drl_expr.specs.Tree.{Tree, lit, var, var_field, neg, add, sub, mul}
@@ -17,12 +18,14 @@ use Rattle.drl_grammar.specs.declared.condition.Part.{Part}
 use Rattle.drl_grammar.specs.declared.condition.Part.TheVariants as part
 use Rattle.drl_grammar.specs.declared.condition.Cmp.{Cmp}
 use Rattle.drl_grammar.specs.declared.condition.Cmp.TheVariants as cmp
+use Rattle.drl_grammar.specs.declared.condition.FoldWord.{FoldWord}
+use Rattle.drl_grammar.specs.declared.condition.FoldWord.TheVariants as fold
 use Rattle.drl_grammar.specs.declared.condition.Operand.{Operand}
 use Rattle.drl_grammar.specs.declared.condition.Operand.TheVariants as operand
 use Rattle.drl_grammar.specs.declared.file.TypeTree.{TypeTree}
 use Rattle.drl_sight.specs.Declarations.{type_named, kind_of}
 use Rattle.drl_sight.specs.Meanings.{field_kind, variable_kind, variable_field_kind}
-use Rattle.drl_sight.specs.Sight.{Sight, Meaning, of_fact, of_field, meaning_of, Place}
+use Rattle.drl_sight.specs.Sight.{Sight, Meaning, of_fact, of_field, of_result, meaning_of, Place}
 
 -- a field whose kind word is none of the seven
 abbrev pub has_unknown_kind : TypeTree → Bool
@@ -55,7 +58,10 @@ is_same_kind a b = false
 abbrev pub kinds_fit : Rel → Option Kind → Option Kind → Bool
 kinds_fit Equal a b = is_same_kind a b
 kinds_fit NotEqual a b = is_same_kind a b
-kinds_fit r a b = is_int a && is_int b
+kinds_fit Less a b = is_int a && is_int b
+kinds_fit LessOrEqual a b = is_int a && is_int b
+kinds_fit Greater a b = is_int a && is_int b
+kinds_fit GreaterOrEqual a b = is_int a && is_int b
 
 abbrev pub misfits : Rel → Option Kind → Option (Option Kind) → Bool
 misfits r left None = true
@@ -65,17 +71,61 @@ abbrev pub cmp_misfits : TypeTree → Sight → Cmp → Bool
 cmp_misfits t sight (cmp.Rel f r o) = misfits r (field_kind t f) (operand_kind t sight o)
 cmp_misfits t sight (cmp.OneOf f os) = list_any (λ (o : Operand). misfits Equal (field_kind t f) (operand_kind t sight o)) os
 
+-- a value stands where a fact is needed
+abbrev pub is_value : Option Meaning → Bool
+is_value None = false
+is_value (Some (of_fact fact t)) = false
+is_value (Some (of_field fact field k)) = true
+is_value (Some (of_result result)) = true
+
+-- a temporal test needs a fact
 abbrev pub part_misfits : TypeTree → Sight → Part → Bool
+part_misfits t sight (part.Bind v f) = false
+part_misfits t sight (part.Temporal op params other) = is_value (meaning_of sight other)
 part_misfits t sight (part.AnyOf groups) = list_any (λ (group : List Cmp). list_any (cmp_misfits t sight) group) groups
-part_misfits t sight p = false
 
 abbrev pub source_misfits : Option TypeTree → Sight → SourceTree → Bool
 source_misfits None sight s = false
 source_misfits (Some t) sight s = list_any (part_misfits t sight) s.parts
 
+-- the variable is bound to a field of whole numbers
+abbrev pub is_number_in : TypeTree → List ℕ → Part → Bool
+is_number_in t v (part.Bind bound f) = bytes_eq bound v && is_int (field_kind t f)
+is_number_in t v (part.Temporal op params other) = false
+is_number_in t v (part.AnyOf groups) = false
+
+abbrev pub is_number_of : TypeTree → SourceTree → List ℕ → Bool
+is_number_of t s v = list_any (is_number_in t v) s.parts
+
+-- what is counted may have any kind; all else is over whole numbers
+abbrev pub wants_numbers : FoldWord → Bool
+wants_numbers fold.Count = false
+wants_numbers fold.Sum = true
+wants_numbers fold.Min = true
+wants_numbers fold.Max = true
+wants_numbers fold.Average = true
+
+abbrev pub argument_misfits : Option TypeTree → SourceTree → FoldWord → List ℕ → Bool
+argument_misfits None s function arg = false
+argument_misfits (Some t) s function arg = wants_numbers function && not (is_number_of t s arg)
+
+-- The kind of an operand of a test of a result, which has no field of its own.
+abbrev pub result_operand_kind : Sight → Operand → Option (Option Kind)
+result_operand_kind sight (operand.Lit l) = Some (Some (literal_kind l))
+result_operand_kind sight (operand.Var v) = variable_kind (meaning_of sight v)
+result_operand_kind sight (operand.VarField v f) = variable_field_kind (meaning_of sight v) f
+result_operand_kind sight (operand.Own f) = None
+
+-- a result is a whole number
+abbrev pub test_misfits : Sight → Rel × Operand → Bool
+test_misfits sight test = misfits test.0 (Some kind.Int) (result_operand_kind sight test.1)
+
 abbrev pub has_wrong_kind : List TypeTree → Place → CondTree → Bool
 has_wrong_kind types place (condition.Plain s) = source_misfits (type_named types s.ty) place.sight s
-has_wrong_kind types place c = false
+has_wrong_kind types place (condition.Negated s) = source_misfits (type_named types s.ty) place.sight s
+has_wrong_kind types place (condition.Existing s) = source_misfits (type_named types s.ty) place.sight s
+has_wrong_kind types place (condition.Folded result s function arg tests) =
+    source_misfits (type_named types s.ty) place.sight s || argument_misfits (type_named types s.ty) s function arg || list_any (test_misfits place.sight) tests
 
 -- ---- actions
 
@@ -119,11 +169,14 @@ abbrev pub modify_misfits : Option Meaning → Sight → List (List ℕ × Tree)
 modify_misfits None sight sets = false
 modify_misfits (Some (of_fact fact t)) sight sets = list_any (λ (set : List ℕ × Tree). set_misfits (field_kind t set.0) (tree_kind sight set.1)) sets
 modify_misfits (Some (of_field fact field k)) sight sets = true
+modify_misfits (Some (of_result result)) sight sets = true
 
 -- nor retracted
 abbrev pub retract_misfits : Option Meaning → Bool
 retract_misfits (Some (of_field fact field k)) = true
-retract_misfits m = false
+retract_misfits (Some (of_result result)) = true
+retract_misfits (Some (of_fact fact t)) = false
+retract_misfits None = false
 
 abbrev pub action_misfits : List TypeTree → Sight → ActTree → Bool
 action_misfits types sight (action.Insert ty args) = insert_misfits (type_named types ty) sight args

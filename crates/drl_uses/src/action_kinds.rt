@@ -92,6 +92,7 @@ fn does_modify_misfit(meaning: &Meaning, place: &Place, sets: &[(Text, ExprTree)
     match meaning.seen() {
         Seen::Fact { fact: _, ty } => do_sets_misfit(ty, place, sets),
         Seen::Field { .. } => true,
+        Seen::Result { .. } => true,
     }
 }
 
@@ -101,6 +102,7 @@ fn does_retract_misfit(meaning: &Meaning) -> bool
     match meaning.seen() {
         Seen::Fact { .. } => false,
         Seen::Field { .. } => true,
+        Seen::Result { .. } => true,
     }
 }
 

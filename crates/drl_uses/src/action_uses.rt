@@ -18,7 +18,7 @@ fn is_insert_unknown(types: &Declared, action: &ActTree) -> bool
 {
     match action {
         ActTree::Insert { ty, .. } => types.find(ty).is_none(),
-        _ => false,
+        ActTree::Modify { .. } | ActTree::Retract(_) => false,
     }
 }
 
@@ -47,7 +47,8 @@ impl<'p> LeafTest for Lacking<'p> {
     fn holds(&self, leaf: &ExprTree) -> bool {
         match leaf.node() {
             Node::VarField(var, field) => is_lacking_in(self.place, var, field),
-            _ => false,
+            Node::Lit(_) | Node::Var(_) => false,
+            Node::Neg(_) | Node::Add(_, _) | Node::Sub(_, _) | Node::Mul(_, _) => false,
         }
     }
 }
@@ -63,7 +64,7 @@ fn lacks_assigned(place: &Place, action: &ActTree) -> bool
 {
     match action {
         ActTree::Modify { var, sets } => lacks_some_set(place, var, sets.as_slice()),
-        _ => false,
+        ActTree::Insert { .. } | ActTree::Retract(_) => false,
     }
 }
 
@@ -85,7 +86,8 @@ impl<'p> LeafTest for Unseen<'p> {
         match leaf.node() {
             Node::Var(var) => is_out_of_sight(self.place, var),
             Node::VarField(var, _) => is_out_of_sight(self.place, var),
-            _ => false,
+            Node::Lit(_) => false,
+            Node::Neg(_) | Node::Add(_, _) | Node::Sub(_, _) | Node::Mul(_, _) => false,
         }
     }
 }

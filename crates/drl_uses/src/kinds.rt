@@ -3,14 +3,15 @@ ghost use Rattle.std.specs.List.{list_any};
 ghost use Rattle.drl_lex.specs.declared.token.Rel.TheVariants.{Equal};
 ghost use Rattle.drl_grammar.specs.declared.condition.Cmp.{Cmp};
 ghost use Rattle.drl_grammar.specs.declared.condition.Operand.{Operand};
-ghost use Rattle.drl_uses.specs.Kinds.{has_unknown_kind, literal_kind, operand_kind, is_int, is_same_kind, kinds_fit, misfits, cmp_misfits, part_misfits, has_wrong_kind};
+ghost use Rattle.drl_uses.specs.Kinds.{has_unknown_kind, literal_kind, operand_kind, is_int, is_same_kind, kinds_fit, misfits, cmp_misfits, is_value, part_misfits, source_misfits, is_number_in, is_number_of, wants_numbers, argument_misfits, result_operand_kind, test_misfits, has_wrong_kind};
+ghost use Rattle.drl_sight.specs.Declarations.{type_named};
 ghost use Rattle.drl_sight.specs.Sight.{meaning_of};
 ghost use Rattle.drl_sight.specs.Meanings.{field_kind, variable_kind, variable_field_kind};
 
 use drl_expr::LitTree;
-use drl_grammar::{Cmp, CondTree, Operand, Part, TypeTree};
+use drl_grammar::{Cmp, CondTree, FoldWord, Operand, Part, SourceTree, TypeTree};
 use drl_lex::Rel;
-use drl_sight::{Declared, DeclaredType, Place, kind_of_word};
+use drl_sight::{Declared, DeclaredType, Meaning, Place, Seen, kind_of_word};
 use fx_base::{Kind, Seq, Text};
 
 /// Whether a field's kind word is none of the seven.
@@ -93,7 +94,9 @@ fn do_fit(rel: Rel, left: Option<Kind>, right: Option<Kind>) -> bool
     match rel {
         Rel::Equal => are_same(left, right),
         Rel::NotEqual => are_same(left, right),
-        _ => is_whole(left) && is_whole(right),
+        Rel::Less | Rel::LessOrEqual | Rel::Greater | Rel::GreaterOrEqual => {
+            is_whole(left) && is_whole(right)
+        }
     }
 }
 
@@ -145,12 +148,33 @@ fn misfits_in_groups(ty: &DeclaredType, place: &Place, groups: &[Seq<Cmp>]) -> b
         .any(|group| misfits_in_group(ty, place, group.as_slice()))
 }
 
+// Whether a variable is a value, and no fact.
+fn is_value_in(place: &Place, var: &Text) -> bool
+    ensures { result ≡ is_value (meaning_of place.now.sight var.now) }
+{
+    match place.find(var) {
+        Some(meaning) => is_value_meant(meaning),
+        None => false,
+    }
+}
+
+fn is_value_meant(meaning: &Meaning) -> bool
+    ensures { result ≡ is_value (Some meaning.now) }
+{
+    match meaning.seen() {
+        Seen::Fact { .. } => false,
+        Seen::Field { .. } => true,
+        Seen::Result { .. } => true,
+    }
+}
+
 fn misfits_in_part(ty: &DeclaredType, place: &Place, part: &Part) -> bool
     ensures { result ≡ part_misfits ty.now place.now.sight part.now }
 {
     match part {
+        Part::Bind { .. } => false,
+        Part::Temporal { other, .. } => is_value_in(place, other),
         Part::AnyOf(groups) => misfits_in_groups(ty, place, groups.as_slice()),
-        _ => false,
     }
 }
 
@@ -160,15 +184,105 @@ fn misfits_in_parts(ty: &DeclaredType, place: &Place, parts: &[Part]) -> bool
     parts.iter().any(|part| misfits_in_part(ty, place, part))
 }
 
-/// Whether a condition compares what does not fit.
+fn misfits_in_source(types: &Declared, place: &Place, source: &SourceTree) -> bool
+    ensures { result ≡ source_misfits (type_named types.now source.now.ty) place.now.sight source.now }
+{
+    match types.find(&source.ty) {
+        Some(ty) => misfits_in_parts(ty, place, source.parts.as_slice()),
+        None => false,
+    }
+}
+
+// ---- accumulates
+
+fn is_number_bound(ty: &DeclaredType, var: &Text, part: &Part) -> bool
+    ensures { result ≡ is_number_in ty.now var.now part.now }
+{
+    match part {
+        Part::Bind { var: bound, field } => *bound == *var && is_whole(ty.kind_of(field)),
+        Part::Temporal { .. } | Part::AnyOf(_) => false,
+    }
+}
+
+fn are_numbers_bound(ty: &DeclaredType, source: &SourceTree, var: &Text) -> bool
+    ensures { result ≡ is_number_of ty.now source.now var.now }
+{
+    source
+        .parts
+        .as_slice()
+        .iter()
+        .any(|part| is_number_bound(ty, var, part))
+}
+
+fn is_over_numbers(function: FoldWord) -> bool
+    ensures { result ≡ wants_numbers function }
+{
+    match function {
+        FoldWord::Count => false,
+        FoldWord::Sum | FoldWord::Min | FoldWord::Max | FoldWord::Average => true,
+    }
+}
+
+fn does_argument_misfit(
+    types: &Declared,
+    source: &SourceTree,
+    function: FoldWord,
+    arg: &Text,
+) -> bool
+    ensures { result ≡ argument_misfits (type_named types.now source.now.ty) source.now function arg.now }
+{
+    match types.find(&source.ty) {
+        Some(ty) => is_over_numbers(function) && !are_numbers_bound(ty, source, arg),
+        None => false,
+    }
+}
+
+// The kind of an operand of a test of a result, which has no field of its own.
+fn kind_of_result_operand(place: &Place, operand: &Operand) -> Option<Option<Kind>>
+    ensures { result ≡ result_operand_kind place.now.sight operand.now }
+{
+    match operand {
+        Operand::Lit(literal) => Some(Some(kind_of_literal(literal))),
+        Operand::Var(var) => kind_of_variable(place, var),
+        Operand::VarField(var, field) => kind_of_variable_field(place, var, field),
+        Operand::Own(_) => None,
+    }
+}
+
+fn misfits_in_test(place: &Place, test: &(Rel, Operand)) -> bool
+    ensures { result ≡ test_misfits place.now.sight test.now }
+{
+    does_misfit(
+        test.0,
+        Some(Kind::Int),
+        kind_of_result_operand(place, &test.1),
+    )
+}
+
+fn misfits_in_tests(place: &Place, tests: &[(Rel, Operand)]) -> bool
+    ensures { result ≡ list_any (test_misfits place.now.sight) tests.now }
+{
+    tests.iter().any(|test| misfits_in_test(place, test))
+}
+
+/// Whether a condition compares what does not fit, or folds what is no whole number.
 pub(crate) fn misfits_in(types: &Declared, place: &Place, condition: &CondTree) -> bool
     ensures { result ≡ has_wrong_kind types.now place.now condition.now }
 {
     match condition {
-        CondTree::Plain(source) => match types.find(&source.ty) {
-            Some(ty) => misfits_in_parts(ty, place, source.parts.as_slice()),
-            None => false,
-        },
-        _ => false,
+        CondTree::Plain(source) => misfits_in_source(types, place, source),
+        CondTree::Negated(source) => misfits_in_source(types, place, source),
+        CondTree::Existing(source) => misfits_in_source(types, place, source),
+        CondTree::Folded {
+            result: _,
+            source,
+            kind,
+            arg,
+            tests,
+        } => {
+            misfits_in_source(types, place, source)
+                || does_argument_misfit(types, source, *kind, arg)
+                || misfits_in_tests(place, tests.as_slice())
+        }
     }
 }

@@ -2,12 +2,13 @@ ghost use Rattle.std.specs.Prelude.{◌≡◌, List};
 ghost use Rattle.std.specs.List.{list_any};
 ghost use Rattle.drl_grammar.specs.declared.condition.Cmp.{Cmp};
 ghost use Rattle.drl_sight.specs.Sight.{meaning_of};
-ghost use Rattle.drl_sight.specs.Operands.{any_of_part};
+ghost use Rattle.drl_sight.specs.Declarations.{type_named};
 ghost use Rattle.drl_sight.specs.Meanings.{lacks, lacks_for};
-ghost use Rattle.drl_uses.specs.Uses.{is_type_unknown, has_unknown_type, operand_lacks, cmp_lacks, part_lacks, has_unknown_field, is_unseen, operand_unseen, has_unknown_variable};
+ghost use Rattle.drl_uses.specs.Uses.{is_type_unknown, has_unknown_type, operand_lacks, cmp_lacks, part_lacks, source_lacks, test_lacks, has_unknown_field, is_unseen, operand_unseen, part_unseen, source_unseen, test_unseen, has_unknown_variable};
 
-use drl_grammar::{Cmp, CondTree, Operand, Part};
-use drl_sight::{Declared, DeclaredType, OperandTest, Place, some_operand};
+use drl_grammar::{Cmp, CondTree, Operand, Part, SourceTree};
+use drl_lex::Rel;
+use drl_sight::{Declared, DeclaredType, OperandTest, Place, binds, some_operand};
 use fx_base::{Seq, Text};
 
 // ---- types
@@ -17,7 +18,9 @@ fn is_unknown_type(types: &Declared, condition: &CondTree) -> bool
 {
     match condition {
         CondTree::Plain(source) => types.find(&source.ty).is_none(),
-        _ => false,
+        CondTree::Negated(source) => types.find(&source.ty).is_none(),
+        CondTree::Existing(source) => types.find(&source.ty).is_none(),
+        CondTree::Folded { source, .. } => types.find(&source.ty).is_none(),
     }
 }
 
@@ -110,16 +113,44 @@ fn lacks_in_parts(ty: &DeclaredType, place: &Place, parts: &[Part]) -> bool
     parts.iter().any(|part| lacks_part(ty, place, part))
 }
 
+fn lacks_in_source(types: &Declared, place: &Place, source: &SourceTree) -> bool
+    ensures { result ≡ source_lacks (type_named types.now source.now.ty) place.now.sight source.now }
+{
+    match types.find(&source.ty) {
+        Some(ty) => lacks_in_parts(ty, place, source.parts.as_slice()),
+        None => false,
+    }
+}
+
+// A test of a result that names a field which is not there. A result has none of its own.
+fn lacks_in_test(place: &Place, test: &(Rel, Operand)) -> bool
+    ensures { result ≡ test_lacks place.now.sight test.now }
+{
+    match &test.1 {
+        Operand::Own(_) => true,
+        Operand::VarField(var, field) => is_lacking_in(place, var, field),
+        Operand::Lit(_) => false,
+        Operand::Var(_) => false,
+    }
+}
+
+fn lacks_in_tests(place: &Place, tests: &[(Rel, Operand)]) -> bool
+    ensures { result ≡ list_any (test_lacks place.now.sight) tests.now }
+{
+    tests.iter().any(|test| lacks_in_test(place, test))
+}
+
 /// Whether a condition names a field that its type, or the type of a fact in sight, does not have.
 pub(crate) fn lacks_field(types: &Declared, place: &Place, condition: &CondTree) -> bool
     ensures { result ≡ has_unknown_field types.now place.now condition.now }
 {
     match condition {
-        CondTree::Plain(source) => match types.find(&source.ty) {
-            Some(ty) => lacks_in_parts(ty, place, source.parts.as_slice()),
-            None => false,
-        },
-        _ => false,
+        CondTree::Plain(source) => lacks_in_source(types, place, source),
+        CondTree::Negated(source) => lacks_in_source(types, place, source),
+        CondTree::Existing(source) => lacks_in_source(types, place, source),
+        CondTree::Folded { source, tests, .. } => {
+            lacks_in_source(types, place, source) || lacks_in_tests(place, tests.as_slice())
+        }
     }
 }
 
@@ -140,7 +171,8 @@ impl<'p> OperandTest for Unseen<'p> {
         match operand {
             Operand::Var(var) => is_out_of_sight(self.place, var),
             Operand::VarField(var, _) => is_out_of_sight(self.place, var),
-            _ => false,
+            Operand::Lit(_) => false,
+            Operand::Own(_) => false,
         }
     }
 }
@@ -152,11 +184,37 @@ pub(crate) fn is_out_of_sight(place: &Place, name: &Text) -> bool
     place.find(name).is_none()
 }
 
-fn is_some_unseen(place: &Place, parts: &[Part]) -> bool
-    ensures { result ≡ list_any (any_of_part (operand_unseen place.now.sight)) parts.now }
+// A part whose other event, or an operand of which, is a variable that is not in sight.
+fn is_part_unseen(place: &Place, part: &Part) -> bool
+    ensures { result ≡ part_unseen place.now.sight part.now }
 {
-    let test = Unseen { place };
-    parts.iter().any(|part| some_operand(&test, part))
+    match part {
+        Part::Bind { .. } => false,
+        Part::Temporal { other, .. } => is_out_of_sight(place, other),
+        Part::AnyOf(_) => some_operand(&Unseen { place }, part),
+    }
+}
+
+fn is_source_unseen(place: &Place, source: &SourceTree) -> bool
+    ensures { result ≡ source_unseen place.now.sight source.now }
+{
+    source
+        .parts
+        .as_slice()
+        .iter()
+        .any(|part| is_part_unseen(place, part))
+}
+
+fn is_test_unseen(place: &Place, test: &(Rel, Operand)) -> bool
+    ensures { result ≡ test_unseen place.now.sight test.now }
+{
+    Unseen { place }.holds(&test.1)
+}
+
+fn is_some_test_unseen(place: &Place, tests: &[(Rel, Operand)]) -> bool
+    ensures { result ≡ list_any (test_unseen place.now.sight) tests.now }
+{
+    tests.iter().any(|test| is_test_unseen(place, test))
 }
 
 /// Whether a condition names a variable that is not in sight.
@@ -164,7 +222,18 @@ pub(crate) fn lacks_variable(place: &Place, condition: &CondTree) -> bool
     ensures { result ≡ has_unknown_variable place.now condition.now }
 {
     match condition {
-        CondTree::Plain(source) => is_some_unseen(place, source.parts.as_slice()),
-        _ => false,
+        CondTree::Plain(source) => is_source_unseen(place, source),
+        CondTree::Negated(source) => is_source_unseen(place, source),
+        CondTree::Existing(source) => is_source_unseen(place, source),
+        CondTree::Folded {
+            source,
+            arg,
+            tests,
+            ..
+        } => {
+            is_source_unseen(place, source)
+                || !binds(source, arg)
+                || is_some_test_unseen(place, tests.as_slice())
+        }
     }
 }

@@ -1,4 +1,4 @@
-use Rattle.std.proofs.Common.{◌≡◌, ◌≤◌, drop}
+use Rattle.std.proofs.Common.{◌≡◌, ◌+◌, ◌≤◌, drop}
 use Rattle.drl_sight.specs.Sight.{begin, behind_all}
 use Rattle.drl_uses.specs.Asked.{asked_of}
 use Rattle.drl_uses.specs.Uses.{any_condition}
@@ -8,5 +8,5 @@ abbrev pub invariant-loop-condition : goal.invariant-loop-condition
 invariant-loop-condition l = record {
   same : any_condition (asked_of l.asked l.types) l.types l.place (drop l.condition-index l.tree.conditions) ≡ any_condition (asked_of l.asked l.types) l.types begin l.tree.conditions;
   seen : behind_all l.types l.place (drop l.condition-index l.tree.conditions) ≡ behind_all l.types begin l.tree.conditions;
-  counts : l.place.facts ≤ l.condition-index;
+  counts : l.place.facts + l.place.results ≤ l.condition-index;
 }
