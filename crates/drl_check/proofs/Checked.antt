@@ -1,9 +1,8 @@
 -- What an answer that is the checked one tells.
-use Rattle.std.proofs.Common.{◌≡◌, ℕ, true, Option, Some, None, Result, Ok, Err, refl, sym, ap, subst, ◌∙◌, IfOk}
+use Rattle.std.proofs.Common.{◌≡◌, ℕ, Option, Some, None, Result, Ok, Err, refl, sym, ap, subst, ◌∙◌, IfOk}
 use Rattle.drl_grammar.specs.declared.file.File.{File}
 use Rattle.rule_model.specs.declared.program.Program.{Program}
-use Rattle.rule_model.specs.Programs.{IsAccepted}
-use Rattle.rule_model.specs.Typed.{is_typed}
+use Rattle.rule_world.specs.Programs.{IsRunnable}
 use Rattle.drl_check.specs.declared.fault.CheckCode.{CheckCode}
 use Rattle.drl_check.specs.declared.fault.CheckFault.{CheckFault}
 use Rattle.drl_check.specs.declared.fault.CheckFault.TheVariants.{Refused, NoMemory}
@@ -12,8 +11,7 @@ use Rattle.drl_program.specs.Programs.{program_of}
 use Rattle.drl_check.specs.Outcomes.{checked_by, checked}
 use Rattle.drl_check.specs.Answers.{within_32_bits, fault_of, Gives}
 use Rattle.drl_check.proofs.Exact.{exact_none, is_first_failure}
-use Rattle.drl_check.proofs.Sound.{accepted_sound}
-use Rattle.drl_check.proofs.Typed.{accepted_typed}
+use Rattle.drl_check.proofs.Runnable.{accepted_runnable}
 
 by_ok : (o : Option Failure) (p q : Program) → checked_by o p ≡ Ok q → (o ≡ None) × (q ≡ p)
 by_ok None p q e = (refl, cc)
@@ -33,19 +31,12 @@ unfolding checked
 given_accepted (Ok p) file g = (exact_none file).0 (by_ok (failure_of file) (program_of file) p g).0
 given_accepted (Err fault) file g = tt
 
-pub given_sound : (r : Result Program CheckFault) (file : File) → Gives (λ (p : Program). p) r (checked file) → IfOk r IsAccepted
+pub given_sound : (r : Result Program CheckFault) (file : File) → Gives (λ (p : Program). p) r (checked file) → IfOk r IsRunnable
 unfolding checked
 given_sound (Ok p) file g =
     let h = by_ok (failure_of file) (program_of file) p g in
-    subst IsAccepted (sym h.1) (accepted_sound file ((exact_none file).0 h.0))
+    subst IsRunnable (sym h.1) (accepted_runnable file ((exact_none file).0 h.0))
 given_sound (Err fault) file g = tt
-
-pub given_typed : (r : Result Program CheckFault) (file : File) → Gives (λ (p : Program). p) r (checked file) → IfOk r (λ p. is_typed p ≡ true)
-unfolding checked
-given_typed (Ok p) file g =
-    let h = by_ok (failure_of file) (program_of file) p g in
-    subst (λ (p : Program). is_typed p ≡ true) (sym h.1) (accepted_typed file ((exact_none file).0 h.0))
-given_typed (Err fault) file g = tt
 
 refused_by : (file : File) (f : Failure) (item line : ℕ) (code : CheckCode) → failure_of file ≡ Some f → fault_of f ≡ Refused item line code
     → (number : ℕ) × (item ≡ within_32_bits number) × IsFirstFailure file number line code

@@ -9,7 +9,7 @@ use Rattle.drl_expr.specs.declared.literal.LitTree.TheVariants as literal
 use Rattle.drl_expr.specs.Tree.{Tree, lit, var, var_field, neg, add, sub, mul}
 use Rattle.drl_grammar.specs.declared.file.TypeTree.{TypeTree}
 use Rattle.rule_model.specs.Expressions.{Expression}
-use Rattle.rule_model.specs.Typed.{is_kind, fields_in, bound_fields, kind_in, expression_kind, args_fit, set_of_kind}
+use Rattle.rule_world.specs.Typed.{is_kind, fields_in, bound_fields, kind_in, expression_kind, args_fit, set_of_kind}
 use Rattle.drl_sight.specs.Names.{place_of}
 use Rattle.drl_sight.specs.Declarations.{field_names, kind_of, kind_at}
 use Rattle.drl_sight.specs.Meanings.{field_kind, variable_kind, variable_field_kind}

@@ -5,3 +5,4 @@ pub mod Checked
 pub mod Places
 pub mod Fitting
 pub mod Typed
+pub mod Runnable

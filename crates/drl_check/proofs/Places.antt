@@ -12,7 +12,7 @@ use Rattle.drl_grammar.specs.declared.condition.SourceTree.{SourceTree}
 use Rattle.drl_grammar.specs.declared.file.TypeTree.{TypeTree}
 use Rattle.rule_model.specs.declared.condition.Condition.{Condition}
 use Rattle.rule_model.specs.declared.condition.Condition.TheVariants.{Plain}
-use Rattle.rule_model.specs.Typed.{bound_types}
+use Rattle.rule_world.specs.Typed.{bound_types}
 use Rattle.drl_sight.specs.Names.{place_of}
 use Rattle.drl_sight.specs.Declarations.{type_names, type_named, field_names, kind_at}
 use Rattle.drl_sight.specs.Sight.{Meaning, of_fact, of_field, Sight, meaning_of, seen_fact, seen_field, seen_in, seen_of, Place, begin, behind, behind_all, sight_of_actions}

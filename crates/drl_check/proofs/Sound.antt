@@ -13,8 +13,8 @@ use Rattle.drl_grammar.specs.declared.file.Item.{Item}
 use Rattle.drl_grammar.specs.declared.file.TypeTree.{TypeTree}
 use Rattle.drl_grammar.specs.declared.file.RuleTree.{RuleTree}
 use Rattle.rule_model.specs.declared.program.Rule.{Rule}
-use Rattle.rule_model.specs.Events.{most_millis}
-use Rattle.rule_model.specs.Programs.{has_conditions, has_few_actions, has_lateness, IsAccepted}
+use Rattle.rule_world.specs.Events.{most_millis}
+use Rattle.rule_world.specs.Programs.{has_conditions, has_few_actions, has_lateness}
 use Rattle.drl_check.specs.declared.fault.CheckCode.TheVariants.{NotBuilt, LimitPassed, BadParams}
 use Rattle.drl_sight.specs.Declarations.{types_of, rules_of, type_in, rule_in}
 use Rattle.drl_sight.specs.EntryPoints.{default_name, entries_named, with_name, with_names, entry_names, lateness_or_zero, lateness_with, lateness_named}
@@ -95,21 +95,21 @@ few_types all before (item ∷ items) p h =
     let more : length (types_of (before ++ item ∷ [])) ≤ 128 = omega (arith, fits, ap length (types_next before item), length-append (types_of before) (type_in item.body)) in
     subst (λ (is : List Item). length (types_of is) ≤ 128) (append_assoc before (item ∷ []) items) (few_types all (before ++ item ∷ []) items p.1 more)
 
-few_rules : (all before items : List Item) → AllPass all before items → length (rules_of before) ≤ 256 → length (rules_of (before ++ items)) ≤ 256
+pub few_rules : (all before items : List Item) → AllPass all before items → length (rules_of before) ≤ 256 → length (rules_of (before ++ items)) ≤ 256
 few_rules all before [] p h = subst (λ (is : List Item). length (rules_of is) ≤ 256) (sym (append-nil before)) h
 few_rules all before (item ∷ items) p h =
     let fits = rule_fits (length (types_of before)) (length (rules_of before)) (entry_names before) item.body (p.0 LimitPassed) h in
     let more : length (rules_of (before ++ item ∷ [])) ≤ 256 = omega (arith, fits, ap length (rules_next before item), length-append (rules_of before) (rule_in item.body)) in
     subst (λ (is : List Item). length (rules_of is) ≤ 256) (append_assoc before (item ∷ []) items) (few_rules all (before ++ item ∷ []) items p.1 more)
 
-few_entries : (all before items : List Item) → AllPass all before items → length (entry_names before) ≤ 64 → length (entry_names (before ++ items)) ≤ 64
+pub few_entries : (all before items : List Item) → AllPass all before items → length (entry_names before) ≤ 64 → length (entry_names (before ++ items)) ≤ 64
 few_entries all before [] p h = subst (λ (is : List Item). length (entry_names is) ≤ 64) (sym (append-nil before)) h
 few_entries all before (item ∷ items) p h =
     let fits = entries_fit (length (types_of before)) (length (rules_of before)) (entry_names before) item.body (p.0 LimitPassed) h in
     let more : length (entry_names (before ++ item ∷ [])) ≤ 64 = subst (λ (names : List (List ℕ)). length names ≤ 64) (sym (known_next before item)) fits in
     subst (λ (is : List Item). length (entry_names is) ≤ 64) (append_assoc before (item ∷ []) items) (few_entries all (before ++ item ∷ []) items p.1 more)
 
-one_entry : length (entry_names []) ≤ 64
+pub one_entry : length (entry_names []) ≤ 64
 unfolding with_names
 one_entry = omega arith
 
@@ -127,12 +127,12 @@ no_fewer known (name ∷ names) =
     let rest = no_fewer (with_name known name) names in
     omega (arith, one, rest)
 
-some_entry : (names : List (List ℕ)) → 1 ≤ length (with_names (default_name ∷ []) names)
+pub some_entry : (names : List (List ℕ)) → 1 ≤ length (with_names (default_name ∷ []) names)
 some_entry names = no_fewer (default_name ∷ []) names
 
 -- ---- each lateness is from 0 to 2^53 ms
 
-is_lateness : ℤ → Bool
+pub is_lateness : ℤ → Bool
 is_lateness n = int_le (pos 0) n && int_le n most_millis
 
 zero_late : is_lateness (pos 0) ≡ true
@@ -166,13 +166,13 @@ body_late types rules known (body.Package p) name others e f h = h
 body_late types rules known (body.Import p s) name others e f h = h
 body_late types rules known (body.Dialect d) name others e f h = h
 
-late : (all before items : List Item) → AllPass all before items → (name : List ℕ) → is_lateness (lateness_named items name) ≡ true
+pub late : (all before items : List Item) → AllPass all before items → (name : List ℕ) → is_lateness (lateness_named items name) ≡ true
 unfolding lateness_named
 late all before [] p name = zero_late
 late all before (item ∷ items) p name =
     body_late (length (types_of before)) (length (rules_of before)) (entry_names before) item.body name (lateness_named items name) (p.0 LimitPassed) (p.0 BadParams) (late all (before ++ item ∷ []) items p.1 name)
 
-all_late : (items : List Item) (names : List (List ℕ)) → ((name : List ℕ) → is_lateness (lateness_named items name) ≡ true) → list_all has_lateness (map (entry_info items) names) ≡ true
+pub all_late : (items : List Item) (names : List (List ℕ)) → ((name : List ℕ) → is_lateness (lateness_named items name) ≡ true) → list_all has_lateness (map (entry_info items) names) ≡ true
 unfolding is_lateness
 all_late items [] h = refl
 all_late items (name ∷ names) h = both (is_lateness (lateness_named items name)) (list_all has_lateness (map (entry_info items) names)) (h name) (all_late items names h)
@@ -206,7 +206,7 @@ some : (n : ℕ) → nat_lt 0 n ≡ true → nat_le 1 n ≡ true
 some n e = grind (arith, nat_tests)
 
 -- a built rule within the limits has few conditions, and one at least
-conditions_sound : (types : List TypeTree) (entries : List (List ℕ)) (r : RuleTree) → list_any condition_unbuilt r.conditions ≡ false → rule_within r ≡ true
+pub conditions_sound : (types : List TypeTree) (entries : List (List ℕ)) (r : RuleTree) → list_any condition_unbuilt r.conditions ≡ false → rule_within r ≡ true
     → has_conditions (rule_of types entries r) ≡ true
 conditions_sound types entries r built e =
     let n = length r.conditions in
@@ -219,7 +219,7 @@ conditions_sound types entries r built e =
     rw (as_many types entries begin r.conditions built) (both (nat_le 1 n) (nat_le n 8) (some n one) few)
 
 -- and few actions
-actions_sound : (types : List TypeTree) (entries : List (List ℕ)) (r : RuleTree) → list_any condition_unbuilt r.conditions ≡ false → rule_within r ≡ true
+pub actions_sound : (types : List TypeTree) (entries : List (List ℕ)) (r : RuleTree) → list_any condition_unbuilt r.conditions ≡ false → rule_within r ≡ true
     → has_few_actions (rule_of types entries r) ≡ true
 actions_sound types entries r built e =
     let n = length r.actions in
@@ -241,24 +241,7 @@ module _ (types : List TypeTree) (entries : List (List ℕ)) (test : Rule → Bo
   body_sound n m known (body.Dialect d) rest built e h = h
   body_sound n m known (body.Entry a l) rest built e h = h
 
-  all_sound : (all before items : List Item) → AllPass all before items → list_all test (map (rule_of types entries) (rules_of items)) ≡ true
+  pub all_sound : (all before items : List Item) → AllPass all before items → list_all test (map (rule_of types entries) (rules_of items)) ≡ true
   all_sound all before [] p = refl
   all_sound all before (item ∷ items) p =
       body_sound (length (types_of before)) (length (rules_of before)) (entry_names before) item.body (rules_of items) (p.0 NotBuilt) (p.0 LimitPassed) (all_sound all (before ++ item ∷ []) items p.1)
-
-pub accepted_sound : (file : File) → IsAcceptedFile file → IsAccepted (program_of file)
-accepted_sound file a =
-    let types = types_of file.items in
-    let entries = entry_names file.items in
-    let few = few_types file.items [] file.items a (omega arith) in
-    let ways = few_entries file.items [] file.items a one_entry in
-    let rules = few_rules file.items [] file.items a (omega arith) in
-    record {
-      few_types = omega (arith, few, length-map types type_info);
-      some_entry = omega (arith, some_entry (flat_map (λ (item : Item). entries_named item.body) file.items), length-map entries (entry_info file.items));
-      few_entries = omega (arith, ways, length-map entries (entry_info file.items));
-      lateness = all_late file.items entries (late file.items [] file.items a);
-      few_rules = omega (arith, rules, length-map (rules_of file.items) (rule_of types entries));
-      conditions = all_sound types entries has_conditions (conditions_sound types entries) file.items [] file.items a;
-      actions = all_sound types entries has_few_actions (actions_sound types entries) file.items [] file.items a;
-    }

@@ -15,7 +15,7 @@ use Rattle.drl_grammar.specs.declared.file.RuleTree.{RuleTree}
 use Rattle.drl_grammar.specs.declared.file.TypeTree.{TypeTree}
 use Rattle.rule_model.specs.Expressions.{Expression}
 use Rattle.rule_model.specs.declared.action.Action.TheVariants.{Modify}
-use Rattle.rule_model.specs.Typed.{bound_types, fields_in, bound_fields, expression_kind, args_fit, set_of_kind, action_fits, rule_fits, is_typed}
+use Rattle.rule_world.specs.Typed.{bound_types, fields_in, bound_fields, expression_kind, args_fit, set_of_kind, action_fits, rule_fits, is_typed}
 use Rattle.drl_sight.specs.Names.{is_short, place_of}
 use Rattle.drl_sight.specs.Declarations.{types_of, rules_of, type_in, rule_in, type_names, type_named, field_names}
 use Rattle.drl_sight.specs.EntryPoints.{entry_names}

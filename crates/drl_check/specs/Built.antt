@@ -12,21 +12,29 @@ use Rattle.drl_grammar.specs.declared.file.Meta.{Meta}
 use Rattle.drl_grammar.specs.declared.file.Meta.TheVariants as meta
 
 abbrev pub part_unbuilt : Part → Bool
+part_unbuilt (part.Bind v f) = false
 part_unbuilt (part.Temporal op params other) = true
-part_unbuilt p = false
+part_unbuilt (part.AnyOf groups) = false
 
 abbrev pub source_unbuilt : SourceTree → Bool
 source_unbuilt s = is_some s.window || list_any part_unbuilt s.parts
 
 abbrev pub condition_unbuilt : CondTree → Bool
 condition_unbuilt (condition.Plain s) = source_unbuilt s
-condition_unbuilt c = true
+condition_unbuilt (condition.Negated s) = true
+condition_unbuilt (condition.Existing s) = true
+condition_unbuilt (condition.Folded result s kind arg tests) = true
 
 abbrev pub meta_unbuilt : Meta → Bool
+meta_unbuilt (meta.Role event) = false
+meta_unbuilt (meta.Timestamp field) = false
+meta_unbuilt (meta.Duration field) = false
 meta_unbuilt (meta.Expires offset) = true
-meta_unbuilt m = false
 
 abbrev pub not_built : Body → Bool
 not_built (body.Declare t) = list_any meta_unbuilt t.metas
 not_built (body.Rule r) = list_any condition_unbuilt r.conditions
-not_built b = false
+not_built (body.Package path) = false
+not_built (body.Import path star) = false
+not_built (body.Dialect text) = false
+not_built (body.Entry name lateness) = false

@@ -19,37 +19,67 @@ use Rattle.drl_uses.specs.Kinds.{has_unknown_kind, has_wrong_kind, action_misfit
 
 abbrev pub lacks_type : List TypeTree → Body → Bool
 lacks_type types (body.Rule r) = has_unknown_type types r.conditions || list_any (inserts_unknown_type types) r.actions
-lacks_type types b = false
+lacks_type types (body.Package path) = false
+lacks_type types (body.Import path star) = false
+lacks_type types (body.Dialect text) = false
+lacks_type types (body.Declare t) = false
+lacks_type types (body.Entry name lateness) = false
 
 abbrev pub lacks_field : List TypeTree → Body → Bool
 lacks_field types (body.Declare t) = annotation_lacks t
 lacks_field types (body.Rule r) = any_condition (has_unknown_field types) types begin r.conditions || list_any (action_lacks (sight_of_actions types r.conditions)) r.actions
-lacks_field types b = false
+lacks_field types (body.Package path) = false
+lacks_field types (body.Import path star) = false
+lacks_field types (body.Dialect text) = false
+lacks_field types (body.Entry name lateness) = false
 
 abbrev pub lacks_variable : List TypeTree → Body → Bool
 lacks_variable types (body.Rule r) = any_condition has_unknown_variable types begin r.conditions || list_any (action_unseen (sight_of_actions types r.conditions)) r.actions
-lacks_variable types b = false
+lacks_variable types (body.Package path) = false
+lacks_variable types (body.Import path star) = false
+lacks_variable types (body.Dialect text) = false
+lacks_variable types (body.Declare t) = false
+lacks_variable types (body.Entry name lateness) = false
 
 abbrev pub is_wrong_kind : List TypeTree → Body → Bool
 is_wrong_kind types (body.Declare t) = has_unknown_kind t
 is_wrong_kind types (body.Rule r) = any_condition (has_wrong_kind types) types begin r.conditions || list_any (action_misfits types (sight_of_actions types r.conditions)) r.actions
-is_wrong_kind types b = false
+is_wrong_kind types (body.Package path) = false
+is_wrong_kind types (body.Import path star) = false
+is_wrong_kind types (body.Dialect text) = false
+is_wrong_kind types (body.Entry name lateness) = false
 
 abbrev pub needs_event : Body → Bool
 needs_event (body.Declare t) = is_no_event t
-needs_event b = false
+needs_event (body.Package path) = false
+needs_event (body.Import path star) = false
+needs_event (body.Dialect text) = false
+needs_event (body.Entry name lateness) = false
+needs_event (body.Rule r) = false
 
 abbrev pub needs_whole_times : Body → Bool
 needs_whole_times (body.Declare t) = has_bad_timestamp t
-needs_whole_times b = false
+needs_whole_times (body.Package path) = false
+needs_whole_times (body.Import path star) = false
+needs_whole_times (body.Dialect text) = false
+needs_whole_times (body.Entry name lateness) = false
+needs_whole_times (body.Rule r) = false
 
 abbrev pub fixes_event : List TypeTree → Body → Bool
 fixes_event types (body.Rule r) = list_any (modifies_event (sight_of_actions types r.conditions)) r.actions
-fixes_event types b = false
+fixes_event types (body.Package path) = false
+fixes_event types (body.Import path star) = false
+fixes_event types (body.Dialect text) = false
+fixes_event types (body.Declare t) = false
+fixes_event types (body.Entry name lateness) = false
 
 abbrev pub has_bad_params : Body → Bool
 has_bad_params (body.Entry name lateness) = is_negative lateness
-has_bad_params b = false
+has_bad_params (body.Package path) = false
+has_bad_params (body.Import path star) = false
+has_bad_params (body.Dialect text) = false
+has_bad_params (body.Declare t) = false
+has_bad_params (body.Rule r) = false
 
 -- whether an item fails the check of this code, given all the items of the file and those before it
 abbrev pub fails : CheckCode → List Item → List Item → Body → Bool

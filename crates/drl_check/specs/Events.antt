@@ -17,7 +17,8 @@ use Rattle.drl_uses.specs.Kinds.{is_int}
 abbrev pub meta_lacks : TypeTree → Meta → Bool
 meta_lacks t (meta.Timestamp field) = lacks t field
 meta_lacks t (meta.Duration field) = lacks t field
-meta_lacks t m = false
+meta_lacks t (meta.Role event) = false
+meta_lacks t (meta.Expires offset) = false
 
 abbrev pub annotation_lacks : TypeTree → Bool
 annotation_lacks t = list_any (meta_lacks t) t.metas
@@ -25,7 +26,9 @@ annotation_lacks t = list_any (meta_lacks t) t.metas
 -- it speaks of the times of events
 abbrev pub is_of_events : Meta → Bool
 is_of_events (meta.Role event) = false
-is_of_events m = true
+is_of_events (meta.Timestamp field) = true
+is_of_events (meta.Duration field) = true
+is_of_events (meta.Expires offset) = true
 
 -- a plain type has an annotation that speaks of the times of events
 abbrev pub is_no_event : TypeTree → Bool
@@ -35,7 +38,8 @@ is_no_event t = not (is_event t) && list_any is_of_events t.metas
 abbrev pub meta_misfits : TypeTree → Meta → Bool
 meta_misfits t (meta.Timestamp field) = not (is_int (field_kind t field))
 meta_misfits t (meta.Duration field) = not (is_int (field_kind t field))
-meta_misfits t m = false
+meta_misfits t (meta.Role event) = false
+meta_misfits t (meta.Expires offset) = false
 
 abbrev pub has_bad_timestamp : TypeTree → Bool
 has_bad_timestamp t = list_any (meta_misfits t) t.metas
@@ -56,4 +60,5 @@ is_event_meant (Some (of_field fact field k)) = false
 -- an event is modified
 abbrev pub modifies_event : Sight → ActTree → Bool
 modifies_event sight (action.Modify v sets) = is_event_meant (meaning_of sight v)
-modifies_event sight a = false
+modifies_event sight (action.Insert ty args) = false
+modifies_event sight (action.Retract v) = false

@@ -1,3 +1,4 @@
+pub mod CodeNames
 pub mod Built
 pub mod Twice
 pub mod Events

@@ -31,15 +31,18 @@ own_variable (Some v) = v ∷ []
 
 abbrev pub part_variable : Part → List (List ℕ)
 part_variable (part.Bind v f) = v ∷ []
-part_variable p = []
+part_variable (part.Temporal op params other) = []
+part_variable (part.AnyOf groups) = []
 
 abbrev pub source_variables : SourceTree → List (List ℕ)
 source_variables s = own_variable s.var ++ flat_map part_variable s.parts
 
--- the variables that a condition binds
+-- the variables that a condition binds, those inside not, exists and accumulate too, and that of the result of an accumulate
 abbrev pub bound_in : CondTree → List (List ℕ)
 bound_in (condition.Plain s) = source_variables s
-bound_in c = []
+bound_in (condition.Negated s) = source_variables s
+bound_in (condition.Existing s) = source_variables s
+bound_in (condition.Folded result s kind arg tests) = source_variables s ++ own_variable result
 
 abbrev pub bound_variables : RuleTree → List (List ℕ)
 bound_variables r = flat_map bound_in r.conditions
@@ -50,7 +53,8 @@ set_names sets = map (λ (set : List ℕ × Tree). set.0) sets
 -- a modification assigns no field twice
 abbrev pub assigns_once : ActTree → Bool
 assigns_once (action.Modify v sets) = are_distinct (set_names sets)
-assigns_once a = true
+assigns_once (action.Insert ty args) = true
+assigns_once (action.Retract v) = true
 
 abbrev pub meta_word : Meta → List ℕ
 meta_word (meta.Role event) = codes "role"
@@ -63,7 +67,9 @@ abbrev pub is_repeated : List (List ℕ) → List (List ℕ) → List (List ℕ)
 is_repeated types entries rules (body.Declare t) = is_among types t.name || not (are_distinct (map meta_word t.metas)) || not (are_distinct (field_names t))
 is_repeated types entries rules (body.Entry name lateness) = is_among entries name
 is_repeated types entries rules (body.Rule r) = is_among rules r.name || not (are_distinct (map attr_word r.attrs)) || not (are_distinct (bound_variables r)) || not (list_all assigns_once r.actions)
-is_repeated types entries rules b = false
+is_repeated types entries rules (body.Package path) = false
+is_repeated types entries rules (body.Import path star) = false
+is_repeated types entries rules (body.Dialect text) = false
 
 -- A type, an entry point or a rule is declared by an earlier item, an annotation, a field, an attribute or a variable stands twice
 -- in the item, or a field is assigned twice in one modification.

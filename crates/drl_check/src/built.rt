@@ -9,7 +9,7 @@ fn is_part_unbuilt(part: &Part) -> bool
 {
     match part {
         Part::Temporal { .. } => true,
-        _ => false,
+        Part::Bind { .. } | Part::AnyOf(_) => false,
     }
 }
 
@@ -30,7 +30,7 @@ fn is_condition_unbuilt(condition: &CondTree) -> bool
 {
     match condition {
         CondTree::Plain(source) => is_source_unbuilt(source),
-        _ => true,
+        CondTree::Negated(_) | CondTree::Existing(_) | CondTree::Folded { .. } => true,
     }
 }
 
@@ -47,7 +47,7 @@ fn is_meta_unbuilt(meta: &Meta) -> bool
 {
     match meta {
         Meta::Expires(_) => true,
-        _ => false,
+        Meta::Role(_) | Meta::Timestamp(_) | Meta::Duration(_) => false,
     }
 }
 
@@ -64,6 +64,6 @@ pub(crate) fn is_unbuilt(body: &Body) -> bool
     match body {
         Body::Declare(tree) => has_unbuilt_meta(tree.metas.as_slice()),
         Body::Rule(tree) => has_unbuilt_condition(tree.conditions.as_slice()),
-        _ => false,
+        Body::Package(_) | Body::Import { .. } | Body::Dialect(_) | Body::Entry { .. } => false,
     }
 }

@@ -17,7 +17,7 @@ fn is_meta_lacking(ty: &DeclaredType, meta: &Meta) -> bool
     match meta {
         Meta::Timestamp(field) => !ty.has(field),
         Meta::Duration(field) => !ty.has(field),
-        _ => false,
+        Meta::Role(_) | Meta::Expires(_) => false,
     }
 }
 
@@ -40,7 +40,7 @@ fn speaks_of_events(meta: &Meta) -> bool
 {
     match meta {
         Meta::Role(_) => false,
-        _ => true,
+        Meta::Timestamp(_) | Meta::Duration(_) | Meta::Expires(_) => true,
     }
 }
 
@@ -63,7 +63,7 @@ fn is_meta_misfit(ty: &DeclaredType, meta: &Meta) -> bool
     match meta {
         Meta::Timestamp(field) => !is_whole(ty.kind_of(field)),
         Meta::Duration(field) => !is_whole(ty.kind_of(field)),
-        _ => false,
+        Meta::Role(_) | Meta::Expires(_) => false,
     }
 }
 
@@ -112,7 +112,7 @@ fn does_modify_event(place: &Place, action: &ActTree) -> bool
             Some(meaning) => is_event_seen(meaning),
             None => false,
         },
-        _ => false,
+        ActTree::Insert { .. } | ActTree::Retract(_) => false,
     }
 }
 

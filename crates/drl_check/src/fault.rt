@@ -1,5 +1,6 @@
 ghost use Rattle.drl_check.specs.declared.fault.CheckFault.TheVariants.{NoMemory as OutOfMemory};
 ghost use Rattle.std.specs.Prelude.{◌≡◌};
+ghost use Rattle.drl_check.specs.CodeNames.{check_code_name};
 
 use thiserror::Error;
 
@@ -33,6 +34,27 @@ pub enum CheckCode {
     EventFixed,
     /// A lateness is below 0.
     BadParams,
+}
+
+impl CheckCode {
+    /// The name of the code, as the line of a refused file prints it. Takes no memory.
+    pub fn name(self) -> &'static str
+        ensures { result.now ≡ check_code_name self }
+    {
+        match self {
+            CheckCode::NotBuilt => "NotBuilt",
+            CheckCode::TwiceDeclared => "TwiceDeclared",
+            CheckCode::LimitPassed => "LimitPassed",
+            CheckCode::UnknownType => "UnknownType",
+            CheckCode::UnknownField => "UnknownField",
+            CheckCode::UnknownVariable => "UnknownVariable",
+            CheckCode::WrongKind => "WrongKind",
+            CheckCode::NotAnEvent => "NotAnEvent",
+            CheckCode::BadTimestamp => "BadTimestamp",
+            CheckCode::EventFixed => "EventFixed",
+            CheckCode::BadParams => "BadParams",
+        }
+    }
 }
 
 /// Why `check` gave no program.

@@ -26,7 +26,11 @@ fn is_type_missing(types: &Declared, body: &Body) -> bool
             lack_type(types, tree.conditions.as_slice())
                 || insert_unknown(types, tree.actions.as_slice())
         }
-        _ => false,
+        Body::Package(_)
+        | Body::Import { .. }
+        | Body::Dialect(_)
+        | Body::Declare(_)
+        | Body::Entry { .. } => false,
     }
 }
 
@@ -36,7 +40,10 @@ fn is_field_missing(alloc: Global, types: &Declared, body: &Body) -> Result<bool
     match body {
         Body::Declare(tree) => lacks_annotated(alloc, tree),
         Body::Rule(tree) => is_so_in_rule(alloc, Asked::LacksField, types, tree),
-        _ => Ok(false),
+        Body::Package(_)
+        | Body::Import { .. }
+        | Body::Dialect(_)
+        | Body::Entry { .. } => Ok(false),
     }
 }
 
@@ -45,7 +52,11 @@ fn is_variable_missing(alloc: Global, types: &Declared, body: &Body) -> Result<b
 {
     match body {
         Body::Rule(tree) => is_so_in_rule(alloc, Asked::LacksVariable, types, tree),
-        _ => Ok(false),
+        Body::Package(_)
+        | Body::Import { .. }
+        | Body::Dialect(_)
+        | Body::Declare(_)
+        | Body::Entry { .. } => Ok(false),
     }
 }
 
@@ -55,7 +66,10 @@ fn is_kind_wrong(alloc: Global, types: &Declared, body: &Body) -> Result<bool, N
     match body {
         Body::Declare(tree) => Ok(lacks_kind(tree)),
         Body::Rule(tree) => is_so_in_rule(alloc, Asked::HasWrongKind, types, tree),
-        _ => Ok(false),
+        Body::Package(_)
+        | Body::Import { .. }
+        | Body::Dialect(_)
+        | Body::Entry { .. } => Ok(false),
     }
 }
 
@@ -64,7 +78,11 @@ fn is_event_missing(body: &Body) -> bool
 {
     match body {
         Body::Declare(tree) => is_plain_with_times(tree),
-        _ => false,
+        Body::Package(_)
+        | Body::Import { .. }
+        | Body::Dialect(_)
+        | Body::Entry { .. }
+        | Body::Rule(_) => false,
     }
 }
 
@@ -73,7 +91,11 @@ fn is_timestamp_bad(alloc: Global, body: &Body) -> Result<bool, NoMemory>
 {
     match body {
         Body::Declare(tree) => misfits_annotated(alloc, tree),
-        _ => Ok(false),
+        Body::Package(_)
+        | Body::Import { .. }
+        | Body::Dialect(_)
+        | Body::Entry { .. }
+        | Body::Rule(_) => Ok(false),
     }
 }
 
@@ -82,7 +104,11 @@ fn is_event_modified(alloc: Global, types: &Declared, body: &Body) -> Result<boo
 {
     match body {
         Body::Rule(tree) => modifies_some_event(alloc, types, tree),
-        _ => Ok(false),
+        Body::Package(_)
+        | Body::Import { .. }
+        | Body::Dialect(_)
+        | Body::Declare(_)
+        | Body::Entry { .. } => Ok(false),
     }
 }
 
@@ -91,7 +117,11 @@ fn are_params_bad(body: &Body) -> bool
 {
     match body {
         Body::Entry { lateness, .. } => is_below_zero(*lateness),
-        _ => false,
+        Body::Package(_)
+        | Body::Import { .. }
+        | Body::Dialect(_)
+        | Body::Declare(_)
+        | Body::Rule(_) => false,
     }
 }
 
@@ -168,7 +198,11 @@ fn with_type(alloc: Global, names: Places, body: &Body) -> Result<Places, NoMemo
 {
     match body {
         Body::Declare(tree) => names.with(alloc, &tree.name),
-        _ => Ok(names),
+        Body::Package(_)
+        | Body::Import { .. }
+        | Body::Dialect(_)
+        | Body::Entry { .. }
+        | Body::Rule(_) => Ok(names),
     }
 }
 
@@ -177,7 +211,11 @@ fn with_entry(alloc: Global, names: Places, body: &Body) -> Result<Places, NoMem
 {
     match body {
         Body::Entry { name, .. } => names.with(alloc, name),
-        _ => Ok(names),
+        Body::Package(_)
+        | Body::Import { .. }
+        | Body::Dialect(_)
+        | Body::Declare(_)
+        | Body::Rule(_) => Ok(names),
     }
 }
 
@@ -186,7 +224,11 @@ fn with_rule(alloc: Global, names: Places, body: &Body) -> Result<Places, NoMemo
 {
     match body {
         Body::Rule(tree) => names.with(alloc, &tree.name),
-        _ => Ok(names),
+        Body::Package(_)
+        | Body::Import { .. }
+        | Body::Dialect(_)
+        | Body::Declare(_)
+        | Body::Entry { .. } => Ok(names),
     }
 }
 

@@ -44,7 +44,7 @@ fn add_part(alloc: Global, names: &mut Vec<Text>, part: &Part) -> Result<(), NoM
 {
     match part {
         Part::Bind { var, field: _ } => names.push(var.copy(alloc)?)?,
-        _ => {}
+        Part::Temporal { .. } | Part::AnyOf(_) => {}
     }
     Ok(())
 }
@@ -64,7 +64,12 @@ fn add_condition(alloc: Global, names: &mut Vec<Text>, condition: &CondTree) -> 
 {
     match condition {
         CondTree::Plain(source) => add_source(alloc, names, source),
-        _ => Ok(()),
+        CondTree::Negated(source) => add_source(alloc, names, source),
+        CondTree::Existing(source) => add_source(alloc, names, source),
+        CondTree::Folded { result, source, .. } => {
+            add_source(alloc, names, source)?;
+            add_own(alloc, names, result)
+        }
     }
 }
 
@@ -93,7 +98,7 @@ fn has_sets_apart(alloc: Global, action: &ActTree) -> Result<bool, NoMemory>
 {
     match action {
         ActTree::Modify { sets, .. } => differ(alloc, &names_of_sets(alloc, sets.as_slice())?),
-        _ => Ok(true),
+        ActTree::Insert { .. } | ActTree::Retract(_) => Ok(true),
     }
 }
 
@@ -177,6 +182,6 @@ pub(crate) fn repeats(
                 || !have_variables_apart(alloc, tree)?
                 || !have_sets_apart(alloc, tree.actions.as_slice())?,
         ),
-        _ => Ok(false),
+        Body::Package(_) | Body::Import { .. } | Body::Dialect(_) => Ok(false),
     }
 }

@@ -1,5 +1,5 @@
 -- The limits of a rule file: how many there may be of a thing, how long names and texts are, how large numbers.
-use Rattle.std.specs.Prelude.{ℕ, ℤ, ◌^◌, ◌&&◌, Bool, true, false, not, List, length, nat_le, nat_lt, Option, Some, None, unsigned_abs, sum_by}
+use Rattle.std.specs.Prelude.{ℕ, ℤ, ◌&&◌, Bool, true, false, not, List, length, nat_le, nat_lt, Option, Some, None, unsigned_abs, sum_by}
 use Rattle.std.specs.List.{list_all}
 use Rattle.fx_base.specs.declared.limits.TheConstants.{MOST_MILLIS, TEXT_MAX}
 use Rattle.drl_lex.specs.declared.token.Rel.{Rel}

@@ -47,7 +47,7 @@ use Rattle.rule_model.specs.declared.test.Side.{Side}
 use Rattle.rule_model.specs.declared.test.Side.TheVariants.{Lit, Own, Of}
 use Rattle.drl_sight.specs.Names.{place_of}
 use Rattle.drl_sight.specs.Declarations.{types_of, rules_of, type_names, field_names, type_named, kind_of}
-use Rattle.drl_sight.specs.Annotations.{is_event, timestamp_of, duration_of}
+use Rattle.drl_sight.specs.Annotations.{is_event, timestamp_of, duration_of, expiry_of}
 use Rattle.drl_sight.specs.EntryPoints.{entry_names, lateness_named}
 use Rattle.drl_sight.specs.Sight.{Sight, Meaning, of_fact, of_field, meaning_of, Place, begin, behind, sight_of_actions}
 use Rattle.drl_sight.specs.Operands.{any_of_part}
@@ -81,6 +81,7 @@ type_info t = record {
   fields = map field_info t.fields;
   timestamp = option_map (field_place t) (timestamp_of t.metas);
   duration = option_map (field_place t) (duration_of t.metas);
+  expires = expiry_of t.metas;
 }
 
 -- ---- entry points, given the items of the file
@@ -108,13 +109,17 @@ literal_value (literal.Int n) = value.Int n
 literal_value (literal.Bool b) = value.Bool b
 literal_value (literal.Text s) = value.Text s
 
+-- a variable that is no value counts as the first field
 abbrev pub variable_side : Option Meaning → Side
 variable_side (Some (of_field fact field k)) = Of (min fact 255) (min field 255)
-variable_side m = Own 0
+variable_side (Some (of_fact fact t)) = Own 0
+variable_side None = Own 0
 
+-- so does a field of a variable that is no fact
 abbrev pub variable_field_side : Option Meaning → List ℕ → Side
 variable_field_side (Some (of_fact fact t)) f = Of (min fact 255) (field_place t f)
-variable_field_side m f = Own 0
+variable_field_side (Some (of_field fact field k)) f = Own 0
+variable_field_side None f = Own 0
 
 abbrev pub side_of : TypeTree → Sight → Operand → Side
 side_of t sight (operand.Lit l) = Lit (literal_value l)
@@ -129,15 +134,17 @@ compare_of t sight (cmp.OneOf f os) = record { field = field_place t f; rel = ta
 abbrev pub test_of : TypeTree → Sight → List (List Cmp) → Test
 test_of t sight groups = record { choices = map (λ (group : List Cmp). map (compare_of t sight) group) groups }
 
--- the test that a part is, where it is one
+-- The test that a part is, where it is one. A binding is none, and a temporal test, which is not served yet, counts as none.
 abbrev pub tests_in : TypeTree → Sight → Part → List Test
+tests_in t sight (part.Bind v f) = []
+tests_in t sight (part.Temporal op params other) = []
 tests_in t sight (part.AnyOf groups) = test_of t sight groups ∷ []
-tests_in t sight p = []
 
 abbrev pub is_variable : Operand → Bool
+is_variable (operand.Lit l) = false
+is_variable (operand.Own f) = false
 is_variable (operand.Var v) = true
 is_variable (operand.VarField v f) = true
-is_variable o = false
 
 -- a test that names a variable is no constant one
 abbrev pub is_joined : Part → Bool
@@ -148,6 +155,7 @@ is_constant p = not (is_joined p)
 
 -- ---- rules, given the types and the entry points of the file
 
+-- a window, which is not served yet, counts as none
 abbrev pub pattern_in : TypeTree → ℕ → ℕ → Sight → SourceTree → Pattern
 pattern_in t ty entry sight s = record {
   ty = record { 0 = ty };
@@ -167,9 +175,12 @@ abbrev pub pattern_of : List TypeTree → List (List ℕ) → Sight → SourceTr
 pattern_of types entries sight s =
     pattern_in (type_or_none (type_named types s.ty)) (type_place (place_of (type_names types) s.ty)) (entry_place entries s.entry) sight s
 
+-- the condition of the program that a tree is; those of not, exists and accumulate, which are not served yet, are none
 abbrev pub condition_of : List TypeTree → List (List ℕ) → Place → CondTree → List Condition
 condition_of types entries place (tree.Plain s) = Plain (pattern_of types entries place.sight s) ∷ []
-condition_of types entries place c = []
+condition_of types entries place (tree.Negated s) = []
+condition_of types entries place (tree.Existing s) = []
+condition_of types entries place (tree.Folded result s kind arg tests) = []
 
 unfoldable pub conditions_of : List TypeTree → List (List ℕ) → Place → List CondTree → List Condition
 conditions_of types entries place [] = []
@@ -177,13 +188,17 @@ conditions_of types entries place (c ∷ cs) = condition_of types entries place 
 
 -- ---- actions, given what is in sight behind all conditions
 
+-- a variable that is no value counts as 0
 abbrev pub variable_value : Option Meaning → Expression
 variable_value (Some (of_field fact field k)) = bound (min fact 255) (min field 255)
-variable_value m = expression.lit (value.Int (pos 0))
+variable_value (Some (of_fact fact t)) = expression.lit (value.Int (pos 0))
+variable_value None = expression.lit (value.Int (pos 0))
 
+-- so does a field of a variable that is no fact
 abbrev pub variable_field_value : Option Meaning → List ℕ → Expression
 variable_field_value (Some (of_fact fact t)) f = bound (min fact 255) (field_place t f)
-variable_field_value m f = expression.lit (value.Int (pos 0))
+variable_field_value (Some (of_field fact field k)) f = expression.lit (value.Int (pos 0))
+variable_field_value None f = expression.lit (value.Int (pos 0))
 
 abbrev pub expression_in : Sight → Tree → Expression
 expression_in sight (lit l) = expression.lit (literal_value l)
@@ -194,14 +209,16 @@ expression_in sight (add a b) = expression.add (expression_in sight a) (expressi
 expression_in sight (sub a b) = expression.sub (expression_in sight a) (expression_in sight b)
 expression_in sight (mul a b) = expression.mul (expression_in sight a) (expression_in sight b)
 
--- the number of the fact that a variable means, and its type
+-- the number of the fact that a variable means, and its type; a variable that is no fact counts as the first, of no fields
 abbrev pub fact_meant : Option Meaning → ℕ
 fact_meant (Some (of_fact fact t)) = min fact 255
-fact_meant m = 0
+fact_meant (Some (of_field fact field k)) = 0
+fact_meant None = 0
 
 abbrev pub type_meant : Option Meaning → TypeTree
 type_meant (Some (of_fact fact t)) = t
-type_meant m = no_type
+type_meant (Some (of_field fact field k)) = no_type
+type_meant None = no_type
 
 abbrev pub set_in : TypeTree → Sight → List ℕ × Tree → ℕ × Expression
 set_in t sight set = (field_place t set.0, expression_in sight set.1)

@@ -5,7 +5,8 @@ ghost use Rattle.drl_program.specs.Programs.{field_info, field_place, type_info,
 use crate::numbers::field_number;
 use drl_grammar::{Body, Item, TypeTree};
 use drl_sight::{
-    DeclaredType, duration_field, is_event_tree, kind_of_word, lateness_of_entry, timestamp_field,
+    DeclaredType, duration_field, expiry_offset, is_event_tree, kind_of_word, lateness_of_entry,
+    timestamp_field,
 };
 use fx_base::{Copies, Kind, NoMemory, Seq, Text};
 use rule_model::{EntryInfo, TypeInfo};
@@ -52,6 +53,7 @@ fn info_of_type(alloc: Global, tree: &TypeTree) -> Result<TypeInfo, NoMemory>
         fields: infos_of_fields(alloc, tree.fields.as_slice())?,
         timestamp: field_named(&ty, timestamp_field(tree)),
         duration: field_named(&ty, duration_field(tree)),
+        expires: expiry_offset(tree),
     })
 }
 
@@ -63,7 +65,11 @@ pub(crate) fn infos_of_types(alloc: Global, items: &[Item]) -> Result<Seq<TypeIn
     for item in items {
         match &item.body {
             Body::Declare(tree) => infos.push(info_of_type(alloc, tree)?)?,
-            _ => {}
+            Body::Package(_)
+            | Body::Import { .. }
+            | Body::Dialect(_)
+            | Body::Entry { .. }
+            | Body::Rule(_) => {}
         }
     }
     Ok(Seq::from_vec(infos))

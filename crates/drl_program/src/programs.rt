@@ -16,6 +16,7 @@ use std::alloc::Global;
 
 // ---- patterns
 
+// Its window, which is not served yet, counts as none.
 fn pattern_over(
     alloc: Global,
     ty: &DeclaredType,
@@ -72,7 +73,8 @@ fn add_condition(
             conditions.push(Condition::Plain(pattern(alloc, types, entries, place, source)?))?;
             Ok(())
         }
-        _ => Ok(()),
+        // Not served yet; an accepted file has none of them.
+        CondTree::Negated(_) | CondTree::Existing(_) | CondTree::Folded { .. } => Ok(()),
     }
 }
 
@@ -152,7 +154,11 @@ fn rules(
     for item in items {
         match &item.body {
             Body::Rule(tree) => rules.push(rule(alloc, types, entries, tree)?)?,
-            _ => {}
+            Body::Package(_)
+            | Body::Import { .. }
+            | Body::Dialect(_)
+            | Body::Declare(_)
+            | Body::Entry { .. } => {}
         }
     }
     Ok(Seq::from_vec(rules))

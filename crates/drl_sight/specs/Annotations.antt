@@ -1,5 +1,5 @@
 -- What the annotations of a type say. Of annotations of one word the first counts.
-use Rattle.std.specs.Prelude.{ℕ, Bool, false, List, [], ◌∷◌, Option, Some, None}
+use Rattle.std.specs.Prelude.{ℕ, ℤ, Bool, false, List, [], ◌∷◌, Option, Some, None}
 use Rattle.drl_grammar.specs.declared.file.Meta.{Meta}
 use Rattle.drl_grammar.specs.declared.file.Meta.TheVariants as meta
 use Rattle.drl_grammar.specs.declared.file.TypeTree.{TypeTree}
@@ -39,3 +39,14 @@ duration_with (meta.Expires offset) others = others
 abbrev pub duration_of : List Meta → Option (List ℕ)
 duration_of [] = None
 duration_of (m ∷ metas) = duration_with m (duration_of metas)
+
+abbrev pub expiry_with : Meta → Option ℤ → Option ℤ
+expiry_with (meta.Expires offset) others = Some offset
+expiry_with (meta.Role event) others = others
+expiry_with (meta.Timestamp field) others = others
+expiry_with (meta.Duration field) others = others
+
+-- how long behind its start an event is present, in milliseconds
+abbrev pub expiry_of : List Meta → Option ℤ
+expiry_of [] = None
+expiry_of (m ∷ metas) = expiry_with m (expiry_of metas)

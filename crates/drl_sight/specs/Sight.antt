@@ -80,10 +80,12 @@ sight_of_actions types cs = (behind_all types begin cs).sight
 
 -- ---- inside a condition
 
+-- the variable of the pattern's fact, where it has one
 abbrev pub is_own : Option (List ℕ) → List ℕ → Bool
 is_own None v = false
 is_own (Some own) v = bytes_eq own v
 
+-- the variable that a part binds to a field
 abbrev pub is_bound_in : List ℕ → Part → Bool
 is_bound_in v (part.Bind bound f) = bytes_eq bound v
 is_bound_in v (part.Temporal op params other) = false

@@ -1,8 +1,8 @@
 ghost use Rattle.std.specs.Prelude.{◌≡◌, option_map};
-ghost use Rattle.drl_sight.specs.Annotations.{role_of, is_event, timestamp_of, duration_of};
+ghost use Rattle.drl_sight.specs.Annotations.{role_of, is_event, timestamp_of, duration_of, expiry_of};
 
 use drl_grammar::{Meta, TypeTree};
-use fx_base::Text;
+use fx_base::{Millis, Text};
 
 /// Whether a type is one of events.
 pub fn is_event_tree(tree: &TypeTree) -> bool
@@ -38,6 +38,19 @@ pub fn duration_field(tree: &TypeTree) -> Option<&Text>
         match meta {
             Meta::Duration(field) => return Some(field),
             Meta::Role(_) | Meta::Timestamp(_) | Meta::Expires(_) => {}
+        }
+    }
+    None
+}
+
+/// How long behind its start an event is present, in milliseconds, as the annotations say.
+pub fn expiry_offset(tree: &TypeTree) -> Option<Millis>
+    ensures { result ≡ expiry_of tree.now.metas }
+{
+    for meta in tree.metas.as_slice() {
+        match meta {
+            Meta::Expires(offset) => return Some(*offset),
+            Meta::Role(_) | Meta::Timestamp(_) | Meta::Duration(_) => {}
         }
     }
     None

@@ -1,4 +1,4 @@
-use Rattle.drl_check.proofs.Checked.{given_program, given_accepted, given_refused, given_sound, given_typed}
+use Rattle.drl_check.proofs.Checked.{given_program, given_accepted, given_refused, given_sound}
 use Rattle.drl_check.proofs.checking.check.Goals as goal
 
 pub returns : goal.returns
@@ -11,6 +11,5 @@ returns c =
       accepted = given_accepted r file g;
       refused = given_refused r file g;
       sound = given_sound r file g;
-      typed = given_typed r file g;
       gives = g;
     }
