@@ -1,0 +1,1 @@
+def large_run(n): raise NotImplementedError
