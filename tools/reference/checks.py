@@ -19,7 +19,7 @@ from reader import Refused
 from trees import (INT, Action, AnyOf, Binary, Bind, Comparison, Compare, Condition, DialectAttribute, Duration,
                    EntryDeclaration, Existing, Expires, Expr, FieldOf, Folded, Insert, Item, LengthWindow, Literal, Modify,
                    Negate, Negated, OneOf, Operand, Own, Plain, Retract, Role, Rule, Salience, Source, Temporal, TimeWindow,
-                   Timestamp, TypeDeclaration, Variable, kind_of_value)
+                   Timestamp, TypeDeclaration, Variable, kind_of_value, operands_of)
 
 TIME_END = 2**53
 
@@ -42,18 +42,6 @@ def sources(rule: Rule) -> list[Source]:
 
 def comparisons(source: Source) -> list[Comparison]:
     return [c for part in source.parts if isinstance(part, AnyOf) for group in part.groups for c in group]
-
-
-def temporal_tests(source: Source) -> list[Temporal]:
-    return [part for part in source.parts if isinstance(part, Temporal)]
-
-
-def binds(source: Source) -> list[Bind]:
-    return [part for part in source.parts if isinstance(part, Bind)]
-
-
-def operands_of(c: Comparison) -> tuple[Operand, ...]:
-    return c.operands if isinstance(c, OneOf) else (c.operand,)
 
 
 def source_operands(source: Source) -> list[Operand]:
@@ -103,7 +91,7 @@ def is_repeated(names: list) -> bool:
 
 
 def uses_variable(source: Source) -> bool:
-    return source.variable is not None or bool(binds(source)) or any(variables_of(o) for o in source_operands(source))
+    return source.variable is not None or bool(source.binds) or any(variables_of(o) for o in source_operands(source))
 
 
 def is_not_built(file: File, before: list[Item], body) -> bool:
@@ -125,7 +113,7 @@ def is_not_built(file: File, before: list[Item], body) -> bool:
         needs += [3 for p in source.parts if isinstance(p, AnyOf) and len(p.groups) > 1]
         needs += [3 for c in comparisons(source) if isinstance(c, OneOf)]
         needs += [5] * (source.entry is not None)
-        needs += [6] * bool(temporal_tests(source))
+        needs += [6] * bool(source.temporal_tests)
         needs += [8] * (source.window is not None)
     return max(needs) > stage
 
@@ -138,7 +126,7 @@ def bound_variables(rule: Rule) -> list[str]:
     found = []
     for condition in rule.conditions:
         source = condition.source
-        found += [source.variable] * (source.variable is not None) + [b.variable for b in binds(source)]
+        found += [source.variable] * (source.variable is not None) + [b.variable for b in source.binds]
         if isinstance(condition, Folded) and condition.result is not None:
             found.append(condition.result)
     return found
@@ -172,9 +160,9 @@ def names_and_texts(rule: Rule) -> tuple[list[str], list[str]]:
     for condition in rule.conditions:
         source = condition.source
         names += [source.type] + [source.variable] * (source.variable is not None) + [source.entry] * (source.entry is not None)
-        for b in binds(source):
+        for b in source.binds:
             names += [b.variable, b.field]
-        names += [t.other for t in temporal_tests(source)] + [c.field for c in comparisons(source)]
+        names += [t.other for t in source.temporal_tests] + [c.field for c in comparisons(source)]
         leaves += source_operands(source) + result_operands(condition)
         if isinstance(condition, Folded):
             names += [condition.argument] + [condition.result] * (condition.result is not None)
@@ -190,12 +178,12 @@ def names_and_texts(rule: Rule) -> tuple[list[str], list[str]]:
 
 
 def spans_of(source: Source) -> list[int]:
-    spans = [p for t in temporal_tests(source) for p in t.parameters]
+    spans = [p for t in source.temporal_tests for p in t.parameters]
     return spans + ([source.window.length] if isinstance(source.window, TimeWindow) else [])
 
 
 def source_passes_limit(source: Source) -> bool:
-    return (len(comparisons(source)) + len(temporal_tests(source)) + len(binds(source)) > 32
+    return (len(comparisons(source)) + len(source.temporal_tests) + len(source.binds) > 32
             or any(len(c.operands) > 32 for c in comparisons(source) if isinstance(c, OneOf))
             or any(abs(span) > TIME_END for span in spans_of(source))
             or isinstance(source.window, LengthWindow) and source.window.count > 1_000_000
@@ -263,7 +251,7 @@ def lacks_field(file: File, before: list[Item], body) -> bool:
         return False
     for condition, sight in sights(body, file.types):
         source, fields = condition.source, file.types[condition.source.type].fields
-        if any(name not in fields for name in [b.field for b in binds(source)] + [c.field for c in comparisons(source)]):
+        if any(name not in fields for name in [b.field for b in source.binds] + [c.field for c in comparisons(source)]):
             return True
         if any(operand_lacks_field(file, o, sight, fields) for o in source_operands(source)):
             return True
@@ -279,7 +267,7 @@ def lacks_variable(file: File, before: list[Item], body) -> bool:
     for condition, sight in sights(body, file.types):
         source = condition.source
         used = [v for o in source_operands(source) + result_operands(condition) for v in variables_of(o)]
-        used += [t.other for t in temporal_tests(source)]
+        used += [t.other for t in source.temporal_tests]
         if any(v not in sight for v in used):
             return True
         if isinstance(condition, Folded) and condition.argument not in sight_of_source(source, file.types):
@@ -318,7 +306,7 @@ def condition_misfits(file: File, condition: Condition, sight: Sight) -> bool:
         relation = c.relation if isinstance(c, Compare) else "=="
         if any(comparison_misfits(relation, fields[c.field], kind_of_leaf(file, o, sight, fields)) for o in operands_of(c)):
             return True
-    if any(not isinstance(sight[t.other], FactMeant) for t in temporal_tests(source)):
+    if any(not isinstance(sight[t.other], FactMeant) for t in source.temporal_tests):
         return True
     if isinstance(condition, Folded):
         argument = sight_of_source(source, file.types)[condition.argument]
@@ -378,7 +366,7 @@ def needs_event(file: File, before: list[Item], body) -> bool:
         event = file.types[source.type].event
         if source.window is not None and not event:
             return True
-        if any(not event or not file.types[sight[t.other].type].event for t in temporal_tests(source)):
+        if any(not event or not file.types[sight[t.other].type].event for t in source.temporal_tests):
             return True
     return False
 
@@ -417,7 +405,7 @@ def has_bad_params(file: File, before: list[Item], body) -> bool:
         return any(a.offset < 1 for a in body.annotations if isinstance(a, Expires))
     if not isinstance(body, Rule):
         return False
-    return any(window_is_bad(s) or any(temporal.are_refused(t.operator, t.parameters) for t in temporal_tests(s))
+    return any(window_is_bad(s) or any(temporal.are_refused(t.operator, t.parameters) for t in s.temporal_tests)
                for s in sources(body))
 
 

@@ -22,7 +22,7 @@ from random_script import ScriptMaker
 from reader import Refused, read_file
 from writer import Writer
 
-BUDGET = 300
+BUDGET = 150
 
 
 @dataclass(frozen=True)
@@ -46,7 +46,7 @@ def accepted_case(rng: Random, stage: int) -> Case:
             if refused.code in ("Syntax", "LimitPassed", "UnknownType"):
                 raise
             continue
-        script = ScriptMaker(rng, program, maker.bounded, BUDGET).script(rng.choice([8, 20, 35, 50]))
+        script = ScriptMaker(rng, program, maker.bounded, BUDGET).script(rng.choice([10, 25, 40, 60]))
         limit = rng.choice([None, None, 1, 3, 10]) if stage >= 10 else None
         return Case(rules, script, limit)
 

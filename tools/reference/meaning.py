@@ -100,7 +100,7 @@ EMPTY_ROW = Row((), {})
 def bound_by(source: Source, f: Fact) -> dict[str, Union[Fact, Value]]:
     """What the variables of a source stand for where it took this fact."""
     names: dict[str, Union[Fact, Value]] = {} if source.variable is None else {source.variable: f}
-    return {**names, **{p.variable: f.values[p.field] for p in source.parts if isinstance(p, Bind)}}
+    return {**names, **{b.variable: f.values[b.field] for b in source.binds}}
 
 
 def value_of(o: Operand | Expr, names: dict, own: Optional[Fact]) -> Value:
@@ -129,20 +129,10 @@ def test_holds(test: AnyOf, f: Fact, names: dict) -> bool:
     return any(all(comparison_holds(c, f, names) for c in group) for group in test.groups)
 
 
-def is_constant(test: AnyOf) -> bool:
-    """A test is constant when it names no variable."""
-    operands = [o for group in test.groups for c in group for o in (c.operands if not isinstance(c, Compare) else (c.operand,))]
-    return not any(isinstance(o, (Variable, FieldOf)) for o in operands)
-
-
-def tests_of(source: Source, constant: bool) -> list[AnyOf]:
-    return [p for p in source.parts if isinstance(p, AnyOf) and is_constant(p) == constant]
-
-
 def stream_of(source: Source, w: World) -> list[Fact]:
     """The present facts of the pattern's type and entry point that pass its constant tests, in order of insertion."""
     return [f for f in present(w) if f.type == source.type and f.entry == (source.entry or DEFAULT)
-            and all(test_holds(t, f, {}) for t in tests_of(source, True))]
+            and all(test_holds(t, f, {}) for t in source.constant_tests)]
 
 
 def candidates(source: Source, w: World) -> list[Fact]:
@@ -157,9 +147,9 @@ def candidates(source: Source, w: World) -> list[Fact]:
 
 def passes(source: Source, f: Fact, row: Row) -> bool:
     """The other tests hold of the fact with the row, and so do the temporal tests with the events that they name."""
-    return (all(test_holds(t, f, row.names) for t in tests_of(source, False))
-            and all(temporal.holds(p.operator, p.parameters, (f.start, f.end), times_of(row.names[p.other]))
-                    for p in source.parts if isinstance(p, Temporal)))
+    return (all(test_holds(t, f, row.names) for t in source.joined_tests)
+            and all(temporal.holds(t.operator, t.parameters, times_of(f), times_of(row.names[t.other]))
+                    for t in source.temporal_tests))
 
 
 def times_of(f: Fact) -> tuple[int, int]:
@@ -173,7 +163,7 @@ def is_mature(source: Source, row: Row, w: World) -> bool:
     info, entry = w.program.types[source.type], source.entry or DEFAULT
     if not info.event:
         return True
-    tests = [(p.operator, p.parameters, times_of(row.names[p.other])) for p in source.parts if isinstance(p, Temporal)]
+    tests = [(t.operator, t.parameters, times_of(row.names[t.other])) for t in source.temporal_tests]
     u = temporal.greatest_start(tests, info.duration is None)
     if u == NEVER or u == INFINITE:
         return True

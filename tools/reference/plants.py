@@ -251,6 +251,92 @@ def change_file(rng: Random, bodies: list[Body]) -> list[Body]:
     return bodies + [Rule(f"m{n}", (), (Plain(Source(None, "T0", (), None, e.name)),), ()) for n, e in enumerate(entries)]
 
 
+# ---- trees: a change that is meant for one code
+
+
+def exchange(rng: Random, bodies: list[Body], roles: list[str], pool: list) -> list[Body]:
+    """One leaf of these roles, somewhere in the file, is exchanged for one of the pool."""
+    places = [(k, path) for k, b in enumerate(bodies) for path, value, role in leaves(b) if role in roles and value is not None]
+    if not places:
+        return bodies
+    k, path = rng.choice(places)
+    return bodies[:k] + [with_leaf(bodies[k], path, rng.choice(pool))] + bodies[k + 1:]
+
+
+def pattern(name: str, variable: Optional[str], *parts) -> Plain:
+    return Plain(Source(variable, name, tuple(parts), None, None))
+
+
+def with_rule(rng: Random, bodies: list[Body], conditions: list[Condition], actions: list) -> list[Body]:
+    """A further rule, with the type that it speaks of."""
+    more = [TypeDeclaration("Ev", (Role(True),), (("n", "long"), ("s", "String"))), TypeDeclaration("Pl", (), (("n", "long"), ("s", "String"))),
+            Rule("planted", (), tuple(conditions), tuple(actions))]
+    k = rng.randrange(len(bodies) + 1)
+    return bodies[:k] + more + bodies[k:]
+
+
+def meant_for(rng: Random, code: str, bodies: list[Body]) -> list[Body]:
+    """A change that gives this code, where the file has a place for it."""
+    event, plain = pattern("Ev", "v"), pattern("Pl", "w")
+    if code == "UnknownType":
+        return exchange(rng, bodies, ["Source.type", "Insert.type"], ["Nope", "t0"])
+    if code == "UnknownField":
+        return exchange(rng, bodies, ["Compare.field", "OneOf.field", "Bind.field", "FieldOf.field", "Own.field", "Timestamp.field",
+                                      "Duration.field"], ["zz", "N"])
+    if code == "UnknownVariable":
+        return exchange(rng, bodies, ["Variable.name", "FieldOf.variable", "Temporal.other", "Folded.argument", "Modify.variable",
+                                      "Retract.variable"], ["nobody", "a", "v"])
+    if code == "WrongKind":
+        value = rng.choice([Variable("v"), FieldOf("x", "n"), Literal("a"), Literal(True), FieldOf("v", "s"), Negate(Literal("a"))])
+        test = AnyOf(((Compare(rng.choice(["n", "s"]), rng.choice(RELATIONS), rng.choice([Variable("v"), Literal(1), Literal("a"),
+                                                                                       FieldOf("x", "n"), FieldOf("v", "s")])),),))
+        return rng.choice([
+            lambda: with_rule(rng, bodies, [pattern("Ev", "v", Bind("x", "n")), plain], [Modify("w", (("n", value),))]),
+            lambda: with_rule(rng, bodies, [pattern("Ev", "v", Bind("x", "n")), pattern("Pl", None, test)], []),
+            lambda: with_rule(rng, bodies, [event], [Insert("Pl", (Literal(1),) * rng.choice([1, 2, 3]))]),
+            lambda: with_rule(rng, bodies, [pattern("Ev", "v", Bind("x", "n"))], [rng.choice([Retract("x"), Modify("x", (("n", Literal(1)),))])]),
+            lambda: exchange(rng, bodies, ["Literal.value"], ["a", True, 1])])()
+    if code == "NotAnEvent":
+        return rng.choice([
+            lambda: with_rule(rng, bodies, [event, pattern("Pl", None, Temporal("after", (), "v"))], []),
+            lambda: with_rule(rng, bodies, [plain, pattern("Ev", None, Temporal("after", (), "w"))], []),
+            lambda: with_rule(rng, bodies, [Plain(Source(None, "Pl", (), TimeWindow(5), None))], []),
+            lambda: bodies + [TypeDeclaration("Bad", rng.choice([(Timestamp("n"),), (Role(False), Duration("n")), (Expires(5),)]),
+                                              (("n", "long"),))]])()
+    if code == "BadTimestamp":
+        return bodies + [TypeDeclaration("Bad", (Role(True), rng.choice([Timestamp, Duration])("s")),
+                                         (("s", rng.choice(["String", "boolean"])),))]
+    if code == "EventFixed":
+        return with_rule(rng, bodies, [plain, event], [Retract("w"), Modify("v", (("n", Literal(1)),))])
+    if code == "EventObserved":
+        observer = rng.choice([Negated(Source(None, "Ev", (), None, None)), Existing(Source(None, "Ev", (), None, None)),
+                               Folded(None, Source("q", "Ev", (), None, None), "count", "q", ()),
+                               Plain(Source(None, "Ev", (), LengthWindow(2), None)), event])
+        return with_rule(rng, bodies, [pattern("Ev", "u"), observer], [Retract(rng.choice(["u", "u", "w"]))])
+    if code == "BadParams":
+        test = Temporal(rng.choice(OPERATORS), tuple(rng.choice([-1, 0, 5]) for _ in range(rng.randrange(5))), "v")
+        return rng.choice([
+            lambda: with_rule(rng, bodies, [event, pattern("Ev", None, test)], []),
+            lambda: with_rule(rng, bodies, [Plain(Source(None, "Ev", (), rng.choice([TimeWindow(0), TimeWindow(-1), LengthWindow(0)]), None))], []),
+            lambda: bodies + [EntryDeclaration("Bad", rng.choice([-1, -(2**53)]))],
+            lambda: bodies + [TypeDeclaration("Bad", (Role(True), Expires(rng.choice([0, -1]))), ())]])()
+    if code == "NeverMatches":
+        tests = [Temporal("after", (1, 2), "v"), Temporal(rng.choice(["before", "after", "meets"]), (rng.choice([1, 2, 3]),), "v")]
+        return with_rule(rng, bodies, [event, pattern("Ev", None, *tests)], [])
+    if code == "TwiceDeclared":
+        return rng.choice([
+            lambda: bodies + [EntryDeclaration("Twice", None), EntryDeclaration("Twice", 1)],
+            lambda: with_rule(rng, bodies, [event, pattern("Pl", "v")], []),
+            lambda: with_rule(rng, bodies, [pattern("Pl", "w", Bind("w", "n"))], []),
+            lambda: with_rule(rng, bodies, [plain], [Modify("w", (("n", Literal(1)), ("s", Literal("a")), ("n", Literal(2))))]),
+            lambda: [EntryDeclaration("DEFAULT", 5)] + bodies])()
+    return with_trees(rng, bodies)
+
+
+MEANT = ["UnknownType", "UnknownField", "UnknownVariable", "WrongKind", "WrongKind", "NotAnEvent", "BadTimestamp", "EventFixed",
+         "EventObserved", "BadParams", "NeverMatches", "TwiceDeclared"]
+
+
 def with_trees(rng: Random, bodies: list[Body]) -> list[Body]:
     """One or two changes to the items."""
     bodies = list(bodies)
@@ -271,15 +357,17 @@ def planted(rng: Random, stage: int) -> bytes:
     maker = FileMaker(rng, stage + (3 if rng.random() < 0.08 else 0))
     bodies, writer = maker.bodies(), Writer(rng)
     draw = rng.random()
-    if draw < 0.62:
+    if draw < 0.35:
+        bodies = meant_for(rng, rng.choice(MEANT), bodies)
+    elif draw < 0.65:
         bodies = with_trees(rng, bodies)
     items = [writer.item(b) for b in bodies]
-    if 0.62 <= draw < 0.75:
+    if 0.65 <= draw < 0.77:
         items = with_tokens(rng, items)
-    elif 0.75 <= draw < 0.79:
+    elif 0.77 <= draw < 0.80:
         items = with_deep_expression(rng, items)
     data = writer.text_of(items).encode("utf-8")
-    if draw < 0.79:
+    if draw < 0.80:
         return data
     if draw < 0.86:
         return with_bytes(rng, data, BAD_CHARS)

@@ -14,7 +14,7 @@ from trees import (BOOL, INT, TEXT, Action, AnyOf, Binary, Bind, Body, Compare, 
 
 KIND_WORDS = {INT: ["long", "int", "Long", "Integer"], BOOL: ["boolean", "Boolean"], TEXT: ["String"]}
 TEXTS = ["", "a", "b", "a b", 'q"\\', "\u00e9\n"]
-NUMBERS = [0, 1, 2, 3]
+NUMBERS = [0, 0, 1, 1, 2]
 EDGES = [-1, 5, 2**63 - 1, -(2**63) + 1, 2**62]
 SPANS = [1, 2, 3, 5, 8, 13]
 ENTRY_NAMES = ["X", "late door", "Y"]
@@ -51,7 +51,7 @@ class FileMaker:
         self.next_variable = 0
         self.types: list[TypeInfo] = []
         self.entries = [DEFAULT] + [name for name in ENTRY_NAMES if rng.random() < 0.5]
-        self.busy_entries = rng.random() < 0.5
+        self.busy_entries = rng.random() < 0.4
 
     def chance(self, p: float) -> bool:
         return self.rng.random() < p
@@ -110,7 +110,7 @@ class FileMaker:
         field, kind = self.rng.choice(list(info.fields.items()))
         if self.chance(0.15):
             return OneOf(field, tuple(self.operand(kind, info, seen) for _ in range(self.rng.randint(1, 3))))
-        relations = ["==", "==", "==", "!="] + (["<=", ">=", "<", ">"] if kind == INT else [])
+        relations = ["==", "==", "!="] + (["<=", "<=", ">=", ">=", "<", ">"] if kind == INT else [])
         return Compare(field, self.rng.choice(relations), self.operand(kind, info, seen))
 
     def any_of(self, info: TypeInfo, seen: Seen) -> AnyOf:
@@ -136,7 +136,7 @@ class FileMaker:
         """A pattern, and what it binds; its own variables are not in sight in it."""
         rng = self.rng
         info = rng.choice(self.types)
-        parts: list[Part] = [self.any_of(info, seen) for _ in range(rng.choice([0, 1, 1, 2]))]
+        parts: list[Part] = [self.any_of(info, seen) for _ in range(rng.choice([0, 0, 1, 1, 2]))]
         own = Seen({}, {})
         if self.bounded and COUNTER in info.fields and not info.event and bind and self.chance(0.4):
             parts.append(AnyOf(((Compare(COUNTER, "<", Literal(COUNTER_END)),),)))
@@ -188,6 +188,8 @@ class FileMaker:
     # ---- actions
 
     def expr(self, kind: str, seen: Seen, height: int = 0) -> Expr:
+        if kind == INT and height == 0 and self.chance(0.06):
+            return Binary(self.rng.choice("+-*"), self.expr(INT, seen, 2), Literal(2**63 - 1))
         if kind == INT and height < 3 and self.chance(0.3):
             if self.chance(0.2):
                 return Negate(self.expr(INT, seen, height + 1))
@@ -252,7 +254,7 @@ class FileMaker:
     def bodies(self) -> list[Body]:
         """The items of a file, in any order."""
         rng = self.rng
-        declarations = [self.declaration(f"T{k}", self.chance(0.45)) for k in range(rng.randint(2, 4))]
+        declarations = [self.declaration(f"T{k}", self.chance(0.45)) for k in range(rng.choice([1, 2, 2, 3, 3, 4]))]
         self.types = [type_info(d) for d in declarations]
         bodies: list[Body] = list(declarations)
         bodies += self.entry_declarations()

@@ -16,6 +16,10 @@ from run import Run
 from script import LINE_END
 from trees import BOOL, INT, TEXT
 
+# The reference takes every rule anew after each step, so worlds stay small.
+MOST_MATCHES = 150
+MOST_FACTS = 20
+
 # ---- JSON in many dresses
 
 
@@ -154,7 +158,7 @@ class ScriptMaker:
 
     def good_line(self) -> list[tuple[str, object]]:
         stage = self.program.stage
-        sorts = [self.insert_line] * 9 + [self.modify_line] * 3 + [self.retract_line] * 2 + [self.clock_line] * 4
+        sorts = [self.insert_line] * 11 + [self.modify_line] * 3 + [self.retract_line] * 2 + [self.clock_line] * 3
         sorts += [self.fire_line] * 5
         sorts += [lambda: [("do", "held")]] * 2 if stage >= 14 else []
         sorts += [self.promise_line] if stage >= 16 else []
@@ -251,6 +255,8 @@ class ScriptMaker:
     def line(self) -> bytes:
         rng = self.rng
         draw = rng.random()
+        if len(self.world.facts) > MOST_FACTS and self.chance(0.5):
+            return self.written(self.retract_line() or self.clock_line())
         if draw < 0.72:
             return self.written(self.good_line())
         if draw < 0.86:
@@ -279,6 +285,9 @@ class ScriptMaker:
         before = self.world
         self.run.line(number, line)
         self.run.left = self.budget
+        if len(self.world.matches) > MOST_MATCHES:
+            self.run.world = before
+            return b""
         if self.run.ended:
             self.run.ended, self.run.world = False, before
             line = b"{\"do\":\"fire\",\"max\":5}"

@@ -3,6 +3,7 @@
 from __future__ import annotations
 
 from dataclasses import dataclass
+from functools import cached_property
 from typing import Optional, Union
 
 # Values of fields and literals: a whole number, a truth value or a text. In Python True equals 1, so kinds are always
@@ -83,6 +84,10 @@ class OneOf:
     operands: tuple[Operand, ...]
 
 
+def operands_of(c: "Comparison") -> tuple[Operand, ...]:
+    return c.operands if isinstance(c, OneOf) else (c.operand,)
+
+
 Comparison = Union[Compare, OneOf]
 
 
@@ -105,6 +110,10 @@ class Temporal:
 class AnyOf:
     """Groups of comparisons parted by `||`; within a group `&&`."""
     groups: tuple[tuple[Comparison, ...], ...]
+
+    @property
+    def names_variable(self) -> bool:
+        return any(isinstance(o, (Variable, FieldOf)) for group in self.groups for c in group for o in operands_of(c))
 
 
 Part = Union[Bind, Temporal, AnyOf]
@@ -131,6 +140,24 @@ class Source:
     parts: tuple[Part, ...]
     window: Optional[Window]
     entry: Optional[str]
+
+    @cached_property
+    def constant_tests(self) -> list[AnyOf]:
+        """The tests that name no variable."""
+        return [p for p in self.parts if isinstance(p, AnyOf) and not p.names_variable]
+
+    @cached_property
+    def joined_tests(self) -> list[AnyOf]:
+        """The tests that name a variable."""
+        return [p for p in self.parts if isinstance(p, AnyOf) and p.names_variable]
+
+    @cached_property
+    def temporal_tests(self) -> list[Temporal]:
+        return [p for p in self.parts if isinstance(p, Temporal)]
+
+    @cached_property
+    def binds(self) -> list[Bind]:
+        return [p for p in self.parts if isinstance(p, Bind)]
 
 
 @dataclass(frozen=True)
