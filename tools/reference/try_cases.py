@@ -1,0 +1,66 @@
+#!/usr/bin/env python3
+"""Holds the program against the reference before it is proved: all seeds by one `rt try` of crates/replay_main.
+
+    python3 tools/reference/try_cases.py --seeds A B [--stage N] [--folder FOLDER]
+
+Writes each seed's files to the folder (the script as SEED, the output of the reference as SEED.stdout, the rule file as SEED.drl,
+the words as SEED.args), builds the program once with checks, and runs it on each. Prints the seeds whose output differs or whose
+status is not that of the reference. `rt try` gives no answer where the program writes more than 1 MiB.
+"""
+
+from __future__ import annotations
+
+import argparse
+import os
+import re
+import subprocess
+import sys
+from collections import Counter
+
+from compare import TOP, count_lines, summary
+from generate import case_of
+from run import report
+
+
+def write(path: str, data: bytes) -> None:
+    with open(path, "wb") as f:
+        f.write(data)
+
+
+def main() -> int:
+    parser = argparse.ArgumentParser(description="Holds the unproved program against the reference.")
+    parser.add_argument("--seeds", type=int, nargs=2, required=True, metavar=("A", "B"), help="from A up to B - 1")
+    parser.add_argument("--stage", type=int, default=5)
+    parser.add_argument("--folder", default="reference-cases")
+    asked = parser.parse_args()
+    folder, rules = os.path.abspath(asked.folder), os.path.abspath(asked.folder) + "-rules"
+    os.makedirs(folder, exist_ok=True)
+    os.makedirs(rules, exist_ok=True)
+    statuses: dict[str, int] = {}
+    counts: Counter = Counter()
+    words = ["rt", "try", "--cases", folder]
+    for seed in range(*asked.seeds):
+        case, name = case_of(seed, asked.stage), str(seed)
+        output, statuses[name] = report(case.rules, case.script, asked.stage, case.limit or 100_000)
+        count_lines(counts, output)
+        limit = "" if case.limit is None else f"--limit\n{case.limit}\n"
+        write(os.path.join(folder, name), case.script)
+        write(os.path.join(folder, name + ".args"), f"{limit}{name}.drl\n".encode())
+        write(os.path.join(folder, name + ".stdout"), output)
+        write(os.path.join(rules, name + ".drl"), case.rules)
+        words += ["--data", f"{name}.drl={rules}/{name}.drl"]
+    done = subprocess.run(words, cwd=os.path.join(TOP, "crates/replay_main"), capture_output=True)
+    said = (done.stdout + done.stderr).decode("utf-8", "backslashreplace")
+    write(folder + "-said", said.encode())
+    answered = dict(re.findall(r"^case=(\S+) (.*)$", said, re.M))
+    wrong = [name for name, status in statuses.items()
+             if f"status={status}" not in answered.get(name, "").split() or "differs" in answered[name]]
+    for name in wrong:
+        print(f"seed {name}: the reference ends with {statuses[name]}; {answered.get(name, 'no answer')}")
+    print(summary(counts))
+    print(f"{len(statuses) - len(wrong)} of {len(statuses)} seeds agreed (stage {asked.stage}); rt try: {said.strip().splitlines()[-1]}")
+    return 0 if not wrong else 1
+
+
+if __name__ == "__main__":
+    sys.exit(main())
