@@ -12,13 +12,13 @@ from typing import Callable, Iterator, Optional
 
 import temporal
 from lives import network_of_positives
-from program import (DEFAULT, FactMeant, Program, Sight, TypeInfo, ValueMeant, entries_of_item, entry_declarations,
+from program import (FactMeant, Program, Sight, TypeInfo, ValueMeant, entries_of_item, entry_declarations,
                      known_entries, observed_types, program_of, rules_of, sight_of_actions, sight_of_source, sights,
                      type_declarations, type_info, types_by_name, KINDS)
 from reader import Refused
-from trees import (INT, Action, AnyOf, Binary, Bind, Comparison, Compare, Condition, DialectAttribute, Duration,
+from trees import (INT, Action, AnyOf, Binary, Comparison, Compare, Condition, DialectAttribute, Duration,
                    EntryDeclaration, Existing, Expires, Expr, FieldOf, Folded, Insert, Item, LengthWindow, Literal, Modify,
-                   Negate, Negated, OneOf, Operand, Own, Plain, Retract, Role, Rule, Salience, Source, Temporal, TimeWindow,
+                   Negate, Negated, OneOf, Operand, Own, Plain, Retract, Role, Rule, Salience, Source, TimeWindow,
                    Timestamp, TypeDeclaration, Variable, kind_of_value, operands_of)
 
 TIME_END = 2**53

@@ -13,6 +13,7 @@ from __future__ import annotations
 import argparse
 import os
 import shlex
+import shutil
 import subprocess
 import sys
 import tempfile
@@ -26,6 +27,13 @@ TOP = os.path.dirname(os.path.dirname(os.path.dirname(os.path.abspath(__file__))
 PROGRAM = os.path.join(TOP, "crates/replay_main/out/replay_main")
 
 
+# In the place of the status of a program that did not end in time.
+NO_END = -1000
+
+LINES = {"new": "inserts", "fire": "firings", "limit": "limits", "held": "held lines"}
+LINES_OF_CODES = {"fault": "faults", "refused": "refusals"}
+
+
 def words_of(case: Case) -> list[str]:
     return ([] if case.limit is None else ["--limit", str(case.limit)]) + ["rules.drl"]
 
@@ -35,7 +43,10 @@ def program_answer(command: list[str], case: Case, seconds: float) -> tuple[byte
     with tempfile.TemporaryDirectory(prefix="reference-") as folder:
         write_case(case, folder)
         with open(os.path.join(folder, "script.jsonl"), "rb") as script:
-            done = subprocess.run(command + words_of(case), cwd=folder, stdin=script, capture_output=True, timeout=seconds)
+            try:
+                done = subprocess.run(command + words_of(case), cwd=folder, stdin=script, capture_output=True, timeout=seconds)
+            except subprocess.TimeoutExpired:
+                return b"", NO_END, b"no end in time\n"
         return done.stdout, done.returncode, done.stderr
 
 
@@ -61,7 +72,8 @@ def count_lines(counts: Counter, output: bytes) -> None:
 
 def absolute(command: str) -> list[str]:
     """The words of the command, those that name a file made absolute."""
-    return [os.path.abspath(w) if os.sep in w and os.path.exists(w) else w for w in shlex.split(command)]
+    words = shlex.split(command)
+    return [os.path.abspath(w) if os.path.isfile(w) and not (k == 0 and os.sep not in w) else w for k, w in enumerate(words)]
 
 
 def keep(folder: str, seed: int, case: Case, wanted: tuple[bytes, int], got: tuple[bytes, int, bytes]) -> str:
@@ -77,9 +89,13 @@ def keep(folder: str, seed: int, case: Case, wanted: tuple[bytes, int], got: tup
 
 
 def summary(counts: Counter) -> str:
-    plain = [f"{word} {counts[word]}" for word in ("new", "fire", "limit", "held") if counts[word]]
-    coded = [f"{sort} {n}" for sort, n in sorted(counts.items()) if " " in sort]
-    return ", ".join(plain + coded)
+    """Inserts, firings and the other lines that were seen, then faults and refusals by code."""
+    plain = [f"{name} {counts[word]}" for word, name in LINES.items() if counts[word] or word in ("new", "fire")]
+    for sort in ("fault", "refused"):
+        coded = {key.split(" ")[1]: n for key, n in sorted(counts.items()) if key.startswith(sort + " ")}
+        each = ", ".join(f"{code} {n}" for code, n in coded.items())
+        plain.append(f"{LINES_OF_CODES[sort]} {sum(coded.values())} ({each})")
+    return ", ".join(plain)
 
 
 def main() -> int:
@@ -92,6 +108,8 @@ def main() -> int:
     parser.add_argument("--keep-going", action="store_true", help="do not stop at the first difference")
     asked = parser.parse_args()
     command = absolute(asked.replay)
+    if shutil.which(command[0]) is None:
+        parser.error(f"{command[0]} is not there: build it (README.md at the top), or name another by --replay")
     counts: Counter = Counter()
     agreed = differed = 0
     for seed in range(*asked.seeds):
@@ -110,10 +128,7 @@ def main() -> int:
         print(f"seed {seed}: {difference} (files in {place})", flush=True)
         if not asked.keep_going:
             break
-    print(summary(counts))
-    print(f"{agreed} of {agreed + differed} seeds agreed (stage {asked.stage}): inserts {counts['new']}, firings {counts['fire']}, "
-          f"faults {sum(n for s, n in counts.items() if s.startswith('fault '))}, "
-          f"refusals {sum(n for s, n in counts.items() if s.startswith('refused '))}")
+    print(f"{agreed} of {agreed + differed} seeds agreed (stage {asked.stage}): {summary(counts)}")
     return 0 if differed == 0 else 1
 
 

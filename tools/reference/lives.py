@@ -6,8 +6,6 @@ are those of simple temporal networks (Dechter, Meiri, Pearl 1991). All patterns
 
 from __future__ import annotations
 
-from typing import Union
-
 import temporal
 from program import Program, TypeInfo
 from temporal import A_END, A_START, B_END, B_START, INFINITE, Network

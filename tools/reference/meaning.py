@@ -10,14 +10,14 @@ from __future__ import annotations
 
 from dataclasses import dataclass, field, replace
 from functools import cached_property
-from typing import Callable, Iterable, Optional, Union
+from typing import Callable, Optional, Union
 
 import temporal
 from lives import life_of_type
-from program import DEFAULT, Program, TypeInfo, salience_of
+from program import DEFAULT, Program, salience_of
 from temporal import INFINITE, NEVER
-from trees import (AnyOf, Action, Binary, Bind, Comparison, Compare, Existing, Expr, FieldOf, Folded, Insert, Literal, LengthWindow,
-                   Modify, Negate, Negated, Operand, Own, Plain, Retract, Rule, Source, Temporal, TimeWindow, Value, Variable)
+from trees import (AnyOf, Action, Binary, Comparison, Compare, Existing, Expr, Folded, Insert, Literal, LengthWindow,
+                   Modify, Negate, Negated, Operand, Own, Plain, Rule, Source, TimeWindow, Value, Variable)
 
 INT_LOW, INT_HIGH = -(2**63), 2**63 - 1
 TIME_END = 2**53

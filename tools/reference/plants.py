@@ -8,11 +8,11 @@ from __future__ import annotations
 
 import dataclasses
 from random import Random
-from typing import Any, Callable, Optional
+from typing import Any, Optional
 
 from random_rules import FileMaker
 from temporal import OPERATORS
-from trees import (AnyOf, Binary, Bind, Body, Compare, Condition, DialectAttribute, Duration, EntryDeclaration, Existing, Expires,
+from trees import (AnyOf, Binary, Bind, Body, Compare, Condition, Duration, EntryDeclaration, Existing, Expires,
                    FieldOf, Folded, Insert, LengthWindow, Literal, Modify, Negate, Negated, OneOf, Own, Plain, Retract, Role, Rule,
                    Salience, Source, Temporal, TimeWindow, Timestamp, TypeDeclaration, Variable)
 from writer import Writer

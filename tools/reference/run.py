@@ -10,7 +10,7 @@ from meaning import (ClockMove, Insertion, Modification, Promise, Retraction, St
                      first_pending, firing, held_lines, step_fault, step_lines)
 from program import DEFAULT, Program
 from reader import Refused, read_file
-from script import (LINE_END, AdvanceLine, AtLine, BadCommand, BadJson, Command, FireLine, HeldLine, InsertLine, ModifyLine,
+from script import (LINE_END, AtLine, BadCommand, BadJson, Command, FireLine, HeldLine, InsertLine, ModifyLine,
                     PromiseLine, RetractLine, command_of, is_blank, lines_of)
 from trees import kind_of_value
 

@@ -8,7 +8,7 @@ of Dechter, Meiri and Pearl, "Temporal constraint networks" (1991).
 
 from __future__ import annotations
 
-from typing import Hashable, Iterable, Optional
+from typing import Hashable, Iterable
 
 Edge = tuple[Hashable, Hashable, int]
 

@@ -57,8 +57,8 @@ def main() -> int:
              if f"status={status}" not in answered.get(name, "").split() or "differs" in answered[name]]
     for name in wrong:
         print(f"seed {name}: the reference ends with {statuses[name]}; {answered.get(name, 'no answer')}")
-    print(summary(counts))
-    print(f"{len(statuses) - len(wrong)} of {len(statuses)} seeds agreed (stage {asked.stage}); rt try: {said.strip().splitlines()[-1]}")
+    print(f"rt try: {said.strip().splitlines()[-1]}")
+    print(f"{len(statuses) - len(wrong)} of {len(statuses)} seeds agreed (stage {asked.stage}): {summary(counts)}")
     return 0 if not wrong else 1
 
 

@@ -10,9 +10,9 @@ from random import Random
 
 from reader import is_ident
 from tokens import WORD, UNITS
-from trees import (Action, Annotation, AnyOf, Attribute, Binary, Bind, Body, Compare, Comparison, Condition, Dialect, Duration,
-                   EntryDeclaration, Existing, Expires, Expr, FieldOf, Folded, Import, Insert, LengthWindow, Literal, Modify,
-                   Negate, Negated, Operand, Own, Package, Part, Plain, Role, Rule, Salience, Source, Temporal, TimeWindow,
+from trees import (Action, Annotation, Attribute, Binary, Bind, Body, Compare, Comparison, Condition, Dialect,
+                   EntryDeclaration, Expires, Expr, FieldOf, Folded, Import, Insert, LengthWindow, Literal, Modify,
+                   Negate, Negated, Operand, Package, Part, Plain, Role, Rule, Salience, Source, Temporal, TimeWindow,
                    Timestamp, TypeDeclaration, Variable)
 
 SEPARATORS = [" "] * 12 + ["\n"] * 4 + ["\n  ", "\t", "  ", "\r\n", " /* a */ ", " // b\n", " # c\n"]
