@@ -47,7 +47,7 @@ def accepted_case(rng: Random, stage: int) -> Case:
                 raise
             continue
         script = ScriptMaker(rng, program, maker.bounded, BUDGET).script(rng.choice([10, 25, 40, 60]))
-        limit = rng.choice([None, None, 1, 3, 10]) if stage >= 10 else None
+        limit = rng.choice([None] * 6 + [1, 5, 30]) if stage >= 10 else None
         return Case(rules, script, limit)
 
 

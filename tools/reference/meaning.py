@@ -81,15 +81,15 @@ class Row:
     cells: tuple[Union[Fact, int], ...]
     names: dict[str, Union[Fact, Value]]
 
-    @property
+    @cached_property
     def facts(self) -> list[Fact]:
         return [c for c in self.cells if isinstance(c, Fact)]
 
-    @property
+    @cached_property
     def tags(self) -> tuple[int, ...]:
         return tuple(f.tag for f in self.facts)
 
-    @property
+    @cached_property
     def values(self) -> tuple[int, ...]:
         return tuple(c for c in self.cells if not isinstance(c, Fact))
 

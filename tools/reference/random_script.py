@@ -9,11 +9,11 @@ from __future__ import annotations
 from random import Random
 from typing import Optional
 
-from meaning import Fact, World, floor_of, present
+from meaning import Fact, World, first_pending, floor_of, present
 from program import Program, TypeInfo
 from random_rules import SPANS, small_value
 from run import Run
-from script import LINE_END
+from script import LINE_END, BadCommand, BadJson, FireLine, command_of
 
 # The reference takes every rule anew after each step, so worlds stay small.
 MOST_MATCHES = 150
@@ -82,7 +82,7 @@ class ScriptMaker:
 
     def __init__(self, rng: Random, program: Program, plain_fires: bool, budget: int):
         self.rng, self.program, self.plain_fires = rng, program, plain_fires
-        self.run = Run(World(program), budget, budget, [])
+        self.run = Run(World(program), 1, 1, [])
         self.budget = budget
         self.types = list(program.types.values())
         self.entries = list(program.latenesses)
@@ -278,17 +278,30 @@ class ScriptMaker:
         return b"\n".join(lines) + (b"\n" if self.chance(0.8) else b"")
 
     def taken(self, number: int, line: bytes) -> bytes:
-        """Does the line in the world that is kept; one that fires too often is given a greatest number of firings."""
-        if b"\n" in line:
-            line = line.replace(b"\n", b" ")
+        """Does the line in the world that is kept, and answers it; a line that would make the world too large is another one."""
+        line = line.replace(b"\n", b" ")
+        if len(line) > LINE_END:
+            return line
+        try:
+            command = command_of(line, self.program.stage)
+        except (BadJson, BadCommand):
+            return line
+        if isinstance(command, FireLine):
+            return self.fired(number, line, command)
         before = self.world
         self.run.line(number, line)
-        self.run.left = self.budget
         if len(self.world.matches) > MOST_MATCHES:
             self.run.world = before
             return b""
-        if self.run.ended:
-            self.run.ended, self.run.world = False, before
-            line = b"{\"do\":\"fire\",\"max\":5}"
-            self.run.line(number, line)
+        return line
+
+    def fired(self, number: int, line: bytes, command: FireLine) -> bytes:
+        """Fires one by one; where it fires too often or too much matches, the line asks for the firings so far."""
+        done = 0
+        while first_pending(self.world) is not None and (command.most is None or done < command.most):
+            if done == self.budget or len(self.world.matches) > MOST_MATCHES:
+                return b"{\"do\":\"fire\",\"max\":%d}" % done
+            self.run.left = 1
+            self.run.fire(number, 1)
+            done += 1
         return line
