@@ -1,0 +1,287 @@
+"""Script lines: which command a line asks for.
+
+JSON is read here by a small reader of its own, as `serde_json` reads it: 127 levels of arrays and objects have a reading; of a
+member that stands twice the last counts; `-0`, numbers with a dot or an exponent and those outside 64 bits are no whole numbers; a
+number beyond what a 64-bit float can hold has no reading; a text holds no half of a surrogate pair.
+"""
+
+from __future__ import annotations
+
+import re
+from dataclasses import dataclass
+from typing import Optional, Union
+
+INT_LOW, INT_HIGH = -(2**63), 2**63 - 1
+TIME_END = 2**53
+LINE_END = 65_536
+LEVELS = 127
+
+
+class BadJson(Exception):
+    """The line has no reading."""
+
+
+class BadCommand(Exception):
+    """The line's reading is none of the forms."""
+
+
+class Other:
+    """A reading that is neither a whole number of 64 bits nor a truth value, a text, an array or an object."""
+
+
+OTHER = Other()
+
+NUMBER = re.compile(r"(-?)(0|[1-9][0-9]*)(\.[0-9]+)?([eE][+-]?[0-9]+)?")
+PLAIN_TEXT = re.compile(r'[^"\\\x00-\x1f]*')
+HEX4 = re.compile(r"[0-9a-fA-F]{4}")
+SIMPLE_ESCAPES = {'"': '"', "\\": "\\", "/": "/", "b": "\b", "f": "\f", "n": "\n", "r": "\r", "t": "\t"}
+WORDS = {"true": True, "false": False, "null": OTHER}
+
+
+class JsonReader:
+    """Reads one JSON value from a text."""
+
+    def __init__(self, text: str):
+        self.text, self.place = text, 0
+
+    def blanks(self) -> None:
+        while self.place < len(self.text) and self.text[self.place] in " \t\n\r":
+            self.place += 1
+
+    def peek(self) -> str:
+        return self.text[self.place] if self.place < len(self.text) else ""
+
+    def mark(self, c: str) -> None:
+        if self.peek() != c:
+            raise BadJson
+        self.place += 1
+
+    def whole(self):
+        """The value that the whole text is."""
+        value = self.value(LEVELS)
+        self.blanks()
+        if self.place < len(self.text):
+            raise BadJson
+        return value
+
+    def value(self, levels: int):
+        self.blanks()
+        c = self.peek()
+        if c == "{":
+            return self.object(levels)
+        if c == "[":
+            return self.array(levels)
+        if c == '"':
+            return self.string()
+        for word, meant in WORDS.items():
+            if self.text.startswith(word, self.place):
+                self.place += len(word)
+                return meant
+        return self.number()
+
+    def object(self, levels: int) -> dict:
+        if levels == 0:
+            raise BadJson
+        self.mark("{")
+        members: dict = {}
+        self.blanks()
+        if self.peek() == "}":
+            self.place += 1
+            return members
+        while True:
+            self.blanks()
+            name = self.string()
+            self.blanks()
+            self.mark(":")
+            members[name] = self.value(levels - 1)
+            self.blanks()
+            if self.peek() == "}":
+                self.place += 1
+                return members
+            self.mark(",")
+
+    def array(self, levels: int) -> list:
+        if levels == 0:
+            raise BadJson
+        self.mark("[")
+        elements: list = []
+        self.blanks()
+        if self.peek() == "]":
+            self.place += 1
+            return elements
+        while True:
+            elements.append(self.value(levels - 1))
+            self.blanks()
+            if self.peek() == "]":
+                self.place += 1
+                return elements
+            self.mark(",")
+
+    def number(self):
+        found = NUMBER.match(self.text, self.place)
+        if not found:
+            raise BadJson
+        self.place = found.end()
+        minus, digits, fraction, exponent = found.groups()
+        if float(found.group()) in (float("inf"), float("-inf")):
+            raise BadJson
+        if fraction or exponent or (minus and digits == "0") or len(digits) > 19:
+            return OTHER
+        n = int(minus + digits)
+        return n if INT_LOW <= n <= INT_HIGH else OTHER
+
+    def string(self) -> str:
+        self.mark('"')
+        parts = []
+        while True:
+            plain = PLAIN_TEXT.match(self.text, self.place)
+            parts.append(plain.group())
+            self.place = plain.end()
+            if self.peek() == '"':
+                self.place += 1
+                return "".join(parts)
+            self.mark("\\")
+            parts.append(self.escape())
+
+    def escape(self) -> str:
+        c = self.peek()
+        self.place += 1
+        if c in SIMPLE_ESCAPES and c:
+            return SIMPLE_ESCAPES[c]
+        if c != "u":
+            raise BadJson
+        unit = self.hex4()
+        if 0xDC00 <= unit <= 0xDFFF:
+            raise BadJson
+        if 0xD800 <= unit <= 0xDBFF:
+            self.mark("\\")
+            self.mark("u")
+            low = self.hex4()
+            if not 0xDC00 <= low <= 0xDFFF:
+                raise BadJson
+            return chr(0x10000 + ((unit - 0xD800) << 10) + (low - 0xDC00))
+        return chr(unit)
+
+    def hex4(self) -> int:
+        found = HEX4.match(self.text, self.place)
+        if not found:
+            raise BadJson
+        self.place = found.end()
+        return int(found.group(), 16)
+
+
+def json_of(line: bytes):
+    """The reading of a line, or BadJson."""
+    try:
+        return JsonReader(line.decode("utf-8")).whole()
+    except UnicodeDecodeError:
+        raise BadJson from None
+
+
+# ---- commands
+
+
+@dataclass(frozen=True)
+class InsertLine:
+    """`entry` is None where the member is missing."""
+    type: str
+    entry: Optional[str]
+    fields: dict
+
+
+@dataclass(frozen=True)
+class ModifyLine:
+    type: str
+    id: int
+    fields: dict
+
+
+@dataclass(frozen=True)
+class RetractLine:
+    type: str
+    id: int
+
+
+@dataclass(frozen=True)
+class AdvanceLine:
+    by: int
+
+
+@dataclass(frozen=True)
+class AtLine:
+    ms: int
+
+
+@dataclass(frozen=True)
+class PromiseLine:
+    entry: Optional[str]
+    start: int
+
+
+@dataclass(frozen=True)
+class FireLine:
+    most: Optional[int]
+
+
+@dataclass(frozen=True)
+class HeldLine:
+    pass
+
+
+Command = Union[InsertLine, ModifyLine, RetractLine, AdvanceLine, AtLine, PromiseLine, FireLine, HeldLine]
+
+
+def is_whole(value, low: int, high: int) -> bool:
+    """A whole number within these bounds (a truth value is none)."""
+    return type(value) is int and low <= value <= high
+
+
+MEMBERS = {"type": lambda v: isinstance(v, str), "entry": lambda v: isinstance(v, str), "fields": lambda v: isinstance(v, dict),
+           "id": lambda v: is_whole(v, 1, INT_HIGH), "by": lambda v: is_whole(v, INT_LOW, INT_HIGH),
+           "ms": lambda v: is_whole(v, INT_LOW, INT_HIGH), "max": lambda v: is_whole(v, 0, TIME_END),
+           "from": lambda v: is_whole(v, INT_LOW, INT_HIGH)}
+
+# The word behind `do`, the stage from which it is there, the members that must stand, and those that may.
+FORMS = {"insert": (1, {"type", "fields"}, {"entry"}), "modify": (4, {"type", "id", "fields"}, set()),
+         "retract": (4, {"type", "id"}, set()), "advance": (5, {"by"}, set()), "at": (5, {"ms"}, set()),
+         "fire": (1, set(), {"max"}), "held": (14, set(), set()), "promise": (16, {"from"}, {"entry"})}
+
+
+def command_of(line: bytes, stage: int) -> Command:
+    """The command that a line asks for, BadJson, or BadCommand where its reading is none of the forms."""
+    reading = json_of(line)
+    if not isinstance(reading, dict):
+        raise BadCommand
+    members = dict(reading)
+    word = members.pop("do", None)
+    if not isinstance(word, str) or word not in FORMS:
+        raise BadCommand
+    first_stage, needed, allowed = FORMS[word]
+    names = set(members)
+    if stage < first_stage or not needed <= names <= needed | allowed:
+        raise BadCommand
+    if not all(MEMBERS[name](value) for name, value in members.items()):
+        raise BadCommand
+    if word == "insert":
+        return InsertLine(members["type"], members.get("entry"), members["fields"])
+    if word == "modify":
+        return ModifyLine(members["type"], members["id"], members["fields"])
+    if word == "retract":
+        return RetractLine(members["type"], members["id"])
+    if word == "advance":
+        return AdvanceLine(members["by"])
+    if word == "at":
+        return AtLine(members["ms"])
+    if word == "promise":
+        return PromiseLine(members.get("entry"), members["from"])
+    return FireLine(members.get("max")) if word == "fire" else HeldLine()
+
+
+def lines_of(script: bytes) -> list[bytes]:
+    """The pieces between newlines; an empty last piece is no line."""
+    lines = script.split(b"\n")
+    return lines if lines[-1] else lines[:-1]
+
+
+def is_blank(line: bytes) -> bool:
+    return not line.strip(b" \t\r")
