@@ -13,7 +13,7 @@ use Rattle.rule_world.specs.Typed.{is_kind, fields_in, bound_fields, kind_in, ex
 use Rattle.drl_sight.specs.Names.{place_of}
 use Rattle.drl_sight.specs.Declarations.{field_names, kind_of, kind_at}
 use Rattle.drl_sight.specs.Meanings.{field_kind, variable_kind, variable_field_kind}
-use Rattle.drl_sight.specs.Sight.{Meaning, of_fact, of_field, Sight, meaning_of}
+use Rattle.drl_sight.specs.Sight.{Meaning, of_fact, of_field, of_result, Sight, meaning_of}
 use Rattle.drl_program.specs.Programs.{small_place, field_place, kind_or_int, field_info, type_info, variable_value, variable_field_value, expression_in, set_in}
 use Rattle.drl_uses.specs.Kinds.{is_number, number_where, tree_kind, set_misfits, args_misfit}
 use Rattle.drl_check.proofs.Sound.{both, or_left, or_right}
@@ -96,6 +96,7 @@ module _ (types : List TypeTree) (taken : List ℕ) (sight : Sight) (small : Hav
   variable_has : (o : Option Meaning) (found : Kind) → ((m : Meaning) → o ≡ Some m → Stands types taken m) → variable_kind o ≡ Some (Some found) → expression_kind fields (variable_value o) ≡ Some found
   variable_has None found stands e = absurd cc
   variable_has (Some (of_fact fact t)) found stands e = absurd cc
+  variable_has (Some (of_result result)) found stands e = cc
   variable_has (Some (of_field fact field k)) found stands e =
       let same : k ≡ Some found = cc in
       let h = stands (of_field fact field k) refl in
@@ -110,6 +111,7 @@ module _ (types : List TypeTree) (taken : List ℕ) (sight : Sight) (small : Hav
       → expression_kind fields (variable_field_value o f) ≡ Some found
   variable_field_has None f found stands e = absurd cc
   variable_field_has (Some (of_field fact field k)) f found stands e = absurd cc
+  variable_field_has (Some (of_result result)) f found stands e = absurd cc
   variable_field_has (Some (of_fact fact t)) f found stands e =
       let same : field_kind t f ≡ Some found = cc in
       named_has fact t (place_of (field_names t) f) found (stands (of_fact fact t) refl) same

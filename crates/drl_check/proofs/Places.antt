@@ -15,17 +15,18 @@ use Rattle.rule_model.specs.declared.condition.Condition.TheVariants.{Plain}
 use Rattle.rule_world.specs.Typed.{bound_types}
 use Rattle.drl_sight.specs.Names.{place_of}
 use Rattle.drl_sight.specs.Declarations.{type_names, type_named, field_names, kind_at}
-use Rattle.drl_sight.specs.Sight.{Meaning, of_fact, of_field, Sight, meaning_of, seen_fact, seen_field, seen_in, seen_of, Place, begin, behind, behind_all, sight_of_actions}
+use Rattle.drl_sight.specs.Sight.{Meaning, of_fact, of_field, of_result, Sight, meaning_of, seen_fact, seen_field, seen_in, seen_of, seen_result, Place, begin, behind, behind_all, sight_of_actions}
 use Rattle.drl_program.specs.Programs.{type_place, condition_of, conditions_of}
 
 -- the type of the fact of this number, given the places of the types of the facts that are bound
 abbrev pub type_taken : List TypeTree → List ℕ → ℕ → Option TypeTree
 type_taken types taken fact = option_and_then (λ ty. slice_get types ty) (slice_get taken fact)
 
--- a variable means a fact that is bound, or a field of one
+-- a variable means a fact that is bound, a field of one, or a result
 abbrev pub Stands : List TypeTree → List ℕ → Meaning → Type 0
 Stands types taken (of_fact fact t) = type_taken types taken fact ≡ Some t
 Stands types taken (of_field fact field k) = (t : TypeTree) × (type_taken types taken fact ≡ Some t) × (kind_at t field ≡ k)
+Stands types taken (of_result result) = Unit {0}
 
 abbrev AllStand : List TypeTree → List ℕ → Sight → Type 0
 AllStand types taken [] = Unit {0}
@@ -58,6 +59,7 @@ module _ (types : List TypeTree) where
   still_stands : (taken more : List ℕ) (m : Meaning) → Stands types taken m → Stands types (taken ++ more) m
   still_stands taken more (of_fact fact t) h = still_taken taken more fact t h
   still_stands taken more (of_field fact field k) h = (h.0, still_taken taken more fact h.0 h.1, h.2)
+  still_stands taken more (of_result result) h = tt
 
   still_stand : (taken more : List ℕ) (sight : Sight) → AllStand types taken sight → AllStand types (taken ++ more) sight
   still_stand taken more [] h = tt
@@ -101,6 +103,10 @@ module _ (types : List TypeTree) where
   source_stands taken fact s (Some t) h =
       both_stand taken (seen_fact fact t s.var) (flat_map (seen_in fact t) s.parts) (fact_stands taken fact t s.var (h t refl)) (parts_stand taken fact t s.parts (h t refl))
 
+  result_stands : (taken : List ℕ) (result : ℕ) (var : Option (List ℕ)) → AllStand types taken (seen_result result var)
+  result_stands taken result None = tt
+  result_stands taken result (Some v) = (tt, tt)
+
   -- ---- from condition to condition
 
   module _ (few : length types ≤ 128) (entries : List (List ℕ)) where
@@ -129,7 +135,9 @@ module _ (types : List TypeTree) where
     agrees_behind : (taken : List ℕ) (place : Place) (c : CondTree) → Agrees taken place → Agrees (taken ++ bound_types (condition_of types entries place c)) (behind types place c)
     agrees_behind taken place (tree.Negated s) h = unchanged taken place h
     agrees_behind taken place (tree.Existing s) h = unchanged taken place h
-    agrees_behind taken place (tree.Folded a b c d e) h = unchanged taken place h
+    agrees_behind taken place (tree.Folded result s kind arg tests) h =
+        unchanged taken (behind types place (tree.Folded result s kind arg tests))
+        (h.0, both_stand taken place.sight (seen_result place.results result) h.1 (result_stands taken place.results result))
     agrees_behind taken place (tree.Plain s) h =
         let ty = type_place (place_of (type_names types) s.ty) in
         let stands = source_stands (taken ++ ty ∷ []) (length taken) s (type_named types s.ty) (λ t e. last_taken taken s.ty t e) in (

@@ -20,7 +20,7 @@ use Rattle.drl_sight.specs.Declarations.{types_of, rules_of, type_in, rule_in}
 use Rattle.drl_sight.specs.EntryPoints.{default_name, entries_named, with_name, with_names, entry_names, lateness_or_zero, lateness_with, lateness_named}
 use Rattle.drl_sight.specs.Names.{is_short, is_among}
 use Rattle.drl_sight.specs.Sight.{Place, begin, behind, sight_of_actions}
-use Rattle.drl_limits.specs.Limits.{span_limit, is_entry_name, has_few_entries, lateness_within, passes_limit_behind, type_within, rule_within, attr_within, condition_within, action_within, actions_within}
+use Rattle.drl_limits.specs.Limits.{span_limit, is_entry_name, has_few_entries, lateness_within, exceeds_limit_behind, type_within, rule_within, attr_within, condition_within, action_within, actions_within}
 use Rattle.drl_program.specs.Programs.{entry_info, condition_of, conditions_of, rule_of, type_info, action_of, program_of}
 use Rattle.drl_check.specs.Built.{condition_unbuilt, not_built}
 use Rattle.drl_check.specs.Checks.{has_bad_params, AllPass, IsAcceptedFile}
@@ -56,7 +56,7 @@ within n m e = grind (arith, nat_tests)
 
 -- ---- types, entry points and rules are few
 
-type_fits : (types rules : ℕ) (known : List (List ℕ)) (b : Body) → passes_limit_behind types rules known b ≡ false → types ≤ 128 → types + length (type_in b) ≤ 128
+type_fits : (types rules : ℕ) (known : List (List ℕ)) (b : Body) → exceeds_limit_behind types rules known b ≡ false → types ≤ 128 → types + length (type_in b) ≤ 128
 type_fits types rules known (body.Declare t) e h = let less = under types 128 (not_and_left (nat_lt types 128) (type_within t) e) in omega (arith, less)
 type_fits types rules known (body.Rule r) e h = omega (arith, h)
 type_fits types rules known (body.Package p) e h = omega (arith, h)
@@ -64,7 +64,7 @@ type_fits types rules known (body.Import p s) e h = omega (arith, h)
 type_fits types rules known (body.Dialect d) e h = omega (arith, h)
 type_fits types rules known (body.Entry n l) e h = omega (arith, h)
 
-rule_fits : (types rules : ℕ) (known : List (List ℕ)) (b : Body) → passes_limit_behind types rules known b ≡ false → rules ≤ 256 → rules + length (rule_in b) ≤ 256
+rule_fits : (types rules : ℕ) (known : List (List ℕ)) (b : Body) → exceeds_limit_behind types rules known b ≡ false → rules ≤ 256 → rules + length (rule_in b) ≤ 256
 rule_fits types rules known (body.Rule r) e h =
     let few = has_few_entries known (body.Rule r) in
     let less = under rules 256 (and_left (nat_lt rules 256) few (not_and_left (nat_lt rules 256 && few) (rule_within r) e)) in
@@ -75,7 +75,7 @@ rule_fits types rules known (body.Import p s) e h = omega (arith, h)
 rule_fits types rules known (body.Dialect d) e h = omega (arith, h)
 rule_fits types rules known (body.Entry n l) e h = omega (arith, h)
 
-entries_fit : (types rules : ℕ) (known : List (List ℕ)) (b : Body) → passes_limit_behind types rules known b ≡ false → length known ≤ 64 → length (with_names known (entries_named b)) ≤ 64
+entries_fit : (types rules : ℕ) (known : List (List ℕ)) (b : Body) → exceeds_limit_behind types rules known b ≡ false → length known ≤ 64 → length (with_names known (entries_named b)) ≤ 64
 unfolding with_names
 entries_fit types rules known (body.Rule r) e h =
     let few = has_few_entries known (body.Rule r) in
@@ -155,7 +155,7 @@ either_late : (b : Bool) (n m : ℤ) → is_lateness n ≡ true → is_lateness 
 either_late true n m h k = h
 either_late false n m h k = k
 
-body_late : (types rules : ℕ) (known : List (List ℕ)) (b : Body) (name : List ℕ) (others : ℤ) → passes_limit_behind types rules known b ≡ false → has_bad_params b ≡ false
+body_late : (types rules : ℕ) (known : List (List ℕ)) (b : Body) (name : List ℕ) (others : ℤ) → exceeds_limit_behind types rules known b ≡ false → has_bad_params b ≡ false
     → is_lateness others ≡ true → is_lateness (lateness_with b name others) ≡ true
 body_late types rules known (body.Entry declared lateness) name others e f h =
     let span = not_and_right (has_few_entries known (body.Entry declared lateness) && is_entry_name declared) (lateness_within lateness) e in
@@ -230,7 +230,7 @@ actions_sound types entries r built e =
 -- ---- what is so of each built rule within the limits is so of all rules of an accepted file
 
 module _ (types : List TypeTree) (entries : List (List ℕ)) (test : Rule → Bool) (sound : (r : RuleTree) → list_any condition_unbuilt r.conditions ≡ false → rule_within r ≡ true → test (rule_of types entries r) ≡ true) where
-  body_sound : (n m : ℕ) (known : List (List ℕ)) (b : Body) (rest : List RuleTree) → not_built b ≡ false → passes_limit_behind n m known b ≡ false → list_all test (map (rule_of types entries) rest) ≡ true
+  body_sound : (n m : ℕ) (known : List (List ℕ)) (b : Body) (rest : List RuleTree) → not_built b ≡ false → exceeds_limit_behind n m known b ≡ false → list_all test (map (rule_of types entries) rest) ≡ true
       → list_all test (map (rule_of types entries) (rule_in b ++ rest)) ≡ true
   body_sound n m known (body.Rule r) rest built e h =
       let inside = not_and_right (nat_lt m 256 && has_few_entries known (body.Rule r)) (rule_within r) e in

@@ -20,8 +20,8 @@ use Rattle.drl_sight.specs.Names.{is_short, place_of}
 use Rattle.drl_sight.specs.Declarations.{types_of, rules_of, type_in, rule_in, type_names, type_named, field_names}
 use Rattle.drl_sight.specs.EntryPoints.{entry_names}
 use Rattle.drl_sight.specs.Operands.{any_leaf_of}
-use Rattle.drl_sight.specs.Sight.{Meaning, of_fact, of_field, Sight, meaning_of, begin, sight_of_actions}
-use Rattle.drl_limits.specs.Limits.{is_name, has_few_entries, attr_within, condition_within, meta_within, actions_within, passes_limit_behind, type_within, rule_within}
+use Rattle.drl_sight.specs.Sight.{Meaning, of_fact, of_field, of_result, Sight, meaning_of, begin, sight_of_actions}
+use Rattle.drl_limits.specs.Limits.{is_name, has_few_entries, attr_within, condition_within, meta_within, actions_within, exceeds_limit_behind, type_within, rule_within}
 use Rattle.drl_program.specs.Programs.{type_place, type_info, conditions_of, expression_in, set_in, fact_meant, type_meant, action_of, rule_of, program_of}
 use Rattle.drl_check.specs.declared.fault.CheckCode.TheVariants.{LimitPassed, UnknownType, UnknownVariable, WrongKind}
 use Rattle.drl_check.specs.Checks.{lacks_type, lacks_variable, is_wrong_kind, AllPass, IsAcceptedFile}
@@ -39,7 +39,7 @@ less n m h = grind (arith, nat_tests)
 has_few_fields : TypeTree → Bool
 has_few_fields t = nat_le (length t.fields) 32
 
-type_small : (types rules : ℕ) (known : List (List ℕ)) (b : Body) (rest : List TypeTree) → passes_limit_behind types rules known b ≡ false → list_all has_few_fields rest ≡ true
+type_small : (types rules : ℕ) (known : List (List ℕ)) (b : Body) (rest : List TypeTree) → exceeds_limit_behind types rules known b ≡ false → list_all has_few_fields rest ≡ true
     → list_all has_few_fields (type_in b ++ rest) ≡ true
 unfolding has_few_fields
 type_small types rules known (body.Declare t) rest e h =
@@ -88,6 +88,7 @@ module _ (types : List TypeTree) (few : length types ≤ 128) (small : HaveFewFi
         → action_fits (map type_info types) taken (Modify (fact_meant o) (map (set_in (type_meant o) sight) sets)) ≡ true
     modify_typed v sets None is e m = absurd cc
     modify_typed v sets (Some (of_field fact field k)) is e m = absurd cc
+    modify_typed v sets (Some (of_result result)) is e m = absurd cc
     modify_typed v sets (Some (of_fact fact t)) is e m =
         let h = seen v (of_fact fact t) is in
         let of = taken_of types taken fact t h in
@@ -139,7 +140,7 @@ module _ (types : List TypeTree) (few : length types ≤ 128) (small : HaveFewFi
       (or_right (any_condition has_unknown_variable types begin r.conditions) (list_any (action_unseen sight) r.actions) v)
       (or_right (any_condition (has_wrong_kind types) types begin r.conditions) (list_any (action_misfits types sight) r.actions) m)
 
-  body_typed : (n m : ℕ) (known : List (List ℕ)) (b : Body) (rest : List RuleTree) → passes_limit_behind n m known b ≡ false → lacks_type types b ≡ false → lacks_variable types b ≡ false
+  body_typed : (n m : ℕ) (known : List (List ℕ)) (b : Body) (rest : List RuleTree) → exceeds_limit_behind n m known b ≡ false → lacks_type types b ≡ false → lacks_variable types b ≡ false
       → is_wrong_kind types b ≡ false → list_all (rule_fits (map type_info types)) (map (rule_of types entries) rest) ≡ true
       → list_all (rule_fits (map type_info types)) (map (rule_of types entries) (rule_in b ++ rest)) ≡ true
   body_typed n m known (body.Rule r) rest e t v k h =

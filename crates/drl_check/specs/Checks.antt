@@ -12,7 +12,7 @@ use Rattle.drl_sight.specs.Declarations.{types_of}
 use Rattle.drl_sight.specs.Sight.{begin, sight_of_actions}
 use Rattle.drl_check.specs.Built.{not_built}
 use Rattle.drl_check.specs.Twice.{is_twice}
-use Rattle.drl_limits.specs.Limits.{passes_limit}
+use Rattle.drl_limits.specs.Limits.{exceeds_limit}
 use Rattle.drl_uses.specs.Uses.{any_condition, has_unknown_type, has_unknown_field, has_unknown_variable, inserts_unknown_type, action_lacks, action_unseen}
 use Rattle.drl_check.specs.Events.{annotation_lacks, is_no_event, has_bad_timestamp, is_negative, modifies_event}
 use Rattle.drl_uses.specs.Kinds.{has_unknown_kind, has_wrong_kind, action_misfits}
@@ -85,7 +85,7 @@ has_bad_params (body.Rule r) = false
 abbrev pub fails : CheckCode → List Item → List Item → Body → Bool
 fails NotBuilt all before b = not_built b
 fails TwiceDeclared all before b = is_twice before b
-fails LimitPassed all before b = passes_limit before b
+fails LimitPassed all before b = exceeds_limit before b
 fails UnknownType all before b = lacks_type (types_of all) b
 fails UnknownField all before b = lacks_field (types_of all) b
 fails UnknownVariable all before b = lacks_variable (types_of all) b

@@ -8,7 +8,7 @@ use Rattle.drl_grammar.specs.declared.file.Meta.TheVariants as meta
 use Rattle.drl_grammar.specs.declared.file.TypeTree.{TypeTree}
 use Rattle.drl_sight.specs.Annotations.{is_event}
 use Rattle.drl_sight.specs.Meanings.{lacks, field_kind}
-use Rattle.drl_sight.specs.Sight.{Sight, Meaning, of_fact, of_field, meaning_of}
+use Rattle.drl_sight.specs.Sight.{Sight, Meaning, of_fact, of_field, of_result, meaning_of}
 use Rattle.drl_uses.specs.Kinds.{is_int}
 
 -- ---- annotations
@@ -56,6 +56,7 @@ abbrev pub is_event_meant : Option Meaning → Bool
 is_event_meant None = false
 is_event_meant (Some (of_fact fact t)) = is_event t
 is_event_meant (Some (of_field fact field k)) = false
+is_event_meant (Some (of_result result)) = false
 
 -- an event is modified
 abbrev pub modifies_event : Sight → ActTree → Bool

@@ -6,7 +6,7 @@ use Rattle.drl_check.specs.declared.fault.CheckCode.{CheckCode}
 use Rattle.drl_check.specs.declared.fault.CheckCode.TheVariants.{NotBuilt, TwiceDeclared, LimitPassed, UnknownType, UnknownField, UnknownVariable, WrongKind, NotAnEvent, BadTimestamp, EventFixed, BadParams}
 use Rattle.drl_check.specs.Built.{not_built}
 use Rattle.drl_check.specs.Twice.{is_repeated}
-use Rattle.drl_limits.specs.Limits.{passes_limit_behind}
+use Rattle.drl_limits.specs.Limits.{exceeds_limit_behind}
 use Rattle.drl_check.specs.Checks.{lacks_type, lacks_field, lacks_variable, is_wrong_kind, needs_event, needs_whole_times, fixes_event, has_bad_params}
 
 abbrev pub first_failing_event : List TypeTree → Body → Option CheckCode
@@ -31,5 +31,5 @@ abbrev pub first_failing : List TypeTree → List (List ℕ) → List (List ℕ)
 first_failing all types entries rules known b =
     if not_built b then Some NotBuilt
     else if is_repeated types entries rules b then Some TwiceDeclared
-    else if passes_limit_behind (length types) (length rules) known b then Some LimitPassed
+    else if exceeds_limit_behind (length types) (length rules) known b then Some LimitPassed
     else first_failing_use all b

@@ -100,7 +100,7 @@ fn is_event_seen(meaning: &Meaning) -> bool
 {
     match meaning.seen() {
         Seen::Fact { fact: _, ty } => ty.is_event(),
-        Seen::Field { .. } => false,
+        Seen::Field { .. } | Seen::Result { .. } => false,
     }
 }
 

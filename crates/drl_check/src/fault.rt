@@ -12,19 +12,22 @@ pub enum CheckCode {
     /// An earlier item declares the same type, entry point or rule; or an annotation, a field, an attribute or a variable stands
     /// twice in it; or a modification assigns a field twice.
     TwiceDeclared,
-    /// It passes a limit: 128 types, 64 entry points with `DEFAULT`, 256 rules, 32 fields, 8 conditions, 16 actions, 32
-    /// comparisons and bindings of a pattern, 32 operands of `in`, names of 64 bytes, names of entry points of 1 to 64 bytes, rule
-    /// names of 1 to 256 bytes, texts of 4,096 bytes, a salience of 2^31 - 1 in size, a lateness of 2^53 ms in size.
+    /// It exceeds a limit: 128 types, 64 entry points with `DEFAULT`, 256 rules, 32 fields, 8 conditions, 16 actions, 32
+    /// bindings, temporal tests and comparisons of a pattern, 32 operands of `in`, 32 tests of a result, names of 64 bytes, names
+    /// of entry points of 1 to 64 bytes, rule names of 1 to 256 bytes, texts of 4,096 bytes, a salience of 2^31 - 1 in size,
+    /// spans of time of 2^53 ms in size, a window of 1,000,000 events.
     LimitPassed,
     /// A pattern or an insert names a type that the file does not declare.
     UnknownType,
     /// An annotation, a test, a binding, a modification or an expression names a field that the type does not have.
     UnknownField,
-    /// A variable is used that no earlier pattern of the rule binds; in an action, no pattern.
+    /// A variable is used that no earlier condition of the rule binds outside not, exists and accumulate; in an action, no
+    /// condition; as the argument of an accumulate, not its own pattern.
     UnknownVariable,
     /// A kind word is none of the seven; a comparison is between two kinds, or an order between other values than whole
-    /// numbers; a fact stands for a value, or a value for a fact; an insert has too few or too many expressions; an
-    /// expression is of another kind than its field; an operator has an operand that is no whole number.
+    /// numbers; a fact stands for a value, or a value for a fact; an accumulate, but to count, is over no whole numbers; an
+    /// insert has too few or too many expressions; an expression is of another kind than its field; an operator has an operand
+    /// that is no whole number.
     WrongKind,
     /// A plain type has a timestamp or a duration.
     NotAnEvent,

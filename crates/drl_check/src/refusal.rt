@@ -12,7 +12,7 @@ use crate::events::{
 use crate::twice::repeats;
 use crate::{CheckCode, CheckFault};
 use drl_grammar::{Body, Item};
-use drl_limits::passes_limits;
+use drl_limits::exceeds_limits;
 use drl_sight::{Declared, Places, default_entry, with_entries};
 use drl_uses::{Asked, insert_unknown, is_so_in_rule, lack_type, lacks_kind};
 use fx_base::NoMemory;
@@ -187,7 +187,7 @@ fn failing(
     if repeats(alloc, earlier_types, earlier_entries, earlier_rules, body)? {
         return Ok(Some(CheckCode::TwiceDeclared));
     }
-    if passes_limits(earlier_types.len(), known.len(), earlier_rules.len(), body) {
+    if exceeds_limits(earlier_types.len(), known.len(), earlier_rules.len(), body) {
         return Ok(Some(CheckCode::LimitPassed));
     }
     failing_use(alloc, types, body)

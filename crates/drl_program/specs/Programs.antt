@@ -49,7 +49,7 @@ use Rattle.drl_sight.specs.Names.{place_of}
 use Rattle.drl_sight.specs.Declarations.{types_of, rules_of, type_names, field_names, type_named, kind_of}
 use Rattle.drl_sight.specs.Annotations.{is_event, timestamp_of, duration_of, expiry_of}
 use Rattle.drl_sight.specs.EntryPoints.{entry_names, lateness_named}
-use Rattle.drl_sight.specs.Sight.{Sight, Meaning, of_fact, of_field, meaning_of, Place, begin, behind, sight_of_actions}
+use Rattle.drl_sight.specs.Sight.{Sight, Meaning, of_fact, of_field, of_result, meaning_of, Place, begin, behind, sight_of_actions}
 use Rattle.drl_sight.specs.Operands.{any_of_part}
 
 -- a place as a number of 8 or 16 bits; types and entry points have 16
@@ -109,16 +109,18 @@ literal_value (literal.Int n) = value.Int n
 literal_value (literal.Bool b) = value.Bool b
 literal_value (literal.Text s) = value.Text s
 
--- a variable that is no value counts as the first field
+-- a variable that is no value counts as the first field of the pattern, and so does a result, which is not served yet
 abbrev pub variable_side : Option Meaning → Side
 variable_side (Some (of_field fact field k)) = Of (min fact 255) (min field 255)
 variable_side (Some (of_fact fact t)) = Own 0
+variable_side (Some (of_result result)) = Own 0
 variable_side None = Own 0
 
--- so does a field of a variable that is no fact
+-- a field of a variable that is no fact counts as the first field of the pattern
 abbrev pub variable_field_side : Option Meaning → List ℕ → Side
 variable_field_side (Some (of_fact fact t)) f = Of (min fact 255) (field_place t f)
 variable_field_side (Some (of_field fact field k)) f = Own 0
+variable_field_side (Some (of_result result)) f = Own 0
 variable_field_side None f = Own 0
 
 abbrev pub side_of : TypeTree → Sight → Operand → Side
@@ -188,16 +190,18 @@ conditions_of types entries place (c ∷ cs) = condition_of types entries place 
 
 -- ---- actions, given what is in sight behind all conditions
 
--- a variable that is no value counts as 0
+-- a variable that is no value counts as 0, and so does a result, which is not served yet
 abbrev pub variable_value : Option Meaning → Expression
 variable_value (Some (of_field fact field k)) = bound (min fact 255) (min field 255)
 variable_value (Some (of_fact fact t)) = expression.lit (value.Int (pos 0))
+variable_value (Some (of_result result)) = expression.lit (value.Int (pos 0))
 variable_value None = expression.lit (value.Int (pos 0))
 
--- so does a field of a variable that is no fact
+-- a field of a variable that is no fact counts as 0
 abbrev pub variable_field_value : Option Meaning → List ℕ → Expression
 variable_field_value (Some (of_fact fact t)) f = bound (min fact 255) (field_place t f)
 variable_field_value (Some (of_field fact field k)) f = expression.lit (value.Int (pos 0))
+variable_field_value (Some (of_result result)) f = expression.lit (value.Int (pos 0))
 variable_field_value None f = expression.lit (value.Int (pos 0))
 
 abbrev pub expression_in : Sight → Tree → Expression
@@ -213,11 +217,13 @@ expression_in sight (mul a b) = expression.mul (expression_in sight a) (expressi
 abbrev pub fact_meant : Option Meaning → ℕ
 fact_meant (Some (of_fact fact t)) = min fact 255
 fact_meant (Some (of_field fact field k)) = 0
+fact_meant (Some (of_result result)) = 0
 fact_meant None = 0
 
 abbrev pub type_meant : Option Meaning → TypeTree
 type_meant (Some (of_fact fact t)) = t
 type_meant (Some (of_field fact field k)) = no_type
+type_meant (Some (of_result result)) = no_type
 type_meant None = no_type
 
 abbrev pub set_in : TypeTree → Sight → List ℕ × Tree → ℕ × Expression

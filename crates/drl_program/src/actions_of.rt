@@ -18,7 +18,8 @@ fn value_meant(meaning: &Meaning) -> Expr
     ensures { result ≡ variable_value (Some meaning.now) }
 {
     match meaning.seen() {
-        Seen::Fact { .. } => zero(),
+        // A result is not served yet.
+        Seen::Fact { .. } | Seen::Result { .. } => zero(),
         Seen::Field { fact, field, .. } => Expr::of(ExprNode::Of {
             fact: small(Some(fact)),
             field: small(Some(field)),
@@ -34,7 +35,7 @@ fn field_value_meant(meaning: &Meaning, field: &Text) -> Expr
             fact: small(Some(fact)),
             field: field_number(ty, field),
         }),
-        Seen::Field { .. } => zero(),
+        Seen::Field { .. } | Seen::Result { .. } => zero(),
     }
 }
 
@@ -160,7 +161,7 @@ fn sets_meant(
 {
     match meaning.seen() {
         Seen::Fact { ty, .. } => sets(alloc, ty, place, trees),
-        Seen::Field { .. } => sets_of_no_type(alloc, place, trees),
+        Seen::Field { .. } | Seen::Result { .. } => sets_of_no_type(alloc, place, trees),
     }
 }
 

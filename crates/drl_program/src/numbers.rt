@@ -48,7 +48,7 @@ pub(crate) fn fact_number(meaning: &Meaning) -> u8
 {
     match meaning.seen() {
         Seen::Fact { fact, .. } => small(Some(fact)),
-        Seen::Field { .. } => 0,
+        Seen::Field { .. } | Seen::Result { .. } => 0,
     }
 }
 
@@ -57,7 +57,8 @@ pub(crate) fn variable_against(meaning: &Meaning) -> Side
     ensures { result ≡ variable_side (Some meaning.now) }
 {
     match meaning.seen() {
-        Seen::Fact { .. } => Side::Own(0),
+        // A result is not served yet.
+        Seen::Fact { .. } | Seen::Result { .. } => Side::Own(0),
         Seen::Field { fact, field, .. } => Side::Of {
             fact: small(Some(fact)),
             field: small(Some(field)),
@@ -74,6 +75,6 @@ pub(crate) fn variable_field_against(meaning: &Meaning, field: &Text) -> Side
             fact: small(Some(fact)),
             field: field_number(ty, field),
         },
-        Seen::Field { .. } => Side::Own(0),
+        Seen::Field { .. } | Seen::Result { .. } => Side::Own(0),
     }
 }

@@ -1,4 +1,4 @@
-use Rattle.std.proofs.Common.{◌≡◌, ◌++◌, ◌≤◌, drop}
+use Rattle.std.proofs.Common.{◌≡◌, ◌+◌, ◌++◌, ◌≤◌, drop}
 use Rattle.drl_sight.specs.Sight.{begin, behind_all}
 use Rattle.drl_program.specs.Programs.{conditions_of}
 use Rattle.drl_program.proofs.programs.conditions.Given as goal
@@ -7,5 +7,5 @@ abbrev pub invariant-loop-tree : goal.invariant-loop-tree
 invariant-loop-tree l = record {
   same : l.conditions.items ++ conditions_of l.types l.entries l.place (drop l.tree-index l.trees) ≡ conditions_of l.types l.entries begin l.trees;
   last : behind_all l.types l.place (drop l.tree-index l.trees) ≡ behind_all l.types begin l.trees;
-  counts : l.place.facts ≤ l.tree-index;
+  counts : l.place.facts + l.place.results ≤ l.tree-index;
 }
