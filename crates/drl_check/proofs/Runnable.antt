@@ -1,5 +1,5 @@
 -- The program of an accepted file is one that engines run.
-use Rattle.std.proofs.Common.{◌≡◌, ◌++◌, ◌∷◌, true, false, List, [], map, length, Option, None, refl, ap, arith}
+use Rattle.std.proofs.Common.{◌≡◌, ◌++◌, ◌∷◌, true, false, List, [], map, None, refl, ap, arith}
 use Rattle.std.specs.Prelude.{is_none}
 use Rattle.std.specs.List.{list_all, list_any, flat_map}
 use Rattle.std.proofs.lemmas.List.{length-map}

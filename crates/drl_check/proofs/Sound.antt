@@ -1,6 +1,6 @@
 -- The program of an accepted file is within the limits.
 use Rattle.std.proofs.Common.{◌≡◌, ◌≤◌, ◌<◌, ◌+◌, ◌&&◌, ◌||◌, ◌++◌, ◌∷◌, ℕ, ℤ, pos, negsuc, Bool, true, false, not, List, [], map, length, nat_le, nat_lt, int_le, int_lt, unsigned_abs, Option, Some, None, cond, refl, sym, ap, subst, append_assoc, length-append, arith}
-use Rattle.std.specs.List.{list_all, list_any, flat_map}
+use Rattle.std.specs.List.{list_all, list_any}
 use Rattle.std.specs.Str.{bytes_eq}
 use Rattle.std.proofs.lemmas.Bool.Decides.{nat_tests}
 use Rattle.std.proofs.lemmas.List.{append-nil, length-map}
@@ -8,7 +8,6 @@ use Rattle.drl_grammar.specs.declared.condition.CondTree.{CondTree}
 use Rattle.drl_grammar.specs.declared.condition.CondTree.TheVariants as tree
 use Rattle.drl_grammar.specs.declared.file.Body.{Body}
 use Rattle.drl_grammar.specs.declared.file.Body.TheVariants as body
-use Rattle.drl_grammar.specs.declared.file.File.{File}
 use Rattle.drl_grammar.specs.declared.file.Item.{Item}
 use Rattle.drl_grammar.specs.declared.file.TypeTree.{TypeTree}
 use Rattle.drl_grammar.specs.declared.file.RuleTree.{RuleTree}
@@ -21,9 +20,9 @@ use Rattle.drl_sight.specs.EntryPoints.{default_name, entries_named, with_name, 
 use Rattle.drl_sight.specs.Names.{is_short, is_among}
 use Rattle.drl_sight.specs.Sight.{Place, begin, behind, sight_of_actions}
 use Rattle.drl_limits.specs.Limits.{span_limit, is_entry_name, has_few_entries, lateness_within, exceeds_limit_behind, type_within, rule_within, attr_within, condition_within, action_within, actions_within}
-use Rattle.drl_program.specs.Programs.{entry_info, condition_of, conditions_of, rule_of, type_info, action_of, program_of}
+use Rattle.drl_program.specs.Programs.{entry_info, condition_of, conditions_of, rule_of, action_of}
 use Rattle.drl_check.specs.Built.{condition_unbuilt, not_built}
-use Rattle.drl_check.specs.Checks.{has_bad_params, AllPass, IsAcceptedFile}
+use Rattle.drl_check.specs.Checks.{has_bad_params, AllPass}
 use Rattle.drl_check.specs.Events.{is_negative}
 use Rattle.drl_check.proofs.Failures.{types_next, rules_next, known_next}
 

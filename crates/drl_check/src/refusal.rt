@@ -40,10 +40,7 @@ fn is_field_missing(alloc: Global, types: &Declared, body: &Body) -> Result<bool
     match body {
         Body::Declare(tree) => lacks_annotated(alloc, tree),
         Body::Rule(tree) => is_so_in_rule(alloc, Asked::LacksField, types, tree),
-        Body::Package(_)
-        | Body::Import { .. }
-        | Body::Dialect(_)
-        | Body::Entry { .. } => Ok(false),
+        Body::Package(_) | Body::Import { .. } | Body::Dialect(_) | Body::Entry { .. } => Ok(false),
     }
 }
 
@@ -66,10 +63,7 @@ fn is_kind_wrong(alloc: Global, types: &Declared, body: &Body) -> Result<bool, N
     match body {
         Body::Declare(tree) => Ok(lacks_kind(tree)),
         Body::Rule(tree) => is_so_in_rule(alloc, Asked::HasWrongKind, types, tree),
-        Body::Package(_)
-        | Body::Import { .. }
-        | Body::Dialect(_)
-        | Body::Entry { .. } => Ok(false),
+        Body::Package(_) | Body::Import { .. } | Body::Dialect(_) | Body::Entry { .. } => Ok(false),
     }
 }
 
