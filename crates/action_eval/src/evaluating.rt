@@ -1,5 +1,5 @@
 ghost use Rattle.std.specs.Prelude.{◌≡◌, false, true, IfOk, IsErrOf};
-ghost use Rattle.rule_model.specs.Looked.{named_at};
+ghost use Rattle.rule_model.specs.Lent.{named_at};
 ghost use Rattle.rule_model.specs.Numbers.{overflows, value_of};
 
 use crate::EvalFault;

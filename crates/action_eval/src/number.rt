@@ -1,6 +1,6 @@
 ghost use Rattle.std.specs.Prelude.{◌≡◌, false, true, option_map, IfSome, IsNone};
 ghost use Rattle.rule_model.specs.Tests.{field_of};
-ghost use Rattle.rule_model.specs.Looked.{named_at};
+ghost use Rattle.rule_model.specs.Lent.{named_at};
 ghost use Rattle.rule_model.specs.Numbers.{number as number_of, overflows, whole_number};
 
 use fx_base::{Fact, Facts, Value};

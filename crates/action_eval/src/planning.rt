@@ -1,5 +1,5 @@
 ghost use Rattle.std.specs.Prelude.{◌≡◌, Some, None, option_map, map, IfOk, IsErrOf};
-ghost use Rattle.rule_model.specs.Looked.{named_at};
+ghost use Rattle.rule_model.specs.Lent.{named_at};
 ghost use Rattle.rule_model.specs.Numbers.{values_of};
 ghost use Rattle.rule_model.specs.Planned.{id_at, type_or_first, sets_of, step_of};
 

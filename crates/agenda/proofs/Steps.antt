@@ -1,8 +1,7 @@
 -- One row more, and one match more.
-use Rattle.std.proofs.Common.{◌≡◌, ℕ, ◌+◌, ◌<◌, ◌==◌, ◌&&◌, ◌||◌, not, Bool, true, false, cond, List, [], ◌∷◌, take, length, get_or, ℤ, refl, sym, ◌∙◌, ap, subst}
+use Rattle.std.proofs.Common.{◌≡◌, ℕ, ◌==◌, ◌&&◌, ◌||◌, not, Bool, true, false, cond, List, [], ◌∷◌, length, ℤ, refl, sym, ◌∙◌, ap, subst, arith}
 use Rattle.std.specs.Ordering.{eq_by_cmp}
 use Rattle.std.specs.List.{list_any}
-use Rattle.std.proofs.lemmas.List.Folds.{list_any_more}
 use Rattle.row_delta.specs.declared.row.Row.{Row}
 use Rattle.row_delta.specs.Rows.{row_cmp, has}
 use Rattle.row_delta.specs.RowOrder.{same_equiv}
@@ -13,10 +12,6 @@ use Rattle.agenda.specs.Ranks.{rank_cmp}
 use Rattle.agenda.specs.Agendas.{Well, AllWell, matches}
 use Rattle.agenda.proofs.Ranks.{updated}
 use Rattle.rule_model.proofs.Exact.{match_parts}
-
-pub has_more : (r k : Row) (rows : List Row) (i : ℕ) → i < length rows → k ≡ get_or rows i k → has (take (i + 1) rows) r ≡ (has (take i rows) r || eq_by_cmp row_cmp k r)
-has_more r k rows i lt is =
-    list_any_more (eq_by_cmp row_cmp r) rows i k lt ∙ ap (λ z. has (take i rows) r || z) (sym (same_equiv.symm k r ∙ ap (eq_by_cmp row_cmp r) is))
 
 and_more : (o t a b : Bool) → ((o && not (t && a)) && not (t && b)) ≡ (o && not (t && (a || b)))
 and_more false t a b = refl
@@ -30,17 +25,42 @@ or_more false false a b = refl
 or_more false true true b = refl
 or_more false true false b = refl
 
-pub taken_more : (rows : List Row) (i : ℕ) (r k : Row) (o t now new : Bool) → i < length rows → k ≡ get_or rows i k
-    → now ≡ (o && not (t && has (take i rows) r)) → new ≡ (now && not (t && eq_by_cmp row_cmp k r)) → new ≡ (o && not (t && has (take (i + 1) rows) r))
-taken_more rows i r k o t now new lt is before after =
-    after ∙ ap (λ z. z && not (t && eq_by_cmp row_cmp k r)) before ∙ and_more o t (has (take i rows) r) (eq_by_cmp row_cmp k r)
-    ∙ sym (ap (λ z. o && not (t && z)) (has_more r k rows i lt is))
+-- the rows that are still to come, this one before them
+has_first : (r k : Row) (rows next : List Row) → rows ≡ k ∷ next → has rows r ≡ (eq_by_cmp row_cmp k r || has next r)
+has_first r k rows next e = ap (λ (z : List Row). has z r) e ∙ ap (λ z. z || has next r) (same_equiv.symm r k)
 
-pub put_more : (rows : List Row) (i : ℕ) (r k : Row) (o t now new : Bool) → i < length rows → k ≡ get_or rows i k
-    → now ≡ (o || (t && has (take i rows) r)) → new ≡ (now || (t && eq_by_cmp row_cmp k r)) → new ≡ (o || (t && has (take (i + 1) rows) r))
-put_more rows i r k o t now new lt is before after =
-    after ∙ ap (λ z. z || (t && eq_by_cmp row_cmp k r)) before ∙ or_more o t (has (take i rows) r) (eq_by_cmp row_cmp k r)
-    ∙ sym (ap (λ z. o || (t && z)) (has_more r k rows i lt is))
+pub taken_next : (rows next : List Row) (r k : Row) (t now new all : Bool) → rows ≡ k ∷ next
+    → new ≡ (now && not (t && eq_by_cmp row_cmp k r)) → (now && not (t && has rows r)) ≡ all → (new && not (t && has next r)) ≡ all
+taken_next rows next r k t now new all e step before =
+    ap (λ z. z && not (t && has next r)) step ∙ and_more now t (eq_by_cmp row_cmp k r) (has next r)
+    ∙ ap (λ z. now && not (t && z)) (sym (has_first r k rows next e)) ∙ before
+
+pub put_next : (rows next : List Row) (r k : Row) (t now new all : Bool) → rows ≡ k ∷ next
+    → new ≡ (now || (t && eq_by_cmp row_cmp k r)) → (now || (t && has rows r)) ≡ all → (new || (t && has next r)) ≡ all
+put_next rows next r k t now new all e step before =
+    ap (λ z. z || (t && has next r)) step ∙ or_more now t (eq_by_cmp row_cmp k r) (has next r)
+    ∙ ap (λ z. now || (t && z)) (sym (has_first r k rows next e)) ∙ before
+
+none_taken : (o t : Bool) → (o && not (t && false)) ≡ o
+none_taken true true = refl
+none_taken true false = refl
+none_taken false t = refl
+
+none_put : (o t : Bool) → (o || (t && false)) ≡ o
+none_put true t = refl
+none_put false true = refl
+none_put false false = refl
+
+-- no rows are still to come
+pub nothing_left : {A : Type 0} (xs : List A) (n : ℕ) → n ≡ length xs → n ≡ 0 → xs ≡ []
+nothing_left [] n e z = refl
+nothing_left (x ∷ xs) n e z = absurd (omega arith)
+
+pub all_taken : (rows : List Row) (r : Row) (t now all : Bool) → rows ≡ [] → (now && not (t && has rows r)) ≡ all → now ≡ all
+all_taken rows r t now all e h = sym (ap (λ (z : List Row). now && not (t && has z r)) e ∙ none_taken now t) ∙ h
+
+pub all_put : (rows : List Row) (r : Row) (t now all : Bool) → rows ≡ [] → (now || (t && has rows r)) ≡ all → now ≡ all
+all_put rows r t now all e h = sym (ap (λ (z : List Row). now || (t && has z r)) e ∙ none_put now t) ∙ h
 
 cond_false : (k o : Bool) → cond k false o ≡ (o && not k)
 cond_false true true = refl

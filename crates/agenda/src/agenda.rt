@@ -1,7 +1,7 @@
 ghost use Rattle.std.specs.Prelude.{◌≡◌, ℕ, ◌==◌, ◌&&◌, ◌||◌, not, List, [], ◌∷◌, length, ◌<◌, ◌+◌, ℤ, pos, slice_get, option_map, IfOk, OnOk, IsSome, ◌↔◌, Some};
 ghost use Rattle.std.specs.Ordering.{eq_by_cmp};
 ghost use Rattle.row_delta.specs.Rows.{has, row_cmp};
-ghost use Rattle.rule_model.specs.Matches.{has_match, salience_of, fire_cmp, match_cmp};
+ghost use Rattle.rule_model.specs.Matches.{has_match, fire_cmp, match_cmp};
 ghost use Rattle.rule_model.specs.First.{first};
 ghost use Rattle.agenda.specs.Agendas.{IsChanged, names_id};
 ghost use Rattle.rule_model.specs.declared.matched.Match.{Match};
@@ -25,9 +25,9 @@ pub struct Agenda {
 }
 
 impl Model for Agenda {
-    ghost use Rattle.agenda.specs.Agendas.{Held, AllWell, matches};
+    ghost use Rattle.agenda.specs.Agendas.{Marks, AllWell, matches};
 
-    ghost Value = { Held };
+    ghost Value = { Marks };
 
     ghost view = { λ a. record { saliences = a.saliences; pending = matches a.pending.keys; fired = a.fired.keys } };
 
@@ -59,74 +59,55 @@ impl Agenda {
         }
     }
 
-    fn ranked(&self, alloc: Global, rule: RuleId, row: &Row) -> Result<Ranked, NoMemory>
-        ensures salience { IfOk result (λ k. k.salience ≡ salience_of self.now.saliences rule.0) }
-        ensures rule { IfOk result (λ k. k.matched.rule.0 ≡ rule.0) }
-        ensures row { IfOk result (λ k. k.matched.row ≡ row.now) }
-    {
-        let salience = self
-            .saliences
-            .as_slice()
-            .get(rule.0 as usize)
-            .copied()
-            .unwrap_or(0);
-        let row = row.copy(alloc)?;
-        Ok(Ranked {
-            salience,
-            matched: Match { rule, row },
-        })
-    }
-
-    fn take_row(&mut self, alloc: Global, rule: RuleId, row: &Row) -> Result<(), NoMemory>
+    fn take_row(&mut self, rule: RuleId, row: Row)
         ensures saliences { self.new.saliences ≡ self.old.saliences }
-        ensures pending { OnOk result ((m : Match) → has_match self.new.pending m ≡ (has_match self.old.pending m && not (rule.0 == m.rule.0 && eq_by_cmp row_cmp row.now m.row))) }
-        ensures fired { OnOk result ((m : Match) → has_match self.new.fired m ≡ (has_match self.old.fired m && not (rule.0 == m.rule.0 && eq_by_cmp row_cmp row.now m.row))) }
+        ensures pending { (m : Match) → has_match self.new.pending m ≡ (has_match self.old.pending m && not (rule.0 == m.rule.0 && eq_by_cmp row_cmp row m.row)) }
+        ensures fired { (m : Match) → has_match self.new.fired m ≡ (has_match self.old.fired m && not (rule.0 == m.rule.0 && eq_by_cmp row_cmp row m.row)) }
     {
-        let ranked = self.ranked(alloc, rule, row)?;
+        let ranked = Ranked::of(self.saliences.as_slice(), rule, row);
         self.pending.remove(&ranked);
         self.fired.remove(&ranked.matched);
-        Ok(())
     }
 
-    fn put_row(&mut self, alloc: Global, rule: RuleId, row: &Row) -> Result<(), NoMemory>
+    fn put_row(&mut self, rule: RuleId, row: Row) -> Result<(), NoMemory>
         ensures saliences { self.new.saliences ≡ self.old.saliences }
-        ensures pending { OnOk result ((m : Match) → has_match self.new.pending m ≡ (has_match self.old.pending m || (rule.0 == m.rule.0 && eq_by_cmp row_cmp row.now m.row))) }
+        ensures pending { OnOk result ((m : Match) → has_match self.new.pending m ≡ (has_match self.old.pending m || (rule.0 == m.rule.0 && eq_by_cmp row_cmp row m.row))) }
         ensures fired { self.new.fired ≡ self.old.fired }
     {
-        let ranked = self.ranked(alloc, rule, row)?;
+        let ranked = Ranked::of(self.saliences.as_slice(), rule, row);
         self.pending.insert(ranked)?;
         Ok(())
     }
 
-    fn take_rows(&mut self, alloc: Global, rule: RuleId, rows: &[Row]) -> Result<(), NoMemory>
+    fn take_rows(&mut self, rule: RuleId, rows: Seq<Row>)
         ensures saliences { self.new.saliences ≡ self.old.saliences }
-        ensures pending { OnOk result ((m : Match) → has_match self.new.pending m ≡ (has_match self.old.pending m && not (rule.0 == m.rule.0 && has rows.now m.row))) }
-        ensures fired { OnOk result ((m : Match) → has_match self.new.fired m ≡ (has_match self.old.fired m && not (rule.0 == m.rule.0 && has rows.now m.row))) }
+        ensures pending { (m : Match) → has_match self.new.pending m ≡ (has_match self.old.pending m && not (rule.0 == m.rule.0 && has rows m.row)) }
+        ensures fired { (m : Match) → has_match self.new.fired m ≡ (has_match self.old.fired m && not (rule.0 == m.rule.0 && has rows m.row)) }
     {
-        for row in rows {
-            self.take_row(alloc, rule, row)?;
+        for row in rows.into_vec() {
+            self.take_row(rule, row);
         }
-        Ok(())
     }
 
-    fn put_rows(&mut self, alloc: Global, rule: RuleId, rows: &[Row]) -> Result<(), NoMemory>
+    fn put_rows(&mut self, rule: RuleId, rows: Seq<Row>) -> Result<(), NoMemory>
         ensures saliences { self.new.saliences ≡ self.old.saliences }
-        ensures pending { OnOk result ((m : Match) → has_match self.new.pending m ≡ (has_match self.old.pending m || (rule.0 == m.rule.0 && has rows.now m.row))) }
+        ensures pending { OnOk result ((m : Match) → has_match self.new.pending m ≡ (has_match self.old.pending m || (rule.0 == m.rule.0 && has rows m.row))) }
         ensures fired { self.new.fired ≡ self.old.fired }
     {
-        for row in rows {
-            self.put_row(alloc, rule, row)?;
+        for row in rows.into_vec() {
+            self.put_row(rule, row)?;
         }
         Ok(())
     }
 
     /// Takes the rows that went out of both, and adds those that came to the pending ones.
-    pub fn change(self, alloc: Global, rule: RuleId, delta: &Delta) -> Result<Agenda, NoMemory>
-        ensures { IfOk result (IsChanged rule.0 delta.now self) }
+    pub fn change(self, rule: RuleId, delta: Delta) -> Result<Agenda, NoMemory>
+        ensures { IfOk result (IsChanged rule.0 delta self) }
     {
         let mut agenda = self;
-        agenda.take_rows(alloc, rule, delta.gone.as_slice())?;
-        agenda.put_rows(alloc, rule, delta.come.as_slice())?;
+        let Delta { gone, come } = delta;
+        agenda.take_rows(rule, gone);
+        agenda.put_rows(rule, come)?;
         Ok(agenda)
     }
 

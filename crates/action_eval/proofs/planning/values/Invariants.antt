@@ -1,5 +1,5 @@
 use Rattle.std.proofs.Common.{◌≡◌, Some, take}
-use Rattle.rule_model.specs.Looked.{named_at}
+use Rattle.rule_model.specs.Lent.{named_at}
 use Rattle.rule_model.specs.Numbers.{values_of}
 use Rattle.action_eval.proofs.planning.values.Given as goal
 

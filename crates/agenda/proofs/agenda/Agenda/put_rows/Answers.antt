@@ -1,10 +1,15 @@
 use Rattle.std.proofs.Common.{◌∙◌, ◌==◌}
-use Rattle.agenda.proofs.Steps.{put_more}
+use Rattle.agenda.proofs.Steps.{put_next, nothing_left, all_put}
 use Rattle.agenda.proofs.agenda.Agenda.put_rows.Goals as goal
 
 pub loop-row-preserved : goal.loop-row-preserved
 loop-row-preserved c = record {
   saliences = c.put_row.ensures.saliences ∙ c.loop-row.invariant.saliences;
+  pending = λ m. put_next c.loop-row.row-iterator.rest.items c.next.new.self.rest.items m.row c.in-Some.row (c.args.rule.0 == m.rule.0) _ _ _ c.in-Some.ensures.steps.0 (c.in_ok-put_row.ensures.pending m) (c.loop-row.invariant.pending m);
   fired = c.put_row.ensures.fired ∙ c.loop-row.invariant.fired;
-  pending = λ m. put_more c.args.rows.now c.loop-row.row-index m.row c.row-item.result _ (c.args.rule.0 == m.rule.0) _ _ c.loop-row-test.true c.row-item.is (c.loop-row.invariant.pending m) (c.in_ok-put_row.ensures.pending m);
 }
+
+pub returns-clause-pending : goal.returns-clause-pending
+returns-clause-pending c m =
+    let rest = c.loop-row.row-iterator.rest in
+    all_put rest.items m.row (c.args.rule.0 == m.rule.0) _ _ (nothing_left rest.items rest.len rest.ok.0 c.in-None.ensures.steps.0) (c.loop-row.invariant.pending m)

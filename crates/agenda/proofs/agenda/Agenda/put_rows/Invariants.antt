@@ -1,4 +1,4 @@
-use Rattle.std.proofs.Common.{◌≡◌, ◌&&◌, ◌||◌, ◌==◌, take}
+use Rattle.std.proofs.Common.{◌≡◌, ◌&&◌, ◌||◌, ◌==◌}
 use Rattle.row_delta.specs.Rows.{has}
 use Rattle.rule_model.specs.Matches.{has_match}
 use Rattle.rule_model.specs.declared.matched.Match.{Match}
@@ -8,5 +8,5 @@ abbrev pub invariant-loop-row : goal.invariant-loop-row
 invariant-loop-row l = record {
   saliences : l.self.saliences ≡ l.initial.self.saliences;
   fired : l.self.fired ≡ l.initial.self.fired;
-  pending : (m : Match) → has_match l.self.pending m ≡ (has_match l.initial.self.pending m || (l.rule.0 == m.rule.0 && has (take l.row-index l.rows) m.row));
+  pending : (m : Match) → (has_match l.self.pending m || (l.rule.0 == m.rule.0 && has l.row-iterator.rest.items m.row)) ≡ (has_match l.initial.self.pending m || (l.rule.0 == m.rule.0 && has l.fn.rows m.row));
 }

@@ -1,5 +1,5 @@
 use Rattle.std.proofs.Common.{◌≡◌, subst, Some}
-use Rattle.agenda.specs.Agendas.{Held}
+use Rattle.agenda.specs.Agendas.{Marks}
 use Rattle.rule_model.specs.First.{first}
 use Rattle.rule_model.specs.Matches.{fire_cmp}
 use Rattle.agenda.proofs.Heads.{top_is}
@@ -7,5 +7,5 @@ use Rattle.agenda.proofs.agenda.Agenda.top.Goals as goal
 
 pub returns-in-Some : goal.returns-in-Some
 returns-in-Some c =
-    subst (λ (h : Held). Some c.in-Some.ranked.now.matched ≡ first (fire_cmp h.saliences) h.pending) c.self.view_is
+    subst (λ (h : Marks). Some c.in-Some.ranked.now.matched ≡ first (fire_cmp h.saliences) h.pending) c.self.view_is
     (top_is c.self.inside.saliences c.self.inside.pending.keys c.in-Some.ranked.now c.self.invariant c.len-n.ensures.ordered c.in-Some.ensures.first)
