@@ -15,7 +15,7 @@ use Rattle.rule_world.specs.declared.code.Code.TheVariants.{Absent, ClockBack, C
 use Rattle.rule_model.specs.declared.program.Program.{Program}
 use Rattle.rule_model.specs.declared.step.Step.TheVariants.{Insert, Modify, Retract, Advance, At}
 use Rattle.rule_world.specs.Events.{clock_fault, most_millis, new_fault, times_of}
-use Rattle.rule_world.specs.Worlds.{World, at_clock, is_of_type, modify_fault, moved, retract_fault, settled, snapshot, step_fault, stepped, with_new}
+use Rattle.rule_world.specs.Worlds.{World, at_clock, is_of_type, modify_fault, moved, retract_fault, settled, snapshot, step_fault, stepped, with_new, with_revised, without_fact}
 use Rattle.rule_model.specs.Snapshots.{floor, floor_by}
 use Rattle.rule_model.specs.Types.{is_event, lateness_of}
 use Rattle.rule_world.proofs.Vain.{vain_retraction}
@@ -111,6 +111,14 @@ module _ (p : Program) (k : Contents) (w : World) (st : Standing p k w) where
 pub at_done : (p : Program) (w : World) (moment clock : ℤ) → clock ≡ moment → stepped p w (At moment) ≡ settled p (at_clock w clock)
 unfolding stepped moved
 at_done p w moment clock e = ap (λ z. settled p (at_clock w z)) (sym e)
+
+pub modify_done : (p : Program) (w : World) (id : FactId) (sets : List (ℕ × Value)) → stepped p w (Modify id sets) ≡ settled p (with_revised w id.0 sets)
+unfolding stepped moved
+modify_done p w id sets = refl
+
+pub retract_done : (p : Program) (w : World) (ty : TypeId) (id : FactId) → stepped p w (Retract ty id) ≡ settled p (without_fact w ty.0 id.0)
+unfolding stepped moved
+retract_done p w ty id = refl
 
 -- ---- the fault of a retraction
 

@@ -128,7 +128,7 @@ impl State {
     // The clock so many milliseconds later.
     fn advance(self, by: Millis, lines: &mut Vec<OutLine>) -> Result<State, NoMemory>
         ensures stands { (program : ProgramData) → IsRunnable program → IfOk result (MovesTo program self (λ w. (tries program w (Advance by)).1)) }
-        ensures lines { (program : ProgramData) → OnOk result (Writes program self (λ w. (tries program w (Advance by)).0) lines.old.items lines.new.items) }
+        ensures lines { OnOk result ((program : ProgramData) → Writes program self (λ w. (tries program w (Advance by)).0) lines.old.items lines.new.items) }
         ensures tags { IfOk result (λ s. s.next_tag ≡ self.next_tag) }
     {
         match clock_after(self.clock, by) {
@@ -140,7 +140,7 @@ impl State {
     // The clock at this moment.
     fn go_to(self, moment: Millis, lines: &mut Vec<OutLine>) -> Result<State, NoMemory>
         ensures stands { (program : ProgramData) → IsRunnable program → IfOk result (MovesTo program self (λ w. (tries program w (At moment)).1)) }
-        ensures lines { (program : ProgramData) → OnOk result (Writes program self (λ w. (tries program w (At moment)).0) lines.old.items lines.new.items) }
+        ensures lines { OnOk result ((program : ProgramData) → Writes program self (λ w. (tries program w (At moment)).0) lines.old.items lines.new.items) }
         ensures tags { IfOk result (λ s. s.next_tag ≡ self.next_tag) }
     {
         match clock_at(self.clock, moment) {
