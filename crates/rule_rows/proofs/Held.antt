@@ -5,32 +5,21 @@ use Rattle.std.specs.FinMap as map_of
 use Rattle.std.specs.List.{AllByRecursion}
 use Rattle.std.specs.List.Sorted.{IsStrictlySortedBy}
 use Rattle.std.specs.Ordering.{nat_cmp, is_eq}
+use Rattle.fx_base.specs.Lists.{In}
 use Rattle.fx_base.specs.declared.fact.Fact.{Fact}
 use Rattle.fx_base.specs.declared.ids.Tag.{Tag}
-use Rattle.fact_store.specs.Held.{HeldFacts, StandsIn, facts_of}
+use Rattle.fact_store.specs.Held.{HeldFacts, facts_of}
 use Rattle.fact_store.proofs.Members.{from_list, from_map, tags_rise}
 use Rattle.fact_store.proofs.Counting.{torn}
 use Rattle.fact_store.proofs.Stored.{itself}
 use Rattle.rule_model.specs.Distinct.{HaveDistinctTags}
-use Rattle.rule_model.specs.Rows.{In}
-
--- both ways to say that a value stands in a list
-stands : {A : Type 0} (x : A) (xs : List A) → In x xs → StandsIn x xs
-stands x [] i = i
-stands x (y ∷ ys) (inl e) = inl e
-stands x (y ∷ ys) (inr i) = inr (stands x ys i)
-
-is_in : {A : Type 0} (x : A) (xs : List A) → StandsIn x xs → In x xs
-is_in x [] i = i
-is_in x (y ∷ ys) (inl e) = inl e
-is_in x (y ∷ ys) (inr i) = inr (is_in x ys i)
 
 -- a fact is among those of a store exactly where the store has it under some tag
 pub held_of : (held : HeldFacts) (f : Fact) → In f (facts_of held) → (tag : ℕ) × (map_of.get held tag ≡ Some f)
-held_of held f i = from_list held f (stands f (facts_of held) i)
+held_of held f i = from_list held f i
 
 pub in_held : (held : HeldFacts) (f : Fact) (tag : ℕ) → map_of.get held tag ≡ Some f → In f (facts_of held)
-in_held held f tag e = is_in f (facts_of held) (from_map held f tag e)
+in_held held f tag e = from_map held f tag e
 
 -- a tag below others is none of them
 below : (t : Tag) (facts : List Fact) → AllByRecursion (λ n. nat_cmp t.0 n ≡ Less) (map (λ (f : Fact). f.tag.0) facts) → In t (map (λ (f : Fact). f.tag) facts) → ⊥

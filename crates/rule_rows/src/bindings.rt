@@ -1,8 +1,8 @@
 ghost use Rattle.std.specs.Prelude.{◌≡◌, ◌++◌, map, IfOk, OnOk};
-ghost use Rattle.std.specs.List.{filter, flat_map};
-ghost use Rattle.rule_model.specs.Looked.{lent};
-ghost use Rattle.rule_model.specs.Tests.{empty_tuple};
-ghost use Rattle.rule_model.specs.Rows.{with_fact, row_of, name_of, fits, candidates as candidates_of, passes};
+ghost use Rattle.std.specs.List.{flat_map};
+ghost use Rattle.rule_model.specs.Lent.{lent};
+ghost use Rattle.rule_model.specs.Rows.{empty_tuple, with_fact, row_of, passes};
+ghost use Rattle.rule_rows.specs.Found.{extended_by};
 
 use fx_base::{Fact, NoMemory, Seq};
 use row_delta::{Named, Row};
@@ -17,8 +17,8 @@ pub(crate) struct Bindings<'f> {
 }
 
 impl<'f> Model for Bindings<'f> {
-    ghost use Rattle.rule_model.specs.Looked.{lent, tuple_of};
-    ghost use Rattle.rule_model.specs.Tests.{Tuple};
+    ghost use Rattle.rule_model.specs.Lent.{lent, tuple_of};
+    ghost use Rattle.rule_model.specs.Rows.{Tuple};
 
     ghost Value = { Tuple };
 
@@ -66,29 +66,6 @@ impl<'f> Bindings<'f> {
     }
 }
 
-pub(crate) fn does_fit(pattern: &Pattern, fact: &Fact) -> bool
-    ensures { result ≡ fits pattern.now fact.now }
-{
-    fact.ty == pattern.ty && fact.entry == pattern.entry && pattern.passes_alone(fact)
-}
-
-// The facts of the pattern's type and entry point that pass its constant tests.
-pub(crate) fn candidates<'f>(
-    alloc: Global,
-    pattern: &Pattern,
-    facts: &[&'f Fact],
-) -> Result<Vec<&'f Fact>, NoMemory>
-    ensures { IfOk result (λ found. lent found.items ≡ candidates_of pattern.now (lent facts.now)) }
-{
-    let mut found = Vec::new(alloc);
-    for fact in facts {
-        if does_fit(pattern, fact) {
-            found.push(*fact)?;
-        }
-    }
-    Ok(found)
-}
-
 // Adds the bindings with each of the candidates that passes.
 fn extend_one<'f>(
     alloc: Global,
@@ -97,7 +74,7 @@ fn extend_one<'f>(
     bindings: &Bindings<'f>,
     candidates: &[&'f Fact],
 ) -> Result<(), NoMemory>
-    ensures { OnOk result (out.new.items ≡ out.old.items ++ map (with_fact bindings.now) (filter (passes pattern.now bindings.now) (lent candidates.now))) }
+    ensures { OnOk result (out.new.items ≡ out.old.items ++ extended_by pattern.now (lent candidates.now) bindings.now) }
 {
     for fact in candidates {
         if bindings.are_passed_by(pattern, fact) {
@@ -115,7 +92,7 @@ pub(crate) fn extend_all<'f>(
     all: &[Bindings<'f>],
     candidates: &[&'f Fact],
 ) -> Result<(), NoMemory>
-    ensures { OnOk result (out.new.items ≡ out.old.items ++ flat_map (λ t. map (with_fact t) (filter (passes pattern.now t) (lent candidates.now))) all.now) }
+    ensures { OnOk result (out.new.items ≡ out.old.items ++ flat_map (extended_by pattern.now (lent candidates.now)) all.now) }
 {
     for bindings in all {
         extend_one(alloc, out, pattern, bindings, candidates)?;

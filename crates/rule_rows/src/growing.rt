@@ -1,50 +1,53 @@
-ghost use Rattle.std.specs.Prelude.{◌≡◌, ◌++◌, ◌∷◌, [], ◌⊎◌, ◌<◌, ◌||◌, true, length, map, IfOk};
-ghost use Rattle.std.specs.List.{filter, flat_map, list_any};
+ghost use Rattle.std.specs.Prelude.{◌≡◌, ◌++◌, ◌∷◌, [], ◌+◌, ◌<◌, ◌||◌, true, false, length, if◌then◌else◌, IfOk, IfSome, IfNone};
+ghost use Rattle.std.specs.List.{flat_map};
 ghost use Rattle.fact_store.specs.Held.{facts_of};
 ghost use Rattle.row_delta.specs.Rows.{has};
 ghost use Rattle.row_delta.specs.declared.row.Row.{Row};
 ghost use Rattle.rule_model.specs.declared.condition.Condition.TheVariants.{Plain};
-ghost use Rattle.rule_model.specs.Looked.{lent};
-ghost use Rattle.rule_model.specs.Rows.{candidates as candidates_of, with_fact, passes, extended, rows};
-ghost use Rattle.rule_rows.specs.Found.{may_bind, names_tag, AreNew};
+ghost use Rattle.rule_model.specs.Lent.{lent};
+ghost use Rattle.rule_model.specs.Rows.{candidates as candidates_of, rows};
+ghost use Rattle.rule_rows.specs.Found.{extended, extended_by, with_next, may_bind, may_bind_from, AreNew};
+ghost use Rattle.rule_rows.specs.Over.{over, names_tag};
 
-use crate::bindings::{Bindings, candidates, does_fit, extend_all, rows_named};
+use crate::bindings::{Bindings, extend_all, rows_named};
 use crate::finding::unbound;
+use crate::moment::Moment;
 use crate::older::Older;
 use fact_store::FactStore;
-use fx_base::{Fact, NoMemory, Seq};
+use fx_base::{Fact, Millis, NoMemory, Seq};
 use row_delta::Row;
-use rule_model::{Condition, Pattern, Rule};
+use rule_model::{Condition, Pattern, Program};
 use std::alloc::Global;
 
-fn may_be_bound(condition: &Condition, fact: &Fact) -> bool
-    ensures { result ≡ may_bind fact.now condition.now }
+// The place of the last condition that may bind the fact.
+fn last_place(moment: &Moment, conditions: &[Condition], fact: &Fact) -> Option<usize>
+    ensures found { IfSome result (λ last. may_bind_from moment.now.program.now moment.now.clock fact.now conditions.now last ≡ true) }
+    ensures last { IfSome result (λ last. may_bind_from moment.now.program.now moment.now.clock fact.now conditions.now (last + 1) ≡ false) }
+    ensures none { IfNone result (may_bind_from moment.now.program.now moment.now.clock fact.now conditions.now 0 ≡ false) }
 {
-    match condition {
-        Condition::Plain(pattern) => does_fit(pattern, fact),
+    let mut place = conditions.len();
+    while place > 0 {
+        place -= 1;
+        if moment.may_bind(&conditions[place], fact) {
+            return Some(place);
+        }
     }
-}
-
-fn some_may_bind(conditions: &[Condition], fact: &Fact) -> bool
-    ensures { result ≡ list_any (may_bind fact.now) conditions.now }
-{
-    conditions
-        .iter()
-        .any(|condition| may_be_bound(condition, fact))
+    None
 }
 
 // The candidates among the older facts, where they are needed.
 fn older_candidates<'f>(
     alloc: Global,
+    moment: &Moment,
     pattern: &Pattern,
     facts: &mut Older<'f>,
     needed: bool,
 ) -> Result<Vec<&'f Fact>, NoMemory>
     ensures same { facts.new ≡ facts.old }
-    ensures found { IfOk result (λ found. needed ≡ true → lent found.items ≡ candidates_of pattern.now facts.old) }
+    ensures found { IfOk result (λ found. lent found.items ≡ (if needed then candidates_of moment.now.program.now pattern.now (over facts.old moment.now.clock) else [])) }
 {
     if needed {
-        facts.candidates(alloc, pattern)
+        facts.candidates(alloc, moment, pattern)
     } else {
         Ok(Vec::new(alloc))
     }
@@ -58,44 +61,47 @@ fn extended_if<'f>(
     candidates: &[&'f Fact],
     needed: bool,
 ) -> Result<Vec<Bindings<'f>>, NoMemory>
-    ensures { IfOk result (λ next. needed ≡ true → next.items ≡ flat_map (λ t. map (with_fact t) (filter (passes pattern.now t) (lent candidates.now))) all.now) }
+    ensures { IfOk result (λ next. next.items ≡ (if needed then flat_map (extended_by pattern.now (lent candidates.now)) all.now else [])) }
 {
     let mut next = Vec::new(alloc);
-    if !needed {
-        return Ok(next);
+    if needed {
+        extend_all(alloc, &mut next, pattern, all, candidates)?;
     }
-    extend_all(alloc, &mut next, pattern, all, candidates)?;
-    Ok(next)
-}
-
-// The bindings with a new fact that a pattern makes of those with it and those without it.
-fn with_new<'f>(
-    alloc: Global,
-    pattern: &Pattern,
-    with: &[Bindings<'f>],
-    without: &[Bindings<'f>],
-    older: &[&'f Fact],
-    new: &[&'f Fact],
-) -> Result<Vec<Bindings<'f>>, NoMemory>
-    ensures { IfOk result (λ next. next.items ≡ flat_map (λ t. map (with_fact t) (filter (passes pattern.now t) (lent older.now))) with.now
-        ++ (flat_map (λ t. map (with_fact t) (filter (passes pattern.now t) (lent new.now))) with.now
-        ++ flat_map (λ t. map (with_fact t) (filter (passes pattern.now t) (lent new.now))) without.now)) }
-{
-    let mut next = Vec::new(alloc);
-    extend_all(alloc, &mut next, pattern, with, older)?;
-    extend_all(alloc, &mut next, pattern, with, new)?;
-    extend_all(alloc, &mut next, pattern, without, new)?;
     Ok(next)
 }
 
 /// Bindings with a new fact, and those without it, of the same conditions.
 #[derive(Drop)]
 struct Growing<'f> {
+    fact: &'f Fact,
     with: Vec<Bindings<'f>>,
     without: Vec<Bindings<'f>>,
 }
 
 impl<'f> Growing<'f> {
+    // The bindings with the new fact that a pattern makes of both: of those with it by the older facts, and, where it is a candidate,
+    // of both by itself.
+    fn extended_with(
+        &self,
+        alloc: Global,
+        pattern: &Pattern,
+        older: &[&'f Fact],
+        fits: bool,
+    ) -> Result<Vec<Bindings<'f>>, NoMemory>
+        ensures { IfOk result (λ next. next.items ≡ flat_map (extended_by pattern.now (lent older.now)) self.now.with.items
+            ++ (flat_map (extended_by pattern.now (if fits then self.now.fact.now ∷ [] else [])) self.now.with.items
+            ++ flat_map (extended_by pattern.now (if fits then self.now.fact.now ∷ [] else [])) self.now.without.items)) }
+    {
+        let mut next = Vec::new(alloc);
+        extend_all(alloc, &mut next, pattern, &self.with, older)?;
+        if !fits {
+            return Ok(next);
+        }
+        extend_all(alloc, &mut next, pattern, &self.with, &[self.fact])?;
+        extend_all(alloc, &mut next, pattern, &self.without, &[self.fact])?;
+        Ok(next)
+    }
+
     // Whether older facts are looked at: if there are bindings with the new fact, or more conditions may bind it.
     fn needs_older(&self, more: bool) -> bool
         ensures some { 0 < length self.now.with.items → result ≡ true }
@@ -108,40 +114,49 @@ impl<'f> Growing<'f> {
     fn next_plain(
         &self,
         alloc: Global,
+        moment: &Moment,
         pattern: &Pattern,
         facts: &mut Older<'f>,
-        fact: &'f Fact,
+        fits: bool,
         more: bool,
     ) -> Result<Growing<'f>, NoMemory>
+        requires { fits ≡ may_bind moment.now.program.now moment.now.clock self.now.fact.now (Plain pattern.now) }
         ensures same { facts.new ≡ facts.old }
-        ensures with { IfOk result (λ next. next.with.items ≡ flat_map (extended facts.old (Plain pattern.now)) self.now.with.items
-            ++ (flat_map (extended (fact.now ∷ []) (Plain pattern.now)) self.now.with.items ++ flat_map (extended (fact.now ∷ []) (Plain pattern.now)) self.now.without.items)) }
-        ensures without { more ≡ true → IfOk result (λ next. next.without.items ≡ flat_map (extended facts.old (Plain pattern.now)) self.now.without.items) }
+        ensures fact { IfOk result (λ next. next.fact.now ≡ self.now.fact.now) }
+        ensures with { IfOk result (λ next. next.with.items ≡ with_next moment.now.program.now moment.now.clock facts.old self.now.fact.now (Plain pattern.now) self.now.with.items self.now.without.items) }
+        ensures without { IfOk result (λ next. next.without.items ≡ (if more then flat_map (extended moment.now.program.now (over facts.old moment.now.clock) (Plain pattern.now)) self.now.without.items else [])) }
     {
-        let needed = self.needs_older(more);
-        let older = older_candidates(alloc, pattern, facts, needed)?;
-        let new = candidates(alloc, pattern, &[fact])?;
-        let with = with_new(alloc, pattern, &self.with, &self.without, &older, &new)?;
+        let older = older_candidates(alloc, moment, pattern, facts, self.needs_older(more))?;
+        let with = self.extended_with(alloc, pattern, &older, fits)?;
         let without = extended_if(alloc, pattern, &self.without, &older, more)?;
-        Ok(Growing { with, without })
+        Ok(Growing {
+            fact: self.fact,
+            with,
+            without,
+        })
     }
 
-    // What one condition makes of them. Those without the fact are left out unless more conditions may bind it.
+    // What one condition makes of them, by whether it may bind the fact, and whether more conditions may. Those without the fact are
+    // left out unless more conditions may bind it.
     fn next(
         &self,
         alloc: Global,
+        moment: &Moment,
         condition: &Condition,
         facts: &mut Older<'f>,
-        fact: &'f Fact,
+        fits: bool,
         more: bool,
     ) -> Result<Growing<'f>, NoMemory>
+        requires { fits ≡ may_bind moment.now.program.now moment.now.clock self.now.fact.now condition.now }
         ensures same { facts.new ≡ facts.old }
-        ensures with { IfOk result (λ next. next.with.items ≡ flat_map (extended facts.old condition.now) self.now.with.items
-            ++ (flat_map (extended (fact.now ∷ []) condition.now) self.now.with.items ++ flat_map (extended (fact.now ∷ []) condition.now) self.now.without.items)) }
-        ensures without { more ≡ true → IfOk result (λ next. next.without.items ≡ flat_map (extended facts.old condition.now) self.now.without.items) }
+        ensures fact { IfOk result (λ next. next.fact.now ≡ self.now.fact.now) }
+        ensures with { IfOk result (λ next. next.with.items ≡ with_next moment.now.program.now moment.now.clock facts.old self.now.fact.now condition.now self.now.with.items self.now.without.items) }
+        ensures without { IfOk result (λ next. next.without.items ≡ (if more then flat_map (extended moment.now.program.now (over facts.old moment.now.clock) condition.now) self.now.without.items else [])) }
     {
         match condition {
-            Condition::Plain(pattern) => self.next_plain(alloc, pattern, facts, fact, more),
+            Condition::Plain(pattern) => {
+                self.next_plain(alloc, moment, pattern, facts, fits, more)
+            }
         }
     }
 }
@@ -149,39 +164,45 @@ impl<'f> Growing<'f> {
 // The bindings that come with the new fact.
 fn new_bindings<'f>(
     alloc: Global,
+    moment: &Moment,
     facts: &'f FactStore,
     fact: &'f Fact,
     conditions: &[Condition],
 ) -> Result<Vec<Bindings<'f>>, NoMemory>
-    ensures { IfOk result (λ come. AreNew (facts_of facts.now) fact.now conditions.now come.items) }
+    ensures { IfOk result (λ come. AreNew moment.now.program.now moment.now.clock (facts_of facts.now) fact.now conditions.now come.items) }
 {
-    if !some_may_bind(conditions, fact) {
-        return Ok(Vec::new(alloc));
-    }
+    let last = match last_place(moment, conditions, fact) {
+        Some(last) => last,
+        None => return Ok(Vec::new(alloc)),
+    };
     let mut older = Older::of(facts);
     let mut growing = Growing {
+        fact,
         with: Vec::new(alloc),
         without: unbound(alloc)?,
     };
     for (place, condition) in conditions.iter().enumerate() {
-        let more = some_may_bind(&conditions[place + 1..], fact);
-        growing = growing.next(alloc, condition, &mut older, fact, more)?;
+        let more = place < last;
+        let fits = place == last || more && moment.may_bind(condition, fact);
+        growing = growing.next(alloc, moment, condition, &mut older, fits, more)?;
     }
     Ok(growing.with)
 }
 
-/// The rows of a rule that come when a fact is added behind those of a store: each of them names it. Where none of the
-/// patterns takes the fact, no other fact is looked at.
+/// The rows of conditions, at a clock, that come when a fact is added behind those of a store: each of them names it. Where none of
+/// the conditions takes the fact, no other fact is looked at, and it takes no memory.
 pub fn rows_with(
     alloc: Global,
+    program: &Program,
+    clock: Millis,
     facts: &FactStore,
     fact: &Fact,
-    rule: &Rule,
+    conditions: &[Condition],
 ) -> Result<Seq<Row>, NoMemory>
-    ensures grown { IfOk result (λ come. (row : Row) → has (rows (facts_of facts.now ++ fact.now ∷ []) rule.now) row ≡ (has (rows (facts_of facts.now) rule.now) row || has come row)) }
+    ensures grown { IfOk result (λ come. (row : Row) → has (rows program.now (over (facts_of facts.now ++ fact.now ∷ []) clock) conditions.now) row
+        ≡ (has (rows program.now (over (facts_of facts.now) clock) conditions.now) row || has come row)) }
     ensures named { IfOk result (λ come. (row : Row) → has come row ≡ true → names_tag fact.now.tag row ≡ true) }
-    ensures rows { IfOk result (λ come. (row : Row) → has come row ≡ true → has (rows (facts_of facts.now ++ fact.now ∷ []) rule.now) row ≡ true) }
 {
-    let come = new_bindings(alloc, facts, fact, rule.conditions.as_slice())?;
+    let come = new_bindings(alloc, &Moment { program, clock }, facts, fact, conditions)?;
     rows_named(alloc, &come)
 }

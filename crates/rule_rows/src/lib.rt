@@ -1,5 +1,5 @@
-//! Finds the rows of rules over the facts of a store: all of them, those that come with one fact more, or what a change of one fact
-//! does to them.
+//! Finds the rows of conditions over the facts of a store: all of them, those that come with one fact more, or what a change of one
+//! fact does to them.
 //! It stands on the definitions of `rule_model` and on the calls of `fact_store`.
 #![tactic(auto)]
 
@@ -7,6 +7,7 @@ mod bindings;
 mod changing;
 mod finding;
 mod growing;
+mod moment;
 mod older;
 
 pub use changing::difference;

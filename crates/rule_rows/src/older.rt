@@ -1,9 +1,10 @@
 ghost use Rattle.std.specs.Prelude.{◌≡◌, IfOk};
 ghost use Rattle.fact_store.specs.Held.{facts_of};
-ghost use Rattle.rule_model.specs.Looked.{lent};
+ghost use Rattle.rule_model.specs.Lent.{lent};
 ghost use Rattle.rule_model.specs.Rows.{candidates as candidates_of};
+ghost use Rattle.rule_rows.specs.Over.{over};
 
-use crate::bindings::candidates;
+use crate::moment::Moment;
 use fact_store::FactStore;
 use fx_base::{Fact, NoMemory};
 use rule_model::Pattern;
@@ -21,7 +22,7 @@ impl<'f> Model for Older<'f> {
     ghost use Rattle.std.specs.Prelude.{◌≡◌, List, IfSome};
     ghost use Rattle.fx_base.specs.declared.fact.Fact.{Fact};
     ghost use Rattle.fact_store.specs.Held.{facts_of};
-    ghost use Rattle.rule_model.specs.Looked.{lent};
+    ghost use Rattle.rule_model.specs.Lent.{lent};
 
     ghost Value = { List Fact };
 
@@ -44,16 +45,17 @@ impl<'f> Older<'f> {
     pub(crate) fn candidates(
         &mut self,
         alloc: Global,
+        moment: &Moment,
         pattern: &Pattern,
     ) -> Result<Vec<&'f Fact>, NoMemory>
         ensures same { self.new ≡ self.old }
-        ensures found { IfOk result (λ found. lent found.items ≡ candidates_of pattern.now self.old) }
+        ensures found { IfOk result (λ found. lent found.items ≡ candidates_of moment.now.program.now pattern.now (over self.old moment.now.clock)) }
     {
         if let Some(all) = &self.listed {
-            return candidates(alloc, pattern, all);
+            return moment.candidates(alloc, pattern, all);
         }
         let all = self.store.facts(alloc)?;
-        let found = candidates(alloc, pattern, &all);
+        let found = moment.candidates(alloc, pattern, &all);
         self.listed = Some(all);
         found
     }

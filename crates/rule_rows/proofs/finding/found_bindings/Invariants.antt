@@ -1,8 +1,8 @@
-use Rattle.std.proofs.Common.{◌≡◌, [], ◌∷◌, drop}
-use Rattle.rule_model.specs.Looked.{lent}
-use Rattle.rule_model.specs.Tests.{empty_tuple}
-use Rattle.rule_model.specs.Rows.{tuples_from}
+use Rattle.std.proofs.Common.{drop}
+use Rattle.rule_model.specs.Lent.{lent}
+use Rattle.rule_rows.specs.Over.{over}
+use Rattle.rule_rows.proofs.Leading.{Leads}
 use Rattle.rule_rows.proofs.finding.found_bindings.Given as goal
 
 abbrev pub invariant-loop-condition : goal.invariant-loop-condition
-invariant-loop-condition l = tuples_from (lent l.facts) l.all.items (drop l.condition-index l.conditions) ≡ tuples_from (lent l.facts) (empty_tuple ∷ []) l.conditions
+invariant-loop-condition l = Leads l.moment.program.now (over (lent l.facts) l.moment.clock) l.conditions (drop l.condition-index l.conditions) l.all.items

@@ -1,5 +1,5 @@
 use Rattle.std.proofs.Common.{◌≡◌, ◌++◌, map, drop}
-use Rattle.rule_model.specs.Looked.{lent}
+use Rattle.rule_model.specs.Lent.{lent}
 use Rattle.rule_model.specs.Rows.{name_of}
 use Rattle.rule_rows.proofs.bindings.Bindings.row.Given as goal
 

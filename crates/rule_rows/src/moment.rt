@@ -1,0 +1,54 @@
+ghost use Rattle.std.specs.Prelude.{◌≡◌, IfOk};
+ghost use Rattle.rule_model.specs.Lent.{lent};
+ghost use Rattle.rule_model.specs.Rows.{fits, candidates as candidates_of};
+ghost use Rattle.rule_rows.specs.Found.{may_bind};
+ghost use Rattle.rule_rows.specs.Over.{over};
+
+use fx_base::{Fact, Millis, NoMemory};
+use rule_model::{Condition, Pattern, Program};
+use std::alloc::Global;
+
+/// A program at a clock: with it a pattern settles which facts are its candidates.
+#[derive(Drop)]
+pub(crate) struct Moment<'p> {
+    pub(crate) program: &'p Program,
+    pub(crate) clock: Millis,
+}
+
+impl<'p> Moment<'p> {
+    fn does_fit(&self, pattern: &Pattern, fact: &Fact) -> bool
+        ensures { result ≡ fits self.now.program.now pattern.now self.now.clock fact.now }
+    {
+        fact.ty == pattern.ty
+            && fact.entry == pattern.entry
+            && self.program.is_present(self.clock, fact)
+            && pattern.passes_alone(fact)
+    }
+
+    /// Whether the fact is a candidate of the condition.
+    pub(crate) fn may_bind(&self, condition: &Condition, fact: &Fact) -> bool
+        ensures { result ≡ may_bind self.now.program.now self.now.clock fact.now condition.now }
+    {
+        match condition {
+            Condition::Plain(pattern) => self.does_fit(pattern, fact),
+        }
+    }
+
+    /// The candidates of a pattern among these facts.
+    pub(crate) fn candidates<'f>(
+        &self,
+        alloc: Global,
+        pattern: &Pattern,
+        facts: &[&'f Fact],
+    ) -> Result<Vec<&'f Fact>, NoMemory>
+        ensures { IfOk result (λ found. lent found.items ≡ candidates_of self.now.program.now pattern.now (over (lent facts.now) self.now.clock)) }
+    {
+        let mut found = Vec::new(alloc);
+        for fact in facts {
+            if self.does_fit(pattern, fact) {
+                found.push(*fact)?;
+            }
+        }
+        Ok(found)
+    }
+}
