@@ -1,10 +1,9 @@
 -- Firings lead from lawful worlds to lawful ones.
 use Rattle.std.proofs.Common.{◌≡◌, inl, inr, not, true, List, [], ◌∷◌, Option, Some, None, refl, sym, ◌∙◌, subst}
-use Rattle.std.specs.Prelude.{Result, Ok, Err, slice_get}
+use Rattle.std.specs.Prelude.{Ok, slice_get}
 use Rattle.fx_base.specs.declared.ids.Tag.{Tag}
 use Rattle.fx_base.specs.declared.fact.Fact.{Fact}
 use Rattle.rule_model.specs.declared.action.Action.{Action}
-use Rattle.rule_world.specs.declared.code.Code.{Code}
 use Rattle.rule_model.specs.declared.matched.Match.{Match}
 use Rattle.rule_model.specs.declared.program.Program.{Program}
 use Rattle.rule_model.specs.declared.program.Rule.{Rule}

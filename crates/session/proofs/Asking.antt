@@ -1,5 +1,4 @@
 -- Changes lead from lawful worlds to lawful ones.
-use Rattle.std.proofs.Common.{◌≡◌}
 use Rattle.rule_model.specs.declared.program.Program.{Program}
 use Rattle.rule_world.specs.Lawful.{IsLawful}
 use Rattle.rule_world.specs.Programs.{IsRunnable}

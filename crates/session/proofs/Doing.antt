@@ -1,12 +1,10 @@
 -- Steps that are done or refused lead from lawful worlds to lawful ones, and facts keep their types.
-use Rattle.std.proofs.Common.{◌≡◌, inl, inr, true, List, [], ◌∷◌, Option, Some, None, Result, Ok, Err, refl, sym}
-use Rattle.fx_base.specs.Lists.{In}
+use Rattle.std.proofs.Common.{◌≡◌, inl, inr, List, [], ◌∷◌, Option, Some, None, Result, Ok, Err, refl, sym}
 use Rattle.rule_model.specs.declared.program.Program.{Program}
 use Rattle.rule_model.specs.declared.step.Step.{Step}
 use Rattle.rule_world.specs.declared.code.Code.{Code}
-use Rattle.rule_world.specs.Kinds.{step_fits}
 use Rattle.rule_world.specs.Lawful.{IsLawful, IsOrdered}
-use Rattle.rule_world.specs.Worlds.{World, fact_of, step_fault, stepped}
+use Rattle.rule_world.specs.Worlds.{World, step_fault}
 use Rattle.rule_world.proofs.Lawfuls.{step_lawful}
 use Rattle.rule_world.proofs.Staying.{Stays, fits_later, same_stays, stays_on, step_stays}
 use Rattle.session.specs.Gives.{does, does_all, tries_with}

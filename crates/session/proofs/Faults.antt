@@ -1,7 +1,6 @@
 -- The faults of steps, by what a session has.
-use Rattle.std.proofs.Common.{◌≡◌, ◌≤◌, ◌^◌, ℕ, ℤ, pos, negsuc, ◌+◌, ◌+ℤ◌, ◌-ℤ◌, ◌≤ℤ◌, Bool, true, false, List, Option, Some, None, slice_get, Bor, FitsSigned, to_z, of_z, to_z-of_z, w64, refl, sym, ◌∙◌, ap, arith}
+use Rattle.std.proofs.Common.{◌≡◌, ◌≤◌, ◌^◌, ℕ, ℤ, pos, negsuc, ◌+◌, ◌+ℤ◌, ◌≤ℤ◌, Bool, true, false, List, Option, Some, None, slice_get, Bor, FitsSigned, to_z, of_z, to_z-of_z, w64, refl, sym, ◌∙◌, ap, arith}
 use Rattle.std.specs.Prelude.{if◌then◌else◌, int_lt, IfNone, IfSome, option_map}
-use Rattle.std.specs.Int.{int_max}
 use Rattle.std.proofs.lemmas.Int.{ints}
 use Rattle.fx_base.specs.declared.ids.EntryId.{EntryId}
 use Rattle.fx_base.specs.declared.ids.FactId.{FactId}
@@ -15,7 +14,7 @@ use Rattle.rule_world.specs.declared.code.Code.TheVariants.{Absent, ClockBack, C
 use Rattle.rule_model.specs.declared.program.Program.{Program}
 use Rattle.rule_model.specs.declared.step.Step.TheVariants.{Insert, Modify, Retract, Advance, At}
 use Rattle.rule_world.specs.Events.{clock_fault, most_millis, new_fault, times_of}
-use Rattle.rule_world.specs.Worlds.{World, at_clock, is_of_type, modify_fault, moved, retract_fault, settled, snapshot, step_fault, stepped, with_new, with_revised, without_fact}
+use Rattle.rule_world.specs.Worlds.{World, at_clock, is_of_type, modify_fault, moved, retract_fault, settled, step_fault, stepped, with_new, with_revised, without_fact}
 use Rattle.rule_model.specs.Snapshots.{floor, floor_by}
 use Rattle.rule_model.specs.Types.{is_event, lateness_of}
 use Rattle.rule_world.proofs.Vain.{vain_retraction}

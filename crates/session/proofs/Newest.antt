@@ -1,5 +1,5 @@
 -- The fact of an id, as a session has it and as the world has it.
-use Rattle.std.proofs.Common.{◌≡◌, ℕ, suc, zero, ◌<◌, ◌≤◌, ◌⊎◌, inl, inr, Bool, true, false, cond, List, [], ◌∷◌, Option, Some, None, refl, sym, ◌∙◌, ap, subst, arith}
+use Rattle.std.proofs.Common.{◌≡◌, ℕ, suc, zero, ◌<◌, ◌≤◌, ◌⊎◌, inl, inr, Bool, true, false, Option, Some, None, refl, sym, ◌∙◌, ap, subst, arith}
 use Rattle.std.specs.Prelude.{nat_eq, nat_lt, if◌then◌else◌}
 use Rattle.std.proofs.lemmas.Bool.Decides.{nat_tests}
 use Rattle.fx_base.specs.declared.ids.Tag.{Tag}
@@ -7,8 +7,8 @@ use Rattle.fx_base.specs.declared.fact.Fact.{Fact}
 use Rattle.fact_store.specs.Held.{HeldFacts, IsNewest, HoldsNone, is_id}
 use Rattle.rule_model.specs.declared.program.Program.{Program}
 use Rattle.fx_base.specs.Lists.{In}
-use Rattle.rule_world.specs.Worlds.{World, fact_of, has_id}
-use Rattle.rule_world.proofs.Fresh.{below_of, has_number}
+use Rattle.rule_world.specs.Worlds.{World, fact_of}
+use Rattle.rule_world.proofs.Fresh.{below_of}
 use Rattle.rule_world.proofs.Found.{fact_in}
 use Rattle.rule_world.proofs.Ids.{one_id}
 use Rattle.rule_world.proofs.Staying.{found_in}

@@ -1,4 +1,3 @@
-use Rattle.std.proofs.Common.{Ok, Err}
 use Rattle.std.proofs.lemmas.Result.{IfOk-weaker}
 use Rattle.session.proofs.Tried.{refused_stands, tried_stands}
 use Rattle.session.proofs.state.State.apply.Goals as goal

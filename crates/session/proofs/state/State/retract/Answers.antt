@@ -1,4 +1,4 @@
-use Rattle.std.proofs.Common.{◌≡◌, Some, None, true, false, refl, sym, ◌∙◌, ap}
+use Rattle.std.proofs.Common.{◌≡◌, Some, None, true, false, refl, sym}
 use Rattle.std.proofs.lemmas.Result.{IfOk-weaker}
 use Rattle.rule_world.specs.declared.code.Code.TheVariants.{Absent}
 use Rattle.rule_model.specs.declared.step.Step.TheVariants.{Retract}
