@@ -1,7 +1,6 @@
 -- The faults of steps, by what a session has.
-use Rattle.std.proofs.Common.{◌≡◌, ◌≤◌, ◌^◌, ℕ, ℤ, pos, negsuc, ◌+◌, ◌+ℤ◌, ◌-ℤ◌, ◌≤ℤ◌, Bool, true, false, List, Option, Some, None, slice_get, Bor, FitsSigned, to_z, of_z, to_z-of_z, w64, refl, sym, ◌∙◌, ap, arith}
+use Rattle.std.proofs.Common.{◌≡◌, ◌≤◌, ◌^◌, ℕ, ℤ, pos, negsuc, ◌+◌, ◌+ℤ◌, ◌≤ℤ◌, Bool, true, false, List, Option, Some, None, slice_get, Bor, FitsSigned, to_z, of_z, to_z-of_z, w64, refl, sym, ◌∙◌, ap, arith}
 use Rattle.std.specs.Prelude.{if◌then◌else◌, int_lt, IfNone, IfSome, option_map}
-use Rattle.std.specs.Int.{int_max}
 use Rattle.std.proofs.lemmas.Int.{ints}
 use Rattle.fx_base.specs.declared.ids.EntryId.{EntryId}
 use Rattle.fx_base.specs.declared.ids.FactId.{FactId}
@@ -15,12 +14,12 @@ use Rattle.rule_world.specs.declared.code.Code.TheVariants.{Absent, ClockBack, C
 use Rattle.rule_model.specs.declared.program.Program.{Program}
 use Rattle.rule_model.specs.declared.step.Step.TheVariants.{Insert, Modify, Retract, Advance, At}
 use Rattle.rule_world.specs.Events.{clock_fault, most_millis, new_fault, times_of}
-use Rattle.rule_world.specs.Worlds.{World, at_clock, is_of_type, lateness_of, modify_fault, retract_fault, step_fault, stepped, with_new}
-use Rattle.rule_model.specs.Snapshots.{floor}
-use Rattle.rule_model.specs.Types.{is_event}
+use Rattle.rule_world.specs.Worlds.{World, at_clock, is_of_type, modify_fault, moved, retract_fault, settled, step_fault, stepped, with_new, with_revised, without_fact}
+use Rattle.rule_model.specs.Snapshots.{floor, floor_by}
+use Rattle.rule_model.specs.Types.{is_event, lateness_of}
 use Rattle.rule_world.proofs.Vain.{vain_retraction}
 use Rattle.session.specs.Places.{IsSafe, floor_in, newest}
-use Rattle.session.specs.Standing.{Kept, Standing}
+use Rattle.session.specs.Standing.{Contents, Standing}
 use Rattle.session.proofs.Members.{got_old, none_left}
 use Rattle.session.proofs.Newest.{store_found, store_none, world_found}
 use Rattle.session.proofs.Stands.{for_world, own}
@@ -57,7 +56,7 @@ zero_clock = (omega (arith, ints), omega (arith, ints))
 
 -- ---- insertions
 
-abbrev pub numbered : Kept → TypeId → EntryId → List Value → Times → Fact
+abbrev pub numbered : Contents → TypeId → EntryId → List Value → Times → Fact
 numbered k ty entry fields times = record {
   id = record { 0 = k.next_id };
   ty = ty;
@@ -67,50 +66,58 @@ numbered k ty entry fields times = record {
   times = times;
 }
 
-module _ (p : Program) (k : Kept) (w : World) (st : Standing p.rules k w) where
+module _ (p : Program) (k : Contents) (w : World) (st : Standing p k w) where
   module _ (ty : TypeId) (entry : EntryId) (fields : List Value) where
-    pub insert_fault : (o : Option Code) → new_fault (slice_get p.types ty.0) (floor_in p.entries k.last_starts k.clock entry.0) k.clock fields ≡ o → step_fault p w (Insert ty entry fields) ≡ o
+    pub insert_fault : (o : Option Code) → new_fault (slice_get p.types ty.0) (floor_in p k.last_starts k.clock entry.0) k.clock fields ≡ o → step_fault p w (Insert ty entry fields) ≡ o
     unfolding step_fault floor
     insert_fault o e =
-        ap (λ z. new_fault (slice_get p.types ty.0) (int_max z (w.clock -ℤ lateness_of (slice_get p.entries entry.0))) w.clock fields) (sym (st.last_starts entry.0))
-        ∙ ap (λ z. new_fault (slice_get p.types ty.0) (floor_in p.entries k.last_starts z entry.0) z fields) (sym st.clock) ∙ e
+        ap (λ z. new_fault (slice_get p.types ty.0) (floor_by (lateness_of p entry.0) z w.clock) w.clock fields) (sym (st.mirrors.last_starts entry.0))
+        ∙ ap (λ z. new_fault (slice_get p.types ty.0) (floor_in p k.last_starts z entry.0) z fields) (sym st.mirrors.clock) ∙ e
 
-    pub insert_done : (times : Times) → times ≡ times_of (slice_get p.types ty.0) k.clock fields → stepped p w (Insert ty entry fields) ≡ with_new p w (numbered k ty entry fields times)
-    unfolding stepped
+    pub insert_done : (times : Times) → times ≡ times_of (slice_get p.types ty.0) k.clock fields → stepped p w (Insert ty entry fields) ≡ settled p (with_new p w (numbered k ty entry fields times))
+    unfolding stepped moved
     insert_done times e =
-        for_world p.rules k w (λ v. stepped p v (Insert ty entry fields) ≡ with_new p v (numbered k ty entry fields times)) st
-        (λ s. ap (λ t. with_new p (own k w) (numbered k ty entry fields t)) (sym e))
+        for_world p k w (λ v. stepped p v (Insert ty entry fields) ≡ settled p (with_new p v (numbered k ty entry fields times))) st
+        (λ s. ap (λ t. settled p (with_new p (own k w) (numbered k ty entry fields t))) (sym e))
 
   -- ---- modifications and retractions
 
   pub modify_fault_is : (id : FactId) (sets : List (ℕ × Value)) (o : Option Code) → modify_fault p (newest k id.0) ≡ o → step_fault p w (Modify id sets) ≡ o
   unfolding step_fault
-  modify_fault_is id sets o e = ap (modify_fault p) (sym (world_found p.rules k w st id.0)) ∙ e
+  modify_fault_is id sets o e = ap (modify_fault p) (sym (world_found p k w st id.0)) ∙ e
 
   pub retract_fault_is : (ty : TypeId) (id : FactId) (o : Option Code) → retract_fault p ty.0 (newest k id.0) ≡ o → step_fault p w (Retract ty id) ≡ o
   unfolding step_fault
-  retract_fault_is ty id o e = ap (retract_fault p ty.0) (sym (world_found p.rules k w st id.0)) ∙ e
+  retract_fault_is ty id o e = ap (retract_fault p ty.0) (sym (world_found p k w st id.0)) ∙ e
 
   pub retract_vain : (ty : TypeId) (id : FactId) → is_of_type ty.0 (newest k id.0) ≡ false → stepped p w (Retract ty id) ≡ w
-  retract_vain ty id e = vain_retraction p w ty id st.ordered (ap (is_of_type ty.0) (sym (world_found p.rules k w st id.0)) ∙ e)
+  retract_vain ty id e = vain_retraction p w ty id st.lawful.ordered (ap (is_of_type ty.0) (sym (world_found p k w st id.0)) ∙ e)
 
   -- ---- moves of the clock
 
   pub advance_fault : (by : ℤ) (o : Option Code) → clock_fault k.clock (k.clock +ℤ by) ≡ o → step_fault p w (Advance by) ≡ o
   unfolding step_fault
-  advance_fault by o e = ap (λ z. clock_fault z (z +ℤ by)) (sym st.clock) ∙ e
+  advance_fault by o e = ap (λ z. clock_fault z (z +ℤ by)) (sym st.mirrors.clock) ∙ e
 
-  pub advance_done : (by clock : ℤ) → clock ≡ k.clock +ℤ by → stepped p w (Advance by) ≡ at_clock p w clock
-  unfolding stepped
-  advance_done by clock e = ap (at_clock p w) (ap (λ z. z +ℤ by) (sym st.clock) ∙ sym e)
+  pub advance_done : (by clock : ℤ) → clock ≡ k.clock +ℤ by → stepped p w (Advance by) ≡ settled p (at_clock w clock)
+  unfolding stepped moved
+  advance_done by clock e = ap (λ z. settled p (at_clock w z)) (ap (λ z. z +ℤ by) (sym st.mirrors.clock) ∙ sym e)
 
   pub at_fault : (moment : ℤ) (o : Option Code) → clock_fault k.clock moment ≡ o → step_fault p w (At moment) ≡ o
   unfolding step_fault
-  at_fault moment o e = ap (λ z. clock_fault z moment) (sym st.clock) ∙ e
+  at_fault moment o e = ap (λ z. clock_fault z moment) (sym st.mirrors.clock) ∙ e
 
-pub at_done : (p : Program) (w : World) (moment clock : ℤ) → clock ≡ moment → stepped p w (At moment) ≡ at_clock p w clock
-unfolding stepped
-at_done p w moment clock e = ap (at_clock p w) (sym e)
+pub at_done : (p : Program) (w : World) (moment clock : ℤ) → clock ≡ moment → stepped p w (At moment) ≡ settled p (at_clock w clock)
+unfolding stepped moved
+at_done p w moment clock e = ap (λ z. settled p (at_clock w z)) (sym e)
+
+pub modify_done : (p : Program) (w : World) (id : FactId) (sets : List (ℕ × Value)) → stepped p w (Modify id sets) ≡ settled p (with_revised w id.0 sets)
+unfolding stepped moved
+modify_done p w id sets = refl
+
+pub retract_done : (p : Program) (w : World) (ty : TypeId) (id : FactId) → stepped p w (Retract ty id) ≡ settled p (without_fact w ty.0 id.0)
+unfolding stepped moved
+retract_done p w ty id = refl
 
 -- ---- the fault of a retraction
 
@@ -131,7 +138,7 @@ retract_absent p ty o e h =
 
 -- ---- what the store finds
 
-pub presented : (k : Kept) → IsSafe k.facts k.clock k.next_id k.next_tag → (id : ℕ) (o : Option (Bor Fact)) → IfSome o (λ f. IsNewest k.facts id f.now) → IfNone o (HoldsNone k.facts id)
+pub presented : (k : Contents) → IsSafe k.facts k.clock k.next_id k.next_tag → (id : ℕ) (o : Option (Bor Fact)) → IfSome o (λ f. IsNewest k.facts id f.now) → IfNone o (HoldsNone k.facts id)
     → option_map (λ (f : Bor Fact). f.now) o ≡ newest k id
 presented k safe id None some none = sym (store_none k id none)
 presented k safe id (Some f) some none = sym (store_found k safe id f.now some)

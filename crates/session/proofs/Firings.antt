@@ -6,46 +6,48 @@ use Rattle.rule_model.specs.declared.action.Action.{Action}
 use Rattle.rule_world.specs.declared.code.Code.{Code}
 use Rattle.rule_model.specs.declared.matched.Match.{Match}
 use Rattle.rule_model.specs.declared.program.Program.{Program}
-use Rattle.rule_model.specs.declared.program.Rule.{Rule}
 use Rattle.rule_model.specs.declared.step.Step.{Step}
 use Rattle.rule_model.specs.Lent.{named_at}
 use Rattle.rule_model.specs.Matches.{matches, has_match, match_cmp, fire_cmp, saliences}
 use Rattle.rule_model.specs.MatchOrders.{match_equiv, fire_total}
 use Rattle.rule_model.specs.First.{first}
 use Rattle.rule_model.specs.Planned.{step_of}
-use Rattle.rule_world.specs.Worlds.{World, pending, marked, first_pending}
+use Rattle.rule_world.specs.Programs.{IsRunnable}
+use Rattle.rule_world.specs.Worlds.{World, snapshot, pending, marked, first_pending}
 use Rattle.rule_model.proofs.Exact.{fire_exact}
 use Rattle.rule_model.proofs.Firsts.{first_alike, first_in}
 use Rattle.rule_world.proofs.Pending.{has_pending, by_fire}
-use Rattle.rule_world.proofs.Steps.{firing_in_order}
+use Rattle.rule_world.proofs.Lawfuls.{firing_lawful}
 use Rattle.row_delta.specs.declared.row.Row.{Row}
-use Rattle.agenda.specs.Agendas.{Held}
+use Rattle.agenda.specs.Agendas.{Marks}
 use Rattle.engine.specs.declared.lines.OutLine.{OutLine}
 use Rattle.engine.specs.declared.lines.Fired.TheVariants.{No, Yes}
 use Rattle.session.specs.Gives.{actions_of, does_all, fire_line, fires_with, step_or_overflow, wanted}
+use Rattle.session.specs.Leading.{AllFit}
 use Rattle.session.specs.Places.{planned}
-use Rattle.session.specs.Standing.{AgendaStands, Kept, Standing}
+use Rattle.session.specs.Standing.{AgendaStands, Contents, Standing}
 use Rattle.engine.specs.Answers.{FiringAnswers}
-use Rattle.session.proofs.Stands.{kept}
+use Rattle.session.proofs.Acting.{wanted_fits}
+use Rattle.session.proofs.Stands.{contents}
 
 -- what is planned is what is wanted
-pub planned_wanted : (rules : List Rule) (k : Kept) (w : World) (row : Row) (actions : List Action) → Standing rules k w → planned k.facts row actions ≡ wanted w.facts row actions
-planned_wanted rules k w row actions st =
-    ap (λ look. map (λ (a : Action). step_or_overflow (step_of (named_at look row.facts) row.facts a)) actions) (fun_ext (λ tag. st.facts tag.0))
+pub planned_wanted : (p : Program) (k : Contents) (w : World) (row : Row) (actions : List Action) → Standing p k w → planned k.facts row actions ≡ wanted w.facts row actions
+planned_wanted p k w row actions st =
+    ap (λ look. map (λ (a : Action). step_or_overflow (step_of (named_at look row.facts) row.facts a)) actions) (fun_ext (λ tag. st.mirrors.facts tag.0))
 
 -- the pending match that fires first
-abbrev pub top_of : Held → Option Match
+abbrev pub top_of : Marks → Option Match
 top_of a = first (fire_cmp a.saliences) a.pending
 
 -- the agenda's first is the world's
-pub same_first : (rules : List Rule) (a : Held) (w : World) → AgendaStands rules a w → top_of a ≡ first_pending rules w
-same_first rules a w s =
+pub same_first : (p : Program) (a : Marks) (w : World) → AgendaStands p a w → top_of a ≡ first_pending p w
+same_first p a w s =
     ap (λ z. first (fire_cmp z) a.pending) s.saliences
-    ∙ first_alike (fire_cmp (saliences rules)) (fire_total (saliences rules)) (fire_exact (saliences rules)) a.pending (pending rules w)
-    (λ q. by_fire (saliences rules) q a.pending ∙ s.pending q ∙ sym (by_fire (saliences rules) q (pending rules w)))
+    ∙ first_alike (fire_cmp (saliences p.rules)) (fire_total (saliences p.rules)) (fire_exact (saliences p.rules)) a.pending (pending p w)
+    (λ q. by_fire (saliences p.rules) q a.pending ∙ s.pending q ∙ sym (by_fire (saliences p.rules) q (pending p w)))
 
-pub top_pending : (rules : List Rule) (a : Held) (w : World) (m : Match) → AgendaStands rules a w → Some m ≡ top_of a → has_match (pending rules w) m ≡ true
-top_pending rules a w m s top =
+pub top_pending : (p : Program) (a : Marks) (w : World) (m : Match) → AgendaStands p a w → Some m ≡ top_of a → has_match (pending p w) m ≡ true
+top_pending p a w m s top =
     sym (s.pending m) ∙ sym (by_fire a.saliences m a.pending) ∙ first_in (fire_cmp a.saliences) (fire_total a.saliences) (fire_exact a.saliences) a.pending m (sym top)
 
 -- ---- marking
@@ -64,30 +66,32 @@ or_flip false true = refl
 or_flip false false = refl
 
 -- a session whose first match was marked
-pub marked_stands : (rules : List Rule) (k : Kept) (b : Held) (w : World) (m : Match) → Standing rules k w → b.saliences ≡ k.agenda.saliences
+pub marked_stands : (p : Program) (k : Contents) (b : Marks) (w : World) (m : Match) → Standing p k w → b.saliences ≡ k.agenda.saliences
     → Some m ≡ top_of k.agenda
     → ((q : Match) → has_match b.pending q ≡ (has_match k.agenda.pending q && not (eq_by_cmp match_cmp m q)))
     → ((q : Match) → has_match b.fired q ≡ (has_match k.agenda.fired q || eq_by_cmp match_cmp m q))
-    → Standing rules (kept k.facts k.clock k.last_starts b k.next_id k.next_tag) (marked w m)
-marked_stands rules k b w m st sal top p f =
-    let s : AgendaStands rules k.agenda w = st.agenda in
+    → Standing p (contents k.facts k.clock k.last_starts b k.next_id k.next_tag) (marked w m)
+marked_stands p k b w m st sal top pend fired =
+    let s : AgendaStands p k.agenda w = st.mirrors.agenda in
     record {
-      ordered = firing_in_order rules w m st.ordered (top_pending rules k.agenda w m s top);
-      facts = st.facts;
-      clock = st.clock;
-      last_starts = st.last_starts;
-      next_id = st.next_id;
-      next_tag = st.next_tag;
-      agenda = record {
-        saliences = sal ∙ s.saliences;
-        pending = λ q.
-            p q ∙ ap (λ z. z && not (eq_by_cmp match_cmp m q)) (s.pending q ∙ has_pending rules w q)
-            ∙ ap (λ z. (has_match (matches rules w.facts) q && not (has_match w.fired q)) && not z) (match_equiv.symm m q)
-            ∙ moved (has_match (matches rules w.facts) q) (has_match w.fired q) (eq_by_cmp match_cmp q m)
-            ∙ sym (has_pending rules (marked w m) q);
-        fired = λ q.
-            f q ∙ ap (λ z. z || eq_by_cmp match_cmp m q) (s.fired q) ∙ ap (λ z. has_match w.fired q || z) (match_equiv.symm m q)
-            ∙ or_flip (has_match w.fired q) (eq_by_cmp match_cmp q m);
+      lawful = firing_lawful p w m st.lawful (top_pending p k.agenda w m s top);
+      mirrors = record {
+        facts = st.mirrors.facts;
+        clock = st.mirrors.clock;
+        last_starts = st.mirrors.last_starts;
+        next_id = st.mirrors.next_id;
+        next_tag = st.mirrors.next_tag;
+        agenda = record {
+          saliences = sal ∙ s.saliences;
+          pending = λ q.
+              pend q ∙ ap (λ z. z && not (eq_by_cmp match_cmp m q)) (s.pending q ∙ has_pending p w q)
+              ∙ ap (λ z. (has_match (matches p (snapshot w)) q && not (has_match w.fired q)) && not z) (match_equiv.symm m q)
+              ∙ moved (has_match (matches p (snapshot w)) q) (has_match w.fired q) (eq_by_cmp match_cmp q m)
+              ∙ sym (has_pending p (marked w m) q);
+          fired = λ q.
+              fired q ∙ ap (λ z. z || eq_by_cmp match_cmp m q) (s.fired q) ∙ ap (λ z. has_match w.fired q || z) (match_equiv.symm m q)
+              ∙ or_flip (has_match w.fired q) (eq_by_cmp match_cmp q m);
+        };
       };
     }
 
@@ -97,29 +101,38 @@ some_fires : (p : Program) (w : World) (o : Option Match) → is_some (fires_wit
 some_fires p w None = refl
 some_fires p w (Some m) = refl
 
-pub due_fires : (p : Program) (k : Kept) (w : World) → Standing p.rules k w → is_some (top_of k.agenda) ≡ is_some (fires_with p w (first_pending p.rules w))
-due_fires p k w st = ap is_some (same_first p.rules k.agenda w st.agenda) ∙ sym (some_fires p w (first_pending p.rules w))
+pub due_fires : (p : Program) (k : Contents) (w : World) → Standing p k w → is_some (top_of k.agenda) ≡ is_some (fires_with p w (first_pending p w))
+due_fires p k w st = ap is_some (same_first p k.agenda w st.mirrors.agenda) ∙ sym (some_fires p w (first_pending p w))
 
-abbrev pub plan_of : List Rule → Kept → Option Match → Option (List (Result Step Code))
-plan_of rules k o = option_map (λ (m : Match). planned k.facts m.row (actions_of (slice_get rules m.rule.0))) o
+abbrev pub plan_of : Program → Contents → Option Match → Option (List (Result Step Code))
+plan_of p k o = option_map (λ (m : Match). planned k.facts m.row (actions_of (slice_get p.rules m.rule.0))) o
 
-pub no_fire : (p : Program) (k : Kept) (w : World) (o : Option Match) → None ≡ plan_of p.rules k o → Standing p.rules k w → o ≡ first_pending p.rules w
-    → FiringAnswers (fires_with p w (first_pending p.rules w)) No w (Standing p.rules k)
-no_fire p k w None e st top = subst (λ (z : Option Match). FiringAnswers (fires_with p w z) No w (Standing p.rules k)) top (refl, st)
+pub no_fire : (p : Program) (k : Contents) (w : World) (o : Option Match) → None ≡ plan_of p k o → Standing p k w → o ≡ first_pending p w
+    → FiringAnswers (fires_with p w (first_pending p w)) No w (Standing p k)
+no_fire p k w None e st top = subst (λ (z : Option Match). FiringAnswers (fires_with p w z) No w (Standing p k)) top (refl, st)
 no_fire p k w (Some m) e st top = absurd (cc)
 
-abbrev pub answers : Program → World → Kept → List OutLine → Option Match → Type 0
-answers p w t lines o = FiringAnswers (fires_with p w o) (Yes lines) w (Standing p.rules t)
+-- what is planned for the match that fires first fits the world
+pub plan_fits : (p : Program) (k : Contents) (w : World) (plan : List (Result Step Code)) (m : Match) → IsRunnable p → Standing p k w → Some m ≡ top_of k.agenda
+    → Some plan ≡ plan_of p k (top_of k.agenda) → AllFit p w plan
+plan_fits p k w plan m runnable st top e =
+    let actions = actions_of (slice_get p.rules m.rule.0) in
+    let is : Some plan ≡ plan_of p k (Some m) = e ∙ ap (plan_of p k) (sym top) in
+    let given : plan ≡ planned k.facts m.row actions = cc in
+    subst (AllFit p w) (sym (given ∙ planned_wanted p k w m.row actions st)) (wanted_fits p w m runnable st.lawful (top_pending p k.agenda w m st.mirrors.agenda top))
 
-pub yes_fire : (p : Program) (k t : Kept) (w : World) (plan : List (Result Step Code)) (lines : List OutLine) (o : Option Match) → Some plan ≡ plan_of p.rules k o → Standing p.rules k w → o ≡ top_of k.agenda
-    → ((m : Match) → Some m ≡ top_of k.agenda → Standing p.rules t (does_all p (marked w m) plan).1)
+abbrev pub answers : Program → World → Contents → List OutLine → Option Match → Type 0
+answers p w t lines o = FiringAnswers (fires_with p w o) (Yes lines) w (Standing p t)
+
+pub yes_fire : (p : Program) (k t : Contents) (w : World) (plan : List (Result Step Code)) (lines : List OutLine) (o : Option Match) → Some plan ≡ plan_of p k o → Standing p k w → o ≡ top_of k.agenda
+    → ((m : Match) → Some m ≡ top_of k.agenda → Standing p t (does_all p (marked w m) plan).1)
     → ((m : Match) → Some m ≡ top_of k.agenda → lines ≡ fire_line m ∷ [] ++ (does_all p (marked w m) plan).0)
-    → answers p w t lines (first_pending p.rules w)
+    → answers p w t lines (first_pending p w)
 yes_fire p k t w plan lines None e st top stands written = absurd (cc)
 yes_fire p k t w plan lines (Some m) e st top stands written =
     let actions = actions_of (slice_get p.rules m.rule.0) in
-    let first_is : first_pending p.rules w ≡ Some m = sym (top ∙ same_first p.rules k.agenda w st.agenda) in
+    let first_is : first_pending p w ≡ Some m = sym (top ∙ same_first p k.agenda w st.mirrors.agenda) in
     let given : plan ≡ planned k.facts m.row actions = cc in
-    let same : plan ≡ wanted w.facts m.row actions = given ∙ planned_wanted p.rules k w m.row actions st in
+    let same : plan ≡ wanted w.facts m.row actions = given ∙ planned_wanted p k w m.row actions st in
     subst (answers p w t lines) (sym first_is)
-    (ap Yes (written m top ∙ ap (λ z. fire_line m ∷ [] ++ (does_all p (marked w m) z).0) same), subst (λ z. Standing p.rules t (does_all p (marked w m) z).1) same (stands m top))
+    (ap Yes (written m top ∙ ap (λ z. fire_line m ∷ [] ++ (does_all p (marked w m) z).0) same), subst (λ z. Standing p t (does_all p (marked w m) z).1) same (stands m top))

@@ -11,6 +11,7 @@ use Rattle.row_delta.specs.declared.row.Named.{Named}
 use Rattle.row_delta.specs.declared.row.Row.{Row}
 use Rattle.rule_model.specs.declared.action.Action.{Action}
 use Rattle.rule_world.specs.declared.code.Code.{Code}
+use Rattle.rule_model.specs.declared.life.LifeTable.{LifeTable}
 use Rattle.rule_model.specs.declared.matched.Match.{Match}
 use Rattle.rule_model.specs.declared.program.Program.{Program}
 use Rattle.rule_model.specs.declared.program.Rule.{Rule}
@@ -18,13 +19,14 @@ use Rattle.rule_model.specs.declared.program.TypeInfo.{TypeInfo}
 use Rattle.rule_model.specs.declared.step.Step.{Step}
 use Rattle.rule_world.specs.Kinds.{values_fit, step_fits}
 use Rattle.rule_model.specs.Lent.{named_at}
+use Rattle.rule_model.specs.Lives.{IsTable}
 use Rattle.rule_model.specs.Matches.{matches, has_match}
 use Rattle.rule_model.specs.Numbers.{values_of}
 use Rattle.rule_model.specs.Planned.{id_at, sets_of, type_or_first, step_of}
-use Rattle.rule_world.specs.Programs.{IsAccepted}
+use Rattle.rule_world.specs.Programs.{IsRunnable}
 use Rattle.fx_base.specs.Lists.{In}
 use Rattle.rule_world.specs.Typed.{bound_types, bound_fields, fields_in, args_fit, action_fits, rule_fits, is_typed}
-use Rattle.rule_world.specs.Worlds.{World, empty_world, step_fault, marked}
+use Rattle.rule_world.specs.Worlds.{World, empty_world, snapshot, step_fault, marked}
 use Rattle.rule_world.proofs.Acting.{all_of}
 use Rattle.rule_world.proofs.Fresh.{and_both, and_parts}
 use Rattle.rule_model.proofs.Listed.{of_map}
@@ -34,13 +36,14 @@ use Rattle.script_read.specs.declared.asked.Change.{Change}
 use Rattle.change_read.specs.Changes.{change_step}
 use Rattle.change_read.proofs.Fitting.{asked_fits}
 use Rattle.engine.specs.declared.lines.OutLine.{OutLine}
-use Rattle.session.specs.Gives.{tries_with, does, does_all, actions_of, fire_line}
+use Rattle.session.specs.Gives.{tries_with, does, does_all, actions_of, fire_line, gives}
 use Rattle.engine.specs.Known.{is_known, are_known}
+use Rattle.session.specs.Leading.{AllFit, StandsAfter, Writes}
 use Rattle.session.specs.Places.{newest, planned, planned_for, held_at}
-use Rattle.session.specs.Standing.{Kept, Shown, Standing, StandsForSome}
+use Rattle.session.specs.Standing.{Contents, Shown, Standing, StandsForSome}
 use Rattle.session.proofs.Acting.{asked_step}
-use Rattle.session.proofs.Firings.{plan_of, top_of, top_pending}
-use Rattle.session.proofs.Sessions.{shown, start, empty_stands}
+use Rattle.session.proofs.Firings.{plan_fits, plan_of, top_of, top_pending}
+use Rattle.session.proofs.Sessions.{change_stands, shown, start, empty_stands}
 use Rattle.rule_model.specs.declared.action.Action.TheVariants as action
 use Rattle.rule_model.specs.declared.step.Step.TheVariants as step
 
@@ -134,65 +137,75 @@ planned_known p facts row rule fits s i =
 
 -- ---- a session
 
-module _ (p : Program) (k : Kept) (s : Shown) (e : shown p k ≡ s) (some : StandsForSome p k) where
-  shown_known : (lines : List OutLine) → are_known p lines ≡ true → are_known s.program lines ≡ true
-  shown_known lines known = subst (λ (z : Shown). are_known z.program lines ≡ true) e known
+-- what a firing does in a world for which a session stands
+abbrev pub FiresInto : Program → Contents → List (Result Step Code) → Contents → Type 0
+FiresInto p k plan t = (v : World) (m : Match) → Standing p k v → Some m ≡ top_of k.agenda → AllFit p v plan → Standing p t (does_all p (marked v m) plan).1
 
-  pub change_known : (change : Change) (asked : Result Step Code) → asked ≡ change_step p (newest k) change
-      → (lines : List OutLine) → ((v : World) → Standing p.rules k v → lines ≡ (does p v asked).0) → are_known s.program lines ≡ true
-  change_known change asked is lines given =
-      shown_known lines
-      (ap (are_known p) (given some.world some.stands)
-      ∙ does_known p some.world asked
-      (λ s own. fitting_known p (newest k) s (asked_fits p (newest k) change s some.accepted.some_entry (sym is ∙ own))))
+abbrev pub WritesFiring : Program → Contents → List (Result Step Code) → List OutLine → Type 0
+WritesFiring p k plan lines = (v : World) (m : Match) → Standing p k v → Some m ≡ top_of k.agenda → AllFit p v plan → lines ≡ fire_line m ∷ [] ++ (does_all p (marked v m) plan).0
 
-  -- of a match that fires first
-  module _ (typed : is_typed s.program ≡ true) (m : Match) (top : Some m ≡ top_of k.agenda) (plan : List (Result Step Code))
-      (planned_is : plan ≡ planned k.facts m.row (actions_of (slice_get p.rules m.rule.0))) where
-    of_rule : (rule : Rule) → slice_get p.rules m.rule.0 ≡ Some rule → are_known p (fire_line m ∷ [] ++ (does_all p (marked some.world m) plan).0) ≡ true
-    unfolding is_typed
-    of_rule rule there =
-        let own : is_typed p ≡ true = subst (λ (z : Shown). is_typed z.program ≡ true) (sym e) typed in
-        let fits = all_of (rule_fits p.types) p.rules rule own (in_place p.rules m.rule.0 rule there) in
-        let is : plan ≡ planned k.facts m.row rule.actions = planned_is ∙ ap (λ found. planned k.facts m.row (actions_of found)) there in
-        and_both (nat_lt m.rule.0 (length p.rules)) (are_known p (does_all p (marked some.world m) plan).0)
-        (found_within p.rules m.rule.0 rule there)
-        (all_known p (marked some.world m) plan (λ s i. planned_known p k.facts m.row rule fits s (subst (In (Ok s)) is i)))
+module _ (p : Program) (lives : LifeTable) (k : Contents) (some : StandsForSome p lives k) where
+  module _ (s : Shown) (e : shown p lives k ≡ s) where
+    shown_known : (lines : List OutLine) → are_known p lines ≡ true → are_known s.program lines ≡ true
+    shown_known lines known = subst (λ (z : Shown). are_known z.program lines ≡ true) e known
 
-    first_known : are_known p (fire_line m ∷ [] ++ (does_all p (marked some.world m) plan).0) ≡ true
-    first_known =
-        let is_match = (and_parts (has_match (matches p.rules some.world.facts) m) (not (has_match some.world.fired m))
-        (sym (has_pending p.rules some.world m) ∙ top_pending p.rules k.agenda some.world m some.stands.agenda top)).0 in
-        let is = rule_of p.rules some.world.facts m is_match in
-        of_rule is.rule is.there
+    pub change_known : (change : Change) (asked : Result Step Code) → asked ≡ change_step p (newest k) change
+        → (lines : List OutLine) → Writes p k (λ v. (does p v asked).0) [] lines → are_known s.program lines ≡ true
+    change_known change asked is lines given =
+        shown_known lines
+        (ap (are_known p) (given some.world some.stands)
+        ∙ does_known p some.world asked
+        (λ s own. fitting_known p (newest k) s (asked_fits p (newest k) change s some.runnable.some_entry (sym is ∙ own))))
 
-  firing_known : is_typed s.program ≡ true → (plan : List (Result Step Code)) (lines : List OutLine) (o : Option Match) → o ≡ top_of k.agenda → Some plan ≡ plan_of p.rules k o
-      → ((v : World) (m : Match) → Standing p.rules k v → Some m ≡ top_of k.agenda → lines ≡ fire_line m ∷ [] ++ (does_all p (marked v m) plan).0)
-      → are_known s.program lines ≡ true
-  firing_known typed plan lines None top own written = absurd cc
-  firing_known typed plan lines (Some m) top own written =
-      let is : plan ≡ planned k.facts m.row (actions_of (slice_get p.rules m.rule.0)) = cc in
-      shown_known lines (ap (are_known p) (written some.world m some.stands top) ∙ first_known typed m top plan is)
+    -- of a match that fires first
+    module _ (m : Match) (top : Some m ≡ top_of k.agenda) (plan : List (Result Step Code)) (planned_is : plan ≡ planned k.facts m.row (actions_of (slice_get p.rules m.rule.0))) where
+      of_rule : (rule : Rule) → slice_get p.rules m.rule.0 ≡ Some rule → are_known p (fire_line m ∷ [] ++ (does_all p (marked some.world m) plan).0) ≡ true
+      unfolding is_typed
+      of_rule rule there =
+          let fits = all_of (rule_fits p.types) p.rules rule some.runnable.typed (in_place p.rules m.rule.0 rule there) in
+          let is : plan ≡ planned k.facts m.row rule.actions = planned_is ∙ ap (λ found. planned k.facts m.row (actions_of found)) there in
+          and_both (nat_lt m.rule.0 (length p.rules)) (are_known p (does_all p (marked some.world m) plan).0)
+          (found_within p.rules m.rule.0 rule there)
+          (all_known p (marked some.world m) plan (λ s i. planned_known p k.facts m.row rule fits s (subst (In (Ok s)) is i)))
 
-  pub fired_known : is_typed s.program ≡ true → (plan : List (Result Step Code)) (lines : List OutLine) → Some plan ≡ plan_of p.rules k (top_of k.agenda)
-      → ((v : World) (m : Match) → Standing p.rules k v → Some m ≡ top_of k.agenda → lines ≡ fire_line m ∷ [] ++ (does_all p (marked v m) plan).0)
-      → are_known s.program lines ≡ true
-  fired_known typed plan lines own written = firing_known typed plan lines (top_of k.agenda) refl own written
+      first_known : are_known p (fire_line m ∷ [] ++ (does_all p (marked some.world m) plan).0) ≡ true
+      first_known =
+          let is_match = (and_parts (has_match (matches p (snapshot some.world)) m) (not (has_match some.world.fired m))
+          (sym (has_pending p some.world m) ∙ top_pending p k.agenda some.world m some.stands.mirrors.agenda top)).0 in
+          let is = rule_of p (snapshot some.world) m is_match in
+          of_rule is.rule is.there
 
--- ---- it stands for some world
+    firing_known : (plan : List (Result Step Code)) (lines : List OutLine) (o : Option Match) → o ≡ top_of k.agenda → Some plan ≡ plan_of p k o → WritesFiring p k plan lines → are_known s.program lines ≡ true
+    firing_known plan lines None top own written = absurd cc
+    firing_known plan lines (Some m) top own written =
+        let is : plan ≡ planned k.facts m.row (actions_of (slice_get p.rules m.rule.0)) = cc in
+        let fits = plan_fits p k some.world plan m some.runnable some.stands top (own ∙ ap (plan_of p k) top) in
+        shown_known lines (ap (are_known p) (written some.world m some.stands top fits) ∙ first_known m top plan is)
 
-pub some_at_start : (p : Program) (k : Kept) → IsAccepted p → k ≡ start p.rules → StandsForSome p k
-some_at_start p k accepted e = record { accepted = accepted; world = empty_world; stands = empty_stands p.rules k accepted.conditions e }
+    pub fired_known : (plan : List (Result Step Code)) (lines : List OutLine) → Some plan ≡ plan_of p k (top_of k.agenda) → WritesFiring p k plan lines → are_known s.program lines ≡ true
+    fired_known plan lines own written = firing_known plan lines (top_of k.agenda) refl own written
 
-pub some_changed : (p : Program) (k t : Kept) (asked : Result Step Code) → StandsForSome p k → ((v : World) → Standing p.rules k v → Standing p.rules t (does p v asked).1) → StandsForSome p t
-some_changed p k t asked some next = record { accepted = some.accepted; world = (does p some.world asked).1; stands = next some.world some.stands }
+  -- ---- it stands for some world
 
-some_fired_by : (p : Program) (k t : Kept) (plan : List (Result Step Code)) (o : Option Match) → o ≡ top_of k.agenda → StandsForSome p k → Some plan ≡ plan_of p.rules k o
-    → ((v : World) (m : Match) → Standing p.rules k v → Some m ≡ top_of k.agenda → Standing p.rules t (does_all p (marked v m) plan).1) → StandsForSome p t
-some_fired_by p k t plan None top some own next = absurd cc
-some_fired_by p k t plan (Some m) top some own next =
-    record { accepted = some.accepted; world = (does_all p (marked some.world m) plan).1; stands = next some.world m some.stands top }
+  pub some_changed : (t : Contents) (change : Change) (asked : Result Step Code) → asked ≡ change_step p (newest k) change → StandsAfter p k asked t → StandsForSome p lives t
+  some_changed t change asked is next = record {
+    runnable = some.runnable;
+    table = some.table;
+    world = (gives p some.world change).1;
+    stands = change_stands p lives k (shown p lives k) refl some.world some.stands change asked is t some.runnable next;
+  }
 
-pub some_fired : (p : Program) (k t : Kept) (plan : List (Result Step Code)) → StandsForSome p k → Some plan ≡ plan_of p.rules k (top_of k.agenda)
-    → ((v : World) (m : Match) → Standing p.rules k v → Some m ≡ top_of k.agenda → Standing p.rules t (does_all p (marked v m) plan).1) → StandsForSome p t
-some_fired p k t plan some own next = some_fired_by p k t plan (top_of k.agenda) refl some own next
+  some_fired_by : (t : Contents) (plan : List (Result Step Code)) (o : Option Match) → o ≡ top_of k.agenda → Some plan ≡ plan_of p k o → FiresInto p k plan t → StandsForSome p lives t
+  some_fired_by t plan None top own next = absurd cc
+  some_fired_by t plan (Some m) top own next = record {
+    runnable = some.runnable;
+    table = some.table;
+    world = (does_all p (marked some.world m) plan).1;
+    stands = next some.world m some.stands top (plan_fits p k some.world plan m some.runnable some.stands top (own ∙ ap (plan_of p k) top));
+  }
+
+  pub some_fired : (t : Contents) (plan : List (Result Step Code)) → Some plan ≡ plan_of p k (top_of k.agenda) → FiresInto p k plan t → StandsForSome p lives t
+  some_fired t plan own next = some_fired_by t plan (top_of k.agenda) refl own next
+
+pub some_at_start : (p : Program) (lives : LifeTable) (k : Contents) → IsRunnable p → IsTable p lives → k ≡ start p.rules → StandsForSome p lives k
+some_at_start p lives k runnable table e = record { runnable = runnable; table = table; world = empty_world; stands = empty_stands p k runnable e }

@@ -1,12 +1,14 @@
 pub mod Rules
-pub mod Reordered
+pub mod Alike
+pub mod Unexpired
 pub mod Members
 pub mod Newest
 pub mod Stands
 pub mod Faults
+pub mod Doing
 pub mod Tried
 pub mod Firings
-pub mod Sessions
 pub mod Acting
 pub mod Asking
+pub mod Sessions
 pub mod Knowing

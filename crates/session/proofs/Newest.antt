@@ -1,18 +1,19 @@
 -- The fact of an id, as a session has it and as the world has it.
-use Rattle.std.proofs.Common.{◌≡◌, ℕ, suc, zero, ◌<◌, ◌≤◌, ◌⊎◌, inl, inr, Bool, true, false, cond, List, [], ◌∷◌, Option, Some, None, refl, sym, ◌∙◌, ap, subst, arith}
+use Rattle.std.proofs.Common.{◌≡◌, ℕ, suc, zero, ◌<◌, ◌≤◌, ◌⊎◌, inl, inr, Bool, true, false, Option, Some, None, refl, sym, ◌∙◌, ap, subst, arith}
 use Rattle.std.specs.Prelude.{nat_eq, nat_lt, if◌then◌else◌}
 use Rattle.std.proofs.lemmas.Bool.Decides.{nat_tests}
 use Rattle.fx_base.specs.declared.ids.Tag.{Tag}
 use Rattle.fx_base.specs.declared.fact.Fact.{Fact}
 use Rattle.fact_store.specs.Held.{HeldFacts, IsNewest, HoldsNone, is_id}
-use Rattle.rule_model.specs.declared.program.Rule.{Rule}
+use Rattle.rule_model.specs.declared.program.Program.{Program}
 use Rattle.fx_base.specs.Lists.{In}
-use Rattle.rule_world.specs.Worlds.{World, fact_of, has_id}
-use Rattle.rule_world.proofs.Fresh.{below_of, has_number}
+use Rattle.rule_world.specs.Worlds.{World, fact_of}
+use Rattle.rule_world.proofs.Fresh.{below_of}
 use Rattle.rule_world.proofs.Found.{fact_in}
 use Rattle.rule_world.proofs.Ids.{one_id}
+use Rattle.rule_world.proofs.Staying.{found_in}
 use Rattle.session.specs.Places.{IsNewestTag, IsSafe, newest, newest_below}
-use Rattle.session.specs.Standing.{Kept, Standing}
+use Rattle.session.specs.Standing.{Contents, Standing}
 use Rattle.session.proofs.Members.{Holds, of_versions}
 use Rattle.std.specs.FinMap as map
 
@@ -21,18 +22,6 @@ same_id m n e = grind (arith, nat_tests)
 
 other_id : (m n : ℕ) → m ≡ n → nat_eq m n ≡ false → ⊥
 other_id m n e h = grind (arith, nat_tests)
-
--- the fact of an id stands in the list
-found_by : (facts : List Fact) (x f : Fact) (id : ℕ) → (fact_of facts id ≡ Some f → In f facts × (f.id.0 ≡ id)) → (b : Bool) → has_id id x ≡ b
-    → cond b (Some x) (fact_of facts id) ≡ Some f → In f (x ∷ facts) × (f.id.0 ≡ id)
-found_by facts x f id h true e is =
-    let s : x ≡ f = cc in (inl (sym s), ap (λ (z : Fact). z.id.0) (sym s) ∙ has_number id x e)
-found_by facts x f id h false e is = let r = h is in (inr r.0, r.1)
-
-pub fact_found : (facts : List Fact) (id : ℕ) (f : Fact) → fact_of facts id ≡ Some f → In f facts × (f.id.0 ≡ id)
-unfolding fact_of
-fact_found [] id f is = absurd (let n : None ≡ Some f = is in cc)
-fact_found (x ∷ facts) id f is = found_by facts x f id (fact_found facts id f) (has_id id x) refl is
 
 -- ---- the search from the greatest tag down
 
@@ -81,7 +70,7 @@ module _ (held : HeldFacts) (id : ℕ) where
 -- ---- what the store finds
 
 -- no tag is beyond the next one
-tag_below : (k : Kept) → IsSafe k.facts k.clock k.next_id k.next_tag → (f : Fact) → map.get k.facts f.tag.0 ≡ Some f → f.tag.0 < k.next_tag
+tag_below : (k : Contents) → IsSafe k.facts k.clock k.next_id k.next_tag → (f : Fact) → map.get k.facts f.tag.0 ≡ Some f → f.tag.0 < k.next_tag
 tag_below k safe f is = by (nat_lt f.tag.0 k.next_tag) refl
   where
     by : (b : Bool) → nat_lt f.tag.0 k.next_tag ≡ b → f.tag.0 < k.next_tag
@@ -90,17 +79,17 @@ tag_below k safe f is = by (nat_lt f.tag.0 k.next_tag) refl
         let le : k.next_tag ≤ f.tag.0 = grind (arith, nat_tests) in
         absurd (let n : None ≡ Some f = sym (safe.fresh f.tag.0 le) ∙ is in cc)
 
-pub store_found : (k : Kept) → IsSafe k.facts k.clock k.next_id k.next_tag → (id : ℕ) (f : Fact) → IsNewest k.facts id f → newest k id ≡ Some f
+pub store_found : (k : Contents) → IsSafe k.facts k.clock k.next_id k.next_tag → (id : ℕ) (f : Fact) → IsNewest k.facts id f → newest k id ≡ Some f
 store_found k safe id f is = newest_found k.facts id f is k.next_tag (tag_below k safe f is.found)
 
-pub store_none : (k : Kept) (id : ℕ) → HoldsNone k.facts id → newest k id ≡ None
+pub store_none : (k : Contents) (id : ℕ) → HoldsNone k.facts id → newest k id ≡ None
 store_none k id none = newest_none k.facts id none k.next_tag
 
 -- ---- what the world has
 
-module _ (rules : List Rule) (k : Kept) (w : World) (st : Standing rules k w) where
+module _ (p : Program) (k : Contents) (w : World) (st : Standing p k w) where
   pub holds : Holds k.facts w.facts
-  holds = of_versions k.facts w.facts st.ordered.tags st.facts
+  holds = of_versions k.facts w.facts st.lawful.ordered.tags st.mirrors.facts
 
   is_newest : (id : ℕ) (f : Fact) → In f w.facts → f.id.0 ≡ id → IsNewest k.facts id f
   is_newest id f i own = record {
@@ -108,7 +97,7 @@ module _ (rules : List Rule) (k : Kept) (w : World) (st : Standing rules k w) wh
     own = own;
     greatest = λ tag g e h.
         let j = holds.to tag g e in
-        let s : g ≡ f = one_id w.facts 1 w.next_id g f st.ordered.ids j.0 i (h ∙ sym own) in
+        let s : g ≡ f = one_id w.facts 1 w.next_id g f st.lawful.ordered.ids j.0 i (h ∙ sym own) in
         let t : tag ≡ f.tag.0 = sym j.1 ∙ ap (λ (z : Fact). z.tag.0) s in
         omega arith;
   }
@@ -118,13 +107,13 @@ module _ (rules : List Rule) (k : Kept) (w : World) (st : Standing rules k w) wh
     where
       by : (o : Option Fact) → fact_of w.facts id ≡ o → newest k id ≡ fact_of w.facts id
       by (Some f) e =
-          let r = fact_found w.facts id f e in
-          let lt : f.tag.0 < w.next_tag = below_of w.next_tag w.facts st.ordered.fresh f r.0 in
-          newest_found k.facts id f (is_newest id f r.0 r.1) k.next_tag (subst (λ n. f.tag.0 < n) (sym st.next_tag) lt) ∙ sym e
+          let r = found_in w.facts id f e in
+          let lt : f.tag.0 < w.next_tag = below_of w.next_tag w.facts st.lawful.ordered.fresh f r.0 in
+          newest_found k.facts id f (is_newest id f r.0 r.1) k.next_tag (subst (λ n. f.tag.0 < n) (sym st.mirrors.next_tag) lt) ∙ sym e
       by None e =
           newest_none k.facts id (λ tag g is own.
           let j = holds.to tag g is in
-          let s : fact_of w.facts id ≡ Some g = subst (λ n. fact_of w.facts n ≡ Some g) own (fact_in w.facts 1 w.next_id g st.ordered.ids j.0) in
+          let s : fact_of w.facts id ≡ Some g = subst (λ n. fact_of w.facts n ≡ Some g) own (fact_in w.facts 1 w.next_id g st.lawful.ordered.ids j.0) in
           let n : None ≡ Some g = sym e ∙ s in absurd (cc)) k.next_tag ∙ sym e
 
   -- the fact with the newest tag of an id
@@ -133,4 +122,4 @@ module _ (rules : List Rule) (k : Kept) (w : World) (st : Standing rules k w) wh
     tagged_in = (holds.to is.fact.tag.0 is.fact is.is_newest.found).0
 
     pub tagged_found : fact_of w.facts id ≡ Some is.fact
-    tagged_found = subst (λ n. fact_of w.facts n ≡ Some is.fact) is.is_newest.own (fact_in w.facts 1 w.next_id is.fact st.ordered.ids tagged_in)
+    tagged_found = subst (λ n. fact_of w.facts n ≡ Some is.fact) is.is_newest.own (fact_in w.facts 1 w.next_id is.fact st.lawful.ordered.ids tagged_in)

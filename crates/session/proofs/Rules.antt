@@ -5,17 +5,18 @@ use Rattle.std.proofs.lemmas.Bool.Decides.{nat_tests}
 use Rattle.std.proofs.lemmas.Grind.{common_steps}
 use Rattle.std.proofs.lemmas.List.{take_more, append-nil}
 use Rattle.std.proofs.lemmas.List.Folds.{list_any-append}
-use Rattle.fx_base.specs.declared.fact.Fact.{Fact}
 use Rattle.row_delta.specs.declared.row.Row.{Row}
 use Rattle.row_delta.specs.declared.delta.Delta.{Delta}
+use Rattle.row_delta.specs.Differences.{IsBetween}
 use Rattle.row_delta.specs.Rows.{row_cmp, has}
 use Rattle.rule_model.specs.declared.matched.Match.{Match}
+use Rattle.rule_model.specs.declared.program.Program.{Program}
 use Rattle.rule_model.specs.declared.program.Rule.{Rule}
 use Rattle.rule_model.specs.Rows.{rows}
-use Rattle.rule_model.specs.Matches.{match_of, match_cmp, matches, matches_from, rows_by_rule, has_match}
+use Rattle.rule_model.specs.Snapshots.{Snapshot}
+use Rattle.rule_model.specs.Matches.{match_of, match_cmp, matches_from, matches_of, rows_by_rule, has_match}
 use Rattle.rule_model.proofs.Exact.{match_parts}
-use Rattle.rule_rows.specs.Found.{IsDifference}
-use Rattle.agenda.specs.Agendas.{Held, IsChanged}
+use Rattle.agenda.specs.Agendas.{Marks, IsChanged}
 use Rattle.session.specs.Refreshed.{IsRefreshed}
 
 flip : (a b : ℕ) (t : Bool) → (a == b) ≡ t → (b == a) ≡ t
@@ -45,34 +46,34 @@ or_false true = refl
 or_false false = refl
 
 -- the matches of one rule more
-rule_more : (facts : List Fact) (j : ℕ) (rules : List Rule) (rule : Rule) (m : Match)
-    → has_match (matches_from j (rows_by_rule facts (rules ++ rule ∷ []))) m
-    ≡ (has_match (matches_from j (rows_by_rule facts rules)) m || ((j + length rules) == m.rule.0 && has (rows facts rule) m.row))
+rule_more : (p : Program) (s : Snapshot) (j : ℕ) (rules : List Rule) (rule : Rule) (m : Match)
+    → has_match (matches_from j (rows_by_rule p s (rules ++ rule ∷ []))) m
+    ≡ (has_match (matches_from j (rows_by_rule p s rules)) m || ((j + length rules) == m.rule.0 && has (rows p s rule.conditions) m.row))
 unfolding matches_from
-rule_more facts j [] rule m =
+rule_more p s j [] rule m =
     let e : j + 0 ≡ j = omega arith in
-    ap (λ ms. has_match ms m) (append-nil (map (match_of j) (rows facts rule)))
-    ∙ with_rule j (rows facts rule) m (j == m.rule.0) refl ∙ ap (λ n. n == m.rule.0 && has (rows facts rule) m.row) (sym e)
-rule_more facts j (r ∷ rules) rule m =
+    ap (λ ms. has_match ms m) (append-nil (map (match_of j) (rows p s rule.conditions)))
+    ∙ with_rule j (rows p s rule.conditions) m (j == m.rule.0) refl ∙ ap (λ n. n == m.rule.0 && has (rows p s rule.conditions) m.row) (sym e)
+rule_more p s j (r ∷ rules) rule m =
     let e : (j + 1) + length rules ≡ j + length (r ∷ rules) = omega arith in
-    list_any-append (eq_by_cmp match_cmp m) (map (match_of j) (rows facts r)) (matches_from (j + 1) (rows_by_rule facts (rules ++ rule ∷ [])))
-    ∙ ap (λ z. has_match (map (match_of j) (rows facts r)) m || z) (rule_more facts (j + 1) rules rule m)
-    ∙ sym (or_assoc (has_match (map (match_of j) (rows facts r)) m) (has_match (matches_from (j + 1) (rows_by_rule facts rules)) m) _)
-    ∙ ap (λ z. z || ((j + 1) + length rules == m.rule.0 && has (rows facts rule) m.row))
-    (sym (list_any-append (eq_by_cmp match_cmp m) (map (match_of j) (rows facts r)) (matches_from (j + 1) (rows_by_rule facts rules))))
-    ∙ ap (λ n. has_match (matches_from j (rows_by_rule facts (r ∷ rules))) m || (n == m.rule.0 && has (rows facts rule) m.row)) e
+    list_any-append (eq_by_cmp match_cmp m) (map (match_of j) (rows p s r.conditions)) (matches_from (j + 1) (rows_by_rule p s (rules ++ rule ∷ [])))
+    ∙ ap (λ z. has_match (map (match_of j) (rows p s r.conditions)) m || z) (rule_more p s (j + 1) rules rule m)
+    ∙ sym (or_assoc (has_match (map (match_of j) (rows p s r.conditions)) m) (has_match (matches_from (j + 1) (rows_by_rule p s rules)) m) _)
+    ∙ ap (λ z. z || ((j + 1) + length rules == m.rule.0 && has (rows p s rule.conditions) m.row))
+    (sym (list_any-append (eq_by_cmp match_cmp m) (map (match_of j) (rows p s r.conditions)) (matches_from (j + 1) (rows_by_rule p s rules))))
+    ∙ ap (λ n. has_match (matches_from j (rows_by_rule p s (r ∷ rules))) m || (n == m.rule.0 && has (rows p s rule.conditions) m.row)) e
 
 -- whether it is a match of the first rules, so many
-abbrev pub upto : List Fact → List Rule → ℕ → Match → Bool
-upto facts rules k m = has_match (matches (take k rules) facts) m
+abbrev pub upto : Program → Snapshot → List Rule → ℕ → Match → Bool
+upto p s rules k m = has_match (matches_of p s (take k rules)) m
 
-upto_more : (facts : List Fact) (rules : List Rule) (k : ℕ) (rule : Rule) (m : Match) → k < length rules → rule ≡ get_or rules k rule
-    → upto facts rules (k + 1) m ≡ (upto facts rules k m || (k == m.rule.0 && has (rows facts rule) m.row))
-upto_more facts rules k rule m lt is =
-    let s : take (k + 1) rules ≡ take k rules ++ rule ∷ [] = take_more rules k rule lt ∙ ap (λ r. take k rules ++ r ∷ []) (sym is) in
+upto_more : (p : Program) (s : Snapshot) (rules : List Rule) (k : ℕ) (rule : Rule) (m : Match) → k < length rules → rule ≡ get_or rules k rule
+    → upto p s rules (k + 1) m ≡ (upto p s rules k m || (k == m.rule.0 && has (rows p s rule.conditions) m.row))
+upto_more p s rules k rule m lt is =
+    let grown : take (k + 1) rules ≡ take k rules ++ rule ∷ [] = take_more rules k rule lt ∙ ap (λ r. take k rules ++ r ∷ []) (sym is) in
     let n : 0 + length (take k rules) ≡ k = grind (arith, common_steps) in
-    ap (λ rs. has_match (matches rs facts) m) s ∙ rule_more facts 0 (take k rules) rule m
-    ∙ ap (λ z. upto facts rules k m || (z == m.rule.0 && has (rows facts rule) m.row)) n
+    ap (λ rs. has_match (matches_of p s rs) m) grown ∙ rule_more p s 0 (take k rules) rule m
+    ∙ ap (λ z. upto p s rules k m || (z == m.rule.0 && has (rows p s rule.conditions) m.row)) n
 
 all_taken : (rules : List Rule) (k : ℕ) → length rules ≤ k → take k rules ≡ rules
 all_taken rules k h = grind (arith, common_steps)
@@ -86,18 +87,18 @@ or_no false b e h = h
 other_number : (j n : ℕ) → j + 1 ≤ n → (j == n) ≡ false
 other_number j n le = grind (arith, nat_tests)
 
-before_rule : (facts : List Fact) (j : ℕ) (rules : List Rule) (m : Match) → j + length rules ≤ m.rule.0 → has_match (matches_from j (rows_by_rule facts rules)) m ≡ false
+before_rule : (p : Program) (s : Snapshot) (j : ℕ) (rules : List Rule) (m : Match) → j + length rules ≤ m.rule.0 → has_match (matches_from j (rows_by_rule p s rules)) m ≡ false
 unfolding matches_from
-before_rule facts j [] m le = refl
-before_rule facts j (rule ∷ rules) m le =
-    list_any-append (eq_by_cmp match_cmp m) (map (match_of j) (rows facts rule)) (matches_from (j + 1) (rows_by_rule facts rules))
-    ∙ or_no _ _ (with_rule j (rows facts rule) m false (other_number j m.rule.0 (omega arith))) (before_rule facts (j + 1) rules m (omega arith))
+before_rule p s j [] m le = refl
+before_rule p s j (rule ∷ rules) m le =
+    list_any-append (eq_by_cmp match_cmp m) (map (match_of j) (rows p s rule.conditions)) (matches_from (j + 1) (rows_by_rule p s rules))
+    ∙ or_no _ _ (with_rule j (rows p s rule.conditions) m false (other_number j m.rule.0 (omega arith))) (before_rule p s (j + 1) rules m (omega arith))
 
-upto_none : (facts : List Fact) (rules : List Rule) (k : ℕ) (m : Match) → k < length rules → (k == m.rule.0) ≡ true → upto facts rules k m ≡ false
-upto_none facts rules k m lt e =
+upto_none : (p : Program) (s : Snapshot) (rules : List Rule) (k : ℕ) (m : Match) → k < length rules → (k == m.rule.0) ≡ true → upto p s rules k m ≡ false
+upto_none p s rules k m lt e =
     let same : k ≡ m.rule.0 = grind (arith, nat_tests) in
     let n : 0 + length (take k rules) ≡ k = grind (arith, common_steps) in
-    before_rule facts 0 (take k rules) m (omega arith)
+    before_rule p s 0 (take k rules) m (omega arith)
 
 -- ---- the loop over the rules
 
@@ -124,46 +125,46 @@ turned_fired true true false false old new w i = refl
 turned_fired true false false false old new w i = refl
 
 -- nothing is done before the first turn
-pub none_yet : (old new : List Fact) (rules : List Rule) (a : Held) → IsRefreshed (take 0 rules) old new a a
+pub none_yet : (p : Program) (old new : Snapshot) (rules : List Rule) (a : Marks) → IsRefreshed p (take 0 rules) old new a a
 unfolding matches_from
-none_yet old new rules a = record {
+none_yet p old new rules a = record {
   saliences = refl;
   pending = λ m. sym (or_false _ ∙ and_true (has_match a.pending m));
   fired = λ m. sym (and_true (has_match a.fired m));
 }
 
 -- one rule more
-pub rule_turn : (old new : List Fact) (rules : List Rule) (k : ℕ) (rule : Rule) (d : Delta) (a b c : Held) → k < length rules → rule ≡ get_or rules k rule
-    → IsDifference (rows old rule) (rows new rule) d → IsRefreshed (take k rules) old new a b → IsChanged k d b c → IsRefreshed (take (k + 1) rules) old new a c
-rule_turn old new rules k rule d a b c lt is diff r ch = record {
+pub rule_turn : (p : Program) (old new : Snapshot) (rules : List Rule) (k : ℕ) (rule : Rule) (d : Delta) (a b c : Marks) → k < length rules → rule ≡ get_or rules k rule
+    → IsBetween (rows p old rule.conditions) (rows p new rule.conditions) d → IsRefreshed p (take k rules) old new a b → IsChanged k d b c → IsRefreshed p (take (k + 1) rules) old new a c
+rule_turn p old new rules k rule d a b c lt is diff r ch = record {
   saliences = ch.saliences ∙ r.saliences;
   pending = λ m.
       let t = k == m.rule.0 in
-      let was = upto old rules k m in
-      let now = upto new rules k m in
-      let before = has (rows old rule) m.row in
-      let after = has (rows new rule) m.row in
+      let was = upto p old rules k m in
+      let now = upto p new rules k m in
+      let before = has (rows p old rule.conditions) m.row in
+      let after = has (rows p new rule.conditions) m.row in
       ch.pending m
       ∙ ap (λ z. (z && not (t && has d.gone m.row)) || (t && has d.come m.row)) (r.pending m)
       ∙ ap (λ z. (((has_match a.pending m && not (was && not now)) || (now && not was)) && not (t && z)) || (t && has d.come m.row)) (diff.gone m.row)
       ∙ ap (λ z. (((has_match a.pending m && not (was && not now)) || (now && not was)) && not (t && (before && not after))) || (t && z)) (diff.come m.row)
-      ∙ turned_pending t (has_match a.pending m) was now before after (upto_none old rules k m lt) (upto_none new rules k m lt)
-      ∙ ap (λ z. (has_match a.pending m && not (z && not (now || (t && after)))) || ((now || (t && after)) && not z)) (sym (upto_more old rules k rule m lt is))
-      ∙ ap (λ z. (has_match a.pending m && not (upto old rules (k + 1) m && not z)) || (z && not (upto old rules (k + 1) m))) (sym (upto_more new rules k rule m lt is));
+      ∙ turned_pending t (has_match a.pending m) was now before after (upto_none p old rules k m lt) (upto_none p new rules k m lt)
+      ∙ ap (λ z. (has_match a.pending m && not (z && not (now || (t && after)))) || ((now || (t && after)) && not z)) (sym (upto_more p old rules k rule m lt is))
+      ∙ ap (λ z. (has_match a.pending m && not (upto p old rules (k + 1) m && not z)) || (z && not (upto p old rules (k + 1) m))) (sym (upto_more p new rules k rule m lt is));
   fired = λ m.
       let t = k == m.rule.0 in
-      let was = upto old rules k m in
-      let now = upto new rules k m in
-      let before = has (rows old rule) m.row in
-      let after = has (rows new rule) m.row in
+      let was = upto p old rules k m in
+      let now = upto p new rules k m in
+      let before = has (rows p old rule.conditions) m.row in
+      let after = has (rows p new rule.conditions) m.row in
       ch.fired m
       ∙ ap (λ z. z && not (t && has d.gone m.row)) (r.fired m)
       ∙ ap (λ z. (has_match a.fired m && not (was && not now)) && not (t && z)) (diff.gone m.row)
-      ∙ turned_fired t (has_match a.fired m) was now before after (upto_none old rules k m lt) (upto_none new rules k m lt)
-      ∙ ap (λ z. has_match a.fired m && not (z && not (now || (t && after)))) (sym (upto_more old rules k rule m lt is))
-      ∙ ap (λ z. has_match a.fired m && not (upto old rules (k + 1) m && not z)) (sym (upto_more new rules k rule m lt is));
+      ∙ turned_fired t (has_match a.fired m) was now before after (upto_none p old rules k m lt) (upto_none p new rules k m lt)
+      ∙ ap (λ z. has_match a.fired m && not (z && not (now || (t && after)))) (sym (upto_more p old rules k rule m lt is))
+      ∙ ap (λ z. has_match a.fired m && not (upto p old rules (k + 1) m && not z)) (sym (upto_more p new rules k rule m lt is));
 }
 
 -- all rules are done
-pub rules_done : (old new : List Fact) (rules : List Rule) (k : ℕ) (a b : Held) → length rules ≤ k → IsRefreshed (take k rules) old new a b → IsRefreshed rules old new a b
-rules_done old new rules k a b h r = subst (λ (rs : List Rule). IsRefreshed rs old new a b) (all_taken rules k h) r
+pub rules_done : (p : Program) (old new : Snapshot) (rules : List Rule) (k : ℕ) (a b : Marks) → length rules ≤ k → IsRefreshed p (take k rules) old new a b → IsRefreshed p rules old new a b
+rules_done p old new rules k a b h r = subst (λ (rs : List Rule). IsRefreshed p rs old new a b) (all_taken rules k h) r

@@ -32,9 +32,8 @@ pub record Contents : Type 0 where
 abbrev pub last_start_in : List ℤ → ℕ → ℤ
 last_start_in starts entry = slice_index_or starts entry (pos 0)
 
--- the contents of a session stand for a lawful world
-pub record Standing (p : Program) (k : Contents) (w : World) : Type 0 where
-  pub lawful : IsLawful p w
+-- the contents of a session are those of a world
+pub record Mirrors (p : Program) (k : Contents) (w : World) : Type 0 where
   -- the store has exactly the facts of the world
   pub facts : (tag : ℕ) → map.get k.facts tag ≡ version_of w.facts (tag_of tag)
   pub clock : k.clock ≡ w.clock
@@ -42,6 +41,11 @@ pub record Standing (p : Program) (k : Contents) (w : World) : Type 0 where
   pub next_id : k.next_id ≡ w.next_id
   pub next_tag : k.next_tag ≡ w.next_tag
   pub agenda : AgendaStands p k.agenda w
+
+-- the contents of a session stand for a lawful world
+pub record Standing (p : Program) (k : Contents) (w : World) : Type 0 where
+  pub lawful : IsLawful p w
+  pub mirrors : Mirrors p k w
 
 -- a session, as contracts see it
 pub record Shown : Type 0 where

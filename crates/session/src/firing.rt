@@ -1,24 +1,25 @@
 ghost use Rattle.std.specs.Prelude.{◌≡◌, ◌+◌, ◌<◌, ◌≤◌, ◌^◌, ◌∷◌, ◌++◌, [], true, length, slice_get, option_map, Some, IfOk, OnOk, IfSome, List};
 ghost use Rattle.std.specs.List.{list_all};
 ghost use Rattle.rule_model.specs.declared.matched.Match.{Match as MatchData};
-ghost use Rattle.rule_model.specs.declared.program.Rule.{Rule as RuleData};
+ghost use Rattle.rule_model.specs.declared.program.Program.{Program as ProgramData};
 ghost use Rattle.rule_model.specs.Matches.{fire_cmp};
 ghost use Rattle.rule_model.specs.First.{first};
-ghost use Rattle.rule_world.specs.Programs.{has_few_actions, IsAccepted};
+ghost use Rattle.rule_world.specs.Programs.{has_few_actions, IsRunnable};
 ghost use Rattle.rule_world.specs.Worlds.{World, marked};
 ghost use Rattle.session.specs.Gives.{cells, fire_line, actions_of, does_all};
+ghost use Rattle.session.specs.Leading.{AllFit};
 ghost use Rattle.session.specs.Standing.{Standing};
 ghost use Rattle.session.specs.Places.{planned_for, planned};
 
-use crate::lines::{Cell, OutLine};
 use crate::state::State;
 use crate::steps::Plan;
 use action_eval::{EvalFault, planned_step};
-use change_read::Code;
+use engine::{Cell, OutLine};
 use fact_store::FactStore;
 use fx_base::{NoMemory, Seq};
 use row_delta::{Named, Row};
 use rule_model::{Action, Match, Program, Rule, Step};
+use rule_world::Code;
 use std::alloc::Global;
 
 // What an action is to do for a row.
@@ -88,7 +89,7 @@ impl State {
     pub(crate) fn plan(&self, alloc: Global, program: &Program) -> Result<Option<Plan>, NoMemory>
         ensures plan { IfOk result (λ plan. option_map (λ steps. steps.items) plan ≡ option_map (λ (m : MatchData). planned self.now.facts m.row (actions_of (slice_get program.now.rules m.rule.0)))
             (first (fire_cmp self.now.agenda.saliences) self.now.agenda.pending)) }
-        ensures few { IsAccepted program.now → IfOk result (λ plan. IfSome plan (λ steps. length steps.items ≤ 16)) }
+        ensures few { IsRunnable program.now → IfOk result (λ plan. IfSome plan (λ steps. length steps.items ≤ 16)) }
         ensures pending { IfOk result (λ plan. IfSome plan (λ _. 0 < length self.now.agenda.pending)) }
     {
         match self.top() {
@@ -108,13 +109,13 @@ impl State {
         plan: Plan,
         lines: &mut Vec<OutLine>,
     ) -> Result<State, NoMemory>
-        requires accepted { IsAccepted program.now }
+        requires runnable { IsRunnable program.now }
         requires low { self.next_tag + length plan.items ≤ 2 ^ 63 }
         requires pending { 0 < length self.agenda.pending }
-        ensures stands { IfOk result (λ s. (w : World) (m : MatchData) → Standing program.now.rules self w → Some m ≡ first (fire_cmp self.agenda.saliences) self.agenda.pending
-            → Standing program.now.rules s (does_all program.now (marked w m) plan.items).1) }
-        ensures lines { OnOk result ((w : World) (m : MatchData) → Standing program.now.rules self w → Some m ≡ first (fire_cmp self.agenda.saliences) self.agenda.pending
-            → lines.new.items ≡ lines.old.items ++ fire_line m ∷ [] ++ (does_all program.now (marked w m) plan.items).0) }
+        ensures stands { IfOk result (λ s. (w : World) (m : MatchData) → Standing program.now self w → Some m ≡ first (fire_cmp self.agenda.saliences) self.agenda.pending
+            → AllFit program.now w plan.items → Standing program.now s (does_all program.now (marked w m) plan.items).1) }
+        ensures lines { OnOk result ((w : World) (m : MatchData) → Standing program.now self w → Some m ≡ first (fire_cmp self.agenda.saliences) self.agenda.pending
+            → AllFit program.now w plan.items → lines.new.items ≡ lines.old.items ++ fire_line m ∷ [] ++ (does_all program.now (marked w m) plan.items).0) }
         ensures tags { IfOk result (λ s. s.next_tag ≤ self.next_tag + length plan.items) }
     {
         let (state, fired) = self.mark(alloc)?;
@@ -126,26 +127,12 @@ impl State {
     fn mark(self, alloc: Global) -> Result<(State, Match), NoMemory>
         requires { 0 < length self.agenda.pending }
         ensures top { IfOk result (λ r. Some r.1 ≡ first (fire_cmp self.agenda.saliences) self.agenda.pending) }
-        ensures stands { IfOk result (λ r. (rules : List RuleData) (w : World) → Standing rules self w → Standing rules r.0 (marked w r.1)) }
+        ensures stands { IfOk result (λ r. (program : ProgramData) (w : World) → Standing program self w → Standing program r.0 (marked w r.1)) }
         ensures tags { IfOk result (λ r. r.0.next_tag ≡ self.next_tag) }
     {
-        let State {
-            facts,
-            clock,
-            last_starts,
-            agenda,
-            next_id,
-            next_tag,
-        } = self;
-        let (agenda, fired) = agenda.fire_top(alloc)?;
-        let state = State {
-            facts,
-            clock,
-            last_starts,
-            agenda,
-            next_id,
-            next_tag,
-        };
+        let mut state = self;
+        let (agenda, fired) = state.agenda.fire_top(alloc)?;
+        state.agenda = agenda;
         Ok((state, fired))
     }
 }

@@ -1,9 +1,8 @@
 //! Laws of changes and firings, each the contract of a function that does nothing.
-ghost use Rattle.std.specs.Prelude.{◌≡◌, true, List, Some};
+ghost use Rattle.std.specs.Prelude.{◌≡◌, List, Some};
 ghost use Rattle.rule_model.specs.declared.program.Program.{Program};
 ghost use Rattle.rule_world.specs.Lawful.{IsLawful};
-ghost use Rattle.rule_world.specs.Programs.{IsAccepted};
-ghost use Rattle.rule_world.specs.Typed.{is_typed};
+ghost use Rattle.rule_world.specs.Programs.{IsRunnable};
 ghost use Rattle.rule_world.specs.Worlds.{World};
 ghost use Rattle.script_read.specs.declared.asked.Change.{Change};
 ghost use Rattle.engine.specs.declared.lines.OutLine.{OutLine};
@@ -11,11 +10,10 @@ ghost use Rattle.session.specs.Gives.{gives, fires};
 
 /// A change leads from a lawful world to a lawful one.
 pub fn changes_keep_worlds_lawful()
-    ensures { (p : Program) (w : World) (change : Change) → IsAccepted p → IsLawful p w → IsLawful p (gives p w change).1 }
+    ensures { (p : Program) (w : World) (change : Change) → IsRunnable p → IsLawful p w → IsLawful p (gives p w change).1 }
 {}
 
-/// A firing leads from a lawful world to a lawful one, where the actions of the program make values of the declared kinds.
+/// A firing leads from a lawful world to a lawful one.
 pub fn firings_keep_worlds_lawful()
-    ensures { (p : Program) (w : World) (lines : List OutLine) (next : World) → IsAccepted p → is_typed p ≡ true → IsLawful p w
-        → fires p w ≡ Some (lines, next) → IsLawful p next }
+    ensures { (p : Program) (w : World) (lines : List OutLine) (next : World) → IsRunnable p → IsLawful p w → fires p w ≡ Some (lines, next) → IsLawful p next }
 {}

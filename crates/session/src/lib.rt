@@ -2,17 +2,15 @@
 //! What it answers is the world's, whose rows are taken anew from the whole list of facts.
 #![tactic(auto)]
 
-mod engine;
 mod firing;
+mod last_starts;
 pub mod laws;
-mod lines;
+mod moving;
 mod refreshing;
 mod session;
 mod state;
 mod steps;
-mod times;
 
-pub use change_read::Code;
-pub use engine::Engine;
-pub use lines::{Cell, Fired, Lines, OutLine};
+pub use engine::{Cell, Engine, Fired, Lines, OutLine};
+pub use rule_world::Code;
 pub use session::Session;

@@ -1,12 +1,11 @@
 ghost use Rattle.std.specs.Prelude.{◌≡◌, ◌+◌, ◌≤◌, ◌^◌, true, IfOk, is_some};
 ghost use Rattle.rule_model.specs.Matches.{saliences};
 
-use crate::Engine;
-use crate::lines::{Fired, Lines};
 use crate::state::State;
 use change_read::asked_step;
+use engine::{Engine, Fired, Lines};
 use fx_base::{Millis, NoMemory, Seq};
-use rule_model::{Program, Rule};
+use rule_model::{LifeTable, Program, Rule};
 use script_read::Change;
 use std::alloc::Global;
 use std::marker::Model;
@@ -21,11 +20,12 @@ fn saliences_of(alloc: Global, rules: &[Rule]) -> Result<Vec<i64>, NoMemory>
     Ok(all)
 }
 
-/// An engine in some world of its program. It keeps the facts under their tags, the clock, the last starts of the entry points, and
-/// an agenda.
+/// An engine in some lawful world of its program. It keeps the facts under their tags, the clock, the last starts of the entry
+/// points, and an agenda.
 #[derive(Drop)]
 pub struct Session {
     program: Program,
+    lives: LifeTable,
     state: State,
 }
 
@@ -40,66 +40,71 @@ impl Model for Session {
 
     ghost coded = { Prim.hlevel (codes, expression_code, held_code) };
 
-    ghost view = { λ s. record { program = s.program; kept = s.state } };
+    ghost view = { λ s. record { program = s.program; lives = s.lives; contents = s.state } };
 
-    ghost invariant = { λ s. StandsForSome s.program s.state };
+    ghost invariant = { λ s. StandsForSome s.program s.lives s.state };
 }
 
 impl Session {
-    ghost use Rattle.rule_model.specs.Programs.{IsAccepted};
-    ghost use Rattle.rule_model.specs.Typed.{is_typed};
-    ghost use Rattle.rule_model.specs.Worlds.{World, empty_world};
+    ghost use Rattle.rule_model.specs.Lives.{IsTable};
+    ghost use Rattle.rule_world.specs.Programs.{IsRunnable};
+    ghost use Rattle.rule_world.specs.Worlds.{World, empty_world};
+    ghost use Rattle.engine.specs.Answers.{FiringAnswers};
+    ghost use Rattle.engine.specs.Known.{are_known, is_known_firing};
     ghost use Rattle.session.specs.Gives.{gives, fires};
-    ghost use Rattle.session.specs.Known.{are_known, is_known_firing};
-    ghost use Rattle.session.specs.Standing.{Stands, FiringAnswers};
+    ghost use Rattle.session.specs.Standing.{Stands};
 
-    /// An engine in the empty world of a program.
-    pub fn new(alloc: Global, program: Program) -> Result<Session, NoMemory>
-        requires { IsAccepted program }
+    /// An engine in the empty world of a program, with the table of the lives of its types.
+    pub fn new(alloc: Global, program: Program, lives: LifeTable) -> Result<Session, NoMemory>
+        requires runnable { IsRunnable program }
+        requires table { IsTable program lives }
         ensures stands { IfOk result (λ s. Stands s empty_world) }
         ensures program { IfOk result (λ s. s.program ≡ program) }
-        ensures next { IfOk result (λ s. s.kept.next_tag ≡ 1) }
+        ensures table { IfOk result (λ s. s.lives ≡ lives) }
+        ensures next { IfOk result (λ s. s.contents.next_tag ≡ 1) }
     {
         let saliences = saliences_of(alloc, program.rules.as_slice())?;
+        let state = State::new(alloc, &saliences)?;
         Ok(Session {
             program,
-            state: State::new(alloc, &saliences)?,
+            lives,
+            state,
         })
     }
 
     /// The lines of a change, or its fault, which leaves the world as it is.
     pub fn apply(self, alloc: Global, change: &Change) -> Result<(Session, Lines), NoMemory>
-        requires { self.kept.next_tag ≤ 2 ^ 62 }
+        requires { self.contents.next_tag ≤ 2 ^ 62 }
         ensures lines { IfOk result (λ r. (w : World) → Stands self w → r.1 ≡ (gives self.program w change.now).0) }
         ensures next { IfOk result (λ r. (w : World) → Stands self w → Stands r.0 (gives self.program w change.now).1) }
-        ensures known { is_typed self.program ≡ true → IfOk result (λ r. are_known self.program r.1 ≡ true) }
+        ensures known { IfOk result (λ r. are_known self.program r.1 ≡ true) }
         ensures program { IfOk result (λ r. r.0.program ≡ self.program) }
-        ensures tags { IfOk result (λ r. r.0.kept.next_tag ≤ self.kept.next_tag + 1) }
+        ensures table { IfOk result (λ r. r.0.lives ≡ self.lives) }
+        ensures tags { IfOk result (λ r. r.0.contents.next_tag ≤ self.contents.next_tag + 1) }
     {
-        let Session { program, state } = self;
-        let asked = asked_step(alloc, &program, &state, change)?;
         let mut lines = Vec::new(alloc);
-        let state = state.apply(alloc, &program, asked, &mut lines)?;
-        Ok((Session { program, state }, Seq::from_vec(lines)))
+        let asked = asked_step(alloc, &self.program, &self.state, change)?;
+        let state = self.state.apply(alloc, &self.program, asked, &mut lines)?;
+        Ok((Session { state, ..self }, Seq::from_vec(lines)))
     }
 
     /// The lines of one firing and of its actions, whose values are those of the world before it; `No` exactly where nothing is
     /// pending.
     pub fn fire_one(self, alloc: Global) -> Result<(Session, Fired), NoMemory>
-        requires { self.kept.next_tag ≤ 2 ^ 62 }
+        requires { self.contents.next_tag ≤ 2 ^ 62 }
         ensures answers { IfOk result (λ r. (w : World) → Stands self w → FiringAnswers (fires self.program w) r.1 w (Stands r.0)) }
-        ensures known { is_typed self.program ≡ true → IfOk result (λ r. is_known_firing self.program r.1 ≡ true) }
+        ensures known { IfOk result (λ r. is_known_firing self.program r.1 ≡ true) }
         ensures program { IfOk result (λ r. r.0.program ≡ self.program) }
-        ensures tags { IfOk result (λ r. r.0.kept.next_tag ≤ self.kept.next_tag + 16) }
+        ensures table { IfOk result (λ r. r.0.lives ≡ self.lives) }
+        ensures tags { IfOk result (λ r. r.0.contents.next_tag ≤ self.contents.next_tag + 16) }
     {
-        let Session { program, state } = self;
-        match state.plan(alloc, &program)? {
+        match self.state.plan(alloc, &self.program)? {
             Some(plan) => {
                 let mut lines = Vec::new(alloc);
-                let state = state.fire(alloc, &program, plan, &mut lines)?;
-                Ok((Session { program, state }, Fired::Yes(Seq::from_vec(lines))))
+                let state = self.state.fire(alloc, &self.program, plan, &mut lines)?;
+                Ok((Session { state, ..self }, Fired::Yes(Seq::from_vec(lines))))
             }
-            None => Ok((Session { program, state }, Fired::No)),
+            None => Ok((self, Fired::No)),
         }
     }
 
@@ -123,6 +128,13 @@ impl Session {
     {
         &self.program
     }
+
+    /// The table of lives that the session was made with. Takes no memory.
+    pub fn lives(&self) -> &LifeTable
+        ensures { result.now ≡ self.now.lives }
+    {
+        &self.lives
+    }
 }
 
 impl Engine for Session {
@@ -134,14 +146,16 @@ impl Engine for Session {
 
     ghost made_with = { λ s. s.program };
 
-    ghost tags = { λ s. s.kept.next_tag - 1 };
+    ghost table = { λ s. s.lives };
+
+    ghost tags = { λ s. s.contents.next_tag - 1 };
 
     ghost gives = { session_gives };
 
     ghost fires = { session_fires };
 
-    fn new(alloc: Global, program: Program) -> Result<Session, NoMemory> {
-        Session::new(alloc, program)
+    fn new(alloc: Global, program: Program, lives: LifeTable) -> Result<Session, NoMemory> {
+        Session::new(alloc, program, lives)
     }
 
     fn apply(self, alloc: Global, change: &Change) -> Result<(Session, Lines), NoMemory> {

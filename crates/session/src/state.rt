@@ -3,14 +3,15 @@ ghost use Rattle.rule_model.specs.Matches.{fire_cmp};
 ghost use Rattle.rule_model.specs.First.{first};
 ghost use Rattle.rule_world.specs.Worlds.{modify_fault, is_of_type};
 ghost use Rattle.session.specs.Places.{IsNewestTag, newest};
+ghost use Rattle.session.specs.Standing.{last_start_in};
 ghost use Rattle.std.specs.FinMap as map;
 
-use crate::times::is_event;
 use agenda::Agenda;
-use change_read::{Code, Present};
+use change_read::Present;
 use fact_store::FactStore;
-use fx_base::{Fact, FactId, Millis, NoMemory, Tag, TypeId};
+use fx_base::{EntryId, Fact, FactId, Millis, NoMemory, Tag, TypeId};
 use rule_model::{Match, Program};
+use rule_world::Code;
 use std::alloc::Global;
 use std::marker::Model;
 
@@ -32,9 +33,9 @@ impl Model for State {
     ghost use Rattle.std.specs.Coded.{codes};
     ghost use Rattle.session.specs.Codes.{held_code};
     ghost use Rattle.session.specs.Places.{IsSafe};
-    ghost use Rattle.session.specs.Standing.{Kept};
+    ghost use Rattle.session.specs.Standing.{Contents};
 
-    ghost Value = { Kept };
+    ghost Value = { Contents };
 
     ghost coded = { Prim.hlevel (codes, held_code) };
 
@@ -77,6 +78,17 @@ impl State {
         self.clock
     }
 
+    /// The start of the event that was inserted last in an entry point, in milliseconds, or 0. Takes no memory.
+    pub(crate) fn last_start(&self, entry: EntryId) -> Millis
+        ensures { result ≡ last_start_in self.now.last_starts entry.0 }
+    {
+        self.last_starts
+            .as_slice()
+            .get(entry.0 as usize)
+            .copied()
+            .unwrap_or(0)
+    }
+
     /// The tag of the fact that is to be modified, or why it is not to be. Takes no memory.
     pub(crate) fn modifiable(&self, program: &Program, id: FactId) -> Result<Tag, Code>
         ensures tag { IfOk result (IsNewestTag self.now.facts id.0) }
@@ -84,7 +96,7 @@ impl State {
         ensures fault { IfErr result (λ code. modify_fault program.now (newest self.now id.0) ≡ Some code) }
     {
         match self.facts.get(id) {
-            Some(fact) if is_event(program.types.as_slice(), fact.ty) => Err(Code::EventFixed),
+            Some(fact) if program.is_event(fact.ty) => Err(Code::EventFixed),
             Some(fact) => Ok(fact.tag),
             None => Err(Code::Absent),
         }

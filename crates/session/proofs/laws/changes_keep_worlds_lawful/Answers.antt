@@ -2,4 +2,4 @@ use Rattle.session.proofs.Asking.{gives_lawful}
 use Rattle.session.proofs.laws.changes_keep_worlds_lawful.Goals as goal
 
 pub returns : goal.returns
-returns c p w change accepted l = gives_lawful p w change accepted l
+returns c p w change runnable l = gives_lawful p w change runnable l

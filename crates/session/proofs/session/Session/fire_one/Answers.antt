@@ -1,3 +1,8 @@
+use Rattle.std.proofs.Common.{subst}
+use Rattle.engine.specs.Answers.{FiringAnswers}
+use Rattle.engine.specs.declared.lines.Fired.TheVariants.{No}
+use Rattle.session.specs.Gives.{fires}
+use Rattle.session.specs.Standing.{Shown, Stands}
 use Rattle.session.proofs.Knowing.{fired_known, some_fired}
 use Rattle.session.proofs.Sessions.{shown_none, shown_fires}
 use Rattle.session.proofs.session.Session.fire_one.Goals as goal
@@ -5,23 +10,24 @@ use Rattle.session.proofs.session.Session.fire_one.Goals as goal
 pub returns-in-None-clause-answers : goal.returns-in-None-clause-answers
 returns-in-None-clause-answers c w s =
     let none = simp c.in-None.is at c.in_ok-plan.ensures.plan in
-    shown_none c.self.inside.program c.self.inside.state c.args.self c.self.view_is w s none
+    subst (λ (z : Shown). FiringAnswers (fires c.args.self.program w) No w (Stands z)) c.self.view_is
+    (shown_none c.self.inside.program c.self.inside.lives c.self.inside.state c.args.self c.self.view_is w s none)
 
 pub returns-in_ok-state-in-Some-clause-answers : goal.returns-in_ok-state-in-Some-clause-answers
 returns-in_ok-state-in-Some-clause-answers c w s =
     let planned = simp c.in-Some.is at c.in_ok-plan.ensures.plan in
     let written = simp c.new-lines.ensures.items at c.in_ok-state-in-Some.ensures.lines in
     rw c.from_vec.ensures
-    (shown_fires c.self.inside.program c.self.inside.state c.args.self c.self.view_is w s c.in_ok-state-in-Some.state c.in-Some.plan.items c.fire.new.lines.items planned c.in_ok-state-in-Some.ensures.stands written)
+    (shown_fires c.self.inside.program c.self.inside.lives c.self.inside.state c.args.self c.self.view_is w s c.in_ok-state-in-Some.state c.in-Some.plan.items c.fire.new.lines.items c.self.invariant.runnable planned c.in_ok-state-in-Some.ensures.stands written)
 
 pub returns-in_ok-state-in-Some-clause-known : goal.returns-in_ok-state-in-Some-clause-known
-returns-in_ok-state-in-Some-clause-known c typed =
+returns-in_ok-state-in-Some-clause-known c =
     let planned = simp c.in-Some.is at c.in_ok-plan.ensures.plan in
     let written = simp c.new-lines.ensures.items at c.in_ok-state-in-Some.ensures.lines in
     rw c.from_vec.ensures
-    (fired_known c.self.inside.program c.self.inside.state c.args.self c.self.view_is c.self.invariant typed c.in-Some.plan.items c.fire.new.lines.items planned written)
+    (fired_known c.self.inside.program c.self.inside.lives c.self.inside.state c.self.invariant c.args.self c.self.view_is c.in-Some.plan.items c.fire.new.lines.items planned written)
 
 pub invariant_of-result : goal.invariant_of-result
 invariant_of-result c =
     let planned = simp c.in-Some.is at c.in_ok-plan.ensures.plan in
-    some_fired c.self.inside.program c.self.inside.state c.in_ok-state-in-Some.state c.in-Some.plan.items c.self.invariant planned c.in_ok-state-in-Some.ensures.stands
+    some_fired c.self.inside.program c.self.inside.lives c.self.inside.state c.self.invariant c.in_ok-state-in-Some.state c.in-Some.plan.items planned c.in_ok-state-in-Some.ensures.stands

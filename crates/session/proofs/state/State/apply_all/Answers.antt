@@ -9,9 +9,9 @@ loop-wanted-init c =
     let all : c.into_iter-wanted-iterator.result.rest.items ≡ c.args.plan.items = c.into_iter-wanted-iterator.ensures.into_iter_gives.0 in
     record {
       tags = omega (arith, ap length all);
-      done = λ w s.
+      done = λ w s fit.
           subst (λ (rest : List (Result Step Code)). SoFar c.args.program.now w c.args.plan.items c.args.lines.now.items c.args.lines.now.items c.args.self rest) (sym all)
-          (none_done c.args.program.now w c.args.plan.items c.args.lines.now.items c.args.self s);
+          (none_done c.args.program.now w c.args.plan.items c.args.lines.now.items c.args.self s fit);
     }
 
 pub loop-wanted-preserved : goal.loop-wanted-preserved
@@ -19,20 +19,20 @@ loop-wanted-preserved c =
     let step : c.loop-wanted.wanted-iterator.rest.items ≡ c.in-Some.wanted ∷ c.next.new.self.rest.items = c.in-Some.ensures.steps.0 in
     record {
       tags = omega (arith, ap length step, c.loop-wanted.invariant.tags, c.in_ok-state.ensures.tags);
-      done = λ w s.
-          one_done c.args.program.now w c.args.plan.items c.args.lines.now.items c.loop-wanted.lines.items c.apply.new.lines.items c.loop-wanted.state c.in_ok-state.state c.in-Some.wanted c.next.new.self.rest.items
-          (subst (λ (rest : List (Result Step Code)). SoFar c.args.program.now w c.args.plan.items c.args.lines.now.items c.loop-wanted.lines.items c.loop-wanted.state rest) step (c.loop-wanted.invariant.done w s))
+      done = λ w s fit.
+          one_done c.args.program.now w c.args.plan.items c.args.lines.now.items c.loop-wanted.lines.items c.apply.new.lines.items c.loop-wanted.state c.in_ok-state.state c.in-Some.wanted c.next.new.self.rest.items s.lawful.ordered
+          (subst (λ (rest : List (Result Step Code)). SoFar c.args.program.now w c.args.plan.items c.args.lines.now.items c.loop-wanted.lines.items c.loop-wanted.state rest) step (c.loop-wanted.invariant.done w s fit))
           c.in_ok-state.ensures.stands c.in_ok-state.ensures.lines;
     }
 
 pub returns-clause-stands : goal.returns-clause-stands
-returns-clause-stands c w s =
+returns-clause-stands c w s fit =
     let none : c.loop-wanted.wanted-iterator.rest.items ≡ [] = nothing_left c.loop-wanted.wanted-iterator.rest.items c.loop-wanted.wanted-iterator.rest.len c.loop-wanted.wanted-iterator.rest.ok.0 c.in-None.ensures.steps.0 in
     all_done_stands c.args.program.now w c.args.plan.items c.args.lines.now.items c.loop-wanted.lines.items c.loop-wanted.state
-    (subst (λ (rest : List (Result Step Code)). SoFar c.args.program.now w c.args.plan.items c.args.lines.now.items c.loop-wanted.lines.items c.loop-wanted.state rest) none (c.loop-wanted.invariant.done w s))
+    (subst (λ (rest : List (Result Step Code)). SoFar c.args.program.now w c.args.plan.items c.args.lines.now.items c.loop-wanted.lines.items c.loop-wanted.state rest) none (c.loop-wanted.invariant.done w s fit))
 
 pub returns-clause-lines : goal.returns-clause-lines
-returns-clause-lines c w s =
+returns-clause-lines c w s fit =
     let none : c.loop-wanted.wanted-iterator.rest.items ≡ [] = nothing_left c.loop-wanted.wanted-iterator.rest.items c.loop-wanted.wanted-iterator.rest.len c.loop-wanted.wanted-iterator.rest.ok.0 c.in-None.ensures.steps.0 in
     all_done_lines c.args.program.now w c.args.plan.items c.args.lines.now.items c.loop-wanted.lines.items c.loop-wanted.state
-    (subst (λ (rest : List (Result Step Code)). SoFar c.args.program.now w c.args.plan.items c.args.lines.now.items c.loop-wanted.lines.items c.loop-wanted.state rest) none (c.loop-wanted.invariant.done w s))
+    (subst (λ (rest : List (Result Step Code)). SoFar c.args.program.now w c.args.plan.items c.args.lines.now.items c.loop-wanted.lines.items c.loop-wanted.state rest) none (c.loop-wanted.invariant.done w s fit))

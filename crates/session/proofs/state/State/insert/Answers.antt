@@ -1,11 +1,11 @@
 use Rattle.std.proofs.Common.{◌≡◌, Some, None, [], ◌∷◌, ◌++◌, sym, subst, ap}
 use Rattle.std.proofs.lemmas.Result.{IfOk-weaker}
 use Rattle.rule_model.specs.declared.step.Step.TheVariants.{Insert}
-use Rattle.rule_world.specs.Worlds.{with_new}
+use Rattle.rule_world.specs.Worlds.{settled, with_new}
 use Rattle.engine.specs.declared.lines.OutLine.TheVariants.{New}
-use Rattle.session.specs.Standing.{Kept, Standing}
+use Rattle.session.specs.Standing.{Contents, Mirrors}
 use Rattle.session.proofs.Faults.{insert_done, insert_fault, numbered}
-use Rattle.session.proofs.Tried.{done_stands, done_lines, on_ok, on_ok_weaker, refused_stands, refused_lines}
+use Rattle.session.proofs.Tried.{done_moves, done_lines, on_ok, on_ok_weaker, refused_moves, refused_lines}
 use Rattle.session.proofs.state.State.insert.Goals as goal
 
 pub returns-in_ok-push-in-Ok-clause-stands : goal.returns-in_ok-push-in-Ok-clause-stands
@@ -14,9 +14,9 @@ returns-in_ok-push-in-Ok-clause-stands c =
     let p = c.args.program.now in
     let none = simp c.as_slice.ensures at c.in-Ok.ensures.none in
     let times = simp c.as_slice.ensures at c.in-Ok.ensures.times in
-    IfOk-weaker c.with_new.result _ _ (λ s h w st. done_stands p w (Insert c.args.ty c.args.entry c.args.fields) s (with_new p w (numbered k c.args.ty c.args.entry c.args.fields c.in-Ok.times))
+    IfOk-weaker c.with_new.result _ _ (λ s h w st. done_moves p w (Insert c.args.ty c.args.entry c.args.fields) s (settled p (with_new p w (numbered k c.args.ty c.args.entry c.args.fields c.in-Ok.times)))
     (insert_fault p k w st c.args.ty c.args.entry c.args.fields None none) (insert_done p k w st c.args.ty c.args.entry c.args.fields c.in-Ok.times times)
-    (subst (λ (z : Kept). Standing p.rules s (with_new p w (numbered z c.args.ty c.args.entry c.args.fields c.in-Ok.times))) c.self.view_is (h w st))) c.with_new.ensures.stands
+    (subst (λ (z : Contents). Mirrors p s (settled p (with_new p w (numbered z c.args.ty c.args.entry c.args.fields c.in-Ok.times)))) c.self.view_is (h w st))) c.with_new.ensures.stands
 
 pub returns-in_ok-push-in-Ok-clause-lines : goal.returns-in_ok-push-in-Ok-clause-lines
 returns-in_ok-push-in-Ok-clause-lines c =
@@ -24,15 +24,15 @@ returns-in_ok-push-in-Ok-clause-lines c =
     let p = c.args.program.now in
     let none = simp c.as_slice.ensures at c.in-Ok.ensures.none in
     on_ok c.with_new.result (λ w st. done_lines p w (Insert c.args.ty c.args.entry c.args.fields) c.args.lines.now.items c.push.new.self.items (New (record { 0 = k.next_id }) c.args.ty ∷ [])
-    (insert_fault p k w st c.args.ty c.args.entry c.args.fields None none) (ap (λ n. New (record { 0 = n }) c.args.ty ∷ []) (sym st.next_id))
-    (subst (λ (z : Kept). c.push.new.self.items ≡ c.args.lines.now.items ++ New (record { 0 = z.next_id }) c.args.ty ∷ []) c.self.view_is c.in_ok-push-in-Ok.ensures.items))
+    (insert_fault p k w st c.args.ty c.args.entry c.args.fields None none) (ap (λ n. New (record { 0 = n }) c.args.ty ∷ []) (sym st.mirrors.next_id))
+    (subst (λ (z : Contents). c.push.new.self.items ≡ c.args.lines.now.items ++ New (record { 0 = z.next_id }) c.args.ty ∷ []) c.self.view_is c.in_ok-push-in-Ok.ensures.items))
 
 pub returns-in-Err-clause-stands : goal.returns-in-Err-clause-stands
 returns-in-Err-clause-stands c =
     let k = c.args.self in
     let p = c.args.program.now in
     let fault = simp c.as_slice.ensures at c.in-Err.ensures.fault in
-    IfOk-weaker c.refuse.result _ _ (λ s e w st. refused_stands p w (Insert c.args.ty c.args.entry c.args.fields) c.in-Err.code (insert_fault p k w st c.args.ty c.args.entry c.args.fields (Some c.in-Err.code) fault) k s e st) c.refuse.ensures.state
+    IfOk-weaker c.refuse.result _ _ (λ s e w st. refused_moves p w (Insert c.args.ty c.args.entry c.args.fields) c.in-Err.code (insert_fault p k w st c.args.ty c.args.entry c.args.fields (Some c.in-Err.code) fault) k s e st) c.refuse.ensures.state
 
 pub returns-in-Err-clause-lines : goal.returns-in-Err-clause-lines
 returns-in-Err-clause-lines c =

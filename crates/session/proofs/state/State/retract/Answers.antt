@@ -1,20 +1,19 @@
-use Rattle.std.proofs.Common.{◌≡◌, Some, None, true, false, refl, sym, ◌∙◌, ap}
-use Rattle.std.specs.Prelude.{slice_get}
+use Rattle.std.proofs.Common.{◌≡◌, Some, None, true, false, refl, sym}
 use Rattle.std.proofs.lemmas.Result.{IfOk-weaker}
 use Rattle.rule_world.specs.declared.code.Code.TheVariants.{Absent}
 use Rattle.rule_model.specs.declared.step.Step.TheVariants.{Retract}
-use Rattle.rule_model.specs.Types.{is_event_type, is_event}
-use Rattle.rule_world.specs.Worlds.{stepped}
+use Rattle.rule_model.specs.Types.{is_event}
+use Rattle.rule_world.specs.Worlds.{settled, without_fact}
 use Rattle.session.specs.Places.{newest}
-use Rattle.session.proofs.Faults.{retract_absent, retract_event, retract_fault_is, retract_found, retract_vain}
-use Rattle.session.proofs.Tried.{done_stands, no_lines, on_ok, on_ok_weaker, refused_stands, refused_lines}
+use Rattle.session.proofs.Faults.{retract_absent, retract_event, retract_fault_is, retract_done, retract_found, retract_vain}
+use Rattle.session.proofs.Tried.{done_moves, no_lines, on_ok, on_ok_weaker, refused_moves, refused_lines}
 use Rattle.session.proofs.state.State.retract.Goals as goal
 
 pub returns-in-Some-clause-stands : goal.returns-in-Some-clause-stands
 returns-in-Some-clause-stands c =
     let p = c.args.program.now in
-    IfOk-weaker c.without.result _ _ (λ s h w st. done_stands p w (Retract c.args.ty c.args.id) s (stepped p w (Retract c.args.ty c.args.id))
-    (retract_fault_is p c.args.self w st c.args.ty c.args.id None (retract_found p c.args.ty.0 (newest c.args.self c.args.id.0) (c.in-Some.ensures.some refl))) refl (h w st)) c.without.ensures.stands
+    IfOk-weaker c.without.result _ _ (λ s h w st. done_moves p w (Retract c.args.ty c.args.id) s (settled p (without_fact w c.args.ty.0 c.args.id.0))
+    (retract_fault_is p c.args.self w st c.args.ty c.args.id None (retract_found p c.args.ty.0 (newest c.args.self c.args.id.0) (c.in-Some.ensures.some refl))) (retract_done p w c.args.ty c.args.id) (h w st)) c.without.ensures.stands
 
 pub returns-in-Some-clause-lines : goal.returns-in-Some-clause-lines
 returns-in-Some-clause-lines c =
@@ -25,27 +24,27 @@ returns-in-Some-clause-lines c =
 pub returns-in-None-clause-stands : goal.returns-in-None-clause-stands
 returns-in-None-clause-stands c w st =
     let p = c.args.program.now in
-    let event : is_event p c.args.ty.0 ≡ true = ap (λ types. is_event_type (slice_get types c.args.ty.0)) (sym c.as_slice.ensures) ∙ sym c.if-is_event.ensures in
-    done_stands p w (Retract c.args.ty c.args.id) c.args.self w
+    let event : is_event p c.args.ty.0 ≡ true = sym c.if-is_event.ensures in
+    done_moves p w (Retract c.args.ty c.args.id) c.args.self w
     (retract_fault_is p c.args.self w st c.args.ty c.args.id None (retract_event p c.args.ty.0 (newest c.args.self c.args.id.0) event))
-    (retract_vain p c.args.self w st c.args.ty c.args.id (c.in-None.ensures.none refl)) st
+    (retract_vain p c.args.self w st c.args.ty c.args.id (c.in-None.ensures.none refl)) st.mirrors
 
 pub returns-in-None-clause-lines : goal.returns-in-None-clause-lines
 returns-in-None-clause-lines c w st =
     let p = c.args.program.now in
-    let event : is_event p c.args.ty.0 ≡ true = ap (λ types. is_event_type (slice_get types c.args.ty.0)) (sym c.as_slice.ensures) ∙ sym c.if-is_event.ensures in
+    let event : is_event p c.args.ty.0 ≡ true = sym c.if-is_event.ensures in
     no_lines p w (Retract c.args.ty c.args.id) c.args.lines.now.items (retract_fault_is p c.args.self w st c.args.ty c.args.id None (retract_event p c.args.ty.0 (newest c.args.self c.args.id.0) event)) refl
 
 pub returns-in-None-2-clause-stands : goal.returns-in-None-2-clause-stands
 returns-in-None-2-clause-stands c =
     let p = c.args.program.now in
-    let plain : is_event p c.args.ty.0 ≡ false = ap (λ types. is_event_type (slice_get types c.args.ty.0)) (sym c.as_slice.ensures) ∙ sym c.if-is_event.ensures in
-    IfOk-weaker c.refuse.result _ _ (λ s e w st. refused_stands p w (Retract c.args.ty c.args.id) Absent
+    let plain : is_event p c.args.ty.0 ≡ false = sym c.if-is_event.ensures in
+    IfOk-weaker c.refuse.result _ _ (λ s e w st. refused_moves p w (Retract c.args.ty c.args.id) Absent
     (retract_fault_is p c.args.self w st c.args.ty c.args.id (Some Absent) (retract_absent p c.args.ty.0 (newest c.args.self c.args.id.0) plain (c.in-None.ensures.none refl))) c.args.self s e st) c.refuse.ensures.state
 
 pub returns-in-None-2-clause-lines : goal.returns-in-None-2-clause-lines
 returns-in-None-2-clause-lines c =
     let p = c.args.program.now in
-    let plain : is_event p c.args.ty.0 ≡ false = ap (λ types. is_event_type (slice_get types c.args.ty.0)) (sym c.as_slice.ensures) ∙ sym c.if-is_event.ensures in
+    let plain : is_event p c.args.ty.0 ≡ false = sym c.if-is_event.ensures in
     on_ok_weaker c.refuse.result (λ e w st. refused_lines p w (Retract c.args.ty c.args.id) Absent
     (retract_fault_is p c.args.self w st c.args.ty c.args.id (Some Absent) (retract_absent p c.args.ty.0 (newest c.args.self c.args.id.0) plain (c.in-None.ensures.none refl))) c.args.lines.now.items c.refuse.new.lines.items e) c.refuse.ensures.lines

@@ -1,11 +1,11 @@
 use Rattle.std.proofs.Common.{◌∙◌, ap}
 use Rattle.session.specs.Places.{newest}
-use Rattle.session.specs.Standing.{Kept}
+use Rattle.session.specs.Standing.{Contents}
 use Rattle.session.proofs.Faults.{presented}
-use Rattle.session.proofs.Stands.{kept}
+use Rattle.session.proofs.Stands.{contents}
 use Rattle.session.proofs.state.StatePresent.fact_with.Goals as goal
 
 pub returns : goal.returns
 returns c =
-    presented (kept c.self.inside.facts c.self.inside.clock c.self.inside.last_starts.items c.self.inside.agenda c.self.inside.next_id c.self.inside.next_tag) c.self.invariant c.args.id.0 c.get.result c.get.ensures.some c.get.ensures.none
-    ∙ ap (λ (k : Kept). newest k c.args.id.0) c.self.view_is
+    presented (contents c.self.inside.facts c.self.inside.clock c.self.inside.last_starts.items c.self.inside.agenda c.self.inside.next_id c.self.inside.next_tag) c.self.invariant c.args.id.0 c.get.result c.get.ensures.some c.get.ensures.none
+    ∙ ap (λ (k : Contents). newest k c.args.id.0) c.self.view_is

@@ -1,6 +1,6 @@
 use Rattle.std.proofs.Common.{◌≡◌}
 use Rattle.rule_world.specs.Worlds.{with_values}
-use Rattle.session.proofs.steps.values_with.Given as goal
+use Rattle.session.proofs.moving.values_with.Given as goal
 
 -- the sets that are left lead to the end
 abbrev pub invariant-loop-place : goal.invariant-loop-place
