@@ -1,0 +1,6 @@
+pub mod Names
+pub mod Singles
+pub mod Insides
+pub mod Wholes
+pub mod Numbers
+pub mod Lengths

@@ -1,8 +1,8 @@
 -- For which arrivals a gate stands, and which changes it takes.
-use Rattle.std.specs.Prelude.{◌≡◌, ℕ, ℤ, pos, ◌+ℤ◌, ◌≤ℤ◌, ◌<◌, ◌^◌, Bool, true, false, List, [], ◌∷◌, ◌++◌, Option, Some, None, map, filter, length, option_map, option_or, cond}
+use Rattle.std.specs.Prelude.{◌≡◌, ℕ, ℤ, pos, ◌+ℤ◌, ◌≤ℤ◌, ◌^◌, Bool, true, false, List, [], ◌∷◌, ◌++◌, Option, Some, None, map, filter, length, option_map, cond}
 use Rattle.std.specs.BTreeMap.{get}
 use Rattle.std.specs.FinMap as timers
-use Rattle.std.specs.List.{list_any, find, All}
+use Rattle.std.specs.List.{list_any, find}
 use Rattle.std.specs.List.Sorted.{IsStrictlySortedBy}
 use Rattle.std.specs.Map.{keys_of, values_of}
 use Rattle.std.specs.Ordering.{nat_cmp, eq_by_cmp}
@@ -46,12 +46,11 @@ pub record KeepsTime (window : TimeWindow) (arrivals : List Arrival) (now : ℤ)
 abbrev pub numbered : LengthWindow → List (ℕ × Named)
 numbered window = window.older.entries ++ window.newer.entries
 
--- a length window keeps all arrivals in their order, those inside apart, under rising numbers that it finds by the tags
+-- a length window keeps all arrivals in their order, those inside apart, under numbers that rise up to the next one and that it finds by the tags
 pub record KeepsLength (window : LengthWindow) (arrivals : List Arrival) (now : ℤ) : Type 0 where
-  pub arrivals : values_of (numbered window) ≡ map named_of arrivals
-  pub inside : values_of window.newer.entries ≡ map named_of (inside (Length window.size) now arrivals)
-  pub rising : IsStrictlySortedBy nat_cmp (keys_of (numbered window))
-  pub below : All (λ number. number < window.next) (keys_of (numbered window))
+  pub present : values_of (numbered window) ≡ map named_of arrivals
+  pub latest : values_of window.newer.entries ≡ map named_of (inside (Length window.size) now arrivals)
+  pub rising : IsStrictlySortedBy nat_cmp (keys_of (numbered window) ++ window.next ∷ [])
   pub numbers : (tag : ℕ) → get nat_cmp window.numbers tag ≡ number_of tag (numbered window)
 
 -- what a gate keeps of the arrivals: nothing, where all are inside
