@@ -6,7 +6,7 @@ use Rattle.std.specs.BTreeMap.{insert_entry, is_at, get, BTreeMap}
 use Rattle.std.specs.List.{list_any}
 use Rattle.std.specs.List.Sorted.{IsStrictlySortedBy}
 use Rattle.std.specs.Map.{keys_of, values_of, lookup, remove_entry}
-use Rattle.std.specs.Option.{option_or}
+use Rattle.std.specs.Option.{option_or, MatchOption}
 use Rattle.std.specs.Ordering.{nat_cmp, eq_by_cmp}
 use Rattle.std.proofs.lemmas.Bool.Decides.{Decides-eqb, nat_tests}
 use Rattle.std.proofs.lemmas.List.{length-append, length-map}
@@ -462,3 +462,86 @@ went window window_now arrivals was now gone left back keeps same_size same_next
   where
     tie : (a b : ℕ) → is_at (nat_cmp a) b ≡ (a == b)
     tie a b = grind (arith, nat_tests)
+
+-- ---- the calls
+
+-- the window with these parts
+abbrev pub with_parts : LengthWindow → ℕ → BTreeMap ℕ Named → BTreeMap ℕ Named → BTreeMap ℕ ℕ → LengthWindow
+with_parts window next older newer numbers = record { size = window.size; next = next; older = older; newer = newer; numbers = numbers }
+
+module _ (window : LengthWindow) (following : ℕ) (named : Named) (older_made newer_made : Numbered) (left : Option Named) (older newer : BTreeMap ℕ Named) (numbers : BTreeMap ℕ ℕ)
+    (next : following ≡ window.next + 1) (made : MakesRoom window.size window.older.entries window.newer.entries older_made newer_made left)
+    (numbers_are : (tag : ℕ) → get nat_cmp numbers tag ≡ cond (is_at (nat_cmp named.tag.0) tag) (Some window.next) (get nat_cmp window.numbers tag))
+    (arrivals : List Arrival) (start was now : ℤ) (keeps : KeepsLength window arrivals was) (absent : list_any (has_tag named.tag.0) (map named_of arrivals) ≡ false) where
+  -- into a window of no length
+  pub kept_never : window.size ≡ 0 → older.entries ≡ insert_entry nat_cmp older_made window.next named → newer.entries ≡ newer_made
+      → KeepsLength (with_parts window following older newer numbers) (after arrivals (Come named start)) now
+  kept_never none put same =
+      came window (with_parts window following older newer numbers) arrivals was now named start keeps absent refl next
+      (ap (λ es. es ++ newer.entries) put ∙ ap (λ es. insert_entry nat_cmp older_made window.next named ++ es) same
+      ∙ never_entries window.size window.next following named window.older.entries window.newer.entries older_made newer_made left keeps.rising (kept_full window arrivals was keeps) made none)
+      (subst (λ (es : Numbered). IsFull window.size es newer.entries) (sym put) (subst (IsFull window.size (insert_entry nat_cmp older_made window.next named)) (sym same)
+      (never_full window.size window.next following named window.older.entries window.newer.entries older_made newer_made left keeps.rising (kept_full window arrivals was keeps) made none)))
+      numbers_are
+
+  pub between_never : window.size ≡ 0 → older.entries ≡ insert_entry nat_cmp older_made window.next named → newer.entries ≡ newer_made → (delta : Delta) → delta.gone ≡ [] → delta.come ≡ []
+      → IsBetween (rows_inside (Length window.size) was arrivals) (rows_inside (Length window.size) now (after arrivals (Come named start))) delta
+  between_never none put same delta is_gone is_come =
+      between_kept window (with_parts window following older newer numbers) arrivals (after arrivals (Come named start)) was now [] [] delta keeps (kept_never none put same) refl
+      (subst (λ (es : Numbered). Differ (values_of window.newer.entries) (values_of es) [] []) (sym same)
+      (never_differ window.size window.next following named window.older.entries window.newer.entries older_made newer_made left keeps.rising (kept_full window arrivals was keeps) made none))
+      none_in_order none_in_order is_gone is_come
+
+  -- into another
+  pub kept_enters : (window.size ≡ 0 → ⊥) → older.entries ≡ older_made → newer.entries ≡ insert_entry nat_cmp newer_made window.next named
+      → KeepsLength (with_parts window following older newer numbers) (after arrivals (Come named start)) now
+  kept_enters some same put =
+      came window (with_parts window following older newer numbers) arrivals was now named start keeps absent refl next
+      (ap (λ es. es ++ newer.entries) same ∙ ap (λ es. older_made ++ es) put
+      ∙ enters_entries window.size window.next following named window.older.entries window.newer.entries older_made newer_made left keeps.rising (kept_full window arrivals was keeps) made)
+      (subst (λ (es : Numbered). IsFull window.size es newer.entries) (sym same) (subst (IsFull window.size older_made) (sym put)
+      (enters_full window.size window.next following named window.older.entries window.newer.entries older_made newer_made left keeps.rising (kept_full window arrivals was keeps) made some)))
+      numbers_are
+
+  pub between_enters : TagsDiffer (map named_of arrivals) → (window.size ≡ 0 → ⊥) → older.entries ≡ older_made → newer.entries ≡ insert_entry nat_cmp newer_made window.next named
+      → (delta : Delta) → delta.gone ≡ map single (option_to_list left) → delta.come ≡ map single (named ∷ [])
+      → IsBetween (rows_inside (Length window.size) was arrivals) (rows_inside (Length window.size) now (after arrivals (Come named start))) delta
+  between_enters differ some same put delta is_gone is_come =
+      between_kept window (with_parts window following older newer numbers) arrivals (after arrivals (Come named start)) was now (option_to_list left) (named ∷ []) delta keeps (kept_enters some same put) refl
+      (subst (λ (es : Numbered). Differ (values_of window.newer.entries) (values_of es) (option_to_list left) (named ∷ [])) (sym put)
+      (enters_differ window.size window.next following named window.older.entries window.newer.entries older_made newer_made left keeps.rising (kept_full window arrivals was keeps) made
+      (newer_differ window arrivals was keeps differ) (newer_absent window arrivals was named.tag.0 keeps absent)))
+      (few_in_order left) (one_in_order named) is_gone is_come
+
+module _ (window : LengthWindow) (gone : Named) (older newer : BTreeMap ℕ Named) (numbers : BTreeMap ℕ ℕ) (left back : Option Named)
+    (numbers_are : (tag : ℕ) → get nat_cmp numbers tag ≡ cond (is_at (nat_cmp gone.tag.0) tag) None (get nat_cmp window.numbers tag))
+    (arrivals : List Arrival) (was now : ℤ) (keeps : KeepsLength window arrivals was)
+    (removed : Removed gone.tag.0 window.size window.older.entries window.newer.entries older.entries newer.entries left back) where
+  pub kept_went : KeepsLength (with_parts window window.next older newer numbers) (after arrivals (Gone gone)) now
+  kept_went = went window (with_parts window window.next older newer numbers) arrivals was now gone left back keeps refl refl removed numbers_are
+
+  pub between_went : (delta : Delta) → delta.gone ≡ map single (option_to_list left) → delta.come ≡ map single (option_to_list back)
+      → IsBetween (rows_inside (Length window.size) was arrivals) (rows_inside (Length window.size) now (after arrivals (Gone gone))) delta
+  between_went delta is_gone is_come =
+      between_kept window (with_parts window window.next older newer numbers) arrivals (after arrivals (Gone gone)) was now (option_to_list left) (option_to_list back) delta keeps kept_went refl
+      removed.differ (few_in_order left) (few_in_order back) is_gone is_come
+
+-- a part as a slice
+pub slice_is : (o : Option Named) (items : List Named) → MatchOption o (items ≡ []) (λ x. items ≡ x ∷ []) → items ≡ option_to_list o
+slice_is None items e = e
+slice_is (Some x) items e = e
+
+-- the same under other names
+pub removed_along : (tag size : ℕ) (older newer : Numbered) (older_at older_is newer_at newer_is : BTreeMap ℕ Named) (both : Option Named × Option Named) (left back : Option Named)
+    → older_is ≡ older_at → newer_is ≡ newer_at → both ≡ (left, back)
+    → Removed tag size older newer older_at.entries newer_at.entries left back → Removed tag size older newer older_is.entries newer_is.entries both.0 both.1
+removed_along tag size older newer older_at older_is newer_at newer_is both left back o n b removed =
+    subst (λ (p : Option Named × Option Named). Removed tag size older newer older_is.entries newer_is.entries p.0 p.1) (sym b)
+    (subst (λ (m : BTreeMap ℕ Named). Removed tag size older newer m.entries newer_is.entries left back) (sym o)
+    (subst (λ (m : BTreeMap ℕ Named). Removed tag size older newer older_at.entries m.entries left back) (sym n) removed))
+
+-- the clock changes nothing
+pub between_clock : (window : LengthWindow) (arrivals : List Arrival) (was now : ℤ) (delta : Delta) → KeepsLength window arrivals was → delta.gone ≡ [] → delta.come ≡ []
+    → IsBetween (rows_inside (Length window.size) was arrivals) (rows_inside (Length window.size) now arrivals) delta
+between_clock window arrivals was now delta keeps is_gone is_come =
+    between_kept window window arrivals arrivals was now [] [] delta keeps (keeps_still window arrivals was now keeps) refl (no_difference (values_of window.newer.entries)) none_in_order none_in_order is_gone is_come
