@@ -4,3 +4,5 @@ pub mod Insides
 pub mod Wholes
 pub mod Numbers
 pub mod Lengths
+pub mod Waiting
+pub mod Times

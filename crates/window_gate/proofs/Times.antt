@@ -1,0 +1,2 @@
+-- The step of a time window.
+use Rattle.std.proofs.Common.{◌≡◌}
