@@ -43,7 +43,7 @@ impl TimeWindow {
 
     /// What is due leaves, and what comes enters where it is inside at this moment.
     pub(crate) fn step(
-        self,
+        mut self,
         alloc: Global,
         change: &GateChange,
         now: Millis,
@@ -56,19 +56,17 @@ impl TimeWindow {
             → TagsDiffer (map named_of arrivals) → MayPass (Time self.millis) was now → MayChange (Time self.millis) (map named_of arrivals) change.now
             → IfOk result (λ r. IsBetween (rows_inside (Time self.millis) was arrivals) (rows_inside (Time self.millis) now (after arrivals change.now)) r.1) }
     {
-        let TimeWindow {
-            millis,
-            mut due,
-            mut ids,
-        } = self;
-        let leaving = leaving(&mut due, change, now)?;
-        let gone = take_named(alloc, &mut ids, &leaving)?;
+        let leaving = leaving(&mut self.due, change, now)?;
+        let gone = take_named(alloc, &mut self.ids, &leaving)?;
         let come = match change {
-            GateChange::Come(named, start) => enter(&mut due, &mut ids, *named, start.saturating_add(millis), now)?,
+            GateChange::Come(named, start) => {
+                let moment = start.saturating_add(self.millis);
+                enter(&mut self.due, &mut self.ids, *named, moment, now)?
+            }
             _ => None,
         };
         let delta = difference(alloc, &gone, come.as_slice())?;
-        Ok((TimeWindow { millis, due, ids }, delta))
+        Ok((self, delta))
     }
 }
 
