@@ -1,7 +1,6 @@
 -- The steps of a length window.
-use Rattle.std.proofs.Common.{◌≡◌, ◌∙◌, sym, ap, refl, subst, ℕ, zero, suc, ℤ, ◌+◌, ◌<◌, ◌≤◌, min, List, [], ◌∷◌, ◌++◌, map, filter, length, Bool, true, false, cond, not, ◌==◌, ◌&&◌, ◌||◌, Option, Some, None, arith, append_assoc, append-nil, ◌⊎◌, inl, inr, ⊎_elim}
+use Rattle.std.proofs.Common.{◌≡◌, ◌∙◌, sym, ap, refl, subst, ℕ, zero, suc, ℤ, ◌+◌, min, List, [], ◌∷◌, ◌++◌, map, length, Bool, true, false, cond, not, ◌==◌, ◌&&◌, ◌||◌, Option, Some, None, arith, append_assoc, append-nil, ◌⊎◌, inl, inr, ⊎_elim}
 use Rattle.std.specs.Option.{option_to_list}
-use Rattle.std.specs.declared.cmp.Ordering.TheVariants.{Less}
 use Rattle.std.specs.BTreeMap.{insert_entry, is_at, get, BTreeMap}
 use Rattle.std.specs.List.{list_any}
 use Rattle.std.specs.List.Sorted.{IsStrictlySortedBy}
@@ -21,11 +20,11 @@ use Rattle.window_gate.specs.declared.length_window.LengthWindow.{LengthWindow}
 use Rattle.window_gate.specs.Windows.{Arrival, named_of, has_tag, single, inside, after, rows_inside}
 use Rattle.window_gate.specs.Standing.{has_name, TagsDiffer, number_of, numbered, KeepsLength}
 use Rattle.window_gate.specs.Pieces.{Numbered, MakesRoom, BringsBack, Removes}
-use Rattle.window_gate.proofs.Names.{same_name, same_itself, equal_names, none_with_tag, names_apart, names-without, only_one, without, without-absent, differ_right, absent_right}
+use Rattle.window_gate.proofs.Names.{same_name, same_itself, equal_names, none_with_tag, names_apart, names-without, only_one, without, differ_right, absent_right}
 use Rattle.window_gate.proofs.Singles.{between_names}
 use Rattle.window_gate.proofs.Insides.{latest, length-latest, latest_split, inside_length, named-filter, named-push}
 use Rattle.window_gate.proofs.Wholes.{one_in_order, none_in_order, only_it, same_stays, nothing_goes, one_comes}
-use Rattle.window_gate.proofs.Numbers.{others, values-others, others-append, others-absent, others_rise, head_rise, keys-append, values-append, put_behind, put_before, rising_left, rising_right, rising_next, less_next, number_of-append, number_of-others, none_numbered, not_numbered, Found, InOlder, InNewer, in_either}
+use Rattle.window_gate.proofs.Numbers.{others, values-others, others-append, others-absent, others_rise, head_rise, keys-append, values-append, put_behind, put_before, rising_left, rising_right, rising_next, less_next, number_of-append, number_of-others, none_numbered, not_numbered, InOlder, InNewer, in_either}
 
 -- a list of one or none is in order
 pub few_in_order : (o : Option Named) → IsStrictlySortedBy name_cmp (option_to_list o)
@@ -148,8 +147,8 @@ pub came : (window window_now : LengthWindow) (arrivals : List Arrival) (was now
 came window window_now arrivals was now named start keeps absent same_size next entries full numbers =
     let arrival : Arrival = record { named = named; start = start } in
     let present : values_of (numbered window_now) ≡ map named_of (arrivals ++ arrival ∷ []) =
-        ap (λ (es : Numbered). values_of es) entries ∙ values-append (numbered window) ((window.next, named) ∷ [])
-        ∙ ap (λ xs. xs ++ named ∷ []) keeps.present ∙ sym (named-push arrivals arrival) in
+    ap (λ (es : Numbered). values_of es) entries ∙ values-append (numbered window) ((window.next, named) ∷ [])
+    ∙ ap (λ xs. xs ++ named ∷ []) keeps.present ∙ sym (named-push arrivals arrival) in
     let fits : IsFull window_now.size window_now.older.entries window_now.newer.entries = subst (λ n. IsFull n window_now.older.entries window_now.newer.entries) (sym same_size) full in
     record {
       present = present;
@@ -166,8 +165,10 @@ came window window_now arrivals was now named start keeps absent same_size next 
     cases true number o e = ap (λ p. option_or p (Some number)) (sym (e refl))
     cases false number None e = refl
     cases false number (Some k) e = refl
+
     tie : (a b : ℕ) → is_at (nat_cmp a) b ≡ (b == a)
     tie a b = grind (arith, nat_tests)
+
     one_more : (tag : ℕ) (named : Named) (number : ℕ) (es : Numbered) → list_any (has_tag named.tag.0) (values_of es) ≡ false
         → cond (is_at (nat_cmp named.tag.0) tag) (Some number) (number_of tag es) ≡ number_of tag (es ++ (number, named) ∷ [])
     one_more tag named number es none =
@@ -224,7 +225,7 @@ enters_differ_at : (size next : ℕ) (named : Named) (older newer older_now newe
     → MakesRoom size older newer older_now newer_now left → Differ (values_of newer) (values_of newest) (option_to_list left) (named ∷ [])
 enters_differ_at size next named older newer older_now newer_now newest None put differ absent (o, n, room) =
     let has : (other : Named) → has_name (values_of newest) other ≡ (has_name (values_of newer) other || same_name other named) =
-        λ other. ap (λ (es : Numbered). has_name (values_of es) other) put ∙ pushed newer_now next named other ∙ ap (λ (es : Numbered). has_name (values_of es) other || same_name other named) n in
+    λ other. ap (λ (es : Numbered). has_name (values_of es) other) put ∙ pushed newer_now next named other ∙ ap (λ (es : Numbered). has_name (values_of es) other || same_name other named) n in
     record {
       goes = λ other. nothing_goes (has_name (values_of newer) other) (same_name other named) ∙ ap (λ b. has_name (values_of newer) other && not b) (sym (has other));
       comes = λ other.
@@ -369,21 +370,21 @@ module _ (tag number size : ℕ) (older newer older_now newer_now : Numbered) (r
       }
   removed_newer (Some o) (at, split, put) =
       let keys : keys_of older ++ keys_of newer ≡ keys_of older_now ++ at ∷ keys_of newer =
-          ap (λ (es : Numbered). keys_of es ++ keys_of newer) split ∙ ap (λ ks. ks ++ keys_of newer) (keys-append older_now ((at, o) ∷ [])) ∙ append_assoc (keys_of older_now) (at ∷ []) (keys_of newer) in
+      ap (λ (es : Numbered). keys_of es ++ keys_of newer) split ∙ ap (λ ks. ks ++ keys_of newer) (keys-append older_now ((at, o) ∷ [])) ∙ append_assoc (keys_of older_now) (at ∷ []) (keys_of newer) in
       let rise : IsStrictlySortedBy nat_cmp (at ∷ keys_of newer) = rising_right (keys_of older_now) (at ∷ keys_of newer) (subst (IsStrictlySortedBy nat_cmp) keys rising) in
       let front : newer_now ≡ (at, o) ∷ others tag newer =
-          put ∙ ap (λ es. insert_entry nat_cmp es at o) is.it.left ∙ put_before (others tag newer) at o (head_rise at tag newer rise) in
+      put ∙ ap (λ es. insert_entry nat_cmp es at o) is.it.left ∙ put_before (others tag newer) at o (head_rise at tag newer rise) in
       let a = ap (λ (es : Numbered). length es) split in
       let b = length-append older_now ((at, o) ∷ []) in
       let d = ap (λ (es : Numbered). length es) front in
       let l = ap (λ (es : Numbered). length es) is.it.left in
       let k = is.it.fewer in
       let has : (other : Named) → has_name (values_of newer_now) other ≡ (same_name other o || (has_name (values_of newer) other && not (tag == other.tag.0))) =
-          λ other. ap (λ (es : Numbered). has_name (values_of es) other) front ∙ ap (λ b. same_name other o || b) (left_others other) in
+      λ other. ap (λ (es : Numbered). has_name (values_of es) other) front ∙ ap (λ b. same_name other o || b) (left_others other) in
       let there : has_name (values_of older) o ≡ true =
-          ap (λ (es : Numbered). has_name (values_of es) o) split ∙ pushed older_now at o o ∙ ap (λ b. has_name (values_of older_now) o || b) (same_itself o) ∙ or_true (has_name (values_of older_now) o) in
+      ap (λ (es : Numbered). has_name (values_of es) o) split ∙ pushed older_now at o o ∙ ap (λ b. has_name (values_of older_now) o || b) (same_itself o) ∙ or_true (has_name (values_of older_now) o) in
       let not_inside : (other : Named) → same_name other o ≡ true → has_name (values_of newer) other ≡ false =
-          λ other e. ap (has_name (values_of newer)) (equal_names other o e) ∙ names_apart (values_of older) (values_of newer) o differ there in
+      λ other e. ap (has_name (values_of newer)) (equal_names other o e) ∙ names_apart (values_of older) (values_of newer) o differ there in
       record {
         entries = ap (λ es. older_now ++ es) front ∙ sym (append_assoc older_now ((at, o) ∷ []) (others tag newer)) ∙ ap (λ es. es ++ others tag newer) (sym split) ∙ others_now (others tag newer) refl;
         full = λ full. omega arith;
@@ -413,8 +414,8 @@ some_removed tag number size older newer older_now newer_now (Some named) back r
     ⊎_elim
     (λ is. let f : Some named ≡ None = sym found ∙ is.absent in absurd (cc))
     (λ is.
-      let same : Some is.it.named ≡ Some named = sym is.it.found ∙ found in
-      subst (λ l. Removed tag size older newer older_now newer_now l back) same (removed_newer tag number size older newer older_now newer_now rising differ is back brings))
+    let same : Some is.it.named ≡ Some named = sym is.it.found ∙ found in
+    subst (λ l. Removed tag size older newer older_now newer_now l back) same (removed_newer tag number size older newer older_now newer_now rising differ is back brings))
     (in_either tag number older newer rising differ numbered)
 
 -- none has the tag
@@ -446,9 +447,9 @@ pub went : (window window_now : LengthWindow) (arrivals : List Arrival) (was now
     → KeepsLength window_now (after arrivals (Gone gone)) now
 went window window_now arrivals was now gone left back keeps same_size same_next removed numbers =
     let present : values_of (numbered window_now) ≡ map named_of (after arrivals (Gone gone)) =
-        ap (λ (es : Numbered). values_of es) removed.entries ∙ values-others gone.tag.0 (numbered window) ∙ ap (without gone.tag.0) keeps.present ∙ sym (named-filter gone.tag.0 arrivals) in
+    ap (λ (es : Numbered). values_of es) removed.entries ∙ values-others gone.tag.0 (numbered window) ∙ ap (without gone.tag.0) keeps.present ∙ sym (named-filter gone.tag.0 arrivals) in
     let fits : IsFull window_now.size window_now.older.entries window_now.newer.entries =
-        subst (λ n. IsFull n window_now.older.entries window_now.newer.entries) (sym same_size) (removed.full (kept_full window arrivals was keeps)) in
+    subst (λ n. IsFull n window_now.older.entries window_now.newer.entries) (sym same_size) (removed.full (kept_full window arrivals was keeps)) in
     record {
       present = present;
       latest = full_inside window_now.size now window_now.older.entries window_now.newer.entries (after arrivals (Gone gone)) present fits;

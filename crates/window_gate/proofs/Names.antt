@@ -1,7 +1,6 @@
 -- Versions by their tags: which of a list have a tag, and lists whose tags differ.
-use Rattle.std.proofs.Common.{◌≡◌, ◌∙◌, sym, ap, refl, subst, ℕ, List, [], ◌∷◌, ◌++◌, map, filter, Bool, true, false, cond, not, ◌==◌, ◌&&◌, ◌||◌, Option, Some, None, arith}
+use Rattle.std.proofs.Common.{◌≡◌, ◌∙◌, sym, ap, refl, ℕ, List, [], ◌∷◌, ◌++◌, filter, Bool, true, false, cond, not, ◌==◌, ◌&&◌, ◌||◌, arith}
 use Rattle.std.specs.Ordering.{nat_cmp, ordering_then, eq_by_cmp, is_eq}
-use Rattle.std.specs.Prelude.{nat_eq}
 use Rattle.std.specs.declared.cmp.Ordering.{Ordering}
 use Rattle.std.specs.declared.cmp.Ordering.TheVariants.{Less, Equal, Greater}
 use Rattle.std.specs.List.{list_any}
@@ -159,6 +158,7 @@ names-without tag (x ∷ names) named =
         and_false true = refl
         and_false false = refl
     dropped true h false e = let f : false ≡ true = e refl in cc
+
     kept : (s h t : Bool) → (s ≡ true → t ≡ false) → (s || (h && not t)) ≡ ((s || h) && not t)
     kept false h t e = refl
     kept true h false e = refl
@@ -188,6 +188,7 @@ only_one (x ∷ names) one named d e =
     here named one x false false false false e f g = refl
     here named one x true h t false e f g = let k : true ≡ false = e in cc
     here named one x false h t true e f g = let k : false ≡ true = e in cc
+
     later : (s h t n : Bool) → (h && t) ≡ n → (s ≡ true → t ≡ true → ⊥) → ((s || h) && t) ≡ n
     later false h t n e f = e
     later true h false n e f = and_no h ∙ e
@@ -196,6 +197,7 @@ only_one (x ∷ names) one named d e =
         and_no true = refl
         and_no false = refl
     later true h true n e f = absurd (f refl refl)
+
     clash : (names : List Named) (x one named : Named) → same_name named x ≡ true → (one.tag.0 == named.tag.0) ≡ true → list_any (has_tag x.tag.0) names ≡ false → has_name names one ≡ true → ⊥
     clash names x one named s t absent there =
         let tag : one.tag.0 ≡ x.tag.0 = (Decides-eqb one.tag.0 named.tag.0).0 t ∙ ap (λ (y : Named). y.tag.0) (equal_names named x s) in

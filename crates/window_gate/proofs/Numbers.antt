@@ -1,22 +1,20 @@
 -- Versions under rising numbers: one put in at an end, one taken out by its number, and the numbers by their tags.
-use Rattle.std.proofs.Common.{◌≡◌, ◌∙◌, sym, ap, refl, subst, ℕ, ◌+◌, ◌<◌, List, [], ◌∷◌, ◌++◌, map, filter, length, Bool, true, false, cond, not, ◌==◌, ◌&&◌, ◌||◌, Option, Some, None, arith, append_assoc, append-nil, ◌⊎◌, inl, inr}
-use Rattle.std.specs.declared.cmp.Ordering.{Ordering}
-use Rattle.std.specs.declared.cmp.Ordering.TheVariants.{Less, Equal, Greater}
+use Rattle.std.proofs.Common.{◌≡◌, ◌∙◌, sym, ap, refl, subst, ℕ, ◌+◌, List, [], ◌∷◌, ◌++◌, filter, length, Bool, true, false, cond, not, ◌==◌, ◌||◌, Option, Some, None, arith, append-nil, ◌⊎◌, inl, inr}
+use Rattle.std.specs.declared.cmp.Ordering.TheVariants.{Less, Greater}
 use Rattle.std.specs.BTreeMap.{insert_entry, is_at}
 use Rattle.std.specs.Cmp.{unsigned_tied}
 use Rattle.std.specs.List.{list_any, AllByRecursion}
 use Rattle.std.specs.List.Sorted.{IsStrictlySortedBy}
 use Rattle.std.specs.Map.{keys_of, values_of, lookup, remove_entry}
 use Rattle.std.specs.Option.{option_or}
-use Rattle.std.specs.Ordering.{nat_cmp, eq_by_cmp, is_eq, match_ordering}
+use Rattle.std.specs.Ordering.{nat_cmp, is_eq, match_ordering}
 use Rattle.std.proofs.lemmas.Bool.Decides.{Decides-eqb, nat_tests}
-use Rattle.std.proofs.lemmas.List.{map-append, length-append}
-use Rattle.std.proofs.lemmas.List.Folds.{list_any-append}
+use Rattle.std.proofs.lemmas.List.{map-append}
 use Rattle.row_delta.specs.declared.row.Named.{Named}
 use Rattle.window_gate.specs.Windows.{has_tag}
 use Rattle.window_gate.specs.Standing.{TagsDiffer, number_of}
-use Rattle.window_gate.specs.Pieces.{Numbered, MakesRoom, BringsBack, Removes}
-use Rattle.window_gate.proofs.Names.{without, without-absent, apart, absent_left, absent_right, differ_left, differ_right}
+use Rattle.window_gate.specs.Pieces.{Numbered}
+use Rattle.window_gate.proofs.Names.{without, apart, differ_left, differ_right}
 
 -- ---- the order of numbers
 
@@ -162,9 +160,10 @@ others_rise tag (e ∷ es) ks rising =
 pub head_rise : (number tag : ℕ) (es : Numbered) → IsStrictlySortedBy nat_cmp (number ∷ keys_of es) → IsStrictlySortedBy nat_cmp (number ∷ keys_of (others tag es))
 unfolding IsStrictlySortedBy
 head_rise number tag es rising =
-    subst (λ ks. AllByRecursion (λ y. nat_cmp number y ≡ Less) ks × IsStrictlySortedBy nat_cmp ks) (append-nil (keys_of (others tag es)))
-    (others_all (λ y. nat_cmp number y ≡ Less) tag es [] (subst (AllByRecursion (λ y. nat_cmp number y ≡ Less)) (sym (append-nil (keys_of es))) rising.0),
-      others_rise tag es [] (subst (IsStrictlySortedBy nat_cmp) (sym (append-nil (keys_of es))) rising.1))
+    subst (λ ks. AllByRecursion (λ y. nat_cmp number y ≡ Less) ks × IsStrictlySortedBy nat_cmp ks) (append-nil (keys_of (others tag es))) (
+      others_all (λ y. nat_cmp number y ≡ Less) tag es [] (subst (AllByRecursion (λ y. nat_cmp number y ≡ Less)) (sym (append-nil (keys_of es))) rising.0),
+      others_rise tag es [] (subst (IsStrictlySortedBy nat_cmp) (sym (append-nil (keys_of es))) rising.1),
+    )
 
 -- ---- the numbers by their tags
 
@@ -216,6 +215,7 @@ number_of-others tag q (e ∷ es) =
     dropped true h k o e = refl
     dropped false true k o e = let f : false ≡ true = e refl in absurd (cc)
     dropped false false k o e = refl
+
     kept : (t h : Bool) (k : ℕ) (o : Option ℕ) → (t ≡ true → h ≡ false) → cond h (Some k) (cond t None o) ≡ cond t None (cond h (Some k) o)
     kept false h k o e = refl
     kept true true k o e = let f : true ≡ false = e refl in absurd (cc)
@@ -314,7 +314,7 @@ in_either tag number older newer rising differ e =
             stay = others-absent tag newer (apart (values_of older) (values_of newer) tag differ (some_numbered tag number older there));
           })
       | None ↦ λ is h. inr (record {
-          it = find_it tag number newer (rising_right (keys_of older) (keys_of newer) rising) (differ_right (values_of older) (values_of newer) differ) h;
-          stay = others-absent tag older (none_numbered tag older is);
-        })
+        it = find_it tag number newer (rising_right (keys_of older) (keys_of newer) rising) (differ_right (values_of older) (values_of newer) differ) h;
+        stay = others-absent tag older (none_numbered tag older is);
+      })
     ] refl (sym (number_of-append tag older newer) ∙ e)

@@ -1,18 +1,18 @@
 -- The step of a time window, tag by tag.
-use Rattle.std.proofs.Common.{◌≡◌, ◌∙◌, sym, ap, refl, subst, ℕ, ℤ, pos, ◌+ℤ◌, ◌-ℤ◌, ◌≤ℤ◌, List, [], ◌∷◌, ◌++◌, map, filter, Bool, true, false, cond, not, ◌==◌, ◌&&◌, ◌||◌, Option, Some, None, option_map, arith, nat_eq, negsuc, FitsSigned, w64}
+use Rattle.std.proofs.Common.{◌≡◌, ◌∙◌, sym, ap, refl, ℕ, ℤ, pos, ◌+ℤ◌, ◌-ℤ◌, ◌≤ℤ◌, List, [], ◌∷◌, map, filter, Bool, true, false, cond, not, ◌==◌, ◌&&◌, ◌||◌, Option, Some, None, option_map, arith, nat_eq, negsuc, FitsSigned, w64}
 use Rattle.std.specs.Prelude.{int_lt, int_le}
 use Rattle.std.specs.Int.{saturate_signed}
 use Rattle.std.specs.BTreeMap.{BTreeMap, get}
 use Rattle.std.specs.FinMap as timers
 use Rattle.std.specs.List.Sorted.{IsStrictlySortedBy}
 use Rattle.std.specs.Ordering.{nat_cmp}
-use Rattle.std.specs.List.{list_any, find}
+use Rattle.std.specs.List.{list_any}
 use Rattle.std.specs.Option.{option_or, is_some, option_to_list}
 use Rattle.std.proofs.lemmas.Bool.Decides.{Decides-eqb, nat_tests}
 use Rattle.std.proofs.lemmas.Int.{ints}
 use Rattle.std.proofs.lemmas.List.Folds.{find-append}
 use Rattle.fx_base.specs.declared.ids.FactId.{FactId}
-use Rattle.due_queue.specs.Timers.{Timers, has_come, is_due}
+use Rattle.due_queue.specs.Timers.{Timers, has_come}
 use Rattle.row_delta.specs.Differences.{IsBetween}
 use Rattle.row_delta.specs.NameOrder.{name_cmp}
 use Rattle.row_delta.specs.declared.delta.Delta.{Delta}
@@ -64,13 +64,13 @@ with_tag-filter p tag [] differ = refl
 with_tag-filter p tag (x ∷ arrivals) differ =
     elim (has_tag tag x.named) as (λ b. has_tag tag x.named ≡ b → with_tag tag (cond (p x) (x ∷ filter p arrivals) (filter p arrivals)) ≡ only p (cond b (Some x) (with_tag tag arrivals))) [
       | true ↦ λ is. elim (p x) as (λ b. with_tag tag (cond b (x ∷ filter p arrivals) (filter p arrivals)) ≡ cond b (Some x) None) [
-          | true ↦ ap (λ b. cond b (Some x) (with_tag tag (filter p arrivals))) is
-          | false ↦ with_tag-filter p tag arrivals differ.1 ∙ ap (only p) (no_arrival tag arrivals (later_absent tag x arrivals is differ.0))
-        ]
+        | true ↦ ap (λ b. cond b (Some x) (with_tag tag (filter p arrivals))) is
+        | false ↦ with_tag-filter p tag arrivals differ.1 ∙ ap (only p) (no_arrival tag arrivals (later_absent tag x arrivals is differ.0))
+      ]
       | false ↦ λ is. elim (p x) as (λ b. with_tag tag (cond b (x ∷ filter p arrivals) (filter p arrivals)) ≡ only p (with_tag tag arrivals)) [
-          | true ↦ ap (λ b. cond b (Some x) (with_tag tag (filter p arrivals))) is ∙ with_tag-filter p tag arrivals differ.1
-          | false ↦ with_tag-filter p tag arrivals differ.1
-        ]
+        | true ↦ ap (λ b. cond b (Some x) (with_tag tag (filter p arrivals))) is ∙ with_tag-filter p tag arrivals differ.1
+        | false ↦ with_tag-filter p tag arrivals differ.1
+      ]
     ] refl
 
 -- the arrival inside with a tag
@@ -196,6 +196,7 @@ module _ (millis was now : ℤ) (pass : was ≤ℤ now) where
       flip : (b : Bool) (o : Option X) → cond b None o ≡ cond (not b) o None
       flip true o = refl
       flip false o = refl
+
       move : (b : Bool) (a : Arrival) → cond b (Some (f a)) None ≡ option_map f (cond b (Some a) None)
       move true a = refl
       move false a = refl
@@ -225,9 +226,11 @@ module _ (millis was now : ℤ) (pass : was ≤ℤ now) where
       table true false = refl
       table false true = refl
       table false false = refl
+
       move : (id : ℕ) (b : Bool) (a : Arrival) → is_id id (option_map id_of (cond b (Some a) None)) ≡ (b && (id == a.named.id.0))
       move id true a = refl
       move id false a = refl
+
       here : (id : ℕ) (d l : Bool) (a : Arrival) → l ≡ not d → (d && (id == a.named.id.0)) ≡ ((id == a.named.id.0) && not (is_id id (option_map id_of (cond l (Some a) None))))
       here id d l a e = table d (id == a.named.id.0) ∙ ap (λ b. (id == a.named.id.0) && not (b && (id == a.named.id.0))) (sym e) ∙ ap (λ b. (id == a.named.id.0) && not b) (sym (move id l a))
 
@@ -428,15 +431,15 @@ module _ (window : TimeWindow) (arrivals : List Arrival) (was now : ℤ) (pass :
     other_between gone delta gone_sorted versions is_gone is_come =
         between gone [] delta gone_sorted none_in_order
         (λ named.
-          let o = cond (takes_out change named.tag.0) None (with_tag named.tag.0 arrivals) in
-          goes_at gone versions named ∙ gone_goes window.millis was now pass named.id.0 (takes_out change named.tag.0) (with_tag named.tag.0 arrivals)
-          ∙ ap (λ b. b && not (is_id named.id.0 (option_map id_of (only (is_recent window.millis now) o)))) (sym (name_inside window.millis was arrivals named differ))
-          ∙ ap (λ b. has_name (map named_of (inside (Time window.millis) was arrivals)) named && not b) (sym (name_now named o (with_tag-other change named.tag.0 arrivals is_not differ))))
+        let o = cond (takes_out change named.tag.0) None (with_tag named.tag.0 arrivals) in
+        goes_at gone versions named ∙ gone_goes window.millis was now pass named.id.0 (takes_out change named.tag.0) (with_tag named.tag.0 arrivals)
+        ∙ ap (λ b. b && not (is_id named.id.0 (option_map id_of (only (is_recent window.millis now) o)))) (sym (name_inside window.millis was arrivals named differ))
+        ∙ ap (λ b. has_name (map named_of (inside (Time window.millis) was arrivals)) named && not b) (sym (name_now named o (with_tag-other change named.tag.0 arrivals is_not differ))))
         (λ named.
-          let o = cond (takes_out change named.tag.0) None (with_tag named.tag.0 arrivals) in
-          gone_comes window.millis was now pass named.id.0 (takes_out change named.tag.0) (with_tag named.tag.0 arrivals)
-          ∙ ap (λ b. is_id named.id.0 (option_map id_of (only (is_recent window.millis now) o)) && not b) (sym (name_inside window.millis was arrivals named differ))
-          ∙ ap (λ b. b && not (has_name (map named_of (inside (Time window.millis) was arrivals)) named)) (sym (name_now named o (with_tag-other change named.tag.0 arrivals is_not differ))))
+        let o = cond (takes_out change named.tag.0) None (with_tag named.tag.0 arrivals) in
+        gone_comes window.millis was now pass named.id.0 (takes_out change named.tag.0) (with_tag named.tag.0 arrivals)
+        ∙ ap (λ b. is_id named.id.0 (option_map id_of (only (is_recent window.millis now) o)) && not b) (sym (name_inside window.millis was arrivals named differ))
+        ∙ ap (λ b. b && not (has_name (map named_of (inside (Time window.millis) was arrivals)) named)) (sym (name_now named o (with_tag-other change named.tag.0 arrivals is_not differ))))
         is_gone is_come
 
 -- one comes
@@ -481,15 +484,15 @@ module _ (window : TimeWindow) (arrivals : List Arrival) (was now : ℤ) (pass :
   come_between gone entered delta gone_sorted versions enters is_gone is_come =
       between window arrivals was now pass keeps differ (Come named start) differ_now tags due_left ids_left tags_are due_rest ids_rest gone (option_to_list entered) delta gone_sorted (few_in_order entered)
       (λ other.
-        goes_at window arrivals was now pass keeps differ (Come named start) differ_now tags due_left ids_left tags_are due_rest ids_rest gone versions other
-        ∙ come_goes window.millis was now pass other.id.0 (other.tag.0 == named.tag.0) (with_tag other.tag.0 arrivals) (arrival_of named start) (alone other.tag.0)
-        ∙ ap (λ b. b && not (is_id other.id.0 (option_map id_of (only (is_recent window.millis now) (then_at other.tag.0))))) (sym (name_inside window.millis was arrivals other differ))
-        ∙ ap (λ b. has_name (map named_of (inside (Time window.millis) was arrivals)) other && not b) (sym (here other)))
+      goes_at window arrivals was now pass keeps differ (Come named start) differ_now tags due_left ids_left tags_are due_rest ids_rest gone versions other
+      ∙ come_goes window.millis was now pass other.id.0 (other.tag.0 == named.tag.0) (with_tag other.tag.0 arrivals) (arrival_of named start) (alone other.tag.0)
+      ∙ ap (λ b. b && not (is_id other.id.0 (option_map id_of (only (is_recent window.millis now) (then_at other.tag.0))))) (sym (name_inside window.millis was arrivals other differ))
+      ∙ ap (λ b. has_name (map named_of (inside (Time window.millis) was arrivals)) other && not b) (sym (here other)))
       (λ other.
-        ap (λ o. has_name (option_to_list o) other) enters ∙ entered_is (int_lt now moment) named other
-        ∙ come_comes window.millis was now pass other.id.0 (other.tag.0 == named.tag.0) (int_lt now moment) (with_tag other.tag.0 arrivals) (arrival_of named start) (alone other.tag.0) recent
-        ∙ ap (λ b. is_id other.id.0 (option_map id_of (only (is_recent window.millis now) (then_at other.tag.0))) && not b) (sym (name_inside window.millis was arrivals other differ))
-        ∙ ap (λ b. b && not (has_name (map named_of (inside (Time window.millis) was arrivals)) other)) (sym (here other)))
+      ap (λ o. has_name (option_to_list o) other) enters ∙ entered_is (int_lt now moment) named other
+      ∙ come_comes window.millis was now pass other.id.0 (other.tag.0 == named.tag.0) (int_lt now moment) (with_tag other.tag.0 arrivals) (arrival_of named start) (alone other.tag.0) recent
+      ∙ ap (λ b. is_id other.id.0 (option_map id_of (only (is_recent window.millis now) (then_at other.tag.0))) && not b) (sym (name_inside window.millis was arrivals other differ))
+      ∙ ap (λ b. b && not (has_name (map named_of (inside (Time window.millis) was arrivals)) other)) (sym (here other)))
       is_gone is_come
     where
       here : (other : Named) → has_name (map named_of (inside (Time window.millis) now (after arrivals (Come named start)))) other

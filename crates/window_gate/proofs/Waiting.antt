@@ -1,5 +1,5 @@
 -- Tags that wait: what is taken out of the queue and of the ids, and what is put in.
-use Rattle.std.proofs.Common.{◌≡◌, ◌∙◌, sym, ap, refl, subst, ℕ, ℤ, ◌+◌, ◌<◌, List, [], ◌∷◌, ◌++◌, take, length, get_or, Bool, true, false, cond, not, ◌==◌, ◌&&◌, ◌||◌, Option, Some, None, arith, nat_eq}
+use Rattle.std.proofs.Common.{◌≡◌, ◌∙◌, sym, ap, refl, ℕ, ℤ, ◌+◌, ◌<◌, List, [], ◌∷◌, ◌++◌, take, length, get_or, Bool, true, false, cond, not, ◌==◌, ◌&&◌, ◌||◌, Option, Some, None, arith, nat_eq}
 use Rattle.std.specs.Bool.{OnTrue, OnFalse}
 use Rattle.std.specs.BTreeMap.{is_at}
 use Rattle.std.specs.FinMap as timers
@@ -195,8 +195,8 @@ module _ (named : Named) (key : ℕ) (tags : List ℕ) (i : ℕ) (ids : ℕ → 
       put ∙ ap (cond (same_name new named) true) had
       ∙ answered (named.tag.0 == key) (same_name new named) (list_any (nat_eq named.tag.0) (take i tags)) (is_id named.id.0 (ids named.tag.0)) (named.id.0 == id.0)
       (λ e.
-        let same = (Decides-eqb named.tag.0 key).0 e in
-        (ap (λ k. list_any (nat_eq k) (take i tags)) same ∙ once.0, ap (λ k. is_id named.id.0 (ids k)) same ∙ ap (is_id named.id.0) once.1))
+      let same = (Decides-eqb named.tag.0 key).0 e in
+      (ap (λ k. list_any (nat_eq k) (take i tags)) same ∙ once.0, ap (λ k. is_id named.id.0 (ids k)) same ∙ ap (is_id named.id.0) once.1))
       (same_name-parts new named
       ∙ ap (λ b. b && (new.id.0 == named.id.0)) (ap (λ k. k == named.tag.0) tagged ∙ turned key named.tag.0)
       ∙ ap (λ b. (named.tag.0 == key) && b) (ap (λ (f : FactId). f.0 == named.id.0) with_id ∙ turned id.0 named.id.0))
@@ -208,9 +208,9 @@ module _ (named : Named) (key : ℕ) (tags : List ℕ) (i : ℕ) (ids : ℕ → 
   version_none absent before had =
       had ∙ unanswered (named.tag.0 == key) (list_any (nat_eq named.tag.0) (take i tags)) (is_id named.id.0 (ids named.tag.0))
       (λ e f.
-        let same = (Decides-eqb named.tag.0 key).0 e in
-        ap (λ k. is_id named.id.0 (ids k)) same
-        ∙ ap (is_id named.id.0) (not_found (list_any (nat_eq key) (take i tags)) (ids key) (sym absent ∙ held) (ap (λ k. list_any (nat_eq k) (take i tags)) (sym same) ∙ f)))
+      let same = (Decides-eqb named.tag.0 key).0 e in
+      ap (λ k. is_id named.id.0 (ids k)) same
+      ∙ ap (is_id named.id.0) (not_found (list_any (nat_eq key) (take i tags)) (ids key) (sym absent ∙ held) (ap (λ k. list_any (nat_eq k) (take i tags)) (sym same) ∙ f)))
       ∙ ap (λ b. b && is_id named.id.0 (ids named.tag.0)) (sym more)
 
 -- a change that is none of a going version takes no tag out

@@ -1,5 +1,5 @@
 -- The difference of a window that is whole is the change.
-use Rattle.std.proofs.Common.{◌≡◌, ◌∙◌, sym, ap, refl, subst, ℕ, ℤ, List, [], ◌∷◌, ◌++◌, map, Bool, true, false, cond, not, ◌==◌, ◌&&◌, ◌||◌, Result, Ok, Err}
+use Rattle.std.proofs.Common.{◌≡◌, ◌∙◌, sym, ap, refl, subst, ℤ, List, [], ◌∷◌, map, Bool, true, false, not, ◌==◌, ◌&&◌, ◌||◌, Result, Ok, Err}
 use Rattle.std.specs.Prelude.{IfOk}
 use Rattle.std.specs.List.{list_any}
 use Rattle.std.specs.Ordering.{eq_by_cmp}
@@ -14,7 +14,7 @@ use Rattle.window_gate.specs.declared.change.GateChange.{GateChange}
 use Rattle.window_gate.specs.declared.change.GateChange.TheVariants.{Come, Gone, Clock}
 use Rattle.window_gate.specs.Windows.{Arrival, named_of, has_tag, single, after, rows_inside}
 use Rattle.window_gate.specs.Standing.{has_name, TagsDiffer, MayChange}
-use Rattle.window_gate.proofs.Names.{same_name, same_itself, equal_names, none_with_tag, names-without, only_one, without}
+use Rattle.window_gate.proofs.Names.{same_name, equal_names, none_with_tag, names-without, only_one}
 use Rattle.window_gate.proofs.Singles.{between_names}
 use Rattle.window_gate.proofs.Insides.{inside_whole, named-filter, named-push}
 
@@ -92,6 +92,7 @@ whole_come {E} arrivals was now named start change r is differ may is_gone is_co
   where
     all : (other : Named) → has_name (map named_of (after arrivals (Come named start))) other ≡ (has_name (map named_of arrivals) other || has_name (named ∷ []) other)
     all other = ap (λ xs. has_name xs other) (named-push arrivals (record { named = named; start = start })) ∙ list_any-append (eq_by_cmp name_cmp other) (map named_of arrivals) (named ∷ [])
+
     new : (other : Named) → list_any (has_tag named.tag.0) (map named_of arrivals) ≡ false → same_name other named ≡ true → has_name (map named_of arrivals) other ≡ false
     new other absent e = ap (has_name (map named_of arrivals)) (equal_names other named e) ∙ none_with_tag (map named_of arrivals) named absent
 

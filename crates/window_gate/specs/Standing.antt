@@ -1,5 +1,5 @@
 -- For which arrivals a gate stands, and which changes it takes.
-use Rattle.std.specs.Prelude.{◌≡◌, ℕ, ℤ, pos, ◌+ℤ◌, ◌≤ℤ◌, ◌^◌, Bool, true, false, List, [], ◌∷◌, ◌++◌, Option, Some, None, map, filter, length, option_map, cond}
+use Rattle.std.specs.Prelude.{◌≡◌, ℕ, ℤ, pos, ◌+ℤ◌, ◌≤ℤ◌, ◌^◌, Bool, true, false, List, [], ◌∷◌, ◌++◌, Option, Some, None, map, option_map, cond}
 use Rattle.std.specs.BTreeMap.{get}
 use Rattle.std.specs.FinMap as timers
 use Rattle.std.specs.List.{list_any, find}

@@ -76,11 +76,21 @@ impl Gate {
             }
             Kept::Time(window) => {
                 let (window, delta) = window.step(alloc, change, now)?;
-                Ok((Gate { kept: Kept::Time(window) }, delta))
+                Ok((
+                    Gate {
+                        kept: Kept::Time(window),
+                    },
+                    delta,
+                ))
             }
             Kept::Length(window) => {
                 let (window, delta) = window.step(alloc, change)?;
-                Ok((Gate { kept: Kept::Length(window) }, delta))
+                Ok((
+                    Gate {
+                        kept: Kept::Length(window),
+                    },
+                    delta,
+                ))
             }
         }
     }

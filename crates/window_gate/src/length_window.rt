@@ -65,11 +65,7 @@ impl LengthWindow {
     }
 
     /// A fact comes, and is the latest.
-    fn come(
-        self,
-        alloc: Global,
-        named: Named,
-    ) -> Result<(LengthWindow, Delta), NoMemory>
+    fn come(self, alloc: Global, named: Named) -> Result<(LengthWindow, Delta), NoMemory>
         ensures size { IfOk result (λ r. r.0.size ≡ self.size) }
         ensures keeps { (arrivals : List Arrival) (start was now : ℤ) → KeepsLength self arrivals was
             → list_any (has_tag named.tag.0) (map named_of arrivals) ≡ false
@@ -106,11 +102,7 @@ impl LengthWindow {
     }
 
     /// The fact with this tag goes, if there is one. Where it was inside, the latest of the older ones comes back.
-    fn go(
-        self,
-        alloc: Global,
-        gone: Named,
-    ) -> Result<(LengthWindow, Delta), NoMemory>
+    fn go(self, alloc: Global, gone: Named) -> Result<(LengthWindow, Delta), NoMemory>
         ensures size { IfOk result (λ r. r.0.size ≡ self.size) }
         ensures keeps { (arrivals : List Arrival) (was now : ℤ) → KeepsLength self arrivals was
             → TagsDiffer (map named_of arrivals)

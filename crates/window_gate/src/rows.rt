@@ -6,11 +6,7 @@ use row_delta::{Delta, Named, Row};
 use std::alloc::Global;
 
 /// The difference of these versions, each list in the order of the tags.
-pub(crate) fn difference(
-    alloc: Global,
-    gone: &[Named],
-    come: &[Named],
-) -> Result<Delta, NoMemory>
+pub(crate) fn difference(alloc: Global, gone: &[Named], come: &[Named]) -> Result<Delta, NoMemory>
     ensures gone { IfOk result (λ delta. delta.gone ≡ map single gone.now) }
     ensures come { IfOk result (λ delta. delta.come ≡ map single come.now) }
 {

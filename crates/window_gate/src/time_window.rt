@@ -71,11 +71,7 @@ impl TimeWindow {
 }
 
 /// Takes out of the queue the tags that are due, and the one that goes.
-fn leaving(
-    due: &mut DueQueue,
-    change: &GateChange,
-    now: Millis,
-) -> Result<Vec<u64>, NoMemory>
+fn leaving(due: &mut DueQueue, change: &GateChange, now: Millis) -> Result<Vec<u64>, NoMemory>
     ensures tags { IfOk result (λ tags. (tag : ℕ) → list_any (nat_eq tag) tags.items ≡ leaves now due.old change.now tag) }
     ensures rest { IfOk result (λ tags. (tag : ℕ) → timers.get due.new tag ≡ cond (leaves now due.old change.now tag) None (timers.get due.old tag)) }
 {

@@ -1,4 +1,4 @@
-use Rattle.std.proofs.Common.{◌≡◌, ◌∙◌, sym, ap, refl, get_or}
+use Rattle.std.proofs.Common.{◌∙◌, sym, ap, refl, get_or}
 use Rattle.std.specs.BTreeMap.{get}
 use Rattle.std.specs.BTreeSet.{BTreeSet}
 use Rattle.std.specs.Ordering.{nat_cmp}
@@ -14,12 +14,12 @@ loop-tag-preserved c =
     record {
       versions = λ named.
           elim c.match-remove.branch [
-            in-Some+in_ok-insert w ↦
+            | in-Some+in_ok-insert w ↦
                 ap (λ (s : BTreeSet Named). has_name s.keys named) w.versions-is
                 ∙ version_more named key c.args.tags.now c.loop-tag.tag-index (get nat_cmp c.args.ids.now) (get nat_cmp c.loop-tag.ids key) c.loop-tag-test.true refl (c.loop-tag.invariant.rest key)
                 w.in-Some.id (record { id = w.in-Some.id; tag = record { 0 = key } }) refl refl (sym w.in-Some.ensures.value) c.loop-tag.versions.keys w.insert.new.self.keys (c.loop-tag.invariant.versions named)
                 (w.in_ok-insert.ensures.updates.0 named)
-          | in_default w ↦
+            | in_default w ↦
                 ap (λ (s : BTreeSet Named). has_name s.keys named) w.versions-is
                 ∙ version_none named key c.args.tags.now c.loop-tag.tag-index (get nat_cmp c.args.ids.now) (get nat_cmp c.loop-tag.ids key) c.loop-tag-test.true refl (c.loop-tag.invariant.rest key)
                 (sym w.in_default.ensures.value) c.loop-tag.versions.keys (c.loop-tag.invariant.versions named)

@@ -8,8 +8,8 @@ pub returns-clause-stands : goal.returns-clause-stands
 returns-clause-stands c now = record {
   tags = tt;
   keeps = elim c.match-window.branch [
-      in-Whole w ↦ subst (λ (kept : Kept). Keeps kept [] now) (sym w.kept-is) tt
+    | in-Whole w ↦ subst (λ (kept : Kept). Keeps kept [] now) (sym w.kept-is) tt
     | in-Time w ↦ subst (λ (kept : Kept). Keeps kept [] now) (sym w.kept-is) (w.new.ensures.keeps now)
     | in-Length w ↦ subst (λ (kept : Kept). Keeps kept [] now) (sym w.kept-is) (w.new-in-Length.ensures.keeps now)
-    ];
+  ];
 }

@@ -1,4 +1,4 @@
-use Rattle.std.proofs.Common.{◌≡◌, sym, subst, ℤ, List, map}
+use Rattle.std.proofs.Common.{sym, subst, ℤ, List, map}
 use Rattle.std.proofs.lemmas.Int.{to_z-of_z}
 use Rattle.row_delta.specs.Differences.{IsBetween}
 use Rattle.window_gate.specs.declared.change.WindowKind.TheVariants.{Time, Length}
@@ -19,7 +19,7 @@ whole_between : (c : goal.In_ok-delta-in-Whole) (arrivals : List Arrival) (was :
     → IsBetween (rows_inside (window_of c.args.self) was arrivals) (rows_inside (window_of c.args.self) c.args.now (after arrivals c.args.change.now)) c.in_ok-delta-in-Whole.delta
 whole_between c arrivals was stands takes =
     let P : Kept → Type 0 = λ kept. MayChange (window_kept kept) (map named_of arrivals) c.args.change.now
-        → IsBetween (rows_inside (window_kept kept) was arrivals) (rows_inside (window_kept kept) c.args.now (after arrivals c.args.change.now)) c.in_ok-delta-in-Whole.delta in
+    → IsBetween (rows_inside (window_kept kept) was arrivals) (rows_inside (window_kept kept) c.args.now (after arrivals c.args.change.now)) c.in_ok-delta-in-Whole.delta in
     subst P (sym c.in-Whole.is) (λ may. c.in_ok-delta-in-Whole.ensures arrivals was c.args.now stands.tags may) takes.changes
 
 pub returns-in_ok-delta-in-Whole-clause-between : goal.returns-in_ok-delta-in-Whole-clause-between
@@ -43,7 +43,7 @@ returns-in_ok-window-in-Time-clause-stands c arrivals was stands takes = record 
   tags = differ_after (window_of c.args.self) arrivals c.args.change.now stands.tags takes.changes;
   keeps =
       let P : Kept → Type 0 = λ kept. Keeps kept arrivals was → MayPass (window_kept kept) was c.args.now → MayChange (window_kept kept) (map named_of arrivals) c.args.change.now
-          → KeepsTime c.in_ok-window-in-Time.window (after arrivals c.args.change.now) c.args.now in
+      → KeepsTime c.in_ok-window-in-Time.window (after arrivals c.args.change.now) c.args.now in
       subst P (sym c.in-Time.is) (λ keeps pass may. time_keeps c arrivals was keeps stands.tags pass may) stands.keeps takes.passes takes.changes;
 }
 
@@ -51,7 +51,7 @@ all_time : (c : goal.In_ok-window-in-Time) (arrivals : List Arrival) (was : ℤ)
     → IsBetween (rows_inside (window_of c.args.self) was arrivals) (rows_inside (window_of c.args.self) c.args.now (after arrivals c.args.change.now)) c.in_ok-window-in-Time.delta
 all_time c arrivals was stands takes =
     let P : Kept → Type 0 = λ kept. Keeps kept arrivals was → MayPass (window_kept kept) was c.args.now → MayChange (window_kept kept) (map named_of arrivals) c.args.change.now
-        → IsBetween (rows_inside (window_kept kept) was arrivals) (rows_inside (window_kept kept) c.args.now (after arrivals c.args.change.now)) c.in_ok-window-in-Time.delta in
+    → IsBetween (rows_inside (window_kept kept) was arrivals) (rows_inside (window_kept kept) c.args.now (after arrivals c.args.change.now)) c.in_ok-window-in-Time.delta in
     subst P (sym c.in-Time.is) (λ keeps pass may. time_between c arrivals was keeps stands.tags pass may) stands.keeps takes.passes takes.changes
 
 pub returns-in_ok-window-in-Time-clause-between : goal.returns-in_ok-window-in-Time-clause-between
@@ -75,7 +75,7 @@ returns-in_ok-window-in-Length-clause-stands c arrivals was stands takes = recor
   tags = differ_after (window_of c.args.self) arrivals c.args.change.now stands.tags takes.changes;
   keeps =
       let P : Kept → Type 0 = λ kept. Keeps kept arrivals was → MayChange (window_kept kept) (map named_of arrivals) c.args.change.now
-          → KeepsLength c.in_ok-window-in-Length.window (after arrivals c.args.change.now) c.args.now in
+      → KeepsLength c.in_ok-window-in-Length.window (after arrivals c.args.change.now) c.args.now in
       subst P (sym c.in-Length.is) (λ keeps may. length_keeps c arrivals was keeps stands.tags may) stands.keeps takes.changes;
 }
 
@@ -83,7 +83,7 @@ all_length : (c : goal.In_ok-window-in-Length) (arrivals : List Arrival) (was : 
     → IsBetween (rows_inside (window_of c.args.self) was arrivals) (rows_inside (window_of c.args.self) c.args.now (after arrivals c.args.change.now)) c.in_ok-window-in-Length.delta
 all_length c arrivals was stands takes =
     let P : Kept → Type 0 = λ kept. Keeps kept arrivals was → MayChange (window_kept kept) (map named_of arrivals) c.args.change.now
-        → IsBetween (rows_inside (window_kept kept) was arrivals) (rows_inside (window_kept kept) c.args.now (after arrivals c.args.change.now)) c.in_ok-window-in-Length.delta in
+    → IsBetween (rows_inside (window_kept kept) was arrivals) (rows_inside (window_kept kept) c.args.now (after arrivals c.args.change.now)) c.in_ok-window-in-Length.delta in
     subst P (sym c.in-Length.is) (λ keeps may. length_between c arrivals was keeps stands.tags may) stands.keeps takes.changes
 
 pub returns-in_ok-window-in-Length-clause-between : goal.returns-in_ok-window-in-Length-clause-between

@@ -1,4 +1,4 @@
-use Rattle.std.proofs.Common.{◌≡◌, ◌∙◌, sym, ap, map, ℤ, List, None}
+use Rattle.std.proofs.Common.{◌∙◌, sym, ap, map, ℤ, List, None}
 use Rattle.window_gate.specs.Windows.{single, Arrival, named_of}
 use Rattle.window_gate.specs.Standing.{KeepsLength, TagsDiffer}
 use Rattle.window_gate.proofs.Lengths.{Removed, kept_removed, kept_none_removed, removed_along, kept_went, between_went, slice_is}
@@ -10,12 +10,12 @@ removed : (c : goal.In_ok-delta) (arrivals : List Arrival) (was : ℤ) → Keeps
     → Removed c.args.gone.tag.0 c.args.self.size c.args.self.older.entries c.args.self.newer.entries c.match-remove.older.entries c.match-remove.newer.entries c.match-remove.left.0 c.match-remove.left.1
 removed c arrivals was keeps differ =
     elim c.match-remove.branch [
-      in-Some+in_ok-take-in-Some w ↦
+      | in-Some+in_ok-take-in-Some w ↦
           removed_along c.args.gone.tag.0 c.args.self.size c.args.self.older.entries c.args.self.newer.entries w.take.new.older c.match-remove.older w.take.new.newer c.match-remove.newer
           c.match-remove.left w.in_ok-take-in-Some.left w.in_ok-take-in-Some.back w.older-is w.newer-is w.left-is
           (kept_removed c.args.self arrivals was c.args.gone.tag.0 w.in-Some.number w.take.new.older.entries w.take.new.newer.entries w.in_ok-take-in-Some.left w.in_ok-take-in-Some.back keeps differ
           (sym w.in-Some.ensures.value) w.in_ok-take-in-Some.ensures)
-    | in-None w ↦
+      | in-None w ↦
           removed_along c.args.gone.tag.0 c.args.self.size c.args.self.older.entries c.args.self.newer.entries c.args.self.older c.match-remove.older c.args.self.newer c.match-remove.newer
           c.match-remove.left None None w.older-is w.newer-is w.left-is
           (kept_none_removed c.args.self arrivals was c.args.gone.tag.0 keeps (sym w.in-None.ensures.value))

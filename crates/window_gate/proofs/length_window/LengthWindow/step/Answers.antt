@@ -1,4 +1,4 @@
-use Rattle.std.proofs.Common.{◌≡◌, sym, subst, map}
+use Rattle.std.proofs.Common.{sym, subst, map}
 use Rattle.std.specs.Prelude.{IfOk}
 use Rattle.row_delta.specs.Differences.{IsBetween}
 use Rattle.window_gate.specs.declared.change.GateChange.{GateChange}
@@ -16,7 +16,7 @@ returns-in-Come-clause-keeps c arrivals was now keeps differ may =
 pub returns-in-Come-clause-difference : goal.returns-in-Come-clause-difference
 returns-in-Come-clause-difference c arrivals was now keeps differ may =
     let P : GateChange → Type 0 = λ change. MayChange (Length c.args.self.size) (map named_of arrivals) change
-        → IfOk c.come.result (λ r. IsBetween (rows_inside (Length c.args.self.size) was arrivals) (rows_inside (Length c.args.self.size) now (after arrivals change)) r.1) in
+    → IfOk c.come.result (λ r. IsBetween (rows_inside (Length c.args.self.size) was arrivals) (rows_inside (Length c.args.self.size) now (after arrivals change)) r.1) in
     subst P (sym c.in-Come.is) (λ fits. c.come.ensures.difference arrivals c.in-Come.field-1 was now keeps differ fits.0) may
 
 pub returns-in-Gone-clause-keeps : goal.returns-in-Gone-clause-keeps

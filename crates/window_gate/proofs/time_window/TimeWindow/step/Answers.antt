@@ -1,10 +1,10 @@
-use Rattle.std.proofs.Common.{◌≡◌, ◌∙◌, sym, ap, subst, refl, rules, ℕ, ℤ, ◌+ℤ◌, ◌&&◌, Some, None, cond, map, arith, FitsSigned, w64}
+use Rattle.std.proofs.Common.{◌≡◌, ◌∙◌, sym, ap, subst, rules, ℕ, ◌+ℤ◌, ◌&&◌, None, cond, map, arith, FitsSigned, w64}
 use Rattle.std.specs.BTreeMap.{get}
 use Rattle.std.specs.FinMap as timers
 use Rattle.std.specs.List.{list_any}
 use Rattle.std.specs.Option.{option_to_list}
 use Rattle.std.specs.Ordering.{nat_cmp}
-use Rattle.std.specs.Prelude.{nat_eq, int_lt}
+use Rattle.std.specs.Prelude.{nat_eq}
 use Rattle.std.proofs.lemmas.Int.{ints, to_z-of_z}
 use Rattle.row_delta.specs.Differences.{IsBetween}
 use Rattle.row_delta.specs.declared.row.Named.{Named}
@@ -46,11 +46,11 @@ is_come c = c.in_ok-delta.ensures.come ∙ ap (map single) (slice_is c.match-cha
 pub returns-clause-keeps : goal.returns-clause-keeps
 returns-clause-keeps c arrivals was keeps differ pass may =
     elim c.match-change.branch [
-      in-Come+in_ok-come-in-Come w ↦ subst (λ (window : TimeWindow). KeepsTime window (after arrivals c.args.change.now) c.args.now) (sym w.self-is)
+      | in-Come+in_ok-come-in-Come w ↦ subst (λ (window : TimeWindow). KeepsTime window (after arrivals c.args.change.now) c.args.now) (sym w.self-is)
           (let P : GateChange → Type 0 = λ change. MayChange (Time c.args.self.millis) (map named_of arrivals) change
-              → ((tag : ℕ) → list_any (nat_eq tag) c.in_ok-leaving.leaving.items ≡ leaves c.args.now c.args.self.due change tag)
-              → ((tag : ℕ) → timers.get c.leaving.new.due tag ≡ cond (leaves c.args.now c.args.self.due change tag) None (timers.get c.args.self.due tag))
-              → KeepsTime (record { millis = c.args.self.millis; due = w.enter.new.due; ids = w.enter.new.ids }) (after arrivals change) c.args.now in
+          → ((tag : ℕ) → list_any (nat_eq tag) c.in_ok-leaving.leaving.items ≡ leaves c.args.now c.args.self.due change tag)
+          → ((tag : ℕ) → timers.get c.leaving.new.due tag ≡ cond (leaves c.args.now c.args.self.due change tag) None (timers.get c.args.self.due tag))
+          → KeepsTime (record { millis = c.args.self.millis; due = w.enter.new.due; ids = w.enter.new.ids }) (after arrivals change) c.args.now in
           subst P (sym w.in-Come.is) (λ fits tags due.
           let first : FitsSigned w64 w.in-Come.start = grind (arith, ints, fits.1) in
           let second : FitsSigned w64 c.args.self.millis = search rules in
@@ -59,7 +59,7 @@ returns-clause-keeps c arrivals was keeps differ pass may =
           let time = c.ranges.now in
           come_in c.args.self arrivals was c.args.now pass.0 keeps differ w.in-Come.named w.in-Come.start w.saturating_add-moment.result fits.0 moment c.in_ok-leaving.leaving.items c.leaving.new.due w.enter.new.due c.take_named.new.ids w.enter.new.ids
           tags due (ids_rest c) (simp to_z-of_z at w.in_ok-come-in-Come.ensures.due) (simp to_z-of_z at w.in_ok-come-in-Come.ensures.ids)) may (tags_are c) (due_rest c))
-    | in_default w ↦ subst (λ (window : TimeWindow). KeepsTime window (after arrivals c.args.change.now) c.args.now) (sym w.self-is)
+      | in_default w ↦ subst (λ (window : TimeWindow). KeepsTime window (after arrivals c.args.change.now) c.args.now) (sym w.self-is)
           (other_kept c.args.self arrivals was c.args.now pass.0 keeps differ c.args.change.now (differ_after (Time c.args.self.millis) arrivals c.args.change.now differ may) c.in_ok-leaving.leaving.items
           c.leaving.new.due c.take_named.new.ids (tags_are c) (due_rest c) (ids_rest c) w.in_default.not-Come)
     ]
@@ -67,11 +67,11 @@ returns-clause-keeps c arrivals was keeps differ pass may =
 pub returns-clause-difference : goal.returns-clause-difference
 returns-clause-difference c arrivals was keeps differ pass may =
     elim c.match-change.branch [
-      in-Come+in_ok-come-in-Come w ↦
+      | in-Come+in_ok-come-in-Come w ↦
           let P : GateChange → Type 0 = λ change. MayChange (Time c.args.self.millis) (map named_of arrivals) change
-              → ((tag : ℕ) → list_any (nat_eq tag) c.in_ok-leaving.leaving.items ≡ leaves c.args.now c.args.self.due change tag)
-              → ((tag : ℕ) → timers.get c.leaving.new.due tag ≡ cond (leaves c.args.now c.args.self.due change tag) None (timers.get c.args.self.due tag))
-              → IsBetween (rows_inside (Time c.args.self.millis) was arrivals) (rows_inside (Time c.args.self.millis) c.args.now (after arrivals change)) c.in_ok-delta.delta in
+          → ((tag : ℕ) → list_any (nat_eq tag) c.in_ok-leaving.leaving.items ≡ leaves c.args.now c.args.self.due change tag)
+          → ((tag : ℕ) → timers.get c.leaving.new.due tag ≡ cond (leaves c.args.now c.args.self.due change tag) None (timers.get c.args.self.due tag))
+          → IsBetween (rows_inside (Time c.args.self.millis) was arrivals) (rows_inside (Time c.args.self.millis) c.args.now (after arrivals change)) c.in_ok-delta.delta in
           subst P (sym w.in-Come.is) (λ fits tags due.
           let first : FitsSigned w64 w.in-Come.start = grind (arith, ints, fits.1) in
           let second : FitsSigned w64 c.args.self.millis = search rules in
@@ -81,7 +81,7 @@ returns-clause-difference c arrivals was keeps differ pass may =
           come_between c.args.self arrivals was c.args.now pass.0 keeps differ w.in-Come.named w.in-Come.start w.saturating_add-moment.result fits.0 moment c.in_ok-leaving.leaving.items c.leaving.new.due w.enter.new.due c.take_named.new.ids w.enter.new.ids
           tags due (ids_rest c) c.in_ok-gone.gone.items c.match-change.come c.in_ok-delta.delta c.in_ok-gone.ensures.in_order (versions c) (w.come-is ∙ simp to_z-of_z at w.in_ok-come-in-Come.ensures.entered)
           (is_gone c) (is_come c)) may (tags_are c) (due_rest c)
-    | in_default w ↦
+      | in_default w ↦
           other_between c.args.self arrivals was c.args.now pass.0 keeps differ c.args.change.now (differ_after (Time c.args.self.millis) arrivals c.args.change.now differ may) c.in_ok-leaving.leaving.items
           c.leaving.new.due c.take_named.new.ids (tags_are c) (due_rest c) (ids_rest c) w.in_default.not-Come c.in_ok-gone.gone.items c.in_ok-delta.delta c.in_ok-gone.ensures.in_order (versions c)
           (is_gone c) (is_come c ∙ ap (λ o. map single (option_to_list o)) w.come-is)
