@@ -54,7 +54,8 @@ impl Gate {
 
     /// The gate after a change at this moment of the clock, in milliseconds, and the difference of the facts inside
     /// as rows of one fact and no values. It costs the logarithm of what is kept and what it answers; where the
-    /// clock alone moves and nothing is due, it takes no memory.
+    /// clock alone moves and nothing is due, it looks at the least moment due and takes no memory. `NoMemory`
+    /// comes where memory is refused, and from a length window to which 2^64 facts have come.
     pub fn step(
         self,
         alloc: Global,
