@@ -1,0 +1,8 @@
+pub mod Names
+pub mod Singles
+pub mod Insides
+pub mod Wholes
+pub mod Numbers
+pub mod Lengths
+pub mod Waiting
+pub mod Times

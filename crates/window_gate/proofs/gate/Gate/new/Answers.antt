@@ -1,0 +1,15 @@
+use Rattle.std.proofs.Common.{sym, subst, []}
+use Rattle.window_gate.specs.declared.gate.Kept.{Kept}
+use Rattle.window_gate.specs.Standing.{Keeps}
+use Rattle.window_gate.proofs.gate.Gate.new.Goals as goal
+use Rattle.window_gate.proofs.gate.Gate.new.Goals.{in-Whole, in-Time, in-Length}
+
+pub returns-clause-stands : goal.returns-clause-stands
+returns-clause-stands c now = record {
+  tags = tt;
+  keeps = elim c.match-window.branch [
+    | in-Whole w ↦ subst (λ (kept : Kept). Keeps kept [] now) (sym w.kept-is) tt
+    | in-Time w ↦ subst (λ (kept : Kept). Keeps kept [] now) (sym w.kept-is) (w.new.ensures.keeps now)
+    | in-Length w ↦ subst (λ (kept : Kept). Keeps kept [] now) (sym w.kept-is) (w.new-in-Length.ensures.keeps now)
+  ];
+}

@@ -1,0 +1,25 @@
+use Rattle.std.proofs.Common.{◌≡◌, ◌∙◌, sym, ap, subst, [], ◌∷◌, ◌++◌}
+use Rattle.std.specs.BTreeMap.{is_at}
+use Rattle.std.specs.List.Sorted.{IsStrictlySortedBy}
+use Rattle.std.specs.Map.{keys_of, values_of, lookup}
+use Rattle.std.specs.Ordering.{nat_cmp}
+use Rattle.window_gate.specs.Pieces.{Numbered}
+use Rattle.window_gate.specs.Standing.{number_of}
+use Rattle.window_gate.proofs.length_window.LengthWindow.new.Goals as goal
+
+-- there is none
+none : (c : goal.After-new-3) → c.new.result.entries ++ c.new-2.result.entries ≡ []
+none c = ap (λ (es : Numbered). es ++ c.new-2.result.entries) c.new.ensures.empty ∙ c.new-2.ensures.empty
+
+-- one number rises
+one_rises : IsStrictlySortedBy nat_cmp (0 ∷ [])
+unfolding IsStrictlySortedBy
+one_rises = (tt, tt)
+
+pub returns-clause-keeps : goal.returns-clause-keeps
+returns-clause-keeps c now = record {
+  present = ap (λ (es : Numbered). values_of es) (none c);
+  latest = ap (λ (es : Numbered). values_of es) c.new-2.ensures.empty;
+  rising = subst (λ (es : Numbered). IsStrictlySortedBy nat_cmp (keys_of es ++ 0 ∷ [])) (sym (none c)) one_rises;
+  numbers = λ tag. ap (lookup (is_at (nat_cmp tag))) c.new-3.ensures.empty ∙ ap (number_of tag) (sym (none c));
+}

@@ -1,0 +1,6 @@
+use Rattle.std.proofs.Common.{◌≡◌, take, map}
+use Rattle.window_gate.specs.Windows.{single}
+use Rattle.window_gate.proofs.rows.rows_of.Given as goal
+
+abbrev pub invariant-loop-named : goal.invariant-loop-named
+invariant-loop-named l = l.rows.items ≡ map single (take l.named-index l.versions)

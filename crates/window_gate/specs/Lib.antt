@@ -1,0 +1,3 @@
+pub mod Windows
+pub mod Standing
+pub mod Pieces

@@ -1,0 +1,110 @@
+ghost use Rattle.std.specs.Prelude.{◌≡◌, ℤ, List, [], IfOk, map};
+ghost use Rattle.row_delta.specs.Differences.{IsBetween, IsDisjoint};
+ghost use Rattle.window_gate.specs.declared.change.WindowKind.TheVariants.{Whole};
+ghost use Rattle.window_gate.specs.Windows.{Arrival, named_of, after, rows_inside};
+ghost use Rattle.window_gate.specs.Standing.{Stands, Takes, TagsDiffer, MayChange, window_of};
+
+use crate::change::{GateChange, WindowKind};
+use crate::length_window::LengthWindow;
+use crate::rows::difference;
+use crate::time_window::TimeWindow;
+use fx_base::{Millis, NoMemory};
+use row_delta::Delta;
+use std::alloc::Global;
+
+/// What a window keeps of the facts that came.
+#[derive(Drop)]
+enum Kept {
+    Whole,
+    Time(TimeWindow),
+    Length(LengthWindow),
+}
+
+/// A window, and what it keeps of the facts that came: nothing where it is whole, those inside where it is of
+/// time, the present ones where it is of a length.
+#[derive(Drop)]
+pub struct Gate {
+    kept: Kept,
+}
+
+impl Gate {
+    /// A gate to which no fact has come. Takes no memory.
+    pub fn new(alloc: Global, window: WindowKind) -> Gate
+        ensures window { window_of result ≡ window }
+        ensures stands { (now : ℤ) → Stands result [] now }
+    {
+        let kept = match window {
+            WindowKind::Whole => Kept::Whole,
+            WindowKind::Time(millis) => Kept::Time(TimeWindow::new(alloc, millis)),
+            WindowKind::Length(size) => Kept::Length(LengthWindow::new(alloc, size)),
+        };
+        Gate { kept }
+    }
+
+    /// Its window. Takes no memory.
+    pub fn window(&self) -> WindowKind
+        ensures { result ≡ window_of self.now }
+    {
+        match &self.kept {
+            Kept::Whole => WindowKind::Whole,
+            Kept::Time(window) => WindowKind::Time(window.millis),
+            Kept::Length(window) => WindowKind::Length(window.size),
+        }
+    }
+
+    /// The gate after a change at this moment of the clock, in milliseconds, and the difference of the facts inside
+    /// as rows of one fact and no values. It costs the logarithm of what is kept and what it answers; where the
+    /// clock alone moves and nothing is due, it looks at the least moment due and takes no memory. `NoMemory`
+    /// comes where memory is refused, and from a length window to which 2^64 facts have come.
+    pub fn step(
+        self,
+        alloc: Global,
+        change: &GateChange,
+        now: Millis,
+    ) -> Result<(Gate, Delta), NoMemory>
+        ensures window { IfOk result (λ r. window_of r.0 ≡ window_of self) }
+        ensures stands { (arrivals : List Arrival) (was : ℤ) → Stands self arrivals was → Takes (window_of self) arrivals was change.now now
+            → IfOk result (λ r. Stands r.0 (after arrivals change.now) now) }
+        ensures between { (arrivals : List Arrival) (was : ℤ) → Stands self arrivals was → Takes (window_of self) arrivals was change.now now
+            → IfOk result (λ r. IsBetween (rows_inside (window_of self) was arrivals) (rows_inside (window_of self) now (after arrivals change.now)) r.1) }
+        ensures disjoint { (arrivals : List Arrival) (was : ℤ) → Stands self arrivals was → Takes (window_of self) arrivals was change.now now
+            → IfOk result (λ r. IsDisjoint r.1) }
+    {
+        match self.kept {
+            Kept::Whole => {
+                let delta = whole_difference(alloc, change)?;
+                Ok((Gate { kept: Kept::Whole }, delta))
+            }
+            Kept::Time(window) => {
+                let (window, delta) = window.step(alloc, change, now)?;
+                Ok((
+                    Gate {
+                        kept: Kept::Time(window),
+                    },
+                    delta,
+                ))
+            }
+            Kept::Length(window) => {
+                let (window, delta) = window.step(alloc, change)?;
+                Ok((
+                    Gate {
+                        kept: Kept::Length(window),
+                    },
+                    delta,
+                ))
+            }
+        }
+    }
+}
+
+/// The difference where all facts are inside: the change itself.
+fn whole_difference(alloc: Global, change: &GateChange) -> Result<Delta, NoMemory>
+    ensures { (arrivals : List Arrival) (was now : ℤ) → TagsDiffer (map named_of arrivals) → MayChange Whole (map named_of arrivals) change.now
+        → IfOk result (IsBetween (rows_inside Whole was arrivals) (rows_inside Whole now (after arrivals change.now))) }
+{
+    match change {
+        GateChange::Come(named, _) => difference(alloc, &[], &[*named]),
+        GateChange::Gone(named) => difference(alloc, &[*named], &[]),
+        GateChange::Clock => difference(alloc, &[], &[]),
+    }
+}
