@@ -4,5 +4,7 @@
 #![tactic(auto)]
 
 mod join_index;
+mod memory;
 
 pub use join_index::JoinIndex;
+pub use memory::AlphaMemory;
