@@ -1,5 +1,5 @@
 -- The memory's indexes agree, and show the list that is wanted, after each call.
-use Rattle.std.proofs.Common.{◌≡◌, ◌≢◌, ◌∙◌, sym, ap, refl, subst, ℕ, ◌+◌, ◌<◌, List, [], ◌∷◌, ◌++◌, length, map as list_map, filter, Bool, true, false, not, ◌&&◌, cond, Option, Some, None, arith, eq-eqb}
+use Rattle.std.proofs.Common.{◌≡◌, ◌∙◌, sym, ap, refl, subst, ℕ, ◌+◌, ◌<◌, List, [], ◌∷◌, ◌++◌, length, map as list_map, Bool, true, false, ◌&&◌, cond, Option, Some, None, arith, eq-eqb}
 use Rattle.std.specs.Prelude.{nat_eq}
 use Rattle.std.specs.Option.{option_and_then}
 use Rattle.std.specs.Ordering.{nat_cmp, eq_by_cmp}
@@ -7,7 +7,7 @@ use Rattle.std.specs.Cmp.{nat_cmp_total, eq_by_cmp_equiv}
 use Rattle.std.specs.BTreeMap.{is_at}
 use Rattle.std.specs.FinMap.{get-insert, get-remove, get-empty, len-empty, len-entries}
 use Rattle.std.specs.FinMap as map
-use Rattle.std.specs.List.{IsDistinct, list_any}
+use Rattle.std.specs.List.{IsDistinct}
 use Rattle.std.specs.Map.{keys_of, lookup}
 use Rattle.std.proofs.lemmas.Bool.{eqb-true}
 use Rattle.fx_base.specs.declared.value.Value.{Value}
@@ -19,7 +19,7 @@ use Rattle.alpha_memory.specs.JoinIndex.{at, bucket_at}
 use Rattle.alpha_memory.specs.Places.{candidate, numbered, under, Agree}
 use Rattle.alpha_memory.specs.declared.join_index.JoinIndex.{JoinIndex}
 use Rattle.alpha_memory.specs.declared.memory.Place.{Place}
-use Rattle.alpha_memory.proofs.Numbers.{torn, one, tied, itself, untied, HasNumber, has_number, number_has, Apart, Apart-same, numbered-same, Apart-put, unused, numbered-put, Apart-take, has_taken, numbered-take}
+use Rattle.alpha_memory.proofs.Numbers.{torn, one, tied, itself, untied, has_number, number_has, Apart-same, numbered-same, Apart-put, unused, numbered-put, Apart-take, has_taken, numbered-take}
 use Rattle.alpha_memory.proofs.Listed.{values-insert, values-remove, none_of, one_of, all_stay}
 
 -- what the memory's candidates are
@@ -140,6 +140,7 @@ module _ (was is : List (ℕ × Place)) (index after : JoinIndex Value ℕ Named
       by : (t : ℕ) (p : Place) (b : Bool) → cond b (Some place) (lookup (nat_eq t) was) ≡ Some p → p.number < place.number + 1
       by t p true e = let f : place ≡ p = cc in let g : place.number ≡ p.number = ap (λ (r : Place). r.number) f in omega arith
       by t p false e = let l = agree.below t p e in omega arith
+
       under_put : (join : Value) (number : ℕ) (b : Bool) → eq_by_cmp nat_cmp number place.number ≡ b
           → cond (same_value place.join join && is_at (nat_cmp place.number) number) (Some (candidate tag place).0) (at same_value nat_cmp index join number)
           ≡ under join (cond b (Some (candidate tag place)) (map.get (numbered was) number))
@@ -180,6 +181,7 @@ module _ (was is : List (ℕ × Place)) (next : ℕ) (index after : JoinIndex Va
       by : (t : ℕ) (p : Place) (b : Bool) → cond b None (lookup (nat_eq t) was) ≡ Some p → lookup (nat_eq t) was ≡ Some p
       by t p true e = absurd (let x : None ≡ Some p = e in cc)
       by t p false e = e
+
       under_taken : (join : Value) (number : ℕ) (b : Bool) → eq_by_cmp nat_cmp number place.number ≡ b
           → cond (same_value place.join join && is_at (nat_cmp place.number) number) None (at same_value nat_cmp index join number) ≡ under join (cond b None (map.get (numbered was) number))
       under_taken join number true e =

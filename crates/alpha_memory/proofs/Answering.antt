@@ -1,13 +1,12 @@
 -- The candidates that the memory's indexes give, in the order of their insertion.
-use Rattle.std.proofs.Common.{◌≡◌, ◌∙◌, sym, ap, refl, subst, ℕ, suc, zero, ◌<◌, List, [], ◌∷◌, map as list_map, length, Bool, true, cond, Option, Some, None, BTreeMap, arith}
-use Rattle.std.specs.Prelude.{nat_eq, Contains, slice_index_or, IfSome}
+use Rattle.std.proofs.Common.{◌≡◌, ◌∙◌, ap, refl, subst, ℕ, suc, zero, ◌<◌, List, [], ◌∷◌, map as list_map, length, Bool, true, Option, Some, None, BTreeMap, arith}
+use Rattle.std.specs.Prelude.{Contains, slice_index_or, IfSome}
 use Rattle.std.specs.Option.{is_some, option_and_then}
 use Rattle.std.specs.Ordering.{nat_cmp}
 use Rattle.std.specs.Cmp.{nat_cmp_total, nat_eq_equiv}
 use Rattle.std.specs.BTreeMap as tree
 use Rattle.std.specs.BTreeMap.{IsFromIterResult, is_at}
 use Rattle.std.specs.FinMap as map
-use Rattle.std.specs.List.{IsDistinct}
 use Rattle.std.specs.List.Sorted.{IsStrictlySortedBy}
 use Rattle.std.specs.Map.{keys_of, values_of, lookup}
 use Rattle.std.proofs.lemmas.Bool.{eqb-true}
@@ -53,6 +52,7 @@ place_of (x ∷ xs) n who at = by at.0 at.1 at.2 (place_of xs n who)
   where
     Found : List (ℕ × Place) → Type 0
     Found ps = (tag : ℕ) × (place : Place) × Contains ps (tag, place) × (place.number ≡ n) × ((candidate tag place).0 ≡ who)
+
     by : (k : ℕ) → k < suc (length (list_map name_entry xs)) → slice_index_or (name_entry x ∷ list_map name_entry xs) k (n, who) ≡ (n, who) → (Contains (list_map name_entry xs) (n, who) → Found xs) → Found (x ∷ xs)
     by zero below e rest = (x.0, x.1, (0, omega arith, refl), ap (λ (p : ℕ × Named). p.0) e, ap (λ (p : ℕ × Named). p.1) e)
     by (suc k) below e rest =

@@ -1,7 +1,6 @@
 -- The list of the numbered candidates, in the order of their numbers.
 use Rattle.std.proofs.Common.{◌≡◌, ◌∙◌, sym, ap, refl, subst, ℕ, ◌<◌, List, [], ◌∷◌, ◌++◌, map as list_map, filter, Bool, true, false, not, ◌&&◌, ◌||◌, cond, Option, Some, None, arith}
-use Rattle.std.specs.Prelude.{T, nat_lt}
-use Rattle.std.specs.Option.{is_some}
+use Rattle.std.specs.Prelude.{T}
 use Rattle.std.specs.declared.cmp.Ordering.{Ordering}
 use Rattle.std.specs.declared.cmp.Ordering.TheVariants.{Less, Equal, Greater}
 use Rattle.std.specs.Ordering.{nat_cmp, is_lt, is_eq, eq_by_cmp}
@@ -100,11 +99,11 @@ entries-remove m n =
     same_entries nat_cmp nat_cmp_total nat_cmp-IsAntisymmetric (map.entries (map.remove m n)) (where_key nat_cmp p (map.entries m))
     (entries_sorted (map.remove m n)) (is_sorted-where_key nat_cmp p (map.entries m) (entries_sorted m))
     (λ q.
-        sym (get-entries (map.remove m n) q) ∙ get-remove nat_cmp_total m n q
-        ∙ turned (eq_by_cmp nat_cmp q n) None (map.get m q)
-        ∙ ap (λ b. cond (not b) (map.get m q) None) (flip q n)
-        ∙ ap (λ o. cond (p q) o None) (get-entries m q)
-        ∙ sym (find-where_key nat_cmp p q (λ x e. ap p (sym (nat_cmp-IsAntisymmetric q x e))) (map.entries m)))
+    sym (get-entries (map.remove m n) q) ∙ get-remove nat_cmp_total m n q
+    ∙ turned (eq_by_cmp nat_cmp q n) None (map.get m q)
+    ∙ ap (λ b. cond (not b) (map.get m q) None) (flip q n)
+    ∙ ap (λ o. cond (p q) o None) (get-entries m q)
+    ∙ sym (find-where_key nat_cmp p q (λ x e. ap p (sym (nat_cmp-IsAntisymmetric q x e))) (map.entries m)))
 
 -- where a test of the candidates is one of their numbers
 values_where : (p : ℕ → Bool) (q : Candidate → Bool) (es : List (ℕ × Candidate)) → AllByRecursion (λ e. q e.1 ≡ p e.0) es
@@ -114,6 +113,7 @@ values_where p q (e ∷ es) h = by (p e.0) h.0 (values_where p q es h.1)
   where
     rest : List (ℕ × Candidate)
     rest = where_key nat_cmp (λ k. not (p k)) es
+
     by : (b : Bool) → q e.1 ≡ b → list_map (λ (e : ℕ × Candidate). e.1) (where_key nat_cmp (λ k. not (p k)) es) ≡ filter (λ c. not (q c)) (list_map (λ (e : ℕ × Candidate). e.1) es)
         → list_map (λ (e : ℕ × Candidate). e.1) (cond (not b) (e ∷ where_key nat_cmp (λ k. not (p k)) es) (where_key nat_cmp (λ k. not (p k)) es))
         ≡ cond (not (q e.1)) (e.1 ∷ filter (λ c. not (q c)) (list_map (λ (e : ℕ × Candidate). e.1) es)) (filter (λ c. not (q c)) (list_map (λ (e : ℕ × Candidate). e.1) es))

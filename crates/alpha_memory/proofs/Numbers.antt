@@ -1,5 +1,5 @@
 -- Which candidate has which number, before and after one place is put in or taken out.
-use Rattle.std.proofs.Common.{◌≡◌, ◌≢◌, ◌∙◌, sym, ap, refl, subst, ℕ, suc, ◌<◌, List, [], ◌∷◌, map as list_map, length, Bool, true, false, cond, Option, Some, None, arith, eq-eqb, inl, inr, ◌⊎◌}
+use Rattle.std.proofs.Common.{◌≡◌, ◌≢◌, ◌∙◌, sym, ap, refl, ℕ, suc, ◌<◌, List, [], ◌∷◌, map as list_map, Bool, true, false, cond, Option, Some, None, arith, eq-eqb, inl, inr, ◌⊎◌}
 use Rattle.std.specs.Prelude.{nat_eq, Contains}
 use Rattle.std.specs.Option.{is_some, unwrap_or}
 use Rattle.std.specs.Ordering.{nat_cmp, eq_by_cmp}
@@ -74,6 +74,7 @@ there (x ∷ xs) tag place e = by (nat_eq tag x.0) refl e (there xs tag place)
     either : (b : Bool) → is_some (find nat_cmp place.number (list_map numbered_entry xs)) ≡ true → is_some (cond b (Some (candidate x.0 x.1)) (find nat_cmp place.number (list_map numbered_entry xs))) ≡ true
     either true f = refl
     either false f = f
+
     by : (b : Bool) → nat_eq tag x.0 ≡ b → cond b (Some x.1) (lookup (nat_eq tag) xs) ≡ Some place
         → (lookup (nat_eq tag) xs ≡ Some place → is_some (find nat_cmp place.number (list_map numbered_entry xs)) ≡ true)
         → is_some (cond (eq_by_cmp nat_cmp place.number x.1.number) (Some (candidate x.0 x.1)) (find nat_cmp place.number (list_map numbered_entry xs))) ≡ true
@@ -198,6 +199,7 @@ module _ (was is : List (ℕ × Place)) (tag : ℕ) (place : Place) (once : IsDi
                 (untied n place.number (λ e. let l = below h.tag h.place x in let m = h.own in omega arith))
                 ∙ number_has was once apart n c (record { tag = h.tag; place = h.place; here = x; own = h.own; is = h.is })
           ]
+
       back : (n : ℕ) (c : Candidate) (b : Bool) → eq_by_cmp nat_cmp n place.number ≡ b → cond b (Some (candidate tag place)) (map.get (numbered was) n) ≡ Some c → HasNumber is n c
       back n c true t e = record { tag = tag; place = place; here = here; own = sym (tied n place.number t); is = one (Some (candidate tag place)) _ _ refl e }
       back n c false t e = let h = has_number was once n c e in record { tag = h.tag; place = h.place; here = kept h.tag h.place h.here; own = h.own; is = h.is }
@@ -241,11 +243,12 @@ module _ (was is : List (ℕ × Place)) (tag : ℕ) (place : Place) (once : IsDi
           ap (λ b. cond b None (map.get (numbered was) n))
           (untied n place.number (λ e. l.0 (apart tag h.tag place h.place here l.1 (sym e ∙ sym h.own))))
           ∙ number_has was once apart n c (record { tag = h.tag; place = h.place; here = l.1; own = h.own; is = h.is })
+
       back : (n : ℕ) (c : Candidate) (b : Bool) → eq_by_cmp nat_cmp n place.number ≡ b → cond b None (map.get (numbered was) n) ≡ Some c → HasNumber is n c
       back n c true t e = absurd (let f : None ≡ Some c = e in cc)
       back n c false t e =
           let h = has_number was once n c e in
           let differ : tag ≢ h.tag = λ same.
-              let places : place ≡ h.place = one (lookup (nat_eq tag) was) place h.place here (ap (λ k. lookup (nat_eq k) was) same ∙ h.here) in
-              torn (eq_by_cmp nat_cmp n place.number) (ap (λ k. eq_by_cmp nat_cmp k place.number) (sym h.own ∙ ap (λ (r : Place). r.number) (sym places)) ∙ itself place.number) t in
+          let places : place ≡ h.place = one (lookup (nat_eq tag) was) place h.place here (ap (λ k. lookup (nat_eq k) was) same ∙ h.here) in
+          torn (eq_by_cmp nat_cmp n place.number) (ap (λ k. eq_by_cmp nat_cmp k place.number) (sym h.own ∙ ap (λ (r : Place). r.number) (sym places)) ∙ itself place.number) t in
           record { tag = h.tag; place = h.place; here = stays h.tag h.place differ h.here; own = h.own; is = h.is }

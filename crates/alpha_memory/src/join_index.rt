@@ -21,7 +21,8 @@ pub struct JoinIndex<J: Eq + Hash, K: Ord, S> {
 impl<J: Eq + Hash + Drop, K: Ord + Drop, S: Drop> JoinIndex<J, K, S> {
     /// No keys. Takes no memory.
     pub fn new(alloc: Global) -> JoinIndex<J, K, S>
-        ensures { (j : J) → bucket_at J.eq result j ≡ None }
+        ensures buckets { (j : J) → bucket_at J.eq result j ≡ None }
+        ensures kept { (j : J) (k : K) → at J.eq K.cmp result j k ≡ None }
     {
         JoinIndex {
             alloc,
@@ -129,7 +130,11 @@ fn take_from<K: Ord + Drop, S: Drop>(bucket: &mut BTreeMap<K, S>, key: &K) -> (O
 }
 
 /// Keeps this beside a key of a bucket, and answers what was kept there; where the key is not there, gives this back.
-fn exchange_in<K: Ord + Drop, S: Drop>(bucket: &mut BTreeMap<K, S>, key: &K, kept: S) -> Result<S, S>
+fn exchange_in<K: Ord + Drop, S: Drop>(
+    bucket: &mut BTreeMap<K, S>,
+    key: &K,
+    kept: S,
+) -> Result<S, S>
     ensures before { IfOk result (λ before. tree.get K.cmp bucket.old key.now ≡ Some before) }
     ensures kept { OnOk result ((k : K) → tree.get K.cmp bucket.new k ≡ cond (is_at (K.cmp key.now) k) (Some kept) (tree.get K.cmp bucket.old k)) }
     ensures absent { OnErr result (tree.get K.cmp bucket.old key.now ≡ None) }

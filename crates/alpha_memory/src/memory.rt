@@ -1,9 +1,11 @@
-ghost use Rattle.std.specs.Prelude.{◌≡◌, ◌++◌, [], ◌∷◌, false, map as list_map, IfOk, OnOk, OnErr};
+ghost use Rattle.std.specs.Prelude.{◌≡◌, ◌&&◌, ◌++◌, ℕ, [], ◌∷◌, None, cond, false, map as list_map, IfOk, OnOk, OnErr};
 ghost use Rattle.std.specs.Bool.{OnFalse};
-ghost use Rattle.std.specs.BTreeMap.{IsFromIterResult};
+ghost use Rattle.std.specs.BTreeMap.{IsFromIterResult, is_at};
 ghost use Rattle.std.specs.List.Sorted.{IsStrictlySortedBy};
 ghost use Rattle.std.specs.Map.{keys_of, values_of};
 ghost use Rattle.std.specs.Ordering.{nat_cmp};
+ghost use Rattle.fx_base.specs.Values.{same_value};
+ghost use Rattle.alpha_memory.specs.JoinIndex.{at};
 ghost use Rattle.alpha_memory.specs.Candidates.{has_tag, without_tag, with_join, names_of};
 ghost use Rattle.alpha_memory.specs.Places.{name_entry};
 
@@ -97,7 +99,7 @@ impl AlphaMemory {
     {
         match self.by_tag.remove(&tag.0) {
             Some(place) => {
-                self.by_join.take(&place.join, &place.number);
+                leave(&mut self.by_join, place);
                 true
             }
             None => false,
@@ -121,6 +123,14 @@ impl AlphaMemory {
         let by_number = names_by_number(self.alloc, &self.by_tag)?;
         names_in(self.alloc, &by_number)
     }
+}
+
+/// Takes the candidate that has this place out from under its join value. Takes no memory.
+fn leave(by_join: &mut JoinIndex<Value, u64, Named>, place: Place)
+    ensures { (join : Value) (number : ℕ) → at same_value nat_cmp by_join.new join number
+        ≡ cond (same_value place.join join && is_at (nat_cmp place.number) number) None (at same_value nat_cmp by_join.old join number) }
+{
+    by_join.take(&place.join, &place.number);
 }
 
 /// The names of a map, in its order.

@@ -1,13 +1,11 @@
-use Rattle.std.proofs.Common.{◌≡◌, ◌∙◌, sym, ap, subst, cond, Some, None, arith, false, ◌++◌, ◌∷◌, [], ℕ, ◌+◌}
-use Rattle.std.specs.Prelude.{nat_eq}
+use Rattle.std.proofs.Common.{◌∙◌, ap, ◌++◌, ◌∷◌, []}
 use Rattle.std.specs.Ordering.{nat_cmp}
 use Rattle.std.specs.BTreeMap.{is_at}
 use Rattle.std.specs.Map.{lookup}
 use Rattle.std.specs.Option.{option_and_then}
 use Rattle.alpha_memory.specs.Candidates.{has_tag}
-use Rattle.alpha_memory.specs.Places.{Agree}
 use Rattle.alpha_memory.specs.declared.memory.Place.{Place}
-use Rattle.alpha_memory.proofs.Agreeing.{listed, no_place, Agree-put, listed-put, Agree-same, listed-same, undone}
+use Rattle.alpha_memory.proofs.Agreeing.{no_place, Agree-put, listed-put, Agree-same, listed-same, undone}
 use Rattle.alpha_memory.proofs.memory.AlphaMemory.add.Goals as goal
 
 pub invariant_of-self-in-Ok : goal.invariant_of-self-in-Ok

@@ -1,18 +1,12 @@
-use Rattle.std.proofs.Common.{◌≡◌, ◌∙◌, sym, ap}
+use Rattle.std.proofs.Common.{◌∙◌, sym, ap}
 use Rattle.alpha_memory.specs.Candidates.{has_tag, without_tag}
-use Rattle.alpha_memory.proofs.Agreeing.{listed, there, absent, Agree-take, listed-take, listed-absent}
-use Rattle.alpha_memory.proofs.memory.AlphaMemory.drop_tag.Goals.{in-Text-1, in-Int-1}
+use Rattle.alpha_memory.proofs.Agreeing.{there, absent, Agree-take, listed-take, listed-absent}
 use Rattle.alpha_memory.proofs.memory.AlphaMemory.drop_tag.Goals as goal
 
 pub invariant_of-self : goal.invariant_of-self
 invariant_of-self c =
-    Agree-take c.self.inside.by_tag.entries c.remove.new.self.entries c.self.inside.next c.self.inside.by_join c.take.new.self c.args.tag.0 c.in-Some.place c.self.invariant
-    c.in-Some.ensures.unique (sym c.in-Some.ensures.value) c.in-Some.ensures.updates.0 c.take.ensures.kept
-
-pub invariant_of-self-in-Some-2 : goal.invariant_of-self-in-Some-2
-invariant_of-self-in-Some-2 c =
-    Agree-take c.self.inside.by_tag.entries c.remove.new.self.entries c.self.inside.next c.self.inside.by_join c.take.new.self c.args.tag.0 c.in-Some.place c.self.invariant
-    c.in-Some.ensures.unique (sym c.in-Some.ensures.value) c.in-Some.ensures.updates.0 c.take.ensures.kept
+    Agree-take c.self.inside.by_tag.entries c.remove.new.self.entries c.self.inside.next c.self.inside.by_join c.leave.new.by_join c.args.tag.0 c.in-Some.place c.self.invariant
+    c.in-Some.ensures.unique (sym c.in-Some.ensures.value) c.in-Some.ensures.updates.0 c.leave.ensures
 
 pub returns-in-Some-clause-found : goal.returns-in-Some-clause-found
 returns-in-Some-clause-found c =
@@ -21,11 +15,9 @@ returns-in-Some-clause-found c =
 
 pub returns-in-Some-clause-rest : goal.returns-in-Some-clause-rest
 returns-in-Some-clause-rest c =
-    let rest =
-        listed-take c.self.inside.by_tag.entries c.remove.new.self.entries c.self.inside.next c.self.inside.by_join c.take.new.self c.args.tag.0 c.in-Some.place c.self.invariant
-        c.in-Some.ensures.unique (sym c.in-Some.ensures.value) c.in-Some.ensures.updates.0 c.take.ensures.kept
-        ∙ ap (λ list. without_tag list c.args.tag.0) c.self.view_is in
-    elim c.match-place.branch [ in-Text-1 w ↦ w.self-is ∙ rest | in-Int-1 w ↦ w.self-is ∙ rest ]
+    listed-take c.self.inside.by_tag.entries c.remove.new.self.entries c.self.inside.next c.self.inside.by_join c.leave.new.by_join c.args.tag.0 c.in-Some.place c.self.invariant
+    c.in-Some.ensures.unique (sym c.in-Some.ensures.value) c.in-Some.ensures.updates.0 c.leave.ensures
+    ∙ ap (λ list. without_tag list c.args.tag.0) c.self.view_is
 
 pub returns-in-None-clause-found : goal.returns-in-None-clause-found
 returns-in-None-clause-found c =

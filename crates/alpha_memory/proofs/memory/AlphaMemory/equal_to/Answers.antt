@@ -1,4 +1,4 @@
-use Rattle.std.proofs.Common.{◌≡◌, ◌∙◌, sym, ap, subst, List}
+use Rattle.std.proofs.Common.{◌≡◌, ◌∙◌, ap, subst, List}
 use Rattle.std.specs.Prelude.{IfOk}
 use Rattle.row_delta.specs.declared.row.Named.{Named}
 use Rattle.alpha_memory.specs.Candidates.{names_of, with_join}
