@@ -25,7 +25,8 @@ struct Place {
 }
 
 /// The candidates of a condition, each with its join value, in the order of their insertion. `add` and `drop_tag` cost
-/// a hash and the logarithm of the candidates with that join value, in any order; `equal_to` costs a hash and what it answers.
+/// a hash or two and the logarithm of the candidates with that join value, in any order (an `add` that finds the table
+/// of tags full doubles it); `equal_to` costs a hash and what it answers.
 #[derive(Drop)]
 pub struct AlphaMemory {
     alloc: Global,
@@ -116,7 +117,7 @@ impl AlphaMemory {
         }
     }
 
-    /// All candidates, in the order of their insertion. It sorts them.
+    /// All candidates, in the order of their insertion. It costs the logarithm of their number for each.
     pub fn all(&self) -> Result<Vec<Named>, NoMemory>
         ensures { IfOk result (λ found. found.items ≡ names_of self.now) }
     {
