@@ -1,0 +1,5 @@
+mod Buckets
+mod Numbers
+mod Listed
+mod Agreeing
+mod Answering

@@ -1,0 +1,13 @@
+use Rattle.std.proofs.Common.{◌≡◌, ◌∙◌, ap, subst, List}
+use Rattle.std.specs.Prelude.{IfOk}
+use Rattle.row_delta.specs.declared.row.Named.{Named}
+use Rattle.alpha_memory.specs.Candidates.{names_of}
+use Rattle.alpha_memory.proofs.Answering.{all_names}
+use Rattle.alpha_memory.proofs.memory.AlphaMemory.all.Goals as goal
+
+pub returns : goal.returns
+returns c =
+    subst (λ (all : List Named). IfOk c.names_in.result (λ found. found.items ≡ all))
+    (all_names c.self.inside.by_tag.entries c.self.inside.next c.self.inside.by_join c.self.invariant c.in_ok-by_number.by_number c.in_ok-by_number.ensures c.names_in.ensures.sorted
+    ∙ ap names_of c.self.view_is)
+    c.names_in.ensures.names

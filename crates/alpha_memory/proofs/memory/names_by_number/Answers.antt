@@ -1,0 +1,15 @@
+use Rattle.std.proofs.Common.{rules}
+use Rattle.std.specs.BTreeMap.{IsFromIterResult}
+use Rattle.std.specs.Ordering.{nat_cmp}
+use Rattle.std.proofs.lemmas.Result.{IfOk-at_ok}
+use Rattle.std.proofs.lemmas.Iterator.{YieldsList-from_map}
+use Rattle.std.proofs.lemmas.Iterator.Adapters.{fact_from_collect}
+use Rattle.std.proofs.lemmas.Iterator.Consumers.{YieldsList-from_rest, YieldsList-at}
+use Rattle.alpha_memory.specs.Places.{name_entry}
+use Rattle.alpha_memory.proofs.memory.names_by_number.Goals as goal
+
+pub returns : goal.returns
+returns c =
+    IfOk-at_ok _ c.in_ok-collect.was
+    (fact_from_collect (IsFromIterResult nat_cmp) c.collect.result c.collect.ensures.ran
+    (YieldsList-from_map _ name_entry (YieldsList-at c.map-names.ensures.source (YieldsList-from_rest c.args.by_tag.now.entries c.iter.ensures.rest)) c.map-names.ensures.closure (λ x r q k. search rules)))

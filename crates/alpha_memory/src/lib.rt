@@ -1,0 +1,10 @@
+//! The candidates of a condition, found by their join values: an index from join values to keys with what is kept
+//! beside each, and the memory of candidates in the order of their insertion.
+//! It stands on `fx_base`, `row_delta` and `indexmap`, and assumes nothing of the outside.
+#![tactic(auto)]
+
+mod join_index;
+mod memory;
+
+pub use join_index::JoinIndex;
+pub use memory::AlphaMemory;
