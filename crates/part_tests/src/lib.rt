@@ -5,6 +5,8 @@
 #[cfg(test)]
 mod actions;
 #[cfg(test)]
+mod candidates;
+#[cfg(test)]
 mod commands;
 #[cfg(test)]
 mod expressions;
@@ -28,3 +30,5 @@ mod texts;
 mod timers;
 #[cfg(test)]
 mod tokens;
+#[cfg(test)]
+mod windows;

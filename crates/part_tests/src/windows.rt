@@ -1,0 +1,24 @@
+use fx_base::{FactId, Tag};
+use row_delta::Named;
+use std::test::Fail;
+use window_gate::{Gate, GateChange, WindowKind};
+
+const SMOKE: Named = Named {
+    id: FactId(1),
+    tag: Tag(4),
+};
+
+#[test]
+fn a_fact_leaves_a_window_of_time_with_the_clock(rt: HostRuntime) -> Result<(), Fail> {
+    let gate = Gate::new(rt.alloc(), WindowKind::Time(10));
+    let (gate, comes) = gate.step(rt.alloc(), &GateChange::Come(SMOKE, 0), 0)?;
+    assert_eq!(rt; comes.come.len(), 1);
+    assert_eq!(rt; comes.gone.len(), 0);
+    let (gate, stays) = gate.step(rt.alloc(), &GateChange::Clock, 9)?;
+    assert_eq!(rt; stays.gone.len(), 0);
+    let (_, goes) = gate.step(rt.alloc(), &GateChange::Clock, 10)?;
+    assert_eq!(rt; goes.come.len(), 0);
+    assert_eq!(rt; goes.gone.len(), 1);
+    assert_eq!(rt; goes.gone[0].facts[0], SMOKE);
+    Ok(())
+}
