@@ -1,6 +1,6 @@
 ghost use Rattle.std.specs.Prelude.{◌≡◌};
 
-use alpha_memory::AlphaMemory;
+use alpha_memory::{AlphaMemory, JoinIndex};
 use fx_base::{FactId, Tag, Value};
 use row_delta::Named;
 use std::test::Fail;
@@ -31,5 +31,17 @@ fn candidates_are_found_by_their_join_value(rt: HostRuntime) -> Result<(), Fail>
         memory.equal_to(&Value::Int(7))?.as_slice(),
         [named(7, 3)].as_slice()
     );
+    Ok(())
+}
+
+#[test]
+fn what_is_kept_stands_under_its_join_value(rt: HostRuntime) -> Result<(), Fail> {
+    let mut index: JoinIndex<Value, u64, u64> = JoinIndex::new(rt.alloc());
+    assert_eq!(rt; index.put(Value::Int(7), 1, 10)?, None);
+    assert_eq!(rt; index.put(Value::Int(7), 1, 20)?, Some(10));
+    assert_eq!(rt; index.get(&Value::Int(7), &1), Some(&20));
+    assert_eq!(rt; index.get(&Value::Int(8), &1), None);
+    assert_eq!(rt; index.take(&Value::Int(7), &1), Some(20));
+    assert!(rt; index.bucket(&Value::Int(7)).is_none());
     Ok(())
 }
