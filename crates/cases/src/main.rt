@@ -9,7 +9,7 @@ use fx_io::{
     Failed, Line, LineReader, MemShelf, MemSink, MemSource, Sink, Source, StdSink, StdSource,
     write_all,
 };
-use std::alloc::{AllocError, Global};
+use std::alloc::{AllocError, AllocFailed, Global};
 use std::process::ExitCode;
 
 /// The most bytes of all cases together, and of what one of them prints.
@@ -27,6 +27,12 @@ impl From<NoMemory> for Stopped {
 
 impl From<AllocError> for Stopped {
     fn from(_: AllocError) -> Stopped {
+        Stopped
+    }
+}
+
+impl<T: Drop> From<AllocFailed<T>> for Stopped {
+    fn from(_: AllocFailed<T>) -> Stopped {
         Stopped
     }
 }
