@@ -8,6 +8,8 @@ ghost use Rattle.replay.specs.Firings.{Fires, all_fired, firings};
 ghost use Rattle.replay.specs.Refusals.{reading};
 ghost use Rattle.replay.specs.RuleFiles.{IsReading};
 
+use drl_parse::parsed_is_exact;
+
 /// After a fire command that did not meet the limit nothing is pending, whatever the meaning of a firing.
 pub fn a_fire_command_leaves_nothing_pending()
     ensures { (fires : Fires) (p : Program) (left more : ℕ) (w v : World) (lines : List OutLine)
@@ -16,6 +18,8 @@ pub fn a_fire_command_leaves_nothing_pending()
 
 /// A rule file is what the grammar and the checks say: the function that the report uses gives exactly what the relation of five
 /// cases has.
-pub fn a_rule_file_is_what_the_grammar_says()
-    ensures { (bytes : List ℕ) (found : Reading) → reading bytes ≡ found ↔ IsReading bytes found }
-{}
+pub fn a_rule_file_is_what_the_grammar_says(bytes: &[u8])
+    ensures { (found : Reading) → reading bytes.now ≡ found ↔ IsReading bytes.now found }
+{
+    parsed_is_exact(bytes)
+}

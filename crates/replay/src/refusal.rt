@@ -56,6 +56,14 @@ impl RefusalCode {
     }
 }
 
+/// Appends the name of a code.
+fn push_code(text: &mut Vec<u8>, code: RefusalCode) -> Result<(), NoMemory>
+    ensures { OnOk result (text.new.items ≡ text.old.items ++ refusal_code_text code) }
+{
+    text.extend_from_slice(code.name().as_bytes())?;
+    Ok(())
+}
+
 /// Appends the line of a refused file.
 pub(crate) fn push_refusal(
     text: &mut Vec<u8>,
@@ -69,7 +77,7 @@ pub(crate) fn push_refusal(
     text.extend_from_slice(b" line ")?;
     push_number(text, alloc, refusal.line)?;
     text.extend_from_slice(b" ")?;
-    text.extend_from_slice(refusal.code.name().as_bytes())?;
+    push_code(text, refusal.code)?;
     text.push(b'\n')?;
     Ok(())
 }
