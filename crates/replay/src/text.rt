@@ -7,7 +7,6 @@ use crate::fault::LineCode;
 use engine::{Cell, OutLine};
 use fx_base::NoMemory;
 use rule_model::{Program, Rule, TypeInfo};
-
 use std::alloc::Global;
 
 fn name_of_type(types: &[TypeInfo], place: usize) -> &str
