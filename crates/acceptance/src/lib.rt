@@ -10,8 +10,6 @@ mod changes;
 #[cfg(test)]
 mod conditions;
 #[cfg(test)]
-mod engine;
-#[cfg(test)]
 mod files;
 #[cfg(test)]
 mod programs;
@@ -21,6 +19,8 @@ mod refusals;
 mod rows;
 #[cfg(test)]
 mod runs;
+#[cfg(test)]
+mod sessions;
 #[cfg(test)]
 mod shapes;
 #[cfg(test)]
