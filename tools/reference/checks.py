@@ -389,7 +389,8 @@ def modifies_event(file: File, before: list[Item], body) -> bool:
 
 
 def retracts_observed(file: File, before: list[Item], body) -> bool:
-    return isinstance(body, Rule) and any(t in file.observed for t in types_of_actions(file, body, Retract))
+    """From stage 7: an action retracts an event of a type that a negative pattern or an accumulate observes."""
+    return file.stage >= 7 and isinstance(body, Rule) and any(t in file.observed for t in types_of_actions(file, body, Retract))
 
 
 def window_is_bad(source: Source) -> bool:
