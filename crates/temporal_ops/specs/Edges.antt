@@ -37,10 +37,6 @@ Joins edge = is_tested edge.x ≡ not (is_tested edge.y)
 abbrev pub IsWithin : ℕ → ℤ → Type 0
 IsWithin size z = (neg_ℤ (pos size) ≤ℤ z) × (z ≤ℤ pos size)
 
--- both times are at most this number in size
-abbrev pub AreWithin : ℕ → Times → Type 0
-AreWithin size times = IsWithin size times.start × IsWithin size times.end
-
 -- an edge of an operator: it joins the two events, and its bound is at most 2^53 + 1 in size
 pub record IsOpEdge (edge : OpEdge) : Type 0 where
   pub joins : Joins edge

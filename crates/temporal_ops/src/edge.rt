@@ -1,5 +1,5 @@
-ghost use Rattle.std.specs.Prelude.{◌≡◌, ◌^◌};
-ghost use Rattle.temporal_ops.specs.Edges.{edge_holds, AreWithin, IsWithin};
+ghost use Rattle.std.specs.Prelude.{◌≡◌};
+ghost use Rattle.temporal_ops.specs.Edges.{edge_holds};
 ghost use Rattle.temporal_ops.specs.Operators.{opposite as opposite_of, opposite_edge};
 
 use fx_base::{Millis, Times};
@@ -18,10 +18,7 @@ impl Corner {
 
     /// The point of these two events.
     pub(crate) fn of(self, a: Times, b: Times) -> Millis
-        requires a_within { AreWithin (2 ^ 54) a }
-        requires b_within { AreWithin (2 ^ 54) b }
-        ensures point { result ≡ corner self a b }
-        ensures within { IsWithin (2 ^ 54) result }
+        ensures { result ≡ corner self a b }
     {
         match self {
             Corner::AStart => a.start,
@@ -75,11 +72,9 @@ impl OpEdge {
     /// Whether it holds of the tested event `a` and the bound event `b`.
     #[tactic(auto, unfolding(crate::specs::Edges::edge_holds))]
     pub(crate) fn holds(&self, a: Times, b: Times) -> bool
-        requires a_within { AreWithin (2 ^ 54) a }
-        requires b_within { AreWithin (2 ^ 54) b }
         ensures { result ≡ edge_holds a b self.now }
     {
-        self.x.of(a, b) - self.y.of(a, b) <= self.most
+        i128::from(self.x.of(a, b)) - i128::from(self.y.of(a, b)) <= i128::from(self.most)
     }
 }
 

@@ -1,6 +1,6 @@
 ghost use Rattle.std.specs.Prelude.{◌≡◌, ◌↔◌, ◌^◌, ◌<ℤ◌, pos, false, length, map, take, Any, IfOk, IsTrue};
 ghost use Rattle.std.specs.List.{All};
-ghost use Rattle.temporal_ops.specs.Edges.{edges_hold, AreWithin, IsOp, IsWithin};
+ghost use Rattle.temporal_ops.specs.Edges.{edges_hold, IsOp, IsWithin};
 ghost use Rattle.temporal_ops.specs.Laws.{Means};
 ghost use Rattle.temporal_ops.specs.Operators.{edges_of, opposite_edge};
 ghost use Rattle.temporal_ops.specs.Table.{row_of, takes_negative, HasRow};
@@ -101,8 +101,6 @@ impl Op {
     /// Whether it holds of the tested event `a` and the bound event `b`. Takes no memory.
     #[tactic(auto, unfolding(crate::specs::Edges::edges_hold))]
     pub fn holds(&self, a: Times, b: Times) -> bool
-        requires a_within { AreWithin (2 ^ 54) a }
-        requires b_within { AreWithin (2 ^ 54) b }
         ensures { result ≡ edges_hold self.now a b }
     {
         self.as_slice().iter().all(|edge| edge.holds(a, b))

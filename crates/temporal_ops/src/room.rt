@@ -4,13 +4,13 @@ ghost use Rattle.temporal_ops.specs.Room.{IsAbove, IsBelow};
 use crate::edge::Corner::{AEnd, AStart, BEnd, BStart};
 use crate::window::Window;
 use crate::{Op, OpEdge};
-use fx_base::{Millis, Times};
+use fx_base::Times;
 
-/// The limits of a point in time, in milliseconds of the clock.
+/// The limits of a point in time, in milliseconds of the clock. A sum of a time and a bound may leave 64 bits.
 #[derive(Clone, Copy)]
 pub(crate) struct Limits {
-    least: Option<Millis>,
-    greatest: Option<Millis>,
+    least: Option<i128>,
+    greatest: Option<i128>,
 }
 
 impl Limits {
@@ -18,7 +18,7 @@ impl Limits {
     ghost use Rattle.temporal_ops.specs.Room.{IsBetween, is_empty as is_empty_of};
 
     /// Takes out what lies before `least`.
-    fn begin_at(&mut self, least: Millis)
+    fn begin_at(&mut self, least: i128)
         ensures { (z : ℤ) → IsBetween self.new z ↔ (IsBetween self.old z × (least ≤ℤ z)) }
     {
         self.least = higher(self.least, Some(least));
@@ -32,7 +32,7 @@ impl Limits {
     }
 
     /// Takes out what lies after `greatest`.
-    fn end_by(&mut self, greatest: Millis)
+    fn end_by(&mut self, greatest: i128)
         ensures { (z : ℤ) → IsBetween self.new z ↔ (IsBetween self.old z × (z ≤ℤ greatest)) }
     {
         self.greatest = lower(self.greatest, Some(greatest));
@@ -40,7 +40,7 @@ impl Limits {
 }
 
 /// The greater of two lower limits.
-fn higher(a: Option<Millis>, b: Option<Millis>) -> Option<Millis>
+fn higher(a: Option<i128>, b: Option<i128>) -> Option<i128>
     ensures { (z : ℤ) → IsAbove result z ↔ (IsAbove a z × IsAbove b z) }
 {
     match (a, b) {
@@ -51,7 +51,7 @@ fn higher(a: Option<Millis>, b: Option<Millis>) -> Option<Millis>
 }
 
 /// The lesser of two upper limits.
-fn lower(a: Option<Millis>, b: Option<Millis>) -> Option<Millis>
+fn lower(a: Option<i128>, b: Option<i128>) -> Option<i128>
     ensures { (z : ℤ) → IsBelow result z ↔ (IsBelow a z × IsBelow b z) }
 {
     match (a, b) {
@@ -69,9 +69,9 @@ pub(crate) struct Room {
 }
 
 impl Room {
-    ghost use Rattle.std.specs.Prelude.{◌≡◌, ◌↔◌, ◌^◌, true};
+    ghost use Rattle.std.specs.Prelude.{◌≡◌, ◌↔◌, true};
     ghost use Rattle.fx_base.specs.declared.times.Times.{Times};
-    ghost use Rattle.temporal_ops.specs.Edges.{edge_holds, edges_hold, AreWithin, IsOpEdge};
+    ghost use Rattle.temporal_ops.specs.Edges.{edge_holds, edges_hold, IsOpEdge};
     ghost use Rattle.temporal_ops.specs.Possible.{AreStarts};
     ghost use Rattle.temporal_ops.specs.Room.{AreStartLimits, Fits, FitsEvent};
 
@@ -92,7 +92,6 @@ impl Room {
     /// Takes out the events of which the operator does not hold with the bound event `b`.
     #[tactic(auto, unfolding(crate::specs::Edges::edges_hold))]
     pub(crate) fn keep(&mut self, op: &Op, b: Times)
-        requires { AreWithin (2 ^ 54) b }
         ensures { (y : Times) → Fits self.new y ↔ (Fits self.old y × (edges_hold op.now y b ≡ true)) }
     {
         for edge in op.as_slice() {
@@ -102,19 +101,20 @@ impl Room {
 
     /// Takes out the events of which the edge does not hold with the bound event `b`.
     fn keep_edge(&mut self, edge: &OpEdge, b: Times)
-        requires edge { IsOpEdge edge.now }
-        requires within { AreWithin (2 ^ 54) b }
+        requires { IsOpEdge edge.now }
         ensures { (y : Times) → Fits self.new y ↔ (Fits self.old y × (edge_holds y b edge.now ≡ true)) }
     {
+        let (start, end) = (i128::from(b.start), i128::from(b.end));
+        let most = i128::from(edge.most);
         match (edge.x, edge.y) {
-            (AStart, BStart) => self.start.end_by(b.start + edge.most),
-            (AStart, BEnd) => self.start.end_by(b.end + edge.most),
-            (AEnd, BStart) => self.end.end_by(b.start + edge.most),
-            (AEnd, BEnd) => self.end.end_by(b.end + edge.most),
-            (BStart, AStart) => self.start.begin_at(b.start - edge.most),
-            (BEnd, AStart) => self.start.begin_at(b.end - edge.most),
-            (BStart, AEnd) => self.end.begin_at(b.start - edge.most),
-            (BEnd, AEnd) => self.end.begin_at(b.end - edge.most),
+            (AStart, BStart) => self.start.end_by(start + most),
+            (AStart, BEnd) => self.start.end_by(end + most),
+            (AEnd, BStart) => self.end.end_by(start + most),
+            (AEnd, BEnd) => self.end.end_by(end + most),
+            (BStart, AStart) => self.start.begin_at(start - most),
+            (BEnd, AStart) => self.start.begin_at(end - most),
+            (BStart, AEnd) => self.end.begin_at(start - most),
+            (BEnd, AEnd) => self.end.begin_at(end - most),
             _ => unreachable!(),
         }
     }

@@ -1,19 +1,17 @@
-ghost use Rattle.std.specs.Prelude.{◌≡◌, ◌↔◌, ℤ, ◌^◌};
-ghost use Rattle.std.specs.List.{All};
-ghost use Rattle.temporal_ops.specs.Edges.{AreWithin};
+ghost use Rattle.std.specs.Prelude.{◌≡◌, ◌↔◌, ℤ};
 ghost use Rattle.temporal_ops.specs.Possible.{IsLatest, IsNone, IsPossible, IsUnbounded, IsWindow};
 
 use crate::Op;
 use crate::room::Room;
-use fx_base::{Millis, Times};
+use fx_base::Times;
 
 /// The starts of the possible events of a negative pattern.
 #[derive(Clone, Copy, Debug, PartialEq, Eq)]
 pub enum Window {
     /// There is no possible event.
     Never,
-    /// The latest start, in milliseconds of the clock.
-    UpTo(Millis),
+    /// The latest start, in milliseconds of the clock; it may leave 64 bits.
+    UpTo(i128),
     /// There is no latest start.
     Unbounded,
 }
@@ -21,7 +19,6 @@ pub enum Window {
 /// The starts of the possible events of a negative pattern: the pairs of whole numbers, of a point type those
 /// that end where they start, of which each operator holds with its bound event. Takes no memory.
 pub fn possible_start(bounds: &[(Op, Times)], point: bool) -> Window
-    requires { All (λ bound. AreWithin (2 ^ 54) bound.1) bounds.now }
     ensures window { IsWindow bounds.now point result }
     ensures never { (result ≡ Window.Never) ↔ IsNone (IsPossible bounds.now point) }
     ensures up_to { (u : ℤ) → (result ≡ Window.UpTo u) ↔ IsLatest (IsPossible bounds.now point) u }

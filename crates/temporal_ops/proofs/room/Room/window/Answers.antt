@@ -1,4 +1,5 @@
-use Rattle.std.proofs.Common.{◌≡◌, false, arith, to_z, of_z, w64}
+use Rattle.std.proofs.Common.{◌≡◌, false, arith, to_z, of_z}
+use Rattle.std.specs.Int.{w128}
 use Rattle.std.proofs.lemmas.Int.{ints}
 use Rattle.temporal_ops.specs.Room.{is_empty}
 use Rattle.temporal_ops.proofs.Rooms.{endless_starts, latest_start}
@@ -9,7 +10,7 @@ returns-in-None c = endless_starts _ _ _ c.starts-starts.ensures c.in-None.is cc
 
 pub returns-in-Some : goal.returns-in-Some
 returns-in-Some c =
-    let latest : to_z w64 (of_z w64 c.in-Some.latest) ≡ c.in-Some.latest = omega (arith, ints) in
+    let latest : to_z w128 (of_z w128 c.in-Some.latest) ≡ c.in-Some.latest = omega (arith, ints) in
     let starts = c.starts-starts.result in
     let some : is_empty starts.least starts.greatest ≡ false = cc in
     let room : is_empty c.args.self.now.end.least c.args.self.now.end.greatest ≡ false = cc in
