@@ -1,14 +1,15 @@
 -- What stands at the tags that a row names.
-use Rattle.std.proofs.Common.{◌≡◌, ℕ, zero, suc, inl, inr, List, [], ◌∷◌, map, Option, Some, slice_get, refl, sym, ◌∙◌, ap, subst}
+use Rattle.std.proofs.Common.{◌≡◌, ◌&&◌, ℕ, ℤ, zero, suc, inl, inr, List, [], ◌∷◌, map, Option, Some, slice_get, refl, sym, ◌∙◌, ap, subst}
 use mathlib.Core.Path.{fun_ext}
 use Rattle.fx_base.specs.Lists.{In}
 use Rattle.fx_base.specs.declared.ids.Tag.{Tag}
 use Rattle.fx_base.specs.declared.fact.Fact.{Fact}
 use Rattle.row_delta.specs.declared.row.Row.{Row}
 use Rattle.rule_model.specs.declared.condition.Pattern.{Pattern}
-use Rattle.rule_model.specs.Lent.{Holds, named_at}
-use Rattle.rule_model.specs.Rows.{Tuple, name_of, row_of, passes}
-use Rattle.rule_model.specs.Tests.{tests_hold}
+use Rattle.rule_model.specs.Candidates.{passes}
+use Rattle.rule_model.specs.Lent.{Holds, named_at, bound_in}
+use Rattle.rule_model.specs.Tests.{tests_hold, times_hold}
+use Rattle.rule_model.specs.Tuples.{Tuple, Bindings, name_of, row_of, bound_by}
 use Rattle.rule_model.proofs.Named.{AllOf}
 
 -- the facts at the tags that a row names are those of its tuple
@@ -17,12 +18,19 @@ named_are facts_at [] h k = refl
 named_are facts_at (f ∷ facts) h zero = h.0
 named_are facts_at (f ∷ facts) h (suc k) = named_are facts_at facts h.1 k
 
+abbrev looking : (ℕ → Option Fact) → List ℤ → Bindings
+looking look values = record { fact = look; result = slice_get values }
+
+-- what a row bound is what its tuple bound
+pub bound_named : (facts_at : Tag → Option Fact) (row : Row) (tuple : Tuple) → row_of tuple ≡ row → Holds facts_at tuple.facts → bound_in facts_at row ≡ bound_by tuple
+bound_named facts_at row tuple e h =
+    ap (bound_in facts_at) (sym e) ∙ ap (λ look. looking look tuple.values) (fun_ext (named_are facts_at tuple.facts h))
+
 -- tests that look up what a row names
 pub passes_named : (facts_at : Tag → Option Fact) (p : Pattern) (f : Fact) (row : Row) (tuple : Tuple) → row_of tuple ≡ row → Holds facts_at tuple.facts
-    → tests_hold (named_at facts_at row.facts) f p.joined ≡ passes p tuple f
+    → (tests_hold (bound_in facts_at row) f p.joined && times_hold (bound_in facts_at row) f.times p.times) ≡ passes p tuple f
 passes_named facts_at p f row tuple e h =
-    ap (λ (r : Row). tests_hold (named_at facts_at r.facts) f p.joined) (sym e)
-    ∙ ap (λ look. tests_hold look f p.joined) (fun_ext (named_are facts_at tuple.facts h))
+    ap (λ bound. tests_hold bound f p.joined && times_hold bound f.times p.times) (bound_named facts_at row tuple e h)
 
 held : (facts_at : Tag → Option Fact) (facts : List Fact) (f : Fact) → Holds facts_at facts → In f facts → facts_at f.tag ≡ Some f
 held facts_at [] f h i = absurd i

@@ -18,6 +18,10 @@ is_point_type (Some ty) = without_duration ty.duration
     without_duration None = true
     without_duration (Some place) = false
 
+abbrev pub is_observed_type : Option TypeInfo → Bool
+is_observed_type None = false
+is_observed_type (Some ty) = ty.observed
+
 abbrev pub expiry_in : Option TypeInfo → Option ℤ
 expiry_in None = None
 expiry_in (Some ty) = ty.expires
@@ -33,6 +37,10 @@ is_event p ty = is_event_type (slice_get p.types ty)
 -- whether the events of a type end where they start
 unfoldable pub is_point : Program → ℕ → Bool
 is_point p ty = is_point_type (slice_get p.types ty)
+
+-- whether the events of a type are not retracted, since some rule asks for their absence, counts them or gathers them
+unfoldable pub is_observed : Program → ℕ → Bool
+is_observed p ty = is_observed_type (slice_get p.types ty)
 
 -- how long behind its start an event of a type is present, in milliseconds; nothing where the type has no explicit expiry
 unfoldable pub expiry_of : Program → ℕ → Option ℤ

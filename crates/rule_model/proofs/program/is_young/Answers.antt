@@ -2,7 +2,7 @@ use Rattle.std.proofs.Common.{◌≡◌, ◌-ℤ◌, ℤ, to_z, of_z, sym, ◌�
 use Rattle.std.specs.Prelude.{int_lt}
 use Rattle.std.specs.Int.{w128}
 use Rattle.std.proofs.lemmas.Int.{ints}
-use Rattle.rule_model.specs.Rows.{is_within}
+use Rattle.rule_model.specs.Candidates.{is_within}
 use Rattle.rule_model.proofs.program.is_young.Goals as goal
 
 pub returns-in-Some : goal.returns-in-Some
