@@ -1,0 +1,43 @@
+-- Conditions by what makes their rows come and go.
+use Rattle.std.specs.Prelude.{ℕ, ◌==◌, ◌&&◌, Bool, true, false, List}
+use Rattle.std.specs.List.{list_all, list_any}
+use Rattle.rule_model.specs.declared.condition.Condition.{Condition}
+use Rattle.rule_model.specs.declared.condition.Condition.TheVariants.{Plain, Negated, Existing, Folded}
+use Rattle.rule_model.specs.declared.condition.WindowTag.{WindowTag}
+use Rattle.rule_model.specs.declared.condition.WindowTag.TheVariants.{Whole, Time, Length}
+use Rattle.rule_model.specs.declared.program.Rule.{Rule}
+use Rattle.rule_model.specs.Rows.{pattern_of}
+
+abbrev pub is_whole : WindowTag → Bool
+is_whole Whole = true
+is_whole (Time span) = false
+is_whole (Length count) = false
+
+-- a pattern without a window: it asks for nothing but a fact that is there
+abbrev pub is_simple : Condition → Bool
+is_simple (Plain pattern) = is_whole pattern.window
+is_simple (Negated pattern) = false
+is_simple (Existing pattern) = false
+is_simple (Folded a) = false
+
+abbrev pub are_simple : List Condition → Bool
+are_simple conditions = list_all is_simple conditions
+
+abbrev pub is_length : WindowTag → Bool
+is_length Whole = false
+is_length (Time span) = false
+is_length (Length count) = true
+
+-- whether a row of the condition can come where a fact of its pattern goes
+abbrev pub observes : Condition → Bool
+observes (Plain pattern) = is_length pattern.window
+observes (Negated pattern) = true
+observes (Existing pattern) = true
+observes (Folded a) = true
+
+abbrev pub observes_type : ℕ → Condition → Bool
+observes_type ty c = observes c && (pattern_of c).ty.0 == ty
+
+-- some condition of a rule observes the facts of a type
+abbrev pub is_observed_in : List Rule → ℕ → Bool
+is_observed_in rules ty = list_any (λ (rule : Rule). list_any (observes_type ty) rule.conditions) rules
