@@ -1,6 +1,8 @@
 pub mod Pending
 pub mod Firing
 pub mod Ids
+pub mod Kept
+pub mod Keeping
 pub mod Fresh
 pub mod Steps
 pub mod Found

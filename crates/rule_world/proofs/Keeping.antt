@@ -1,0 +1,121 @@
+-- What steps do to a world they do to what is kept of it.
+use Rattle.std.proofs.Common.{◌≡◌, ◌≤ℤ◌, ◌+◌, ◌-ℤ◌, ◌||◌, ◌==◌, ◌&&◌, not, ℕ, ℤ, inl, inr, Bool, true, false, cond, List, [], ◌∷◌, ◌++◌, Option, Some, None, if◌then◌else◌, refl, sym, ◌∙◌, ap, subst, arith}
+use Rattle.std.specs.List.{filter}
+use Rattle.std.proofs.lemmas.Int.{ints}
+use Rattle.std.proofs.lemmas.List.{append-nil}
+use Rattle.fx_base.specs.Lists.{In}
+use Rattle.fx_base.specs.declared.fact.Fact.{Fact}
+use Rattle.fx_base.specs.declared.value.Value.{Value}
+use Rattle.rule_model.specs.declared.matched.Match.{Match}
+use Rattle.rule_model.specs.declared.program.Program.{Program}
+use Rattle.rule_model.specs.declared.step.Step.{Step}
+use Rattle.rule_model.specs.declared.step.Step.TheVariants.{Insert, Modify, Retract, Advance, At}
+use Rattle.rule_model.specs.Candidates.{is_within, is_present}
+use Rattle.rule_model.specs.Matches.{matches, has_match}
+use Rattle.rule_model.specs.Snapshots.{floor}
+use Rattle.rule_model.specs.Types.{is_event, expiry_of}
+use Rattle.rule_model.proofs.Named.{of_filter}
+use Rattle.rule_world.specs.Lawful.{IsOrdered, IsLawful, IsSound, IsTimed}
+use Rattle.rule_world.specs.Worlds.{World, snapshot, present, kept, found, modify_fault, retract_fault, step_fault, with_new, with_revised, without_fact, at_clock, last_start_with, revised, revised_in, has_id, without}
+use Rattle.rule_world.proofs.Fresh.{below_of, below_all, distinct_filtered}
+use Rattle.rule_world.proofs.Ids.{ids_filtered}
+use Rattle.rule_world.proofs.Sound.{events_filtered}
+use Rattle.rule_world.proofs.Steps.{stays}
+use Rattle.rule_world.proofs.Kept.{filter_within, filter_same, filter_swap, filter_map, filter_append, kept_matches, kept_found}
+
+abbrev world_with : World → List Fact → World
+world_with w facts = record w { facts = facts }
+
+-- ---- faults
+
+pub kept_fault : (p : Program) (w : World) (step : Step) → step_fault p (kept p w) step ≡ step_fault p w step
+unfolding step_fault floor
+kept_fault p w (Insert ty entry fields) = refl
+kept_fault p w (Modify id sets) = ap (modify_fault p) (kept_found p w id.0)
+kept_fault p w (Retract ty id) = ap (retract_fault p ty.0) (kept_found p w id.0)
+kept_fault p w (Advance by) = refl
+kept_fault p w (At moment) = refl
+
+-- ---- one step of each kind
+
+pub kept_without : (p : Program) (w : World) (ty id : ℕ) → kept p (without_fact w ty id) ≡ without_fact (kept p w) ty id
+kept_without p w ty id = ap (world_with w) (filter_swap (is_present p w.clock) (stays ty id) w.facts)
+
+same_when_revised : (p : Program) (clock : ℤ) (id tag : ℕ) (sets : List (ℕ × Value)) (f : Fact) (b : Bool)
+    → is_present p clock (if b then revised tag sets f else f) ≡ is_present p clock f
+unfolding is_present
+same_when_revised p clock id tag sets f true = refl
+same_when_revised p clock id tag sets f false = refl
+
+pub kept_revised : (p : Program) (w : World) (id : ℕ) (sets : List (ℕ × Value)) → kept p (with_revised w id sets) ≡ with_revised (kept p w) id sets
+kept_revised p w id sets =
+    ap (λ facts. record w { facts = facts; next_tag = w.next_tag + 1 })
+    (filter_map (is_present p w.clock) (λ (f : Fact). if has_id id f then revised w.next_tag sets f else f) w.facts
+    (λ f. same_when_revised p w.clock id w.next_tag sets f (has_id id f)))
+
+abbrev pub with_numbers : Program → World → Fact → World
+with_numbers p w f = record w { last_start = last_start_with p f w.last_start; next_id = w.next_id + 1; next_tag = w.next_tag + 1 }
+
+abbrev new_world : Program → World → Fact → List Fact → World
+new_world p w f facts = record w { facts = facts; last_start = last_start_with p f w.last_start; next_id = w.next_id + 1; next_tag = w.next_tag + 1 }
+
+pub kept_new : (p : Program) (w : World) (f : Fact) → is_present p w.clock f ≡ true → kept p (with_new p w f) ≡ with_new p (kept p w) f
+kept_new p w f e =
+    ap (new_world p w f)
+    (filter_append (is_present p w.clock) w.facts (f ∷ []) ∙ ap (λ b. present p w ++ cond b (f ∷ []) []) e)
+
+-- what is not present when it is inserted leaves its numbers and its start alone
+pub kept_numbers : (p : Program) (w : World) (f : Fact) → is_present p w.clock f ≡ false → kept p (with_new p w f) ≡ with_numbers p (kept p w) f
+kept_numbers p w f e =
+    ap (new_world p w f)
+    (filter_append (is_present p w.clock) w.facts (f ∷ []) ∙ ap (λ b. present p w ++ cond b (f ∷ []) []) e ∙ append-nil (present p w))
+
+-- ---- the clock
+
+younger : (expiry : Option ℤ) (a b : ℤ) → a ≤ℤ b → is_within expiry b ≡ true → is_within expiry a ≡ true
+younger None a b le e = refl
+younger (Some x) a b le e = grind (arith, ints)
+
+or_either : (a b c : Bool) → (b ≡ true → c ≡ true) → (a || b) ≡ true → (a || c) ≡ true
+or_either true b c h e = refl
+or_either false b c h e = h e
+
+-- what is present was present before
+pub was_present : (p : Program) (f : Fact) (c d : ℤ) → c ≤ℤ d → is_present p d f ≡ true → is_present p c f ≡ true
+unfolding is_present
+was_present p f c d le e =
+    or_either (not (is_event p f.ty.0)) (is_within (expiry_of p f.ty.0) (d -ℤ f.times.start)) (is_within (expiry_of p f.ty.0) (c -ℤ f.times.start))
+    (younger (expiry_of p f.ty.0) (c -ℤ f.times.start) (d -ℤ f.times.start) (omega (arith, ints, le))) e
+
+pub kept_later : (p : Program) (w : World) (clock : ℤ) → w.clock ≤ℤ clock → kept p (at_clock w clock) ≡ kept p (at_clock (kept p w) clock)
+kept_later p w clock le =
+    ap (λ facts. record w { facts = facts; clock = clock }) (sym (filter_within (is_present p clock) (is_present p w.clock) w.facts (λ f e. was_present p f w.clock clock le e)))
+
+-- ---- lawful worlds
+
+sound_kept : (p : Program) (w : World) (f : Fact) → IsSound p w f → IsSound p (kept p w) f
+sound_kept p w f h = record { fits = h.fits; timed = λ e. timed (h.timed e); plain = h.plain }
+  where
+    timed : IsTimed p w f → IsTimed p (kept p w) f
+    timed t = record { from_zero = t.from_zero; to_clock = t.to_clock; to_last = t.to_last; event = t.event; short = t.short }
+
+pub kept_ordered : (p : Program) (w : World) → IsOrdered p w → IsOrdered p (kept p w)
+kept_ordered p w o = record {
+  ids = ids_filtered (is_present p w.clock) w.facts 1 w.next_id o.ids;
+  tags = distinct_filtered (is_present p w.clock) w.facts o.tags;
+  fresh = below_all w.next_tag (present p w) (λ f i. below_of w.next_tag w.facts o.fresh f (of_filter (is_present p w.clock) f w.facts i));
+  fired = λ m e. ap (λ ms. has_match ms m) (kept_matches p w) ∙ o.fired m e;
+}
+
+-- what is kept of a lawful world is one
+pub kept_lawful : (p : Program) (w : World) → IsLawful p w → IsLawful p (kept p w)
+kept_lawful p w l = record {
+  ordered = kept_ordered p w l.ordered;
+  once = l.once;
+  clock_low = l.clock_low;
+  clock_high = l.clock_high;
+  last_low = l.last_low;
+  last_high = l.last_high;
+  sound = λ f i. sound_kept p w f (l.sound f (of_filter (is_present p w.clock) f w.facts i));
+  events = events_filtered p (is_present p w.clock) w.facts l.events;
+}
