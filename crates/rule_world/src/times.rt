@@ -1,9 +1,9 @@
-ghost use Rattle.std.specs.Prelude.{◌≡◌, ◌≤ℤ◌, ◌-ℤ◌, ◌+ℤ◌, pos, true, slice_get, Some, None, IfOk, IfErr};
+ghost use Rattle.std.specs.Prelude.{◌≡◌, ◌≤ℤ◌, ◌-ℤ◌, ◌+ℤ◌, pos, true, slice_get, Some, None, IfOk, IfErr, IfSome};
 ghost use Rattle.std.specs.List.{list_all};
 ghost use Rattle.rule_model.specs.Snapshots.{floor_by};
-ghost use Rattle.rule_model.specs.Types.{lateness_of};
-ghost use Rattle.rule_world.specs.Events.{field_number, start_of as start_of_event, duration_of as duration_of_event, event_fault, event_times as times_of_event, times_of, new_fault, clock_fault, most_millis};
-ghost use Rattle.rule_world.specs.Programs.{IsRunnable, has_lateness};
+ghost use Rattle.rule_model.specs.Types.{expiry_of, lateness_of};
+ghost use Rattle.rule_world.specs.Events.{field_number, end_of_presence, start_of as start_of_event, duration_of as duration_of_event, event_fault, event_times as times_of_event, times_of, new_fault, clock_fault, most_millis};
+ghost use Rattle.rule_world.specs.Programs.{IsRunnable, has_expiry, has_lateness};
 
 use crate::Code;
 use fx_base::limits::MOST_MILLIS;
@@ -74,6 +74,8 @@ fn event_times(
     requires floor { (pos 0 -ℤ most_millis) ≤ℤ floor }
     requires clock { clock ≤ℤ most_millis }
     ensures times { IfOk result (λ times. times ≡ times_of_event info.now clock fields.now) }
+    ensures low { IfOk result (λ times. (pos 0 -ℤ most_millis) ≤ℤ times.start) }
+    ensures high { IfOk result (λ times. times.start ≤ℤ most_millis) }
     ensures none { IfOk result (λ _. event_fault floor clock (start_of_event info.now clock fields.now) (duration_of_event info.now fields.now) ≡ None) }
     ensures fault { IfErr result (λ code. event_fault floor clock (start_of_event info.now clock fields.now) (duration_of_event info.now fields.now) ≡ Some code) }
 {
@@ -96,6 +98,7 @@ fn event_times(
 
 /// The times of a new fact of a type with these values, or its fault, by the floor of its entry point and the clock. Takes no
 /// memory.
+#[tactic(auto, unfolding(crate::specs::Events::most_millis))]
 pub fn new_times(
     program: &Program,
     ty: TypeId,
@@ -106,12 +109,46 @@ pub fn new_times(
     requires floor { (pos 0 -ℤ most_millis) ≤ℤ floor }
     requires clock { clock ≤ℤ most_millis }
     ensures times { IfOk result (λ times. times ≡ times_of (slice_get program.now.types ty.0) clock fields.now) }
+    ensures low { IfOk result (λ times. (pos 0 -ℤ most_millis) ≤ℤ times.start) }
+    ensures high { IfOk result (λ times. times.start ≤ℤ most_millis) }
     ensures none { IfOk result (λ _. new_fault (slice_get program.now.types ty.0) floor clock fields.now ≡ None) }
     ensures fault { IfErr result (λ code. new_fault (slice_get program.now.types ty.0) floor clock fields.now ≡ Some code) }
 {
     match program.type_info(ty) {
         Some(info) if info.event => event_times(info, floor, clock, fields),
         _ => Ok(Times { start: 0, end: 0 }),
+    }
+}
+
+// How long behind its start an event of a type is present, in milliseconds.
+#[tactic(auto, unfolding(crate::specs::Events::most_millis, rule_model::specs::Types::expiry_of))]
+fn expiry(program: &Program, ty: TypeId) -> Option<Millis>
+    requires { list_all has_expiry program.now.types ≡ true }
+    ensures expiry { result ≡ expiry_of program.now ty.0 }
+    ensures low { IfSome result (λ expiry. pos 1 ≤ℤ expiry) }
+    ensures high { IfSome result (λ expiry. expiry ≤ℤ most_millis) }
+{
+    match program.types.as_slice().get(ty.0 as usize) {
+        Some(info) => info.expires,
+        None => None,
+    }
+}
+
+/// The moment from which a fact of a type, which starts at this one, is not present; none where it is present until it is retracted.
+/// Takes no memory.
+#[tactic(auto, unfolding(crate::specs::Events::most_millis))]
+pub fn presence_end(program: &Program, ty: TypeId, start: Millis) -> Option<Millis>
+    requires runnable { IsRunnable program.now }
+    requires low { (pos 0 -ℤ most_millis) ≤ℤ start }
+    requires high { start ≤ℤ most_millis }
+    ensures { result ≡ end_of_presence program.now ty.0 start }
+{
+    if !program.is_event(ty) {
+        return None;
+    }
+    match expiry(program, ty) {
+        Some(expiry) => Some(start + expiry),
+        None => None,
     }
 }
 

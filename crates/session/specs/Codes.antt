@@ -1,9 +1,10 @@
--- How the facts of a session are stored.
+-- How the facts and the timers of a session are stored.
 use Rattle.std.specs.Prelude.{ℕ, ℤ, List, refl}
 use Rattle.std.specs.Coded.{Coded, code_by, coded_list, coded_ℕ, coded_ℤ, coded×}
 use Rattle.fx_base.specs.declared.value.Value.{Value}
 use Rattle.fx_base.specs.declared.fact.Fact.{Fact}
 use Rattle.fact_store.specs.Held.{HeldFacts}
+use Rattle.due_queue.specs.Timers.{Timers}
 use Rattle.rule_model.specs.ExpressionCode.{value_code}
 use Rattle.std.specs.FinMap as map
 
@@ -24,3 +25,6 @@ fact_code =
 
 abbrev pub held_code : Coded HeldFacts
 held_code = map.code coded_ℕ fact_code
+
+abbrev pub timers_code : Coded Timers
+timers_code = map.code coded_ℕ coded_ℤ

@@ -10,9 +10,9 @@ use Rattle.rule_model.specs.declared.program.Program.{Program}
 use Rattle.rule_model.specs.declared.program.Rule.{Rule}
 use Rattle.rule_model.specs.declared.step.Step.{Step}
 use Rattle.rule_model.specs.declared.step.Step.TheVariants.{Insert, Modify, Retract, Advance, At}
-use Rattle.rule_model.specs.Lent.{named_at}
+use Rattle.rule_model.specs.Lent.{bound_in}
 use Rattle.rule_model.specs.Planned.{step_of}
-use Rattle.rule_world.specs.Worlds.{World, stepped, step_fault, fact_of, first_pending, marked}
+use Rattle.rule_world.specs.Worlds.{World, stepped, step_fault, present, found, first_pending, marked}
 use Rattle.script_read.specs.declared.asked.Change.{Change}
 use Rattle.rule_world.specs.declared.code.Code.{Code}
 use Rattle.rule_world.specs.declared.code.Code.TheVariants.{Overflow}
@@ -51,7 +51,7 @@ does p w (Ok step) = tries p w step
 
 -- a change of the script
 unfoldable pub gives : Program → World → Change → List OutLine × World
-gives p w change = does p w (change_step p (fact_of w.facts) change)
+gives p w change = does p w (change_step p (found p w) change)
 
 -- ---- firings
 
@@ -72,9 +72,9 @@ abbrev pub step_or_overflow : Option Step → Result Step Code
 step_or_overflow None = Err Overflow
 step_or_overflow (Some step) = Ok step
 
--- what actions are to do for a row, with the values that the facts have now
+-- what actions are to do for a row, with the values that these facts have now
 abbrev pub wanted : List Fact → Row → List Action → List (Result Step Code)
-wanted facts row actions = map (λ (a : Action). step_or_overflow (step_of (named_at (version_of facts) row.facts) row.facts a)) actions
+wanted facts row actions = map (λ (a : Action). step_or_overflow (step_of (bound_in (version_of facts) row) row.facts a)) actions
 
 abbrev pub actions_of : Option Rule → List Action
 actions_of None = []
@@ -88,7 +88,7 @@ fire_line m = Fire m.rule (cells m.row.facts)
 
 -- a match is marked and printed, and its rule's actions are done in their order; their values are those of the world before
 abbrev pub fires_match : Program → World → Match → List OutLine × World
-fires_match p w m = then_does (fire_line m ∷ [], marked w m) (λ next. does_all p next (wanted w.facts m.row (actions_of (slice_get p.rules m.rule.0))))
+fires_match p w m = then_does (fire_line m ∷ [], marked w m) (λ next. does_all p next (wanted (present p w) m.row (actions_of (slice_get p.rules m.rule.0))))
 
 abbrev pub fires_with : Program → World → Option Match → Option (List OutLine × World)
 fires_with p w None = None

@@ -5,14 +5,14 @@ use Rattle.rule_model.specs.declared.program.Program.{Program}
 use Rattle.rule_model.specs.declared.step.Step.{Step}
 use Rattle.rule_world.specs.declared.code.Code.{Code}
 use Rattle.rule_world.specs.Kinds.{step_fits}
-use Rattle.rule_world.specs.Worlds.{World, fact_of, step_fault}
+use Rattle.rule_world.specs.Worlds.{World, fact_of, kept, step_fault}
 use Rattle.engine.specs.declared.lines.OutLine.{OutLine}
 use Rattle.session.specs.Gives.{does, does_all}
 use Rattle.session.specs.Standing.{Contents, Mirrors, Standing}
 
--- of each world for which the first contents stand, the second ones have the next world's contents
+-- of each world for which the first contents stand, the second ones have what is kept of the next world
 abbrev pub MovesTo : Program → Contents → (World → World) → Contents → Type 0
-MovesTo p k next s = (w : World) → Standing p k w → Mirrors p s (next w)
+MovesTo p k next s = (w : World) → Standing p k w → Mirrors p s (kept p (next w))
 
 -- in each world for which the contents stand, these lines are written behind those before
 abbrev pub Writes : Program → Contents → (World → List OutLine) → List OutLine → List OutLine → Type 0

@@ -9,7 +9,7 @@ use Rattle.rule_world.specs.declared.code.Code.{Code}
 use Rattle.rule_model.specs.declared.program.Program.{Program}
 use Rattle.rule_model.specs.declared.step.Step.{Step}
 use Rattle.rule_world.specs.Events.{most_millis}
-use Rattle.rule_model.specs.Lent.{named_at}
+use Rattle.rule_model.specs.Lent.{bound_in}
 use Rattle.rule_model.specs.Planned.{step_of}
 use Rattle.rule_model.specs.Snapshots.{floor_by}
 use Rattle.rule_model.specs.Types.{lateness_of}
@@ -53,7 +53,7 @@ abbrev pub held_at : HeldFacts → Tag → Option Fact
 held_at held tag = map.get held tag.0
 
 abbrev pub planned_for : HeldFacts → Row → Action → Result Step Code
-planned_for held row a = step_or_overflow (step_of (named_at (held_at held) row.facts) row.facts a)
+planned_for held row a = step_or_overflow (step_of (bound_in (held_at held) row) row.facts a)
 
 abbrev pub planned : HeldFacts → Row → List Action → List (Result Step Code)
 planned held row actions = list_map (planned_for held row) actions

@@ -20,7 +20,7 @@ fn saliences_of(alloc: Global, rules: &[Rule]) -> Result<Vec<i64>, NoMemory>
     Ok(all)
 }
 
-/// An engine in some lawful world of its program. It keeps the facts under their tags, the clock, the last starts of the entry
+/// An engine in some lawful world of its program. It keeps the facts that are present under their tags, the clock, the last starts of the entry
 /// points, and an agenda.
 #[derive(Drop)]
 pub struct Session {
@@ -36,9 +36,9 @@ impl Model for Session {
 
     ghost use Rattle.std.specs.Coded.{codes};
     ghost use Rattle.rule_model.specs.ExpressionCode.{expression_code};
-    ghost use Rattle.session.specs.Codes.{held_code};
+    ghost use Rattle.session.specs.Codes.{held_code, timers_code};
 
-    ghost coded = { Prim.hlevel (codes, expression_code, held_code) };
+    ghost coded = { Prim.hlevel (codes, expression_code, held_code, timers_code) };
 
     ghost view = { λ s. record { program = s.program; lives = s.lives; contents = s.state } };
 

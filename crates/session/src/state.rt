@@ -8,6 +8,7 @@ ghost use Rattle.std.specs.FinMap as map;
 
 use agenda::Agenda;
 use change_read::Present;
+use due_queue::DueQueue;
 use fact_store::FactStore;
 use fx_base::{EntryId, Fact, FactId, Millis, NoMemory, Tag, TypeId};
 use rule_model::{Match, Program};
@@ -15,11 +16,13 @@ use rule_world::Code;
 use std::alloc::Global;
 use std::marker::Model;
 
-/// What a session keeps of its world: the facts by their tags, the clock, the last starts of the entry points, the agenda and the
-/// next numbers.
+/// What a session keeps of its world: the facts that are present by their tags, the moments at which they expire, the clock, the last
+/// starts of the entry points, the agenda and the next numbers.
 #[derive(Drop)]
 pub(crate) struct State {
     pub(crate) facts: FactStore,
+    /// The tags of the events that expire, with the moments from which they are not present.
+    pub(crate) expiries: DueQueue,
     /// In milliseconds, from 0 to 2^53.
     pub(crate) clock: Millis,
     /// In milliseconds, by the places of the entry points; 0 for those beyond the end.
@@ -31,15 +34,15 @@ pub(crate) struct State {
 
 impl Model for State {
     ghost use Rattle.std.specs.Coded.{codes};
-    ghost use Rattle.session.specs.Codes.{held_code};
+    ghost use Rattle.session.specs.Codes.{held_code, timers_code};
     ghost use Rattle.session.specs.Places.{IsSafe};
     ghost use Rattle.session.specs.Standing.{Contents};
 
     ghost Value = { Contents };
 
-    ghost coded = { Prim.hlevel (codes, held_code) };
+    ghost coded = { Prim.hlevel (codes, held_code, timers_code) };
 
-    ghost view = { λ s. record { facts = s.facts; clock = s.clock; last_starts = s.last_starts.items; agenda = s.agenda; next_id = s.next_id; next_tag = s.next_tag } };
+    ghost view = { λ s. record { facts = s.facts; expiries = s.expiries; clock = s.clock; last_starts = s.last_starts.items; agenda = s.agenda; next_id = s.next_id; next_tag = s.next_tag } };
 
     ghost invariant = { λ s. IsSafe s.facts s.clock s.next_id s.next_tag };
 }
@@ -48,6 +51,7 @@ impl State {
     /// No facts, the clock at 0, and nothing pending.
     pub(crate) fn new(alloc: Global, saliences: &[i64]) -> Result<State, NoMemory>
         ensures facts { IfOk result (λ s. s.facts ≡ map.empty) }
+        ensures expiries { IfOk result (λ s. s.expiries ≡ map.empty) }
         ensures clock { IfOk result (λ s. s.clock ≡ pos 0) }
         ensures last_starts { IfOk result (λ s. s.last_starts ≡ []) }
         ensures agenda { IfOk result (λ s. s.agenda ≡ record { saliences = saliences.now; pending = []; fired = [] }) }
@@ -56,6 +60,7 @@ impl State {
     {
         Ok(State {
             facts: FactStore::new(alloc),
+            expiries: DueQueue::new(alloc),
             clock: 0,
             last_starts: Vec::new(alloc),
             agenda: Agenda::new(alloc, saliences)?,
