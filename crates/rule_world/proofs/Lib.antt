@@ -15,3 +15,4 @@ pub mod Typing
 pub mod Bindings
 pub mod Acting
 pub mod Staying
+pub mod Absence

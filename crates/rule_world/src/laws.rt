@@ -1,5 +1,5 @@
 //! Laws of worlds, each the contract of a function that does nothing.
-ghost use Rattle.std.specs.Prelude.{◌≡◌, ◌⊎◌, ◌≤◌, ◌<◌, ℕ, true, false, [], length, pos, Option, Some, None};
+ghost use Rattle.std.specs.Prelude.{◌≡◌, ◌⊎◌, ◌≤◌, ◌<◌, ◌≤ℤ◌, ℕ, ℤ, List, true, false, [], length, pos, Option, Some, None};
 ghost use Rattle.std.specs.declared.cmp.Ordering.{Ordering};
 ghost use Rattle.fx_base.specs.Lists.{In};
 ghost use Rattle.fx_base.specs.declared.fact.Fact.{Fact};
@@ -8,19 +8,22 @@ ghost use Rattle.fx_base.specs.declared.ids.Tag.{Tag};
 ghost use Rattle.fx_base.specs.declared.ids.TypeId.{TypeId};
 ghost use Rattle.row_delta.specs.declared.row.Row.{Row};
 ghost use Rattle.rule_model.specs.declared.action.Action.{Action};
+ghost use Rattle.rule_model.specs.declared.condition.Condition.{Condition};
 ghost use Rattle.rule_model.specs.declared.matched.Match.{Match};
 ghost use Rattle.rule_model.specs.declared.program.Program.{Program};
 ghost use Rattle.rule_model.specs.declared.program.Rule.{Rule};
 ghost use Rattle.rule_model.specs.declared.step.Step.{Step};
 ghost use Rattle.rule_model.specs.declared.step.Step.TheVariants.{Retract, Advance, At};
-ghost use Rattle.rule_model.specs.Lent.{Holds, named_at};
+ghost use Rattle.rule_model.specs.Candidates.{is_present};
+ghost use Rattle.rule_model.specs.Lent.{Holds, bound_in};
 ghost use Rattle.rule_model.specs.Matches.{fire_cmp, saliences, has_match};
 ghost use Rattle.rule_model.specs.Planned.{step_of};
-ghost use Rattle.rule_model.specs.Rows.{IsRow};
+ghost use Rattle.rule_model.specs.Rows.{rows};
+ghost use Rattle.rule_model.specs.Types.{is_event};
 ghost use Rattle.rule_world.specs.Kinds.{step_fits};
 ghost use Rattle.rule_world.specs.Lawful.{IsOrdered, IsLawful};
 ghost use Rattle.rule_world.specs.Typed.{is_typed};
-ghost use Rattle.rule_world.specs.Worlds.{World, snapshot, empty_world, stepped, step_fault, fact_of, is_of_type, pending, first_pending, marked};
+ghost use Rattle.rule_world.specs.Worlds.{World, snapshot, empty_world, stepped, step_fault, fact_of, present, found, without_fact, is_of_type, pending, first_pending, marked};
 
 /// The first pending match is pending, and no pending match fires before it; there is none only where nothing is
 /// pending.
@@ -65,7 +68,7 @@ pub fn vain_steps_change_nothing()
 pub fn steps_of_actions_fit()
     ensures { (p : Program) (w : World) (facts_at : Tag → Option Fact) (rule : Rule) (row : Row) (a : Action) (step : Step)
         → is_typed p ≡ true → 1 ≤ length p.entries → In rule p.rules → IsLawful p w → Holds facts_at w.facts
-        → IsRow p (snapshot w) rule.conditions row → In a rule.actions → step_of (named_at facts_at row.facts) row.facts a ≡ Some step
+        → In row (rows p (snapshot w) rule.conditions) → In a rule.actions → step_of (bound_in facts_at row) row.facts a ≡ Some step
         → step_fits p (fact_of w.facts) step ≡ true }
 {}
 
@@ -77,4 +80,28 @@ pub fn types_stay()
     ensures ids { (p : Program) (w : World) (step : Step) → w.next_id ≤ (stepped p w step).next_id }
     ensures there { (p : Program) (w : World) (step : Step) (id : ℕ) (g : Fact) → IsOrdered p w → id < w.next_id
         → fact_of (stepped p w step).facts id ≡ Some g → (f : Fact) × (fact_of w.facts id ≡ Some f) }
+{}
+
+/// What is found among the present facts is the fact of its id, and a plain fact that has an id is found. A step whose values fit
+/// what is found fits the world.
+pub fn what_is_found_is_there()
+    ensures there { (p : Program) (w : World) (id : ℕ) (f : Fact) → IsOrdered p w → found p w id ≡ Some f → fact_of w.facts id ≡ Some f }
+    ensures plain { (p : Program) (w : World) (id : ℕ) (f : Fact) → IsOrdered p w → fact_of w.facts id ≡ Some f → is_event p f.ty.0 ≡ false
+        → found p w id ≡ Some f }
+    ensures fits { (p : Program) (w : World) (step : Step) → IsOrdered p w → step_fits p (found p w) step ≡ true
+        → step_fits p (fact_of w.facts) step ≡ true }
+{}
+
+/// A fact that is not present at a clock is not present at any later one.
+pub fn absence_stays()
+    ensures { (p : Program) (c : ℤ) (d : ℤ) (f : Fact) → is_present p c f ≡ false → c ≤ℤ d → is_present p d f ≡ false }
+{}
+
+/// Where no present fact has the type and the id, to take the fact of the type and the id away changes neither which facts are
+/// present nor the rows of any conditions.
+pub fn retracting_what_is_not_present()
+    ensures present { (p : Program) (w : World) (ty : ℕ) (id : ℕ) → IsOrdered p w → is_of_type ty (found p w id) ≡ false
+        → present p (without_fact w ty id) ≡ present p w }
+    ensures rows { (p : Program) (w : World) (ty : ℕ) (id : ℕ) (conditions : List Condition) → IsOrdered p w → is_of_type ty (found p w id) ≡ false
+        → rows p (snapshot (without_fact w ty id)) conditions ≡ rows p (snapshot w) conditions }
 {}
