@@ -10,14 +10,17 @@ use Rattle.rule_model.specs.declared.program.Rule.{Rule}
 use Rattle.rule_model.specs.declared.step.Step.{Step}
 use Rattle.rule_model.specs.Distinct.{HaveDistinctTags}
 use Rattle.rule_world.specs.Lawful.{IsLawful}
-use Rattle.rule_model.specs.Lent.{Holds, named_at}
+use Rattle.rule_model.specs.Lent.{Holds, bound_in}
 use Rattle.rule_model.specs.Matches.{matches, has_match}
 use Rattle.rule_model.specs.Planned.{step_of}
 use Rattle.rule_world.specs.Programs.{IsRunnable}
 use Rattle.fx_base.specs.Lists.{In}
-use Rattle.rule_world.specs.Worlds.{World, snapshot, pending, first_pending, marked}
+use Rattle.rule_model.specs.Rows.{rows}
+use Rattle.rule_world.specs.Worlds.{World, kept, present, snapshot, pending, first_pending, marked}
 use Rattle.rule_world.proofs.Acting.{steps_fit}
 use Rattle.rule_world.proofs.Fresh.{and_parts}
+use Rattle.rule_world.proofs.Keeping.{kept_lawful}
+use Rattle.rule_world.proofs.Kept.{kept_rows}
 use Rattle.rule_world.proofs.Lawfuls.{firing_lawful}
 use Rattle.rule_model.proofs.Listed.{of_map}
 use Rattle.rule_world.proofs.Pending.{has_pending, first_is_pending}
@@ -45,15 +48,20 @@ asked_step None step e = absurd cc
 asked_step (Some other) step e = cc
 
 -- what a match's rule asks for fits
-wanted_of : (p : Program) (w : World) (m : Match) → IsRunnable p → IsLawful p w → IsMatchOf p (snapshot w) m → AllFit p w (wanted w.facts m.row (actions_of (slice_get p.rules m.rule.0)))
+wanted_of : (p : Program) (w : World) (m : Match) → IsRunnable p → IsLawful p w → IsMatchOf p (snapshot w) m → AllFit p w (wanted (present p w) m.row (actions_of (slice_get p.rules m.rule.0)))
 wanted_of p w m runnable l is step i =
-    let j : In (Ok step) (wanted w.facts m.row is.rule.actions) =
-    subst (λ (found : Option Rule). In (Ok step) (wanted w.facts m.row (actions_of found))) is.there i in
-    let q = of_map (λ (a : Action). step_or_overflow (step_of (named_at (version_of w.facts) m.row.facts) m.row.facts a)) (Ok step) is.rule.actions j in
-    steps_fit p w (version_of w.facts) is.rule m.row q.0 step runnable.typed runnable.some_entry (in_place p.rules m.rule.0 is.rule is.there) l
-    (versions_hold w.facts l.ordered.tags) is.row q.1 (asked_step (step_of (named_at (version_of w.facts) m.row.facts) m.row.facts q.0) step q.2)
+    let facts : List Fact = present p w in
+    let v : World = kept p w in
+    let lawful : IsLawful p v = kept_lawful p w l in
+    let j : In (Ok step) (wanted facts m.row is.rule.actions) =
+    subst (λ (found : Option Rule). In (Ok step) (wanted facts m.row (actions_of found))) is.there i in
+    let q = of_map (λ (a : Action). step_or_overflow (step_of (bound_in (version_of facts) m.row) m.row.facts a)) (Ok step) is.rule.actions j in
+    let row : In m.row (rows p (snapshot v) is.rule.conditions) = subst (In m.row) (sym (kept_rows p w is.rule.conditions)) is.row in
+    found_fits p w step l.ordered
+    (steps_fit p v (version_of facts) is.rule m.row q.0 step runnable.typed runnable.some_entry (in_place p.rules m.rule.0 is.rule is.there) lawful
+    (versions_hold facts lawful.ordered.tags) row q.1 (asked_step (step_of (bound_in (version_of facts) m.row) m.row.facts q.0) step q.2))
 
-pub wanted_fits : (p : Program) (w : World) (m : Match) → IsRunnable p → IsLawful p w → has_match (pending p w) m ≡ true → AllFit p w (wanted w.facts m.row (actions_of (slice_get p.rules m.rule.0)))
+pub wanted_fits : (p : Program) (w : World) (m : Match) → IsRunnable p → IsLawful p w → has_match (pending p w) m ≡ true → AllFit p w (wanted (present p w) m.row (actions_of (slice_get p.rules m.rule.0)))
 wanted_fits p w m runnable l h = wanted_of p w m runnable l (rule_of p (snapshot w) m is_match)
   where
     is_match : has_match (matches p (snapshot w)) m ≡ true
@@ -61,7 +69,7 @@ wanted_fits p w m runnable l h = wanted_of p w m runnable l (rule_of p (snapshot
 
 match_fired : (p : Program) (w : World) (m : Match) → IsRunnable p → IsLawful p w → has_match (pending p w) m ≡ true → IsLawful p (fires_match p w m).1
 match_fired p w m runnable l h =
-    all_lawful p w l.ordered (marked w m) (wanted w.facts m.row (actions_of (slice_get p.rules m.rule.0))) (wanted_fits p w m runnable l h) (firing_lawful p w m l h)
+    all_lawful p w l.ordered (marked w m) (wanted (present p w) m.row (actions_of (slice_get p.rules m.rule.0))) (wanted_fits p w m runnable l h) (firing_lawful p w m l h)
     (same_stays w (marked w m) refl refl)
 
 pub fires_lawful : (p : Program) (w : World) (lines : List OutLine) (next : World) → IsRunnable p → IsLawful p w → fires p w ≡ Some (lines, next) → IsLawful p next

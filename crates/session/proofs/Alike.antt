@@ -13,26 +13,27 @@ use Rattle.rule_model.specs.declared.program.Program.{Program}
 use Rattle.rule_model.specs.declared.program.Rule.{Rule}
 use Rattle.rule_model.specs.Matches.{match_of, match_cmp, matches_from, matches_of, rows_by_rule, has_match}
 use Rattle.rule_model.specs.Rows.{rows}
+use Rattle.rule_model.specs.Distinct.{HaveDistinctTags}
 use Rattle.rule_model.specs.Snapshots.{Snapshot}
 use Rattle.rule_model.proofs.Firsts.{or_split}
 use Rattle.rule_model.proofs.Named.{AllOf}
 use Rattle.rule_model.proofs.Order.{rows_over}
 use Rattle.session.proofs.Rules.{with_rule}
 
-or_left : (a b : Bool) → a ≡ true → (a || b) ≡ true
+pub or_left : (a b : Bool) → a ≡ true → (a || b) ≡ true
 or_left true b e = refl
 or_left false b e = cc
 
-or_right : (a b : Bool) → b ≡ true → (a || b) ≡ true
+pub or_right : (a b : Bool) → b ≡ true → (a || b) ≡ true
 or_right true b e = refl
 or_right false b e = e
 
-in_has : (r : Row) (rs : List Row) → In r rs → has rs r ≡ true
+pub in_has : (r : Row) (rs : List Row) → In r rs → has rs r ≡ true
 in_has r [] i = absurd i
 in_has r (s ∷ rs) (inl e) = or_left (eq_by_cmp row_cmp r s) (has rs r) (ap (eq_by_cmp row_cmp r) (sym e) ∙ same_equiv.refl r)
 in_has r (s ∷ rs) (inr i) = or_right (eq_by_cmp row_cmp r s) (has rs r) (in_has r rs i)
 
-has_in : (r : Row) (rs : List Row) → has rs r ≡ true → In r rs
+pub has_in : (r : Row) (rs : List Row) → has rs r ≡ true → In r rs
 has_in r [] e = absurd (let h : false ≡ true = e in cc)
 has_in r (s ∷ rs) e = elim (or_split (eq_by_cmp row_cmp r s) (has rs r) e) [ inl h ↦ inl (tells_apart row_exact r s h) | inr h ↦ inr (has_in r rs h) ]
 
@@ -41,11 +42,11 @@ same_bool true b f g = sym (f refl)
 same_bool false true f g = g refl
 same_bool false false f g = refl
 
-module _ (p : Program) (s o : Snapshot) (clock : o.clock ≡ s.clock) (a : AllOf o.facts s.facts) (b : AllOf s.facts o.facts) where
+module _ (p : Program) (s o : Snapshot) (clock : o.clock ≡ s.clock) (ds : HaveDistinctTags s.facts) (dt : HaveDistinctTags o.facts) (a : AllOf o.facts s.facts) (b : AllOf s.facts o.facts) where
   same_row : (cs : List Condition) (row : Row) → has (rows p s cs) row ≡ has (rows p o cs) row
   same_row cs row =
-      same_bool _ _ (λ e. in_has row (rows p o cs) (rows_over p s o clock a cs row (has_in row (rows p s cs) e)))
-      (λ e. in_has row (rows p s cs) (rows_over p o s (sym clock) b cs row (has_in row (rows p o cs) e)))
+      same_bool _ _ (λ e. in_has row (rows p o cs) (rows_over p s o clock ds dt (λ f. (a f, b f)) cs row (has_in row (rows p s cs) e)))
+      (λ e. in_has row (rows p s cs) (rows_over p o s (sym clock) dt ds (λ f. (b f, a f)) cs row (has_in row (rows p o cs) e)))
 
   same_from : (k : ℕ) (rules : List Rule) (m : Match) → has_match (matches_from k (rows_by_rule p s rules)) m ≡ has_match (matches_from k (rows_by_rule p o rules)) m
   unfolding matches_from

@@ -1,6 +1,10 @@
 -- The faults of steps, by what a session has.
-use Rattle.std.proofs.Common.{◌≡◌, ◌≤◌, ◌^◌, ℕ, ℤ, pos, negsuc, ◌+◌, ◌+ℤ◌, ◌≤ℤ◌, Bool, true, false, List, Option, Some, None, slice_get, Bor, FitsSigned, to_z, of_z, to_z-of_z, w64, refl, sym, ◌∙◌, ap, arith}
-use Rattle.std.specs.Prelude.{if◌then◌else◌, int_lt, IfNone, IfSome, option_map}
+use Rattle.std.proofs.Common.{◌≡◌, ◌≤◌, ◌^◌, ℕ, ℤ, pos, negsuc, ◌+◌, ◌+ℤ◌, ◌≤ℤ◌, ◌&&◌, not, cond, Bool, true, false, List, Option, Some, None, slice_get, Bor, FitsSigned, to_z, of_z, to_z-of_z, w64, refl, sym, ◌∙◌, ap, arith}
+use Rattle.std.specs.Prelude.{if◌then◌else◌, int_lt, nat_eq, IfNone, IfSome, option_map}
+use Rattle.std.specs.Cmp.{nat_cmp_total}
+use Rattle.std.specs.FinMap.{get-insert, get-retain_keys}
+use Rattle.std.specs.List.{list_any}
+use Rattle.std.specs.Ordering.{nat_cmp, eq_by_cmp, is_eq}
 use Rattle.std.proofs.lemmas.Int.{ints}
 use Rattle.fx_base.specs.declared.ids.EntryId.{EntryId}
 use Rattle.fx_base.specs.declared.ids.FactId.{FactId}
@@ -8,21 +12,25 @@ use Rattle.fx_base.specs.declared.ids.TypeId.{TypeId}
 use Rattle.fx_base.specs.declared.times.Times.{Times}
 use Rattle.fx_base.specs.declared.value.Value.{Value}
 use Rattle.fx_base.specs.declared.fact.Fact.{Fact}
+use Rattle.due_queue.specs.Timers.{Timers, TakesDue, is_due}
 use Rattle.fact_store.specs.Held.{HeldFacts, HoldsNone, IsNewest}
+use Rattle.fact_store.proofs.Stored.{tied}
 use Rattle.rule_world.specs.declared.code.Code.{Code}
-use Rattle.rule_world.specs.declared.code.Code.TheVariants.{Absent, ClockBack, ClockEnd}
+use Rattle.rule_world.specs.declared.code.Code.TheVariants.{EventObserved, Absent, ClockBack, ClockEnd}
 use Rattle.rule_model.specs.declared.program.Program.{Program}
 use Rattle.rule_model.specs.declared.step.Step.TheVariants.{Insert, Modify, Retract, Advance, At}
 use Rattle.rule_world.specs.Events.{clock_fault, most_millis, new_fault, times_of}
-use Rattle.rule_world.specs.Worlds.{World, at_clock, is_of_type, modify_fault, moved, retract_fault, settled, step_fault, stepped, with_new, with_revised, without_fact}
+use Rattle.rule_world.specs.Worlds.{World, at_clock, kept, is_of_type, modify_fault, moved, retract_fault, settled, step_fault, stepped, with_new, with_revised, without_fact}
 use Rattle.rule_model.specs.Snapshots.{floor, floor_by}
-use Rattle.rule_model.specs.Types.{is_event, lateness_of}
+use Rattle.rule_model.specs.Types.{is_event, is_observed, lateness_of}
 use Rattle.rule_world.proofs.Vain.{vain_retraction}
 use Rattle.session.specs.Places.{IsSafe, floor_in, newest}
 use Rattle.session.specs.Standing.{Contents, Standing}
+use Rattle.session.specs.Waiting.{with_timer, without_timer, left_at}
+use Rattle.session.proofs.Exactly.{exact, after_without}
 use Rattle.session.proofs.Members.{got_old, none_left}
 use Rattle.session.proofs.Newest.{store_found, store_none, world_found}
-use Rattle.session.proofs.Stands.{for_world, own}
+use Rattle.session.proofs.Stands.{for_own, own}
 use Rattle.std.specs.FinMap as map
 
 -- ---- numbers
@@ -33,12 +41,12 @@ unfolding most_millis
 clock_same (pos n) low high = let less : n ≤ 2 ^ 53 = omega (arith, ints) in let fits : FitsSigned w64 (pos n) = omega (arith, ints) in to_z-of_z fits
 clock_same (negsuc n) low high = absurd (omega (arith, ints))
 
-moved_by : (a b : Bool) → ◌≡◌ {A = Option Code} (if a then Some ClockBack else if b then Some ClockEnd else None) None → (a ≡ false) × (b ≡ false)
+pub moved_by : (a b : Bool) → ◌≡◌ {A = Option Code} (if a then Some ClockBack else if b then Some ClockEnd else None) None → (a ≡ false) × (b ≡ false)
 moved_by true b e = absurd (let n : Some ClockBack ≡ None = e in cc)
 moved_by false true e = absurd (let n : Some ClockEnd ≡ None = e in cc)
 moved_by false false e = (refl, refl)
 
-not_before : (x y : ℤ) → int_lt x y ≡ false → y ≤ℤ x
+pub not_before : (x y : ℤ) → int_lt x y ≡ false → y ≤ℤ x
 not_before x y e = grind (arith, ints)
 
 later : (x y z : ℤ) → x ≤ℤ y → y ≤ℤ z → x ≤ℤ z
@@ -77,21 +85,24 @@ module _ (p : Program) (k : Contents) (w : World) (st : Standing p k w) where
     pub insert_done : (times : Times) → times ≡ times_of (slice_get p.types ty.0) k.clock fields → stepped p w (Insert ty entry fields) ≡ settled p (with_new p w (numbered k ty entry fields times))
     unfolding stepped moved
     insert_done times e =
-        for_world p k w (λ v. stepped p v (Insert ty entry fields) ≡ settled p (with_new p v (numbered k ty entry fields times))) st
-        (λ s. ap (λ t. settled p (with_new p (own k w) (numbered k ty entry fields t))) (sym e))
+        for_own k w (λ v. stepped p v (Insert ty entry fields) ≡ settled p (with_new p v (numbered k ty entry fields times))) st.mirrors.clock st.mirrors.next_id st.mirrors.next_tag
+        (ap (λ t. settled p (with_new p (own k w) (numbered k ty entry fields t))) (sym e))
 
   -- ---- modifications and retractions
 
   pub modify_fault_is : (id : FactId) (sets : List (ℕ × Value)) (o : Option Code) → modify_fault p (newest k id.0) ≡ o → step_fault p w (Modify id sets) ≡ o
   unfolding step_fault
-  modify_fault_is id sets o e = ap (modify_fault p) (sym (world_found p k w st id.0)) ∙ e
+  modify_fault_is id sets o e = ap (modify_fault p) (sym (world_found p k (kept p w) (exact p k w st) id.0)) ∙ e
 
   pub retract_fault_is : (ty : TypeId) (id : FactId) (o : Option Code) → retract_fault p ty.0 (newest k id.0) ≡ o → step_fault p w (Retract ty id) ≡ o
   unfolding step_fault
-  retract_fault_is ty id o e = ap (retract_fault p ty.0) (sym (world_found p k w st id.0)) ∙ e
+  retract_fault_is ty id o e = ap (retract_fault p ty.0) (sym (world_found p k (kept p w) (exact p k w st) id.0)) ∙ e
 
-  pub retract_vain : (ty : TypeId) (id : FactId) → is_of_type ty.0 (newest k id.0) ≡ false → stepped p w (Retract ty id) ≡ w
-  retract_vain ty id e = vain_retraction p w ty id st.lawful.ordered (ap (is_of_type ty.0) (sym (world_found p k w st id.0)) ∙ e)
+  pub retract_vain : (ty : TypeId) (id : FactId) → is_of_type ty.0 (newest k id.0) ≡ false → kept p (stepped p w (Retract ty id)) ≡ kept p w
+  unfolding stepped moved
+  retract_vain ty id e =
+      after_without p w ty.0 id.0
+      ∙ vain_retraction p (kept p w) ty id (exact p k w st).lawful.ordered (ap (is_of_type ty.0) (sym (world_found p k (kept p w) (exact p k w st) id.0)) ∙ e)
 
   -- ---- moves of the clock
 
@@ -121,49 +132,139 @@ retract_done p w ty id = refl
 
 -- ---- the fault of a retraction
 
-retract_by : (a b : Bool) → b ≡ true → ◌≡◌ {A = Option Code} (if a then None else if b then None else Some Absent) None
-retract_by true b e = refl
-retract_by false true e = refl
-retract_by false false e = let n : false ≡ true = e in cc
+fault_by : (event observed there : Bool) → Option Code
+fault_by event observed there = if event then if observed then Some EventObserved else None else if there then None else Some Absent
 
-pub retract_found : (p : Program) (ty : ℕ) (o : Option Fact) → is_of_type ty o ≡ true → retract_fault p ty o ≡ None
-retract_found p ty o e = retract_by (is_event p ty) (is_of_type ty o) e
+found_by : (event observed : Bool) → (event && observed) ≡ false → fault_by event observed true ≡ None
+unfolding fault_by
+found_by true true e = absurd (let n : true ≡ false = e in cc)
+found_by true false e = refl
+found_by false observed e = refl
 
-pub retract_event : (p : Program) (ty : ℕ) (o : Option Fact) → is_event p ty ≡ true → retract_fault p ty o ≡ None
-retract_event p ty o e = ap (λ b. if b then None else if is_of_type ty o then None else Some Absent) e
+vain_by : (event observed there : Bool) → event ≡ true → (event && observed) ≡ false → fault_by event observed there ≡ None
+unfolding fault_by
+vain_by true true there e h = absurd (let n : true ≡ false = h in cc)
+vain_by true false there e h = refl
+vain_by false observed there e h = absurd (let n : false ≡ true = e in cc)
+
+observed_by : (event observed there : Bool) → (event && observed) ≡ true → fault_by event observed there ≡ Some EventObserved
+unfolding fault_by
+observed_by true true there e = refl
+observed_by true false there e = absurd (let n : false ≡ true = e in cc)
+observed_by false observed there e = absurd (let n : false ≡ true = e in cc)
+
+absent_by : (event observed there : Bool) → event ≡ false → there ≡ false → fault_by event observed there ≡ Some Absent
+unfolding fault_by
+absent_by true observed there e h = absurd (let n : true ≡ false = e in cc)
+absent_by false observed true e h = absurd (let n : true ≡ false = h in cc)
+absent_by false observed false e h = refl
+
+pub retract_found : (p : Program) (ty : ℕ) (o : Option Fact) → (is_event p ty && is_observed p ty) ≡ false → is_of_type ty o ≡ true → retract_fault p ty o ≡ None
+unfolding fault_by
+retract_found p ty o e h = ap (fault_by (is_event p ty) (is_observed p ty)) h ∙ found_by (is_event p ty) (is_observed p ty) e
+
+pub retract_event : (p : Program) (ty : ℕ) (o : Option Fact) → (is_event p ty && is_observed p ty) ≡ false → is_event p ty ≡ true → retract_fault p ty o ≡ None
+unfolding fault_by
+retract_event p ty o e h = vain_by (is_event p ty) (is_observed p ty) (is_of_type ty o) h e
+
+pub retract_observed : (p : Program) (ty : ℕ) (o : Option Fact) → (is_event p ty && is_observed p ty) ≡ true → retract_fault p ty o ≡ Some EventObserved
+unfolding fault_by
+retract_observed p ty o e = observed_by (is_event p ty) (is_observed p ty) (is_of_type ty o) e
 
 pub retract_absent : (p : Program) (ty : ℕ) (o : Option Fact) → is_event p ty ≡ false → is_of_type ty o ≡ false → retract_fault p ty o ≡ Some Absent
-retract_absent p ty o e h =
-    ap (λ b. if b then None else if is_of_type ty o then None else Some Absent) e ∙ ap (λ b. if b then None else Some Absent) h
+unfolding fault_by
+retract_absent p ty o e h = absent_by (is_event p ty) (is_observed p ty) (is_of_type ty o) e h
 
 -- ---- what the store finds
 
-pub presented : (k : Contents) → IsSafe k.facts k.clock k.next_id k.next_tag → (id : ℕ) (o : Option (Bor Fact)) → IfSome o (λ f. IsNewest k.facts id f.now) → IfNone o (HoldsNone k.facts id)
+pub presented : (k : Contents) → IsSafe k.facts k.expiries k.clock k.next_id k.next_tag → (id : ℕ) (o : Option (Bor Fact)) → IfSome o (λ f. IsNewest k.facts id f.now) → IfNone o (HoldsNone k.facts id)
     → option_map (λ (f : Bor Fact). f.now) o ≡ newest k id
 presented k safe id None some none = sym (store_none k id none)
 presented k safe id (Some f) some none = sym (store_found k safe id f.now some)
 
 -- ---- what the parts of a session keep to
 
-pub safe_new : (facts more : HeldFacts) (clock : ℤ) (id tag : ℕ) (f : Fact) → IsSafe facts clock id tag → f.tag.0 ≡ tag → more ≡ map.insert facts f.tag.0 f → IsSafe more clock (id + 1) (tag + 1)
-safe_new facts more clock id tag f safe at made = record {
+timer_apart : (timers : Timers) (tag t : ℕ) (moment : Option ℤ) → (t ≡ tag → ⊥) → map.get (with_timer timers tag moment) t ≡ map.get timers t
+timer_apart timers tag t None apart = refl
+timer_apart timers tag t (Some at) apart = get-insert nat_cmp_total timers tag at t ∙ by (eq_by_cmp nat_cmp t tag) refl
+  where
+    by : (b : Bool) → eq_by_cmp nat_cmp t tag ≡ b → cond b (Some at) (map.get timers t) ≡ map.get timers t
+    by true e = absurd (apart (tied t tag e))
+    by false e = refl
+
+pub safe_new : (facts more : HeldFacts) (timers later : Timers) (clock : ℤ) (id tag : ℕ) (f : Fact) (moment : Option ℤ) → IsSafe facts timers clock id tag → f.tag.0 ≡ tag → more ≡ map.insert facts f.tag.0 f
+    → later ≡ with_timer timers f.tag.0 moment → IsSafe more later clock (id + 1) (tag + 1)
+safe_new facts more timers later clock id tag f moment safe at made timed = record {
   fresh = λ t le.
       let apart : t ≡ f.tag.0 → ⊥ = λ (e : t ≡ f.tag.0). absurd (omega (arith, e, at, le)) in
       ap (λ m. map.get m t) made ∙ got_old facts f t apart ∙ safe.fresh t (omega (arith, le));
+  untimed = λ t le.
+      let apart : t ≡ f.tag.0 → ⊥ = λ (e : t ≡ f.tag.0). absurd (omega (arith, e, at, le)) in
+      ap (λ m. map.get m t) timed ∙ timer_apart timers f.tag.0 t moment apart ∙ safe.untimed t (omega (arith, le));
   ids = let le : id ≤ tag = safe.ids in omega arith;
   clock_low = safe.clock_low;
   clock_high = safe.clock_high;
 }
 
-pub safe_less : (facts less : HeldFacts) (clock : ℤ) (id tag out : ℕ) → IsSafe facts clock id tag → less ≡ map.remove facts out → IsSafe less clock id tag
-safe_less facts less clock id tag out safe made = record {
+pub safe_numbers : (facts : HeldFacts) (timers : Timers) (clock : ℤ) (id tag : ℕ) → IsSafe facts timers clock id tag → IsSafe facts timers clock (id + 1) (tag + 1)
+safe_numbers facts timers clock id tag safe = record {
+  fresh = λ t le. safe.fresh t (omega (arith, le));
+  untimed = λ t le. safe.untimed t (omega (arith, le));
+  ids = let le : id ≤ tag = safe.ids in omega arith;
+  clock_low = safe.clock_low;
+  clock_high = safe.clock_high;
+}
+
+-- a fact less
+pub fresh_less : (facts less : HeldFacts) (timers : Timers) (clock : ℤ) (id tag out : ℕ) → IsSafe facts timers clock id tag → less ≡ map.remove facts out → IsSafe less timers clock id tag
+fresh_less facts less timers clock id tag out safe made = record {
   fresh = λ t le. ap (λ m. map.get m t) made ∙ none_left facts out t (safe.fresh t le);
+  untimed = safe.untimed;
   ids = safe.ids;
   clock_low = safe.clock_low;
   clock_high = safe.clock_high;
 }
 
-pub safe_again : (less more : HeldFacts) (clock : ℤ) (id tag : ℕ) (f : Fact) → IsSafe less clock id tag → f.tag.0 ≡ tag → more ≡ map.insert less f.tag.0 f → IsSafe more clock id (tag + 1)
-safe_again less more clock id tag f safe at made =
-    let s = safe_new less more clock id tag f safe at made in
-    record { fresh = s.fresh; ids = (let le : id ≤ tag = safe.ids in omega arith); clock_low = s.clock_low; clock_high = s.clock_high }
+fewer_none : (b : Bool) (o : Option ℤ) → o ≡ None → (if b then None else o) ≡ None
+fewer_none true o e = refl
+fewer_none false o e = e
+
+-- and its timer
+pub safe_less : (facts less : HeldFacts) (timers fewer : Timers) (clock : ℤ) (id tag out : ℕ) → IsSafe facts timers clock id tag → less ≡ map.remove facts out
+    → ((t : ℕ) → map.get fewer t ≡ without_timer timers out t) → IsSafe less fewer clock id tag
+safe_less facts less timers fewer clock id tag out safe made untimed =
+    let s = fresh_less facts less timers clock id tag out safe made in
+    record {
+      fresh = s.fresh;
+      untimed = λ t le. untimed t ∙ fewer_none (nat_eq out t) (map.get timers t) (safe.untimed t le);
+      ids = s.ids;
+      clock_low = s.clock_low;
+      clock_high = s.clock_high;
+    }
+
+pub safe_again : (less more : HeldFacts) (timers : Timers) (clock : ℤ) (id tag : ℕ) (f : Fact) → IsSafe less timers clock id tag → f.tag.0 ≡ tag → more ≡ map.insert less f.tag.0 f → IsSafe more timers clock id (tag + 1)
+safe_again less more timers clock id tag f safe at made =
+    let s = safe_new less more timers timers clock id tag f None safe at made refl in
+    record { fresh = s.fresh; untimed = s.untimed; ids = (let le : id ≤ tag = safe.ids in omega arith); clock_low = s.clock_low; clock_high = s.clock_high }
+
+left_fresh : (b : Bool) (o : Option Fact) → o ≡ None → (if b then None else o) ≡ None
+left_fresh true o e = refl
+left_fresh false o e = e
+
+none_kept : (b : Bool) (o : Option ℤ) → o ≡ None → cond b o None ≡ None
+none_kept true o e = e
+none_kept false o e = refl
+
+-- those that are due out, at another clock
+pub safe_left : (facts fewer : HeldFacts) (timers later : Timers) (clock next : ℤ) (id tag : ℕ) (gone : List ℕ) → IsSafe facts timers clock id tag → pos 0 ≤ℤ next → next ≤ℤ most_millis
+    → TakesDue next timers later gone → ((t : ℕ) → map.get fewer t ≡ left_at facts gone t) → IsSafe fewer later next id tag
+safe_left facts fewer timers later clock next id tag gone safe low high takes left = record {
+  fresh = λ t le. left t ∙ left_fresh (list_any (nat_eq t) gone) (map.get facts t) (safe.fresh t le);
+  untimed = λ t le.
+      ap (λ m. map.get m t) takes.rest
+      ∙ get-retain_keys timers (λ key. not (is_due next timers key)) t (λ x e. ap (λ key. not (is_due next timers key)) (sym (tied t x (ap is_eq e))))
+      ∙ none_kept (not (is_due next timers t)) (map.get timers t) (safe.untimed t le);
+  ids = safe.ids;
+  clock_low = low;
+  clock_high = high;
+}

@@ -18,7 +18,8 @@ use Rattle.rule_model.specs.declared.program.Rule.{Rule}
 use Rattle.rule_model.specs.declared.program.TypeInfo.{TypeInfo}
 use Rattle.rule_model.specs.declared.step.Step.{Step}
 use Rattle.rule_world.specs.Kinds.{values_fit, step_fits}
-use Rattle.rule_model.specs.Lent.{named_at}
+use Rattle.rule_model.specs.Lent.{bound_in}
+use Rattle.rule_model.specs.Tuples.{Bindings}
 use Rattle.rule_model.specs.Lives.{IsTable}
 use Rattle.rule_model.specs.Matches.{matches, has_match}
 use Rattle.rule_model.specs.Numbers.{values_of}
@@ -42,7 +43,7 @@ use Rattle.session.specs.Leading.{AllFit, StandsAfter, Writes}
 use Rattle.session.specs.Places.{newest, planned, planned_for, held_at}
 use Rattle.session.specs.Standing.{Contents, Shown, Standing, StandsForSome}
 use Rattle.session.proofs.Acting.{asked_step}
-use Rattle.session.proofs.Firings.{plan_fits, plan_of, top_of, top_pending}
+use Rattle.session.proofs.Firings.{plan_fits, plan_of, stands_pending, top_of}
 use Rattle.session.proofs.Sessions.{change_stands, shown, start, empty_stands}
 use Rattle.rule_model.specs.declared.action.Action.TheVariants as action
 use Rattle.rule_model.specs.declared.step.Step.TheVariants as step
@@ -116,7 +117,7 @@ modified_known p id (Some vs) s e =
     let is : step.Modify id vs ≡ s = cc in
     subst (λ (s : Step). has_known_type p s ≡ true) is refl
 
-acted_known : (p : Program) (taken : List ℕ) (look : ℕ → Option Fact) (names : List Named) (a : Action) (s : Step) → action_fits p.types taken a ≡ true → step_of look names a ≡ Some s
+acted_known : (p : Program) (taken : List ℕ) (look : Bindings) (names : List Named) (a : Action) (s : Step) → action_fits p.types taken a ≡ true → step_of look names a ≡ Some s
     → has_known_type p s ≡ true
 unfolding step_of
 acted_known p taken look names (action.Insert ty args) s fits e =
@@ -124,16 +125,16 @@ acted_known p taken look names (action.Insert ty args) s fits e =
     (and_parts (nat_lt ty.0 (length p.types)) (args_fit (bound_fields p.types taken) (fields_in (slice_get p.types ty.0)) args) fits).0 e
 acted_known p taken look names (action.Modify fact sets) s fits e = modified_known p (id_at names fact) (sets_of look sets) s e
 acted_known p taken look names (action.Retract fact) s fits e =
-    let is : step.Retract (type_or_first (look fact)) (id_at names fact) ≡ s = cc in
+    let is : step.Retract (type_or_first (look.fact fact)) (id_at names fact) ≡ s = cc in
     subst (λ (s : Step). has_known_type p s ≡ true) is refl
 
 planned_known : (p : Program) (facts : HeldFacts) (row : Row) (rule : Rule) → rule_fits p.types rule ≡ true
     → (s : Step) → In (Ok s) (planned facts row rule.actions) → has_known_type p s ≡ true
 planned_known p facts row rule fits s i =
     let q = of_map (planned_for facts row) (Ok s) rule.actions i in
-    acted_known p (bound_types rule.conditions) (named_at (held_at facts) row.facts) row.facts q.0 s
+    acted_known p (bound_types rule.conditions) (bound_in (held_at facts) row) row.facts q.0 s
     (all_of (action_fits p.types (bound_types rule.conditions)) rule.actions q.0 fits q.1)
-    (asked_step (step_of (named_at (held_at facts) row.facts) row.facts q.0) s q.2)
+    (asked_step (step_of (bound_in (held_at facts) row) row.facts q.0) s q.2)
 
 -- ---- a session
 
@@ -171,7 +172,7 @@ module _ (p : Program) (lives : LifeTable) (k : Contents) (some : StandsForSome 
       first_known : are_known p (fire_line m ∷ [] ++ (does_all p (marked some.world m) plan).0) ≡ true
       first_known =
           let is_match = (and_parts (has_match (matches p (snapshot some.world)) m) (not (has_match some.world.fired m))
-          (sym (has_pending p some.world m) ∙ top_pending p k.agenda some.world m some.stands.mirrors.agenda top)).0 in
+          (sym (has_pending p some.world m) ∙ stands_pending p k some.world m some.stands top)).0 in
           let is = rule_of p (snapshot some.world) m is_match in
           of_rule is.rule is.there
 

@@ -1,7 +1,9 @@
 pub mod Rules
 pub mod Alike
-pub mod Unexpired
+pub mod Fewer
 pub mod Members
+pub mod Timers
+pub mod Exactly
 pub mod Newest
 pub mod Stands
 pub mod Faults

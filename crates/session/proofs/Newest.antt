@@ -13,7 +13,8 @@ use Rattle.rule_world.proofs.Found.{fact_in}
 use Rattle.rule_world.proofs.Ids.{one_id}
 use Rattle.rule_world.proofs.Staying.{found_in}
 use Rattle.session.specs.Places.{IsNewestTag, IsSafe, newest, newest_below}
-use Rattle.session.specs.Standing.{Contents, Standing}
+use Rattle.session.specs.Standing.{Contents}
+use Rattle.session.proofs.Exactly.{Exact}
 use Rattle.session.proofs.Members.{Holds, of_versions}
 use Rattle.std.specs.FinMap as map
 
@@ -70,7 +71,7 @@ module _ (held : HeldFacts) (id : ℕ) where
 -- ---- what the store finds
 
 -- no tag is beyond the next one
-tag_below : (k : Contents) → IsSafe k.facts k.clock k.next_id k.next_tag → (f : Fact) → map.get k.facts f.tag.0 ≡ Some f → f.tag.0 < k.next_tag
+tag_below : (k : Contents) → IsSafe k.facts k.expiries k.clock k.next_id k.next_tag → (f : Fact) → map.get k.facts f.tag.0 ≡ Some f → f.tag.0 < k.next_tag
 tag_below k safe f is = by (nat_lt f.tag.0 k.next_tag) refl
   where
     by : (b : Bool) → nat_lt f.tag.0 k.next_tag ≡ b → f.tag.0 < k.next_tag
@@ -79,7 +80,7 @@ tag_below k safe f is = by (nat_lt f.tag.0 k.next_tag) refl
         let le : k.next_tag ≤ f.tag.0 = grind (arith, nat_tests) in
         absurd (let n : None ≡ Some f = sym (safe.fresh f.tag.0 le) ∙ is in cc)
 
-pub store_found : (k : Contents) → IsSafe k.facts k.clock k.next_id k.next_tag → (id : ℕ) (f : Fact) → IsNewest k.facts id f → newest k id ≡ Some f
+pub store_found : (k : Contents) → IsSafe k.facts k.expiries k.clock k.next_id k.next_tag → (id : ℕ) (f : Fact) → IsNewest k.facts id f → newest k id ≡ Some f
 store_found k safe id f is = newest_found k.facts id f is k.next_tag (tag_below k safe f is.found)
 
 pub store_none : (k : Contents) (id : ℕ) → HoldsNone k.facts id → newest k id ≡ None
@@ -87,7 +88,7 @@ store_none k id none = newest_none k.facts id none k.next_tag
 
 -- ---- what the world has
 
-module _ (p : Program) (k : Contents) (w : World) (st : Standing p k w) where
+module _ (p : Program) (k : Contents) (w : World) (st : Exact p k w) where
   pub holds : Holds k.facts w.facts
   holds = of_versions k.facts w.facts st.lawful.ordered.tags st.mirrors.facts
 

@@ -5,9 +5,10 @@ use Rattle.std.specs.List.{list_all}
 use Rattle.std.specs.Ordering.{nat_cmp}
 use Rattle.std.proofs.lemmas.Bool.Decides.{nat_tests}
 use mathlib.Core.Path.{fun_ext}
+use Rattle.due_queue.specs.Timers.{Timers}
 use Rattle.fact_store.specs.Held.{HeldFacts}
 use Rattle.rule_model.specs.declared.condition.Condition.{Condition}
-use Rattle.rule_model.specs.declared.condition.Condition.TheVariants.{Plain}
+use Rattle.rule_model.specs.declared.condition.Condition.TheVariants.{Plain, Negated, Existing, Folded}
 use Rattle.rule_model.specs.declared.life.LifeTable.{LifeTable}
 use Rattle.rule_model.specs.declared.matched.Match.{Match}
 use Rattle.rule_model.specs.declared.program.Program.{Program}
@@ -16,8 +17,9 @@ use Rattle.rule_model.specs.declared.step.Step.{Step}
 use Rattle.rule_model.specs.Matches.{matches_from, rows_by_rule, has_match, saliences}
 use Rattle.rule_model.specs.Rows.{rows}
 use Rattle.rule_world.specs.declared.code.Code.{Code}
-use Rattle.rule_world.specs.Programs.{IsRunnable, has_conditions}
-use Rattle.rule_world.specs.Worlds.{World, empty_world, fact_of, marked, snapshot}
+use Rattle.rule_model.specs.Simple.{are_simple}
+use Rattle.rule_world.specs.Programs.{IsRunnable, has_conditions, is_simple_rule}
+use Rattle.rule_world.specs.Worlds.{World, empty_world, kept, found, marked, snapshot}
 use Rattle.rule_world.proofs.Fresh.{and_parts}
 use Rattle.rule_world.proofs.Lawfuls.{empty_lawful}
 use Rattle.rule_world.proofs.Pending.{has_pending}
@@ -30,9 +32,10 @@ use Rattle.engine.specs.Answers.{FiringAnswers}
 use Rattle.session.specs.Gives.{version_of, does, does_all, fire_line, fires, gives}
 use Rattle.session.specs.Leading.{AllFit, Fits, StandsAfter, Writes}
 use Rattle.session.specs.Places.{newest}
-use Rattle.session.specs.Standing.{Contents, Shown, Standing, Stands}
+use Rattle.session.specs.Standing.{Contents, Shown, Standing, Stands, expiry_at}
 use Rattle.session.proofs.Asking.{change_fits}
-use Rattle.session.proofs.Firings.{plan_fits, top_of, plan_of, due_fires, no_fire, yes_fire, same_first}
+use Rattle.session.proofs.Firings.{plan_fits, top_of, plan_of, due_fires, no_fire, yes_fire, stands_first}
+use Rattle.session.proofs.Exactly.{exact}
 use Rattle.session.proofs.Newest.{world_found}
 use Rattle.session.proofs.Stands.{contents}
 use Rattle.std.specs.FinMap as map_of
@@ -43,23 +46,26 @@ shown p lives k = record { program = p; lives = lives; contents = k }
 -- ---- over no facts
 
 -- a rule of patterns has no matches
-no_matches : (p : Program) (k : ℕ) (rules : List Rule) → list_all has_conditions rules ≡ true → (m : Match) → has_match (matches_from k (rows_by_rule p (snapshot empty_world) rules)) m ≡ false
+no_matches : (p : Program) (k : ℕ) (rules : List Rule) → list_all has_conditions rules ≡ true → list_all is_simple_rule rules ≡ true → (m : Match) → has_match (matches_from k (rows_by_rule p (snapshot empty_world) rules)) m ≡ false
 unfolding matches_from rows
-no_matches p k [] some m = refl
-no_matches p k (rule ∷ rules) some m =
+no_matches p k [] some simple m = refl
+no_matches p k (rule ∷ rules) some simple m =
     ap (λ found. has_match (matches_from k (found ∷ rows_by_rule p (snapshot empty_world) rules)) m)
-    (no_rows rule.conditions (and_parts (has_conditions rule) (list_all has_conditions rules) some).0)
-    ∙ no_matches p (k + 1) rules (and_parts (has_conditions rule) (list_all has_conditions rules) some).1 m
+    (no_rows rule.conditions (and_parts (is_simple_rule rule) (list_all is_simple_rule rules) simple).0 (and_parts (has_conditions rule) (list_all has_conditions rules) some).0)
+    ∙ no_matches p (k + 1) rules (and_parts (has_conditions rule) (list_all has_conditions rules) some).1 (and_parts (is_simple_rule rule) (list_all is_simple_rule rules) simple).1 m
   where
     some_length : (n : ℕ) → (nat_le 1 n && nat_le n 8) ≡ true → n ≡ 0 → ⊥
     some_length n e z = grind (arith, nat_tests)
 
-    no_rows : (cs : List Condition) → (nat_le 1 (length cs) && nat_le (length cs) 8) ≡ true → rows p (snapshot empty_world) cs ≡ []
-    no_rows [] e = absurd (some_length 0 e refl)
-    no_rows (Plain q ∷ cs) e = refl
+    no_rows : (cs : List Condition) → are_simple cs ≡ true → (nat_le 1 (length cs) && nat_le (length cs) 8) ≡ true → rows p (snapshot empty_world) cs ≡ []
+    no_rows [] simple e = absurd (some_length 0 e refl)
+    no_rows (Plain q ∷ cs) simple e = refl
+    no_rows (Negated q ∷ cs) simple e = absurd (let n : false ≡ true = simple in cc)
+    no_rows (Existing q ∷ cs) simple e = absurd (let n : false ≡ true = simple in cc)
+    no_rows (Folded a ∷ cs) simple e = absurd (let n : false ≡ true = simple in cc)
 
 abbrev pub start : List Rule → Contents
-start rules = contents map_of.empty (pos 0) [] (record { saliences = saliences rules; pending = []; fired = [] }) 1 1
+start rules = contents map_of.empty map_of.empty (pos 0) [] (record { saliences = saliences rules; pending = []; fired = [] }) 1 1
 
 pub empty_stands : (p : Program) (k : Contents) → IsRunnable p → k ≡ start p.rules → Standing p k empty_world
 unfolding version_of
@@ -67,24 +73,26 @@ empty_stands p k runnable e = subst (λ z. Standing p z empty_world) (sym e) (re
   lawful = empty_lawful p;
   mirrors = record {
     facts = λ tag. get-empty nat_cmp tag;
+    waits = λ tag. get-empty nat_cmp tag ∙ sym (ap (expiry_at p) (get-empty nat_cmp tag));
     clock = refl;
     last_starts = λ entry. refl;
     next_id = refl;
     next_tag = refl;
     agenda = record {
       saliences = refl;
-      pending = λ m. sym (has_pending p empty_world m ∙ ap (λ z. z && true) (no_matches p 0 p.rules runnable.conditions m));
+      pending = λ m. sym (has_pending p empty_world m ∙ ap (λ z. z && true) (no_matches p 0 p.rules runnable.conditions runnable.simple m));
       fired = λ m. refl;
     };
   };
 })
 
-pub from_parts : (k : Contents) (facts : HeldFacts) (clock : ℤ) (starts : List ℤ) (a : Marks) (id tag : ℕ) → k.facts ≡ facts → k.clock ≡ clock → k.last_starts ≡ starts → k.agenda ≡ a → k.next_id ≡ id → k.next_tag ≡ tag
-    → k ≡ contents facts clock starts a id tag
-from_parts k facts clock starts a id tag f c s h i t =
-    ap (λ z. contents z k.clock k.last_starts k.agenda k.next_id k.next_tag) f ∙ ap (λ z. contents facts z k.last_starts k.agenda k.next_id k.next_tag) c
-    ∙ ap (λ z. contents facts clock z k.agenda k.next_id k.next_tag) s ∙ ap (λ z. contents facts clock starts z k.next_id k.next_tag) h
-    ∙ ap (λ z. contents facts clock starts a z k.next_tag) i ∙ ap (contents facts clock starts a id) t
+pub from_parts : (k : Contents) (facts : HeldFacts) (expiries : Timers) (clock : ℤ) (starts : List ℤ) (a : Marks) (id tag : ℕ) → k.facts ≡ facts → k.expiries ≡ expiries → k.clock ≡ clock → k.last_starts ≡ starts → k.agenda ≡ a → k.next_id ≡ id → k.next_tag ≡ tag
+    → k ≡ contents facts expiries clock starts a id tag
+from_parts k facts expiries clock starts a id tag f e c s h i t =
+    ap (λ z. contents z k.expiries k.clock k.last_starts k.agenda k.next_id k.next_tag) f ∙ ap (λ z. contents facts z k.clock k.last_starts k.agenda k.next_id k.next_tag) e
+    ∙ ap (λ z. contents facts expiries z k.last_starts k.agenda k.next_id k.next_tag) c
+    ∙ ap (λ z. contents facts expiries clock z k.agenda k.next_id k.next_tag) s ∙ ap (λ z. contents facts expiries clock starts z k.next_id k.next_tag) h
+    ∙ ap (λ z. contents facts expiries clock starts a z k.next_tag) i ∙ ap (contents facts expiries clock starts a id) t
 
 pub some_mapped : {A B : Type 0} (f : A → B) (o : Option A) → is_some o ≡ is_some (option_map f o)
 some_mapped f None = refl
@@ -103,8 +111,8 @@ module _ (p : Program) (lives : LifeTable) (k : Contents) (s : Shown) (e : shown
     given : does p w asked ≡ gives s.program w change
     unfolding gives
     given =
-        ap (does p w) (is ∙ ap (λ present. change_step p present change) (fun_ext (world_found p k w here)))
-        ∙ ap (λ (z : Shown). does z.program w (change_step z.program (fact_of w.facts) change)) e
+        ap (does p w) (is ∙ ap (λ present. change_step p present change) (fun_ext (world_found p k (kept p w) (exact p k w here))))
+        ∙ ap (λ (z : Shown). does z.program w (change_step z.program (found z.program w) change)) e
 
     pub change_lines : (lines : List OutLine) → Writes p k (λ v. (does p v asked).0) [] lines → lines ≡ (gives s.program w change).0
     change_lines lines h = h w here ∙ ap (λ z. z.0) given
@@ -114,7 +122,7 @@ module _ (p : Program) (lives : LifeTable) (k : Contents) (s : Shown) (e : shown
       where
         asked_fits : IsRunnable p → Fits p w asked
         asked_fits runnable =
-            subst (λ (z : Result Step Code). Fits p w z) (sym (is ∙ ap (λ present. change_step p present change) (fun_ext (world_found p k w here)))) (change_fits p w change runnable)
+            subst (λ (z : Result Step Code). Fits p w z) (sym (is ∙ ap (λ present. change_step p present change) (fun_ext (world_found p k (kept p w) (exact p k w here))))) (change_fits p w change runnable here.lawful.ordered)
 
   -- ---- firings
 
@@ -124,7 +132,7 @@ module _ (p : Program) (lives : LifeTable) (k : Contents) (s : Shown) (e : shown
 
   pub shown_none : None ≡ plan_of p k (top_of k.agenda) → FiringAnswers (fires s.program w) No w (Standing p k)
   unfolding fires
-  shown_none none = subst (λ (z : Shown). FiringAnswers (fires z.program w) No w (Standing p k)) e (no_fire p k w (top_of k.agenda) none here (same_first p k.agenda w here.mirrors.agenda))
+  shown_none none = subst (λ (z : Shown). FiringAnswers (fires z.program w) No w (Standing p k)) e (no_fire p k w (top_of k.agenda) none here (stands_first p k w here))
 
   pub shown_fires : (t : Contents) (plan : List (Result Step Code)) (lines : List OutLine) → IsRunnable p → Some plan ≡ plan_of p k (top_of k.agenda)
       → ((v : World) (m : Match) → Standing p k v → Some m ≡ top_of k.agenda → AllFit p v plan → Standing p t (does_all p (marked v m) plan).1)

@@ -6,7 +6,7 @@ use Rattle.rule_world.specs.declared.code.Code.{Code}
 use Rattle.rule_model.specs.declared.program.Program.{Program}
 use Rattle.rule_model.specs.declared.step.Step.{Step}
 use Rattle.rule_world.specs.Lawful.{IsOrdered}
-use Rattle.rule_world.specs.Worlds.{World, step_fault, stepped}
+use Rattle.rule_world.specs.Worlds.{World, kept, step_fault, stepped}
 use Rattle.rule_world.proofs.Staying.{Stays, same_stays, stays_on}
 use Rattle.engine.specs.declared.lines.OutLine.{OutLine}
 use Rattle.engine.specs.declared.lines.OutLine.TheVariants.{Fault}
@@ -23,8 +23,9 @@ pub is_refused : (p : Program) (w : World) (step : Step) (code : Code) → step_
 is_refused p w step code e = ap (tries_with p w step) e
 
 module _ (p : Program) (w : World) (step : Step) where
-  pub done_moves : (s : Contents) (next : World) → step_fault p w step ≡ None → stepped p w step ≡ next → Mirrors p s next → Mirrors p s (tries p w step).1
-  done_moves s next none is m = subst (λ (z : List OutLine × World). Mirrors p s z.1) (sym (is_done p w step none)) (subst (Mirrors p s) (sym is) m)
+  pub done_moves : (s : Contents) (next : World) → step_fault p w step ≡ None → stepped p w step ≡ next → Mirrors p s (kept p next) → Mirrors p s (kept p (tries p w step).1)
+  done_moves s next none is m =
+      subst (λ (z : List OutLine × World). Mirrors p s (kept p z.1)) (sym (is_done p w step none)) (subst (λ (z : World). Mirrors p s (kept p z)) (sym is) m)
 
   pub done_lines : (before later lines : List OutLine) → step_fault p w step ≡ None → step_lines w step ≡ lines → later ≡ before ++ lines → later ≡ before ++ (tries p w step).0
   done_lines before later lines none is e = e ∙ ap (λ z. before ++ z) (sym is) ∙ ap (λ (z : List OutLine × World). before ++ z.0) (sym (is_done p w step none))
@@ -33,8 +34,9 @@ module _ (p : Program) (w : World) (step : Step) where
   no_lines before none is = done_lines before before [] none is (sym (append-nil before))
 
   module _ (code : Code) (fault : step_fault p w step ≡ Some code) where
-    pub refused_moves : (k s : Contents) → s ≡ k → Standing p k w → Mirrors p s (tries p w step).1
-    refused_moves k s e st = subst (λ (z : List OutLine × World). Mirrors p s z.1) (sym (is_refused p w step code fault)) (subst (λ (z : Contents). Mirrors p z w) (sym e) st.mirrors)
+    pub refused_moves : (k s : Contents) → s ≡ k → Standing p k w → Mirrors p s (kept p (tries p w step).1)
+    refused_moves k s e st =
+        subst (λ (z : List OutLine × World). Mirrors p s (kept p z.1)) (sym (is_refused p w step code fault)) (subst (λ (z : Contents). Mirrors p z (kept p w)) (sym e) st.mirrors)
 
     pub refused_lines : (before later : List OutLine) → later ≡ before ++ Fault code ∷ [] → later ≡ before ++ (tries p w step).0
     refused_lines before later e = e ∙ ap (λ (z : List OutLine × World). before ++ z.0) (sym (is_refused p w step code fault))

@@ -1,5 +1,6 @@
 pub mod Gives
 pub mod Standing
+pub mod Waiting
 pub mod Leading
 pub mod Refreshed
 pub mod Places

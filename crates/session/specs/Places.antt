@@ -2,6 +2,7 @@
 use Rattle.std.specs.Prelude.{◌≡◌, ◌≤◌, ℕ, zero, suc, ℤ, pos, ◌≤ℤ◌, List, map as list_map, Option, None, Result, if◌then◌else◌}
 use Rattle.fx_base.specs.declared.ids.Tag.{Tag}
 use Rattle.fx_base.specs.declared.fact.Fact.{Fact}
+use Rattle.due_queue.specs.Timers.{Timers}
 use Rattle.fact_store.specs.Held.{HeldFacts, IsNewest, is_id}
 use Rattle.row_delta.specs.declared.row.Row.{Row}
 use Rattle.rule_model.specs.declared.action.Action.{Action}
@@ -34,9 +35,10 @@ pub record IsNewestTag (held : HeldFacts) (id : ℕ) (tag : Tag) : Type 0 where
   pub is_newest : IsNewest held id fact
   pub tagged : fact.tag ≡ tag
 
--- no fact stands at the next tag or behind it, no id is ahead of the tags, and the clock is from 0 to 2^53
-pub record IsSafe (facts : HeldFacts) (clock : ℤ) (next_id next_tag : ℕ) : Type 0 where
+-- no fact stands at the next tag or behind it and none waits there, no id is ahead of the tags, and the clock is from 0 to 2^53
+pub record IsSafe (facts : HeldFacts) (expiries : Timers) (clock : ℤ) (next_id next_tag : ℕ) : Type 0 where
   pub fresh : (tag : ℕ) → next_tag ≤ tag → map.get facts tag ≡ None
+  pub untimed : (tag : ℕ) → next_tag ≤ tag → map.get expiries tag ≡ None
   pub ids : next_id ≤ next_tag
   pub clock_low : pos 0 ≤ℤ clock
   pub clock_high : clock ≤ℤ most_millis

@@ -1,18 +1,21 @@
-ghost use Rattle.std.specs.Prelude.{◌≡◌, ◌+◌, ◌<◌, ◌^◌, ◌≤ℤ◌, pos, true, None, IfOk};
-ghost use Rattle.rule_model.specs.declared.program.Program.{Program as ProgramData};
-ghost use Rattle.rule_world.specs.Events.{most_millis};
+ghost use Rattle.std.specs.Prelude.{◌≡◌, ◌+◌, ◌<◌, ◌^◌, ◌≤ℤ◌, ◌-ℤ◌, pos, true, None, IfOk};
+ghost use Rattle.rule_world.specs.Events.{end_of_presence, most_millis};
+ghost use Rattle.rule_model.specs.Candidates.{is_present};
 ghost use Rattle.rule_world.specs.Programs.{IsRunnable};
-ghost use Rattle.rule_world.specs.Worlds.{World, settled, at_clock, with_new, with_revised, without_fact, with_values, is_of_type, revised as revised_fact};
+ghost use Rattle.rule_world.specs.Worlds.{World, settled, at_clock, with_new, with_revised, without_fact, with_values, is_of_type, modify_fault, revised as revised_fact};
 ghost use Rattle.session.specs.Leading.{MovesTo};
 ghost use Rattle.session.specs.Places.{IsNewestTag, newest};
+ghost use Rattle.session.specs.Waiting.{with_timer, without_timer};
 ghost use Rattle.std.specs.FinMap as map;
 
 use crate::last_starts::last_starts_behind;
-use crate::refreshing::refreshed;
+use crate::refreshing::{refreshed, without_all};
 use crate::state::State;
+use due_queue::DueQueue;
 use fact_store::FactStore;
 use fx_base::{Copies, Fact, FactId, Millis, NoMemory, Seq, Tag, TypeId, Value};
 use rule_model::Program;
+use rule_world::presence_end;
 use std::alloc::Global;
 
 // The fields with these values in these places.
@@ -60,9 +63,37 @@ fn with_fact(facts: FactStore, fact: Fact) -> Result<FactStore, NoMemory>
     }
 }
 
+// These timers and that of a fact, if it expires; its tag is new.
+fn timed(expiries: DueQueue, program: &Program, fact: &Fact) -> Result<DueQueue, NoMemory>
+    requires runnable { IsRunnable program.now }
+    requires low { (pos 0 -ℤ most_millis) ≤ℤ fact.now.times.start }
+    requires high { fact.now.times.start ≤ℤ most_millis }
+    requires fresh { map.get expiries fact.now.tag.0 ≡ None }
+    ensures { IfOk result (λ more. more ≡ with_timer expiries fact.now.tag.0 (end_of_presence program.now fact.now.ty.0 fact.now.times.start)) }
+{
+    let mut expiries = expiries;
+    match presence_end(program, fact.ty, fact.times.start) {
+        Some(moment) => {
+            expiries.put(moment, fact.tag.0)?;
+            Ok(expiries)
+        }
+        None => Ok(expiries),
+    }
+}
+
+// These timers without that of a tag, if it has one.
+fn untimed(expiries: DueQueue, tag: Tag) -> DueQueue
+    ensures { (other : ℕ) → map.get result other ≡ without_timer expiries tag.0 other }
+{
+    let mut expiries = expiries;
+    expiries.cancel(tag.0);
+    expiries
+}
+
 // What steps without a fault move.
 impl State {
-    /// The state with one fact more, which has the next numbers.
+    /// The state with one fact more, which has the next numbers. Of an event that is not present any more the numbers and the start
+    /// stay alone.
     pub(crate) fn with_new(
         self,
         alloc: Global,
@@ -73,6 +104,32 @@ impl State {
         requires low { self.next_tag < 2 ^ 63 }
         requires id { fact.id.0 ≡ self.next_id }
         requires tag { fact.tag.0 ≡ self.next_tag }
+        requires start_low { (pos 0 -ℤ most_millis) ≤ℤ fact.times.start }
+        requires start_high { fact.times.start ≤ℤ most_millis }
+        ensures stands { IfOk result (MovesTo program.now self (λ w. settled program.now (with_new program.now w fact))) }
+        ensures tags { IfOk result (λ s. s.next_tag ≡ self.next_tag + 1) }
+    {
+        if program.is_present(self.clock, &fact) {
+            self.with_present(alloc, program, fact)
+        } else {
+            self.with_numbers(program, &fact)
+        }
+    }
+
+    // The same with a fact that is present.
+    fn with_present(
+        self,
+        alloc: Global,
+        program: &Program,
+        fact: Fact,
+    ) -> Result<State, NoMemory>
+        requires runnable { IsRunnable program.now }
+        requires low { self.next_tag < 2 ^ 63 }
+        requires id { fact.id.0 ≡ self.next_id }
+        requires tag { fact.tag.0 ≡ self.next_tag }
+        requires start_low { (pos 0 -ℤ most_millis) ≤ℤ fact.times.start }
+        requires start_high { fact.times.start ≤ℤ most_millis }
+        requires present { is_present program.now self.clock fact ≡ true }
         ensures stands { IfOk result (MovesTo program.now self (λ w. settled program.now (with_new program.now w fact))) }
         ensures tags { IfOk result (λ s. s.next_tag ≡ self.next_tag + 1) }
     {
@@ -80,13 +137,28 @@ impl State {
         let (clock, old, new) = (state.clock, None, Some(&fact));
         state.agenda = refreshed(alloc, program, clock, state.agenda, &state.facts, old, new)?;
         state.last_starts = last_starts_behind(program, &fact, state.last_starts)?;
+        state.expiries = timed(state.expiries, program, &fact)?;
         state.facts = with_fact(state.facts, fact)?;
         state.next_id += 1;
         state.next_tag += 1;
         Ok(state)
     }
 
-    /// The state with a modification of the fact of the id, which has this tag and is there.
+    // The same with an event that is not present any more.
+    fn with_numbers(self, program: &Program, fact: &Fact) -> Result<State, NoMemory>
+        requires low { self.next_tag < 2 ^ 63 }
+        requires absent { is_present program.now self.clock fact.now ≡ false }
+        ensures stands { IfOk result (MovesTo program.now self (λ w. settled program.now (with_new program.now w fact.now))) }
+        ensures tags { IfOk result (λ s. s.next_tag ≡ self.next_tag + 1) }
+    {
+        let mut state = self;
+        state.last_starts = last_starts_behind(program, fact, state.last_starts)?;
+        state.next_id += 1;
+        state.next_tag += 1;
+        Ok(state)
+    }
+
+    /// The state with a modification of the plain fact of the id, which has this tag and is there.
     pub(crate) fn with_sets(
         self,
         alloc: Global,
@@ -98,6 +170,7 @@ impl State {
         requires runnable { IsRunnable program.now }
         requires low { self.next_tag < 2 ^ 63 }
         requires tag { IsNewestTag self.facts id.0 tag }
+        requires plain { modify_fault program.now (newest self id.0) ≡ None }
         ensures stands { IfOk result (MovesTo program.now self (λ w. settled program.now (with_revised w id.0 sets))) }
         ensures tags { IfOk result (λ s. s.next_tag ≡ self.next_tag + 1) }
     {
@@ -130,16 +203,31 @@ impl State {
         let before = state.facts.take(tag).unwrap();
         let (clock, old, new) = (state.clock, Some(&before), None);
         state.agenda = refreshed(alloc, program, clock, state.agenda, &state.facts, old, new)?;
+        state.expiries = untimed(state.expiries, tag);
         Ok(state)
     }
 
-    /// The state with another clock. No row depends on it where no type expires.
-    pub(crate) fn with_clock(self, clock: Millis) -> State
+    /// The state at a later clock, without the events that are not present any more.
+    pub(crate) fn with_clock(
+        self,
+        alloc: Global,
+        program: &Program,
+        clock: Millis,
+    ) -> Result<State, NoMemory>
+        requires runnable { IsRunnable program.now }
         requires low { pos 0 ≤ℤ clock }
         requires high { clock ≤ℤ most_millis }
-        ensures stands { (program : ProgramData) → IsRunnable program → MovesTo program self (λ w. settled program (at_clock w clock)) result }
-        ensures tags { result.next_tag ≡ self.next_tag }
+        requires later { self.clock ≤ℤ clock }
+        ensures stands { IfOk result (MovesTo program.now self (λ w. settled program.now (at_clock w clock))) }
+        ensures tags { IfOk result (λ s. s.next_tag ≡ self.next_tag) }
     {
-        State { clock, ..self }
+        let mut state = self;
+        let due = state.expiries.take_due(clock)?;
+        let (facts, agenda) =
+            without_all(alloc, program, state.clock, state.agenda, state.facts, due)?;
+        state.facts = facts;
+        state.agenda = agenda;
+        state.clock = clock;
+        Ok(state)
     }
 }

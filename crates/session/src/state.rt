@@ -44,7 +44,7 @@ impl Model for State {
 
     ghost view = { λ s. record { facts = s.facts; expiries = s.expiries; clock = s.clock; last_starts = s.last_starts.items; agenda = s.agenda; next_id = s.next_id; next_tag = s.next_tag } };
 
-    ghost invariant = { λ s. IsSafe s.facts s.clock s.next_id s.next_tag };
+    ghost invariant = { λ s. IsSafe s.facts s.expiries s.clock s.next_id s.next_tag };
 }
 
 impl State {

@@ -1,7 +1,7 @@
-ghost use Rattle.std.specs.Prelude.{◌≡◌, ◌+◌, ◌<◌, ◌≤◌, ◌^◌, [], ◌∷◌, ◌++◌, length, None, Some, slice_get, IfOk, IfErr, OnOk};
-ghost use Rattle.rule_model.specs.declared.program.Program.{Program as ProgramData};
+ghost use Rattle.std.specs.Prelude.{◌≡◌, ◌+◌, ◌<◌, ◌≤◌, ◌≤ℤ◌, ◌-ℤ◌, ◌&&◌, ◌^◌, pos, [], ◌∷◌, ◌++◌, length, None, Some, slice_get, IfOk, IfErr, OnOk};
 ghost use Rattle.rule_model.specs.declared.step.Step.TheVariants.{Insert, Modify, Retract, Advance, At};
-ghost use Rattle.rule_world.specs.Events.{new_fault, times_of};
+ghost use Rattle.rule_model.specs.Types.{is_event, is_observed};
+ghost use Rattle.rule_world.specs.Events.{most_millis, new_fault, times_of};
 ghost use Rattle.rule_world.specs.Programs.{IsRunnable};
 ghost use Rattle.engine.specs.declared.lines.OutLine.TheVariants.{Fault};
 ghost use Rattle.session.specs.Gives.{tries, does, does_all};
@@ -19,6 +19,13 @@ use std::alloc::Global;
 
 /// What the actions of a firing are to do, in their order: a step, or the fault for which an action is refused.
 pub(crate) type Plan = Vec<Result<Step, Code>>;
+
+// Whether the facts of a type are events that stay, since some rule observes them.
+fn are_observed(program: &Program, ty: TypeId) -> bool
+    ensures { result ≡ (is_event program.now ty.0 && is_observed program.now ty.0) }
+{
+    program.is_event(ty) && program.is_observed(ty)
+}
 
 // Steps and their faults.
 impl State {
@@ -41,6 +48,8 @@ impl State {
     ) -> Result<Times, Code>
         requires { IsRunnable program.now }
         ensures times { IfOk result (λ times. times ≡ times_of (slice_get program.now.types ty.0) self.now.clock fields.now) }
+        ensures low { IfOk result (λ times. (pos 0 -ℤ most_millis) ≤ℤ times.start) }
+        ensures high { IfOk result (λ times. times.start ≤ℤ most_millis) }
         ensures none { IfOk result (λ _. new_fault (slice_get program.now.types ty.0) (floor_in program.now self.now.last_starts self.now.clock entry.0) self.now.clock fields.now ≡ None) }
         ensures fault { IfErr result (λ code. new_fault (slice_get program.now.types ty.0) (floor_in program.now self.now.last_starts self.now.clock entry.0) self.now.clock fields.now ≡ Some code) }
     {
@@ -118,6 +127,9 @@ impl State {
         ensures lines { OnOk result (Writes program.now self (λ w. (tries program.now w (Retract ty id)).0) lines.old.items lines.new.items) }
         ensures tags { IfOk result (λ s. s.next_tag ≡ self.next_tag) }
     {
+        if are_observed(program, ty) {
+            return self.refuse(Code::EventObserved, lines);
+        }
         match self.tag_of(ty, id) {
             Some(tag) => self.without(alloc, program, ty, id, tag),
             None if program.is_event(ty) => Ok(self),
@@ -126,25 +138,39 @@ impl State {
     }
 
     // The clock so many milliseconds later.
-    fn advance(self, by: Millis, lines: &mut Vec<OutLine>) -> Result<State, NoMemory>
-        ensures stands { (program : ProgramData) → IsRunnable program → IfOk result (MovesTo program self (λ w. (tries program w (Advance by)).1)) }
-        ensures lines { OnOk result ((program : ProgramData) → Writes program self (λ w. (tries program w (Advance by)).0) lines.old.items lines.new.items) }
+    fn advance(
+        self,
+        alloc: Global,
+        program: &Program,
+        by: Millis,
+        lines: &mut Vec<OutLine>,
+    ) -> Result<State, NoMemory>
+        requires { IsRunnable program.now }
+        ensures stands { IfOk result (MovesTo program.now self (λ w. (tries program.now w (Advance by)).1)) }
+        ensures lines { OnOk result (Writes program.now self (λ w. (tries program.now w (Advance by)).0) lines.old.items lines.new.items) }
         ensures tags { IfOk result (λ s. s.next_tag ≡ self.next_tag) }
     {
         match clock_after(self.clock, by) {
-            Ok(clock) => Ok(self.with_clock(clock)),
+            Ok(clock) => self.with_clock(alloc, program, clock),
             Err(code) => self.refuse(code, lines),
         }
     }
 
     // The clock at this moment.
-    fn go_to(self, moment: Millis, lines: &mut Vec<OutLine>) -> Result<State, NoMemory>
-        ensures stands { (program : ProgramData) → IsRunnable program → IfOk result (MovesTo program self (λ w. (tries program w (At moment)).1)) }
-        ensures lines { OnOk result ((program : ProgramData) → Writes program self (λ w. (tries program w (At moment)).0) lines.old.items lines.new.items) }
+    fn go_to(
+        self,
+        alloc: Global,
+        program: &Program,
+        moment: Millis,
+        lines: &mut Vec<OutLine>,
+    ) -> Result<State, NoMemory>
+        requires { IsRunnable program.now }
+        ensures stands { IfOk result (MovesTo program.now self (λ w. (tries program.now w (At moment)).1)) }
+        ensures lines { OnOk result (Writes program.now self (λ w. (tries program.now w (At moment)).0) lines.old.items lines.new.items) }
         ensures tags { IfOk result (λ s. s.next_tag ≡ self.next_tag) }
     {
         match clock_at(self.clock, moment) {
-            Ok(clock) => Ok(self.with_clock(clock)),
+            Ok(clock) => self.with_clock(alloc, program, clock),
             Err(code) => self.refuse(code, lines),
         }
     }
@@ -169,8 +195,8 @@ impl State {
             }
             Step::Modify { id, sets } => self.modify(alloc, program, id, sets, lines),
             Step::Retract { ty, id } => self.retract(alloc, program, ty, id, lines),
-            Step::Advance(by) => self.advance(by, lines),
-            Step::At(moment) => self.go_to(moment, lines),
+            Step::Advance(by) => self.advance(alloc, program, by, lines),
+            Step::At(moment) => self.go_to(alloc, program, moment, lines),
         }
     }
 

@@ -2,31 +2,34 @@ use Rattle.std.proofs.Common.{◌≡◌, Some, None, refl, sym, ◌∙◌, ap, s
 use Rattle.std.proofs.lemmas.Result.{IfOk-weaker}
 use Rattle.rule_model.specs.declared.step.Step.TheVariants.{At}
 use Rattle.rule_world.specs.Events.{clock_fault}
-use Rattle.rule_world.specs.Worlds.{at_clock, settled}
+use Rattle.rule_world.specs.Worlds.{at_clock, kept, settled}
 use Rattle.session.specs.Standing.{Contents, Mirrors}
 use Rattle.session.proofs.Faults.{at_done, at_fault, clock_same}
-use Rattle.session.proofs.Tried.{done_moves, no_lines, on_ok_weaker, refused_moves, refused_lines}
+use Rattle.session.proofs.Tried.{done_moves, no_lines, on_ok, on_ok_weaker, refused_moves, refused_lines}
 use Rattle.session.proofs.state.State.go_to.Goals as goal
 
 pub returns-in-Ok-clause-stands : goal.returns-in-Ok-clause-stands
-returns-in-Ok-clause-stands c p runnable w st =
+returns-in-Ok-clause-stands c =
+    let p = c.args.program.now in
     let same : to_z w64 (of_z w64 c.self.inside.clock) ≡ c.self.inside.clock = clock_same c.self.inside.clock c.self.invariant.clock_low c.self.invariant.clock_high in
     let whole : to_z w64 (of_z w64 c.args.moment) ≡ c.args.moment = to_z-of_z c.ranges.moment in
     let none = subst (λ (k : Contents). clock_fault k.clock c.args.moment ≡ None) c.self.view_is (simp (same, whole) at c.in-Ok.ensures.none) in
     let clock = simp whole at c.in-Ok.ensures.clock in
     let next : to_z w64 (of_z w64 c.in-Ok.clock) ≡ c.in-Ok.clock = ap (λ z. to_z w64 (of_z w64 z)) clock ∙ whole ∙ sym clock in
-    done_moves p w (At c.args.moment) c.with_clock.result (settled p (at_clock w c.in-Ok.clock)) (at_fault p c.args.self w st c.args.moment None none) (at_done p w c.args.moment c.in-Ok.clock clock)
-    (subst (λ z. Mirrors p c.with_clock.result (settled p (at_clock w z))) next (c.with_clock.ensures.stands p runnable w st))
+    IfOk-weaker c.with_clock.result _ _ (λ s h w st. done_moves p w (At c.args.moment) s (settled p (at_clock w c.in-Ok.clock)) (at_fault p c.args.self w st c.args.moment None none) (at_done p w c.args.moment c.in-Ok.clock clock)
+    (subst (λ z. Mirrors p s (kept p (settled p (at_clock w z)))) next (h w st))) c.with_clock.ensures.stands
 
 pub returns-in-Ok-clause-lines : goal.returns-in-Ok-clause-lines
-returns-in-Ok-clause-lines c p w st =
+returns-in-Ok-clause-lines c =
+    let p = c.args.program.now in
     let same : to_z w64 (of_z w64 c.self.inside.clock) ≡ c.self.inside.clock = clock_same c.self.inside.clock c.self.invariant.clock_low c.self.invariant.clock_high in
     let whole : to_z w64 (of_z w64 c.args.moment) ≡ c.args.moment = to_z-of_z c.ranges.moment in
     let none = subst (λ (k : Contents). clock_fault k.clock c.args.moment ≡ None) c.self.view_is (simp (same, whole) at c.in-Ok.ensures.none) in
-    no_lines p w (At c.args.moment) c.args.lines.now.items (at_fault p c.args.self w st c.args.moment None none) refl
+    on_ok c.with_clock.result (λ w st. no_lines p w (At c.args.moment) c.args.lines.now.items (at_fault p c.args.self w st c.args.moment None none) refl)
 
 pub returns-in-Err-clause-stands : goal.returns-in-Err-clause-stands
-returns-in-Err-clause-stands c p runnable =
+returns-in-Err-clause-stands c =
+    let p = c.args.program.now in
     let same : to_z w64 (of_z w64 c.self.inside.clock) ≡ c.self.inside.clock = clock_same c.self.inside.clock c.self.invariant.clock_low c.self.invariant.clock_high in
     let whole : to_z w64 (of_z w64 c.args.moment) ≡ c.args.moment = to_z-of_z c.ranges.moment in
     let fault = subst (λ (k : Contents). clock_fault k.clock c.args.moment ≡ Some c.in-Err.code) c.self.view_is (simp (same, whole) at c.in-Err.ensures.fault) in
@@ -34,7 +37,8 @@ returns-in-Err-clause-stands c p runnable =
 
 pub returns-in-Err-clause-lines : goal.returns-in-Err-clause-lines
 returns-in-Err-clause-lines c =
+    let p = c.args.program.now in
     let same : to_z w64 (of_z w64 c.self.inside.clock) ≡ c.self.inside.clock = clock_same c.self.inside.clock c.self.invariant.clock_low c.self.invariant.clock_high in
     let whole : to_z w64 (of_z w64 c.args.moment) ≡ c.args.moment = to_z-of_z c.ranges.moment in
     let fault = subst (λ (k : Contents). clock_fault k.clock c.args.moment ≡ Some c.in-Err.code) c.self.view_is (simp (same, whole) at c.in-Err.ensures.fault) in
-    on_ok_weaker c.refuse.result (λ e p w st. refused_lines p w (At c.args.moment) c.in-Err.code (at_fault p c.args.self w st c.args.moment (Some c.in-Err.code) fault) c.args.lines.now.items c.refuse.new.lines.items e) c.refuse.ensures.lines
+    on_ok_weaker c.refuse.result (λ e w st. refused_lines p w (At c.args.moment) c.in-Err.code (at_fault p c.args.self w st c.args.moment (Some c.in-Err.code) fault) c.args.lines.now.items c.refuse.new.lines.items e) c.refuse.ensures.lines

@@ -1,7 +1,7 @@
 use Rattle.std.proofs.Common.{◌≡◌, Some, None, [], ◌∷◌, ◌++◌, sym, subst, ap}
 use Rattle.std.proofs.lemmas.Result.{IfOk-weaker}
 use Rattle.rule_model.specs.declared.step.Step.TheVariants.{Insert}
-use Rattle.rule_world.specs.Worlds.{settled, with_new}
+use Rattle.rule_world.specs.Worlds.{kept, settled, with_new}
 use Rattle.engine.specs.declared.lines.OutLine.TheVariants.{New}
 use Rattle.session.specs.Standing.{Contents, Mirrors}
 use Rattle.session.proofs.Faults.{insert_done, insert_fault, numbered}
@@ -16,7 +16,7 @@ returns-in_ok-push-in-Ok-clause-stands c =
     let times = simp c.as_slice.ensures at c.in-Ok.ensures.times in
     IfOk-weaker c.with_new.result _ _ (λ s h w st. done_moves p w (Insert c.args.ty c.args.entry c.args.fields) s (settled p (with_new p w (numbered k c.args.ty c.args.entry c.args.fields c.in-Ok.times)))
     (insert_fault p k w st c.args.ty c.args.entry c.args.fields None none) (insert_done p k w st c.args.ty c.args.entry c.args.fields c.in-Ok.times times)
-    (subst (λ (z : Contents). Mirrors p s (settled p (with_new p w (numbered z c.args.ty c.args.entry c.args.fields c.in-Ok.times)))) c.self.view_is (h w st))) c.with_new.ensures.stands
+    (subst (λ (z : Contents). Mirrors p s (kept p (settled p (with_new p w (numbered z c.args.ty c.args.entry c.args.fields c.in-Ok.times))))) c.self.view_is (h w st))) c.with_new.ensures.stands
 
 pub returns-in_ok-push-in-Ok-clause-lines : goal.returns-in_ok-push-in-Ok-clause-lines
 returns-in_ok-push-in-Ok-clause-lines c =

@@ -6,6 +6,6 @@ use Rattle.session.proofs.state.State.mark.Goals as goal
 
 pub returns-clause-stands : goal.returns-clause-stands
 returns-clause-stands c p w s =
-    let k = (contents c.state.inside.facts c.state.inside.clock c.state.inside.last_starts.items c.state.inside.agenda c.state.inside.next_id c.state.inside.next_tag) in
+    let k = (contents c.state.inside.facts c.state.inside.expiries c.state.inside.clock c.state.inside.last_starts.items c.state.inside.agenda c.state.inside.next_id c.state.inside.next_tag) in
     marked_stands p k c.in_ok-agenda.agenda w c.in_ok-agenda.fired
     (subst (λ (k : Contents). Standing p k w) (sym c.state.view_is) s) c.in_ok-agenda.ensures.saliences c.in_ok-agenda.ensures.top c.in_ok-agenda.ensures.pending c.in_ok-agenda.ensures.fired
