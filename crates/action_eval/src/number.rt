@@ -1,6 +1,6 @@
-ghost use Rattle.std.specs.Prelude.{◌≡◌, false, true, option_map, IfSome, IsNone};
+ghost use Rattle.std.specs.Prelude.{◌≡◌, false, true, option_map, slice_get, IfSome, IsNone};
 ghost use Rattle.rule_model.specs.Tests.{field_of};
-ghost use Rattle.rule_model.specs.Lent.{named_at};
+ghost use Rattle.rule_model.specs.Lent.{named_at, bound_in};
 ghost use Rattle.rule_model.specs.Numbers.{number as number_of, overflows, whole_number};
 
 use fx_base::{Fact, Facts, Value};
@@ -38,19 +38,27 @@ pub(crate) fn bound_field<'a, F: Facts>(
     fact.fields.as_slice().get(field as usize)
 }
 
+/// The value of a row in this place.
+pub(crate) fn result_at(row: &Row, place: u8) -> Option<i64>
+    ensures { result ≡ slice_get row.now.values place }
+{
+    row.values.as_slice().get(place as usize).copied()
+}
+
 /// The whole number of an expression; `None` exactly where its number or that of a part of it is outside 64 bits. What is no
 /// whole number counts as 0. The recursion is as deep as the expression is high.
 #[tactic(auto, using(crate::proofs::Outside::inside, crate::proofs::Outside::outside))]
 pub(crate) fn number<F: Facts>(expr: &Expr, row: &Row, facts: &F) -> Option<i64>
-    ensures number { IfSome result (λ n. n ≡ number_of (named_at (F.map facts.now) row.now.facts) expr.now) }
-    ensures fits { IfSome result (λ _. overflows (named_at (F.map facts.now) row.now.facts) expr.now ≡ false) }
-    ensures overflows { IsNone result → overflows (named_at (F.map facts.now) row.now.facts) expr.now ≡ true }
+    ensures number { IfSome result (λ n. n ≡ number_of (bound_in (F.map facts.now) row.now) expr.now) }
+    ensures fits { IfSome result (λ _. overflows (bound_in (F.map facts.now) row.now) expr.now ≡ false) }
+    ensures overflows { IsNone result → overflows (bound_in (F.map facts.now) row.now) expr.now ≡ true }
 {
     match expr.node() {
         ExprNode::Lit(literal) => Some(whole_number(literal)),
         ExprNode::Of { fact, field } => {
             Some(bound_field(row, facts, *fact, *field).map_or(0, whole_number))
         }
+        ExprNode::Result(place) => Some(result_at(row, *place).unwrap_or(0)),
         ExprNode::Neg(a) => number(a, row, facts)?.checked_neg(),
         ExprNode::Add(a, b) => number(a, row, facts)?.checked_add(number(b, row, facts)?),
         ExprNode::Sub(a, b) => number(a, row, facts)?.checked_sub(number(b, row, facts)?),

@@ -1,5 +1,5 @@
 ghost use Rattle.std.specs.Prelude.{◌≡◌, Some, None, option_map, map, IfOk, IsErrOf};
-ghost use Rattle.rule_model.specs.Lent.{named_at};
+ghost use Rattle.rule_model.specs.Lent.{named_at, bound_in};
 ghost use Rattle.rule_model.specs.Numbers.{values_of};
 ghost use Rattle.rule_model.specs.Planned.{id_at, type_or_first, sets_of, step_of};
 
@@ -10,8 +10,8 @@ use row_delta::Row;
 use rule_model::{Action, Expr, Step};
 use std::alloc::Global;
 
-/// The step that an action is for the facts that a row names, which `facts` has at their tags; what is new is inserted into
-/// the entry point `DEFAULT`. `Overflow` comes exactly where one of its expressions has it.
+/// The step that an action is for the facts that a row names, which `facts` has at their tags, and for the row's values; what is
+/// new is inserted into the entry point `DEFAULT`. `Overflow` comes exactly where one of its expressions has it.
 #[tactic(auto, unfolding(rule_model::specs::Planned::step_of))]
 pub fn planned_step<F: Facts>(
     alloc: Global,
@@ -19,8 +19,8 @@ pub fn planned_step<F: Facts>(
     row: &Row,
     facts: &F,
 ) -> Result<Step, EvalFault>
-    ensures step { IfOk result (λ step. Some step ≡ step_of (named_at (F.map facts.now) row.now.facts) row.now.facts action.now) }
-    ensures overflow { IsErrOf result EvalFault.Overflow → step_of (named_at (F.map facts.now) row.now.facts) row.now.facts action.now ≡ None }
+    ensures step { IfOk result (λ step. Some step ≡ step_of (bound_in (F.map facts.now) row.now) row.now.facts action.now) }
+    ensures overflow { IsErrOf result EvalFault.Overflow → step_of (bound_in (F.map facts.now) row.now) row.now.facts action.now ≡ None }
 {
     match action {
         Action::Insert { ty, args } => Ok(Step::Insert {
@@ -46,8 +46,8 @@ fn values<F: Facts>(
     row: &Row,
     facts: &F,
 ) -> Result<Seq<Value>, EvalFault>
-    ensures values { IfOk result (λ vs. Some vs ≡ values_of (named_at (F.map facts.now) row.now.facts) exprs.now) }
-    ensures overflow { IsErrOf result EvalFault.Overflow → values_of (named_at (F.map facts.now) row.now.facts) exprs.now ≡ None }
+    ensures values { IfOk result (λ vs. Some vs ≡ values_of (bound_in (F.map facts.now) row.now) exprs.now) }
+    ensures overflow { IsErrOf result EvalFault.Overflow → values_of (bound_in (F.map facts.now) row.now) exprs.now ≡ None }
 {
     let mut values = Vec::new(alloc);
     for expr in exprs {
@@ -63,8 +63,8 @@ fn planned_sets<F: Facts>(
     row: &Row,
     facts: &F,
 ) -> Result<Seq<(usize, Value)>, EvalFault>
-    ensures sets { IfOk result (λ vs. Some vs ≡ sets_of (named_at (F.map facts.now) row.now.facts) sets.now) }
-    ensures overflow { IsErrOf result EvalFault.Overflow → sets_of (named_at (F.map facts.now) row.now.facts) sets.now ≡ None }
+    ensures sets { IfOk result (λ vs. Some vs ≡ sets_of (bound_in (F.map facts.now) row.now) sets.now) }
+    ensures overflow { IsErrOf result EvalFault.Overflow → sets_of (bound_in (F.map facts.now) row.now) sets.now ≡ None }
 {
     let mut planned = Vec::new(alloc);
     for (field, expr) in sets {

@@ -6,11 +6,9 @@ use Rattle.std.specs.Option.{option_and_then}
 use Rattle.std.specs.Prelude.{slice_get}
 use Rattle.fx_base.specs.declared.fact.Fact.{Fact}
 use Rattle.fx_base.specs.declared.ids.FactId.{FactId}
-use Rattle.fx_base.specs.declared.ids.TypeId.{TypeId}
 use Rattle.fx_base.specs.declared.kind.Kind.{Kind}
 use Rattle.fx_base.specs.declared.value.Value.{Value}
 use Rattle.rule_world.specs.Kinds.{has_kind, have_kinds, set_fits, step_fits}
-use Rattle.rule_world.specs.Worlds.{is_of_type}
 use Rattle.rule_model.specs.declared.program.Program.{Program}
 use Rattle.rule_model.specs.declared.program.TypeInfo.{TypeInfo}
 use Rattle.rule_model.specs.declared.step.Step.{Step}
@@ -24,7 +22,6 @@ use Rattle.change_read.specs.Fields.{are_fields, are_some_fields, given_under, v
 use Rattle.change_read.proofs.Places.{some_is, stands, type_stands, entry_within, FieldAt, field_stands}
 use Rattle.fx_base.specs.declared.kind.Kind.TheVariants as kind
 use Rattle.fx_base.specs.declared.value.Value.TheVariants as value
-use Rattle.rule_model.specs.declared.step.Step.TheVariants as step
 use Rattle.script_read.specs.declared.given.Given.TheVariants as given
 
 -- ---- values

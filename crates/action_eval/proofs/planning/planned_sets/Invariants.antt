@@ -1,8 +1,8 @@
 use Rattle.std.proofs.Common.{◌≡◌, Some, take}
-use Rattle.rule_model.specs.Lent.{named_at}
+use Rattle.rule_model.specs.Lent.{bound_in}
 use Rattle.rule_model.specs.Planned.{sets_of}
 use Rattle.action_eval.proofs.planning.planned_sets.Given as goal
 
 -- what stands is what the sets before this one give
 abbrev pub invariant-loop-field : goal.invariant-loop-field
-invariant-loop-field g l = Some l.planned.items ≡ sets_of (named_at (g.F.Facts.map l.facts) l.row.facts) (take l.field-index l.sets)
+invariant-loop-field g l = Some l.planned.items ≡ sets_of (bound_in (g.F.Facts.map l.facts) l.row) (take l.field-index l.sets)

@@ -1,8 +1,8 @@
 use Rattle.std.proofs.Common.{◌≡◌, Some, take}
-use Rattle.rule_model.specs.Lent.{named_at}
+use Rattle.rule_model.specs.Lent.{bound_in}
 use Rattle.rule_model.specs.Numbers.{values_of}
 use Rattle.action_eval.proofs.planning.values.Given as goal
 
 -- what stands is the values of the expressions before this one
 abbrev pub invariant-loop-expr : goal.invariant-loop-expr
-invariant-loop-expr g l = Some l.values.items ≡ values_of (named_at (g.F.Facts.map l.facts) l.row.facts) (take l.expr-index l.exprs)
+invariant-loop-expr g l = Some l.values.items ≡ values_of (bound_in (g.F.Facts.map l.facts) l.row) (take l.expr-index l.exprs)
