@@ -1,4 +1,4 @@
--- The event types that the rules of a file observe: whether a rule has a row may change when a fact of such a type goes.
+-- The event types that the rules of a file observe: with a fact of such a type, rows that do not name it may come or go.
 use Rattle.std.specs.Prelude.{ℕ, ◌&&◌, Bool, true, false, List, [], ◌∷◌, Option, Some, None, if◌then◌else◌}
 use Rattle.std.specs.List.{flat_map}
 use Rattle.drl_grammar.specs.declared.condition.CondTree.{CondTree}
