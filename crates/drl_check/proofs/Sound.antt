@@ -23,7 +23,7 @@ use Rattle.drl_limits.specs.Limits.{span_limit, is_entry_name, has_few_entries, 
 use Rattle.drl_program.specs.Programs.{entry_info, condition_of, conditions_of, rule_of, action_of}
 use Rattle.drl_check.specs.Built.{condition_unbuilt, not_built}
 use Rattle.drl_check.specs.Checks.{has_bad_params, AllPass}
-use Rattle.drl_check.specs.Events.{is_negative}
+use Rattle.drl_check.specs.Params.{is_negative}
 use Rattle.drl_check.proofs.Failures.{types_next, rules_next, known_next}
 
 pub and_right : (a b : Bool) → (a && b) ≡ true → b ≡ true

@@ -7,15 +7,18 @@ use Rattle.drl_grammar.specs.declared.file.Body.TheVariants as body
 use Rattle.drl_grammar.specs.declared.file.Item.{Item}
 use Rattle.drl_grammar.specs.declared.file.TypeTree.{TypeTree}
 use Rattle.drl_check.specs.declared.fault.CheckCode.{CheckCode}
-use Rattle.drl_check.specs.declared.fault.CheckCode.TheVariants.{NotBuilt, TwiceDeclared, LimitPassed, UnknownType, UnknownField, UnknownVariable, WrongKind, NotAnEvent, BadTimestamp, EventFixed, BadParams}
+use Rattle.drl_check.specs.declared.fault.CheckCode.TheVariants.{NotBuilt, TwiceDeclared, LimitPassed, UnknownType, UnknownField, UnknownVariable, WrongKind, NotAnEvent, BadTimestamp, EventFixed, EventObserved, BadParams}
 use Rattle.drl_sight.specs.Declarations.{types_of}
+use Rattle.drl_sight.specs.Observed.{is_observed}
 use Rattle.drl_sight.specs.Sight.{begin, sight_of_actions}
 use Rattle.drl_check.specs.Built.{not_built}
 use Rattle.drl_check.specs.Twice.{is_twice}
 use Rattle.drl_limits.specs.Limits.{exceeds_limit}
 use Rattle.drl_uses.specs.Uses.{any_condition, has_unknown_type, has_unknown_field, has_unknown_variable, inserts_unknown_type, action_lacks, action_unseen}
-use Rattle.drl_check.specs.Events.{annotation_lacks, is_no_event, has_bad_timestamp, is_negative, modifies_event}
+use Rattle.drl_check.specs.Events.{annotation_lacks, is_no_event, has_bad_timestamp, modifies_event, retracts_observed}
+use Rattle.drl_check.specs.Params.{is_negative, expires_at_once, is_condition_refused}
 use Rattle.drl_uses.specs.Kinds.{has_unknown_kind, has_wrong_kind, action_misfits}
+use Rattle.drl_uses.specs.Times.{has_no_times}
 
 abbrev pub lacks_type : List TypeTree → Body → Bool
 lacks_type types (body.Rule r) = has_unknown_type types r.conditions || list_any (inserts_unknown_type types) r.actions
@@ -49,13 +52,13 @@ is_wrong_kind types (body.Import path star) = false
 is_wrong_kind types (body.Dialect text) = false
 is_wrong_kind types (body.Entry name lateness) = false
 
-abbrev pub needs_event : Body → Bool
-needs_event (body.Declare t) = is_no_event t
-needs_event (body.Package path) = false
-needs_event (body.Import path star) = false
-needs_event (body.Dialect text) = false
-needs_event (body.Entry name lateness) = false
-needs_event (body.Rule r) = false
+abbrev pub needs_event : List TypeTree → Body → Bool
+needs_event types (body.Declare t) = is_no_event t
+needs_event types (body.Rule r) = any_condition (has_no_times types) types begin r.conditions
+needs_event types (body.Package path) = false
+needs_event types (body.Import path star) = false
+needs_event types (body.Dialect text) = false
+needs_event types (body.Entry name lateness) = false
 
 abbrev pub needs_whole_times : Body → Bool
 needs_whole_times (body.Declare t) = has_bad_timestamp t
@@ -73,13 +76,22 @@ fixes_event types (body.Dialect text) = false
 fixes_event types (body.Declare t) = false
 fixes_event types (body.Entry name lateness) = false
 
+-- given which types are observed
+abbrev pub drops_observed : (TypeTree → Bool) → List TypeTree → Body → Bool
+drops_observed observed types (body.Rule r) = list_any (retracts_observed observed (sight_of_actions types r.conditions)) r.actions
+drops_observed observed types (body.Package path) = false
+drops_observed observed types (body.Import path star) = false
+drops_observed observed types (body.Dialect text) = false
+drops_observed observed types (body.Declare t) = false
+drops_observed observed types (body.Entry name lateness) = false
+
 abbrev pub has_bad_params : Body → Bool
 has_bad_params (body.Entry name lateness) = is_negative lateness
+has_bad_params (body.Declare t) = expires_at_once t
+has_bad_params (body.Rule r) = list_any is_condition_refused r.conditions
 has_bad_params (body.Package path) = false
 has_bad_params (body.Import path star) = false
 has_bad_params (body.Dialect text) = false
-has_bad_params (body.Declare t) = false
-has_bad_params (body.Rule r) = false
 
 -- whether an item fails the check of this code, given all the items of the file and those before it
 abbrev pub fails : CheckCode → List Item → List Item → Body → Bool
@@ -90,14 +102,15 @@ fails UnknownType all before b = lacks_type (types_of all) b
 fails UnknownField all before b = lacks_field (types_of all) b
 fails UnknownVariable all before b = lacks_variable (types_of all) b
 fails WrongKind all before b = is_wrong_kind (types_of all) b
-fails NotAnEvent all before b = needs_event b
+fails NotAnEvent all before b = needs_event (types_of all) b
 fails BadTimestamp all before b = needs_whole_times b
 fails EventFixed all before b = fixes_event (types_of all) b
+fails EventObserved all before b = drops_observed (is_observed all) (types_of all) b
 fails BadParams all before b = has_bad_params b
 
 -- the codes, in the order in which they are tried
 abbrev pub codes_in_order : List CheckCode
-codes_in_order = NotBuilt ∷ TwiceDeclared ∷ LimitPassed ∷ UnknownType ∷ UnknownField ∷ UnknownVariable ∷ WrongKind ∷ NotAnEvent ∷ BadTimestamp ∷ EventFixed ∷ BadParams ∷ []
+codes_in_order = NotBuilt ∷ TwiceDeclared ∷ LimitPassed ∷ UnknownType ∷ UnknownField ∷ UnknownVariable ∷ WrongKind ∷ NotAnEvent ∷ BadTimestamp ∷ EventFixed ∷ EventObserved ∷ BadParams ∷ []
 
 -- an item passes all checks
 abbrev pub Passes : List Item → List Item → Body → Type 0

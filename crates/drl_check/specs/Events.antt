@@ -1,5 +1,5 @@
--- What an annotation, an entry point and an action do with events.
-use Rattle.std.specs.Prelude.{ℤ, pos, ◌&&◌, Bool, true, false, not, int_lt, Option, Some, None}
+-- What an annotation and an action do with events.
+use Rattle.std.specs.Prelude.{◌&&◌, Bool, true, false, not, Option, Some, None}
 use Rattle.std.specs.List.{list_any}
 use Rattle.drl_grammar.specs.declared.action.ActTree.{ActTree}
 use Rattle.drl_grammar.specs.declared.action.ActTree.TheVariants as action
@@ -44,12 +44,6 @@ meta_misfits t (meta.Expires offset) = false
 abbrev pub has_bad_timestamp : TypeTree → Bool
 has_bad_timestamp t = list_any (meta_misfits t) t.metas
 
--- ---- entry points
-
-abbrev pub is_negative : Option ℤ → Bool
-is_negative None = false
-is_negative (Some lateness) = int_lt lateness (pos 0)
-
 -- ---- actions
 
 abbrev pub is_event_meant : Option Meaning → Bool
@@ -63,3 +57,16 @@ abbrev pub modifies_event : Sight → ActTree → Bool
 modifies_event sight (action.Modify v sets) = is_event_meant (meaning_of sight v)
 modifies_event sight (action.Insert ty args) = false
 modifies_event sight (action.Retract v) = false
+
+-- a variable is a fact of a type that is observed
+abbrev pub is_observed_meant : (TypeTree → Bool) → Option Meaning → Bool
+is_observed_meant observed None = false
+is_observed_meant observed (Some (of_fact fact t)) = observed t
+is_observed_meant observed (Some (of_field fact field k)) = false
+is_observed_meant observed (Some (of_result result)) = false
+
+-- an event of an observed type is retracted
+abbrev pub retracts_observed : (TypeTree → Bool) → Sight → ActTree → Bool
+retracts_observed observed sight (action.Retract v) = is_observed_meant observed (meaning_of sight v)
+retracts_observed observed sight (action.Insert ty args) = false
+retracts_observed observed sight (action.Modify v sets) = false

@@ -8,9 +8,10 @@ ghost use Rattle.drl_check.specs.Answers.{within_32_bits, Gives};
 
 use crate::CheckFault;
 use crate::refusal::refusal;
+use crate::whole::Whole;
 use drl_grammar::File;
 use drl_program::program;
-use drl_sight::{Declared, entry_points};
+use drl_sight::entry_points;
 use rule_model::Program;
 use std::alloc::Global;
 
@@ -19,10 +20,10 @@ fn checked_program(alloc: Global, file: &File) -> Result<Program, CheckFault>
     ensures { Gives (λ program. program) result (checked file.now) }
 {
     let items = file.items.as_slice();
-    let types = Declared::of(alloc, items)?;
-    refusal(alloc, &types, items)?;
+    let whole = Whole::of(alloc, items)?;
+    refusal(alloc, &whole, items)?;
     let entries = entry_points(alloc, items)?;
-    Ok(program(alloc, &types, &entries, items)?)
+    Ok(program(alloc, &whole.types, &entries, items)?)
 }
 
 /// The program of a file, exactly where all its items pass all the checks; else the first item that fails one, with the

@@ -1,10 +1,11 @@
 ghost use Rattle.std.specs.Prelude.{◌≡◌, Some, IfOk};
 ghost use Rattle.std.specs.List.{list_any};
-ghost use Rattle.drl_check.specs.Events.{meta_lacks, annotation_lacks, is_of_events, is_no_event, meta_misfits, has_bad_timestamp, is_negative, is_event_meant, modifies_event};
+ghost use Rattle.drl_check.specs.Events.{meta_lacks, annotation_lacks, is_of_events, is_no_event, meta_misfits, has_bad_timestamp, is_event_meant, modifies_event, is_observed_meant, retracts_observed};
+ghost use Rattle.drl_sight.specs.Observed.{is_event_among};
 ghost use Rattle.drl_sight.specs.Sight.{begin, behind_all, sight_of_actions};
 
 use drl_grammar::{ActTree, CondTree, Meta, RuleTree, TypeTree};
-use drl_sight::{Declared, DeclaredType, Meaning, Place, Seen, is_event_tree};
+use drl_sight::{Declared, DeclaredType, Meaning, Place, Places, Seen, is_event_tree};
 use drl_uses::is_whole;
 use fx_base::NoMemory;
 use std::alloc::Global;
@@ -81,18 +82,6 @@ pub(crate) fn misfits_annotated(alloc: Global, tree: &TypeTree) -> Result<bool, 
     Ok(is_some_misfit(&ty, tree.metas.as_slice()))
 }
 
-// ---- entry points
-
-/// Whether a lateness is below 0.
-pub(crate) fn is_below_zero(lateness: Option<i64>) -> bool
-    ensures { result ≡ is_negative lateness }
-{
-    match lateness {
-        Some(lateness) => lateness < 0,
-        None => false,
-    }
-}
-
 // ---- actions
 
 fn is_event_seen(meaning: &Meaning) -> bool
@@ -150,4 +139,49 @@ pub(crate) fn modifies_some_event(
 {
     let place = behind_conditions(alloc, types, tree.conditions.as_slice())?;
     Ok(do_modify_event(&place, tree.actions.as_slice()))
+}
+
+// ---- retractions
+
+fn is_observed_seen(watched: &Places, meaning: &Meaning) -> bool
+    ensures { result ≡ is_observed_meant (is_event_among watched.now) (Some meaning.now) }
+{
+    match meaning.seen() {
+        Seen::Fact { fact: _, ty } => ty.is_event() && watched.holds(ty.name()),
+        Seen::Field { .. } | Seen::Result { .. } => false,
+    }
+}
+
+fn does_retract_observed(watched: &Places, place: &Place, action: &ActTree) -> bool
+    ensures { result ≡ retracts_observed (is_event_among watched.now) place.now.sight action.now }
+{
+    match action {
+        ActTree::Retract(var) => match place.find(var) {
+            Some(meaning) => is_observed_seen(watched, meaning),
+            None => false,
+        },
+        ActTree::Insert { .. } | ActTree::Modify { .. } => false,
+    }
+}
+
+fn do_retract_observed(watched: &Places, place: &Place, actions: &[ActTree]) -> bool
+    ensures { result ≡ list_any (retracts_observed (is_event_among watched.now) place.now.sight) actions.now }
+{
+    actions
+        .iter()
+        .any(|action| does_retract_observed(watched, place, action))
+}
+
+/// Whether one of the actions of a rule retracts an event of a type that is observed, where `watched` are the names of the
+/// types that the conditions of the file watch.
+pub(crate) fn retracts_some_observed(
+    alloc: Global,
+    types: &Declared,
+    watched: &Places,
+    tree: &RuleTree,
+) -> Result<bool, NoMemory>
+    ensures { IfOk result (λ retracts. retracts ≡ list_any (retracts_observed (is_event_among watched.now) (sight_of_actions types.now tree.now.conditions)) tree.now.actions) }
+{
+    let place = behind_conditions(alloc, types, tree.conditions.as_slice())?;
+    Ok(do_retract_observed(watched, &place, tree.actions.as_slice()))
 }

@@ -29,13 +29,17 @@ pub enum CheckCode {
     /// insert has too few or too many expressions; an expression is of another kind than its field; an operator has an operand
     /// that is no whole number.
     WrongKind,
-    /// A plain type has a timestamp or a duration.
+    /// A plain type has a timestamp, a duration or an expiry, or stands under a window or in a temporal test.
     NotAnEvent,
     /// The field of a timestamp or a duration holds no whole numbers.
     BadTimestamp,
     /// An action modifies an event.
     EventFixed,
-    /// A lateness is below 0.
+    /// An action retracts an event of a type that the file observes: one that stands in a not, an exists or an accumulate of
+    /// some rule, or under a length window.
+    EventObserved,
+    /// A lateness is below 0, an expiry or a time window below 1 ms, a length window of no events; or a temporal operator has
+    /// another number of parameters than it takes, or one below 0 and is neither `after` nor `before`.
     BadParams,
 }
 
@@ -55,6 +59,7 @@ impl CheckCode {
             CheckCode::NotAnEvent => "NotAnEvent",
             CheckCode::BadTimestamp => "BadTimestamp",
             CheckCode::EventFixed => "EventFixed",
+            CheckCode::EventObserved => "EventObserved",
             CheckCode::BadParams => "BadParams",
         }
     }

@@ -7,8 +7,10 @@ mod checking;
 mod events;
 mod fault;
 mod laws;
+mod params;
 mod refusal;
 mod twice;
+mod whole;
 
 pub use checking::check;
 pub use fault::{CheckCode, CheckFault};

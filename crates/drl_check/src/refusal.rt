@@ -1,20 +1,24 @@
 ghost use Rattle.std.specs.Prelude.{◌≡◌, ◌<◌, ◌+◌, ◌^◌, ◌++◌, [], List, ℕ, IfOk};
 ghost use Rattle.drl_sight.specs.Declarations.{types_of, type_in, rule_in, type_names, rule_names};
+ghost use Rattle.drl_sight.specs.Observed.{is_event_among, watched_names};
 ghost use Rattle.drl_sight.specs.EntryPoints.{entries_declared, entries_named, with_names};
-ghost use Rattle.drl_check.specs.Checks.{lacks_type, lacks_field as lacks_field_of, lacks_variable as lacks_variable_of, is_wrong_kind, needs_event, needs_whole_times, fixes_event, has_bad_params, failure_from};
+ghost use Rattle.drl_check.specs.Checks.{lacks_type, lacks_field as lacks_field_of, lacks_variable as lacks_variable_of, is_wrong_kind, needs_event, needs_whole_times, fixes_event, drops_observed, has_bad_params, failure_from};
 ghost use Rattle.drl_check.specs.Failing.{first_failing, first_failing_event, first_failing_use};
 ghost use Rattle.drl_check.specs.Answers.{within_32_bits, Judges};
 
 use crate::built::is_unbuilt;
 use crate::events::{
-    is_below_zero, is_plain_with_times, lacks_annotated, misfits_annotated, modifies_some_event,
+    is_plain_with_times, lacks_annotated, misfits_annotated, modifies_some_event,
+    retracts_some_observed,
 };
+use crate::params::{does_expire_at_once, does_some_condition_refuse, is_below_zero};
 use crate::twice::repeats;
+use crate::whole::Whole;
 use crate::{CheckCode, CheckFault};
 use drl_grammar::{Body, Item};
 use drl_limits::exceeds_limits;
 use drl_sight::{Declared, Places, default_entry, with_entries};
-use drl_uses::{Asked, insert_unknown, is_so_in_rule, lack_type, lacks_kind};
+use drl_uses::{Asked, insert_unknown, is_so_in_rule, lack_times, lack_type, lacks_kind};
 use fx_base::NoMemory;
 use std::alloc::Global;
 
@@ -67,16 +71,13 @@ fn is_kind_wrong(alloc: Global, types: &Declared, body: &Body) -> Result<bool, N
     }
 }
 
-fn is_event_missing(body: &Body) -> bool
-    ensures { result ≡ needs_event body.now }
+fn is_event_missing(alloc: Global, types: &Declared, body: &Body) -> Result<bool, NoMemory>
+    ensures { IfOk result (λ missing. missing ≡ needs_event types.now body.now) }
 {
     match body {
-        Body::Declare(tree) => is_plain_with_times(tree),
-        Body::Package(_)
-        | Body::Import { .. }
-        | Body::Dialect(_)
-        | Body::Entry { .. }
-        | Body::Rule(_) => false,
+        Body::Declare(tree) => Ok(is_plain_with_times(tree)),
+        Body::Rule(tree) => lack_times(alloc, types, tree.conditions.as_slice()),
+        Body::Package(_) | Body::Import { .. } | Body::Dialect(_) | Body::Entry { .. } => Ok(false),
     }
 }
 
@@ -106,35 +107,45 @@ fn is_event_modified(alloc: Global, types: &Declared, body: &Body) -> Result<boo
     }
 }
 
+fn is_observed_retracted(alloc: Global, whole: &Whole, body: &Body) -> Result<bool, NoMemory>
+    ensures { IfOk result (λ retracted. retracted ≡ drops_observed (is_event_among whole.now.watched) whole.now.types body.now) }
+{
+    match body {
+        Body::Rule(tree) => retracts_some_observed(alloc, &whole.types, &whole.watched, tree),
+        Body::Package(_)
+        | Body::Import { .. }
+        | Body::Dialect(_)
+        | Body::Declare(_)
+        | Body::Entry { .. } => Ok(false),
+    }
+}
+
 fn are_params_bad(body: &Body) -> bool
     ensures { result ≡ has_bad_params body.now }
 {
     match body {
         Body::Entry { lateness, .. } => is_below_zero(*lateness),
-        Body::Package(_)
-        | Body::Import { .. }
-        | Body::Dialect(_)
-        | Body::Declare(_)
-        | Body::Rule(_) => false,
+        Body::Declare(tree) => does_expire_at_once(tree),
+        Body::Rule(tree) => does_some_condition_refuse(tree.conditions.as_slice()),
+        Body::Package(_) | Body::Import { .. } | Body::Dialect(_) => false,
     }
 }
 
 // The first code that an item fails, which looks at events.
-fn failing_event(
-    alloc: Global,
-    types: &Declared,
-    body: &Body,
-) -> Result<Option<CheckCode>, NoMemory>
-    ensures { IfOk result (λ code. code ≡ first_failing_event types.now body.now) }
+fn failing_event(alloc: Global, whole: &Whole, body: &Body) -> Result<Option<CheckCode>, NoMemory>
+    ensures { IfOk result (λ code. code ≡ first_failing_event whole.now.types whole.now.watched body.now) }
 {
-    if is_event_missing(body) {
+    if is_event_missing(alloc, &whole.types, body)? {
         return Ok(Some(CheckCode::NotAnEvent));
     }
     if is_timestamp_bad(alloc, body)? {
         return Ok(Some(CheckCode::BadTimestamp));
     }
-    if is_event_modified(alloc, types, body)? {
+    if is_event_modified(alloc, &whole.types, body)? {
         return Ok(Some(CheckCode::EventFixed));
+    }
+    if is_observed_retracted(alloc, whole, body)? {
+        return Ok(Some(CheckCode::EventObserved));
     }
     if are_params_bad(body) {
         return Ok(Some(CheckCode::BadParams));
@@ -143,29 +154,29 @@ fn failing_event(
 }
 
 // The first code that an item fails, which looks into annotations, conditions and actions.
-fn failing_use(alloc: Global, types: &Declared, body: &Body) -> Result<Option<CheckCode>, NoMemory>
-    ensures { IfOk result (λ code. code ≡ first_failing_use types.now body.now) }
+fn failing_use(alloc: Global, whole: &Whole, body: &Body) -> Result<Option<CheckCode>, NoMemory>
+    ensures { IfOk result (λ code. code ≡ first_failing_use whole.now.types whole.now.watched body.now) }
 {
-    if is_type_missing(types, body) {
+    if is_type_missing(&whole.types, body) {
         return Ok(Some(CheckCode::UnknownType));
     }
-    if is_field_missing(alloc, types, body)? {
+    if is_field_missing(alloc, &whole.types, body)? {
         return Ok(Some(CheckCode::UnknownField));
     }
-    if is_variable_missing(alloc, types, body)? {
+    if is_variable_missing(alloc, &whole.types, body)? {
         return Ok(Some(CheckCode::UnknownVariable));
     }
-    if is_kind_wrong(alloc, types, body)? {
+    if is_kind_wrong(alloc, &whole.types, body)? {
         return Ok(Some(CheckCode::WrongKind));
     }
-    failing_event(alloc, types, body)
+    failing_event(alloc, whole, body)
 }
 
 // The first code that an item fails, behind items that declare types, entry points and rules of these names; `known` are the
 // entry points known behind it. The limits are tried before the uses, so that these walk few variables.
 fn failing(
     alloc: Global,
-    types: &Declared,
+    whole: &Whole,
     earlier_types: &Places,
     earlier_entries: &Places,
     earlier_rules: &Places,
@@ -173,7 +184,7 @@ fn failing(
     body: &Body,
 ) -> Result<Option<CheckCode>, NoMemory>
     ensures { (before : List (List ℕ)) → known.now ≡ with_names before (entries_named body.now)
-        → IfOk result (λ code. code ≡ first_failing types.now earlier_types.now earlier_entries.now earlier_rules.now before body.now) }
+        → IfOk result (λ code. code ≡ first_failing whole.now.types whole.now.watched earlier_types.now earlier_entries.now earlier_rules.now before body.now) }
 {
     if is_unbuilt(body) {
         return Ok(Some(CheckCode::NotBuilt));
@@ -184,7 +195,7 @@ fn failing(
     if exceeds_limits(earlier_types.len(), known.len(), earlier_rules.len(), body) {
         return Ok(Some(CheckCode::LimitPassed));
     }
-    failing_use(alloc, types, body)
+    failing_use(alloc, whole, body)
 }
 
 fn with_type(alloc: Global, names: Places, body: &Body) -> Result<Places, NoMemory>
@@ -234,9 +245,10 @@ fn number_of(place: usize) -> u32
     (place + 1).min(4_294_967_295) as u32
 }
 
-/// The first failure of the items of a file, whose types these are.
-pub(crate) fn refusal(alloc: Global, types: &Declared, items: &[Item]) -> Result<(), CheckFault>
-    requires { types.now ≡ types_of items.now }
+/// The first failure of the items of a file, of which this is said as a whole.
+pub(crate) fn refusal(alloc: Global, whole: &Whole, items: &[Item]) -> Result<(), CheckFault>
+    requires types { whole.now.types ≡ types_of items.now }
+    requires watched { whole.now.watched ≡ watched_names items.now }
     ensures { Judges result (failure_from items.now [] items.now) }
 {
     let mut earlier_types = Places::new(alloc);
@@ -247,7 +259,7 @@ pub(crate) fn refusal(alloc: Global, types: &Declared, items: &[Item]) -> Result
         known = with_entries(alloc, known, &item.body)?;
         match failing(
             alloc,
-            types,
+            whole,
             &earlier_types,
             &earlier_entries,
             &earlier_rules,

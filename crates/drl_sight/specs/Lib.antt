@@ -1,6 +1,7 @@
 pub mod Names
 pub mod Declarations
 pub mod Annotations
+pub mod Observed
 pub mod EntryPoints
 pub mod Sight
 pub mod Meanings

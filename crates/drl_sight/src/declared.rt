@@ -87,6 +87,13 @@ impl<'a> DeclaredType<'a> {
         Ok(DeclaredType { tree, fields })
     }
 
+    /// Its name.
+    pub fn name(&self) -> &Text
+        ensures { result.now ≡ self.now.name }
+    {
+        &self.tree.name
+    }
+
     /// Whether it is a type of events.
     pub fn is_event(&self) -> bool
         ensures { result ≡ is_event self.now }

@@ -7,6 +7,7 @@ mod annotations;
 mod declared;
 mod entries;
 mod names;
+mod observed;
 mod operands;
 mod places;
 mod sight;
@@ -15,6 +16,7 @@ pub use annotations::{duration_field, expiry_offset, is_event_tree, timestamp_fi
 pub use declared::{Declared, DeclaredType, kind_of_word, names_of_fields};
 pub use entries::{default_entry, entry_points, lateness_of_entry, source_of, with_entries};
 pub use names::{differ, has_at_most};
+pub use observed::watched_types;
 pub use operands::{LeafTest, OperandTest, some_leaf, some_operand};
 pub use places::Places;
 pub use sight::{Meaning, Place, Seen, binds};

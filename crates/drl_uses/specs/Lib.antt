@@ -1,3 +1,4 @@
 pub mod Uses
 pub mod Kinds
+pub mod Times
 pub mod Asked

@@ -1,0 +1,29 @@
+ghost use Rattle.std.specs.Prelude.{◌≡◌, IfOk};
+ghost use Rattle.drl_sight.specs.Declarations.{types_of};
+ghost use Rattle.drl_sight.specs.Observed.{watched_names};
+
+use drl_grammar::Item;
+use drl_sight::{Declared, Places, watched_types};
+use fx_base::NoMemory;
+use std::alloc::Global;
+
+/// What a file says as a whole: the types that it declares, and the names of those that its conditions watch. Both are
+/// gathered once.
+#[derive(Drop)]
+pub(crate) struct Whole<'a> {
+    pub(crate) types: Declared<'a>,
+    pub(crate) watched: Places,
+}
+
+impl<'a> Whole<'a> {
+    /// That of these items.
+    pub(crate) fn of(alloc: Global, items: &'a [Item]) -> Result<Whole<'a>, NoMemory>
+        ensures types { IfOk result (λ whole. whole.types ≡ types_of items.now) }
+        ensures watched { IfOk result (λ whole. whole.watched ≡ watched_names items.now) }
+    {
+        Ok(Whole {
+            types: Declared::of(alloc, items)?,
+            watched: watched_types(alloc, items)?,
+        })
+    }
+}

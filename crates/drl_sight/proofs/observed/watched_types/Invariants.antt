@@ -1,0 +1,6 @@
+use Rattle.std.proofs.Common.{◌≡◌, ◌++◌, drop}
+use Rattle.drl_sight.specs.Observed.{watched_names}
+use Rattle.drl_sight.proofs.observed.watched_types.Given as goal
+
+abbrev pub invariant-loop-item : goal.invariant-loop-item
+invariant-loop-item l = l.names ++ watched_names (drop l.item-index l.items) ≡ watched_names l.items
