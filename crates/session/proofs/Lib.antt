@@ -3,6 +3,7 @@ pub mod Alike
 pub mod Fewer
 pub mod Members
 pub mod Timers
+pub mod Leaving
 pub mod Exactly
 pub mod Newest
 pub mod Stands

@@ -11,7 +11,7 @@ use Rattle.rule_world.specs.Worlds.{World, fact_of}
 use Rattle.rule_world.proofs.Fresh.{below_of}
 use Rattle.rule_world.proofs.Found.{fact_in}
 use Rattle.rule_world.proofs.Ids.{one_id}
-use Rattle.rule_world.proofs.Staying.{found_in}
+use Rattle.rule_world.proofs.Found.{found_in}
 use Rattle.session.specs.Places.{IsNewestTag, IsSafe, newest, newest_below}
 use Rattle.session.specs.Standing.{Contents}
 use Rattle.session.proofs.Exactly.{Exact}
