@@ -15,7 +15,7 @@ use Rattle.rule_model.specs.declared.program.Program.{Program}
 use Rattle.rule_model.specs.Rows.{rows}
 use Rattle.rule_model.specs.Distinct.{HaveDistinctTags}
 use Rattle.rule_model.proofs.Firsts.{or_split}
-use Rattle.rule_model.proofs.Listed.{in_map, in_left, in_right, listed_row}
+use Rattle.rule_model.proofs.Listed.{in_map, in_left, in_right}
 use Rattle.rule_model.proofs.Named.{named_of}
 use Rattle.rule_rows.specs.Over.{over, behind, names_tag, names_added}
 use Rattle.rule_rows.proofs.Sets.{has_in}
@@ -60,7 +60,7 @@ module _ (p : Program) (clock : ℤ) (cs : List Condition) where
   none_names : (facts : List Fact) (f : Fact) → HaveDistinctTags (facts ++ f ∷ []) → (row : Row) → has (rows p (over facts clock) cs) row ≡ true → names_tag f.tag row ≡ true → ⊥
   none_names facts f d row h n =
       let q = named_in f.tag row.facts n in
-      let g = named_of p (over facts clock) cs row (listed_row p (over facts clock) cs row (has_in row (rows p (over facts clock) cs) h)) q.0 q.1 in
+      let g = named_of p (over facts clock) cs row (has_in row (rows p (over facts clock) cs) h) q.0 q.1 in
       last_apart facts f g.0 d g.1 (ap (λ (m : Named). m.tag) g.2 ∙ q.2)
 
   -- no row over the others names the fact behind them

@@ -1,3 +1,5 @@
+pub mod Simple
+pub mod Present
 pub mod Leading
 pub mod Extending
 pub mod Coming

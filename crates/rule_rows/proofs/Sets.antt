@@ -1,5 +1,5 @@
 -- Rows as a set, and what tuples say of it.
-use Rattle.std.proofs.Common.{◌≡◌, ◌↔◌, ◌⊎◌, ℕ, ℤ, ◌==◌, ◌||◌, inl, inr, Bool, true, false, List, [], ◌∷◌, ◌++◌, map, refl, sym, ap, subst, arith}
+use Rattle.std.proofs.Common.{◌≡◌, ◌↔◌, ◌⊎◌, ℕ, ℤ, ◌==◌, ◌||◌, inl, inr, Bool, true, false, List, [], ◌∷◌, ◌++◌, map, refl, sym, ◌∙◌, ap, subst, arith}
 use Rattle.std.specs.Prelude.{Result, Ok, Err, IfOk}
 use Rattle.std.specs.List.{list_any}
 use Rattle.std.specs.Ordering.{eq_by_cmp}
@@ -13,12 +13,14 @@ use Rattle.row_delta.specs.Rows.{row_cmp, has}
 use Rattle.row_delta.specs.RowOrder.{row_exact, same_equiv}
 use Rattle.rule_model.specs.declared.condition.Condition.{Condition}
 use Rattle.rule_model.specs.declared.program.Program.{Program}
-use Rattle.rule_model.specs.Rows.{Tuple, empty_tuple, IsRow, Makes, name_of, row_of, rows}
-use Rattle.rule_model.specs.Snapshots.{Snapshot}
+use Rattle.rule_model.specs.Rows.{rows}
+use Rattle.rule_model.specs.Simple.{are_simple}
+use Rattle.rule_model.specs.Tuples.{Tuple, empty_tuple, name_of, row_of}
 use Rattle.rule_model.proofs.Firsts.{or_left, or_right, or_split}
-use Rattle.rule_model.proofs.Listed.{in_map, of_map, row_listed, listed_row}
-use Rattle.rule_rows.specs.Found.{AreNew}
+use Rattle.rule_model.proofs.Listed.{in_map, of_map}
+use Rattle.rule_rows.specs.Found.{tuples_over, AreNew}
 use Rattle.rule_rows.specs.Over.{over, names_tag}
+use Rattle.rule_rows.proofs.Simple.{rows_are}
 
 pub in_has : (r : Row) (rs : List Row) → In r rs → has rs r ≡ true
 in_has r [] i = absurd i
@@ -39,48 +41,46 @@ pub if_ok : {T E : Type 0} (r : Result T E) (v : T) (P : T → Type 0) → IfOk 
 if_ok (Ok x) v P e p = subst P (sym e) p
 if_ok (Err e) v P h p = tt
 
--- the row of a tuple that conditions make
-made_has : (p : Program) (s : Snapshot) (cs : List Condition) (t : Tuple) (r : Row) → row_of t ≡ r → Makes p s cs empty_tuple t → has (rows p s cs) r ≡ true
-made_has p s cs t r e m = in_has r (rows p s cs) (row_listed p s cs r (record { tuple = t; made = m; named = e }))
-
-has_row : (p : Program) (s : Snapshot) (cs : List Condition) (r : Row) → has (rows p s cs) r ≡ true → IsRow p s cs r
-has_row p s cs r h = listed_row p s cs r (has_in r (rows p s cs) h)
-
 named_has : (ts : List Tuple) (t : Tuple) (r : Row) → row_of t ≡ r → In t ts → has (map row_of ts) r ≡ true
 named_has ts t r e i = in_has r (map row_of ts) (subst (λ (z : Row). In z (map row_of ts)) e (in_map row_of t ts i))
 
--- the rows of all tuples that conditions make
-pub rows_found : (p : Program) (s : Snapshot) (cs : List Condition) (all : List Tuple) → ((t : Tuple) → In t all ↔ Makes p s cs empty_tuple t)
-    → (r : Row) → has (map row_of all) r ≡ has (rows p s cs) r
-rows_found p s cs all found r = same_bool _ _ forth back
-  where
-    forth : has (map row_of all) r ≡ true → has (rows p s cs) r ≡ true
-    forth h = let q = of_map row_of r all (has_in r (map row_of all) h) in made_has p s cs q.0 r q.2 ((found q.0).0 q.1)
+has_named : (ts : List Tuple) (r : Row) → has (map row_of ts) r ≡ true → (t : Tuple) × In t ts × (row_of t ≡ r)
+has_named ts r h = of_map row_of r ts (has_in r (map row_of ts) h)
 
-    back : has (rows p s cs) r ≡ true → has (map row_of all) r ≡ true
-    back h = let is = has_row p s cs r h in named_has all is.tuple r is.named ((found is.tuple).1 is.made)
+-- the same tuples have the same rows
+same_named : (ts us : List Tuple) → ((t : Tuple) → In t ts ↔ In t us) → (r : Row) → has (map row_of ts) r ≡ has (map row_of us) r
+same_named ts us same r = same_bool _ _ (λ h. let q = has_named ts r h in named_has us q.0 r q.2 ((same q.0).0 q.1)) (λ h. let q = has_named us r h in named_has ts q.0 r q.2 ((same q.0).1 q.1))
+
+-- the rows of all tuples that conditions make
+pub rows_found : (p : Program) (clock : ℤ) (facts : List Fact) (cs : List Condition) (all : List Tuple) → are_simple cs ≡ true
+    → ((t : Tuple) → In t all ↔ In t (tuples_over p clock facts cs empty_tuple)) → (r : Row) → has (map row_of all) r ≡ has (rows p (over facts clock) cs) r
+rows_found p clock facts cs all e found r =
+    same_named all (tuples_over p clock facts cs empty_tuple) found r ∙ ap (λ rs. has rs r) (sym (rows_are p clock facts cs e))
+
+-- the rows of tuples that are these and those
+both_named : (wide narrow come : List Tuple) → ((t : Tuple) → In t wide ↔ (In t come ⊎ In t narrow)) → (r : Row) → has (map row_of wide) r ≡ (has (map row_of narrow) r || has (map row_of come) r)
+both_named wide narrow come grown r = same_bool _ _ forth back
+  where
+    split : (t : Tuple) → row_of t ≡ r → In t come ⊎ In t narrow → (has (map row_of narrow) r || has (map row_of come) r) ≡ true
+    split t e (inl i) = or_right (has (map row_of narrow) r) (has (map row_of come) r) (named_has come t r e i)
+    split t e (inr i) = or_left (has (map row_of narrow) r) (has (map row_of come) r) (named_has narrow t r e i)
+
+    forth : has (map row_of wide) r ≡ true → (has (map row_of narrow) r || has (map row_of come) r) ≡ true
+    forth h = let q = has_named wide r h in split q.0 q.2 ((grown q.0).0 q.1)
+
+    back : (has (map row_of narrow) r || has (map row_of come) r) ≡ true → has (map row_of wide) r ≡ true
+    back h = elim (or_split (has (map row_of narrow) r) (has (map row_of come) r) h) [
+      | inl k ↦ (let q = has_named narrow r k in named_has wide q.0 r q.2 ((grown q.0).1 (inr q.1)))
+      | inr k ↦ (let q = has_named come r k in named_has wide q.0 r q.2 ((grown q.0).1 (inl q.1)))
+    ]
 
 module _ (p : Program) (clock : ℤ) (facts : List Fact) (f : Fact) (cs : List Condition) (come : List Tuple) (new : AreNew p clock facts f cs come) where
-  split : (r : Row) (t : Tuple) → row_of t ≡ r → In t come ⊎ Makes p (over facts clock) cs empty_tuple t → (has (rows p (over facts clock) cs) r || has (map row_of come) r) ≡ true
-  split r t e (inl i) = or_right (has (rows p (over facts clock) cs) r) (has (map row_of come) r) (named_has come t r e i)
-  split r t e (inr m) = or_left (has (rows p (over facts clock) cs) r) (has (map row_of come) r) (made_has p (over facts clock) cs t r e m)
-
-  forth : (r : Row) → has (rows p (over (facts ++ f ∷ []) clock) cs) r ≡ true → (has (rows p (over facts clock) cs) r || has (map row_of come) r) ≡ true
-  forth r h = let is = has_row p (over (facts ++ f ∷ []) clock) cs r h in split r is.tuple is.named ((new.grown is.tuple).0 is.made)
-
-  whole : (r : Row) (t : Tuple) → row_of t ≡ r → In t come ⊎ Makes p (over facts clock) cs empty_tuple t → has (rows p (over (facts ++ f ∷ []) clock) cs) r ≡ true
-  whole r t e i = made_has p (over (facts ++ f ∷ []) clock) cs t r e ((new.grown t).1 i)
-
-  back : (r : Row) → (has (rows p (over facts clock) cs) r || has (map row_of come) r) ≡ true → has (rows p (over (facts ++ f ∷ []) clock) cs) r ≡ true
-  back r h =
-      elim (or_split (has (rows p (over facts clock) cs) r) (has (map row_of come) r) h) [
-        | inl k ↦ (let is = has_row p (over facts clock) cs r k in whole r is.tuple is.named (inr is.made))
-        | inr k ↦ (let q = of_map row_of r come (has_in r (map row_of come) k) in whole r q.0 q.2 (inl q.1))
-      ]
-
   -- the rows over one fact more
-  pub rows_grown : (r : Row) → has (rows p (over (facts ++ f ∷ []) clock) cs) r ≡ (has (rows p (over facts clock) cs) r || has (map row_of come) r)
-  rows_grown r = same_bool _ _ (forth r) (back r)
+  pub rows_grown : are_simple cs ≡ true → (r : Row) → has (rows p (over (facts ++ f ∷ []) clock) cs) r ≡ (has (rows p (over facts clock) cs) r || has (map row_of come) r)
+  rows_grown e r =
+      ap (λ rs. has rs r) (rows_are p clock (facts ++ f ∷ []) cs e)
+      ∙ both_named (tuples_over p clock (facts ++ f ∷ []) cs empty_tuple) (tuples_over p clock facts cs empty_tuple) come new.grown r
+      ∙ ap (λ rs. has rs r || has (map row_of come) r) (sym (rows_are p clock facts cs e))
 
   same_tag : (m n : ℕ) → m ≡ n → (n == m) ≡ true
   same_tag m n e = grind (arith, nat_tests)

@@ -1,7 +1,8 @@
 ghost use Rattle.std.specs.Prelude.{◌≡◌, ◌++◌, map, IfOk, OnOk};
 ghost use Rattle.std.specs.List.{flat_map};
 ghost use Rattle.rule_model.specs.Lent.{lent};
-ghost use Rattle.rule_model.specs.Rows.{empty_tuple, with_fact, row_of, passes};
+ghost use Rattle.rule_model.specs.Candidates.{passes};
+ghost use Rattle.rule_model.specs.Tuples.{empty_tuple, with_fact, row_of};
 ghost use Rattle.rule_rows.specs.Found.{extended_by};
 
 use fx_base::{Fact, NoMemory, Seq};
@@ -10,19 +11,20 @@ use rule_model::Pattern;
 use std::alloc::Global;
 use std::marker::Model;
 
-/// The facts that the first conditions of a rule bound, in their order.
+/// The facts that the first conditions of a rule bound, in their order. Simple conditions make no values.
 #[derive(Drop)]
 pub(crate) struct Bindings<'f> {
     facts: Vec<&'f Fact>,
 }
 
 impl<'f> Model for Bindings<'f> {
+    ghost use Rattle.std.specs.Prelude.{[]};
     ghost use Rattle.rule_model.specs.Lent.{lent, tuple_of};
-    ghost use Rattle.rule_model.specs.Rows.{Tuple};
+    ghost use Rattle.rule_model.specs.Tuples.{Tuple};
 
     ghost Value = { Tuple };
 
-    ghost view = { λ b. tuple_of (lent b.facts.items) };
+    ghost view = { λ b. tuple_of (lent b.facts.items) [] };
 }
 
 impl<'f> Bindings<'f> {
@@ -46,7 +48,7 @@ impl<'f> Bindings<'f> {
     fn are_passed_by(&self, pattern: &Pattern, fact: &Fact) -> bool
         ensures { result ≡ passes pattern.now self.now fact.now }
     {
-        pattern.passes_with(fact, &self.facts)
+        pattern.passes_with(fact, &self.facts, &[])
     }
 
     fn row(&self, alloc: Global) -> Result<Row, NoMemory>

@@ -5,6 +5,7 @@ ghost use Rattle.row_delta.specs.Rows.{has, InOrder, HasSameRows};
 ghost use Rattle.row_delta.specs.declared.row.Row.{Row};
 ghost use Rattle.rule_model.specs.Distinct.{HaveDistinctTags};
 ghost use Rattle.rule_model.specs.Rows.{rows};
+ghost use Rattle.rule_model.specs.Simple.{are_simple};
 ghost use Rattle.rule_rows.specs.Over.{over, behind, names_added};
 
 use crate::growing::rows_with;
@@ -38,6 +39,7 @@ fn rows_added(
     fact: Option<&Fact>,
     conditions: &[Condition],
 ) -> Result<Seq<Row>, NoMemory>
+    requires { are_simple conditions.now ≡ true }
     ensures order { IfOk result InOrder }
     ensures grown { IfOk result (λ come. (row : Row) → has (rows program.now (over (behind (facts_of others.now) (option_map (λ f. f.now) fact.entry)) clock) conditions.now) row
         ≡ (has (rows program.now (over (facts_of others.now) clock) conditions.now) row || has come row)) }
@@ -52,7 +54,7 @@ fn rows_added(
     }
 }
 
-/// What a change of one fact does to the rows of conditions, at a clock, over the other facts, which a store has: the fact that
+/// What a change of one fact does to the rows of simple conditions, at a clock, over the other facts, which a store has: the fact that
 /// leaves them, if one does, and the fact that is added to them, if one is. Where the tags of all these differ, it is the
 /// difference between the rows before and after.
 pub fn difference(
@@ -64,6 +66,7 @@ pub fn difference(
     after: Option<&Fact>,
     conditions: &[Condition],
 ) -> Result<Delta, NoMemory>
+    requires { are_simple conditions.now ≡ true }
     ensures between { HaveDistinctTags (behind (behind (facts_of others.now) (option_map (λ f. f.now) before.entry)) (option_map (λ f. f.now) after.entry))
         → IfOk result (IsBetween (rows program.now (over (behind (facts_of others.now) (option_map (λ f. f.now) before.entry)) clock) conditions.now)
         (rows program.now (over (behind (facts_of others.now) (option_map (λ f. f.now) after.entry)) clock) conditions.now)) }

@@ -1,11 +1,13 @@
-ghost use Rattle.std.specs.Prelude.{◌≡◌, ◌↔◌, [], ◌∷◌, IfOk};
+ghost use Rattle.std.specs.Prelude.{◌≡◌, ◌↔◌, [], ◌∷◌, true, IfOk};
 ghost use Rattle.std.specs.List.{flat_map};
 ghost use Rattle.fx_base.specs.Lists.{In};
 ghost use Rattle.fact_store.specs.Held.{facts_of};
 ghost use Rattle.row_delta.specs.Rows.{HasSameRows};
 ghost use Rattle.rule_model.specs.Lent.{lent};
-ghost use Rattle.rule_model.specs.Rows.{Tuple, empty_tuple, Makes, rows};
-ghost use Rattle.rule_rows.specs.Found.{extended};
+ghost use Rattle.rule_model.specs.Rows.{rows};
+ghost use Rattle.rule_model.specs.Simple.{are_simple};
+ghost use Rattle.rule_model.specs.Tuples.{Tuple, empty_tuple};
+ghost use Rattle.rule_rows.specs.Found.{extended_over, tuples_over};
 ghost use Rattle.rule_rows.specs.Over.{over};
 
 use crate::bindings::{Bindings, extend_all, rows_named};
@@ -25,7 +27,7 @@ pub(crate) fn unbound<'f>(alloc: Global) -> Result<Vec<Bindings<'f>>, NoMemory>
     Ok(all)
 }
 
-// The bindings that one condition makes of these.
+// The bindings that one simple condition makes of these.
 fn extended_all<'f>(
     alloc: Global,
     moment: &Moment,
@@ -33,26 +35,29 @@ fn extended_all<'f>(
     all: &[Bindings<'f>],
     facts: &[&'f Fact],
 ) -> Result<Vec<Bindings<'f>>, NoMemory>
-    ensures { IfOk result (λ next. next.items ≡ flat_map (extended moment.now.program.now (over (lent facts.now) moment.now.clock) condition.now) all.now) }
+    ensures { IfOk result (λ next. next.items ≡ flat_map (extended_over moment.now.program.now moment.now.clock (lent facts.now) condition.now) all.now) }
 {
-    let mut next = Vec::new(alloc);
     match condition {
         Condition::Plain(pattern) => {
             let found = moment.candidates(alloc, pattern, facts)?;
+            let mut next = Vec::new(alloc);
             extend_all(alloc, &mut next, pattern, all, &found)?;
+            Ok(next)
+        }
+        Condition::Negated(_) | Condition::Existing(_) | Condition::Folded(_) => {
+            Ok(Vec::new(alloc))
         }
     }
-    Ok(next)
 }
 
-// The bindings that conditions make of nothing over these facts.
+// The bindings that simple conditions make of nothing over these facts.
 fn found_bindings<'f>(
     alloc: Global,
     moment: &Moment,
     conditions: &[Condition],
     facts: &[&'f Fact],
 ) -> Result<Vec<Bindings<'f>>, NoMemory>
-    ensures { IfOk result (λ all. (t : Tuple) → In t all.items ↔ Makes moment.now.program.now (over (lent facts.now) moment.now.clock) conditions.now empty_tuple t) }
+    ensures { IfOk result (λ all. (t : Tuple) → In t all.items ↔ In t (tuples_over moment.now.program.now moment.now.clock (lent facts.now) conditions.now empty_tuple)) }
 {
     let mut all = unbound(alloc)?;
     for condition in conditions {
@@ -61,7 +66,7 @@ fn found_bindings<'f>(
     Ok(all)
 }
 
-/// The rows of conditions over the facts of a store, at a clock.
+/// The rows of simple conditions over the facts of a store, at a clock.
 pub fn rows_of(
     alloc: Global,
     program: &Program,
@@ -69,6 +74,7 @@ pub fn rows_of(
     facts: &FactStore,
     conditions: &[Condition],
 ) -> Result<Seq<Row>, NoMemory>
+    requires { are_simple conditions.now ≡ true }
     ensures { IfOk result (λ found. HasSameRows found (rows program.now (over (facts_of facts.now) clock) conditions.now)) }
 {
     let all_facts = facts.facts(alloc)?;

@@ -5,8 +5,9 @@ ghost use Rattle.row_delta.specs.Rows.{has};
 ghost use Rattle.row_delta.specs.declared.row.Row.{Row};
 ghost use Rattle.rule_model.specs.declared.condition.Condition.TheVariants.{Plain};
 ghost use Rattle.rule_model.specs.Lent.{lent};
-ghost use Rattle.rule_model.specs.Rows.{candidates as candidates_of, rows};
-ghost use Rattle.rule_rows.specs.Found.{extended, extended_by, with_next, may_bind, may_bind_from, AreNew};
+ghost use Rattle.rule_model.specs.Rows.{rows};
+ghost use Rattle.rule_model.specs.Simple.{are_simple};
+ghost use Rattle.rule_rows.specs.Found.{fitting, extended_by, extended_over, with_next, may_bind, may_bind_from, AreNew};
 ghost use Rattle.rule_rows.specs.Over.{over, names_tag};
 
 use crate::bindings::{Bindings, extend_all, rows_named};
@@ -44,7 +45,7 @@ fn older_candidates<'f>(
     needed: bool,
 ) -> Result<Vec<&'f Fact>, NoMemory>
     ensures same { facts.new ≡ facts.old }
-    ensures found { IfOk result (λ found. lent found.items ≡ (if needed then candidates_of moment.now.program.now pattern.now (over facts.old moment.now.clock) else [])) }
+    ensures found { IfOk result (λ found. lent found.items ≡ (if needed then fitting moment.now.program.now pattern.now moment.now.clock facts.old else [])) }
 {
     if needed {
         facts.candidates(alloc, moment, pattern)
@@ -124,7 +125,7 @@ impl<'f> Growing<'f> {
         ensures same { facts.new ≡ facts.old }
         ensures fact { IfOk result (λ next. next.fact.now ≡ self.now.fact.now) }
         ensures with { IfOk result (λ next. next.with.items ≡ with_next moment.now.program.now moment.now.clock facts.old self.now.fact.now (Plain pattern.now) self.now.with.items self.now.without.items) }
-        ensures without { IfOk result (λ next. next.without.items ≡ (if more then flat_map (extended moment.now.program.now (over facts.old moment.now.clock) (Plain pattern.now)) self.now.without.items else [])) }
+        ensures without { IfOk result (λ next. next.without.items ≡ (if more then flat_map (extended_over moment.now.program.now moment.now.clock facts.old (Plain pattern.now)) self.now.without.items else [])) }
     {
         let older = older_candidates(alloc, moment, pattern, facts, self.needs_older(more))?;
         let with = self.extended_with(alloc, pattern, &older, fits)?;
@@ -136,7 +137,7 @@ impl<'f> Growing<'f> {
         })
     }
 
-    // What one condition makes of them, by whether it may bind the fact, and whether more conditions may. Those without the fact are
+    // What one simple condition makes of them, by whether it may bind the fact, and whether more conditions may. Those without the fact are
     // left out unless more conditions may bind it.
     fn next(
         &self,
@@ -151,12 +152,17 @@ impl<'f> Growing<'f> {
         ensures same { facts.new ≡ facts.old }
         ensures fact { IfOk result (λ next. next.fact.now ≡ self.now.fact.now) }
         ensures with { IfOk result (λ next. next.with.items ≡ with_next moment.now.program.now moment.now.clock facts.old self.now.fact.now condition.now self.now.with.items self.now.without.items) }
-        ensures without { IfOk result (λ next. next.without.items ≡ (if more then flat_map (extended moment.now.program.now (over facts.old moment.now.clock) condition.now) self.now.without.items else [])) }
+        ensures without { IfOk result (λ next. next.without.items ≡ (if more then flat_map (extended_over moment.now.program.now moment.now.clock facts.old condition.now) self.now.without.items else [])) }
     {
         match condition {
             Condition::Plain(pattern) => {
                 self.next_plain(alloc, moment, pattern, facts, fits, more)
             }
+            Condition::Negated(_) | Condition::Existing(_) | Condition::Folded(_) => Ok(Growing {
+                fact: self.fact,
+                with: Vec::new(alloc),
+                without: Vec::new(alloc),
+            }),
         }
     }
 }
@@ -189,7 +195,7 @@ fn new_bindings<'f>(
     Ok(growing.with)
 }
 
-/// The rows of conditions, at a clock, that come when a fact is added behind those of a store: each of them names it. Where none of
+/// The rows of simple conditions, at a clock, that come when a fact is added behind those of a store: each of them names it. Where none of
 /// the conditions takes the fact, no other fact is looked at, and it takes no memory.
 pub fn rows_with(
     alloc: Global,
@@ -199,6 +205,7 @@ pub fn rows_with(
     fact: &Fact,
     conditions: &[Condition],
 ) -> Result<Seq<Row>, NoMemory>
+    requires { are_simple conditions.now ≡ true }
     ensures grown { IfOk result (λ come. (row : Row) → has (rows program.now (over (facts_of facts.now ++ fact.now ∷ []) clock) conditions.now) row
         ≡ (has (rows program.now (over (facts_of facts.now) clock) conditions.now) row || has come row)) }
     ensures named { IfOk result (λ come. (row : Row) → has come row ≡ true → names_tag fact.now.tag row ≡ true) }

@@ -1,5 +1,5 @@
-//! Finds the rows of conditions over the facts of a store: all of them, those that come with one fact more, or what a change of one
-//! fact does to them.
+//! Finds the rows of simple conditions over the facts of a store: all of them, those that come with one fact more, or what a change of
+//! one fact does to them. Simple are patterns without windows; the other conditions are not this crate's.
 //! It stands on the definitions of `rule_model` and on the calls of `fact_store`.
 #![tactic(auto)]
 
@@ -7,6 +7,7 @@ mod bindings;
 mod changing;
 mod finding;
 mod growing;
+pub mod laws;
 mod moment;
 mod older;
 

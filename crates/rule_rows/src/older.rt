@@ -1,8 +1,7 @@
 ghost use Rattle.std.specs.Prelude.{◌≡◌, IfOk};
 ghost use Rattle.fact_store.specs.Held.{facts_of};
 ghost use Rattle.rule_model.specs.Lent.{lent};
-ghost use Rattle.rule_model.specs.Rows.{candidates as candidates_of};
-ghost use Rattle.rule_rows.specs.Over.{over};
+ghost use Rattle.rule_rows.specs.Found.{fitting};
 
 use crate::moment::Moment;
 use fact_store::FactStore;
@@ -41,7 +40,7 @@ impl<'f> Older<'f> {
         }
     }
 
-    /// Those among them that a pattern may take.
+    /// The candidates of a pattern without a window among them.
     pub(crate) fn candidates(
         &mut self,
         alloc: Global,
@@ -49,7 +48,7 @@ impl<'f> Older<'f> {
         pattern: &Pattern,
     ) -> Result<Vec<&'f Fact>, NoMemory>
         ensures same { self.new ≡ self.old }
-        ensures found { IfOk result (λ found. lent found.items ≡ candidates_of moment.now.program.now pattern.now (over self.old moment.now.clock)) }
+        ensures found { IfOk result (λ found. lent found.items ≡ fitting moment.now.program.now pattern.now moment.now.clock self.old) }
     {
         if let Some(all) = &self.listed {
             return moment.candidates(alloc, pattern, all);

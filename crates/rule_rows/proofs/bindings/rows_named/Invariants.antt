@@ -1,5 +1,5 @@
 use Rattle.std.proofs.Common.{◌≡◌, ◌++◌, map, drop}
-use Rattle.rule_model.specs.Rows.{row_of}
+use Rattle.rule_model.specs.Tuples.{row_of}
 use Rattle.rule_rows.proofs.bindings.rows_named.Given as goal
 
 abbrev pub invariant-loop-bindings : goal.invariant-loop-bindings

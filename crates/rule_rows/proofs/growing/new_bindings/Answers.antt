@@ -2,8 +2,7 @@ use Rattle.std.proofs.Common.{◌≡◌, ◌+◌, ◌∷◌, ◌∙◌, ap, sym,
 use Rattle.std.specs.List.{flat_map}
 use Rattle.fx_base.specs.declared.fact.Fact.{Fact}
 use Rattle.fact_store.specs.Held.{facts_of}
-use Rattle.rule_rows.specs.Found.{extended, with_next, may_bind}
-use Rattle.rule_rows.specs.Over.{over}
+use Rattle.rule_rows.specs.Found.{extended_over, with_next, may_bind}
 use Rattle.rule_rows.proofs.Leading.{rest_at, no_more}
 use Rattle.rule_rows.proofs.Coming.{none_new, place_turn, place_end, fits_at, fits_behind, none_left}
 use Rattle.rule_rows.proofs.growing.new_bindings.Goals as goal
@@ -46,7 +45,7 @@ loop-place-preserved c =
           (λ less. none_left (may_bind p clock f) cs k c.in-Some.last less c.in-Some.ensures.last)
           (c.in_ok-growing.ensures.with ∙ ap (λ fs. with_next p clock fs c.loop-place.growing.fact.now item with without) c.loop-place.invariant.older
           ∙ ap (λ g. with_next p clock facts g item with without) c.loop-place.invariant.fact)
-          (c.in_ok-growing.ensures.without ∙ ap (λ fs. cond (ltb k c.in-Some.last) (flat_map (extended p (over fs clock) item) without) []) c.loop-place.invariant.older)
+          (c.in_ok-growing.ensures.without ∙ ap (λ fs. cond (ltb k c.in-Some.last) (flat_map (extended_over p clock fs item) without) []) c.loop-place.invariant.older)
           c.loop-place.invariant.stands;
     }
 

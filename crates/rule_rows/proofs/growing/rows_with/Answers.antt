@@ -1,6 +1,6 @@
 use Rattle.std.proofs.Common.{◌≡◌, ℤ, map, subst, to_z, of_z, to_z-of_z, w64}
 use Rattle.fact_store.specs.Held.{facts_of}
-use Rattle.rule_model.specs.Rows.{row_of}
+use Rattle.rule_model.specs.Tuples.{row_of}
 use Rattle.rule_rows.specs.Found.{AreNew}
 use Rattle.rule_rows.proofs.Sets.{if_ok, rows_grown, rows_named}
 use Rattle.rule_rows.proofs.growing.rows_with.Goals as goal
@@ -14,7 +14,7 @@ pub returns-clause-grown : goal.returns-clause-grown
 returns-clause-grown c =
     let named = simp (c.deref.ensures.value) at c.rows_named.ensures in
     if_ok c.rows_named.result (map row_of c.in_ok-come.come.items) _ named
-    (rows_grown c.args.program.now c.args.clock (facts_of c.args.facts.now) c.args.fact.now c.args.conditions.now c.in_ok-come.come.items (new c))
+    (rows_grown c.args.program.now c.args.clock (facts_of c.args.facts.now) c.args.fact.now c.args.conditions.now c.in_ok-come.come.items (new c) c.requires)
 
 pub returns-clause-named : goal.returns-clause-named
 returns-clause-named c =

@@ -1,6 +1,6 @@
 use Rattle.std.proofs.Common.{◌≡◌, ◌++◌, map, drop}
 use Rattle.rule_model.specs.Lent.{lent}
-use Rattle.rule_model.specs.Rows.{name_of}
+use Rattle.rule_model.specs.Tuples.{name_of}
 use Rattle.rule_rows.proofs.bindings.Bindings.row.Given as goal
 
 abbrev pub invariant-loop-fact : goal.invariant-loop-fact

@@ -1,7 +1,7 @@
 use Rattle.std.proofs.Common.{◌≡◌, ◌++◌, drop}
 use Rattle.std.specs.List.{filter}
 use Rattle.rule_model.specs.Lent.{lent}
-use Rattle.rule_model.specs.Rows.{fits}
+use Rattle.rule_model.specs.Candidates.{fits}
 use Rattle.rule_rows.proofs.moment.Moment.candidates.Given as goal
 
 abbrev pub invariant-loop-fact : goal.invariant-loop-fact
