@@ -18,6 +18,7 @@ use Rattle.fx_base.specs.Lists.{In}
 use Rattle.rule_model.specs.Rows.{rows}
 use Rattle.rule_world.specs.Worlds.{World, kept, present, snapshot, pending, first_pending, marked}
 use Rattle.rule_world.proofs.Acting.{steps_fit}
+use Rattle.rule_world.proofs.Found.{found_fits}
 use Rattle.rule_world.proofs.Fresh.{and_parts}
 use Rattle.rule_world.proofs.Keeping.{kept_lawful}
 use Rattle.rule_world.proofs.Kept.{kept_rows}

@@ -2,6 +2,7 @@
 use Rattle.rule_model.specs.declared.program.Program.{Program}
 use Rattle.rule_world.specs.Lawful.{IsLawful, IsOrdered}
 use Rattle.rule_world.specs.Programs.{IsRunnable}
+use Rattle.rule_world.proofs.Found.{found_fits}
 use Rattle.rule_world.specs.Worlds.{World, found}
 use Rattle.script_read.specs.declared.asked.Change.{Change}
 use Rattle.change_read.specs.Changes.{change_step}

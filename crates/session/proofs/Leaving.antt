@@ -188,5 +188,5 @@ module _ (p : Program) (simple : list_all is_simple_rule p.rules ≡ true) (cloc
       let own_rest : HaveOwnTags rest = λ t g e. own t g (sym (same_at t) ∙ e) in
       refreshed_to p p.rules (at first) (at facts) (at rest) a b
       (same_matches p (at facts) (at rest) refl (held_distinct facts own) (held_distinct rest own_rest)
-      (λ g i. let q = held_of rest g i in in_held facts g q.0 (sym (same_at q.0) ∙ q.1))
-      (λ g i. let q = held_of facts g i in in_held rest g q.0 (same_at q.0 ∙ q.1)) p.rules) r
+      (λ g i. let q = held_of facts g i in in_held rest g q.0 (same_at q.0 ∙ q.1))
+      (λ g i. let q = held_of rest g i in in_held facts g q.0 (sym (same_at q.0) ∙ q.1)) p.rules) r

@@ -1,8 +1,9 @@
 -- What the facts of a session wait for, where facts come and go.
-use Rattle.std.proofs.Common.{◌≡◌, ℕ, ℤ, ◌==◌, ◌-ℤ◌, ◌+ℤ◌, ◌||◌, not, Bool, true, false, cond, int_lt, nat_eq, List, Option, Some, None, if◌then◌else◌, refl, sym, ◌∙◌, ap, arith}
+use Rattle.std.proofs.Common.{◌≡◌, ℕ, ℤ, ◌==◌, ◌-ℤ◌, ◌+ℤ◌, ◌||◌, not, Bool, true, false, cond, int_lt, nat_eq, is_some, List, Option, Some, None, if◌then◌else◌, refl, sym, ◌∙◌, ap, arith}
 use Rattle.std.specs.Prelude.{int_le}
 use Rattle.std.specs.Cmp.{nat_cmp_total}
-use Rattle.std.specs.FinMap.{get-insert, get-retain_keys}
+use Rattle.std.specs.Bool.{OnTrue, OnFalse}
+use Rattle.std.specs.FinMap.{get-insert, get-remove, get-retain_keys}
 use Rattle.std.specs.List.{list_any}
 use Rattle.std.specs.Ordering.{nat_cmp, eq_by_cmp, is_eq}
 use Rattle.std.specs.declared.cmp.Ordering.TheVariants.{Equal}
@@ -33,6 +34,35 @@ other_number m n e h = grind (arith, nat_tests)
 
 its_own : (n : ℕ) → nat_eq n n ≡ true
 its_own n = grind (arith, nat_tests)
+
+-- a timer is taken out, if it is there
+is_there : (timers : Timers) (tag : ℕ) → map.contains_key timers tag ≡ is_some (map.get timers tag)
+is_there timers tag = refl
+
+none_there : (o : Option ℤ) → false ≡ is_some o → o ≡ None
+none_there None e = refl
+none_there (Some at) e = absurd (let n : false ≡ true = e in cc)
+
+same_test : (other tag : ℕ) → eq_by_cmp nat_cmp other tag ≡ nat_eq tag other
+same_test other tag = by (nat_eq tag other) refl
+  where
+    by : (b : Bool) → nat_eq tag other ≡ b → eq_by_cmp nat_cmp other tag ≡ nat_eq tag other
+    by true e = ap (λ t. eq_by_cmp nat_cmp other t) (same_number tag other e) ∙ itself other ∙ sym e
+    by false e = apart (eq_by_cmp nat_cmp other tag) refl ∙ sym e
+      where
+        apart : (b : Bool) → eq_by_cmp nat_cmp other tag ≡ b → eq_by_cmp nat_cmp other tag ≡ false
+        apart true t = absurd (other_number tag other e (sym (tied other tag t)))
+        apart false t = t
+
+pub cancelled : (timers left : Timers) (tag : ℕ) (found : Bool) → found ≡ map.contains_key timers tag → OnTrue found (left ≡ map.remove timers tag) → OnFalse found (left ≡ timers)
+    → (other : ℕ) → map.get left other ≡ without_timer timers tag other
+cancelled timers left tag true e removed unchanged other =
+    ap (λ m. map.get m other) removed ∙ get-remove nat_cmp_total timers tag other ∙ ap (λ b. cond b None (map.get timers other)) (same_test other tag)
+cancelled timers left tag false e removed unchanged other = ap (λ m. map.get m other) unchanged ∙ by (nat_eq tag other) refl
+  where
+    by : (b : Bool) → nat_eq tag other ≡ b → map.get timers other ≡ (if b then None else map.get timers other)
+    by true h = ap (map.get timers) (sym (same_number tag other h)) ∙ none_there (map.get timers tag) (e ∙ is_there timers tag)
+    by false h = refl
 
 module _ (p : Program) (held : HeldFacts) (timers : Timers) (timed : AreTimed p held timers) where
   -- ---- one more

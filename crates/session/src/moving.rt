@@ -1,4 +1,4 @@
-ghost use Rattle.std.specs.Prelude.{◌≡◌, ◌+◌, ◌<◌, ◌^◌, ◌≤ℤ◌, ◌-ℤ◌, pos, true, None, IfOk};
+ghost use Rattle.std.specs.Prelude.{◌≡◌, ◌+◌, ◌<◌, ◌^◌, ◌≤ℤ◌, ◌-ℤ◌, ℕ, pos, true, false, None, IfOk};
 ghost use Rattle.rule_world.specs.Events.{end_of_presence, most_millis};
 ghost use Rattle.rule_model.specs.Candidates.{is_present};
 ghost use Rattle.rule_world.specs.Programs.{IsRunnable};

@@ -40,15 +40,15 @@ pub returns-in-None-2-clause-stands : goal.returns-in-None-2-clause-stands
 returns-in-None-2-clause-stands c =
     let p = c.args.program.now in
     let plain : is_event p c.args.ty.0 ≡ false = sym c.if-is_event.ensures in
-    IfOk-weaker c.refuse.result _ _ (λ s e w st. refused_moves p w (Retract c.args.ty c.args.id) Absent
-    (retract_fault_is p c.args.self w st c.args.ty c.args.id (Some Absent) (retract_absent p c.args.ty.0 (newest c.args.self c.args.id.0) plain (c.in-None.ensures.none refl))) c.args.self s e st) c.refuse.ensures.state
+    IfOk-weaker c.refuse-in-None-2.result _ _ (λ s e w st. refused_moves p w (Retract c.args.ty c.args.id) Absent
+    (retract_fault_is p c.args.self w st c.args.ty c.args.id (Some Absent) (retract_absent p c.args.ty.0 (newest c.args.self c.args.id.0) plain (c.in-None.ensures.none refl))) c.args.self s e st) c.refuse-in-None-2.ensures.state
 
 pub returns-in-None-2-clause-lines : goal.returns-in-None-2-clause-lines
 returns-in-None-2-clause-lines c =
     let p = c.args.program.now in
     let plain : is_event p c.args.ty.0 ≡ false = sym c.if-is_event.ensures in
-    on_ok_weaker c.refuse.result (λ e w st. refused_lines p w (Retract c.args.ty c.args.id) Absent
-    (retract_fault_is p c.args.self w st c.args.ty c.args.id (Some Absent) (retract_absent p c.args.ty.0 (newest c.args.self c.args.id.0) plain (c.in-None.ensures.none refl))) c.args.lines.now.items c.refuse.new.lines.items e) c.refuse.ensures.lines
+    on_ok_weaker c.refuse-in-None-2.result (λ e w st. refused_lines p w (Retract c.args.ty c.args.id) Absent
+    (retract_fault_is p c.args.self w st c.args.ty c.args.id (Some Absent) (retract_absent p c.args.ty.0 (newest c.args.self c.args.id.0) plain (c.in-None.ensures.none refl))) c.args.lines.now.items c.refuse-in-None-2.new.lines.items e) c.refuse-in-None-2.ensures.lines
 
 pub returns-then-are_observed-clause-stands : goal.returns-then-are_observed-clause-stands
 returns-then-are_observed-clause-stands c =

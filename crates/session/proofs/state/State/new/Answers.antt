@@ -1,0 +1,15 @@
+use Rattle.std.proofs.Common.{◌∙◌, ap, arith}
+use Rattle.std.specs.FinMap.{get-empty}
+use Rattle.std.specs.Ordering.{nat_cmp}
+use Rattle.session.proofs.Faults.{zero_clock}
+use Rattle.std.specs.FinMap as map
+use Rattle.session.proofs.state.State.new.Goals as goal
+
+pub invariant_of-result : goal.invariant_of-result
+invariant_of-result c = record {
+  fresh = λ tag le. ap (λ m. map.get m tag) c.new.ensures ∙ get-empty nat_cmp tag;
+  untimed = λ tag le. ap (λ m. map.get m tag) c.new-2.ensures ∙ get-empty nat_cmp tag;
+  ids = omega arith;
+  clock_low = zero_clock.0;
+  clock_high = zero_clock.1;
+}
