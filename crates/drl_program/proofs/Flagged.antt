@@ -112,25 +112,32 @@ module _ (types : List TypeTree) (few : length types ≤ 65536) (once : are_dist
     where
       names : List (List ℕ)
       names = type_names types
+
       own : slice_get names ty ≡ Some t.name
       own = slice_get-map (λ (u : TypeTree). u.name) types ty ∙ ap (option_map (λ (u : TypeTree). u.name)) stood
+
       found : slice_get names k ≡ Some name
       found =
           let there = stands_there 0 names name k e in
           let same : there.0 ≡ k = omega (arith, there.1) in
           subst (λ (j : ℕ). slice_get names j ≡ Some name) same there.2
+
       less : k < length types
       less = let under = slice_get_within names k name found in omega (arith, under, length-map types (λ (u : TypeTree). u.name))
+
       whole : min k 65535 ≡ k
       whole = omega (arith, less, few)
+
       at_own : t.name ≡ name → k ≡ ty
       at_own same =
           let placed = subst (λ (n : List ℕ). place_from 0 names n ≡ Some (0 + ty)) same (placed_where 0 names t.name ty once own) in
           let equal : Some k ≡ Some (0 + ty) = sym e ∙ placed in
           let plain : k ≡ 0 + ty = cc in
           omega (arith, plain)
+
       own_at : k ≡ ty → t.name ≡ name
       own_at same = let there = subst (λ (j : ℕ). slice_get names j ≡ Some name) same found in let equal : Some t.name ≡ Some name = sym own ∙ there in cc
+
       by : (p q : Bool) → bytes_eq t.name name ≡ p → (min k 65535 == ty) ≡ q → p ≡ q
       by true true h g = refl
       by false false h g = refl
@@ -180,7 +187,7 @@ module _ (types : List TypeTree) (few : length types ≤ 65536) (once : are_dist
         let rest = list_all (has_type types) cs in
         list_any-append (bytes_eq t.name) (observed_by c) (flat_map observed_by cs)
         ∙ either (list_any (bytes_eq t.name) (observed_by c)) (list_any (bytes_eq t.name) (flat_map observed_by cs)) (observes_type ty (condition_of types entries place c)) (list_any (observes_type ty) (conditions_of types entries (behind types place c) cs))
-            (condition_observes place c (and_left here rest d)) (conditions_observe (behind types place c) cs (and_right here rest d))
+        (condition_observes place c (and_left here rest d)) (conditions_observe (behind types place c) cs (and_right here rest d))
 
     pub rules_observe : (rules : List RuleTree) → list_all (has_types types) rules ≡ true → is_among (observed_names rules) t.name ≡ is_observed_in (map (rule_of types entries) rules) ty
     rules_observe [] d = refl
@@ -189,7 +196,7 @@ module _ (types : List TypeTree) (few : length types ≤ 65536) (once : are_dist
         let rest = list_all (has_types types) rules in
         list_any-append (bytes_eq t.name) (flat_map observed_by r.conditions) (observed_names rules)
         ∙ either (list_any (bytes_eq t.name) (flat_map observed_by r.conditions)) (is_among (observed_names rules) t.name) (list_any (observes_type ty) (rule_of types entries r).conditions) (is_observed_in (map (rule_of types entries) rules) ty)
-            (conditions_observe begin r.conditions (and_left here rest d)) (rules_observe rules (and_right here rest d))
+        (conditions_observe begin r.conditions (and_left here rest d)) (rules_observe rules (and_right here rest d))
 
 -- ---- the law
 
@@ -207,4 +214,4 @@ observed_are_flagged file few once declared ty =
     let observed = observed_names rules in
     let b = is_observed_in (map (rule_of types entries) rules) ty in
     subst (λ (o : Option TypeInfo). is_observed_type o ≡ (is_event_type o && b)) (sym (slice_get-map (type_info observed) types ty))
-        (flagged_by observed (slice_get types ty) b (λ t stood. rules_observe types few once entries t ty stood rules declared))
+    (flagged_by observed (slice_get types ty) b (λ t stood. rules_observe types few once entries t ty stood rules declared))

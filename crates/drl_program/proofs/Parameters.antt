@@ -1,5 +1,5 @@
 -- What a word with its parameters gives, by the answers of the table's own function.
-use Rattle.std.proofs.Common.{◌≡◌, ◌&&◌, ◌||◌, ◌<ℤ◌, ℤ, pos, neg_ℤ, ◌^◌, Bool, true, false, not, List, Option, Some, None, cond, refl, sym, subst, arith}
+use Rattle.std.proofs.Common.{◌≡◌, ◌&&◌, ◌||◌, ◌<ℤ◌, ℤ, pos, neg_ℤ, ◌^◌, Bool, true, false, not, List, Option, Some, None, cond, refl, sym, subst, arith, IfSome}
 use Rattle.std.specs.Prelude.{Any, int_le, int_lt}
 use Rattle.std.specs.List.{All, list_all, list_any}
 use Rattle.std.proofs.lemmas.Int.{ints}
@@ -8,10 +8,11 @@ use Rattle.std.proofs.lemmas.List.Folds.{Any-from_list_any, list_any-from_Any}
 use Rattle.std.proofs.lemmas.List.Sums.{AllPass-from_list_all}
 use Rattle.temporal_ops.specs.declared.edge.OpEdge.{OpEdge}
 use Rattle.temporal_ops.specs.declared.word.OpWord.{OpWord}
-use Rattle.temporal_ops.specs.Edges.{IsWithin}
+use Rattle.temporal_ops.specs.Edges.{IsWithin, IsOp}
 use Rattle.temporal_ops.specs.Laws.{Means}
 use Rattle.temporal_ops.specs.Operators.{edges_of}
 use Rattle.temporal_ops.specs.Table.{Row, says, no_row, row_of, takes_negative, HasRow}
+use Rattle.temporal_ops.proofs.Ops.{edges_are_ops}
 use Rattle.temporal_ops.proofs.Rows.{edges_mean_rows}
 use Rattle.drl_program.specs.Operators.{is_span, is_negative, operator_of}
 
@@ -64,6 +65,7 @@ operator_found word params op e h k = by (takes_negative word) (list_any is_nega
   where
     row : HasRow (row_of word params)
     row = has_row op (row_of word params) (subst (λ (o : Option (List OpEdge)). Means o (row_of word params)) h (edges_mean_rows word params))
+
     by : (a b : Bool) → takes_negative word ≡ a → list_any is_negative params ≡ b → Some op ≡ operator_of word params
     by true b t n = rw e (rw t (sym h))
     by false false t n = rw e (rw t (rw n (sym h)))
@@ -87,3 +89,13 @@ operator_refused word params h = rw h.1 (rw (below_some params h.2) (by (list_al
 
 pub operator_beyond : (word : OpWord) (params : List ℤ) → list_all is_span params ≡ false → None ≡ operator_of word params
 operator_beyond word params e = rw e refl
+
+-- ---- edges
+
+pub operator_is : (word : OpWord) (params : List ℤ) → IfSome (operator_of word params) IsOp
+operator_is word params = by (list_all is_span params) (takes_negative word || not (list_any is_negative params)) refl
+  where
+    by : (a b : Bool) → list_all is_span params ≡ a → IfSome (cond (a && b) (edges_of word params) None) IsOp
+    by true true e = edges_are_ops word params (spans_within params e)
+    by true false e = tt
+    by false b e = tt

@@ -9,6 +9,7 @@ use Rattle.drl_sight.specs.Declarations.{types_of, rules_of, type_names, type_na
 use Rattle.drl_sight.specs.EntryPoints.{source_of}
 use Rattle.drl_sight.specs.Names.{are_distinct}
 use Rattle.drl_sight.specs.Sight.{Place}
+use Rattle.rule_model.specs.Rows.{HaveOperators}
 use Rattle.rule_model.specs.Simple.{is_observed_in}
 use Rattle.rule_model.specs.Types.{is_event, is_observed}
 use Rattle.drl_program.specs.Programs.{conditions_of, program_of}
@@ -24,6 +25,11 @@ has_types types r = list_all (has_type types) r.conditions
 abbrev pub OneForEach : Type 0
 OneForEach = (types : List TypeTree) (entries : List (List ℕ)) (place : Place) (cs : List CondTree)
     → length (conditions_of types entries place cs) ≡ length cs
+
+-- each temporal test of the program has the edges of an operator
+abbrev pub EachHasOperator : Type 0
+EachHasOperator = (types : List TypeTree) (entries : List (List ℕ)) (place : Place) (cs : List CondTree)
+    → HaveOperators (conditions_of types entries place cs)
 
 -- Where each type is declared once, and each pattern names a declared type, as in every accepted file, a type is flagged as observed
 -- exactly where it is one of events and some condition of the program observes its facts.

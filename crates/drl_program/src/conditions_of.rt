@@ -135,7 +135,7 @@ fn argument(types: &Declared, source: &SourceTree, var: &Text) -> Option<u8>
 
 // ---- conditions
 
-/// The condition of a program that a tree is.
+// The condition of the program that a tree is.
 fn condition(
     alloc: Global,
     types: &Declared,

@@ -50,11 +50,7 @@ fn is_observed(observed: &Places, tree: &TypeTree) -> bool
     is_event_tree(tree) && observed.holds(&tree.name)
 }
 
-fn info_of_type(
-    alloc: Global,
-    observed: &Places,
-    tree: &TypeTree,
-) -> Result<TypeInfo, NoMemory>
+fn info_of_type(alloc: Global, observed: &Places, tree: &TypeTree) -> Result<TypeInfo, NoMemory>
     ensures { IfOk result (λ info. info ≡ type_info observed.now tree.now) }
 {
     let ty = DeclaredType::of(alloc, tree)?;

@@ -39,11 +39,7 @@ fn with_observed(alloc: Global, names: Places, tree: &CondTree) -> Result<Places
 }
 
 // The names, and behind them those of the types that conditions observe.
-fn with_all_observed(
-    alloc: Global,
-    names: Places,
-    trees: &[CondTree],
-) -> Result<Places, NoMemory>
+fn with_all_observed(alloc: Global, names: Places, trees: &[CondTree]) -> Result<Places, NoMemory>
     ensures { IfOk result (λ all. all ≡ names ++ flat_map observed_by trees.now) }
 {
     let mut names = names;

@@ -3,9 +3,7 @@ ghost use Rattle.std.specs.List.{filter, flat_map};
 ghost use Rattle.drl_sight.specs.Sight.{meaning_of};
 ghost use Rattle.drl_program.specs.Programs.{rel_tag, literal_value, variable_side, variable_field_side, times_in, result_side, result_test, side_of, compare_of, test_of, tests_in, is_joined, is_constant};
 
-use crate::numbers::{
-    fact_of_variable, field_number, variable_against, variable_field_against,
-};
+use crate::numbers::{fact_of_variable, field_number, variable_against, variable_field_against};
 use crate::operators::operator;
 use drl_expr::LitTree;
 use drl_grammar::{Cmp, Operand, Part};
