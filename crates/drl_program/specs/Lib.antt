@@ -1,1 +1,4 @@
+pub mod Observed
+pub mod Operators
 pub mod Programs
+pub mod Laws

@@ -1,11 +1,16 @@
 -- The program of a file. Each name has a place in what was declared; a name that was not declared, which no accepted file
 -- has, counts as the first.
-use Rattle.std.specs.Prelude.{ℕ, ℤ, min, Bool, true, false, not, List, [], ◌∷◌, ◌++◌, map, pos, Option, Some, None, option_map}
+use Rattle.std.specs.Prelude.{ℕ, ℤ, min, Bool, true, false, not, List, [], ◌∷◌, map, pos, negsuc, Option, Some, None, option_map, if◌then◌else◌}
 use Rattle.std.specs.List.{filter, flat_map}
+use Rattle.std.specs.Option.{option_and_then}
+use Rattle.std.specs.Str.{bytes_eq}
 use Rattle.fx_base.specs.declared.kind.Kind.{Kind}
 use Rattle.fx_base.specs.declared.kind.Kind.TheVariants as kind
 use Rattle.fx_base.specs.declared.value.Value.{Value}
 use Rattle.fx_base.specs.declared.value.Value.TheVariants as value
+use Rattle.fold_fn.specs.declared.kind.FoldKind.{FoldKind}
+use Rattle.fold_fn.specs.declared.kind.FoldKind.TheVariants as function
+use Rattle.temporal_ops.specs.declared.edge.OpEdge.{OpEdge}
 use Rattle.drl_lex.specs.declared.token.Rel.{Rel}
 use Rattle.drl_lex.specs.declared.token.Rel.TheVariants as rel
 use Rattle.drl_expr.specs.declared.literal.LitTree.{LitTree}
@@ -16,6 +21,10 @@ use Rattle.drl_grammar.specs.declared.action.ActTree.TheVariants as act
 use Rattle.drl_grammar.specs.declared.condition.CondTree.{CondTree}
 use Rattle.drl_grammar.specs.declared.condition.CondTree.TheVariants as tree
 use Rattle.drl_grammar.specs.declared.condition.SourceTree.{SourceTree}
+use Rattle.drl_grammar.specs.declared.condition.WindowTree.{WindowTree}
+use Rattle.drl_grammar.specs.declared.condition.WindowTree.TheVariants as window
+use Rattle.drl_grammar.specs.declared.condition.FoldWord.{FoldWord}
+use Rattle.drl_grammar.specs.declared.condition.FoldWord.TheVariants as fold
 use Rattle.drl_grammar.specs.declared.condition.Part.{Part}
 use Rattle.drl_grammar.specs.declared.condition.Part.TheVariants as part
 use Rattle.drl_grammar.specs.declared.condition.Cmp.{Cmp}
@@ -28,7 +37,7 @@ use Rattle.drl_grammar.specs.declared.file.File.{File}
 use Rattle.drl_grammar.specs.declared.file.Item.{Item}
 use Rattle.drl_grammar.specs.declared.file.TypeTree.{TypeTree}
 use Rattle.drl_grammar.specs.declared.file.RuleTree.{RuleTree}
-use Rattle.rule_model.specs.Expressions.{Expression, bound}
+use Rattle.rule_model.specs.Expressions.{Expression, bound, folded}
 use Rattle.rule_model.specs.Expressions as expression
 use Rattle.rule_model.specs.declared.action.Action.{Action}
 use Rattle.rule_model.specs.declared.action.Action.TheVariants.{Insert, Modify, Retract}
@@ -37,20 +46,27 @@ use Rattle.rule_model.specs.declared.program.TypeInfo.{TypeInfo}
 use Rattle.rule_model.specs.declared.program.EntryInfo.{EntryInfo}
 use Rattle.rule_model.specs.declared.program.Rule.{Rule}
 use Rattle.rule_model.specs.declared.condition.Condition.{Condition}
-use Rattle.rule_model.specs.declared.condition.Condition.TheVariants.{Plain}
+use Rattle.rule_model.specs.declared.condition.Condition.TheVariants.{Plain, Negated, Existing, Folded}
+use Rattle.rule_model.specs.declared.condition.Accumulate.{Accumulate}
 use Rattle.rule_model.specs.declared.condition.Pattern.{Pattern}
+use Rattle.rule_model.specs.declared.condition.WindowTag.{WindowTag}
+use Rattle.rule_model.specs.declared.condition.WindowTag.TheVariants.{Whole, Time, Length}
 use Rattle.rule_model.specs.declared.test.Test.{Test}
 use Rattle.rule_model.specs.declared.test.Compare.{Compare}
 use Rattle.rule_model.specs.declared.test.RelTag.{RelTag}
 use Rattle.rule_model.specs.declared.test.RelTag.TheVariants as tag
 use Rattle.rule_model.specs.declared.test.Side.{Side}
-use Rattle.rule_model.specs.declared.test.Side.TheVariants.{Lit, Own, Of}
+use Rattle.rule_model.specs.declared.test.Side.TheVariants.{Lit, Own, Of, Result}
+use Rattle.rule_model.specs.declared.test.TimeTest.{TimeTest}
+use Rattle.rule_model.specs.declared.test.ResultTest.{ResultTest}
 use Rattle.drl_sight.specs.Names.{place_of}
 use Rattle.drl_sight.specs.Declarations.{types_of, rules_of, type_names, field_names, type_named, kind_of}
 use Rattle.drl_sight.specs.Annotations.{is_event, timestamp_of, duration_of, expiry_of}
 use Rattle.drl_sight.specs.EntryPoints.{entry_names, lateness_named}
 use Rattle.drl_sight.specs.Sight.{Sight, Meaning, of_fact, of_field, of_result, meaning_of, Place, begin, behind, sight_of_actions}
 use Rattle.drl_sight.specs.Operands.{any_of_part}
+use Rattle.drl_program.specs.Observed.{observed_names, is_observed_event}
+use Rattle.drl_program.specs.Operators.{operator_of}
 
 -- a place as a number of 8 or 16 bits; types and entry points have 16
 abbrev pub small_place : Option ℕ → ℕ
@@ -74,14 +90,16 @@ kind_or_int (Some k) = k
 abbrev pub field_info : List ℕ × List ℕ → List ℕ × Kind
 field_info field = (field.0, kind_or_int (kind_of field.1))
 
-abbrev pub type_info : TypeTree → TypeInfo
-type_info t = record {
+-- given the names of the types that the rules of the file observe
+abbrev pub type_info : List (List ℕ) → TypeTree → TypeInfo
+type_info observed t = record {
   name = t.name;
   event = is_event t;
   fields = map field_info t.fields;
   timestamp = option_map (field_place t) (timestamp_of t.metas);
   duration = option_map (field_place t) (duration_of t.metas);
   expires = expiry_of t.metas;
+  observed = is_observed_event observed t;
 }
 
 -- ---- entry points, given the items of the file
@@ -109,11 +127,11 @@ literal_value (literal.Int n) = value.Int n
 literal_value (literal.Bool b) = value.Bool b
 literal_value (literal.Text s) = value.Text s
 
--- a variable that is no value counts as the first field of the pattern, and so does a result, which is not served yet
+-- a variable that is no value counts as the first field of the pattern
 abbrev pub variable_side : Option Meaning → Side
 variable_side (Some (of_field fact field k)) = Of (min fact 255) (min field 255)
 variable_side (Some (of_fact fact t)) = Own 0
-variable_side (Some (of_result result)) = Own 0
+variable_side (Some (of_result result)) = Result (min result 255)
 variable_side None = Own 0
 
 -- a field of a variable that is no fact counts as the first field of the pattern
@@ -136,7 +154,7 @@ compare_of t sight (cmp.OneOf f os) = record { field = field_place t f; rel = ta
 abbrev pub test_of : TypeTree → Sight → List (List Cmp) → Test
 test_of t sight groups = record { choices = map (λ (group : List Cmp). map (compare_of t sight) group) groups }
 
--- The test that a part is, where it is one. A binding is none, and a temporal test, which is not served yet, counts as none.
+-- the test of values that a part is, where it is one
 abbrev pub tests_in : TypeTree → Sight → Part → List Test
 tests_in t sight (part.Bind v f) = []
 tests_in t sight (part.Temporal op params other) = []
@@ -155,19 +173,90 @@ is_joined p = any_of_part is_variable p
 abbrev pub is_constant : Part → Bool
 is_constant p = not (is_joined p)
 
+-- the number of the fact that a variable means, and its type; a variable that is no fact counts as the first, of no fields
+abbrev pub fact_meant : Option Meaning → ℕ
+fact_meant (Some (of_fact fact t)) = min fact 255
+fact_meant (Some (of_field fact field k)) = 0
+fact_meant (Some (of_result result)) = 0
+fact_meant None = 0
+
+abbrev pub no_type : TypeTree
+no_type = record { name = []; metas = []; fields = [] }
+
+abbrev pub type_meant : Option Meaning → TypeTree
+type_meant (Some (of_fact fact t)) = t
+type_meant (Some (of_field fact field k)) = no_type
+type_meant (Some (of_result result)) = no_type
+type_meant None = no_type
+
+-- a temporal test, where there is its operator
+abbrev pub time_test : ℕ → Option (List OpEdge) → List TimeTest
+time_test fact None = []
+time_test fact (Some op) = record { op = op; fact = fact } ∷ []
+
+-- the temporal test that a part is, where it is one
+abbrev pub times_in : Sight → Part → List TimeTest
+times_in sight (part.Bind v f) = []
+times_in sight (part.Temporal word params other) = time_test (fact_meant (meaning_of sight other)) (operator_of word params)
+times_in sight (part.AnyOf groups) = []
+
+-- ---- windows; a count below 0, which no accepted file has, counts as 0
+
+abbrev pub count_of : ℤ → ℕ
+count_of (pos n) = n
+count_of (negsuc n) = 0
+
+abbrev pub window_of : Option WindowTree → WindowTag
+window_of None = Whole
+window_of (Some (window.Time span)) = Time span
+window_of (Some (window.Length count)) = Length (count_of count)
+
+-- ---- accumulates
+
+abbrev pub fold_kind : FoldWord → FoldKind
+fold_kind fold.Count = function.Count
+fold_kind fold.Sum = function.Sum
+fold_kind fold.Min = function.Least
+fold_kind fold.Max = function.Greatest
+fold_kind fold.Average = function.Average
+
+abbrev pub field_bound_with : List ℕ → Part → Option (List ℕ) → Option (List ℕ)
+field_bound_with v (part.Bind name f) others = if bytes_eq name v then Some f else others
+field_bound_with v (part.Temporal word params other) others = others
+field_bound_with v (part.AnyOf groups) others = others
+
+-- the field to which the first of these parts that binds the variable binds it
+abbrev pub field_bound : List ℕ → List Part → Option (List ℕ)
+field_bound v [] = None
+field_bound v (p ∷ parts) = field_bound_with v p (field_bound v parts)
+
+-- The place of the field whose values a function takes: that to which its own pattern binds the variable, for a count too. The variable
+-- of the fact itself has none, and neither has what no accepted file has: a variable that is not bound there, or a field that is not
+-- declared.
+abbrev pub argument_of : TypeTree → SourceTree → List ℕ → Option ℕ
+argument_of t s v = option_map (λ k. min k 255) (option_and_then (place_of (field_names t)) (field_bound v s.parts))
+
+-- what a result is compared with; it has no fields, so that one, which no accepted file has, counts as 0
+abbrev pub result_side : Sight → Operand → Side
+result_side sight (operand.Lit l) = Lit (literal_value l)
+result_side sight (operand.Own f) = Lit (value.Int (pos 0))
+result_side sight (operand.Var v) = variable_side (meaning_of sight v)
+result_side sight (operand.VarField v f) = variable_field_side (meaning_of sight v) f
+
+abbrev pub result_test : Sight → Rel × Operand → ResultTest
+result_test sight test = record { rel = rel_tag test.0; against = result_side sight test.1 }
+
 -- ---- rules, given the types and the entry points of the file
 
--- a window, which is not served yet, counts as none
 abbrev pub pattern_in : TypeTree → ℕ → ℕ → Sight → SourceTree → Pattern
 pattern_in t ty entry sight s = record {
   ty = record { 0 = ty };
   entry = record { 0 = entry };
+  window = window_of s.window;
   alone = flat_map (tests_in t sight) (filter is_constant s.parts);
   joined = flat_map (tests_in t sight) (filter is_joined s.parts);
+  times = flat_map (times_in sight) s.parts;
 }
-
-abbrev pub no_type : TypeTree
-no_type = record { name = []; metas = []; fields = [] }
 
 abbrev pub type_or_none : Option TypeTree → TypeTree
 type_or_none None = no_type
@@ -177,24 +266,31 @@ abbrev pub pattern_of : List TypeTree → List (List ℕ) → Sight → SourceTr
 pattern_of types entries sight s =
     pattern_in (type_or_none (type_named types s.ty)) (type_place (place_of (type_names types) s.ty)) (entry_place entries s.entry) sight s
 
--- the condition of the program that a tree is; those of not, exists and accumulate, which are not served yet, are none
-abbrev pub condition_of : List TypeTree → List (List ℕ) → Place → CondTree → List Condition
-condition_of types entries place (tree.Plain s) = Plain (pattern_of types entries place.sight s) ∷ []
-condition_of types entries place (tree.Negated s) = []
-condition_of types entries place (tree.Existing s) = []
-condition_of types entries place (tree.Folded result s kind arg tests) = []
+abbrev pub accumulate_of : List TypeTree → List (List ℕ) → Sight → SourceTree → FoldWord → List ℕ → List (Rel × Operand) → Accumulate
+accumulate_of types entries sight s kind arg tests = record {
+  pattern = pattern_of types entries sight s;
+  kind = fold_kind kind;
+  arg = argument_of (type_or_none (type_named types s.ty)) s arg;
+  tests = map (result_test sight) tests;
+}
+
+abbrev pub condition_of : List TypeTree → List (List ℕ) → Place → CondTree → Condition
+condition_of types entries place (tree.Plain s) = Plain (pattern_of types entries place.sight s)
+condition_of types entries place (tree.Negated s) = Negated (pattern_of types entries place.sight s)
+condition_of types entries place (tree.Existing s) = Existing (pattern_of types entries place.sight s)
+condition_of types entries place (tree.Folded result s kind arg tests) = Folded (accumulate_of types entries place.sight s kind arg tests)
 
 unfoldable pub conditions_of : List TypeTree → List (List ℕ) → Place → List CondTree → List Condition
 conditions_of types entries place [] = []
-conditions_of types entries place (c ∷ cs) = condition_of types entries place c ++ conditions_of types entries (behind types place c) cs
+conditions_of types entries place (c ∷ cs) = condition_of types entries place c ∷ conditions_of types entries (behind types place c) cs
 
 -- ---- actions, given what is in sight behind all conditions
 
--- a variable that is no value counts as 0, and so does a result, which is not served yet
+-- a variable that is no value counts as 0
 abbrev pub variable_value : Option Meaning → Expression
 variable_value (Some (of_field fact field k)) = bound (min fact 255) (min field 255)
 variable_value (Some (of_fact fact t)) = expression.lit (value.Int (pos 0))
-variable_value (Some (of_result result)) = expression.lit (value.Int (pos 0))
+variable_value (Some (of_result result)) = folded (min result 255)
 variable_value None = expression.lit (value.Int (pos 0))
 
 -- a field of a variable that is no fact counts as 0
@@ -212,19 +308,6 @@ expression_in sight (neg a) = expression.neg (expression_in sight a)
 expression_in sight (add a b) = expression.add (expression_in sight a) (expression_in sight b)
 expression_in sight (sub a b) = expression.sub (expression_in sight a) (expression_in sight b)
 expression_in sight (mul a b) = expression.mul (expression_in sight a) (expression_in sight b)
-
--- the number of the fact that a variable means, and its type; a variable that is no fact counts as the first, of no fields
-abbrev pub fact_meant : Option Meaning → ℕ
-fact_meant (Some (of_fact fact t)) = min fact 255
-fact_meant (Some (of_field fact field k)) = 0
-fact_meant (Some (of_result result)) = 0
-fact_meant None = 0
-
-abbrev pub type_meant : Option Meaning → TypeTree
-type_meant (Some (of_fact fact t)) = t
-type_meant (Some (of_field fact field k)) = no_type
-type_meant (Some (of_result result)) = no_type
-type_meant None = no_type
 
 abbrev pub set_in : TypeTree → Sight → List ℕ × Tree → ℕ × Expression
 set_in t sight set = (field_place t set.0, expression_in sight set.1)
@@ -254,7 +337,7 @@ rule_of types entries r = record {
 -- given the types of the file and the names of its entry points
 abbrev pub program_with : List TypeTree → List (List ℕ) → List Item → Program
 program_with types entries items = record {
-  types = map type_info (types_of items);
+  types = map (type_info (observed_names (rules_of items))) (types_of items);
   entries = map (entry_info items) entries;
   rules = map (rule_of types entries) (rules_of items);
 }

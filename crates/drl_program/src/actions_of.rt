@@ -2,7 +2,7 @@ ghost use Rattle.std.specs.Prelude.{◌≡◌, map, Some, IfOk};
 ghost use Rattle.drl_sight.specs.Sight.{meaning_of};
 ghost use Rattle.drl_program.specs.Programs.{variable_value, variable_field_value, expression_in, fact_meant, type_meant, no_type, set_in, action_of};
 
-use crate::numbers::{fact_number, field_number, small, type_number};
+use crate::numbers::{fact_of_variable, field_number, small, type_number};
 use crate::tests_of::value;
 use crate::undeclared::{fieldless, zero};
 use drl_expr::{ExprTree, Node};
@@ -18,12 +18,12 @@ fn value_meant(meaning: &Meaning) -> Expr
     ensures { result ≡ variable_value (Some meaning.now) }
 {
     match meaning.seen() {
-        // A result is not served yet.
-        Seen::Fact { .. } | Seen::Result { .. } => zero(),
         Seen::Field { fact, field, .. } => Expr::of(ExprNode::Of {
             fact: small(Some(fact)),
             field: small(Some(field)),
         }),
+        Seen::Result { result: number } => Expr::of(ExprNode::Result(small(Some(number)))),
+        Seen::Fact { .. } => zero(),
     }
 }
 
@@ -181,15 +181,6 @@ fn sets_of_variable(
 }
 
 // ---- actions
-
-fn fact_of_variable(place: &Place, var: &Text) -> u8
-    ensures { result ≡ fact_meant (meaning_of place.now.sight var.now) }
-{
-    match place.find(var) {
-        Some(meaning) => fact_number(meaning),
-        None => 0,
-    }
-}
 
 /// The action of a program that a tree is, given what is in sight behind all conditions.
 pub(crate) fn action(

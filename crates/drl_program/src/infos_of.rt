@@ -1,12 +1,13 @@
 ghost use Rattle.std.specs.Prelude.{◌≡◌, ◌++◌, map, option_map, IfOk};
 ghost use Rattle.drl_sight.specs.Declarations.{types_of};
+ghost use Rattle.drl_program.specs.Observed.{is_observed_event};
 ghost use Rattle.drl_program.specs.Programs.{field_info, field_place, type_info, entry_info};
 
 use crate::numbers::field_number;
 use drl_grammar::{Body, Item, TypeTree};
 use drl_sight::{
-    DeclaredType, duration_field, expiry_offset, is_event_tree, kind_of_word, lateness_of_entry,
-    timestamp_field,
+    DeclaredType, Places, duration_field, expiry_offset, is_event_tree, kind_of_word,
+    lateness_of_entry, timestamp_field,
 };
 use fx_base::{Copies, Kind, NoMemory, Seq, Text};
 use rule_model::{EntryInfo, TypeInfo};
@@ -43,8 +44,14 @@ fn field_named(ty: &DeclaredType, name: Option<&Text>) -> Option<u8>
     }
 }
 
-fn info_of_type(alloc: Global, tree: &TypeTree) -> Result<TypeInfo, NoMemory>
-    ensures { IfOk result (λ info. info ≡ type_info tree.now) }
+fn is_observed(observed: &Places, tree: &TypeTree) -> bool
+    ensures { result ≡ is_observed_event observed.now tree.now }
+{
+    is_event_tree(tree) && observed.holds(&tree.name)
+}
+
+fn info_of_type(alloc: Global, observed: &Places, tree: &TypeTree) -> Result<TypeInfo, NoMemory>
+    ensures { IfOk result (λ info. info ≡ type_info observed.now tree.now) }
 {
     let ty = DeclaredType::of(alloc, tree)?;
     Ok(TypeInfo {
@@ -54,17 +61,22 @@ fn info_of_type(alloc: Global, tree: &TypeTree) -> Result<TypeInfo, NoMemory>
         timestamp: field_named(&ty, timestamp_field(tree)),
         duration: field_named(&ty, duration_field(tree)),
         expires: expiry_offset(tree),
+        observed: is_observed(observed, tree),
     })
 }
 
-/// What is known of the types that the items declare.
-pub(crate) fn infos_of_types(alloc: Global, items: &[Item]) -> Result<Seq<TypeInfo>, NoMemory>
-    ensures { IfOk result (λ infos. infos ≡ map type_info (types_of items.now)) }
+/// What is known of the types that the items declare, given the names of those that rules observe.
+pub(crate) fn infos_of_types(
+    alloc: Global,
+    observed: &Places,
+    items: &[Item],
+) -> Result<Seq<TypeInfo>, NoMemory>
+    ensures { IfOk result (λ infos. infos ≡ map (type_info observed.now) (types_of items.now)) }
 {
     let mut infos = Vec::new(alloc);
     for item in items {
         match &item.body {
-            Body::Declare(tree) => infos.push(info_of_type(alloc, tree)?)?,
+            Body::Declare(tree) => infos.push(info_of_type(alloc, observed, tree)?)?,
             Body::Package(_)
             | Body::Import { .. }
             | Body::Dialect(_)

@@ -3,8 +3,12 @@
 #![tactic(auto)]
 
 mod actions_of;
+mod conditions_of;
 mod infos_of;
+pub mod laws;
 mod numbers;
+mod observed;
+mod operators;
 mod programs;
 mod tests_of;
 mod undeclared;

@@ -1,7 +1,8 @@
 ghost use Rattle.std.specs.Prelude.{◌≡◌, Some};
+ghost use Rattle.drl_sight.specs.Sight.{meaning_of};
 ghost use Rattle.drl_program.specs.Programs.{small_place, type_place, entry_place, field_place, fact_meant, variable_side, variable_field_side};
 
-use drl_sight::{DeclaredType, Meaning, Places, Seen};
+use drl_sight::{DeclaredType, Meaning, Place, Places, Seen};
 use fx_base::Text;
 use rule_model::Side;
 
@@ -52,17 +53,27 @@ pub(crate) fn fact_number(meaning: &Meaning) -> u8
     }
 }
 
+/// The number of the fact that the variable of this name means.
+pub(crate) fn fact_of_variable(place: &Place, var: &Text) -> u8
+    ensures { result ≡ fact_meant (meaning_of place.now.sight var.now) }
+{
+    match place.find(var) {
+        Some(meaning) => fact_number(meaning),
+        None => 0,
+    }
+}
+
 /// What a comparison with a variable is against, where it is a value.
 pub(crate) fn variable_against(meaning: &Meaning) -> Side
     ensures { result ≡ variable_side (Some meaning.now) }
 {
     match meaning.seen() {
-        // A result is not served yet.
-        Seen::Fact { .. } | Seen::Result { .. } => Side::Own(0),
         Seen::Field { fact, field, .. } => Side::Of {
             fact: small(Some(fact)),
             field: small(Some(field)),
         },
+        Seen::Result { result: number } => Side::Result(small(Some(number))),
+        Seen::Fact { .. } => Side::Own(0),
     }
 }
 

@@ -1,14 +1,16 @@
 ghost use Rattle.std.specs.Prelude.{◌≡◌, ◌++◌, map, IfOk, OnOk};
 ghost use Rattle.std.specs.List.{filter, flat_map};
-ghost use Rattle.drl_program.specs.Programs.{rel_tag, literal_value, side_of, compare_of, test_of, tests_in, is_joined, is_constant};
+ghost use Rattle.drl_sight.specs.Sight.{meaning_of};
+ghost use Rattle.drl_program.specs.Programs.{rel_tag, literal_value, variable_side, variable_field_side, times_in, result_side, result_test, side_of, compare_of, test_of, tests_in, is_joined, is_constant};
 
-use crate::numbers::{field_number, variable_against, variable_field_against};
+use crate::numbers::{fact_of_variable, field_number, variable_against, variable_field_against};
+use crate::operators::operator;
 use drl_expr::LitTree;
 use drl_grammar::{Cmp, Operand, Part};
 use drl_lex::Rel;
 use drl_sight::{DeclaredType, OperandTest, Place, some_operand};
 use fx_base::{Copies, NoMemory, Seq, Text, Value};
-use rule_model::{Compare, RelTag, Side, Test};
+use rule_model::{Compare, RelTag, ResultTest, Side, Test, TimeTest};
 use std::alloc::Global;
 
 fn relation(rel: Rel) -> RelTag
@@ -35,6 +37,26 @@ pub(crate) fn value(alloc: Global, literal: &LitTree) -> Result<Value, NoMemory>
     }
 }
 
+// What a variable is that is compared with.
+fn side_of_variable(place: &Place, var: &Text) -> Side
+    ensures { result ≡ variable_side (meaning_of place.now.sight var.now) }
+{
+    match place.find(var) {
+        Some(meaning) => variable_against(meaning),
+        None => Side::Own(0),
+    }
+}
+
+// What a field of a variable is that is compared with.
+fn side_of_field(place: &Place, var: &Text, field: &Text) -> Side
+    ensures { result ≡ variable_field_side (meaning_of place.now.sight var.now) field.now }
+{
+    match place.find(var) {
+        Some(meaning) => variable_field_against(meaning, field),
+        None => Side::Own(0),
+    }
+}
+
 fn side(
     alloc: Global,
     ty: &DeclaredType,
@@ -46,14 +68,8 @@ fn side(
     match operand {
         Operand::Lit(literal) => Ok(Side::Lit(value(alloc, literal)?)),
         Operand::Own(field) => Ok(Side::Own(field_number(ty, field))),
-        Operand::Var(var) => match place.find(var) {
-            Some(meaning) => Ok(variable_against(meaning)),
-            None => Ok(Side::Own(0)),
-        },
-        Operand::VarField(var, field) => match place.find(var) {
-            Some(meaning) => Ok(variable_field_against(meaning, field)),
-            None => Ok(Side::Own(0)),
-        },
+        Operand::Var(var) => Ok(side_of_variable(place, var)),
+        Operand::VarField(var, field) => Ok(side_of_field(place, var, field)),
     }
 }
 
@@ -125,7 +141,7 @@ fn test(
     })
 }
 
-// Adds the test that a part is, where it is one.
+// Adds the test of values that a part is, where it is one.
 fn add_test(
     alloc: Global,
     tests: &mut Vec<Test>,
@@ -140,7 +156,6 @@ fn add_test(
             tests.push(test(alloc, ty, place, groups.as_slice())?)?;
             Ok(())
         }
-        // A temporal test is not served yet; an accepted file has none.
         Part::Bind { .. } | Part::Temporal { .. } => Ok(()),
     }
 }
@@ -201,6 +216,74 @@ pub(crate) fn joined_tests(
         if is_part_joined(part) {
             add_test(alloc, &mut tests, ty, place, part)?;
         }
+    }
+    Ok(Seq::from_vec(tests))
+}
+
+// ---- temporal tests
+
+// Adds the temporal test that a part is, where it is one.
+fn add_time(tests: &mut Vec<TimeTest>, place: &Place, part: &Part) -> Result<(), NoMemory>
+    ensures { OnOk result (tests.new.items ≡ tests.old.items ++ times_in place.now.sight part.now) }
+{
+    match part {
+        Part::Temporal { op, params, other } => match operator(*op, params.as_slice()) {
+            Some(op) => {
+                tests.push(TimeTest {
+                    op,
+                    fact: fact_of_variable(place, other),
+                })?;
+                Ok(())
+            }
+            None => Ok(()),
+        },
+        Part::Bind { .. } | Part::AnyOf(_) => Ok(()),
+    }
+}
+
+/// The temporal tests.
+pub(crate) fn time_tests(
+    alloc: Global,
+    place: &Place,
+    parts: &[Part],
+) -> Result<Seq<TimeTest>, NoMemory>
+    ensures { IfOk result (λ tests. tests ≡ flat_map (times_in place.now.sight) parts.now) }
+{
+    let mut tests = Vec::new(alloc);
+    for part in parts {
+        add_time(&mut tests, place, part)?;
+    }
+    Ok(Seq::from_vec(tests))
+}
+
+// ---- tests of a result
+
+// A result has no fields of its own.
+fn side_of_result(alloc: Global, place: &Place, operand: &Operand) -> Result<Side, NoMemory>
+    ensures { IfOk result (λ side. side ≡ result_side place.now.sight operand.now) }
+{
+    match operand {
+        Operand::Lit(literal) => Ok(Side::Lit(value(alloc, literal)?)),
+        Operand::Own(_) => Ok(Side::Lit(Value::Int(0))),
+        Operand::Var(var) => Ok(side_of_variable(place, var)),
+        Operand::VarField(var, field) => Ok(side_of_field(place, var, field)),
+    }
+}
+
+/// The tests of the result of an accumulate.
+pub(crate) fn result_tests(
+    alloc: Global,
+    place: &Place,
+    trees: &[(Rel, Operand)],
+) -> Result<Seq<ResultTest>, NoMemory>
+    ensures { IfOk result (λ tests. tests ≡ map (result_test place.now.sight) trees.now) }
+{
+    let mut tests = Vec::with_capacity(alloc, trees.len())?;
+    for tree in trees {
+        tests.push(ResultTest {
+            rel: relation(tree.0),
+            against: side_of_result(alloc, place, &tree.1)?,
+        })?;
     }
     Ok(Seq::from_vec(tests))
 }

@@ -1,7 +1,7 @@
 use Rattle.std.proofs.Common.{◌≡◌, ◌+◌, ◌++◌, ◌≤◌, drop}
 use Rattle.drl_sight.specs.Sight.{begin, behind_all}
 use Rattle.drl_program.specs.Programs.{conditions_of}
-use Rattle.drl_program.proofs.programs.conditions.Given as goal
+use Rattle.drl_program.proofs.conditions_of.conditions.Given as goal
 
 abbrev pub invariant-loop-tree : goal.invariant-loop-tree
 invariant-loop-tree l = record {

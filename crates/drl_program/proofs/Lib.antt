@@ -1,0 +1,4 @@
+pub mod Arguments
+pub mod Flagged
+pub mod Parameters
+pub mod Timed

@@ -1,0 +1,7 @@
+use Rattle.std.proofs.Common.{◌≡◌, ◌++◌, drop}
+use Rattle.std.specs.List.{flat_map}
+use Rattle.drl_program.specs.Programs.{times_in}
+use Rattle.drl_program.proofs.tests_of.time_tests.Given as goal
+
+abbrev pub invariant-loop-part : goal.invariant-loop-part
+invariant-loop-part l = l.tests.items ++ flat_map (times_in l.place.sight) (drop l.part-index l.parts) ≡ flat_map (times_in l.place.sight) l.parts
