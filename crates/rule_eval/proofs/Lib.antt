@@ -1,0 +1,4 @@
+pub mod Filtered
+pub mod Folds
+pub mod Ripe
+pub mod Stepwise
