@@ -4,9 +4,13 @@
 #![tactic(auto)]
 
 mod bindings;
+mod changing;
 mod finding;
 mod folding;
 mod maturity;
 mod moment;
+mod timing;
 
+pub use changing::difference;
 pub use finding::rows_of;
+pub use timing::{asks_clock, moved};
