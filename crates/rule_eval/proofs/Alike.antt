@@ -36,7 +36,7 @@ never_both : (b : Bool) → false ≡ (b && not b)
 never_both true = refl
 never_both false = refl
 
-pub none_in_order : (rows : List Row) → rows ≡ [] → InOrder rows
+none_in_order : (rows : List Row) → rows ≡ [] → InOrder rows
 unfolding IsStrictlySortedBy
 none_in_order rows e = let empty : InOrder [] = tt in subst InOrder (sym e) empty
 
@@ -48,9 +48,6 @@ none_between rs d g c = record {
   gone = λ row. ap (λ (xs : List Row). has xs row) g ∙ never_both (has rs row);
   come = λ row. ap (λ (xs : List Row). has xs row) c ∙ never_both (has rs row);
 }
-
-pub none_disjoint : (d : Delta) → d.gone ≡ [] → (row : Row) → (has d.gone row && has d.come row) ≡ false
-none_disjoint d g row = ap (λ (xs : List Row). has xs row && has d.come row) g
 
 -- a difference between rows that are equal to others
 pub between_same : (a b c e : List Row) (d : Delta) → a ≡ c → b ≡ e → IsBetween a b d → IsBetween c e d

@@ -2,13 +2,12 @@
 use Rattle.std.proofs.Common.{◌≡◌, ℕ, suc, ◌+◌, ◌<◌, ◌≤◌, List, [], ◌∷◌, ◌++◌, length, drop, get_or, refl, sym, ◌∙◌, ap, subst, arith, add-one, drop-cons}
 use Rattle.std.specs.List.{filter, flat_map}
 use Rattle.std.proofs.lemmas.Grind.{common_steps, flat_map-append}
-use Rattle.std.proofs.lemmas.List.{append-nil}
 use Rattle.fx_base.specs.declared.fact.Fact.{Fact}
 use Rattle.rule_model.specs.declared.condition.Condition.{Condition}
 use Rattle.rule_model.specs.declared.condition.Condition.TheVariants.{Plain, Negated, Existing, Folded}
 use Rattle.rule_model.specs.declared.program.Program.{Program}
 use Rattle.rule_model.specs.Candidates.{candidates, passes, passing}
-use Rattle.rule_model.specs.Maturity.{told_to, AreOperators}
+use Rattle.rule_model.specs.Maturity.{told_to}
 use Rattle.rule_model.specs.Rows.{extended, tuples, pattern_of, HaveOperators}
 use Rattle.rule_model.specs.Snapshots.{Snapshot}
 use Rattle.rule_model.specs.Tuples.{Tuple, empty_tuple}
@@ -47,9 +46,6 @@ pub record Leads (p : Program) (s : Snapshot) (all rest : List Condition) (ts : 
   pub made : flat_map (tuples p s rest) ts ≡ tuples p s all empty_tuple
 
 module _ (p : Program) (s : Snapshot) where
-  pub begin : (cs : List Condition) (ts : List Tuple) → HaveOperators cs → ts ≡ empty_tuple ∷ [] → Leads p s cs cs ts
-  begin cs ts ops e = record { operators = ops; made = ap (flat_map (tuples p s cs)) e ∙ append-nil (tuples p s cs empty_tuple) }
-
   one_more : (all cs : List Condition) (c : Condition) (ts us : List Tuple) → us ≡ flat_map (extended p s c) ts → Leads p s all (c ∷ cs) ts → Leads p s all cs us
   one_more all cs c ts us e h = record {
     operators = h.operators.1;
@@ -68,10 +64,6 @@ module _ (p : Program) (s : Snapshot) where
   -- behind the last one
   pub end : (all rest : List Condition) (ts : List Tuple) → rest ≡ [] → Leads p s all rest ts → ts ≡ tuples p s all empty_tuple
   end all rest ts none h = sym (alone ts) ∙ ap (λ cs. flat_map (tuples p s cs) ts) (sym none) ∙ h.made
-
--- the operators of the condition at a place
-pub operators_at : (cs : List Condition) (k : ℕ) (c : Condition) → drop k cs ≡ c ∷ drop (k + 1) cs → HaveOperators (drop k cs) → AreOperators (pattern_of c).times
-operators_at cs k c at ops = (subst HaveOperators at ops).0
 
 pub rest_at : {A : Type 0} (xs : List A) (k : ℕ) (x : A) → k < length xs → x ≡ get_or xs k x → drop k xs ≡ x ∷ drop (k + 1) xs
 rest_at xs k x lt is = rw (add-one, drop-cons xs k x) (ap (λ z. z ∷ drop (suc k) xs) (sym is))

@@ -77,7 +77,7 @@ module _ (p : Program) (from to : ℤ) where
   made_same (Plain q) t fs none = refl
   made_same (Negated q) t fs none =
       ap (λ (b : Bool). if length fs == 0 && b then t ∷ [] else []) (
-        unwaiting p q (bound_by t) (from -ℤ lateness_of p q.entry.0) none ∙ sym (unwaiting p q (bound_by t) (to -ℤ lateness_of p q.entry.0) none)
+      unwaiting p q (bound_by t) (from -ℤ lateness_of p q.entry.0) none ∙ sym (unwaiting p q (bound_by t) (to -ℤ lateness_of p q.entry.0) none)
       )
   made_same (Existing q) t fs none = refl
   made_same (Folded a) t fs none = refl

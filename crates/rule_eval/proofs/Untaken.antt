@@ -28,9 +28,9 @@ module _ (p : Program) (clock : ℤ) (facts : List Fact) where
   same_candidates q f e =
       sym (candidates_are p q clock (facts ++ f ∷ []))
       ∙ ap (inside q.window clock) (
-        filter-append (fits p q clock) facts (f ∷ [])
-        ∙ ap (λ (b : Bool). filter (fits p q clock) facts ++ cond b (f ∷ []) []) e
-        ∙ append-nil (filter (fits p q clock) facts)
+      filter-append (fits p q clock) facts (f ∷ [])
+      ∙ ap (λ (b : Bool). filter (fits p q clock) facts ++ cond b (f ∷ []) []) e
+      ∙ append-nil (filter (fits p q clock) facts)
       )
       ∙ candidates_are p q clock facts
 

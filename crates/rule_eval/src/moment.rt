@@ -34,11 +34,7 @@ fn is_latest(facts: &[&Fact], count: u64, fact: &Fact) -> bool
 }
 
 // The latest so many of these facts.
-fn latest<'f>(
-    alloc: Global,
-    facts: &[&'f Fact],
-    count: u64,
-) -> Result<Vec<&'f Fact>, NoMemory>
+fn latest<'f>(alloc: Global, facts: &[&'f Fact], count: u64) -> Result<Vec<&'f Fact>, NoMemory>
     ensures { IfOk result (λ found. lent found.items ≡ filter (is_latest (lent facts.now) count) (lent facts.now)) }
 {
     let mut found = Vec::new(alloc);
