@@ -1,0 +1,9 @@
+use Rattle.std.proofs.Common.{◌≡◌, ◌++◌, drop}
+use Rattle.std.specs.List.{filter}
+use Rattle.rule_model.specs.Candidates.{passes}
+use Rattle.rule_model.specs.Lent.{lent}
+use Rattle.rule_eval.proofs.bindings.Bindings.passing.Given as goal
+
+abbrev pub invariant-loop-fact : goal.invariant-loop-fact
+invariant-loop-fact l =
+    lent l.found.items ++ filter (passes l.pattern l.self) (lent (drop l.fact-index l.candidates)) ≡ filter (passes l.pattern l.self) (lent l.candidates)

@@ -1,0 +1,12 @@
+use Rattle.std.proofs.Common.{◌≡◌, ◌++◌, drop}
+use Rattle.std.specs.List.{filter, flat_map}
+use Rattle.rule_model.specs.Candidates.{passes}
+use Rattle.rule_model.specs.Lent.{lent}
+use Rattle.rule_model.specs.Rows.{pattern_of}
+use Rattle.rule_eval.specs.Found.{made_by}
+use Rattle.rule_eval.proofs.finding.extend_all.Given as goal
+
+abbrev pub invariant-loop-bindings : goal.invariant-loop-bindings
+invariant-loop-bindings l =
+    l.out.items ++ flat_map (λ t. made_by l.moment.program.now l.moment.clock l.condition t (filter (passes (pattern_of l.condition) t) (lent l.candidates))) (drop l.bindings-index l.all)
+    ≡ l.fn.out.items ++ flat_map (λ t. made_by l.moment.program.now l.moment.clock l.condition t (filter (passes (pattern_of l.condition) t) (lent l.candidates))) l.all

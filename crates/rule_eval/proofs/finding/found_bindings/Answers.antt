@@ -1,0 +1,21 @@
+use Rattle.std.proofs.Common.{◌∙◌, ap, drop, arith}
+use Rattle.std.specs.List.{flat_map}
+use Rattle.rule_model.specs.Lent.{lent}
+use Rattle.rule_model.specs.Rows.{extended}
+use Rattle.rule_eval.specs.Over.{over}
+use Rattle.rule_eval.proofs.Stepwise.{next, end, rest_at, no_more}
+use Rattle.rule_eval.proofs.finding.found_bindings.Goals as goal
+
+pub loop-condition-preserved : goal.loop-condition-preserved
+loop-condition-preserved c =
+    let p = c.args.moment.now.program.now in
+    let s = over (lent c.args.facts.now) c.args.moment.now.clock in
+    next p s c.args.conditions.now c.loop-condition.condition-index c.condition-item.result c.loop-condition.all.items c.in_ok-all.all.items
+    (rest_at c.args.conditions.now c.loop-condition.condition-index c.condition-item.result c.loop-condition-test.true c.condition-item.is)
+    (c.in_ok-all.ensures ∙ ap (flat_map (extended p s c.condition-item.result)) c.deref.ensures.value) c.loop-condition.invariant
+
+pub returns : goal.returns
+returns c =
+    let rest = drop c.loop-condition.condition-index c.args.conditions.now in
+    end c.args.moment.now.program.now (over (lent c.args.facts.now) c.args.moment.now.clock) c.args.conditions.now rest c.loop-condition.all.items
+    (no_more c.args.conditions.now c.loop-condition.condition-index (omega arith)) c.loop-condition.invariant

@@ -1,0 +1,8 @@
+use Rattle.std.proofs.Common.{drop}
+use Rattle.rule_model.specs.Lent.{lent}
+use Rattle.rule_eval.specs.Over.{over}
+use Rattle.rule_eval.proofs.Stepwise.{Leads}
+use Rattle.rule_eval.proofs.finding.found_bindings.Given as goal
+
+abbrev pub invariant-loop-condition : goal.invariant-loop-condition
+invariant-loop-condition l = Leads l.moment.program.now (over (lent l.facts) l.moment.clock) l.conditions (drop l.condition-index l.conditions) l.all.items

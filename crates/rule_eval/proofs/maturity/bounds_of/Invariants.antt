@@ -1,0 +1,7 @@
+use Rattle.std.proofs.Common.{◌≡◌, ◌++◌, drop, option_map}
+use Rattle.rule_model.specs.Maturity.{bounds_of}
+use Rattle.rule_model.specs.Tuples.{bound_by}
+use Rattle.rule_eval.proofs.maturity.bounds_of.Given as goal
+
+abbrev pub invariant-loop-test : goal.invariant-loop-test
+invariant-loop-test l = option_map (λ bs. l.bounds.items ++ bs) (bounds_of (bound_by l.bindings) (drop l.test-index l.tests)) ≡ bounds_of (bound_by l.bindings) l.tests

@@ -1,0 +1,152 @@
+ghost use Rattle.std.specs.Prelude.{◌≡◌, ◌++◌, map, IfOk, OnOk};
+ghost use Rattle.std.specs.List.{filter, flat_map};
+ghost use Rattle.rule_eval.specs.Found.{made_by};
+ghost use Rattle.rule_eval.specs.Over.{over};
+ghost use Rattle.rule_model.specs.Candidates.{passes};
+ghost use Rattle.rule_model.specs.Lent.{lent};
+ghost use Rattle.rule_model.specs.Maturity.{AreOperators};
+ghost use Rattle.rule_model.specs.Rows.{result_of as result_by, with_result, extended, tuples, rows, pattern_of, HaveOperators};
+ghost use Rattle.rule_model.specs.Tuples.{empty_tuple, with_fact};
+
+use crate::bindings::{Bindings, rows_named};
+use crate::folding::{do_hold, result_of};
+use crate::moment::Moment;
+use fx_base::{Fact, Millis, NoMemory, Seq};
+use row_delta::Row;
+use rule_model::{Accumulate, Condition, Program};
+use std::alloc::Global;
+
+// Adds the bindings with each of these facts.
+fn extend_by_each<'f>(
+    alloc: Global,
+    out: &mut Vec<Bindings<'f>>,
+    bindings: &Bindings<'f>,
+    passing: &[&'f Fact],
+) -> Result<(), NoMemory>
+    ensures { OnOk result (out.new.items ≡ out.old.items ++ map (with_fact bindings.now) (lent passing.now)) }
+{
+    for fact in passing {
+        out.push(bindings.with_fact(alloc, fact)?)?;
+    }
+    Ok(())
+}
+
+// Adds the bindings with what an accumulate gives of these facts, where its tests hold.
+fn extend_by_result<'f>(
+    alloc: Global,
+    out: &mut Vec<Bindings<'f>>,
+    accumulate: &Accumulate,
+    bindings: &Bindings<'f>,
+    passing: &[&'f Fact],
+) -> Result<(), NoMemory>
+    ensures { OnOk result (out.new.items ≡ out.old.items ++ with_result accumulate.now bindings.now (result_by accumulate.now (lent passing.now))) }
+{
+    if let Some(value) = result_of(alloc, accumulate, passing)? {
+        if do_hold(bindings, value, accumulate.tests.as_slice()) {
+            out.push(bindings.with_result(alloc, value)?)?;
+        }
+    }
+    Ok(())
+}
+
+// Adds the bindings that a condition makes of these, where these candidates pass.
+fn extend_by<'f>(
+    alloc: Global,
+    out: &mut Vec<Bindings<'f>>,
+    moment: &Moment,
+    condition: &Condition,
+    bindings: &Bindings<'f>,
+    passing: &[&'f Fact],
+) -> Result<(), NoMemory>
+    requires { AreOperators (pattern_of condition.now).times }
+    ensures { OnOk result (out.new.items ≡ out.old.items ++ made_by moment.now.program.now moment.now.clock condition.now bindings.now (lent passing.now)) }
+{
+    match condition {
+        Condition::Plain(_) => extend_by_each(alloc, out, bindings, passing)?,
+        Condition::Negated(pattern) => {
+            if passing.is_empty() && moment.is_mature(alloc, pattern, bindings)? {
+                out.push(bindings.copy(alloc)?)?;
+            }
+        }
+        Condition::Existing(_) => {
+            if !passing.is_empty() {
+                out.push(bindings.copy(alloc)?)?;
+            }
+        }
+        Condition::Folded(accumulate) => {
+            extend_by_result(alloc, out, accumulate, bindings, passing)?;
+        }
+    }
+    Ok(())
+}
+
+// Adds the bindings that a condition makes of all these with its candidates.
+fn extend_all<'f>(
+    alloc: Global,
+    out: &mut Vec<Bindings<'f>>,
+    moment: &Moment,
+    condition: &Condition,
+    all: &[Bindings<'f>],
+    candidates: &[&'f Fact],
+) -> Result<(), NoMemory>
+    requires { AreOperators (pattern_of condition.now).times }
+    ensures { OnOk result (out.new.items ≡ out.old.items ++ flat_map (λ tuple. made_by moment.now.program.now moment.now.clock condition.now tuple
+        (filter (passes (pattern_of condition.now) tuple) (lent candidates.now))) all.now) }
+{
+    for bindings in all {
+        let passing = bindings.passing(alloc, condition.pattern(), candidates)?;
+        extend_by(alloc, out, moment, condition, bindings, &passing)?;
+    }
+    Ok(())
+}
+
+// The bindings that one condition makes of these.
+fn extended_all<'f>(
+    alloc: Global,
+    moment: &Moment,
+    condition: &Condition,
+    all: &[Bindings<'f>],
+    facts: &[&'f Fact],
+) -> Result<Vec<Bindings<'f>>, NoMemory>
+    requires { AreOperators (pattern_of condition.now).times }
+    ensures { IfOk result (λ next. next.items ≡ flat_map (extended moment.now.program.now (over (lent facts.now) moment.now.clock) condition.now) all.now) }
+{
+    let candidates = moment.candidates(alloc, condition.pattern(), facts)?;
+    let mut next = Vec::new(alloc);
+    extend_all(alloc, &mut next, moment, condition, all, &candidates)?;
+    Ok(next)
+}
+
+// The bindings that conditions make of nothing over these facts.
+fn found_bindings<'f>(
+    alloc: Global,
+    moment: &Moment,
+    conditions: &[Condition],
+    facts: &[&'f Fact],
+) -> Result<Vec<Bindings<'f>>, NoMemory>
+    requires { HaveOperators conditions.now }
+    ensures { IfOk result (λ all. all.items ≡ tuples moment.now.program.now (over (lent facts.now) moment.now.clock) conditions.now empty_tuple) }
+{
+    let mut all = Vec::new(alloc);
+    all.push(Bindings::none(alloc))?;
+    for condition in conditions {
+        all = extended_all(alloc, moment, condition, &all, facts)?;
+    }
+    Ok(all)
+}
+
+/// The rows of conditions over these facts, at a clock, in the order of their definition.
+#[tactic(auto, unfolding(rule_model::specs::Rows::rows))]
+pub fn rows_of(
+    alloc: Global,
+    program: &Program,
+    clock: Millis,
+    facts: &[&Fact],
+    conditions: &[Condition],
+) -> Result<Seq<Row>, NoMemory>
+    requires { HaveOperators conditions.now }
+    ensures { IfOk result (λ found. found ≡ rows program.now (over (lent facts.now) clock) conditions.now) }
+{
+    let all = found_bindings(alloc, &Moment { program, clock }, conditions, facts)?;
+    rows_named(alloc, &all)
+}
