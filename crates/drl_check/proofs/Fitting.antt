@@ -58,12 +58,12 @@ HaveFewFields types = (ty : ℕ) (t : TypeTree) → slice_get types ty ≡ Some 
 abbrev pub InSight : List TypeTree → List ℕ → Sight → Type 0
 InSight types taken sight = (name : List ℕ) (m : Meaning) → meaning_of sight name ≡ Some m → Stands types taken m
 
-pub fields_at : (types : List TypeTree) (ty : ℕ) (t : TypeTree) → slice_get types ty ≡ Some t → fields_in (slice_get (map type_info types) ty) ≡ map field_info t.fields
-fields_at types ty t e = ap fields_in (slice_get-map type_info types ty ∙ ap (option_map type_info) e)
+pub fields_at : (names : List (List ℕ)) (types : List TypeTree) (ty : ℕ) (t : TypeTree) → slice_get types ty ≡ Some t → fields_in (slice_get (map (type_info names) types) ty) ≡ map field_info t.fields
+fields_at names types ty t e = ap fields_in (slice_get-map (type_info names) types ty ∙ ap (option_map (type_info names)) e)
 
-module _ (types : List TypeTree) (taken : List ℕ) (sight : Sight) (small : HaveFewFields types) (few : length taken ≤ 8) (seen : InSight types taken sight) where
+module _ (names : List (List ℕ)) (types : List TypeTree) (taken : List ℕ) (sight : Sight) (small : HaveFewFields types) (few : length taken ≤ 8) (seen : InSight types taken sight) where
   abbrev fields : ℕ → List (List ℕ × Kind)
-  fields = bound_fields (map type_info types) taken
+  fields = bound_fields (map (type_info names) types) taken
 
   -- the number of a fact stands in 8 bits
   fact_kept : (fact : ℕ) (t : TypeTree) → type_taken types taken fact ≡ Some t → min fact 255 ≡ fact
@@ -72,7 +72,7 @@ module _ (types : List TypeTree) (taken : List ℕ) (sight : Sight) (small : Hav
   fields_taken : (fact : ℕ) (t : TypeTree) → type_taken types taken fact ≡ Some t → fields (min fact 255) ≡ map field_info t.fields
   fields_taken fact t e =
       let h = taken_of types taken fact t e in
-      ap fields (fact_kept fact t e) ∙ ap (λ o. fields_in (option_and_then (λ ty. slice_get (map type_info types) ty) o)) h.1 ∙ fields_at types h.0 t h.2
+      ap fields (fact_kept fact t e) ∙ ap (λ o. fields_in (option_and_then (λ ty. slice_get (map (type_info names) types) ty) o)) h.1 ∙ fields_at names types h.0 t h.2
 
   -- a field that has a kind is there, and has it in the program
   field_there : (t : TypeTree) (k : ℕ) (found : Kind) → length t.fields ≤ 32 → kind_at t k ≡ Some found

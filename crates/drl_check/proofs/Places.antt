@@ -11,7 +11,7 @@ use Rattle.drl_grammar.specs.declared.condition.Part.TheVariants as part
 use Rattle.drl_grammar.specs.declared.condition.SourceTree.{SourceTree}
 use Rattle.drl_grammar.specs.declared.file.TypeTree.{TypeTree}
 use Rattle.rule_model.specs.declared.condition.Condition.{Condition}
-use Rattle.rule_model.specs.declared.condition.Condition.TheVariants.{Plain}
+use Rattle.rule_model.specs.declared.condition.Condition.TheVariants.{Plain, Negated, Existing, Folded}
 use Rattle.rule_world.specs.Typed.{bound_types}
 use Rattle.drl_sight.specs.Names.{place_of}
 use Rattle.drl_sight.specs.Declarations.{type_names, type_named, field_names, kind_at}
@@ -132,7 +132,7 @@ module _ (types : List TypeTree) where
     unchanged : (taken : List ℕ) (place : Place) → Agrees taken place → Agrees (taken ++ []) place
     unchanged taken place h = subst (λ (ts : List ℕ). Agrees ts place) (sym (append-nil taken)) h
 
-    agrees_behind : (taken : List ℕ) (place : Place) (c : CondTree) → Agrees taken place → Agrees (taken ++ bound_types (condition_of types entries place c)) (behind types place c)
+    agrees_behind : (taken : List ℕ) (place : Place) (c : CondTree) → Agrees taken place → Agrees (taken ++ bound_types (condition_of types entries place c ∷ [])) (behind types place c)
     agrees_behind taken place (tree.Negated s) h = unchanged taken place h
     agrees_behind taken place (tree.Existing s) h = unchanged taken place h
     agrees_behind taken place (tree.Folded result s kind arg tests) h =
@@ -149,18 +149,21 @@ module _ (types : List TypeTree) where
     bound_both : (cs ds : List Condition) → bound_types (cs ++ ds) ≡ bound_types cs ++ bound_types ds
     bound_both [] ds = refl
     bound_both (Plain p ∷ cs) ds = ap (λ ts. p.ty.0 ∷ ts) (bound_both cs ds)
+    bound_both (Negated p ∷ cs) ds = bound_both cs ds
+    bound_both (Existing p ∷ cs) ds = bound_both cs ds
+    bound_both (Folded a ∷ cs) ds = bound_both cs ds
 
     agrees_behind_all : (taken : List ℕ) (place : Place) (cs : List CondTree) → Agrees taken place → Agrees (taken ++ bound_types (conditions_of types entries place cs)) (behind_all types place cs)
     unfolding conditions_of behind_all
     agrees_behind_all taken place [] h = unchanged taken place h
     agrees_behind_all taken place (c ∷ cs) h =
-        let here = condition_of types entries place c in
+        let here = condition_of types entries place c ∷ [] in
         let rest = conditions_of types entries (behind types place c) cs in
         let all : (taken ++ bound_types here) ++ bound_types rest ≡ taken ++ bound_types (here ++ rest) = append_assoc taken (bound_types here) (bound_types rest) ∙ ap (λ ts. taken ++ ts) (sym (bound_both here rest)) in
         subst (λ (ts : List ℕ). Agrees ts (behind_all types (behind types place c) cs)) all
         (agrees_behind_all (taken ++ bound_types here) (behind types place c) cs (agrees_behind taken place c h))
 
-    few_at : (place : Place) (c : CondTree) → length (bound_types (condition_of types entries place c)) ≤ 1
+    few_at : (place : Place) (c : CondTree) → length (bound_types (condition_of types entries place c ∷ [])) ≤ 1
     few_at place (tree.Plain s) = omega arith
     few_at place (tree.Negated s) = omega arith
     few_at place (tree.Existing s) = omega arith
@@ -171,7 +174,7 @@ module _ (types : List TypeTree) where
     unfolding conditions_of
     few_bound place [] = omega arith
     few_bound place (c ∷ cs) =
-        let here = condition_of types entries place c in
+        let here = condition_of types entries place c ∷ [] in
         let rest = conditions_of types entries (behind types place c) cs in
         omega (arith, few_at place c, few_bound (behind types place c) cs, ap length (bound_both here rest), length-append (bound_types here) (bound_types rest))
 

@@ -1,46 +1,246 @@
 -- The program of an accepted file is one that engines run.
-use Rattle.std.proofs.Common.{◌≡◌, ◌++◌, ◌∷◌, true, false, List, [], map, None, refl, ap, arith}
-use Rattle.std.specs.Prelude.{is_none}
+use Rattle.std.proofs.Common.{◌≡◌, ◌≤◌, ◌++◌, ◌∷◌, ◌&&◌, ◌||◌, ℕ, ℤ, pos, negsuc, Bool, true, false, not, nat_le, nat_lt, int_le, int_lt, unsigned_abs, length, List, [], map, Option, Some, None, is_some, refl, sym, ◌∙◌, ap, subst, append-nil, append_assoc, arith}
 use Rattle.std.specs.List.{list_all, list_any, flat_map}
-use Rattle.std.proofs.lemmas.List.{length-map}
+use Rattle.std.specs.Str.{bytes_eq}
+use Rattle.std.specs.Cmp.Lexicographic.{bytes_decides}
+use Rattle.std.proofs.lemmas.Bool.Decides.{nat_tests}
+use Rattle.std.proofs.lemmas.Int.{ints}
+use Rattle.std.proofs.lemmas.List.{length-map, map-append}
+use Rattle.std.proofs.lemmas.List.Folds.{list_any-append}
+use Rattle.drl_grammar.specs.declared.condition.CondTree.{CondTree}
+use Rattle.drl_grammar.specs.declared.condition.CondTree.TheVariants as tree
+use Rattle.drl_grammar.specs.declared.condition.WindowTree.{WindowTree}
 use Rattle.drl_grammar.specs.declared.file.Body.{Body}
 use Rattle.drl_grammar.specs.declared.file.Body.TheVariants as body
 use Rattle.drl_grammar.specs.declared.file.File.{File}
 use Rattle.drl_grammar.specs.declared.file.Item.{Item}
 use Rattle.drl_grammar.specs.declared.file.Meta.{Meta}
 use Rattle.drl_grammar.specs.declared.file.Meta.TheVariants as meta
+use Rattle.drl_grammar.specs.declared.file.RuleTree.{RuleTree}
 use Rattle.drl_grammar.specs.declared.file.TypeTree.{TypeTree}
-use Rattle.rule_world.specs.Programs.{has_conditions, has_few_actions, stays, IsRunnable}
+use Rattle.rule_model.specs.declared.condition.Condition.{Condition}
+use Rattle.rule_model.specs.declared.condition.Condition.TheVariants.{Plain, Negated, Existing, Folded}
+use Rattle.rule_model.specs.declared.program.Program.{Program}
+use Rattle.rule_model.specs.declared.program.Rule.{Rule}
+use Rattle.rule_model.specs.Rows.{pattern_of}
+use Rattle.rule_model.specs.Simple.{is_whole, is_simple, are_simple}
+use Rattle.rule_model.specs.Types.{is_event}
+use Rattle.rule_world.specs.Events.{most_millis}
+use Rattle.rule_world.specs.Programs.{has_conditions, has_few_actions, has_expiry, has_window, has_windows, is_window, is_simple_rule, UseOperators, IsRunnable}
 use Rattle.drl_sight.specs.Annotations.{expiry_of}
-use Rattle.drl_sight.specs.Declarations.{types_of, rules_of, type_in}
+use Rattle.drl_sight.specs.Annotations as annotation
+use Rattle.drl_sight.specs.Declarations.{types_of, rules_of, type_in, rule_in, type_names, type_named, field_names}
 use Rattle.drl_sight.specs.EntryPoints.{entries_named, entry_names}
-use Rattle.drl_program.specs.Programs.{type_info, entry_info, rule_of, program_of}
-use Rattle.drl_check.specs.declared.fault.CheckCode.TheVariants.{NotBuilt}
-use Rattle.drl_check.specs.Built.{meta_unbuilt, not_built}
-use Rattle.drl_check.specs.Checks.{AllPass, IsAcceptedFile}
-use Rattle.drl_check.proofs.Sound.{both, few_types, few_rules, few_entries, one_entry, some_entry, late, all_late, conditions_sound, actions_sound, all_sound}
+use Rattle.drl_sight.specs.Names.{is_among, are_distinct}
+use Rattle.drl_sight.specs.Sight.{Place, begin, behind}
+use Rattle.drl_limits.specs.Limits.{span_limit, is_name, type_within, meta_within, exceeds_limit_behind}
+use Rattle.drl_program.specs.Laws.{has_type, has_types}
+use Rattle.drl_program.specs.Observed.{observed_names}
+use Rattle.drl_program.specs.Programs.{type_info, entry_info, window_of, condition_of, conditions_of, rule_of, program_of}
+use Rattle.drl_program.proofs.Flagged.{observed_are_flagged}
+use Rattle.drl_program.proofs.Timed.{each_has_operator}
+use Rattle.drl_uses.specs.Uses.{is_type_unknown, has_unknown_type, inserts_unknown_type}
+use Rattle.drl_check.specs.declared.fault.CheckCode.TheVariants.{NotBuilt, TwiceDeclared, LimitPassed, UnknownType, NotAnEvent, BadParams}
+use Rattle.drl_check.specs.Built.{condition_unbuilt}
+use Rattle.drl_check.specs.Checks.{lacks_type, needs_event, has_bad_params, AllPass, IsAcceptedFile}
+use Rattle.drl_check.specs.Events.{is_of_events, is_no_event}
+use Rattle.drl_check.specs.Params.{has_short_expiry, expires_at_once}
+use Rattle.drl_check.specs.Twice.{meta_word, is_twice, is_repeated}
+use Rattle.drl_sight.specs.EntryPoints.{declared_entries}
+use Rattle.drl_sight.specs.Declarations.{rule_names}
+use Rattle.drl_check.proofs.Failures.{types_next}
+use Rattle.drl_check.proofs.Sound.{and_left, and_right, not_and_right, both, or_left, or_right, few_types, few_rules, few_entries, one_entry, some_entry, late, all_late, conditions_sound, actions_sound, all_sound}
 use Rattle.drl_check.proofs.Typed.{accepted_typed}
 
--- ---- no type has an explicit expiry
+-- ---- an explicit expiry is one of an event type, from 1 to 2^53 ms
 
-without_expiry : (metas : List Meta) → list_any meta_unbuilt metas ≡ false → expiry_of metas ≡ None
-without_expiry [] e = refl
-without_expiry (meta.Role event ∷ metas) e = without_expiry metas e
-without_expiry (meta.Timestamp field ∷ metas) e = without_expiry metas e
-without_expiry (meta.Duration field ∷ metas) e = without_expiry metas e
-without_expiry (meta.Expires offset ∷ metas) e = absurd cc
+is_time : ℤ → Bool
+is_time n = int_le (pos 1) n && int_le n most_millis
 
-body_stays : (b : Body) (rest : List TypeTree) → not_built b ≡ false → list_all stays (map type_info rest) ≡ true → list_all stays (map type_info (type_in b ++ rest)) ≡ true
-body_stays (body.Declare t) rest e h = both (stays (type_info t)) (list_all stays (map type_info rest)) (ap is_none (without_expiry t.metas e)) h
-body_stays (body.Package p) rest e h = h
-body_stays (body.Import p s) rest e h = h
-body_stays (body.Dialect d) rest e h = h
-body_stays (body.Entry n l) rest e h = h
-body_stays (body.Rule r) rest e h = h
+from_one : (n : ℕ) → int_lt (pos n) (pos 1) ≡ false → int_le (pos 1) (pos n) ≡ true
+from_one n e = grind (arith, nat_tests, ints)
 
-all_stay : (all before items : List Item) → AllPass all before items → list_all stays (map type_info (types_of items)) ≡ true
-all_stay all before [] p = refl
-all_stay all before (item ∷ items) p = body_stays item.body (types_of items) (p.0 NotBuilt) (all_stay all (before ++ item ∷ []) items p.1)
+given_time : (n : ℤ) → int_lt n (pos 1) ≡ false → nat_le (unsigned_abs n) span_limit ≡ true → is_time n ≡ true
+unfolding is_time most_millis span_limit
+given_time (pos n) e h = both (int_le (pos 1) (pos n)) (int_le (pos n) most_millis) (from_one n e) h
+given_time (negsuc n) e h = absurd cc
+
+expiry_by : (metas : List Meta) (x : ℤ) → expiry_of metas ≡ Some x → list_any has_short_expiry metas ≡ false → list_all meta_within metas ≡ true
+    → (list_any is_of_events metas ≡ true) × (is_time x ≡ true)
+expiry_by [] x e s w = absurd (let n : None ≡ Some x = e in cc)
+expiry_by (meta.Expires offset ∷ metas) x e s w =
+    let same : offset ≡ x = cc in
+    let short = or_left (has_short_expiry (meta.Expires offset)) (list_any has_short_expiry metas) s in
+    let within = and_left (meta_within (meta.Expires offset)) (list_all meta_within metas) w in
+    (refl, subst (λ z. is_time z ≡ true) same (given_time offset short within))
+expiry_by (meta.Role event ∷ metas) x e s w = expiry_by metas x e s w
+expiry_by (meta.Timestamp field ∷ metas) x e s w = (refl, (expiry_by metas x e s (and_right (meta_within (meta.Timestamp field)) (list_all meta_within metas) w)).1)
+expiry_by (meta.Duration field ∷ metas) x e s w = (refl, (expiry_by metas x e s (and_right (meta_within (meta.Duration field)) (list_all meta_within metas) w)).1)
+
+event_by : (a b : Bool) → (not a && b) ≡ false → b ≡ true → a ≡ true
+event_by true b e h = refl
+event_by false b e h = absurd (let n : true ≡ false = sym h ∙ e in cc)
+
+expires_by : (names : List (List ℕ)) (t : TypeTree) (o : Option ℤ) → expiry_of t.metas ≡ o → is_no_event t ≡ false → expires_at_once t ≡ false → list_all meta_within t.metas ≡ true
+    → has_expiry (type_info names t) ≡ true
+unfolding is_time
+expires_by names t None e n s w = rw e refl
+expires_by names t (Some x) e n s w =
+    let r = expiry_by t.metas x e s w in
+    let event : annotation.is_event t ≡ true = event_by (annotation.is_event t) (list_any is_of_events t.metas) n r.0 in
+    rw (e, event) r.1
+
+body_expires : (names : List (List ℕ)) (types rules : ℕ) (known : List (List ℕ)) (all : List TypeTree) (b : Body) (rest : List TypeTree) → exceeds_limit_behind types rules known b ≡ false → needs_event all b ≡ false
+    → has_bad_params b ≡ false → list_all has_expiry (map (type_info names) rest) ≡ true → list_all has_expiry (map (type_info names) (type_in b ++ rest)) ≡ true
+body_expires names types rules known all (body.Declare t) rest e n s h =
+    let inside = not_and_right (nat_lt types 128) (type_within t) e in
+    let metas : list_all meta_within t.metas ≡ true = and_right (is_name t.name && nat_le (length t.fields) 32 && list_all is_name (field_names t)) (list_all meta_within t.metas) inside in
+    both (has_expiry (type_info names t)) (list_all has_expiry (map (type_info names) rest)) (expires_by names t (expiry_of t.metas) refl n s metas) h
+body_expires names types rules known all (body.Package p) rest e n s h = h
+body_expires names types rules known all (body.Import p star) rest e n s h = h
+body_expires names types rules known all (body.Dialect d) rest e n s h = h
+body_expires names types rules known all (body.Entry a l) rest e n s h = h
+body_expires names types rules known all (body.Rule r) rest e n s h = h
+
+all_expire : (names : List (List ℕ)) (all before items : List Item) → AllPass all before items → list_all has_expiry (map (type_info names) (types_of items)) ≡ true
+all_expire names all before [] p = refl
+all_expire names all before (item ∷ items) p =
+    body_expires names (length (types_of before)) (length (rules_of before)) (entry_names before) (types_of all) item.body (types_of items) (p.0 LimitPassed) (p.0 NotAnEvent) (p.0 BadParams)
+    (all_expire names all (before ++ item ∷ []) items p.1)
+
+-- ---- temporal tests have operators
+
+all_operators : (types : List TypeTree) (entries : List (List ℕ)) (rules : List RuleTree) → UseOperators (map (rule_of types entries) rules)
+all_operators types entries [] = tt
+all_operators types entries (r ∷ rules) = (each_has_operator types entries begin r.conditions, all_operators types entries rules)
+
+-- ---- conditions are patterns without windows
+
+no_window : (o : Option WindowTree) → is_some o ≡ false → is_whole (window_of o) ≡ true
+no_window None e = refl
+no_window (Some w) e = absurd (let n : true ≡ false = e in cc)
+
+simple_by : (types : List TypeTree) (entries : List (List ℕ)) (place : Place) (c : CondTree) → condition_unbuilt c ≡ false → is_simple (condition_of types entries place c) ≡ true
+simple_by types entries place (tree.Plain s) e = no_window s.window e
+simple_by types entries place (tree.Negated s) e = absurd (let n : true ≡ false = e in cc)
+simple_by types entries place (tree.Existing s) e = absurd (let n : true ≡ false = e in cc)
+simple_by types entries place (tree.Folded result s kind arg tests) e = absurd (let n : true ≡ false = e in cc)
+
+simple_all : (types : List TypeTree) (entries : List (List ℕ)) (place : Place) (cs : List CondTree) → list_any condition_unbuilt cs ≡ false → are_simple (conditions_of types entries place cs) ≡ true
+unfolding conditions_of
+simple_all types entries place [] e = refl
+simple_all types entries place (c ∷ cs) e =
+    both (is_simple (condition_of types entries place c)) (are_simple (conditions_of types entries (behind types place c) cs))
+    (simple_by types entries place c (or_left (condition_unbuilt c) (list_any condition_unbuilt cs) e))
+    (simple_all types entries (behind types place c) cs (or_right (condition_unbuilt c) (list_any condition_unbuilt cs) e))
+
+simple_sound : (types : List TypeTree) (entries : List (List ℕ)) (r : RuleTree) → list_any condition_unbuilt r.conditions ≡ false → is_simple_rule (rule_of types entries r) ≡ true
+simple_sound types entries r built = simple_all types entries begin r.conditions built
+
+whole_fits : (a b : Bool) → a ≡ true → (a || b) ≡ true
+whole_fits true b e = refl
+whole_fits false b e = absurd (let n : false ≡ true = e in cc)
+
+simple_whole : (c : Condition) → is_simple c ≡ true → is_whole (pattern_of c).window ≡ true
+simple_whole (Plain q) e = e
+simple_whole (Negated q) e = absurd (let n : false ≡ true = e in cc)
+simple_whole (Existing q) e = absurd (let n : false ≡ true = e in cc)
+simple_whole (Folded a) e = absurd (let n : false ≡ true = e in cc)
+
+simple_windows : (p : Program) (cs : List Condition) → are_simple cs ≡ true → list_all (has_window p) cs ≡ true
+simple_windows p [] e = refl
+simple_windows p (c ∷ cs) e =
+    both (has_window p c) (list_all (has_window p) cs)
+    (whole_fits (is_whole (pattern_of c).window) (is_event p (pattern_of c).ty.0 && is_window (pattern_of c).window) (simple_whole c (and_left (is_simple c) (are_simple cs) e)))
+    (simple_windows p cs (and_right (is_simple c) (are_simple cs) e))
+
+rules_windows : (p : Program) (rules : List Rule) → list_all is_simple_rule rules ≡ true → list_all (has_windows p) rules ≡ true
+rules_windows p [] e = refl
+rules_windows p (r ∷ rules) e =
+    both (has_windows p r) (list_all (has_windows p) rules) (simple_windows p r.conditions (and_left (is_simple_rule r) (list_all is_simple_rule rules) e))
+    (rules_windows p rules (and_right (is_simple_rule r) (list_all is_simple_rule rules) e))
+
+-- ---- types are declared once
+
+same_bytes : (a b : List ℕ) → bytes_eq a b ≡ false → bytes_eq b a ≡ false
+same_bytes a b e = by (bytes_eq b a) refl
+  where
+    by : (t : Bool) → bytes_eq b a ≡ t → bytes_eq b a ≡ false
+    by true h = absurd (let n : true ≡ false = sym ((bytes_decides a b).1 (sym ((bytes_decides b a).0 h))) ∙ e in cc)
+    by false h = h
+
+negation : (a b : Bool) → a ≡ b → not a ≡ not b
+negation a b e = ap not e
+
+none_more : (a b : Bool) → not a ≡ true → b ≡ false → not (a || (b || false)) ≡ true
+none_more true b e h = absurd (let n : false ≡ true = e in cc)
+none_more false true e h = absurd (let n : true ≡ false = h in cc)
+none_more false false e h = refl
+
+one_name_more : (names : List (List ℕ)) (name : List ℕ) → are_distinct names ≡ true → is_among names name ≡ false → are_distinct (names ++ name ∷ []) ≡ true
+unfolding are_distinct
+one_name_more [] name d e = refl
+one_name_more (first ∷ names) name d e =
+    let other : bytes_eq first name ≡ false = same_bytes name first (or_left (bytes_eq name first) (is_among names name) e) in
+    both (not (is_among (names ++ name ∷ []) first)) (are_distinct (names ++ name ∷ []))
+    (ap not (list_any-append (bytes_eq first) names (name ∷ []))
+    ∙ none_more (is_among names first) (bytes_eq first name) (and_left (not (is_among names first)) (are_distinct names) d) other)
+    (one_name_more names name (and_right (not (is_among names first)) (are_distinct names) d) (or_right (bytes_eq name first) (is_among names name) e))
+
+body_once : (types : List (List ℕ)) (entries rules : List (List ℕ)) (b : Body) → is_repeated types entries rules b ≡ false → are_distinct types ≡ true → are_distinct (types ++ type_names (type_in b)) ≡ true
+body_once types entries rules (body.Declare t) e d =
+    let front = or_left (is_among types t.name || not (are_distinct (map meta_word t.metas))) (not (are_distinct (field_names t))) e in
+    one_name_more types t.name d (or_left (is_among types t.name) (not (are_distinct (map meta_word t.metas))) front)
+body_once types entries rules (body.Rule r) e d = subst (λ ns. are_distinct ns ≡ true) (sym (append-nil types)) d
+body_once types entries rules (body.Package p) e d = subst (λ ns. are_distinct ns ≡ true) (sym (append-nil types)) d
+body_once types entries rules (body.Import p s) e d = subst (λ ns. are_distinct ns ≡ true) (sym (append-nil types)) d
+body_once types entries rules (body.Dialect t) e d = subst (λ ns. are_distinct ns ≡ true) (sym (append-nil types)) d
+body_once types entries rules (body.Entry a l) e d = subst (λ ns. are_distinct ns ≡ true) (sym (append-nil types)) d
+
+declared_once : (all before items : List Item) → AllPass all before items → are_distinct (type_names (types_of before)) ≡ true → are_distinct (type_names (types_of (before ++ items))) ≡ true
+declared_once all before [] p d = subst (λ (is : List Item). are_distinct (type_names (types_of is)) ≡ true) (sym (append-nil before)) d
+declared_once all before (item ∷ items) p d =
+    let names = type_names (types_of before) in
+    let more = body_once names (declared_entries before) (rule_names (rules_of before)) item.body (p.0 TwiceDeclared) d in
+    let next : type_names (types_of (before ++ item ∷ [])) ≡ names ++ type_names (type_in item.body) =
+    ap type_names (types_next before item) ∙ map-append (λ (t : TypeTree). t.name) (types_of before) (type_in item.body) in
+    subst (λ (is : List Item). are_distinct (type_names (types_of is)) ≡ true) (append_assoc before (item ∷ []) items)
+    (declared_once all (before ++ item ∷ []) items p.1 (subst (λ ns. are_distinct ns ≡ true) (sym next) more))
+
+none_declared : are_distinct (type_names (types_of [])) ≡ true
+unfolding are_distinct
+none_declared = refl
+
+-- ---- patterns name declared types
+
+known_by : (o : Option TypeTree) → not (is_some o) ≡ false → is_some o ≡ true
+known_by None e = absurd (let n : true ≡ false = e in cc)
+known_by (Some t) e = refl
+
+known_type : (types : List TypeTree) (c : CondTree) → is_type_unknown types c ≡ false → has_type types c ≡ true
+known_type types (tree.Plain s) e = known_by (type_named types s.ty) e
+known_type types (tree.Negated s) e = known_by (type_named types s.ty) e
+known_type types (tree.Existing s) e = known_by (type_named types s.ty) e
+known_type types (tree.Folded result s kind arg tests) e = known_by (type_named types s.ty) e
+
+known_types : (types : List TypeTree) (cs : List CondTree) → has_unknown_type types cs ≡ false → list_all (has_type types) cs ≡ true
+known_types types [] e = refl
+known_types types (c ∷ cs) e =
+    both (has_type types c) (list_all (has_type types) cs) (known_type types c (or_left (is_type_unknown types c) (has_unknown_type types cs) e))
+    (known_types types cs (or_right (is_type_unknown types c) (has_unknown_type types cs) e))
+
+body_known : (types : List TypeTree) (b : Body) (rest : List RuleTree) → lacks_type types b ≡ false → list_all (has_types types) rest ≡ true → list_all (has_types types) (rule_in b ++ rest) ≡ true
+body_known types (body.Rule r) rest e h =
+    both (has_types types r) (list_all (has_types types) rest) (known_types types r.conditions (or_left (has_unknown_type types r.conditions) (list_any (inserts_unknown_type types) r.actions) e)) h
+body_known types (body.Declare t) rest e h = h
+body_known types (body.Package p) rest e h = h
+body_known types (body.Import p s) rest e h = h
+body_known types (body.Dialect d) rest e h = h
+body_known types (body.Entry a l) rest e h = h
+
+all_known : (all before items : List Item) → AllPass all before items → list_all (has_types (types_of all)) (rules_of items) ≡ true
+all_known all before [] p = refl
+all_known all before (item ∷ items) p = body_known (types_of all) item.body (rules_of items) (p.0 UnknownType) (all_known all (before ++ item ∷ []) items p.1)
 
 -- ---- the whole program
 
@@ -48,17 +248,23 @@ pub accepted_runnable : (file : File) → IsAcceptedFile file → IsRunnable (pr
 accepted_runnable file a =
     let types = types_of file.items in
     let entries = entry_names file.items in
+    let names = observed_names (rules_of file.items) in
     let few = few_types file.items [] file.items a (omega arith) in
     let ways = few_entries file.items [] file.items a one_entry in
     let rules = few_rules file.items [] file.items a (omega arith) in
+    let simple = all_sound types entries is_simple_rule (λ r built within. simple_sound types entries r built) file.items [] file.items a in
     record {
-      few_types = omega (arith, few, length-map types type_info);
+      few_types = omega (arith, few, length-map types (type_info names));
       some_entry = omega (arith, some_entry (flat_map (λ (item : Item). entries_named item.body) file.items), length-map entries (entry_info file.items));
       few_entries = omega (arith, ways, length-map entries (entry_info file.items));
       lateness = all_late file.items entries (late file.items [] file.items a);
+      expiry = all_expire names file.items [] file.items a;
       few_rules = omega (arith, rules, length-map (rules_of file.items) (rule_of types entries));
       conditions = all_sound types entries has_conditions (conditions_sound types entries) file.items [] file.items a;
+      operators = all_operators types entries (rules_of file.items);
+      windows = rules_windows (program_of file) (program_of file).rules simple;
+      observed = observed_are_flagged file (omega (arith, few)) (declared_once file.items [] file.items a none_declared) (all_known file.items [] file.items a);
       actions = all_sound types entries has_few_actions (actions_sound types entries) file.items [] file.items a;
       typed = accepted_typed file a;
-      unexpired = all_stay file.items [] file.items a;
+      simple = simple;
     }

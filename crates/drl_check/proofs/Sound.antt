@@ -20,7 +20,8 @@ use Rattle.drl_sight.specs.EntryPoints.{default_name, entries_named, with_name, 
 use Rattle.drl_sight.specs.Names.{is_short, is_among}
 use Rattle.drl_sight.specs.Sight.{Place, begin, behind, sight_of_actions}
 use Rattle.drl_limits.specs.Limits.{span_limit, is_entry_name, has_few_entries, lateness_within, exceeds_limit_behind, type_within, rule_within, attr_within, condition_within, action_within, actions_within}
-use Rattle.drl_program.specs.Programs.{entry_info, condition_of, conditions_of, rule_of, action_of}
+use Rattle.drl_program.specs.Programs.{entry_info, rule_of, action_of}
+use Rattle.drl_program.proofs.Flagged.{one_for_each}
 use Rattle.drl_check.specs.Built.{condition_unbuilt, not_built}
 use Rattle.drl_check.specs.Checks.{has_bad_params, AllPass}
 use Rattle.drl_check.specs.Params.{is_negative}
@@ -178,13 +179,6 @@ all_late items (name ∷ names) h = both (is_lateness (lateness_named items name
 
 -- ---- conditions are few, and there are some
 
--- each condition that is built is one of the program
-exactly_one : (types : List TypeTree) (entries : List (List ℕ)) (place : Place) (c : CondTree) → condition_unbuilt c ≡ false → length (condition_of types entries place c) ≡ 1
-exactly_one types entries place (tree.Plain s) e = refl
-exactly_one types entries place (tree.Negated s) e = absurd cc
-exactly_one types entries place (tree.Existing s) e = absurd cc
-exactly_one types entries place (tree.Folded a b c d e) h = absurd cc
-
 pub or_left : (a b : Bool) → (a || b) ≡ false → a ≡ false
 or_left false b e = refl
 or_left true b e = absurd cc
@@ -192,14 +186,6 @@ or_left true b e = absurd cc
 pub or_right : (a b : Bool) → (a || b) ≡ false → b ≡ false
 or_right false b e = e
 or_right true b e = absurd cc
-
-as_many : (types : List TypeTree) (entries : List (List ℕ)) (place : Place) (cs : List CondTree) → list_any condition_unbuilt cs ≡ false → length (conditions_of types entries place cs) ≡ length cs
-unfolding conditions_of
-as_many types entries place [] e = refl
-as_many types entries place (c ∷ cs) e =
-    let one = exactly_one types entries place c (or_left (condition_unbuilt c) (list_any condition_unbuilt cs) e) in
-    let rest = as_many types entries (behind types place c) cs (or_right (condition_unbuilt c) (list_any condition_unbuilt cs) e) in
-    omega (arith, one, rest, length-append (condition_of types entries place c) (conditions_of types entries (behind types place c) cs))
 
 some : (n : ℕ) → nat_lt 0 n ≡ true → nat_le 1 n ≡ true
 some n e = grind (arith, nat_tests)
@@ -215,7 +201,7 @@ conditions_sound types entries r built e =
     let front = and_left (before && nat_lt 0 n && nat_le n 8) tests all in
     let few : nat_le n 8 ≡ true = and_right (before && nat_lt 0 n) (nat_le n 8) front in
     let one : nat_lt 0 n ≡ true = and_right before (nat_lt 0 n) (and_left (before && nat_lt 0 n) (nat_le n 8) front) in
-    rw (as_many types entries begin r.conditions built) (both (nat_le 1 n) (nat_le n 8) (some n one) few)
+    rw (one_for_each types entries begin r.conditions) (both (nat_le 1 n) (nat_le n 8) (some n one) few)
 
 -- and few actions
 pub actions_sound : (types : List TypeTree) (entries : List (List ℕ)) (r : RuleTree) → list_any condition_unbuilt r.conditions ≡ false → rule_within r ≡ true

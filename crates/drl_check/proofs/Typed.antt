@@ -22,6 +22,7 @@ use Rattle.drl_sight.specs.EntryPoints.{entry_names}
 use Rattle.drl_sight.specs.Operands.{any_leaf_of}
 use Rattle.drl_sight.specs.Sight.{Meaning, of_fact, of_field, of_result, Sight, meaning_of, begin, sight_of_actions}
 use Rattle.drl_limits.specs.Limits.{is_name, has_few_entries, attr_within, condition_within, meta_within, actions_within, exceeds_limit_behind, type_within, rule_within}
+use Rattle.drl_program.specs.Observed.{observed_names}
 use Rattle.drl_program.specs.Programs.{type_place, type_info, conditions_of, expression_in, set_in, fact_meant, type_meant, action_of, rule_of, program_of}
 use Rattle.drl_check.specs.declared.fault.CheckCode.TheVariants.{LimitPassed, UnknownType, UnknownVariable, WrongKind}
 use Rattle.drl_check.specs.Checks.{lacks_type, lacks_variable, is_wrong_kind, AllPass, IsAcceptedFile}
@@ -69,23 +70,23 @@ small_at (x ∷ types) h (suc ty) t e = small_at types (and_right (has_few_field
 
 -- ---- actions
 
-module _ (types : List TypeTree) (few : length types ≤ 128) (small : HaveFewFields types) (entries : List (List ℕ)) where
+module _ (names : List (List ℕ)) (types : List TypeTree) (few : length types ≤ 128) (small : HaveFewFields types) (entries : List (List ℕ)) where
   module _ (taken : List ℕ) (sight : Sight) (bound : length taken ≤ 8) (seen : InSight types taken sight) where
     insert_typed : (ty : List ℕ) (args : List Tree) (o : Option TypeTree) → type_named types ty ≡ o → not (is_some o) ≡ false → insert_misfits o sight args ≡ false
-        → action_fits (map type_info types) taken (action_of types sight (act.Insert ty args)) ≡ true
+        → action_fits (map (type_info names) types) taken (action_of types sight (act.Insert ty args)) ≡ true
     insert_typed ty args None is e m = absurd cc
     insert_typed ty args (Some t) is e m =
         let place = type_place (place_of (type_names types) ty) in
         let at = type_placed types few entries ty t is in
         let there = slice_get_within types place t at in
         let es = map (expression_in sight) args in
-        let fields = bound_fields (map type_info types) taken in
-        both (nat_lt place (length (map type_info types))) (args_fit fields (fields_in (slice_get (map type_info types) place)) es)
-        (less place (length (map type_info types)) (omega (arith, there, length-map types type_info)))
-        (subst (λ fs. args_fit fields fs es ≡ true) (sym (fields_at types place t at)) (args_are_fit types taken sight small bound seen t.fields args m))
+        let fields = bound_fields (map (type_info names) types) taken in
+        both (nat_lt place (length (map (type_info names) types))) (args_fit fields (fields_in (slice_get (map (type_info names) types) place)) es)
+        (less place (length (map (type_info names) types)) (omega (arith, there, length-map types (type_info names))))
+        (subst (λ fs. args_fit fields fs es ≡ true) (sym (fields_at names types place t at)) (args_are_fit names types taken sight small bound seen t.fields args m))
 
     modify_typed : (v : List ℕ) (sets : List (List ℕ × Tree)) (o : Option Meaning) → meaning_of sight v ≡ o → not (is_some o) ≡ false → modify_misfits o sight sets ≡ false
-        → action_fits (map type_info types) taken (Modify (fact_meant o) (map (set_in (type_meant o) sight) sets)) ≡ true
+        → action_fits (map (type_info names) types) taken (Modify (fact_meant o) (map (set_in (type_meant o) sight) sets)) ≡ true
     modify_typed v sets None is e m = absurd cc
     modify_typed v sets (Some (of_field fact field k)) is e m = absurd cc
     modify_typed v sets (Some (of_result result)) is e m = absurd cc
@@ -93,24 +94,24 @@ module _ (types : List TypeTree) (few : length types ≤ 128) (small : HaveFewFi
         let h = seen v (of_fact fact t) is in
         let of = taken_of types taken fact t h in
         let there = slice_get_within taken fact of.0 of.1 in
-        let fields = bound_fields (map type_info types) taken in
+        let fields = bound_fields (map (type_info names) types) taken in
         both (nat_lt (min fact 255) (length taken))
         (list_all (λ (set : ℕ × Expression). set_of_kind (slice_get (fields (min fact 255)) set.0) (expression_kind fields set.1)) (map (set_in t sight) sets))
         (less (min fact 255) (length taken) (omega (arith, there, bound)))
-        (sets_are_fit types taken sight small bound seen fact t sets h m)
+        (sets_are_fit names types taken sight small bound seen fact t sets h m)
 
     action_typed : (a : ActTree) → inserts_unknown_type types a ≡ false → action_unseen sight a ≡ false → action_misfits types sight a ≡ false
-        → action_fits (map type_info types) taken (action_of types sight a) ≡ true
+        → action_fits (map (type_info names) types) taken (action_of types sight a) ≡ true
     action_typed (act.Insert ty args) t v m = insert_typed ty args (type_named types ty) refl t m
     action_typed (act.Modify x sets) t v m =
         modify_typed x sets (meaning_of sight x) refl (or_left (target_unseen sight (act.Modify x sets)) (any_leaf_of (leaf_unseen sight) (act.Modify x sets)) v) m
     action_typed (act.Retract x) t v m = refl
 
     actions_typed : (actions : List ActTree) → list_any (inserts_unknown_type types) actions ≡ false → list_any (action_unseen sight) actions ≡ false → list_any (action_misfits types sight) actions ≡ false
-        → list_all (action_fits (map type_info types) taken) (map (action_of types sight) actions) ≡ true
+        → list_all (action_fits (map (type_info names) types) taken) (map (action_of types sight) actions) ≡ true
     actions_typed [] t v m = refl
     actions_typed (a ∷ actions) t v m =
-        both (action_fits (map type_info types) taken (action_of types sight a)) (list_all (action_fits (map type_info types) taken) (map (action_of types sight) actions))
+        both (action_fits (map (type_info names) types) taken (action_of types sight a)) (list_all (action_fits (map (type_info names) types) taken) (map (action_of types sight) actions))
         (action_typed a
         (or_left (inserts_unknown_type types a) (list_any (inserts_unknown_type types) actions) t)
         (or_left (action_unseen sight a) (list_any (action_unseen sight) actions) v)
@@ -130,7 +131,7 @@ module _ (types : List TypeTree) (few : length types ≤ 128) (small : HaveFewFi
       within n 8 (and_right before (nat_le n 8) (and_left (before && nat_le n 8) tests (and_left (before && nat_le n 8 && tests) (actions_within r.actions) e)))
 
   rule_typed : (r : RuleTree) → rule_within r ≡ true → lacks_type types (body.Rule r) ≡ false → lacks_variable types (body.Rule r) ≡ false → is_wrong_kind types (body.Rule r) ≡ false
-      → rule_fits (map type_info types) (rule_of types entries r) ≡ true
+      → rule_fits (map (type_info names) types) (rule_of types entries r) ≡ true
   rule_typed r e t v m =
       let taken = bound_types (conditions_of types entries begin r.conditions) in
       let sight = sight_of_actions types r.conditions in
@@ -141,25 +142,25 @@ module _ (types : List TypeTree) (few : length types ≤ 128) (small : HaveFewFi
       (or_right (any_condition (has_wrong_kind types) types begin r.conditions) (list_any (action_misfits types sight) r.actions) m)
 
   body_typed : (n m : ℕ) (known : List (List ℕ)) (b : Body) (rest : List RuleTree) → exceeds_limit_behind n m known b ≡ false → lacks_type types b ≡ false → lacks_variable types b ≡ false
-      → is_wrong_kind types b ≡ false → list_all (rule_fits (map type_info types)) (map (rule_of types entries) rest) ≡ true
-      → list_all (rule_fits (map type_info types)) (map (rule_of types entries) (rule_in b ++ rest)) ≡ true
+      → is_wrong_kind types b ≡ false → list_all (rule_fits (map (type_info names) types)) (map (rule_of types entries) rest) ≡ true
+      → list_all (rule_fits (map (type_info names) types)) (map (rule_of types entries) (rule_in b ++ rest)) ≡ true
   body_typed n m known (body.Rule r) rest e t v k h =
       let inside = not_and_right (nat_lt m 256 && has_few_entries known (body.Rule r)) (rule_within r) e in
-      both (rule_fits (map type_info types) (rule_of types entries r)) (list_all (rule_fits (map type_info types)) (map (rule_of types entries) rest)) (rule_typed r inside t v k) h
+      both (rule_fits (map (type_info names) types) (rule_of types entries r)) (list_all (rule_fits (map (type_info names) types)) (map (rule_of types entries) rest)) (rule_typed r inside t v k) h
   body_typed n m known (body.Declare d) rest e t v k h = h
   body_typed n m known (body.Package p) rest e t v k h = h
   body_typed n m known (body.Import p s) rest e t v k h = h
   body_typed n m known (body.Dialect d) rest e t v k h = h
   body_typed n m known (body.Entry a l) rest e t v k h = h
 
-rules_typed : (all : List Item) (entries : List (List ℕ)) → length (types_of all) ≤ 128 → HaveFewFields (types_of all) → (before items : List Item) → AllPass all before items
-    → list_all (rule_fits (map type_info (types_of all))) (map (rule_of (types_of all) entries) (rules_of items)) ≡ true
-rules_typed all entries few small before [] p = refl
-rules_typed all entries few small before (item ∷ items) p =
-    body_typed (types_of all) few small entries (length (types_of before)) (length (rules_of before)) (entry_names before) item.body (rules_of items)
-    (p.0 LimitPassed) (p.0 UnknownType) (p.0 UnknownVariable) (p.0 WrongKind) (rules_typed all entries few small (before ++ item ∷ []) items p.1)
+rules_typed : (names : List (List ℕ)) (all : List Item) (entries : List (List ℕ)) → length (types_of all) ≤ 128 → HaveFewFields (types_of all) → (before items : List Item) → AllPass all before items
+    → list_all (rule_fits (map (type_info names) (types_of all))) (map (rule_of (types_of all) entries) (rules_of items)) ≡ true
+rules_typed names all entries few small before [] p = refl
+rules_typed names all entries few small before (item ∷ items) p =
+    body_typed names (types_of all) few small entries (length (types_of before)) (length (rules_of before)) (entry_names before) item.body (rules_of items)
+    (p.0 LimitPassed) (p.0 UnknownType) (p.0 UnknownVariable) (p.0 WrongKind) (rules_typed names all entries few small (before ++ item ∷ []) items p.1)
 
 pub accepted_typed : (file : File) → IsAcceptedFile file → is_typed (program_of file) ≡ true
 unfolding is_typed
 accepted_typed file a =
-    rules_typed file.items (entry_names file.items) (few_types file.items [] file.items a (omega arith)) (small_at (types_of file.items) (types_small file.items [] file.items a)) [] file.items a
+    rules_typed (observed_names (rules_of file.items)) file.items (entry_names file.items) (few_types file.items [] file.items a (omega arith)) (small_at (types_of file.items) (types_small file.items [] file.items a)) [] file.items a
