@@ -1,36 +1,40 @@
-ghost use Rattle.std.specs.Prelude.{◌≡◌};
-
 use alpha_memory::{AlphaMemory, JoinIndex};
-use fx_base::{FactId, Tag, Value};
+use fx_base::{FactId, NoMemory, Tag, Value};
 use row_delta::Named;
 use std::test::Fail;
 
-fn named(id: u64, tag: u64) -> Named
-    ensures { result.tag.0 ≡ tag }
-{
+fn named(id: u64, tag: u64) -> Named {
     Named {
         id: FactId(id),
         tag: Tag(tag),
     }
 }
 
+/// Adds candidates, each with its join value; of one with a tag that is there already the older one goes.
+fn add_all(memory: &mut AlphaMemory, candidates: &[(Named, i64)]) -> Result<(), NoMemory> {
+    for (candidate, join) in candidates {
+        if !memory.drop_tag(candidate.tag) {
+            memory.add(*candidate, Value::Int(*join))?;
+        }
+    }
+    Ok(())
+}
+
+/// Whether these and no others have the join value, in this order.
+fn have_join(memory: &AlphaMemory, join: i64, candidates: &[Named]) -> Result<bool, NoMemory> {
+    Ok(memory.equal_to(&Value::Int(join))?.as_slice() == candidates)
+}
+
 #[test]
 fn candidates_are_found_by_their_join_value(rt: HostRuntime) -> Result<(), Fail> {
     let mut memory = AlphaMemory::new(rt.alloc());
-    memory.add(named(5, 1), Value::Int(7))?;
-    memory.add(named(6, 2), Value::Int(8))?;
-    memory.add(named(7, 3), Value::Int(7))?;
-    assert_eq!(rt;
-        memory.equal_to(&Value::Int(7))?.as_slice(),
-        [named(5, 1), named(7, 3)].as_slice()
-    );
-    assert_eq!(rt; memory.all()?.len(), 3);
+    let all = [named(5, 1), named(6, 2), named(7, 3)];
+    add_all(&mut memory, &[(all[0], 7), (all[1], 8), (all[2], 7)])?;
+    assert!(rt; have_join(&memory, 7, &[all[0], all[2]])?);
+    assert_eq!(rt; memory.all()?.as_slice(), all.as_slice());
     assert!(rt; memory.drop_tag(Tag(1)));
     assert!(rt; !memory.drop_tag(Tag(1)));
-    assert_eq!(rt;
-        memory.equal_to(&Value::Int(7))?.as_slice(),
-        [named(7, 3)].as_slice()
-    );
+    assert!(rt; have_join(&memory, 7, &all[2..])?);
     Ok(())
 }
 

@@ -9,8 +9,6 @@ mod candidates;
 #[cfg(test)]
 mod commands;
 #[cfg(test)]
-mod expressions;
-#[cfg(test)]
 mod folds;
 #[cfg(test)]
 mod held_facts;
@@ -22,6 +20,8 @@ mod loads;
 mod networks;
 #[cfg(test)]
 mod operators;
+#[cfg(test)]
+mod pending;
 #[cfg(test)]
 mod rows;
 #[cfg(test)]

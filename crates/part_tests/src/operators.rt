@@ -1,11 +1,332 @@
-ghost use Rattle.std.specs.Prelude.{◌^◌};
-ghost use Rattle.temporal_ops.specs.Edges.{AreWithin};
+ghost use Rattle.std.specs.Prelude.{◌^◌, IsTrue};
+ghost use Rattle.std.specs.List.{All};
+ghost use Rattle.temporal_ops.specs.Edges.{AreWithin, IsWithin};
 
 use fx_base::{Copies, Times};
-use std::test::Fail;
+use std::alloc::Global;
 use temporal_ops::{Op, OpFault, OpWord, Window, possible_start};
 
-fn times(points: (i32, i32)) -> Times
+/// The start and the end of an event.
+type Event = (i32, i32);
+
+/// A word with its parameters, and of the events beside the event from 100 to 200 some of which it holds, and some of which it
+/// does not hold. The first ones lie at the bounds of its row, the others one beside them.
+type Row = (OpWord, &'static [i64], &'static [Event], &'static [Event]);
+
+const ROWS: &[Row] = &[
+    // the two parameters of `after` and `before` stand in either order
+    (OpWord::After, &[], &[(201, 250)], &[(200, 250)]),
+    (OpWord::After, &[5], &[(205, 250)], &[(204, 250)]),
+    (OpWord::After, &[-5], &[(195, 250)], &[(194, 250)]),
+    (
+        OpWord::After,
+        &[5, 9],
+        &[(205, 250), (209, 250)],
+        &[(204, 250), (210, 250)],
+    ),
+    (
+        OpWord::After,
+        &[9, 5],
+        &[(205, 250), (209, 250)],
+        &[(204, 250), (210, 250)],
+    ),
+    (
+        OpWord::After,
+        &[-5, -9],
+        &[(191, 250), (195, 250)],
+        &[(190, 250), (196, 250)],
+    ),
+    (OpWord::Before, &[], &[(50, 99)], &[(50, 100)]),
+    (OpWord::Before, &[5], &[(50, 95)], &[(50, 96)]),
+    (OpWord::Before, &[-5], &[(50, 105)], &[(50, 106)]),
+    (
+        OpWord::Before,
+        &[5, 9],
+        &[(50, 91), (50, 95)],
+        &[(50, 90), (50, 96)],
+    ),
+    (
+        OpWord::Before,
+        &[9, 5],
+        &[(50, 91), (50, 95)],
+        &[(50, 90), (50, 96)],
+    ),
+    (
+        OpWord::Before,
+        &[-5, -9],
+        &[(50, 105), (50, 109)],
+        &[(50, 104), (50, 110)],
+    ),
+    // those of the other words do not
+    (
+        OpWord::Coincides,
+        &[],
+        &[(100, 200)],
+        &[(99, 200), (101, 200), (100, 199), (100, 201)],
+    ),
+    (
+        OpWord::Coincides,
+        &[5],
+        &[(95, 195), (105, 205)],
+        &[(94, 200), (106, 200), (100, 194), (100, 206)],
+    ),
+    (
+        OpWord::Coincides,
+        &[5, 9],
+        &[(95, 191), (105, 209)],
+        &[(94, 200), (106, 200), (100, 190), (100, 210)],
+    ),
+    (
+        OpWord::Coincides,
+        &[9, 5],
+        &[(91, 195), (109, 205)],
+        &[(90, 200), (110, 200), (100, 194), (100, 206)],
+    ),
+    (
+        OpWord::During,
+        &[],
+        &[(101, 199)],
+        &[(100, 199), (101, 200)],
+    ),
+    (
+        OpWord::During,
+        &[5],
+        &[(101, 199), (105, 195)],
+        &[(100, 199), (106, 199), (101, 200), (101, 194)],
+    ),
+    (
+        OpWord::During,
+        &[5, 9],
+        &[(105, 195), (109, 191)],
+        &[(104, 195), (110, 195), (105, 196), (105, 190)],
+    ),
+    (
+        OpWord::During,
+        &[9, 5],
+        &[],
+        &[(105, 195), (109, 191), (107, 193)],
+    ),
+    (
+        OpWord::During,
+        &[5, 9, 2, 3],
+        &[(105, 198), (109, 197)],
+        &[(104, 198), (110, 198), (105, 199), (105, 196)],
+    ),
+    (
+        OpWord::During,
+        &[5, 9, 3, 2],
+        &[],
+        &[(105, 198), (105, 197)],
+    ),
+    (
+        OpWord::During,
+        &[9, 5, 2, 3],
+        &[],
+        &[(105, 198), (109, 198)],
+    ),
+    (
+        OpWord::Includes,
+        &[],
+        &[(99, 201)],
+        &[(100, 201), (99, 200)],
+    ),
+    (
+        OpWord::Includes,
+        &[5],
+        &[(99, 201), (95, 205)],
+        &[(100, 201), (94, 201), (99, 200), (99, 206)],
+    ),
+    (
+        OpWord::Includes,
+        &[5, 9],
+        &[(95, 205), (91, 209)],
+        &[(96, 205), (90, 205), (95, 204), (95, 210)],
+    ),
+    (
+        OpWord::Includes,
+        &[9, 5],
+        &[],
+        &[(95, 205), (91, 209), (93, 207)],
+    ),
+    (
+        OpWord::Includes,
+        &[5, 9, 2, 3],
+        &[(95, 202), (91, 203)],
+        &[(96, 202), (90, 202), (95, 201), (95, 204)],
+    ),
+    (
+        OpWord::Finishes,
+        &[],
+        &[(101, 200)],
+        &[(100, 200), (101, 199), (101, 201)],
+    ),
+    (
+        OpWord::Finishes,
+        &[5],
+        &[(101, 195), (101, 205)],
+        &[(100, 200), (101, 194), (101, 206)],
+    ),
+    (
+        OpWord::FinishedBy,
+        &[],
+        &[(99, 200)],
+        &[(100, 200), (99, 199), (99, 201)],
+    ),
+    (
+        OpWord::FinishedBy,
+        &[5],
+        &[(99, 195), (99, 205)],
+        &[(100, 200), (99, 194), (99, 206)],
+    ),
+    (
+        OpWord::Starts,
+        &[],
+        &[(100, 199)],
+        &[(100, 200), (99, 199), (101, 199)],
+    ),
+    (
+        OpWord::Starts,
+        &[5],
+        &[(95, 199), (105, 199)],
+        &[(100, 200), (94, 199), (106, 199)],
+    ),
+    (
+        OpWord::StartedBy,
+        &[],
+        &[(100, 201)],
+        &[(100, 200), (99, 201), (101, 201)],
+    ),
+    (
+        OpWord::StartedBy,
+        &[5],
+        &[(95, 201), (105, 201)],
+        &[(100, 200), (94, 201), (106, 201)],
+    ),
+    (OpWord::Meets, &[], &[(50, 100)], &[(50, 99), (50, 101)]),
+    (
+        OpWord::Meets,
+        &[5],
+        &[(50, 95), (50, 105)],
+        &[(50, 94), (50, 106)],
+    ),
+    (OpWord::MetBy, &[], &[(200, 250)], &[(199, 250), (201, 250)]),
+    (
+        OpWord::MetBy,
+        &[5],
+        &[(195, 250), (205, 250)],
+        &[(194, 250), (206, 250)],
+    ),
+    (
+        OpWord::Overlaps,
+        &[],
+        &[(99, 101), (99, 199)],
+        &[(100, 101), (99, 100), (99, 200)],
+    ),
+    (
+        OpWord::Overlaps,
+        &[5],
+        &[(99, 101), (99, 105)],
+        &[(100, 105), (99, 100), (99, 106)],
+    ),
+    (
+        OpWord::Overlaps,
+        &[5, 9],
+        &[(99, 105), (99, 109)],
+        &[(100, 105), (99, 104), (99, 110)],
+    ),
+    (
+        OpWord::Overlaps,
+        &[99, 150],
+        &[(99, 199)],
+        &[(99, 198), (99, 200)],
+    ),
+    (
+        OpWord::Overlaps,
+        &[9, 5],
+        &[],
+        &[(99, 105), (99, 109), (99, 107)],
+    ),
+    (
+        OpWord::OverlappedBy,
+        &[],
+        &[(101, 201), (199, 201)],
+        &[(100, 201), (200, 201), (199, 200)],
+    ),
+    (
+        OpWord::OverlappedBy,
+        &[5],
+        &[(195, 201), (199, 201)],
+        &[(200, 201), (194, 201), (199, 200)],
+    ),
+    (
+        OpWord::OverlappedBy,
+        &[5, 9],
+        &[(191, 201), (195, 201)],
+        &[(190, 201), (196, 201), (195, 200)],
+    ),
+    (
+        OpWord::OverlappedBy,
+        &[9, 5],
+        &[],
+        &[(191, 201), (195, 201), (193, 201)],
+    ),
+];
+
+/// A word with parameters that it does not take.
+const REFUSED: &[(OpWord, &[i64], OpFault)] = &[
+    (OpWord::After, &[5, 9, 2], OpFault::ParamCount),
+    (OpWord::After, &[5, 9, 2, 3], OpFault::ParamCount),
+    (OpWord::After, &[5, 9, 2, 3, 1], OpFault::ParamCount),
+    (OpWord::Before, &[5, 9, 2], OpFault::ParamCount),
+    (OpWord::Before, &[5, 9, 2, 3], OpFault::ParamCount),
+    (OpWord::Before, &[5, 9, 2, 3, 1], OpFault::ParamCount),
+    (OpWord::Coincides, &[5, 9, 2], OpFault::ParamCount),
+    (OpWord::Coincides, &[5, 9, 2, 3], OpFault::ParamCount),
+    (OpWord::Coincides, &[5, 9, 2, 3, 1], OpFault::ParamCount),
+    (OpWord::Overlaps, &[5, 9, 2], OpFault::ParamCount),
+    (OpWord::Overlaps, &[5, 9, 2, 3], OpFault::ParamCount),
+    (OpWord::Overlaps, &[5, 9, 2, 3, 1], OpFault::ParamCount),
+    (OpWord::OverlappedBy, &[5, 9, 2], OpFault::ParamCount),
+    (OpWord::OverlappedBy, &[5, 9, 2, 3], OpFault::ParamCount),
+    (OpWord::OverlappedBy, &[5, 9, 2, 3, 1], OpFault::ParamCount),
+    (OpWord::During, &[5, 9, 2], OpFault::ParamCount),
+    (OpWord::During, &[5, 9, 2, 3, 1], OpFault::ParamCount),
+    (OpWord::Includes, &[5, 9, 2], OpFault::ParamCount),
+    (OpWord::Includes, &[5, 9, 2, 3, 1], OpFault::ParamCount),
+    (OpWord::Finishes, &[5, 9], OpFault::ParamCount),
+    (OpWord::Finishes, &[5, 9, 2, 3], OpFault::ParamCount),
+    (OpWord::FinishedBy, &[5, 9], OpFault::ParamCount),
+    (OpWord::FinishedBy, &[5, 9, 2, 3], OpFault::ParamCount),
+    (OpWord::Starts, &[5, 9], OpFault::ParamCount),
+    (OpWord::Starts, &[5, 9, 2, 3], OpFault::ParamCount),
+    (OpWord::StartedBy, &[5, 9], OpFault::ParamCount),
+    (OpWord::StartedBy, &[5, 9, 2, 3], OpFault::ParamCount),
+    (OpWord::Meets, &[5, 9], OpFault::ParamCount),
+    (OpWord::Meets, &[5, 9, 2, 3], OpFault::ParamCount),
+    (OpWord::MetBy, &[5, 9], OpFault::ParamCount),
+    (OpWord::MetBy, &[5, 9, 2, 3], OpFault::ParamCount),
+    (OpWord::Meets, &[-1, 5], OpFault::ParamCount),
+    (OpWord::Coincides, &[-1], OpFault::Negative),
+    (OpWord::During, &[-1], OpFault::Negative),
+    (OpWord::Includes, &[-1], OpFault::Negative),
+    (OpWord::Finishes, &[-1], OpFault::Negative),
+    (OpWord::FinishedBy, &[-1], OpFault::Negative),
+    (OpWord::Starts, &[-1], OpFault::Negative),
+    (OpWord::StartedBy, &[-1], OpFault::Negative),
+    (OpWord::Meets, &[-1], OpFault::Negative),
+    (OpWord::MetBy, &[-1], OpFault::Negative),
+    (OpWord::Overlaps, &[-1], OpFault::Negative),
+    (OpWord::OverlappedBy, &[-1], OpFault::Negative),
+    (OpWord::Coincides, &[5, -1], OpFault::Negative),
+    (OpWord::During, &[5, -1], OpFault::Negative),
+    (OpWord::Includes, &[5, -1], OpFault::Negative),
+    (OpWord::Overlaps, &[5, -1], OpFault::Negative),
+    (OpWord::OverlappedBy, &[5, -1], OpFault::Negative),
+    (OpWord::During, &[5, 9, 2, -1], OpFault::Negative),
+    (OpWord::Includes, &[5, 9, 2, -1], OpFault::Negative),
+];
+
+fn times(points: Event) -> Times
     ensures { AreWithin (2 ^ 54) result }
 {
     Times {
@@ -14,84 +335,92 @@ fn times(points: (i32, i32)) -> Times
     }
 }
 
-/// The operator of two parameters, or of none.
-fn operator(word: OpWord, bounds: Option<(i32, i32)>) -> Result<Op, OpFault> {
-    match bounds {
-        None => Op::of(word, &[]),
-        Some((first, second)) => Op::of(word, &[i64::from(first), i64::from(second)]),
+fn is_small(param: i64) -> bool
+    ensures { IsTrue result → IsWithin (2 ^ 53) param }
+{
+    -9_000_000 <= param && param <= 9_000_000
+}
+
+/// Whether operators may have these parameters.
+fn are_small(params: &[i64]) -> bool
+    ensures { IsTrue result → All (IsWithin (2 ^ 53)) params.now }
+{
+    params.iter().all(|param| is_small(*param))
+}
+
+/// The operator of a word; of numbers that are not small there is none.
+fn operator(word: OpWord, params: &[i64]) -> Option<Result<Op, OpFault>> {
+    if are_small(params) {
+        Some(Op::of(word, params))
+    } else {
+        None
     }
 }
 
-/// Whether it holds of an event and the event from 10 to 20.
-fn holds(word: OpWord, bounds: Option<(i32, i32)>, event: (i32, i32)) -> Result<bool, OpFault> {
-    Ok(operator(word, bounds)?.holds(times(event), times((10, 20))))
+/// Whether it holds of all these events, or of none of them.
+fn all_are(op: &Op, events: &[Event], wanted: bool) -> bool {
+    events.iter().all(|event| op.holds(times(*event), times((100, 200))) == wanted)
 }
 
-fn starts(op: Op, b: (i32, i32), point: bool) -> Window {
-    possible_start(&[(op, times(b))], point)
+fn agrees(row: &Row) -> bool {
+    match operator(row.0, row.1) {
+        Some(Ok(op)) => all_are(&op, row.2, true) && all_are(&op, row.3, false),
+        _ => false,
+    }
 }
 
 #[test]
-fn operators_hold_as_their_table_says(rt: HostRuntime) -> Result<(), Fail> {
-    for (word, inside, outside) in [
-        (OpWord::After, (21, 30), (20, 30)),
-        (OpWord::Before, (0, 9), (0, 10)),
-        (OpWord::Coincides, (10, 20), (10, 21)),
-        (OpWord::During, (11, 19), (10, 19)),
-        (OpWord::Includes, (9, 21), (9, 20)),
-        (OpWord::Finishes, (11, 20), (10, 20)),
-        (OpWord::FinishedBy, (9, 20), (10, 20)),
-        (OpWord::Starts, (10, 19), (10, 20)),
-        (OpWord::StartedBy, (10, 21), (10, 20)),
-        (OpWord::Meets, (5, 10), (5, 9)),
-        (OpWord::MetBy, (20, 25), (21, 25)),
-        (OpWord::Overlaps, (5, 15), (5, 10)),
-        (OpWord::OverlappedBy, (15, 25), (20, 25)),
-    ] {
-        assert!(rt; holds(word, None, inside)?, "{word:?}");
-        assert!(rt; !holds(word, None, outside)?, "{word:?}");
+fn operators_hold_as_their_table_says(rt: HostRuntime) {
+    for row in ROWS {
+        assert!(rt; agrees(row), "{:?} {:?}", row.0, row.1);
     }
-    // The bounds of `after` and `before` stand in either order, those of the other words do not.
-    for (word, first, second, event, wanted) in [
-        (OpWord::After, 240_000, 210_000, (225_020, 225_020), true),
-        (OpWord::After, 210_000, 240_000, (240_021, 240_021), false),
-        (OpWord::Before, 9, -5, (0, 15), true),
-        (OpWord::During, 1, 4, (11, 16), true),
-        (OpWord::During, 4, 1, (12, 18), false),
-        (OpWord::Coincides, 1, 5, (9, 25), true),
-        (OpWord::Coincides, 5, 1, (9, 25), false),
-        (OpWord::Overlaps, 2, 5, (5, 15), true),
-        (OpWord::OverlappedBy, 2, 4, (15, 25), false),
-    ] {
-        assert_eq!(rt;
-            holds(word, Some((first, second)), event)?,
-            wanted,
-            "{word:?}"
-        );
-    }
-    assert_eq!(rt;
-        holds(OpWord::Meets, Some((1, 2)), (0, 0)),
-        Err(OpFault::ParamCount)
-    );
-    assert_eq!(rt;
-        holds(OpWord::Coincides, Some((3, -5)), (0, 0)),
-        Err(OpFault::Negative)
-    );
-    Ok(())
+}
+
+fn is_refused(word: OpWord, params: &[i64], fault: OpFault) -> bool {
+    matches!(operator(word, params), Some(Err(found)) if found == fault)
 }
 
 #[test]
-fn possible_events_have_their_latest_start(rt: HostRuntime) -> Result<(), Fail> {
-    let within = operator(OpWord::After, Some((0, 10_000)))?;
-    assert_eq!(rt; within.edges().count, 2);
-    assert!(rt; within.copy(rt.alloc())? == within);
-    assert_eq!(rt; starts(within, (0, 0), true), Window::UpTo(10_000));
-    assert_eq!(rt;
-        starts(operator(OpWord::After, None)?, (0, 0), true),
-        Window::Unbounded
-    );
-    let includes = operator(OpWord::Includes, None)?;
-    assert_eq!(rt; starts(includes, (0, 0), false), Window::UpTo(-1));
-    assert_eq!(rt; starts(includes, (0, 0), true), Window::Never);
-    Ok(())
+fn parameters_without_a_row_are_refused(rt: HostRuntime) {
+    for row in REFUSED {
+        assert!(rt; is_refused(row.0, row.1, row.2), "{:?} {:?}", row.0, row.1);
+    }
+}
+
+/// Whether these are the possible starts of an event beside which the operator stands with the event from 0 to 0.
+fn has_starts(word: OpWord, params: &[i64], point: bool, window: Window) -> bool {
+    match operator(word, params) {
+        Some(Ok(op)) => possible_start(&[(op, times((0, 0)))], point) == window,
+        _ => false,
+    }
+}
+
+/// A word with parameters, whether the possible events end where they start, and their starts.
+const WINDOWS: &[(OpWord, &[i64], bool, Window)] = &[
+    (OpWord::After, &[0, 10_000], true, Window::UpTo(10_000)),
+    (OpWord::After, &[], true, Window::Unbounded),
+    (OpWord::Includes, &[], false, Window::UpTo(-1)),
+    (OpWord::Includes, &[], true, Window::Never),
+];
+
+#[test]
+fn possible_events_have_their_latest_start(rt: HostRuntime) {
+    for row in WINDOWS {
+        assert!(rt; has_starts(row.0, row.1, row.2, row.3), "{:?}", row.0);
+    }
+}
+
+/// Whether an operator is equal to its copy, and has so many edges.
+fn is_copied(alloc: Global, op: &Op, edges: usize) -> bool {
+    match op.copy(alloc) {
+        Ok(copy) => copy == *op && copy.edges().count == edges,
+        Err(_) => false,
+    }
+}
+
+#[test]
+fn an_operator_is_copied(rt: HostRuntime) {
+    if let Some(Ok(op)) = operator(OpWord::After, &[0, 10_000]) {
+        assert!(rt; is_copied(rt.alloc(), &op, 2));
+    }
 }

@@ -3,41 +3,56 @@ use row_delta::{Delta, Extra, Named, Row};
 use std::alloc::Global;
 use std::test::Fail;
 
-fn row_of_one_fact(alloc: Global, id: u64, tag: u64, value: i64) -> Result<Row, NoMemory> {
-    let facts = vec![in alloc;
-        Named {
-            id: FactId(id),
-            tag: Tag(tag)
-        },
-    ]?;
-    let values = vec![in alloc; value]?;
+fn row_of_one_fact(alloc: Global) -> Result<Row, NoMemory> {
+    let named = Named {
+        id: FactId(1),
+        tag: Tag(3),
+    };
     Ok(Row {
-        facts: Seq::from_vec(facts),
-        values: Seq::from_vec(values),
+        facts: Seq::from_vec(vec![in alloc; named]?),
+        values: Seq::from_vec(vec![in alloc; -2]?),
     })
+}
+
+#[test]
+fn a_row_is_copied(rt: HostRuntime) -> Result<(), Fail> {
+    let row = row_of_one_fact(rt.alloc())?;
+    assert_eq!(rt; row.copy(rt.alloc())?, row);
+    Ok(())
+}
+
+/// Whether one row alone goes, or comes.
+fn is_only(rows: &[Row], others: &[Row], one: &[Row]) -> bool {
+    rows == one && others.is_empty()
 }
 
 #[test]
 fn a_row_comes_and_goes(rt: HostRuntime) -> Result<(), Fail> {
     let alloc = rt.alloc();
-    let none: Vec<Row> = Vec::new(alloc);
-    let one = vec![in alloc; row_of_one_fact(alloc, 1, 3, -2)?]?;
-    assert_eq!(rt; one[0].copy(alloc)?, one[0]);
-    let goes = Delta::between(alloc, &one, &none)?;
-    assert_eq!(rt; goes.gone.as_slice(), one.as_slice());
-    assert!(rt; goes.come.as_slice().is_empty());
-    let comes = Delta::between(alloc, &none, &one)?;
-    assert_eq!(rt; comes.applied(alloc, &none)?, one);
+    let one = vec![in alloc; row_of_one_fact(alloc)?]?;
+    let goes = Delta::between(alloc, &one, &[])?;
+    assert!(rt; is_only(goes.gone.as_slice(), goes.come.as_slice(), &one));
+    let comes = Delta::between(alloc, &[], &one)?;
+    assert!(rt; is_only(comes.come.as_slice(), comes.gone.as_slice(), &one));
+    assert_eq!(rt; comes.applied(alloc, &[])?, one);
     let net = comes.then(alloc, goes)?;
-    assert!(rt; net.gone.as_slice().is_empty());
-    assert!(rt; net.come.as_slice().is_empty());
-    let extra = Extra {
+    assert!(rt; is_only(net.gone.as_slice(), net.come.as_slice(), &[]));
+    Ok(())
+}
+
+fn extra(alloc: Global) -> Result<Extra, NoMemory> {
+    Ok(Extra {
         rule: RuleId(2),
         condition: 1,
-        row: row_of_one_fact(alloc, 1, 3, -2)?,
+        row: row_of_one_fact(alloc)?,
         count: 4,
         values: Seq::from_vec(vec![in alloc; 5, 6]?),
-    };
-    assert_eq!(rt; extra.copy(alloc)?, extra);
+    })
+}
+
+#[test]
+fn an_extra_is_copied(rt: HostRuntime) -> Result<(), Fail> {
+    let extra = extra(rt.alloc())?;
+    assert_eq!(rt; extra.copy(rt.alloc())?, extra);
     Ok(())
 }

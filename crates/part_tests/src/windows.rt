@@ -1,5 +1,6 @@
-use fx_base::{FactId, Tag};
-use row_delta::Named;
+use fx_base::{FactId, NoMemory, Tag};
+use row_delta::{Named, Row};
+use std::alloc::Global;
 use std::test::Fail;
 use window_gate::{Gate, GateChange, WindowKind};
 
@@ -8,16 +9,36 @@ const SMOKE: Named = Named {
     tag: Tag(4),
 };
 
+fn are_smoke(rows: &[Row], count: usize) -> bool {
+    rows.len() == count
+        && rows
+            .iter()
+            .all(|row| row.facts.as_slice() == [SMOKE].as_slice())
+}
+
+/// A change, the clock, and how many rows come and go.
+type Step = (GateChange, i64, usize, usize);
+
+/// The gate behind a step, and whether the rows came and went that were to.
+fn stepped(alloc: Global, gate: Gate, step: &Step) -> Result<(Gate, bool), NoMemory> {
+    let (gate, delta) = gate.step(alloc, &step.0, step.1)?;
+    let (come, gone) = (delta.come.as_slice(), delta.gone.as_slice());
+    Ok((gate, are_smoke(come, step.2) && are_smoke(gone, step.3)))
+}
+
+const STEPS: &[Step] = &[
+    (GateChange::Come(SMOKE, 0), 0, 1, 0),
+    (GateChange::Clock, 9, 0, 0),
+    (GateChange::Clock, 10, 0, 1),
+];
+
 #[test]
 fn a_fact_leaves_a_window_of_time_with_the_clock(rt: HostRuntime) -> Result<(), Fail> {
-    let gate = Gate::new(rt.alloc(), WindowKind::Time(10));
-    let (gate, comes) = gate.step(rt.alloc(), &GateChange::Come(SMOKE, 0), 0)?;
-    assert_eq!(rt; comes.come.as_slice().len(), 1);
-    assert_eq!(rt; comes.gone.as_slice().len(), 0);
-    let (gate, stays) = gate.step(rt.alloc(), &GateChange::Clock, 9)?;
-    assert_eq!(rt; stays.gone.as_slice().len(), 0);
-    let (_, goes) = gate.step(rt.alloc(), &GateChange::Clock, 10)?;
-    assert_eq!(rt; goes.come.as_slice().len(), 0);
-    assert_eq!(rt; goes.gone.as_slice(), comes.come.as_slice());
+    let mut gate = Gate::new(rt.alloc(), WindowKind::Time(10));
+    for step in STEPS {
+        let (next, agrees) = stepped(rt.alloc(), gate, step)?;
+        assert!(rt; agrees, "{:?}", step.0);
+        gate = next;
+    }
     Ok(())
 }
