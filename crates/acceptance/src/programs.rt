@@ -15,3 +15,20 @@ pub(crate) fn program(alloc: Global, rules: &str) -> Option<Program>
         Err(_) => None,
     }
 }
+
+/// Whether a rule file is accepted and has so many types and rules.
+fn has(alloc: Global, rules: &str, types: usize, count: usize) -> bool {
+    match program(alloc, rules) {
+        Some(program) => {
+            program.types.as_slice().len() == types && program.rules.as_slice().len() == count
+        }
+        None => false,
+    }
+}
+
+const ITEM: &str = "declare Item price : long end rule dear when Item( price > 10 ) then end";
+
+#[test]
+fn an_accepted_file_is_a_program(rt: HostRuntime) {
+    assert!(rt; has(rt.alloc(), ITEM, 1, 1));
+}

@@ -1,6 +1,6 @@
 ghost use Rattle.std.specs.Prelude.{◌≤◌};
 
-use fx_base::{Copies, Seq, Text, Value};
+use fx_base::{NoMemory, Seq, Text};
 use fx_io::{MemShelf, MemSink, MemSource};
 use replay::run_rules;
 use session::Session;
@@ -17,128 +17,201 @@ const TWO: &str = "declare Item price : long end\n\
 const GROW: &str = "declare N v : long end\n\
     rule \"grow\" when $n : N() then insert( new N( $n.v + 1 ) ); end\n";
 
-fn file(alloc: Global, name: &str, text: &str) -> Result<(Text, Seq<u8>), Fail> {
-    Ok((
-        Text::new(alloc, name)?,
-        Seq::from_vec(text.as_bytes().to_vec(alloc)?),
-    ))
+/// A shelf with one file, `RULES`.
+fn shelf(alloc: Global, rules: &str) -> Result<MemShelf, NoMemory> {
+    let file = (
+        Text::new(alloc, "RULES")?,
+        Seq::from_vec(rules.as_bytes().to_vec(alloc)?),
+    );
+    Ok(MemShelf::new(vec![in alloc; file]?, Vec::new(alloc)))
 }
 
-fn shelf(alloc: Global) -> Result<MemShelf, Fail> {
-    let mut files = Vec::new(alloc);
-    files.push(file(alloc, "ITEM", ITEM)?)?;
-    files.push(file(alloc, "TWO", TWO)?)?;
-    files.push(file(alloc, "GROW", GROW)?)?;
-    Ok(MemShelf::new(files, Vec::new(alloc)))
-}
-
-// The status and the written bytes of a run in memory, of which these calls of the script and the sink fail.
-fn run(
-    alloc: Global,
-    words: &[&str],
-    script: &[u8],
-    bad_reads: &[u64],
-    bad_writes: &[u64],
-) -> Result<(u8, Vec<u8>), Fail> {
-    let mut given = Vec::new(alloc);
+fn texts(alloc: Global, words: &[&str]) -> Result<Vec<String>, NoMemory> {
+    let mut texts = Vec::new(alloc);
     for word in words {
-        given.push(String::from_str(alloc, word)?)?;
+        texts.push(String::from_str(alloc, word)?)?;
     }
-    let mut shelf = shelf(alloc)?;
-    let mut source = MemSource::new(script.to_vec(alloc)?, bad_reads.to_vec(alloc)?);
-    let mut sink = MemSink::new(alloc, 1_048_576, bad_writes.to_vec(alloc)?)?;
-    let status = sozhipen::run(alloc, &given, &mut shelf, &mut source, &mut sink);
-    let written = sink.written().to_vec(alloc)?;
-    Ok((status, written))
+    Ok(texts)
 }
 
-// The status and the written bytes of a run of this file with this limit of firings.
-pub(crate) fn run_at_most(
+/// What goes into a run, and what it is to end with.
+#[derive(Clone, Copy)]
+struct Case<'a> {
+    words: &'a [&'a str],
+    rules: &'a str,
+    script: &'a [u8],
+    /// The calls of the script that fail.
+    bad_reads: &'a [u64],
+    /// The calls of the output that fail.
+    bad_writes: &'a [u64],
+    status: u8,
+    output: &'a [u8],
+}
+
+/// Whether a run of the program ends as it is to end.
+fn ends(alloc: Global, case: &Case) -> Result<bool, NoMemory> {
+    let words = texts(alloc, case.words)?;
+    let mut shelf = shelf(alloc, case.rules)?;
+    let mut script = MemSource::new(case.script.to_vec(alloc)?, case.bad_reads.to_vec(alloc)?);
+    let mut out = MemSink::new(alloc, 1_048_576, case.bad_writes.to_vec(alloc)?)?;
+    let status = sozhipen::run(alloc, &words, &mut shelf, &mut script, &mut out);
+    Ok(status == case.status && out.written() == case.output)
+}
+
+const ELEVEN: &[u8] = b"{\"do\":\"insert\",\"type\":\"Item\",\"fields\":{\"price\":11}}\n\
+    {\"do\":\"fire\"}\n";
+
+/// A script that is cut off without a line end.
+const CUT: &[u8] = b"{\"do\":\"fire\"";
+
+const USAGE: &[u8] = b"usage: replay RULES\n";
+
+const CASES: &[Case] = &[
+    Case {
+        words: &["RULES"],
+        rules: ITEM,
+        script: ELEVEN,
+        bad_reads: &[],
+        bad_writes: &[],
+        status: 0,
+        output: b"new #1 Item\nfire \"dear\" #1\n",
+    },
+    Case {
+        words: &["RULES"],
+        rules: ITEM,
+        script: CUT,
+        bad_reads: &[],
+        bad_writes: &[],
+        status: 1,
+        output: b"fault 1 BadJson\n",
+    },
+    Case {
+        words: &["NOFILE"],
+        rules: ITEM,
+        script: CUT,
+        bad_reads: &[],
+        bad_writes: &[],
+        status: 3,
+        output: b"refused item 0 line 0 Missing\n",
+    },
+    Case {
+        words: &[],
+        rules: ITEM,
+        script: CUT,
+        bad_reads: &[],
+        bad_writes: &[],
+        status: 2,
+        output: USAGE,
+    },
+    Case {
+        words: &["RULES", "RULES"],
+        rules: ITEM,
+        script: CUT,
+        bad_reads: &[],
+        bad_writes: &[],
+        status: 2,
+        output: USAGE,
+    },
+    Case {
+        words: &["RULES"],
+        rules: ITEM,
+        script: ELEVEN,
+        bad_reads: &[1],
+        bad_writes: &[],
+        status: 5,
+        output: b"",
+    },
+    Case {
+        words: &["RULES"],
+        rules: ITEM,
+        script: ELEVEN,
+        bad_reads: &[],
+        bad_writes: &[1],
+        status: 6,
+        output: b"",
+    },
+];
+
+#[test]
+fn words_and_failing_calls(rt: HostRuntime) -> Result<(), Fail> {
+    for case in CASES {
+        assert!(rt;
+            ends(rt.alloc(), case)?,
+            "{:?} {:?}",
+            case.words,
+            case.status
+        );
+    }
+    Ok(())
+}
+
+fn blanks(alloc: Global, count: usize) -> Result<String, NoMemory> {
+    let mut text = String::new(alloc);
+    for _ in 0..count {
+        text.push(' ')?;
+    }
+    Ok(text)
+}
+
+/// Whether a rule file of so many blanks, with a script of one line of so many blanks, ends in this.
+fn blanks_end(
     alloc: Global,
-    name: &str,
-    limit: u64,
-    script: &str,
-) -> Result<(u8, Vec<u8>), Fail>
+    sizes: (usize, usize),
+    status: u8,
+    output: &[u8],
+) -> Result<bool, NoMemory> {
+    let rules = blanks(alloc, sizes.0)?;
+    let script = blanks(alloc, sizes.1)?;
+    let case = Case {
+        words: &["RULES"],
+        rules: &rules,
+        script: script.as_bytes(),
+        bad_reads: &[],
+        bad_writes: &[],
+        status,
+        output,
+    };
+    ends(alloc, &case)
+}
+
+/// The bytes of the rule file and of the one line, and what is said of them.
+const SIZES: &[((usize, usize), u8, &[u8])] = &[
+    ((1_048_576, 65_536), 0, b""),
+    ((1_048_576, 65_537), 1, b"fault 1 LineLong\n"),
+    ((1_048_577, 1), 3, b"refused item 0 line 0 TooLong\n"),
+];
+
+#[test]
+fn long_files_and_long_lines(rt: HostRuntime) -> Result<(), Fail> {
+    for row in SIZES {
+        assert!(rt; blanks_end(rt.alloc(), row.0, row.1, row.2)?, "{:?}", row.0);
+    }
+    Ok(())
+}
+
+/// Whether a run with this limit of firings has this status, and its output ends so.
+fn ends_at(alloc: Global, limit: u64, row: &Limited) -> Result<bool, NoMemory>
     requires some { 1 ≤ limit }
     requires low { limit ≤ 1000000 }
 {
-    let mut shelf = shelf(alloc)?;
-    let mut source = MemSource::new(script.as_bytes().to_vec(alloc)?, Vec::new(alloc));
-    let mut sink = MemSink::new(alloc, 1_048_576, Vec::new(alloc))?;
+    let mut shelf = shelf(alloc, row.0)?;
+    let mut script = MemSource::new(row.2.as_bytes().to_vec(alloc)?, Vec::new(alloc));
+    let mut out = MemSink::new(alloc, 1_048_576, Vec::new(alloc))?;
     let status = run_rules::<Session, MemShelf, MemSource, MemSink>(
         alloc,
-        name,
+        "RULES",
         limit,
         &mut shelf,
-        &mut source,
-        &mut sink,
+        &mut script,
+        &mut out,
     );
-    let written = sink.written().to_vec(alloc)?;
-    Ok((status, written))
+    Ok(status == row.3 && out.written().ends_with(row.4.as_bytes()))
 }
 
-// So many spaces.
-pub(crate) fn blanks(alloc: Global, count: usize) -> Result<Vec<u8>, Fail> {
-    let mut bytes = Vec::new(alloc);
-    for _ in 0..count {
-        bytes.push(b' ')?;
-    }
-    Ok(bytes)
-}
+/// A rule file, a limit of firings, a script, the status and the end of the output.
+type Limited = (&'static str, u64, &'static str, u8, &'static str);
 
-// The status and the written bytes of a run of these rules.
-pub(crate) fn run_of(alloc: Global, rules: &[u8], script: &[u8]) -> Result<(u8, Vec<u8>), Fail> {
-    let name = Text::new(alloc, "RULES")?;
-    let files = vec![in alloc; (name, Seq::from_vec(rules.to_vec(alloc)?))]?;
-    let mut shelf = MemShelf::new(files, Vec::new(alloc));
-    let mut source = MemSource::new(script.to_vec(alloc)?, Vec::new(alloc));
-    let mut sink = MemSink::new(alloc, 1_048_576, Vec::new(alloc))?;
-    let words = vec![in alloc; String::from_str(alloc, "RULES")?]?;
-    let status = sozhipen::run(alloc, &words, &mut shelf, &mut source, &mut sink);
-    let written = sink.written().to_vec(alloc)?;
-    Ok((status, written))
-}
-
-const ELEVEN: &str = "{\"do\":\"insert\",\"type\":\"Item\",\"fields\":{\"price\":11}}\n\
-    {\"do\":\"fire\"}\n";
-
-// Words, a script that is cut off without a line end, and what is printed.
-#[test]
-fn words_of_the_program(rt: HostRuntime) -> Result<(), Fail> {
-    let alloc = rt.alloc();
-    let rows: [(&[&str], u8, &[u8]); 4] = [
-        (&["ITEM"], 1, b"fault 1 BadJson\n"),
-        (&["NOFILE"], 3, b"refused item 0 line 0 Missing\n"),
-        (&[], 2, b"usage: replay RULES\n"),
-        (&["ITEM", "ITEM"], 2, b"usage: replay RULES\n"),
-    ];
-    for (words, status, output) in rows {
-        let (answer, written) = run(alloc, words, b"{\"do\":\"fire\"", &[], &[])?;
-        assert_eq!(rt; answer, status);
-        assert_eq!(rt; written.as_slice(), output);
-    }
-    Ok(())
-}
-
-#[test]
-fn long_lines_and_failing_calls(rt: HostRuntime) -> Result<(), Fail> {
-    let alloc = rt.alloc();
-    let (answer, written) = run(alloc, &["ITEM"], &blanks(alloc, 65_537)?, &[], &[])?;
-    assert_eq!(rt; answer, 1);
-    assert_eq!(rt; written.as_slice(), b"fault 1 LineLong\n".as_slice());
-    let (answer, written) = run(alloc, &["ITEM"], &blanks(alloc, 65_536)?, &[], &[])?;
-    assert_eq!(rt; answer, 0);
-    assert_eq!(rt; written.as_slice(), b"".as_slice());
-    let (answer, written) = run(alloc, &["ITEM"], ELEVEN.as_bytes(), &[1], &[])?;
-    assert_eq!(rt; answer, 5);
-    assert_eq!(rt; written.as_slice(), b"".as_slice());
-    let (answer, written) = run(alloc, &["ITEM"], ELEVEN.as_bytes(), &[], &[1])?;
-    assert_eq!(rt; answer, 6);
-    assert_eq!(rt; written.as_slice(), b"".as_slice());
-    Ok(())
-}
-
-const RULES_IN_ORDER: &str = "{\"do\":\"insert\",\"type\":\"Item\",\"fields\":{\"price\":7}}\n\
+const SEVEN_AND_THREE: &str = "{\"do\":\"insert\",\"type\":\"Item\",\"fields\":{\"price\":7}}\n\
     {\"do\":\"insert\",\"type\":\"Item\",\"fields\":{\"price\":3}}\n\
     {\"do\":\"fire\"}\n";
 
@@ -160,36 +233,21 @@ const BY_NUMBER: &str = "{\"do\":\"insert\",\"type\":\"Item\",\"fields\":{\"pric
     {\"do\":\"fire\",\"max\":0}\n\
     {\"do\":\"fire\"}\n";
 
-// The firings of all fire commands count together, and a faulty line does not change the status.
-#[test]
-fn runs_with_few_firings(rt: HostRuntime) -> Result<(), Fail> {
-    let alloc = rt.alloc();
-    let rows = [
-        ("TWO", 3, RULES_IN_ORDER, 0, "fire \"b\" #1\n"),
-        ("TWO", 2, RULES_IN_ORDER, 4, "fire \"a\" #1\nlimit 2\n"),
-        ("TWO", 1, MANY_FIRES, 4, "new #2 Item\nlimit 1\n"),
-        (
-            "GROW",
-            3,
-            GROWING,
-            4,
-            "fire \"grow\" #3\nnew #4 N\nlimit 3\n",
-        ),
-        ("ITEM", 1, BY_NUMBER, 4, "fire \"dear\" #2\nlimit 1\n"),
-    ];
-    for (name, limit, script, status, end) in rows {
-        let (answer, written) = run_at_most(alloc, name, limit, script)?;
-        assert_eq!(rt; answer, status);
-        assert!(rt; written.ends_with(end.as_bytes()), "{}", end);
-    }
-    Ok(())
-}
+/// The firings of all fire commands count together, and a faulty line does not change the status.
+const LIMITS: &[Limited] = &[
+    (TWO, 3, SEVEN_AND_THREE, 0, "fire \"b\" #1\n"),
+    (TWO, 2, SEVEN_AND_THREE, 4, "fire \"a\" #1\nlimit 2\n"),
+    (TWO, 1, MANY_FIRES, 4, "new #2 Item\nlimit 1\n"),
+    (GROW, 3, GROWING, 4, "fire \"grow\" #3\nnew #4 N\nlimit 3\n"),
+    (ITEM, 1, BY_NUMBER, 4, "fire \"dear\" #2\nlimit 1\n"),
+];
 
 #[test]
-fn a_copy_of_a_list_has_its_elements(rt: HostRuntime) -> Result<(), Fail> {
-    let alloc = rt.alloc();
-    let text = Value::Text(Text::new(alloc, "ab")?);
-    let values = Seq::from_vec(vec![in alloc; Value::Int(3), Value::Bool(true), text]?);
-    assert!(rt; values.copy(alloc)? == values);
+fn runs_with_few_firings(rt: HostRuntime) -> Result<(), Fail> {
+    for row in LIMITS {
+        if let 1..=9 = row.1 {
+            assert!(rt; ends_at(rt.alloc(), row.1, row)?, "{}", row.4);
+        }
+    }
     Ok(())
 }

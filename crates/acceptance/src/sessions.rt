@@ -1,43 +1,28 @@
-ghost use Rattle.std.specs.Prelude.{◌≡◌, ◌≤◌, ◌+◌, ◌<◌, IfOk};
+ghost use Rattle.std.specs.Prelude.{◌≡◌, IfOk};
 
 use crate::programs::program;
 use fx_base::{NoMemory, Seq, Text};
-use rule_model::{Life, LifeTable};
+use rule_model::LifeTable;
 use script_read::{Change, Given};
-use session::{Cell, Fired, OutLine, Session};
+use session::Session;
 use std::alloc::Global;
 use std::test::Fail;
 
-// The lines as they are shown for debugging, those of a firing by the facts of its conditions.
-fn text_of(alloc: Global, lines: &[OutLine]) -> Result<String, NoMemory> {
-    let mut text = String::new(alloc);
-    for line in lines {
-        match line {
-            OutLine::New { id, ty } => {
-                text.push_str(&format!(in alloc; "new #{} {} ", id.0, ty.0)?)?;
-            }
-            OutLine::Fault(code) => text.push_str(&format!(in alloc; "{code:?} ")?)?,
-            OutLine::Fire { rule, cells } => {
-                text.push_str(&format!(in alloc; "fire {}", rule.0)?)?;
-                for Cell::Fact(id) in cells.as_slice() {
-                    text.push_str(&format!(in alloc; " #{}", id.0)?)?;
-                }
-                text.push_str(" ")?;
-            }
+/// A session over these rules, which are accepted.
+fn opened(alloc: Global, rules: &str) -> Result<Session, NoMemory>
+    ensures { IfOk result (λ s. s.contents.next_tag ≡ 1) }
+{
+    match program(alloc, rules) {
+        Some(program) => {
+            let lives = LifeTable::without(alloc, &program)?;
+            Session::new(alloc, program, lives)
         }
-    }
-    Ok(text)
-}
-
-fn fired_text(alloc: Global, fired: &Fired) -> Result<String, NoMemory> {
-    match fired {
-        Fired::No => Ok(String::from_str(alloc, "no")?),
-        Fired::Yes(lines) => text_of(alloc, lines.as_slice()),
+        None => Err(NoMemory),
     }
 }
 
-fn price(alloc: Global, number: i64) -> Result<Change, NoMemory> {
-    let given = (Text::new(alloc, "price")?, Given::Int(number));
+fn item(alloc: Global, price: i64) -> Result<Change, NoMemory> {
+    let given = (Text::new(alloc, "price")?, Given::Int(price));
     Ok(Change::Insert {
         ty: Text::new(alloc, "Item")?,
         entry: None,
@@ -45,42 +30,48 @@ fn price(alloc: Global, number: i64) -> Result<Change, NoMemory> {
     })
 }
 
+const ITEM: &str = "declare Item price : long end rule dear when Item( price > 10 ) then end";
+
 #[test]
-fn an_engine_answers_lines(rt: HostRuntime) -> Result<(), Fail> {
-    let alloc = rt.alloc();
-    let rules = "declare Item price : long end rule dear when Item( price > 10 ) then end";
-    let Some(program) = program(alloc, rules) else {
-        assert!(rt; false, "the rules were refused");
-        return Ok(());
-    };
-    let lives = LifeTable::without(alloc, &program)?;
-    let session = Session::new(alloc, program, lives)?;
-    assert!(rt; !session.due());
-    let (session, lines) = session.apply(alloc, &price(alloc, 11)?)?;
-    assert_eq!(rt; text_of(alloc, lines.as_slice())?.as_str(), "new #1 0 ");
-    assert!(rt; session.due());
-    let (session, lines) = session.apply(alloc, &Change::Advance(5))?;
-    assert!(rt; lines.as_slice().is_empty());
-    assert_eq!(rt; session.clock(), 5);
-    let (session, first) = session.fire_one(alloc)?;
-    let (session, second) = session.fire_one(alloc)?;
-    assert_eq!(rt; fired_text(alloc, &first)?.as_str(), "fire 0 #1 ");
-    assert_eq!(rt; fired_text(alloc, &second)?.as_str(), "no");
-    assert!(rt; !session.due());
+fn an_engine_answers_changes_and_firings(rt: HostRuntime) -> Result<(), Fail> {
+    let session = opened(rt.alloc(), ITEM)?;
+    let (session, lines) = session.apply(rt.alloc(), &item(rt.alloc(), 11)?)?;
+    let (_, fired) = session.fire_one(rt.alloc())?;
+    assert_eq!(rt;
+        format!(in rt.alloc(); "{lines:?} {fired:?}")?.as_str(),
+        "[New { id: FactId(1), ty: TypeId(0) }] Yes([Fire { rule: RuleId(0), cells: [Fact(FactId(1))] }])"
+    );
     Ok(())
 }
 
 #[test]
+fn an_engine_has_a_clock(rt: HostRuntime) -> Result<(), Fail> {
+    let session = opened(rt.alloc(), ITEM)?;
+    let (session, lines) = session.apply(rt.alloc(), &Change::Advance(5))?;
+    assert!(rt; lines.as_slice().is_empty() && !session.due());
+    assert_eq!(rt; session.clock(), 5);
+    Ok(())
+}
+
+const EVENTS: &str = "declare A @role( event ) end declare B @role( event ) end declare P end
+    rule r when A() B() P() then end";
+
+/// The table of lives of these rules, as it is shown for debugging.
+fn lives(alloc: Global, rules: &str) -> Result<String, NoMemory> {
+    match program(alloc, rules) {
+        Some(program) => {
+            let table = LifeTable::without(alloc, &program)?;
+            Ok(format!(in alloc; "{:?}", table.lives)?)
+        }
+        None => Err(NoMemory),
+    }
+}
+
+#[test]
 fn events_live_for_ever(rt: HostRuntime) -> Result<(), Fail> {
-    let alloc = rt.alloc();
-    let rules = "declare A @role( event ) end declare B @role( event ) end declare P end
-        rule r when A() B() P() then end";
-    let Some(program) = program(alloc, rules) else {
-        assert!(rt; false, "the rules were refused");
-        return Ok(());
-    };
-    let table = LifeTable::without(alloc, &program)?;
-    let lives = [Life::Infinite, Life::Infinite, Life::Plain];
-    assert_eq!(rt; table.lives.as_slice(), lives.as_slice());
+    assert_eq!(rt;
+        lives(rt.alloc(), EVENTS)?.as_str(),
+        "[Infinite, Infinite, Plain]"
+    );
     Ok(())
 }
