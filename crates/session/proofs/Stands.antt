@@ -370,7 +370,7 @@ module _ (p : Program) (k : Contents) (w : World) (clock : ℤ) (st : Exact p k 
       let distinct : HaveDistinctTags (facts_of fewer) = held_distinct fewer (own_tags fewer still_there after) in
       let present_now : AllPresent p clock (facts_of fewer) = λ f i. passed (is_present p clock) f w.facts (listed fewer still_there after f i) in
       let present_then : AllPresent p k.clock (facts_of fewer) = λ f i.
-          was_present p f k.clock clock (subst (λ c. c ≤ℤ clock) (sym m.clock) le) (present_now f i) in
+      was_present p f k.clock clock (subst (λ c. c ≤ℤ clock) (sym m.clock) le) (present_now f i) in
       record {
         facts = versions fewer still_there after distinct_after;
         waits = timed_left p k.facts k.expiries m.waits clock later gone takes fewer left;
@@ -381,7 +381,7 @@ module _ (p : Program) (k : Contents) (w : World) (clock : ℤ) (st : Exact p k 
         agenda = refreshed_stands p k.agenda b w (settled p next) (over (facts_of k.facts) k.clock) (over (facts_of fewer) k.clock) o m.agenda refl
             (over_matches p w (facts_of k.facts) k.clock m.clock (held_distinct k.facts own) o.tags (listed k.facts w.facts before) (all_listed k.facts w.facts before))
             (λ q.
-                matches_at_clocks p (over (facts_of fewer) k.clock) (over (facts_of fewer) clock) refl present_then present_now p.rules q runnable.simple
-                ∙ over_matches p next (facts_of fewer) clock refl distinct distinct_after (listed fewer still_there after) (all_listed fewer still_there after) q)
+            matches_at_clocks p (over (facts_of fewer) k.clock) (over (facts_of fewer) clock) refl present_then present_now p.rules q runnable.simple
+            ∙ over_matches p next (facts_of fewer) clock refl distinct distinct_after (listed fewer still_there after) (all_listed fewer still_there after) q)
             (refreshed own);
       }

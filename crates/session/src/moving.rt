@@ -117,12 +117,7 @@ impl State {
     }
 
     // The same with a fact that is present.
-    fn with_present(
-        self,
-        alloc: Global,
-        program: &Program,
-        fact: Fact,
-    ) -> Result<State, NoMemory>
+    fn with_present(self, alloc: Global, program: &Program, fact: Fact) -> Result<State, NoMemory>
         requires runnable { IsRunnable program.now }
         requires low { self.next_tag < 2 ^ 63 }
         requires id { fact.id.0 ≡ self.next_id }
@@ -223,8 +218,14 @@ impl State {
     {
         let mut state = self;
         let due = state.expiries.take_due(clock)?;
-        let (facts, agenda) =
-            without_all(alloc, program, state.clock, state.agenda, state.facts, due)?;
+        let (facts, agenda) = without_all(
+            alloc,
+            program,
+            state.clock,
+            state.agenda,
+            state.facts,
+            due,
+        )?;
         state.facts = facts;
         state.agenda = agenda;
         state.clock = clock;

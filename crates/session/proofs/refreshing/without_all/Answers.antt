@@ -9,8 +9,7 @@ pub loop-tag-preserved-in-Some-take : goal.loop-tag-preserved-in-Some-take
 loop-tag-preserved-in-Some-take c =
     let i = c.loop-tag.invariant in
     let step : c.loop-tag.tag-iterator.rest.items ≡ c.in-Some.tag ∷ c.next.new.self.rest.items = c.in-Some.ensures.steps.0 in
-    let whole : to_z w64 (of_z w64 c.args.clock) ≡ c.args.clock = to_z-of_z c.ranges.clock in
-    (
+    let whole : to_z w64 (of_z w64 c.args.clock) ≡ c.args.clock = to_z-of_z c.ranges.clock in (
       i.0 ++ c.in-Some.tag ∷ [],
       i.1 ∙ ap (λ rest. i.0 ++ rest) step ∙ sym (append_assoc i.0 (c.in-Some.tag ∷ []) c.next.new.self.rest.items),
       one_gone c.args.facts c.loop-tag.facts c.take.new.self i.0 c.in-Some.tag i.2 c.take.ensures.rest,
@@ -22,8 +21,7 @@ loop-tag-preserved-in-Some-take c =
 pub loop-tag-preserved : goal.loop-tag-preserved
 loop-tag-preserved c =
     let i = c.loop-tag.invariant in
-    let step : c.loop-tag.tag-iterator.rest.items ≡ c.in-Some.tag ∷ c.next.new.self.rest.items = c.in-Some.ensures.steps.0 in
-    (
+    let step : c.loop-tag.tag-iterator.rest.items ≡ c.in-Some.tag ∷ c.next.new.self.rest.items = c.in-Some.ensures.steps.0 in (
       i.0 ++ c.in-Some.tag ∷ [],
       i.1 ∙ ap (λ rest. i.0 ++ rest) step ∙ sym (append_assoc i.0 (c.in-Some.tag ∷ []) c.next.new.self.rest.items),
       one_gone c.args.facts c.loop-tag.facts c.take.new.self i.0 c.in-Some.tag i.2 c.take.ensures.rest,
