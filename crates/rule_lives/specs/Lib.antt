@@ -1,0 +1,4 @@
+pub use Rattle.fx_base.specs.Lists
+pub mod Networks
+pub mod Reach
+pub mod Lifetimes

@@ -1,0 +1,62 @@
+-- The network of the temporal tests of conditions: each event condition has an occurrence, which is a start and an end, and each temporal
+-- test bounds the differences of these points (Dechter, Meiri, Pearl 1991, simple temporal networks).
+use Rattle.std.specs.Prelude.{◌≡◌, ℕ, suc, Bool, true, List, [], ◌∷◌, take, Some, slice_get}
+use Rattle.std.specs.List.{list_all}
+use Rattle.fx_base.specs.Lists.{In}
+use Rattle.fx_base.specs.declared.times.Times.{Times}
+use Rattle.temporal_ops.specs.Edges.{edges_hold}
+use Rattle.temporal_ops.specs.Possible.{IsEvent}
+use Rattle.rule_model.specs.declared.condition.Condition.{Condition}
+use Rattle.rule_model.specs.declared.condition.Condition.TheVariants.{Plain, Negated, Existing, Folded}
+use Rattle.rule_model.specs.declared.condition.Pattern.{Pattern}
+use Rattle.rule_model.specs.declared.program.Program.{Program}
+use Rattle.rule_model.specs.declared.test.TimeTest.{TimeTest}
+use Rattle.rule_model.specs.Rows.{pattern_of}
+use Rattle.rule_model.specs.Types.{is_event, is_point}
+
+-- The event that stands for a condition: that of a pattern which binds a fact has the number by which temporal tests name it, that of
+-- a `not`, `exists` or `accumulate` the place of the condition.
+pub data Occurrence : Type 0 where
+  bound : ℕ → Occurrence
+  aside : ℕ → Occurrence
+
+-- how many of the conditions bind facts
+abbrev pub bindings : List Condition → ℕ
+bindings [] = 0
+bindings (Plain pattern ∷ conditions) = suc (bindings conditions)
+bindings (Negated pattern ∷ conditions) = bindings conditions
+bindings (Existing pattern ∷ conditions) = bindings conditions
+bindings (Folded a ∷ conditions) = bindings conditions
+
+-- the occurrence of the condition of this place
+abbrev pub occurrence : List Condition → ℕ → Condition → Occurrence
+occurrence conditions place (Plain pattern) = bound (bindings (take place conditions))
+occurrence conditions place (Negated pattern) = aside place
+occurrence conditions place (Existing pattern) = aside place
+occurrence conditions place (Folded a) = aside place
+
+-- Which conditions a network has: the patterns that bind events, and of the others those of the places that it is made for.
+abbrev pub IsMember : Program → List ℕ → ℕ → Condition → Type 0
+IsMember p places place (Plain pattern) = is_event p pattern.ty.0 ≡ true
+IsMember p places place (Negated pattern) = In place places
+IsMember p places place (Existing pattern) = In place places
+IsMember p places place (Folded a) = In place places
+
+-- the operator of a temporal test holds of the tested event and the one that it names
+abbrev pub is_met : (Occurrence → Times) → Times → TimeTest → Bool
+is_met times y test = edges_hold test.op y (times (bound test.fact))
+
+-- an event of the pattern's type that meets its temporal tests
+pub record Meets (p : Program) (pattern : Pattern) (times : Occurrence → Times) (y : Times) : Type 0 where
+  pub event : IsEvent (is_point p pattern.ty.0) y
+  pub tests : list_all (is_met times y) pattern.times ≡ true
+
+-- Times for the occurrences that solve the network of the conditions and these places; what no member stands for may have any.
+abbrev pub Solves : Program → List Condition → List ℕ → (Occurrence → Times) → Type 0
+Solves p conditions places times =
+    (place : ℕ) (c : Condition) → slice_get conditions place ≡ Some c → IsMember p places place c
+    → Meets p (pattern_of c) times (times (occurrence conditions place c))
+
+-- some events can be a match of the patterns that bind events, as far as their temporal tests say
+abbrev pub IsSolvable : Program → List Condition → Type 0
+IsSolvable p conditions = (times : Occurrence → Times) × Solves p conditions [] times
