@@ -1,0 +1,9 @@
+pub mod Basics
+pub mod Still
+pub mod Shifts
+pub mod Transfers
+pub mod Limits
+pub mod Anchors
+pub mod Places
+pub mod Moves
+pub mod Laws

@@ -1,0 +1,156 @@
+-- Each step without a fault changes the list of facts by loose ones alone, and never moves the clock back.
+use Rattle.std.proofs.Common.{◌≡◌, ◌==◌, ◌&&◌, not, ℕ, ℤ, ◌+ℤ◌, ◌≤ℤ◌, Bool, true, false, cond, if◌then◌else◌, List, [], ◌∷◌, ◌++◌, Option, Some, None, refl, sym, ◌∙◌, ap, arith, inl, inr}
+use Rattle.std.specs.Prelude.{slice_get}
+use Rattle.std.specs.List.{filter}
+use Rattle.std.proofs.lemmas.Int.{ints, clamps}
+use Rattle.fx_base.specs.Lists.{In}
+use Rattle.fx_base.specs.declared.fact.Fact.{Fact}
+use Rattle.fx_base.specs.declared.value.Value.{Value}
+use Rattle.rule_model.specs.declared.program.Program.{Program}
+use Rattle.rule_model.specs.declared.step.Step.{Step}
+use Rattle.rule_model.specs.declared.step.Step.TheVariants.{Insert, Modify, Retract, Advance, At}
+use Rattle.rule_model.specs.Snapshots.{Snapshot, floor}
+use Rattle.rule_model.specs.Tuples.{Tuple}
+use Rattle.rule_model.specs.Types.{is_event, is_observed, lateness_of}
+use Rattle.rule_model.proofs.Listed.{both_of}
+use Rattle.rule_world.specs.declared.code.Code.TheVariants.{EventObserved, Absent}
+use Rattle.rule_world.specs.Events.{new_fault}
+use Rattle.rule_world.specs.Lawful.{IsLawful}
+use Rattle.rule_world.specs.Worlds.{World, snapshot, moved, step_fault, modify_fault, retract_fault, is_of_type, found, new_fact, has_id, revised, revised_in}
+use Rattle.rule_world.proofs.Faultless.{event_by, point_by, started, modified_plain, moved_forward}
+use Rattle.rule_world.proofs.Found.{fact_with, found_there}
+use Rattle.change_law.specs.Law.{KeepsTuple}
+use Rattle.change_law.proofs.Basics.{same_number}
+use Rattle.change_law.proofs.Shifts.{Loose, a_fact, gone, fresh, Timed, Shift, at_end, same, less, more}
+use Rattle.change_law.proofs.Transfers.{Turns}
+
+abbrev AllTimed : Program → List Fact → Type 0
+AllTimed p xs = (f : Fact) → In f xs → Timed p f
+
+lawful_timed : (p : Program) (w : World) → IsLawful p w → AllTimed p w.facts
+lawful_timed p w law f i e = ((law.sound f i).timed e).event
+
+rest : (p : Program) (f : Fact) (xs : List Fact) → AllTimed p (f ∷ xs) → AllTimed p xs
+rest p f xs timed = λ g i. timed g (inr i)
+
+module _ (p : Program) (c : ℤ) (tuple : Tuple) where
+  stay : (xs : List Fact) → AllTimed p xs → Shift p c tuple xs xs
+  stay [] timed = at_end
+  stay (f ∷ xs) timed = same (timed f (inl refl)) (stay xs (rest p f xs timed))
+
+  inserted : (new : Fact) → Timed p new → Loose p c tuple new → (xs : List Fact) → AllTimed p xs → Shift p c tuple xs (xs ++ new ∷ [])
+  inserted new g l [] timed = more g l at_end
+  inserted new g l (f ∷ xs) timed = same (timed f (inl refl)) (inserted new g l xs (rest p f xs timed))
+
+  taken : (b : Bool) (test : Fact → Bool) (f : Fact) (xs ys : List Fact) → test f ≡ b → Timed p f → (test f ≡ false → Loose p c tuple f) → Shift p c tuple xs ys
+      → Shift p c tuple (f ∷ xs) (cond b (f ∷ ys) ys)
+  taken true test f xs ys e g l s = same g s
+  taken false test f xs ys e g l s = less g (l e) s
+
+  removed : (test : Fact → Bool) (xs : List Fact) → AllTimed p xs → ((f : Fact) → In f xs → test f ≡ false → Loose p c tuple f) → Shift p c tuple xs (filter test xs)
+  removed test [] timed loose = at_end
+  removed test (f ∷ xs) timed loose =
+      taken (test f) test f xs (filter test xs) refl (timed f (inl refl)) (loose f (inl refl)) (removed test xs (rest p f xs timed) (λ g i. loose g (inr i)))
+
+  replaced_by : (b : Bool) (id tag : ℕ) (sets : List (ℕ × Value)) (f : Fact) (xs ys : List Fact) → has_id id f ≡ b → Timed p f → (has_id id f ≡ true → is_event p f.ty.0 ≡ false)
+      → Shift p c tuple xs ys → Shift p c tuple (f ∷ xs) ((if b then revised tag sets f else f) ∷ ys)
+  replaced_by true id tag sets f xs ys e g plain s =
+      let is_plain = plain e in
+      less g (a_fact is_plain) (more (λ event. let n : true ≡ false = sym event ∙ is_plain in absurd cc) (a_fact is_plain) s)
+  replaced_by false id tag sets f xs ys e g plain s = same g s
+
+  replaced : (id tag : ℕ) (sets : List (ℕ × Value)) (xs : List Fact) → AllTimed p xs → ((f : Fact) → In f xs → has_id id f ≡ true → is_event p f.ty.0 ≡ false)
+      → Shift p c tuple xs (revised_in id tag sets xs)
+  replaced id tag sets [] timed plain = at_end
+  replaced id tag sets (f ∷ xs) timed plain =
+      replaced_by (has_id id f) id tag sets f xs (revised_in id tag sets xs) refl (timed f (inl refl)) (plain f (inl refl))
+      (replaced id tag sets xs (rest p f xs timed) (λ g i. plain g (inr i)))
+
+-- ---- what a step without a fault has
+
+same_clock : (c : ℤ) → c ≤ℤ c
+same_clock c = omega (arith, ints)
+
+-- a new event starts from the clock less its lateness on
+floor_from : (p : Program) (s : Snapshot) (entry : ℕ) (start : ℤ) → floor p s entry ≤ℤ start → s.clock ≤ℤ (start +ℤ lateness_of p entry)
+unfolding floor
+floor_from p s entry start h = omega (arith, ints, clamps)
+
+module _ (p : Program) (w : World) (ty entry : ℕ) (fields : List Value) (none : new_fault (slice_get p.types ty) (floor p (snapshot w) entry) w.clock fields ≡ None) where
+  abbrev new : Fact
+  new = new_fact p w ty entry fields
+
+  new_timed : Timed p new
+  new_timed e =
+      let s = started (slice_get p.types ty) (floor p (snapshot w) entry) w.clock fields (sym (event_by p ty) ∙ e) none in
+      record { ordered = s.forward; ends = λ h. s.point (sym (point_by p ty) ∙ h) }
+
+  new_loose : (tuple : Tuple) → Loose p w.clock tuple new
+  new_loose tuple = by (is_event p ty) refl
+    where
+      by : (b : Bool) → is_event p ty ≡ b → Loose p w.clock tuple new
+      by false e = a_fact e
+      by true e = fresh (floor_from p (snapshot w) entry new.times.start
+          (started (slice_get p.types ty) (floor p (snapshot w) entry) w.clock fields (sym (event_by p ty) ∙ e) none).from_floor)
+
+-- what has the id of a modification is a plain fact, present or not
+plain_there : (p : Program) (w : World) (id : ℕ) → IsLawful p w → modify_fault p (found p w id) ≡ None → (f : Fact) → In f w.facts → has_id id f ≡ true → is_event p f.ty.0 ≡ false
+plain_there p w id law none f i h = by (found p w id) refl none
+  where
+    by : (there : Option Fact) → found p w id ≡ there → modify_fault p there ≡ None → is_event p f.ty.0 ≡ false
+    by None e k = absurd cc
+    by (Some g) e k =
+        let there : Some g ≡ Some f = sym (found_there p w id g law.ordered e) ∙ fact_with w.facts 1 w.next_id id f law.ordered.ids i h in
+        let one : g ≡ f = cc in
+        ap (λ (x : Fact). is_event p x.ty.0) (sym one) ∙ modified_plain p (Some g) g k refl
+
+unobserved : (p : Program) (ty : ℕ) (there : Option Fact) → retract_fault p ty there ≡ None → is_event p ty ≡ true → is_observed p ty ≡ false
+unobserved p ty there none event = by (is_event p ty) (is_observed p ty) event none
+  where
+    by : (a b : Bool) → a ≡ true → (if a then (if b then Some EventObserved else None) else if is_of_type ty there then None else Some Absent) ≡ None → b ≡ false
+    by true true e k = absurd cc
+    by true false e k = refl
+    by false b e k = absurd cc
+
+not_false : (a : Bool) → not a ≡ false → a ≡ true
+not_false true e = refl
+not_false false e = absurd cc
+
+-- what a retraction takes away is a plain fact, or an event of a type that is not observed
+retracted_loose : (p : Program) (c : ℤ) (tuple : Tuple) (ty id : ℕ) (there : Option Fact) → retract_fault p ty there ≡ None
+    → ((f : Fact) → In f tuple.facts → f.ty.0 ≡ ty → f.id.0 ≡ id → ⊥) → (f : Fact) → not (f.ty.0 == ty && has_id id f) ≡ false → Loose p c tuple f
+retracted_loose p c tuple ty id there none keeps f out = by (is_event p f.ty.0) refl
+  where
+    parts : ((f.ty.0 == ty) ≡ true) × (has_id id f ≡ true)
+    parts = both_of (f.ty.0 == ty) (has_id id f) (not_false _ out)
+
+    of_type : f.ty.0 ≡ ty
+    of_type = same_number f.ty.0 ty parts.0
+
+    by : (b : Bool) → is_event p f.ty.0 ≡ b → Loose p c tuple f
+    by false e = a_fact e
+    by true e = gone (ap (is_observed p) of_type ∙ unobserved p ty there none (ap (is_event p) (sym of_type) ∙ e)) (λ own. keeps f own of_type (same_number f.id.0 id parts.1))
+
+pub turns_of : (p : Program) (w : World) (step : Step) (tuple : Tuple) → IsLawful p w → step_fault p w step ≡ None → KeepsTuple step tuple
+    → Turns p w.clock tuple (snapshot w) (snapshot (moved p w step))
+unfolding moved step_fault
+turns_of p w (Insert ty entry fields) tuple law none keeps = record {
+  shift = inserted p w.clock tuple (new_fact p w ty.0 entry.0 fields) (new_timed p w ty.0 entry.0 fields none) (new_loose p w ty.0 entry.0 fields none tuple) w.facts (lawful_timed p w law);
+  from = same_clock w.clock;
+  to = same_clock w.clock;
+}
+turns_of p w (Modify id sets) tuple law none keeps = record {
+  shift = replaced p w.clock tuple id.0 w.next_tag sets w.facts (lawful_timed p w law) (plain_there p w id.0 law none);
+  from = same_clock w.clock;
+  to = same_clock w.clock;
+}
+turns_of p w (Retract ty id) tuple law none keeps = record {
+  shift = removed p w.clock tuple (λ (f : Fact). not (f.ty.0 == ty.0 && has_id id.0 f)) w.facts (lawful_timed p w law)
+      (λ f i out. retracted_loose p w.clock tuple ty.0 id.0 (found p w id.0) none keeps f out);
+  from = same_clock w.clock;
+  to = same_clock w.clock;
+}
+turns_of p w (Advance by) tuple law none keeps =
+    record { shift = stay p w.clock tuple w.facts (lawful_timed p w law); from = same_clock w.clock; to = (moved_forward w.clock (w.clock +ℤ by) none).0 }
+turns_of p w (At moment) tuple law none keeps =
+    record { shift = stay p w.clock tuple w.facts (lawful_timed p w law); from = same_clock w.clock; to = (moved_forward w.clock moment none).0 }

@@ -1,0 +1,148 @@
+-- A fact that is older than a pattern's tail passes over one snapshot exactly where it passes over another.
+use Rattle.std.proofs.Common.{◌≡◌, ◌==◌, ℕ, ℤ, ◌+ℤ◌, ◌-ℤ◌, ◌≤ℤ◌, ◌<ℤ◌, Bool, true, false, not, ◌&&◌, ◌||◌, List, Option, Some, None, if◌then◌else◌, refl, subst, ap, ◌∙◌, arith}
+use Rattle.std.specs.Int.{int_max}
+use Rattle.std.proofs.lemmas.Int.{ints, clamps}
+use Rattle.fx_base.specs.declared.fact.Fact.{Fact}
+use Rattle.fx_base.specs.declared.times.Times.{Times}
+use Rattle.rule_model.specs.declared.condition.Pattern.{Pattern}
+use Rattle.rule_model.specs.declared.condition.WindowTag.{WindowTag}
+use Rattle.rule_model.specs.declared.condition.WindowTag.TheVariants.{Whole, Time, Length}
+use Rattle.rule_model.specs.declared.program.Program.{Program}
+use Rattle.rule_model.specs.Candidates.{is_within, is_present, fits, is_inside, is_candidate, passes}
+use Rattle.rule_model.specs.Snapshots.{Snapshot}
+use Rattle.rule_model.specs.Tests.{tests_hold, times_hold}
+use Rattle.rule_model.specs.Tuples.{Tuple, unbound, bound_by}
+use Rattle.rule_model.specs.Types.{is_event, expiry_of, lateness_of}
+use Rattle.rule_model.proofs.Listed.{both, both_of}
+use Rattle.rule_lives.specs.Reach.{finite, infinite}
+use Rattle.rule_lives.specs.Lifetimes.{tail_by, tail}
+use Rattle.change_law.proofs.Basics.{below, same_number, number_same}
+
+-- ---- tails
+
+-- what a finite tail says of a pattern
+pub record HasTail (event : Bool) (window : WindowTag) (expiry : Option ℤ) (lateness most : ℤ) : Type 0 where
+  pub is_event : event ≡ true
+  pub late : lateness ≤ℤ most
+  pub expires : (x : ℤ) → expiry ≡ Some x → x ≤ℤ most
+  pub spans : (span : ℤ) → window ≡ Time span → span ≤ℤ most
+  pub no_length : (count : ℕ) → window ≡ Length count → ⊥
+
+limit_is : (a b : ℤ) → finite a ≡ finite b → a ≡ b
+limit_is a b e = cc
+
+tail_has : (event : Bool) (window : WindowTag) (expiry : Option ℤ) (lateness most : ℤ) → (if event then tail_by window expiry lateness else infinite) ≡ finite most
+    → HasTail event window expiry lateness most
+tail_has false window expiry l m e = absurd cc
+tail_has true (Length count) expiry l m e = absurd cc
+tail_has true Whole None l m e =
+    let q = limit_is l m e in
+    record { is_event = refl; late = omega (arith, ints); expires = λ x h. absurd cc; spans = λ t h. absurd cc; no_length = λ k h. absurd cc }
+tail_has true Whole (Some x) l m e =
+    let q = limit_is (int_max x l) m e in
+    let a : l ≤ℤ m = omega (arith, ints, clamps) in
+    let b : x ≤ℤ m = omega (arith, ints, clamps) in
+    record { is_event = refl; late = a; expires = λ y h. let s : x ≡ y = cc in subst (λ (z : ℤ). z ≤ℤ m) s b; spans = λ t h. absurd cc; no_length = λ k h. absurd cc }
+tail_has true (Time t) None l m e =
+    let q = limit_is (int_max t l) m e in
+    let a : l ≤ℤ m = omega (arith, ints, clamps) in
+    let b : t ≤ℤ m = omega (arith, ints, clamps) in
+    record { is_event = refl; late = a; expires = λ x h. absurd cc; spans = λ y h. let s : t ≡ y = cc in subst (λ (z : ℤ). z ≤ℤ m) s b; no_length = λ k h. absurd cc }
+tail_has true (Time t) (Some x) l m e =
+    let q = limit_is (int_max t (int_max x l)) m e in
+    let a : l ≤ℤ m = omega (arith, ints, clamps) in
+    let b : t ≤ℤ m = omega (arith, ints, clamps) in
+    let d : x ≤ℤ m = omega (arith, ints, clamps) in
+    record {
+      is_event = refl;
+      late = a;
+      expires = λ y h. let s : x ≡ y = cc in subst (λ (z : ℤ). z ≤ℤ m) s d;
+      spans = λ y h. let s : t ≡ y = cc in subst (λ (z : ℤ). z ≤ℤ m) s b;
+      no_length = λ k h. absurd cc;
+    }
+
+-- the times are older than the pattern's tail at this moment
+abbrev pub Settled : Program → ℤ → Pattern → Times → Type 0
+Settled p c q y = (most : ℤ) × (tail p q ≡ finite most) × ((y.start +ℤ most) <ℤ c)
+
+pub tail_of : (p : Program) (c : ℤ) (q : Pattern) (y : Times) (s : Settled p c q y) → HasTail (is_event p q.ty.0) q.window (expiry_of p q.ty.0) (lateness_of p q.entry.0) s.0
+unfolding tail
+tail_of p c q y s = tail_has (is_event p q.ty.0) q.window (expiry_of p q.ty.0) (lateness_of p q.entry.0) s.0 s.1
+
+-- ---- what is left of the tests of an old fact
+
+or_true : (a : Bool) → (a || true) ≡ true
+or_true true = refl
+or_true false = refl
+
+unexpired : (event : Bool) (expiry : Option ℤ) (now start c most : ℤ) → event ≡ true → ((x : ℤ) → expiry ≡ Some x → x ≤ℤ most)
+    → (not event || is_within expiry (now -ℤ start)) ≡ true → c ≤ℤ now → (start +ℤ most) <ℤ c → expiry ≡ None
+unexpired true None now start c most e least h from old = refl
+unexpired true (Some x) now start c most e least h from old =
+    let l = least x refl in
+    let k = below (now -ℤ start) x h in
+    absurd (omega (arith, ints))
+unexpired false expiry now start c most e least h from old = absurd cc
+
+in_whole : (p : Program) (q : Pattern) (window : WindowTag) (now : ℤ) (facts : List Fact) (f : Fact) (c most : ℤ) → ((span : ℤ) → window ≡ Time span → span ≤ℤ most)
+    → ((count : ℕ) → window ≡ Length count → ⊥) → is_inside p q window now facts f ≡ true → c ≤ℤ now → (f.times.start +ℤ most) <ℤ c → window ≡ Whole
+in_whole p q Whole now facts f c most least free h from old = refl
+in_whole p q (Time span) now facts f c most least free h from old =
+    let l = least span refl in
+    let k = below (now -ℤ f.times.start) span h in
+    absurd (omega (arith, ints))
+in_whole p q (Length count) now facts f c most least free h from old = absurd (free count refl)
+
+-- a candidate that also passes
+abbrev pub counts : Program → Pattern → Snapshot → Tuple → Fact → Bool
+counts p q s t f = is_candidate p q s f && passes q t f
+
+pub record Counts (p : Program) (q : Pattern) (s : Snapshot) (t : Tuple) (f : Fact) : Type 0 where
+  pub present : is_present p s.clock f ≡ true
+  pub ty : f.ty.0 ≡ q.ty.0
+  pub entry : f.entry.0 ≡ q.entry.0
+  pub alone : tests_hold unbound f q.alone ≡ true
+  pub inside : is_inside p q q.window s.clock s.facts f ≡ true
+  pub joined : tests_hold (bound_by t) f q.joined ≡ true
+  pub times : times_hold (bound_by t) f.times q.times ≡ true
+
+pub counts_parts : (p : Program) (q : Pattern) (s : Snapshot) (t : Tuple) (f : Fact) → counts p q s t f ≡ true → Counts p q s t f
+counts_parts p q s t f h =
+    let a = both_of (is_candidate p q s f) (passes q t f) h in
+    let b = both_of (fits p q s.clock f) (is_inside p q q.window s.clock s.facts f) a.0 in
+    let d = both_of (is_present p s.clock f) (f.ty.0 == q.ty.0 && (f.entry.0 == q.entry.0 && tests_hold unbound f q.alone)) b.0 in
+    let e = both_of (f.ty.0 == q.ty.0) (f.entry.0 == q.entry.0 && tests_hold unbound f q.alone) d.1 in
+    let g = both_of (f.entry.0 == q.entry.0) (tests_hold unbound f q.alone) e.1 in
+    let k = both_of (tests_hold (bound_by t) f q.joined) (times_hold (bound_by t) f.times q.times) a.1 in
+    record { present = d.0; ty = same_number f.ty.0 q.ty.0 e.0; entry = same_number f.entry.0 q.entry.0 g.0; alone = g.1; inside = b.1; joined = k.0; times = k.1 }
+
+pub counts_join : (p : Program) (q : Pattern) (s : Snapshot) (t : Tuple) (f : Fact) → Counts p q s t f → counts p q s t f ≡ true
+counts_join p q s t f h =
+    both _ _
+    (both _ _ (both _ _ h.present (both _ _ (number_same f.ty.0 q.ty.0 h.ty) (both _ _ (number_same f.entry.0 q.entry.0 h.entry) h.alone))) h.inside)
+    (both _ _ h.joined h.times)
+
+present_parts : (p : Program) (now : ℤ) (f : Fact) → is_present p now f ≡ true → (not (is_event p f.ty.0) || is_within (expiry_of p f.ty.0) (now -ℤ f.times.start)) ≡ true
+unfolding is_present
+present_parts p now f h = h
+
+always_present : (p : Program) (now : ℤ) (f : Fact) → expiry_of p f.ty.0 ≡ None → is_present p now f ≡ true
+unfolding is_present
+always_present p now f e = ap (λ (x : Option ℤ). not (is_event p f.ty.0) || is_within x (now -ℤ f.times.start)) e ∙ or_true (not (is_event p f.ty.0))
+
+-- what counts at one clock from c on, and is settled there, counts at every clock
+pub stays : (p : Program) (q : Pattern) (s o : Snapshot) (c : ℤ) (t : Tuple) (f : Fact) → c ≤ℤ s.clock → Settled p c q f.times → Counts p q s t f → Counts p q o t f
+stays p q s o c t f from old h =
+    let has = tail_of p c q f.times old in
+    let by_pattern = subst (λ (ty : ℕ). (not (is_event p ty) || is_within (expiry_of p ty) (s.clock -ℤ f.times.start)) ≡ true) h.ty (present_parts p s.clock f h.present) in
+    let none : expiry_of p q.ty.0 ≡ None = unexpired (is_event p q.ty.0) (expiry_of p q.ty.0) s.clock f.times.start c old.0 has.is_event has.expires by_pattern from old.2 in
+    let is_whole : q.window ≡ Whole = in_whole p q q.window s.clock s.facts f c old.0 has.spans has.no_length h.inside from old.2 in
+    record {
+      present = always_present p o.clock f (ap (expiry_of p) h.ty ∙ none);
+      ty = h.ty;
+      entry = h.entry;
+      alone = h.alone;
+      inside = ap (λ (w : WindowTag). is_inside p q w o.clock o.facts f) is_whole;
+      joined = h.joined;
+      times = h.times;
+    }
