@@ -2,3 +2,4 @@ pub use Rattle.fx_base.specs.Lists
 pub mod Networks
 pub mod Reach
 pub mod Lifetimes
+pub mod Law

@@ -1,4 +1,14 @@
-//! How long an event can still matter, inferred from the rules (Walzer, Breddin, Groch 2008): the networks of temporal tests, how far
-//! the solutions of a network reach, and the lives of patterns and types. It has definitions alone: the inference, the check of
-//! rules that can never match and the law of changes stand on it, and nothing is assumed.
+//! How long an event can still matter, inferred from the rules (Walzer, Breddin, Groch 2008; Drools Fusion 5 User Guide, memory
+//! management for events): the networks of temporal tests, how far the solutions of a network reach, the lives of patterns and types,
+//! and the law that they are long enough. It has definitions and that law alone: what infers lives and what forgets events stands
+//! on it.
 #![tactic(auto)]
+
+ghost use Rattle.rule_lives.specs.Law.{OfRule, OfPrefix};
+
+/// The events of what comes or goes in a step are within their lives: those of a tuple of a whole rule, and those that pass for a
+/// condition which binds no fact, where a tuple of the conditions before it comes or goes.
+pub fn change_law()
+    ensures of_rule { OfRule }
+    ensures of_prefix { OfPrefix }
+{}

@@ -14,12 +14,12 @@ use Rattle.rule_model.specs.Tuples.{Tuple, bound_by}
 use Rattle.rule_model.specs.Types.{is_event, is_observed}
 use Rattle.rule_lives.specs.Networks.{bindings}
 use Rattle.rule_lives.specs.Reach.{Placed, occurrence_of, SolvesWith}
-use Rattle.change_law.specs.Law.{is_plain}
-use Rattle.change_law.proofs.Basics.{number_same, number_differs}
-use Rattle.change_law.proofs.Still.{Settled}
-use Rattle.change_law.proofs.Shifts.{Aged}
-use Rattle.change_law.proofs.Transfers.{AllAged}
-use Rattle.change_law.proofs.Limits.{Limits, times_of, HasBound, solves_of}
+use Rattle.rule_lives.specs.Law.{is_plain}
+use Rattle.rule_lives.proofs.Basics.{number_same, number_differs}
+use Rattle.rule_lives.proofs.Still.{Settled}
+use Rattle.rule_lives.proofs.Shifts.{Aged}
+use Rattle.rule_lives.proofs.Transfers.{AllAged}
+use Rattle.rule_lives.proofs.Limits.{Limits, times_of, HasBound, solves_of}
 
 -- condition i has an event with the times z that is past its life of n at c
 pub record Anchor (p : Program) (c n : ℤ) (cs : List Condition) (i : Placed) (t : Tuple) (z : Times) : Type 0 where

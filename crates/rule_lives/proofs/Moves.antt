@@ -19,10 +19,10 @@ use Rattle.rule_world.specs.Lawful.{IsLawful}
 use Rattle.rule_world.specs.Worlds.{World, snapshot, moved, step_fault, modify_fault, retract_fault, is_of_type, found, new_fact, has_id, revised, revised_in}
 use Rattle.rule_world.proofs.Faultless.{event_by, point_by, started, modified_plain, moved_forward}
 use Rattle.rule_world.proofs.Found.{fact_with, found_there}
-use Rattle.change_law.specs.Law.{KeepsTuple}
-use Rattle.change_law.proofs.Basics.{same_number}
-use Rattle.change_law.proofs.Shifts.{Loose, a_fact, gone, fresh, Timed, Shift, at_end, same, less, more}
-use Rattle.change_law.proofs.Transfers.{Turns}
+use Rattle.rule_lives.specs.Law.{KeepsTuple}
+use Rattle.rule_lives.proofs.Basics.{same_number}
+use Rattle.rule_lives.proofs.Shifts.{Loose, a_fact, gone, fresh, Timed, Shift, at_end, same, less, more}
+use Rattle.rule_lives.proofs.Transfers.{Turns}
 
 abbrev AllTimed : Program → List Fact → Type 0
 AllTimed p xs = (f : Fact) → In f xs → Timed p f

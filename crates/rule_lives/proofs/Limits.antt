@@ -24,7 +24,7 @@ use Rattle.rule_model.proofs.Listed.{both, both_of}
 use Rattle.rule_lives.specs.Networks.{Occurrence, bound, aside, bindings, is_met, Meets, Solves}
 use Rattle.rule_lives.specs.Reach.{Limit, finite, infinite, Below, Placed, distance, SolvesWith}
 use Rattle.rule_lives.specs.Lifetimes.{tail, Adds, of_fact, of_event, scope, LivesFor, IsLife}
-use Rattle.change_law.specs.Law.{is_plain}
+use Rattle.rule_lives.specs.Law.{is_plain}
 
 -- ---- lives
 

@@ -27,14 +27,14 @@ use Rattle.rule_world.specs.Worlds.{snapshot, moved}
 use Rattle.rule_lives.specs.Networks.{bindings, occurrence}
 use Rattle.rule_lives.specs.Reach.{finite, infinite, Placed}
 use Rattle.rule_lives.specs.Lifetimes.{scope, IsLife}
-use Rattle.change_law.specs.Law.{Made, ObservedAreFlagged, is_plain, OfRule, OfPrefix}
-use Rattle.change_law.proofs.Basics.{below, number_same}
-use Rattle.change_law.proofs.Shifts.{of_counted, Timed, timed_in}
-use Rattle.change_law.proofs.Transfers.{Turns, turned, transfer}
-use Rattle.change_law.proofs.Limits.{Limits, limits_of, lives_below, times_or, times_of, HasBound}
-use Rattle.change_law.proofs.Anchors.{Anchor, aged_at, all_aged}
-use Rattle.change_law.proofs.Places.{Stands, stands_at, standing}
-use Rattle.change_law.proofs.Moves.{turns_of}
+use Rattle.rule_lives.specs.Law.{Made, ObservedAreFlagged, is_plain, OfRule, OfPrefix}
+use Rattle.rule_lives.proofs.Basics.{below, number_same}
+use Rattle.rule_lives.proofs.Shifts.{of_counted, Timed, timed_in}
+use Rattle.rule_lives.proofs.Transfers.{Turns, turned, transfer}
+use Rattle.rule_lives.proofs.Limits.{Limits, limits_of, lives_below, times_or, times_of, HasBound}
+use Rattle.rule_lives.proofs.Anchors.{Anchor, aged_at, all_aged}
+use Rattle.rule_lives.proofs.Places.{Stands, stands_at, standing}
+use Rattle.rule_lives.proofs.Moves.{turns_of}
 
 -- ---- observed types
 

@@ -18,9 +18,9 @@ use Rattle.rule_model.specs.Tuples.{Tuple, bound_by}
 use Rattle.rule_model.specs.Types.{is_event, lateness_of}
 use Rattle.rule_model.proofs.Grown.{makes_grow, begins}
 use Rattle.rule_model.proofs.RuleOf.{in_place}
-use Rattle.change_law.proofs.Basics.{Front, at_grows, at_last, times_grow}
-use Rattle.change_law.proofs.Still.{Settled, tail_of}
-use Rattle.change_law.proofs.Shifts.{Aged, Shift, back, passing_same, own_stays}
+use Rattle.rule_lives.proofs.Basics.{Front, at_grows, at_last, times_grow}
+use Rattle.rule_lives.proofs.Still.{Settled, tail_of}
+use Rattle.rule_lives.proofs.Shifts.{Aged, Shift, back, passing_same, own_stays}
 
 pub front_of : (p : Program) (s : Snapshot) (cs : List Condition) (t made : Tuple) → Makes p s cs t made → Front t made
 front_of p s cs t made h = begins p s cs t made (makes_grow p s cs t made h)

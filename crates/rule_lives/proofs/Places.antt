@@ -15,10 +15,10 @@ use Rattle.rule_model.specs.Tests.{times_hold}
 use Rattle.rule_model.specs.Tuples.{Tuple, empty_tuple, bound_by}
 use Rattle.rule_model.proofs.Listed.{of_append}
 use Rattle.rule_lives.specs.Networks.{bindings}
-use Rattle.change_law.specs.Law.{Made}
-use Rattle.change_law.proofs.Basics.{Front, times_grow}
-use Rattle.change_law.proofs.Shifts.{of_counted}
-use Rattle.change_law.proofs.Transfers.{front_of, longer, next_place}
+use Rattle.rule_lives.specs.Law.{Made}
+use Rattle.rule_lives.proofs.Basics.{Front, times_grow}
+use Rattle.rule_lives.proofs.Shifts.{of_counted}
+use Rattle.rule_lives.proofs.Transfers.{front_of, longer, next_place}
 
 -- what a tuple says of the fact that a pattern bound
 pub record Stands (p : Program) (s : Snapshot) (tuple : Tuple) (q : Pattern) (x : Fact) : Type 0 where

@@ -1,5 +1,5 @@
-use Rattle.change_law.proofs.Laws.{of_rule, of_prefix}
-use Rattle.change_law.proofs.change_law.Goals as goal
+use Rattle.rule_lives.proofs.Laws.{of_rule, of_prefix}
+use Rattle.rule_lives.proofs.change_law.Goals as goal
 
 pub returns-clause-of_rule : goal.returns-clause-of_rule
 returns-clause-of_rule c = of_rule

@@ -16,7 +16,7 @@ use Rattle.rule_model.specs.Types.{is_event, expiry_of, lateness_of}
 use Rattle.rule_model.proofs.Listed.{both, both_of}
 use Rattle.rule_lives.specs.Reach.{finite, infinite}
 use Rattle.rule_lives.specs.Lifetimes.{tail_by, tail}
-use Rattle.change_law.proofs.Basics.{below, same_number, number_same}
+use Rattle.rule_lives.proofs.Basics.{below, same_number, number_same}
 
 -- ---- tails
 

@@ -16,8 +16,8 @@ use Rattle.rule_model.specs.Types.{is_event, is_point, is_observed, lateness_of}
 use Rattle.rule_model.proofs.Listed.{both}
 use Rattle.rule_model.proofs.Named.{of_filter}
 use Rattle.rule_model.proofs.Order.{in_filter, passed}
-use Rattle.change_law.proofs.Basics.{same_tests, not_true, two_filters}
-use Rattle.change_law.proofs.Still.{Settled, counts, Counts, counts_parts, counts_join, stays, tail_of}
+use Rattle.rule_lives.proofs.Basics.{same_tests, not_true, two_filters}
+use Rattle.rule_lives.proofs.Still.{Settled, counts, Counts, counts_parts, counts_join, stays, tail_of}
 
 -- ---- members
 
