@@ -1,6 +1,6 @@
 ghost use Rattle.std.specs.Prelude.{◌^◌, IsTrue};
 ghost use Rattle.std.specs.List.{All};
-ghost use Rattle.temporal_ops.specs.Edges.{AreWithin, IsWithin};
+ghost use Rattle.temporal_ops.specs.Edges.{IsWithin};
 
 use fx_base::{Copies, Times};
 use std::alloc::Global;
@@ -326,9 +326,7 @@ const REFUSED: &[(OpWord, &[i64], OpFault)] = &[
     (OpWord::Includes, &[5, 9, 2, -1], OpFault::Negative),
 ];
 
-fn times(points: Event) -> Times
-    ensures { AreWithin (2 ^ 54) result }
-{
+fn times(points: Event) -> Times {
     Times {
         start: i64::from(points.0),
         end: i64::from(points.1),
