@@ -7,3 +7,4 @@ pub mod Anchors
 pub mod Places
 pub mod Moves
 pub mod Laws
+pub mod Keeps

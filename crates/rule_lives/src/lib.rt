@@ -5,10 +5,18 @@
 #![tactic(auto)]
 
 ghost use Rattle.rule_lives.specs.Law.{OfRule, OfPrefix};
+ghost use Rattle.rule_lives.specs.Keeping.{TupleNamesKept, TupleMeetsKept};
 
 /// The events of what comes or goes in a step are within their lives: those of a tuple of a whole rule, and those that pass for a
 /// condition which binds no fact, where a tuple of the conditions before it comes or goes.
 pub fn change_law()
     ensures of_rule { OfRule }
     ensures of_prefix { OfPrefix }
+{}
+
+/// What comes in a step names only what is kept: a tuple of a whole rule, and what passes for a condition which binds no fact, where a
+/// tuple of the conditions before it comes.
+pub fn what_comes_is_kept()
+    ensures names { TupleNamesKept }
+    ensures meets { TupleMeetsKept }
 {}
