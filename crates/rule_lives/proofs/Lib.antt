@@ -8,3 +8,5 @@ pub mod Places
 pub mod Moves
 pub mod Laws
 pub mod Keeps
+pub mod Matched
+pub mod Remains

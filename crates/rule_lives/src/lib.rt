@@ -5,7 +5,7 @@
 #![tactic(auto)]
 
 ghost use Rattle.rule_lives.specs.Law.{OfRule, OfPrefix};
-ghost use Rattle.rule_lives.specs.Keeping.{TupleNamesKept, TupleMeetsKept};
+ghost use Rattle.rule_lives.specs.Keeping.{TupleNamesKept, MatchNamesKept, TupleMeetsKept, KeptBefore};
 
 /// The events of what comes or goes in a step are within their lives: those of a tuple of a whole rule, and those that pass for a
 /// condition which binds no fact, where a tuple of the conditions before it comes or goes.
@@ -14,9 +14,11 @@ pub fn change_law()
     ensures of_prefix { OfPrefix }
 {}
 
-/// What comes in a step names only what is kept: a tuple of a whole rule, and what passes for a condition which binds no fact, where a
-/// tuple of the conditions before it comes.
+/// What comes in a step names only what is kept: a tuple of a whole rule, a match, and what passes for a condition which binds no fact,
+/// where a tuple of the conditions before it comes. What is kept behind a step and was a fact before it was kept before it.
 pub fn what_comes_is_kept()
-    ensures names { TupleNamesKept }
+    ensures tuples { TupleNamesKept }
+    ensures matches { MatchNamesKept }
     ensures meets { TupleMeetsKept }
+    ensures before { KeptBefore }
 {}
