@@ -7,3 +7,6 @@ pub mod Anchors
 pub mod Places
 pub mod Moves
 pub mod Laws
+pub mod Keeps
+pub mod Matched
+pub mod Remains

@@ -3,3 +3,4 @@ pub mod Networks
 pub mod Reach
 pub mod Lifetimes
 pub mod Law
+pub mod Keeping

@@ -1,14 +1,24 @@
 //! How long an event can still matter, inferred from the rules (Walzer, Breddin, Groch 2008; Drools Fusion 5 User Guide, memory
 //! management for events): the networks of temporal tests, how far the solutions of a network reach, the lives of patterns and types,
-//! and the law that they are long enough. It has definitions and that law alone: what infers lives and what forgets events stands
-//! on it.
+//! which facts are kept by them, and the laws that lives are long enough and that what a step makes names only what is kept. It has
+//! definitions and these laws alone: what infers lives and what forgets events stands on it.
 #![tactic(auto)]
 
 ghost use Rattle.rule_lives.specs.Law.{OfRule, OfPrefix};
+ghost use Rattle.rule_lives.specs.Keeping.{TupleNamesKept, MatchNamesKept, TupleMeetsKept, KeptBefore};
 
 /// The events of what comes or goes in a step are within their lives: those of a tuple of a whole rule, and those that pass for a
 /// condition which binds no fact, where a tuple of the conditions before it comes or goes.
 pub fn change_law()
     ensures of_rule { OfRule }
     ensures of_prefix { OfPrefix }
+{}
+
+/// What comes in a step names only what is kept: a tuple of a whole rule, a match, and what passes for a condition which binds no fact,
+/// where a tuple of the conditions before it comes. What is kept behind a step and was a fact before it was kept before it.
+pub fn what_comes_is_kept()
+    ensures tuples { TupleNamesKept }
+    ensures matches { MatchNamesKept }
+    ensures meets { TupleMeetsKept }
+    ensures before { KeptBefore }
 {}

@@ -1,0 +1,136 @@
+-- What comes in a step names only what is kept.
+use Rattle.std.proofs.Common.{◌≡◌, ◌==◌, ◌&&◌, ◌⊎◌, not, ℕ, zero, suc, ℤ, ◌+ℤ◌, ◌≤ℤ◌, Bool, true, false, List, [], ◌∷◌, length, Option, Some, None, refl, sym, ap, subst, inl, inr}
+use Rattle.std.specs.Prelude.{slice_get, take}
+use Rattle.fx_base.specs.Lists.{In}
+use Rattle.fx_base.specs.declared.fact.Fact.{Fact}
+use Rattle.rule_model.specs.declared.condition.Condition.{Condition}
+use Rattle.rule_model.specs.declared.condition.Condition.TheVariants.{Plain, Negated, Existing, Folded}
+use Rattle.rule_model.specs.declared.life.Life.{Life}
+use Rattle.rule_model.specs.declared.life.Life.TheVariants.{Explicit, Finite, Infinite}
+use Rattle.rule_model.specs.declared.life.Life.TheVariants as lives
+use Rattle.rule_model.specs.declared.life.LifeTable.{LifeTable}
+use Rattle.rule_model.specs.declared.program.Program.{Program}
+use Rattle.rule_model.specs.declared.step.Step.{Step}
+use Rattle.rule_model.specs.declared.step.Step.TheVariants.{Insert, Modify, Retract, Advance, At}
+use Rattle.rule_model.specs.Candidates.{is_present}
+use Rattle.rule_model.specs.Rows.{Makes, pattern_of}
+use Rattle.rule_model.specs.Snapshots.{Snapshot}
+use Rattle.rule_model.specs.Tuples.{Tuple, empty_tuple}
+use Rattle.rule_model.specs.Types.{is_event, is_event_type}
+use Rattle.rule_model.proofs.Listed.{both, of_append}
+use Rattle.rule_model.proofs.Order.{passed}
+use Rattle.rule_world.specs.Lawful.{IsLawful}
+use Rattle.rule_world.specs.Worlds.{World, snapshot, moved, step_fault, has_id}
+use Rattle.rule_world.proofs.Keeping.{was_present}
+use Rattle.rule_lives.specs.Reach.{finite}
+use Rattle.rule_lives.specs.Lifetimes.{IsLife}
+use Rattle.rule_lives.specs.Law.{Made, KeepsTuple}
+use Rattle.rule_lives.specs.Keeping.{AreLives, IsKept, plain, unexpired, endless, living, TupleNamesKept, TupleMeetsKept}
+use Rattle.rule_lives.proofs.Basics.{number_same}
+use Rattle.rule_lives.proofs.Shifts.{of_counted}
+use Rattle.rule_lives.proofs.Moves.{turns_of}
+use Rattle.rule_lives.proofs.Laws.{of_rule, of_prefix}
+
+-- ---- the clock and the facts behind a step
+
+keeps_nothing : (step : Step) → KeepsTuple step empty_tuple
+keeps_nothing (Insert ty entry fields) = tt
+keeps_nothing (Modify id sets) = tt
+keeps_nothing (Retract ty id) = λ f own of_type of_id. own
+keeps_nothing (Advance by) = tt
+keeps_nothing (At moment) = tt
+
+pub clock_on : (p : Program) (w : World) (step : Step) → IsLawful p w → step_fault p w step ≡ None → w.clock ≤ℤ (moved p w step).clock
+clock_on p w step law none = (turns_of p w step empty_tuple law none (keeps_nothing step)).to
+
+-- a fact of the snapshot that is present
+abbrev pub Here : Program → Snapshot → Fact → Type 0
+Here p s x = In x s.facts × (is_present p s.clock x ≡ true)
+
+module _ (p : Program) (s : Snapshot) (tuple : Tuple) where
+  -- what conditions add to a tuple is there and present
+  added : (cs : List Condition) (t : Tuple) → Makes p s cs t tuple → (x : Fact) → In x tuple.facts → In x t.facts ⊎ Here p s x
+  added [] t h x i = inl (subst (λ (u : Tuple). In x u.facts) h i)
+  added (Plain q ∷ cs) t h x i = elim (added cs h.0 h.2 x i) [
+    | inl j ↦ elim (of_append x t.facts (h.1.0 ∷ []) (subst (λ (u : Tuple). In x u.facts) h.1.2 j)) [
+      | inl before ↦ inl before
+      | inr (inl e) ↦ (let k = of_counted p q s t h.1.0 h.1.1 in inr (subst (λ (y : Fact). Here p s y) (sym e) (k.0, k.1.present)))
+      | inr (inr none) ↦ absurd none
+    ]
+    | inr here ↦ inr here
+  ]
+  added (Negated q ∷ cs) t h x i = elim (added cs h.0 h.2 x i) [
+    | inl j ↦ inl (subst (λ (u : Tuple). In x u.facts) h.1.2 j)
+    | inr here ↦ inr here
+  ]
+  added (Existing q ∷ cs) t h x i = elim (added cs h.0 h.2 x i) [
+    | inl j ↦ inl (subst (λ (u : Tuple). In x u.facts) h.1.2 j)
+    | inr here ↦ inr here
+  ]
+  added (Folded a ∷ cs) t h x i = elim (added cs h.0 h.2 x i) [
+    | inl j ↦ inl (subst (λ (u : Tuple). In x u.facts) (ap (λ (u : Tuple). record { facts = u.facts; values = t.values }) h.1.3) j)
+    | inr here ↦ inr here
+  ]
+
+  pub here : (cs : List Condition) → Made p s cs tuple → (x : Fact) → In x tuple.facts → Here p s x
+  here cs h x i = elim (added cs empty_tuple h x i) [ inl none ↦ absurd none | inr is ↦ is ]
+
+kept_not : (b : Bool) → not b ≡ true → b ≡ true → ⊥
+kept_not true k e = absurd cc
+kept_not false k e = absurd cc
+
+-- a tuple that is made behind the step has no fact that the step retracts
+pub keeps_next : (p : Program) (w : World) (step : Step) (cs : List Condition) (tuple : Tuple) → Made p (snapshot (moved p w step)) cs tuple → KeepsTuple step tuple
+unfolding moved
+keeps_next p w (Insert ty entry fields) cs tuple h = tt
+keeps_next p w (Modify id sets) cs tuple h = tt
+keeps_next p w (Retract ty id) cs tuple h = λ f own of_type of_id.
+    let there = (here p (snapshot (moved p w (Retract ty id))) tuple cs h f own).0 in
+    kept_not (f.ty.0 == ty.0 && has_id id.0 f) (passed (λ (g : Fact). not (g.ty.0 == ty.0 && has_id id.0 g)) f w.facts there)
+    (both _ _ (number_same f.ty.0 ty.0 of_type) (number_same f.id.0 id.0 of_id))
+keeps_next p w (Advance by) cs tuple h = tt
+keeps_next p w (At moment) cs tuple h = tt
+
+-- ---- what the table says of a fact
+
+none_too : {A B : Type 0} (xs : List A) (ys : List B) (k : ℕ) → length xs ≡ length ys → slice_get xs k ≡ None → slice_get ys k ≡ None
+none_too [] [] k e h = refl
+none_too [] (y ∷ ys) k e h = absurd cc
+none_too (x ∷ xs) [] k e h = absurd cc
+none_too (x ∷ xs) (y ∷ ys) zero e h = absurd cc
+none_too (x ∷ xs) (y ∷ ys) (suc k) e h = none_too xs ys k (let s : length xs ≡ length ys = cc in s) h
+
+-- what is no type of the program is plain
+untyped : (p : Program) (ty : ℕ) → slice_get p.types ty ≡ None → is_event p ty ≡ false
+unfolding is_event
+untyped p ty e = ap is_event_type e
+
+module _ (p : Program) (table : LifeTable) (w : World) (are : AreLives p table) (f : Fact) (inside : In f w.facts) where
+  -- a present fact is kept where it is so once it is past a finite life
+  pub by_life : is_present p w.clock f ≡ true → ((n : ℤ) → IsLife p f.ty.0 (finite n) → (w.clock ≤ℤ (f.times.end +ℤ n)) ⊎ IsKept p table w f) → IsKept p table w f
+  by_life present late = by (slice_get table.lives f.ty.0) refl
+    where
+      by : (life : Option Life) → slice_get table.lives f.ty.0 ≡ life → IsKept p table w f
+      by None e = plain inside (untyped p f.ty.0 (none_too table.lives p.types f.ty.0 are.as_many e))
+      by (Some lives.Plain) e = plain inside (are.each f.ty.0 lives.Plain e)
+      by (Some (Explicit expiry)) e = let is = are.each f.ty.0 (Explicit expiry) e in unexpired expiry inside is.0 is.1 present
+      by (Some (Finite n)) e = elim (late n (are.each f.ty.0 (Finite n) e)) [ inl le ↦ living n inside e le | inr kept ↦ kept ]
+      by (Some Infinite) e = endless inside e
+
+-- ---- tuples that come
+
+pub tuple_names_kept : TupleNamesKept
+tuple_names_kept p table w step flagged are law none rule in_rules tuple comes f own inside =
+    let next = snapshot (moved p w step) in
+    let keeps = keeps_next p w step rule.conditions tuple comes.0 in
+    by_life p table w are f inside
+    (was_present p f w.clock next.clock (clock_on p w step law none) (here p next tuple rule.conditions comes.0 f own).1)
+    (λ n life. inl (of_rule p w step flagged law none rule in_rules tuple keeps (inr comes) f own n life))
+
+pub tuple_meets_kept : TupleMeetsKept
+tuple_meets_kept p table w step flagged are law none rule in_rules q c at_q side_q tuple comes f passes inside =
+    let next = snapshot (moved p w step) in
+    let keeps = keeps_next p w step (take q rule.conditions) tuple comes.0 in
+    by_life p table w are f inside
+    (was_present p f w.clock next.clock (clock_on p w step law none) (of_counted p (pattern_of c) next tuple f passes).1.present)
+    (λ n life. inl (of_prefix p w step flagged law none rule in_rules tuple keeps q c at_q side_q (inr comes) f passes n life))

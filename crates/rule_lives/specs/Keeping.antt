@@ -1,0 +1,84 @@
+-- Which facts are kept, and that what a step makes names only what is kept (Walzer, Breddin, Groch 2008; Drools Fusion 5 User Guide,
+-- memory management for events).
+use Rattle.std.specs.Prelude.{◌≡◌, ℕ, ℤ, ◌+ℤ◌, ◌≤ℤ◌, true, false, List, take, length, Some, None, slice_get}
+use Rattle.fx_base.specs.Lists.{In}
+use Rattle.fx_base.specs.declared.fact.Fact.{Fact}
+use Rattle.rule_model.specs.declared.condition.Condition.{Condition}
+use Rattle.rule_model.specs.declared.life.Life.{Life}
+use Rattle.rule_model.specs.declared.life.Life.TheVariants.{Plain, Explicit, Finite, Infinite}
+use Rattle.rule_model.specs.declared.life.LifeTable.{LifeTable}
+use Rattle.rule_model.specs.declared.matched.Match.{Match}
+use Rattle.rule_model.specs.declared.program.Program.{Program}
+use Rattle.rule_model.specs.declared.program.Rule.{Rule}
+use Rattle.rule_model.specs.declared.step.Step.{Step}
+use Rattle.rule_model.specs.Candidates.{is_present, passing}
+use Rattle.rule_model.specs.Matches.{matches, has_match}
+use Rattle.rule_model.specs.Rows.{pattern_of}
+use Rattle.rule_model.specs.Tuples.{Tuple, name_of}
+use Rattle.rule_model.specs.Types.{is_event, expiry_of}
+use Rattle.rule_world.specs.Lawful.{IsLawful}
+use Rattle.rule_world.specs.Programs.{UseOperators}
+use Rattle.rule_world.specs.Worlds.{World, snapshot, pending, moved, stepped, step_fault}
+use Rattle.rule_lives.specs.Reach.{finite, infinite}
+use Rattle.rule_lives.specs.Lifetimes.{IsLife}
+use Rattle.rule_lives.specs.Law.{Made, ObservedAreFlagged, is_plain}
+
+-- ---- the table of lives
+
+-- what a life says of the type of a place
+abbrev pub IsLifeOf : Program → ℕ → Life → Type 0
+IsLifeOf p ty Plain = is_event p ty ≡ false
+IsLifeOf p ty (Explicit expiry) = (is_event p ty ≡ true) × (expiry_of p ty ≡ Some expiry)
+IsLifeOf p ty (Finite n) = IsLife p ty (finite n)
+IsLifeOf p ty Infinite = IsLife p ty infinite
+
+-- the table has the life of each type of the program, at the type's place
+pub record AreLives (p : Program) (table : LifeTable) : Type 0 where
+  pub as_many : length table.lives ≡ length p.types
+  pub each : (ty : ℕ) (life : Life) → slice_get table.lives ty ≡ Some life → IsLifeOf p ty life
+
+-- ---- what is kept
+
+-- The facts of a world that are kept: the plain ones; the events of types with an explicit expiry, while they are present; the events
+-- that live for ever, and those that are within their lives; what a pending match names.
+pub data IsKept (p : Program) (table : LifeTable) (w : World) (f : Fact) : Type 0 where
+  plain : In f w.facts → is_event p f.ty.0 ≡ false → IsKept p table w f
+  unexpired : (expiry : ℤ) → In f w.facts → is_event p f.ty.0 ≡ true → expiry_of p f.ty.0 ≡ Some expiry → is_present p w.clock f ≡ true → IsKept p table w f
+  endless : In f w.facts → slice_get table.lives f.ty.0 ≡ Some Infinite → IsKept p table w f
+  living : (n : ℤ) → In f w.facts → slice_get table.lives f.ty.0 ≡ Some (Finite n) → w.clock ≤ℤ (f.times.end +ℤ n) → IsKept p table w f
+  named : (m : Match) → In f w.facts → has_match (pending p w) m ≡ true → In (name_of f) m.row.facts → IsKept p table w f
+
+-- ---- the laws
+
+-- the tuple is made behind the step, and was not before it
+abbrev pub Comes : Program → World → Step → List Condition → Tuple → Type 0
+Comes p w step conditions tuple = Made p (snapshot (moved p w step)) conditions tuple × (Made p (snapshot w) conditions tuple → ⊥)
+
+-- A fact of the world that a tuple of a whole rule names which comes is kept in the world.
+abbrev pub TupleNamesKept : Type 0
+TupleNamesKept = (p : Program) (table : LifeTable) (w : World) (step : Step) → ObservedAreFlagged p → AreLives p table → IsLawful p w
+    → step_fault p w step ≡ None
+    → (rule : Rule) → In rule p.rules → (tuple : Tuple) → Comes p w step rule.conditions tuple
+    → (f : Fact) → In f tuple.facts → In f w.facts → IsKept p table w f
+
+-- The same of a match that comes.
+abbrev pub MatchNamesKept : Type 0
+MatchNamesKept = (p : Program) (table : LifeTable) (w : World) (step : Step) → ObservedAreFlagged p → UseOperators p.rules → AreLives p table
+    → IsLawful p w → step_fault p w step ≡ None
+    → (m : Match) → has_match (matches p (snapshot (moved p w step))) m ≡ true → has_match (matches p (snapshot w)) m ≡ false
+    → (f : Fact) → In (name_of f) m.row.facts → In f w.facts → IsKept p table w f
+
+-- A fact of the world that passes, behind the step, for a `not`, `exists` or `accumulate` with a tuple of the conditions before that one
+-- which comes is kept in the world.
+abbrev pub TupleMeetsKept : Type 0
+TupleMeetsKept = (p : Program) (table : LifeTable) (w : World) (step : Step) → ObservedAreFlagged p → AreLives p table → IsLawful p w
+    → step_fault p w step ≡ None
+    → (rule : Rule) → In rule p.rules → (q : ℕ) (c : Condition) → slice_get rule.conditions q ≡ Some c → is_plain c ≡ false
+    → (tuple : Tuple) → Comes p w step (take q rule.conditions) tuple
+    → (f : Fact) → In f (passing p (pattern_of c) (snapshot (moved p w step)) tuple) → In f w.facts → IsKept p table w f
+
+-- What is kept behind the step and was a fact before it was kept before it.
+abbrev pub KeptBefore : Type 0
+KeptBefore = (p : Program) (table : LifeTable) (w : World) (step : Step) → ObservedAreFlagged p → UseOperators p.rules → AreLives p table
+    → IsLawful p w → step_fault p w step ≡ None
+    → (f : Fact) → IsKept p table (stepped p w step) f → In f w.facts → IsKept p table w f
