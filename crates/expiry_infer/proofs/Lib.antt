@@ -1,0 +1,5 @@
+pub mod Places
+pub mod Solutions
+pub mod Solved
+pub mod Fitting
+pub mod Reaching

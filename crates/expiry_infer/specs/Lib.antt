@@ -1,0 +1,3 @@
+pub use Rattle.fx_base.specs.Lists
+pub mod Edges
+pub mod Found
