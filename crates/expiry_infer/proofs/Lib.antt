@@ -3,3 +3,5 @@ pub mod Solutions
 pub mod Solved
 pub mod Fitting
 pub mod Reaching
+pub mod Tops
+pub mod Given

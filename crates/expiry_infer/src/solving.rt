@@ -2,7 +2,6 @@ ghost use Rattle.std.specs.Prelude.{◌≡◌, ◌<◌, ◌≤◌, length, slice
 ghost use Rattle.std.specs.Bool.{Decides};
 ghost use Rattle.rule_model.specs.declared.condition.Condition.{Condition as AnyCondition};
 ghost use Rattle.rule_model.specs.Rows.{HaveOperators};
-ghost use Rattle.temporal_net.specs.Networks.{IsSolvable as HaveSolution};
 ghost use Rattle.rule_lives.specs.Networks.{IsSolvable};
 ghost use Rattle.expiry_infer.specs.Edges.{edges_of, NameEarlier};
 ghost use Rattle.expiry_infer.specs.Found.{IsFound, IsSolved};
