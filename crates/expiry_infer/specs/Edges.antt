@@ -1,6 +1,6 @@
 -- The network of the conditions of a rule as edges between numbered points: the event of the condition of place k, which is below 8,
 -- starts at the point k and ends at the point k + 8.
-use Rattle.std.specs.Prelude.{◌≡◌, ◌==◌, ◌+◌, ◌<◌, ℕ, zero, suc, pos, Bool, true, false, List, [], ◌∷◌, ◌++◌, map, take, Some, slice_get, if◌then◌else◌}
+use Rattle.std.specs.Prelude.{◌≡◌, ◌==◌, ◌+◌, ◌<◌, ◌≤◌, ℕ, zero, suc, pos, Bool, true, false, List, [], ◌∷◌, ◌++◌, length, map, take, Some, slice_get, if◌then◌else◌}
 use Rattle.std.specs.List.{All, list_any, flat_map}
 use Rattle.temporal_ops.specs.declared.edge.Corner.{Corner}
 use Rattle.temporal_ops.specs.declared.edge.Corner.TheVariants.{AStart, AEnd, BStart, BEnd}
@@ -11,7 +11,7 @@ use Rattle.rule_model.specs.declared.condition.Condition.TheVariants.{Plain, Neg
 use Rattle.rule_model.specs.declared.condition.Pattern.{Pattern}
 use Rattle.rule_model.specs.declared.program.Program.{Program}
 use Rattle.rule_model.specs.declared.test.TimeTest.{TimeTest}
-use Rattle.rule_model.specs.Rows.{pattern_of}
+use Rattle.rule_model.specs.Rows.{pattern_of, HaveOperators}
 use Rattle.rule_model.specs.Types.{is_event, is_point}
 use Rattle.rule_lives.specs.Networks.{bindings}
 
@@ -19,6 +19,12 @@ use Rattle.rule_lives.specs.Networks.{bindings}
 abbrev pub NameEarlier : List Condition → Type 0
 NameEarlier conditions = (place : ℕ) (c : Condition) → slice_get conditions place ≡ Some c
     → All (λ (test : TimeTest). test.fact < bindings (take place conditions)) (pattern_of c).times
+
+-- conditions that have a network of at most 16 points
+pub record HaveNetwork (conditions : List Condition) : Type 0 where
+  pub few : length conditions ≤ 8
+  pub operators : HaveOperators conditions
+  pub named : NameEarlier conditions
 
 -- ---- points
 

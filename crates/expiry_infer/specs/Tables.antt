@@ -1,5 +1,5 @@
 -- The table of the inferred lives of a program.
-use Rattle.std.specs.Prelude.{◌≡◌, ◌≤◌, ℕ, Bool, true, false, List, length, Some, slice_get}
+use Rattle.std.specs.Prelude.{◌≡◌, ℕ, Bool, true, false, List, length, Some, slice_get}
 use Rattle.fx_base.specs.Lists.{In}
 use Rattle.rule_model.specs.declared.condition.Condition.{Condition}
 use Rattle.rule_model.specs.declared.condition.Condition.TheVariants as condition
@@ -8,19 +8,14 @@ use Rattle.rule_model.specs.declared.life.Life.TheVariants.{Plain, Explicit, Fin
 use Rattle.rule_model.specs.declared.life.LifeTable.{LifeTable}
 use Rattle.rule_model.specs.declared.program.Program.{Program}
 use Rattle.rule_model.specs.declared.program.Rule.{Rule}
-use Rattle.rule_model.specs.Rows.{HaveOperators, pattern_of}
+use Rattle.rule_model.specs.Rows.{pattern_of}
 use Rattle.rule_model.specs.Types.{is_event, expiry_of}
 use Rattle.rule_lives.specs.Lifetimes.{Adds, LivesFor, IsLife}
 use Rattle.rule_lives.specs.Reach.{Limit, finite, infinite, Placed}
-use Rattle.expiry_infer.specs.Edges.{NameEarlier}
+use Rattle.expiry_infer.specs.Edges.{HaveNetwork}
 use Rattle.expiry_infer.specs.Tops.{Among}
 
--- conditions whose network can be solved
-pub record HaveNetwork (conditions : List Condition) : Type 0 where
-  pub few : length conditions ≤ 8
-  pub operators : HaveOperators conditions
-  pub named : NameEarlier conditions
-
+-- each rule's conditions do
 abbrev pub RulesHaveNetworks : Program → Type 0
 RulesHaveNetworks p = (rule : Rule) → In rule p.rules → HaveNetwork rule.conditions
 

@@ -4,9 +4,10 @@ ghost use Rattle.rule_model.specs.declared.condition.Condition.{Condition as Any
 ghost use Rattle.rule_model.specs.Rows.{pattern_of};
 ghost use Rattle.rule_model.specs.Types.{is_event, expiry_of};
 ghost use Rattle.rule_lives.specs.Lifetimes.{Adds, AddsSome, IsLife, LivesFor, scope as scope_of};
+ghost use Rattle.expiry_infer.specs.Edges.{HaveNetwork};
 ghost use Rattle.expiry_infer.specs.Found.{limit_of};
 ghost use Rattle.expiry_infer.specs.Tops.{Among, IsTop};
-ghost use Rattle.expiry_infer.specs.Tables.{placed, binds, AreLives, GivesAt, GivesIn, HaveNetwork, IsLifeOf, RulesHaveNetworks};
+ghost use Rattle.expiry_infer.specs.Tables.{placed, binds, AreLives, GivesAt, GivesIn, IsLifeOf, RulesHaveNetworks};
 
 use crate::limits::{greater, sum, tail};
 use crate::solving::reach;

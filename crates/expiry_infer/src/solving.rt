@@ -1,9 +1,8 @@
-ghost use Rattle.std.specs.Prelude.{◌≡◌, ◌<◌, ◌≤◌, length, slice_get, Some, IfOk};
+ghost use Rattle.std.specs.Prelude.{◌≡◌, ◌<◌, length, slice_get, Some, IfOk};
 ghost use Rattle.std.specs.Bool.{Decides};
 ghost use Rattle.rule_model.specs.declared.condition.Condition.{Condition as AnyCondition};
-ghost use Rattle.rule_model.specs.Rows.{HaveOperators};
 ghost use Rattle.rule_lives.specs.Networks.{IsSolvable};
-ghost use Rattle.expiry_infer.specs.Edges.{edges_of, NameEarlier};
+ghost use Rattle.expiry_infer.specs.Edges.{edges_of, HaveNetwork};
 ghost use Rattle.expiry_infer.specs.Found.{IsFound, IsSolved};
 
 use crate::network::{POINTS, end, network, start};
@@ -20,9 +19,7 @@ fn solved(
     conditions: &[Condition],
     places: &[usize],
 ) -> Result<Option<Minimal>, NoMemory>
-    requires few { length conditions.now ≤ 8 }
-    requires operators { HaveOperators conditions.now }
-    requires named { NameEarlier conditions.now }
+    requires { HaveNetwork conditions.now }
     ensures { IfOk result (IsSolved (edges_of program.now conditions.now places.now 0 conditions.now)) }
 {
     let edges = network(alloc, program, conditions, places)?;
@@ -40,9 +37,7 @@ pub fn is_solvable(
     program: &Program,
     conditions: &[Condition],
 ) -> Result<bool, NoMemory>
-    requires few { length conditions.now ≤ 8 }
-    requires operators { HaveOperators conditions.now }
-    requires named { NameEarlier conditions.now }
+    requires { HaveNetwork conditions.now }
     ensures { IfOk result (λ answer. Decides answer (IsSolvable program.now conditions.now)) }
 {
     let found = solved(alloc, program, conditions, &[])?;
@@ -58,9 +53,7 @@ pub fn reach(
     i: usize,
     j: usize,
 ) -> Result<Option<Bound>, NoMemory>
-    requires few { length conditions.now ≤ 8 }
-    requires operators { HaveOperators conditions.now }
-    requires named { NameEarlier conditions.now }
+    requires network { HaveNetwork conditions.now }
     requires i { i < length conditions.now }
     requires j { j < length conditions.now }
     ensures { (first second : AnyCondition) → slice_get conditions.now i ≡ Some first → slice_get conditions.now j ≡ Some second

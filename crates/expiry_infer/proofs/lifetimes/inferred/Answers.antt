@@ -3,8 +3,9 @@ use Rattle.std.specs.Prelude.{slice_get}
 use Rattle.std.proofs.lemmas.Option.{slice_get-get_or}
 use Rattle.rule_model.specs.declared.condition.Condition.{Condition}
 use Rattle.rule_model.specs.declared.program.Rule.{Rule}
+use Rattle.expiry_infer.specs.Edges.{HaveNetwork}
 use Rattle.expiry_infer.specs.Found.{limit_of}
-use Rattle.expiry_infer.specs.Tables.{HaveNetwork, GivesAt}
+use Rattle.expiry_infer.specs.Tables.{GivesAt}
 use Rattle.expiry_infer.specs.Tops.{Among, IsTop}
 use Rattle.expiry_infer.proofs.Given.{one_more_rule, rule_in, is_life}
 use Rattle.expiry_infer.proofs.lifetimes.inferred.Goals as goal

@@ -9,8 +9,9 @@ use Rattle.rule_model.specs.declared.condition.WindowTag.TheVariants.{Whole, Tim
 use Rattle.rule_model.specs.Rows.{pattern_of}
 use Rattle.rule_lives.specs.Lifetimes.{AddsSome, LivesFor}
 use Rattle.rule_lives.specs.Reach.{infinite}
+use Rattle.expiry_infer.specs.Edges.{HaveNetwork}
 use Rattle.expiry_infer.specs.Found.{limit_of}
-use Rattle.expiry_infer.specs.Tables.{HaveNetwork, placed}
+use Rattle.expiry_infer.specs.Tables.{placed}
 use Rattle.expiry_infer.specs.Tops.{IsTop}
 use Rattle.expiry_infer.proofs.Given.{the_same, scope_network, scope_at}
 use Rattle.expiry_infer.proofs.Tops.{top_infinite}
