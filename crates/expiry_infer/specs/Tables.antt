@@ -15,7 +15,7 @@ use Rattle.rule_lives.specs.Reach.{Limit, finite, infinite, Placed}
 use Rattle.expiry_infer.specs.Edges.{HaveNetwork}
 use Rattle.expiry_infer.specs.Tops.{Among}
 
--- each rule's conditions do
+-- the conditions of each rule have a network
 abbrev pub RulesHaveNetworks : Program → Type 0
 RulesHaveNetworks p = (rule : Rule) → In rule p.rules → HaveNetwork rule.conditions
 
