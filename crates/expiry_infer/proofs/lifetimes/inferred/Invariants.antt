@@ -1,0 +1,9 @@
+use Rattle.std.proofs.Common.{pos}
+use Rattle.rule_lives.specs.Reach.{finite}
+use Rattle.expiry_infer.specs.Found.{limit_of}
+use Rattle.expiry_infer.specs.Tables.{GivesIn}
+use Rattle.expiry_infer.specs.Tops.{Among, IsTop}
+use Rattle.expiry_infer.proofs.lifetimes.inferred.Given as goal
+
+abbrev pub invariant-loop-place : goal.invariant-loop-place
+invariant-loop-place l = IsTop (Among (GivesIn l.program l.ty) l.place) (finite (pos 0)) (limit_of l.most)

@@ -1,0 +1,15 @@
+use Rattle.std.proofs.Common.{◌<◌, refl, subst, sym}
+use Rattle.std.specs.List.{All}
+use Rattle.std.proofs.lemmas.Option.{slice_get_read}
+use Rattle.rule_model.specs.declared.condition.Pattern.{Pattern}
+use Rattle.rule_model.specs.declared.test.TimeTest.{TimeTest}
+use Rattle.rule_lives.specs.Networks.{bindings}
+use Rattle.expiry_infer.proofs.Places.{named_here}
+use Rattle.expiry_infer.proofs.network.network.Goals as goal
+
+pub add_pattern-requires-clause-named : goal.add_pattern-requires-clause-named
+add_pattern-requires-clause-named c =
+    let conditions = c.args.conditions.now in
+    let here = slice_get_read conditions _ c.loop-place.place c.index-conditions-place.result refl c.loop-place-test.true c.index-conditions-place.is in
+    subst (λ (pattern : Pattern). All (λ (test : TimeTest). test.fact < bindings conditions) pattern.times) (sym c.pattern.ensures)
+    (named_here conditions c.loop-place.place c.index-conditions-place.result c.requires.named here)

@@ -1,0 +1,10 @@
+use Rattle.std.proofs.Common.{◌≡◌, ◌<◌, ◌+◌, drop}
+use Rattle.rule_lives.specs.Networks.{bindings}
+use Rattle.expiry_infer.specs.Edges.{place_of as place_in}
+use Rattle.expiry_infer.proofs.network.place_of.Given as goal
+
+abbrev pub invariant-loop-place : goal.invariant-loop-place
+invariant-loop-place l = record {
+  named : l.left < bindings (drop l.place l.conditions);
+  is : place_in l.conditions l.number ≡ l.place + place_in (drop l.place l.conditions) l.left;
+}

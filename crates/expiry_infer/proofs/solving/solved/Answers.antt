@@ -1,0 +1,13 @@
+use Rattle.std.proofs.Common.{◌∙◌}
+use Rattle.std.proofs.lemmas.List.Elements.{All-same}
+use Rattle.temporal_net.specs.Networks.{IsSmall}
+use Rattle.expiry_infer.specs.Edges.{edges_of}
+use Rattle.expiry_infer.proofs.Fitting.{all_small}
+use Rattle.expiry_infer.proofs.solving.solved.Goals as goal
+
+pub solve-requires-clause-small : goal.solve-requires-clause-small
+solve-requires-clause-small c =
+    let p = c.args.program.now in
+    let conditions = c.args.conditions.now in
+    let places = c.args.places.now in
+    All-same IsSmall c.deref.result.now (edges_of p conditions places 0 conditions) (c.deref.ensures.value ∙ c.in_ok-edges.ensures) (all_small p conditions places c.requires.few c.requires.operators c.requires.named)

@@ -1,0 +1,5 @@
+pub use Rattle.fx_base.specs.Lists
+pub mod Edges
+pub mod Found
+pub mod Tops
+pub mod Tables

@@ -1,0 +1,176 @@
+//! The lives of patterns and types (Walzer, Breddin, Groch 2008).
+ghost use Rattle.std.specs.Prelude.{◌≡◌, ◌<◌, ◌≤◌, length, slice_get, true, None, Some, pos, IfOk};
+ghost use Rattle.rule_model.specs.declared.condition.Condition.{Condition as AnyCondition};
+ghost use Rattle.rule_model.specs.Rows.{pattern_of};
+ghost use Rattle.rule_model.specs.Types.{is_event, expiry_of};
+ghost use Rattle.rule_lives.specs.Lifetimes.{Adds, AddsSome, IsLife, LivesFor, scope as scope_of};
+ghost use Rattle.expiry_infer.specs.Edges.{HaveNetwork};
+ghost use Rattle.expiry_infer.specs.Found.{limit_of};
+ghost use Rattle.expiry_infer.specs.Tops.{Among, IsTop};
+ghost use Rattle.expiry_infer.specs.Tables.{placed, binds, AreLives, GivesAt, GivesIn, IsLifeOf, RulesHaveNetworks};
+
+use crate::limits::{greater, sum, tail};
+use crate::solving::reach;
+use fx_base::{Bound, NoMemory, Seq};
+use rule_model::{Condition, Life, LifeTable, Program, TypeInfo, WindowTag};
+use std::alloc::Global;
+
+// The greater of a limit and of what condition j adds to the life of i.
+fn with_added(
+    alloc: Global,
+    program: &Program,
+    conditions: &[Condition],
+    i: usize,
+    j: usize,
+    most: Bound,
+) -> Result<Bound, NoMemory>
+    requires network { HaveNetwork conditions.now }
+    requires i { i < length conditions.now }
+    requires j { j < length conditions.now }
+    ensures { (first second : AnyCondition) → slice_get conditions.now i ≡ Some first → slice_get conditions.now j ≡ Some second
+        → IfOk result (λ greatest. IsTop (Adds program.now conditions.now (placed i first) (placed j second)) (limit_of most) (limit_of greatest)) }
+{
+    let pattern = conditions[j].pattern();
+    if !program.is_event(pattern.ty) {
+        return Ok(Bound::Infinite);
+    }
+    match reach(alloc, program, conditions, i, j)? {
+        Some(distance) => {
+            let more = sum(distance, tail(program, pattern))?;
+            Ok(greater(most, more))
+        }
+        None => Ok(most),
+    }
+}
+
+// The greatest of a limit and of what any condition adds to the life of i.
+fn with_all_added(
+    alloc: Global,
+    program: &Program,
+    conditions: &[Condition],
+    i: usize,
+    most: Bound,
+) -> Result<Bound, NoMemory>
+    requires network { HaveNetwork conditions.now }
+    requires i { i < length conditions.now }
+    ensures { (first : AnyCondition) → slice_get conditions.now i ≡ Some first
+        → IfOk result (λ greatest. IsTop (AddsSome program.now conditions.now (placed i first)) (limit_of most) (limit_of greatest)) }
+{
+    let mut most = most;
+    for j in 0..conditions.len() {
+        most = with_added(alloc, program, conditions, i, j, most)?;
+    }
+    Ok(most)
+}
+
+// Whether the condition binds a fact.
+fn is_binding(condition: &Condition) -> bool
+    ensures { result ≡ binds condition.now }
+{
+    match condition {
+        Condition::Plain(_) => true,
+        Condition::Negated(_) | Condition::Existing(_) | Condition::Folded(_) => false,
+    }
+}
+
+// The conditions that matter to that of place i.
+fn scope(conditions: &[Condition], i: usize) -> &[Condition]
+    requires { i < length conditions.now }
+    ensures { (first : AnyCondition) → slice_get conditions.now i ≡ Some first → result.now ≡ scope_of conditions.now (placed i first) }
+{
+    if is_binding(&conditions[i]) {
+        return conditions;
+    }
+    &conditions[..i + 1]
+}
+
+// The greatest of a limit and of the limits of the life of the condition of place i.
+fn with_pattern(
+    alloc: Global,
+    program: &Program,
+    conditions: &[Condition],
+    i: usize,
+    most: Bound,
+) -> Result<Bound, NoMemory>
+    requires network { HaveNetwork conditions.now }
+    requires i { i < length conditions.now }
+    ensures { (first : AnyCondition) → slice_get conditions.now i ≡ Some first
+        → IfOk result (λ greatest. IsTop (LivesFor program.now conditions.now (placed i first) (pattern_of first).window) (limit_of most) (limit_of greatest)) }
+{
+    match conditions[i].pattern().window {
+        WindowTag::Whole => with_all_added(alloc, program, scope(conditions, i), i, most),
+        WindowTag::Time(span) => Ok(greater(most, Bound::Finite(span))),
+        WindowTag::Length(_) => Ok(Bound::Infinite),
+    }
+}
+
+// The greatest of a limit and of what the conditions of a rule give to the type of this place.
+fn with_rule(
+    alloc: Global,
+    program: &Program,
+    conditions: &[Condition],
+    ty: usize,
+    most: Bound,
+) -> Result<Bound, NoMemory>
+    requires { HaveNetwork conditions.now }
+    ensures { IfOk result (λ greatest. IsTop (Among (GivesAt program.now conditions.now ty) (length conditions.now)) (limit_of most) (limit_of greatest)) }
+{
+    let mut most = most;
+    for i in 0..conditions.len() {
+        if conditions[i].pattern().ty.0 as usize == ty {
+            most = with_pattern(alloc, program, conditions, i, most)?;
+        }
+    }
+    Ok(most)
+}
+
+// The life of the event type of this place, which has no explicit expiry.
+fn inferred(alloc: Global, program: &Program, ty: usize) -> Result<Bound, NoMemory>
+    requires networks { RulesHaveNetworks program.now }
+    requires event { is_event program.now ty ≡ true }
+    requires unexpired { expiry_of program.now ty ≡ None }
+    ensures { IfOk result (λ life. IsLife program.now ty (limit_of life)) }
+{
+    let mut most = Bound::Finite(0);
+    let rules = program.rules.as_slice();
+    for place in 0..rules.len() {
+        let conditions = rules[place].conditions.as_slice();
+        most = with_rule(alloc, program, conditions, ty, most)?;
+    }
+    Ok(most)
+}
+
+// The life of the type of this place.
+fn life(alloc: Global, program: &Program, place: usize, ty: &TypeInfo) -> Result<Life, NoMemory>
+    requires networks { RulesHaveNetworks program.now }
+    requires at { slice_get program.now.types place ≡ Some ty.now }
+    ensures { IfOk result (IsLifeOf program.now place) }
+{
+    if !ty.event {
+        return Ok(Life::Plain);
+    }
+    if let Some(expiry) = ty.expires {
+        return Ok(Life::Explicit(expiry));
+    }
+    match inferred(alloc, program, place)? {
+        Bound::Finite(most) => Ok(Life::Finite(most)),
+        Bound::Infinite => Ok(Life::Infinite),
+    }
+}
+
+/// The lives of the types of a program, in milliseconds: how long behind its end an event of each can still matter. A life that 64 bits
+/// do not hold is answered as no memory.
+pub fn lives(alloc: Global, program: &Program) -> Result<LifeTable, NoMemory>
+    requires { RulesHaveNetworks program.now }
+    ensures { IfOk result (AreLives program.now) }
+{
+    let types = program.types.as_slice();
+    let mut lives = Vec::with_capacity(alloc, types.len())?;
+    for (place, ty) in types.iter().enumerate() {
+        let life = life(alloc, program, place, ty)?;
+        lives.push(life)?;
+    }
+    Ok(LifeTable {
+        lives: Seq::from_vec(lives),
+    })
+}
