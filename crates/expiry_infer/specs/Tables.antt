@@ -3,33 +3,17 @@ use Rattle.std.specs.Prelude.{◌≡◌, ℕ, Bool, true, false, List, length, S
 use Rattle.fx_base.specs.Lists.{In}
 use Rattle.rule_model.specs.declared.condition.Condition.{Condition}
 use Rattle.rule_model.specs.declared.condition.Condition.TheVariants as condition
-use Rattle.rule_model.specs.declared.life.Life.{Life}
-use Rattle.rule_model.specs.declared.life.Life.TheVariants.{Plain, Explicit, Finite, Infinite}
-use Rattle.rule_model.specs.declared.life.LifeTable.{LifeTable}
 use Rattle.rule_model.specs.declared.program.Program.{Program}
 use Rattle.rule_model.specs.declared.program.Rule.{Rule}
 use Rattle.rule_model.specs.Rows.{pattern_of}
-use Rattle.rule_model.specs.Types.{is_event, expiry_of}
-use Rattle.rule_lives.specs.Lifetimes.{Adds, LivesFor, IsLife}
-use Rattle.rule_lives.specs.Reach.{Limit, finite, infinite, Placed}
+use Rattle.rule_lives.specs.Lifetimes.{Adds, LivesFor}
+use Rattle.rule_lives.specs.Reach.{Limit, Placed}
 use Rattle.expiry_infer.specs.Edges.{HaveNetwork}
 use Rattle.expiry_infer.specs.Tops.{Among}
 
 -- the conditions of each rule have a network
 abbrev pub RulesHaveNetworks : Program → Type 0
 RulesHaveNetworks p = (rule : Rule) → In rule p.rules → HaveNetwork rule.conditions
-
--- what the table says of the type of this place
-abbrev pub IsLifeOf : Program → ℕ → Life → Type 0
-IsLifeOf p ty Plain = is_event p ty ≡ false
-IsLifeOf p ty (Explicit expiry) = (is_event p ty ≡ true) × (expiry_of p ty ≡ Some expiry)
-IsLifeOf p ty (Finite most) = IsLife p ty (finite most)
-IsLifeOf p ty Infinite = IsLife p ty infinite
-
--- the lives of all types, by their places
-pub record AreLives (p : Program) (table : LifeTable) : Type 0 where
-  pub each : length table.lives ≡ length p.types
-  pub lives : (ty : ℕ) (life : Life) → slice_get table.lives ty ≡ Some life → IsLifeOf p ty life
 
 -- ---- the same by places
 

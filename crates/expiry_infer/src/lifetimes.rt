@@ -7,7 +7,8 @@ ghost use Rattle.rule_lives.specs.Lifetimes.{Adds, AddsSome, IsLife, LivesFor, s
 ghost use Rattle.expiry_infer.specs.Edges.{HaveNetwork};
 ghost use Rattle.expiry_infer.specs.Found.{limit_of};
 ghost use Rattle.expiry_infer.specs.Tops.{Among, IsTop};
-ghost use Rattle.expiry_infer.specs.Tables.{placed, binds, AreLives, GivesAt, GivesIn, IsLifeOf, RulesHaveNetworks};
+ghost use Rattle.rule_lives.specs.Keeping.{AreLives, IsLifeOf};
+ghost use Rattle.expiry_infer.specs.Tables.{placed, binds, GivesAt, GivesIn, RulesHaveNetworks};
 
 use crate::limits::{greater, sum, tail};
 use crate::solving::reach;
