@@ -389,8 +389,8 @@ def modifies_event(file: File, before: list[Item], body) -> bool:
 
 
 def retracts_observed(file: File, before: list[Item], body) -> bool:
-    """From stage 7: an action retracts an event of a type that a negative pattern or an accumulate observes."""
-    return file.stage >= 7 and isinstance(body, Rule) and any(t in file.observed for t in types_of_actions(file, body, Retract))
+    """From stage 6: an action retracts an event of a type that a negative pattern or an accumulate observes."""
+    return file.stage >= 6 and isinstance(body, Rule) and any(t in file.observed for t in types_of_actions(file, body, Retract))
 
 
 def window_is_bad(source: Source) -> bool:
