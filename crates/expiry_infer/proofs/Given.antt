@@ -14,11 +14,11 @@ use Rattle.rule_model.specs.declared.program.TypeInfo.{TypeInfo}
 use Rattle.rule_model.specs.declared.test.TimeTest.{TimeTest}
 use Rattle.rule_model.specs.Rows.{pattern_of, HaveOperators}
 use Rattle.rule_model.specs.Types.{is_event_type, expiry_in, is_event, expiry_of}
-use Rattle.rule_lives.specs.Networks.{Occurrence, bindings}
+use Rattle.rule_lives.specs.Networks.{Occurrence, bindings, binds}
 use Rattle.rule_lives.specs.Reach.{Limit, finite, infinite, plus, Placed, SolvesWith, IsReach}
 use Rattle.rule_lives.specs.Lifetimes.{tail, Adds, of_fact, of_event, AddsSome, LivesFor, scope, Gives, IsLife}
 use Rattle.expiry_infer.specs.Edges.{HaveNetwork}
-use Rattle.expiry_infer.specs.Tables.{placed, binds, AddsAt, GivesAt, GivesIn}
+use Rattle.expiry_infer.specs.Tables.{placed, AddsAt, GivesAt, GivesIn}
 use Rattle.expiry_infer.specs.Tops.{Among, IsTop}
 use Rattle.expiry_infer.proofs.Tops.{top_like, top_of_none, top_next, top_skipped}
 

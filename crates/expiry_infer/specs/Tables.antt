@@ -1,8 +1,7 @@
 -- The table of the inferred lives of a program.
-use Rattle.std.specs.Prelude.{◌≡◌, ℕ, Bool, true, false, List, length, Some, slice_get}
+use Rattle.std.specs.Prelude.{◌≡◌, ℕ, List, length, Some, slice_get}
 use Rattle.fx_base.specs.Lists.{In}
 use Rattle.rule_model.specs.declared.condition.Condition.{Condition}
-use Rattle.rule_model.specs.declared.condition.Condition.TheVariants as condition
 use Rattle.rule_model.specs.declared.program.Program.{Program}
 use Rattle.rule_model.specs.declared.program.Rule.{Rule}
 use Rattle.rule_model.specs.Rows.{pattern_of}
@@ -19,13 +18,6 @@ RulesHaveNetworks p = (rule : Rule) → In rule p.rules → HaveNetwork rule.con
 
 abbrev pub placed : ℕ → Condition → Placed
 placed place c = record { place = place; condition = c }
-
--- whether the condition binds a fact
-abbrev pub binds : Condition → Bool
-binds (condition.Plain pattern) = true
-binds (condition.Negated pattern) = false
-binds (condition.Existing pattern) = false
-binds (condition.Folded a) = false
 
 -- what the condition of place j adds to i
 abbrev pub AddsAt : Program → List Condition → Placed → ℕ → Limit → Type 0

@@ -3,12 +3,13 @@ ghost use Rattle.std.specs.Prelude.{◌≡◌, ◌<◌, ◌≤◌, length, slice
 ghost use Rattle.rule_model.specs.declared.condition.Condition.{Condition as AnyCondition};
 ghost use Rattle.rule_model.specs.Rows.{pattern_of};
 ghost use Rattle.rule_model.specs.Types.{is_event, expiry_of};
+ghost use Rattle.rule_lives.specs.Networks.{binds};
 ghost use Rattle.rule_lives.specs.Lifetimes.{Adds, AddsSome, IsLife, LivesFor, scope as scope_of};
 ghost use Rattle.expiry_infer.specs.Edges.{HaveNetwork};
 ghost use Rattle.expiry_infer.specs.Found.{limit_of};
 ghost use Rattle.expiry_infer.specs.Tops.{Among, IsTop};
 ghost use Rattle.rule_lives.specs.Keeping.{AreLives, IsLifeOf};
-ghost use Rattle.expiry_infer.specs.Tables.{placed, binds, GivesAt, GivesIn, RulesHaveNetworks};
+ghost use Rattle.expiry_infer.specs.Tables.{placed, GivesAt, GivesIn, RulesHaveNetworks};
 
 use crate::limits::{greater, sum, tail};
 use crate::solving::reach;

@@ -12,9 +12,8 @@ use Rattle.rule_model.specs.Maturity.{IsPossible}
 use Rattle.rule_model.specs.Rows.{pattern_of}
 use Rattle.rule_model.specs.Tuples.{Tuple, bound_by}
 use Rattle.rule_model.specs.Types.{is_event, is_observed}
-use Rattle.rule_lives.specs.Networks.{bindings}
+use Rattle.rule_lives.specs.Networks.{bindings, binds}
 use Rattle.rule_lives.specs.Reach.{Placed, occurrence_of, SolvesWith}
-use Rattle.rule_lives.specs.Law.{is_plain}
 use Rattle.rule_lives.proofs.Basics.{number_same, number_differs}
 use Rattle.rule_lives.proofs.Still.{Settled}
 use Rattle.rule_lives.proofs.Shifts.{Aged}
@@ -25,9 +24,9 @@ use Rattle.rule_lives.proofs.Limits.{Limits, times_of, HasBound, solves_of}
 pub record Anchor (p : Program) (c n : ℤ) (cs : List Condition) (i : Placed) (t : Tuple) (z : Times) : Type 0 where
   pub limits : Limits p cs i n
   pub on_bound : (k : ℕ) (q : Pattern) → slice_get cs k ≡ Some (Plain q) → is_event p q.ty.0 ≡ true → HasBound p cs t k q
-  pub own : (k : ℕ) (d : Condition) → slice_get cs k ≡ Some d → is_plain d ≡ false → k ≡ i.place → IsPossible p (pattern_of d) (bound_by t) z
+  pub own : (k : ℕ) (d : Condition) → slice_get cs k ≡ Some d → binds d ≡ false → k ≡ i.place → IsPossible p (pattern_of d) (bound_by t) z
   pub there : (sides : ℕ → Times) → sides i.place ≡ z → times_of t.facts sides (occurrence_of cs i) ≡ z
-  pub observed : (k : ℕ) (d : Condition) → slice_get cs k ≡ Some d → is_plain d ≡ false → is_event p (pattern_of d).ty.0 ≡ true → is_observed p (pattern_of d).ty.0 ≡ true
+  pub observed : (k : ℕ) (d : Condition) → slice_get cs k ≡ Some d → binds d ≡ false → is_event p (pattern_of d).ty.0 ≡ true → is_observed p (pattern_of d).ty.0 ≡ true
   pub old : (z.end +ℤ n) <ℤ c
 
 one_there : (cs : List Condition) (k j : ℕ) (d e : Condition) → slice_get cs k ≡ Some d → slice_get cs j ≡ Some e → k ≡ j → d ≡ e
@@ -36,8 +35,8 @@ one_there cs k j d e at_k at_j same =
     let b : Some d ≡ Some e = sym a ∙ at_j in
     cc
 
-plain_not : (q : Pattern) (d : Condition) → d ≡ Plain q → is_plain d ≡ false → ⊥
-plain_not q d e f = let g : true ≡ false = ap is_plain (sym e) ∙ f in absurd cc
+plain_not : (q : Pattern) (d : Condition) → d ≡ Plain q → binds d ≡ false → ⊥
+plain_not q d e f = let g : true ≡ false = ap binds (sym e) ∙ f in absurd cc
 
 choose : (b : Bool) (z y : Times) → b ≡ true → cond b z y ≡ z
 choose true z y e = refl
@@ -74,7 +73,7 @@ module _ (p : Program) (c n : ℤ) (cs : List Condition) (i : Placed) (t : Tuple
         | inr e ↦ absurd (plain_not q d (one_there cs k j d (Plain q) at_k at_j e) side_k)
       ]))
 
-  aged_side : (j : ℕ) (d : Condition) → slice_get cs j ≡ Some d → is_plain d ≡ false → (j ≡ i.place → ⊥)
+  aged_side : (j : ℕ) (d : Condition) → slice_get cs j ≡ Some d → binds d ≡ false → (j ≡ i.place → ⊥)
       → ((y : Times) (sides : ℕ → Times) → sides j ≡ y → times_of t.facts sides (occurrence_of cs (record { place = j; condition = d })) ≡ y) → Aged p c (pattern_of d) t
   aged_side j d at_j side_j apart stands =
       let event = anchor.limits.events (record { place = j; condition = d }) at_j in
@@ -93,7 +92,7 @@ module _ (p : Program) (c n : ℤ) (cs : List Condition) (i : Placed) (t : Tuple
             ]));
       }
 
-  pub aged_at : (j : ℕ) (d : Condition) → slice_get cs j ≡ Some d → (is_plain d ≡ false → j ≡ i.place → ⊥) → AgedAt p c t (bindings (take j cs)) d
+  pub aged_at : (j : ℕ) (d : Condition) → slice_get cs j ≡ Some d → (binds d ≡ false → j ≡ i.place → ⊥) → AgedAt p c t (bindings (take j cs)) d
   aged_at j (Plain q) at_j apart = (anchor.limits.events (record { place = j; condition = Plain q }) at_j, λ f is_f. settled_bound j q f at_j is_f)
   aged_at j (Negated q) at_j apart = aged_side j (Negated q) at_j refl (apart refl) (λ y sides e. e)
   aged_at j (Existing q) at_j apart = aged_side j (Existing q) at_j refl (apart refl) (λ y sides e. e)

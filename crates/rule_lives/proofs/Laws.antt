@@ -24,10 +24,10 @@ use Rattle.rule_model.specs.Types.{is_event, is_point, is_observed}
 use Rattle.rule_model.proofs.Listed.{both}
 use Rattle.rule_model.proofs.RuleOf.{in_place}
 use Rattle.rule_world.specs.Worlds.{snapshot, moved}
-use Rattle.rule_lives.specs.Networks.{bindings, occurrence}
+use Rattle.rule_lives.specs.Networks.{bindings, occurrence, binds}
 use Rattle.rule_lives.specs.Reach.{finite, infinite, Placed}
 use Rattle.rule_lives.specs.Lifetimes.{scope, IsLife}
-use Rattle.rule_lives.specs.Law.{Made, ObservedAreFlagged, is_plain, OfRule, OfPrefix}
+use Rattle.rule_lives.specs.Law.{Made, ObservedAreFlagged, OfRule, OfPrefix}
 use Rattle.rule_lives.proofs.Basics.{below, number_same}
 use Rattle.rule_lives.proofs.Shifts.{of_counted, Timed, timed_in}
 use Rattle.rule_lives.proofs.Transfers.{Turns, turned, transfer}
@@ -51,14 +51,14 @@ any_here test x (y ∷ xs) (inr i) e = right_or (test y) (list_any test xs) (any
     right_or true b k = refl
     right_or false b k = k
 
-side_observes : (d : Condition) → is_plain d ≡ false → observes d ≡ true
+side_observes : (d : Condition) → binds d ≡ false → observes d ≡ true
 side_observes (Plain q) e = absurd cc
 side_observes (Negated q) e = refl
 side_observes (Existing q) e = refl
 side_observes (Folded a) e = refl
 
 -- an event type that a condition of a rule observes is one that the program calls observed
-observed_of : (p : Program) (rule : Rule) → ObservedAreFlagged p → In rule p.rules → (k : ℕ) (d : Condition) → slice_get rule.conditions k ≡ Some d → is_plain d ≡ false
+observed_of : (p : Program) (rule : Rule) → ObservedAreFlagged p → In rule p.rules → (k : ℕ) (d : Condition) → slice_get rule.conditions k ≡ Some d → binds d ≡ false
     → is_event p (pattern_of d).ty.0 ≡ true → is_observed p (pattern_of d).ty.0 ≡ true
 observed_of p rule flagged in_rules k d at_k side_k event =
     flagged (pattern_of d).ty.0 ∙ both _ _ event
@@ -94,11 +94,11 @@ bound_of p c s o cs tuple t h k q at_k event =
     let m : 0 + bindings (take k cs) ≡ bindings (take k cs) = omega arith in
     (r.0, ap (slice_get tuple.facts) (sym m) ∙ r.1, possible_of p c s o tuple q r.0 t event r.2)
 
-not_side : (cs : List Condition) (k i : ℕ) (d : Condition) (q : Pattern) → slice_get cs k ≡ Some d → slice_get cs i ≡ Some (Plain q) → is_plain d ≡ false → k ≡ i → ⊥
+not_side : (cs : List Condition) (k i : ℕ) (d : Condition) (q : Pattern) → slice_get cs k ≡ Some d → slice_get cs i ≡ Some (Plain q) → binds d ≡ false → k ≡ i → ⊥
 not_side cs k i d q at_k at_i side_k e =
     let a : Some d ≡ Some (Plain q) = sym at_k ∙ ap (slice_get cs) e ∙ at_i in
     let b : d ≡ Plain q = cc in
-    let f : true ≡ false = ap is_plain (sym b) ∙ side_k in
+    let f : true ≡ false = ap binds (sym b) ∙ side_k in
     absurd cc
 
 whole_rule : (p : Program) (c n : ℤ) (s o : Snapshot) (rule : Rule) (tuple : Tuple) (x : Fact) (i : ℕ) (q : Pattern) → ObservedAreFlagged p → Turns p c tuple s o → In rule p.rules
@@ -179,20 +179,20 @@ onward [] (suc q) k d e = absurd (none_at d e)
 onward (c ∷ cs) (suc q) zero d e = (e, omega arith, refl)
 onward (c ∷ cs) (suc q) (suc k) d e = let o = onward cs q k d e in (o.0, omega (arith, o.1), one_more c (take k (take (suc q) cs)) (take k (take q cs)) o.2)
 
-side_scope : (cs : List Condition) (i : ℕ) (c : Condition) → is_plain c ≡ false → scope cs (record { place = i; condition = c }) ≡ take (suc i) cs
+side_scope : (cs : List Condition) (i : ℕ) (c : Condition) → binds c ≡ false → scope cs (record { place = i; condition = c }) ≡ take (suc i) cs
 side_scope cs i (Plain q) e = absurd cc
 side_scope cs i (Negated q) e = refl
 side_scope cs i (Existing q) e = refl
 side_scope cs i (Folded a) e = refl
 
-side_there : (cs : List Condition) (i : ℕ) (c : Condition) (facts : List Fact) (z : Times) → is_plain c ≡ false → (sides : ℕ → Times) → sides i ≡ z → times_of facts sides (occurrence cs i c) ≡ z
+side_there : (cs : List Condition) (i : ℕ) (c : Condition) (facts : List Fact) (z : Times) → binds c ≡ false → (sides : ℕ → Times) → sides i ≡ z → times_of facts sides (occurrence cs i c) ≡ z
 side_there cs i (Plain q) facts z e sides h = absurd cc
 side_there cs i (Negated q) facts z e sides h = h
 side_there cs i (Existing q) facts z e sides h = h
 side_there cs i (Folded a) facts z e sides h = h
 
 whole_prefix : (p : Program) (c n : ℤ) (s o : Snapshot) (rule : Rule) (tuple : Tuple) (x : Fact) (q : ℕ) (d : Condition) → ObservedAreFlagged p → Turns p c tuple s o → In rule p.rules
-    → Made p s (take q rule.conditions) tuple → slice_get rule.conditions q ≡ Some d → is_plain d ≡ false → IsPossible p (pattern_of d) (bound_by tuple) x.times
+    → Made p s (take q rule.conditions) tuple → slice_get rule.conditions q ≡ Some d → binds d ≡ false → IsPossible p (pattern_of d) (bound_by tuple) x.times
     → x.ty.0 ≡ (pattern_of d).ty.0 → (pattern_of d).window ≡ Whole → IsLife p x.ty.0 (finite n) → (x.times.end +ℤ n) <ℤ c → Made p o (take q rule.conditions) tuple
 whole_prefix p c n s o rule tuple x q d flagged t in_rules h at_q side_q possible ty is_whole life old =
     let cs = rule.conditions in
@@ -219,7 +219,7 @@ whole_prefix p c n s o rule tuple x q d flagged t in_rules h at_q side_q possibl
 
 prefix_within : (p : Program) (c n : ℤ) (s o v : Snapshot) (rule : Rule) (tuple : Tuple) (x : Fact) (q : ℕ) (d : Condition) → ObservedAreFlagged p → Turns p c tuple s o → c ≤ℤ v.clock
     → (In x v.facts → Timed p x) → In rule p.rules → Made p s (take q rule.conditions) tuple → (Made p o (take q rule.conditions) tuple → ⊥)
-    → slice_get rule.conditions q ≡ Some d → is_plain d ≡ false → In x (passing p (pattern_of d) v tuple) → IsLife p x.ty.0 (finite n) → c ≤ℤ (x.times.end +ℤ n)
+    → slice_get rule.conditions q ≡ Some d → binds d ≡ false → In x (passing p (pattern_of d) v tuple) → IsLife p x.ty.0 (finite n) → c ≤ℤ (x.times.end +ℤ n)
 prefix_within p c n s o v rule tuple x q d flagged t from timed in_rules h not_made at_q side_q passes life =
     by_lt_z (x.times.end +ℤ n) c (λ old.
     let k = of_counted p (pattern_of d) v tuple x passes in

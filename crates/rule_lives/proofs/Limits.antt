@@ -21,10 +21,9 @@ use Rattle.rule_model.specs.Tests.{time_holds_with, time_holds, times_hold}
 use Rattle.rule_model.specs.Tuples.{Tuple, bound_by}
 use Rattle.rule_model.specs.Types.{is_event}
 use Rattle.rule_model.proofs.Listed.{both, both_of}
-use Rattle.rule_lives.specs.Networks.{Occurrence, bound, aside, bindings, is_met, Meets, Solves}
+use Rattle.rule_lives.specs.Networks.{Occurrence, bound, aside, bindings, is_met, Meets, Solves, binds}
 use Rattle.rule_lives.specs.Reach.{Limit, finite, infinite, Below, Placed, distance, SolvesWith}
 use Rattle.rule_lives.specs.Lifetimes.{tail, Adds, of_fact, of_event, scope, LivesFor, IsLife}
-use Rattle.rule_lives.specs.Law.{is_plain}
 
 -- ---- lives
 
@@ -121,7 +120,7 @@ either k i j (inr (inr none)) = absurd none
 
 pub solves_of : (p : Program) (cs : List Condition) (i j : ℕ) (t : Tuple) (sides : ℕ → Times)
     → ((k : ℕ) (q : Pattern) → slice_get cs k ≡ Some (Plain q) → is_event p q.ty.0 ≡ true → HasBound p cs t k q)
-    → ((k : ℕ) (c : Condition) → slice_get cs k ≡ Some c → is_plain c ≡ false → (k ≡ i) ⊎ (k ≡ j) → IsPossible p (pattern_of c) (bound_by t) (sides k))
+    → ((k : ℕ) (c : Condition) → slice_get cs k ≡ Some c → binds c ≡ false → (k ≡ i) ⊎ (k ≡ j) → IsPossible p (pattern_of c) (bound_by t) (sides k))
     → Solves p cs (i ∷ j ∷ []) (times_of t.facts sides)
 solves_of p cs i j t sides on_bound on_side k (Plain q) at_k member =
     let h = on_bound k q at_k member in

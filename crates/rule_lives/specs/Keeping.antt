@@ -19,9 +19,10 @@ use Rattle.rule_model.specs.Types.{is_event, expiry_of}
 use Rattle.rule_world.specs.Lawful.{IsLawful}
 use Rattle.rule_world.specs.Programs.{UseOperators}
 use Rattle.rule_world.specs.Worlds.{World, snapshot, pending, moved, stepped, step_fault}
+use Rattle.rule_lives.specs.Networks.{binds}
 use Rattle.rule_lives.specs.Reach.{finite, infinite}
 use Rattle.rule_lives.specs.Lifetimes.{IsLife}
-use Rattle.rule_lives.specs.Law.{Made, ObservedAreFlagged, is_plain}
+use Rattle.rule_lives.specs.Law.{Made, ObservedAreFlagged}
 
 -- ---- the table of lives
 
@@ -73,7 +74,7 @@ MatchNamesKept = (p : Program) (table : LifeTable) (w : World) (step : Step) →
 abbrev pub TupleMeetsKept : Type 0
 TupleMeetsKept = (p : Program) (table : LifeTable) (w : World) (step : Step) → ObservedAreFlagged p → AreLives p table → IsLawful p w
     → step_fault p w step ≡ None
-    → (rule : Rule) → In rule p.rules → (q : ℕ) (c : Condition) → slice_get rule.conditions q ≡ Some c → is_plain c ≡ false
+    → (rule : Rule) → In rule p.rules → (q : ℕ) (c : Condition) → slice_get rule.conditions q ≡ Some c → binds c ≡ false
     → (tuple : Tuple) → Comes p w step (take q rule.conditions) tuple
     → (f : Fact) → In f (passing p (pattern_of c) (snapshot (moved p w step)) tuple) → In f w.facts → IsKept p table w f
 

@@ -1,10 +1,9 @@
 -- The law of changes: what comes or goes in a step names only events that are within their inferred lives (Walzer, Breddin, Groch 2008;
 -- Drools Fusion 5 User Guide, memory management for events, inferred expiration offset).
-use Rattle.std.specs.Prelude.{◌≡◌, ◌&&◌, ◌⊎◌, ℕ, ℤ, ◌+ℤ◌, ◌≤ℤ◌, Bool, true, false, List, take, Some, None, slice_get}
+use Rattle.std.specs.Prelude.{◌≡◌, ◌&&◌, ◌⊎◌, ℕ, ℤ, ◌+ℤ◌, ◌≤ℤ◌, false, List, take, Some, None, slice_get}
 use Rattle.fx_base.specs.Lists.{In}
 use Rattle.fx_base.specs.declared.fact.Fact.{Fact}
 use Rattle.rule_model.specs.declared.condition.Condition.{Condition}
-use Rattle.rule_model.specs.declared.condition.Condition.TheVariants.{Plain, Negated, Existing, Folded}
 use Rattle.rule_model.specs.declared.program.Program.{Program}
 use Rattle.rule_model.specs.declared.program.Rule.{Rule}
 use Rattle.rule_model.specs.declared.step.Step.{Step}
@@ -17,6 +16,7 @@ use Rattle.rule_model.specs.Tuples.{Tuple, empty_tuple}
 use Rattle.rule_model.specs.Types.{is_event, is_observed}
 use Rattle.rule_world.specs.Worlds.{World, snapshot, moved, step_fault}
 use Rattle.rule_world.specs.Lawful.{IsLawful}
+use Rattle.rule_lives.specs.Networks.{binds}
 use Rattle.rule_lives.specs.Reach.{finite}
 use Rattle.rule_lives.specs.Lifetimes.{IsLife}
 
@@ -55,19 +55,12 @@ OfRule = (p : Program) (w : World) (step : Step) → ObservedAreFlagged p → Is
     → (x : Fact) → In x tuple.facts → (n : ℤ) → IsLife p x.ty.0 (finite n)
     → w.clock ≤ℤ (x.times.end +ℤ n)
 
--- whether the condition binds a fact
-abbrev pub is_plain : Condition → Bool
-is_plain (Plain pattern) = true
-is_plain (Negated pattern) = false
-is_plain (Existing pattern) = false
-is_plain (Folded a) = false
-
 -- An event that passes for a `not`, `exists` or `accumulate` is within its life where a tuple of the conditions before that one comes or
 -- goes.
 abbrev pub OfPrefix : Type 0
 OfPrefix = (p : Program) (w : World) (step : Step) → ObservedAreFlagged p → IsLawful p w → step_fault p w step ≡ None
     → (rule : Rule) → In rule p.rules → (tuple : Tuple) → KeepsTuple step tuple
-    → (q : ℕ) (c : Condition) → slice_get rule.conditions q ≡ Some c → is_plain c ≡ false
+    → (q : ℕ) (c : Condition) → slice_get rule.conditions q ≡ Some c → binds c ≡ false
     → Differs p (snapshot w) (snapshot (moved p w step)) (take q rule.conditions) tuple
     → (x : Fact) → In x (passing p (pattern_of c) (snapshot (moved p w step)) tuple) → (n : ℤ) → IsLife p x.ty.0 (finite n)
     → w.clock ≤ℤ (x.times.end +ℤ n)

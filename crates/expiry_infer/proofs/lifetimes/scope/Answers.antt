@@ -1,6 +1,6 @@
 use Rattle.std.proofs.Common.{ap, refl, sym, ◌∙◌}
 use Rattle.std.proofs.lemmas.Option.{slice_get_read}
-use Rattle.expiry_infer.specs.Tables.{binds}
+use Rattle.rule_lives.specs.Networks.{binds}
 use Rattle.expiry_infer.proofs.Given.{the_same, first_scope}
 use Rattle.expiry_infer.proofs.lifetimes.scope.Goals as goal
 
