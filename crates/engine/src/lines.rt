@@ -9,7 +9,7 @@ pub type Lines = Seq<OutLine>;
 pub enum OutLine {
     /// A fact was inserted.
     New { id: FactId, ty: TypeId },
-    /// A rule fired for the facts of its conditions, in their order.
+    /// A rule fired for what its conditions bound, in their order.
     Fire { rule: RuleId, cells: Seq<Cell> },
     /// The change or the action had this fault and changed nothing.
     Fault(Code),
@@ -18,7 +18,10 @@ pub enum OutLine {
 /// What a condition bound for a firing.
 #[derive(Clone, Copy, Debug, PartialEq, Eq)]
 pub enum Cell {
+    /// The fact of a pattern.
     Fact(FactId),
+    /// The result of an accumulate.
+    Value(i64),
 }
 
 /// What a firing answers.
