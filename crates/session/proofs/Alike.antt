@@ -1,7 +1,6 @@
 -- Snapshots with the same members at the same clock have the same matches.
 use Rattle.std.proofs.Common.{◌≡◌, inl, inr, ℕ, ◌+◌, ◌||◌, ◌&&◌, ◌==◌, Bool, true, false, List, [], ◌∷◌, map, refl, sym, ◌∙◌, ap}
 use Rattle.std.specs.Ordering.{eq_by_cmp}
-use Rattle.std.proofs.lemmas.List.Folds.{list_any-append}
 use Rattle.std.proofs.lemmas.Map.Views.{tells_apart}
 use Rattle.fx_base.specs.Lists.{In}
 use Rattle.row_delta.specs.declared.row.Row.{Row}
@@ -11,14 +10,14 @@ use Rattle.rule_model.specs.declared.condition.Condition.{Condition}
 use Rattle.rule_model.specs.declared.matched.Match.{Match}
 use Rattle.rule_model.specs.declared.program.Program.{Program}
 use Rattle.rule_model.specs.declared.program.Rule.{Rule}
-use Rattle.rule_model.specs.Matches.{match_of, match_cmp, matches_from, matches_of, rows_by_rule, has_match}
+use Rattle.rule_model.specs.Matches.{matches_of, has_match}
 use Rattle.rule_model.specs.Rows.{rows}
 use Rattle.rule_model.specs.Distinct.{HaveDistinctTags}
 use Rattle.rule_model.specs.Snapshots.{Snapshot}
 use Rattle.rule_model.proofs.Firsts.{or_split}
 use Rattle.rule_model.proofs.Named.{AllOf}
 use Rattle.rule_model.proofs.Order.{rows_over}
-use Rattle.session.proofs.Rules.{with_rule}
+use Rattle.session.proofs.Rules.{same_found}
 
 pub or_left : (a b : Bool) → a ≡ true → (a || b) ≡ true
 or_left true b e = refl
@@ -37,7 +36,7 @@ pub has_in : (r : Row) (rs : List Row) → has rs r ≡ true → In r rs
 has_in r [] e = absurd (let h : false ≡ true = e in cc)
 has_in r (s ∷ rs) e = elim (or_split (eq_by_cmp row_cmp r s) (has rs r) e) [ inl h ↦ inl (tells_apart row_exact r s h) | inr h ↦ inr (has_in r rs h) ]
 
-same_bool : (a b : Bool) → (a ≡ true → b ≡ true) → (b ≡ true → a ≡ true) → a ≡ b
+pub same_bool : (a b : Bool) → (a ≡ true → b ≡ true) → (b ≡ true → a ≡ true) → a ≡ b
 same_bool true b f g = sym (f refl)
 same_bool false true f g = g refl
 same_bool false false f g = refl
@@ -48,16 +47,9 @@ module _ (p : Program) (s o : Snapshot) (clock : o.clock ≡ s.clock) (ds : Have
       same_bool _ _ (λ e. in_has row (rows p o cs) (rows_over p s o clock ds dt (λ f. (a f, b f)) cs row (has_in row (rows p s cs) e)))
       (λ e. in_has row (rows p s cs) (rows_over p o s (sym clock) dt ds (λ f. (b f, a f)) cs row (has_in row (rows p o cs) e)))
 
-  same_from : (k : ℕ) (rules : List Rule) (m : Match) → has_match (matches_from k (rows_by_rule p s rules)) m ≡ has_match (matches_from k (rows_by_rule p o rules)) m
-  unfolding matches_from
-  same_from k [] m = refl
-  same_from k (rule ∷ rules) m =
-      list_any-append (eq_by_cmp match_cmp m) (map (match_of k) (rows p s rule.conditions)) (matches_from (k + 1) (rows_by_rule p s rules))
-      ∙ ap (λ z. z || has_match (matches_from (k + 1) (rows_by_rule p s rules)) m)
-      (with_rule k (rows p s rule.conditions) m (k == m.rule.0) refl ∙ ap (λ z. k == m.rule.0 && z) (same_row rule.conditions m.row)
-      ∙ sym (with_rule k (rows p o rule.conditions) m (k == m.rule.0) refl))
-      ∙ ap (λ z. has_match (map (match_of k) (rows p o rule.conditions)) m || z) (same_from (k + 1) rules m)
-      ∙ sym (list_any-append (eq_by_cmp match_cmp m) (map (match_of k) (rows p o rule.conditions)) (matches_from (k + 1) (rows_by_rule p o rules)))
+  -- the rules have the same rows
+  pub same_rows : (rule : Rule) (row : Row) → has (rows p s rule.conditions) row ≡ has (rows p o rule.conditions) row
+  same_rows rule row = same_row rule.conditions row
 
   pub same_matches : (rules : List Rule) (m : Match) → has_match (matches_of p s rules) m ≡ has_match (matches_of p o rules) m
-  same_matches rules m = same_from 0 rules m
+  same_matches rules m = same_found (λ (rule : Rule). rows p s rule.conditions) (λ (rule : Rule). rows p o rule.conditions) same_rows rules m

@@ -26,10 +26,8 @@ use Rattle.rule_model.proofs.Firsts.{or_split}
 use Rattle.rule_model.proofs.Listed.{in_map, of_map, in_flat_map, of_flat_map}
 use Rattle.rule_model.proofs.Named.{AllOf, of_filter}
 use Rattle.rule_model.proofs.Order.{in_filter, passed}
-use Rattle.rule_world.specs.Programs.{is_simple_rule}
 use Rattle.rule_world.proofs.Fresh.{and_parts}
-use Rattle.session.proofs.Alike.{in_has, has_in, or_left, or_right}
-use Rattle.session.proofs.Rules.{with_rule}
+use Rattle.session.proofs.Alike.{in_has, has_in, same_bool}
 
 -- every fact is inside where there is no window
 inside_whole : (p : Program) (q : Pattern) (w : WindowTag) (s : Snapshot) (f : Fact) → is_whole w ≡ true → is_inside p q w s.clock s.facts f ≡ true
@@ -58,34 +56,12 @@ module _ (p : Program) (s o : Snapshot) (candidate : (q : Pattern) → is_whole 
       let r = of_flat_map (tuples p s cs) made (extended p s c t) i in
       in_flat_map (tuples p o cs) r.0 made (extended p o c t) (extended_over c t r.0 both.0 r.1) (tuples_over cs r.0 made both.1 r.2)
 
-  rows_over : (cs : List Condition) (row : Row) → are_simple cs ≡ true → has (rows p s cs) row ≡ true → has (rows p o cs) row ≡ true
+  pub rows_over : (cs : List Condition) (row : Row) → are_simple cs ≡ true → has (rows p s cs) row ≡ true → has (rows p o cs) row ≡ true
   unfolding rows
   rows_over cs row simple e =
       let r = of_map row_of row (tuples p s cs empty_tuple) (has_in row (rows p s cs) e) in
       in_has row (rows p o cs)
       (subst (λ (z : Row). In z (map row_of (tuples p o cs empty_tuple))) r.2 (in_map row_of r.0 (tuples p o cs empty_tuple) (tuples_over cs empty_tuple r.0 simple r.1)))
-
-  both_on : (t a b : Bool) → (a ≡ true → b ≡ true) → (t && a) ≡ true → (t && b) ≡ true
-  both_on true a b h e = h e
-  both_on false a b h e = e
-
-  from_over : (k : ℕ) (rules : List Rule) (m : Match) → list_all is_simple_rule rules ≡ true → has_match (matches_from k (rows_by_rule p s rules)) m ≡ true
-      → has_match (matches_from k (rows_by_rule p o rules)) m ≡ true
-  unfolding matches_from
-  from_over k [] m simple e = e
-  from_over k (rule ∷ rules) m simple e =
-      let both = and_parts (is_simple_rule rule) (list_all is_simple_rule rules) simple in
-      list_any-append (eq_by_cmp match_cmp m) (map (match_of k) (rows p o rule.conditions)) (matches_from (k + 1) (rows_by_rule p o rules))
-      ∙ elim (or_split _ _ (sym (list_any-append (eq_by_cmp match_cmp m) (map (match_of k) (rows p s rule.conditions)) (matches_from (k + 1) (rows_by_rule p s rules))) ∙ e)) [
-        | inl h ↦ or_left _ _ (
-            with_rule k (rows p o rule.conditions) m (k == m.rule.0) refl
-            ∙ both_on (k == m.rule.0) (has (rows p s rule.conditions) m.row) (has (rows p o rule.conditions) m.row) (rows_over rule.conditions m.row both.0)
-            (sym (with_rule k (rows p s rule.conditions) m (k == m.rule.0) refl) ∙ h))
-        | inr h ↦ or_right _ _ (from_over (k + 1) rules m both.1 h)
-      ]
-
-  pub matches_over : (rules : List Rule) (m : Match) → list_all is_simple_rule rules ≡ true → has_match (matches_of p s rules) m ≡ true → has_match (matches_of p o rules) m ≡ true
-  matches_over rules m simple e = from_over 0 rules m simple e
 
 -- ---- more facts
 
@@ -97,10 +73,10 @@ more_candidates p s o same all q whole f i =
     (ap (λ clock. fits p q clock f && is_inside p q q.window o.clock o.facts f) same ∙ ap (λ b. fits p q s.clock f && b) inside ∙ ap (λ b. b && true) fit)
     (all f (of_filter (is_candidate p q s) f s.facts i))
 
--- matches stay where facts are added
-pub matches_stay : (p : Program) (s o : Snapshot) → o.clock ≡ s.clock → AllOf o.facts s.facts → (rules : List Rule) (m : Match) → list_all is_simple_rule rules ≡ true
-    → has_match (matches_of p s rules) m ≡ true → has_match (matches_of p o rules) m ≡ true
-matches_stay p s o same all rules m simple e = matches_over p s o (more_candidates p s o same all) rules m simple e
+-- rows stay where facts are added
+pub rows_stay : (p : Program) (s o : Snapshot) → o.clock ≡ s.clock → AllOf o.facts s.facts → (cs : List Condition) (row : Row) → are_simple cs ≡ true
+    → has (rows p s cs) row ≡ true → has (rows p o cs) row ≡ true
+rows_stay p s o same all cs row simple e = rows_over p s o (more_candidates p s o same all) cs row simple e
 
 -- ---- another clock
 
@@ -119,13 +95,8 @@ clock_candidates p s o same present q whole f i =
     ∙ ap (λ b. b && true) rest)
     there
 
-same_bool : (a b : Bool) → (a ≡ true → b ≡ true) → (b ≡ true → a ≡ true) → a ≡ b
-same_bool true b f g = sym (f refl)
-same_bool false true f g = g refl
-same_bool false false f g = refl
-
--- facts that are present at two clocks make the same matches at both
-pub matches_at_clocks : (p : Program) (s o : Snapshot) → o.facts ≡ s.facts → AllPresent p s.clock s.facts → AllPresent p o.clock o.facts → (rules : List Rule) (m : Match) → list_all is_simple_rule rules ≡ true
-    → has_match (matches_of p s rules) m ≡ has_match (matches_of p o rules) m
-matches_at_clocks p s o same here there rules m simple =
-    same_bool _ _ (matches_over p s o (clock_candidates p s o same there) rules m simple) (matches_over p o s (clock_candidates p o s (sym same) here) rules m simple)
+-- facts that are present at two clocks make the same rows at both
+pub rows_at_clocks : (p : Program) (s o : Snapshot) → o.facts ≡ s.facts → AllPresent p s.clock s.facts → AllPresent p o.clock o.facts → (cs : List Condition) (row : Row) → are_simple cs ≡ true
+    → has (rows p s cs) row ≡ has (rows p o cs) row
+rows_at_clocks p s o same here there cs row simple =
+    same_bool _ _ (rows_over p s o (clock_candidates p s o same there) cs row simple) (rows_over p o s (clock_candidates p o s (sym same) here) cs row simple)

@@ -142,7 +142,7 @@ answers p w t lines o = FiringAnswers (fires_with p w o) (Yes lines) w (Standing
 
 pub yes_fire : (p : Program) (k t : Contents) (w : World) (plan : List (Result Step Code)) (lines : List OutLine) (o : Option Match) → Some plan ≡ plan_of p k o → Standing p k w → o ≡ top_of k.agenda
     → ((m : Match) → Some m ≡ top_of k.agenda → Standing p t (does_all p (marked w m) plan).1)
-    → ((m : Match) → Some m ≡ top_of k.agenda → lines ≡ fire_line m ∷ [] ++ (does_all p (marked w m) plan).0)
+    → ((m : Match) → Some m ≡ top_of k.agenda → lines ≡ fire_line p m ∷ [] ++ (does_all p (marked w m) plan).0)
     → answers p w t lines (first_pending p w)
 yes_fire p k t w plan lines None e st top stands written = absurd (cc)
 yes_fire p k t w plan lines (Some m) e st top stands written =
@@ -151,4 +151,4 @@ yes_fire p k t w plan lines (Some m) e st top stands written =
     let given : plan ≡ planned k.facts m.row actions = cc in
     let same : plan ≡ wanted (present p w) m.row actions = given ∙ planned_wanted p k w m.row actions st in
     subst (answers p w t lines) (sym first_is)
-    (ap Yes (written m top ∙ ap (λ z. fire_line m ∷ [] ++ (does_all p (marked w m) z).0) same), subst (λ z. Standing p t (does_all p (marked w m) z).1) same (stands m top))
+    (ap Yes (written m top ∙ ap (λ z. fire_line p m ∷ [] ++ (does_all p (marked w m) z).0) same), subst (λ z. Standing p t (does_all p (marked w m) z).1) same (stands m top))

@@ -143,7 +143,7 @@ abbrev pub FiresInto : Program → Contents → List (Result Step Code) → Cont
 FiresInto p k plan t = (v : World) (m : Match) → Standing p k v → Some m ≡ top_of k.agenda → AllFit p v plan → Standing p t (does_all p (marked v m) plan).1
 
 abbrev pub WritesFiring : Program → Contents → List (Result Step Code) → List OutLine → Type 0
-WritesFiring p k plan lines = (v : World) (m : Match) → Standing p k v → Some m ≡ top_of k.agenda → AllFit p v plan → lines ≡ fire_line m ∷ [] ++ (does_all p (marked v m) plan).0
+WritesFiring p k plan lines = (v : World) (m : Match) → Standing p k v → Some m ≡ top_of k.agenda → AllFit p v plan → lines ≡ fire_line p m ∷ [] ++ (does_all p (marked v m) plan).0
 
 module _ (p : Program) (lives : LifeTable) (k : Contents) (some : StandsForSome p lives k) where
   module _ (s : Shown) (e : shown p lives k ≡ s) where
@@ -160,7 +160,7 @@ module _ (p : Program) (lives : LifeTable) (k : Contents) (some : StandsForSome 
 
     -- of a match that fires first
     module _ (m : Match) (top : Some m ≡ top_of k.agenda) (plan : List (Result Step Code)) (planned_is : plan ≡ planned k.facts m.row (actions_of (slice_get p.rules m.rule.0))) where
-      of_rule : (rule : Rule) → slice_get p.rules m.rule.0 ≡ Some rule → are_known p (fire_line m ∷ [] ++ (does_all p (marked some.world m) plan).0) ≡ true
+      of_rule : (rule : Rule) → slice_get p.rules m.rule.0 ≡ Some rule → are_known p (fire_line p m ∷ [] ++ (does_all p (marked some.world m) plan).0) ≡ true
       unfolding is_typed
       of_rule rule there =
           let fits = all_of (rule_fits p.types) p.rules rule some.runnable.typed (in_place p.rules m.rule.0 rule there) in
@@ -169,7 +169,7 @@ module _ (p : Program) (lives : LifeTable) (k : Contents) (some : StandsForSome 
           (found_within p.rules m.rule.0 rule there)
           (all_known p (marked some.world m) plan (λ s i. planned_known p k.facts m.row rule fits s (subst (In (Ok s)) is i)))
 
-      first_known : are_known p (fire_line m ∷ [] ++ (does_all p (marked some.world m) plan).0) ≡ true
+      first_known : are_known p (fire_line p m ∷ [] ++ (does_all p (marked some.world m) plan).0) ≡ true
       first_known =
           let is_match = (and_parts (has_match (matches p (snapshot some.world)) m) (not (has_match some.world.fired m))
           (sym (has_pending p some.world m) ∙ stands_pending p k some.world m some.stands top)).0 in
@@ -208,5 +208,5 @@ module _ (p : Program) (lives : LifeTable) (k : Contents) (some : StandsForSome 
   pub some_fired : (t : Contents) (plan : List (Result Step Code)) → Some plan ≡ plan_of p k (top_of k.agenda) → FiresInto p k plan t → StandsForSome p lives t
   some_fired t plan own next = some_fired_by t plan (top_of k.agenda) refl own next
 
-pub some_at_start : (p : Program) (lives : LifeTable) (k : Contents) → IsRunnable p → IsTable p lives → k ≡ start p.rules → StandsForSome p lives k
-some_at_start p lives k runnable table e = record { runnable = runnable; table = table; world = empty_world; stands = empty_stands p k runnable e }
+pub some_at_start : (p : Program) (lives : LifeTable) (k : Contents) → IsRunnable p → IsTable p lives → Standing p k empty_world → StandsForSome p lives k
+some_at_start p lives k runnable table stands = record { runnable = runnable; table = table; world = empty_world; stands = stands }

@@ -1,5 +1,5 @@
 -- Matches, rule by rule, and what the differences of the rules do to an agenda.
-use Rattle.std.proofs.Common.{◌≡◌, ℕ, ◌+◌, ◌<◌, ◌≤◌, ◌==◌, ◌&&◌, ◌||◌, not, Bool, true, false, List, [], ◌∷◌, ◌++◌, map, length, take, get_or, refl, sym, ◌∙◌, ap, subst, arith}
+use Rattle.std.proofs.Common.{◌≡◌, ℕ, ◌+◌, ◌<◌, ◌≤◌, zero, suc, ◌==◌, ◌&&◌, ◌||◌, not, Bool, true, false, List, [], ◌∷◌, ◌++◌, map, length, take, get_or, slice_get, Option, Some, None, refl, sym, ◌∙◌, ap, subst, arith}
 use Rattle.std.specs.Ordering.{eq_by_cmp}
 use Rattle.std.proofs.lemmas.Bool.Decides.{nat_tests}
 use Rattle.std.proofs.lemmas.Grind.{common_steps}
@@ -10,14 +10,13 @@ use Rattle.row_delta.specs.declared.delta.Delta.{Delta}
 use Rattle.row_delta.specs.Differences.{IsBetween}
 use Rattle.row_delta.specs.Rows.{row_cmp, has}
 use Rattle.rule_model.specs.declared.matched.Match.{Match}
-use Rattle.rule_model.specs.declared.program.Program.{Program}
 use Rattle.rule_model.specs.declared.program.Rule.{Rule}
-use Rattle.rule_model.specs.Rows.{rows}
-use Rattle.rule_model.specs.Snapshots.{Snapshot}
-use Rattle.rule_model.specs.Matches.{match_of, match_cmp, matches_from, matches_of, rows_by_rule, has_match}
+use Rattle.rule_model.specs.Matches.{match_of, match_cmp, matches_from, has_match}
 use Rattle.rule_model.proofs.Exact.{match_parts}
+use Rattle.rule_model.specs.Rows.{HaveOperators}
+use Rattle.rule_world.specs.Programs.{UseOperators}
 use Rattle.agenda.specs.Agendas.{Marks, IsChanged}
-use Rattle.session.specs.Refreshed.{IsRefreshed}
+use Rattle.session.specs.Refreshed.{matches_by, IsRefreshed}
 
 flip : (a b : ℕ) (t : Bool) → (a == b) ≡ t → (b == a) ≡ t
 flip a b t e = grind (arith, nat_tests)
@@ -46,34 +45,33 @@ or_false true = refl
 or_false false = refl
 
 -- the matches of one rule more
-rule_more : (p : Program) (s : Snapshot) (j : ℕ) (rules : List Rule) (rule : Rule) (m : Match)
-    → has_match (matches_from j (rows_by_rule p s (rules ++ rule ∷ []))) m
-    ≡ (has_match (matches_from j (rows_by_rule p s rules)) m || ((j + length rules) == m.rule.0 && has (rows p s rule.conditions) m.row))
+rule_more : (found : Rule → List Row) (j : ℕ) (rules : List Rule) (rule : Rule) (m : Match)
+    → has_match (matches_from j (map found (rules ++ rule ∷ []))) m ≡ (has_match (matches_from j (map found rules)) m || ((j + length rules) == m.rule.0 && has (found rule) m.row))
 unfolding matches_from
-rule_more p s j [] rule m =
+rule_more found j [] rule m =
     let e : j + 0 ≡ j = omega arith in
-    ap (λ ms. has_match ms m) (append-nil (map (match_of j) (rows p s rule.conditions)))
-    ∙ with_rule j (rows p s rule.conditions) m (j == m.rule.0) refl ∙ ap (λ n. n == m.rule.0 && has (rows p s rule.conditions) m.row) (sym e)
-rule_more p s j (r ∷ rules) rule m =
+    ap (λ ms. has_match ms m) (append-nil (map (match_of j) (found rule)))
+    ∙ with_rule j (found rule) m (j == m.rule.0) refl ∙ ap (λ n. n == m.rule.0 && has (found rule) m.row) (sym e)
+rule_more found j (r ∷ rules) rule m =
     let e : (j + 1) + length rules ≡ j + length (r ∷ rules) = omega arith in
-    list_any-append (eq_by_cmp match_cmp m) (map (match_of j) (rows p s r.conditions)) (matches_from (j + 1) (rows_by_rule p s (rules ++ rule ∷ [])))
-    ∙ ap (λ z. has_match (map (match_of j) (rows p s r.conditions)) m || z) (rule_more p s (j + 1) rules rule m)
-    ∙ sym (or_assoc (has_match (map (match_of j) (rows p s r.conditions)) m) (has_match (matches_from (j + 1) (rows_by_rule p s rules)) m) _)
-    ∙ ap (λ z. z || ((j + 1) + length rules == m.rule.0 && has (rows p s rule.conditions) m.row))
-    (sym (list_any-append (eq_by_cmp match_cmp m) (map (match_of j) (rows p s r.conditions)) (matches_from (j + 1) (rows_by_rule p s rules))))
-    ∙ ap (λ n. has_match (matches_from j (rows_by_rule p s (r ∷ rules))) m || (n == m.rule.0 && has (rows p s rule.conditions) m.row)) e
+    list_any-append (eq_by_cmp match_cmp m) (map (match_of j) (found r)) (matches_from (j + 1) (map found (rules ++ rule ∷ [])))
+    ∙ ap (λ z. has_match (map (match_of j) (found r)) m || z) (rule_more found (j + 1) rules rule m)
+    ∙ sym (or_assoc (has_match (map (match_of j) (found r)) m) (has_match (matches_from (j + 1) (map found rules)) m) _)
+    ∙ ap (λ z. z || ((j + 1) + length rules == m.rule.0 && has (found rule) m.row))
+    (sym (list_any-append (eq_by_cmp match_cmp m) (map (match_of j) (found r)) (matches_from (j + 1) (map found rules))))
+    ∙ ap (λ n. has_match (matches_from j (map found (r ∷ rules))) m || (n == m.rule.0 && has (found rule) m.row)) e
 
 -- whether it is a match of the first rules, so many
-abbrev pub upto : Program → Snapshot → List Rule → ℕ → Match → Bool
-upto p s rules k m = has_match (matches_of p s (take k rules)) m
+abbrev pub upto : (Rule → List Row) → List Rule → ℕ → Match → Bool
+upto found rules k m = has_match (matches_by found (take k rules)) m
 
-upto_more : (p : Program) (s : Snapshot) (rules : List Rule) (k : ℕ) (rule : Rule) (m : Match) → k < length rules → rule ≡ get_or rules k rule
-    → upto p s rules (k + 1) m ≡ (upto p s rules k m || (k == m.rule.0 && has (rows p s rule.conditions) m.row))
-upto_more p s rules k rule m lt is =
+upto_more : (found : Rule → List Row) (rules : List Rule) (k : ℕ) (rule : Rule) (m : Match) → k < length rules → rule ≡ get_or rules k rule
+    → upto found rules (k + 1) m ≡ (upto found rules k m || (k == m.rule.0 && has (found rule) m.row))
+upto_more found rules k rule m lt is =
     let grown : take (k + 1) rules ≡ take k rules ++ rule ∷ [] = take_more rules k rule lt ∙ ap (λ r. take k rules ++ r ∷ []) (sym is) in
     let n : 0 + length (take k rules) ≡ k = grind (arith, common_steps) in
-    ap (λ rs. has_match (matches_of p s rs) m) grown ∙ rule_more p s 0 (take k rules) rule m
-    ∙ ap (λ z. upto p s rules k m || (z == m.rule.0 && has (rows p s rule.conditions) m.row)) n
+    ap (λ rs. has_match (matches_by found rs) m) grown ∙ rule_more found 0 (take k rules) rule m
+    ∙ ap (λ z. upto found rules k m || (z == m.rule.0 && has (found rule) m.row)) n
 
 all_taken : (rules : List Rule) (k : ℕ) → length rules ≤ k → take k rules ≡ rules
 all_taken rules k h = grind (arith, common_steps)
@@ -87,18 +85,65 @@ or_no false b e h = h
 other_number : (j n : ℕ) → j + 1 ≤ n → (j == n) ≡ false
 other_number j n le = grind (arith, nat_tests)
 
-before_rule : (p : Program) (s : Snapshot) (j : ℕ) (rules : List Rule) (m : Match) → j + length rules ≤ m.rule.0 → has_match (matches_from j (rows_by_rule p s rules)) m ≡ false
+before_rule : (found : Rule → List Row) (j : ℕ) (rules : List Rule) (m : Match) → j + length rules ≤ m.rule.0 → has_match (matches_from j (map found rules)) m ≡ false
 unfolding matches_from
-before_rule p s j [] m le = refl
-before_rule p s j (rule ∷ rules) m le =
-    list_any-append (eq_by_cmp match_cmp m) (map (match_of j) (rows p s rule.conditions)) (matches_from (j + 1) (rows_by_rule p s rules))
-    ∙ or_no _ _ (with_rule j (rows p s rule.conditions) m false (other_number j m.rule.0 (omega arith))) (before_rule p s (j + 1) rules m (omega arith))
+before_rule found j [] m le = refl
+before_rule found j (rule ∷ rules) m le =
+    list_any-append (eq_by_cmp match_cmp m) (map (match_of j) (found rule)) (matches_from (j + 1) (map found rules))
+    ∙ or_no _ _ (with_rule j (found rule) m false (other_number j m.rule.0 (omega arith))) (before_rule found (j + 1) rules m (omega arith))
 
-upto_none : (p : Program) (s : Snapshot) (rules : List Rule) (k : ℕ) (m : Match) → k < length rules → (k == m.rule.0) ≡ true → upto p s rules k m ≡ false
-upto_none p s rules k m lt e =
+upto_none : (found : Rule → List Row) (rules : List Rule) (k : ℕ) (m : Match) → k < length rules → (k == m.rule.0) ≡ true → upto found rules k m ≡ false
+upto_none found rules k m lt e =
     let same : k ≡ m.rule.0 = grind (arith, nat_tests) in
     let n : 0 + length (take k rules) ≡ k = grind (arith, common_steps) in
-    before_rule p s 0 (take k rules) m (omega arith)
+    before_rule found 0 (take k rules) m (omega arith)
+
+-- ---- a match is a row of its rule
+
+-- the rows of a rule, if there is one, have a row
+abbrev pub found_at : (Rule → List Row) → Option Rule → Row → Bool
+found_at found None row = false
+found_at found (Some rule) row = has (found rule) row
+
+past_rule : (found : Rule → List Row) (j : ℕ) (rules : List Rule) (m : Match) → m.rule.0 < j → has_match (matches_from j (map found rules)) m ≡ false
+unfolding matches_from
+past_rule found j [] m lt = refl
+past_rule found j (rule ∷ rules) m lt =
+    list_any-append (eq_by_cmp match_cmp m) (map (match_of j) (found rule)) (matches_from (j + 1) (map found rules))
+    ∙ or_no _ _ (with_rule j (found rule) m false (past_number j m.rule.0 lt)) (past_rule found (j + 1) rules m (omega arith))
+  where
+    past_number : (j n : ℕ) → n < j → (j == n) ≡ false
+    past_number j n lt = grind (arith, nat_tests)
+
+found_from : (found : Rule → List Row) (j n : ℕ) (rules : List Rule) (m : Match) → m.rule.0 ≡ j + n → has_match (matches_from j (map found rules)) m ≡ found_at found (slice_get rules n) m.row
+unfolding matches_from
+found_from found j n [] m e = ap (λ (o : Option Rule). found_at found o m.row) (sym (none_at n))
+  where
+    none_at : (n : ℕ) → slice_get {A = Rule} [] n ≡ None
+    none_at zero = refl
+    none_at (suc n) = refl
+found_from found j zero (rule ∷ rules) m e =
+    let here : (j == m.rule.0) ≡ true = grind (arith, nat_tests) in
+    list_any-append (eq_by_cmp match_cmp m) (map (match_of j) (found rule)) (matches_from (j + 1) (map found rules))
+    ∙ ap (λ z. z || has_match (matches_from (j + 1) (map found rules)) m) (with_rule j (found rule) m true here)
+    ∙ ap (λ z. has (found rule) m.row || z) (past_rule found (j + 1) rules m (omega arith))
+    ∙ or_false (has (found rule) m.row)
+found_from found j (suc n) (rule ∷ rules) m e =
+    list_any-append (eq_by_cmp match_cmp m) (map (match_of j) (found rule)) (matches_from (j + 1) (map found rules))
+    ∙ ap (λ z. z || has_match (matches_from (j + 1) (map found rules)) m) (with_rule j (found rule) m false (other_number j m.rule.0 (omega arith)))
+    ∙ found_from found (j + 1) n rules m (omega arith)
+
+pub is_found : (found : Rule → List Row) (rules : List Rule) (m : Match) → has_match (matches_by found rules) m ≡ found_at found (slice_get rules m.rule.0) m.row
+is_found found rules m = found_from found 0 m.rule.0 rules m (omega arith)
+
+-- rules that have the same rows have the same matches
+pub same_found : (found other : Rule → List Row) → ((rule : Rule) (row : Row) → has (found rule) row ≡ has (other rule) row) → (rules : List Rule) (m : Match)
+    → has_match (matches_by found rules) m ≡ has_match (matches_by other rules) m
+same_found found other same rules m = is_found found rules m ∙ by (slice_get rules m.rule.0) ∙ sym (is_found other rules m)
+  where
+    by : (o : Option Rule) → found_at found o m.row ≡ found_at other o m.row
+    by None = refl
+    by (Some rule) = same rule m.row
 
 -- ---- the loop over the rules
 
@@ -125,46 +170,54 @@ turned_fired true true false false old new w i = refl
 turned_fired true false false false old new w i = refl
 
 -- nothing is done before the first turn
-pub none_yet : (p : Program) (old new : Snapshot) (rules : List Rule) (a : Marks) → IsRefreshed p (take 0 rules) old new a a
+pub none_yet : (old new : Rule → List Row) (rules : List Rule) (a : Marks) → IsRefreshed (take 0 rules) old new a a
 unfolding matches_from
-none_yet p old new rules a = record {
+none_yet old new rules a = record {
   saliences = refl;
   pending = λ m. sym (or_false _ ∙ and_true (has_match a.pending m));
   fired = λ m. sym (and_true (has_match a.fired m));
 }
 
 -- one rule more
-pub rule_turn : (p : Program) (old new : Snapshot) (rules : List Rule) (k : ℕ) (rule : Rule) (d : Delta) (a b c : Marks) → k < length rules → rule ≡ get_or rules k rule
-    → IsBetween (rows p old rule.conditions) (rows p new rule.conditions) d → IsRefreshed p (take k rules) old new a b → IsChanged k d b c → IsRefreshed p (take (k + 1) rules) old new a c
-rule_turn p old new rules k rule d a b c lt is diff r ch = record {
+pub rule_turn : (old new : Rule → List Row) (rules : List Rule) (k : ℕ) (rule : Rule) (d : Delta) (a b c : Marks) → k < length rules → rule ≡ get_or rules k rule
+    → IsBetween (old rule) (new rule) d → IsRefreshed (take k rules) old new a b → IsChanged k d b c → IsRefreshed (take (k + 1) rules) old new a c
+rule_turn old new rules k rule d a b c lt is diff r ch = record {
   saliences = ch.saliences ∙ r.saliences;
   pending = λ m.
       let t = k == m.rule.0 in
-      let was = upto p old rules k m in
-      let now = upto p new rules k m in
-      let before = has (rows p old rule.conditions) m.row in
-      let after = has (rows p new rule.conditions) m.row in
+      let was = upto old rules k m in
+      let now = upto new rules k m in
+      let before = has (old rule) m.row in
+      let after = has (new rule) m.row in
       ch.pending m
       ∙ ap (λ z. (z && not (t && has d.gone m.row)) || (t && has d.come m.row)) (r.pending m)
       ∙ ap (λ z. (((has_match a.pending m && not (was && not now)) || (now && not was)) && not (t && z)) || (t && has d.come m.row)) (diff.gone m.row)
       ∙ ap (λ z. (((has_match a.pending m && not (was && not now)) || (now && not was)) && not (t && (before && not after))) || (t && z)) (diff.come m.row)
-      ∙ turned_pending t (has_match a.pending m) was now before after (upto_none p old rules k m lt) (upto_none p new rules k m lt)
-      ∙ ap (λ z. (has_match a.pending m && not (z && not (now || (t && after)))) || ((now || (t && after)) && not z)) (sym (upto_more p old rules k rule m lt is))
-      ∙ ap (λ z. (has_match a.pending m && not (upto p old rules (k + 1) m && not z)) || (z && not (upto p old rules (k + 1) m))) (sym (upto_more p new rules k rule m lt is));
+      ∙ turned_pending t (has_match a.pending m) was now before after (upto_none old rules k m lt) (upto_none new rules k m lt)
+      ∙ ap (λ z. (has_match a.pending m && not (z && not (now || (t && after)))) || ((now || (t && after)) && not z)) (sym (upto_more old rules k rule m lt is))
+      ∙ ap (λ z. (has_match a.pending m && not (upto old rules (k + 1) m && not z)) || (z && not (upto old rules (k + 1) m))) (sym (upto_more new rules k rule m lt is));
   fired = λ m.
       let t = k == m.rule.0 in
-      let was = upto p old rules k m in
-      let now = upto p new rules k m in
-      let before = has (rows p old rule.conditions) m.row in
-      let after = has (rows p new rule.conditions) m.row in
+      let was = upto old rules k m in
+      let now = upto new rules k m in
+      let before = has (old rule) m.row in
+      let after = has (new rule) m.row in
       ch.fired m
       ∙ ap (λ z. z && not (t && has d.gone m.row)) (r.fired m)
       ∙ ap (λ z. (has_match a.fired m && not (was && not now)) && not (t && z)) (diff.gone m.row)
-      ∙ turned_fired t (has_match a.fired m) was now before after (upto_none p old rules k m lt) (upto_none p new rules k m lt)
-      ∙ ap (λ z. has_match a.fired m && not (z && not (now || (t && after)))) (sym (upto_more p old rules k rule m lt is))
-      ∙ ap (λ z. has_match a.fired m && not (upto p old rules (k + 1) m && not z)) (sym (upto_more p new rules k rule m lt is));
+      ∙ turned_fired t (has_match a.fired m) was now before after (upto_none old rules k m lt) (upto_none new rules k m lt)
+      ∙ ap (λ z. has_match a.fired m && not (z && not (now || (t && after)))) (sym (upto_more old rules k rule m lt is))
+      ∙ ap (λ z. has_match a.fired m && not (upto old rules (k + 1) m && not z)) (sym (upto_more new rules k rule m lt is));
 }
 
 -- all rules are done
-pub rules_done : (p : Program) (old new : Snapshot) (rules : List Rule) (k : ℕ) (a b : Marks) → length rules ≤ k → IsRefreshed p (take k rules) old new a b → IsRefreshed p rules old new a b
-rules_done p old new rules k a b h r = subst (λ (rs : List Rule). IsRefreshed p rs old new a b) (all_taken rules k h) r
+pub rules_done : (old new : Rule → List Row) (rules : List Rule) (k : ℕ) (a b : Marks) → length rules ≤ k → IsRefreshed (take k rules) old new a b → IsRefreshed rules old new a b
+rules_done old new rules k a b h r = subst (λ (rs : List Rule). IsRefreshed rs old new a b) (all_taken rules k h) r
+
+-- ---- operators
+
+-- the conditions of each rule have operators
+pub operators_at : (rules : List Rule) (k : ℕ) (rule : Rule) → UseOperators rules → k < length rules → rule ≡ get_or rules k rule → HaveOperators rule.conditions
+operators_at [] k rule all lt is = absurd (omega arith)
+operators_at (r ∷ rules) zero rule all lt is = subst (λ (x : Rule). HaveOperators x.conditions) (sym is) all.0
+operators_at (r ∷ rules) (suc k) rule all lt is = operators_at rules k rule all.1 (omega arith) is

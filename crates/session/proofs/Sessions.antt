@@ -1,25 +1,20 @@
 -- What a session answers in the worlds for which it stands.
-use Rattle.std.proofs.Common.{◌≡◌, ℕ, ℤ, pos, ◌+◌, ◌&&◌, true, false, List, [], ◌∷◌, ◌++◌, length, nat_le, Option, Some, None, is_some, option_map, Result, refl, sym, ◌∙◌, ap, subst, arith}
+use Rattle.std.proofs.Common.{◌≡◌, ℕ, ℤ, pos, ◌&&◌, not, false, slice_get, List, [], ◌∷◌, ◌++◌, Option, Some, None, is_some, option_map, Result, refl, sym, ◌∙◌, ap, subst, arith}
 use Rattle.std.specs.FinMap.{get-empty}
-use Rattle.std.specs.List.{list_all}
 use Rattle.std.specs.Ordering.{nat_cmp}
-use Rattle.std.proofs.lemmas.Bool.Decides.{nat_tests}
 use mathlib.Core.Path.{fun_ext}
 use Rattle.due_queue.specs.Timers.{Timers}
 use Rattle.fact_store.specs.Held.{HeldFacts}
-use Rattle.rule_model.specs.declared.condition.Condition.{Condition}
-use Rattle.rule_model.specs.declared.condition.Condition.TheVariants.{Plain, Negated, Existing, Folded}
+use Rattle.row_delta.specs.declared.row.Row.{Row}
 use Rattle.rule_model.specs.declared.life.LifeTable.{LifeTable}
 use Rattle.rule_model.specs.declared.matched.Match.{Match}
 use Rattle.rule_model.specs.declared.program.Program.{Program}
 use Rattle.rule_model.specs.declared.program.Rule.{Rule}
 use Rattle.rule_model.specs.declared.step.Step.{Step}
-use Rattle.rule_model.specs.Matches.{matches_from, rows_by_rule, has_match, saliences}
-use Rattle.rule_model.specs.Rows.{rows}
+use Rattle.rule_model.specs.Matches.{has_match, saliences}
 use Rattle.rule_world.specs.declared.code.Code.{Code}
-use Rattle.rule_model.specs.Simple.{are_simple}
-use Rattle.rule_world.specs.Programs.{IsRunnable, has_conditions, is_simple_rule}
-use Rattle.rule_world.specs.Worlds.{World, empty_world, kept, found, marked, snapshot}
+use Rattle.rule_world.specs.Programs.{IsRunnable}
+use Rattle.rule_world.specs.Worlds.{World, empty_world, kept, found, marked}
 use Rattle.rule_world.proofs.Fresh.{and_parts}
 use Rattle.rule_world.proofs.Lawfuls.{empty_lawful}
 use Rattle.rule_world.proofs.Pending.{has_pending}
@@ -32,11 +27,13 @@ use Rattle.engine.specs.Answers.{FiringAnswers}
 use Rattle.session.specs.Gives.{version_of, does, does_all, fire_line, fires, gives}
 use Rattle.session.specs.Leading.{AllFit, Fits, StandsAfter, Writes}
 use Rattle.session.specs.Places.{newest}
-use Rattle.session.specs.Standing.{Contents, Shown, Standing, Stands, expiry_at}
+use Rattle.session.specs.Refreshed.{rows_at, no_rows, matches_by, IsRefreshed}
+use Rattle.session.specs.Standing.{AgendaStands, Contents, Shown, Standing, Stands, expiry_at}
 use Rattle.session.proofs.Asking.{change_fits}
 use Rattle.session.proofs.Firings.{plan_fits, top_of, plan_of, due_fires, no_fire, yes_fire, stands_first}
 use Rattle.session.proofs.Exactly.{exact}
 use Rattle.session.proofs.Newest.{world_found}
+use Rattle.session.proofs.Rules.{found_at, is_found}
 use Rattle.session.proofs.Stands.{contents}
 use Rattle.std.specs.FinMap as map_of
 
@@ -45,31 +42,31 @@ shown p lives k = record { program = p; lives = lives; contents = k }
 
 -- ---- over no facts
 
--- a rule of patterns has no matches
-no_matches : (p : Program) (k : ℕ) (rules : List Rule) → list_all has_conditions rules ≡ true → list_all is_simple_rule rules ≡ true → (m : Match) → has_match (matches_from k (rows_by_rule p (snapshot empty_world) rules)) m ≡ false
-unfolding matches_from rows
-no_matches p k [] some simple m = refl
-no_matches p k (rule ∷ rules) some simple m =
-    ap (λ found. has_match (matches_from k (found ∷ rows_by_rule p (snapshot empty_world) rules)) m)
-    (no_rows rule.conditions (and_parts (is_simple_rule rule) (list_all is_simple_rule rules) simple).0 (and_parts (has_conditions rule) (list_all has_conditions rules) some).0)
-    ∙ no_matches p (k + 1) rules (and_parts (has_conditions rule) (list_all has_conditions rules) some).1 (and_parts (is_simple_rule rule) (list_all is_simple_rule rules) simple).1 m
+no_match : (rules : List Rule) (m : Match) → has_match (matches_by no_rows rules) m ≡ false
+no_match rules m = is_found no_rows rules m ∙ by (slice_get rules m.rule.0)
   where
-    some_length : (n : ℕ) → (nat_le 1 n && nat_le n 8) ≡ true → n ≡ 0 → ⊥
-    some_length n e z = grind (arith, nat_tests)
+    by : (o : Option Rule) → found_at no_rows o m.row ≡ false
+    by None = refl
+    by (Some rule) = refl
 
-    no_rows : (cs : List Condition) → are_simple cs ≡ true → (nat_le 1 (length cs) && nat_le (length cs) 8) ≡ true → rows p (snapshot empty_world) cs ≡ []
-    no_rows [] simple e = absurd (some_length 0 e refl)
-    no_rows (Plain q ∷ cs) simple e = refl
-    no_rows (Negated q ∷ cs) simple e = absurd (let n : false ≡ true = simple in cc)
-    no_rows (Existing q ∷ cs) simple e = absurd (let n : false ≡ true = simple in cc)
-    no_rows (Folded a ∷ cs) simple e = absurd (let n : false ≡ true = simple in cc)
+abbrev pub start : Marks → Contents
+start a = contents map_of.empty map_of.empty (pos 0) [] a 1 1
 
-abbrev pub start : List Rule → Contents
-start rules = contents map_of.empty map_of.empty (pos 0) [] (record { saliences = saliences rules; pending = []; fired = [] }) 1 1
+abbrev pub blank : List Rule → Marks
+blank rules = record { saliences = saliences rules; pending = []; fired = [] }
 
-pub empty_stands : (p : Program) (k : Contents) → IsRunnable p → k ≡ start p.rules → Standing p k empty_world
+blank_stands : (p : Program) (b : Marks) → IsRefreshed p.rules no_rows (rows_at p [] (pos 0)) (blank p.rules) b → AgendaStands p b empty_world
+blank_stands p b r = record {
+  saliences = r.saliences;
+  pending = λ m.
+      r.pending m ∙ ap (λ z. has_match (matches_by (rows_at p [] (pos 0)) p.rules) m && not z) (no_match p.rules m)
+      ∙ sym (has_pending p empty_world m);
+  fired = λ m. r.fired m;
+}
+
+pub empty_stands : (p : Program) (k : Contents) (a b : Marks) → a ≡ blank p.rules → IsRefreshed p.rules no_rows (rows_at p [] (pos 0)) a b → k ≡ start b → Standing p k empty_world
 unfolding version_of
-empty_stands p k runnable e = subst (λ z. Standing p z empty_world) (sym e) (record {
+empty_stands p k a b is r e = subst (λ z. Standing p z empty_world) (sym e) (record {
   lawful = empty_lawful p;
   mirrors = record {
     facts = λ tag. get-empty nat_cmp tag;
@@ -78,11 +75,7 @@ empty_stands p k runnable e = subst (λ z. Standing p z empty_world) (sym e) (re
     last_starts = λ entry. refl;
     next_id = refl;
     next_tag = refl;
-    agenda = record {
-      saliences = refl;
-      pending = λ m. sym (has_pending p empty_world m ∙ ap (λ z. z && true) (no_matches p 0 p.rules runnable.conditions runnable.simple m));
-      fired = λ m. refl;
-    };
+    agenda = blank_stands p b (subst (λ z. IsRefreshed p.rules no_rows (rows_at p [] (pos 0)) z b) is r);
   };
 })
 
@@ -136,7 +129,7 @@ module _ (p : Program) (lives : LifeTable) (k : Contents) (s : Shown) (e : shown
 
   pub shown_fires : (t : Contents) (plan : List (Result Step Code)) (lines : List OutLine) → IsRunnable p → Some plan ≡ plan_of p k (top_of k.agenda)
       → ((v : World) (m : Match) → Standing p k v → Some m ≡ top_of k.agenda → AllFit p v plan → Standing p t (does_all p (marked v m) plan).1)
-      → ((v : World) (m : Match) → Standing p k v → Some m ≡ top_of k.agenda → AllFit p v plan → lines ≡ fire_line m ∷ [] ++ (does_all p (marked v m) plan).0)
+      → ((v : World) (m : Match) → Standing p k v → Some m ≡ top_of k.agenda → AllFit p v plan → lines ≡ fire_line p m ∷ [] ++ (does_all p (marked v m) plan).0)
       → FiringAnswers (fires s.program w) (Yes lines) w (Standing p t)
   unfolding fires
   shown_fires t plan lines runnable planned stands written =

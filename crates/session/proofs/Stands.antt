@@ -1,6 +1,6 @@
 -- A session has the contents of the world after a step.
 use Rattle.std.specs.List.{filter}
-use Rattle.std.proofs.Common.{◌≡◌, ℕ, ℤ, ◌+◌, ◌<◌, ◌≤ℤ◌, if◌then◌else◌, ◌&&◌, ◌||◌, ◌==◌, not, Bool, true, false, List, [], ◌∷◌, ◌++◌, Option, Some, None, refl, sym, ◌∙◌, ap, subst, arith}
+use Rattle.std.proofs.Common.{◌≡◌, ◌⊎◌, inl, inr, ℕ, ℤ, ◌+◌, ◌<◌, ◌≤ℤ◌, if◌then◌else◌, ◌&&◌, ◌||◌, ◌==◌, not, Bool, true, false, List, [], ◌∷◌, ◌++◌, Option, Some, None, refl, sym, ◌∙◌, ap, subst, arith}
 use Rattle.fx_base.specs.Lists.{In}
 use Rattle.fx_base.specs.declared.ids.FactId.{FactId}
 use Rattle.fx_base.specs.declared.ids.Tag.{Tag}
@@ -9,6 +9,8 @@ use Rattle.fx_base.specs.declared.value.Value.{Value}
 use Rattle.fx_base.specs.declared.fact.Fact.{Fact}
 use Rattle.due_queue.specs.Timers.{Timers, TakesDue}
 use Rattle.fact_store.specs.Held.{HeldFacts, facts_of}
+use Rattle.row_delta.specs.declared.row.Row.{Row}
+use Rattle.row_delta.specs.Rows.{has}
 use Rattle.rule_model.specs.declared.matched.Match.{Match}
 use Rattle.rule_model.specs.declared.program.Program.{Program}
 use Rattle.rule_model.specs.declared.program.Rule.{Rule}
@@ -20,8 +22,9 @@ use Rattle.rule_model.specs.Snapshots.{Snapshot}
 use Rattle.rule_model.specs.Types.{is_event}
 use Rattle.rule_model.proofs.Named.{AllOf, of_filter}
 use Rattle.rule_model.proofs.Order.{in_filter, passed}
-use Rattle.rule_rows.specs.Over.{over}
+use Rattle.rule_rows.specs.Over.{over, present_at}
 use Rattle.rule_rows.proofs.Held.{held_distinct}
+use Rattle.rule_rows.proofs.Present.{rows_present}
 use Rattle.rule_world.specs.Lawful.{IsOrdered}
 use Rattle.rule_world.specs.Programs.{IsRunnable}
 use Rattle.rule_world.specs.declared.code.Code.{Code}
@@ -34,14 +37,16 @@ use Rattle.rule_world.proofs.Keeping.{was_present, with_numbers}
 use Rattle.rule_world.proofs.Steps.{move_numbered, numbered, stays}
 use Rattle.agenda.specs.Agendas.{Marks}
 use Rattle.session.specs.Places.{IsNewestTag, newest}
-use Rattle.session.specs.Refreshed.{IsRefreshed}
+use Rattle.session.specs.Refreshed.{rows_at, is_simple_rule, by_kind, matches_by, IsRefreshed}
 use Rattle.session.specs.Waiting.{with_timer, without_timer, left_at, HaveOwnTags}
 use Rattle.session.specs.Standing.{AgendaStands, Contents, Mirrors, expiry_at, last_start_in}
-use Rattle.session.proofs.Alike.{same_matches}
+use Rattle.session.proofs.Alike.{same_matches, same_rows}
 use Rattle.session.proofs.Exactly.{Exact}
 use Rattle.session.proofs.Members.{Holds, all_listed, behind_of, distinct_behind, holds_again, holds_less, holds_new, holds_revised, is_out, listed, none_left, of_behind, of_remove, own_tags, versions}
 use Rattle.session.proofs.Newest.{holds, tagged_in, tagged_found, world_found}
-use Rattle.session.proofs.Fewer.{AllPresent, matches_at_clocks}
+use Rattle.session.proofs.Fewer.{AllPresent, rows_at_clocks}
+use Rattle.session.proofs.Leaving.{IsBeside, refreshed_twice}
+use Rattle.session.proofs.Rules.{same_found}
 use Rattle.session.proofs.Timers.{timed_new, timed_less, timed_plain, timed_left, left_present, left_none}
 use Rattle.std.specs.FinMap as map
 
@@ -66,15 +71,19 @@ kernel_fired was is false ordered = refl
 abbrev SameMatches : Program → Snapshot → Snapshot → Type 0
 SameMatches p s o = (m : Match) → has_match (matches p s) m ≡ has_match (matches p o) m
 
+-- these rows of the rules are the matches of a world
+abbrev HaveMatches : Program → (Rule → List Row) → World → Type 0
+HaveMatches p found w = (m : Match) → has_match (matches_by found p.rules) m ≡ has_match (matches p (snapshot w)) m
+
 -- an agenda that was refreshed stands for the world that was moved and whose marks were judged anew
-module _ (p : Program) (a b : Marks) (w next : World) (old new : Snapshot) (ordered : IsOrdered p w) (s : AgendaStands p a w) (still : next.fired ≡ still_fired p (snapshot next) w.fired)
-    (before : SameMatches p old (snapshot w)) (after : SameMatches p new (snapshot next)) (r : IsRefreshed p p.rules old new a b) where
+module _ (p : Program) (a b : Marks) (w next : World) (old new : Rule → List Row) (ordered : IsOrdered p w) (s : AgendaStands p a w) (still : next.fired ≡ still_fired p (snapshot next) w.fired)
+    (before : HaveMatches p old w) (after : HaveMatches p new next) (r : IsRefreshed p.rules old new a b) where
   refreshed_stands : AgendaStands p b next
   refreshed_stands = record {
     saliences = r.saliences ∙ s.saliences;
     pending = λ m.
-        let was_old = has_match (matches p old) m in
-        let is_new = has_match (matches p new) m in
+        let was_old = has_match (matches_by old p.rules) m in
+        let is_new = has_match (matches_by new p.rules) m in
         let was = has_match (matches p (snapshot w)) m in
         let now = has_match (matches p (snapshot next)) m in
         let fired = has_match w.fired m in
@@ -85,11 +94,11 @@ module _ (p : Program) (a b : Marks) (w next : World) (old new : Snapshot) (orde
         ∙ kernel_pending was now fired (ordered.fired m)
         ∙ sym (has_pending p next m ∙ ap (λ z. now && not z) (ap (λ ms. has_match ms m) still ∙ has_still p (snapshot next) w.fired m));
     fired = λ m.
-        let is_new = has_match (matches p new) m in
+        let is_new = has_match (matches_by new p.rules) m in
         let was = has_match (matches p (snapshot w)) m in
         let fired = has_match w.fired m in
         r.fired m
-        ∙ ap (λ z. z && not (has_match (matches p old) m && not is_new)) (s.fired m)
+        ∙ ap (λ z. z && not (has_match (matches_by old p.rules) m && not is_new)) (s.fired m)
         ∙ ap (λ z. fired && not (z && not is_new)) (before m)
         ∙ ap (λ z. fired && not (was && not z)) (after m)
         ∙ kernel_fired was (has_match (matches p (snapshot next)) m) fired (ordered.fired m)
@@ -141,7 +150,7 @@ next_is_free p k w st tag e = by (map.get k.facts tag) refl
 pub new_moves : (p : Program) (k : Contents) (facts : HeldFacts) (expiries : Timers) (starts : List ℤ) (b : Marks) (f : Fact) (w : World) → Exact p k w → f.id.0 ≡ k.next_id → f.tag.0 ≡ k.next_tag
     → facts ≡ map.insert k.facts f.tag.0 f → expiries ≡ with_timer k.expiries f.tag.0 (end_of_presence p f.ty.0 f.times.start)
     → ((entry : ℕ) → last_start_in starts entry ≡ last_start_with p f (last_start_in k.last_starts) entry)
-    → (HaveDistinctTags (facts_of k.facts ++ f ∷ []) → IsRefreshed p p.rules (over (facts_of k.facts) k.clock) (over (facts_of k.facts ++ f ∷ []) k.clock) k.agenda b)
+    → (HaveDistinctTags (facts_of k.facts ++ f ∷ []) → IsRefreshed p.rules (rows_at p (facts_of k.facts) k.clock) (rows_at p (facts_of k.facts ++ f ∷ []) k.clock) k.agenda b)
     → Mirrors p (contents facts expiries k.clock starts b (k.next_id + 1) (k.next_tag + 1)) (settled p (with_new p w f))
 new_moves p k facts expiries starts b f w st id tag made timed last refreshed =
     let m = st.mirrors in
@@ -160,7 +169,7 @@ new_moves p k facts expiries starts b f w st id tag made timed last refreshed =
       last_starts = λ entry. last entry ∙ ap (λ z. last_start_with p f (λ _. z) entry) (m.last_starts entry);
       next_id = ap (λ n. n + 1) m.next_id;
       next_tag = ap (λ n. n + 1) m.next_tag;
-      agenda = refreshed_stands p k.agenda b w (settled p (with_new p w f)) (over (facts_of k.facts) k.clock) (over (facts_of k.facts ++ f ∷ []) k.clock) o m.agenda refl
+      agenda = refreshed_stands p k.agenda b w (settled p (with_new p w f)) (rows_at p (facts_of k.facts) k.clock) (rows_at p (facts_of k.facts ++ f ∷ []) k.clock) o m.agenda refl
           (over_matches p w (facts_of k.facts) k.clock m.clock (held_distinct k.facts (own_tags k.facts w.facts h)) o.tags (listed k.facts w.facts h) (all_listed k.facts w.facts h))
           (over_matches p (with_new p w f) (facts_of k.facts ++ f ∷ []) k.clock m.clock (distinct_behind k.facts f new (own_tags k.facts w.facts h)) tags (behind_of k.facts f new (w.facts ++ f ∷ []) more) (of_behind k.facts f new (w.facts ++ f ∷ []) more))
           (refreshed (distinct_behind k.facts f new (own_tags k.facts w.facts h)));
@@ -189,7 +198,7 @@ module _ (p : Program) (k : Contents) (b : Marks) (f : Fact) where
         (of_behind rest f (is_out k.facts f.tag.0) w.facts again)
 
     retract_out : (ty : TypeId) (id : FactId) (fewer : Timers) → ((tag : ℕ) → map.get fewer tag ≡ without_timer k.expiries f.tag.0 tag) → f.id.0 ≡ id.0 → (f.ty.0 == ty.0) ≡ true
-        → (HaveDistinctTags (facts_of rest ++ f ∷ []) → IsRefreshed p p.rules (over (facts_of rest ++ f ∷ []) k.clock) (over (facts_of rest) k.clock) k.agenda b)
+        → (HaveDistinctTags (facts_of rest ++ f ∷ []) → IsRefreshed p.rules (rows_at p (facts_of rest ++ f ∷ []) k.clock) (rows_at p (facts_of rest) k.clock) k.agenda b)
         → Mirrors p (contents rest fewer k.clock k.last_starts b k.next_id k.next_tag) (settled p (without_fact w ty.0 id.0))
     retract_out ty id fewer untimed same of_type refreshed =
         let m = st.mirrors in
@@ -202,7 +211,7 @@ module _ (p : Program) (k : Contents) (b : Marks) (f : Fact) where
           last_starts = m.last_starts;
           next_id = m.next_id;
           next_tag = m.next_tag;
-          agenda = refreshed_stands p k.agenda b w (settled p (without_fact w ty.0 id.0)) (over (facts_of rest ++ f ∷ []) k.clock) (over (facts_of rest) k.clock) o m.agenda refl same_before
+          agenda = refreshed_stands p k.agenda b w (settled p (without_fact w ty.0 id.0)) (rows_at p (facts_of rest ++ f ∷ []) k.clock) (rows_at p (facts_of rest) k.clock) o m.agenda refl same_before
               (over_matches p (without_fact w ty.0 id.0) (facts_of rest) k.clock m.clock (held_distinct rest own_rest) (distinct_filtered (stays ty.0 id.0) w.facts o.tags) (listed rest (without ty.0 id.0 w.facts) left) (all_listed rest (without ty.0 id.0 w.facts) left))
               (refreshed distinct_rest);
         }
@@ -212,7 +221,7 @@ module _ (p : Program) (k : Contents) (b : Marks) (f : Fact) where
   next_of sets = revised k.next_tag sets f
 
   modify_own : (w : World) (id : FactId) (sets : List (ℕ × Value)) → Exact p k (own k w) → In f w.facts → f.id.0 ≡ id.0 → is_event p f.ty.0 ≡ false
-      → (HaveDistinctTags ((facts_of rest ++ f ∷ []) ++ next_of sets ∷ []) → IsRefreshed p p.rules (over (facts_of rest ++ f ∷ []) k.clock) (over (facts_of rest ++ next_of sets ∷ []) k.clock) k.agenda b)
+      → (HaveDistinctTags ((facts_of rest ++ f ∷ []) ++ next_of sets ∷ []) → IsRefreshed p.rules (rows_at p (facts_of rest ++ f ∷ []) k.clock) (rows_at p (facts_of rest ++ next_of sets ∷ []) k.clock) k.agenda b)
       → Mirrors p (contents (map.insert rest k.next_tag (next_of sets)) k.expiries k.clock k.last_starts b k.next_id (k.next_tag + 1)) (settled p (with_revised (own k w) id.0 sets))
   unfolding moved
   modify_own w id sets s i same plain refreshed =
@@ -232,7 +241,7 @@ module _ (p : Program) (k : Contents) (b : Marks) (f : Fact) where
         last_starts = s.mirrors.last_starts;
         next_id = refl;
         next_tag = refl;
-        agenda = refreshed_stands p k.agenda b v (settled p (with_revised v id.0 sets)) (over (facts_of rest ++ f ∷ []) k.clock) (over (facts_of rest ++ g ∷ []) k.clock) o s.mirrors.agenda refl
+        agenda = refreshed_stands p k.agenda b v (settled p (with_revised v id.0 sets)) (rows_at p (facts_of rest ++ f ∷ []) k.clock) (rows_at p (facts_of rest ++ g ∷ []) k.clock) o s.mirrors.agenda refl
             (same_before v s i)
             (over_matches p (with_revised v id.0 sets) (facts_of rest ++ g ∷ []) k.clock refl (distinct_behind rest g free (own_rest v s i)) tags (behind_of rest g free facts more) (of_behind rest g free facts more))
             (refreshed (distinct_more (facts_of rest ++ f ∷ []) g (distinct_rest v s i) (λ x j. below x (behind_of rest f (is_out k.facts f.tag.0) w.facts (again v s i) x j))));
@@ -256,7 +265,7 @@ module _ (p : Program) (k : Contents) (b : Marks) (w : World) (st : Exact p k w)
   there = tagged_in p k w st id.0 tag is
 
   pub retract_moves : (ty : TypeId) (fewer : Timers) → ((other : ℕ) → map.get fewer other ≡ without_timer k.expiries tag.0 other) → is_of_type ty.0 (newest k id.0) ≡ true
-      → (HaveDistinctTags (facts_of others ++ before ∷ []) → IsRefreshed p p.rules (over (facts_of others ++ before ∷ []) k.clock) (over (facts_of others) k.clock) k.agenda b)
+      → (HaveDistinctTags (facts_of others ++ before ∷ []) → IsRefreshed p.rules (rows_at p (facts_of others ++ before ∷ []) k.clock) (rows_at p (facts_of others) k.clock) k.agenda b)
       → Mirrors p (contents others fewer k.clock k.last_starts b k.next_id k.next_tag) (settled p (without_fact w ty.0 id.0))
   retract_moves ty fewer untimed of_type refreshed =
       let own_type : (is.fact.ty.0 == ty.0) ≡ true = ap (is_of_type ty.0) (sym (tagged_found p k w st id.0 tag is)) ∙ ap (is_of_type ty.0) (sym (world_found p k w st id.0)) ∙ of_type in
@@ -264,10 +273,10 @@ module _ (p : Program) (k : Contents) (b : Marks) (w : World) (st : Exact p k w)
       (retract_out p k b is.fact w st there ty id fewer (λ other. untimed other ∙ ap (λ (t : Tag). without_timer k.expiries t.0 other) (sym is.tagged)) is.is_newest.own own_type (subst (Done (map.remove k.facts is.fact.tag.0)) before_is (subst (λ o. Done o before) others_are refreshed)))
     where
       Done : HeldFacts → Fact → Type 0
-      Done o f = HaveDistinctTags (facts_of o ++ f ∷ []) → IsRefreshed p p.rules (over (facts_of o ++ f ∷ []) k.clock) (over (facts_of o) k.clock) k.agenda b
+      Done o f = HaveDistinctTags (facts_of o ++ f ∷ []) → IsRefreshed p.rules (rows_at p (facts_of o ++ f ∷ []) k.clock) (rows_at p (facts_of o) k.clock) k.agenda b
 
   pub modify_moves : (sets : List (ℕ × Value)) (after : Fact) (facts : HeldFacts) → modify_fault p (newest k id.0) ≡ None → after ≡ revised k.next_tag sets before → facts ≡ map.insert others after.tag.0 after
-      → (HaveDistinctTags ((facts_of others ++ before ∷ []) ++ after ∷ []) → IsRefreshed p p.rules (over (facts_of others ++ before ∷ []) k.clock) (over (facts_of others ++ after ∷ []) k.clock) k.agenda b)
+      → (HaveDistinctTags ((facts_of others ++ before ∷ []) ++ after ∷ []) → IsRefreshed p.rules (rows_at p (facts_of others ++ before ∷ []) k.clock) (rows_at p (facts_of others ++ after ∷ []) k.clock) k.agenda b)
       → Mirrors p (contents facts k.expiries k.clock k.last_starts b k.next_id (k.next_tag + 1)) (settled p (with_revised w id.0 sets))
   modify_moves sets after facts none after_is made refreshed =
       let rest : HeldFacts = map.remove k.facts is.fact.tag.0 in
@@ -281,7 +290,7 @@ module _ (p : Program) (k : Contents) (b : Marks) (w : World) (st : Exact p k w)
       (subst (Done rest is.fact) s (subst (λ f. Done rest f after) before_is (subst (λ o. Done o before after) others_are refreshed)))))
     where
       Done : HeldFacts → Fact → Fact → Type 0
-      Done o f x = HaveDistinctTags ((facts_of o ++ f ∷ []) ++ x ∷ []) → IsRefreshed p p.rules (over (facts_of o ++ f ∷ []) k.clock) (over (facts_of o ++ x ∷ []) k.clock) k.agenda b
+      Done o f x = HaveDistinctTags ((facts_of o ++ f ∷ []) ++ x ∷ []) → IsRefreshed p.rules (rows_at p (facts_of o ++ f ∷ []) k.clock) (rows_at p (facts_of o ++ x ∷ []) k.clock) k.agenda b
 
 -- ---- nothing but numbers
 
@@ -296,11 +305,11 @@ unchanged_mark true true = refl
 unchanged_mark true false = refl
 unchanged_mark false b = refl
 
-nothing_changes : (p : Program) (rules : List Rule) (s : Snapshot) (a : Marks) → IsRefreshed p rules s s a a
-nothing_changes p rules s a = record {
+nothing_changes : (rules : List Rule) (found : Rule → List Row) (a : Marks) → IsRefreshed rules found found a a
+nothing_changes rules found a = record {
   saliences = refl;
-  pending = λ m. sym (unchanged (has_match a.pending m) (has_match (matches_of p s rules) m));
-  fired = λ m. sym (unchanged_mark (has_match a.fired m) (has_match (matches_of p s rules) m));
+  pending = λ m. sym (unchanged (has_match a.pending m) (has_match (matches_by found rules) m));
+  fired = λ m. sym (unchanged_mark (has_match a.fired m) (has_match (matches_by found rules) m));
 }
 
 -- an event that is not present any more is inserted
@@ -312,7 +321,7 @@ numbers_move p k starts f w st last =
     let o = st.lawful.ordered in
     let h : Holds k.facts w.facts = holds p k w st in
     let distinct : HaveDistinctTags (facts_of k.facts) = held_distinct k.facts (own_tags k.facts w.facts h) in
-    let s : Snapshot = over (facts_of k.facts) k.clock in
+    let s : Rule → List Row = rows_at p (facts_of k.facts) k.clock in
     record {
       facts = m.facts;
       waits = m.waits;
@@ -323,7 +332,7 @@ numbers_move p k starts f w st last =
       agenda = refreshed_stands p k.agenda k.agenda w (settled p (with_numbers p w f)) s s o m.agenda refl
           (over_matches p w (facts_of k.facts) k.clock m.clock distinct o.tags (listed k.facts w.facts h) (all_listed k.facts w.facts h))
           (over_matches p (with_numbers p w f) (facts_of k.facts) k.clock m.clock distinct o.tags (listed k.facts w.facts h) (all_listed k.facts w.facts h))
-          (nothing_changes p p.rules s k.agenda);
+          (nothing_changes p.rules s k.agenda);
     }
 
 -- ---- a later clock
@@ -359,18 +368,59 @@ module _ (p : Program) (k : Contents) (w : World) (clock : ℤ) (st : Exact p k 
   distinct_after : HaveDistinctTags still_there
   distinct_after = distinct_filtered (is_present p clock) w.facts st.lawful.ordered.tags
 
-  pub clock_moves : (b : Marks) → IsRunnable p → w.clock ≤ℤ clock
-      → (HaveOwnTags k.facts → IsRefreshed p p.rules (over (facts_of k.facts) k.clock) (over (facts_of fewer) k.clock) k.agenda b)
+  -- the rows behind the move: of simple conditions over what is left at the clock before it, of others over all at the clock behind it
+  abbrev parts : Rule → List Row
+  parts = by_kind (rows_at p (facts_of fewer) k.clock) (rows_at p (facts_of k.facts) clock)
+
+  module _ (le : w.clock ≤ℤ clock) where
+    own_now : HaveOwnTags k.facts
+    own_now = own_tags k.facts w.facts before
+
+    distinct_left : HaveDistinctTags (facts_of fewer)
+    distinct_left = held_distinct fewer (own_tags fewer still_there after)
+
+    present_now : AllPresent p clock (facts_of fewer)
+    present_now f i = passed (is_present p clock) f w.facts (listed fewer still_there after f i)
+
+    present_then : AllPresent p k.clock (facts_of fewer)
+    present_then f i = was_present p f k.clock clock (subst (λ c. c ≤ℤ clock) (sym st.mirrors.clock) le) (present_now f i)
+
+    -- what is left is what is present of all
+    left_present_of : AllOf (facts_of fewer) (present_at p clock (facts_of k.facts))
+    left_present_of f i =
+        all_listed fewer still_there after f
+        (in_filter (is_present p clock) f w.facts (passed (is_present p clock) f (facts_of k.facts) i) (listed k.facts w.facts before f (of_filter (is_present p clock) f (facts_of k.facts) i)))
+
+    present_of_left : AllOf (present_at p clock (facts_of k.facts)) (facts_of fewer)
+    present_of_left f i =
+        in_filter (is_present p clock) f (facts_of k.facts) (present_now f i) (all_listed k.facts w.facts before f (of_filter (is_present p clock) f w.facts (listed fewer still_there after f i)))
+
+    parts_are : (rule : Rule) (row : Row) → has (parts rule) row ≡ has (rows_at p (facts_of fewer) clock rule) row
+    parts_are rule row = by (is_simple_rule rule) refl
+      where
+        by : (b : Bool) → is_simple_rule rule ≡ b → has (if b then rows_at p (facts_of fewer) k.clock rule else rows_at p (facts_of k.facts) clock rule) row ≡ has (rows_at p (facts_of fewer) clock rule) row
+        by true simple = rows_at_clocks p (over (facts_of fewer) k.clock) (over (facts_of fewer) clock) refl present_then present_now rule.conditions row simple
+        by false other =
+            ap (λ rs. has rs row) (sym (rows_present p clock (facts_of k.facts) rule.conditions))
+            ∙ same_rows p (over (present_at p clock (facts_of k.facts)) clock) (over (facts_of fewer) clock) refl
+            (distinct_filtered (is_present p clock) (facts_of k.facts) (held_distinct k.facts own_now)) distinct_left left_present_of present_of_left rule row
+
+    parts_beside : IsBeside (rows_at p (facts_of k.facts) k.clock) (by_kind (rows_at p (facts_of k.facts) k.clock) (rows_at p (facts_of k.facts) clock)) parts
+    parts_beside rule row = by (is_simple_rule rule)
+      where
+        by : (b : Bool) → (has (if b then rows_at p (facts_of k.facts) k.clock rule else rows_at p (facts_of k.facts) clock rule) row ≡ has (rows_at p (facts_of k.facts) k.clock rule) row)
+            ⊎ (has (if b then rows_at p (facts_of k.facts) k.clock rule else rows_at p (facts_of k.facts) clock rule) row ≡ has (if b then rows_at p (facts_of fewer) k.clock rule else rows_at p (facts_of k.facts) clock rule) row)
+        by true = inl refl
+        by false = inr refl
+
+  pub clock_moves : (a b : Marks) → w.clock ≤ℤ clock
+      → IsRefreshed p.rules (rows_at p (facts_of k.facts) k.clock) (by_kind (rows_at p (facts_of k.facts) k.clock) (rows_at p (facts_of k.facts) clock)) k.agenda a
+      → ((rest : Rule → List Row) → HaveOwnTags k.facts → IsRefreshed p.rules (by_kind (rows_at p (facts_of k.facts) k.clock) rest) (by_kind (rows_at p (facts_of fewer) k.clock) rest) a b)
       → Mirrors p (contents fewer later clock k.last_starts b k.next_id k.next_tag) (settled p (kept p (at_clock w clock)))
-  clock_moves b runnable le refreshed =
+  clock_moves a b le first then_ =
       let m = st.mirrors in
       let o = st.lawful.ordered in
       let next : World = kept p (at_clock w clock) in
-      let own : HaveOwnTags k.facts = own_tags k.facts w.facts before in
-      let distinct : HaveDistinctTags (facts_of fewer) = held_distinct fewer (own_tags fewer still_there after) in
-      let present_now : AllPresent p clock (facts_of fewer) = λ f i. passed (is_present p clock) f w.facts (listed fewer still_there after f i) in
-      let present_then : AllPresent p k.clock (facts_of fewer) = λ f i.
-      was_present p f k.clock clock (subst (λ c. c ≤ℤ clock) (sym m.clock) le) (present_now f i) in
       record {
         facts = versions fewer still_there after distinct_after;
         waits = timed_left p k.facts k.expiries m.waits clock later gone takes fewer left;
@@ -378,10 +428,11 @@ module _ (p : Program) (k : Contents) (w : World) (clock : ℤ) (st : Exact p k 
         last_starts = m.last_starts;
         next_id = m.next_id;
         next_tag = m.next_tag;
-        agenda = refreshed_stands p k.agenda b w (settled p next) (over (facts_of k.facts) k.clock) (over (facts_of fewer) k.clock) o m.agenda refl
-            (over_matches p w (facts_of k.facts) k.clock m.clock (held_distinct k.facts own) o.tags (listed k.facts w.facts before) (all_listed k.facts w.facts before))
+        agenda = refreshed_stands p k.agenda b w (settled p next) (rows_at p (facts_of k.facts) k.clock) parts o m.agenda refl
+            (over_matches p w (facts_of k.facts) k.clock m.clock (held_distinct k.facts (own_now le)) o.tags (listed k.facts w.facts before) (all_listed k.facts w.facts before))
             (λ q.
-            matches_at_clocks p (over (facts_of fewer) k.clock) (over (facts_of fewer) clock) refl present_then present_now p.rules q runnable.simple
-            ∙ over_matches p next (facts_of fewer) clock refl distinct distinct_after (listed fewer still_there after) (all_listed fewer still_there after) q)
-            (refreshed own);
+            same_found parts (rows_at p (facts_of fewer) clock) (parts_are le) p.rules q
+            ∙ over_matches p next (facts_of fewer) clock refl (distinct_left le) distinct_after (listed fewer still_there after) (all_listed fewer still_there after) q)
+            (refreshed_twice p.rules (rows_at p (facts_of k.facts) k.clock) (by_kind (rows_at p (facts_of k.facts) k.clock) (rows_at p (facts_of k.facts) clock)) parts k.agenda a b
+            (parts_beside le) first (then_ (rows_at p (facts_of k.facts) clock) (own_now le)));
       }

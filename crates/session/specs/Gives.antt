@@ -1,10 +1,12 @@
 -- What the engine answers in a world: the lines of a change or of a firing, and the next world.
-use Rattle.std.specs.Prelude.{List, [], ◌∷◌, ◌++◌, map, Option, Some, None, Result, Ok, Err, slice_get, if◌then◌else◌, ◌==◌}
+use Rattle.std.specs.Prelude.{ℤ, List, [], ◌∷◌, ◌++◌, map, Option, Some, None, Result, Ok, Err, slice_get, if◌then◌else◌, ◌==◌}
 use Rattle.fx_base.specs.declared.ids.Tag.{Tag}
 use Rattle.fx_base.specs.declared.fact.Fact.{Fact}
 use Rattle.row_delta.specs.declared.row.Named.{Named}
 use Rattle.row_delta.specs.declared.row.Row.{Row}
 use Rattle.rule_model.specs.declared.action.Action.{Action}
+use Rattle.rule_model.specs.declared.condition.Condition.{Condition}
+use Rattle.rule_model.specs.declared.condition.Condition.TheVariants.{Plain, Negated, Existing, Folded}
 use Rattle.rule_model.specs.declared.matched.Match.{Match}
 use Rattle.rule_model.specs.declared.program.Program.{Program}
 use Rattle.rule_model.specs.declared.program.Rule.{Rule}
@@ -80,15 +82,26 @@ abbrev pub actions_of : Option Rule → List Action
 actions_of None = []
 actions_of (Some rule) = rule.actions
 
-abbrev pub cells : List Named → List Cell
-cells facts = map (λ (n : Named). cell.Fact n.id) facts
+abbrev pub conditions_of : Option Rule → List Condition
+conditions_of None = []
+conditions_of (Some rule) = rule.conditions
 
-abbrev pub fire_line : Match → OutLine
-fire_line m = Fire m.rule (cells m.row.facts)
+-- What conditions bound, in their order: each pattern the next fact, each accumulate the next result.
+abbrev pub cells : List Condition → List Named → List ℤ → List Cell
+cells [] facts values = []
+cells (Plain pattern ∷ conditions) [] values = cells conditions [] values
+cells (Plain pattern ∷ conditions) (n ∷ facts) values = cell.Fact n.id ∷ cells conditions facts values
+cells (Negated pattern ∷ conditions) facts values = cells conditions facts values
+cells (Existing pattern ∷ conditions) facts values = cells conditions facts values
+cells (Folded a ∷ conditions) facts [] = cells conditions facts []
+cells (Folded a ∷ conditions) facts (v ∷ values) = cell.Value v ∷ cells conditions facts values
+
+abbrev pub fire_line : Program → Match → OutLine
+fire_line p m = Fire m.rule (cells (conditions_of (slice_get p.rules m.rule.0)) m.row.facts m.row.values)
 
 -- a match is marked and printed, and its rule's actions are done in their order; their values are those of the world before
 abbrev pub fires_match : Program → World → Match → List OutLine × World
-fires_match p w m = then_does (fire_line m ∷ [], marked w m) (λ next. does_all p next (wanted (present p w) m.row (actions_of (slice_get p.rules m.rule.0))))
+fires_match p w m = then_does (fire_line p m ∷ [], marked w m) (λ next. does_all p next (wanted (present p w) m.row (actions_of (slice_get p.rules m.rule.0))))
 
 abbrev pub fires_with : Program → World → Option Match → Option (List OutLine × World)
 fires_with p w None = None

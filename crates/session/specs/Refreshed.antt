@@ -1,18 +1,45 @@
--- What becomes of an agenda where the matches change.
-use Rattle.std.specs.Prelude.{◌≡◌, ◌&&◌, ◌||◌, not, Bool, List}
+-- What becomes of an agenda where the rows of rules change.
+use Rattle.std.specs.Prelude.{◌≡◌, ◌&&◌, ◌||◌, not, Bool, ℤ, List, [], map, if◌then◌else◌}
+use Rattle.fx_base.specs.declared.fact.Fact.{Fact}
+use Rattle.row_delta.specs.declared.row.Row.{Row}
 use Rattle.rule_model.specs.declared.matched.Match.{Match}
 use Rattle.rule_model.specs.declared.program.Program.{Program}
 use Rattle.rule_model.specs.declared.program.Rule.{Rule}
-use Rattle.rule_model.specs.Matches.{matches_of, has_match}
-use Rattle.rule_model.specs.Snapshots.{Snapshot}
+use Rattle.rule_model.specs.Matches.{matches_from, has_match}
+use Rattle.rule_model.specs.Rows.{rows}
+use Rattle.rule_model.specs.Simple.{are_simple}
+use Rattle.rule_rows.specs.Over.{over}
 use Rattle.agenda.specs.Agendas.{Marks}
 
--- a match of these rules in the first snapshot that is none in the other
-abbrev pub only_in : Program → List Rule → Snapshot → Snapshot → Match → Bool
-only_in p rules s t m = has_match (matches_of p s rules) m && not (has_match (matches_of p t rules) m)
+-- ---- which rows the rules have
 
--- matches in the old snapshot that cease go out of both sets, and those that come are pending
-pub record IsRefreshed (p : Program) (rules : List Rule) (old new : Snapshot) (a b : Marks) : Type 0 where
+-- those over facts at a clock
+abbrev pub rows_at : Program → List Fact → ℤ → Rule → List Row
+rows_at p facts clock rule = rows p (over facts clock) rule.conditions
+
+abbrev pub no_rows : Rule → List Row
+no_rows rule = []
+
+-- a rule whose conditions are patterns without windows
+abbrev pub is_simple_rule : Rule → Bool
+is_simple_rule rule = are_simple rule.conditions
+
+-- of a rule of such conditions the first, of any other rule the second
+abbrev pub by_kind : (Rule → List Row) → (Rule → List Row) → Rule → List Row
+by_kind simple other rule = if is_simple_rule rule then simple rule else other rule
+
+-- the rows of these rules as matches, the first rule having the place 0
+abbrev pub matches_by : (Rule → List Row) → List Rule → List Match
+matches_by found rules = matches_from 0 (map found rules)
+
+-- ---- the agenda
+
+-- a match of these rules by the first rows that is none by the others
+abbrev pub only_in : List Rule → (Rule → List Row) → (Rule → List Row) → Match → Bool
+only_in rules found other m = has_match (matches_by found rules) m && not (has_match (matches_by other rules) m)
+
+-- matches by the old rows that cease go out of both sets, and those that come are pending
+pub record IsRefreshed (rules : List Rule) (old new : Rule → List Row) (a b : Marks) : Type 0 where
   pub saliences : b.saliences ≡ a.saliences
-  pub pending : (m : Match) → has_match b.pending m ≡ ((has_match a.pending m && not (only_in p rules old new m)) || only_in p rules new old m)
-  pub fired : (m : Match) → has_match b.fired m ≡ (has_match a.fired m && not (only_in p rules old new m))
+  pub pending : (m : Match) → has_match b.pending m ≡ ((has_match a.pending m && not (only_in rules old new m)) || only_in rules new old m)
+  pub fired : (m : Match) → has_match b.fired m ≡ (has_match a.fired m && not (only_in rules old new m))

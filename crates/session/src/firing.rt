@@ -6,7 +6,7 @@ ghost use Rattle.rule_model.specs.Matches.{fire_cmp};
 ghost use Rattle.rule_model.specs.First.{first};
 ghost use Rattle.rule_world.specs.Programs.{has_few_actions, IsRunnable};
 ghost use Rattle.rule_world.specs.Worlds.{World, marked};
-ghost use Rattle.session.specs.Gives.{cells, fire_line, actions_of, does_all};
+ghost use Rattle.session.specs.Gives.{cells, conditions_of, fire_line, actions_of, does_all};
 ghost use Rattle.session.specs.Leading.{AllFit};
 ghost use Rattle.session.specs.Standing.{Standing};
 ghost use Rattle.session.specs.Places.{planned_for, planned};
@@ -17,8 +17,8 @@ use action_eval::{EvalFault, planned_step};
 use engine::{Cell, OutLine};
 use fact_store::FactStore;
 use fx_base::{NoMemory, Seq};
-use row_delta::{Named, Row};
-use rule_model::{Action, Match, Program, Rule, Step};
+use row_delta::Row;
+use rule_model::{Action, Condition, Match, Program, Rule, Step};
 use rule_world::Code;
 use std::alloc::Global;
 
@@ -64,22 +64,49 @@ fn actions_for<'r>(rules: &'r [Rule], fired: &Match) -> &'r [Action]
     }
 }
 
-fn cells_of(alloc: Global, facts: &[Named]) -> Result<Vec<Cell>, NoMemory>
-    ensures { IfOk result (λ found. found.items ≡ cells facts.now) }
+// The conditions of the rule of a match.
+fn conditions_for<'r>(rules: &'r [Rule], fired: &Match) -> &'r [Condition]
+    ensures { result.now ≡ conditions_of (slice_get rules.now fired.now.rule.0) }
 {
-    let mut found = Vec::with_capacity(alloc, facts.len())?;
-    for named in facts {
-        found.push(Cell::Fact(named.id))?;
+    match rules.get(fired.rule.0 as usize) {
+        Some(rule) => rule.conditions.as_slice(),
+        None => &[],
+    }
+}
+
+fn cells_of(alloc: Global, conditions: &[Condition], row: &Row) -> Result<Vec<Cell>, NoMemory>
+    ensures { IfOk result (λ found. found.items ≡ cells conditions.now row.now.facts row.now.values) }
+{
+    let mut found = Vec::with_capacity(alloc, conditions.len())?;
+    let mut facts = row.facts.as_slice();
+    let mut values = row.values.as_slice();
+    for condition in conditions {
+        match condition {
+            Condition::Plain(_) => {
+                if let Some((named, rest)) = facts.split_first() {
+                    found.push(Cell::Fact(named.id))?;
+                    facts = rest;
+                }
+            }
+            Condition::Negated(_) | Condition::Existing(_) => {}
+            Condition::Folded(_) => {
+                if let Some((value, rest)) = values.split_first() {
+                    found.push(Cell::Value(*value))?;
+                    values = rest;
+                }
+            }
+        }
     }
     Ok(found)
 }
 
-fn line_of(alloc: Global, fired: &Match) -> Result<OutLine, NoMemory>
-    ensures { IfOk result (λ line. line ≡ fire_line fired.now) }
+fn line_of(alloc: Global, program: &Program, fired: &Match) -> Result<OutLine, NoMemory>
+    ensures { IfOk result (λ line. line ≡ fire_line program.now fired.now) }
 {
+    let conditions = conditions_for(program.rules.as_slice(), fired);
     Ok(OutLine::Fire {
         rule: fired.rule,
-        cells: Seq::from_vec(cells_of(alloc, fired.row.facts.as_slice())?),
+        cells: Seq::from_vec(cells_of(alloc, conditions, &fired.row)?),
     })
 }
 
@@ -115,11 +142,11 @@ impl State {
         ensures stands { IfOk result (λ s. (w : World) (m : MatchData) → Standing program.now self w → Some m ≡ first (fire_cmp self.agenda.saliences) self.agenda.pending
             → AllFit program.now w plan.items → Standing program.now s (does_all program.now (marked w m) plan.items).1) }
         ensures lines { OnOk result ((w : World) (m : MatchData) → Standing program.now self w → Some m ≡ first (fire_cmp self.agenda.saliences) self.agenda.pending
-            → AllFit program.now w plan.items → lines.new.items ≡ lines.old.items ++ fire_line m ∷ [] ++ (does_all program.now (marked w m) plan.items).0) }
+            → AllFit program.now w plan.items → lines.new.items ≡ lines.old.items ++ fire_line program.now m ∷ [] ++ (does_all program.now (marked w m) plan.items).0) }
         ensures tags { IfOk result (λ s. s.next_tag ≤ self.next_tag + length plan.items) }
     {
         let (state, fired) = self.mark(alloc)?;
-        lines.push(line_of(alloc, &fired)?)?;
+        lines.push(line_of(alloc, program, &fired)?)?;
         state.apply_all(alloc, program, plan, lines)
     }
 

@@ -9,7 +9,7 @@ ghost use Rattle.session.specs.Waiting.{with_timer, without_timer};
 ghost use Rattle.std.specs.FinMap as map;
 
 use crate::last_starts::last_starts_behind;
-use crate::refreshing::{refreshed, without_all};
+use crate::refreshing::{advanced, refreshed, without_all};
 use crate::state::State;
 use due_queue::DueQueue;
 use fact_store::FactStore;
@@ -217,15 +217,10 @@ impl State {
         ensures tags { IfOk result (λ s. s.next_tag ≡ self.next_tag) }
     {
         let mut state = self;
+        let before = state.clock;
+        let agenda = advanced(alloc, program, before, clock, state.agenda, &state.facts)?;
         let due = state.expiries.take_due(clock)?;
-        let (facts, agenda) = without_all(
-            alloc,
-            program,
-            state.clock,
-            state.agenda,
-            state.facts,
-            due,
-        )?;
+        let (facts, agenda) = without_all(alloc, program, before, agenda, state.facts, due)?;
         state.facts = facts;
         state.agenda = agenda;
         state.clock = clock;

@@ -1,7 +1,9 @@
 ghost use Rattle.std.specs.Prelude.{◌≡◌, ◌+◌, ◌≤◌, ◌^◌, true, IfOk, is_some};
 ghost use Rattle.rule_model.specs.Matches.{saliences};
 
+use crate::refreshing::started;
 use crate::state::State;
+use agenda::Agenda;
 use change_read::asked_step;
 use engine::{Engine, Fired, Lines};
 use fx_base::{Millis, NoMemory, Seq};
@@ -64,7 +66,8 @@ impl Session {
         ensures next { IfOk result (λ s. s.contents.next_tag ≡ 1) }
     {
         let saliences = saliences_of(alloc, program.rules.as_slice())?;
-        let state = State::new(alloc, &saliences)?;
+        let agenda = started(alloc, &program, Agenda::new(alloc, &saliences)?)?;
+        let state = State::new(alloc, agenda);
         Ok(Session {
             program,
             lives,

@@ -48,25 +48,25 @@ impl Model for State {
 }
 
 impl State {
-    /// No facts, the clock at 0, and nothing pending.
-    pub(crate) fn new(alloc: Global, saliences: &[i64]) -> Result<State, NoMemory>
-        ensures facts { IfOk result (λ s. s.facts ≡ map.empty) }
-        ensures expiries { IfOk result (λ s. s.expiries ≡ map.empty) }
-        ensures clock { IfOk result (λ s. s.clock ≡ pos 0) }
-        ensures last_starts { IfOk result (λ s. s.last_starts ≡ []) }
-        ensures agenda { IfOk result (λ s. s.agenda ≡ record { saliences = saliences.now; pending = []; fired = [] }) }
-        ensures next_id { IfOk result (λ s. s.next_id ≡ 1) }
-        ensures next_tag { IfOk result (λ s. s.next_tag ≡ 1) }
+    /// No facts, the clock at 0, and this agenda.
+    pub(crate) fn new(alloc: Global, agenda: Agenda) -> State
+        ensures facts { result.facts ≡ map.empty }
+        ensures expiries { result.expiries ≡ map.empty }
+        ensures clock { result.clock ≡ pos 0 }
+        ensures last_starts { result.last_starts ≡ [] }
+        ensures agenda { result.agenda ≡ agenda }
+        ensures next_id { result.next_id ≡ 1 }
+        ensures next_tag { result.next_tag ≡ 1 }
     {
-        Ok(State {
+        State {
             facts: FactStore::new(alloc),
             expiries: DueQueue::new(alloc),
             clock: 0,
             last_starts: Vec::new(alloc),
-            agenda: Agenda::new(alloc, saliences)?,
+            agenda,
             next_id: 1,
             next_tag: 1,
-        })
+        }
     }
 
     /// The match that fires first among the pending ones. Takes no memory.
