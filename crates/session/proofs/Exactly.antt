@@ -1,8 +1,7 @@
 -- Sessions stand exactly for worlds in which every fact is present, and for a world where they stand exactly for what is kept of it.
-use Rattle.std.proofs.Common.{◌≡◌, ◌+◌, ℕ, ℤ, true, false, ◌≤ℤ◌, List, refl, sym, ◌∙◌, ap, subst}
+use Rattle.std.proofs.Common.{◌≡◌, ℕ, ℤ, true, false, ◌≤ℤ◌, List, ◌∙◌, ap}
 use Rattle.fx_base.specs.declared.fact.Fact.{Fact}
 use Rattle.fx_base.specs.declared.value.Value.{Value}
-use Rattle.rule_model.specs.declared.matched.Match.{Match}
 use Rattle.rule_model.specs.declared.program.Program.{Program}
 use Rattle.rule_model.specs.Candidates.{is_present}
 use Rattle.rule_world.specs.Lawful.{IsLawful}

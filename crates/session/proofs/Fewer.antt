@@ -1,8 +1,5 @@
 -- Rows of patterns without windows: they stay where facts are added, and the clock is no matter to facts that are present.
-use Rattle.std.proofs.Common.{◌≡◌, ◌&&◌, ◌==◌, ℕ, ◌+◌, ◌||◌, ℤ, inl, inr, Bool, true, false, List, [], ◌∷◌, map, Option, refl, sym, ◌∙◌, ap, subst}
-use Rattle.std.specs.List.{filter, flat_map, list_all}
-use Rattle.std.specs.Ordering.{eq_by_cmp}
-use Rattle.std.proofs.lemmas.List.Folds.{list_any-append}
+use Rattle.std.proofs.Common.{◌≡◌, ◌&&◌, ◌==◌, ℤ, true, false, List, [], ◌∷◌, map, refl, sym, ◌∙◌, ap, subst}
 use Rattle.fx_base.specs.Lists.{In}
 use Rattle.fx_base.specs.declared.fact.Fact.{Fact}
 use Rattle.row_delta.specs.declared.row.Row.{Row}
@@ -12,17 +9,13 @@ use Rattle.rule_model.specs.declared.condition.Condition.TheVariants.{Plain, Neg
 use Rattle.rule_model.specs.declared.condition.Pattern.{Pattern}
 use Rattle.rule_model.specs.declared.condition.WindowTag.{WindowTag}
 use Rattle.rule_model.specs.declared.condition.WindowTag.TheVariants.{Whole, Time, Length}
-use Rattle.rule_model.specs.declared.matched.Match.{Match}
 use Rattle.rule_model.specs.declared.program.Program.{Program}
-use Rattle.rule_model.specs.declared.program.Rule.{Rule}
 use Rattle.rule_model.specs.Candidates.{is_present, fits, is_inside, is_candidate, candidates, passes, passing}
-use Rattle.rule_model.specs.Matches.{match_of, match_cmp, matches_from, matches_of, rows_by_rule, has_match}
 use Rattle.rule_model.specs.Rows.{extended, tuples, rows}
 use Rattle.rule_model.specs.Simple.{is_whole, is_simple, are_simple}
 use Rattle.rule_model.specs.Snapshots.{Snapshot}
 use Rattle.rule_model.specs.Tests.{tests_hold}
 use Rattle.rule_model.specs.Tuples.{Tuple, empty_tuple, with_fact, row_of, unbound}
-use Rattle.rule_model.proofs.Firsts.{or_split}
 use Rattle.rule_model.proofs.Listed.{in_map, of_map, in_flat_map, of_flat_map}
 use Rattle.rule_model.proofs.Named.{AllOf, of_filter}
 use Rattle.rule_model.proofs.Order.{in_filter, passed}

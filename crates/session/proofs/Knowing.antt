@@ -44,7 +44,7 @@ use Rattle.session.specs.Places.{newest, planned, planned_for, held_at}
 use Rattle.session.specs.Standing.{Contents, Shown, Standing, StandsForSome}
 use Rattle.session.proofs.Acting.{asked_step}
 use Rattle.session.proofs.Firings.{plan_fits, plan_of, stands_pending, top_of}
-use Rattle.session.proofs.Sessions.{change_stands, shown, start, empty_stands}
+use Rattle.session.proofs.Sessions.{change_stands, shown}
 use Rattle.rule_model.specs.declared.action.Action.TheVariants as action
 use Rattle.rule_model.specs.declared.step.Step.TheVariants as step
 

@@ -1,5 +1,5 @@
 -- Matches, rule by rule, and what the differences of the rules do to an agenda.
-use Rattle.std.proofs.Common.{◌≡◌, ℕ, ◌+◌, ◌<◌, ◌≤◌, zero, suc, ◌==◌, ◌&&◌, ◌||◌, not, Bool, true, false, List, [], ◌∷◌, ◌++◌, map, length, take, get_or, slice_get, Option, Some, None, refl, sym, ◌∙◌, ap, subst, arith}
+use Rattle.std.proofs.Common.{◌≡◌, if◌then◌else◌, ℕ, ◌+◌, ◌<◌, ◌≤◌, zero, suc, ◌==◌, ◌&&◌, ◌||◌, not, Bool, true, false, List, [], ◌∷◌, ◌++◌, map, length, take, get_or, slice_get, Option, Some, None, refl, sym, ◌∙◌, ap, subst, arith}
 use Rattle.std.specs.Ordering.{eq_by_cmp}
 use Rattle.std.proofs.lemmas.Bool.Decides.{nat_tests}
 use Rattle.std.proofs.lemmas.Grind.{common_steps}
@@ -16,7 +16,7 @@ use Rattle.rule_model.proofs.Exact.{match_parts}
 use Rattle.rule_model.specs.Rows.{HaveOperators}
 use Rattle.rule_world.specs.Programs.{UseOperators}
 use Rattle.agenda.specs.Agendas.{Marks, IsChanged}
-use Rattle.session.specs.Refreshed.{matches_by, IsRefreshed}
+use Rattle.session.specs.Refreshed.{is_simple_rule, by_kind, matches_by, IsRefreshed}
 
 flip : (a b : ℕ) (t : Bool) → (a == b) ≡ t → (b == a) ≡ t
 flip a b t e = grind (arith, nat_tests)
@@ -117,9 +117,9 @@ past_rule found j (rule ∷ rules) m lt =
 
 found_from : (found : Rule → List Row) (j n : ℕ) (rules : List Rule) (m : Match) → m.rule.0 ≡ j + n → has_match (matches_from j (map found rules)) m ≡ found_at found (slice_get rules n) m.row
 unfolding matches_from
-found_from found j n [] m e = ap (λ (o : Option Rule). found_at found o m.row) (sym (none_at n))
+found_from found j n [] m e = sym (none_at n)
   where
-    none_at : (n : ℕ) → slice_get {A = Rule} [] n ≡ None
+    none_at : (n : ℕ) → found_at found (slice_get [] n) m.row ≡ false
     none_at zero = refl
     none_at (suc n) = refl
 found_from found j zero (rule ∷ rules) m e =
@@ -221,3 +221,16 @@ pub operators_at : (rules : List Rule) (k : ℕ) (rule : Rule) → UseOperators 
 operators_at [] k rule all lt is = absurd (omega arith)
 operators_at (r ∷ rules) zero rule all lt is = subst (λ (x : Rule). HaveOperators x.conditions) (sym is) all.0
 operators_at (r ∷ rules) (suc k) rule all lt is = operators_at rules k rule all.1 (omega arith) is
+
+-- ---- rules by their kind
+
+kind_by : (simple other : Rule → List Row) (rule : Rule) (b : Bool) → is_simple_rule rule ≡ b → by_kind simple other rule ≡ (if b then simple rule else other rule)
+kind_by simple other rule b e = ap (λ z. if z then simple rule else other rule) e
+
+pub unchanged_simple : (simple other : Rule → List Row) (rule : Rule) (d : Delta) → true ≡ is_simple_rule rule → IsBetween (simple rule) (simple rule) d → IsBetween (simple rule) (by_kind simple other rule) d
+unchanged_simple simple other rule d e h = subst (λ rows. IsBetween (simple rule) rows d) (sym (kind_by simple other rule true (sym e))) h
+
+pub unchanged_other : (old new other : Rule → List Row) (rule : Rule) (d : Delta) → false ≡ is_simple_rule rule → IsBetween (other rule) (other rule) d → IsBetween (by_kind old other rule) (by_kind new other rule) d
+unchanged_other old new other rule d e h =
+    subst (λ rows. IsBetween rows (by_kind new other rule) d) (sym (kind_by old other rule false (sym e)))
+    (subst (λ rows. IsBetween (other rule) rows d) (sym (kind_by new other rule false (sym e))) h)

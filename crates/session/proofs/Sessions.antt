@@ -1,11 +1,10 @@
 -- What a session answers in the worlds for which it stands.
-use Rattle.std.proofs.Common.{◌≡◌, ℕ, ℤ, pos, ◌&&◌, not, false, slice_get, List, [], ◌∷◌, ◌++◌, Option, Some, None, is_some, option_map, Result, refl, sym, ◌∙◌, ap, subst, arith}
+use Rattle.std.proofs.Common.{◌≡◌, ℕ, ℤ, pos, ◌&&◌, not, false, slice_get, List, [], ◌∷◌, ◌++◌, Option, Some, None, is_some, option_map, Result, refl, sym, ◌∙◌, ap, subst}
 use Rattle.std.specs.FinMap.{get-empty}
 use Rattle.std.specs.Ordering.{nat_cmp}
 use mathlib.Core.Path.{fun_ext}
 use Rattle.due_queue.specs.Timers.{Timers}
 use Rattle.fact_store.specs.Held.{HeldFacts}
-use Rattle.row_delta.specs.declared.row.Row.{Row}
 use Rattle.rule_model.specs.declared.life.LifeTable.{LifeTable}
 use Rattle.rule_model.specs.declared.matched.Match.{Match}
 use Rattle.rule_model.specs.declared.program.Program.{Program}
@@ -15,7 +14,6 @@ use Rattle.rule_model.specs.Matches.{has_match, saliences}
 use Rattle.rule_world.specs.declared.code.Code.{Code}
 use Rattle.rule_world.specs.Programs.{IsRunnable}
 use Rattle.rule_world.specs.Worlds.{World, empty_world, kept, found, marked}
-use Rattle.rule_world.proofs.Fresh.{and_parts}
 use Rattle.rule_world.proofs.Lawfuls.{empty_lawful}
 use Rattle.rule_world.proofs.Pending.{has_pending}
 use Rattle.agenda.specs.Agendas.{Marks}

@@ -17,7 +17,7 @@ use Rattle.rule_model.specs.declared.program.Rule.{Rule}
 use Rattle.rule_model.specs.declared.step.Step.TheVariants.{Modify}
 use Rattle.rule_model.specs.Candidates.{is_present}
 use Rattle.rule_model.specs.Distinct.{HaveDistinctTags}
-use Rattle.rule_model.specs.Matches.{matches, matches_of, has_match}
+use Rattle.rule_model.specs.Matches.{matches, has_match}
 use Rattle.rule_model.specs.Snapshots.{Snapshot}
 use Rattle.rule_model.specs.Types.{is_event}
 use Rattle.rule_model.proofs.Named.{AllOf, of_filter}
@@ -26,7 +26,6 @@ use Rattle.rule_rows.specs.Over.{over, present_at}
 use Rattle.rule_rows.proofs.Held.{held_distinct}
 use Rattle.rule_rows.proofs.Present.{rows_present}
 use Rattle.rule_world.specs.Lawful.{IsOrdered}
-use Rattle.rule_world.specs.Programs.{IsRunnable}
 use Rattle.rule_world.specs.declared.code.Code.{Code}
 use Rattle.rule_world.specs.declared.code.Code.TheVariants.{EventFixed}
 use Rattle.rule_world.specs.Events.{end_of_presence}

@@ -1,5 +1,5 @@
 -- What the facts of a session wait for, where facts come and go.
-use Rattle.std.proofs.Common.{◌≡◌, ℕ, ℤ, ◌==◌, ◌-ℤ◌, ◌+ℤ◌, ◌||◌, not, Bool, true, false, cond, int_lt, nat_eq, is_some, List, Option, Some, None, if◌then◌else◌, refl, sym, ◌∙◌, ap, arith}
+use Rattle.std.proofs.Common.{◌≡◌, ℕ, ℤ, ◌-ℤ◌, ◌+ℤ◌, ◌||◌, not, Bool, true, false, cond, int_lt, nat_eq, is_some, List, Option, Some, None, if◌then◌else◌, refl, sym, ◌∙◌, ap, arith}
 use Rattle.std.specs.Prelude.{int_le}
 use Rattle.std.specs.Cmp.{nat_cmp_total}
 use Rattle.std.specs.Bool.{OnTrue, OnFalse}

@@ -1,4 +1,4 @@
-use Rattle.std.proofs.Common.{◌≡◌, ◌≤ℤ◌, sym, subst, ap, to_z, of_z, w64}
+use Rattle.std.proofs.Common.{◌≡◌, ◌≤ℤ◌, sym, subst, to_z, of_z, w64}
 use Rattle.rule_world.specs.Worlds.{kept}
 use Rattle.session.specs.Standing.{Contents, Mirrors, Standing}
 use Rattle.session.proofs.Exactly.{exact, after_clock}
@@ -22,4 +22,4 @@ returns-clause-stands c w s =
     let later : w.clock ≤ℤ c.args.clock = subst (λ z. z ≤ℤ c.args.clock) s.mirrors.clock c.requires.later in
     rw same (subst (Mirrors p _) (sym (after_clock p w c.args.clock later))
     (clock_moves p k (kept p w) c.args.clock (exact p k w st) c.take_due.new.self c.in_ok-due.due.items (simp same at c.in_ok-due.ensures.ok) c.in_ok-facts.facts c.in_ok-facts.ensures.facts
-    c.in_ok-facts.agenda c.requires.runnable later (simp now at c.in_ok-facts.ensures.agenda)))
+    c.in_ok-agenda.agenda c.in_ok-facts.agenda later (simp (now, same) at c.in_ok-agenda.ensures) (simp now at c.in_ok-facts.ensures.agenda)))
