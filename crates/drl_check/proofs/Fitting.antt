@@ -17,6 +17,7 @@ use Rattle.drl_sight.specs.Sight.{Meaning, of_fact, of_field, of_result, Sight, 
 use Rattle.drl_program.specs.Programs.{small_place, field_place, kind_or_int, field_info, type_info, variable_value, variable_field_value, expression_in, set_in}
 use Rattle.drl_uses.specs.Kinds.{is_number, number_where, tree_kind, set_misfits, args_misfit}
 use Rattle.drl_check.proofs.Sound.{both, or_left, or_right}
+use Rattle.drl_check.proofs.Fields.{word_kind}
 use Rattle.drl_check.proofs.Places.{type_taken, Stands, got, taken_of}
 
 -- ---- kinds
@@ -137,15 +138,15 @@ module _ (names : List (List ℕ)) (types : List TypeTree) (taken : List ℕ) (s
 
   -- ---- actions
 
-  pub args_are_fit : (fs : List (List ℕ × List ℕ)) (es : List Tree) → args_misfit sight fs es ≡ false → args_fit fields (map field_info fs) (map (expression_in sight) es) ≡ true
+  pub args_are_fit : (fs : List (List ℕ × List ℕ)) (es : List Tree) → args_misfit sight (map word_kind fs) es ≡ false → args_fit fields (map field_info fs) (map (expression_in sight) es) ≡ true
   unfolding args_misfit args_fit
   args_are_fit [] [] h = refl
   args_are_fit [] (e ∷ es) h = absurd cc
   args_are_fit (f ∷ fs) [] h = absurd cc
   args_are_fit (f ∷ fs) (e ∷ es) h =
       both (is_kind (kind_or_int (kind_of f.1)) (expression_kind fields (expression_in sight e))) (args_fit fields (map field_info fs) (map (expression_in sight) es))
-      (arg_fits (kind_of f.1) e (or_left (set_misfits (kind_of f.1) (tree_kind sight e)) (args_misfit sight fs es) h))
-      (args_are_fit fs es (or_right (set_misfits (kind_of f.1) (tree_kind sight e)) (args_misfit sight fs es) h))
+      (arg_fits (kind_of f.1) e (or_left (set_misfits (kind_of f.1) (tree_kind sight e)) (args_misfit sight (map word_kind fs) es) h))
+      (args_are_fit fs es (or_right (set_misfits (kind_of f.1) (tree_kind sight e)) (args_misfit sight (map word_kind fs) es) h))
 
   assigned_fits : (fact : ℕ) (t : TypeTree) (o : Option ℕ) (e : Tree) → type_taken types taken fact ≡ Some t → set_misfits (option_and_then (kind_at t) o) (tree_kind sight e) ≡ false
       → set_of_kind (slice_get (fields (min fact 255)) (small_place o)) (expression_kind fields (expression_in sight e)) ≡ true

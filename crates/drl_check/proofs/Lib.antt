@@ -3,6 +3,8 @@ pub mod Exact
 pub mod Sound
 pub mod Checked
 pub mod Places
+pub mod Fields
 pub mod Fitting
 pub mod Typed
+pub mod Windows
 pub mod Runnable

@@ -9,7 +9,6 @@ use Rattle.std.proofs.lemmas.List.{length-map, map-append}
 use Rattle.std.proofs.lemmas.List.Folds.{list_any-append}
 use Rattle.drl_grammar.specs.declared.condition.CondTree.{CondTree}
 use Rattle.drl_grammar.specs.declared.condition.CondTree.TheVariants as tree
-use Rattle.drl_grammar.specs.declared.condition.WindowTree.{WindowTree}
 use Rattle.drl_grammar.specs.declared.file.Body.{Body}
 use Rattle.drl_grammar.specs.declared.file.Body.TheVariants as body
 use Rattle.drl_grammar.specs.declared.file.File.{File}
@@ -18,30 +17,22 @@ use Rattle.drl_grammar.specs.declared.file.Meta.{Meta}
 use Rattle.drl_grammar.specs.declared.file.Meta.TheVariants as meta
 use Rattle.drl_grammar.specs.declared.file.RuleTree.{RuleTree}
 use Rattle.drl_grammar.specs.declared.file.TypeTree.{TypeTree}
-use Rattle.rule_model.specs.declared.condition.Condition.{Condition}
-use Rattle.rule_model.specs.declared.condition.Condition.TheVariants.{Plain, Negated, Existing, Folded}
-use Rattle.rule_model.specs.declared.program.Program.{Program}
-use Rattle.rule_model.specs.declared.program.Rule.{Rule}
-use Rattle.rule_model.specs.Rows.{pattern_of}
-use Rattle.rule_model.specs.Simple.{is_whole, is_simple, are_simple}
-use Rattle.rule_model.specs.Types.{is_event}
 use Rattle.rule_world.specs.Events.{most_millis}
-use Rattle.rule_world.specs.Programs.{has_conditions, has_few_actions, has_expiry, has_window, has_windows, is_window, is_simple_rule, UseOperators, IsRunnable}
+use Rattle.rule_world.specs.Programs.{has_conditions, has_few_actions, has_expiry, UseOperators, IsRunnable}
 use Rattle.drl_sight.specs.Annotations.{expiry_of}
 use Rattle.drl_sight.specs.Annotations as annotation
 use Rattle.drl_sight.specs.Declarations.{types_of, rules_of, type_in, rule_in, type_names, type_named, field_names}
 use Rattle.drl_sight.specs.EntryPoints.{entries_named, entry_names}
 use Rattle.drl_sight.specs.Names.{is_among, are_distinct}
-use Rattle.drl_sight.specs.Sight.{Place, begin, behind}
+use Rattle.drl_sight.specs.Sight.{begin}
 use Rattle.drl_limits.specs.Limits.{span_limit, is_name, type_within, meta_within, exceeds_limit_behind}
 use Rattle.drl_program.specs.Laws.{has_type, has_types}
 use Rattle.drl_program.specs.Observed.{observed_names}
-use Rattle.drl_program.specs.Programs.{type_info, entry_info, window_of, condition_of, conditions_of, rule_of, program_of}
+use Rattle.drl_program.specs.Programs.{type_info, entry_info, rule_of, program_of}
 use Rattle.drl_program.proofs.Flagged.{observed_are_flagged}
 use Rattle.drl_program.proofs.Timed.{each_has_operator}
 use Rattle.drl_uses.specs.Uses.{is_type_unknown, has_unknown_type, inserts_unknown_type}
-use Rattle.drl_check.specs.declared.fault.CheckCode.TheVariants.{NotBuilt, TwiceDeclared, LimitPassed, UnknownType, NotAnEvent, BadParams}
-use Rattle.drl_check.specs.Built.{condition_unbuilt}
+use Rattle.drl_check.specs.declared.fault.CheckCode.TheVariants.{TwiceDeclared, LimitPassed, UnknownType, NotAnEvent, BadParams}
 use Rattle.drl_check.specs.Checks.{lacks_type, needs_event, has_bad_params, AllPass, IsAcceptedFile}
 use Rattle.drl_check.specs.Events.{is_of_events, is_no_event}
 use Rattle.drl_check.specs.Params.{has_short_expiry, expires_at_once}
@@ -49,21 +40,12 @@ use Rattle.drl_check.specs.Twice.{meta_word, is_twice, is_repeated}
 use Rattle.drl_sight.specs.EntryPoints.{declared_entries}
 use Rattle.drl_sight.specs.Declarations.{rule_names}
 use Rattle.drl_check.proofs.Failures.{types_next}
-use Rattle.drl_check.proofs.Sound.{and_left, and_right, not_and_right, both, or_left, or_right, few_types, few_rules, few_entries, one_entry, some_entry, late, all_late, conditions_sound, actions_sound, all_sound}
+use Rattle.drl_check.proofs.Sound.{and_left, and_right, not_and_right, both, is_time, given_time, or_left, or_right, few_types, few_rules, few_entries, one_entry, some_entry, late, all_late, conditions_sound, actions_sound, all_sound}
+use Rattle.drl_check.proofs.Fields.{same_bytes}
 use Rattle.drl_check.proofs.Typed.{accepted_typed}
+use Rattle.drl_check.proofs.Windows.{accepted_windows}
 
 -- ---- an explicit expiry is one of an event type, from 1 to 2^53 ms
-
-is_time : ℤ → Bool
-is_time n = int_le (pos 1) n && int_le n most_millis
-
-from_one : (n : ℕ) → int_lt (pos n) (pos 1) ≡ false → int_le (pos 1) (pos n) ≡ true
-from_one n e = grind (arith, nat_tests, ints)
-
-given_time : (n : ℤ) → int_lt n (pos 1) ≡ false → nat_le (unsigned_abs n) span_limit ≡ true → is_time n ≡ true
-unfolding is_time most_millis span_limit
-given_time (pos n) e h = both (int_le (pos 1) (pos n)) (int_le (pos n) most_millis) (from_one n e) h
-given_time (negsuc n) e h = absurd cc
 
 expiry_by : (metas : List Meta) (x : ℤ) → expiry_of metas ≡ Some x → list_any has_short_expiry metas ≡ false → list_all meta_within metas ≡ true
     → (list_any is_of_events metas ≡ true) × (is_time x ≡ true)
@@ -114,63 +96,7 @@ all_operators : (types : List TypeTree) (entries : List (List ℕ)) (rules : Lis
 all_operators types entries [] = tt
 all_operators types entries (r ∷ rules) = (each_has_operator types entries begin r.conditions, all_operators types entries rules)
 
--- ---- conditions are patterns without windows
-
-no_window : (o : Option WindowTree) → is_some o ≡ false → is_whole (window_of o) ≡ true
-no_window None e = refl
-no_window (Some w) e = absurd (let n : true ≡ false = e in cc)
-
-simple_by : (types : List TypeTree) (entries : List (List ℕ)) (place : Place) (c : CondTree) → condition_unbuilt c ≡ false → is_simple (condition_of types entries place c) ≡ true
-simple_by types entries place (tree.Plain s) e = no_window s.window e
-simple_by types entries place (tree.Negated s) e = absurd (let n : true ≡ false = e in cc)
-simple_by types entries place (tree.Existing s) e = absurd (let n : true ≡ false = e in cc)
-simple_by types entries place (tree.Folded result s kind arg tests) e = absurd (let n : true ≡ false = e in cc)
-
-simple_all : (types : List TypeTree) (entries : List (List ℕ)) (place : Place) (cs : List CondTree) → list_any condition_unbuilt cs ≡ false → are_simple (conditions_of types entries place cs) ≡ true
-unfolding conditions_of
-simple_all types entries place [] e = refl
-simple_all types entries place (c ∷ cs) e =
-    both (is_simple (condition_of types entries place c)) (are_simple (conditions_of types entries (behind types place c) cs))
-    (simple_by types entries place c (or_left (condition_unbuilt c) (list_any condition_unbuilt cs) e))
-    (simple_all types entries (behind types place c) cs (or_right (condition_unbuilt c) (list_any condition_unbuilt cs) e))
-
-simple_sound : (types : List TypeTree) (entries : List (List ℕ)) (r : RuleTree) → list_any condition_unbuilt r.conditions ≡ false → is_simple_rule (rule_of types entries r) ≡ true
-simple_sound types entries r built = simple_all types entries begin r.conditions built
-
-whole_fits : (a b : Bool) → a ≡ true → (a || b) ≡ true
-whole_fits true b e = refl
-whole_fits false b e = absurd (let n : false ≡ true = e in cc)
-
-simple_whole : (c : Condition) → is_simple c ≡ true → is_whole (pattern_of c).window ≡ true
-simple_whole (Plain q) e = e
-simple_whole (Negated q) e = absurd (let n : false ≡ true = e in cc)
-simple_whole (Existing q) e = absurd (let n : false ≡ true = e in cc)
-simple_whole (Folded a) e = absurd (let n : false ≡ true = e in cc)
-
-simple_windows : (p : Program) (cs : List Condition) → are_simple cs ≡ true → list_all (has_window p) cs ≡ true
-simple_windows p [] e = refl
-simple_windows p (c ∷ cs) e =
-    both (has_window p c) (list_all (has_window p) cs)
-    (whole_fits (is_whole (pattern_of c).window) (is_event p (pattern_of c).ty.0 && is_window (pattern_of c).window) (simple_whole c (and_left (is_simple c) (are_simple cs) e)))
-    (simple_windows p cs (and_right (is_simple c) (are_simple cs) e))
-
-rules_windows : (p : Program) (rules : List Rule) → list_all is_simple_rule rules ≡ true → list_all (has_windows p) rules ≡ true
-rules_windows p [] e = refl
-rules_windows p (r ∷ rules) e =
-    both (has_windows p r) (list_all (has_windows p) rules) (simple_windows p r.conditions (and_left (is_simple_rule r) (list_all is_simple_rule rules) e))
-    (rules_windows p rules (and_right (is_simple_rule r) (list_all is_simple_rule rules) e))
-
 -- ---- types are declared once
-
-same_bytes : (a b : List ℕ) → bytes_eq a b ≡ false → bytes_eq b a ≡ false
-same_bytes a b e = by (bytes_eq b a) refl
-  where
-    by : (t : Bool) → bytes_eq b a ≡ t → bytes_eq b a ≡ false
-    by true h = absurd (let n : true ≡ false = sym ((bytes_decides a b).1 (sym ((bytes_decides b a).0 h))) ∙ e in cc)
-    by false h = h
-
-negation : (a b : Bool) → a ≡ b → not a ≡ not b
-negation a b e = ap not e
 
 none_more : (a b : Bool) → not a ≡ true → b ≡ false → not (a || (b || false)) ≡ true
 none_more true b e h = absurd (let n : false ≡ true = e in cc)
@@ -252,7 +178,6 @@ accepted_runnable file a =
     let few = few_types file.items [] file.items a (omega arith) in
     let ways = few_entries file.items [] file.items a one_entry in
     let rules = few_rules file.items [] file.items a (omega arith) in
-    let simple = all_sound types entries is_simple_rule (λ r built within. simple_sound types entries r built) file.items [] file.items a in
     record {
       few_types = omega (arith, few, length-map types (type_info names));
       some_entry = omega (arith, some_entry (flat_map (λ (item : Item). entries_named item.body) file.items), length-map entries (entry_info file.items));
@@ -262,9 +187,8 @@ accepted_runnable file a =
       few_rules = omega (arith, rules, length-map (rules_of file.items) (rule_of types entries));
       conditions = all_sound types entries has_conditions (conditions_sound types entries) file.items [] file.items a;
       operators = all_operators types entries (rules_of file.items);
-      windows = rules_windows (program_of file) (program_of file).rules simple;
+      windows = accepted_windows file a;
       observed = observed_are_flagged file (omega (arith, few)) (declared_once file.items [] file.items a none_declared) (all_known file.items [] file.items a);
       actions = all_sound types entries has_few_actions (actions_sound types entries) file.items [] file.items a;
       typed = accepted_typed file a;
-      simple = simple;
     }

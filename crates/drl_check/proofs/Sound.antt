@@ -3,6 +3,7 @@ use Rattle.std.proofs.Common.{◌≡◌, ◌≤◌, ◌<◌, ◌+◌, ◌&&◌, 
 use Rattle.std.specs.List.{list_all, list_any}
 use Rattle.std.specs.Str.{bytes_eq}
 use Rattle.std.proofs.lemmas.Bool.Decides.{nat_tests}
+use Rattle.std.proofs.lemmas.Int.{ints}
 use Rattle.std.proofs.lemmas.List.{append-nil, length-map}
 use Rattle.drl_grammar.specs.declared.condition.CondTree.{CondTree}
 use Rattle.drl_grammar.specs.declared.condition.CondTree.TheVariants as tree
@@ -14,7 +15,7 @@ use Rattle.drl_grammar.specs.declared.file.RuleTree.{RuleTree}
 use Rattle.rule_model.specs.declared.program.Rule.{Rule}
 use Rattle.rule_world.specs.Events.{most_millis}
 use Rattle.rule_world.specs.Programs.{has_conditions, has_few_actions, has_lateness}
-use Rattle.drl_check.specs.declared.fault.CheckCode.TheVariants.{NotBuilt, LimitPassed, BadParams}
+use Rattle.drl_check.specs.declared.fault.CheckCode.TheVariants.{LimitPassed, BadParams}
 use Rattle.drl_sight.specs.Declarations.{types_of, rules_of, type_in, rule_in}
 use Rattle.drl_sight.specs.EntryPoints.{default_name, entries_named, with_name, with_names, entry_names, lateness_or_zero, lateness_with, lateness_named}
 use Rattle.drl_sight.specs.Names.{is_short, is_among}
@@ -22,7 +23,6 @@ use Rattle.drl_sight.specs.Sight.{Place, begin, behind, sight_of_actions}
 use Rattle.drl_limits.specs.Limits.{span_limit, is_entry_name, has_few_entries, lateness_within, exceeds_limit_behind, type_within, rule_within, attr_within, condition_within, action_within, actions_within}
 use Rattle.drl_program.specs.Programs.{entry_info, rule_of, action_of}
 use Rattle.drl_program.proofs.Flagged.{one_for_each}
-use Rattle.drl_check.specs.Built.{condition_unbuilt, not_built}
 use Rattle.drl_check.specs.Checks.{has_bad_params, AllPass}
 use Rattle.drl_check.specs.Params.{is_negative}
 use Rattle.drl_check.proofs.Failures.{types_next, rules_next, known_next}
@@ -177,6 +177,19 @@ unfolding is_lateness
 all_late items [] h = refl
 all_late items (name ∷ names) h = both (is_lateness (lateness_named items name)) (list_all has_lateness (map (entry_info items) names)) (h name) (all_late items names h)
 
+-- ---- times are from 1 to 2^53 ms
+
+unfoldable pub is_time : ℤ → Bool
+is_time n = int_le (pos 1) n && int_le n most_millis
+
+from_one : (n : ℕ) → int_lt (pos n) (pos 1) ≡ false → int_le (pos 1) (pos n) ≡ true
+from_one n e = grind (arith, nat_tests, ints)
+
+pub given_time : (n : ℤ) → int_lt n (pos 1) ≡ false → nat_le (unsigned_abs n) span_limit ≡ true → is_time n ≡ true
+unfolding is_time most_millis span_limit
+given_time (pos n) e h = both (int_le (pos 1) (pos n)) (int_le (pos n) most_millis) (from_one n e) h
+given_time (negsuc n) e h = absurd cc
+
 -- ---- conditions are few, and there are some
 
 pub or_left : (a b : Bool) → (a || b) ≡ false → a ≡ false
@@ -190,10 +203,10 @@ or_right true b e = absurd cc
 some : (n : ℕ) → nat_lt 0 n ≡ true → nat_le 1 n ≡ true
 some n e = grind (arith, nat_tests)
 
--- a built rule within the limits has few conditions, and one at least
-pub conditions_sound : (types : List TypeTree) (entries : List (List ℕ)) (r : RuleTree) → list_any condition_unbuilt r.conditions ≡ false → rule_within r ≡ true
+-- a rule within the limits has few conditions, and one at least
+pub conditions_sound : (types : List TypeTree) (entries : List (List ℕ)) (r : RuleTree) → rule_within r ≡ true
     → has_conditions (rule_of types entries r) ≡ true
-conditions_sound types entries r built e =
+conditions_sound types entries r e =
     let n = length r.conditions in
     let tests = list_all condition_within r.conditions in
     let before = nat_lt 0 (length r.name) && is_short 256 r.name && list_all attr_within r.attrs in
@@ -204,29 +217,29 @@ conditions_sound types entries r built e =
     rw (one_for_each types entries begin r.conditions) (both (nat_le 1 n) (nat_le n 8) (some n one) few)
 
 -- and few actions
-pub actions_sound : (types : List TypeTree) (entries : List (List ℕ)) (r : RuleTree) → list_any condition_unbuilt r.conditions ≡ false → rule_within r ≡ true
+pub actions_sound : (types : List TypeTree) (entries : List (List ℕ)) (r : RuleTree) → rule_within r ≡ true
     → has_few_actions (rule_of types entries r) ≡ true
-actions_sound types entries r built e =
+actions_sound types entries r e =
     let n = length r.actions in
     let front = nat_lt 0 (length r.name) && is_short 256 r.name && list_all attr_within r.attrs && nat_lt 0 (length r.conditions) && nat_le (length r.conditions) 8 && list_all condition_within r.conditions in
     let few : nat_le n 16 ≡ true = and_left (nat_le n 16) (list_all action_within r.actions) (and_right front (actions_within r.actions) e) in
     rw (length-map r.actions (action_of types (sight_of_actions types r.conditions))) few
 
--- ---- what is so of each built rule within the limits is so of all rules of an accepted file
+-- ---- what is so of each rule within the limits is so of all rules of an accepted file
 
-module _ (types : List TypeTree) (entries : List (List ℕ)) (test : Rule → Bool) (sound : (r : RuleTree) → list_any condition_unbuilt r.conditions ≡ false → rule_within r ≡ true → test (rule_of types entries r) ≡ true) where
-  body_sound : (n m : ℕ) (known : List (List ℕ)) (b : Body) (rest : List RuleTree) → not_built b ≡ false → exceeds_limit_behind n m known b ≡ false → list_all test (map (rule_of types entries) rest) ≡ true
+module _ (types : List TypeTree) (entries : List (List ℕ)) (test : Rule → Bool) (sound : (r : RuleTree) → rule_within r ≡ true → test (rule_of types entries r) ≡ true) where
+  body_sound : (n m : ℕ) (known : List (List ℕ)) (b : Body) (rest : List RuleTree) → exceeds_limit_behind n m known b ≡ false → list_all test (map (rule_of types entries) rest) ≡ true
       → list_all test (map (rule_of types entries) (rule_in b ++ rest)) ≡ true
-  body_sound n m known (body.Rule r) rest built e h =
+  body_sound n m known (body.Rule r) rest e h =
       let inside = not_and_right (nat_lt m 256 && has_few_entries known (body.Rule r)) (rule_within r) e in
-      both (test (rule_of types entries r)) (list_all test (map (rule_of types entries) rest)) (sound r built inside) h
-  body_sound n m known (body.Declare t) rest built e h = h
-  body_sound n m known (body.Package p) rest built e h = h
-  body_sound n m known (body.Import p s) rest built e h = h
-  body_sound n m known (body.Dialect d) rest built e h = h
-  body_sound n m known (body.Entry a l) rest built e h = h
+      both (test (rule_of types entries r)) (list_all test (map (rule_of types entries) rest)) (sound r inside) h
+  body_sound n m known (body.Declare t) rest e h = h
+  body_sound n m known (body.Package p) rest e h = h
+  body_sound n m known (body.Import p s) rest e h = h
+  body_sound n m known (body.Dialect d) rest e h = h
+  body_sound n m known (body.Entry a l) rest e h = h
 
   pub all_sound : (all before items : List Item) → AllPass all before items → list_all test (map (rule_of types entries) (rules_of items)) ≡ true
   all_sound all before [] p = refl
   all_sound all before (item ∷ items) p =
-      body_sound (length (types_of before)) (length (rules_of before)) (entry_names before) item.body (rules_of items) (p.0 NotBuilt) (p.0 LimitPassed) (all_sound all (before ++ item ∷ []) items p.1)
+      body_sound (length (types_of before)) (length (rules_of before)) (entry_names before) item.body (rules_of items) (p.0 LimitPassed) (all_sound all (before ++ item ∷ []) items p.1)

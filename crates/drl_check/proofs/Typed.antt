@@ -1,5 +1,5 @@
 -- The actions of the rules of an accepted file make values of the declared kinds.
-use Rattle.std.proofs.Common.{◌≡◌, ◌≤◌, ◌<◌, ◌++◌, ◌∷◌, ◌&&◌, ℕ, zero, suc, min, Bool, true, false, not, List, [], map, length, nat_le, nat_lt, slice_get, Option, Some, None, is_some, refl, sym, subst, arith}
+use Rattle.std.proofs.Common.{◌≡◌, ◌≤◌, ◌<◌, ◌++◌, ◌∷◌, ◌&&◌, ℕ, zero, suc, min, Bool, true, false, not, List, [], map, length, nat_le, nat_lt, slice_get, Option, Some, None, is_some, option_map, refl, sym, ap, subst, ◌∙◌, arith}
 use Rattle.std.specs.List.{list_all, list_any}
 use Rattle.std.proofs.lemmas.Bool.Decides.{nat_tests}
 use Rattle.std.proofs.lemmas.List.{length-map}
@@ -26,8 +26,9 @@ use Rattle.drl_program.specs.Observed.{observed_names}
 use Rattle.drl_program.specs.Programs.{type_place, type_info, conditions_of, expression_in, set_in, fact_meant, type_meant, action_of, rule_of, program_of}
 use Rattle.drl_check.specs.declared.fault.CheckCode.TheVariants.{LimitPassed, UnknownType, UnknownVariable, WrongKind}
 use Rattle.drl_check.specs.Checks.{lacks_type, lacks_variable, is_wrong_kind, AllPass, IsAcceptedFile}
-use Rattle.drl_uses.specs.Kinds.{insert_misfits, modify_misfits, has_wrong_kind, action_misfits}
+use Rattle.drl_uses.specs.Kinds.{taken_kinds, args_misfit, insert_misfits, modify_misfits, has_wrong_kind, action_misfits}
 use Rattle.drl_uses.specs.Uses.{any_condition, has_unknown_type, has_unknown_variable, inserts_unknown_type, action_unseen, target_unseen, leaf_unseen}
+use Rattle.drl_check.proofs.Fields.{HaveFieldsApart, kinds_taken, types_apart, apart_at}
 use Rattle.drl_check.proofs.Places.{taken_of, type_placed, few_bound, sight_stands}
 use Rattle.drl_check.proofs.Fitting.{HaveFewFields, InSight, fields_at, args_are_fit, sets_are_fit}
 use Rattle.drl_check.proofs.Sound.{and_left, and_right, not_and_right, both, or_left, or_right, within, few_types}
@@ -70,9 +71,9 @@ small_at (x ∷ types) h (suc ty) t e = small_at types (and_right (has_few_field
 
 -- ---- actions
 
-module _ (names : List (List ℕ)) (types : List TypeTree) (few : length types ≤ 128) (small : HaveFewFields types) (entries : List (List ℕ)) where
+module _ (names : List (List ℕ)) (types : List TypeTree) (few : length types ≤ 128) (small : HaveFewFields types) (apart : HaveFieldsApart types) (entries : List (List ℕ)) where
   module _ (taken : List ℕ) (sight : Sight) (bound : length taken ≤ 8) (seen : InSight types taken sight) where
-    insert_typed : (ty : List ℕ) (args : List Tree) (o : Option TypeTree) → type_named types ty ≡ o → not (is_some o) ≡ false → insert_misfits o sight args ≡ false
+    insert_typed : (ty : List ℕ) (args : List Tree) (o : Option TypeTree) → type_named types ty ≡ o → not (is_some o) ≡ false → insert_misfits (option_map taken_kinds o) sight args ≡ false
         → action_fits (map (type_info names) types) taken (action_of types sight (act.Insert ty args)) ≡ true
     insert_typed ty args None is e m = absurd cc
     insert_typed ty args (Some t) is e m =
@@ -81,9 +82,10 @@ module _ (names : List (List ℕ)) (types : List TypeTree) (few : length types �
         let there = slice_get_within types place t at in
         let es = map (expression_in sight) args in
         let fields = bound_fields (map (type_info names) types) taken in
+        let fit = sym (ap (λ kinds. args_misfit sight kinds args) (kinds_taken t (apart place t at))) ∙ m in
         both (nat_lt place (length (map (type_info names) types))) (args_fit fields (fields_in (slice_get (map (type_info names) types) place)) es)
         (less place (length (map (type_info names) types)) (omega (arith, there, length-map types (type_info names))))
-        (subst (λ fs. args_fit fields fs es ≡ true) (sym (fields_at names types place t at)) (args_are_fit names types taken sight small bound seen t.fields args m))
+        (subst (λ fs. args_fit fields fs es ≡ true) (sym (fields_at names types place t at)) (args_are_fit names types taken sight small bound seen t.fields args fit))
 
     modify_typed : (v : List ℕ) (sets : List (List ℕ × Tree)) (o : Option Meaning) → meaning_of sight v ≡ o → not (is_some o) ≡ false → modify_misfits o sight sets ≡ false
         → action_fits (map (type_info names) types) taken (Modify (fact_meant o) (map (set_in (type_meant o) sight) sets)) ≡ true
@@ -153,14 +155,15 @@ module _ (names : List (List ℕ)) (types : List TypeTree) (few : length types �
   body_typed n m known (body.Dialect d) rest e t v k h = h
   body_typed n m known (body.Entry a l) rest e t v k h = h
 
-rules_typed : (names : List (List ℕ)) (all : List Item) (entries : List (List ℕ)) → length (types_of all) ≤ 128 → HaveFewFields (types_of all) → (before items : List Item) → AllPass all before items
+rules_typed : (names : List (List ℕ)) (all : List Item) (entries : List (List ℕ)) → length (types_of all) ≤ 128 → HaveFewFields (types_of all) → HaveFieldsApart (types_of all) → (before items : List Item) → AllPass all before items
     → list_all (rule_fits (map (type_info names) (types_of all))) (map (rule_of (types_of all) entries) (rules_of items)) ≡ true
-rules_typed names all entries few small before [] p = refl
-rules_typed names all entries few small before (item ∷ items) p =
-    body_typed names (types_of all) few small entries (length (types_of before)) (length (rules_of before)) (entry_names before) item.body (rules_of items)
-    (p.0 LimitPassed) (p.0 UnknownType) (p.0 UnknownVariable) (p.0 WrongKind) (rules_typed names all entries few small (before ++ item ∷ []) items p.1)
+rules_typed names all entries few small apart before [] p = refl
+rules_typed names all entries few small apart before (item ∷ items) p =
+    body_typed names (types_of all) few small apart entries (length (types_of before)) (length (rules_of before)) (entry_names before) item.body (rules_of items)
+    (p.0 LimitPassed) (p.0 UnknownType) (p.0 UnknownVariable) (p.0 WrongKind) (rules_typed names all entries few small apart (before ++ item ∷ []) items p.1)
 
 pub accepted_typed : (file : File) → IsAcceptedFile file → is_typed (program_of file) ≡ true
 unfolding is_typed
 accepted_typed file a =
-    rules_typed (observed_names (rules_of file.items)) file.items (entry_names file.items) (few_types file.items [] file.items a (omega arith)) (small_at (types_of file.items) (types_small file.items [] file.items a)) [] file.items a
+    rules_typed (observed_names (rules_of file.items)) file.items (entry_names file.items) (few_types file.items [] file.items a (omega arith)) (small_at (types_of file.items) (types_small file.items [] file.items a))
+    (apart_at (types_of file.items) (types_apart file.items [] file.items a)) [] file.items a

@@ -7,11 +7,10 @@ use Rattle.drl_grammar.specs.declared.file.Body.TheVariants as body
 use Rattle.drl_grammar.specs.declared.file.Item.{Item}
 use Rattle.drl_grammar.specs.declared.file.TypeTree.{TypeTree}
 use Rattle.drl_check.specs.declared.fault.CheckCode.{CheckCode}
-use Rattle.drl_check.specs.declared.fault.CheckCode.TheVariants.{NotBuilt, TwiceDeclared, LimitPassed, UnknownType, UnknownField, UnknownVariable, WrongKind, NotAnEvent, BadTimestamp, EventFixed, EventObserved, BadParams}
+use Rattle.drl_check.specs.declared.fault.CheckCode.TheVariants.{TwiceDeclared, LimitPassed, UnknownType, UnknownField, UnknownVariable, WrongKind, NotAnEvent, BadTimestamp, EventFixed, EventObserved, BadParams}
 use Rattle.drl_sight.specs.Declarations.{types_of}
 use Rattle.drl_sight.specs.Observed.{is_observed}
 use Rattle.drl_sight.specs.Sight.{begin, sight_of_actions}
-use Rattle.drl_check.specs.Built.{not_built}
 use Rattle.drl_check.specs.Twice.{is_twice}
 use Rattle.drl_limits.specs.Limits.{exceeds_limit}
 use Rattle.drl_uses.specs.Uses.{any_condition, has_unknown_type, has_unknown_field, has_unknown_variable, inserts_unknown_type, action_lacks, action_unseen}
@@ -95,7 +94,6 @@ has_bad_params (body.Dialect text) = false
 
 -- whether an item fails the check of this code, given all the items of the file and those before it
 abbrev pub fails : CheckCode → List Item → List Item → Body → Bool
-fails NotBuilt all before b = not_built b
 fails TwiceDeclared all before b = is_twice before b
 fails LimitPassed all before b = exceeds_limit before b
 fails UnknownType all before b = lacks_type (types_of all) b
@@ -110,7 +108,7 @@ fails BadParams all before b = has_bad_params b
 
 -- the codes, in the order in which they are tried
 abbrev pub codes_in_order : List CheckCode
-codes_in_order = NotBuilt ∷ TwiceDeclared ∷ LimitPassed ∷ UnknownType ∷ UnknownField ∷ UnknownVariable ∷ WrongKind ∷ NotAnEvent ∷ BadTimestamp ∷ EventFixed ∷ EventObserved ∷ BadParams ∷ []
+codes_in_order = TwiceDeclared ∷ LimitPassed ∷ UnknownType ∷ UnknownField ∷ UnknownVariable ∷ WrongKind ∷ NotAnEvent ∷ BadTimestamp ∷ EventFixed ∷ EventObserved ∷ BadParams ∷ []
 
 -- an item passes all checks
 abbrev pub Passes : List Item → List Item → Body → Type 0

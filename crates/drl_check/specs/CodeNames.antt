@@ -1,10 +1,9 @@
 -- The names of the codes of checks, as the line of a refused file prints them.
 use Rattle.std.specs.Prelude.{ℕ, List, codes}
 use Rattle.drl_check.specs.declared.fault.CheckCode.{CheckCode}
-use Rattle.drl_check.specs.declared.fault.CheckCode.TheVariants.{NotBuilt, TwiceDeclared, LimitPassed, UnknownType, UnknownField, UnknownVariable, WrongKind, NotAnEvent, BadTimestamp, EventFixed, EventObserved, BadParams}
+use Rattle.drl_check.specs.declared.fault.CheckCode.TheVariants.{TwiceDeclared, LimitPassed, UnknownType, UnknownField, UnknownVariable, WrongKind, NotAnEvent, BadTimestamp, EventFixed, EventObserved, BadParams}
 
 abbrev pub check_code_name : CheckCode → List ℕ
-check_code_name NotBuilt = codes "NotBuilt"
 check_code_name TwiceDeclared = codes "TwiceDeclared"
 check_code_name LimitPassed = codes "LimitPassed"
 check_code_name UnknownType = codes "UnknownType"

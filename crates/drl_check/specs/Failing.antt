@@ -5,8 +5,7 @@ use Rattle.drl_grammar.specs.declared.file.Body.{Body}
 use Rattle.drl_grammar.specs.declared.file.TypeTree.{TypeTree}
 use Rattle.drl_sight.specs.Observed.{is_event_among}
 use Rattle.drl_check.specs.declared.fault.CheckCode.{CheckCode}
-use Rattle.drl_check.specs.declared.fault.CheckCode.TheVariants.{NotBuilt, TwiceDeclared, LimitPassed, UnknownType, UnknownField, UnknownVariable, WrongKind, NotAnEvent, BadTimestamp, EventFixed, EventObserved, BadParams}
-use Rattle.drl_check.specs.Built.{not_built}
+use Rattle.drl_check.specs.declared.fault.CheckCode.TheVariants.{TwiceDeclared, LimitPassed, UnknownType, UnknownField, UnknownVariable, WrongKind, NotAnEvent, BadTimestamp, EventFixed, EventObserved, BadParams}
 use Rattle.drl_check.specs.Twice.{is_repeated}
 use Rattle.drl_limits.specs.Limits.{exceeds_limit_behind}
 use Rattle.drl_check.specs.Checks.{lacks_type, lacks_field, lacks_variable, is_wrong_kind, needs_event, needs_whole_times, fixes_event, drops_observed, has_bad_params}
@@ -32,7 +31,6 @@ first_failing_use all watched b =
 -- points that are known
 abbrev pub first_failing : List TypeTree → List (List ℕ) → List (List ℕ) → List (List ℕ) → List (List ℕ) → List (List ℕ) → Body → Option CheckCode
 first_failing all watched types entries rules known b =
-    if not_built b then Some NotBuilt
-    else if is_repeated types entries rules b then Some TwiceDeclared
+    if is_repeated types entries rules b then Some TwiceDeclared
     else if exceeds_limit_behind (length types) (length rules) known b then Some LimitPassed
     else first_failing_use all watched b

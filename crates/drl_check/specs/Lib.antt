@@ -1,5 +1,4 @@
 pub mod CodeNames
-pub mod Built
 pub mod Twice
 pub mod Events
 pub mod Params

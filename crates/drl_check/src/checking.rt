@@ -23,7 +23,7 @@ fn checked_program(alloc: Global, file: &File) -> Result<Program, CheckFault>
     let whole = Whole::of(alloc, items)?;
     refusal(alloc, &whole, items)?;
     let entries = entry_points(alloc, items)?;
-    Ok(program(alloc, &whole.types, &entries, items)?)
+    Ok(program(alloc, whole.types.declared(), &entries, items)?)
 }
 
 /// The program of a file, exactly where all its items pass all the checks; else the first item that fails one, with the

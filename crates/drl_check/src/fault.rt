@@ -7,8 +7,6 @@ use thiserror::Error;
 /// Why an item is refused. The codes are tried over an item in the order in which they stand here.
 #[derive(Clone, Copy, Debug, PartialEq, Eq)]
 pub enum CheckCode {
-    /// It has a construct that this version of the engine does not serve.
-    NotBuilt,
     /// An earlier item declares the same type, entry point or rule; or an annotation, a field, an attribute or a variable stands
     /// twice in it; or a modification assigns a field twice.
     TwiceDeclared,
@@ -49,7 +47,6 @@ impl CheckCode {
         ensures { result.now ≡ check_code_name self }
     {
         match self {
-            CheckCode::NotBuilt => "NotBuilt",
             CheckCode::TwiceDeclared => "TwiceDeclared",
             CheckCode::LimitPassed => "LimitPassed",
             CheckCode::UnknownType => "UnknownType",

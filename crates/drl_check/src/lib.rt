@@ -2,7 +2,6 @@
 //! It takes any file of trees, and assumes nothing of it.
 #![tactic(auto)]
 
-mod built;
 mod checking;
 mod events;
 mod fault;

@@ -6,7 +6,6 @@ ghost use Rattle.drl_check.specs.Checks.{lacks_type, lacks_field as lacks_field_
 ghost use Rattle.drl_check.specs.Failing.{first_failing, first_failing_event, first_failing_use};
 ghost use Rattle.drl_check.specs.Answers.{within_32_bits, Judges};
 
-use crate::built::is_unbuilt;
 use crate::events::{
     is_plain_with_times, lacks_annotated, misfits_annotated, modifies_some_event,
     retracts_some_observed,
@@ -18,7 +17,7 @@ use crate::{CheckCode, CheckFault};
 use drl_grammar::{Body, Item};
 use drl_limits::exceeds_limits;
 use drl_sight::{Declared, Places, default_entry, with_entries};
-use drl_uses::{Asked, insert_unknown, is_so_in_rule, lack_times, lack_type, lacks_kind};
+use drl_uses::{Asked, Kinded, insert_unknown, is_so_in_rule, lack_times, lack_type, lacks_kind};
 use fx_base::NoMemory;
 use std::alloc::Global;
 
@@ -38,7 +37,7 @@ fn is_type_missing(types: &Declared, body: &Body) -> bool
     }
 }
 
-fn is_field_missing(alloc: Global, types: &Declared, body: &Body) -> Result<bool, NoMemory>
+fn is_field_missing(alloc: Global, types: &Kinded, body: &Body) -> Result<bool, NoMemory>
     ensures { IfOk result (λ missing. missing ≡ lacks_field_of types.now body.now) }
 {
     match body {
@@ -48,7 +47,7 @@ fn is_field_missing(alloc: Global, types: &Declared, body: &Body) -> Result<bool
     }
 }
 
-fn is_variable_missing(alloc: Global, types: &Declared, body: &Body) -> Result<bool, NoMemory>
+fn is_variable_missing(alloc: Global, types: &Kinded, body: &Body) -> Result<bool, NoMemory>
     ensures { IfOk result (λ missing. missing ≡ lacks_variable_of types.now body.now) }
 {
     match body {
@@ -61,7 +60,7 @@ fn is_variable_missing(alloc: Global, types: &Declared, body: &Body) -> Result<b
     }
 }
 
-fn is_kind_wrong(alloc: Global, types: &Declared, body: &Body) -> Result<bool, NoMemory>
+fn is_kind_wrong(alloc: Global, types: &Kinded, body: &Body) -> Result<bool, NoMemory>
     ensures { IfOk result (λ wrong. wrong ≡ is_wrong_kind types.now body.now) }
 {
     match body {
@@ -111,7 +110,9 @@ fn is_observed_retracted(alloc: Global, whole: &Whole, body: &Body) -> Result<bo
     ensures { IfOk result (λ retracted. retracted ≡ drops_observed (is_event_among whole.now.watched) whole.now.types body.now) }
 {
     match body {
-        Body::Rule(tree) => retracts_some_observed(alloc, &whole.types, &whole.watched, tree),
+        Body::Rule(tree) => {
+            retracts_some_observed(alloc, whole.types.declared(), &whole.watched, tree)
+        },
         Body::Package(_)
         | Body::Import { .. }
         | Body::Dialect(_)
@@ -135,13 +136,13 @@ fn are_params_bad(body: &Body) -> bool
 fn failing_event(alloc: Global, whole: &Whole, body: &Body) -> Result<Option<CheckCode>, NoMemory>
     ensures { IfOk result (λ code. code ≡ first_failing_event whole.now.types whole.now.watched body.now) }
 {
-    if is_event_missing(alloc, &whole.types, body)? {
+    if is_event_missing(alloc, whole.types.declared(), body)? {
         return Ok(Some(CheckCode::NotAnEvent));
     }
     if is_timestamp_bad(alloc, body)? {
         return Ok(Some(CheckCode::BadTimestamp));
     }
-    if is_event_modified(alloc, &whole.types, body)? {
+    if is_event_modified(alloc, whole.types.declared(), body)? {
         return Ok(Some(CheckCode::EventFixed));
     }
     if is_observed_retracted(alloc, whole, body)? {
@@ -157,7 +158,7 @@ fn failing_event(alloc: Global, whole: &Whole, body: &Body) -> Result<Option<Che
 fn failing_use(alloc: Global, whole: &Whole, body: &Body) -> Result<Option<CheckCode>, NoMemory>
     ensures { IfOk result (λ code. code ≡ first_failing_use whole.now.types whole.now.watched body.now) }
 {
-    if is_type_missing(&whole.types, body) {
+    if is_type_missing(whole.types.declared(), body) {
         return Ok(Some(CheckCode::UnknownType));
     }
     if is_field_missing(alloc, &whole.types, body)? {
@@ -186,9 +187,6 @@ fn failing(
     ensures { (before : List (List ℕ)) → known.now ≡ with_names before (entries_named body.now)
         → IfOk result (λ code. code ≡ first_failing whole.now.types whole.now.watched earlier_types.now earlier_entries.now earlier_rules.now before body.now) }
 {
-    if is_unbuilt(body) {
-        return Ok(Some(CheckCode::NotBuilt));
-    }
     if repeats(alloc, earlier_types, earlier_entries, earlier_rules, body)? {
         return Ok(Some(CheckCode::TwiceDeclared));
     }

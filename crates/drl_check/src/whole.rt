@@ -3,7 +3,8 @@ ghost use Rattle.drl_sight.specs.Declarations.{types_of};
 ghost use Rattle.drl_sight.specs.Observed.{watched_names};
 
 use drl_grammar::Item;
-use drl_sight::{Declared, Places, watched_types};
+use drl_sight::{Places, watched_types};
+use drl_uses::Kinded;
 use fx_base::NoMemory;
 use std::alloc::Global;
 
@@ -11,7 +12,7 @@ use std::alloc::Global;
 /// gathered once.
 #[derive(Drop)]
 pub(crate) struct Whole<'a> {
-    pub(crate) types: Declared<'a>,
+    pub(crate) types: Kinded<'a>,
     pub(crate) watched: Places,
 }
 
@@ -22,7 +23,7 @@ impl<'a> Whole<'a> {
         ensures watched { IfOk result (λ whole. whole.watched ≡ watched_names items.now) }
     {
         Ok(Whole {
-            types: Declared::of(alloc, items)?,
+            types: Kinded::of(alloc, items)?,
             watched: watched_types(alloc, items)?,
         })
     }

@@ -1,5 +1,5 @@
 -- Values of a kind that does not fit where they stand.
-use Rattle.std.specs.Prelude.{ℕ, ◌&&◌, ◌||◌, Bool, true, false, not, List, [], ◌∷◌, Option, Some, None, is_some}
+use Rattle.std.specs.Prelude.{ℕ, ◌&&◌, ◌||◌, Bool, true, false, not, List, [], ◌∷◌, ◌++◌, Option, Some, None, is_some, option_map, if◌then◌else◌}
 use Rattle.std.specs.List.{list_any}
 use Rattle.std.specs.Str.{bytes_eq}
 use Rattle.fx_base.specs.declared.kind.Kind.{Kind}
@@ -24,6 +24,7 @@ use Rattle.drl_grammar.specs.declared.condition.Operand.{Operand}
 use Rattle.drl_grammar.specs.declared.condition.Operand.TheVariants as operand
 use Rattle.drl_grammar.specs.declared.file.TypeTree.{TypeTree}
 use Rattle.drl_sight.specs.Declarations.{type_named, kind_of}
+use Rattle.drl_sight.specs.Names.{is_among}
 use Rattle.drl_sight.specs.Meanings.{field_kind, variable_kind, variable_field_kind}
 use Rattle.drl_sight.specs.Sight.{Sight, Meaning, of_fact, of_field, of_result, meaning_of, Place}
 
@@ -154,15 +155,27 @@ set_misfits None given = true
 set_misfits field None = true
 set_misfits field (Some given) = not (is_same_kind field given)
 
--- one expression for each field, of its kind
-unfoldable pub args_misfit : Sight → List (List ℕ × List ℕ) → List Tree → Bool
-args_misfit sight [] [] = false
-args_misfit sight (field ∷ fields) (e ∷ es) = set_misfits (kind_of field.1) (tree_kind sight e) || args_misfit sight fields es
-args_misfit sight fields es = true
+-- The kind of a field, given the names that stand before it. A field that is declared twice counts once, as its first declaration.
+abbrev pub kind_behind : List (List ℕ) → List ℕ × List ℕ → List (Option Kind)
+kind_behind before field = if is_among before field.0 then [] else kind_of field.1 ∷ []
 
-abbrev pub insert_misfits : Option TypeTree → Sight → List Tree → Bool
+unfoldable pub kinds_once : List (List ℕ) → List (List ℕ × List ℕ) → List (Option Kind)
+kinds_once before [] = []
+kinds_once before (field ∷ fields) = kind_behind before field ++ kinds_once (before ++ field.0 ∷ []) fields
+
+-- the kinds of the values that an insert takes
+abbrev pub taken_kinds : TypeTree → List (Option Kind)
+taken_kinds t = kinds_once [] t.fields
+
+-- one expression for each field, of its kind
+unfoldable pub args_misfit : Sight → List (Option Kind) → List Tree → Bool
+args_misfit sight [] [] = false
+args_misfit sight (k ∷ kinds) (e ∷ es) = set_misfits k (tree_kind sight e) || args_misfit sight kinds es
+args_misfit sight kinds es = true
+
+abbrev pub insert_misfits : Option (List (Option Kind)) → Sight → List Tree → Bool
 insert_misfits None sight args = false
-insert_misfits (Some t) sight args = args_misfit sight t.fields args
+insert_misfits (Some kinds) sight args = args_misfit sight kinds args
 
 -- a value can not be modified
 abbrev pub modify_misfits : Option Meaning → Sight → List (List ℕ × Tree) → Bool
@@ -179,6 +192,6 @@ retract_misfits (Some (of_fact fact t)) = false
 retract_misfits None = false
 
 abbrev pub action_misfits : List TypeTree → Sight → ActTree → Bool
-action_misfits types sight (action.Insert ty args) = insert_misfits (type_named types ty) sight args
+action_misfits types sight (action.Insert ty args) = insert_misfits (option_map taken_kinds (type_named types ty)) sight args
 action_misfits types sight (action.Modify v sets) = modify_misfits (meaning_of sight v) sight sets
 action_misfits types sight (action.Retract v) = retract_misfits (meaning_of sight v)

@@ -4,10 +4,11 @@ ghost use Rattle.drl_expr.specs.Tree.{Tree};
 ghost use Rattle.drl_sight.specs.Meanings.{field_kind};
 ghost use Rattle.drl_uses.specs.Kinds.{is_number, number_where, tree_kind, set_misfits, args_misfit, modify_misfits, retract_misfits, action_misfits};
 
+use crate::kinded::Kinded;
 use crate::kinds::{are_same, is_whole, kind_of_literal, kind_of_variable, kind_of_variable_field};
 use drl_expr::{ExprTree, Node};
 use drl_grammar::ActTree;
-use drl_sight::{Declared, DeclaredType, Meaning, Place, Seen, kind_of_word};
+use drl_sight::{DeclaredType, Meaning, Place, Seen};
 use fx_base::{Kind, Text};
 
 // ---- expressions
@@ -64,20 +65,20 @@ fn does_set_misfit(field: Option<Kind>, given: Option<Option<Kind>>) -> bool
 
 // Whether there is not one expression for each field, of its kind.
 #[tactic(auto, unfolding(crate::specs::Kinds::args_misfit))]
-fn do_args_misfit(place: &Place, fields: &[(Text, Text)], args: &[ExprTree]) -> bool
-    ensures { result ≡ args_misfit place.now.sight fields.now args.now }
+fn do_args_misfit(place: &Place, kinds: &[Option<Kind>], args: &[ExprTree]) -> bool
+    ensures { result ≡ args_misfit place.now.sight kinds.now args.now }
 {
     for (k, arg) in args.iter().enumerate() {
-        match fields.get(k) {
-            Some(field) => {
-                if does_set_misfit(kind_of_word(&field.1), kind_of_tree(place, arg)) {
+        match kinds.get(k) {
+            Some(kind) => {
+                if does_set_misfit(*kind, kind_of_tree(place, arg)) {
                     return true;
                 }
             }
             None => return true,
         }
     }
-    args.len() < fields.len()
+    args.len() < kinds.len()
 }
 
 fn do_sets_misfit(ty: &DeclaredType, place: &Place, sets: &[(Text, ExprTree)]) -> bool
@@ -107,12 +108,12 @@ fn does_retract_misfit(meaning: &Meaning) -> bool
 }
 
 /// Whether an action has a value that does not fit where it stands, or too few or too many, or changes what is no fact.
-pub(crate) fn misfits_in_action(types: &Declared, place: &Place, action: &ActTree) -> bool
+pub(crate) fn misfits_in_action(types: &Kinded, place: &Place, action: &ActTree) -> bool
     ensures { result ≡ action_misfits types.now place.now.sight action.now }
 {
     match action {
-        ActTree::Insert { ty, args } => match types.find(ty) {
-            Some(ty) => do_args_misfit(place, ty.fields(), args.as_slice()),
+        ActTree::Insert { ty, args } => match types.taken(ty) {
+            Some(kinds) => do_args_misfit(place, kinds.as_slice(), args.as_slice()),
             None => false,
         },
         ActTree::Modify { var, sets } => match place.find(var) {

@@ -4,6 +4,7 @@ ghost use Rattle.drl_uses.specs.Asked.{asked_of, asked_of_action, asked_of_rule}
 
 use crate::action_kinds::misfits_in_action;
 use crate::action_uses::{lacks_field_in, lacks_variable_in};
+use crate::kinded::Kinded;
 use crate::kinds::misfits_in;
 use crate::uses::{lacks_field, lacks_variable};
 use drl_grammar::{ActTree, CondTree, RuleTree};
@@ -29,7 +30,7 @@ fn is_so(asked: Asked, types: &Declared, place: &Place, condition: &CondTree) ->
     }
 }
 
-fn is_so_of(asked: Asked, types: &Declared, place: &Place, action: &ActTree) -> bool
+fn is_so_of(asked: Asked, types: &Kinded, place: &Place, action: &ActTree) -> bool
     ensures { result ≡ asked_of_action asked types.now place.now.sight action.now }
 {
     match asked {
@@ -39,7 +40,7 @@ fn is_so_of(asked: Asked, types: &Declared, place: &Place, action: &ActTree) -> 
     }
 }
 
-fn is_so_of_some(asked: Asked, types: &Declared, place: &Place, actions: &[ActTree]) -> bool
+fn is_so_of_some(asked: Asked, types: &Kinded, place: &Place, actions: &[ActTree]) -> bool
     ensures { result ≡ list_any (asked_of_action asked types.now place.now.sight) actions.now }
 {
     actions
@@ -52,17 +53,17 @@ fn is_so_of_some(asked: Asked, types: &Declared, place: &Place, actions: &[ActTr
 pub fn is_so_in_rule(
     alloc: Global,
     asked: Asked,
-    types: &Declared,
+    types: &Kinded,
     tree: &RuleTree,
 ) -> Result<bool, NoMemory>
     ensures { IfOk result (λ so. so ≡ asked_of_rule asked types.now tree.now) }
 {
     let mut place = Place::begin(alloc);
     for condition in tree.conditions.as_slice() {
-        if is_so(asked, types, &place, condition) {
+        if is_so(asked, types.declared(), &place, condition) {
             return Ok(true);
         }
-        place = place.behind(alloc, types, condition)?;
+        place = place.behind(alloc, types.declared(), condition)?;
     }
     Ok(is_so_of_some(asked, types, &place, tree.actions.as_slice()))
 }

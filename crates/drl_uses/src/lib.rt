@@ -6,12 +6,14 @@
 mod action_kinds;
 mod action_uses;
 mod asked;
+mod kinded;
 mod kinds;
 mod times;
 mod uses;
 
 pub use action_uses::insert_unknown;
 pub use asked::{Asked, is_so_in_rule};
+pub use kinded::Kinded;
 pub use kinds::{is_whole, lacks_kind};
 pub use times::lack_times;
 pub use uses::lack_type;
