@@ -1,10 +1,7 @@
 -- The program of an accepted file is one that engines run.
-use Rattle.std.proofs.Common.{◌≡◌, ◌≤◌, ◌++◌, ◌∷◌, ◌&&◌, ◌||◌, ℕ, ℤ, pos, negsuc, Bool, true, false, not, nat_le, nat_lt, int_le, int_lt, unsigned_abs, length, List, [], map, Option, Some, None, is_some, refl, sym, ◌∙◌, ap, subst, append-nil, append_assoc, arith}
+use Rattle.std.proofs.Common.{◌≡◌, ◌++◌, ◌∷◌, ◌&&◌, ◌||◌, ℕ, ℤ, Bool, true, false, not, nat_le, nat_lt, length, List, [], map, Option, Some, None, is_some, refl, sym, ◌∙◌, ap, subst, append-nil, append_assoc, arith}
 use Rattle.std.specs.List.{list_all, list_any, flat_map}
 use Rattle.std.specs.Str.{bytes_eq}
-use Rattle.std.specs.Cmp.Lexicographic.{bytes_decides}
-use Rattle.std.proofs.lemmas.Bool.Decides.{nat_tests}
-use Rattle.std.proofs.lemmas.Int.{ints}
 use Rattle.std.proofs.lemmas.List.{length-map, map-append}
 use Rattle.std.proofs.lemmas.List.Folds.{list_any-append}
 use Rattle.drl_grammar.specs.declared.condition.CondTree.{CondTree}
@@ -17,7 +14,6 @@ use Rattle.drl_grammar.specs.declared.file.Meta.{Meta}
 use Rattle.drl_grammar.specs.declared.file.Meta.TheVariants as meta
 use Rattle.drl_grammar.specs.declared.file.RuleTree.{RuleTree}
 use Rattle.drl_grammar.specs.declared.file.TypeTree.{TypeTree}
-use Rattle.rule_world.specs.Events.{most_millis}
 use Rattle.rule_world.specs.Programs.{has_conditions, has_few_actions, has_expiry, UseOperators, IsRunnable}
 use Rattle.drl_sight.specs.Annotations.{expiry_of}
 use Rattle.drl_sight.specs.Annotations as annotation
@@ -25,7 +21,7 @@ use Rattle.drl_sight.specs.Declarations.{types_of, rules_of, type_in, rule_in, t
 use Rattle.drl_sight.specs.EntryPoints.{entries_named, entry_names}
 use Rattle.drl_sight.specs.Names.{is_among, are_distinct}
 use Rattle.drl_sight.specs.Sight.{begin}
-use Rattle.drl_limits.specs.Limits.{span_limit, is_name, type_within, meta_within, exceeds_limit_behind}
+use Rattle.drl_limits.specs.Limits.{is_name, type_within, meta_within, exceeds_limit_behind}
 use Rattle.drl_program.specs.Laws.{has_type, has_types}
 use Rattle.drl_program.specs.Observed.{observed_names}
 use Rattle.drl_program.specs.Programs.{type_info, entry_info, rule_of, program_of}
@@ -36,7 +32,7 @@ use Rattle.drl_check.specs.declared.fault.CheckCode.TheVariants.{TwiceDeclared, 
 use Rattle.drl_check.specs.Checks.{lacks_type, needs_event, has_bad_params, AllPass, IsAcceptedFile}
 use Rattle.drl_check.specs.Events.{is_of_events, is_no_event}
 use Rattle.drl_check.specs.Params.{has_short_expiry, expires_at_once}
-use Rattle.drl_check.specs.Twice.{meta_word, is_twice, is_repeated}
+use Rattle.drl_check.specs.Twice.{meta_word, is_repeated}
 use Rattle.drl_sight.specs.EntryPoints.{declared_entries}
 use Rattle.drl_sight.specs.Declarations.{rule_names}
 use Rattle.drl_check.proofs.Failures.{types_next}

@@ -106,15 +106,15 @@ module _ (types : List TypeTree) (entries : List (List ℕ)) (p : Program)
   unfolding conditions_of any_condition
   condition_windows place [] d l r w = refl
   condition_windows place (c ∷ cs) d l r w =
-      let place2 = behind types place c in
+      let next = behind types place c in
       let unknown = has_unknown_type types cs in
-      let untimed = any_condition (has_no_times types) types place2 cs in
+      let untimed = any_condition (has_no_times types) types next cs in
       let refused = list_any is_condition_refused cs in
       let rest = list_all condition_within cs in
-      both (has_window p (condition_of types entries place c)) (list_all (has_window p) (conditions_of types entries place2 cs))
+      both (has_window p (condition_of types entries place c)) (list_all (has_window p) (conditions_of types entries next cs))
       (condition_window place c (or_left (is_type_unknown types c) unknown d) (or_left (has_no_times types place c) untimed l) (or_left (is_condition_refused c) refused r)
       (and_left (condition_within c) rest w))
-      (condition_windows place2 cs (or_right (is_type_unknown types c) unknown d) (or_right (has_no_times types place c) untimed l) (or_right (is_condition_refused c) refused r)
+      (condition_windows next cs (or_right (is_type_unknown types c) unknown d) (or_right (has_no_times types place c) untimed l) (or_right (is_condition_refused c) refused r)
       (and_right (condition_within c) rest w))
 
   body_windows : (n m : ℕ) (known : List (List ℕ)) (b : Body) (rest : List RuleTree) → exceeds_limit_behind n m known b ≡ false → lacks_type types b ≡ false → needs_event types b ≡ false
