@@ -1,6 +1,6 @@
 -- The lines that are printed, each ended by a line end.
 use Rattle.std.specs.Prelude.{ℕ, ◌++◌, ◌==◌, Bool, true, false, List, [], ◌∷◌, slice_get, Option, Some, None, if◌then◌else◌, codes}
-use Rattle.std.specs.Fmt.{decimal}
+use Rattle.std.specs.Fmt.{decimal, signed_decimal}
 use Rattle.std.specs.List.{flat_map, list_any}
 use Rattle.rule_model.specs.declared.program.Program.{Program}
 use Rattle.rule_model.specs.declared.program.TypeInfo.{TypeInfo}
@@ -33,6 +33,7 @@ quoted_byte b =
 -- what a condition bound
 abbrev pub cell_text : Cell → List ℕ
 cell_text (cell.Fact id) = codes " #" ++ decimal id.0
+cell_text (cell.Value number) = codes " =" ++ signed_decimal number
 
 -- the code of a faulty line
 abbrev pub code_text : LineCode → List ℕ

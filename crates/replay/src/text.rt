@@ -1,5 +1,5 @@
 ghost use Rattle.std.specs.Prelude.{◌≡◌, ◌++◌, ◌||◌, IfOk, OnOk, slice_get};
-ghost use Rattle.std.specs.Fmt.{decimal};
+ghost use Rattle.std.specs.Fmt.{decimal, signed_decimal};
 ghost use Rattle.std.specs.List.{flat_map};
 ghost use Rattle.replay.specs.Texts.{type_name, rule_name, quoted_byte, cell_text, fault_text, limit_text, line_text, lines_text, is_fault, has_fault};
 
@@ -52,6 +52,14 @@ pub(crate) fn push_number(text: &mut Vec<u8>, alloc: Global, number: u64) -> Res
     Ok(())
 }
 
+fn push_signed(text: &mut Vec<u8>, alloc: Global, number: i64) -> Result<(), NoMemory>
+    ensures { OnOk result (text.new.items ≡ text.old.items ++ signed_decimal number) }
+{
+    let digits = number.to_string(alloc)?;
+    text.extend_from_slice(digits.as_bytes())?;
+    Ok(())
+}
+
 fn push_cell(text: &mut Vec<u8>, alloc: Global, cell: Cell) -> Result<(), NoMemory>
     ensures { OnOk result (text.new.items ≡ text.old.items ++ cell_text cell) }
 {
@@ -59,6 +67,10 @@ fn push_cell(text: &mut Vec<u8>, alloc: Global, cell: Cell) -> Result<(), NoMemo
         Cell::Fact(id) => {
             text.extend_from_slice(b" #")?;
             push_number(text, alloc, id.0)
+        }
+        Cell::Value(number) => {
+            text.extend_from_slice(b" =")?;
+            push_signed(text, alloc, number)
         }
     }
 }
