@@ -10,7 +10,7 @@ use Rattle.replay.specs.declared.refusal.Refusal.{Refusal}
 use Rattle.replay.specs.declared.rule_file.Reading.{Reading}
 use Rattle.replay.specs.declared.rule_file.Reading.TheVariants.{Refused}
 use Rattle.replay.specs.Refusals.{reading, whole_file, IsRefused}
-use Rattle.replay.specs.Wanted.{Files, Wanted, usage_line, refuses, wanted, wanted_by_word, wanted_by_name, wanted_by_file, wanted_by_reading, single}
+use Rattle.replay.specs.Wanted.{Files, usage_line, refuses, wanted, wanted_by_word, wanted_by_name, wanted_by_file, wanted_by_reading, single}
 
 pub not_one_word : (words : List (String Global)) (files : Files) → single words ≡ None → wanted words files ≡ usage_line
 unfolding wanted

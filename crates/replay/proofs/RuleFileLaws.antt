@@ -1,5 +1,5 @@
 -- What a rule file is, by the function and by the relation.
-use Rattle.std.proofs.Common.{◌≡◌, ◌↔◌, ℕ, List, length, Option, Some, None, refl, sym, ap, ◌∙◌, subst}
+use Rattle.std.proofs.Common.{◌≡◌, ◌↔◌, ℕ, List, length, Option, Some, None, refl, ap, ◌∙◌, subst}
 use Rattle.std.specs.Prelude.{◌≤◌, ◌<◌}
 use Rattle.drl_lex.specs.declared.fault.LexCode.{LexCode}
 use Rattle.drl_grammar.specs.declared.file.File.{File}

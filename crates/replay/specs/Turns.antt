@@ -1,7 +1,7 @@
 -- What the loop over the lines does in a turn, with an engine that stands for worlds.
-use Rattle.std.specs.Prelude.{◌≡◌, ◌≢◌, ◌<◌, ◌≤◌, ◌+◌, ◌*◌, ℕ, ◌++◌, Bool, List, [], length, take, drop, Option, Some, None, Result, Ok, Err, IfSome, ◌^◌}
+use Rattle.std.specs.Prelude.{◌≡◌, ◌<◌, ◌≤◌, ◌+◌, ◌*◌, ℕ, ◌++◌, Bool, List, [], length, take, drop, Option, Some, None, Result, Ok, Err, IfSome, ◌^◌}
 use Rattle.fx_io.specs.Outside.{append}
-use Rattle.fx_io.specs.Lines.{with_line, lines_of, HasNoEnd}
+use Rattle.fx_io.specs.Lines.{with_line}
 use Rattle.fx_io.specs.declared.line.Line.{Line}
 use Rattle.fx_io.specs.declared.line.Line.TheVariants.{End as line_end}
 use Rattle.rule_world.specs.Worlds.{World}
@@ -13,7 +13,7 @@ use Rattle.replay.specs.declared.turn.Turn.TheVariants.{Goes, Stops}
 use Rattle.replay.specs.declared.turn.Ended.{Ended}
 use Rattle.replay.specs.declared.turn.Ended.TheVariants.{Script, Limit}
 use Rattle.replay.specs.Texts.{limit_text}
-use Rattle.replay.specs.Run.{Step, goes_on, stops, Outcome}
+use Rattle.replay.specs.Run.{Step, goes_on, stops}
 
 -- a step was done: its text was gathered, and the engine stands for its world, or the limit was met
 abbrev pub Does : (World → Type 0) → Step → List ℕ → List ℕ → Turn → Type 0

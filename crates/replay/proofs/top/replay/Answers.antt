@@ -1,8 +1,5 @@
-use Rattle.std.proofs.Common.{sym, subst}
-use Rattle.fx_io.specs.Outside.{append}
-use Rattle.replay.specs.Refusals.{refusal_text}
+use Rattle.std.proofs.Common.{sym}
 use Rattle.replay.specs.Report.{firing_limit}
-use Rattle.replay.specs.Wanted.{IfRefuses}
 use Rattle.replay.proofs.Reports.{not_one_word, one_word}
 use Rattle.replay.proofs.top.replay.Goals as goal
 
