@@ -129,7 +129,7 @@ class Desk:
             fire = FIRE.fullmatch(line)
             if fire:
                 facts = [self.said(int(word[1:])) for word in fire[2].split() if word[0] == "#"]
-                print(f"{json.loads(fire[1])}: {'; '.join(facts)}", flush=True)
+                print(f"{json.loads(fire[1], strict=False)}: {'; '.join(facts)}", flush=True)
             else:
                 print(f"  the rule made {line.removeprefix('new ')}", flush=True)
 
