@@ -28,13 +28,17 @@ class Ended(Exception):
     """The program ended: its last lines, and its status."""
 
 
+def not_taken(fault):
+    """Somebody has to see what was not taken."""
+    print(f"not taken: {fault}", file=sys.stderr, flush=True)
+
+
 class Engine:
     """A running program. Lines are sent one by one, and each answer is read up to a line that is known to come."""
 
     def __init__(self, program, rules):
         self.process = subprocess.Popen([program, rules], stdin=subprocess.PIPE, stdout=subprocess.PIPE, encoding="utf-8")
         self.sent = 0
-        self.faults = []
 
     def send(self, command):
         self.sent += 1
@@ -62,9 +66,9 @@ class Engine:
             if line.startswith("new "):
                 return int(line.split()[1][1:])
             if line.startswith(f"fault {self.sent} "):
-                self.faults.append(f"{line} {json.dumps(fields)}")
+                not_taken(f"{line} {json.dumps(fields)}")
                 return None
-            self.faults.append(line)
+            not_taken(line)
 
     def fire(self):
         """Fires what is pending, and yields the lines. A `fire` does not say where it ends, so a mark is inserted behind it."""
@@ -76,15 +80,18 @@ class Engine:
             if mark:
                 self.send({"do": "retract", "type": "Mark", "id": int(mark[1])})
                 return
+            if line.startswith(f"fault {self.sent} "):
+                sys.exit(f"the mark itself is faulty, {line}: the rule file wants `declare Mark end`")
             if line.startswith("fault "):
-                self.faults.append(line)
+                not_taken(line)
             else:
                 yield line
 
     def close(self):
         """Ends the script, and returns the status of the program."""
         self.process.stdin.close()
-        self.faults += self.process.stdout.read().splitlines()
+        for line in self.process.stdout:
+            not_taken(line.strip())
         return self.process.wait()
 
 
@@ -156,8 +163,6 @@ def main():
         status = engine.close()
     except Ended as ended:
         sys.exit(f"the program ended: {ended.args[0]}, status {ended.args[1]}")
-    for fault in engine.faults:
-        print(f"not taken: {fault}", file=sys.stderr)
     print(f"the program's status: {status}", file=sys.stderr)
     return status
 
