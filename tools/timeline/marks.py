@@ -47,7 +47,10 @@ class Picture:
 
     def data(self) -> dict:
         """The picture for the page's script, without what a mark does not have."""
-        marks = [{name: value for name, value in asdict(mark).items() if value is not None and value != ()} for mark in self.marks]
+        def has(value: object) -> bool:
+            return value is not None and value is not False and value != ()
+
+        marks = [{name: value for name, value in asdict(mark).items() if has(value)} for mark in self.marks]
         return {"lanes": [asdict(lane) for lane in self.lanes], "marks": marks, "end": self.end}
 
 

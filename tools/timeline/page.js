@@ -59,7 +59,7 @@ const draw = {
     else path(group, "event", `M${(a + b) / 2} ${y - HALF}l${HALF} ${HALF}l${-HALF} ${HALF}l${-HALF} ${-HALF}z`);
   },
   facts(group, mark, a, b, y) {
-    shape(group, "rect", { class: "fact", x: a, y: y - HALF, width: Math.max(2, b - a), height: 2 * HALF });
+    shape(group, "rect", { class: "fact", x: a, y: y - HALF, width: Math.max(mark.lasts ? 8 : 3, b - a), height: 2 * HALF });
     for (const t of mark.changes || []) path(group, "change", `M${x(t)} ${y - HALF}v${2 * HALF}l-6 ${-HALF}z`);
     if (!mark.lasts) path(group, "cross", `M${b + 1} ${y - 4}l8 8m0 -8l-8 8`);
   },
@@ -221,12 +221,20 @@ plot.addEventListener("pointerleave", () => choose(focusedKey()));
 plot.addEventListener("focusin", event => choose(markOf(event.target) ? event.target.id : null));
 plot.addEventListener("focusout", () => choose(null));
 
-// ---- keys: the Tab key goes from lane to lane, the arrows go within a lane
+// ---- keys: the Tab key goes from lane to lane, the arrows go within a lane, n and p from firing to firing as they came
 
 function neighbour(group, key) {
   const inLane = [...plot.querySelectorAll(".mark")].filter(other => marks.get(other.id).lane === marks.get(group.id).lane);
   const at = inLane.indexOf(group);
   return { ArrowRight: inLane[at + 1], ArrowLeft: inLane[at - 1], Home: inLane[0], End: inLane[inLane.length - 1] }[key];
+}
+
+const firings = picture.marks.filter(mark => mark.kind === "firings").map(mark => mark.key);
+
+// The firing behind the focused one, or before it; the first, or the last, where none is.
+function firingFrom(step) {
+  const at = firings.indexOf(focusedKey()), end = step > 0 ? 0 : -1;
+  return firings.at(at < 0 ? end : (at + step) % firings.length);
 }
 
 function goTo(group) {
@@ -239,6 +247,7 @@ document.addEventListener("keydown", event => {
   if (event.key === "+") zoom(1.5);
   else if (event.key === "-") zoom(1 / 1.5);
   else if (event.key === "0") zoom(0);
+  else if ("np".includes(event.key) && firings.length) goTo(document.getElementById(firingFrom(event.key === "n" ? 1 : -1)));
   else if (markOf(event.target)) {
     const next = neighbour(event.target, event.key);
     if (!next) return;
