@@ -1,0 +1,173 @@
+"""The lanes of the picture and the marks in them, each with the text that is read when it is pointed at."""
+
+from __future__ import annotations
+
+from dataclasses import asdict, dataclass
+from typing import Iterable, Optional
+
+from recording import Cell, Change, Fault, Firing, Life, Recording, Value
+
+FAULTS, EVENTS, FACTS, FIRINGS = "faults", "events", "facts", "firings"
+TEXT_SHOWN = 240
+
+
+@dataclass(frozen=True)
+class Lane:
+    kind: str
+    name: str
+    under: str
+
+
+@dataclass(frozen=True)
+class Mark:
+    """A fact, a firing or a fault, from `start` to `end`. `names` are the keys of the marks that it names, `makes` those of the
+    facts that it inserts; `changes` are moments of modifications; `gone` is the moment from which an event counts no more, or
+    none; `lasts` says of a plain fact that it is there at the end; `since` and `until` bound the waiting of a negative."""
+    key: str
+    kind: str
+    lane: int
+    start: int
+    end: int
+    label: str
+    text: str
+    names: tuple[str, ...] = ()
+    makes: tuple[str, ...] = ()
+    changes: tuple[int, ...] = ()
+    gone: Optional[int] = None
+    lasts: bool = False
+    since: Optional[int] = None
+    until: Optional[int] = None
+
+
+@dataclass(frozen=True)
+class Picture:
+    lanes: list[Lane]
+    marks: list[Mark]
+    end: int
+
+    def data(self) -> dict:
+        """The picture for the page's script, without what a mark does not have."""
+        def has(value: object) -> bool:
+            return value is not None and value is not False and value != ()
+
+        marks = [{name: value for name, value in asdict(mark).items() if has(value)} for mark in self.marks]
+        return {"lanes": [asdict(lane) for lane in self.lanes], "marks": marks, "end": self.end}
+
+
+def shown(value: object) -> str:
+    """A value of a field as it is read: texts stand in quotes."""
+    if isinstance(value, bool):
+        return str(value).lower()
+    return f'"{cut(value)}"' if isinstance(value, str) else str(value)
+
+
+def cut(text: str) -> str:
+    return text if len(text) <= TEXT_SHOWN else text[:TEXT_SHOWN] + " …"
+
+
+def numbered(numbers: Iterable[int]) -> str:
+    return ", ".join(f"#{number}" for number in numbers)
+
+
+def cells_text(cells: tuple[Cell, ...]) -> str:
+    return " ".join(f"{sign}{number}" for sign, number in cells)
+
+
+# ---- facts and events
+
+
+def origin_text(life: Life) -> str:
+    """Who inserted a fact, and when."""
+    by = f"line {life.line}" if life.maker is None else f"firing {life.maker}"
+    return f"inserted at {life.told} by {by}"
+
+
+def times_text(life: Life) -> str:
+    if not life.event:
+        return ""
+    return f"at {life.start}" if life.start == life.end else f"from {life.start} to {life.end}"
+
+
+def end_text(life: Life) -> str:
+    if life.gone is None:
+        return ""
+    return f"retracted at {life.gone}" if life.retracted else f"expires at {life.gone}"
+
+
+def fields_text(values: dict[str, Value]) -> str:
+    return ", ".join(f"{name} {shown(value)}" for name, value in values.items())
+
+
+def change_text(change: Change) -> str:
+    return f"modified at {change.clock} ({fields_text(change.values)})"
+
+
+def life_text(life: Life) -> str:
+    origin = f"{origin_text(life)} ({fields_text(life.values)})"
+    parts = [times_text(life), origin, *map(change_text, life.changes), end_text(life)]
+    return f"#{life.number} {life.type} in {life.entry}: " + "; ".join(part for part in parts if part)
+
+
+def life_mark(life: Life, lane: int, end: int) -> Mark:
+    text = life_text(life)
+    gone = life.gone if life.gone is not None and life.gone <= end else None
+    if life.event:
+        return Mark(f"f{life.number}", EVENTS, lane, life.start, life.end, f"#{life.number}", text, gone=gone)
+    return Mark(f"f{life.number}", FACTS, lane, life.start, end if gone is None else gone, f"#{life.number}", text,
+                changes=tuple(change.clock for change in life.changes), lasts=gone is None)
+
+
+# ---- firings and faults
+
+
+def firing_text(firing: Firing) -> str:
+    waiting, made = firing.waiting, firing.made
+    parts = [f'firing {firing.number} of line {firing.line}, at {firing.clock}: "{firing.rule}" {cells_text(firing.cells)}'.rstrip()]
+    if waiting:
+        parts.append(f"waited from {waiting.since} to {waiting.until} for {waiting.type}")
+    if made:
+        parts.append(f"inserted {numbered(made)}")
+    return "; ".join(parts)
+
+
+def firing_mark(firing: Firing, lane: int) -> Mark:
+    waiting = firing.waiting
+    return Mark(f"r{firing.number}", FIRINGS, lane, firing.clock, firing.clock, cells_text(firing.cells), firing_text(firing),
+                names=tuple(f"f{number}" for number in dict.fromkeys(firing.facts)),
+                makes=tuple(f"f{number}" for number in firing.made),
+                since=waiting and waiting.since, until=waiting and waiting.until)
+
+
+def fault_mark(fault: Fault, lane: int) -> Mark:
+    names = () if fault.firing is None else (f"r{fault.firing}",)
+    return Mark(f"x{fault.number}", FAULTS, lane, fault.clock, fault.clock, f"{fault.code}, line {fault.line}",
+                f"fault {fault.line} {fault.code}, at {fault.clock}: {cut(fault.text)}", names=names)
+
+
+# ---- the picture
+
+
+def lane_of_life(life: Life) -> Lane:
+    kind = EVENTS if life.event else FACTS
+    return Lane(kind, life.type, f"{kind} in {life.entry}")
+
+
+def lane_of_rule(rule: str) -> Lane:
+    return Lane(FIRINGS, rule, "rule")
+
+
+def lanes_of(recording: Recording) -> list[Lane]:
+    """Faults; then each entry point and type in the order of their first facts; then the rules that fired, in file order."""
+    fired = {firing.rule for firing in recording.firings}
+    lives = list(dict.fromkeys(lane_of_life(life) for life in recording.lives.values()))
+    faults = [Lane(FAULTS, "faults", "of lines and actions")] if recording.faults else []
+    return faults + lives + [lane_of_rule(rule) for rule in recording.rules if rule in fired]
+
+
+def picture_of(recording: Recording) -> Picture:
+    lanes = lanes_of(recording)
+    place = {lane: k for k, lane in enumerate(lanes)}
+    marks = [fault_mark(fault, 0) for fault in recording.faults]
+    marks += [life_mark(life, place[lane_of_life(life)], recording.end) for life in recording.lives.values()]
+    marks += [firing_mark(firing, place[lane_of_rule(firing.rule)]) for firing in recording.firings]
+    return Picture(lanes, marks, recording.end)

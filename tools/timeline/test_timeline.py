@@ -1,0 +1,81 @@
+"""Counts of the three desks, and what the page is made of. Run in this folder: python3 -m unittest"""
+
+import json
+import re
+import unittest
+from collections import Counter
+
+from marks import EVENTS, FACTS, FAULTS, FIRINGS, picture_of
+from page import HERE, page
+from recording import Change, Recording, Unfit, recording_of
+
+EXAMPLES = HERE.parent.parent / "examples"
+PICTURES = HERE.parent.parent / "docs" / "pictures"
+
+HOSTILE = b"""declare Note text : String end
+rule "<b>&" when Note( $t : text ) then end
+"""
+
+
+def desk(name: str) -> Recording:
+    rules, script, output = (EXAMPLES / f"{name}.{ending}" for ending in ("drl", "jsonl", "out"))
+    return recording_of(rules.read_bytes(), script.read_bytes(), output.read_bytes())
+
+
+def kinds(recording: Recording) -> Counter:
+    return Counter(mark.kind for mark in picture_of(recording).marks)
+
+
+class Desks(unittest.TestCase):
+    def test_counts(self):
+        self.assertEqual(kinds(desk("fraud")), {EVENTS: 13, FACTS: 7, FIRINGS: 21, FAULTS: 4})
+        self.assertEqual(kinds(desk("alarm")), {EVENTS: 18, FACTS: 6, FIRINGS: 17, FAULTS: 3})
+        self.assertEqual(kinds(desk("plant")), {EVENTS: 24, FACTS: 6, FIRINGS: 18, FAULTS: 4})
+
+    def test_waiting(self):
+        """`silent` of the fraud desk waits for calls up to 202500, and fires at the line that moves the clock on."""
+        silent = next(firing for firing in desk("fraud").firings if firing.rule == "silent")
+        self.assertEqual((silent.line, silent.clock, silent.waiting.since, silent.waiting.until), (36, 202501, 112500, 202501))
+
+    def test_lives(self):
+        lives = desk("fraud").lives
+        self.assertEqual((lives[7].told, lives[7].gone, lives[7].maker), (110000, 111000, 2))
+        self.assertEqual(lives[7].changes, [Change(111000, {"open": False})])
+        self.assertEqual((lives[4].start, lives[4].told, lives[4].gone), (98500, 100000, None))
+        beat = desk("alarm").lives[4]
+        self.assertEqual((beat.gone, beat.retracted), (30000, False))
+
+    def test_actions(self):
+        """Facts that an action inserts are at the clock of its firing, and joined to it."""
+        marks = {mark.key: mark for mark in picture_of(desk("plant")).marks}
+        self.assertEqual((marks["r9"].makes, marks["f13"].start), (("f13",), 425001))
+
+
+class Pages(unittest.TestCase):
+    def test_the_pictures_are_of_today(self):
+        for name in ("fraud", "alarm", "plant"):
+            text = page(name, recording := desk(name), picture_of(recording))
+            self.assertEqual((PICTURES / f"{name}.html").read_text(encoding="utf-8"), text, f"draw {name} anew, as README.md says")
+
+    def test_texts_are_escaped(self):
+        script = b'{"do":"insert","type":"Note","fields":{"text":"</script><i>"}}\n{"do":"fire"}\n'
+        recording = recording_of(HOSTILE, script, b'new #1 Note\nfire "<b>&" #1\n')
+        text = page("<u>", recording, picture_of(recording))
+        for raw in ("</script><i>", "<b>", "<u>"):
+            self.assertNotIn(raw, text)
+        data = json.loads(re.search(r'id="data">(.*)</script>', text)[1])
+        self.assertIn("</script><i>", data["marks"][0]["text"])
+
+    def test_files_that_do_not_fit(self):
+        insertion = b'{"do":"insert","type":"Note","fields":{"text":"a"}}\n'
+        for rules, script, output in ((b"rule", b"", b""), (HOSTILE, insertion, b""), (HOSTILE, insertion, b"new #2 Note\n"),
+                                      (HOSTILE, b"", b"new #1 Note\n"), (HOSTILE, b"{", b"")):
+            with self.assertRaises(Unfit):
+                recording_of(rules, script, output)
+
+    def test_nothing_happens(self):
+        self.assertIn("0 firings", page("none", recording := recording_of(HOSTILE, b"", b""), picture_of(recording)))
+
+
+if __name__ == "__main__":
+    unittest.main()
