@@ -16,6 +16,7 @@ use Rattle.rule_model.proofs.Exact.{match_parts}
 use Rattle.rule_model.specs.Rows.{HaveOperators}
 use Rattle.rule_world.specs.Programs.{UseOperators}
 use Rattle.agenda.specs.Agendas.{Marks, IsChanged}
+use Rattle.rule_eval.proofs.Alike.{none_between}
 use Rattle.session.specs.Refreshed.{is_simple_rule, by_kind, matches_by, IsRefreshed}
 
 flip : (a b : ℕ) (t : Bool) → (a == b) ≡ t → (b == a) ≡ t
@@ -210,6 +211,31 @@ rule_turn old new rules k rule d a b c lt is diff r ch = record {
       ∙ ap (λ z. has_match a.fired m && not (upto old rules (k + 1) m && not z)) (sym (upto_more new rules k rule m lt is));
 }
 
+-- a rule whose rows stay needs no turn
+unmarked : (t p : Bool) → p ≡ ((p && not (t && false)) || (t && false))
+unmarked true true = refl
+unmarked true false = refl
+unmarked false true = refl
+unmarked false false = refl
+
+unmarked_fired : (t p : Bool) → p ≡ (p && not (t && false))
+unmarked_fired true true = refl
+unmarked_fired true false = refl
+unmarked_fired false true = refl
+unmarked_fired false false = refl
+
+pub rule_skipped : (old new : Rule → List Row) (rules : List Rule) (k : ℕ) (rule : Rule) (a b : Marks) → k < length rules → rule ≡ get_or rules k rule → new rule ≡ old rule
+    → IsRefreshed (take k rules) old new a b → IsRefreshed (take (k + 1) rules) old new a b
+rule_skipped old new rules k rule a b lt is same r =
+    rule_turn old new rules k rule nothing a b b lt is (subst (λ rows. IsBetween (old rule) rows nothing) (sym same) (none_between (old rule) nothing refl refl)) r (record {
+      saliences = refl;
+      pending = λ m. unmarked (k == m.rule.0) (has_match b.pending m);
+      fired = λ m. unmarked_fired (k == m.rule.0) (has_match b.fired m);
+    })
+  where
+    nothing : Delta
+    nothing = record { gone = []; come = [] }
+
 -- all rules are done
 pub rules_done : (old new : Rule → List Row) (rules : List Rule) (k : ℕ) (a b : Marks) → length rules ≤ k → IsRefreshed (take k rules) old new a b → IsRefreshed rules old new a b
 rules_done old new rules k a b h r = subst (λ (rs : List Rule). IsRefreshed rs old new a b) (all_taken rules k h) r
@@ -226,6 +252,9 @@ operators_at (r ∷ rules) (suc k) rule all lt is = operators_at rules k rule al
 
 kind_by : (simple other : Rule → List Row) (rule : Rule) (b : Bool) → is_simple_rule rule ≡ b → by_kind simple other rule ≡ (if b then simple rule else other rule)
 kind_by simple other rule b e = ap (λ z. if z then simple rule else other rule) e
+
+pub kind_simple : (simple other : Rule → List Row) (rule : Rule) → true ≡ is_simple_rule rule → by_kind simple other rule ≡ simple rule
+kind_simple simple other rule e = kind_by simple other rule true (sym e)
 
 pub unchanged_simple : (simple other : Rule → List Row) (rule : Rule) (d : Delta) → true ≡ is_simple_rule rule → IsBetween (simple rule) (simple rule) d → IsBetween (simple rule) (by_kind simple other rule) d
 unchanged_simple simple other rule d e h = subst (λ rows. IsBetween (simple rule) rows d) (sym (kind_by simple other rule true (sym e))) h

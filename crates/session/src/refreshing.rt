@@ -162,8 +162,10 @@ pub(crate) fn advanced(
 {
     let mut agenda = agenda;
     for (place, rule) in program.rules.as_slice().iter().enumerate() {
-        let delta = rows_later(alloc, program, from, to, facts, rule)?;
-        agenda = agenda.change(RuleId(place as u16), delta)?;
+        if !Condition::are_simple(rule.conditions.as_slice()) {
+            let delta = rows_later(alloc, program, from, to, facts, rule)?;
+            agenda = agenda.change(RuleId(place as u16), delta)?;
+        }
     }
     Ok(agenda)
 }

@@ -1,6 +1,10 @@
-use Rattle.std.proofs.Common.{◌≡◌, sym, subst, to_z, of_z, to_z-of_z, w64}
+use Rattle.std.proofs.Common.{◌≡◌, ◌∙◌, ap, sym, subst, to_z, of_z, to_z-of_z, w64}
 use Rattle.rule_world.specs.Programs.{UseOperators}
-use Rattle.session.proofs.Rules.{none_yet, operators_at, rule_turn, rules_done}
+use Rattle.fact_store.specs.Held.{facts_of}
+use Rattle.rule_model.specs.Simple.{are_simple}
+use Rattle.session.specs.Refreshed.{rows_at, by_kind}
+use Rattle.session.proofs.Rules.{kind_simple, none_yet, operators_at, rule_skipped, rule_turn, rules_done}
+use Rattle.session.proofs.refreshing.advanced.Goals.{then-not-are_simple+in_ok-delta+in_ok-agenda, else-not-are_simple}
 use Rattle.session.proofs.refreshing.advanced.Goals as goal
 
 pub rows_later-requires : goal.rows_later-requires
@@ -11,9 +15,17 @@ pub loop-place-init : goal.loop-place-init
 loop-place-init c = none_yet _ _ c.as_slice-rule-items.result.now _
 
 pub loop-place-preserved : goal.loop-place-preserved
-loop-place-preserved c =
-    rule_turn _ _ c.as_slice-rule-items.result.now c.loop-place.place c.rule-item.result c.in_ok-delta.delta _ _ _ c.loop-place-test.true c.rule-item.is
-    c.in_ok-delta.ensures c.loop-place.invariant c.in_ok-agenda.ensures
+loop-place-preserved c = elim c.if-not-are_simple.branch [
+  | then-not-are_simple+in_ok-delta+in_ok-agenda w ↦
+      rw w.agenda-is (rule_turn _ _ c.as_slice-rule-items.result.now c.loop-place.place c.rule-item.result w.in_ok-delta.delta _ _ _ c.loop-place-test.true c.rule-item.is
+      w.in_ok-delta.ensures c.loop-place.invariant w.in_ok-agenda.ensures)
+  | else-not-are_simple w ↦
+      rw w.agenda-is (rule_skipped (rows_at c.args.program.now (facts_of c.args.facts.now) (to_z w64 (of_z w64 c.args.from)))
+      (by_kind (rows_at c.args.program.now (facts_of c.args.facts.now) (to_z w64 (of_z w64 c.args.from))) (rows_at c.args.program.now (facts_of c.args.facts.now) (to_z w64 (of_z w64 c.args.to))))
+      c.as_slice-rule-items.result.now c.loop-place.place c.rule-item.result c.args.agenda c.loop-place.agenda c.loop-place-test.true c.rule-item.is
+      (kind_simple (rows_at c.args.program.now (facts_of c.args.facts.now) (to_z w64 (of_z w64 c.args.from))) (rows_at c.args.program.now (facts_of c.args.facts.now) (to_z w64 (of_z w64 c.args.to))) c.rule-item.result
+      (sym w.if-not-are_simple.false ∙ c.are_simple.ensures ∙ ap are_simple c.as_slice.ensures)) c.loop-place.invariant)
+]
 
 pub returns : goal.returns
 returns c =
