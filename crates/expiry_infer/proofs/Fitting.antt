@@ -17,7 +17,8 @@ use Rattle.rule_model.specs.declared.test.TimeTest.{TimeTest}
 use Rattle.rule_model.specs.Maturity.{AreOperators}
 use Rattle.rule_model.specs.Rows.{pattern_of, HaveOperators}
 use Rattle.rule_model.specs.Types.{is_point}
-use Rattle.expiry_infer.specs.Edges.{NameEarlier, start_of, end_of, point_of, place_of, net_edge, test_edges, event_edges, pattern_edges, stands_in, edges_of}
+use Rattle.rule_world.specs.Programs.{NameEarlier}
+use Rattle.expiry_infer.specs.Edges.{start_of, end_of, point_of, place_of, net_edge, test_edges, event_edges, pattern_edges, stands_in, edges_of}
 use Rattle.expiry_infer.proofs.Places.{place_below, named_here}
 use Rattle.expiry_infer.proofs.Solutions.{Named}
 use Rattle.expiry_infer.proofs.Solved.{held, each_from}

@@ -9,7 +9,8 @@ use Rattle.rule_model.specs.declared.condition.Pattern.{Pattern}
 use Rattle.rule_model.specs.declared.test.TimeTest.{TimeTest}
 use Rattle.rule_model.specs.Rows.{pattern_of}
 use Rattle.rule_lives.specs.Networks.{bindings}
-use Rattle.expiry_infer.specs.Edges.{place_of, NameEarlier}
+use Rattle.rule_world.specs.Programs.{NameEarlier}
+use Rattle.expiry_infer.specs.Edges.{place_of}
 
 -- a bound fact's place is one of the conditions
 pub place_below : (conditions : List Condition) (number : ℕ) → number < bindings conditions → place_of conditions number < length conditions

@@ -14,7 +14,8 @@ use Rattle.rule_model.specs.declared.condition.Condition.{Condition}
 use Rattle.rule_model.specs.declared.program.Program.{Program}
 use Rattle.rule_lives.specs.Networks.{Occurrence, Solves, IsSolvable}
 use Rattle.rule_lives.specs.Reach.{infinite, Placed, IsReach, IsGreatest, distance, occurrence_of}
-use Rattle.expiry_infer.specs.Edges.{NameEarlier, start_of, end_of, edges_of}
+use Rattle.rule_world.specs.Programs.{NameEarlier}
+use Rattle.expiry_infer.specs.Edges.{start_of, end_of, edges_of}
 use Rattle.expiry_infer.specs.Found.{limit_of, IsSolved}
 use Rattle.expiry_infer.proofs.Solutions.{Agree}
 use Rattle.expiry_infer.proofs.Solved.{points_solve, times_solve, times_of, times_agree, points_of, points_agree}

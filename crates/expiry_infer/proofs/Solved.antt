@@ -13,7 +13,8 @@ use Rattle.rule_model.specs.declared.condition.Condition.TheVariants.{Plain, Neg
 use Rattle.rule_model.specs.declared.program.Program.{Program}
 use Rattle.rule_model.specs.Rows.{pattern_of}
 use Rattle.rule_lives.specs.Networks.{Occurrence, bound, aside, occurrence, IsMember, Meets, Solves}
-use Rattle.expiry_infer.specs.Edges.{NameEarlier, place_of, pattern_edges, stands_in, condition_edges, edges_of}
+use Rattle.rule_world.specs.Programs.{NameEarlier}
+use Rattle.expiry_infer.specs.Edges.{place_of, pattern_edges, stands_in, condition_edges, edges_of}
 use Rattle.expiry_infer.proofs.Places.{own_place, named_here}
 use Rattle.expiry_infer.proofs.Solutions.{Holds, Agree, times_at, all_first, all_second, pattern_from, pattern_to}
 

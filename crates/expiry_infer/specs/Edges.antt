@@ -13,12 +13,7 @@ use Rattle.rule_model.specs.declared.program.Program.{Program}
 use Rattle.rule_model.specs.declared.test.TimeTest.{TimeTest}
 use Rattle.rule_model.specs.Rows.{pattern_of, HaveOperators}
 use Rattle.rule_model.specs.Types.{is_event, is_point}
-use Rattle.rule_lives.specs.Networks.{bindings}
-
--- each temporal test names a fact that a condition before its own binds
-abbrev pub NameEarlier : List Condition → Type 0
-NameEarlier conditions = (place : ℕ) (c : Condition) → slice_get conditions place ≡ Some c
-    → All (λ (test : TimeTest). test.fact < bindings (take place conditions)) (pattern_of c).times
+use Rattle.rule_world.specs.Programs.{NameEarlier}
 
 -- conditions that have a network of at most 16 points
 pub record HaveNetwork (conditions : List Condition) : Type 0 where

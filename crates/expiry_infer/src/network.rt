@@ -1,7 +1,8 @@
 ghost use Rattle.std.specs.Prelude.{◌≡◌, ◌<◌, ◌≤◌, ◌==◌, ◌++◌, length, map, IfOk};
 ghost use Rattle.std.specs.List.{All, list_any};
 ghost use Rattle.rule_lives.specs.Networks.{bindings};
-ghost use Rattle.expiry_infer.specs.Edges.{start_of, end_of, point_of, net_edge, place_of as place_in, test_edges, event_edges, pattern_edges, stands_in as is_inside, edges_of, NameEarlier};
+ghost use Rattle.rule_world.specs.Programs.{NameEarlier};
+ghost use Rattle.expiry_infer.specs.Edges.{start_of, end_of, point_of, net_edge, place_of as place_in, test_edges, event_edges, pattern_edges, stands_in as is_inside, edges_of};
 
 use fx_base::NoMemory;
 use rule_model::{Condition, Pattern, Program, TimeTest};

@@ -13,6 +13,7 @@ use Rattle.rule_model.specs.declared.program.Program.{Program}
 use Rattle.rule_model.specs.declared.test.TimeTest.{TimeTest}
 use Rattle.rule_model.specs.Rows.{pattern_of}
 use Rattle.rule_model.specs.Types.{is_event, is_point}
+pub use Rattle.rule_world.specs.Typed.{bindings}
 
 -- The event that stands for a condition: that of a pattern which binds a fact has the number by which temporal tests name it, that of
 -- a `not`, `exists` or `accumulate` the place of the condition.
@@ -26,14 +27,6 @@ binds (Plain pattern) = true
 binds (Negated pattern) = false
 binds (Existing pattern) = false
 binds (Folded a) = false
-
--- how many of the conditions bind facts
-abbrev pub bindings : List Condition → ℕ
-bindings [] = 0
-bindings (Plain pattern ∷ conditions) = suc (bindings conditions)
-bindings (Negated pattern ∷ conditions) = bindings conditions
-bindings (Existing pattern ∷ conditions) = bindings conditions
-bindings (Folded a ∷ conditions) = bindings conditions
 
 -- the occurrence of the condition of this place
 abbrev pub occurrence : List Condition → ℕ → Condition → Occurrence
