@@ -1,8 +1,11 @@
 -- What an answer that is the checked one tells.
 use Rattle.std.proofs.Common.{◌≡◌, ℕ, Option, Some, None, Result, Ok, Err, refl, sym, ap, subst, ◌∙◌, IfOk}
+use Rattle.std.specs.List.{All}
 use Rattle.drl_grammar.specs.declared.file.File.{File}
 use Rattle.rule_model.specs.declared.program.Program.{Program}
+use Rattle.rule_model.specs.declared.program.Rule.{Rule}
 use Rattle.rule_world.specs.Programs.{IsRunnable}
+use Rattle.rule_lives.specs.Networks.{IsSolvable}
 use Rattle.drl_check.specs.declared.fault.CheckCode.{CheckCode}
 use Rattle.drl_check.specs.declared.fault.CheckFault.{CheckFault}
 use Rattle.drl_check.specs.declared.fault.CheckFault.TheVariants.{Refused, NoMemory}
@@ -12,6 +15,7 @@ use Rattle.drl_check.specs.Outcomes.{checked_by, checked}
 use Rattle.drl_check.specs.Answers.{within_32_bits, fault_of, Gives}
 use Rattle.drl_check.proofs.Exact.{exact_none, is_first_failure}
 use Rattle.drl_check.proofs.Runnable.{accepted_runnable}
+use Rattle.drl_check.proofs.Solvable.{accepted_match}
 
 by_ok : (o : Option Failure) (p q : Program) → checked_by o p ≡ Ok q → (o ≡ None) × (q ≡ p)
 by_ok None p q e = (refl, cc)
@@ -37,6 +41,16 @@ given_sound (Ok p) file g =
     let h = by_ok (failure_of file) (program_of file) p g in
     subst IsRunnable (sym h.1) (accepted_runnable file ((exact_none file).0 h.0))
 given_sound (Err fault) file g = tt
+
+abbrev CanMatch : Program → Type 0
+CanMatch p = All (λ (rule : Rule). IsSolvable p rule.conditions) p.rules
+
+pub given_solvable : (r : Result Program CheckFault) (file : File) → Gives (λ (p : Program). p) r (checked file) → IfOk r CanMatch
+unfolding checked
+given_solvable (Ok p) file g =
+    let h = by_ok (failure_of file) (program_of file) p g in
+    subst CanMatch (sym h.1) (accepted_match file ((exact_none file).0 h.0))
+given_solvable (Err fault) file g = tt
 
 refused_by : (file : File) (f : Failure) (item line : ℕ) (code : CheckCode) → failure_of file ≡ Some f → fault_of f ≡ Refused item line code
     → (number : ℕ) × (item ≡ within_32_bits number) × IsFirstFailure file number line code

@@ -6,13 +6,16 @@ use Rattle.drl_grammar.specs.declared.file.Body.{Body}
 use Rattle.drl_grammar.specs.declared.file.Item.{Item}
 use Rattle.drl_grammar.specs.declared.file.TypeTree.{TypeTree}
 use Rattle.drl_grammar.specs.declared.file.RuleTree.{RuleTree}
+use Rattle.rule_model.specs.declared.program.Program.{Program}
 use Rattle.drl_check.specs.declared.fault.CheckCode.{CheckCode}
 use Rattle.drl_sight.specs.Declarations.{types_of, rules_of, type_in, rule_in, type_names, rule_names}
 use Rattle.drl_sight.specs.Observed.{watched_names}
 use Rattle.drl_sight.specs.EntryPoints.{entries_named, entries_declared, declared_entries, default_name, with_names, entry_names}
 use Rattle.drl_sight.proofs.EntryLemmas.{with_both}
+use Rattle.drl_program.specs.Programs.{types_alone}
 use Rattle.drl_check.specs.Checks.{Failure, codes_in_order, first_code, failure_at, failure_from}
 use Rattle.drl_check.specs.Failing.{first_failing}
+use Rattle.drl_check.proofs.Solvable.{same_alone}
 
 take_suc : {A : Type 0} (all : List A) (k : ℕ) (x : A) → k < length all → x ≡ get_or all k x → take (suc k) all ≡ take k all ++ x ∷ []
 take_suc [] k x lt e = absurd (omega (arith, lt))
@@ -81,10 +84,10 @@ known_names_next all k item known more lt e is new =
 
 -- ---- what an item fails
 
-pub failing_is : (all before : List Item) (declared : List TypeTree) (watched types entries rules known : List (List ℕ)) (b : Body) → declared ≡ types_of all → watched ≡ watched_names all → types ≡ type_names (types_of before)
-    → entries ≡ declared_entries before → rules ≡ rule_names (rules_of before) → known ≡ entry_names before → first_failing declared watched types entries rules known b ≡ first_code codes_in_order all before b
-failing_is all before declared watched types entries rules known b d w t e r k =
-    rw (d, w, t, e, r, k, length-map (types_of before) (λ (t : TypeTree). t.name), length-map (rules_of before) (λ (r : RuleTree). r.name)) refl
+pub failing_is : (all before : List Item) (alone : Program) (declared : List TypeTree) (watched types entries rules known : List (List ℕ)) (b : Body) → alone ≡ types_alone (types_of all) → declared ≡ types_of all → watched ≡ watched_names all → types ≡ type_names (types_of before)
+    → entries ≡ declared_entries before → rules ≡ rule_names (rules_of before) → known ≡ entry_names before → first_failing alone declared watched types entries rules known b ≡ first_code codes_in_order all before b
+failing_is all before alone declared watched types entries rules known b a d w t e r k =
+    rw (a, d, w, t, e, r, k, length-map (types_of before) (λ (t : TypeTree). t.name), length-map (rules_of before) (λ (r : RuleTree). r.name), same_alone all b) refl
 
 -- ---- one item
 

@@ -1,8 +1,9 @@
 -- The program of an accepted file is one that engines run.
 use Rattle.std.proofs.Common.{◌≡◌, ◌++◌, ◌∷◌, ◌&&◌, ◌||◌, ℕ, ℤ, Bool, true, false, not, nat_le, nat_lt, length, List, [], map, Option, Some, None, is_some, refl, sym, ◌∙◌, ap, subst, append-nil, append_assoc, arith}
-use Rattle.std.specs.List.{list_all, list_any, flat_map}
+use Rattle.std.specs.List.{All, list_all, list_any, flat_map}
 use Rattle.std.specs.Str.{bytes_eq}
 use Rattle.std.proofs.lemmas.List.{length-map, map-append}
+use Rattle.std.proofs.lemmas.List.Elements.{All-nil, All-cons, All-same}
 use Rattle.std.proofs.lemmas.List.Folds.{list_any-append}
 use Rattle.drl_grammar.specs.declared.condition.CondTree.{CondTree}
 use Rattle.drl_grammar.specs.declared.condition.CondTree.TheVariants as tree
@@ -14,7 +15,8 @@ use Rattle.drl_grammar.specs.declared.file.Meta.{Meta}
 use Rattle.drl_grammar.specs.declared.file.Meta.TheVariants as meta
 use Rattle.drl_grammar.specs.declared.file.RuleTree.{RuleTree}
 use Rattle.drl_grammar.specs.declared.file.TypeTree.{TypeTree}
-use Rattle.rule_world.specs.Programs.{has_conditions, has_few_actions, has_expiry, UseOperators, IsRunnable}
+use Rattle.rule_model.specs.declared.program.Rule.{Rule}
+use Rattle.rule_world.specs.Programs.{has_conditions, has_few_actions, has_expiry, UseOperators, NameEarlier, IsRunnable}
 use Rattle.drl_sight.specs.Annotations.{expiry_of}
 use Rattle.drl_sight.specs.Annotations as annotation
 use Rattle.drl_sight.specs.Declarations.{types_of, rules_of, type_in, rule_in, type_names, type_named, field_names}
@@ -27,9 +29,10 @@ use Rattle.drl_program.specs.Observed.{observed_names}
 use Rattle.drl_program.specs.Programs.{type_info, entry_info, rule_of, program_of}
 use Rattle.drl_program.proofs.Flagged.{observed_are_flagged}
 use Rattle.drl_program.proofs.Timed.{each_has_operator}
-use Rattle.drl_uses.specs.Uses.{is_type_unknown, has_unknown_type, inserts_unknown_type}
-use Rattle.drl_check.specs.declared.fault.CheckCode.TheVariants.{TwiceDeclared, LimitPassed, UnknownType, NotAnEvent, BadParams}
-use Rattle.drl_check.specs.Checks.{lacks_type, needs_event, has_bad_params, AllPass, IsAcceptedFile}
+use Rattle.drl_uses.specs.Uses.{any_condition, is_type_unknown, has_unknown_type, inserts_unknown_type, has_unknown_variable}
+use Rattle.drl_uses.specs.Kinds.{has_wrong_kind}
+use Rattle.drl_check.specs.declared.fault.CheckCode.TheVariants.{TwiceDeclared, LimitPassed, UnknownType, UnknownVariable, WrongKind, NotAnEvent, BadParams}
+use Rattle.drl_check.specs.Checks.{lacks_type, lacks_variable, is_wrong_kind, needs_event, has_bad_params, AllPass, IsAcceptedFile}
 use Rattle.drl_check.specs.Events.{is_of_events, is_no_event}
 use Rattle.drl_check.specs.Params.{has_short_expiry, expires_at_once}
 use Rattle.drl_check.specs.Twice.{meta_word, is_repeated}
@@ -38,6 +41,7 @@ use Rattle.drl_sight.specs.Declarations.{rule_names}
 use Rattle.drl_check.proofs.Failures.{types_next}
 use Rattle.drl_check.proofs.Sound.{and_left, and_right, not_and_right, both, is_time, given_time, or_left, or_right, few_types, few_rules, few_entries, one_entry, some_entry, late, all_late, conditions_sound, actions_sound, all_sound}
 use Rattle.drl_check.proofs.Fields.{same_bytes}
+use Rattle.drl_check.proofs.Named.{rule_named}
 use Rattle.drl_check.proofs.Typed.{accepted_typed}
 use Rattle.drl_check.proofs.Windows.{accepted_windows}
 
@@ -91,6 +95,26 @@ all_expire names all before (item ∷ items) p =
 all_operators : (types : List TypeTree) (entries : List (List ℕ)) (rules : List RuleTree) → UseOperators (map (rule_of types entries) rules)
 all_operators types entries [] = tt
 all_operators types entries (r ∷ rules) = (each_has_operator types entries begin r.conditions, all_operators types entries rules)
+
+-- ---- temporal tests name what earlier conditions bind
+
+body_named : (types : List TypeTree) (entries : List (List ℕ)) (b : Body) (rest : List Rule) → lacks_type types b ≡ false → lacks_variable types b ≡ false → is_wrong_kind types b ≡ false
+    → All (λ (rule : Rule). NameEarlier rule.conditions) rest → All (λ (rule : Rule). NameEarlier rule.conditions) (map (rule_of types entries) (rule_in b) ++ rest)
+body_named types entries (body.Rule r) rest u e k h =
+    All-cons (λ (rule : Rule). NameEarlier rule.conditions) (rule_of types entries r) rest
+    (rule_named types entries r.conditions (or_left (has_unknown_type types r.conditions) _ u) (or_left (any_condition has_unknown_variable types begin r.conditions) _ e)
+    (or_left (any_condition (has_wrong_kind types) types begin r.conditions) _ k)) h
+body_named types entries (body.Declare t) rest u e k h = h
+body_named types entries (body.Package p) rest u e k h = h
+body_named types entries (body.Import p s) rest u e k h = h
+body_named types entries (body.Dialect d) rest u e k h = h
+body_named types entries (body.Entry a l) rest u e k h = h
+
+all_named : (entries : List (List ℕ)) (all before items : List Item) → AllPass all before items → All (λ (rule : Rule). NameEarlier rule.conditions) (map (rule_of (types_of all) entries) (rules_of items))
+all_named entries all before [] p = All-nil (λ (rule : Rule). NameEarlier rule.conditions)
+all_named entries all before (item ∷ items) p =
+    All-same (λ (rule : Rule). NameEarlier rule.conditions) (map (rule_of (types_of all) entries) (rule_in item.body ++ rules_of items)) _ (map-append (rule_of (types_of all) entries) (rule_in item.body) (rules_of items))
+    (body_named (types_of all) entries item.body (map (rule_of (types_of all) entries) (rules_of items)) (p.0 UnknownType) (p.0 UnknownVariable) (p.0 WrongKind) (all_named entries all (before ++ item ∷ []) items p.1))
 
 -- ---- types are declared once
 
@@ -183,6 +207,7 @@ accepted_runnable file a =
       few_rules = omega (arith, rules, length-map (rules_of file.items) (rule_of types entries));
       conditions = all_sound types entries has_conditions (conditions_sound types entries) file.items [] file.items a;
       operators = all_operators types entries (rules_of file.items);
+      named = all_named entries file.items [] file.items a;
       windows = accepted_windows file a;
       observed = observed_are_flagged file (omega (arith, few)) (declared_once file.items [] file.items a none_declared) (all_known file.items [] file.items a);
       actions = all_sound types entries has_few_actions (actions_sound types entries) file.items [] file.items a;

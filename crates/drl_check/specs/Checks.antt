@@ -7,7 +7,7 @@ use Rattle.drl_grammar.specs.declared.file.Body.TheVariants as body
 use Rattle.drl_grammar.specs.declared.file.Item.{Item}
 use Rattle.drl_grammar.specs.declared.file.TypeTree.{TypeTree}
 use Rattle.drl_check.specs.declared.fault.CheckCode.{CheckCode}
-use Rattle.drl_check.specs.declared.fault.CheckCode.TheVariants.{TwiceDeclared, LimitPassed, UnknownType, UnknownField, UnknownVariable, WrongKind, NotAnEvent, BadTimestamp, EventFixed, EventObserved, BadParams}
+use Rattle.drl_check.specs.declared.fault.CheckCode.TheVariants.{TwiceDeclared, LimitPassed, UnknownType, UnknownField, UnknownVariable, WrongKind, NotAnEvent, BadTimestamp, EventFixed, EventObserved, BadParams, NeverMatches}
 use Rattle.drl_sight.specs.Declarations.{types_of}
 use Rattle.drl_sight.specs.Observed.{is_observed}
 use Rattle.drl_sight.specs.Sight.{begin, sight_of_actions}
@@ -16,6 +16,7 @@ use Rattle.drl_limits.specs.Limits.{exceeds_limit}
 use Rattle.drl_uses.specs.Uses.{any_condition, has_unknown_type, has_unknown_field, has_unknown_variable, inserts_unknown_type, action_lacks, action_unseen}
 use Rattle.drl_check.specs.Events.{annotation_lacks, is_no_event, has_bad_timestamp, modifies_event, retracts_observed}
 use Rattle.drl_check.specs.Params.{is_negative, expires_at_once, is_condition_refused}
+use Rattle.drl_check.specs.Solvable.{never_matches}
 use Rattle.drl_uses.specs.Kinds.{has_unknown_kind, has_wrong_kind, action_misfits}
 use Rattle.drl_uses.specs.Times.{has_no_times}
 
@@ -105,10 +106,11 @@ fails BadTimestamp all before b = needs_whole_times b
 fails EventFixed all before b = fixes_event (types_of all) b
 fails EventObserved all before b = drops_observed (is_observed all) (types_of all) b
 fails BadParams all before b = has_bad_params b
+fails NeverMatches all before b = never_matches all b
 
 -- the codes, in the order in which they are tried
 abbrev pub codes_in_order : List CheckCode
-codes_in_order = TwiceDeclared ∷ LimitPassed ∷ UnknownType ∷ UnknownField ∷ UnknownVariable ∷ WrongKind ∷ NotAnEvent ∷ BadTimestamp ∷ EventFixed ∷ EventObserved ∷ BadParams ∷ []
+codes_in_order = TwiceDeclared ∷ LimitPassed ∷ UnknownType ∷ UnknownField ∷ UnknownVariable ∷ WrongKind ∷ NotAnEvent ∷ BadTimestamp ∷ EventFixed ∷ EventObserved ∷ BadParams ∷ NeverMatches ∷ []
 
 -- an item passes all checks
 abbrev pub Passes : List Item → List Item → Body → Type 0

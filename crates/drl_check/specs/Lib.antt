@@ -2,6 +2,7 @@ pub mod CodeNames
 pub mod Twice
 pub mod Events
 pub mod Params
+pub mod Solvable
 pub mod Checks
 pub mod Outcomes
 pub mod Failing

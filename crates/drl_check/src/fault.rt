@@ -39,6 +39,9 @@ pub enum CheckCode {
     /// A lateness is below 0, an expiry or a time window below 1 ms, a length window of no events; or a temporal operator has
     /// another number of parameters than it takes, or one below 0 and is neither `after` nor `before`.
     BadParams,
+    /// No events can match the patterns of a rule outside not, exists and accumulate: their temporal tests contradict one
+    /// another.
+    NeverMatches,
 }
 
 impl CheckCode {
@@ -58,6 +61,7 @@ impl CheckCode {
             CheckCode::EventFixed => "EventFixed",
             CheckCode::EventObserved => "EventObserved",
             CheckCode::BadParams => "BadParams",
+            CheckCode::NeverMatches => "NeverMatches",
         }
     }
 }

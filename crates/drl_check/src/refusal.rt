@@ -5,6 +5,8 @@ ghost use Rattle.drl_sight.specs.EntryPoints.{entries_declared, entries_named, w
 ghost use Rattle.drl_check.specs.Checks.{lacks_type, lacks_field as lacks_field_of, lacks_variable as lacks_variable_of, is_wrong_kind, needs_event, needs_whole_times, fixes_event, drops_observed, has_bad_params, failure_from};
 ghost use Rattle.drl_check.specs.Failing.{first_failing, first_failing_event, first_failing_use};
 ghost use Rattle.drl_check.specs.Answers.{within_32_bits, Judges};
+ghost use Rattle.drl_check.specs.Solvable.{never_matches_alone, HasFewConditions, HasNetwork};
+ghost use Rattle.drl_program.specs.Programs.{types_alone};
 
 use crate::events::{
     is_plain_with_times, lacks_annotated, misfits_annotated, modifies_some_event,
@@ -16,8 +18,10 @@ use crate::whole::Whole;
 use crate::{CheckCode, CheckFault};
 use drl_grammar::{Body, Item};
 use drl_limits::exceeds_limits;
+use drl_program::conditions_alone;
 use drl_sight::{Declared, Places, default_entry, with_entries};
 use drl_uses::{Asked, Kinded, insert_unknown, is_so_in_rule, lack_times, lack_type, lacks_kind};
+use expiry_infer::is_solvable;
 use fx_base::NoMemory;
 use std::alloc::Global;
 
@@ -132,9 +136,30 @@ fn are_params_bad(body: &Body) -> bool
     }
 }
 
+// Whether no events can match the patterns of a rule that bind events.
+fn is_unmatchable(alloc: Global, whole: &Whole, body: &Body) -> Result<bool, NoMemory>
+    requires { HasNetwork whole.now.types body.now }
+    ensures { IfOk result (λ never. never ≡ never_matches_alone whole.now.alone whole.now.types body.now) }
+{
+    match body {
+        Body::Rule(tree) => {
+            let trees = tree.conditions.as_slice();
+            let conditions = conditions_alone(alloc, whole.types.declared(), trees)?;
+            let solvable = is_solvable(alloc, &whole.alone, conditions.as_slice())?;
+            Ok(!solvable)
+        }
+        Body::Package(_)
+        | Body::Import { .. }
+        | Body::Dialect(_)
+        | Body::Declare(_)
+        | Body::Entry { .. } => Ok(false),
+    }
+}
+
 // The first code that an item fails, which looks at events.
 fn failing_event(alloc: Global, whole: &Whole, body: &Body) -> Result<Option<CheckCode>, NoMemory>
-    ensures { IfOk result (λ code. code ≡ first_failing_event whole.now.types whole.now.watched body.now) }
+    requires { HasNetwork whole.now.types body.now }
+    ensures { IfOk result (λ code. code ≡ first_failing_event whole.now.alone whole.now.types whole.now.watched body.now) }
 {
     if is_event_missing(alloc, whole.types.declared(), body)? {
         return Ok(Some(CheckCode::NotAnEvent));
@@ -151,12 +176,17 @@ fn failing_event(alloc: Global, whole: &Whole, body: &Body) -> Result<Option<Che
     if are_params_bad(body) {
         return Ok(Some(CheckCode::BadParams));
     }
+    if is_unmatchable(alloc, whole, body)? {
+        return Ok(Some(CheckCode::NeverMatches));
+    }
     Ok(None)
 }
 
 // The first code that an item fails, which looks into annotations, conditions and actions.
+#[tactic(auto, using(crate::proofs::Solvable::has_network))]
 fn failing_use(alloc: Global, whole: &Whole, body: &Body) -> Result<Option<CheckCode>, NoMemory>
-    ensures { IfOk result (λ code. code ≡ first_failing_use whole.now.types whole.now.watched body.now) }
+    requires { HasFewConditions body.now }
+    ensures { IfOk result (λ code. code ≡ first_failing_use whole.now.alone whole.now.types whole.now.watched body.now) }
 {
     if is_type_missing(whole.types.declared(), body) {
         return Ok(Some(CheckCode::UnknownType));
@@ -175,6 +205,7 @@ fn failing_use(alloc: Global, whole: &Whole, body: &Body) -> Result<Option<Check
 
 // The first code that an item fails, behind items that declare types, entry points and rules of these names; `known` are the
 // entry points known behind it. The limits are tried before the uses, so that these walk few variables.
+#[tactic(auto, using(crate::proofs::Solvable::few_conditions))]
 fn failing(
     alloc: Global,
     whole: &Whole,
@@ -185,7 +216,7 @@ fn failing(
     body: &Body,
 ) -> Result<Option<CheckCode>, NoMemory>
     ensures { (before : List (List ℕ)) → known.now ≡ with_names before (entries_named body.now)
-        → IfOk result (λ code. code ≡ first_failing whole.now.types whole.now.watched earlier_types.now earlier_entries.now earlier_rules.now before body.now) }
+        → IfOk result (λ code. code ≡ first_failing whole.now.alone whole.now.types whole.now.watched earlier_types.now earlier_entries.now earlier_rules.now before body.now) }
 {
     if repeats(alloc, earlier_types, earlier_entries, earlier_rules, body)? {
         return Ok(Some(CheckCode::TwiceDeclared));
@@ -247,6 +278,7 @@ fn number_of(place: usize) -> u32
 pub(crate) fn refusal(alloc: Global, whole: &Whole, items: &[Item]) -> Result<(), CheckFault>
     requires types { whole.now.types ≡ types_of items.now }
     requires watched { whole.now.watched ≡ watched_names items.now }
+    requires alone { whole.now.alone ≡ types_alone (types_of items.now) }
     ensures { Judges result (failure_from items.now [] items.now) }
 {
     let mut earlier_types = Places::new(alloc);

@@ -1,19 +1,23 @@
 ghost use Rattle.std.specs.Prelude.{◌≡◌, IfOk};
 ghost use Rattle.drl_sight.specs.Declarations.{types_of};
 ghost use Rattle.drl_sight.specs.Observed.{watched_names};
+ghost use Rattle.drl_program.specs.Programs.{types_alone};
 
 use drl_grammar::Item;
+use drl_program::program_of_types;
 use drl_sight::{Places, watched_types};
 use drl_uses::Kinded;
 use fx_base::NoMemory;
+use rule_model::Program;
 use std::alloc::Global;
 
-/// What a file says as a whole: the types that it declares, and the names of those that its conditions watch. Both are
-/// gathered once.
+/// What a file says as a whole: the types that it declares, the names of those that its conditions watch, and the program of
+/// its types alone. Each is gathered once.
 #[derive(Drop)]
 pub(crate) struct Whole<'a> {
     pub(crate) types: Kinded<'a>,
     pub(crate) watched: Places,
+    pub(crate) alone: Program,
 }
 
 impl<'a> Whole<'a> {
@@ -21,10 +25,12 @@ impl<'a> Whole<'a> {
     pub(crate) fn of(alloc: Global, items: &'a [Item]) -> Result<Whole<'a>, NoMemory>
         ensures types { IfOk result (λ whole. whole.types ≡ types_of items.now) }
         ensures watched { IfOk result (λ whole. whole.watched ≡ watched_names items.now) }
+        ensures alone { IfOk result (λ whole. whole.alone ≡ types_alone (types_of items.now)) }
     {
         Ok(Whole {
             types: Kinded::of(alloc, items)?,
             watched: watched_types(alloc, items)?,
+            alone: program_of_types(alloc, items)?,
         })
     }
 }

@@ -344,3 +344,7 @@ program_with types entries items = record {
 
 abbrev pub program_of : File → Program
 program_of file = program_with (types_of file.items) (entry_names file.items) file.items
+
+-- the program of types alone: no rules, no entry points, and no type that is flagged as observed
+abbrev pub types_alone : List TypeTree → Program
+types_alone types = record { types = map (type_info []) types; entries = []; rules = [] }

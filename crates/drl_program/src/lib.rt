@@ -3,6 +3,7 @@
 #![tactic(auto)]
 
 mod actions_of;
+mod alone;
 mod conditions_of;
 mod infos_of;
 pub mod laws;
@@ -13,4 +14,5 @@ mod programs;
 mod tests_of;
 mod undeclared;
 
+pub use alone::{conditions_alone, program_of_types};
 pub use programs::program;

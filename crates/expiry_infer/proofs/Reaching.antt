@@ -34,9 +34,13 @@ of_times p conditions places few named times h =
 pub solvable : (p : Program) (conditions : List Condition) → NameEarlier conditions → net.IsSolvable (edges_of p conditions [] 0 conditions) → IsSolvable p conditions
 solvable p conditions named h = (times_of conditions h.0, of_points p conditions [] named h.0 h.1)
 
+pub numbered : (p : Program) (conditions : List Condition) (places : List ℕ) → length conditions ≤ 8 → NameEarlier conditions → (times : Occurrence → Times)
+    → Solves p conditions places times → net.IsSolvable (edges_of p conditions places 0 conditions)
+numbered p conditions places few named times h = (points_of conditions times, of_times p conditions places few named times h)
+
 pub unsolvable : (p : Program) (conditions : List Condition) (places : List ℕ) → length conditions ≤ 8 → NameEarlier conditions
     → (net.IsSolvable (edges_of p conditions places 0 conditions) → ⊥) → (times : Occurrence → Times) → Solves p conditions places times → ⊥
-unsolvable p conditions places few named no_solution times h = no_solution (points_of conditions times, of_times p conditions places few named times h)
+unsolvable p conditions places few named no_solution times h = no_solution (numbered p conditions places few named times h)
 
 pub answered : (p : Program) (conditions : List Condition) → length conditions ≤ 8 → NameEarlier conditions → (found : Option Network) (answer : Bool)
     → answer ≡ is_some found → IsSolved (edges_of p conditions [] 0 conditions) found → Decides answer (IsSolvable p conditions)

@@ -3,6 +3,7 @@
 //! (Dechter, Meiri, Pearl 1991) and assumes nothing of the outside.
 #![tactic(auto)]
 
+pub mod laws;
 mod lifetimes;
 mod limits;
 mod network;

@@ -4,6 +4,7 @@ ghost use Rattle.rule_model.specs.declared.condition.Condition.{Condition as Any
 ghost use Rattle.rule_lives.specs.Networks.{IsSolvable};
 ghost use Rattle.expiry_infer.specs.Edges.{edges_of, HaveNetwork};
 ghost use Rattle.expiry_infer.specs.Found.{IsFound, IsSolved};
+ghost use Rattle.expiry_infer.specs.Solvable.{can_match};
 
 use crate::network::{POINTS, end, network, start};
 use fx_base::{Bound, NoMemory};
@@ -38,7 +39,8 @@ pub fn is_solvable(
     conditions: &[Condition],
 ) -> Result<bool, NoMemory>
     requires { HaveNetwork conditions.now }
-    ensures { IfOk result (λ answer. Decides answer (IsSolvable program.now conditions.now)) }
+    ensures answer { IfOk result (λ answer. answer ≡ can_match program.now conditions.now) }
+    ensures meaning { IfOk result (λ answer. Decides answer (IsSolvable program.now conditions.now)) }
 {
     let found = solved(alloc, program, conditions, &[])?;
     Ok(found.is_some())

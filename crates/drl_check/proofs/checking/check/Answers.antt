@@ -1,4 +1,4 @@
-use Rattle.drl_check.proofs.Checked.{given_program, given_accepted, given_refused, given_sound}
+use Rattle.drl_check.proofs.Checked.{given_program, given_accepted, given_refused, given_sound, given_solvable}
 use Rattle.drl_check.proofs.checking.check.Goals as goal
 
 pub returns : goal.returns
@@ -11,5 +11,6 @@ returns c =
       accepted = given_accepted r file g;
       refused = given_refused r file g;
       sound = given_sound r file g;
+      solvable = given_solvable r file g;
       gives = g;
     }

@@ -21,7 +21,7 @@ returns-in-Some c =
     let place = c.loop-place.place in
     let item = c.index-items-place.result in
     let code : first_code codes_in_order items (take place items) item.body ≡ Some c.in-Some.code =
-    sym (failing_is items (take place items) c.args.whole.now.types c.args.whole.now.watched c.loop-place.earlier_types c.loop-place.earlier_entries c.loop-place.earlier_rules c.loop-place.known item.body c.requires.types c.requires.watched
+    sym (failing_is items (take place items) c.args.whole.now.alone c.args.whole.now.types c.args.whole.now.watched c.loop-place.earlier_types c.loop-place.earlier_entries c.loop-place.earlier_rules c.loop-place.known item.body c.requires.alone c.requires.types c.requires.watched
     c.loop-place.invariant.types c.loop-place.invariant.entries c.loop-place.invariant.rules c.loop-place.invariant.known)
     ∙ sym (c.in_ok-code.ensures c.loop-place.known c.in_ok-known-2.ensures) ∙ c.in-Some.is in (
       record { number = place + 1; line = item.line; code = c.in-Some.code },
@@ -35,7 +35,7 @@ loop-place-preserved c =
     let place = c.loop-place.place in
     let item = c.index-items-place.result in
     let code : first_code codes_in_order items (take place items) item.body ≡ None =
-    sym (failing_is items (take place items) c.args.whole.now.types c.args.whole.now.watched c.loop-place.earlier_types c.loop-place.earlier_entries c.loop-place.earlier_rules c.loop-place.known item.body c.requires.types c.requires.watched
+    sym (failing_is items (take place items) c.args.whole.now.alone c.args.whole.now.types c.args.whole.now.watched c.loop-place.earlier_types c.loop-place.earlier_entries c.loop-place.earlier_rules c.loop-place.known item.body c.requires.alone c.requires.types c.requires.watched
     c.loop-place.invariant.types c.loop-place.invariant.entries c.loop-place.invariant.rules c.loop-place.invariant.known)
     ∙ sym (c.in_ok-code.ensures c.loop-place.known c.in_ok-known-2.ensures) ∙ c.in-None.is in
     record {
