@@ -1,4 +1,3 @@
 pub mod Faults
 pub mod Networks
-pub mod Potentials
 pub mod Tables
