@@ -5,3 +5,4 @@ pub mod Fitting
 pub mod Reaching
 pub mod Tops
 pub mod Given
+pub mod Runnable
