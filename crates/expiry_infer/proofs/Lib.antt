@@ -6,3 +6,4 @@ pub mod Reaching
 pub mod Matching
 pub mod Tops
 pub mod Given
+pub mod Runnable

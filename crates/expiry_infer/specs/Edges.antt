@@ -1,7 +1,7 @@
 -- The network of the conditions of a rule as edges between numbered points: the event of the condition of place k, which is below 8,
 -- starts at the point k and ends at the point k + 8.
-use Rattle.std.specs.Prelude.{◌≡◌, ◌==◌, ◌+◌, ◌<◌, ◌≤◌, ℕ, zero, suc, pos, Bool, true, false, List, [], ◌∷◌, ◌++◌, length, map, take, Some, slice_get, if◌then◌else◌}
-use Rattle.std.specs.List.{All, list_any, flat_map}
+use Rattle.std.specs.Prelude.{◌==◌, ◌+◌, ◌≤◌, ℕ, zero, suc, pos, Bool, true, false, List, [], ◌∷◌, ◌++◌, length, map, if◌then◌else◌}
+use Rattle.std.specs.List.{list_any, flat_map}
 use Rattle.temporal_ops.specs.declared.edge.Corner.{Corner}
 use Rattle.temporal_ops.specs.declared.edge.Corner.TheVariants.{AStart, AEnd, BStart, BEnd}
 use Rattle.temporal_ops.specs.declared.edge.OpEdge.{OpEdge}

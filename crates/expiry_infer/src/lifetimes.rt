@@ -9,7 +9,8 @@ ghost use Rattle.expiry_infer.specs.Edges.{HaveNetwork};
 ghost use Rattle.expiry_infer.specs.Found.{limit_of};
 ghost use Rattle.expiry_infer.specs.Tops.{Among, IsTop};
 ghost use Rattle.rule_lives.specs.Keeping.{AreLives, IsLifeOf};
-ghost use Rattle.expiry_infer.specs.Tables.{placed, GivesAt, GivesIn, RulesHaveNetworks};
+ghost use Rattle.rule_world.specs.Programs.{IsRunnable};
+ghost use Rattle.expiry_infer.specs.Tables.{placed, GivesAt, GivesIn};
 
 use crate::limits::{greater, sum, tail};
 use crate::solving::reach;
@@ -128,7 +129,7 @@ fn with_rule(
 
 // The life of the event type of this place, which has no explicit expiry.
 fn inferred(alloc: Global, program: &Program, ty: usize) -> Result<Bound, NoMemory>
-    requires networks { RulesHaveNetworks program.now }
+    requires runnable { IsRunnable program.now }
     requires event { is_event program.now ty ≡ true }
     requires unexpired { expiry_of program.now ty ≡ None }
     ensures { IfOk result (λ life. IsLife program.now ty (limit_of life)) }
@@ -144,7 +145,7 @@ fn inferred(alloc: Global, program: &Program, ty: usize) -> Result<Bound, NoMemo
 
 // The life of the type of this place.
 fn life(alloc: Global, program: &Program, place: usize, ty: &TypeInfo) -> Result<Life, NoMemory>
-    requires networks { RulesHaveNetworks program.now }
+    requires runnable { IsRunnable program.now }
     requires at { slice_get program.now.types place ≡ Some ty.now }
     ensures { IfOk result (IsLifeOf program.now place) }
 {
@@ -163,7 +164,7 @@ fn life(alloc: Global, program: &Program, place: usize, ty: &TypeInfo) -> Result
 /// The lives of the types of a program, in milliseconds: how long behind its end an event of each can still matter. A life that 64 bits
 /// do not hold is answered as no memory.
 pub fn lives(alloc: Global, program: &Program) -> Result<LifeTable, NoMemory>
-    requires { RulesHaveNetworks program.now }
+    requires { IsRunnable program.now }
     ensures { IfOk result (AreLives program.now) }
 {
     let types = program.types.as_slice();

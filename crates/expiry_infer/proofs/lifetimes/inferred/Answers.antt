@@ -8,6 +8,7 @@ use Rattle.expiry_infer.specs.Found.{limit_of}
 use Rattle.expiry_infer.specs.Tables.{GivesAt}
 use Rattle.expiry_infer.specs.Tops.{Among, IsTop}
 use Rattle.expiry_infer.proofs.Given.{one_more_rule, rule_in, is_life}
+use Rattle.expiry_infer.proofs.Runnable.{rules_have_networks}
 use Rattle.expiry_infer.proofs.lifetimes.inferred.Goals as goal
 
 -- the rule of a place, and its conditions as they were read
@@ -20,7 +21,7 @@ with_rule-requires c =
     let xs = c.as_slice-rules.result.now in
     let rule = get_or xs c.loop-place.place c.index-rules-place.result in
     let at = there rules xs c.loop-place.place c.index-rules-place.result c.as_slice-rules.ensures c.loop-place-test.true in
-    subst HaveNetwork (sym c.as_slice-conditions.ensures) (c.requires.networks rule (rule_in rules c.loop-place.place rule at))
+    subst HaveNetwork (sym c.as_slice-conditions.ensures) (rules_have_networks c.args.program.now c.requires.runnable rule (rule_in rules c.loop-place.place rule at))
 
 pub loop-place-preserved : goal.loop-place-preserved
 loop-place-preserved c =
