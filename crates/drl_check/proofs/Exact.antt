@@ -44,7 +44,7 @@ module _ (all before : List Item) (b : Body) where
       let w = none_split (fails NotAnEvent all before b) NotAnEvent (first_code (BadTimestamp ∷ EventFixed ∷ EventObserved ∷ BadParams ∷ NeverMatches ∷ []) all before b) v.1 in
       let x = none_split (fails BadTimestamp all before b) BadTimestamp (first_code (EventFixed ∷ EventObserved ∷ BadParams ∷ NeverMatches ∷ []) all before b) w.1 in
       let y = none_split (fails EventFixed all before b) EventFixed (first_code (EventObserved ∷ BadParams ∷ NeverMatches ∷ []) all before b) x.1 in
-      let z = none_split (fails EventObserved all before b) EventObserved (first_code (BadParams ∷ []) all before b) y.1 in
+      let z = none_split (fails EventObserved all before b) EventObserved (first_code (BadParams ∷ NeverMatches ∷ []) all before b) y.1 in
       let l = none_split (fails BadParams all before b) BadParams (first_code (NeverMatches ∷ []) all before b) z.1 in
       let m = none_split (fails NeverMatches all before b) NeverMatches None l.1 in
       by_code q.0 r.0 s.0 t.0 u.0 v.0 w.0 x.0 y.0 z.0 l.0 m.0

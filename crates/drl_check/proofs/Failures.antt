@@ -15,7 +15,7 @@ use Rattle.drl_sight.proofs.EntryLemmas.{with_both}
 use Rattle.drl_program.specs.Programs.{types_alone}
 use Rattle.drl_check.specs.Checks.{Failure, codes_in_order, first_code, failure_at, failure_from}
 use Rattle.drl_check.specs.Failing.{first_failing}
-use Rattle.drl_check.proofs.Solvable.{same_alone}
+use Rattle.drl_check.proofs.Alone.{same_alone}
 
 take_suc : {A : Type 0} (all : List A) (k : ℕ) (x : A) → k < length all → x ≡ get_or all k x → take (suc k) all ≡ take k all ++ x ∷ []
 take_suc [] k x lt e = absurd (omega (arith, lt))

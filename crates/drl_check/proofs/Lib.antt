@@ -1,3 +1,4 @@
+pub mod Alone
 pub mod Failures
 pub mod Exact
 pub mod Sound

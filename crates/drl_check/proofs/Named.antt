@@ -1,6 +1,6 @@
 -- Each temporal test of a rule names a fact that an earlier condition binds, where the rule names no unknown type or variable and no
 -- value where a fact is needed.
-use Rattle.std.proofs.Common.{◌≡◌, ◌<◌, ◌+◌, ◌++◌, ◌∷◌, ◌||◌, ℕ, zero, suc, min, Bool, true, false, not, List, [], take, slice_get, Option, Some, None, is_some, cond, sym, subst, ◌∙◌, arith}
+use Rattle.std.proofs.Common.{◌≡◌, ◌<◌, ◌+◌, ◌++◌, ◌∷◌, ◌||◌, ℕ, zero, suc, min, Bool, true, false, not, List, [], take, slice_get, Option, Some, None, is_some, cond, refl, sym, subst, ◌∙◌, arith}
 use Rattle.std.specs.List.{All, list_any, flat_map}
 use Rattle.std.specs.Str.{bytes_eq}
 use Rattle.std.proofs.lemmas.List.Elements.{All-nil, All-cons, All-append, All-weaker}
@@ -21,11 +21,11 @@ use Rattle.rule_world.specs.Programs.{NameEarlier}
 use Rattle.drl_sight.specs.Names.{place_of}
 use Rattle.drl_sight.specs.Declarations.{type_named, field_names}
 use Rattle.drl_sight.specs.EntryPoints.{source_of}
-use Rattle.drl_sight.specs.Sight.{Meaning, of_fact, of_field, of_result, Sight, meaning_of, seen_fact, seen_field, seen_in, seen_of, seen_result, Place, begin, behind}
+use Rattle.drl_sight.specs.Sight.{Meaning, of_fact, of_field, of_result, Sight, meaning_of, seen_fact, seen_field, seen_in, seen_of, seen_result, Place, begin, behind, is_bound_by}
 use Rattle.drl_program.specs.Operators.{operator_of}
 use Rattle.drl_program.specs.Programs.{fact_meant, time_test, times_in, condition_of, conditions_of}
-use Rattle.drl_uses.specs.Uses.{any_condition, is_type_unknown, has_unknown_type, is_unseen, part_unseen, source_unseen, has_unknown_variable}
-use Rattle.drl_uses.specs.Kinds.{is_value, part_misfits, source_misfits, has_wrong_kind}
+use Rattle.drl_uses.specs.Uses.{any_condition, is_type_unknown, has_unknown_type, is_unseen, part_unseen, source_unseen, test_unseen, has_unknown_variable}
+use Rattle.drl_uses.specs.Kinds.{is_value, part_misfits, source_misfits, argument_misfits, test_misfits, has_wrong_kind}
 use Rattle.drl_check.proofs.Sound.{or_left, or_right}
 
 -- ---- a fact that a variable means is bound
@@ -141,7 +141,12 @@ module _ (types : List TypeTree) (entries : List (List ℕ)) where
   condition_named place (tree.Negated s) h u e k = source_named place.facts (type_named types s.ty) place.sight s h u e k
   condition_named place (tree.Existing s) h u e k = source_named place.facts (type_named types s.ty) place.sight s h u e k
   condition_named place (tree.Folded result s kind arg tests) h u e k =
-      source_named place.facts (type_named types s.ty) place.sight s h u (or_left (source_unseen place.sight s) _ e) (or_left (source_misfits (type_named types s.ty) place.sight s) _ k)
+      let unseen = source_unseen place.sight s in
+      let misfits = source_misfits (type_named types s.ty) place.sight s in
+      let argument = argument_misfits (type_named types s.ty) s kind arg in
+      source_named place.facts (type_named types s.ty) place.sight s h u
+      (or_left unseen (not (is_bound_by s arg)) (or_left (unseen || not (is_bound_by s arg)) (list_any (test_unseen place.sight) tests) e))
+      (or_left misfits argument (or_left (misfits || argument) (list_any (test_misfits place.sight) tests) k))
 
   bound_behind : (place : Place) (c : CondTree) → (behind types place c).facts ≡ place.facts + bindings (condition_of types entries place c ∷ [])
   bound_behind place (tree.Plain s) = omega arith

@@ -183,7 +183,6 @@ fn failing_event(alloc: Global, whole: &Whole, body: &Body) -> Result<Option<Che
 }
 
 // The first code that an item fails, which looks into annotations, conditions and actions.
-#[tactic(auto, using(crate::proofs::Solvable::has_network))]
 fn failing_use(alloc: Global, whole: &Whole, body: &Body) -> Result<Option<CheckCode>, NoMemory>
     requires { HasFewConditions body.now }
     ensures { IfOk result (λ code. code ≡ first_failing_use whole.now.alone whole.now.types whole.now.watched body.now) }
@@ -205,7 +204,6 @@ fn failing_use(alloc: Global, whole: &Whole, body: &Body) -> Result<Option<Check
 
 // The first code that an item fails, behind items that declare types, entry points and rules of these names; `known` are the
 // entry points known behind it. The limits are tried before the uses, so that these walk few variables.
-#[tactic(auto, using(crate::proofs::Solvable::few_conditions))]
 fn failing(
     alloc: Global,
     whole: &Whole,
@@ -215,6 +213,7 @@ fn failing(
     known: &Places,
     body: &Body,
 ) -> Result<Option<CheckCode>, NoMemory>
+    requires { (before : List (List ℕ)) × (known.now ≡ with_names before (entries_named body.now)) }
     ensures { (before : List (List ℕ)) → known.now ≡ with_names before (entries_named body.now)
         → IfOk result (λ code. code ≡ first_failing whole.now.alone whole.now.types whole.now.watched earlier_types.now earlier_entries.now earlier_rules.now before body.now) }
 {

@@ -15,6 +15,9 @@ loop-place-init c = record {
   same = refl;
 }
 
+pub failing-requires : goal.failing-requires
+failing-requires c = (c.loop-place.known, c.in_ok-known-2.ensures)
+
 pub returns-in-Some : goal.returns-in-Some
 returns-in-Some c =
     let items = c.args.items.now in
