@@ -1,0 +1,26 @@
+-- What `parse` makes of decimal digits.
+use Rattle.std.proofs.Common.{◌≡◌, ◌∙◌, ◌≤◌, ℕ, List, length, true, Result, Ok, Some, rules, arith, ap, sym}
+use Rattle.std.specs.Char.{is_ascii_digit}
+use Rattle.std.specs.List.{list_all}
+use Rattle.std.specs.Result.{result_ok}
+use Rattle.std.specs.Str.Parse.{digits_value, ParsesUnsigned}
+use Rattle.std.proofs.lemmas.Str.Parse.{IsNumeralModel, numerals_by_value, digits_value_short, parse_gives}
+use Rattle.command_words.specs.Asked.{number_of}
+
+decimal : IsNumeralModel (λ ds. list_all is_ascii_digit ds ≡ true) (digits_value 10)
+decimal = numerals_by_value _ (search rules)
+
+-- a text of 1 to 7 digits is read as the number that it writes
+read_short : {E : Type 0} (text : List ℕ) (r : Result ℕ E) → ParsesUnsigned 64 10 text r → list_all is_ascii_digit text ≡ true → 1 ≤ length text → length text ≤ 7
+    → r ≡ Ok (digits_value 10 text)
+read_short text r parsed digits some short =
+    let small = digits_value_short decimal text 7 digits short in
+    parse_gives decimal 64 text r parsed digits (omega arith) (omega (arith, small))
+
+number_written : (text : List ℕ) → list_all is_ascii_digit text ≡ true → 1 ≤ length text → length text ≤ 7 → number_of text ≡ Some (digits_value 10 text)
+unfolding number_of
+number_written text digits some short = search (rules, digits, some, short)
+
+pub number_read : {E : Type 0} (text : List ℕ) (r : Result ℕ E) → ParsesUnsigned 64 10 text r → list_all is_ascii_digit text ≡ true → 1 ≤ length text → length text ≤ 7
+    → result_ok r ≡ number_of text
+number_read text r parsed digits some short = ap result_ok (read_short text r parsed digits some short) ∙ sym (number_written text digits some short)

@@ -1,0 +1,30 @@
+-- The program's command, and what clap makes of words by it.
+use Rattle.std.specs.Prelude.{true, List, [], ◌∷◌, Option, Some, None, codes}
+use Rattle.clap.specs.Simple.{on_top}
+use Rattle.clap.specs.Words.{App, Kinds, Row, Rule, Text, fault_of, matches_of, new_app, new_rule, with_rule}
+use Rattle.clap.specs.declared.builder.action.ArgAction.TheVariants.{Set}
+
+-- an option that is not required and has one value: `--NAME VALUE` or `--NAME=VALUE`
+abbrev pub option_rule : Text → Rule
+option_rule name = record (new_rule name) { long = Some name; action = Some Set }
+
+-- a positional argument that is not required and has one value
+abbrev pub positional_rule : Text → Rule
+positional_rule name = record (new_rule name) { action = Some Set }
+
+-- `replay [--mode MODE] [--limit LIMIT] [RULES]`, of words that do not begin with the program's own name
+unfoldable pub replay_app : App
+replay_app =
+    with_rule (with_rule (with_rule (on_top (λ s. record s { no_binary_name = true }) (new_app (codes "replay")))
+    (option_rule (codes "mode")))
+    (option_rule (codes "limit")))
+    (positional_rule (codes "rules"))
+
+-- nothing where there is a fault
+abbrev pub without_fault : Kinds → List Row → Option (List Row)
+without_fault [] rows = Some rows
+without_fault (kind ∷ kinds) rows = None
+
+-- what clap makes of the words, or nothing where it finds a fault in them
+unfoldable pub matched : List Text → Option (List Row)
+matched words = without_fault (fault_of replay_app words) (matches_of replay_app words)

@@ -1,0 +1,12 @@
+//! Reads the words of the program's command line: the mode, the limit of firings and the name of the rule file.
+//! It stands on clap's reading of words by a command, and adds the defaults and tests of values.
+#![tactic(auto)]
+
+mod asking;
+mod command;
+pub mod laws;
+mod numbers;
+mod reading;
+
+pub use asking::{Asked, Mode};
+pub use reading::asked;

@@ -1,0 +1,68 @@
+ghost use Rattle.std.specs.Prelude.{◌≡◌, option_map, IfOk, IfSome};
+ghost use Rattle.clap.specs.Words.{found_of, rows_of, first_of};
+ghost use Rattle.command_words.specs.Asked.{IsLimit, mode_of, given_or, asked_rows, asked_by};
+
+use crate::command::parse;
+use crate::numbers::limit_of;
+use crate::{Asked, Mode};
+use clap::ArgMatches;
+use fx_base::{NoMemory, Text};
+use std::alloc::Global;
+
+/// The mode where the words give none.
+const MODE_DEFAULT: &str = "run";
+
+/// The limit of firings where the words give none.
+const LIMIT_DEFAULT: &str = "100000";
+
+fn mode_of(name: &str) -> Option<Mode>
+    ensures { result ≡ mode_of name.now }
+{
+    match name {
+        "run" => Some(Mode::Run),
+        "check" => Some(Mode::Check),
+        "lives" => Some(Mode::Lives),
+        _ => None,
+    }
+}
+
+fn given<'a>(matches: &ArgMatches<'a>, name: &str) -> Option<&'a str>
+    ensures { option_map (λ text. text.now) result ≡ first_of name.now (rows_of (found_of matches.now)) }
+{
+    matches.get_str(name)
+}
+
+fn given_or<'a>(matches: &ArgMatches<'a>, name: &str, default: &'a str) -> &'a str
+    ensures { result.now ≡ given_or name.now default.entry.now (rows_of (found_of matches.now)) }
+{
+    given(matches, name).unwrap_or(default)
+}
+
+#[tactic(auto, unfolding(crate::specs::Asked::asked_rows))]
+fn asked_of(alloc: Global, matches: &ArgMatches) -> Result<Option<Asked>, NoMemory>
+    ensures { IfOk result (λ asked. asked ≡ asked_rows (rows_of (found_of matches.now))) }
+{
+    let mode = mode_of(given_or(matches, "mode", MODE_DEFAULT));
+    let limit = limit_of(given_or(matches, "limit", LIMIT_DEFAULT));
+    let rules = given(matches, "rules");
+    match (mode, limit, rules) {
+        (Some(mode), Some(limit), Some(rules)) => Ok(Some(Asked {
+            mode,
+            limit,
+            rules: Text::new(alloc, rules)?,
+        })),
+        _ => Ok(None),
+    }
+}
+
+/// What the words behind the program's own name ask for, or nothing where they are refused.
+#[tactic(auto, unfolding(crate::specs::Asked::asked_words, crate::specs::Asked::asked_by))]
+pub fn asked(alloc: Global, words: &[String]) -> Result<Option<Asked>, NoMemory>
+    ensures asks { IfOk result (λ asked. asked ≡ asked_by words.now) }
+    ensures limit { IfOk result (λ asked. IfSome asked (λ asked. IsLimit asked.limit)) }
+{
+    match parse(alloc, words)? {
+        Some(matches) => asked_of(alloc, &matches),
+        None => Ok(None),
+    }
+}
