@@ -6,6 +6,8 @@
 #[cfg(test)]
 mod files;
 #[cfg(test)]
+mod lives;
+#[cfg(test)]
 mod programs;
 #[cfg(test)]
 mod runs;
