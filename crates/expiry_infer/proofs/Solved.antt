@@ -15,13 +15,10 @@ use Rattle.rule_model.specs.Rows.{pattern_of}
 use Rattle.rule_lives.specs.Networks.{Occurrence, bound, aside, occurrence, IsMember, Meets, Solves}
 use Rattle.rule_world.specs.Programs.{NameEarlier}
 use Rattle.expiry_infer.specs.Edges.{place_of, pattern_edges, stands_in, condition_edges, edges_of}
-use Rattle.expiry_infer.proofs.Places.{own_place, named_here}
+use Rattle.expiry_infer.proofs.Places.{the_same, false_is, own_place, named_here}
 use Rattle.expiry_infer.proofs.Solutions.{Holds, Agree, times_at, all_first, all_second, pattern_from, pattern_to}
 
 -- ---- members
-
-false_is : false ≡ true → ⊥
-false_is e = cc
 
 same_number : (a b : ℕ) → (a == b) ≡ true → b ≡ a
 same_number a b e = grind (arith, nat_tests)
@@ -104,19 +101,13 @@ each_from P p all places place (c ∷ conditions) h =
     (each_from P p all places (suc place) conditions (λ k d at.
     let next : place + suc k ≡ suc place + k = omega arith in subst (λ (n : ℕ). All P (condition_edges p all places n d)) next (h (suc k) d at)))
 
-the_same : (c d : Condition) → Some c ≡ Some d → c ≡ d
-the_same c d e = cc
-
 each_to : (P : NetEdge → Type 0) (p : Program) (all : List Condition) (places : List ℕ) (place : ℕ) (conditions : List Condition)
     → All P (edges_of p all places place conditions) → (k : ℕ) (c : Condition) → slice_get conditions k ≡ Some c → All P (condition_edges p all places (place + k) c)
-each_to P p all places place [] h k c at = absurd (nothing at)
-  where
-    nothing : {A : Type 0} {x : A} → None ≡ Some x → ⊥
-    nothing e = cc
+each_to P p all places place [] h k c at = absurd cc
 each_to P p all places place (d ∷ conditions) h zero c at =
     let here : place ≡ place + 0 = omega arith in
     subst (λ (n : ℕ). All P (condition_edges p all places n c)) here
-    (subst (λ (x : Condition). All P (condition_edges p all places place x)) (the_same d c at)
+    (subst (λ (x : Condition). All P (condition_edges p all places place x)) (the_same at)
     (all_first P (condition_edges p all places place d) (edges_of p all places (suc place) conditions) h))
 each_to P p all places place (d ∷ conditions) h (suc k) c at =
     let next : suc place + k ≡ place + suc k = omega arith in
