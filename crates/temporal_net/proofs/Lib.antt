@@ -7,6 +7,7 @@ pub mod Firsts
 pub mod Heights
 pub mod Phases
 pub mod Places
+pub mod Potentials
 pub mod Solved
 pub mod Sums
 pub mod Ways

@@ -7,22 +7,33 @@ use Rattle.std.proofs.lemmas.Bool.Decides.{Decides-eqb}
 use Rattle.std.proofs.lemmas.List.{get_or_default, length-map}
 use Rattle.std.proofs.lemmas.List.Elements.{All-from_recursion, recursion_from_All}
 use Rattle.std.proofs.lemmas.Map.Made.{AllPairs-from_IsDistinct}
+use Rattle.fx_base.specs.declared.bound.Bound.TheVariants.{Finite}
 use Rattle.temporal_net.specs.declared.edge.NetEdge.{NetEdge}
 use Rattle.temporal_net.specs.declared.distance.Distance.{Distance}
-use Rattle.temporal_net.specs.Networks.{total, edge_at, points_of, IsGreatest, IsUnbounded, IsWay, IsShortestPath, HasGreatest, Network}
+use Rattle.temporal_net.specs.Networks.{total, edge_at, points_of, IsGreatest, IsUnbounded, IsWay, IsShortestPath, IsWithinNetwork, HasGreatest, Network}
 use Rattle.temporal_net.specs.Tables.{cell, zero_distance, AreTable, Follows}
 use Rattle.temporal_net.proofs.Bounds.{greatest, unbounded, known}
 use Rattle.temporal_net.proofs.Fewest.{IsNoMore, least_of_ways}
 use Rattle.temporal_net.proofs.Ways.{same_distance, follows_leads, follows_members, measured, distinct, short}
 
 module _ (edges : List NetEdge) (rows : List (List (Option Distance))) (table : AreTable (length rows) edges rows) (x y : ℕ) (xp : x < length rows) (yp : y < length rows) where
-  fits_sum : (d : Distance) → cell rows x y ≡ Some d → FitsSigned w64 d.sum
-  fits_sum d is =
+  within_sum : (d : Distance) → cell rows x y ≡ Some d → IsWithinNetwork (Finite d.sum)
+  within_sum d is =
       let s = short (length rows) edges (cell rows) table.ways x y d xp yp is in
       let few = s.few in
       let low = s.low in
       let high = s.high in
+      (omega (arith, ints), omega (arith, ints))
+
+  fits_sum : (d : Distance) → cell rows x y ≡ Some d → FitsSigned w64 d.sum
+  fits_sum d is =
+      let within = within_sum d is in
+      let low = within.0 in
+      let high = within.1 in
       omega (arith, ints)
+
+  pub bound_within : (d : Distance) → cell rows x y ≡ Some d → IsWithinNetwork (Finite (to_z w64 (of_z w64 d.sum)))
+  bound_within d is = subst (λ b. IsWithinNetwork (Finite b)) (sym (to_z-of_z w64 d.sum (fits_sum d is))) (within_sum d is)
 
   pub bound_is : (d : Distance) → cell rows x y ≡ Some d → IsGreatest edges x y (to_z w64 (of_z w64 d.sum))
   bound_is d is = subst (IsGreatest edges x y) (sym (to_z-of_z w64 d.sum (fits_sum d is))) (greatest (length rows) edges (cell rows) table x y d xp yp is)
@@ -96,6 +107,9 @@ module _ (m : Network) (edges : List NetEdge) (rows : List (List (Option Distanc
 
   pub bound_read : (row : List (Option Distance)) (d : Distance) → row ≡ get_or rows x row → get_or row y None ≡ Some d → IsGreatest m.edges x y (to_z w64 (of_z w64 d.sum))
   bound_read row d at is = subst (λ es. IsGreatest es x y (to_z w64 (of_z w64 d.sum))) same (bound_is edges rows table x y xp yp d (read row (Some d) at is))
+
+  pub within_read : (row : List (Option Distance)) (d : Distance) → row ≡ get_or rows x row → get_or row y None ≡ Some d → IsWithinNetwork (Finite (to_z w64 (of_z w64 d.sum)))
+  within_read row d at is = bound_within edges rows table x y xp yp d (read row (Some d) at is)
 
   pub none_read : (row : List (Option Distance)) → row ≡ get_or rows x row → get_or row y None ≡ None → IsUnbounded m.edges x y
   none_read row at is = subst (λ es. IsUnbounded es x y) same (bound_none edges rows table x y xp yp (read row None at is))

@@ -1,3 +1,4 @@
 pub mod Faults
 pub mod Networks
+pub mod Potentials
 pub mod Tables

@@ -1,5 +1,5 @@
 -- Networks of difference constraints, their solutions, the greatest differences, and ways along the edges.
-use Rattle.std.specs.Prelude.{◌≡◌, ◌≢◌, ℕ, ◌<◌, ◌≤◌, ℤ, pos, negsuc, ◌+ℤ◌, ◌-ℤ◌, ◌≤ℤ◌, ◌<ℤ◌, List, [], ◌∷◌, map, length, slice_index_or}
+use Rattle.std.specs.Prelude.{◌≡◌, ◌≢◌, ℕ, ◌<◌, ◌≤◌, ℤ, pos, negsuc, ◌+ℤ◌, ◌-ℤ◌, ◌*ℤ◌, ◌≤ℤ◌, ◌<ℤ◌, List, [], ◌∷◌, map, length, slice_index_or}
 use Rattle.std.specs.List.{All, AllPairs, Contains}
 use Rattle.fx_base.specs.declared.bound.Bound.{Bound}
 use Rattle.fx_base.specs.declared.bound.Bound.TheVariants.{Finite, Infinite}
@@ -40,6 +40,11 @@ pub record IsUnbounded (edges : List NetEdge) (x y : ℕ) : Type 0 where
 abbrev pub IsBound : List NetEdge → ℕ → ℕ → Bound → Type 0
 IsBound edges x y (Finite b) = IsGreatest edges x y b
 IsBound edges x y Infinite = IsUnbounded edges x y
+
+-- where it is finite, the bound is at most 15 * (2^53 + 1) in size: the sum of a way of at most 15 small edges
+abbrev pub IsWithinNetwork : Bound → Type 0
+IsWithinNetwork (Finite b) = ((negsuc 9007199254740992 *ℤ pos 15) ≤ℤ b) × (b ≤ℤ (pos 9007199254740993 *ℤ pos 15))
+IsWithinNetwork Infinite = Unit {0}
 
 -- ---- ways along edges
 

@@ -4,10 +4,12 @@
 
 mod distance;
 mod edge;
+mod laws;
 mod minimal;
 mod net;
 mod table;
 
 pub use edge::NetEdge;
+pub use laws::{negative_cycle_has_no_solution, solvability_is_decided};
 pub use minimal::Minimal;
-pub use net::{Net, NetFault, negative_cycle_has_no_solution};
+pub use net::{Net, NetFault};

@@ -1,5 +1,5 @@
 ghost use Rattle.std.specs.Prelude.{◌≡◌, ◌≢◌, ◌<◌, length, IfOk};
-ghost use Rattle.temporal_net.specs.Networks.{HasGreatest, IsBound, IsShortestPath};
+ghost use Rattle.temporal_net.specs.Networks.{HasGreatest, IsBound, IsShortestPath, IsWithinNetwork};
 ghost use Rattle.temporal_net.specs.Tables.{AreTable};
 
 use crate::NetEdge;
@@ -40,7 +40,8 @@ impl Minimal {
     pub fn bound(&self, x: u8, y: u8) -> Bound
         requires x { x < self.now.points }
         requires y { y < self.now.points }
-        ensures { IsBound self.now.edges x y result }
+        ensures greatest { IsBound self.now.edges x y result }
+        ensures within { IsWithinNetwork result }
     {
         match self.rows[x as usize][y as usize] {
             Some(distance) => Bound::Finite(distance.sum),

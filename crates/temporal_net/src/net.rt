@@ -1,7 +1,7 @@
-ghost use Rattle.std.specs.Prelude.{◌≡◌, ℕ, ℤ, ◌<◌, ◌≤◌, List, length, IfErr, IfOk, OnOk, true};
+ghost use Rattle.std.specs.Prelude.{◌≡◌, ◌<◌, ◌≤◌, length, IfErr, IfOk, OnOk, true};
 ghost use Rattle.std.specs.List.{All};
 ghost use Rattle.temporal_net.specs.Faults.{Tells};
-ghost use Rattle.temporal_net.specs.Networks.{IsAmong, IsNegativeCycle, IsSmall, IsSolvable, Solves};
+ghost use Rattle.temporal_net.specs.Networks.{IsAmong, IsNegativeCycle, IsSmall, IsSolvable};
 ghost use Rattle.temporal_net.specs.Tables.{AreTable, HaveWays, loses_over};
 
 use crate::table::{self, Row};
@@ -62,11 +62,6 @@ impl Net {
         Ok(Minimal::new(Vec::from_slice(alloc, edges)?, rows))
     }
 }
-
-/// A negative cycle leaves a network no solution.
-pub fn negative_cycle_has_no_solution()
-    ensures { (edges : List NetEdge) (cycle : List ℕ) → IsNegativeCycle edges cycle → (v : ℕ → ℤ) → Solves edges v → ⊥ }
-{}
 
 /// The table of the edges alone.
 fn direct_rows(alloc: Global, points: u8, edges: &[NetEdge]) -> Result<Vec<Row>, NetFault>

@@ -1,5 +1,5 @@
 use Rattle.temporal_net.proofs.Sums.{no_solution}
-use Rattle.temporal_net.proofs.net.negative_cycle_has_no_solution.Goals as goal
+use Rattle.temporal_net.proofs.laws.negative_cycle_has_no_solution.Goals as goal
 
 pub returns : goal.returns
 returns c = no_solution
