@@ -19,6 +19,7 @@ use Rattle.rule_lives.specs.Reach.{Limit, finite, infinite, plus, Placed, Solves
 use Rattle.rule_lives.specs.Lifetimes.{tail, Adds, of_fact, of_event, AddsSome, LivesFor, scope, Gives, IsLife}
 use Rattle.expiry_infer.specs.Edges.{HaveNetwork}
 use Rattle.expiry_infer.specs.Tables.{placed, AddsAt, GivesAt, GivesIn, StandsIn}
+use Rattle.expiry_infer.specs.Tails.{HaveLives}
 use Rattle.expiry_infer.specs.Tops.{Among, IsTop}
 use Rattle.expiry_infer.proofs.Tops.{top_like, top_of_none, anywhere}
 
@@ -102,6 +103,9 @@ first_network n xs h = record {
     at_most : {a b : ℕ} → a ≤ b → b ≤ 8 → a ≤ 8
     at_most h k = omega arith
 
+first_lives : (p : Program) (n : ℕ) (xs : List Condition) → HaveLives p xs → HaveLives p (take n xs)
+first_lives p n xs h = record { network = first_network n xs h.network; tails = λ place c at. h.tails place c (front n place xs c at).0 }
+
 -- a scope is all conditions or the first ones
 scoped : (P : List Condition → Type 0) (conditions : List Condition) (i : ℕ) (c : Condition) → P conditions → P (take (suc i) conditions) → P (scope conditions (placed i c))
 scoped P conditions i (Plain pattern) whole first = whole
@@ -109,8 +113,8 @@ scoped P conditions i (Negated pattern) whole first = first
 scoped P conditions i (Existing pattern) whole first = first
 scoped P conditions i (Folded a) whole first = first
 
-pub scope_network : (conditions : List Condition) (i : Placed) → HaveNetwork conditions → HaveNetwork (scope conditions i)
-scope_network conditions i h = scoped HaveNetwork conditions i.place i.condition h (first_network (suc i.place) conditions h)
+pub scope_lives : (p : Program) (conditions : List Condition) (i : Placed) → HaveLives p conditions → HaveLives p (scope conditions i)
+scope_lives p conditions i h = scoped (HaveLives p) conditions i.place i.condition h (first_lives p (suc i.place) conditions h)
 
 pub scope_at : (conditions : List Condition) (i : Placed) → StandsIn conditions i → StandsIn (scope conditions i) i
 scope_at conditions i at = scoped (λ xs. StandsIn xs i) conditions i.place i.condition at (kept i.place conditions i.condition at)

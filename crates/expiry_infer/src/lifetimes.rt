@@ -3,8 +3,8 @@ ghost use Rattle.std.specs.Prelude.{◌≡◌, ◌<◌, ◌≤◌, length, slice
 ghost use Rattle.rule_model.specs.Rows.{pattern_of};
 ghost use Rattle.rule_model.specs.Types.{is_event, expiry_of};
 ghost use Rattle.rule_lives.specs.Lifetimes.{Adds, AddsSome, IsLife, LivesFor, scope as scope_of};
-ghost use Rattle.expiry_infer.specs.Edges.{HaveNetwork};
 ghost use Rattle.expiry_infer.specs.Found.{limit_of};
+ghost use Rattle.expiry_infer.specs.Tails.{HaveLives};
 ghost use Rattle.expiry_infer.specs.Tops.{Among, IsTop};
 ghost use Rattle.rule_lives.specs.Keeping.{AreLives, IsLifeOf};
 ghost use Rattle.rule_world.specs.Programs.{IsRunnable};
@@ -32,7 +32,7 @@ fn with_added(
     j: &Placed,
     most: Bound,
 ) -> Result<Bound, NoMemory>
-    requires network { HaveNetwork conditions.now }
+    requires conditions { HaveLives program.now conditions.now }
     requires i { StandsIn conditions.now (lent i.now) }
     requires j { StandsIn conditions.now (lent j.now) }
     ensures { IfOk result (λ greatest. IsTop (Adds program.now conditions.now (lent i.now) (lent j.now)) (limit_of most) (limit_of greatest)) }
@@ -42,10 +42,7 @@ fn with_added(
         return Ok(Bound::Infinite);
     }
     match reach(alloc, program, conditions, i.place, j.place)? {
-        Some(distance) => {
-            let more = sum(distance, tail(program, pattern))?;
-            Ok(greater(most, more))
-        }
+        Some(distance) => Ok(greater(most, sum(distance, tail(program, pattern)))),
         None => Ok(most),
     }
 }
@@ -58,7 +55,7 @@ fn with_all_added(
     i: &Placed,
     most: Bound,
 ) -> Result<Bound, NoMemory>
-    requires network { HaveNetwork conditions.now }
+    requires conditions { HaveLives program.now conditions.now }
     requires i { StandsIn conditions.now (lent i.now) }
     ensures { IfOk result (λ greatest. IsTop (AddsSome program.now conditions.now (lent i.now)) (limit_of most) (limit_of greatest)) }
 {
@@ -91,7 +88,7 @@ fn with_pattern(
     i: &Placed,
     most: Bound,
 ) -> Result<Bound, NoMemory>
-    requires network { HaveNetwork conditions.now }
+    requires conditions { HaveLives program.now conditions.now }
     requires i { StandsIn conditions.now (lent i.now) }
     ensures { IfOk result (λ greatest. IsTop (LivesFor program.now conditions.now (lent i.now) (pattern_of i.now.condition.now).window) (limit_of most) (limit_of greatest)) }
 {
@@ -110,7 +107,7 @@ fn with_rule(
     ty: usize,
     most: Bound,
 ) -> Result<Bound, NoMemory>
-    requires { HaveNetwork conditions.now }
+    requires { HaveLives program.now conditions.now }
     ensures { IfOk result (λ greatest. IsTop (Among conditions.now (GivesAt program.now conditions.now ty) (length conditions.now)) (limit_of most) (limit_of greatest)) }
 {
     let mut most = most;
@@ -155,8 +152,7 @@ fn life(alloc: Global, program: &Program, place: usize, ty: &TypeInfo) -> Result
     }
 }
 
-/// The lives of the types of a program, in milliseconds: how long behind its end an event of each can still matter. A life that 64 bits
-/// do not hold is answered as no memory.
+/// The lives of the types of a program, in milliseconds: how long behind its end an event of each can still matter.
 pub fn lives(alloc: Global, program: &Program) -> Result<LifeTable, NoMemory>
     requires { IsRunnable program.now }
     ensures { IfOk result (AreLives program.now) }

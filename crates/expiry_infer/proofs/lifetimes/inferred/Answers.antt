@@ -4,12 +4,12 @@ use Rattle.std.proofs.lemmas.Option.{slice_get_read}
 use Rattle.rule_model.specs.declared.condition.Condition.{Condition}
 use Rattle.rule_model.specs.declared.program.Rule.{Rule}
 use Rattle.rule_model.proofs.RuleOf.{in_place}
-use Rattle.expiry_infer.specs.Edges.{HaveNetwork}
+use Rattle.expiry_infer.specs.Tails.{HaveLives}
 use Rattle.expiry_infer.specs.Found.{limit_of}
 use Rattle.expiry_infer.specs.Tables.{GivesAt}
 use Rattle.expiry_infer.specs.Tops.{Among, IsTop}
 use Rattle.expiry_infer.proofs.Given.{is_life}
-use Rattle.expiry_infer.proofs.Runnable.{rules_have_networks}
+use Rattle.expiry_infer.proofs.Runnable.{rule_has_lives}
 use Rattle.expiry_infer.proofs.Tops.{top_next}
 use Rattle.expiry_infer.proofs.lifetimes.inferred.Goals as goal
 
@@ -20,7 +20,7 @@ there rules xs place rule e h is = subst (λ (ys : List Rule). slice_get ys plac
 pub with_rule-requires : goal.with_rule-requires
 with_rule-requires c =
     let at = there _ _ _ _ c.as_slice-rule-items.ensures c.loop-rule-test.true c.rule-item.is in
-    subst HaveNetwork (sym c.as_slice.ensures) (rules_have_networks c.args.program.now c.requires.runnable _ (in_place _ _ _ at))
+    subst (HaveLives c.args.program.now) (sym c.as_slice.ensures) (rule_has_lives c.args.program.now c.requires.runnable _ (in_place _ _ _ at))
 
 pub loop-rule-preserved : goal.loop-rule-preserved
 loop-rule-preserved c =

@@ -1,24 +1,37 @@
 use Rattle.std.proofs.Common.{◌≡◌, true, ap, subst, sym, ◌∙◌}
-use Rattle.std.specs.Prelude.{IfOk}
+use Rattle.std.specs.Prelude.{IfOk, IfSome}
 use Rattle.rule_model.specs.declared.condition.Pattern.{Pattern}
 use Rattle.rule_model.specs.Rows.{pattern_of}
 use Rattle.rule_model.specs.Types.{is_event}
 use Rattle.rule_lives.specs.Lifetimes.{tail}
 use Rattle.rule_lives.specs.Reach.{plus}
 use Rattle.expiry_infer.specs.Found.{limit_of, IsFound}
+use Rattle.temporal_net.specs.Networks.{IsWithinNetwork}
+use Rattle.expiry_infer.specs.Tails.{IsShort}
 use Rattle.expiry_infer.specs.Tables.{lent}
 use Rattle.expiry_infer.proofs.Given.{added}
 use Rattle.expiry_infer.proofs.lifetimes.with_added.Goals as goal
 
-pub returns-in_ok-more-in-Some : goal.returns-in_ok-more-in-Some
-returns-in_ok-more-in-Some c =
+pub sum-requires-clause-reach : goal.sum-requires-clause-reach
+sum-requires-clause-reach c =
+    let size = subst (λ r. IfOk r (λ found. IfSome found IsWithinNetwork)) c.in_ok-distance.was c.reach.ensures.size in
+    subst (λ found. IfSome found IsWithinNetwork) c.in-Some.is size
+
+pub sum-requires-clause-tail : goal.sum-requires-clause-tail
+sum-requires-clause-tail c =
+    let j = lent c.args.j.now in
+    let is = c.tail.ensures ∙ ap (tail c.args.program.now) c.pattern-pattern.ensures in
+    subst IsShort (sym is) (c.requires.conditions.tails j.place j.condition c.requires.j)
+
+pub returns-in-Some : goal.returns-in-Some
+returns-in-Some c =
     let p = c.args.program.now in
     let conditions = c.args.conditions.now in
     let i = lent c.args.i.now in
     let j = lent c.args.j.now in
     let pattern = c.pattern-pattern.ensures in
     let event : is_event p (pattern_of j.condition).ty.0 ≡ true = sym (ap (λ (q : Pattern). is_event p q.ty.0) pattern) ∙ sym c.is_event.ensures ∙ c.if-not-is_event.false in
-    let found = subst (λ r. IfOk r (IsFound p conditions i j)) c.in_ok-distance.was (c.reach.ensures i.condition j.condition c.requires.i c.requires.j) in
-    added p conditions i j (limit_of c.in-Some.distance) (limit_of c.in_ok-more-in-Some.more) (limit_of c.args.most) (limit_of c.greater.result) event (subst (IsFound p conditions i j) c.in-Some.is found)
-    (c.in_ok-more-in-Some.ensures ∙ ap (plus (limit_of c.in-Some.distance)) (c.tail.ensures ∙ ap (tail p) pattern))
+    let found = subst (λ r. IfOk r (IsFound p conditions i j)) c.in_ok-distance.was (c.reach.ensures.reach i.condition j.condition c.requires.i c.requires.j) in
+    added p conditions i j (limit_of c.in-Some.distance) (limit_of c.sum.result) (limit_of c.args.most) (limit_of c.greater.result) event (subst (IsFound p conditions i j) c.in-Some.is found)
+    (c.sum.ensures ∙ ap (plus (limit_of c.in-Some.distance)) (c.tail.ensures ∙ ap (tail p) pattern))
     c.greater.ensures
