@@ -5,6 +5,7 @@ ghost use Rattle.rule_model.specs.declared.condition.Condition.{Condition as Any
 ghost use Rattle.rule_lives.specs.Networks.{IsSolvable};
 ghost use Rattle.expiry_infer.specs.Edges.{edges_of, HaveNetwork};
 ghost use Rattle.expiry_infer.specs.Found.{IsFound, IsSolved};
+ghost use Rattle.expiry_infer.specs.Tables.{placed};
 
 use crate::network::{POINTS, end, network, start};
 use fx_base::{Bound, NoMemory};
@@ -59,7 +60,7 @@ pub fn reach(
     requires j { j < length conditions.now }
     ensures size { IfOk result (λ found. IfSome found IsWithinNetwork) }
     ensures reach { (first second : AnyCondition) → slice_get conditions.now i ≡ Some first → slice_get conditions.now j ≡ Some second
-        → IfOk result (IsFound program.now conditions.now (record { place = i; condition = first }) (record { place = j; condition = second })) }
+        → IfOk result (IsFound program.now conditions.now (placed i first) (placed j second)) }
 {
     match solved(alloc, program, conditions, &[i, j])? {
         Some(minimal) => Ok(Some(minimal.bound(start(j), end(i)))),
