@@ -1,5 +1,5 @@
 -- Reaches, what conditions add, and what patterns give, against the greatest limits that were found.
-use Rattle.std.proofs.Common.{◌≡◌, inl, inr, ◌<◌, ◌≤◌, ℕ, zero, suc, ℤ, pos, ◌≤ℤ◌, true, false, List, [], ◌∷◌, length, take, Some, None, refl, sym, ◌∙◌, ap, subst, arith}
+use Rattle.std.proofs.Common.{◌≡◌, inl, inr, ◌<◌, ◌≤◌, ℕ, zero, suc, ℤ, pos, ◌≤ℤ◌, true, List, [], ◌∷◌, length, take, Some, None, refl, sym, ◌∙◌, ap, subst, arith}
 use Rattle.std.specs.Prelude.{slice_get}
 use Rattle.std.specs.List.{All}
 use Rattle.std.proofs.lemmas.Int.{ints}
@@ -21,10 +21,8 @@ use Rattle.expiry_infer.specs.Edges.{HaveNetwork}
 use Rattle.expiry_infer.specs.Tables.{placed, AddsAt, GivesAt, GivesIn, StandsIn}
 use Rattle.expiry_infer.specs.Tails.{HaveLives}
 use Rattle.expiry_infer.specs.Tops.{Among, IsTop}
+use Rattle.expiry_infer.proofs.Places.{false_is}
 use Rattle.expiry_infer.proofs.Tops.{top_like, top_of_none, anywhere}
-
-pub not_false : true ≡ false → ⊥
-not_false e = cc
 
 -- ---- one reach
 
@@ -50,7 +48,7 @@ added p conditions i j r more low top event reach is h =
     top_like (λ (l : Limit). l ≡ more) (Adds p conditions i j) low top (λ l e. of_event event r reach (e ∙ is)) (λ l a. it_is l a) h
   where
     it_is : (l : Limit) → Adds p conditions i j l → l ≡ more
-    it_is l (of_fact fact e) = absurd (not_false (sym event ∙ fact))
+    it_is l (of_fact fact e) = absurd (false_is (sym fact ∙ event))
     it_is l (of_event e s other k) = k ∙ ap (λ (z : Limit). plus z (tail p (pattern_of j.condition))) (one_reach p conditions i j s r other reach) ∙ sym is
 
 pub none_added : (p : Program) (conditions : List Condition) (i j : Placed) (low : Limit) → is_event p (pattern_of j.condition).ty.0 ≡ true
@@ -58,7 +56,7 @@ pub none_added : (p : Program) (conditions : List Condition) (i j : Placed) (low
 none_added p conditions i j low event none = top_of_none (Adds p conditions i j) low (λ l a. never l a)
   where
     never : (l : Limit) → Adds p conditions i j l → ⊥
-    never l (of_fact fact e) = not_false (sym event ∙ fact)
+    never l (of_fact fact e) = false_is (sym fact ∙ event)
     never l (of_event e s other k) = unsolved p conditions i j s none other
 
 pub all_added : (p : Program) (conditions : List Condition) (i : Placed) (end : ℕ) (low top : Limit) → length conditions ≤ end
