@@ -1,5 +1,5 @@
 -- The edges of a network are such as a network of 16 points takes.
-use Rattle.std.proofs.Common.{◌≡◌, ◌+◌, ◌^◌, ◌<◌, ◌≤◌, ℕ, zero, suc, ℤ, pos, negsuc, ◌≤ℤ◌, Bool, true, false, List, [], ◌∷◌, length, Some, None, subst, arith}
+use Rattle.std.proofs.Common.{◌≡◌, ◌+◌, ◌^◌, ◌<◌, ◌≤◌, ℕ, zero, suc, ℤ, pos, negsuc, ◌≤ℤ◌, Bool, true, false, List, [], ◌∷◌, length, Some, subst, arith}
 use Rattle.std.specs.Prelude.{slice_get}
 use Rattle.std.specs.List.{All, flat_map}
 use Rattle.std.proofs.lemmas.Int.{ints}
@@ -19,7 +19,7 @@ use Rattle.rule_model.specs.Rows.{pattern_of, HaveOperators}
 use Rattle.rule_model.specs.Types.{is_point}
 use Rattle.rule_world.specs.Programs.{NameEarlier}
 use Rattle.expiry_infer.specs.Edges.{start_of, end_of, point_of, place_of, net_edge, test_edges, event_edges, pattern_edges, stands_in, edges_of}
-use Rattle.expiry_infer.proofs.Places.{place_below, named_here}
+use Rattle.expiry_infer.proofs.Places.{the_same, place_below, named_here}
 use Rattle.expiry_infer.proofs.Solutions.{Named}
 use Rattle.expiry_infer.proofs.Solved.{held, each_from}
 
@@ -64,14 +64,8 @@ event_fits k true h =
     (All-cons Fits (record { x = end_of k; y = start_of k; most = pos 0 }) [] (no_length (end_of k) (start_of k) end start) (All-nil Fits))
 
 operators_at : (conditions : List Condition) (k : ℕ) (c : Condition) → HaveOperators conditions → slice_get conditions k ≡ Some c → AreOperators (pattern_of c).times
-operators_at [] k c h at = absurd (nothing at)
-  where
-    nothing : {A : Type 0} {x : A} → None ≡ Some x → ⊥
-    nothing e = cc
-operators_at (d ∷ conditions) zero c h at = subst (λ (x : Condition). AreOperators (pattern_of x).times) (the_same d c at) h.0
-  where
-    the_same : (x y : Condition) → Some x ≡ Some y → x ≡ y
-    the_same x y e = cc
+operators_at [] k c h at = absurd cc
+operators_at (d ∷ conditions) zero c h at = subst (λ (x : Condition). AreOperators (pattern_of x).times) (the_same at) h.0
 operators_at (d ∷ conditions) (suc k) c h at = operators_at conditions k c h.1 at
 
 all_fit : (p : Program) (conditions : List Condition) (places : List ℕ) → length conditions ≤ 8 → HaveOperators conditions → NameEarlier conditions

@@ -1,5 +1,5 @@
 -- Places of the conditions that bind facts.
-use Rattle.std.proofs.Common.{◌≡◌, ◌<◌, ◌≤◌, ℕ, zero, suc, List, [], ◌∷◌, length, take, Some, refl, ap, arith}
+use Rattle.std.proofs.Common.{◌≡◌, ◌<◌, ◌≤◌, ℕ, zero, suc, List, [], ◌∷◌, length, take, Some, true, false, refl, ap, arith}
 use Rattle.std.specs.Prelude.{slice_get}
 use Rattle.std.specs.List.{All}
 use Rattle.std.proofs.lemmas.List.Elements.{All-weaker}
@@ -11,6 +11,12 @@ use Rattle.rule_model.specs.Rows.{pattern_of}
 use Rattle.rule_lives.specs.Networks.{bindings}
 use Rattle.rule_world.specs.Programs.{NameEarlier}
 use Rattle.expiry_infer.specs.Edges.{place_of}
+
+pub the_same : {A : Type 0} {x y : A} → Some x ≡ Some y → x ≡ y
+the_same e = cc
+
+pub false_is : false ≡ true → ⊥
+false_is e = cc
 
 -- a bound fact's place is one of the conditions
 pub place_below : (conditions : List Condition) (number : ℕ) → number < bindings conditions → place_of conditions number < length conditions

@@ -1,5 +1,5 @@
 -- What a solved network says of its conditions.
-use Rattle.std.proofs.Common.{◌≡◌, ◌≤◌, ℕ, ℤ, ◌-ℤ◌, ◌≤ℤ◌, ◌<ℤ◌, Bool, true, false, List, [], ◌∷◌, length, Option, Some, None, sym, ◌∙◌, ap, subst, arith}
+use Rattle.std.proofs.Common.{◌≡◌, ◌≤◌, ℕ, ℤ, ◌-ℤ◌, ◌≤ℤ◌, ◌<ℤ◌, Bool, List, [], ◌∷◌, length, Option, Some, None, sym, ◌∙◌, ap, subst, arith}
 use Rattle.std.specs.Prelude.{slice_get}
 use Rattle.std.specs.Bool.{Decides}
 use Rattle.std.specs.Option.{is_some}
@@ -17,6 +17,7 @@ use Rattle.rule_lives.specs.Reach.{infinite, Placed, IsReach, IsGreatest, distan
 use Rattle.rule_world.specs.Programs.{NameEarlier}
 use Rattle.expiry_infer.specs.Edges.{start_of, end_of, edges_of}
 use Rattle.expiry_infer.specs.Found.{limit_of, IsSolved}
+use Rattle.expiry_infer.proofs.Places.{false_is}
 use Rattle.expiry_infer.proofs.Solutions.{Agree}
 use Rattle.expiry_infer.proofs.Solved.{points_solve, times_solve, times_of, times_agree, points_of, points_agree}
 
@@ -45,10 +46,7 @@ unsolvable p conditions places few named no_solution times h = no_solution (numb
 pub answered : (p : Program) (conditions : List Condition) → length conditions ≤ 8 → NameEarlier conditions → (found : Option Network) (answer : Bool)
     → answer ≡ is_some found → IsSolved (edges_of p conditions [] 0 conditions) found → Decides answer (IsSolvable p conditions)
 answered p conditions few named (Some network) answer e h = (λ _. solvable p conditions named h.1, λ _. e)
-answered p conditions few named None answer e h = (λ t. absurd (never (sym e ∙ t)), λ s. absurd (unsolvable p conditions [] few named h s.0 s.1))
-  where
-    never : false ≡ true → ⊥
-    never k = cc
+answered p conditions few named None answer e h = (λ t. absurd (false_is (sym e ∙ t)), λ s. absurd (unsolvable p conditions [] few named h s.0 s.1))
 
 -- what a bound of a solved network says of its edges
 pub bound_here : (edges : List NetEdge) (network : Network) (x y from to : ℕ) (bound : Bound) → IsSolved edges (Some network) → from ≡ x → to ≡ y

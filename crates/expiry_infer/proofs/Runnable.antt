@@ -1,16 +1,32 @@
 -- What the rules of a program have that engines run.
-use Rattle.std.proofs.Common.{◌≡◌, inl, inr, ◌≤◌, true, nat_le, List, [], ◌∷◌, length, subst, sym, arith}
-use Rattle.std.specs.List.{All}
+use Rattle.std.proofs.Common.{◌≡◌, inl, inr, ◌&&◌, ◌||◌, ◌≤◌, ℕ, ℤ, pos, ◌≤ℤ◌, Bool, true, false, nat_le, List, [], ◌∷◌, length, Option, Some, None, if◌then◌else◌, refl, subst, sym, arith}
+use Rattle.std.specs.Prelude.{int_le, slice_get, IfSome}
+use Rattle.std.specs.Int.{int_max}
+use Rattle.std.specs.List.{All, list_all}
 use Rattle.std.proofs.lemmas.Bool.Decides.{nat_tests}
+use Rattle.std.proofs.lemmas.Int.{ints, clamps}
 use Rattle.std.proofs.lemmas.List.Elements.{All-head, All-tail}
 use Rattle.fx_base.specs.Lists.{In}
+use Rattle.rule_model.specs.declared.condition.Condition.{Condition}
+use Rattle.rule_model.specs.declared.condition.Pattern.{Pattern}
+use Rattle.rule_model.specs.declared.condition.WindowTag.{WindowTag}
+use Rattle.rule_model.specs.declared.condition.WindowTag.TheVariants.{Whole, Time, Length}
+use Rattle.rule_model.specs.declared.program.EntryInfo.{EntryInfo}
 use Rattle.rule_model.specs.declared.program.Program.{Program}
 use Rattle.rule_model.specs.declared.program.Rule.{Rule}
-use Rattle.rule_model.specs.Rows.{HaveOperators}
-use Rattle.rule_world.specs.Programs.{has_conditions, UseOperators, NameEarlier, IsRunnable}
+use Rattle.rule_model.specs.declared.program.TypeInfo.{TypeInfo}
+use Rattle.rule_model.specs.Rows.{pattern_of, HaveOperators}
+use Rattle.rule_model.specs.Simple.{is_whole}
+use Rattle.rule_model.specs.Types.{expiry_in, lateness_in, is_event, expiry_of, lateness_of}
+use Rattle.rule_model.proofs.RuleOf.{in_place}
+use Rattle.rule_world.specs.Events.{most_millis}
+use Rattle.rule_world.specs.Programs.{has_conditions, has_lateness, has_expiry, is_window, has_window, has_windows, UseOperators, NameEarlier, IsRunnable}
 use Rattle.rule_world.proofs.Acting.{all_of}
 use Rattle.rule_world.proofs.Fresh.{and_parts}
+use Rattle.rule_lives.specs.Lifetimes.{tail_by, tail}
+use Rattle.rule_lives.specs.Reach.{infinite}
 use Rattle.expiry_infer.specs.Tables.{RulesHaveNetworks}
+use Rattle.expiry_infer.specs.Tails.{IsSpan, IsShort, HaveLives}
 
 few : (rule : Rule) → has_conditions rule ≡ true → length rule.conditions ≤ 8
 few rule h = let e = (and_parts (nat_le 1 (length rule.conditions)) (nat_le (length rule.conditions) 8) h).1 in grind (arith, nat_tests)
@@ -30,4 +46,69 @@ rules_have_networks p runnable rule stands = record {
   few = few rule (all_of has_conditions p.rules rule runnable.conditions stands);
   operators = operators p.rules rule runnable.operators stands;
   named = one_of_all (λ (r : Rule). NameEarlier r.conditions) p.rules rule runnable.named stands;
+}
+
+-- ---- tails
+
+at_most : (a b : ℤ) → int_le a b ≡ true → a ≤ℤ b
+at_most a b e = grind (arith, ints)
+
+span : (low n : ℤ) → pos 0 ≤ℤ low → (int_le low n && int_le n most_millis) ≡ true → IsSpan n
+span low n least e =
+    let q = and_parts (int_le low n) (int_le n most_millis) e in
+    let above = at_most low n q.0 in (omega (arith, ints), at_most n most_millis q.1)
+
+no_span : IsSpan (pos 0)
+unfolding most_millis
+no_span = (omega (arith, ints), omega (arith, ints))
+
+longer : (a b : ℤ) → IsSpan a → IsSpan b → IsSpan (int_max a b)
+longer a b h k =
+    let (a_least, a_most) = h in
+    let (b_least, b_most) = k in (omega (arith, ints, clamps), omega (arith, ints, clamps))
+
+late : (p : Program) (entry : ℕ) → list_all has_lateness p.entries ≡ true → IsSpan (lateness_of p entry)
+unfolding lateness_of
+late p entry h = by (slice_get p.entries entry) refl
+  where
+    by : (found : Option EntryInfo) → slice_get p.entries entry ≡ found → IsSpan (lateness_in found)
+    by None e = no_span
+    by (Some info) e = span (pos 0) info.lateness (omega (arith, ints)) (all_of has_lateness p.entries info h (in_place p.entries entry info e))
+
+expires : (p : Program) (ty : ℕ) → list_all has_expiry p.types ≡ true → IfSome (expiry_of p ty) IsSpan
+unfolding expiry_of
+expires p ty h = by (slice_get p.types ty) refl
+  where
+    of_type : (info : TypeInfo) (expiry : Option ℤ) → info.expires ≡ expiry → has_expiry info ≡ true → IfSome expiry IsSpan
+    of_type info None e g = tt
+    of_type info (Some expiry) e g = span (pos 1) expiry (omega (arith, ints)) (and_parts info.event _ (rw e at g)).1
+
+    by : (found : Option TypeInfo) → slice_get p.types ty ≡ found → IfSome (expiry_in found) IsSpan
+    by None e = tt
+    by (Some info) e = of_type info info.expires refl (all_of has_expiry p.types info h (in_place p.types ty info e))
+
+tail_by_short : (window : WindowTag) (event : Bool) (expiry : Option ℤ) (lateness : ℤ) → (is_whole window || event && is_window window) ≡ true
+    → IfSome expiry IsSpan → IsSpan lateness → IsShort (tail_by window expiry lateness)
+tail_by_short Whole event None lateness w h k = k
+tail_by_short Whole event (Some expiry) lateness w h k = longer expiry lateness h k
+tail_by_short (Time time) event None lateness w h k = longer time lateness (span (pos 1) time (omega (arith, ints)) (and_parts event _ w).1) k
+tail_by_short (Time time) event (Some expiry) lateness w h k =
+    longer time (int_max expiry lateness) (span (pos 1) time (omega (arith, ints)) (and_parts event _ w).1) (longer expiry lateness h k)
+tail_by_short (Length count) event expiry lateness w h k = tt
+
+tail_short : (p : Program) (c : Condition) → IsRunnable p → has_window p c ≡ true → IsShort (tail p (pattern_of c))
+unfolding tail
+tail_short p c runnable window = by (is_event p (pattern_of c).ty.0)
+  where
+    pattern : Pattern
+    pattern = pattern_of c
+
+    by : (event : Bool) → IsShort (if event then tail_by pattern.window (expiry_of p pattern.ty.0) (lateness_of p pattern.entry.0) else infinite)
+    by true = tail_by_short pattern.window _ _ _ window (expires p pattern.ty.0 runnable.expiry) (late p pattern.entry.0 runnable.lateness)
+    by false = tt
+
+pub rule_has_lives : (p : Program) → IsRunnable p → (rule : Rule) → In rule p.rules → HaveLives p rule.conditions
+rule_has_lives p runnable rule stands = record {
+  network = rules_have_networks p runnable rule stands;
+  tails = λ place c at. tail_short p c runnable (all_of (has_window p) rule.conditions c (all_of (has_windows p) p.rules rule runnable.windows stands) (in_place rule.conditions place c at));
 }

@@ -1,5 +1,5 @@
 -- The solutions of the edges between numbered points are those of the network of occurrences.
-use Rattle.std.proofs.Common.{◌≡◌, ◌&&◌, ◌++◌, ◌<◌, ℕ, ℤ, pos, ◌-ℤ◌, ◌≤ℤ◌, Bool, true, false, List, [], ◌∷◌, map, Some, refl, sym, ◌∙◌, ap, subst, arith}
+use Rattle.std.proofs.Common.{◌≡◌, ◌++◌, ◌<◌, ℕ, ℤ, pos, ◌-ℤ◌, ◌≤ℤ◌, Bool, true, false, List, [], ◌∷◌, map, Some, refl, sym, ◌∙◌, ap, subst, arith}
 use Rattle.std.specs.Prelude.{slice_get}
 use Rattle.std.specs.Int.Signed.{le_z}
 use Rattle.std.specs.List.{All, list_all, flat_map}
@@ -18,9 +18,10 @@ use Rattle.rule_model.specs.declared.condition.Pattern.{Pattern}
 use Rattle.rule_model.specs.declared.program.Program.{Program}
 use Rattle.rule_model.specs.declared.test.TimeTest.{TimeTest}
 use Rattle.rule_model.specs.Types.{is_point}
+use Rattle.rule_model.proofs.Listed.{both, both_of}
 use Rattle.rule_lives.specs.Networks.{Occurrence, bound, bindings, occurrence, is_met, Meets}
 use Rattle.expiry_infer.specs.Edges.{start_of, end_of, point_of, place_of, net_edge, test_edges, event_edges, pattern_edges}
-use Rattle.expiry_infer.proofs.Places.{binder}
+use Rattle.expiry_infer.proofs.Places.{false_is, binder}
 
 abbrev pub Holds : (ℕ → ℤ) → NetEdge → Type 0
 Holds v e = (v e.x -ℤ v e.y) ≤ℤ e.most
@@ -42,16 +43,6 @@ all_first P (x ∷ xs) ys h = All-cons P x xs (All-head P x (xs ++ ys) h) (all_f
 pub all_second : {X : Type 0} (P : X → Type 0) (xs ys : List X) → All P (xs ++ ys) → All P ys
 all_second P [] ys h = h
 all_second P (x ∷ xs) ys h = all_second P xs ys (All-tail P x (xs ++ ys) h)
-
-both : (a b : Bool) → (a && b) ≡ true → (a ≡ true) × (b ≡ true)
-both true b h = (refl, h)
-both false b h = (h, absurd (false_is h))
-  where
-    false_is : false ≡ true → ⊥
-    false_is e = cc
-
-joined : (a b : Bool) → a ≡ true → b ≡ true → (a && b) ≡ true
-joined a b h k = ap (λ (x : Bool). x && b) h ∙ k
 
 -- ---- tests
 
@@ -75,12 +66,12 @@ edge_is v k m e = ap (λ (z : ℤ). le_z (z -ℤ corner e.y (times_at v k) (time
 edges_from : (v : ℕ → ℤ) (k m : ℕ) (edges : List OpEdge) → list_all (edge_holds (times_at v k) (times_at v m)) edges ≡ true → All (Holds v) (map (net_edge k m) edges)
 edges_from v k m [] h = All-nil (Holds v)
 edges_from v k m (e ∷ edges) h =
-    let b = both (edge_holds (times_at v k) (times_at v m) e) (list_all (edge_holds (times_at v k) (times_at v m)) edges) h in
+    let b = both_of (edge_holds (times_at v k) (times_at v m) e) (list_all (edge_holds (times_at v k) (times_at v m)) edges) h in
     All-cons (Holds v) (net_edge k m e) (map (net_edge k m) edges) (less (v (point_of k m e.x)) (v (point_of k m e.y)) e.most (sym (edge_is v k m e) ∙ b.0)) (edges_from v k m edges b.1)
 
 edges_to : (v : ℕ → ℤ) (k m : ℕ) (edges : List OpEdge) → All (Holds v) (map (net_edge k m) edges) → list_all (edge_holds (times_at v k) (times_at v m)) edges ≡ true
 edges_to v k m [] h = refl
-edges_to v k m (e ∷ edges) h = joined (edge_holds (times_at v k) (times_at v m) e) (list_all (edge_holds (times_at v k) (times_at v m)) edges)
+edges_to v k m (e ∷ edges) h = both (edge_holds (times_at v k) (times_at v m) e) (list_all (edge_holds (times_at v k) (times_at v m)) edges)
     (edge_is v k m e ∙ not_more (v (point_of k m e.x)) (v (point_of k m e.y)) e.most (All-head (Holds v) (net_edge k m e) (map (net_edge k m) edges) h))
     (edges_to v k m edges (All-tail (Holds v) (net_edge k m e) (map (net_edge k m) edges) h))
 
@@ -110,7 +101,7 @@ tests_from : (conditions : List Condition) (v : ℕ → ℤ) (times : Occurrence
     → list_all (is_met times (times_at v k)) tests ≡ true → All (Holds v) (flat_map (test_edges conditions k) tests)
 tests_from conditions v times k [] agree named h = All-nil (Holds v)
 tests_from conditions v times k (test ∷ tests) agree named h =
-    let b = both (is_met times (times_at v k) test) (list_all (is_met times (times_at v k)) tests) h in
+    let b = both_of (is_met times (times_at v k) test) (list_all (is_met times (times_at v k)) tests) h in
     All-append (Holds v) (test_edges conditions k test) (flat_map (test_edges conditions k) tests)
     (test_from conditions v times k test agree (All-head (Named conditions) test tests named) b.0)
     (tests_from conditions v times k tests agree (All-tail (Named conditions) test tests named) b.1)
@@ -118,7 +109,7 @@ tests_from conditions v times k (test ∷ tests) agree named h =
 tests_to : (conditions : List Condition) (v : ℕ → ℤ) (times : Occurrence → Times) (k : ℕ) (tests : List TimeTest) → Agree conditions v times → All (Named conditions) tests
     → All (Holds v) (flat_map (test_edges conditions k) tests) → list_all (is_met times (times_at v k)) tests ≡ true
 tests_to conditions v times k [] agree named h = refl
-tests_to conditions v times k (test ∷ tests) agree named h = joined (is_met times (times_at v k) test) (list_all (is_met times (times_at v k)) tests)
+tests_to conditions v times k (test ∷ tests) agree named h = both (is_met times (times_at v k) test) (list_all (is_met times (times_at v k)) tests)
     (test_to conditions v times k test agree (All-head (Named conditions) test tests named) (all_first (Holds v) (test_edges conditions k test) (flat_map (test_edges conditions k) tests) h))
     (tests_to conditions v times k tests agree (All-tail (Named conditions) test tests named) (all_second (Holds v) (test_edges conditions k test) (flat_map (test_edges conditions k) tests) h))
 
@@ -149,9 +140,6 @@ event_to v k false h = record {
   ordered = in_order (v (start_of k)) (v (end_of k)) (All-head (Holds v) (record { x = start_of k; y = end_of k; most = pos 0 }) [] h);
   ends = λ e. absurd (false_is e);
 }
-  where
-    false_is : false ≡ true → ⊥
-    false_is e = cc
 event_to v k true h =
     let first = All-head (Holds v) (record { x = start_of k; y = end_of k; most = pos 0 }) (record { x = end_of k; y = start_of k; most = pos 0 } ∷ []) h in
     let rest = All-tail (Holds v) (record { x = start_of k; y = end_of k; most = pos 0 }) (record { x = end_of k; y = start_of k; most = pos 0 } ∷ []) h in

@@ -12,47 +12,28 @@ use Rattle.rule_model.specs.declared.condition.Condition.{Condition}
 use Rattle.rule_model.specs.declared.condition.Condition.TheVariants.{Plain, Negated, Existing, Folded}
 use Rattle.rule_model.specs.declared.program.Program.{Program}
 use Rattle.rule_model.specs.Rows.{pattern_of}
+use Rattle.rule_model.proofs.Firsts.{or_left, or_right}
 use Rattle.rule_lives.specs.Networks.{Occurrence, bound, aside, occurrence, IsMember, Meets, Solves}
 use Rattle.rule_world.specs.Programs.{NameEarlier}
+use Rattle.rule_lives.proofs.Basics.{same_number, number_same}
 use Rattle.expiry_infer.specs.Edges.{place_of, pattern_edges, stands_in, condition_edges, edges_of}
-use Rattle.expiry_infer.proofs.Places.{own_place, named_here}
+use Rattle.expiry_infer.proofs.Places.{the_same, false_is, own_place, named_here}
 use Rattle.expiry_infer.proofs.Solutions.{Holds, Agree, times_at, all_first, all_second, pattern_from, pattern_to}
 
 -- ---- members
-
-false_is : false ≡ true → ⊥
-false_is e = cc
-
-same_number : (a b : ℕ) → (a == b) ≡ true → b ≡ a
-same_number a b e = grind (arith, nat_tests)
-
-number_same : (a b : ℕ) → b ≡ a → (a == b) ≡ true
-number_same a b e = grind (arith, nat_tests)
 
 either : (a b : Bool) {P Q : Type 0} → (a ≡ true → P) → (b ≡ true → Q) → (a || b) ≡ true → P ⊎ Q
 either true b f g h = inl (f refl)
 either false b f g h = inr (g h)
 
-or_first : (a b : Bool) → a ≡ true → (a || b) ≡ true
-or_first true b h = refl
-or_first false b h = absurd (false_is h)
-
-or_second : (a b : Bool) → b ≡ true → (a || b) ≡ true
-or_second true b h = refl
-or_second false b h = h
-
 one_from : (places : List ℕ) (place : ℕ) → list_any (λ (other : ℕ). other == place) places ≡ true → In place places
 one_from [] place h = absurd (false_is h)
-one_from (other ∷ places) place h = either (other == place) (list_any (λ (n : ℕ). n == place) places) (same_number other place) (one_from places place) h
-
-one_of : (other place : ℕ) (places : List ℕ) → (In place places → list_any (λ (n : ℕ). n == place) places ≡ true)
-    → (place ≡ other) ⊎ In place places → ((other == place) || list_any (λ (n : ℕ). n == place) places) ≡ true
-one_of other place places h (inl e) = or_first (other == place) (list_any (λ (n : ℕ). n == place) places) (number_same other place e)
-one_of other place places h (inr k) = or_second (other == place) (list_any (λ (n : ℕ). n == place) places) (h k)
+one_from (other ∷ places) place h = either (other == place) (list_any (λ (n : ℕ). n == place) places) (λ e. sym (same_number other place e)) (one_from places place) h
 
 one_to : (places : List ℕ) (place : ℕ) → In place places → list_any (λ (other : ℕ). other == place) places ≡ true
 one_to [] place h = absurd h
-one_to (other ∷ places) place h = one_of other place places (one_to places place) h
+one_to (other ∷ places) place (inl e) = or_left (other == place) (list_any (λ (n : ℕ). n == place) places) (number_same other place (sym e))
+one_to (other ∷ places) place (inr h) = or_right (other == place) (list_any (λ (n : ℕ). n == place) places) (one_to places place h)
 
 stands : (p : Program) (places : List ℕ) (place : ℕ) (c : Condition) → IsMember p places place c → stands_in p places place c ≡ true
 stands p places place (Plain pattern) h = h
@@ -104,19 +85,13 @@ each_from P p all places place (c ∷ conditions) h =
     (each_from P p all places (suc place) conditions (λ k d at.
     let next : place + suc k ≡ suc place + k = omega arith in subst (λ (n : ℕ). All P (condition_edges p all places n d)) next (h (suc k) d at)))
 
-the_same : (c d : Condition) → Some c ≡ Some d → c ≡ d
-the_same c d e = cc
-
 each_to : (P : NetEdge → Type 0) (p : Program) (all : List Condition) (places : List ℕ) (place : ℕ) (conditions : List Condition)
     → All P (edges_of p all places place conditions) → (k : ℕ) (c : Condition) → slice_get conditions k ≡ Some c → All P (condition_edges p all places (place + k) c)
-each_to P p all places place [] h k c at = absurd (nothing at)
-  where
-    nothing : {A : Type 0} {x : A} → None ≡ Some x → ⊥
-    nothing e = cc
+each_to P p all places place [] h k c at = absurd cc
 each_to P p all places place (d ∷ conditions) h zero c at =
     let here : place ≡ place + 0 = omega arith in
     subst (λ (n : ℕ). All P (condition_edges p all places n c)) here
-    (subst (λ (x : Condition). All P (condition_edges p all places place x)) (the_same d c at)
+    (subst (λ (x : Condition). All P (condition_edges p all places place x)) (the_same at)
     (all_first P (condition_edges p all places place d) (edges_of p all places (suc place) conditions) h))
 each_to P p all places place (d ∷ conditions) h (suc k) c at =
     let next : suc place + k ≡ place + suc k = omega arith in

@@ -1,8 +1,11 @@
 -- Laws of the greatest of limits.
-use Rattle.std.proofs.Common.{◌≡◌, ◌⊎◌, inl, inr, ◌<◌, ◌+◌, ℕ, ℤ, ◌≤ℤ◌, refl, sym, ◌∙◌, subst, arith}
+use Rattle.std.proofs.Common.{◌≡◌, ◌⊎◌, inl, inr, ◌<◌, ◌≤◌, ◌+◌, ℕ, ℤ, ◌≤ℤ◌, List, length, Some, refl, sym, ◌∙◌, subst, arith}
+use Rattle.std.specs.Prelude.{slice_get}
+use Rattle.std.proofs.lemmas.Option.{slice_get_within}
 use Rattle.std.proofs.lemmas.Int.{ints}
 use Rattle.rule_lives.specs.Reach.{Limit, finite, infinite, Below}
 use Rattle.expiry_infer.specs.Tops.{Among, IsTop}
+use Rattle.expiry_infer.proofs.Places.{the_same}
 
 pub below_itself : (l : Limit) → Below l l
 below_itself (finite a) = omega (arith, ints)
@@ -40,34 +43,49 @@ top_like of other low top f g h = record { above_least = h.above_least; above_al
 which : (place n : ℕ) → place < n + 1 → (place < n) ⊎ (place ≡ n)
 which place n h = grind arith
 
--- one place more
-pub top_next : (gives : ℕ → Limit → Type 0) (n : ℕ) (low middle top : Limit) → IsTop (Among gives n) low middle → IsTop (gives n) middle top → IsTop (Among gives (n + 1)) low top
-top_next gives n low middle top first next = record {
+-- ---- elements of a list, one after the other
+
+pub top_next : {A : Type 0} (xs : List A) (gives : ℕ → A → Limit → Type 0) (n : ℕ) (x : A) (low middle top : Limit) → slice_get xs n ≡ Some x
+    → IsTop (Among xs gives n) low middle → IsTop (gives n x) middle top → IsTop (Among xs gives (n + 1)) low top
+top_next xs gives n x low middle top at first next = record {
   above_least = below_both low middle top first.above_least next.above_least;
-  above_all = λ l h. under l h.0 h.2 (which h.0 n h.1);
+  above_all = λ l h. under l h (which h.place n h.before);
   reached = by_next next.reached first.reached;
 }
   where
     below_more : (place : ℕ) → place < n → place < n + 1
     below_more place h = omega arith
 
-    under : (l : Limit) (place : ℕ) → gives place l → (place < n) ⊎ (place ≡ n) → Below l top
-    under l place g (inl h) = below_both l middle top (first.above_all l (place, h, g)) next.above_least
-    under l place g (inr e) = next.above_all l (subst (λ (k : ℕ). gives k l) e g)
+    last : n < n + 1
+    last = omega arith
 
-    by_first : top ≡ middle → (middle ≡ low) ⊎ Among gives n middle → (top ≡ low) ⊎ Among gives (n + 1) top
+    under : (l : Limit) (h : Among xs gives (n + 1) l) → (h.place < n) ⊎ (h.place ≡ n) → Below l top
+    under l h (inl b) = below_both l middle top (first.above_all l (record { place = h.place; before = b; x = h.x; stands = h.stands; limit = h.limit })) next.above_least
+    under l h (inr e) =
+        let is = the_same (sym (subst (λ (k : ℕ). slice_get xs k ≡ Some h.x) e h.stands) ∙ at) in
+        next.above_all l (subst (λ y. gives n y l) is (subst (λ (k : ℕ). gives k h.x l) e h.limit))
+
+    by_first : top ≡ middle → (middle ≡ low) ⊎ Among xs gives n middle → (top ≡ low) ⊎ Among xs gives (n + 1) top
     by_first e (inl k) = inl (e ∙ k)
-    by_first e (inr g) = inr (g.0, below_more g.0 g.1, subst (gives g.0) (sym e) g.2)
+    by_first e (inr g) = inr (record { place = g.place; before = below_more g.place g.before; x = g.x; stands = g.stands; limit = subst (gives g.place g.x) (sym e) g.limit })
 
-    by_next : (top ≡ middle) ⊎ gives n top → (middle ≡ low) ⊎ Among gives n middle → (top ≡ low) ⊎ Among gives (n + 1) top
+    by_next : (top ≡ middle) ⊎ gives n x top → (middle ≡ low) ⊎ Among xs gives n middle → (top ≡ low) ⊎ Among xs gives (n + 1) top
     by_next (inl e) k = by_first e k
-    by_next (inr g) k = inr (n, (let last : n < n + 1 = omega arith in last), g)
+    by_next (inr g) k = inr (record { place = n; before = last; x = x; stands = at; limit = g })
 
-pub top_skipped : (gives : ℕ → Limit → Type 0) (n : ℕ) (low top : Limit) → IsTop (Among gives n) low top → ((l : Limit) → gives n l → ⊥) → IsTop (Among gives (n + 1)) low top
-top_skipped gives n low top h none = top_next gives n low top top h (top_of_none (gives n) top none)
+pub top_skipped : {A : Type 0} (xs : List A) (gives : ℕ → A → Limit → Type 0) (n : ℕ) (x : A) (low top : Limit) → slice_get xs n ≡ Some x
+    → IsTop (Among xs gives n) low top → ((l : Limit) → gives n x l → ⊥) → IsTop (Among xs gives (n + 1)) low top
+top_skipped xs gives n x low top at h none = top_next xs gives n x low top top at h (top_of_none (gives n x) top none)
 
-pub top_of_nothing : (gives : ℕ → Limit → Type 0) (low : Limit) → IsTop (Among gives 0) low low
-top_of_nothing gives low = top_of_none (Among gives 0) low (λ l h. never h.0 h.1)
+pub top_of_nothing : {A : Type 0} (xs : List A) (gives : ℕ → A → Limit → Type 0) (low : Limit) → IsTop (Among xs gives 0) low low
+top_of_nothing xs gives low = top_of_none (Among xs gives 0) low (λ l h. never h.place h.before)
   where
     never : (n : ℕ) → n < 0 → ⊥
     never n h = omega arith
+
+pub anywhere : {A : Type 0} (xs : List A) (gives : ℕ → A → Limit → Type 0) (end place : ℕ) (x : A) (l : Limit) → length xs ≤ end
+    → slice_get xs place ≡ Some x → gives place x l → Among xs gives end l
+anywhere xs gives end place x l all at g = record { place = place; before = inside (slice_get_within xs place x at); x = x; stands = at; limit = g }
+  where
+    inside : place < length xs → place < end
+    inside h = omega arith

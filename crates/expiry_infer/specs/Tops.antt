@@ -1,5 +1,5 @@
 -- The greatest of limits.
-use Rattle.std.specs.Prelude.{◌≡◌, ◌<◌, ◌⊎◌, ℕ}
+use Rattle.std.specs.Prelude.{◌≡◌, ◌<◌, ◌⊎◌, ℕ, List, Some, slice_get}
 use Rattle.rule_lives.specs.Reach.{Limit, Below}
 
 -- the greatest of a limit and of those of a set
@@ -8,6 +8,10 @@ pub record IsTop (of : Limit → Type 0) (least : Limit) (top : Limit) : Type 0 
   pub above_all : (l : Limit) → of l → Below l top
   pub reached : (top ≡ least) ⊎ of top
 
--- what one of the places below the number gives
-abbrev pub Among : (ℕ → Limit → Type 0) → ℕ → Limit → Type 0
-Among gives count l = (place : ℕ) × (place < count) × gives place l
+-- what one of the elements gives that stand before this place
+pub record Among {A : Type 0} (xs : List A) (gives : ℕ → A → Limit → Type 0) (end : ℕ) (l : Limit) : Type 0 where
+  pub place : ℕ
+  pub before : place < end
+  pub x : A
+  pub stands : slice_get xs place ≡ Some x
+  pub limit : gives place x l

@@ -10,4 +10,4 @@ mod network;
 mod solving;
 
 pub use lifetimes::lives;
-pub use solving::{is_solvable, reach};
+pub use solving::is_solvable;

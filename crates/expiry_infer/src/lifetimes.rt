@@ -1,16 +1,14 @@
 //! The lives of patterns and types (Walzer, Breddin, Groch 2008).
 ghost use Rattle.std.specs.Prelude.{◌≡◌, ◌<◌, ◌≤◌, length, slice_get, true, None, Some, pos, IfOk};
-ghost use Rattle.rule_model.specs.declared.condition.Condition.{Condition as AnyCondition};
 ghost use Rattle.rule_model.specs.Rows.{pattern_of};
 ghost use Rattle.rule_model.specs.Types.{is_event, expiry_of};
-ghost use Rattle.rule_lives.specs.Networks.{binds};
 ghost use Rattle.rule_lives.specs.Lifetimes.{Adds, AddsSome, IsLife, LivesFor, scope as scope_of};
-ghost use Rattle.expiry_infer.specs.Edges.{HaveNetwork};
 ghost use Rattle.expiry_infer.specs.Found.{limit_of};
+ghost use Rattle.expiry_infer.specs.Tails.{HaveLives};
 ghost use Rattle.expiry_infer.specs.Tops.{Among, IsTop};
 ghost use Rattle.rule_lives.specs.Keeping.{AreLives, IsLifeOf};
 ghost use Rattle.rule_world.specs.Programs.{IsRunnable};
-ghost use Rattle.expiry_infer.specs.Tables.{placed, GivesAt, GivesIn};
+ghost use Rattle.expiry_infer.specs.Tables.{lent, GivesAt, StandsIn};
 
 use crate::limits::{greater, sum, tail};
 use crate::solving::reach;
@@ -18,30 +16,33 @@ use fx_base::{Bound, NoMemory, Seq};
 use rule_model::{Condition, Life, LifeTable, Program, TypeInfo, WindowTag};
 use std::alloc::Global;
 
-// The greater of a limit and of what condition j adds to the life of i.
+// A condition by its place among those of its rule.
+#[derive(Drop)]
+struct Placed<'c> {
+    place: usize,
+    condition: &'c Condition,
+}
+
+// The greater of a limit and of what j adds to the life of i.
 fn with_added(
     alloc: Global,
     program: &Program,
     conditions: &[Condition],
-    i: usize,
-    j: usize,
+    i: &Placed,
+    j: &Placed,
     most: Bound,
 ) -> Result<Bound, NoMemory>
-    requires network { HaveNetwork conditions.now }
-    requires i { i < length conditions.now }
-    requires j { j < length conditions.now }
-    ensures { (first second : AnyCondition) → slice_get conditions.now i ≡ Some first → slice_get conditions.now j ≡ Some second
-        → IfOk result (λ greatest. IsTop (Adds program.now conditions.now (placed i first) (placed j second)) (limit_of most) (limit_of greatest)) }
+    requires conditions { HaveLives program.now conditions.now }
+    requires i { StandsIn conditions.now (lent i.now) }
+    requires j { StandsIn conditions.now (lent j.now) }
+    ensures { IfOk result (λ greatest. IsTop (Adds program.now conditions.now (lent i.now) (lent j.now)) (limit_of most) (limit_of greatest)) }
 {
-    let pattern = conditions[j].pattern();
+    let pattern = j.condition.pattern();
     if !program.is_event(pattern.ty) {
         return Ok(Bound::Infinite);
     }
-    match reach(alloc, program, conditions, i, j)? {
-        Some(distance) => {
-            let more = sum(distance, tail(program, pattern))?;
-            Ok(greater(most, more))
-        }
+    match reach(alloc, program, conditions, i.place, j.place)? {
+        Some(distance) => Ok(greater(most, sum(distance, tail(program, pattern)))),
         None => Ok(most),
     }
 }
@@ -51,56 +52,47 @@ fn with_all_added(
     alloc: Global,
     program: &Program,
     conditions: &[Condition],
-    i: usize,
+    i: &Placed,
     most: Bound,
 ) -> Result<Bound, NoMemory>
-    requires network { HaveNetwork conditions.now }
-    requires i { i < length conditions.now }
-    ensures { (first : AnyCondition) → slice_get conditions.now i ≡ Some first
-        → IfOk result (λ greatest. IsTop (AddsSome program.now conditions.now (placed i first)) (limit_of most) (limit_of greatest)) }
+    requires conditions { HaveLives program.now conditions.now }
+    requires i { StandsIn conditions.now (lent i.now) }
+    ensures { IfOk result (λ greatest. IsTop (AddsSome program.now conditions.now (lent i.now)) (limit_of most) (limit_of greatest)) }
 {
     let mut most = most;
-    for j in 0..conditions.len() {
-        most = with_added(alloc, program, conditions, i, j, most)?;
+    for (place, condition) in conditions.iter().enumerate() {
+        let j = Placed { place, condition };
+        most = with_added(alloc, program, conditions, i, &j, most)?;
     }
     Ok(most)
 }
 
-// Whether the condition binds a fact.
-fn is_binding(condition: &Condition) -> bool
-    ensures { result ≡ binds condition.now }
+// The conditions that matter to i.
+fn scope<'c>(conditions: &'c [Condition], i: &Placed) -> &'c [Condition]
+    requires { StandsIn conditions.now (lent i.now) }
+    ensures { result.now ≡ scope_of conditions.now (lent i.now) }
 {
-    match condition {
-        Condition::Plain(_) => true,
-        Condition::Negated(_) | Condition::Existing(_) | Condition::Folded(_) => false,
+    match i.condition {
+        Condition::Plain(_) => conditions,
+        Condition::Negated(_) | Condition::Existing(_) | Condition::Folded(_) => {
+            &conditions[..i.place + 1]
+        }
     }
 }
 
-// The conditions that matter to that of place i.
-fn scope(conditions: &[Condition], i: usize) -> &[Condition]
-    requires { i < length conditions.now }
-    ensures { (first : AnyCondition) → slice_get conditions.now i ≡ Some first → result.now ≡ scope_of conditions.now (placed i first) }
-{
-    if is_binding(&conditions[i]) {
-        return conditions;
-    }
-    &conditions[..i + 1]
-}
-
-// The greatest of a limit and of the limits of the life of the condition of place i.
+// The greatest of a limit and of the limits of the life of i.
 fn with_pattern(
     alloc: Global,
     program: &Program,
     conditions: &[Condition],
-    i: usize,
+    i: &Placed,
     most: Bound,
 ) -> Result<Bound, NoMemory>
-    requires network { HaveNetwork conditions.now }
-    requires i { i < length conditions.now }
-    ensures { (first : AnyCondition) → slice_get conditions.now i ≡ Some first
-        → IfOk result (λ greatest. IsTop (LivesFor program.now conditions.now (placed i first) (pattern_of first).window) (limit_of most) (limit_of greatest)) }
+    requires conditions { HaveLives program.now conditions.now }
+    requires i { StandsIn conditions.now (lent i.now) }
+    ensures { IfOk result (λ greatest. IsTop (LivesFor program.now conditions.now (lent i.now) (pattern_of i.now.condition.now).window) (limit_of most) (limit_of greatest)) }
 {
-    match conditions[i].pattern().window {
+    match i.condition.pattern().window {
         WindowTag::Whole => with_all_added(alloc, program, scope(conditions, i), i, most),
         WindowTag::Time(span) => Ok(greater(most, Bound::Finite(span))),
         WindowTag::Length(_) => Ok(Bound::Infinite),
@@ -115,13 +107,14 @@ fn with_rule(
     ty: usize,
     most: Bound,
 ) -> Result<Bound, NoMemory>
-    requires { HaveNetwork conditions.now }
-    ensures { IfOk result (λ greatest. IsTop (Among (GivesAt program.now conditions.now ty) (length conditions.now)) (limit_of most) (limit_of greatest)) }
+    requires { HaveLives program.now conditions.now }
+    ensures { IfOk result (λ greatest. IsTop (Among conditions.now (GivesAt program.now conditions.now ty) (length conditions.now)) (limit_of most) (limit_of greatest)) }
 {
     let mut most = most;
-    for i in 0..conditions.len() {
-        if conditions[i].pattern().ty.0 as usize == ty {
-            most = with_pattern(alloc, program, conditions, i, most)?;
+    for (place, condition) in conditions.iter().enumerate() {
+        if condition.pattern().ty.0 as usize == ty {
+            let i = Placed { place, condition };
+            most = with_pattern(alloc, program, conditions, &i, most)?;
         }
     }
     Ok(most)
@@ -135,10 +128,8 @@ fn inferred(alloc: Global, program: &Program, ty: usize) -> Result<Bound, NoMemo
     ensures { IfOk result (λ life. IsLife program.now ty (limit_of life)) }
 {
     let mut most = Bound::Finite(0);
-    let rules = program.rules.as_slice();
-    for place in 0..rules.len() {
-        let conditions = rules[place].conditions.as_slice();
-        most = with_rule(alloc, program, conditions, ty, most)?;
+    for rule in program.rules.as_slice() {
+        most = with_rule(alloc, program, rule.conditions.as_slice(), ty, most)?;
     }
     Ok(most)
 }
@@ -161,8 +152,7 @@ fn life(alloc: Global, program: &Program, place: usize, ty: &TypeInfo) -> Result
     }
 }
 
-/// The lives of the types of a program, in milliseconds: how long behind its end an event of each can still matter. A life that 64 bits
-/// do not hold is answered as no memory.
+/// The lives of the types of a program, in milliseconds: how long behind its end an event of each can still matter.
 pub fn lives(alloc: Global, program: &Program) -> Result<LifeTable, NoMemory>
     requires { IsRunnable program.now }
     ensures { IfOk result (AreLives program.now) }

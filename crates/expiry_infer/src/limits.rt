@@ -1,11 +1,13 @@
 //! Limits of time in milliseconds: their greatest, their sum, and how long an event can still come or leave.
-ghost use Rattle.std.specs.Prelude.{◌≡◌, IfOk};
+ghost use Rattle.std.specs.Prelude.{◌≡◌};
+ghost use Rattle.temporal_net.specs.Networks.{IsWithinNetwork};
 ghost use Rattle.rule_lives.specs.Lifetimes.{at_least as least_of, tail as tail_of, tail_by};
 ghost use Rattle.rule_lives.specs.Reach.{plus};
 ghost use Rattle.expiry_infer.specs.Found.{limit_of};
+ghost use Rattle.expiry_infer.specs.Tails.{IsShort};
 ghost use Rattle.expiry_infer.specs.Tops.{IsTop};
 
-use fx_base::{Bound, Millis, NoMemory};
+use fx_base::{Bound, Millis};
 use rule_model::{Pattern, Program, WindowTag};
 
 pub(crate) fn greater(a: Bound, b: Bound) -> Bound
@@ -17,16 +19,16 @@ pub(crate) fn greater(a: Bound, b: Bound) -> Bound
     }
 }
 
-/// The sum; a sum that 64 bits do not hold is answered as no memory.
-pub(crate) fn sum(a: Bound, b: Bound) -> Result<Bound, NoMemory>
-    ensures { IfOk result (λ sum. limit_of sum ≡ plus (limit_of a) (limit_of b)) }
+/// The sum of a reach and a tail.
+#[tactic(auto, unfolding(rule_world::specs::Events::most_millis))]
+pub(crate) fn sum(reach: Bound, tail: Bound) -> Bound
+    requires reach { IsWithinNetwork reach }
+    requires tail { IsShort (limit_of tail) }
+    ensures { limit_of result ≡ plus (limit_of reach) (limit_of tail) }
 {
-    match (a, b) {
-        (Bound::Finite(a), Bound::Finite(b)) => {
-            let sum = a.checked_add(b).ok_or(NoMemory)?;
-            Ok(Bound::Finite(sum))
-        }
-        _ => Ok(Bound::Infinite),
+    match (reach, tail) {
+        (Bound::Finite(reach), Bound::Finite(tail)) => Bound::Finite(reach + tail),
+        _ => Bound::Infinite,
     }
 }
 

@@ -1,10 +1,12 @@
-ghost use Rattle.std.specs.Prelude.{◌≡◌, ◌<◌, length, slice_get, Some, IfOk};
+ghost use Rattle.std.specs.Prelude.{◌≡◌, ◌<◌, length, slice_get, Some, IfOk, IfSome};
 ghost use Rattle.std.specs.Bool.{Decides};
+ghost use Rattle.temporal_net.specs.Networks.{IsWithinNetwork};
 ghost use Rattle.rule_model.specs.declared.condition.Condition.{Condition as AnyCondition};
 ghost use Rattle.rule_lives.specs.Networks.{IsSolvable};
 ghost use Rattle.expiry_infer.specs.Edges.{edges_of, HaveNetwork};
 ghost use Rattle.expiry_infer.specs.Found.{IsFound, IsSolved};
 ghost use Rattle.expiry_infer.specs.Solvable.{can_match};
+ghost use Rattle.expiry_infer.specs.Tables.{placed};
 
 use crate::network::{POINTS, end, network, start};
 use fx_base::{Bound, NoMemory};
@@ -47,8 +49,8 @@ pub fn is_solvable(
 }
 
 /// How far behind the end of an event of condition i one of condition j can start, in milliseconds: the greatest distance over all
-/// solutions of the network of the conditions and of these two. Nothing where there is no solution.
-pub fn reach(
+/// solutions of the network of the conditions and of these two, at most 15 * (2^53 + 1) in size. Nothing where there is no solution.
+pub(crate) fn reach(
     alloc: Global,
     program: &Program,
     conditions: &[Condition],
@@ -58,8 +60,9 @@ pub fn reach(
     requires network { HaveNetwork conditions.now }
     requires i { i < length conditions.now }
     requires j { j < length conditions.now }
-    ensures { (first second : AnyCondition) → slice_get conditions.now i ≡ Some first → slice_get conditions.now j ≡ Some second
-        → IfOk result (IsFound program.now conditions.now (record { place = i; condition = first }) (record { place = j; condition = second })) }
+    ensures size { IfOk result (λ found. IfSome found IsWithinNetwork) }
+    ensures reach { (first second : AnyCondition) → slice_get conditions.now i ≡ Some first → slice_get conditions.now j ≡ Some second
+        → IfOk result (IsFound program.now conditions.now (placed i first) (placed j second)) }
 {
     match solved(alloc, program, conditions, &[i, j])? {
         Some(minimal) => Ok(Some(minimal.bound(start(j), end(i)))),

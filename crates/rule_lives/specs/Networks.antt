@@ -1,6 +1,6 @@
 -- The network of the temporal tests of conditions: each event condition has an occurrence, which is a start and an end, and each temporal
 -- test bounds the differences of these points (Dechter, Meiri, Pearl 1991, simple temporal networks).
-use Rattle.std.specs.Prelude.{◌≡◌, ℕ, suc, Bool, true, false, List, [], ◌∷◌, take, Some, slice_get}
+use Rattle.std.specs.Prelude.{◌≡◌, ℕ, Bool, true, false, List, [], take, Some, slice_get}
 use Rattle.std.specs.List.{list_all}
 use Rattle.fx_base.specs.Lists.{In}
 use Rattle.fx_base.specs.declared.times.Times.{Times}

@@ -1,38 +1,32 @@
-use Rattle.std.proofs.Common.{◌≡◌, ◌<◌, ◌≤◌, ℕ, Some, List, length, get_or, subst, sym}
+use Rattle.std.proofs.Common.{◌≡◌, ◌<◌, ℕ, Some, List, length, get_or, refl, subst, sym}
 use Rattle.std.specs.Prelude.{slice_get}
-use Rattle.std.proofs.lemmas.Option.{slice_get-get_or}
+use Rattle.std.proofs.lemmas.Option.{slice_get_read}
 use Rattle.rule_model.specs.declared.condition.Condition.{Condition}
 use Rattle.rule_model.specs.declared.program.Rule.{Rule}
-use Rattle.expiry_infer.specs.Edges.{HaveNetwork}
+use Rattle.rule_model.proofs.RuleOf.{in_place}
+use Rattle.expiry_infer.specs.Tails.{HaveLives}
 use Rattle.expiry_infer.specs.Found.{limit_of}
 use Rattle.expiry_infer.specs.Tables.{GivesAt}
 use Rattle.expiry_infer.specs.Tops.{Among, IsTop}
-use Rattle.expiry_infer.proofs.Given.{one_more_rule, rule_in, is_life}
-use Rattle.expiry_infer.proofs.Runnable.{rules_have_networks}
+use Rattle.expiry_infer.proofs.Given.{is_life}
+use Rattle.expiry_infer.proofs.Runnable.{rule_has_lives}
+use Rattle.expiry_infer.proofs.Tops.{top_next}
 use Rattle.expiry_infer.proofs.lifetimes.inferred.Goals as goal
 
--- the rule of a place, and its conditions as they were read
-there : (rules xs : List Rule) (place : ℕ) (d : Rule) → xs ≡ rules → place < length xs → slice_get rules place ≡ Some (get_or xs place d)
-there rules xs place d e h = subst (λ (ys : List Rule). slice_get ys place ≡ Some (get_or xs place d)) e (slice_get-get_or xs place d h)
+-- the rule that was read stands among the rules
+there : (rules xs : List Rule) (place : ℕ) (rule : Rule) → xs ≡ rules → place < length xs → rule ≡ get_or xs place rule → slice_get rules place ≡ Some rule
+there rules xs place rule e h is = subst (λ (ys : List Rule). slice_get ys place ≡ Some rule) e (slice_get_read xs _ place rule refl h is)
 
 pub with_rule-requires : goal.with_rule-requires
 with_rule-requires c =
-    let rules = c.args.program.now.rules in
-    let xs = c.as_slice-rules.result.now in
-    let rule = get_or xs c.loop-place.place c.index-rules-place.result in
-    let at = there rules xs c.loop-place.place c.index-rules-place.result c.as_slice-rules.ensures c.loop-place-test.true in
-    subst HaveNetwork (sym c.as_slice-conditions.ensures) (rules_have_networks c.args.program.now c.requires.runnable rule (rule_in rules c.loop-place.place rule at))
+    let at = there _ _ _ _ c.as_slice-rule-items.ensures c.loop-rule-test.true c.rule-item.is in
+    subst (HaveLives c.args.program.now) (sym c.as_slice.ensures) (rule_has_lives c.args.program.now c.requires.runnable _ (in_place _ _ _ at))
 
-pub loop-place-preserved : goal.loop-place-preserved
-loop-place-preserved c =
-    let p = c.args.program.now in
-    let xs = c.as_slice-rules.result.now in
-    let rule = get_or xs c.loop-place.place c.index-rules-place.result in
-    let at = there p.rules xs c.loop-place.place c.index-rules-place.result c.as_slice-rules.ensures c.loop-place-test.true in
-    one_more_rule p c.args.ty c.loop-place.place rule _ (limit_of c.loop-place.most) (limit_of c.in_ok-most.most) at c.loop-place.invariant
-    (subst (λ (cs : List Condition). IsTop (Among (GivesAt p cs c.args.ty) (length cs)) (limit_of c.loop-place.most) (limit_of c.in_ok-most.most)) c.as_slice-conditions.ensures c.in_ok-most.ensures)
+pub loop-rule-preserved : goal.loop-rule-preserved
+loop-rule-preserved c =
+    let at = there _ _ _ _ c.as_slice-rule-items.ensures c.loop-rule-test.true c.rule-item.is in
+    top_next _ _ _ _ _ _ _ at c.loop-rule.invariant
+    (subst (λ (cs : List Condition). IsTop (Among cs (GivesAt c.args.program.now cs c.args.ty) (length cs)) (limit_of c.loop-rule.most) (limit_of c.in_ok-most.most)) c.as_slice.ensures c.in_ok-most.ensures)
 
 pub returns : goal.returns
-returns c =
-    let all = subst (λ (xs : List Rule). length xs ≤ c.loop-place.place) c.as_slice-rules.ensures c.loop-place-test.false in
-    is_life c.args.program.now c.args.ty c.loop-place.place (limit_of c.loop-place.most) c.requires.event c.requires.unexpired all c.loop-place.invariant
+returns c = is_life _ _ _ _ c.requires.event c.requires.unexpired (simp c.as_slice-rule-items.ensures at c.loop-rule-test.false) c.loop-rule.invariant

@@ -5,5 +5,5 @@ use Rattle.expiry_infer.specs.Tables.{GivesIn}
 use Rattle.expiry_infer.specs.Tops.{Among, IsTop}
 use Rattle.expiry_infer.proofs.lifetimes.inferred.Given as goal
 
-abbrev pub invariant-loop-place : goal.invariant-loop-place
-invariant-loop-place l = IsTop (Among (GivesIn l.program l.ty) l.place) (finite (pos 0)) (limit_of l.most)
+abbrev pub invariant-loop-rule : goal.invariant-loop-rule
+invariant-loop-rule l = IsTop (Among l.program.rules (GivesIn l.program l.ty) l.rule-index) (finite (pos 0)) (limit_of l.most)

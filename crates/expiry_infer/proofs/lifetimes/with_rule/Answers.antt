@@ -1,29 +1,21 @@
-use Rattle.std.proofs.Common.{◌≡◌, ◌+◌, ap, refl, subst, sym, ◌∙◌}
+use Rattle.std.proofs.Common.{ap, refl, sym, ◌∙◌}
 use Rattle.std.proofs.lemmas.Option.{slice_get_read}
 use Rattle.rule_model.specs.declared.condition.Pattern.{Pattern}
-use Rattle.rule_model.specs.Rows.{pattern_of}
-use Rattle.expiry_infer.specs.Found.{limit_of}
-use Rattle.expiry_infer.specs.Tables.{GivesAt}
-use Rattle.expiry_infer.specs.Tops.{Among, IsTop}
-use Rattle.expiry_infer.proofs.Given.{one_more_gives, one_without}
+use Rattle.expiry_infer.proofs.Given.{of_pattern}
+use Rattle.expiry_infer.proofs.Tops.{top_next, top_skipped}
 use Rattle.expiry_infer.proofs.lifetimes.with_rule.Goals as goal
 use Rattle.expiry_infer.proofs.lifetimes.with_rule.Goals.{then-pattern-ty+in_ok-most, else-pattern-ty}
 
-pub loop-i-preserved : goal.loop-i-preserved
-loop-i-preserved c =
-    let p = c.args.program.now in
+pub loop-place-preserved : goal.loop-place-preserved
+loop-place-preserved c =
     let conditions = c.args.conditions.now in
-    let i = c.loop-i.i in
-    let first = c.index-conditions-i.result in
-    let here = slice_get_read conditions _ i first refl c.loop-i-test.true c.index-conditions-i.is in
-    let pattern = c.pattern.ensures in
+    let place = c.loop-place.place in
+    let first = c.index-conditions-place.result in
+    let here = slice_get_read conditions _ place first refl c.loop-place-test.true c.index-conditions-place.is in
+    let ty = ap (λ (q : Pattern). q.ty.0) c.pattern.ensures in
     elim c.if-pattern-ty.branch [
       | then-pattern-ty+in_ok-most w ↦
-          let is : (pattern_of first).ty.0 ≡ c.args.ty = sym (ap (λ (q : Pattern). q.ty.0) pattern) ∙ w.if-pattern-ty.true in
-          subst (λ b. IsTop (Among (GivesAt p conditions c.args.ty) (i + 1)) (limit_of c.args.most) (limit_of b)) (sym w.most-is)
-          (one_more_gives p conditions c.args.ty i first (limit_of c.args.most) (limit_of c.loop-i.most) (limit_of w.in_ok-most.most) here is c.loop-i.invariant (w.in_ok-most.ensures first here))
-      | else-pattern-ty w ↦
-          subst (λ b. IsTop (Among (GivesAt p conditions c.args.ty) (i + 1)) (limit_of c.args.most) (limit_of b)) (sym w.most-is)
-          (one_without p conditions c.args.ty i first (limit_of c.args.most) (limit_of c.loop-i.most) here
-          (λ e. w.if-pattern-ty.false (ap (λ (q : Pattern). q.ty.0) pattern ∙ e)) c.loop-i.invariant)
+          rw w.most-is (top_next _ _ _ _ _ _ _ here c.loop-place.invariant
+          (of_pattern c.args.program.now conditions c.args.ty place first _ _ (sym ty ∙ w.if-pattern-ty.true) w.in_ok-most.ensures))
+      | else-pattern-ty w ↦ rw w.most-is (top_skipped _ _ _ _ _ _ here c.loop-place.invariant (λ l gives. w.if-pattern-ty.false (ty ∙ gives.0)))
     ]
