@@ -1,24 +1,22 @@
 -- Each field of a type of an accepted file stands once, so that an insert takes a value for each.
-use Rattle.std.proofs.Common.{◌≡◌, ◌++◌, ◌∷◌, ◌||◌, ℕ, zero, suc, Bool, true, false, not, List, [], map, slice_get, Option, Some, refl, sym, ap, subst, ◌∙◌, append_assoc}
-use Rattle.std.specs.List.{list_all}
+use Rattle.std.proofs.Common.{◌≡◌, ◌++◌, ◌∷◌, ◌||◌, ℕ, zero, suc, Bool, true, false, not, List, [], map, slice_get, Some, refl, sym, ap, subst, ◌∙◌}
+use Rattle.std.specs.List.{list_all, filter}
 use Rattle.std.specs.Str.{bytes_eq}
 use Rattle.std.specs.Cmp.Lexicographic.{bytes_decides}
-use Rattle.std.proofs.lemmas.List.Folds.{list_any-append}
-use Rattle.fx_base.specs.declared.kind.Kind.{Kind}
 use Rattle.drl_grammar.specs.declared.file.Body.{Body}
 use Rattle.drl_grammar.specs.declared.file.Body.TheVariants as body
 use Rattle.drl_grammar.specs.declared.file.Item.{Item}
 use Rattle.drl_grammar.specs.declared.file.TypeTree.{TypeTree}
-use Rattle.drl_sight.specs.Declarations.{types_of, rules_of, type_in, type_names, rule_names, field_names, kind_of}
+use Rattle.drl_sight.specs.Declarations.{types_of, rules_of, type_in, type_names, rule_names, field_names}
 use Rattle.drl_sight.specs.EntryPoints.{declared_entries}
 use Rattle.drl_sight.specs.Names.{is_among, are_distinct}
-use Rattle.drl_uses.specs.Kinds.{kinds_once, taken_kinds}
+use Rattle.drl_uses.specs.Kinds.{fields_once, word_kind, taken_by}
 use Rattle.drl_check.specs.declared.fault.CheckCode.TheVariants.{TwiceDeclared}
 use Rattle.drl_check.specs.Checks.{AllPass}
 use Rattle.drl_check.specs.Twice.{meta_word, is_repeated}
 use Rattle.drl_check.proofs.Sound.{and_left, and_right, both, or_left, or_right}
 
--- ---- names that stand once
+-- ---- names
 
 pub same_bytes : (a b : List ℕ) → bytes_eq a b ≡ false → bytes_eq b a ≡ false
 same_bytes a b e = by (bytes_eq b a) refl
@@ -27,45 +25,34 @@ same_bytes a b e = by (bytes_eq b a) refl
     by true h = absurd (let n : true ≡ false = sym ((bytes_decides a b).1 (sym ((bytes_decides b a).0 h))) ∙ e in cc)
     by false h = h
 
-neither : (a b : Bool) → a ≡ false → b ≡ false → (a || b) ≡ false
-neither false b e h = h
-neither true b e h = absurd cc
-
-other_name : (before : List (List ℕ)) (first name : List ℕ) (rest : List (List ℕ)) → is_among (before ++ name ∷ rest) first ≡ false → bytes_eq first name ≡ false
-other_name before first name rest e =
-    let split = sym (list_any-append (bytes_eq first) before (name ∷ rest)) ∙ e in
-    or_left (bytes_eq first name) (is_among rest first) (or_right (is_among before first) (is_among (name ∷ rest) first) split)
-
 denied : (a : Bool) → not a ≡ true → a ≡ false
 denied false e = refl
 denied true e = absurd cc
 
--- a name that stands once does not stand before
-not_before : (before : List (List ℕ)) (name : List ℕ) (rest : List (List ℕ)) → are_distinct (before ++ name ∷ rest) ≡ true → is_among before name ≡ false
-unfolding are_distinct
-not_before [] name rest d = refl
-not_before (first ∷ before) name rest d =
-    let again = is_among (before ++ name ∷ rest) first in
-    let others = are_distinct (before ++ name ∷ rest) in
-    neither (bytes_eq name first) (is_among before name) (same_bytes first name (other_name before first name rest (denied again (and_left (not again) others d))))
-    (not_before before name rest (and_right (not again) others d))
+-- ---- fields that stand once
 
--- ---- kinds
-
-abbrev pub word_kind : List ℕ × List ℕ → Option Kind
-word_kind field = kind_of field.1
-
-kinds_apart : (before : List (List ℕ)) (fields : List (List ℕ × List ℕ)) → are_distinct (before ++ map (λ (field : List ℕ × List ℕ). field.0) fields) ≡ true → kinds_once before fields ≡ map word_kind fields
-unfolding kinds_once
-kinds_apart before [] d = refl
-kinds_apart before (field ∷ fields) d =
+-- where no field has the name, the fields of other names are all
+others_kept : (name : List ℕ) (fields : List (List ℕ × List ℕ)) → is_among (map (λ (field : List ℕ × List ℕ). field.0) fields) name ≡ false
+    → filter (λ (other : List ℕ × List ℕ). not (bytes_eq other.0 name)) fields ≡ fields
+others_kept name [] e = refl
+others_kept name (field ∷ fields) e =
     let names = map (λ (field : List ℕ × List ℕ). field.0) fields in
-    let rest = kinds_apart (before ++ field.0 ∷ []) fields (subst (λ ns. are_distinct ns ≡ true) (sym (append_assoc before (field.0 ∷ []) names)) d) in
-    rw (not_before before field.0 names d) (ap (λ kinds. kind_of field.1 ∷ kinds) rest)
+    let other = same_bytes name field.0 (or_left (bytes_eq name field.0) (is_among names name) e) in
+    rw other (ap (λ (rest : List (List ℕ × List ℕ)). field ∷ rest) (others_kept name fields (or_right (bytes_eq name field.0) (is_among names name) e)))
+
+once_apart : (fields : List (List ℕ × List ℕ)) → are_distinct (map (λ (field : List ℕ × List ℕ). field.0) fields) ≡ true → fields_once fields ≡ fields
+unfolding are_distinct fields_once
+once_apart [] d = refl
+once_apart (field ∷ fields) d =
+    let names = map (λ (field : List ℕ × List ℕ). field.0) fields in
+    let others = λ (other : List ℕ × List ℕ). not (bytes_eq other.0 field.0) in
+    let again = is_among names field.0 in
+    ap (λ (rest : List (List ℕ × List ℕ)). field ∷ rest)
+    (ap (filter others) (once_apart fields (and_right (not again) (are_distinct names) d)) ∙ others_kept field.0 fields (denied again (and_left (not again) (are_distinct names) d)))
 
 -- an insert takes a value for each field
-pub kinds_taken : (t : TypeTree) → are_distinct (field_names t) ≡ true → taken_kinds t ≡ map word_kind t.fields
-kinds_taken t d = kinds_apart [] t.fields d
+pub kinds_taken : (t : TypeTree) → are_distinct (field_names t) ≡ true → taken_by t ≡ map word_kind t.fields
+kinds_taken t d = ap (map word_kind) (once_apart t.fields d)
 
 -- ---- the types of an accepted file
 

@@ -15,9 +15,8 @@ use Rattle.drl_sight.specs.Declarations.{field_names, kind_of, kind_at}
 use Rattle.drl_sight.specs.Meanings.{field_kind, variable_kind, variable_field_kind}
 use Rattle.drl_sight.specs.Sight.{Meaning, of_fact, of_field, of_result, Sight, meaning_of}
 use Rattle.drl_program.specs.Programs.{small_place, field_place, kind_or_int, field_info, type_info, variable_value, variable_field_value, expression_in, set_in}
-use Rattle.drl_uses.specs.Kinds.{is_number, number_where, tree_kind, set_misfits, args_misfit}
+use Rattle.drl_uses.specs.Kinds.{is_number, number_where, tree_kind, set_misfits, word_kind, args_misfit}
 use Rattle.drl_check.proofs.Sound.{both, or_left, or_right}
-use Rattle.drl_check.proofs.Fields.{word_kind}
 use Rattle.drl_check.proofs.Places.{type_taken, Stands, got, taken_of}
 
 -- ---- kinds

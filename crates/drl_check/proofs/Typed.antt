@@ -26,7 +26,7 @@ use Rattle.drl_program.specs.Observed.{observed_names}
 use Rattle.drl_program.specs.Programs.{type_place, type_info, conditions_of, expression_in, set_in, fact_meant, type_meant, action_of, rule_of, program_of}
 use Rattle.drl_check.specs.declared.fault.CheckCode.TheVariants.{LimitPassed, UnknownType, UnknownVariable, WrongKind}
 use Rattle.drl_check.specs.Checks.{lacks_type, lacks_variable, is_wrong_kind, AllPass, IsAcceptedFile}
-use Rattle.drl_uses.specs.Kinds.{taken_kinds, args_misfit, insert_misfits, modify_misfits, has_wrong_kind, action_misfits}
+use Rattle.drl_uses.specs.Kinds.{taken_by, args_misfit, insert_misfits, modify_misfits, has_wrong_kind, action_misfits}
 use Rattle.drl_uses.specs.Uses.{any_condition, has_unknown_type, has_unknown_variable, inserts_unknown_type, action_unseen, target_unseen, leaf_unseen}
 use Rattle.drl_check.proofs.Fields.{HaveFieldsApart, kinds_taken, types_apart, apart_at}
 use Rattle.drl_check.proofs.Places.{taken_of, type_placed, few_bound, sight_stands}
@@ -73,7 +73,7 @@ small_at (x ∷ types) h (suc ty) t e = small_at types (and_right (has_few_field
 
 module _ (names : List (List ℕ)) (types : List TypeTree) (few : length types ≤ 128) (small : HaveFewFields types) (apart : HaveFieldsApart types) (entries : List (List ℕ)) where
   module _ (taken : List ℕ) (sight : Sight) (bound : length taken ≤ 8) (seen : InSight types taken sight) where
-    insert_typed : (ty : List ℕ) (args : List Tree) (o : Option TypeTree) → type_named types ty ≡ o → not (is_some o) ≡ false → insert_misfits (option_map taken_kinds o) sight args ≡ false
+    insert_typed : (ty : List ℕ) (args : List Tree) (o : Option TypeTree) → type_named types ty ≡ o → not (is_some o) ≡ false → insert_misfits (option_map taken_by o) sight args ≡ false
         → action_fits (map (type_info names) types) taken (action_of types sight (act.Insert ty args)) ≡ true
     insert_typed ty args None is e m = absurd cc
     insert_typed ty args (Some t) is e m =

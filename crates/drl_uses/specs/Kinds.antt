@@ -1,6 +1,6 @@
 -- Values of a kind that does not fit where they stand.
-use Rattle.std.specs.Prelude.{ℕ, ◌&&◌, ◌||◌, Bool, true, false, not, List, [], ◌∷◌, ◌++◌, Option, Some, None, is_some, option_map, if◌then◌else◌}
-use Rattle.std.specs.List.{list_any}
+use Rattle.std.specs.Prelude.{ℕ, ◌&&◌, ◌||◌, Bool, true, false, not, List, [], ◌∷◌, map, Option, Some, None, is_some, option_map}
+use Rattle.std.specs.List.{list_any, filter}
 use Rattle.std.specs.Str.{bytes_eq}
 use Rattle.fx_base.specs.declared.kind.Kind.{Kind}
 use Rattle.fx_base.specs.declared.kind.Kind.TheVariants as kind
@@ -24,7 +24,6 @@ use Rattle.drl_grammar.specs.declared.condition.Operand.{Operand}
 use Rattle.drl_grammar.specs.declared.condition.Operand.TheVariants as operand
 use Rattle.drl_grammar.specs.declared.file.TypeTree.{TypeTree}
 use Rattle.drl_sight.specs.Declarations.{type_named, kind_of}
-use Rattle.drl_sight.specs.Names.{is_among}
 use Rattle.drl_sight.specs.Meanings.{field_kind, variable_kind, variable_field_kind}
 use Rattle.drl_sight.specs.Sight.{Sight, Meaning, of_fact, of_field, of_result, meaning_of, Place}
 
@@ -155,17 +154,21 @@ set_misfits None given = true
 set_misfits field None = true
 set_misfits field (Some given) = not (is_same_kind field given)
 
--- The kind of a field, given the names that stand before it. A field that is declared twice counts once, as its first declaration.
-abbrev pub kind_behind : List (List ℕ) → List ℕ × List ℕ → List (Option Kind)
-kind_behind before field = if is_among before field.0 then [] else kind_of field.1 ∷ []
+-- The fields of a type, each name once: a field that is declared twice counts as its first declaration.
+unfoldable pub fields_once : List (List ℕ × List ℕ) → List (List ℕ × List ℕ)
+fields_once [] = []
+fields_once (field ∷ fields) = field ∷ filter (λ (other : List ℕ × List ℕ). not (bytes_eq other.0 field.0)) (fields_once fields)
 
-unfoldable pub kinds_once : List (List ℕ) → List (List ℕ × List ℕ) → List (Option Kind)
-kinds_once before [] = []
-kinds_once before (field ∷ fields) = kind_behind before field ++ kinds_once (before ++ field.0 ∷ []) fields
+-- the kind that the kind word of a field names
+abbrev pub word_kind : List ℕ × List ℕ → Option Kind
+word_kind field = kind_of field.1
 
--- the kinds of the values that an insert takes
-abbrev pub taken_kinds : TypeTree → List (Option Kind)
-taken_kinds t = kinds_once [] t.fields
+-- the kinds of the values that an insert takes, by the fields of the type
+abbrev pub taken_kinds : List (List ℕ × List ℕ) → List (Option Kind)
+taken_kinds fields = map word_kind (fields_once fields)
+
+abbrev pub taken_by : TypeTree → List (Option Kind)
+taken_by t = taken_kinds t.fields
 
 -- one expression for each field, of its kind
 unfoldable pub args_misfit : Sight → List (Option Kind) → List Tree → Bool
@@ -192,6 +195,6 @@ retract_misfits (Some (of_fact fact t)) = false
 retract_misfits None = false
 
 abbrev pub action_misfits : List TypeTree → Sight → ActTree → Bool
-action_misfits types sight (action.Insert ty args) = insert_misfits (option_map taken_kinds (type_named types ty)) sight args
+action_misfits types sight (action.Insert ty args) = insert_misfits (option_map taken_by (type_named types ty)) sight args
 action_misfits types sight (action.Modify v sets) = modify_misfits (meaning_of sight v) sight sets
 action_misfits types sight (action.Retract v) = retract_misfits (meaning_of sight v)

@@ -1,6 +1,7 @@
-ghost use Rattle.std.specs.Prelude.{◌≡◌, ◌++◌, [], map, option_map, IfOk, OnOk};
+ghost use Rattle.std.specs.Prelude.{◌≡◌, ◌++◌, ◌∷◌, [], map, option_map, if◌then◌else◌, IfOk, OnOk};
+ghost use Rattle.drl_sight.specs.Names.{is_among};
 ghost use Rattle.drl_sight.specs.Declarations.{types_of, type_named};
-ghost use Rattle.drl_uses.specs.Kinds.{kind_behind, kinds_once, taken_kinds};
+ghost use Rattle.drl_uses.specs.Kinds.{word_kind, taken_kinds, taken_by};
 
 use drl_grammar::{Body, Item};
 use drl_sight::{Declared, Places, kind_of_word};
@@ -19,21 +20,22 @@ pub struct Kinded<'a> {
 impl<'a> Model for Kinded<'a> {
     ghost use Rattle.drl_grammar.specs.declared.file.TypeTree.{TypeTree};
     ghost use Rattle.std.specs.Prelude.{◌≡◌, List, map};
-    ghost use Rattle.drl_uses.specs.Kinds.{taken_kinds};
+    ghost use Rattle.drl_uses.specs.Kinds.{taken_by};
 
     ghost Value = { List TypeTree };
 
     ghost view = { λ k. k.types };
 
-    ghost invariant = { λ k. k.kinds.items ≡ map taken_kinds k.types };
+    ghost invariant = { λ k. k.kinds.items ≡ map taken_by k.types };
 }
 
+// The kind of one field more, unless its name stands before.
 fn add_kind(
     kinds: &mut Vec<Option<Kind>>,
     before: &Places,
     field: &(Text, Text),
 ) -> Result<(), NoMemory>
-    ensures { OnOk result (kinds.new.items ≡ kinds.old.items ++ kind_behind before.now field.now) }
+    ensures { OnOk result (kinds.new.items ≡ (if is_among before.now field.now.0 then kinds.old.items else kinds.old.items ++ word_kind field.now ∷ [])) }
 {
     if !before.holds(&field.0) {
         kinds.push(kind_of_word(&field.1))?;
@@ -41,10 +43,10 @@ fn add_kind(
     Ok(())
 }
 
-// The kinds of fields, where one of a name that stands before counts no more.
-#[tactic(auto, unfolding(crate::specs::Kinds::kinds_once))]
+// The kinds of the values that an insert takes, by the fields of a type.
+#[tactic(auto, using(std::proofs::lemmas::Grind::common_steps, crate::proofs::Once::kinds_behind), unfolding(crate::specs::Kinds::fields_once))]
 fn kinds_of_fields(alloc: Global, fields: &[(Text, Text)]) -> Result<Seq<Option<Kind>>, NoMemory>
-    ensures { IfOk result (λ kinds. kinds ≡ kinds_once [] fields.now) }
+    ensures { IfOk result (λ kinds. kinds ≡ taken_kinds fields.now) }
 {
     let mut before = Places::new(alloc);
     let mut kinds = Vec::new(alloc);
@@ -56,7 +58,7 @@ fn kinds_of_fields(alloc: Global, fields: &[(Text, Text)]) -> Result<Seq<Option<
 }
 
 fn kinds_of_types(alloc: Global, items: &[Item]) -> Result<Vec<Seq<Option<Kind>>>, NoMemory>
-    ensures { IfOk result (λ kinds. kinds.items ≡ map taken_kinds (types_of items.now)) }
+    ensures { IfOk result (λ kinds. kinds.items ≡ map taken_by (types_of items.now)) }
 {
     let mut kinds = Vec::new(alloc);
     for item in items {
@@ -92,7 +94,7 @@ impl<'a> Kinded<'a> {
 
     /// The kinds of the values that an insert of the type of this name takes.
     pub(crate) fn taken(&self, name: &Text) -> Option<&Seq<Option<Kind>>>
-        ensures { option_map (λ kinds. kinds.now) result ≡ option_map taken_kinds (type_named self.now name.now) }
+        ensures { option_map (λ kinds. kinds.now) result ≡ option_map taken_by (type_named self.now name.now) }
     {
         match self.types.place(name) {
             Some(place) => self.kinds.get(place),

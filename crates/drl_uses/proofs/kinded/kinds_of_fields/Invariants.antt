@@ -1,6 +1,10 @@
-use Rattle.std.proofs.Common.{◌≡◌, ◌++◌, [], drop}
-use Rattle.drl_uses.specs.Kinds.{kinds_once}
+use Rattle.std.proofs.Common.{◌≡◌, take}
+use Rattle.drl_uses.specs.Kinds.{taken_kinds}
+use Rattle.drl_uses.proofs.Once.{names_in}
 use Rattle.drl_uses.proofs.kinded.kinds_of_fields.Given as goal
 
 abbrev pub invariant-loop-field : goal.invariant-loop-field
-invariant-loop-field l = l.kinds.items ++ kinds_once l.before (drop l.field-index l.fields) ≡ kinds_once [] l.fields
+invariant-loop-field l = record {
+  names : l.before ≡ names_in (take l.field-index l.fields);
+  kinds : l.kinds.items ≡ taken_kinds (take l.field-index l.fields);
+}

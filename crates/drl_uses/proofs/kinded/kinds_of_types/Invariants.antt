@@ -1,7 +1,7 @@
 use Rattle.std.proofs.Common.{◌≡◌, ◌++◌, map, drop}
 use Rattle.drl_sight.specs.Declarations.{types_of}
-use Rattle.drl_uses.specs.Kinds.{taken_kinds}
+use Rattle.drl_uses.specs.Kinds.{taken_by}
 use Rattle.drl_uses.proofs.kinded.kinds_of_types.Given as goal
 
 abbrev pub invariant-loop-item : goal.invariant-loop-item
-invariant-loop-item l = l.kinds.items ++ map taken_kinds (types_of (drop l.item-index l.items)) ≡ map taken_kinds (types_of l.items)
+invariant-loop-item l = l.kinds.items ++ map taken_by (types_of (drop l.item-index l.items)) ≡ map taken_by (types_of l.items)
