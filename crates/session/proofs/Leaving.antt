@@ -1,6 +1,7 @@
 -- Facts that leave a session one after the other: what is left of them, and what becomes of the agenda.
 use Rattle.std.proofs.Common.{◌≡◌, ◌⊎◌, slice_get, ◌++◌, ◌&&◌, ◌||◌, not, ℕ, ℤ, inl, inr, Bool, true, false, nat_eq, List, [], ◌∷◌, Option, Some, None, if◌then◌else◌, refl, sym, ◌∙◌, ap, subst, arith}
 use Rattle.std.specs.List.{list_any}
+use Rattle.std.proofs.Math.Bool.{or-false}
 use Rattle.std.proofs.lemmas.Bool.Decides.{nat_tests}
 use Rattle.std.proofs.lemmas.List.Folds.{list_any-append}
 use Rattle.fx_base.specs.declared.fact.Fact.{Fact}
@@ -21,52 +22,22 @@ use Rattle.session.specs.Refreshed.{rows_at, is_simple_rule, by_kind, matches_by
 use Rattle.session.specs.Waiting.{left_at, HaveOwnTags}
 use Rattle.session.proofs.Alike.{same_rows}
 use Rattle.session.proofs.Fewer.{rows_stay}
-use Rattle.session.proofs.Rules.{found_at, is_found, same_found}
+use Rattle.session.proofs.Rules.{found_at, is_found, same_found, unchanged, unchanged_mark}
 use Rattle.session.proofs.Members.{Holds, behind_of, of_behind, distinct_behind, holds_again, is_out, not_out, of_remove}
 use Rattle.std.specs.FinMap as map
 
 -- ---- refreshed twice
 
-torn : (b : Bool) → (not b ≡ b) ⊎ (not b ≡ b) → ⊥
-torn true (inl e) = let n : false ≡ true = e in cc
-torn true (inr e) = let n : false ≡ true = e in cc
-torn false (inl e) = let n : true ≡ false = e in cc
-torn false (inr e) = let n : true ≡ false = e in cc
-
 -- Of one match: whether it was one at first, in between and at last. In between it is one as at first or as at last: a match that
 -- ceases and comes back loses its mark.
 twice_pending : (p first mid last : Bool) → (mid ≡ first) ⊎ (mid ≡ last)
     → ((((p && not (first && not mid)) || (mid && not first)) && not (mid && not last)) || (last && not mid)) ≡ ((p && not (first && not last)) || (last && not first))
-twice_pending p true false true s = absurd (torn true s)
-twice_pending p false true false s = absurd (torn false s)
-twice_pending true true true true s = refl
-twice_pending true true true false s = refl
-twice_pending true true false false s = refl
-twice_pending true false false false s = refl
-twice_pending true false false true s = refl
-twice_pending true false true true s = refl
-twice_pending false true true true s = refl
-twice_pending false true true false s = refl
-twice_pending false true false false s = refl
-twice_pending false false false false s = refl
-twice_pending false false false true s = refl
-twice_pending false false true true s = refl
+twice_pending p first mid last (inl e) = rw e (ap (λ z. (z && not (first && not last)) || (last && not first)) (unchanged p first))
+twice_pending p first mid last (inr e) = rw e (unchanged ((p && not (first && not last)) || (last && not first)) last)
 
 twice_fired : (p first mid last : Bool) → (mid ≡ first) ⊎ (mid ≡ last) → ((p && not (first && not mid)) && not (mid && not last)) ≡ (p && not (first && not last))
-twice_fired p true false true s = absurd (torn true s)
-twice_fired p false true false s = absurd (torn false s)
-twice_fired true true true true s = refl
-twice_fired true true true false s = refl
-twice_fired true true false false s = refl
-twice_fired true false false false s = refl
-twice_fired true false false true s = refl
-twice_fired true false true true s = refl
-twice_fired false true true true s = refl
-twice_fired false true true false s = refl
-twice_fired false true false false s = refl
-twice_fired false false false false s = refl
-twice_fired false false false true s = refl
-twice_fired false false true true s = refl
+twice_fired p first mid last (inl e) = rw e (ap (λ z. z && not (first && not last)) (unchanged_mark p first))
+twice_fired p first mid last (inr e) = rw e (unchanged_mark (p && not (first && not last)) last)
 
 -- a row that a rule has in between it has at first or at last, and one that it has not it lacks at first or at last
 abbrev pub IsBeside : (Rule → List Row) → (Rule → List Row) → (Rule → List Row) → Type 0
@@ -140,7 +111,7 @@ kinds_beside p clock more some less rest fewer least rule row = by (is_simple_ru
     by : (b : Bool) → is_simple_rule rule ≡ b → (of_kind some b ≡ of_kind more b) ⊎ (of_kind some b ≡ of_kind less b)
     by true simple =
         one_of (of_kind more true) (of_kind some true) (of_kind less true)
-        (rows_stay p (over some clock) (over more clock) refl fewer rule.conditions row simple) (rows_stay p (over less clock) (over some clock) refl least rule.conditions row simple)
+        (rows_stay p clock more some fewer rule.conditions row simple) (rows_stay p clock some less least rule.conditions row simple)
     by false e = inl refl
 
 kinds_same : (simple other rest : Rule → List Row) → SameRows simple other → SameRows (by_kind simple rest) (by_kind other rest)
@@ -168,10 +139,6 @@ out_by : (facts : HeldFacts) (tag t : ℕ) (b : Bool) → nat_eq t tag ≡ b →
 out_by facts tag t true e = ap (map.get (map.remove facts tag)) (same_number t tag e) ∙ is_out facts tag
 out_by facts tag t false e = not_out facts tag t (other_number t tag e)
 
-or_false : (a : Bool) → (a || false) ≡ a
-or_false true = refl
-or_false false = refl
-
 -- one more is gone
 pub one_gone : (first facts rest : HeldFacts) (done : List ℕ) (tag : ℕ) → ((t : ℕ) → map.get facts t ≡ left_at first done t) → rest ≡ map.remove facts tag
     → (t : ℕ) → map.get rest t ≡ left_at first (done ++ tag ∷ []) t
@@ -179,7 +146,7 @@ one_gone first facts rest done tag left is t =
     ap (λ m. map.get m t) is ∙ out_by facts tag t (nat_eq t tag) refl ∙ ap (λ o. if nat_eq t tag then None else o) (left t)
     ∙ or_none (list_any (nat_eq t) done) (nat_eq t tag) (map.get first t)
     ∙ ap (λ b. if b then None else map.get first t)
-    (ap (λ b. list_any (nat_eq t) done || b) (sym (or_false (nat_eq t tag))) ∙ sym (list_any-append (nat_eq t) done (tag ∷ [])))
+    (ap (λ b. list_any (nat_eq t) done || b) (sym (or-false (nat_eq t tag))) ∙ sym (list_any-append (nat_eq t) done (tag ∷ [])))
 
 was_by : (b : Bool) (o : Option Fact) (f : Fact) → (if b then None else o) ≡ Some f → o ≡ Some f
 was_by true o f e = absurd (let n : None ≡ Some f = e in cc)

@@ -1,6 +1,7 @@
 -- Matches, rule by rule, and what the differences of the rules do to an agenda.
 use Rattle.std.proofs.Common.{◌≡◌, if◌then◌else◌, ℕ, ◌+◌, ◌<◌, ◌≤◌, zero, suc, ◌==◌, ◌&&◌, ◌||◌, not, Bool, true, false, List, [], ◌∷◌, ◌++◌, map, length, take, get_or, slice_get, Option, Some, None, refl, sym, ◌∙◌, ap, subst, arith}
 use Rattle.std.specs.Ordering.{eq_by_cmp}
+use Rattle.std.proofs.Math.Bool.{and-true, and-false, and-not_self, or-false, or_assoc}
 use Rattle.std.proofs.lemmas.Bool.Decides.{nat_tests}
 use Rattle.std.proofs.lemmas.Grind.{common_steps}
 use Rattle.std.proofs.lemmas.List.{take_more, append-nil}
@@ -33,17 +34,12 @@ with_rule k (row ∷ found) m false e =
     ap (λ z. z || has_match (map (match_of k) found) m) (match_parts m.rule.0 m.row (match_of k row) ∙ ap (λ z. z && eq_by_cmp row_cmp m.row row) (flip k m.rule.0 false e))
     ∙ with_rule k found m false e
 
-or_assoc : (a b c : Bool) → ((a || b) || c) ≡ (a || (b || c))
-or_assoc true b c = refl
-or_assoc false b c = refl
+-- what is a match before and behind changes no mark
+pub unchanged : (a b : Bool) → ((a && not (b && not b)) || (b && not b)) ≡ a
+unchanged a b = ap (λ z. (a && not z) || z) (and-not_self b) ∙ or-false (a && true) ∙ and-true a
 
-and_true : (a : Bool) → (a && true) ≡ a
-and_true true = refl
-and_true false = refl
-
-or_false : (a : Bool) → (a || false) ≡ a
-or_false true = refl
-or_false false = refl
+pub unchanged_mark : (a b : Bool) → (a && not (b && not b)) ≡ a
+unchanged_mark a b = ap (λ z. a && not z) (and-not_self b) ∙ and-true a
 
 -- the matches of one rule more
 rule_more : (found : Rule → List Row) (j : ℕ) (rules : List Rule) (rule : Rule) (m : Match)
@@ -128,7 +124,7 @@ found_from found j zero (rule ∷ rules) m e =
     list_any-append (eq_by_cmp match_cmp m) (map (match_of j) (found rule)) (matches_from (j + 1) (map found rules))
     ∙ ap (λ z. z || has_match (matches_from (j + 1) (map found rules)) m) (with_rule j (found rule) m true here)
     ∙ ap (λ z. has (found rule) m.row || z) (past_rule found (j + 1) rules m (omega arith))
-    ∙ or_false (has (found rule) m.row)
+    ∙ or-false (has (found rule) m.row)
 found_from found j (suc n) (rule ∷ rules) m e =
     list_any-append (eq_by_cmp match_cmp m) (map (match_of j) (found rule)) (matches_from (j + 1) (map found rules))
     ∙ ap (λ z. z || has_match (matches_from (j + 1) (map found rules)) m) (with_rule j (found rule) m false (other_number j m.rule.0 (omega arith)))
@@ -153,9 +149,9 @@ turned_pending : (t : Bool) (p was is old new : Bool) → (t ≡ true → was �
     → ((((p && not (was && not is)) || (is && not was)) && not (t && (old && not new))) || (t && (new && not old)))
     ≡ ((p && not ((was || (t && old)) && not (is || (t && new)))) || ((is || (t && new)) && not (was || (t && old))))
 turned_pending false p was is old new w i =
-    let a : (was || false) ≡ was = or_false was in
-    let b : (is || false) ≡ is = or_false is in
-    or_false _ ∙ and_true ((p && not (was && not is)) || (is && not was)) ∙ ap (λ z. (p && not (z && not is)) || (is && not z)) (sym a) ∙ ap (λ z. (p && not ((was || false) && not z)) || (z && not (was || false))) (sym b)
+    let a : (was || false) ≡ was = or-false was in
+    let b : (is || false) ≡ is = or-false is in
+    or-false _ ∙ and-true ((p && not (was && not is)) || (is && not was)) ∙ ap (λ z. (p && not (z && not is)) || (is && not z)) (sym a) ∙ ap (λ z. (p && not ((was || false) && not z)) || (z && not (was || false))) (sym b)
 turned_pending true p true is old new w i = let e : true ≡ false = w refl in cc
 turned_pending true p false true old new w i = let e : true ≡ false = i refl in cc
 turned_pending true true false false old new w i = refl
@@ -164,7 +160,7 @@ turned_pending true false false false old new w i = refl
 turned_fired : (t : Bool) (p was is old new : Bool) → (t ≡ true → was ≡ false) → (t ≡ true → is ≡ false)
     → ((p && not (was && not is)) && not (t && (old && not new))) ≡ (p && not ((was || (t && old)) && not (is || (t && new))))
 turned_fired false p was is old new w i =
-    and_true (p && not (was && not is)) ∙ ap (λ z. p && not (z && not is)) (sym (or_false was)) ∙ ap (λ z. p && not ((was || false) && not z)) (sym (or_false is))
+    and-true (p && not (was && not is)) ∙ ap (λ z. p && not (z && not is)) (sym (or-false was)) ∙ ap (λ z. p && not ((was || false) && not z)) (sym (or-false is))
 turned_fired true p true is old new w i = let e : true ≡ false = w refl in cc
 turned_fired true p false true old new w i = let e : true ≡ false = i refl in cc
 turned_fired true true false false old new w i = refl
@@ -175,8 +171,8 @@ pub none_yet : (old new : Rule → List Row) (rules : List Rule) (a : Marks) →
 unfolding matches_from
 none_yet old new rules a = record {
   saliences = refl;
-  pending = λ m. sym (or_false _ ∙ and_true (has_match a.pending m));
-  fired = λ m. sym (and_true (has_match a.fired m));
+  pending = λ m. sym (or-false _ ∙ and-true (has_match a.pending m));
+  fired = λ m. sym (and-true (has_match a.fired m));
 }
 
 -- one rule more
@@ -211,26 +207,14 @@ rule_turn old new rules k rule d a b c lt is diff r ch = record {
       ∙ ap (λ z. has_match a.fired m && not (upto old rules (k + 1) m && not z)) (sym (upto_more new rules k rule m lt is));
 }
 
--- a rule whose rows stay needs no turn
-unmarked : (t p : Bool) → p ≡ ((p && not (t && false)) || (t && false))
-unmarked true true = refl
-unmarked true false = refl
-unmarked false true = refl
-unmarked false false = refl
-
-unmarked_fired : (t p : Bool) → p ≡ (p && not (t && false))
-unmarked_fired true true = refl
-unmarked_fired true false = refl
-unmarked_fired false true = refl
-unmarked_fired false false = refl
-
+-- a rule whose rows are the same before and behind needs no turn
 pub rule_skipped : (old new : Rule → List Row) (rules : List Rule) (k : ℕ) (rule : Rule) (a b : Marks) → k < length rules → rule ≡ get_or rules k rule → new rule ≡ old rule
     → IsRefreshed (take k rules) old new a b → IsRefreshed (take (k + 1) rules) old new a b
 rule_skipped old new rules k rule a b lt is same r =
     rule_turn old new rules k rule nothing a b b lt is (subst (λ rows. IsBetween (old rule) rows nothing) (sym same) (none_between (old rule) nothing refl refl)) r (record {
       saliences = refl;
-      pending = λ m. unmarked (k == m.rule.0) (has_match b.pending m);
-      fired = λ m. unmarked_fired (k == m.rule.0) (has_match b.fired m);
+      pending = λ m. sym (ap (λ z. (has_match b.pending m && not z) || z) (and-false (k == m.rule.0)) ∙ or-false (has_match b.pending m && true) ∙ and-true (has_match b.pending m));
+      fired = λ m. sym (ap (λ z. has_match b.fired m && not z) (and-false (k == m.rule.0)) ∙ and-true (has_match b.fired m));
     })
   where
     nothing : Delta
@@ -250,16 +234,8 @@ operators_at (r ∷ rules) (suc k) rule all lt is = operators_at rules k rule al
 
 -- ---- rules by their kind
 
-kind_by : (simple other : Rule → List Row) (rule : Rule) (b : Bool) → is_simple_rule rule ≡ b → by_kind simple other rule ≡ (if b then simple rule else other rule)
-kind_by simple other rule b e = ap (λ z. if z then simple rule else other rule) e
-
 pub kind_simple : (simple other : Rule → List Row) (rule : Rule) → true ≡ is_simple_rule rule → by_kind simple other rule ≡ simple rule
-kind_simple simple other rule e = kind_by simple other rule true (sym e)
+kind_simple simple other rule e = ap (λ z. if z then simple rule else other rule) (sym e)
 
-pub unchanged_simple : (simple other : Rule → List Row) (rule : Rule) (d : Delta) → true ≡ is_simple_rule rule → IsBetween (simple rule) (simple rule) d → IsBetween (simple rule) (by_kind simple other rule) d
-unchanged_simple simple other rule d e h = subst (λ rows. IsBetween (simple rule) rows d) (sym (kind_by simple other rule true (sym e))) h
-
-pub unchanged_other : (old new other : Rule → List Row) (rule : Rule) (d : Delta) → false ≡ is_simple_rule rule → IsBetween (other rule) (other rule) d → IsBetween (by_kind old other rule) (by_kind new other rule) d
-unchanged_other old new other rule d e h =
-    subst (λ rows. IsBetween rows (by_kind new other rule) d) (sym (kind_by old other rule false (sym e)))
-    (subst (λ rows. IsBetween (other rule) rows d) (sym (kind_by new other rule false (sym e))) h)
+pub kind_other : (simple other : Rule → List Row) (rule : Rule) → false ≡ is_simple_rule rule → by_kind simple other rule ≡ other rule
+kind_other simple other rule e = ap (λ z. if z then simple rule else other rule) (sym e)

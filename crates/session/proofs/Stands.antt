@@ -24,7 +24,7 @@ use Rattle.rule_model.proofs.Named.{AllOf, of_filter}
 use Rattle.rule_model.proofs.Order.{in_filter, passed}
 use Rattle.rule_rows.specs.Over.{over, present_at}
 use Rattle.rule_rows.proofs.Held.{held_distinct}
-use Rattle.rule_rows.proofs.Present.{rows_present}
+use Rattle.rule_rows.proofs.Present.{rows_present, rows_later}
 use Rattle.rule_world.specs.Lawful.{IsOrdered}
 use Rattle.rule_world.specs.declared.code.Code.{Code}
 use Rattle.rule_world.specs.declared.code.Code.TheVariants.{EventFixed}
@@ -32,7 +32,7 @@ use Rattle.rule_world.specs.Events.{end_of_presence}
 use Rattle.rule_world.specs.Worlds.{World, at_clock, kept, modify_fault, is_of_type, last_start_with, moved, revised, revised_in, settled, snapshot, still_fired, with_new, with_revised, without, without_fact}
 use Rattle.rule_world.proofs.Fresh.{AllBelow, below_of, distinct_more, distinct_filtered}
 use Rattle.rule_world.proofs.Pending.{has_pending, has_still}
-use Rattle.rule_world.proofs.Keeping.{was_present, with_numbers}
+use Rattle.rule_world.proofs.Keeping.{with_numbers}
 use Rattle.rule_world.proofs.Steps.{move_numbered, numbered, stays}
 use Rattle.agenda.specs.Agendas.{Marks}
 use Rattle.session.specs.Places.{IsNewestTag, newest}
@@ -43,9 +43,8 @@ use Rattle.session.proofs.Alike.{same_matches, same_rows}
 use Rattle.session.proofs.Exactly.{Exact}
 use Rattle.session.proofs.Members.{Holds, all_listed, behind_of, distinct_behind, holds_again, holds_less, holds_new, holds_revised, is_out, listed, none_left, of_behind, of_remove, own_tags, versions}
 use Rattle.session.proofs.Newest.{holds, tagged_in, tagged_found, world_found}
-use Rattle.session.proofs.Fewer.{AllPresent, rows_at_clocks}
 use Rattle.session.proofs.Leaving.{IsBeside, refreshed_twice}
-use Rattle.session.proofs.Rules.{same_found}
+use Rattle.session.proofs.Rules.{same_found, unchanged, unchanged_mark}
 use Rattle.session.proofs.Timers.{timed_new, timed_less, timed_plain, timed_left, left_present, left_none}
 use Rattle.std.specs.FinMap as map
 
@@ -293,17 +292,6 @@ module _ (p : Program) (k : Contents) (b : Marks) (w : World) (st : Exact p k w)
 
 -- ---- nothing but numbers
 
-unchanged : (a b : Bool) → ((a && not (b && not b)) || (b && not b)) ≡ a
-unchanged true true = refl
-unchanged true false = refl
-unchanged false true = refl
-unchanged false false = refl
-
-unchanged_mark : (a b : Bool) → (a && not (b && not b)) ≡ a
-unchanged_mark true true = refl
-unchanged_mark true false = refl
-unchanged_mark false b = refl
-
 nothing_changes : (rules : List Rule) (found : Rule → List Row) (a : Marks) → IsRefreshed rules found found a a
 nothing_changes rules found a = record {
   saliences = refl;
@@ -378,12 +366,6 @@ module _ (p : Program) (k : Contents) (w : World) (clock : ℤ) (st : Exact p k 
     distinct_left : HaveDistinctTags (facts_of fewer)
     distinct_left = held_distinct fewer (own_tags fewer still_there after)
 
-    present_now : AllPresent p clock (facts_of fewer)
-    present_now f i = passed (is_present p clock) f w.facts (listed fewer still_there after f i)
-
-    present_then : AllPresent p k.clock (facts_of fewer)
-    present_then f i = was_present p f k.clock clock (subst (λ c. c ≤ℤ clock) (sym st.mirrors.clock) le) (present_now f i)
-
     -- what is left is what is present of all
     left_present_of : AllOf (facts_of fewer) (present_at p clock (facts_of k.facts))
     left_present_of f i =
@@ -392,17 +374,26 @@ module _ (p : Program) (k : Contents) (w : World) (clock : ℤ) (st : Exact p k 
 
     present_of_left : AllOf (present_at p clock (facts_of k.facts)) (facts_of fewer)
     present_of_left f i =
-        in_filter (is_present p clock) f (facts_of k.facts) (present_now f i) (all_listed k.facts w.facts before f (of_filter (is_present p clock) f w.facts (listed fewer still_there after f i)))
+        let there : In f still_there = listed fewer still_there after f i in
+        in_filter (is_present p clock) f (facts_of k.facts) (passed (is_present p clock) f w.facts there) (all_listed k.facts w.facts before f (of_filter (is_present p clock) f w.facts there))
+
+    -- so they make the same rows, at any clock
+    left_rows : (at : ℤ) (rule : Rule) (row : Row) → has (rows_at p (present_at p clock (facts_of k.facts)) at rule) row ≡ has (rows_at p (facts_of fewer) at rule) row
+    left_rows at rule row =
+        same_rows p (over (present_at p clock (facts_of k.facts)) at) (over (facts_of fewer) at) refl
+        (distinct_filtered (is_present p clock) (facts_of k.facts) (held_distinct k.facts own_now)) distinct_left left_present_of present_of_left rule row
+
+    all_rows : (rule : Rule) (row : Row) → has (rows_at p (facts_of k.facts) clock rule) row ≡ has (rows_at p (facts_of fewer) clock rule) row
+    all_rows rule row = ap (λ rs. has rs row) (sym (rows_present p clock (facts_of k.facts) rule.conditions)) ∙ left_rows clock rule row
 
     parts_are : (rule : Rule) (row : Row) → has (parts rule) row ≡ has (rows_at p (facts_of fewer) clock rule) row
     parts_are rule row = by (is_simple_rule rule) refl
       where
         by : (b : Bool) → is_simple_rule rule ≡ b → has (if b then rows_at p (facts_of fewer) k.clock rule else rows_at p (facts_of k.facts) clock rule) row ≡ has (rows_at p (facts_of fewer) clock rule) row
-        by true simple = rows_at_clocks p (over (facts_of fewer) k.clock) (over (facts_of fewer) clock) refl present_then present_now rule.conditions row simple
-        by false other =
-            ap (λ rs. has rs row) (sym (rows_present p clock (facts_of k.facts) rule.conditions))
-            ∙ same_rows p (over (present_at p clock (facts_of k.facts)) clock) (over (facts_of fewer) clock) refl
-            (distinct_filtered (is_present p clock) (facts_of k.facts) (held_distinct k.facts own_now)) distinct_left left_present_of present_of_left rule row
+        by true simple =
+            sym (left_rows k.clock rule row)
+            ∙ ap (λ rs. has rs row) (sym (rows_later p k.clock clock (subst (λ c. c ≤ℤ clock) (sym st.mirrors.clock) le) (facts_of k.facts) rule.conditions simple)) ∙ all_rows rule row
+        by false other = all_rows rule row
 
     parts_beside : IsBeside (rows_at p (facts_of k.facts) k.clock) (by_kind (rows_at p (facts_of k.facts) k.clock) (rows_at p (facts_of k.facts) clock)) parts
     parts_beside rule row = by (is_simple_rule rule)

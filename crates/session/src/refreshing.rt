@@ -13,20 +13,10 @@ ghost use Rattle.std.specs.FinMap as map;
 
 use agenda::Agenda;
 use fact_store::FactStore;
-use fx_base::{Fact, Millis, NoMemory, RuleId, Seq, Tag};
+use fx_base::{Fact, Millis, NoMemory, RuleId, Tag};
 use row_delta::Delta;
 use rule_model::{Condition, Program, Rule};
 use std::alloc::Global;
-
-// The difference between rows and the same rows.
-fn no_difference(alloc: Global) -> Delta
-    ensures { (rows : List RowData) → IsBetween rows rows result }
-{
-    Delta {
-        gone: Seq::from_vec(Vec::new(alloc)),
-        come: Seq::from_vec(Vec::new(alloc)),
-    }
-}
 
 // The rows that a rule has over no facts at the clock 0, as they come.
 fn first_rows(alloc: Global, program: &Program, rule: &Rule) -> Result<Delta, NoMemory>
@@ -58,50 +48,6 @@ fn changed_rows(
         rule_rows::difference(alloc, program, clock, others, before, after, conditions)
     } else {
         rule_eval::difference(alloc, program, clock, others, before, after, conditions)
-    }
-}
-
-// What the departure of a fact does to the rows of a rule whose conditions are patterns without windows; to the rows of other rules
-// nothing.
-fn rows_without(
-    alloc: Global,
-    program: &Program,
-    clock: Millis,
-    others: &FactStore,
-    fact: &Fact,
-    rule: &Rule,
-) -> Result<Delta, NoMemory>
-    ensures { (rest : RuleData → List RowData) → HaveDistinctTags (facts_of others.now ++ fact.now ∷ [])
-        → IfOk result (IsBetween (by_kind (rows_at program.now (facts_of others.now ++ fact.now ∷ []) clock) rest rule.now)
-        (by_kind (rows_at program.now (facts_of others.now) clock) rest rule.now)) }
-{
-    let conditions = rule.conditions.as_slice();
-    if Condition::are_simple(conditions) {
-        rule_rows::difference(alloc, program, clock, others, Some(fact), None, conditions)
-    } else {
-        Ok(no_difference(alloc))
-    }
-}
-
-// What a move of the clock does to the rows of a rule whose conditions are not all patterns without windows; to the rows of other
-// rules nothing.
-fn rows_later(
-    alloc: Global,
-    program: &Program,
-    from: Millis,
-    to: Millis,
-    facts: &FactStore,
-    rule: &Rule,
-) -> Result<Delta, NoMemory>
-    requires { HaveOperators rule.now.conditions }
-    ensures { IfOk result (IsBetween (rows_at program.now (facts_of facts.now) from rule.now)
-        (by_kind (rows_at program.now (facts_of facts.now) from) (rows_at program.now (facts_of facts.now) to) rule.now)) }
-{
-    let conditions = rule.conditions.as_slice();
-    if Condition::are_simple(conditions) {
-        Ok(no_difference(alloc))
-    } else {
-        rule_eval::moved(alloc, program, from, to, facts, conditions)
     }
 }
 
@@ -162,8 +108,9 @@ pub(crate) fn advanced(
 {
     let mut agenda = agenda;
     for (place, rule) in program.rules.as_slice().iter().enumerate() {
-        if !Condition::are_simple(rule.conditions.as_slice()) {
-            let delta = rows_later(alloc, program, from, to, facts, rule)?;
+        let conditions = rule.conditions.as_slice();
+        if !Condition::are_simple(conditions) {
+            let delta = rule_eval::moved(alloc, program, from, to, facts, conditions)?;
             agenda = agenda.change(RuleId(place as u16), delta)?;
         }
     }
@@ -186,8 +133,19 @@ fn without_one(
 {
     let mut agenda = agenda;
     for (place, rule) in program.rules.as_slice().iter().enumerate() {
-        let delta = rows_without(alloc, program, clock, others, fact, rule)?;
-        agenda = agenda.change(RuleId(place as u16), delta)?;
+        let conditions = rule.conditions.as_slice();
+        if Condition::are_simple(conditions) {
+            let delta = rule_rows::difference(
+                alloc,
+                program,
+                clock,
+                others,
+                Some(fact),
+                None,
+                conditions,
+            )?;
+            agenda = agenda.change(RuleId(place as u16), delta)?;
+        }
     }
     Ok(agenda)
 }
