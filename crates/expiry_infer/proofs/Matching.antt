@@ -1,5 +1,5 @@
 -- The function that tells whether patterns can match decides whether their network has a solution.
-use Rattle.std.proofs.Common.{◌≡◌, Bool, true, false, [], List, refl, sym, ◌∙◌, arith}
+use Rattle.std.proofs.Common.{◌≡◌, Bool, true, false, [], List, refl, sym, arith}
 use Rattle.std.specs.Bool.{Decides}
 use Rattle.temporal_net.proofs.Potentials.{decided}
 use Rattle.rule_model.specs.declared.condition.Condition.{Condition}

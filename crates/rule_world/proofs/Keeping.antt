@@ -1,27 +1,24 @@
 -- What steps do to a world they do to what is kept of it.
-use Rattle.std.proofs.Common.{◌≡◌, ◌≤ℤ◌, ◌+◌, ◌-ℤ◌, ◌||◌, ◌==◌, ◌&&◌, not, ℕ, ℤ, inl, inr, Bool, true, false, cond, List, [], ◌∷◌, ◌++◌, Option, Some, None, if◌then◌else◌, refl, sym, ◌∙◌, ap, subst, arith}
-use Rattle.std.specs.List.{filter}
+use Rattle.std.proofs.Common.{◌≡◌, ◌≤ℤ◌, ◌+◌, ◌-ℤ◌, ◌||◌, not, ℕ, ℤ, Bool, true, false, cond, List, [], ◌∷◌, ◌++◌, Option, Some, None, if◌then◌else◌, refl, sym, ◌∙◌, ap, arith}
 use Rattle.std.proofs.lemmas.Int.{ints}
 use Rattle.std.proofs.lemmas.List.{append-nil}
-use Rattle.fx_base.specs.Lists.{In}
 use Rattle.fx_base.specs.declared.fact.Fact.{Fact}
 use Rattle.fx_base.specs.declared.value.Value.{Value}
-use Rattle.rule_model.specs.declared.matched.Match.{Match}
 use Rattle.rule_model.specs.declared.program.Program.{Program}
 use Rattle.rule_model.specs.declared.step.Step.{Step}
 use Rattle.rule_model.specs.declared.step.Step.TheVariants.{Insert, Modify, Retract, Advance, At}
 use Rattle.rule_model.specs.Candidates.{is_within, is_present}
-use Rattle.rule_model.specs.Matches.{matches, has_match}
+use Rattle.rule_model.specs.Matches.{has_match}
 use Rattle.rule_model.specs.Snapshots.{floor}
 use Rattle.rule_model.specs.Types.{is_event, expiry_of}
 use Rattle.rule_model.proofs.Named.{of_filter}
 use Rattle.rule_world.specs.Lawful.{IsOrdered, IsLawful, IsSound, IsTimed}
-use Rattle.rule_world.specs.Worlds.{World, snapshot, present, kept, found, modify_fault, retract_fault, step_fault, with_new, with_revised, without_fact, at_clock, last_start_with, revised, revised_in, has_id, without}
+use Rattle.rule_world.specs.Worlds.{World, present, kept, modify_fault, retract_fault, step_fault, with_new, with_revised, without_fact, at_clock, last_start_with, revised, has_id}
 use Rattle.rule_world.proofs.Fresh.{below_of, below_all, distinct_filtered}
 use Rattle.rule_world.proofs.Ids.{ids_filtered}
 use Rattle.rule_world.proofs.Sound.{events_filtered}
 use Rattle.rule_world.proofs.Steps.{stays}
-use Rattle.rule_world.proofs.Kept.{filter_within, filter_same, filter_swap, filter_map, filter_append, kept_matches, kept_found}
+use Rattle.rule_world.proofs.Kept.{filter_within, filter_swap, filter_map, filter_append, kept_matches, kept_found}
 
 abbrev world_with : World → List Fact → World
 world_with w facts = record w { facts = facts }

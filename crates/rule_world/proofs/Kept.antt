@@ -1,28 +1,25 @@
 -- What is not present makes no row: a world has the matches, the faults and the next worlds of what is kept of it.
-use Rattle.std.proofs.Common.{◌≡◌, ◌&&◌, ◌||◌, ◌==◌, ◌+◌, ◌-ℤ◌, not, ℕ, ℤ, Bool, true, false, cond, nat_lt, int_lt, List, [], ◌∷◌, ◌++◌, map, length, Option, Some, None, if◌then◌else◌, refl, sym, ◌∙◌, ap, subst}
+use Rattle.std.proofs.Common.{◌≡◌, ◌&&◌, ◌==◌, not, ℕ, Bool, true, false, cond, nat_lt, List, [], ◌∷◌, ◌++◌, map, length, if◌then◌else◌, refl, sym, ◌∙◌, ap}
 use Rattle.std.specs.List.{filter, flat_map}
 use mathlib.Core.Path.{fun_ext}
 use Rattle.fx_base.specs.declared.fact.Fact.{Fact}
-use Rattle.fx_base.specs.declared.value.Value.{Value}
 use Rattle.row_delta.specs.declared.row.Row.{Row}
 use Rattle.rule_model.specs.declared.condition.Condition.{Condition}
 use Rattle.rule_model.specs.declared.condition.Condition.TheVariants.{Plain, Negated, Existing, Folded}
 use Rattle.rule_model.specs.declared.condition.Pattern.{Pattern}
 use Rattle.rule_model.specs.declared.condition.WindowTag.{WindowTag}
 use Rattle.rule_model.specs.declared.condition.WindowTag.TheVariants.{Whole, Time, Length}
-use Rattle.rule_model.specs.declared.matched.Match.{Match}
 use Rattle.rule_model.specs.declared.program.Program.{Program}
 use Rattle.rule_model.specs.declared.program.Rule.{Rule}
-use Rattle.rule_model.specs.declared.step.Step.{Step}
 use Rattle.rule_model.specs.Candidates.{is_present, fits, is_behind, count_behind, is_inside, is_candidate, candidates, passes, passing}
 use Rattle.rule_model.specs.First.{first}
 use Rattle.rule_model.specs.Matches.{matches, matches_from, has_match, fire_cmp, saliences}
 use Rattle.rule_model.specs.Maturity.{is_mature, told_to}
 use Rattle.rule_model.specs.Rows.{result_of, with_result, extended, tuples, rows}
-use Rattle.rule_model.specs.Snapshots.{Snapshot, floor}
+use Rattle.rule_model.specs.Snapshots.{Snapshot}
 use Rattle.rule_model.specs.Tests.{tests_hold}
 use Rattle.rule_model.specs.Tuples.{Tuple, empty_tuple, with_fact, row_of, bound_by, unbound}
-use Rattle.rule_world.specs.Worlds.{World, snapshot, present, kept, found, fact_of, pending, still_fired, settled, first_pending, step_fault, marked, revised, revised_in, has_id, without}
+use Rattle.rule_world.specs.Worlds.{World, snapshot, present, kept, found, fact_of, pending, settled, first_pending}
 use Rattle.rule_world.proofs.Fresh.{and_parts}
 
 -- ---- filters
