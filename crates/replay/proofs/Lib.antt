@@ -5,3 +5,5 @@ pub mod Stops
 pub mod Files
 pub mod Reports
 pub mod RuleFileLaws
+pub mod Tables
+pub mod LivesText

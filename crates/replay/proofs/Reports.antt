@@ -3,26 +3,61 @@ use Rattle.std.proofs.Common.{◌≡◌, ◌≢◌, ◌≤◌, ◌+◌, ℕ, Boo
 use Rattle.std.specs.Prelude.{IfSome}
 use Rattle.std.proofs.lemmas.Bool.Decides.{nat_tests}
 use Rattle.std.proofs.lemmas.List.{take_all, length-take}
-use Rattle.fx_io.specs.Outside.{IsMissing, IsFound, file_told}
+use Rattle.fx_io.specs.Outside.{IsMissing, IsFound, file_told, append, AppendsFront}
+use Rattle.command_words.specs.declared.asking.Asked.{Asked}
+use Rattle.command_words.specs.declared.asking.Mode.{Mode}
+use Rattle.command_words.specs.Asked.{asked_by}
 use Rattle.drl_parse.specs.Parsed.{file_limit, parsed, parsed_by}
+use Rattle.rule_model.specs.declared.program.Program.{Program}
 use Rattle.replay.specs.declared.refusal.RefusalCode.TheVariants.{Missing}
 use Rattle.replay.specs.declared.refusal.Refusal.{Refusal}
 use Rattle.replay.specs.declared.rule_file.Reading.{Reading}
 use Rattle.replay.specs.declared.rule_file.Reading.TheVariants.{Refused}
-use Rattle.replay.specs.Refusals.{reading, whole_file, IsRefused}
-use Rattle.replay.specs.Wanted.{Files, usage_line, refuses, wanted, wanted_by_word, wanted_by_name, wanted_by_file, wanted_by_reading, single}
+use Rattle.replay.specs.Firings.{Gives, Fires}
+use Rattle.replay.specs.Refusals.{reading, refusal_text, whole_file, IsRefused}
+use Rattle.replay.specs.Report.{Report, IsReport, Reports}
+use Rattle.replay.specs.Wanted.{Wanted, Files, usage_line, refuses, wanted, wanted_by, wanted_of, wanted_by_name, wanted_by_file, wanted_by_reading}
+use Rattle.replay.proofs.Tables.{one_report}
 
-pub not_one_word : (words : List (String Global)) (files : Files) → single words ≡ None → wanted words files ≡ usage_line
+-- what words want that are refused
+pub no_words : (words : List (String Global)) (files : Files) → asked_by words ≡ None → wanted words files ≡ usage_line
 unfolding wanted
-not_one_word words files e = ap (wanted_by_word files) e
+no_words words files e = ap (λ (asked : Option Asked). wanted_by asked files) e
 
-pub one_word : (words : List (String Global)) (name : List ℕ) (files : Files) → single words ≡ Some name → wanted words files ≡ wanted_by_name files name
+-- what other words want
+pub by_words : (words : List (String Global)) (asked : Asked) (files : Files) → asked_by words ≡ Some asked → wanted words files ≡ wanted_by_name (wanted_of asked.mode asked.limit) files asked.rules
 unfolding wanted
-one_word words name files e = ap (wanted_by_word files) e
+by_words words asked files e = ap (λ (asked : Option Asked). wanted_by asked files) e
 
-pub no_file : (name : List ℕ) (told : Option Files) (files : Files) → told ≡ Some files → IsMissing told name → wanted_by_name files name ≡ refuses (whole_file Missing)
+-- the report of a mode that is known
+pub of_mode : (gives : Gives) (fires : Fires) (m n : Mode) (limit : ℕ) (p : Program) (script : List ℕ) (before after : Option (List ℕ)) (status : ℕ) → m ≡ n
+    → ((r : Report) × IsReport gives fires (wanted_of n limit p) script r × Reports before after status r)
+    → (r : Report) × IsReport gives fires (wanted_of m limit p) script r × Reports before after status r
+of_mode gives fires m n limit p script before after status e h = rw e h
+
+-- the front of one report is the front of each
+pub front_of : (gives : Gives) (fires : Fires) (w : Wanted) (script : List ℕ) (q : Report) (before after : Option (List ℕ)) → IsReport gives fires w script q → AppendsFront before after q.bytes
+    → (r : Report) → IsReport gives fires w script r → AppendsFront before after r.bytes
+front_of gives fires w script q before after is front r also = rw (one_report gives fires w script r q also is) front
+
+abbrev refusal_report : Refusal → Report
+refusal_report refusal = record { bytes = refusal_text refusal; status = 3 }
+
+is_refusal : (gives : Gives) (fires : Fires) (w : Wanted) (script : List ℕ) (refusal : Refusal) → w ≡ refuses refusal → IsReport gives fires w script (refusal_report refusal)
+is_refusal gives fires w script refusal e = rw e refl
+
+-- the refusal that was written is the report
+pub refused : (gives : Gives) (fires : Fires) (w : Wanted) (script : List ℕ) (refusal : Refusal) (before after : Option (List ℕ)) (status : ℕ) → w ≡ refuses refusal
+    → (after ≡ append before (refusal_text refusal)) × (status ≡ 3) → (r : Report) × IsReport gives fires w script r × Reports before after status r
+refused gives fires w script refusal before after status e said = (refusal_report refusal, is_refusal gives fires w script refusal e, said)
+
+pub refused_front : (gives : Gives) (fires : Fires) (w : Wanted) (script : List ℕ) (refusal : Refusal) (before after : Option (List ℕ)) → w ≡ refuses refusal → AppendsFront before after (refusal_text refusal)
+    → (r : Report) → IsReport gives fires w script r → AppendsFront before after r.bytes
+refused_front gives fires w script refusal before after e front = front_of gives fires w script (refusal_report refusal) before after (is_refusal gives fires w script refusal e) front
+
+pub no_file : (of_program : Program → Wanted) (name : List ℕ) (told : Option Files) (files : Files) → told ≡ Some files → IsMissing told name → wanted_by_name of_program files name ≡ refuses (whole_file Missing)
 unfolding wanted_by_name
-no_file name told files e gone = let none : files name ≡ None = rw e at gone in ap wanted_by_file none
+no_file of_program name told files e gone = let none : files name ≡ None = rw e at gone in ap (wanted_by_file of_program) none
 
 short_file : (n m : ℕ) → nat_lt n m ≡ false → m ≤ n + 1
 short_file n m e = grind (arith, nat_tests)
@@ -44,14 +79,14 @@ found_reading None read found h = absurd (found refl)
 found_reading (Some file) read found h = (file, refl, sym (within_taken file) ∙ ap reading (sym h))
 
 -- the file that was read
-pub a_file : (name : List ℕ) (told : Option Files) (files : Files) (read : List ℕ) (found : Reading) → told ≡ Some files → IsFound told name
-    → IfSome (file_told told name) (λ file. read ≡ take (file_limit + 1) file) → reading read ≡ found → wanted_by_name files name ≡ wanted_by_reading found
+pub a_file : (of_program : Program → Wanted) (name : List ℕ) (told : Option Files) (files : Files) (read : List ℕ) (found : Reading) → told ≡ Some files → IsFound told name
+    → IfSome (file_told told name) (λ file. read ≡ take (file_limit + 1) file) → reading read ≡ found → wanted_by_name of_program files name ≡ wanted_by_reading of_program found
 unfolding wanted_by_name
-a_file name told files read found e there h is =
+a_file of_program name told files read found e there h is =
     let is_found : files name ≢ None = rw e at there in
     let whole : IfSome (files name) (λ file. read ≡ take (file_limit + 1) file) = rw e at h in
     let r = found_reading (files name) read is_found whole in
-    ap wanted_by_file r.1 ∙ ap wanted_by_reading (r.2 ∙ is)
+    ap (wanted_by_file of_program) r.1 ∙ ap (wanted_by_reading of_program) (r.2 ∙ is)
 
 pub refused_file : (o : Option (List ℕ)) (read : List ℕ) (refusal : Refusal) → IfSome o (λ file. read ≡ take (file_limit + 1) file) → reading read ≡ Refused refusal → IfSome o (λ file. IsRefused (reading file))
 refused_file None read refusal h e = tt

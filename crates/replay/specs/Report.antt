@@ -1,25 +1,21 @@
 -- What the program writes, and its status, with an engine of these meanings.
-use Rattle.std.specs.Prelude.{◌≡◌, ◌≢◌, ◌<◌, ◌≤◌, ◌+◌, ◌^◌, ◌++◌, ℕ, true, false, List, [], ◌∷◌, length, Option, codes}
+use Rattle.std.specs.Prelude.{◌≡◌, ◌≢◌, ◌<◌, ◌≤◌, ◌+◌, ◌^◌, ◌++◌, ℕ, true, false, List, length, Option}
 use Rattle.fx_io.specs.Outside.{append}
 use Rattle.fx_io.specs.Lines.{lines_of, HasNoEnd}
+use Rattle.rule_model.specs.declared.life.LifeTable.{LifeTable}
+use Rattle.rule_lives.specs.Keeping.{AreLives}
 use Rattle.replay.specs.declared.turn.Ended.{Ended}
 use Rattle.replay.specs.declared.turn.Ended.TheVariants.{Script, Limit}
 use Rattle.replay.specs.Firings.{Gives, Fires}
 use Rattle.replay.specs.Refusals.{refusal_text}
 use Rattle.replay.specs.Run.{Outcome, whole_run}
-use Rattle.replay.specs.Wanted.{Wanted, usage_line, refuses, runs}
+use Rattle.replay.specs.Texts.{usage, accepted_text, lives_text}
+use Rattle.replay.specs.Wanted.{Wanted, usage_line, refuses, runs, accepts, tells_lives}
 
 -- what is written, and the status
 pub record Report : Type 0 where
   pub bytes : List ℕ
   pub status : ℕ
-
--- the most firings of a run of the program; kept closed as well
-unfoldable pub firing_limit : ℕ
-firing_limit = 100000
-
-abbrev pub usage : List ℕ
-usage = codes "usage: replay RULES" ++ 10 ∷ []
 
 abbrev pub run_status : Ended → ℕ
 run_status (Script false) = 0
@@ -29,11 +25,15 @@ run_status Limit = 4
 abbrev pub outcome_report : Outcome → Report
 outcome_report outcome = record { bytes = outcome.bytes; status = run_status outcome.ended }
 
--- the report where this is wanted, with so many firings at most: the usage line, the refusal, or the run of the script
-abbrev pub report : Gives → Fires → ℕ → Wanted → List ℕ → Report
-report gives fires limit usage_line script = record { bytes = usage; status = 2 }
-report gives fires limit (refuses refusal) script = record { bytes = refusal_text refusal; status = 3 }
-report gives fires limit (runs program) script = outcome_report (whole_run gives fires limit program (lines_of script))
+-- What is written where this is wanted, and the status: the usage line; the refusal; the run of the script; the numbers of types and
+-- rules of the program; the lives of its types, by the table that has them.
+abbrev pub IsReport : Gives → Fires → Wanted → List ℕ → Report → Type 0
+IsReport gives fires usage_line script r = r ≡ record { bytes = usage; status = 2 }
+IsReport gives fires (refuses refusal) script r = r ≡ record { bytes = refusal_text refusal; status = 3 }
+IsReport gives fires (runs limit program) script r = r ≡ outcome_report (whole_run gives fires limit program (lines_of script))
+IsReport gives fires (accepts program) script r = r ≡ record { bytes = accepted_text program; status = 0 }
+IsReport gives fires (tells_lives program) script r =
+    (table : LifeTable) × AreLives program table × (r ≡ record { bytes = lives_text program.types table.lives; status = 0 })
 
 -- the written bytes and the status are those of a report
 abbrev pub Reports : Option (List ℕ) → Option (List ℕ) → ℕ → Report → Type 0
@@ -53,10 +53,9 @@ pub record Long (outcome : List (List ℕ) → Outcome) (script : List ℕ) : Ty
   pub not_met : (outcome lines).ended ≢ Limit
 
 -- a run is wanted, and its script is such a one
-abbrev pub IsLong : Gives → Fires → ℕ → Wanted → List ℕ → Type 0
-IsLong gives fires limit usage_line script = ⊥
-IsLong gives fires limit (refuses refusal) script = ⊥
-IsLong gives fires limit (runs program) script = Long (whole_run gives fires limit program) script
+abbrev pub IsLong : Gives → Fires → Wanted → List ℕ → Type 0
+IsLong gives fires (runs limit program) script = Long (whole_run gives fires limit program) script
+IsLong gives fires _ script = ⊥
 
 -- how many bytes of the script are taken for this status: never more than one beyond 1 GiB
 pub record TakesFor (status n : ℕ) : Type 0 where

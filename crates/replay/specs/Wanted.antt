@@ -1,6 +1,10 @@
 -- What the words and the rule file ask for.
-use Rattle.std.specs.Prelude.{ℕ, List, [], ◌∷◌, Option, Some, None, string_bytes}
+use Rattle.std.specs.Prelude.{ℕ, List, Option, Some, None}
 use Rattle.std.proofs.Common.{String, Global}
+use Rattle.command_words.specs.declared.asking.Asked.{Asked}
+use Rattle.command_words.specs.declared.asking.Mode.{Mode}
+use Rattle.command_words.specs.declared.asking.Mode.TheVariants.{Run, Check, Lives}
+use Rattle.command_words.specs.Asked.{asked_by}
 use Rattle.rule_model.specs.declared.program.Program.{Program}
 use Rattle.replay.specs.declared.refusal.Refusal.{Refusal}
 use Rattle.replay.specs.declared.refusal.RefusalCode.TheVariants.{Missing}
@@ -9,46 +13,49 @@ use Rattle.replay.specs.declared.rule_file.Reading.TheVariants.{Accepted, Refuse
 use Rattle.replay.specs.Refusals.{reading, whole_file}
 
 pub data Wanted : Type 0 where
-  -- the usage line: there is not just one word
+  -- the usage line: the words are refused
   usage_line : Wanted
   -- the refusal of a rule file, which is missing or not accepted
   refuses : Refusal → Wanted
-  -- the run of the script over a program
-  runs : Program → Wanted
+  -- the run of the script over a program, with at most so many firings
+  runs : ℕ → Program → Wanted
+  -- that the rule file of a program is accepted
+  accepts : Program → Wanted
+  -- the lives of the types of a program
+  tells_lives : Program → Wanted
 
 -- the files of a shelf by their names
 abbrev pub Files : Type 0
 Files = List ℕ → Option (List ℕ)
 
-abbrev pub wanted_by_reading : Reading → Wanted
-wanted_by_reading (Accepted program) = runs program
-wanted_by_reading (Refused refusal) = refuses refusal
+-- of the program of an accepted file, in a mode and with a limit of firings
+abbrev pub wanted_of : Mode → ℕ → Program → Wanted
+wanted_of Run limit = runs limit
+wanted_of Check limit = accepts
+wanted_of Lives limit = tells_lives
+
+abbrev pub wanted_by_reading : (Program → Wanted) → Reading → Wanted
+wanted_by_reading of_program (Accepted program) = of_program program
+wanted_by_reading of_program (Refused refusal) = refuses refusal
 
 -- of a rule file, where the shelf has it
-abbrev pub wanted_by_file : Option (List ℕ) → Wanted
-wanted_by_file None = refuses (whole_file Missing)
-wanted_by_file (Some file) = wanted_by_reading (reading file)
+abbrev pub wanted_by_file : (Program → Wanted) → Option (List ℕ) → Wanted
+wanted_by_file of_program None = refuses (whole_file Missing)
+wanted_by_file of_program (Some file) = wanted_by_reading of_program (reading file)
 
 -- of the rule file of a name
-unfoldable pub wanted_by_name : Files → List ℕ → Wanted
-wanted_by_name files name = wanted_by_file (files name)
+unfoldable pub wanted_by_name : (Program → Wanted) → Files → List ℕ → Wanted
+wanted_by_name of_program files name = wanted_by_file of_program (files name)
 
--- the word, where there is just one
-unfoldable pub single : List (String Global) → Option (List ℕ)
-single [] = None
-single (name ∷ []) = Some (string_bytes name)
-single (name ∷ word ∷ words) = None
-
-abbrev pub wanted_by_word : Files → Option (List ℕ) → Wanted
-wanted_by_word files None = usage_line
-wanted_by_word files (Some name) = wanted_by_name files name
+abbrev pub wanted_by : Option Asked → Files → Wanted
+wanted_by None files = usage_line
+wanted_by (Some asked) files = wanted_by_name (wanted_of asked.mode asked.limit) files asked.rules
 
 -- of these words
 unfoldable pub wanted : List (String Global) → Files → Wanted
-wanted words files = wanted_by_word files (single words)
+wanted words files = wanted_by (asked_by words) files
 
 -- a refusal is wanted of which this holds
 abbrev pub IfRefuses : Wanted → (Refusal → Type 0) → Type 0
-IfRefuses usage_line P = ⊥
 IfRefuses (refuses refusal) P = P refusal
-IfRefuses (runs program) P = ⊥
+IfRefuses _ P = ⊥

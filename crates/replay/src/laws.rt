@@ -4,9 +4,11 @@ ghost use Rattle.rule_model.specs.declared.program.Program.{Program};
 ghost use Rattle.rule_world.specs.Worlds.{World};
 ghost use Rattle.engine.specs.declared.lines.OutLine.{OutLine};
 ghost use Rattle.replay.specs.declared.rule_file.Reading.{Reading};
-ghost use Rattle.replay.specs.Firings.{Fires, all_fired, firings};
+ghost use Rattle.replay.specs.Firings.{Fires, Gives, all_fired, firings};
 ghost use Rattle.replay.specs.Refusals.{reading};
+ghost use Rattle.replay.specs.Report.{Report, IsReport};
 ghost use Rattle.replay.specs.RuleFiles.{IsReading};
+ghost use Rattle.replay.specs.Wanted.{Wanted};
 
 use drl_parse::parsed_is_exact;
 
@@ -23,3 +25,9 @@ pub fn a_rule_file_is_what_the_grammar_says(bytes: &[u8])
 {
     parsed_is_exact(bytes)
 }
+
+/// What is wanted has at most one report.
+pub fn there_is_at_most_one_report()
+    ensures { (gives : Gives) (fires : Fires) (w : Wanted) (script : List ℕ) (r q : Report)
+        → IsReport gives fires w script r → IsReport gives fires w script q → r ≡ q }
+{}

@@ -52,7 +52,8 @@ pub(crate) fn push_number(text: &mut Vec<u8>, alloc: Global, number: u64) -> Res
     Ok(())
 }
 
-fn push_signed(text: &mut Vec<u8>, alloc: Global, number: i64) -> Result<(), NoMemory>
+/// Appends a signed number in decimal digits.
+pub(crate) fn push_signed(text: &mut Vec<u8>, alloc: Global, number: i64) -> Result<(), NoMemory>
     ensures { OnOk result (text.new.items ≡ text.old.items ++ signed_decimal number) }
 {
     let digits = number.to_string(alloc)?;

@@ -1,53 +1,33 @@
-ghost use Rattle.std.specs.Prelude.{◌≡◌, ◌≢◌, ◌⊎◌, ◌<◌, ◌≤◌, ◌^◌, [], List, Option, ℕ, length, take, drop, Some, None, Ok, option_map, IfOk, IfErr, IfSome, IsErrOf, OnErr};
-ghost use Rattle.fx_io.specs.Outside.{Rose, append, AppendsFront, count_after, file_told, IsMissing, IsFound};
+ghost use Rattle.std.specs.Prelude.{◌≡◌, ◌≢◌, ◌⊎◌, ◌<◌, ◌≤◌, ◌^◌, [], List, Option, ℕ, length, Some, None, IfSome};
+ghost use Rattle.fx_io.specs.Lines.{lines_of};
+ghost use Rattle.fx_io.specs.Outside.{Rose, append, AppendsFront, count_after, file_told};
+ghost use Rattle.command_words.specs.declared.asking.Asked.{Asked as WordsAsk};
+ghost use Rattle.command_words.specs.Asked.{asked_by};
 ghost use Rattle.rule_world.specs.Programs.{IsRunnable};
 ghost use Rattle.replay.specs.Refusals.{refusal_text, reading, IsRefused};
-ghost use Rattle.replay.specs.Report.{report, usage, firing_limit, Reports, TakesFor, IsLong};
-ghost use Rattle.replay.specs.Wanted.{Files, runs, single, wanted, wanted_by_name, IfRefuses};
+ghost use Rattle.replay.specs.Report.{Report, IsReport, outcome_report, Reports, TakesFor, IsLong};
+ghost use Rattle.replay.specs.Run.{whole_run};
+ghost use Rattle.replay.specs.Texts.{usage};
+ghost use Rattle.replay.specs.Wanted.{Files, runs, wanted, wanted_of, wanted_by_name, IfRefuses};
 
 use crate::fault::RunFault;
-use crate::refusal::{Refusal, RefusalCode, push_refusal, whole_file};
+use crate::modes::{accept, tell_lives};
+use crate::refusal::{RefusalCode, whole_file};
 use crate::rule_file::{FileFault, Reading, read_whole, reading_of};
 use crate::running::run;
+use crate::saying::{refuse, say};
 use crate::turn::Ended;
+use command_words::{Mode, asked};
 use engine::Engine;
-use fx_io::{Shelf, Sink, Source, write_all};
+use fx_io::{Shelf, Sink, Source};
 use rule_model::Program;
 use std::alloc::Global;
 
 /// The most bytes that a rule file may have.
 const FILE_MAX: usize = 1_048_576;
 
-/// The most firings of a run of the program.
-const FIRING_MAX: u64 = 100_000;
-
-// Writes a line and answers the status, or 6.
-fn say<K: Sink>(out: &mut K, line: &[u8], status: u8) -> u8
-    requires { status ≤ 3 }
-    ensures said { result ≤ 4 → (K.written out.new ≡ append (K.written out.old) line.now) × (result ≡ status) }
-    ensures front { 5 ≤ result → AppendsFront (K.written out.old) (K.written out.new) line.now }
-    ensures either { (result ≡ status) ⊎ (result ≡ 6) }
-    ensures cause { result ≡ 6 → Rose (K.faults out.old) (K.faults out.new) }
-{
-    match write_all(out, line) {
-        Ok(()) => status,
-        Err(_) => 6,
-    }
-}
-
-// Writes the line of a refused file.
-fn refuse<K: Sink>(alloc: Global, out: &mut K, refusal: Refusal) -> u8
-    ensures said { result ≤ 4 → (K.written out.new ≡ append (K.written out.old) (refusal_text refusal)) × (result ≡ 3) }
-    ensures front { 5 ≤ result → AppendsFront (K.written out.old) (K.written out.new) (refusal_text refusal) }
-    ensures answers { (result ≡ 3) ⊎ ((6 ≤ result) × (result ≤ 7)) }
-    ensures cause { result ≡ 6 → Rose (K.faults out.old) (K.faults out.new) }
-{
-    let mut text = Vec::new(alloc);
-    match push_refusal(&mut text, alloc, refusal) {
-        Ok(()) => say(out, text.as_slice(), 3),
-        Err(_) => 7,
-    }
-}
+/// What is written where the words are refused.
+const USAGE: &[u8] = b"usage: replay [--mode run|check|lives] [--limit N] RULES\n";
 
 // Runs a program over a script.
 fn run_program<E: Engine, S: Source, K: Sink>(
@@ -60,15 +40,15 @@ fn run_program<E: Engine, S: Source, K: Sink>(
     requires runnable { IsRunnable program }
     requires low { limit ≤ 1000000 }
     ensures exact { (bytes : List ℕ) → S.left script.old ≡ Some bytes → result ≤ 4
-        → Reports (K.written out.old) (K.written out.new) result (report E.gives E.fires limit (runs program) bytes) }
+        → Reports (K.written out.old) (K.written out.new) result (outcome_report (whole_run E.gives E.fires limit program (lines_of bytes))) }
     ensures front { (bytes : List ℕ) → S.left script.old ≡ Some bytes → 5 ≤ result
-        → AppendsFront (K.written out.old) (K.written out.new) (report E.gives E.fires limit (runs program) bytes).bytes }
+        → AppendsFront (K.written out.old) (K.written out.new) (whole_run E.gives E.fires limit program (lines_of bytes)).bytes }
     ensures answers { (result ≤ 1) ⊎ ((4 ≤ result) × (result ≤ 8)) }
     ensures taken { (n : ℕ) × (S.given script.new ≡ count_after (S.given script.old) n) × TakesFor result n }
     ensures read { result ≡ 5 → Rose (S.faults script.old) (S.faults script.new) }
     ensures write { result ≡ 6 → Rose (K.faults out.old) (K.faults out.new) }
     ensures long { (bytes : List ℕ) → S.left script.old ≡ Some bytes → result ≡ 8
-        → IsLong E.gives E.fires limit (runs program) bytes }
+        → IsLong E.gives E.fires (runs limit program) bytes }
     ensures over { result ≡ 8 → IfSome (S.left script.old) (λ bytes. 2 ^ 30 < length bytes) }
     ensures nothing_left { result ≤ 1 → IfSome (S.left script.new) (λ bytes. bytes ≡ []) }
 {
@@ -80,6 +60,87 @@ fn run_program<E: Engine, S: Source, K: Sink>(
         Err(RunFault::WriteFault) => 6,
         Err(RunFault::NoMemory) => 7,
         Err(RunFault::ScriptLong) => 8,
+    }
+}
+
+// Does with the program of an accepted file what the mode asks for.
+fn do_mode<E: Engine, S: Source, K: Sink>(
+    alloc: Global,
+    mode: Mode,
+    limit: u64,
+    program: Program,
+    script: &mut S,
+    out: &mut K,
+) -> u8
+    requires runnable { IsRunnable program }
+    requires low { limit ≤ 1000000 }
+    ensures exact { (bytes : List ℕ) → S.left script.old ≡ Some bytes → result ≤ 4
+        → (r : Report) × IsReport E.gives E.fires (wanted_of mode limit program) bytes r × Reports (K.written out.old) (K.written out.new) result r }
+    ensures front { (bytes : List ℕ) → S.left script.old ≡ Some bytes → 5 ≤ result
+        → (r : Report) → IsReport E.gives E.fires (wanted_of mode limit program) bytes r → AppendsFront (K.written out.old) (K.written out.new) r.bytes }
+    ensures answers { (result ≤ 1) ⊎ ((4 ≤ result) × (result ≤ 8)) }
+    ensures taken { (n : ℕ) × (S.given script.new ≡ count_after (S.given script.old) n) × TakesFor result n }
+    ensures read { result ≡ 5 → (mode ≡ Mode.Run) × Rose (S.faults script.old) (S.faults script.new) }
+    ensures write { result ≡ 6 → Rose (K.faults out.old) (K.faults out.new) }
+    ensures long { (bytes : List ℕ) → S.left script.old ≡ Some bytes → result ≡ 8
+        → IsLong E.gives E.fires (wanted_of mode limit program) bytes }
+    ensures over { result ≡ 8 → IfSome (S.left script.old) (λ bytes. 2 ^ 30 < length bytes) }
+    ensures no_run { mode ≢ Mode.Run → script.new ≡ script.old }
+    ensures nothing_left { mode ≡ Mode.Run → result ≤ 1 → IfSome (S.left script.new) (λ bytes. bytes ≡ []) }
+{
+    match mode {
+        Mode::Run => run_program::<E, S, K>(alloc, program, limit, script, out),
+        Mode::Check => accept(alloc, &program, out),
+        Mode::Lives => tell_lives(alloc, &program, out),
+    }
+}
+
+// Does with the rule file of this name what the mode asks for.
+fn answer<E: Engine, F: Shelf, S: Source, K: Sink>(
+    alloc: Global,
+    mode: Mode,
+    limit: u64,
+    name: &str,
+    shelf: &mut F,
+    script: &mut S,
+    out: &mut K,
+) -> u8
+    requires { limit ≤ 1000000 }
+    ensures exact { (files : Files) (bytes : List ℕ) → F.files shelf.old ≡ Some files → S.left script.old ≡ Some bytes → result ≤ 4
+        → (r : Report) × IsReport E.gives E.fires (wanted_by_name (wanted_of mode limit) files name.now) bytes r × Reports (K.written out.old) (K.written out.new) result r }
+    ensures front { (files : Files) (bytes : List ℕ) → F.files shelf.old ≡ Some files → S.left script.old ≡ Some bytes → 5 ≤ result
+        → (r : Report) → IsReport E.gives E.fires (wanted_by_name (wanted_of mode limit) files name.now) bytes r → AppendsFront (K.written out.old) (K.written out.new) r.bytes }
+    ensures long { (files : Files) (bytes : List ℕ) → F.files shelf.old ≡ Some files → S.left script.old ≡ Some bytes → result ≡ 8
+        → IsLong E.gives E.fires (wanted_by_name (wanted_of mode limit) files name.now) bytes }
+    ensures refusal { (files : Files) → F.files shelf.old ≡ Some files → result ≡ 3
+        → IfRefuses (wanted_by_name (wanted_of mode limit) files name.now) (λ refusal. K.written out.new ≡ append (K.written out.old) (refusal_text refusal)) }
+    ensures completes { (bytes : List ℕ) → S.left script.old ≡ Some bytes → length bytes ≤ 2 ^ 30
+        → (Rose (F.faults shelf.old name.now) (F.faults shelf.new name.now) → ⊥)
+        → (Rose (S.faults script.old) (S.faults script.new) → ⊥) → (Rose (K.faults out.old) (K.faults out.new) → ⊥)
+        → (result ≤ 4) ⊎ (result ≡ 7) }
+    ensures answers { (result ≤ 1) ⊎ ((3 ≤ result) × (result ≤ 8)) }
+    ensures file { result ≡ 3 → Rose (F.misses shelf.old name.now) (F.misses shelf.new name.now)
+        ⊎ IfSome (file_told (F.files shelf.old) name.now) (λ file. IsRefused (reading file)) }
+    ensures read { result ≡ 5 → Rose (F.faults shelf.old name.now) (F.faults shelf.new name.now)
+        ⊎ ((mode ≡ Mode.Run) × Rose (S.faults script.old) (S.faults script.new)) }
+    ensures write { result ≡ 6 → Rose (K.faults out.old) (K.faults out.new) }
+    ensures taken { (n : ℕ) × (S.given script.new ≡ count_after (S.given script.old) n) × TakesFor result n }
+    ensures untouched { result ≡ 3 → script.new ≡ script.old }
+    ensures no_run { mode ≢ Mode.Run → script.new ≡ script.old }
+    ensures nothing_left { mode ≡ Mode.Run → result ≤ 1 → IfSome (S.left script.new) (λ bytes. bytes ≡ []) }
+{
+    let file = match read_whole(alloc, shelf, name, FILE_MAX + 1) {
+        Ok(file) => file,
+        Err(FileFault::Missing) => return refuse(alloc, out, whole_file(RefusalCode::Missing)),
+        Err(FileFault::ReadFault) => return 5,
+        Err(FileFault::NoMemory) => return 7,
+    };
+    match reading_of(alloc, &file) {
+        Ok(Reading::Accepted(program)) => {
+            do_mode::<E, S, K>(alloc, mode, limit, program, script, out)
+        }
+        Ok(Reading::Refused(refusal)) => refuse(alloc, out, refusal),
+        Err(_) => 7,
     }
 }
 
@@ -99,16 +160,16 @@ pub fn run_rules<E: Engine, F: Shelf, S: Source, K: Sink>(
     requires low { limit ≤ 1000000 }
 
     // Where the shelf and the script tell their bytes: with a status up to 4 exactly the report, else a front of it.
-    ensures exact { (files : Files) (bytes : List ℕ) → F.files shelf.old ≡ Some files → S.left script.old ≡ Some bytes
-        → result ≤ 4 → Reports (K.written out.old) (K.written out.new) result (report E.gives E.fires limit (wanted_by_name files name.now) bytes) }
-    ensures front { (files : Files) (bytes : List ℕ) → F.files shelf.old ≡ Some files → S.left script.old ≡ Some bytes
-        → 5 ≤ result → AppendsFront (K.written out.old) (K.written out.new) (report E.gives E.fires limit (wanted_by_name files name.now) bytes).bytes }
+    ensures exact { (files : Files) (bytes : List ℕ) → F.files shelf.old ≡ Some files → S.left script.old ≡ Some bytes → result ≤ 4
+        → (r : Report) × IsReport E.gives E.fires (wanted_by_name (runs limit) files name.now) bytes r × Reports (K.written out.old) (K.written out.new) result r }
+    ensures front { (files : Files) (bytes : List ℕ) → F.files shelf.old ≡ Some files → S.left script.old ≡ Some bytes → 5 ≤ result
+        → (r : Report) → IsReport E.gives E.fires (wanted_by_name (runs limit) files name.now) bytes r → AppendsFront (K.written out.old) (K.written out.new) r.bytes }
     ensures long { (files : Files) (bytes : List ℕ) → F.files shelf.old ≡ Some files → S.left script.old ≡ Some bytes
-        → result ≡ 8 → IsLong E.gives E.fires limit (wanted_by_name files name.now) bytes }
+        → result ≡ 8 → IsLong E.gives E.fires (wanted_by_name (runs limit) files name.now) bytes }
 
     // Where the shelf tells its files, and the script may tell nothing: a refusal is the one that is wanted.
     ensures refusal { (files : Files) → F.files shelf.old ≡ Some files → result ≡ 3
-        → IfRefuses (wanted_by_name files name.now) (λ refusal. K.written out.new ≡ append (K.written out.old) (refusal_text refusal)) }
+        → IfRefuses (wanted_by_name (runs limit) files name.now) (λ refusal. K.written out.new ≡ append (K.written out.old) (refusal_text refusal)) }
 
     // Where nothing of the outside failed and the script has at most 1 GiB, the report is done, or memory was refused.
     ensures completes { (bytes : List ℕ) → S.left script.old ≡ Some bytes → length bytes ≤ 2 ^ 30
@@ -128,35 +189,18 @@ pub fn run_rules<E: Engine, F: Shelf, S: Source, K: Sink>(
     ensures untouched { result ≡ 3 → script.new ≡ script.old }
     ensures nothing_left { result ≤ 1 → IfSome (S.left script.new) (λ bytes. bytes ≡ []) }
 {
-    let file = match read_whole(alloc, shelf, name, FILE_MAX + 1) {
-        Ok(file) => file,
-        Err(FileFault::Missing) => return refuse(alloc, out, whole_file(RefusalCode::Missing)),
-        Err(FileFault::ReadFault) => return 5,
-        Err(FileFault::NoMemory) => return 7,
-    };
-    match reading_of(alloc, &file) {
-        Ok(Reading::Accepted(program)) => {
-            run_program::<E, S, K>(alloc, program, limit, script, out)
-        }
-        Ok(Reading::Refused(refusal)) => refuse(alloc, out, refusal),
-        Err(_) => 7,
-    }
+    answer::<E, F, S, K>(alloc, Mode::Run, limit, name, shelf, script, out)
 }
 
-// The word, where there is just one.
-#[tactic(auto, unfolding(crate::specs::Wanted::single))]
-fn one_word(words: &[String]) -> Option<&str>
-    ensures { option_map (λ word. word.now) result ≡ single words.now }
-{
-    match words {
-        [word] => Some(word.as_str()),
-        _ => None,
-    }
-}
-
-/// Does all that the program does for the words behind its own name, with an engine of this type, and answers the status:
-/// that of [`run_rules`] with at most 100,000 firings for the rule file of the one word, or 2 where there is not just one
-/// word.
+/// Does all that the program does for the words behind its own name, with an engine of this type, and answers the status.
+/// In the mode `run` it runs the script over the rule file, as [`run_rules`] does, with the limit of firings of the words.
+/// In the mode `check` it writes that the rule file is accepted, and in the mode `lives` how long, in milliseconds, the events
+/// of its types matter: both leave the script alone, and the limit means nothing to them.
+///
+/// The status is 0 where the script was read to its end, or the rule file of another mode is accepted, 1 where a line of the
+/// script was a fault, 2 where the words are refused, 3 where the rule file is missing or refused, 4 where a match was pending
+/// when no firing was left, 5 where a read failed, 6 where a write failed, 7 where memory was refused, and 8 where the script has
+/// more than 1 GiB. Of these the modes other than `run` have 0, 3, 5, 6 and 7.
 pub fn replay<E: Engine, F: Shelf, S: Source, K: Sink>(
     alloc: Global,
     words: &[String],
@@ -165,12 +209,12 @@ pub fn replay<E: Engine, F: Shelf, S: Source, K: Sink>(
     out: &mut K,
 ) -> u8
     // Where the shelf and the script tell their bytes: with a status up to 4 exactly the report, else a front of it.
-    ensures exact { (files : Files) (bytes : List ℕ) → F.files shelf.old ≡ Some files → S.left script.old ≡ Some bytes
-        → result ≤ 4 → Reports (K.written out.old) (K.written out.new) result (report E.gives E.fires firing_limit (wanted words.now files) bytes) }
-    ensures front { (files : Files) (bytes : List ℕ) → F.files shelf.old ≡ Some files → S.left script.old ≡ Some bytes
-        → 5 ≤ result → AppendsFront (K.written out.old) (K.written out.new) (report E.gives E.fires firing_limit (wanted words.now files) bytes).bytes }
+    ensures exact { (files : Files) (bytes : List ℕ) → F.files shelf.old ≡ Some files → S.left script.old ≡ Some bytes → result ≤ 4
+        → (r : Report) × IsReport E.gives E.fires (wanted words.now files) bytes r × Reports (K.written out.old) (K.written out.new) result r }
+    ensures front { (files : Files) (bytes : List ℕ) → F.files shelf.old ≡ Some files → S.left script.old ≡ Some bytes → 5 ≤ result
+        → (r : Report) → IsReport E.gives E.fires (wanted words.now files) bytes r → AppendsFront (K.written out.old) (K.written out.new) r.bytes }
     ensures long { (files : Files) (bytes : List ℕ) → F.files shelf.old ≡ Some files → S.left script.old ≡ Some bytes
-        → result ≡ 8 → IsLong E.gives E.fires firing_limit (wanted words.now files) bytes }
+        → result ≡ 8 → IsLong E.gives E.fires (wanted words.now files) bytes }
 
     // Whatever the script tells: the usage line, and, where the shelf tells its files, the refusal that is wanted.
     ensures usage { result ≡ 2 → K.written out.new ≡ append (K.written out.old) usage }
@@ -185,21 +229,27 @@ pub fn replay<E: Engine, F: Shelf, S: Source, K: Sink>(
     ensures answers { result ≤ 8 }
 
     // The causes of the answers, of whatever shelf, script and sink.
-    ensures words { result ≡ 2 → single words.now ≡ None }
-    ensures not_words { single words.now ≡ None → (result ≡ 2) ⊎ (result ≡ 6) }
-    ensures file { result ≡ 3 → IfSome (single words.now) (λ name. Rose (F.misses shelf.old name) (F.misses shelf.new name)
-        ⊎ IfSome (file_told (F.files shelf.old) name) (λ file. IsRefused (reading file))) }
-    ensures read { result ≡ 5 → (name : List ℕ) × (single words.now ≡ Some name)
-        × (Rose (F.faults shelf.old name) (F.faults shelf.new name) ⊎ Rose (S.faults script.old) (S.faults script.new)) }
+    ensures words { result ≡ 2 → asked_by words.now ≡ None }
+    ensures not_words { asked_by words.now ≡ None → (result ≡ 2) ⊎ ((6 ≤ result) × (result ≤ 7)) }
+    ensures file { result ≡ 3 → IfSome (asked_by words.now) (λ asked. Rose (F.misses shelf.old asked.rules) (F.misses shelf.new asked.rules)
+        ⊎ IfSome (file_told (F.files shelf.old) asked.rules) (λ file. IsRefused (reading file))) }
+    ensures read { result ≡ 5 → (asked : WordsAsk) × (asked_by words.now ≡ Some asked)
+        × (Rose (F.faults shelf.old asked.rules) (F.faults shelf.new asked.rules) ⊎ ((asked.mode ≡ Mode.Run) × Rose (S.faults script.old) (S.faults script.new))) }
     ensures write { result ≡ 6 → Rose (K.faults out.old) (K.faults out.new) }
     ensures taken { (n : ℕ) × (S.given script.new ≡ count_after (S.given script.old) n) × TakesFor result n }
 
     // The script is left alone where it is not run, and read to its end where its run comes there.
     ensures untouched { (result ≡ 2) ⊎ (result ≡ 3) → script.new ≡ script.old }
-    ensures nothing_left { result ≤ 1 → IfSome (S.left script.new) (λ bytes. bytes ≡ []) }
+    ensures no_run { IfSome (asked_by words.now) (λ asked. asked.mode ≢ Mode.Run) → script.new ≡ script.old }
+    ensures nothing_left { result ≤ 1 → IfSome (asked_by words.now) (λ asked. asked.mode ≡ Mode.Run
+        → IfSome (S.left script.new) (λ bytes. bytes ≡ [])) }
 {
-    match one_word(words) {
-        Some(name) => run_rules::<E, F, S, K>(alloc, name, FIRING_MAX, shelf, script, out),
-        None => say(out, b"usage: replay RULES\n", 2),
+    match asked(alloc, words) {
+        Ok(Some(wanted)) => {
+            let name = wanted.rules.as_str();
+            answer::<E, F, S, K>(alloc, wanted.mode, wanted.limit, name, shelf, script, out)
+        }
+        Ok(None) => say(out, USAGE, 2),
+        Err(_) => 7,
     }
 }

@@ -1,32 +1,34 @@
-use Rattle.std.proofs.Common.{sym}
-use Rattle.replay.specs.Report.{firing_limit}
-use Rattle.replay.proofs.Reports.{not_one_word, one_word}
+use Rattle.std.proofs.Common.{◌≡◌, Some, None, rules, refl}
+use Rattle.command_words.specs.Asked.{asked_by}
+use Rattle.replay.proofs.Reports.{no_words, by_words}
 use Rattle.replay.proofs.top.replay.Goals as goal
 
-pub returns-in-None-clause-exact : goal.returns-in-None-clause-exact
-returns-in-None-clause-exact g c files bytes told tells low =
-    let said = c.say.ensures.said low in
-    rw (not_one_word c.args.words.now files (sym c.in-None.ensures)) (said.0, said.1)
+pub returns-in-Ok-Some-clause-exact : goal.returns-in-Ok-Some-clause-exact
+returns-in-Ok-Some-clause-exact g c files bytes told tells low =
+    let asks : asked_by c.args.words.now ≡ Some c.in-Ok-Some.wanted = search rules in
+    rw (by_words c.args.words.now c.in-Ok-Some.wanted files asks) (rw c.as_str-name.ensures at (c.answer.ensures.exact files bytes told tells low))
 
-pub returns-in-None-clause-front : goal.returns-in-None-clause-front
-returns-in-None-clause-front g c files bytes told tells high =
-    rw (not_one_word c.args.words.now files (sym c.in-None.ensures)) (c.say.ensures.front high)
+pub returns-in-Ok-Some-clause-front : goal.returns-in-Ok-Some-clause-front
+returns-in-Ok-Some-clause-front g c files bytes told tells high =
+    let asks : asked_by c.args.words.now ≡ Some c.in-Ok-Some.wanted = search rules in
+    rw (by_words c.args.words.now c.in-Ok-Some.wanted files asks) (rw c.as_str-name.ensures at (c.answer.ensures.front files bytes told tells high))
 
-pub returns-in-Some-clause-exact : goal.returns-in-Some-clause-exact
-unfolding firing_limit
-returns-in-Some-clause-exact g c files bytes told tells low =
-    rw (one_word c.args.words.now c.in-Some.name.now files (sym c.in-Some.ensures)) (c.run_rules.ensures.exact files bytes told tells low)
+pub returns-in-Ok-Some-clause-long : goal.returns-in-Ok-Some-clause-long
+returns-in-Ok-Some-clause-long g c files bytes told tells eight =
+    let asks : asked_by c.args.words.now ≡ Some c.in-Ok-Some.wanted = search rules in
+    rw (by_words c.args.words.now c.in-Ok-Some.wanted files asks) (rw c.as_str-name.ensures at (c.answer.ensures.long files bytes told tells eight))
 
-pub returns-in-Some-clause-front : goal.returns-in-Some-clause-front
-unfolding firing_limit
-returns-in-Some-clause-front g c files bytes told tells high =
-    rw (one_word c.args.words.now c.in-Some.name.now files (sym c.in-Some.ensures)) (c.run_rules.ensures.front files bytes told tells high)
+pub returns-in-Ok-Some-clause-refusal : goal.returns-in-Ok-Some-clause-refusal
+returns-in-Ok-Some-clause-refusal g c files told three =
+    let asks : asked_by c.args.words.now ≡ Some c.in-Ok-Some.wanted = search rules in
+    rw (by_words c.args.words.now c.in-Ok-Some.wanted files asks) (rw c.as_str-name.ensures at (c.answer.ensures.refusal files told three))
 
-pub returns-in-Some-clause-long : goal.returns-in-Some-clause-long
-unfolding firing_limit
-returns-in-Some-clause-long g c files bytes told tells eight =
-    rw (one_word c.args.words.now c.in-Some.name.now files (sym c.in-Some.ensures)) (c.run_rules.ensures.long files bytes told tells eight)
+pub returns-in-Ok-None-clause-exact : goal.returns-in-Ok-None-clause-exact
+returns-in-Ok-None-clause-exact g c files bytes told tells low =
+    let refused : asked_by c.args.words.now ≡ None = search rules in
+    rw (no_words c.args.words.now files refused) (_, refl, c.say.ensures.said low)
 
-pub returns-in-Some-clause-refusal : goal.returns-in-Some-clause-refusal
-returns-in-Some-clause-refusal g c files told three =
-    rw (one_word c.args.words.now c.in-Some.name.now files (sym c.in-Some.ensures)) (c.run_rules.ensures.refusal files told three)
+pub returns-in-Ok-None-clause-front : goal.returns-in-Ok-None-clause-front
+returns-in-Ok-None-clause-front g c files bytes told tells high =
+    let refused : asked_by c.args.words.now ≡ None = search rules in
+    rw (no_words c.args.words.now files refused) (λ r is. rw is (c.say.ensures.front high))

@@ -1,0 +1,102 @@
+-- A program has at most one table of lives, and so at most one report.
+use Rattle.std.proofs.Common.{◌≡◌, ◌⊎◌, inl, inr, ℕ, zero, suc, ℤ, pos, Bool, true, false, List, [], ◌∷◌, length, Option, Some, None, refl, sym, ap, subst, ◌∙◌, arith}
+use Rattle.std.specs.Prelude.{slice_get, ◌≤ℤ◌}
+use Rattle.std.proofs.lemmas.Int.{ints}
+use Rattle.rule_model.specs.declared.life.Life.{Life}
+use Rattle.rule_model.specs.declared.life.Life.TheVariants.{Plain, Explicit, Finite, Infinite}
+use Rattle.rule_model.specs.declared.life.LifeTable.{LifeTable}
+use Rattle.rule_model.specs.declared.program.Program.{Program}
+use Rattle.rule_model.specs.Types.{is_event, expiry_of}
+use Rattle.rule_lives.specs.Keeping.{IsLifeOf, AreLives}
+use Rattle.rule_lives.specs.Lifetimes.{Gives as GivesLimit, IsLife}
+use Rattle.rule_lives.specs.Reach.{Limit, finite, infinite, Below}
+use Rattle.replay.specs.Firings.{Gives, Fires}
+use Rattle.replay.specs.Report.{Report, IsReport}
+use Rattle.replay.specs.Texts.{lives_text}
+use Rattle.replay.specs.Wanted.{Wanted, usage_line, refuses, runs, accepts, tells_lives}
+
+int_same : (a b : ℤ) → a ≤ℤ b → b ≤ℤ a → a ≡ b
+int_same a b h k = omega (arith, ints)
+
+same_limit : (l m : Limit) → Below l m → Below m l → l ≡ m
+same_limit (finite a) (finite b) h k = ap finite (int_same a b h k)
+same_limit (finite a) infinite h k = absurd k
+same_limit infinite (finite b) h k = absurd h
+same_limit infinite infinite h k = refl
+
+-- a life is below every other one
+below_other : (p : Program) (ty : ℕ) (l m : Limit) → IsLife p ty l → IsLife p ty m → Below l m
+below_other p ty l m h k = here h.reached
+  where
+    here : (l ≡ finite (pos 0)) ⊎ GivesLimit p ty l → Below l m
+    here (inl e) = subst (λ (z : Limit). Below z m) (sym e) k.above_zero
+    here (inr gives) = k.above_all l gives
+
+same_life : (p : Program) (ty : ℕ) (l m : Limit) → IsLife p ty l → IsLife p ty m → l ≡ m
+same_life p ty l m h k = same_limit l m (below_other p ty l m h k) (below_other p ty m l k h)
+
+not_both : (b : Bool) → b ≡ false → b ≡ true → ⊥
+not_both b h k = cc
+
+not_some : (o : Option ℤ) (n : ℤ) → o ≡ Some n → o ≡ None → ⊥
+not_some o n h k = cc
+
+same_some : (o : Option ℤ) (n m : ℤ) → o ≡ Some n → o ≡ Some m → n ≡ m
+same_some o n m h k = cc
+
+same_finite : (n m : ℤ) → finite n ≡ finite m → n ≡ m
+same_finite n m e = cc
+
+-- a type has one life
+one_life : (p : Program) (ty : ℕ) (a b : Life) → IsLifeOf p ty a → IsLifeOf p ty b → a ≡ b
+one_life p ty Plain Plain h k = refl
+one_life p ty Plain (Explicit n) h k = absurd (not_both (is_event p ty) h k.0)
+one_life p ty Plain (Finite n) h k = absurd (not_both (is_event p ty) h k.event)
+one_life p ty Plain Infinite h k = absurd (not_both (is_event p ty) h k.event)
+one_life p ty (Explicit n) Plain h k = absurd (not_both (is_event p ty) k h.0)
+one_life p ty (Explicit n) (Explicit m) h k = ap Explicit (same_some (expiry_of p ty) n m h.1 k.1)
+one_life p ty (Explicit n) (Finite m) h k = absurd (not_some (expiry_of p ty) n h.1 k.unexpired)
+one_life p ty (Explicit n) Infinite h k = absurd (not_some (expiry_of p ty) n h.1 k.unexpired)
+one_life p ty (Finite n) Plain h k = absurd (not_both (is_event p ty) k h.event)
+one_life p ty (Finite n) (Explicit m) h k = absurd (not_some (expiry_of p ty) m k.1 h.unexpired)
+one_life p ty (Finite n) (Finite m) h k = ap Finite (same_finite n m (same_life p ty (finite n) (finite m) h k))
+one_life p ty (Finite n) Infinite h k = absurd (let e : finite n ≡ infinite = same_life p ty (finite n) infinite h k in cc)
+one_life p ty Infinite Plain h k = absurd (not_both (is_event p ty) k h.event)
+one_life p ty Infinite (Explicit m) h k = absurd (not_some (expiry_of p ty) m k.1 h.unexpired)
+one_life p ty Infinite (Finite m) h k = absurd (let e : infinite ≡ finite m = same_life p ty infinite (finite m) h k in cc)
+one_life p ty Infinite Infinite h k = refl
+
+-- lists of one length with the same at each place
+same_list : (xs ys : List Life) → length xs ≡ length ys → ((place : ℕ) (x y : Life) → slice_get xs place ≡ Some x → slice_get ys place ≡ Some y → x ≡ y) → xs ≡ ys
+same_list [] [] e h = refl
+same_list [] (y ∷ ys) e h = absurd (omega (arith, e))
+same_list (x ∷ xs) [] e h = absurd (omega (arith, e))
+same_list (x ∷ xs) (y ∷ ys) e h =
+    let first : x ≡ y = h zero x y refl refl in
+    let rest : xs ≡ ys = same_list xs ys (omega (arith, e)) (λ place a b at bt. h (suc place) a b at bt) in
+    rw (first, rest) refl
+
+-- a program has at most one table of lives
+pub one_table : (p : Program) (a b : LifeTable) → AreLives p a → AreLives p b → a ≡ b
+one_table p a b h k = same_table a b (same_list a.lives b.lives (h.as_many ∙ sym k.as_many) (λ ty x y at bt. one_life p ty x y (h.each ty x at) (k.each ty y bt)))
+  where
+    table_of : List Life → LifeTable
+    table_of lives = record { lives = lives }
+
+    same_table : (a b : LifeTable) → a.lives ≡ b.lives → a ≡ b
+    same_table a b e = ap table_of e
+
+pub same_lives_text : (p : Program) (a b : LifeTable) → AreLives p a → AreLives p b → lives_text p.types a.lives ≡ lives_text p.types b.lives
+same_lives_text p a b h k = ap (λ (table : LifeTable). lives_text p.types table.lives) (one_table p a b h k)
+
+-- what is wanted has at most one report
+pub one_report : (gives : Gives) (fires : Fires) (w : Wanted) (script : List ℕ) (r q : Report) → IsReport gives fires w script r → IsReport gives fires w script q → r ≡ q
+one_report gives fires usage_line script r q h k = h ∙ sym k
+one_report gives fires (refuses refusal) script r q h k = h ∙ sym k
+one_report gives fires (runs limit program) script r q h k = h ∙ sym k
+one_report gives fires (accepts program) script r q h k = h ∙ sym k
+one_report gives fires (tells_lives program) script r q h k =
+    h.2 ∙ ap lives_report (same_lives_text program h.0 k.0 h.1 k.1) ∙ sym k.2
+  where
+    lives_report : List ℕ → Report
+    lives_report bytes = record { bytes = bytes; status = 0 }
