@@ -1,4 +1,5 @@
-//! The program: it reads a rule file and replays a script over it, and writes what fires and what is faulty.
+//! The program: it reads a rule file and replays a script over it, and writes what fires and what is faulty. In other modes it writes
+//! whether the file is accepted, or how long the events of its types matter.
 //! It knows the outside by its traits alone, so that its answer is a matter of proof.
 #![tactic(auto)]
 

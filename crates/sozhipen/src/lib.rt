@@ -1,11 +1,15 @@
 //! The program `replay`: the top call with the engine `Session`. Its one contract is what the project promises of a run.
 #![tactic(auto)]
 
-ghost use Rattle.std.specs.Prelude.{◌≡◌, ◌⊎◌, ◌<◌, ◌≤◌, ◌^◌, [], List, ℕ, length, Some, None, IfSome};
+ghost use Rattle.std.specs.Prelude.{◌≡◌, ◌≢◌, ◌⊎◌, ◌<◌, ◌≤◌, ◌^◌, [], List, ℕ, length, Some, None, IfSome};
 ghost use Rattle.fx_io.specs.Outside.{Rose, append, AppendsFront, count_after, file_told};
+ghost use Rattle.command_words.specs.declared.asking.Asked.{Asked};
+ghost use Rattle.command_words.specs.declared.asking.Mode.TheVariants.{Run};
+ghost use Rattle.command_words.specs.Asked.{asked_by};
 ghost use Rattle.replay.specs.Refusals.{refusal_text, reading, IsRefused};
-ghost use Rattle.replay.specs.Report.{report, usage, firing_limit, Reports, TakesFor, IsLong};
-ghost use Rattle.replay.specs.Wanted.{Files, single, wanted, IfRefuses};
+ghost use Rattle.replay.specs.Report.{Report, IsReport, Reports, TakesFor, IsLong};
+ghost use Rattle.replay.specs.Texts.{usage};
+ghost use Rattle.replay.specs.Wanted.{Files, wanted, IfRefuses};
 ghost use Rattle.session.specs.Gives.{gives, fires};
 
 use fx_io::{Shelf, Sink, Source};
@@ -13,11 +17,16 @@ use replay::replay;
 use session::Session;
 use std::alloc::Global;
 
-/// Does all that the program does for the words behind its own name, and answers the status. The report is that of an engine which
-/// keeps everything that was inserted and takes every match anew after each change (`gives` and `fires` of
-/// `session/specs/Gives.antt`): 0 where the script was read to its end, 1 where one of its lines was a fault, 2 where there is not
-/// just one word, 3 where the rule file is missing or refused, 4 where a match was pending when no firing was left, 5 where a read
-/// failed, 6 where a write failed, 7 where memory was refused, and 8 where the script has more than 1 GiB.
+/// Does all that the program does for the words behind its own name, and answers the status.
+/// In the mode `run` it runs the script over the rule file, with the limit of firings of the words. In the mode `check` it writes
+/// that the rule file is accepted, and in the mode `lives` how long, in milliseconds, the events of its types matter: both leave the
+/// script alone, and the limit means nothing to them. The report of a run is that of an engine which keeps everything that was
+/// inserted and takes every match anew after each change (`gives` and `fires` of `session/specs/Gives.antt`).
+///
+/// The status is 0 where the script was read to its end, or the rule file of another mode is accepted, 1 where a line of the script
+/// was a fault, 2 where the words are refused, 3 where the rule file is missing or refused, 4 where a match was pending when no firing
+/// was left, 5 where a read failed, 6 where a write failed, 7 where memory was refused, and 8 where the script has more than 1 GiB. Of
+/// these the modes other than `run` have 0, 3, 5, 6 and 7.
 pub fn run<F: Shelf, S: Source, K: Sink>(
     alloc: Global,
     words: &[String],
@@ -26,12 +35,12 @@ pub fn run<F: Shelf, S: Source, K: Sink>(
     out: &mut K,
 ) -> u8
     // Where the shelf and the script tell their bytes: with a status up to 4 exactly the report, else a front of it.
-    ensures exact { (files : Files) (bytes : List ℕ) → F.files shelf.old ≡ Some files → S.left script.old ≡ Some bytes
-        → result ≤ 4 → Reports (K.written out.old) (K.written out.new) result (report gives fires firing_limit (wanted words.now files) bytes) }
-    ensures front { (files : Files) (bytes : List ℕ) → F.files shelf.old ≡ Some files → S.left script.old ≡ Some bytes
-        → 5 ≤ result → AppendsFront (K.written out.old) (K.written out.new) (report gives fires firing_limit (wanted words.now files) bytes).bytes }
+    ensures exact { (files : Files) (bytes : List ℕ) → F.files shelf.old ≡ Some files → S.left script.old ≡ Some bytes → result ≤ 4
+        → (r : Report) × IsReport gives fires (wanted words.now files) bytes r × Reports (K.written out.old) (K.written out.new) result r }
+    ensures front { (files : Files) (bytes : List ℕ) → F.files shelf.old ≡ Some files → S.left script.old ≡ Some bytes → 5 ≤ result
+        → (r : Report) → IsReport gives fires (wanted words.now files) bytes r → AppendsFront (K.written out.old) (K.written out.new) r.bytes }
     ensures long { (files : Files) (bytes : List ℕ) → F.files shelf.old ≡ Some files → S.left script.old ≡ Some bytes
-        → result ≡ 8 → IsLong gives fires firing_limit (wanted words.now files) bytes }
+        → result ≡ 8 → IsLong gives fires (wanted words.now files) bytes }
 
     // Whatever the script tells: the usage line, and, where the shelf tells its files, the refusal that is wanted.
     ensures usage { result ≡ 2 → K.written out.new ≡ append (K.written out.old) usage }
@@ -46,18 +55,20 @@ pub fn run<F: Shelf, S: Source, K: Sink>(
     ensures answers { result ≤ 8 }
 
     // The causes of the answers, of whatever shelf, script and sink.
-    ensures words { result ≡ 2 → single words.now ≡ None }
-    ensures not_words { single words.now ≡ None → (result ≡ 2) ⊎ (result ≡ 6) }
-    ensures file { result ≡ 3 → IfSome (single words.now) (λ name. Rose (F.misses shelf.old name) (F.misses shelf.new name)
-        ⊎ IfSome (file_told (F.files shelf.old) name) (λ file. IsRefused (reading file))) }
-    ensures read { result ≡ 5 → (name : List ℕ) × (single words.now ≡ Some name)
-        × (Rose (F.faults shelf.old name) (F.faults shelf.new name) ⊎ Rose (S.faults script.old) (S.faults script.new)) }
+    ensures words { result ≡ 2 → asked_by words.now ≡ None }
+    ensures not_words { asked_by words.now ≡ None → (result ≡ 2) ⊎ ((6 ≤ result) × (result ≤ 7)) }
+    ensures file { result ≡ 3 → IfSome (asked_by words.now) (λ asked. Rose (F.misses shelf.old asked.rules) (F.misses shelf.new asked.rules)
+        ⊎ IfSome (file_told (F.files shelf.old) asked.rules) (λ file. IsRefused (reading file))) }
+    ensures read { result ≡ 5 → (asked : Asked) × (asked_by words.now ≡ Some asked)
+        × (Rose (F.faults shelf.old asked.rules) (F.faults shelf.new asked.rules) ⊎ ((asked.mode ≡ Run) × Rose (S.faults script.old) (S.faults script.new))) }
     ensures write { result ≡ 6 → Rose (K.faults out.old) (K.faults out.new) }
     ensures taken { (n : ℕ) × (S.given script.new ≡ count_after (S.given script.old) n) × TakesFor result n }
 
     // The script is left alone where it is not run, and read to its end where its run comes there.
     ensures untouched { (result ≡ 2) ⊎ (result ≡ 3) → script.new ≡ script.old }
-    ensures nothing_left { result ≤ 1 → IfSome (S.left script.new) (λ bytes. bytes ≡ []) }
+    ensures no_run { IfSome (asked_by words.now) (λ asked. asked.mode ≢ Run) → script.new ≡ script.old }
+    ensures nothing_left { result ≤ 1 → IfSome (asked_by words.now) (λ asked. asked.mode ≡ Run
+        → IfSome (S.left script.new) (λ bytes. bytes ≡ [])) }
 {
     replay::<Session, F, S, K>(alloc, words, shelf, script, out)
 }
