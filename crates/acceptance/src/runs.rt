@@ -64,7 +64,15 @@ const ELEVEN: &[u8] = b"{\"do\":\"insert\",\"type\":\"Item\",\"fields\":{\"price
 /// A script that is cut off without a line end.
 const CUT: &[u8] = b"{\"do\":\"fire\"";
 
-const USAGE: &[u8] = b"usage: replay RULES\n";
+const USAGE: &[u8] = b"usage: replay [--mode run|check|lives] [--limit N] RULES\n";
+
+/// Types of each sort of life.
+const SORTS: &str = "declare A @role( event ) end\n\
+    declare B @role( event ) @expires( 5s ) end\n\
+    declare C @role( event ) end\n\
+    declare P v : long end\n\
+    rule \"follows\" when $a : A() B( this after[ 0ms, 3s ] $a ) then end\n\
+    rule \"plain\" when C() P( v > 1 ) then end\n";
 
 const CASES: &[Case] = &[
     Case {
@@ -111,6 +119,60 @@ const CASES: &[Case] = &[
         bad_writes: &[],
         status: 2,
         output: USAGE,
+    },
+    Case {
+        words: &["--mode", "fly", "RULES"],
+        rules: ITEM,
+        script: CUT,
+        bad_reads: &[],
+        bad_writes: &[],
+        status: 2,
+        output: USAGE,
+    },
+    Case {
+        words: &["--limit", "1", "RULES"],
+        rules: TWO,
+        script: ELEVEN,
+        bad_reads: &[],
+        bad_writes: &[],
+        status: 4,
+        output: b"new #1 Item\nfire \"a\" #1\nlimit 1\n",
+    },
+    Case {
+        words: &["--limit=1", "RULES", "--mode=check"],
+        rules: SORTS,
+        script: CUT,
+        bad_reads: &[1],
+        bad_writes: &[],
+        status: 0,
+        output: b"accepted 4 types 2 rules\n",
+    },
+    Case {
+        words: &["--mode", "lives", "RULES"],
+        rules: SORTS,
+        script: CUT,
+        bad_reads: &[1],
+        bad_writes: &[],
+        status: 0,
+        output: b"life A 8000\nlife B explicit 5000\nlife C infinite\n",
+    },
+    Case {
+        words: &["--mode", "lives", "NOFILE"],
+        rules: SORTS,
+        script: CUT,
+        bad_reads: &[],
+        bad_writes: &[],
+        status: 3,
+        output: b"refused item 0 line 0 Missing\n",
+    },
+    Case {
+        words: &["--mode", "check", "RULES"],
+        rules: ITEM,
+        script: CUT,
+        bad_reads: &[],
+        bad_writes: &[1],
+        status: 6,
+        output: b"",
     },
     Case {
         words: &["RULES"],
