@@ -1,5 +1,5 @@
 -- What leads from one set of rows to another, where a set is a test of rows.
-use Rattle.std.specs.Prelude.{◌≡◌, ◌&&◌, ◌||◌, not, Bool, List}
+use Rattle.std.specs.Prelude.{◌≡◌, ◌&&◌, ◌||◌, not, Bool, true, false, List, [], ◌∷◌}
 use Rattle.row_delta.specs.Rows.{has, InOrder}
 use Rattle.row_delta.specs.declared.row.Row.{Row}
 use Rattle.row_delta.specs.declared.delta.Delta.{Delta}
@@ -22,3 +22,12 @@ without rows taken row = rows row && not (has taken row)
 -- the rows of a set, and these
 abbrev pub along : (Row → Bool) → List Row → Row → Bool
 along rows put row = rows row || has put row
+
+abbrev pub are_none : List Row → List Row → Bool
+are_none [] [] = true
+are_none (row ∷ gone) come = false
+are_none [] (row ∷ come) = false
+
+-- nothing goes and nothing comes
+abbrev pub changes_nothing : Delta → Bool
+changes_nothing delta = are_none delta.gone delta.come

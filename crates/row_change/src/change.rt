@@ -1,7 +1,7 @@
 ghost use Rattle.std.specs.Prelude.{◌≡◌, ◌&&◌, ◌||◌, not, true, false, Bool, IfOk, OnOk};
 ghost use Rattle.row_delta.specs.Rows.{has};
 ghost use Rattle.row_delta.specs.declared.row.Row.{Row};
-ghost use Rattle.row_change.specs.Changes.{Leads, IsDifference, without, along};
+ghost use Rattle.row_change.specs.Changes.{Leads, IsDifference, without, along, changes_nothing};
 
 use fx_base::{NoMemory, Seq};
 use row_delta::{Delta, Row};
@@ -99,5 +99,15 @@ fn remove_all(set: &mut BTreeSet<Row, Global>, rows: &[Row])
 {
     for row in rows {
         set.remove(row);
+    }
+}
+
+/// Whether nothing goes and nothing comes. Takes no memory.
+pub fn changes_nothing(delta: &Delta) -> bool
+    ensures { result ≡ changes_nothing delta.now }
+{
+    match (delta.gone.as_slice(), delta.come.as_slice()) {
+        ([], []) => true,
+        _ => false,
     }
 }

@@ -5,4 +5,4 @@
 mod change;
 pub mod laws;
 
-pub use change::Change;
+pub use change::{Change, changes_nothing};
