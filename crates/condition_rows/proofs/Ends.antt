@@ -1,9 +1,15 @@
 -- The rows of conditions with one more at the end, by the tuples of the conditions before it.
-use Rattle.std.proofs.Common.{◌≡◌, sym, ap, refl, subst, inl, inr, List, [], ◌∷◌, ◌++◌, map, Bool, true, false}
+use Rattle.std.proofs.Common.{◌≡◌, sym, refl, subst, inl, inr, List, [], ◌∷◌, ◌++◌, Bool, true, false}
 use Rattle.std.proofs.lemmas.Map.Views.{tells_apart}
+use Rattle.std.proofs.lemmas.Map.Lookups.{CmpEqualImpliesEq}
+use Rattle.std.specs.declared.cmp.Ordering.{Ordering}
+use Rattle.std.specs.Cmp.{IsEquivalence}
+use Rattle.std.specs.List.{list_any}
 use Rattle.std.specs.Ordering.{eq_by_cmp}
 use Rattle.fx_base.specs.Lists.{In}
+use Rattle.row_delta.specs.declared.row.Named.{Named}
 use Rattle.row_delta.specs.declared.row.Row.{Row}
+use Rattle.row_delta.specs.NameOrder.{name_cmp, name_equiv, name_exact}
 use Rattle.row_delta.specs.Rows.{row_cmp, has}
 use Rattle.row_delta.specs.RowOrder.{same_equiv, row_exact}
 use Rattle.rule_model.specs.declared.condition.Condition.{Condition}
@@ -13,16 +19,31 @@ use Rattle.rule_model.specs.Snapshots.{Snapshot}
 use Rattle.rule_model.specs.Tuples.{Tuple, empty_tuple, row_of}
 use Rattle.rule_model.proofs.Firsts.{or_left, or_right, or_split}
 use Rattle.rule_model.proofs.Listed.{in_map, of_map, in_flat_map, of_flat_map}
+use Rattle.pair_memory.specs.Joined.{has_name}
 use Rattle.condition_rows.specs.Sets.{rows_of}
 
+-- what is asked by an exact order stands in the list
+module _ {K : Type 0} (R : K → K → Ordering) (laws : IsEquivalence (eq_by_cmp R)) (exact : CmpEqualImpliesEq R) where
+  asked : (x : K) (xs : List K) → In x xs → list_any (eq_by_cmp R x) xs ≡ true
+  asked x [] i = absurd i
+  asked x (y ∷ xs) (inl e) = or_left (eq_by_cmp R x y) (list_any (eq_by_cmp R x) xs) (subst (λ z. eq_by_cmp R x z ≡ true) e (laws.refl x))
+  asked x (y ∷ xs) (inr i) = or_right (eq_by_cmp R x y) (list_any (eq_by_cmp R x) xs) (asked x xs i)
+
+  stands : (x : K) (xs : List K) → list_any (eq_by_cmp R x) xs ≡ true → In x xs
+  stands x [] e = absurd (let f : false ≡ true = e in cc)
+  stands x (y ∷ xs) e = elim (or_split (eq_by_cmp R x y) (list_any (eq_by_cmp R x) xs) e) [ inl h ↦ inl (tells_apart exact x y h) | inr h ↦ inr (stands x xs h) ]
+
 pub in_has : (row : Row) (rs : List Row) → In row rs → has rs row ≡ true
-in_has row [] i = absurd i
-in_has row (r ∷ rs) (inl e) = or_left (eq_by_cmp row_cmp row r) (has rs row) (subst (λ (z : Row). eq_by_cmp row_cmp row z ≡ true) e (same_equiv.refl row))
-in_has row (r ∷ rs) (inr i) = or_right (eq_by_cmp row_cmp row r) (has rs row) (in_has row rs i)
+in_has = asked row_cmp same_equiv row_exact
 
 pub has_in : (row : Row) (rs : List Row) → has rs row ≡ true → In row rs
-has_in row [] e = absurd (let f : false ≡ true = e in cc)
-has_in row (r ∷ rs) e = elim (or_split (eq_by_cmp row_cmp row r) (has rs row) e) [ inl h ↦ inl (tells_apart row_exact row r h) | inr h ↦ inr (has_in row rs h) ]
+has_in = stands row_cmp same_equiv row_exact
+
+pub in_name : (who : Named) (names : List Named) → In who names → has_name names who ≡ true
+in_name = asked name_cmp name_equiv name_exact
+
+pub name_in : (who : Named) (names : List Named) → has_name names who ≡ true → In who names
+name_in = stands name_cmp name_equiv name_exact
 
 -- tests that hold where the other does are the same
 pub same_truth : (a b : Bool) → (a ≡ true → b ≡ true) → (b ≡ true → a ≡ true) → a ≡ b

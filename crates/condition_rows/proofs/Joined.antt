@@ -1,5 +1,5 @@
 -- The line of a pattern.
-use Rattle.std.proofs.Common.{◌≡◌, ◌∙◌, sym, ap, refl, subst, inl, List, [], ◌∷◌, ◌++◌, map, Bool, true, false, ◌&&◌, Option, Some, None}
+use Rattle.std.proofs.Common.{◌≡◌, ◌∙◌, sym, ap, refl, subst, List, [], ◌∷◌, ◌++◌, Bool, true, false, ◌&&◌, Option, Some, None}
 use Rattle.std.proofs.lemmas.List.{map-append}
 use Rattle.fx_base.specs.Lists.{In}
 use Rattle.fx_base.specs.declared.fact.Fact.{Fact}
@@ -12,20 +12,19 @@ use Rattle.rule_model.specs.declared.program.Program.{Program}
 use Rattle.rule_model.specs.Candidates.{is_candidate, candidates, passes, passing}
 use Rattle.rule_model.specs.Distinct.{HaveDistinctTags}
 use Rattle.rule_model.specs.Lent.{Holds}
-use Rattle.rule_model.specs.Rows.{extended, tuples, rows}
 use Rattle.rule_model.specs.Snapshots.{Snapshot}
 use Rattle.rule_model.specs.Tuples.{Tuple, empty_tuple, with_fact, name_of, row_of}
 use Rattle.rule_model.proofs.Grown.{tuples_grow}
 use Rattle.rule_model.proofs.Listed.{in_map, of_map, both, both_of}
-use Rattle.rule_model.proofs.Named.{AllOf, of_filter, of_passing, made_of}
+use Rattle.rule_model.proofs.Named.{of_filter, of_passing, made_of}
 use Rattle.rule_model.proofs.Order.{in_filter, passed}
 use Rattle.join_tests.specs.Joins.{version_at, joins}
-use Rattle.pair_memory.specs.Joined.{with_name, joined}
+use Rattle.pair_memory.specs.Joined.{with_name, joined, has_name}
 use Rattle.pair_memory.proofs.Joining.{joined_with, joined_from}
-use Rattle.condition_rows.specs.Sets.{rows_of, held, is_candidate_given, candidates_of}
+use Rattle.condition_rows.specs.Sets.{rows_of, held, is_candidate_given, candidates_of, candidate_names}
 use Rattle.condition_rows.specs.Lines.{line}
 use Rattle.condition_rows.proofs.Holding.{version_of, joins_of_tuple, held_fact, held_all, version_in}
-use Rattle.condition_rows.proofs.Ends.{same_truth, IsMade, HasTuple, tuple_of_row, row_of_tuple, split_end, with_end}
+use Rattle.condition_rows.proofs.Ends.{in_name, name_in, same_truth, IsMade, tuple_of_row, row_of_tuple, split_end, with_end}
 
 abbrev named : List Named → Tuple → Row
 named facts t = record { facts = facts; values = t.values }
@@ -59,6 +58,20 @@ module _ (p : Program) (s : Snapshot) (d : HaveDistinctTags s.facts) where
       let r = candidate_given q (version_at (held s) who) e in
       let is = version_in s who r.0 r.1 in
       (r.0, in_filter (is_candidate p q s) r.0 s.facts r.2 is.0, is.1)
+
+  -- the names of the candidates are what is of the candidates
+  named_in : (q : Pattern) (who : Named) → has_name (candidate_names p q s) who ≡ true → candidates_of p q s who ≡ true
+  named_in q who e =
+      let r = of_map name_of who (candidates p q s) (name_in who (candidate_names p q s) e) in
+      subst (λ (n : Named). candidates_of p q s n ≡ true) r.2 (candidate_named q r.0 (of_filter (is_candidate p q s) r.0 s.facts r.1) ∙ passed (is_candidate p q s) r.0 s.facts r.1)
+
+  in_named : (q : Pattern) (who : Named) → candidates_of p q s who ≡ true → has_name (candidate_names p q s) who ≡ true
+  in_named q who e =
+      let r = candidate_of q who e in
+      in_name who (candidate_names p q s) (subst (λ (n : Named). In n (candidate_names p q s)) r.2 (in_map name_of r.0 (candidates p q s) r.1))
+
+  pub candidates_named : (q : Pattern) (who : Named) → has_name (candidate_names p q s) who ≡ candidates_of p q s who
+  candidates_named q who = same_truth (has_name (candidate_names p q s) who) (candidates_of p q s who) (named_in q who) (in_named q who)
 
   module _ (front : List Condition) (q : Pattern) where
     abbrev pattern_line : Row → Bool

@@ -1,8 +1,7 @@
 -- The lines of the conditions that keep a row or drop it.
-use Rattle.std.proofs.Common.{◌≡◌, ◌∙◌, sym, ap, refl, subst, ◌==◌, inl, inr, List, [], ◌∷◌, ◌++◌, map, length, cond, Bool, true, false, not, ◌&&◌, ◌||◌}
+use Rattle.std.proofs.Common.{◌≡◌, ◌∙◌, sym, ap, refl, ◌==◌, inl, inr, List, [], ◌∷◌, ◌++◌, map, length, cond, Bool, true, false, not, ◌&&◌, ◌||◌}
 use Rattle.std.specs.List.{filter, list_any}
 use Rattle.fx_base.specs.Lists.{In}
-use Rattle.fx_base.specs.declared.fact.Fact.{Fact}
 use Rattle.row_delta.specs.declared.row.Row.{Row}
 use Rattle.rule_model.specs.declared.condition.Condition.{Condition}
 use Rattle.rule_model.specs.declared.condition.Condition.TheVariants.{Negated, Existing}

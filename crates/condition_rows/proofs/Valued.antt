@@ -1,5 +1,5 @@
 -- The line of an accumulate.
-use Rattle.std.proofs.Common.{◌≡◌, ◌∙◌, sym, ap, refl, subst, ◌==◌, ℤ, inl, inr, List, [], ◌∷◌, ◌++◌, cond, Bool, true, false, ◌&&◌, Option, Some, None, if◌then◌else◌}
+use Rattle.std.proofs.Common.{◌≡◌, ◌∙◌, sym, ap, refl, subst, ℤ, inl, inr, List, [], ◌∷◌, ◌++◌, cond, Bool, true, false, ◌&&◌, Option, Some, None}
 use Rattle.std.specs.List.{filter}
 use Rattle.std.specs.Option.{option_map}
 use Rattle.std.specs.Ordering.{int_eq}
@@ -11,11 +11,10 @@ use Rattle.row_delta.specs.declared.row.Row.{Row}
 use Rattle.rule_model.specs.declared.condition.Accumulate.{Accumulate}
 use Rattle.rule_model.specs.declared.condition.Condition.{Condition}
 use Rattle.rule_model.specs.declared.condition.Condition.TheVariants.{Folded}
-use Rattle.rule_model.specs.declared.condition.Pattern.{Pattern}
 use Rattle.rule_model.specs.declared.program.Program.{Program}
 use Rattle.rule_model.specs.Candidates.{is_candidate, candidates, passes, passing}
 use Rattle.rule_model.specs.Distinct.{HaveDistinctTags}
-use Rattle.rule_model.specs.Rows.{result_of, with_result, extended}
+use Rattle.rule_model.specs.Rows.{result_of, with_result}
 use Rattle.rule_model.specs.Snapshots.{Snapshot}
 use Rattle.rule_model.specs.Tests.{results_hold}
 use Rattle.rule_model.specs.Tuples.{Tuple, Bindings, empty_tuple, with_value, name_of, row_of, bound_by}
@@ -24,7 +23,7 @@ use Rattle.rule_model.proofs.Named.{of_filter}
 use Rattle.join_tests.specs.Joins.{joins}
 use Rattle.pair_memory.specs.Joined.{behind_first, split_last}
 use Rattle.condition_rows.specs.Sets.{rows_of, held, partners}
-use Rattle.condition_rows.specs.Lines.{value_front, unvalued, splits_value, valued, is_result, gives, line}
+use Rattle.condition_rows.specs.Lines.{with_last_value, value_front, splits_value, valued, is_result, gives, line}
 use Rattle.condition_rows.proofs.Ends.{same_truth, IsMade, tuple_of_row, row_of_tuple, split_end, with_end}
 use Rattle.condition_rows.proofs.Joined.{joins_made}
 use Rattle.condition_rows.proofs.Kept.{bound_made}
@@ -51,20 +50,16 @@ is_split (x ∷ xs) = behind_split x xs (split_last xs) (is_split xs)
 abbrev valued_row : List ℤ → Row → Row
 valued_row values row = record { facts = row.facts; values = values }
 
--- a row with one value more
-abbrev one_value : Row → ℤ → Row
-one_value row v = valued_row (row.values ++ v ∷ []) row
-
-valued_with : (test : Row → ℤ → Bool) (row : Row) (v : ℤ) → valued test (one_value row v) ≡ test row v
+pub valued_with : (test : Row → ℤ → Bool) (row : Row) (v : ℤ) → valued test (with_last_value row v) ≡ test row v
 unfolding valued
 valued_with test row v = ap (λ o. splits_value test (option_map (value_front row) o)) (split_snoc row.values v)
 
 split_value : (test : Row → ℤ → Bool) (row : Row) (o : Option (List ℤ × ℤ)) → IsSplit row.values o → splits_value test (option_map (value_front row) o) ≡ true
-    → (left : Row) × (v : ℤ) × (one_value left v ≡ row) × (test left v ≡ true)
+    → (left : Row) × (v : ℤ) × (row ≡ with_last_value left v) × (test left v ≡ true)
 split_value test row None is e = absurd (let n : false ≡ true = e in cc)
-split_value test row (Some p) is e = (valued_row p.0 row, p.1, ap (λ values. valued_row values row) (sym is), e)
+split_value test row (Some p) is e = (valued_row p.0 row, p.1, ap (λ values. valued_row values row) is, e)
 
-valued_from : (test : Row → ℤ → Bool) (row : Row) → valued test row ≡ true → (left : Row) × (v : ℤ) × (one_value left v ≡ row) × (test left v ≡ true)
+pub valued_from : (test : Row → ℤ → Bool) (row : Row) → valued test row ≡ true → (left : Row) × (v : ℤ) × (row ≡ with_last_value left v) × (test left v ≡ true)
 unfolding valued
 valued_from test row e = split_value test row (split_last row.values) (is_split row.values) e
 
@@ -127,7 +122,7 @@ module _ (p : Program) (s : Snapshot) (d : HaveDistinctTags s.facts) (front : Li
       row_of_tuple p s (front ++ Folded a ∷ []) row (
         with_value t.0 r.1,
         with_end p s (Folded a) front empty_tuple t.0 (with_value t.0 r.1) t.1 next,
-        ap (λ (left : Row). one_value left r.1) t.2 ∙ r.2,
+        ap (λ (left : Row). with_last_value left r.1) t.2 ∙ sym r.2,
       )
 
   pub folded_line : (row : Row) → rows_of p s (front ++ Folded a ∷ []) row ≡ line p s (Folded a) (rows_of p s front) row

@@ -1,6 +1,6 @@
 -- What one condition more at the end makes of the rows of the conditions before it, read backward from a row: for each kind of
 -- condition one line.
-use Rattle.std.specs.Prelude.{◌&&◌, not, Bool, false, ℤ, List, [], Option, Some, None}
+use Rattle.std.specs.Prelude.{◌&&◌, not, Bool, false, ℤ, List, [], ◌∷◌, ◌++◌, Option, Some, None}
 use Rattle.std.specs.List.{fold}
 use Rattle.std.specs.Option.{option_map}
 use Rattle.std.specs.Ordering.{eq_by_cmp, int_eq}
@@ -21,6 +21,10 @@ use Rattle.pair_memory.specs.Joined.{split_last, joined}
 use Rattle.condition_rows.specs.Sets.{held, candidates_of, has_partner, partners}
 
 -- ---- rows with a value more
+
+-- a row with one value more
+abbrev pub with_last_value : Row → ℤ → Row
+with_last_value row v = record { facts = row.facts; values = row.values ++ v ∷ [] }
 
 -- the row of the front of its values, and the last one
 abbrev pub value_front : Row → (List ℤ × ℤ) → Row × ℤ
