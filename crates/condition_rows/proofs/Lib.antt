@@ -1,0 +1,6 @@
+mod Holding
+mod Ends
+mod Joined
+mod Kept
+mod Valued
+pub mod Whole

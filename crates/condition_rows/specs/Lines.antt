@@ -1,0 +1,83 @@
+-- What one condition more at the end makes of the rows of the conditions before it, read backward from a row: for each kind of
+-- condition one line.
+use Rattle.std.specs.Prelude.{◌&&◌, not, Bool, false, ℤ, List, [], ◌∷◌, ◌++◌, Option, Some, None}
+use Rattle.std.specs.List.{fold}
+use Rattle.std.specs.Option.{option_map}
+use Rattle.std.specs.Ordering.{eq_by_cmp, int_eq}
+use Rattle.row_delta.specs.declared.row.Row.{Row}
+use Rattle.row_delta.specs.Rows.{row_cmp}
+use Rattle.rule_model.specs.declared.condition.Accumulate.{Accumulate}
+use Rattle.rule_model.specs.declared.condition.Condition.{Condition}
+use Rattle.rule_model.specs.declared.condition.Condition.TheVariants.{Plain, Negated, Existing, Folded}
+use Rattle.rule_model.specs.declared.condition.Pattern.{Pattern}
+use Rattle.rule_model.specs.declared.program.Program.{Program}
+use Rattle.rule_model.specs.Lent.{bound_in}
+use Rattle.rule_model.specs.Maturity.{is_mature, told_to}
+use Rattle.rule_model.specs.Rows.{result_of}
+use Rattle.rule_model.specs.Snapshots.{Snapshot}
+use Rattle.rule_model.specs.Tests.{results_hold}
+use Rattle.join_tests.specs.Joins.{joins}
+use Rattle.pair_memory.specs.Joined.{split_last, joined}
+use Rattle.condition_rows.specs.Sets.{held, candidates_of, has_partner, partners}
+
+-- ---- rows with a value more
+
+-- a row with one value more
+abbrev pub with_last_value : Row → ℤ → Row
+with_last_value row v = record { facts = row.facts; values = row.values ++ v ∷ [] }
+
+-- the row of the front of its values, and the last one
+abbrev pub value_front : Row → (List ℤ × ℤ) → Row × ℤ
+value_front row p = (record { facts = row.facts; values = p.0 }, p.1)
+
+-- a row as the row without its last value, and that value
+abbrev pub unvalued : Row → Option (Row × ℤ)
+unvalued row = option_map (value_front row) (split_last row.values)
+
+-- whether a test holds of a row and its last value
+abbrev pub splits_value : (Row → ℤ → Bool) → Option (Row × ℤ) → Bool
+splits_value test None = false
+splits_value test (Some p) = test p.0 p.1
+
+-- the test holds of the row without its last value, and that value
+unfoldable pub valued : (Row → ℤ → Bool) → Row → Bool
+valued test row = splits_value test (unvalued row)
+
+-- ---- what a condition asks of a row
+
+-- what the row has bound is mature for the negative pattern
+unfoldable pub is_ripe : Program → Pattern → Snapshot → Row → Bool
+is_ripe p pattern s row = is_mature p pattern (bound_in (held s) row) (told_to p s pattern.entry.0)
+
+-- the value is what there is
+abbrev pub is_result : Option ℤ → ℤ → Bool
+is_result None v = false
+is_result (Some n) v = int_eq n v
+
+-- the value is the result of the function over the candidates that join the row, and its tests hold
+unfoldable pub gives : Program → Accumulate → Snapshot → Row → ℤ → Bool
+gives p a s row v = is_result (result_of a (partners p a.pattern s row)) v && results_hold (bound_in (held s) row) v a.tests
+
+-- ---- the lines
+
+-- The rows with one condition more, of the rows without it. A pattern: without its last fact a row is one of them, and that fact is a
+-- candidate that joins it. `not`: the row is one of them, no candidate joins it, and it is mature. `exists`: the row is one of them,
+-- and some candidate joins it. `accumulate`: without its last value the row is one of them, and that value is the result over the
+-- candidates that join it, whose tests hold.
+abbrev pub line : Program → Snapshot → Condition → (Row → Bool) → Row → Bool
+line p s (Plain pattern) left row = joined (joins pattern (held s)) left (candidates_of p pattern s) row
+line p s (Negated pattern) left row = left row && (not (has_partner p pattern s row) && is_ripe p pattern s row)
+line p s (Existing pattern) left row = left row && has_partner p pattern s row
+line p s (Folded a) left row = valued (λ without v. left without && gives p a s without v) row
+
+-- the row that names nothing
+abbrev pub empty_row : Row
+empty_row = record { facts = []; values = [] }
+
+-- the set that has the empty row alone
+abbrev pub is_empty_row : Row → Bool
+is_empty_row row = eq_by_cmp row_cmp row empty_row
+
+-- the lines of conditions, one after the other, from the empty row alone
+unfoldable pub lines : Program → Snapshot → List Condition → Row → Bool
+lines p s conditions = fold (λ left condition. line p s condition left) is_empty_row conditions

@@ -1,0 +1,112 @@
+-- A candidate that joins a row has the row's join value.
+use Rattle.std.proofs.Common.{◌≡◌, ◌∙◌, sym, ap, refl, subst, ℕ, List, [], ◌∷◌, Bool, true, false, ◌&&◌, ◌||◌, Option, Some, None, slice_get}
+use Rattle.std.specs.List.{list_any}
+use Rattle.std.specs.Option.{option_map, option_or}
+use Rattle.fx_base.specs.declared.value.Value.{Value}
+use Rattle.fx_base.specs.Values.{same_value}
+use Rattle.fx_base.specs.SameValues.{equal_values}
+use Rattle.fx_base.specs.declared.fact.Fact.{Fact}
+use Rattle.row_delta.specs.declared.row.Named.{Named}
+use Rattle.row_delta.specs.declared.row.Row.{Row}
+use Rattle.rule_model.specs.declared.test.RelTag.{RelTag}
+use Rattle.rule_model.specs.declared.test.RelTag.TheVariants.{OneOf, Equal, NotEqual, Less, LessOrEqual, Greater, GreaterOrEqual}
+use Rattle.rule_model.specs.declared.test.Side.{Side}
+use Rattle.rule_model.specs.declared.test.Side.TheVariants.{Lit, Own, Of, Result}
+use Rattle.rule_model.specs.declared.test.Compare.{Compare}
+use Rattle.rule_model.specs.declared.test.Test.{Test}
+use Rattle.rule_model.specs.declared.condition.Pattern.{Pattern}
+use Rattle.rule_model.specs.Lent.{bound_in, tuple_of}
+use Rattle.rule_model.specs.Tests.{field_of, related, related_given, side_value, related_side, compare_holds, compares_hold, test_holds, tests_hold, times_hold}
+use Rattle.rule_model.specs.Tuples.{Bindings, bound_by}
+use Rattle.rule_model.proofs.Naming.{bound_named}
+use Rattle.join_tests.specs.declared.key.JoinKey.{JoinKey}
+use Rattle.join_tests.specs.Joins.{Look, version_at, versions_at, passes_given, joins}
+use Rattle.join_tests.specs.Keys.{key_of_side, key_of_sides, key_of_compare, key_of_compares, key_of_choices, key_of_tests, join_key, earlier_value, given_or_true, row_value, candidate_value}
+use Rattle.join_tests.proofs.Versions.{version_is, versions_are, row_is}
+
+-- both of two that hold
+first_of : (a b : Bool) → (a && b) ≡ true → a ≡ true
+first_of true b e = refl
+first_of false b e = e
+
+rest_of : (a b : Bool) → (a && b) ≡ true → b ≡ true
+rest_of true b e = e
+rest_of false b e = let f : false ≡ true = e in cc
+
+one_of : (a : Bool) → (a || false) ≡ true → a ≡ true
+one_of true e = refl
+one_of false e = e
+
+module _ (bound : Bindings) (f : Fact) where
+  -- the two values of a key are the same
+  abbrev Meets : Option JoinKey → Type 0
+  Meets None = Unit {0}
+  Meets (Some key) = given_or_true (earlier_value bound key.side) ≡ given_or_true (slice_get f.fields key.field)
+
+  module _ (rel : RelTag) (same : (a b : Value) → related rel a b ≡ same_value a b) where
+    given_meet : (left right : Option Value) → related_given rel left right ≡ true → given_or_true right ≡ given_or_true left
+    given_meet None right e = let f : false ≡ true = e in cc
+    given_meet (Some a) None e = let f : false ≡ true = e in cc
+    given_meet (Some a) (Some b) e = sym (equal_values a b (sym (same a b) ∙ e))
+
+    side_meets : (field : ℕ) (side : Side) → related_side bound rel (slice_get f.fields field) (Some f) side ≡ true → Meets (key_of_side field side)
+    side_meets field (Lit v) e = tt
+    side_meets field (Own own) e = tt
+    side_meets field (Of fact of) e = given_meet (slice_get f.fields field) (side_value bound None (Of fact of)) e
+    side_meets field (Result place) e = given_meet (slice_get f.fields field) (side_value bound None (Result place)) e
+
+    sides_meet : (field : ℕ) (sides : List Side) → list_any (related_side bound rel (slice_get f.fields field) (Some f)) sides ≡ true → Meets (key_of_sides field sides)
+    sides_meet field [] e = tt
+    sides_meet field (side ∷ []) e = side_meets field side (one_of _ e)
+    sides_meet field (side ∷ (other ∷ sides)) e = tt
+
+  compare_meets : (rel : RelTag) (field : ℕ) (sides : List Side) → list_any (related_side bound rel (slice_get f.fields field) (Some f)) sides ≡ true → Meets (key_of_compare rel field sides)
+  compare_meets OneOf field sides e = sides_meet OneOf (λ a b. refl) field sides e
+  compare_meets Equal field sides e = sides_meet Equal (λ a b. refl) field sides e
+  compare_meets NotEqual field sides e = tt
+  compare_meets Less field sides e = tt
+  compare_meets LessOrEqual field sides e = tt
+  compare_meets Greater field sides e = tt
+  compare_meets GreaterOrEqual field sides e = tt
+
+  either_meets : (a b : Option JoinKey) → Meets a → Meets b → Meets (option_or a b)
+  either_meets None b p q = q
+  either_meets (Some key) b p q = p
+
+  compares_meet : (cs : List Compare) → compares_hold bound f cs ≡ true → Meets (key_of_compares cs)
+  compares_meet [] e = tt
+  compares_meet (c ∷ cs) e =
+      either_meets (key_of_compare c.rel c.field c.against) (key_of_compares cs) (compare_meets c.rel c.field c.against (first_of _ (compares_hold bound f cs) e))
+      (compares_meet cs (rest_of (compare_holds bound f c) _ e))
+
+  choices_meet : (choices : List (List Compare)) → list_any (compares_hold bound f) choices ≡ true → Meets (key_of_choices choices)
+  choices_meet [] e = tt
+  choices_meet (choice ∷ []) e = compares_meet choice (one_of _ e)
+  choices_meet (choice ∷ (other ∷ choices)) e = tt
+
+  tests_meet : (tests : List Test) → tests_hold bound f tests ≡ true → Meets (key_of_tests tests)
+  tests_meet [] e = tt
+  tests_meet (test ∷ tests) e =
+      either_meets (key_of_choices test.choices) (key_of_tests tests) (choices_meet test.choices (first_of _ (tests_hold bound f tests) e)) (tests_meet tests (rest_of (test_holds bound f test) _ e))
+
+values_meet : (look : Look) (row : Row) (who : Named) (f : Fact) (key : Option JoinKey) → look who.tag ≡ Some f → Meets (bound_in look row) f key → row_value key look row ≡ candidate_value key look who
+unfolding row_value candidate_value
+values_meet look row who f None is meets = refl
+values_meet look row who f (Some key) is meets = meets ∙ ap (λ found. given_or_true (field_of found key.field)) (sym is)
+
+found_meet : (p : Pattern) (look : Look) (row : Row) (who : Named) (all : Option (List Fact)) → versions_at look row.facts ≡ all → (o : Option Fact) → version_at look who ≡ o
+    → passes_given p (option_map (λ facts. tuple_of facts row.values) all) o ≡ true → row_value (join_key p) look row ≡ candidate_value (join_key p) look who
+unfolding join_key
+found_meet p look row who None is o found e = let f : false ≡ true = e in cc
+found_meet p look row who (Some facts) is None found e = let f : false ≡ true = e in cc
+found_meet p look row who (Some facts) is (Some f) found e =
+    let tuple = tuple_of facts row.values in
+    let bound : bound_in look row ≡ bound_by tuple = bound_named look row tuple (row_is look row facts is) (versions_are look row.facts facts is).1 in
+    let holds : tests_hold (bound_by tuple) f p.joined ≡ true = first_of _ (times_hold (bound_by tuple) f.times p.times) e in
+    values_meet look row who f (key_of_tests p.joined) (version_is look who f found).0
+    (tests_meet (bound_in look row) f p.joined (subst (λ (b : Bindings). tests_hold b f p.joined ≡ true) (sym bound) holds))
+
+-- a candidate that joins a row has its join value
+pub keys_meet : (p : Pattern) (look : Look) (row : Row) (who : Named) → joins p look row who ≡ true → row_value (join_key p) look row ≡ candidate_value (join_key p) look who
+unfolding joins
+keys_meet p look row who e = found_meet p look row who (versions_at look row.facts) refl (version_at look who) refl e

@@ -1,0 +1,14 @@
+//! When a candidate joins a row, and the equality by which the two find each other.
+//! It stands on facts, rows and the tests of patterns, and assumes nothing of the outside.
+#![tactic(auto)]
+
+mod join_value;
+mod joins;
+mod key;
+mod keyed;
+pub mod laws;
+
+pub use join_value::JoinValue;
+pub use joins::does_join;
+pub use key::{JoinKey, JoinSide};
+pub use keyed::KeyedPattern;

@@ -1,0 +1,243 @@
+-- Rows that are made by one fact more.
+use Rattle.std.proofs.Common.{◌≡◌, ◌∙◌, sym, ap, refl, subst, List, [], ◌∷◌, ◌++◌, Bool, true, false, ◌&&◌, ◌||◌, Option, Some, None}
+use Rattle.std.specs.Option.{option_map}
+use Rattle.std.specs.Bool.{Decides}
+use Rattle.std.specs.declared.cmp.Ordering.{Ordering}
+use Rattle.std.specs.declared.cmp.Ordering.TheVariants.{Less, Equal, Greater}
+use Rattle.std.specs.Ordering.{eq_by_cmp, is_eq}
+use Rattle.std.proofs.lemmas.Bool.Decides.{same_from_decides}
+use Rattle.std.proofs.lemmas.List.Folds.{list_any-append}
+use Rattle.row_delta.specs.declared.row.Named.{Named}
+use Rattle.row_delta.specs.declared.row.Row.{Row}
+use Rattle.row_delta.specs.Rows.{row_cmp, has}
+use Rattle.row_delta.specs.RowOrder.{same_equiv, row_exact}
+use Rattle.row_delta.specs.NameOrder.{name_cmp, name_equiv, name_exact}
+use Rattle.pair_memory.specs.Joined.{with_name, behind_first, split_last, front_of, unjoined, splits, joined, has_name}
+
+equal_from : (o : Ordering) → is_eq o ≡ true → o ≡ Equal
+equal_from Less e = let f : false ≡ true = e in cc
+equal_from Equal e = refl
+equal_from Greater e = let f : false ≡ true = e in cc
+
+pub row_decides : (a b : Row) → Decides (eq_by_cmp row_cmp a b) (a ≡ b)
+row_decides a b = (λ e. row_exact a b (equal_from (row_cmp a b) e), λ e. subst (λ c. eq_by_cmp row_cmp a c ≡ true) e (same_equiv.refl a))
+
+pub name_decides : (a b : Named) → Decides (eq_by_cmp name_cmp a b) (a ≡ b)
+name_decides a b = (λ e. name_exact a b (equal_from (name_cmp a b) e), λ e. subst (λ c. eq_by_cmp name_cmp a c ≡ true) e (name_equiv.refl a))
+
+split_snoc : {A : Type 0} (xs : List A) (x : A) → split_last (xs ++ x ∷ []) ≡ Some (xs, x)
+split_snoc [] x = refl
+split_snoc (y ∷ ys) x = ap (λ o. Some (behind_first y o)) (split_snoc ys x)
+
+snoc_behind : {A : Type 0} (x : A) (xs : List A) (o : Option (List A × A)) → split_last xs ≡ o → (p : List A × A) → behind_first x o ≡ p → ((q : List A × A) → split_last xs ≡ Some q → xs ≡ q.0 ++ q.1 ∷ []) → (split_last xs ≡ None → xs ≡ []) → x ∷ xs ≡ p.0 ++ p.1 ∷ []
+snoc_behind x xs None e p is some none = ap (λ ys. x ∷ ys) (none e) ∙ ap (λ p. p.0 ++ p.1 ∷ []) is
+snoc_behind x xs (Some q) e p is some none = ap (λ ys. x ∷ ys) (some q e) ∙ ap (λ p. p.0 ++ p.1 ∷ []) is
+
+no_last : {A : Type 0} (xs : List A) → split_last xs ≡ None → xs ≡ []
+no_last [] e = refl
+no_last (x ∷ xs) e = cc
+
+is_snoc : {A : Type 0} (xs : List A) (p : List A × A) → split_last xs ≡ Some p → xs ≡ p.0 ++ p.1 ∷ []
+is_snoc [] p e = cc
+is_snoc (x ∷ xs) p e =
+    let h : behind_first x (split_last xs) ≡ p = cc in
+    snoc_behind x xs (split_last xs) refl p h (is_snoc xs) (no_last xs)
+
+abbrev row_of : List Named → Row → Row
+row_of facts row = record { facts = facts; values = row.values }
+
+pub unjoined_with : (row : Row) (who : Named) → unjoined (with_name row who) ≡ Some (row, who)
+unjoined_with row who = ap (λ o. option_map (front_of row) o) (split_snoc row.facts who)
+
+unjoined_is : (row : Row) (o : Option (List Named × Named)) → split_last row.facts ≡ o → (p : Row × Named) → option_map (front_of row) o ≡ Some p → row ≡ with_name p.0 p.1
+unjoined_is row None s p e = cc
+unjoined_is row (Some q) s p e =
+    let h : front_of row q ≡ p = cc in
+    ap (λ facts. row_of facts row) (is_snoc row.facts q s) ∙ ap (λ p. with_name p.0 p.1) h
+
+pub from_unjoined : (row : Row) (p : Row × Named) → unjoined row ≡ Some p → row ≡ with_name p.0 p.1
+from_unjoined row p e = unjoined_is row (split_last row.facts) refl p e
+
+both_true : (a b : Bool) → (a && b) ≡ true → (a ≡ true) × (b ≡ true)
+both_true true b e = (refl, e)
+both_true false b e = let f : false ≡ true = e in cc
+
+-- the test that a row is the one with this fact more
+abbrev is_pair : Row → Named → Row → Named → Bool
+is_pair l who front last = eq_by_cmp row_cmp front l && eq_by_cmp name_cmp last who
+
+pair_from : (row l : Row) (who : Named) (o : Option (Row × Named)) → unjoined row ≡ o → splits (is_pair l who) o ≡ true → row ≡ with_name l who
+pair_from row l who None e h = let f : false ≡ true = h in cc
+pair_from row l who (Some p) e h =
+    let k = both_true (eq_by_cmp row_cmp p.0 l) (eq_by_cmp name_cmp p.1 who) h in
+    from_unjoined row p e ∙ ap (λ r. with_name r p.1) ((row_decides p.0 l).0 k.0) ∙ ap (λ c. with_name l c) ((name_decides p.1 who).0 k.1)
+
+truths : (a b : Bool) → a ≡ true → b ≡ true → (a && b) ≡ true
+truths a b e f = ap (λ x. x && b) e ∙ f
+
+pub is_with : (row l : Row) (who : Named) → eq_by_cmp row_cmp row (with_name l who) ≡ splits (is_pair l who) (unjoined row)
+is_with row l who =
+    same_from_decides _ _ (row_decides row (with_name l who)) (
+      pair_from row l who (unjoined row) refl,
+      λ e. subst (λ r. splits (is_pair l who) (unjoined r) ≡ true) (sym e) (subst (λ o. splits (is_pair l who) o ≡ true) (sym (unjoined_with l who)) (truths _ _ (same_equiv.refl l) (name_equiv.refl who))),
+    )
+
+-- ---- one turn of a loop over the rows, or the candidates, of a bucket
+
+-- tests that answer alike
+pub splits_alike : (t u : Row → Named → Bool) → ((l : Row) (c : Named) → t l c ≡ u l c) → (o : Option (Row × Named)) → splits t o ≡ splits u o
+splits_alike t u h None = refl
+splits_alike t u h (Some p) = h p.0 p.1
+
+splits_or : (t u : Row → Named → Bool) (o : Option (Row × Named)) → splits (λ l c. t l c || u l c) o ≡ (splits t o || splits u o)
+splits_or t u None = refl
+splits_or t u (Some p) = refl
+
+splits_and : (t : Row → Named → Bool) (b : Bool) (o : Option (Row × Named)) → splits (λ l c. t l c && b) o ≡ (splits t o && b)
+splits_and t b None = refl
+splits_and t b (Some p) = refl
+
+or_and : (a n b : Bool) → ((a || n) && b) ≡ ((a && b) || (n && b))
+or_and true n true = refl
+or_and true true false = refl
+or_and true false false = refl
+or_and false n b = refl
+
+or_and_right : (d a n q : Bool) → (d && ((a || n) && q)) ≡ ((d && (a && q)) || (d && (n && q)))
+or_and_right true a n q = or_and a n q
+or_and_right false a n q = refl
+
+under : (x y q v : Bool) → (x ≡ true → y ≡ true → q ≡ v) → (x && (y && q)) ≡ ((x && y) && v)
+under true true q v h = h refl refl
+under true false q v h = refl
+under false y q v h = refl
+
+taken : (f a n : Bool) → ((f || (a || false)) || n) ≡ (f || ((a && true) || n))
+taken true a n = refl
+taken false true n = refl
+taken false false n = refl
+
+passed : (f a n : Bool) → (f || n) ≡ (f || ((a && false) || n))
+passed f true n = refl
+passed f false n = refl
+
+module _ (pass : Row → Named → Bool) where
+  pair_passes : (l : Row) (who : Named) (o : Option (Row × Named))
+      → splits (λ m c. eq_by_cmp row_cmp m l && (eq_by_cmp name_cmp who c && pass m c)) o ≡ (splits (is_pair l who) o && pass l who)
+  pair_passes l who o =
+      splits_alike _ _ (λ m c. ap (λ b. eq_by_cmp row_cmp m l && (b && pass m c)) (name_equiv.symm who c)
+      ∙ under (eq_by_cmp row_cmp m l) (eq_by_cmp name_cmp c who) (pass m c) (pass l who) (λ x y. ap (λ r. pass r c) ((row_decides m l).0 x) ∙ ap (pass l) ((name_decides c who).0 y))) o
+      ∙ splits_and (is_pair l who) (pass l who) o
+
+  pair_passes_right : (l : Row) (who : Named) (o : Option (Row × Named))
+      → splits (λ m c. eq_by_cmp row_cmp l m && (eq_by_cmp name_cmp c who && pass m c)) o ≡ (splits (is_pair l who) o && pass l who)
+  pair_passes_right l who o =
+      splits_alike _ _ (λ m c. ap (λ b. b && (eq_by_cmp name_cmp c who && pass m c)) (same_equiv.symm l m)
+      ∙ under (eq_by_cmp row_cmp m l) (eq_by_cmp name_cmp c who) (pass m c) (pass l who) (λ x y. ap (λ r. pass r c) ((row_decides m l).0 x) ∙ ap (pass l) ((name_decides c who).0 y))) o
+      ∙ splits_and (is_pair l who) (pass l who) o
+
+  pub more_rows : (l : Row) (next : List Row) (who : Named) (r : Row)
+      → joined pass (has (l ∷ next)) (eq_by_cmp name_cmp who) r ≡ ((eq_by_cmp row_cmp r (with_name l who) && pass l who) || joined pass (has next) (eq_by_cmp name_cmp who) r)
+  unfolding joined
+  more_rows l next who r =
+      splits_alike _ _ (λ m c. or_and (eq_by_cmp row_cmp m l) (has next m) (eq_by_cmp name_cmp who c && pass m c)) (unjoined r)
+      ∙ splits_or _ _ (unjoined r)
+      ∙ ap (λ b. b || splits (λ m c. has next m && (eq_by_cmp name_cmp who c && pass m c)) (unjoined r)) (pair_passes l who (unjoined r) ∙ ap (λ b. b && pass l who) (sym (is_with r l who)))
+
+  pub more_names : (l : Row) (who : Named) (next : List Named) (r : Row)
+      → joined pass (eq_by_cmp row_cmp l) (has_name (who ∷ next)) r ≡ ((eq_by_cmp row_cmp r (with_name l who) && pass l who) || joined pass (eq_by_cmp row_cmp l) (has_name next) r)
+  unfolding joined
+  more_names l who next r =
+      splits_alike _ _ (λ m c. or_and_right (eq_by_cmp row_cmp l m) (eq_by_cmp name_cmp c who) (has_name next c) (pass m c)) (unjoined r)
+      ∙ splits_or _ _ (unjoined r)
+      ∙ ap (λ b. b || splits (λ m c. eq_by_cmp row_cmp l m && (has_name next c && pass m c)) (unjoined r)) (pair_passes_right l who (unjoined r) ∙ ap (λ b. b && pass l who) (sym (is_with r l who)))
+
+  module _ (l : Row) (who : Named) (found : List Row) (r : Row) (after all total : Bool) (more : all ≡ ((eq_by_cmp row_cmp r (with_name l who) && pass l who) || after)) (so_far : (has found r || all) ≡ total) where
+    pub one_taken : (found_now : List Row) → found_now ≡ found ++ with_name l who ∷ [] → pass l who ≡ true → (has found_now r || after) ≡ total
+    one_taken found_now is e =
+        ap (λ (rows : List Row). has rows r || after) is
+        ∙ ap (λ b. b || after) (list_any-append (eq_by_cmp row_cmp r) found (with_name l who ∷ []))
+        ∙ taken (has found r) (eq_by_cmp row_cmp r (with_name l who)) after
+        ∙ ap (λ b. has found r || ((eq_by_cmp row_cmp r (with_name l who) && b) || after)) (sym e)
+        ∙ ap (λ b. has found r || b) (sym more) ∙ so_far
+
+    pub one_passed : pass l who ≡ false → (has found r || after) ≡ total
+    one_passed e =
+        passed (has found r) (eq_by_cmp row_cmp r (with_name l who)) after
+        ∙ ap (λ b. has found r || ((eq_by_cmp row_cmp r (with_name l who) && b) || after)) (sym e)
+        ∙ ap (λ b. has found r || b) (sym more) ∙ so_far
+
+-- ---- the ends of such a loop
+
+none_split : (t : Row → Named → Bool) → ((l : Row) (c : Named) → t l c ≡ false) → (o : Option (Row × Named)) → splits t o ≡ false
+none_split t h None = refl
+none_split t h (Some p) = h p.0 p.1
+
+and_nothing : (a : Bool) → (a && false) ≡ false
+and_nothing true = refl
+and_nothing false = refl
+
+or_nothing : (a : Bool) → (a || false) ≡ a
+or_nothing true = refl
+or_nothing false = refl
+
+-- sets that answer alike make the same rows
+pub joined_alike : (pass : Row → Named → Bool) (left left_too : Row → Bool) (right right_too : Named → Bool) → ((l : Row) → left l ≡ left_too l) → ((c : Named) → right c ≡ right_too c)
+    → (r : Row) → joined pass left right r ≡ joined pass left_too right_too r
+unfolding joined
+joined_alike pass left left_too right right_too h k r =
+    splits_alike _ _ (λ l c. ap (λ b. b && (right c && pass l c)) (h l) ∙ ap (λ b. left_too l && (b && pass l c)) (k c)) (unjoined r)
+
+no_left : (pass : Row → Named → Bool) (right : Named → Bool) (r : Row) → joined pass (has []) right r ≡ false
+unfolding joined
+no_left pass right r = none_split _ (λ l c. refl) (unjoined r)
+
+no_right : (pass : Row → Named → Bool) (left : Row → Bool) (r : Row) → joined pass left (has_name []) r ≡ false
+unfolding joined
+no_right pass left r = none_split _ (λ l c. and_nothing (left l)) (unjoined r)
+
+module _ (pass : Row → Named → Bool) (found : List Row) (r : Row) where
+  pub rows_begin : (keys : List Row) (left : Row → Bool) (right : Named → Bool) → found ≡ [] → ((q : Row) → left q ≡ has keys q)
+      → (has found r || joined pass (has keys) right r) ≡ joined pass left right r
+  rows_begin keys left right none h =
+      ap (λ (rows : List Row). has rows r || joined pass (has keys) right r) none
+      ∙ joined_alike pass (has keys) left right right (λ q. sym (h q)) (λ c. refl) r
+
+  pub names_begin : (keys : List Named) (left : Row → Bool) (right : Named → Bool) → found ≡ [] → ((q : Named) → right q ≡ has_name keys q)
+      → (has found r || joined pass left (has_name keys) r) ≡ joined pass left right r
+  names_begin keys left right none h =
+      ap (λ (rows : List Row). has rows r || joined pass left (has_name keys) r) none
+      ∙ joined_alike pass left left (has_name keys) right (λ q. refl) (λ q. sym (h q)) r
+
+  pub rows_end : (rest : List Row) (right : Named → Bool) (total : Bool) → rest ≡ [] → (has found r || joined pass (has rest) right r) ≡ total → has found r ≡ total
+  rows_end rest right total none so_far =
+      sym (or_nothing (has found r)) ∙ ap (λ b. has found r || b) (sym (no_left pass right r))
+      ∙ ap (λ (rows : List Row). has found r || joined pass (has rows) right r) (sym none) ∙ so_far
+
+  pub names_end : (rest : List Named) (left : Row → Bool) (total : Bool) → rest ≡ [] → (has found r || joined pass left (has_name rest) r) ≡ total → has found r ≡ total
+  names_end rest left total none so_far =
+      sym (or_nothing (has found r)) ∙ ap (λ b. has found r || b) (sym (no_right pass left r))
+      ∙ ap (λ (names : List Named). has found r || joined pass left (has_name names) r) (sym none) ∙ so_far
+
+-- from no rows, or with no candidates, nothing is made
+pub none_left : (pass : Row → Named → Bool) (left : Row → Bool) (right : Named → Bool) → ((l : Row) → left l ≡ false) → (r : Row) → joined pass left right r ≡ false
+unfolding joined
+none_left pass left right h r = none_split _ (λ l c. ap (λ b. b && (right c && pass l c)) (h l)) (unjoined r)
+
+pub none_right : (pass : Row → Named → Bool) (left : Row → Bool) (right : Named → Bool) → ((c : Named) → right c ≡ false) → (r : Row) → joined pass left right r ≡ false
+unfolding joined
+none_right pass left right h r = none_split _ (λ l c. ap (λ b. left l && (b && pass l c)) (h c) ∙ and_nothing (left l)) (unjoined r)
+
+-- ---- a row that is made, as a row with one fact more
+
+pub joined_with : (pass : Row → Named → Bool) (left : Row → Bool) (right : Named → Bool) (row : Row) (who : Named) → joined pass left right (with_name row who) ≡ (left row && (right who && pass row who))
+unfolding joined
+joined_with pass left right row who = ap (splits (λ l c. left l && (right c && pass l c))) (unjoined_with row who)
+
+split_from : (test : Row → Named → Bool) (made : Row) (o : Option (Row × Named)) → unjoined made ≡ o → splits test o ≡ true → (row : Row) × (who : Named) × (made ≡ with_name row who)
+split_from test made None is e = let f : false ≡ true = e in cc
+split_from test made (Some p) is e = (p.0, p.1, from_unjoined made p is)
+
+pub joined_from : (pass : Row → Named → Bool) (left : Row → Bool) (right : Named → Bool) (made : Row) → joined pass left right made ≡ true → (row : Row) × (who : Named) × (made ≡ with_name row who)
+unfolding joined
+joined_from pass left right made e = split_from _ made (unjoined made) refl e

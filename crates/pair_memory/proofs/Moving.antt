@@ -1,0 +1,95 @@
+-- What is kept is seen alike in two stores that have the same facts at the tags that are kept.
+use Rattle.std.proofs.Common.{◌≡◌, ◌∙◌, sym, ap, refl, subst, ℕ, zero, suc, List, [], ◌∷◌, Bool, true, false, cond, Option, Some, None}
+use Rattle.std.specs.Option.{is_some, option_map, option_and_then}
+use Rattle.fx_base.specs.declared.value.Value.{Value}
+use Rattle.fx_base.specs.declared.fact.Fact.{Fact}
+use Rattle.fx_base.specs.Values.{same_value}
+use Rattle.fx_base.specs.SameValues.{equal_values}
+use Rattle.row_delta.specs.declared.row.Named.{Named}
+use Rattle.row_delta.specs.declared.row.Row.{Row}
+use Rattle.row_delta.specs.Rows.{row_cmp}
+use Rattle.row_delta.specs.NameOrder.{name_cmp}
+use Rattle.rule_model.specs.declared.condition.Pattern.{Pattern}
+use Rattle.rule_model.specs.Lent.{named_at, bound_in, tuple_of}
+use Rattle.rule_model.specs.Tests.{field_of}
+use Rattle.join_tests.specs.declared.key.JoinKey.{JoinKey}
+use Rattle.join_tests.specs.declared.key.JoinSide.{JoinSide}
+use Rattle.join_tests.specs.declared.key.JoinSide.TheVariants.{Field, Accumulated}
+use Rattle.join_tests.specs.Joins.{Look, is_version, version_at, versions_at, tuple_at, passes_given, joins}
+use Rattle.join_tests.specs.Keys.{join_key, earlier_value, given_or_true, row_value, candidate_value}
+use Rattle.alpha_memory.specs.JoinIndex.{at}
+use Rattle.pair_memory.specs.Memories.{has_left, has_right}
+use Rattle.pair_memory.specs.Standing.{AlikeOn, MoveLaw}
+
+module _ (look other : Look) where
+  named_alike : (names : List Named) → AlikeOn look other names → (k : ℕ) → named_at look names k ≡ named_at other names k
+  named_alike [] h k = refl
+  named_alike (n ∷ names) h zero = h.0
+  named_alike (n ∷ names) h (suc k) = named_alike names h.1 k
+
+  side_alike : (side : JoinSide) (row : Row) → AlikeOn look other row.facts → earlier_value (bound_in look row) side ≡ earlier_value (bound_in other row) side
+  side_alike (Field fact of) row h = ap (λ found. field_of found of) (named_alike row.facts h fact)
+  side_alike (Accumulated place) row h = refl
+
+  row_value_alike : (key : Option JoinKey) (row : Row) → AlikeOn look other row.facts → row_value key look row ≡ row_value key other row
+  unfolding row_value
+  row_value_alike None row h = refl
+  row_value_alike (Some key) row h = ap given_or_true (side_alike key.side row h)
+
+  candidate_value_alike : (key : Option JoinKey) (who : Named) → look who.tag ≡ other who.tag → candidate_value key look who ≡ candidate_value key other who
+  unfolding candidate_value
+  candidate_value_alike None who h = refl
+  candidate_value_alike (Some key) who h = ap (λ found. given_or_true (field_of found key.field)) h
+
+  version_alike : (named : Named) → look named.tag ≡ other named.tag → version_at look named ≡ version_at other named
+  version_alike named h = ap (option_and_then (λ (f : Fact). cond (is_version named f) (Some f) None)) h
+
+  versions_alike : (names : List Named) → AlikeOn look other names → versions_at look names ≡ versions_at other names
+  versions_alike [] h = refl
+  versions_alike (n ∷ names) h =
+      ap (λ rest. option_and_then (λ (f : Fact). option_map (λ facts. f ∷ facts) rest) (version_at look n)) (versions_alike names h.1)
+      ∙ ap (option_and_then (λ (f : Fact). option_map (λ facts. f ∷ facts) (versions_at other names))) (version_alike n h.0)
+
+  joins_alike : (p : Pattern) (row : Row) (who : Named) → AlikeOn look other row.facts → look who.tag ≡ other who.tag → joins p look row who ≡ joins p other row who
+  unfolding joins
+  joins_alike p row who h e =
+      ap (λ all. passes_given p (option_map (λ facts. tuple_of facts row.values) all) (version_at look who)) (versions_alike row.facts h)
+      ∙ ap (passes_given p (tuple_at other row)) (version_alike who e)
+
+is_none : {X : Type 0} (o : Option X) → is_some o ≡ false → o ≡ None
+is_none None e = refl
+is_none (Some x) e = let f : true ≡ false = e in cc
+
+-- one memory: f and g are the join values in the two stores
+module _ {K S : Type 0} (kept : Value → K → Option S) (f g : K → Value) (agrees : (v : Value) (k : K) → is_some (kept v k) ≡ true → same_value (f k) v ≡ true) (alike : (k : K) → is_some (kept (f k) k) ≡ true → f k ≡ g k) where
+  -- what is kept anywhere stands under its value
+  under : (v : Value) (k : K) → is_some (kept v k) ≡ true → is_some (kept (f k) k) ≡ true
+  under v k h = subst (λ w. is_some (kept w k) ≡ true) (sym (equal_values (f k) v (agrees v k h))) h
+
+  pub agrees_too : (v : Value) (k : K) → is_some (kept v k) ≡ true → same_value (g k) v ≡ true
+  agrees_too v k h = subst (λ w. same_value w v ≡ true) (alike k (under v k h)) (agrees v k h)
+
+  not_there : (k : K) → is_some (kept (f k) k) ≡ false → (b : Bool) → is_some (kept (g k) k) ≡ b → b ≡ false
+  not_there k e true h = sym (under (g k) k h) ∙ e
+  not_there k e false h = refl
+
+  same_by : (k : K) (b : Bool) → is_some (kept (f k) k) ≡ b → kept (g k) k ≡ kept (f k) k
+  same_by k true e = ap (λ v. kept v k) (sym (alike k e))
+  same_by k false e = is_none (kept (g k) k) (not_there k e (is_some (kept (g k) k)) refl) ∙ sym (is_none (kept (f k) k) e)
+
+  pub same_kept : (k : K) → kept (g k) k ≡ kept (f k) k
+  same_kept k = same_by k (is_some (kept (f k) k)) refl
+
+pub move_law : (S : Type 0) → MoveLaw S
+move_law S m look other agrees alike =
+    let key = join_key m.pattern in
+    let rows_alike : (row : Row) → has_left m look row ≡ true → row_value key look row ≡ row_value key other row = λ row e. row_value_alike look other key row (alike.rows row e) in
+    let names_alike : (who : Named) → has_right m look who ≡ true → candidate_value key look who ≡ candidate_value key other who = λ who e. candidate_value_alike look other key who (alike.names who e) in (
+      record {
+        rows = agrees_too (at same_value row_cmp m.left) (row_value key look) (row_value key other) agrees.rows rows_alike;
+        names = agrees_too (at same_value name_cmp m.right) (candidate_value key look) (candidate_value key other) agrees.names names_alike;
+      },
+      same_kept (at same_value row_cmp m.left) (row_value key look) (row_value key other) agrees.rows rows_alike,
+      (λ who. ap is_some (same_kept (at same_value name_cmp m.right) (candidate_value key look) (candidate_value key other) agrees.names names_alike who)),
+      (λ row who e f. sym (joins_alike look other m.pattern row who (alike.rows row e) (alike.names who f))),
+    )

@@ -1,0 +1,19 @@
+//! Laws of the memories: each function's contract is the law, and its body is empty.
+ghost use Rattle.std.specs.Prelude.{◌≡◌, ◌&&◌, Bool, true};
+ghost use Rattle.row_delta.specs.declared.row.Named.{Named};
+ghost use Rattle.row_delta.specs.declared.row.Row.{Row};
+ghost use Rattle.pair_memory.specs.Joined.{with_name, joined};
+ghost use Rattle.pair_memory.specs.Standing.{MoveLaw};
+
+/// A row that is made is a row of the one set with a fact of the other that passes for it, and each such row is made.
+pub fn a_joined_row_has_one_fact_more()
+    ensures made { (pass : Row → Named → Bool) (left : Row → Bool) (right : Named → Bool) (row : Row) (who : Named)
+        → joined pass left right (with_name row who) ≡ (left row && (right who && pass row who)) }
+    ensures from { (pass : Row → Named → Bool) (left : Row → Bool) (right : Named → Bool) (made : Row) → joined pass left right made ≡ true
+        → (row : Row) × (who : Named) × (made ≡ with_name row who) }
+{}
+
+/// Two stores with the same facts at the tags that are kept show the same in the memories.
+pub fn memories_look_at_kept_tags_alone()
+    ensures { MoveLaw (Unit {0}) }
+{}

@@ -1,0 +1,8 @@
+//! What has changed in a set of rows so far, and what leads from one set of rows to another.
+//! It stands on `fx_base` and `row_delta`, and assumes nothing of the outside.
+#![tactic(auto)]
+
+mod change;
+pub mod laws;
+
+pub use change::{Change, changes_nothing};
