@@ -1,11 +1,9 @@
 -- What one row more, or one less, on a side does to the rows that are made.
-use Rattle.std.proofs.Common.{◌≡◌, ◌∙◌, sym, ap, refl, ℕ, ◌+◌, ◌<◌, length, take, get_or, List, Bool, true, false, not, ◌&&◌, ◌||◌, Option, Some, None}
-use Rattle.std.specs.List.{list_any}
+use Rattle.std.proofs.Common.{◌≡◌, ◌∙◌, sym, ap, refl, List, Bool, true, false, not, ◌&&◌, ◌||◌, Option, Some, None}
 use Rattle.std.specs.Ordering.{eq_by_cmp}
 use Rattle.rule_model.specs.declared.condition.Pattern.{Pattern}
 use Rattle.row_delta.specs.declared.row.Named.{Named}
 use Rattle.row_delta.specs.declared.row.Row.{Row}
-use Rattle.std.proofs.lemmas.List.Folds.{list_any_more}
 use Rattle.row_delta.specs.Rows.{row_cmp, has}
 use Rattle.row_delta.specs.NameOrder.{name_cmp}
 use Rattle.row_change.specs.Changes.{Leads, without, along}
@@ -16,14 +14,9 @@ use Rattle.pair_memory.specs.Memories.{has_left, has_right, made, Keeps}
 use Rattle.pair_memory.specs.Joined.{unjoined, splits, joined}
 use Rattle.pair_memory.proofs.Joining.{row_decides, name_decides, joined_alike}
 use Rattle.pair_memory.proofs.Keeping.{made_after}
+use Rattle.pair_memory.proofs.Turning.{row_absent, row_present, name_absent, name_present, keeps_then}
+use Rattle.row_change.proofs.Alike.{leads_alike}
 use Rattle.beta_join.specs.Turns.{Turned}
-
--- a set of rows that answers alike
-pub leads_alike : (old now too : Row → Bool) (gone come : List Row) → Leads old now gone come → ((row : Row) → now row ≡ too row) → Leads old too gone come
-leads_alike old now too gone come leads h = record {
-  goes = λ row. leads.goes row ∙ ap (λ b. old row && not b) (h row);
-  comes = λ row. leads.comes row ∙ ap (λ b. b && not (old row)) (h row);
-}
 
 splits_imply : (t u : Row → Named → Bool) (b : Bool) → ((l : Row) (c : Named) → t l c ≡ true → u l c ≡ b) → (o : Option (Row × Named)) → splits t o ≡ true → splits u o ≡ b
 splits_imply t u b h None e = let f : false ≡ true = e in cc
@@ -126,29 +119,7 @@ module _ (pass : Row → Named → Bool) (left : Row → Bool) (right : Named �
   unfolding joined
   name_more who r = splits_plus _ _ _ (λ l c. right_plus (left l) (right c) (eq_by_cmp name_cmp who c) (pass l c)) (unjoined r)
 
--- ---- one row, or one candidate, that leaves or comes: what has changed leads on to the rows that are made then
-gone_absent : (a e : Bool) → (e ≡ true → a ≡ false) → (a && not e) ≡ a
-gone_absent a true h = let f : a ≡ false = h refl in ap (λ x. x && false) f ∙ sym f
-gone_absent true false h = refl
-gone_absent false false h = refl
-
-come_present : (a e : Bool) → (e ≡ true → a ≡ true) → a ≡ (a || e)
-come_present true e h = refl
-come_present false true h = let f : false ≡ true = h refl in cc
-come_present false false h = refl
-
-pub row_absent : (left : Row → Bool) (row : Row) → left row ≡ false → (l : Row) → (left l && not (eq_by_cmp row_cmp row l)) ≡ left l
-row_absent left row is l = gone_absent (left l) (eq_by_cmp row_cmp row l) (λ e. ap left (sym ((row_decides row l).0 e)) ∙ is)
-
-pub row_present : (left : Row → Bool) (row : Row) → left row ≡ true → (l : Row) → left l ≡ (left l || eq_by_cmp row_cmp row l)
-row_present left row is l = come_present (left l) (eq_by_cmp row_cmp row l) (λ e. ap left (sym ((row_decides row l).0 e)) ∙ is)
-
-pub name_absent : (right : Named → Bool) (who : Named) → right who ≡ false → (c : Named) → (right c && not (eq_by_cmp name_cmp who c)) ≡ right c
-name_absent right who is c = gone_absent (right c) (eq_by_cmp name_cmp who c) (λ e. ap right (sym ((name_decides who c).0 e)) ∙ is)
-
-pub name_present : (right : Named → Bool) (who : Named) → right who ≡ true → (c : Named) → right c ≡ (right c || eq_by_cmp name_cmp who c)
-name_present right who is c = come_present (right c) (eq_by_cmp name_cmp who c) (λ e. ap right (sym ((name_decides who c).0 e)) ∙ is)
-
+-- ---- what has changed leads on to the rows that are made then
 module _ {S : Type 0} (m n : Memories S) (look : Look) (left : Row → Bool) (right : Named → Bool) (keeps : Keeps m n look left right) (change changed : Change) where
   -- nothing changes in the rows
   pub unmoved : ((l : Row) → left l ≡ has_left m look l) → ((c : Named) → right c ≡ has_right m look c) → Turned m n look left right change change
@@ -243,34 +214,6 @@ pub turned_then : {S : Type 0} (first next last : Memories S) (look : Look) (lef
     → Turned first next look left right change change_next → Turned next last look left_next right_next change_next change_now
     → ((r : Row) → left_next r ≡ left_now r) → ((c : Named) → right_next c ≡ right_now c) → Turned first last look left_now right_now change change_now
 turned_then first next last look left left_next left_now right right_next right_now change change_next change_now k m h j = record {
-  keeps = record {
-    pattern = m.keeps.pattern ∙ k.keeps.pattern;
-    rows = λ r. m.keeps.rows r ∙ h r;
-    names = λ c. m.keeps.names c ∙ j c;
-    agrees = λ before. m.keeps.agrees (k.keeps.agrees before);
-  };
+  keeps = keeps_then first next last look left left_next left_now right right_next right_now k.keeps m.keeps h j;
   leads = λ old before. m.leads old (k.leads old before);
 }
-
-minus_minus : (a t e : Bool) → ((a && not t) && not e) ≡ (a && not (t || e))
-minus_minus false t e = refl
-minus_minus true true e = refl
-minus_minus true false e = refl
-
-plus_plus : (a t e : Bool) → ((a || t) || e) ≡ (a || (t || e))
-plus_plus true t e = refl
-plus_plus false t e = refl
-
-module _ {K : Type 0} (eq : K → K → Bool) (symm : (a b : K) → eq a b ≡ eq b a) (xs : List K) (i : ℕ) (below : i < length xs) (any x : K) (is : x ≡ get_or xs i any) (k : K) (kept now : Bool) where
-  one_more : list_any (eq k) (take (i + 1) xs) ≡ (list_any (eq k) (take i xs) || eq x k)
-  one_more = list_any_more (eq k) xs i any below ∙ ap (λ b. list_any (eq k) (take i xs) || b) (ap (eq k) (sym is) ∙ symm k x)
-
-  pub less_more : now ≡ (kept && not (list_any (eq k) (take i xs))) → (now && not (eq x k)) ≡ (kept && not (list_any (eq k) (take (i + 1) xs)))
-  less_more e = ap (λ b. b && not (eq x k)) e ∙ minus_minus kept (list_any (eq k) (take i xs)) (eq x k) ∙ ap (λ b. kept && not b) (sym one_more)
-
-  pub more_more : now ≡ (kept || list_any (eq k) (take i xs)) → (now || eq x k) ≡ (kept || list_any (eq k) (take (i + 1) xs))
-  more_more e = ap (λ b. b || eq x k) e ∙ plus_plus kept (list_any (eq k) (take i xs)) (eq x k) ∙ ap (λ b. kept || b) (sym one_more)
-
--- the name that a slice has beyond its end
-abbrev pub any_name : Named
-any_name = record { id = record { 0 = 0 }; tag = record { 0 = 0 } }

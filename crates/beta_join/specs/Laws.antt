@@ -10,7 +10,7 @@ use Rattle.pair_memory.specs.declared.memories.Memories.{Memories}
 use Rattle.pair_memory.specs.Joined.{joined}
 use Rattle.pair_memory.specs.Memories.{has_left, has_right, made, Keeps}
 use Rattle.pair_memory.specs.Standing.{clean, cleaned, either, remembered, PassesAlike, StandsFor}
-use Rattle.beta_join.specs.Inputs.{IsNameDifference, IsStepped}
+use Rattle.pair_memory.specs.Inputs.{IsNameDifference, IsStepped}
 
 -- For the true differences of its two inputs, of what names no forgotten fact, a node that stands for left rows and candidates answers
 -- the true difference of its rows that name no forgotten fact, and stands for the new ones.

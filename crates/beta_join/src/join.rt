@@ -9,12 +9,11 @@ ghost use Rattle.join_tests.specs.Joins.{Look};
 ghost use Rattle.pair_memory.specs.Memories.{has_left, has_right, made, Keeps};
 ghost use Rattle.pair_memory.specs.Joined.{has_name};
 ghost use Rattle.pair_memory.specs.Standing.{no_rows, no_names, StandsFor};
-ghost use Rattle.beta_join.specs.Inputs.{IsStepped};
+ghost use Rattle.pair_memory.specs.Inputs.{IsStepped};
 ghost use Rattle.beta_join.specs.Turns.{Turned};
 
-use crate::inputs::names_alone;
 use fx_base::{Copies, Facts, NoMemory, Seq};
-use pair_memory::Memories;
+use pair_memory::{Memories, names_alone};
 use row_change::{Change, changes_nothing};
 use row_delta::{Delta, Named, Row};
 use rule_model::Pattern;

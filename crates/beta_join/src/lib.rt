@@ -3,7 +3,6 @@
 //! nothing of the outside.
 #![tactic(auto)]
 
-mod inputs;
 mod join;
 pub mod laws;
 

@@ -2,7 +2,8 @@ use Rattle.std.proofs.Common.{refl}
 use Rattle.std.specs.Ordering.{eq_by_cmp}
 use Rattle.row_delta.specs.NameOrder.{name_cmp, name_equiv}
 use Rattle.pair_memory.specs.Memories.{has_right}
-use Rattle.beta_join.proofs.Turns.{turned_then, more_more, any_name}
+use Rattle.pair_memory.proofs.Turning.{more_more, any_name}
+use Rattle.beta_join.proofs.Turns.{turned_then}
 use Rattle.beta_join.proofs.join.BetaJoin.names_come.Goals as goal
 
 pub loop-who-preserved : goal.loop-who-preserved

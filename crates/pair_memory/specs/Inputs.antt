@@ -1,4 +1,4 @@
--- What a node is given: rows of the conditions before it, and candidates, each named by a row of its own.
+-- What a step gives a node: what changes in the rows of the conditions before it, and in its candidates, each named by a row of its own.
 use Rattle.std.specs.Prelude.{◌≡◌, ◌&&◌, ◌||◌, not, Bool, Option, Some, None, List, [], ◌∷◌, ℤ}
 use Rattle.row_delta.specs.declared.row.Named.{Named}
 use Rattle.row_delta.specs.declared.row.Row.{Row}
