@@ -4,6 +4,7 @@ ghost use Rattle.row_delta.specs.declared.row.Named.{Named};
 ghost use Rattle.row_delta.specs.declared.row.Row.{Row};
 ghost use Rattle.pair_memory.specs.Joined.{with_name, joined};
 ghost use Rattle.pair_memory.specs.Standing.{MoveLaw};
+ghost use Rattle.pair_memory.specs.Steps.{StepsLaw, ForgetsLaw};
 
 /// A row that is made is a row of the one set with a fact of the other that passes for it, and each such row is made.
 pub fn a_joined_row_has_one_fact_more()
@@ -16,4 +17,14 @@ pub fn a_joined_row_has_one_fact_more()
 /// Two stores with the same facts at the tags that are kept show the same in the memories.
 pub fn memories_look_at_kept_tags_alone()
     ensures { MoveLaw (Unit {0}) }
+{}
+
+/// Whatever a node keeps for its left rows: after a step that is given true differences, it stands for the new rows and candidates.
+pub fn a_step_leads_to_the_new_sets()
+    ensures { StepsLaw (Unit {0}) }
+{}
+
+/// Whatever a node keeps for its left rows: after forgetting it stands for the same rows and candidates with more facts forgotten.
+pub fn forgetting_keeps_the_sets()
+    ensures { ForgetsLaw (Unit {0}) }
 {}

@@ -1,10 +1,12 @@
 //! The two memories of a node: rows of the conditions before it, each with what the node keeps for it, and the candidates of
-//! its pattern, both found by their join values. It stands on facts, rows, patterns, their joins and an index by values, and
+//! its pattern, both found by their join values. It stands on facts, rows, patterns, their joins, changes of rows and an index by values, and
 //! assumes nothing of the outside.
 #![tactic(auto)]
 
+mod inputs;
 pub mod laws;
 mod memories;
 mod partners;
 
+pub use inputs::names_alone;
 pub use memories::Memories;

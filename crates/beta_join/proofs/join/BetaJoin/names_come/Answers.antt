@@ -1,0 +1,14 @@
+use Rattle.std.proofs.Common.{refl}
+use Rattle.std.specs.Ordering.{eq_by_cmp}
+use Rattle.row_delta.specs.NameOrder.{name_cmp, name_equiv}
+use Rattle.pair_memory.specs.Memories.{has_right}
+use Rattle.pair_memory.proofs.Turning.{more_more, any_name}
+use Rattle.beta_join.proofs.Turns.{turned_then}
+use Rattle.beta_join.proofs.join.BetaJoin.names_come.Goals as goal
+
+pub loop-who-preserved : goal.loop-who-preserved
+loop-who-preserved g c =
+    let look = g.F.Facts.map c.args.facts.now in
+    turned_then c.args.self.now.memories c.loop-who.self.memories c.name_comes.new.self.memories look _ _ _ _ _ _ c.args.change.now c.loop-who.change c.name_comes.new.change
+    c.loop-who.invariant c.in_ok-name_comes.ensures c.loop-who.invariant.keeps.rows
+    (λ k. more_more (eq_by_cmp name_cmp) name_equiv.symm c.args.names.now c.loop-who.who-index c.loop-who-test.true any_name _ refl k (has_right c.args.self.now.memories look k) (has_right c.loop-who.self.memories look k) (c.loop-who.invariant.keeps.names k))

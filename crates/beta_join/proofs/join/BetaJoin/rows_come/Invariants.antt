@@ -1,0 +1,9 @@
+use Rattle.std.proofs.Common.{◌||◌, take}
+use Rattle.row_delta.specs.Rows.{has}
+use Rattle.pair_memory.specs.Memories.{has_left, has_right}
+use Rattle.beta_join.specs.Turns.{Turned}
+use Rattle.beta_join.proofs.join.BetaJoin.rows_come.Given as goal
+
+abbrev pub invariant-loop-row : goal.invariant-loop-row
+invariant-loop-row g l = Turned l.initial.self.memories l.self.memories (g.F.Facts.map l.facts)
+    (λ r. has_left l.initial.self.memories (g.F.Facts.map l.facts) r || has (take l.row-index l.rows) r) (has_right l.initial.self.memories (g.F.Facts.map l.facts)) l.initial.change l.change

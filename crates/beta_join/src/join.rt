@@ -1,0 +1,240 @@
+ghost use Rattle.std.specs.Prelude.{◌≡◌, ◌&&◌, ◌||◌, not, Bool, OnOk, IfOk};
+ghost use Rattle.std.specs.Ordering.{eq_by_cmp};
+ghost use Rattle.row_delta.specs.declared.row.Row.{Row};
+ghost use Rattle.row_delta.specs.declared.row.Named.{Named};
+ghost use Rattle.row_delta.specs.Rows.{has, row_cmp, InOrder};
+ghost use Rattle.row_delta.specs.NameOrder.{name_cmp};
+ghost use Rattle.row_change.specs.Changes.{IsDifference};
+ghost use Rattle.join_tests.specs.Joins.{Look};
+ghost use Rattle.pair_memory.specs.Memories.{has_left, has_right, made, Keeps};
+ghost use Rattle.pair_memory.specs.Joined.{has_name};
+ghost use Rattle.pair_memory.specs.Standing.{no_rows, no_names, StandsFor};
+ghost use Rattle.pair_memory.specs.Inputs.{IsStepped};
+ghost use Rattle.beta_join.specs.Turns.{Turned};
+
+use fx_base::{Copies, Facts, NoMemory, Seq};
+use pair_memory::{Memories, names_alone};
+use row_change::{Change, changes_nothing};
+use row_delta::{Delta, Named, Row};
+use rule_model::Pattern;
+use std::alloc::Global;
+
+/// The node of a pattern that binds a fact. Its rows are what the pattern makes of the rows and candidates that it keeps; they
+/// are not kept, since the nodes behind it keep them. After a call that was refused memory it is to be given up.
+#[derive(Drop)]
+pub struct BetaJoin {
+    memories: Memories<()>,
+}
+
+impl BetaJoin {
+    /// A node that keeps nothing, and so has no rows. Takes no memory.
+    pub fn new(alloc: Global, pattern: Pattern) -> BetaJoin
+        ensures pattern { result.memories.pattern ≡ pattern }
+        ensures nothing { (look : Look) (forgotten : Named → Bool) → StandsFor result.memories look no_rows no_names forgotten }
+    {
+        BetaJoin {
+            memories: Memories::new(alloc, pattern),
+        }
+    }
+
+    /// Takes what has changed in the rows of the conditions before this one, and in its candidates, each named by a row of its
+    /// own, and answers what has changed in the rows that are made of what is kept. For each row or candidate that comes or
+    /// goes it costs the logarithm of what has the same join value, and a test of what has it on the other side. Where nothing
+    /// has changed, it costs a comparison.
+    pub fn advance<F: Facts>(
+        &mut self,
+        alloc: Global,
+        left: &Delta,
+        right: &Delta,
+        facts: &F,
+    ) -> Result<Delta, NoMemory>
+        ensures kept { OnOk result (IsStepped self.old.memories self.new.memories (F.map facts.now) left.now right.now) }
+        ensures difference { IfOk result (λ delta. IsDifference (made self.old.memories (F.map facts.now)) (made self.new.memories (F.map facts.now)) delta) }
+    {
+        if changes_nothing(left) && changes_nothing(right) {
+            let delta = Change::none(alloc).delta(alloc)?;
+            return Ok(delta);
+        }
+        let delta = self.advanced(alloc, left, right, facts)?;
+        Ok(delta)
+    }
+
+    /// Drops left rows and candidates whose facts are forgotten, and answers the rows that go with them, in order. It costs what
+    /// a step costs in which they go.
+    pub fn forget<F: Facts>(
+        &mut self,
+        alloc: Global,
+        rows: &[Row],
+        old: &[Named],
+        facts: &F,
+    ) -> Result<Seq<Row>, NoMemory>
+        ensures kept { OnOk result (Keeps self.old.memories self.new.memories (F.map facts.now)
+            (λ row. has_left self.old.memories (F.map facts.now) row && not (has rows.now row)) (λ who. has_right self.old.memories (F.map facts.now) who && not (has_name old.now who))) }
+        ensures dropped { IfOk result (λ dropped. (row : Row) → has dropped row ≡ (made self.old.memories (F.map facts.now) row && not (made self.new.memories (F.map facts.now) row))) }
+        ensures in_order { IfOk result (λ dropped. InOrder dropped) }
+    {
+        let mut change = Change::none(alloc);
+        self.rows_leave(alloc, &mut change, rows, facts)?;
+        self.names_leave(alloc, &mut change, old, facts)?;
+        let delta = change.delta(alloc)?;
+        Ok(delta.gone)
+    }
+
+    /// A step in which something changes.
+    fn advanced<F: Facts>(
+        &mut self,
+        alloc: Global,
+        left: &Delta,
+        right: &Delta,
+        facts: &F,
+    ) -> Result<Delta, NoMemory>
+        ensures kept { OnOk result (IsStepped self.old.memories self.new.memories (F.map facts.now) left.now right.now) }
+        ensures difference { IfOk result (λ delta. IsDifference (made self.old.memories (F.map facts.now)) (made self.new.memories (F.map facts.now)) delta) }
+    {
+        let gone = names_alone(alloc, right.gone.as_slice())?;
+        let come = names_alone(alloc, right.come.as_slice())?;
+        let mut change = Change::none(alloc);
+        self.rows_leave(alloc, &mut change, left.gone.as_slice(), facts)?;
+        self.names_leave(alloc, &mut change, gone.as_slice(), facts)?;
+        self.names_come(alloc, &mut change, come.as_slice(), facts)?;
+        self.rows_come(alloc, &mut change, left.come.as_slice(), facts)?;
+        let delta = change.delta(alloc)?;
+        Ok(delta)
+    }
+
+    fn rows_leave<F: Facts>(
+        &mut self,
+        alloc: Global,
+        change: &mut Change,
+        rows: &[Row],
+        facts: &F,
+    ) -> Result<(), NoMemory>
+        ensures { OnOk result (Turned self.old.memories self.new.memories (F.map facts.now)
+            (λ r. has_left self.old.memories (F.map facts.now) r && not (has rows.now r)) (has_right self.old.memories (F.map facts.now)) change.old change.new) }
+    {
+        for row in rows {
+            self.row_leaves(alloc, change, row, facts)?;
+        }
+        Ok(())
+    }
+
+    fn rows_come<F: Facts>(
+        &mut self,
+        alloc: Global,
+        change: &mut Change,
+        rows: &[Row],
+        facts: &F,
+    ) -> Result<(), NoMemory>
+        ensures { OnOk result (Turned self.old.memories self.new.memories (F.map facts.now)
+            (λ r. has_left self.old.memories (F.map facts.now) r || has rows.now r) (has_right self.old.memories (F.map facts.now)) change.old change.new) }
+    {
+        for row in rows {
+            self.row_comes(alloc, change, row, facts)?;
+        }
+        Ok(())
+    }
+
+    fn names_leave<F: Facts>(
+        &mut self,
+        alloc: Global,
+        change: &mut Change,
+        names: &[Named],
+        facts: &F,
+    ) -> Result<(), NoMemory>
+        ensures { OnOk result (Turned self.old.memories self.new.memories (F.map facts.now)
+            (has_left self.old.memories (F.map facts.now)) (λ c. has_right self.old.memories (F.map facts.now) c && not (has_name names.now c)) change.old change.new) }
+    {
+        for who in names {
+            self.name_leaves(alloc, change, *who, facts)?;
+        }
+        Ok(())
+    }
+
+    fn names_come<F: Facts>(
+        &mut self,
+        alloc: Global,
+        change: &mut Change,
+        names: &[Named],
+        facts: &F,
+    ) -> Result<(), NoMemory>
+        ensures { OnOk result (Turned self.old.memories self.new.memories (F.map facts.now)
+            (has_left self.old.memories (F.map facts.now)) (λ c. has_right self.old.memories (F.map facts.now) c || has_name names.now c) change.old change.new) }
+    {
+        for who in names {
+            self.name_comes(alloc, change, *who, facts)?;
+        }
+        Ok(())
+    }
+
+    fn row_leaves<F: Facts>(
+        &mut self,
+        alloc: Global,
+        change: &mut Change,
+        row: &Row,
+        facts: &F,
+    ) -> Result<(), NoMemory>
+        ensures { OnOk result (Turned self.old.memories self.new.memories (F.map facts.now)
+            (λ r. has_left self.old.memories (F.map facts.now) r && not (eq_by_cmp row_cmp row.now r)) (has_right self.old.memories (F.map facts.now)) change.old change.new) }
+    {
+        match self.memories.take_left(row, facts) {
+            Some(()) => {
+                let rows = self.memories.with_row(alloc, row, facts)?;
+                change.leave(alloc, rows)
+            }
+            None => Ok(()),
+        }
+    }
+
+    fn row_comes<F: Facts>(
+        &mut self,
+        alloc: Global,
+        change: &mut Change,
+        row: &Row,
+        facts: &F,
+    ) -> Result<(), NoMemory>
+        ensures { OnOk result (Turned self.old.memories self.new.memories (F.map facts.now)
+            (λ r. has_left self.old.memories (F.map facts.now) r || eq_by_cmp row_cmp row.now r) (has_right self.old.memories (F.map facts.now)) change.old change.new) }
+    {
+        let rows = self.memories.with_row(alloc, row, facts)?;
+        match self.memories.put_left(alloc, row.copy(alloc)?, (), facts)? {
+            Some(()) => Ok(()),
+            None => change.arrive(alloc, rows),
+        }
+    }
+
+    fn name_leaves<F: Facts>(
+        &mut self,
+        alloc: Global,
+        change: &mut Change,
+        who: Named,
+        facts: &F,
+    ) -> Result<(), NoMemory>
+        ensures { OnOk result (Turned self.old.memories self.new.memories (F.map facts.now)
+            (has_left self.old.memories (F.map facts.now)) (λ c. has_right self.old.memories (F.map facts.now) c && not (eq_by_cmp name_cmp who c)) change.old change.new) }
+    {
+        if self.memories.take_right(who, facts) {
+            let rows = self.memories.with_candidate(alloc, who, facts)?;
+            change.leave(alloc, rows)
+        } else {
+            Ok(())
+        }
+    }
+
+    fn name_comes<F: Facts>(
+        &mut self,
+        alloc: Global,
+        change: &mut Change,
+        who: Named,
+        facts: &F,
+    ) -> Result<(), NoMemory>
+        ensures { OnOk result (Turned self.old.memories self.new.memories (F.map facts.now)
+            (has_left self.old.memories (F.map facts.now)) (λ c. has_right self.old.memories (F.map facts.now) c || eq_by_cmp name_cmp who c) change.old change.new) }
+    {
+        let rows = self.memories.with_candidate(alloc, who, facts)?;
+        if self.memories.put_right(alloc, who, facts)? {
+            Ok(())
+        } else {
+            change.arrive(alloc, rows)
+        }
+    }
+}
