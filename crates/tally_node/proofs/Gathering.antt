@@ -1,0 +1,122 @@
+-- One candidate more in a fold, and one less; rows with a value more.
+use Rattle.std.proofs.Common.{◌≡◌, ◌∙◌, sym, ap, refl, subst, ℤ, List, [], ◌∷◌, ◌++◌, map, Bool, true, false, cond, not, ◌&&◌, ◌||◌, Option, Some, None}
+use Rattle.std.specs.Option.{option_map}
+use Rattle.std.proofs.lemmas.Bool.Decides.{Decides-int_eq}
+use Rattle.std.specs.Ordering.{eq_by_cmp, int_eq}
+use Rattle.fold_fn.specs.Held.{Held}
+use Rattle.fold_fn.specs.Order.{insert_rising, in_rising_order}
+use Rattle.fold_fn.proofs.Rising.{insert-insert}
+use Rattle.row_delta.specs.declared.row.Named.{Named}
+use Rattle.row_delta.specs.declared.row.Row.{Row}
+use Rattle.row_delta.specs.Rows.{row_cmp}
+use Rattle.row_delta.specs.NameOrder.{name_cmp, name_equiv}
+use Rattle.rule_model.specs.declared.condition.Accumulate.{Accumulate}
+use Rattle.join_tests.specs.Joins.{Look}
+use Rattle.pair_memory.specs.Joined.{has_name, split_last, behind_first}
+use Rattle.pair_memory.proofs.Joining.{name_decides, row_decides}
+use Rattle.tally_node.specs.Tallies.{with_one, less_one}
+use Rattle.tally_node.specs.Counts.{AreDistinct}
+use Rattle.tally_node.specs.Gathers.{argument_of, Gathers}
+use Rattle.tally_node.specs.Origins.{is_from, with_value, front_of, unvalued, is_last, shows_value}
+use Rattle.tally_node.proofs.Counting.{or_swap, dropped, has_dropped, dropped_distinct}
+
+-- ---- the values of candidates
+module _ (arg : Named → ℤ) where
+  pub dropped_values : (who : Named) (xs : List Named) → has_name xs who ≡ true → in_rising_order (map arg xs) ≡ insert_rising (arg who) (in_rising_order (map arg (dropped who xs)))
+  dropped_values who [] e = let f : false ≡ true = e in cc
+  dropped_values who (x ∷ xs) e = by (dropped_values who xs) (eq_by_cmp name_cmp who x) refl e
+    where
+      by : (has_name xs who ≡ true → in_rising_order (map arg xs) ≡ insert_rising (arg who) (in_rising_order (map arg (dropped who xs)))) → (b : Bool) → eq_by_cmp name_cmp who x ≡ b → (b || has_name xs who) ≡ true
+          → insert_rising (arg x) (in_rising_order (map arg xs)) ≡ insert_rising (arg who) (in_rising_order (map arg (cond b xs (x ∷ dropped who xs))))
+      by rest true f h = ap (λ y. insert_rising (arg y) (in_rising_order (map arg xs))) (sym ((name_decides who x).0 f))
+      by rest false f h = ap (insert_rising (arg x)) (rest h) ∙ insert-insert (arg x) (arg who) (in_rising_order (map arg (dropped who xs)))
+
+  both_ways : (e h : Bool) → (e ≡ true → h ≡ false) → h ≡ ((e || h) && not e)
+  both_ways true true k = k refl
+  both_ways true false k = refl
+  both_ways false true k = refl
+  both_ways false false k = refl
+
+  -- lists of the same candidates, each once, have the same values
+  pub same_values : (xs ys : List Named) → AreDistinct xs → AreDistinct ys → ((c : Named) → has_name xs c ≡ has_name ys c) → in_rising_order (map arg xs) ≡ in_rising_order (map arg ys)
+  same_values [] [] dx dy same = refl
+  same_values [] (y ∷ ys) dx dy same = let f : false ≡ true = same y ∙ ap (λ b. b || has_name ys y) (name_equiv.refl y) in cc
+  same_values (x ∷ xs) ys dx dy same =
+      let rest = same_values xs (dropped x ys) dx.1 (dropped_distinct x ys dy)
+      (λ c. both_ways (eq_by_cmp name_cmp x c) (has_name xs c) (λ e. ap (has_name xs) (sym ((name_decides x c).0 e)) ∙ dx.0)
+      ∙ ap (λ b. (b || has_name xs c) && not (eq_by_cmp name_cmp x c)) (name_equiv.symm x c) ∙ ap (λ b. b && not (eq_by_cmp name_cmp x c)) (same c) ∙ sym (has_dropped x ys dy c)) in
+      ap (insert_rising (arg x)) rest ∙ sym (dropped_values x ys (sym (same x) ∙ ap (λ b. b || has_name xs x) (name_equiv.refl x)))
+
+-- ---- one candidate
+module _ (a : Accumulate) (world : Look) where
+  pub gathers_none : (held : Held) → held.kind ≡ a.kind → held.values ≡ [] → Gathers a world (λ c. false) held
+  gathers_none held kind values = record { names = []; distinct = tt; all = λ c. refl; kind = kind; values = values }
+
+  pub gathers_more : (set : Named → Bool) (held now : Held) (who : Named) → Gathers a world set held → set who ≡ false → now.kind ≡ held.kind → now.values ≡ insert_rising (argument_of a world who) held.values → Gathers a world (with_one set who) now
+  gathers_more set held now who is absent kind values = record {
+    names = who ∷ is.names;
+    distinct = (is.all who ∙ absent, is.distinct);
+    all = λ c. ap (λ b. b || has_name is.names c) (name_equiv.symm c who) ∙ ap (λ b. eq_by_cmp name_cmp who c || b) (is.all c) ∙ or_swap (eq_by_cmp name_cmp who c) (set c);
+    kind = kind ∙ is.kind;
+    values = values ∙ ap (insert_rising (argument_of a world who)) is.values;
+  }
+
+  pub gathers_less : (set : Named → Bool) (held now : Held) (who : Named) → Gathers a world set held → set who ≡ true → now.kind ≡ held.kind
+      → ((rest : List ℤ) → held.values ≡ insert_rising (argument_of a world who) rest → now.values ≡ rest) → Gathers a world (less_one set who) now
+  gathers_less set held now who is present kind values = record {
+    names = dropped who is.names;
+    distinct = dropped_distinct who is.names is.distinct;
+    all = λ c. has_dropped who is.names is.distinct c ∙ ap (λ b. b && not (eq_by_cmp name_cmp who c)) (is.all c);
+    kind = kind ∙ is.kind;
+    values = values (in_rising_order (map (argument_of a world) (dropped who is.names))) (is.values ∙ dropped_values (argument_of a world) who is.names (is.all who ∙ present));
+  }
+
+-- ---- rows with a value more
+split_snoc : (xs : List ℤ) (x : ℤ) → split_last (xs ++ x ∷ []) ≡ Some (xs, x)
+split_snoc [] x = refl
+split_snoc (y ∷ ys) x = ap (λ o. Some (behind_first y o)) (split_snoc ys x)
+
+is_snoc : (xs : List ℤ) (p : List ℤ × ℤ) → split_last xs ≡ Some p → xs ≡ p.0 ++ p.1 ∷ []
+is_snoc [] p e = let f : None ≡ Some p = e in cc
+is_snoc (x ∷ xs) p e = by (split_last xs) refl (is_snoc xs) e
+  where
+    empty : (ys : List ℤ) → split_last ys ≡ None → ys ≡ []
+    empty [] f = refl
+    empty (y ∷ ys) f = let g : Some (behind_first y (split_last ys)) ≡ None = f in cc
+
+    by : (o : Option (List ℤ × ℤ)) → split_last xs ≡ o → ((q : List ℤ × ℤ) → split_last xs ≡ Some q → xs ≡ q.0 ++ q.1 ∷ []) → Some (behind_first x o) ≡ Some p → x ∷ xs ≡ p.0 ++ p.1 ∷ []
+    by None f rest h = let g : behind_first x None ≡ p = cc in ap (λ ys. x ∷ ys) (empty xs f) ∙ ap (λ p. p.0 ++ p.1 ∷ []) g
+    by (Some q) f rest h = let g : behind_first x (Some q) ≡ p = cc in ap (λ ys. x ∷ ys) (rest q f) ∙ ap (λ p. p.0 ++ p.1 ∷ []) g
+
+same_either : (a b : Bool) → (a ≡ true → b ≡ true) → (b ≡ true → a ≡ true) → a ≡ b
+same_either true b f g = sym (f refl)
+same_either false true f g = g refl
+same_either false false f g = refl
+
+two_of : (a b : Bool) → (a && b) ≡ true → (a ≡ true) × (b ≡ true)
+two_of true b e = (refl, e)
+two_of false b e = let f : false ≡ true = e in cc
+
+two_true : (a b : Bool) → a ≡ true → b ≡ true → (a && b) ≡ true
+two_true a b e f = ap (λ x. x && b) e ∙ f
+
+abbrev pub row_with : Row → List ℤ → Row
+row_with row values = record { facts = row.facts; values = values }
+
+-- the row with a value more is what it is read backward to be
+pub value_row : (r row : Row) (v : ℤ) → eq_by_cmp row_cmp r (with_value row v) ≡ (is_from (unvalued r) row && shows_value v r)
+value_row r row v = same_either _ _ forth (back (split_last r.values) refl)
+  where
+    forth : eq_by_cmp row_cmp r (with_value row v) ≡ true → (is_from (unvalued r) row && shows_value v r) ≡ true
+    forth e =
+        let same = (row_decides r (with_value row v)).0 e in
+        subst (λ (x : Row). (is_from (unvalued x) row && shows_value v x) ≡ true) (sym same)
+        (ap (λ o. is_from (option_map (front_of (with_value row v)) o) row && is_last v o) (split_snoc row.values v)
+        ∙ two_true (eq_by_cmp row_cmp row row) (int_eq v v) ((row_decides row row).1 refl) ((Decides-int_eq v v).1 refl))
+
+    back : (o : Option (List ℤ × ℤ)) → split_last r.values ≡ o → (is_from (unvalued r) row && shows_value v r) ≡ true → eq_by_cmp row_cmp r (with_value row v) ≡ true
+    back None s e = let f : false ≡ true = ap (λ o. is_from (option_map (front_of r) o) row && is_last v o) (sym s) ∙ e in cc
+    back (Some p) s e =
+        let k = two_of (eq_by_cmp row_cmp row (front_of r p)) (int_eq v p.1) (ap (λ o. is_from (option_map (front_of r) o) row && is_last v o) (sym s) ∙ e) in
+        (row_decides r (with_value row v)).1
+        (ap (row_with r) (is_snoc r.values p s) ∙ ap (λ x. row_with r (p.0 ++ x ∷ [])) (sym ((Decides-int_eq v p.1).0 k.1)) ∙ ap (λ x. with_value x v) (sym ((row_decides row (front_of r p)).0 k.0)))

@@ -1,0 +1,305 @@
+-- Tallies of all candidates stay those of all candidates.
+use Rattle.std.proofs.Common.{◌≡◌, ◌∙◌, sym, ap, refl, subst, ℕ, zero, suc, ◌==◌, arith, cond, map, List, [], ◌∷◌, Bool, true, false, not, ◌&&◌, ◌||◌, Option, Some, None, ℤ}
+use mathlib.Core.Path.{fun_ext}
+use Rattle.std.proofs.Math.Dec.{eqb-suc-zero}
+use Rattle.std.specs.List.{list_any}
+use Rattle.std.specs.Option.{is_some, option_map}
+use Rattle.std.specs.Ordering.{eq_by_cmp}
+use Rattle.fx_base.specs.declared.fact.Fact.{Fact}
+use Rattle.fold_fn.specs.Held.{Held}
+use Rattle.fold_fn.specs.Results.{fold_result}
+use Rattle.fold_fn.proofs.ResultLemmas.{result-rising}
+use Rattle.row_delta.specs.declared.row.Named.{Named}
+use Rattle.row_delta.specs.declared.row.Row.{Row}
+use Rattle.row_delta.specs.declared.delta.Delta.{Delta}
+use Rattle.row_delta.specs.Rows.{has}
+use Rattle.row_delta.specs.NameOrder.{name_cmp, name_equiv}
+use Rattle.row_change.specs.Changes.{Leads}
+use Rattle.rule_model.specs.declared.condition.Accumulate.{Accumulate}
+use Rattle.rule_model.specs.Lent.{Holds, bound_in}
+use Rattle.rule_model.specs.Rows.{argument, result_of}
+use Rattle.rule_model.specs.Tuples.{name_of}
+use Rattle.join_tests.specs.Joins.{Look, joins}
+use Rattle.pair_memory.specs.declared.memories.Memories.{Memories}
+use Rattle.pair_memory.specs.Joined.{has_name, split_last}
+use Rattle.pair_memory.specs.Memories.{left_at, has_left, has_right}
+use Rattle.pair_memory.specs.Standing.{clean, cleaned, either, remembered, PassesAlike, StandsFor}
+use Rattle.pair_memory.proofs.Joining.{name_decides}
+use Rattle.pair_memory.proofs.Moving.{move_law as memories_move}
+use Rattle.beta_join.specs.Inputs.{IsNameDifference, IsStepped}
+use Rattle.beta_join.proofs.Lawful.{step_stands, forget_stands}
+use Rattle.tally_node.specs.declared.count.Blockers.{Blockers}
+use Rattle.tally_node.specs.declared.count.Witnesses.{Witnesses}
+use Rattle.tally_node.specs.Counts.{IsNumber, zero_where, counts_blockers, counts_witnesses, where_unblocked, where_witnessed}
+use Rattle.tally_node.specs.Gathers.{argument_given, argument_of, tested, result_for, is_result}
+use Rattle.tally_node.specs.Laws.{all_passing, StandsCounted, ForgottenStay, StartLaw, TallyLaw, ForgetLaw, DropLaw, MoveLaw, ShownLaw, GatheredLaw}
+use Rattle.tally_node.specs.Origins.{front_of, is_last, itself, shows_any, unvalued, shows_value, valued_at}
+use Rattle.tally_node.specs.Tallies.{TallyStep, counted, SeeAlike, output_some, output_from, offers, shown}
+use Rattle.tally_node.proofs.Counting.{nobody, somebody}
+use Rattle.tally_node.proofs.Gathering.{same_values}
+
+-- kernels: a that it is a candidate, f that it is forgotten, j and p that it passes by the facts at hand and in the world
+counted_all : (a f j p x : Bool) → ((a && not f) ≡ true → j ≡ p) → (f ≡ true → x ≡ (a && p)) → (f ≡ false → x ≡ false) → (((a && not f) && j) || x) ≡ (a && p)
+counted_all true true j p x h k l = k refl
+counted_all false true j p x h k l = k refl
+counted_all true false true p x h k l = h refl
+counted_all true false false p x h k l = l refl ∙ h refl
+counted_all false false j p x h k l = l refl
+
+only_kept : (a f j p : Bool) → ((a && not f) ≡ true → j ≡ p) → (f ≡ true → (a && p) ≡ false) → ((a && not f) && j) ≡ (a && p)
+only_kept true true j p h k = sym (k refl)
+only_kept true false j p h k = h refl
+only_kept false f j p h k = refl
+
+and_true : (a f : Bool) → f ≡ true → (a && f) ≡ a
+and_true true f e = e
+and_true false f e = refl
+
+and_false : (a f : Bool) → f ≡ false → (a && f) ≡ false
+and_false true f e = e
+and_false false f e = refl
+
+not_of : (f : Bool) → not f ≡ true → f ≡ false
+not_of true e = let g : false ≡ true = e in cc
+not_of false e = refl
+
+rest_of : (a b : Bool) → (a && b) ≡ true → b ≡ true
+rest_of true b e = e
+rest_of false b e = let f : false ≡ true = e in cc
+
+first_of : (a b : Bool) → (a && b) ≡ true → a ≡ true
+first_of true b e = refl
+first_of false b e = e
+
+one_first : (a b : Bool) → a ≡ true → (a || b) ≡ true
+one_first true b e = refl
+one_first false b e = let f : false ≡ true = e in cc
+
+one_second : (a b : Bool) → b ≡ true → (a || b) ≡ true
+one_second true b e = refl
+one_second false b e = e
+
+of_two : (a b f : Bool) → ((a && f) || (b && f)) ≡ true → f ≡ true
+of_two true b true e = refl
+of_two false b true e = refl
+of_two true true false e = e
+of_two true false false e = e
+of_two false true false e = e
+of_two false false false e = e
+
+other_of : (a b : Bool) → a ≡ false → (a || b) ≡ true → b ≡ true
+other_of true b f e = let g : true ≡ false = f in cc
+other_of false b f e = e
+
+there : {X : Type 0} (o : Option X) → is_some o ≡ true → (x : X) × (o ≡ Some x)
+there None e = let f : false ≡ true = e in cc
+there (Some x) e = (x, refl)
+
+module _ {T : Type 0} (holds : T → Look → (Named → Bool) → Type 0) (m n : Memories T) (look world : Look) (pass : Row → Named → Bool) (rows rows_now : Row → Bool) (names names_now forgotten : Named → Bool) (left right : Delta)
+    (was : StandsCounted holds m look world pass rows names forgotten) (alike : PassesAlike m.pattern look pass rows names forgotten) (alike_now : PassesAlike m.pattern look pass rows_now names_now forgotten)
+    (rows_lead : Leads (cleaned rows forgotten) (cleaned rows_now forgotten) left.gone left.come) (names_lead : IsNameDifference (remembered names forgotten) (remembered names_now forgotten) right)
+    (alike_world : SeeAlike (either (remembered names forgotten) (remembered names_now forgotten)) look world) (fixed : ForgottenStay pass rows rows_now names names_now forgotten left) (stepped : IsStepped m n look left right) (step : TallyStep holds look m n left right) where
+  now : StandsFor n look rows_now names_now forgotten
+  now = step_stands m n look rows rows_now names names_now forgotten left right was.stands rows_lead names_lead stepped
+
+  -- what is in scope is not forgotten
+  scope : Named → Bool
+  scope c = either (remembered names forgotten) (remembered names_now forgotten) c
+
+  in_scope : (c : Named) → scope c ≡ true → forgotten c ≡ false
+  unfolding scope
+  in_scope c s = not_of (forgotten c) (of_two (names c) (names_now c) (not (forgotten c)) s)
+
+  extra : Row → Named → Bool
+  extra row c = all_passing pass names row c && forgotten c
+
+  module _ (row : Row) (t : T) (is : left_at n look row ≡ Some t) where
+    clean_now : cleaned rows_now forgotten row ≡ true
+    clean_now = sym (now.rows row) ∙ ap is_some is
+
+    of_stayed : (has_left m look row && not (has left.gone row)) ≡ true → holds t world (all_passing pass names_now row)
+    unfolding scope extra
+    of_stayed e =
+        let old = there (left_at m look row) (first_of (has_left m look row) (not (has left.gone row)) e) in
+        let clean : cleaned rows forgotten row ≡ true = sym (was.stands.rows row) ∙ first_of (has_left m look row) (not (has left.gone row)) e in
+        let after = step.stays world scope alike_world (λ c g. one_first (remembered names forgotten c) (remembered names_now forgotten c) (first_of (remembered names forgotten c) (not (remembered names_now forgotten c)) (sym (names_lead.goes c) ∙ g)))
+        (λ c g. one_second (remembered names forgotten c) (remembered names_now forgotten c) (first_of (remembered names_now forgotten c) (not (remembered names forgotten c)) (sym (names_lead.comes c) ∙ g))) row old.0 old.1 (not_of (has left.gone row) (rest_of (has_left m look row) (not (has left.gone row)) e)) in
+        let same : Some after.0 ≡ Some t = sym after.1 ∙ is in
+        let equal : after.0 ≡ t = cc in
+        let before : holds old.0 world (counted (has_right m look) (joins m.pattern look row) (extra row)) =
+        subst (holds old.0 world) (fun_ext (λ c. sym (ap (λ b. (b && joins m.pattern look row c) || extra row c) (was.stands.names c)
+        ∙ counted_all (names c) (forgotten c) (joins m.pattern look row c) (pass row c) (extra row c) (alike row c clean) (λ f. and_true (all_passing pass names row c) (forgotten c) f) (λ f. and_false (all_passing pass names row c) (forgotten c) f)))) (was.counts row old.0 old.1) in
+        subst (λ x. holds x world (all_passing pass names_now row)) equal
+        (subst (holds after.0 world) (fun_ext (λ c. ap (λ b. (b && joins m.pattern look row c) || extra row c) (now.names c)
+        ∙ counted_all (names_now c) (forgotten c) (joins m.pattern look row c) (pass row c) (extra row c) (alike_now row c clean_now) (λ f. and_true (all_passing pass names row c) (forgotten c) f ∙ fixed.stays row c clean clean_now f) (λ f. and_false (all_passing pass names row c) (forgotten c) f)))
+        (after.2 (extra row) (λ c s. and_false (all_passing pass names row c) (forgotten c) (in_scope c s)) before))
+
+    of_fresh : (has_left m look row && not (has left.gone row)) ≡ false → holds t world (all_passing pass names_now row)
+    of_fresh e =
+        let comes : has left.come row ≡ true = other_of (has_left m look row && not (has left.gone row)) (has left.come row) e (sym (stepped.rows row) ∙ ap is_some is) in
+        let after = step.fresh world (λ c h. alike_world c (one_second (remembered names forgotten c) (remembered names_now forgotten c) (sym (now.names c) ∙ h))) row e comes in
+        let same : Some after.0 ≡ Some t = sym after.1 ∙ is in
+        let equal : after.0 ≡ t = cc in
+        subst (λ x. holds x world (all_passing pass names_now row)) equal
+        (subst (holds after.0 world) (fun_ext (λ c. ap (λ b. b && joins m.pattern look row c) (now.names c)
+        ∙ only_kept (names_now c) (forgotten c) (joins m.pattern look row c) (pass row c) (alike_now row c clean_now) (fixed.comes row c comes))) after.2)
+
+    of_either : (b : Bool) → (has_left m look row && not (has left.gone row)) ≡ b → holds t world (all_passing pass names_now row)
+    of_either true e = of_stayed e
+    of_either false e = of_fresh e
+
+  stands_counted : StandsCounted holds n look world pass rows_now names_now forgotten
+  stands_counted = record { stands = now; counts = λ row t is. of_either row t is (has_left m look row && not (has left.gone row)) refl }
+
+pub tally_law : (T : Type 0) (holds : T → Look → (Named → Bool) → Type 0) → TallyLaw T holds
+tally_law T holds m n look world pass rows rows_now names names_now forgotten left right was alike alike_now rows_lead names_lead alike_world fixed stepped step =
+    stands_counted holds m n look world pass rows rows_now names names_now forgotten left right was alike alike_now rows_lead names_lead alike_world fixed stepped step
+
+-- ---- forgetting
+not_dropped : {X : Type 0} (b : Bool) (o : Option X) (x : X) → cond b None o ≡ Some x → o ≡ Some x
+not_dropped true o x e = let f : None ≡ Some x = e in cc
+not_dropped false o x e = e
+
+pub forget_law : (T : Type 0) (holds : T → Look → (Named → Bool) → Type 0) → ForgetLaw T holds
+forget_law T holds m n look world pass rows names forgotten old dropped was drops keeps left = record {
+  stands = forget_stands m n look rows names forgotten old dropped was.stands drops keeps;
+  counts = λ row t is. was.counts row t (not_dropped (has dropped row) (left_at m look row) t (sym (left row) ∙ is));
+}
+
+-- ---- what shows
+any_passing : (test : Named → Bool) (names : List Named) → ((c : Named) → (has_name names c && test c) ≡ false) → list_any test names ≡ false
+any_passing test [] h = refl
+any_passing test (x ∷ xs) h = both_none (test x) (list_any test xs) (head (test x) (name_equiv.refl x) (h x)) (any_passing test xs (λ c. tail (eq_by_cmp name_cmp c x) (has_name xs c) (test c) (h c)))
+  where
+    both_none : (a b : Bool) → a ≡ false → b ≡ false → (a || b) ≡ false
+    both_none true b e f = e
+    both_none false b e f = f
+
+    head : (t : Bool) → eq_by_cmp name_cmp x x ≡ true → ((eq_by_cmp name_cmp x x || has_name xs x) && t) ≡ false → t ≡ false
+    head t e f = sym (ap (λ b. (b || has_name xs x) && t) e) ∙ f
+
+    tail : (a b t : Bool) → ((a || b) && t) ≡ false → (b && t) ≡ false
+    tail true true t e = e
+    tail true false t e = refl
+    tail false b t e = e
+
+some_passing : (test : Named → Bool) (names : List Named) (c : Named) → (has_name names c && test c) ≡ true → list_any test names ≡ true
+some_passing test [] c e = let f : false ≡ true = e in cc
+some_passing test (x ∷ xs) c e = by (eq_by_cmp name_cmp c x) refl e (some_passing test xs c)
+  where
+    either_one : (a b : Bool) → b ≡ true → (a || b) ≡ true
+    either_one true b f = refl
+    either_one false b f = f
+
+    by : (b : Bool) → eq_by_cmp name_cmp c x ≡ b → ((b || has_name xs c) && test c) ≡ true → ((has_name xs c && test c) ≡ true → list_any test xs ≡ true) → (test x || list_any test xs) ≡ true
+    by true s f rest = ap (λ b. b || list_any test xs) (ap test (sym ((name_decides c x).0 s)) ∙ f)
+    by false s f rest = either_one (test x) (list_any test xs) (rest f)
+
+number_tells : (test : Named → Bool) (names : List Named) (n : ℕ) → IsNumber (λ c. has_name names c && test c) n → (n == 0) ≡ not (list_any test names)
+number_tells test names zero is = ap not (sym (any_passing test names (nobody _ is)))
+number_tells test names (suc n) is = let one = somebody _ (suc n) is (λ e. absurd (omega (arith, e))) in eqb-suc-zero n ∙ ap not (sym (some_passing test names one.0 one.1))
+
+no_row : (b : Bool) → false ≡ (false && b)
+no_row b = refl
+
+shown_as : {T : Type 0} (output : T → Option ℤ) (line : Bool → Bool) (row : Row) (b any : Bool) (o : Option T) → is_some o ≡ b → ((t : T) → o ≡ Some t → output t ≡ zero_where (line any)) → offers shows_any (output_some output o) row ≡ (b && line any)
+shown_as output line row b any None e h = ap (λ x. x && line any) e
+shown_as output line row b any (Some t) e h = ap (λ o. offers shows_any o row) (h t refl) ∙ given_none (line any) ∙ ap (λ x. x && line any) e
+  where
+    given_none : (l : Bool) → offers shows_any (zero_where l) row ≡ l
+    given_none true = refl
+    given_none false = refl
+
+pub blockers_shown : ShownLaw Blockers counts_blockers where_unblocked (λ b. not b)
+blockers_shown m look world pass rows names forgotten was row =
+    shown_as (where_unblocked look row) (λ b. not b) row (cleaned rows forgotten row) (list_any (pass row) names) (left_at m look row) (was.stands.rows row) (λ t is. ap zero_where (number_tells (pass row) names t.0 (was.counts row t is)))
+
+not_not : (b : Bool) → not (not b) ≡ b
+not_not true = refl
+not_not false = refl
+
+pub witnesses_shown : ShownLaw Witnesses counts_witnesses where_witnessed (λ b. b)
+witnesses_shown m look world pass rows names forgotten was row =
+    shown_as (where_witnessed look row) (λ b. b) row (cleaned rows forgotten row) (list_any (pass row) names) (left_at m look row) (was.stands.rows row)
+    (λ t is. ap zero_where (ap not (number_tells (pass row) names t.0 (was.counts row t is)) ∙ not_not (list_any (pass row) names)))
+
+-- the result of the tally that is kept for a left row, where one is
+result_at : (kept : Bool) (result : Option ℤ) (v : ℤ) (output : Held → Option ℤ) (o : Option Held) → is_some o ≡ kept → ((t : Held) → o ≡ Some t → output t ≡ result) → is_result (output_some output o) v ≡ (kept && is_result result v)
+result_at kept result v output None e h = ap (λ b. b && is_result result v) e
+result_at kept result v output (Some t) e h = ap (λ n. is_result n v) (h t refl) ∙ ap (λ b. b && is_result result v) e
+
+offers_some : (o : Option ℤ) (row : Row) (p : List ℤ × ℤ) → split_last row.values ≡ Some p → offers shows_value o row ≡ is_result o p.1
+offers_some None row p e = refl
+offers_some (Some v) row p e = ap (is_last v) e
+
+-- what is taken of candidates is what is taken of the facts that a world knows of them
+arguments_are : (a : Accumulate) (world : Look) (facts : List Fact) → Holds world facts → map (argument_of a world) (map name_of facts) ≡ map (argument a.arg) facts
+arguments_are a world [] h = refl
+arguments_are a world (f ∷ facts) h = ap (λ o. argument_given a.arg o ∷ map (argument_of a world) (map name_of facts)) h.0 ∙ ap (λ rest. argument a.arg f ∷ rest) (arguments_are a world facts h.1)
+
+pub gathered_shown : (a : Accumulate) → GatheredLaw a
+gathered_shown a m look world pass rows names forgotten of was known distinct all row = by (split_last row.values) refl
+  where
+    line : Row → ℤ → Bool
+    line left v = cleaned rows forgotten left && is_result (tested a (bound_in look left) (result_of a (of left))) v
+
+    result_is : (left : Row) (t : Held) → left_at m look left ≡ Some t → result_for a look left t ≡ tested a (bound_in look left) (result_of a (of left))
+    result_is left t is =
+        let g = was.counts left t is in
+        let arg = argument_of a world in
+        let listed = map name_of (of left) in
+        ap (tested a (bound_in look left))
+        (ap (λ k. fold_result k t.values) g.kind
+        ∙ ap (fold_result a.kind) (g.values ∙ same_values arg g.names listed g.distinct (distinct left) (λ c. g.all c ∙ sym (all left c)))
+        ∙ result-rising a.kind (map arg listed)
+        ∙ ap (fold_result a.kind) (arguments_are a world (of left) (known left)))
+
+    by : (o : Option (List ℤ × ℤ)) → split_last row.values ≡ o → offers shows_value (output_from (result_for a) m look (option_map (front_of row) (split_last row.values))) row ≡ valued_at line row (split_last row.values)
+    by None s = ap (λ o. offers shows_value (output_from (result_for a) m look (option_map (front_of row) o)) row) s ∙ sym (ap (valued_at line row) s)
+    by (Some p) s =
+        ap (λ o. offers shows_value (output_from (result_for a) m look (option_map (front_of row) o)) row) s
+        ∙ offers_some (output_some (result_for a look (front_of row p)) (left_at m look (front_of row p))) row p s
+        ∙ result_at (cleaned rows forgotten (front_of row p)) (tested a (bound_in look (front_of row p)) (result_of a (of (front_of row p)))) p.1 (result_for a look (front_of row p)) (left_at m look (front_of row p)) (was.stands.rows (front_of row p)) (result_is (front_of row p))
+        ∙ sym (ap (valued_at line row) s)
+
+-- ---- a new node, what is dropped, and another store
+pub start_law : (T : Type 0) (holds : T → Look → (Named → Bool) → Type 0) → StartLaw T holds
+start_law T holds m look world pass forgotten stands = record { stands = stands; counts = λ row t is. let f : false ≡ true = sym (stands.rows row) ∙ ap is_some is in cc }
+
+pub move_law : (T : Type 0) (holds : T → Look → (Named → Bool) → Type 0) → MoveLaw T holds
+move_law T holds m look other world pass rows names forgotten was alike =
+    let moved = memories_move T m look other was.stands.agrees alike in
+    record {
+      stands = record { rows = λ row. ap is_some (moved.1 row) ∙ was.stands.rows row; names = λ who. moved.2 who ∙ was.stands.names who; agrees = moved.0 };
+      counts = λ row t is. was.counts row t (sym (moved.1 row) ∙ is);
+    }
+
+shows_kept : {T : Type 0} (gives : ℤ → Row → Bool) (output : T → Option ℤ) (row : Row) (o : Option T) → offers gives (output_some output o) row ≡ true → is_some o ≡ true
+shows_kept gives output row None e = let f : false ≡ true = e in cc
+shows_kept gives output row (Some t) e = refl
+
+shows_after : {T : Type 0} (gives : ℤ → Row → Bool) (output : T → Option ℤ) (row : Row) (o : Option T) (b : Bool) → offers gives (output_some output o) row ≡ true → offers gives (output_some output (cond b None o)) row ≡ not b
+shows_after gives output row o true e = refl
+shows_after gives output row o false e = e
+
+pub drop_law : (T : Type 0) (origin : Row → Option Row) (gives : ℤ → Row → Bool) (output : Look → Row → T → Option ℤ) → ((row left : Row) → origin row ≡ Some left → left.facts ≡ row.facts) → DropLaw T origin gives output
+drop_law T origin gives output same_facts m n look rows names forgotten old dropped gone stands drops left went row is = by (origin row) refl
+  where
+    by : (o : Option Row) → origin row ≡ o → has gone row ≡ not (clean old row)
+    by None e = let f : false ≡ true = sym (ap (λ o. offers gives (output_from output m look o) row) e) ∙ is in cc
+    by (Some l) e =
+        let was : offers gives (output_some (output look l) (left_at m look l)) row ≡ true = sym (ap (λ o. offers gives (output_from output m look o) row) e) ∙ is in
+        let drop : has dropped l ≡ not (clean old l) = drops l (sym (stands.rows l) ∙ shows_kept gives (output look l) row (left_at m look l) was) in
+        went row ∙ ap (λ b. b && not (shown origin gives output n look row)) is
+        ∙ ap not (ap (λ o. offers gives (output_from output n look o) row) e ∙ ap (λ o. offers gives (output_some (output look l) o) row) (left l) ∙ shows_after gives (output look l) row (left_at m look l) (has dropped l) was)
+        ∙ not_not (has dropped l) ∙ drop ∙ ap (λ facts. not (not (list_any old facts))) (same_facts row l e)
+
+pub itself_facts : (row left : Row) → itself row ≡ Some left → left.facts ≡ row.facts
+itself_facts row left e = let f : row ≡ left = cc in ap (λ (r : Row). r.facts) (sym f)
+
+pub unvalued_facts : (row left : Row) → unvalued row ≡ Some left → left.facts ≡ row.facts
+unvalued_facts row left e = by (split_last row.values) e
+  where
+    by : (o : Option (List ℤ × ℤ)) → option_map (front_of row) o ≡ Some left → left.facts ≡ row.facts
+    by None f = let h : None ≡ Some left = f in cc
+    by (Some p) f = let h : front_of row p ≡ left = cc in ap (λ (r : Row). r.facts) (sym h)

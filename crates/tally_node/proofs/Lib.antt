@@ -1,0 +1,7 @@
+pub mod Turning
+pub mod Following
+pub mod Stepping
+pub mod Counting
+pub mod Gathering
+pub mod Knowing
+pub mod Lawful

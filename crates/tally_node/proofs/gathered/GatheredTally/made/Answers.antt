@@ -1,0 +1,17 @@
+use Rattle.std.proofs.Common.{◌≡◌, ◌∙◌, ap, List, ℤ, ◌++◌, ◌∷◌, [], SFits, w64, to_z-of_z}
+use Rattle.std.specs.Ordering.{eq_by_cmp}
+use Rattle.row_delta.specs.declared.row.Row.{Row}
+use Rattle.row_delta.specs.Rows.{row_cmp}
+use Rattle.tally_node.specs.Origins.{with_value}
+use Rattle.tally_node.proofs.Gathering.{value_row, row_with}
+use Rattle.tally_node.proofs.gathered.GatheredTally.made.Goals as goal
+
+pub returns : goal.returns
+returns c r =
+    let fits : SFits w64 c.args.value = c.ranges.value in
+    let pushed = simp to_z-of_z at c.in_ok-push.ensures.items in
+    let values : c.from_vec.result ≡ c.in_ok-copy.copy.values ++ c.args.value ∷ [] =
+    c.from_vec.ensures ∙ pushed ∙ ap (λ (xs : List ℤ). xs ++ c.args.value ∷ []) c.into_vec-values.ensures in
+    ap (λ (xs : List ℤ). eq_by_cmp row_cmp r (row_with c.in_ok-copy.copy xs)) values
+    ∙ ap (λ (row : Row). eq_by_cmp row_cmp r (with_value row c.args.value)) c.in_ok-copy.ensures
+    ∙ value_row r c.args.row.now c.args.value

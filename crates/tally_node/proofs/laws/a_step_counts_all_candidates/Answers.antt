@@ -1,0 +1,16 @@
+use Rattle.tally_node.specs.declared.count.Blockers.{Blockers}
+use Rattle.tally_node.specs.declared.count.Witnesses.{Witnesses}
+use Rattle.fold_fn.specs.Held.{Held}
+use Rattle.tally_node.specs.Counts.{counts_blockers, counts_witnesses}
+use Rattle.tally_node.specs.Gathers.{gathers}
+use Rattle.tally_node.proofs.Lawful.{tally_law}
+use Rattle.tally_node.proofs.laws.a_step_counts_all_candidates.Goals as goal
+
+pub returns-clause-blockers : goal.returns-clause-blockers
+returns-clause-blockers c = tally_law Blockers counts_blockers
+
+pub returns-clause-witnesses : goal.returns-clause-witnesses
+returns-clause-witnesses c = tally_law Witnesses counts_witnesses
+
+pub returns-clause-gathered : goal.returns-clause-gathered
+returns-clause-gathered c a = tally_law Held (gathers a)

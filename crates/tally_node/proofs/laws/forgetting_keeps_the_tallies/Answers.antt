@@ -1,0 +1,16 @@
+use Rattle.tally_node.specs.declared.count.Blockers.{Blockers}
+use Rattle.tally_node.specs.declared.count.Witnesses.{Witnesses}
+use Rattle.fold_fn.specs.Held.{Held}
+use Rattle.tally_node.specs.Counts.{counts_blockers, counts_witnesses}
+use Rattle.tally_node.specs.Gathers.{gathers}
+use Rattle.tally_node.proofs.Lawful.{forget_law}
+use Rattle.tally_node.proofs.laws.forgetting_keeps_the_tallies.Goals as goal
+
+pub returns-clause-blockers : goal.returns-clause-blockers
+returns-clause-blockers c = forget_law Blockers counts_blockers
+
+pub returns-clause-witnesses : goal.returns-clause-witnesses
+returns-clause-witnesses c = forget_law Witnesses counts_witnesses
+
+pub returns-clause-gathered : goal.returns-clause-gathered
+returns-clause-gathered c a = forget_law Held (gathers a)

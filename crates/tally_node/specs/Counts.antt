@@ -1,0 +1,40 @@
+-- How many candidates a set has.
+use Rattle.std.specs.Prelude.{◌≡◌, ◌==◌, ℕ, Bool, false, not, List, [], ◌∷◌, length, Option, Some, None, ℤ, pos, cond}
+use Rattle.row_delta.specs.declared.row.Named.{Named}
+use Rattle.row_delta.specs.declared.row.Row.{Row}
+use Rattle.join_tests.specs.Joins.{Look}
+use Rattle.pair_memory.specs.Joined.{has_name}
+use Rattle.tally_node.specs.declared.count.Blockers.{Blockers}
+use Rattle.tally_node.specs.declared.count.Witnesses.{Witnesses}
+
+-- each stands once
+abbrev pub AreDistinct : List Named → Type 0
+AreDistinct [] = Unit {0}
+AreDistinct (x ∷ xs) = (has_name xs x ≡ false) × AreDistinct xs
+
+-- there is a list of the candidates of the set, each once, with this length
+pub record IsNumber (set : Named → Bool) (n : ℕ) : Type 0 where
+  pub names : List Named
+  pub distinct : AreDistinct names
+  pub all : (who : Named) → has_name names who ≡ set who
+  pub count : length names ≡ n
+
+-- 0 where this holds, and else nothing: a left row is a row of the node as it is, or it is none
+abbrev pub zero_where : Bool → Option ℤ
+zero_where b = cond b (Some (pos 0)) None
+
+-- blockers are the number of the candidates that pass
+abbrev pub counts_blockers : Blockers → Look → (Named → Bool) → Type 0
+counts_blockers t world set = IsNumber set t.0
+
+-- and so are witnesses
+abbrev pub counts_witnesses : Witnesses → Look → (Named → Bool) → Type 0
+counts_witnesses t world set = IsNumber set t.0
+
+-- with blockers a left row is shown where there is none
+abbrev pub where_unblocked : Look → Row → Blockers → Option ℤ
+where_unblocked look row t = zero_where (t.0 == 0)
+
+-- with witnesses a left row is shown where there is one
+abbrev pub where_witnessed : Look → Row → Witnesses → Option ℤ
+where_witnessed look row t = zero_where (not (t.0 == 0))

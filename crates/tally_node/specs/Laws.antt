@@ -1,0 +1,97 @@
+-- What a step, forgetting and a change of the store are for the whole sets of rows and candidates that a node stands for, and which
+-- rows the node then has.
+use Rattle.std.specs.Prelude.{◌≡◌, ◌&&◌, not, true, false, cond, map, Bool, List, Option, Some, None, ℤ}
+use Rattle.std.specs.List.{list_any}
+use Rattle.fx_base.specs.declared.fact.Fact.{Fact}
+use Rattle.fold_fn.specs.Held.{Held}
+use Rattle.row_delta.specs.declared.row.Named.{Named}
+use Rattle.row_delta.specs.declared.row.Row.{Row}
+use Rattle.row_delta.specs.declared.delta.Delta.{Delta}
+use Rattle.row_delta.specs.Rows.{has}
+use Rattle.row_change.specs.Changes.{Leads}
+use Rattle.rule_model.specs.declared.condition.Accumulate.{Accumulate}
+use Rattle.rule_model.specs.Lent.{Holds, bound_in}
+use Rattle.rule_model.specs.Rows.{result_of}
+use Rattle.rule_model.specs.Tuples.{name_of}
+use Rattle.join_tests.specs.Joins.{Look}
+use Rattle.pair_memory.specs.declared.memories.Memories.{Memories}
+use Rattle.pair_memory.specs.Joined.{has_name}
+use Rattle.pair_memory.specs.Memories.{left_at, has_left, has_right, Keeps}
+use Rattle.pair_memory.specs.Standing.{clean, cleaned, either, remembered, no_rows, no_names, PassesAlike, StandsFor, LooksAlike}
+use Rattle.beta_join.specs.Inputs.{IsNameDifference, IsStepped}
+use Rattle.tally_node.specs.Counts.{AreDistinct}
+use Rattle.tally_node.specs.Gathers.{gathers, tested, result_for, is_result}
+use Rattle.tally_node.specs.Origins.{itself, shows_any, unvalued, shows_value, valued}
+use Rattle.tally_node.specs.Tallies.{TallyStep, shown, SeeAlike}
+
+-- the candidates of the world that pass for a row, forgotten ones too
+abbrev pub all_passing : (Row → Named → Bool) → (Named → Bool) → Row → Named → Bool
+all_passing pass names row who = names who && pass row who
+
+-- The memories stand for left rows and candidates, and the tally of each kept left row is that of all candidates that pass, forgotten
+-- ones too.
+pub record StandsCounted {T : Type 0} (holds : T → Look → (Named → Bool) → Type 0) (m : Memories T) (look world : Look) (pass : Row → Named → Bool) (rows : Row → Bool) (names forgotten : Named → Bool) : Type 0 where
+  pub stands : StandsFor m look rows names forgotten
+  pub counts : (row : Row) (t : T) → left_at m look row ≡ Some t → holds t world (all_passing pass names row)
+
+-- What is asked of forgotten candidates: where they pass for a row that stays, they neither come nor go, and for no row that comes do
+-- they pass.
+pub record ForgottenStay (pass : Row → Named → Bool) (rows rows_now : Row → Bool) (names names_now forgotten : Named → Bool) (left : Delta) : Type 0 where
+  pub stays : (row : Row) (who : Named) → cleaned rows forgotten row ≡ true → cleaned rows_now forgotten row ≡ true → forgotten who ≡ true → all_passing pass names row who ≡ all_passing pass names_now row who
+  pub comes : (row : Row) (who : Named) → has left.come row ≡ true → forgotten who ≡ true → all_passing pass names_now row who ≡ false
+
+-- a node that keeps nothing counts nothing
+abbrev pub StartLaw : (T : Type 0) → (T → Look → (Named → Bool) → Type 0) → Type 0
+StartLaw T holds = (m : Memories T) (look world : Look) (pass : Row → Named → Bool) (forgotten : Named → Bool)
+    → StandsFor m look no_rows no_names forgotten → StandsCounted holds m look world pass no_rows no_names forgotten
+
+-- For the true differences of its two inputs, of what names no forgotten fact, a node that stands for left rows and candidates stands
+-- for the new ones, and its tallies are those of all new candidates that pass, forgotten ones too.
+abbrev pub TallyLaw : (T : Type 0) → (T → Look → (Named → Bool) → Type 0) → Type 0
+TallyLaw T holds = (m n : Memories T) (look world : Look) (pass : Row → Named → Bool) (rows rows_now : Row → Bool) (names names_now forgotten : Named → Bool) (left right : Delta)
+    → StandsCounted holds m look world pass rows names forgotten → PassesAlike m.pattern look pass rows names forgotten → PassesAlike m.pattern look pass rows_now names_now forgotten
+    → Leads (cleaned rows forgotten) (cleaned rows_now forgotten) left.gone left.come → IsNameDifference (remembered names forgotten) (remembered names_now forgotten) right
+    → SeeAlike (either (remembered names forgotten) (remembered names_now forgotten)) look world → ForgottenStay pass rows rows_now names names_now forgotten left
+    → IsStepped m n look left right → TallyStep holds look m n left right
+    → StandsCounted holds n look world pass rows_now names_now forgotten
+
+-- After its old candidates and the left rows that name an old fact are dropped, a node stands for the same rows and candidates with the
+-- old facts forgotten too, and its tallies are still those of all candidates.
+abbrev pub ForgetLaw : (T : Type 0) → (T → Look → (Named → Bool) → Type 0) → Type 0
+ForgetLaw T holds = (m n : Memories T) (look world : Look) (pass : Row → Named → Bool) (rows : Row → Bool) (names forgotten old : Named → Bool) (dropped : List Row)
+    → StandsCounted holds m look world pass rows names forgotten
+    → ((row : Row) → cleaned rows forgotten row ≡ true → has dropped row ≡ not (clean old row))
+    → Keeps m n look (λ row. has_left m look row && not (has dropped row)) (λ who. has_right m look who && not (old who))
+    → ((row : Row) → left_at n look row ≡ cond (has dropped row) None (left_at m look row))
+    → StandsCounted holds n look world pass rows names (either forgotten old)
+
+-- Of the rows that a node has, those go with the left rows that are dropped that name an old fact.
+abbrev pub DropLaw : (T : Type 0) → (Row → Option Row) → (ℤ → Row → Bool) → (Look → Row → T → Option ℤ) → Type 0
+DropLaw T origin gives output = (m n : Memories T) (look : Look) (rows : Row → Bool) (names forgotten old : Named → Bool) (dropped gone : List Row)
+    → StandsFor m look rows names forgotten
+    → ((row : Row) → cleaned rows forgotten row ≡ true → has dropped row ≡ not (clean old row))
+    → ((row : Row) → left_at n look row ≡ cond (has dropped row) None (left_at m look row))
+    → ((row : Row) → has gone row ≡ (shown origin gives output m look row && not (shown origin gives output n look row)))
+    → (row : Row) → shown origin gives output m look row ≡ true → has gone row ≡ not (clean old row)
+
+-- In a store with the same facts at the tags that are kept, a node stands for the same.
+abbrev pub MoveLaw : (T : Type 0) → (T → Look → (Named → Bool) → Type 0) → Type 0
+MoveLaw T holds = (m : Memories T) (look other world : Look) (pass : Row → Named → Bool) (rows : Row → Bool) (names forgotten : Named → Bool)
+    → StandsCounted holds m look world pass rows names forgotten → LooksAlike m look other
+    → StandsCounted holds m other world pass rows names forgotten
+
+-- Of a list of all candidates, the node has a left row exactly where the line says so of whether one of them passes.
+abbrev pub ShownLaw : (T : Type 0) → (T → Look → (Named → Bool) → Type 0) → (Look → Row → T → Option ℤ) → (Bool → Bool) → Type 0
+ShownLaw T holds output line = (m : Memories T) (look world : Look) (pass : Row → Named → Bool) (rows : Row → Bool) (names : List Named) (forgotten : Named → Bool)
+    → StandsCounted holds m look world pass rows (has_name names) forgotten
+    → (row : Row) → shown itself shows_any output m look row ≡ (cleaned rows forgotten row && line (list_any (pass row) names))
+
+-- A row of the node is a left row with one value more, which is what the function of the accumulate gives of all the facts that pass
+-- for the left row, where it gives something and the tests of the result hold. `of` lists these facts, each once.
+abbrev pub GatheredLaw : Accumulate → Type 0
+GatheredLaw a = (m : Memories Held) (look world : Look) (pass : Row → Named → Bool) (rows : Row → Bool) (names forgotten : Named → Bool) (of : Row → List Fact)
+    → StandsCounted (gathers a) m look world pass rows names forgotten
+    → ((row : Row) → Holds world (of row)) → ((row : Row) → AreDistinct (map name_of (of row)))
+    → ((row : Row) (who : Named) → has_name (map name_of (of row)) who ≡ all_passing pass names row who)
+    → (row : Row) → shown unvalued shows_value (result_for a) m look row
+    ≡ valued (λ left v. cleaned rows forgotten left && is_result (tested a (bound_in look left) (result_of a (of left))) v) row

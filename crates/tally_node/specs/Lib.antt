@@ -1,0 +1,5 @@
+pub mod Origins
+pub mod Tallies
+pub mod Counts
+pub mod Gathers
+pub mod Laws

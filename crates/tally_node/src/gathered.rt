@@ -1,0 +1,211 @@
+ghost use Rattle.std.specs.Prelude.{◌≡◌, ◌+◌, ◌^◌, ◌<◌, ℤ, List, IfOk, OnOk};
+ghost use Rattle.rule_model.specs.Rows.{argument};
+ghost use Rattle.std.specs.HashMap.{get};
+ghost use Rattle.std.specs.Map.{count_at};
+ghost use Rattle.std.specs.Ordering.{int_eq};
+ghost use Rattle.fold_fn.specs.Held.{HasOneMore};
+ghost use Rattle.fold_fn.specs.Order.{insert_rising};
+ghost use Rattle.tally_node.specs.Gathers.{argument_of};
+
+use crate::Tally;
+use crate::result_tests::do_hold;
+use fold_fn::{AnyFold, Fold};
+use fx_base::{Copies, Fact, Facts, NoMemory, Seq, Value};
+use row_delta::{Named, Row};
+use rule_model::Accumulate;
+use std::alloc::Global;
+use std::collections::HashMap;
+use std::marker::Model;
+
+/// The most values that a fold may hold.
+const FULL: u64 = 9_223_372_036_854_775_807;
+
+/// The tally of an `accumulate`: what its function holds of the candidates that pass, seen as its kind and its values in rising
+/// order. It also knows how often it holds each value, and takes back only what it holds.
+#[derive(Drop)]
+pub struct Gathered {
+    fold: AnyFold,
+    times: HashMap<i64, u64>,
+    count: u64,
+}
+
+impl Model for Gathered {
+    ghost use Rattle.fold_fn.specs.Held.{Held};
+    ghost use Rattle.std.specs.HashMap.{get};
+    ghost use Rattle.std.specs.Ordering.{int_eq};
+    ghost use Rattle.tally_node.specs.Gathers.{Knows};
+
+    ghost Value = { Held };
+
+    ghost view = { λ g. g.fold };
+
+    ghost invariant = { λ g. Knows g.fold.values (get int_eq g.times) g.count };
+}
+
+impl Gathered {
+    /// One value more; a fold that is full is refused memory.
+    fn with_value(self, value: i64) -> Result<Gathered, NoMemory>
+        ensures kind { IfOk result (λ now. now.kind ≡ self.kind) }
+        ensures values { IfOk result (λ now. now.values ≡ insert_rising value self.values) }
+    {
+        let Gathered {
+            mut fold,
+            mut times,
+            count,
+        } = self;
+        if count >= FULL {
+            return Err(NoMemory);
+        }
+        raise(&mut times, value)?;
+        fold.add(value)?;
+        Ok(Gathered {
+            fold,
+            times,
+            count: count + 1,
+        })
+    }
+
+    /// One value less, where it holds it.
+    fn without_value(self, value: i64) -> Gathered
+        ensures kind { result.kind ≡ self.kind }
+        ensures values { (rest : List ℤ) → self.values ≡ insert_rising value rest → result.values ≡ rest }
+    {
+        if times_of(&self.times, value) == 0 {
+            return self;
+        }
+        let Gathered {
+            mut fold,
+            mut times,
+            count,
+        } = self;
+        lower(&mut times, value);
+        fold.take_back(value);
+        Gathered {
+            fold,
+            times,
+            count: count - 1,
+        }
+    }
+}
+
+/// How often a value is counted.
+fn times_of(times: &HashMap<i64, u64>, value: i64) -> u64
+    ensures { result ≡ count_at (get int_eq times.now) value }
+{
+    match times.get(&value) {
+        Some(count) => *count,
+        None => 0,
+    }
+}
+
+/// Counts a value once more.
+fn raise(times: &mut HashMap<i64, u64>, value: i64) -> Result<(), NoMemory>
+    requires { count_at (get int_eq times.old) value < 2 ^ 63 }
+    ensures { OnOk result (HasOneMore (get int_eq times.old) (get int_eq times.new) value) }
+{
+    *times.entry(value)?.or_insert(0) += 1;
+    Ok(())
+}
+
+/// Counts a value that is counted once less.
+fn lower(times: &mut HashMap<i64, u64>, value: i64)
+    requires { 0 < count_at (get int_eq times.old) value }
+    ensures { HasOneMore (get int_eq times.new) (get int_eq times.old) value }
+{
+    match times.get_mut(&value) {
+        Some(n) if *n > 1 => *n -= 1,
+        _ => {
+            let _ = times.remove(&value);
+        }
+    }
+}
+
+/// What an accumulate takes of a candidate: the whole number in the field of this place, and else 0.
+fn taken_of<F: Facts>(accumulate: &Accumulate, who: Named, facts: &F) -> i64
+    ensures { result ≡ argument_of accumulate.now (F.map facts.now) who }
+{
+    match facts.fact(who.tag) {
+        Some(fact) => taken_in(accumulate.arg, fact),
+        None => 0,
+    }
+}
+
+fn taken_in(field: Option<u8>, fact: &Fact) -> i64
+    ensures { result ≡ argument field fact.now }
+{
+    match field {
+        Some(field) => match fact.fields.as_slice().get(field as usize) {
+            Some(Value::Int(number)) => *number,
+            Some(_) | None => 0,
+        },
+        None => 0,
+    }
+}
+
+impl Tally for Gathered {
+    ghost use Rattle.tally_node.specs.Gathers.{gathers, result_for};
+    ghost use Rattle.tally_node.specs.Origins.{unvalued, shows_value};
+
+    type Plan = Accumulate;
+
+    ghost holds = { gathers };
+
+    ghost output = { result_for };
+
+    ghost origin = { unvalued };
+
+    ghost gives = { shows_value };
+
+    fn none(alloc: Global, plan: &Accumulate) -> Gathered {
+        Gathered {
+            fold: AnyFold::new(alloc, plan.kind),
+            times: HashMap::new(alloc),
+            count: 0,
+        }
+    }
+
+    fn add<F: Facts>(
+        self,
+        _alloc: Global,
+        plan: &Accumulate,
+        who: Named,
+        facts: &F,
+    ) -> Result<Gathered, NoMemory> {
+        let now = self.with_value(taken_of(plan, who, facts))?;
+        Ok(now)
+    }
+
+    fn take<F: Facts>(
+        self,
+        _alloc: Global,
+        plan: &Accumulate,
+        who: Named,
+        facts: &F,
+    ) -> Result<Gathered, NoMemory> {
+        Ok(self.without_value(taken_of(plan, who, facts)))
+    }
+
+    fn output<F: Facts>(&self, plan: &Accumulate, row: &Row, facts: &F) -> Option<i64> {
+        match self.fold.result() {
+            Some(value) => {
+                if do_hold(row, facts, value, plan.tests.as_slice()) {
+                    Some(value)
+                } else {
+                    None
+                }
+            }
+            None => None,
+        }
+    }
+
+    fn made(alloc: Global, row: &Row, value: i64) -> Result<Row, NoMemory> {
+        let copy = row.copy(alloc)?;
+        let Row { facts, values } = copy;
+        let mut values = values.into_vec();
+        values.push(value)?;
+        Ok(Row {
+            facts,
+            values: Seq::from_vec(values),
+        })
+    }
+}

@@ -1,0 +1,56 @@
+//! Laws of nodes with tallies: each function's contract is the law, and its body is empty.
+ghost use Rattle.std.specs.Prelude.{not};
+ghost use Rattle.fold_fn.specs.Held.{Held};
+ghost use Rattle.rule_model.specs.declared.condition.Accumulate.{Accumulate};
+ghost use Rattle.tally_node.specs.declared.count.Blockers.{Blockers};
+ghost use Rattle.tally_node.specs.declared.count.Witnesses.{Witnesses};
+ghost use Rattle.tally_node.specs.Counts.{counts_blockers, counts_witnesses, where_unblocked, where_witnessed};
+ghost use Rattle.tally_node.specs.Gathers.{gathers, result_for};
+ghost use Rattle.tally_node.specs.Origins.{itself, shows_any, unvalued, shows_value};
+ghost use Rattle.tally_node.specs.Laws.{StartLaw, TallyLaw, ForgetLaw, DropLaw, MoveLaw, ShownLaw, GatheredLaw};
+
+/// A node that keeps nothing counts nothing.
+pub fn a_new_node_counts_nothing()
+    ensures blockers { StartLaw Blockers counts_blockers }
+    ensures witnesses { StartLaw Witnesses counts_witnesses }
+    ensures gathered { (a : Accumulate) → StartLaw Held (gathers a) }
+{}
+
+/// A step leads to tallies of all candidates that pass, forgotten ones too, for all sets for which the node stands.
+pub fn a_step_counts_all_candidates()
+    ensures blockers { TallyLaw Blockers counts_blockers }
+    ensures witnesses { TallyLaw Witnesses counts_witnesses }
+    ensures gathered { (a : Accumulate) → TallyLaw Held (gathers a) }
+{}
+
+/// Forgetting changes no tally of a row that stays.
+pub fn forgetting_keeps_the_tallies()
+    ensures blockers { ForgetLaw Blockers counts_blockers }
+    ensures witnesses { ForgetLaw Witnesses counts_witnesses }
+    ensures gathered { (a : Accumulate) → ForgetLaw Held (gathers a) }
+{}
+
+/// The rows that go with what is dropped are those that name an old fact.
+pub fn what_is_dropped_names_an_old_fact()
+    ensures blockers { DropLaw Blockers itself shows_any where_unblocked }
+    ensures witnesses { DropLaw Witnesses itself shows_any where_witnessed }
+    ensures gathered { (a : Accumulate) → DropLaw Held unvalued shows_value (result_for a) }
+{}
+
+/// What a node stands for depends on the facts at the tags that it keeps alone.
+pub fn tallies_look_at_kept_tags_alone()
+    ensures blockers { MoveLaw Blockers counts_blockers }
+    ensures witnesses { MoveLaw Witnesses counts_witnesses }
+    ensures gathered { (a : Accumulate) → MoveLaw Held (gathers a) }
+{}
+
+/// A left row is shown where none, or some, of all candidates passes.
+pub fn counts_show_as_the_conditions_say()
+    ensures blockers { ShownLaw Blockers counts_blockers where_unblocked (λ b. not b) }
+    ensures witnesses { ShownLaw Witnesses counts_witnesses where_witnessed (λ b. b) }
+{}
+
+/// A left row is shown with the result over all candidates that pass.
+pub fn results_show_as_the_conditions_say()
+    ensures { (a : Accumulate) → GatheredLaw a }
+{}
