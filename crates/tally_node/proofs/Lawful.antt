@@ -26,8 +26,8 @@ use Rattle.pair_memory.specs.Memories.{left_at, has_left, has_right}
 use Rattle.pair_memory.specs.Standing.{clean, cleaned, either, remembered, PassesAlike, StandsFor}
 use Rattle.pair_memory.proofs.Joining.{name_decides}
 use Rattle.pair_memory.proofs.Moving.{move_law as memories_move}
-use Rattle.beta_join.specs.Inputs.{IsNameDifference, IsStepped}
-use Rattle.beta_join.proofs.Lawful.{step_stands, forget_stands}
+use Rattle.pair_memory.specs.Inputs.{IsNameDifference, IsStepped}
+use Rattle.pair_memory.proofs.Steps.{steps_law, forgets_law}
 use Rattle.tally_node.specs.declared.count.Blockers.{Blockers}
 use Rattle.tally_node.specs.declared.count.Witnesses.{Witnesses}
 use Rattle.tally_node.specs.Counts.{IsNumber, zero_where, counts_blockers, counts_witnesses, where_unblocked, where_witnessed}
@@ -100,7 +100,7 @@ module _ {T : Type 0} (holds : T → Look → (Named → Bool) → Type 0) (m n 
     (rows_lead : Leads (cleaned rows forgotten) (cleaned rows_now forgotten) left.gone left.come) (names_lead : IsNameDifference (remembered names forgotten) (remembered names_now forgotten) right)
     (alike_world : SeeAlike (either (remembered names forgotten) (remembered names_now forgotten)) look world) (fixed : ForgottenStay pass rows rows_now names names_now forgotten left) (stepped : IsStepped m n look left right) (step : TallyStep holds look m n left right) where
   now : StandsFor n look rows_now names_now forgotten
-  now = step_stands m n look rows rows_now names names_now forgotten left right was.stands rows_lead names_lead stepped
+  now = steps_law T m n look rows rows_now names names_now forgotten left right was.stands rows_lead names_lead stepped
 
   -- what is in scope is not forgotten
   scope : Named → Bool
@@ -162,7 +162,7 @@ not_dropped false o x e = e
 
 pub forget_law : (T : Type 0) (holds : T → Look → (Named → Bool) → Type 0) → ForgetLaw T holds
 forget_law T holds m n look world pass rows names forgotten old dropped was drops keeps left = record {
-  stands = forget_stands m n look rows names forgotten old dropped was.stands drops keeps;
+  stands = forgets_law T m n look rows names forgotten old dropped was.stands drops keeps;
   counts = λ row t is. was.counts row t (not_dropped (has dropped row) (left_at m look row) t (sym (left row) ∙ is));
 }
 

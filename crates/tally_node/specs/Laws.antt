@@ -18,7 +18,7 @@ use Rattle.pair_memory.specs.declared.memories.Memories.{Memories}
 use Rattle.pair_memory.specs.Joined.{has_name}
 use Rattle.pair_memory.specs.Memories.{left_at, has_left, has_right, Keeps}
 use Rattle.pair_memory.specs.Standing.{clean, cleaned, either, remembered, no_rows, no_names, PassesAlike, StandsFor, LooksAlike}
-use Rattle.beta_join.specs.Inputs.{IsNameDifference, IsStepped}
+use Rattle.pair_memory.specs.Inputs.{IsNameDifference, IsStepped}
 use Rattle.tally_node.specs.Counts.{AreDistinct}
 use Rattle.tally_node.specs.Gathers.{gathers, tested, result_for, is_result}
 use Rattle.tally_node.specs.Origins.{itself, shows_any, unvalued, shows_value, valued}

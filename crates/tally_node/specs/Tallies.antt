@@ -12,7 +12,7 @@ use Rattle.rule_model.specs.declared.condition.Pattern.{Pattern}
 use Rattle.join_tests.specs.Joins.{Look, joins}
 use Rattle.pair_memory.specs.declared.memories.Memories.{Memories}
 use Rattle.pair_memory.specs.Memories.{left_at, has_left, has_right}
-use Rattle.beta_join.specs.Inputs.{row_naming}
+use Rattle.pair_memory.specs.Inputs.{row_naming}
 use Rattle.tally_node.specs.Origins.{is_from}
 
 -- ---- one tally

@@ -5,7 +5,6 @@
 
 mod count;
 mod gathered;
-mod inputs;
 pub mod laws;
 mod node;
 mod result_tests;

@@ -10,14 +10,13 @@ ghost use Rattle.join_tests.specs.Joins.{Look, joins};
 ghost use Rattle.pair_memory.specs.Joined.{has_name};
 ghost use Rattle.pair_memory.specs.Memories.{left_at, has_left, has_right, Keeps};
 ghost use Rattle.pair_memory.specs.Standing.{no_rows, no_names, StandsFor};
-ghost use Rattle.beta_join.specs.Inputs.{IsStepped};
+ghost use Rattle.pair_memory.specs.Inputs.{IsStepped};
 ghost use Rattle.tally_node.specs.Tallies.{Turned, TurnedIf, Steps, offers, shown, changed_at, LeadsOn, SeeAlike, Follows, Arrives, passing, TallyStep};
 ghost use Rattle.tally_node.specs.Origins.{is_from};
 
 use crate::Tally;
-use crate::inputs::names_alone;
 use fx_base::{Copies, Facts, NoMemory, Seq};
-use pair_memory::Memories;
+use pair_memory::{Memories, names_alone};
 use row_change::Change;
 use row_delta::{Delta, Named, Row};
 use rule_model::Pattern;

@@ -5,7 +5,8 @@ use Rattle.row_delta.specs.Rows.{has}
 use Rattle.rule_model.specs.declared.condition.Pattern.{Pattern}
 use Rattle.join_tests.specs.Joins.{joins}
 use Rattle.pair_memory.specs.Memories.{left_at, has_left, has_right}
-use Rattle.beta_join.proofs.Turns.{leads_alike, name_present}
+use Rattle.row_change.proofs.Alike.{leads_alike}
+use Rattle.pair_memory.proofs.Turning.{name_present}
 use Rattle.tally_node.specs.Tallies.{TurnedIf, Steps}
 use Rattle.tally_node.proofs.Following.{steps_come, steps_follow_same}
 use Rattle.tally_node.proofs.Turning.{shown_alike}

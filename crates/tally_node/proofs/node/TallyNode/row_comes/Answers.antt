@@ -8,7 +8,8 @@ use Rattle.join_tests.specs.Joins.{joins}
 use Rattle.pair_memory.specs.Joined.{has_name}
 use Rattle.pair_memory.specs.Memories.{left_at, has_left, has_right}
 use Rattle.pair_memory.proofs.Joining.{row_decides}
-use Rattle.beta_join.proofs.Turns.{leads_alike, row_present}
+use Rattle.row_change.proofs.Alike.{leads_alike}
+use Rattle.pair_memory.proofs.Turning.{row_present}
 use Rattle.tally_node.specs.Tallies.{shown, passing}
 use Rattle.tally_node.proofs.Turning.{put_shown, shown_from, none_output}
 use Rattle.tally_node.proofs.Following.{first_of, arrives_there, arrives_one}

@@ -1,5 +1,5 @@
 use Rattle.std.proofs.Common.{◌∙◌, sym, ap}
-use Rattle.beta_join.proofs.Turns.{leads_alike}
+use Rattle.row_change.proofs.Alike.{leads_alike}
 use Rattle.tally_node.specs.Tallies.{shown, output_some}
 use Rattle.tally_node.proofs.Turning.{shown_from, gone_shown, shown_alike, untouched}
 use Rattle.tally_node.proofs.node.TallyNode.row_leaves.Goals as goal

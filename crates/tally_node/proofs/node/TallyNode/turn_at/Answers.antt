@@ -3,7 +3,7 @@ use Rattle.std.proofs.lemmas.Result.{on_ok_weaker}
 use Rattle.std.specs.Ordering.{eq_by_cmp}
 use Rattle.row_delta.specs.Rows.{row_cmp}
 use Rattle.pair_memory.specs.Memories.{left_at}
-use Rattle.beta_join.proofs.Turns.{leads_alike}
+use Rattle.row_change.proofs.Alike.{leads_alike}
 use Rattle.tally_node.specs.Tallies.{shown, output_some}
 use Rattle.tally_node.proofs.Turning.{shown_from, steps_one, steps_absent, absent, keeps_then, exchanged, was_there, exchanged_shown}
 use Rattle.tally_node.proofs.node.TallyNode.turn_at.Goals as goal
