@@ -1,0 +1,4 @@
+pub mod Pairs
+pub mod Ripe
+pub mod Maturing
+pub mod Lawful

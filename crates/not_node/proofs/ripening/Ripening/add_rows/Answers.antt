@@ -1,0 +1,20 @@
+use Rattle.std.proofs.Common.{to_z, of_z, ◌∙◌, ap, not, ◌&&◌, ◌||◌, take, int_lt}
+use Rattle.std.specs.Int.{w128}
+use Rattle.std.specs.Ordering.{eq_by_cmp}
+use Rattle.row_delta.specs.Rows.{row_cmp, has}
+use Rattle.tally_node.proofs.Following.{rows_more}
+use Rattle.not_node.specs.Moments.{moment_at}
+use Rattle.not_node.specs.Waiting.{waits, is_moment}
+use Rattle.not_node.proofs.Pairs.{add_more}
+use Rattle.not_node.proofs.ripening.Ripening.add_rows.Goals as goal
+
+pub loop-row-preserved : goal.loop-row-preserved
+loop-row-preserved g c at r =
+    let rows = c.args.rows.now in
+    let i = c.loop-row.row-index in
+    let row = c.row-item.result in
+    let m = is_moment (moment_at c.args.program.now c.args.pattern.now (g.F.Facts.map c.args.facts.now) r) at in
+    let w = waits c.args.self.now.waiting.keys at r in
+    let l = int_lt at (to_z w128 (of_z w128 c.args.floor)) in
+    c.in_ok-add_row.ensures at r ∙ ap (λ b. b || ((eq_by_cmp row_cmp row r && m) && not l)) (c.loop-row.invariant at r)
+    ∙ add_more w (has (take i rows) r) (eq_by_cmp row_cmp row r) m l ∙ ap (λ b. w || ((b && m) && not l)) (rows_more rows i row c.loop-row-test.true c.row-item.is r)

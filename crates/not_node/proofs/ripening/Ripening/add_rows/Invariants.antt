@@ -1,0 +1,9 @@
+use Rattle.std.proofs.Common.{◌≡◌, ◌&&◌, ◌||◌, not, ℤ, int_lt, take}
+use Rattle.row_delta.specs.Rows.{has}
+use Rattle.row_delta.specs.declared.row.Row.{Row}
+use Rattle.not_node.specs.Moments.{moment_at}
+use Rattle.not_node.specs.Waiting.{waits, is_moment}
+use Rattle.not_node.proofs.ripening.Ripening.add_rows.Given as goal
+
+abbrev pub invariant-loop-row : goal.invariant-loop-row
+invariant-loop-row g l = (at : ℤ) (r : Row) → waits l.self.waiting.keys at r ≡ (waits l.initial.self.waiting.keys at r || ((has (take l.row-index l.rows) r && is_moment (moment_at l.program l.pattern (g.F.Facts.map l.facts) r) at) && not (int_lt at l.floor)))

@@ -1,0 +1,18 @@
+use Rattle.std.proofs.Common.{◌∙◌, ap, not, ◌&&◌, take}
+use Rattle.std.specs.Ordering.{eq_by_cmp}
+use Rattle.row_delta.specs.Rows.{row_cmp, has}
+use Rattle.tally_node.proofs.Following.{rows_more}
+use Rattle.not_node.specs.Moments.{moment_at}
+use Rattle.not_node.specs.Waiting.{waits, is_moment}
+use Rattle.not_node.proofs.Pairs.{drop_more}
+use Rattle.not_node.proofs.ripening.Ripening.drop_rows.Goals as goal
+
+pub loop-row-preserved : goal.loop-row-preserved
+loop-row-preserved g c at r =
+    let rows = c.args.rows.now in
+    let i = c.loop-row.row-index in
+    let row = c.row-item.result in
+    let m = is_moment (moment_at c.args.program.now c.args.pattern.now (g.F.Facts.map c.args.facts.now) r) at in
+    let w = waits c.args.self.now.waiting.keys at r in
+    c.in_ok-drop_row.ensures at r ∙ ap (λ b. b && not (eq_by_cmp row_cmp row r && m)) (c.loop-row.invariant at r)
+    ∙ drop_more w (has (take i rows) r) (eq_by_cmp row_cmp row r) m ∙ ap (λ b. w && not (b && m)) (rows_more rows i row c.loop-row-test.true c.row-item.is r)

@@ -1,0 +1,9 @@
+use Rattle.std.proofs.Common.{◌≡◌, ◌&&◌, not, take}
+use Rattle.row_delta.specs.Rows.{has}
+use Rattle.row_delta.specs.declared.row.Row.{Row}
+use Rattle.not_node.specs.Moments.{moment_at}
+use Rattle.not_node.specs.Waiting.{waits_at}
+use Rattle.not_node.proofs.ripening.Ripening.passed_of.Given as goal
+
+abbrev pub invariant-loop-row : goal.invariant-loop-row
+invariant-loop-row g l = (r : Row) → has l.found.items r ≡ (has (take l.row-index l.rows) r && not (waits_at l.self.waiting.keys (moment_at l.program l.pattern (g.F.Facts.map l.facts) r) r))

@@ -1,0 +1,19 @@
+use Rattle.std.proofs.Common.{to_z, of_z}
+use Rattle.std.specs.Int.{w128}
+use Rattle.not_node.proofs.Pairs.{sub_turn, low_turn, found_turned}
+use Rattle.not_node.proofs.ripening.Ripening.ripen.Goals as goal
+
+pub due-preserved : goal.due-preserved
+due-preserved c =
+    let init = c.args.self.now.waiting.keys in
+    let cur = c.due.self.waiting.keys in
+    let new = c.take_due.new.self.waiting.keys in
+    let k = c.in-Some.pair in
+    let floor = to_z w128 (of_z w128 c.args.floor) in
+    let due = c.in-Some.ensures.due in
+    let taken = c.in-Some.ensures.taken in
+    record {
+      sub = sub_turn init cur new k floor due.0 due.1 taken c.due.invariant.sub;
+      low = λ at r over. low_turn init cur new k floor due.0 due.1 taken at r over (c.due.invariant.low at r over);
+      found = λ moment own r. found_turned init cur new k floor due.0 due.1 taken c.due.invariant.sub moment own c.due.found.items c.push.new.self.items c.in_ok-push.ensures.items r (c.due.invariant.found moment own r);
+    }

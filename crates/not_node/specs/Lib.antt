@@ -1,0 +1,4 @@
+pub mod Moments
+pub mod Waiting
+pub mod Rows
+pub mod Laws

@@ -1,0 +1,10 @@
+//! The node of a `not`: the left rows for which no candidate passes, once they are mature. It stands on the node that counts the
+//! candidates, on programs and their windows of possible starts, and assumes nothing of the outside.
+#![tactic(auto)]
+
+pub mod laws;
+mod moments;
+mod node;
+mod ripening;
+
+pub use node::NotNode;

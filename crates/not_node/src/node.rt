@@ -1,0 +1,115 @@
+ghost use Rattle.std.specs.Prelude.{◌≡◌, ◌&&◌, not, cond, None, Bool, IfOk, OnOk};
+ghost use Rattle.row_delta.specs.declared.row.Row.{Row};
+ghost use Rattle.row_delta.specs.declared.row.Named.{Named};
+ghost use Rattle.row_delta.specs.Rows.{has, InOrder};
+ghost use Rattle.row_change.specs.Changes.{IsDifference};
+ghost use Rattle.rule_model.specs.declared.program.Program.{Program};
+ghost use Rattle.join_tests.specs.Joins.{Look};
+ghost use Rattle.pair_memory.specs.Joined.{has_name};
+ghost use Rattle.pair_memory.specs.Memories.{left_at, has_left, has_right, Keeps};
+ghost use Rattle.pair_memory.specs.Standing.{no_rows, no_names, StandsFor};
+ghost use Rattle.pair_memory.specs.Inputs.{IsStepped};
+ghost use Rattle.tally_node.specs.Counts.{counts_blockers};
+ghost use Rattle.tally_node.specs.Tallies.{TallyStep};
+ghost use Rattle.not_node.specs.Rows.{IsInStep, not_rows};
+ghost use Rattle.not_node.specs.Waiting.{later};
+
+use crate::ripening::Ripening;
+use fx_base::{Facts, NoMemory, Seq};
+use row_delta::{Delta, Named, Row};
+use rule_model::{Pattern, Program};
+use std::alloc::Global;
+use tally_node::{Blockers, TallyNode};
+
+/// The node of a `not`: it counts for each left row the candidates that pass, and behind that the rows for which it counts none
+/// wait until they are mature. After a call that was refused memory it is to be given up.
+#[derive(Drop)]
+pub struct NotNode {
+    tally: TallyNode<Blockers>,
+    ripening: Ripening,
+}
+
+impl NotNode {
+    /// A node that keeps nothing, and so has no rows. Before the floor, a moment in milliseconds, no event of the pattern can
+    /// start any more. Takes no memory.
+    pub fn new(alloc: Global, pattern: Pattern, floor: i128) -> NotNode
+        ensures pattern { result.tally.memories.pattern ≡ pattern }
+        ensures floor { result.ripening.floor ≡ floor }
+        ensures nothing { (look : Look) (forgotten : Named → Bool) → StandsFor result.tally.memories look no_rows no_names forgotten }
+        ensures in_step { (program : Program) (look : Look) → IsInStep program look result }
+    {
+        NotNode {
+            tally: TallyNode::new(alloc, pattern),
+            ripening: Ripening::new(alloc, floor),
+        }
+    }
+
+    /// Takes what has changed in the rows of the conditions before this one and in its candidates, and a new floor, and answers
+    /// what has changed in the left rows for which no candidate passes and that are mature. A floor below that of the last call
+    /// is not taken. Where nothing changes but the floor, it costs one look at the least moment, and for each row that becomes
+    /// mature the logarithm of what waits; for each row for which the first candidate comes or the last one goes, the temporal
+    /// tests and the logarithm of what waits.
+    pub fn advance<F: Facts>(
+        &mut self,
+        alloc: Global,
+        program: &Program,
+        left: &Delta,
+        right: &Delta,
+        floor: i128,
+        facts: &F,
+    ) -> Result<Delta, NoMemory>
+        ensures kept { OnOk result (IsStepped self.old.tally.memories self.new.tally.memories (F.map facts.now) left.now right.now) }
+        ensures tallies { OnOk result (TallyStep counts_blockers (F.map facts.now) self.old.tally.memories self.new.tally.memories left.now right.now) }
+        ensures floor { OnOk result (self.new.ripening.floor ≡ later self.old.ripening.floor floor) }
+        ensures in_step { OnOk result (IsInStep program.now (F.map facts.now) self.old → IsInStep program.now (F.map facts.now) self.new) }
+        ensures difference { IfOk result (λ delta. IsInStep program.now (F.map facts.now) self.old
+            → IsDifference (not_rows program.now (F.map facts.now) self.old) (not_rows program.now (F.map facts.now) self.new) delta) }
+    {
+        let blocked = self.tally.advance(alloc, &(), left, right, facts)?;
+        let delta = self.ripening.advance(
+            alloc,
+            &blocked,
+            floor,
+            program,
+            self.tally.pattern(),
+            facts,
+        )?;
+        Ok(delta)
+    }
+
+    /// Drops left rows and candidates whose facts are forgotten, and answers the rows that go with them, in order. The counts of
+    /// the rows that stay are left as they are.
+    pub fn forget<F: Facts>(
+        &mut self,
+        alloc: Global,
+        program: &Program,
+        rows: &[Row],
+        old: &[Named],
+        facts: &F,
+    ) -> Result<Seq<Row>, NoMemory>
+        ensures kept { OnOk result (Keeps self.old.tally.memories self.new.tally.memories (F.map facts.now)
+            (λ r. has_left self.old.tally.memories (F.map facts.now) r && not (has rows.now r)) (λ c. has_right self.old.tally.memories (F.map facts.now) c && not (has_name old.now c))) }
+        ensures left { OnOk result ((r : Row) → left_at self.new.tally.memories (F.map facts.now) r ≡ cond (has rows.now r) None (left_at self.old.tally.memories (F.map facts.now) r)) }
+        ensures floor { OnOk result (self.new.ripening.floor ≡ self.old.ripening.floor) }
+        ensures in_step { OnOk result (IsInStep program.now (F.map facts.now) self.old → IsInStep program.now (F.map facts.now) self.new) }
+        ensures in_order { IfOk result (λ gone. IsInStep program.now (F.map facts.now) self.old → InOrder gone) }
+        ensures rows { IfOk result (λ gone. IsInStep program.now (F.map facts.now) self.old
+            → (r : Row) → has gone r ≡ (not_rows program.now (F.map facts.now) self.old r && not (not_rows program.now (F.map facts.now) self.new r))) }
+    {
+        let gone = self.tally.forget(alloc, &(), rows, old, facts)?;
+        let dropped = Delta {
+            gone,
+            come: Seq::from_vec(Vec::new(alloc)),
+        };
+        let floor = self.ripening.floor();
+        let delta = self.ripening.advance(
+            alloc,
+            &dropped,
+            floor,
+            program,
+            self.tally.pattern(),
+            facts,
+        )?;
+        Ok(delta.gone)
+    }
+}
