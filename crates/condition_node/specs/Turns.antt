@@ -1,0 +1,32 @@
+-- What is given for a step of a node.
+use Rattle.std.specs.Prelude.{Bool, ◌≤ℤ◌}
+use Rattle.row_delta.specs.declared.delta.Delta.{Delta}
+use Rattle.row_delta.specs.declared.row.Named.{Named}
+use Rattle.row_delta.specs.declared.row.Row.{Row}
+use Rattle.row_change.specs.Changes.{Leads}
+use Rattle.rule_model.specs.declared.condition.Pattern.{Pattern}
+use Rattle.rule_model.specs.declared.program.Program.{Program}
+use Rattle.rule_model.specs.Distinct.{HaveDistinctTags}
+use Rattle.rule_model.specs.Snapshots.{Snapshot}
+use Rattle.join_tests.specs.Joins.{Look, joins}
+use Rattle.pair_memory.specs.Inputs.{IsNameDifference}
+use Rattle.pair_memory.specs.Standing.{cleaned, remembered, no_names}
+use Rattle.tally_node.specs.Laws.{ForgottenStay}
+use Rattle.condition_rows.specs.Sets.{candidates_of}
+use Rattle.condition_rows.specs.Looks.{HasAllOf, NameHeld}
+
+-- The true differences of the rows of the conditions before a node and of its candidates, from one snapshot to the next, of what names no
+-- forgotten fact. The store has at hand what is remembered of both snapshots; `world` has all of both.
+pub record IsTurn (p : Program) (pattern : Pattern) (look world : Look) (s next : Snapshot) (rows rows_now : Row → Bool) (forgotten : Named → Bool) (left right : Delta) : Type 0 where
+  pub tags : HaveDistinctTags s.facts
+  pub tags_now : HaveDistinctTags next.facts
+  pub clock : s.clock ≤ℤ next.clock
+  pub at_hand : HasAllOf look s forgotten
+  pub at_hand_now : HasAllOf look next forgotten
+  pub known : HasAllOf world s no_names
+  pub known_now : HasAllOf world next no_names
+  pub named : NameHeld s rows
+  pub named_now : NameHeld next rows_now
+  pub stay : ForgottenStay (joins pattern world) rows rows_now (candidates_of p pattern s) (candidates_of p pattern next) forgotten left
+  pub leads : Leads (cleaned rows forgotten) (cleaned rows_now forgotten) left.gone left.come
+  pub candidates : IsNameDifference (remembered (candidates_of p pattern s) forgotten) (remembered (candidates_of p pattern next) forgotten) right

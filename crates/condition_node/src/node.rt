@@ -1,0 +1,71 @@
+ghost use Rattle.std.specs.Prelude.{◌≡◌, Bool, IfOk, OnOk};
+ghost use Rattle.row_delta.specs.declared.row.Named.{Named};
+ghost use Rattle.row_delta.specs.declared.row.Row.{Row};
+ghost use Rattle.row_change.specs.Changes.{IsDifference};
+ghost use Rattle.rule_model.specs.Rows.{pattern_of};
+ghost use Rattle.rule_model.specs.Snapshots.{Snapshot};
+ghost use Rattle.join_tests.specs.Joins.{Look};
+ghost use Rattle.pair_memory.specs.Standing.{cleaned, no_rows};
+ghost use Rattle.condition_rows.specs.Lines.{line};
+ghost use Rattle.condition_rows.specs.Looks.{empty_snapshot};
+ghost use Rattle.condition_node.specs.Nodes.{condition_of, NodeStands};
+ghost use Rattle.condition_node.specs.Turns.{IsTurn};
+
+use beta_join::BetaJoin;
+use fx_base::{Facts, Millis, NoMemory};
+use not_node::NotNode;
+use row_delta::Delta;
+use rule_model::{Accumulate, Condition, Program};
+use std::alloc::Global;
+use tally_node::{Gathered, TallyNode, Witnesses};
+
+/// The node of an `accumulate`, with what the condition says.
+#[derive(Drop)]
+pub struct FoldNode {
+    accumulate: Accumulate,
+    tally: TallyNode<Gathered>,
+}
+
+/// The node of a condition. After a call that was refused memory it is to be given up.
+#[derive(Drop)]
+pub enum Node {
+    Join(BetaJoin),
+    Not(NotNode),
+    Exists(TallyNode<Witnesses>),
+    Fold(FoldNode),
+}
+
+impl Node {
+    /// The node of a condition, which keeps nothing and so has no rows, at the clock 0. It copies the condition.
+    pub fn new(alloc: Global, program: &Program, condition: &Condition) -> Result<Node, NoMemory>
+        ensures condition { IfOk result (λ node. condition_of node ≡ condition.now) }
+        ensures stands { IfOk result (λ node. (look : Look) (forgotten : Named → Bool) → NodeStands program.now node look empty_snapshot no_rows forgotten) }
+    {
+        Err(NoMemory)
+    }
+
+    /// Takes what has changed in the rows of the conditions before this one, and in its candidates, each named by a row of its
+    /// own, and the clock in milliseconds, and answers what has changed in what the condition makes of them. It costs what the
+    /// node of the kind says; where nothing has changed and no row becomes mature, a comparison and a look at the least moment.
+    pub fn advance<F: Facts>(
+        &mut self,
+        alloc: Global,
+        program: &Program,
+        left: &Delta,
+        right: &Delta,
+        clock: Millis,
+        facts: &F,
+    ) -> Result<Delta, NoMemory>
+        ensures condition { OnOk result (condition_of self.new ≡ condition_of self.old) }
+        ensures stands { OnOk result ((world : Look) (s next : Snapshot) (rows rows_now : Row → Bool) (forgotten : Named → Bool)
+            → NodeStands program.now self.old (F.map facts.now) s rows forgotten → next.clock ≡ clock
+            → IsTurn program.now (pattern_of (condition_of self.old)) (F.map facts.now) world s next rows rows_now forgotten left.now right.now
+            → NodeStands program.now self.new (F.map facts.now) next rows_now forgotten) }
+        ensures difference { IfOk result (λ delta. (world : Look) (s next : Snapshot) (rows rows_now : Row → Bool) (forgotten : Named → Bool)
+            → NodeStands program.now self.old (F.map facts.now) s rows forgotten → next.clock ≡ clock
+            → IsTurn program.now (pattern_of (condition_of self.old)) (F.map facts.now) world s next rows rows_now forgotten left.now right.now
+            → IsDifference (cleaned (line program.now s (condition_of self.old) rows) forgotten) (cleaned (line program.now next (condition_of self.old) rows_now) forgotten) delta) }
+    {
+        Err(NoMemory)
+    }
+}

@@ -1,0 +1,40 @@
+-- For which facts of a snapshot the gate of a pattern stands.
+use Rattle.std.specs.Prelude.{◌≡◌, ◌&&◌, ◌||◌, Bool, List, map}
+use Rattle.std.specs.List.{filter}
+use Rattle.fx_base.specs.declared.fact.Fact.{Fact}
+use Rattle.rule_model.specs.declared.condition.Pattern.{Pattern}
+use Rattle.rule_model.specs.declared.condition.WindowTag.{WindowTag}
+use Rattle.rule_model.specs.declared.condition.WindowTag.TheVariants as tag
+use Rattle.rule_model.specs.declared.program.Program.{Program}
+use Rattle.rule_model.specs.Candidates.{fits}
+use Rattle.rule_model.specs.Simple.{is_whole}
+use Rattle.rule_model.specs.Snapshots.{Snapshot}
+use Rattle.rule_model.specs.Tuples.{name_of}
+use Rattle.rule_model.specs.Types.{is_event}
+use Rattle.rule_world.specs.Programs.{is_window}
+use Rattle.window_gate.specs.declared.change.WindowKind.{WindowKind}
+use Rattle.window_gate.specs.declared.change.WindowKind.TheVariants as kind
+use Rattle.window_gate.specs.Windows.{Arrival}
+use Rattle.window_gate.specs.Standing.{Stands, window_of}
+use Rattle.pattern_gate.specs.declared.gate.PatternGate.{PatternGate}
+
+abbrev pub arrival_of : Fact → Arrival
+arrival_of f = record { named = name_of f; start = f.times.start }
+
+-- the facts that fit the pattern, in the order in which they were inserted
+abbrev pub arrivals : Program → Pattern → Snapshot → List Arrival
+arrivals p pattern s = map arrival_of (filter (fits p pattern s.clock) s.facts)
+
+abbrev pub kind_of : WindowTag → WindowKind
+kind_of tag.Whole = kind.Whole
+kind_of (tag.Time span) = kind.Time span
+kind_of (tag.Length count) = kind.Length count
+
+-- the window of the pattern is one that the program of an accepted file may have
+abbrev pub has_good_window : Program → Pattern → Bool
+has_good_window p pattern = is_whole pattern.window || is_event p pattern.ty.0 && is_window pattern.window
+
+-- the gate has the window of the pattern, and keeps what it needs of the facts of the snapshot that fit the pattern
+pub record GateStands (p : Program) (pattern : Pattern) (gate : PatternGate) (s : Snapshot) : Type 0 where
+  pub window : window_of gate.gate ≡ kind_of pattern.window
+  pub stands : Stands gate.gate (arrivals p pattern s) s.clock

@@ -1,0 +1,33 @@
+-- Snapshots as a store keeps them, and what leads from one to the next.
+use Rattle.std.specs.Prelude.{◌≡◌, ◌==◌, ◌++◌, not, Bool, true, ℤ, pos, ◌≤ℤ◌, List, map, Option, option_to_list}
+use Rattle.std.specs.List.{filter, list_any}
+use Rattle.std.specs.List.Sorted.{IsStrictlySortedBy}
+use Rattle.std.specs.Ordering.{nat_cmp}
+use Rattle.fx_base.specs.Lists.{In}
+use Rattle.fx_base.specs.declared.fact.Fact.{Fact}
+use Rattle.rule_model.specs.declared.program.Program.{Program}
+use Rattle.rule_model.specs.Candidates.{is_present}
+use Rattle.rule_model.specs.Distinct.{HaveDistinctTags}
+use Rattle.rule_model.specs.Snapshots.{Snapshot}
+use Rattle.rule_model.specs.Types.{is_event}
+use Rattle.rule_world.specs.Events.{most_millis}
+
+-- the facts stand in the order of their tags, all of them are present, and the events start from 0 to 2^53
+pub record IsKept (p : Program) (s : Snapshot) : Type 0 where
+  pub in_order : IsStrictlySortedBy nat_cmp (map (λ (f : Fact). f.tag.0) s.facts)
+  pub present : (f : Fact) → In f s.facts → is_present p s.clock f ≡ true
+  pub low : (f : Fact) → In f s.facts → is_event p f.ty.0 ≡ true → pos 0 ≤ℤ f.times.start
+  pub high : (f : Fact) → In f s.facts → is_event p f.ty.0 ≡ true → f.times.start ≤ℤ most_millis
+
+-- one of these facts has the tag of the fact
+abbrev pub shares_tag : List Fact → Fact → Bool
+shares_tag facts f = list_any (λ (g : Fact). g.tag.0 == f.tag.0) facts
+
+-- The clock moves on or stands, some facts go, and one may come, which is the latest.
+pub record Moves (p : Program) (s next : Snapshot) (gone : List Fact) (come : Option Fact) : Type 0 where
+  pub before : IsKept p s
+  pub after : IsKept p next
+  pub clock : s.clock ≤ℤ next.clock
+  pub held : (f : Fact) → In f gone → In f s.facts
+  pub once : HaveDistinctTags gone
+  pub facts : next.facts ≡ filter (λ (f : Fact). not (shares_tag gone f)) s.facts ++ option_to_list come

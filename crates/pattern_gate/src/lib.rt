@@ -1,0 +1,7 @@
+//! The candidates of a pattern, as facts come and go and the clock moves: the window in front of a node. It stands on windows,
+//! patterns and the rows of conditions, and assumes nothing of the outside.
+#![tactic(auto)]
+
+mod gate;
+
+pub use gate::PatternGate;
