@@ -1,0 +1,7 @@
+//! The network of a program: a node for each condition of its rules, which answers for a change of the facts and a move of the clock
+//! what changes in the rows of each rule. It stands on the nodes of conditions and their gates, and assumes nothing of the outside.
+#![tactic(auto)]
+
+mod net;
+
+pub use net::Rete;
