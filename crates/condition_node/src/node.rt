@@ -15,7 +15,7 @@ use beta_join::BetaJoin;
 use fx_base::{Facts, Millis, NoMemory};
 use not_node::NotNode;
 use row_delta::Delta;
-use rule_model::{Accumulate, Condition, Program};
+use rule_model::{Accumulate, Condition, Pattern, Program};
 use std::alloc::Global;
 use tally_node::{Gathered, TallyNode, Witnesses};
 
@@ -42,6 +42,18 @@ impl Node {
         ensures stands { IfOk result (λ node. (look : Look) (forgotten : Named → Bool) → NodeStands program.now node look empty_snapshot no_rows forgotten) }
     {
         Err(NoMemory)
+    }
+
+    /// The pattern of the candidates. Takes no memory.
+    pub fn pattern(&self) -> &Pattern
+        ensures { result.now ≡ pattern_of (condition_of self.now) }
+    {
+        match self {
+            Node::Join(join) => join.pattern(),
+            Node::Not(waiting) => waiting.pattern(),
+            Node::Exists(tally) => tally.pattern(),
+            Node::Fold(fold) => &fold.accumulate.pattern,
+        }
     }
 
     /// Takes what has changed in the rows of the conditions before this one, and in its candidates, each named by a row of its

@@ -2,6 +2,6 @@ mod Holding
 mod Ends
 mod Joined
 mod Kept
-mod Naming
+pub mod Naming
 mod Valued
 pub mod Whole
