@@ -1,0 +1,4 @@
+pub mod Knowing
+pub mod Moved
+pub mod Shown
+pub mod Turning

@@ -3,6 +3,7 @@
 #![tactic(auto)]
 
 pub mod laws;
+mod copying;
 mod node;
 
 pub use node::{FoldNode, Node};

@@ -1,5 +1,5 @@
-use Rattle.condition_rows.proofs.Valued.{valued_with, valued_from}
-use Rattle.condition_rows.proofs.laws.a_valued_row_has_one_value_more.Goals as goal
+use Rattle.pair_memory.proofs.Valued.{valued_with, valued_from}
+use Rattle.pair_memory.proofs.laws.a_valued_row_has_one_value_more.Goals as goal
 
 pub returns-clause-made : goal.returns-clause-made
 returns-clause-made c = valued_with
