@@ -1,5 +1,5 @@
 -- The rows of the node of an accumulate, and the facts over which its function goes.
-use Rattle.std.proofs.Common.{◌≡◌, ◌∙◌, sym, ap, refl, cond, map, ℤ, int_eq, slice_get, ℕ, List, [], ◌∷◌, Bool, true, false, not, ◌&&◌, ◌||◌, Option, Some, None, if◌then◌else◌}
+use Rattle.std.proofs.Common.{◌≡◌, ◌∙◌, sym, ap, refl, cond, map, ℤ, int_eq, slice_get, ℕ, List, [], ◌∷◌, Bool, true, false, ◌&&◌, ◌||◌, Option, Some, None, if◌then◌else◌}
 use mathlib.Core.Path.{fun_ext}
 use Rattle.std.specs.List.{filter}
 use Rattle.std.specs.Ordering.{eq_by_cmp}
@@ -30,7 +30,7 @@ use Rattle.pair_memory.proofs.Joining.{name_decides}
 use Rattle.pair_memory.proofs.Moving.{named_alike}
 use Rattle.pair_memory.proofs.Valued.{from_unvalued}
 use Rattle.tally_node.specs.Counts.{AreDistinct}
-use Rattle.tally_node.specs.Gathers.{gathers, tested, result_for, is_result}
+use Rattle.tally_node.specs.Gathers.{tested, result_for, is_result}
 use Rattle.tally_node.specs.Laws.{all_passing}
 use Rattle.tally_node.specs.Tallies.{shown}
 use Rattle.tally_node.proofs.Lawful.{gathered_shown}
@@ -43,6 +43,7 @@ use Rattle.condition_rows.proofs.Joined.{candidates_named}
 use Rattle.condition_node.specs.declared.node.FoldNode.{FoldNode}
 use Rattle.condition_node.specs.Nodes.{FoldsFor}
 use Rattle.condition_node.proofs.Knowing.{held_known, row_alike}
+use Rattle.condition_node.proofs.Shown.{asked_first}
 
 -- ---- the candidates that join a row
 absent : (b : Bool) → (b ≡ true → ⊥) → b ≡ false
@@ -125,25 +126,12 @@ tested_given a bound (Some n) v = by (results_hold bound n a.tests) refl
     by false h = none_of_one (int_eq n v) (results_hold bound v a.tests) (λ e. same e ∙ h)
 
 -- ---- the rows of the node
-and_true : (a : Bool) → a ≡ (a && true)
-and_true true = refl
-and_true false = refl
-
-and_nothing : (a : Bool) → false ≡ (a && false)
-and_nothing true = refl
-and_nothing false = refl
-
-given_last : (a k r g : Bool) → ((a && k) ≡ true → r ≡ g) → ((a && k) && r) ≡ ((a && g) && k)
-given_last true true r g h = h refl ∙ and_true g
-given_last true false r g h = and_nothing g
-given_last false k r g h = refl
-
 module _ (rows : Row → Bool) (forgotten : Named → Bool) (here given : Row → ℤ → Bool) (same : (left : Row) (v : ℤ) → cleaned rows forgotten left ≡ true → here left v ≡ given left v) where
   split_clean : (row : Row) (o : Option (Row × ℤ)) → unvalued row ≡ o
       → splits_value (λ left v. cleaned rows forgotten left && here left v) o ≡ (splits_value (λ left v. rows left && given left v) o && clean forgotten row)
   split_clean row None e = refl
   split_clean row (Some r) e =
-      given_last (rows r.0) (clean forgotten r.0) (here r.0 r.1) (given r.0 r.1) (same r.0 r.1)
+      asked_first (rows r.0) (clean forgotten r.0) (here r.0 r.1) (given r.0 r.1) (same r.0 r.1)
       ∙ ap (λ b. (rows r.0 && given r.0 r.1) && b) (sym (ap (clean forgotten) (from_unvalued row r e)))
 
   -- a test of what is clean and a value makes the clean rows

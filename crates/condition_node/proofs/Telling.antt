@@ -1,12 +1,11 @@
 -- A turn of the node of each kind: what it then stands for, and that it tells the difference of its line.
-use Rattle.std.proofs.Common.{◌≡◌, ◌∙◌, sym, ap, refl, subst, ℕ, ℤ, ◌-ℤ◌, Bool}
+use Rattle.std.proofs.Common.{◌≡◌, ◌∙◌, sym, ap, subst, ℕ, ℤ, ◌-ℤ◌, Bool}
 use Rattle.row_delta.specs.declared.delta.Delta.{Delta}
 use Rattle.row_delta.specs.declared.row.Named.{Named}
 use Rattle.row_delta.specs.declared.row.Row.{Row}
 use Rattle.row_change.specs.Changes.{IsDifference}
 use Rattle.row_change.proofs.Alike.{difference_alike}
 use Rattle.rule_model.specs.declared.condition.Accumulate.{Accumulate}
-use Rattle.rule_model.specs.declared.condition.Condition.{Condition}
 use Rattle.rule_model.specs.declared.condition.Condition.TheVariants.{Plain, Negated, Existing, Folded}
 use Rattle.rule_model.specs.declared.condition.Pattern.{Pattern}
 use Rattle.rule_model.specs.declared.program.Program.{Program}
@@ -33,7 +32,7 @@ use Rattle.condition_rows.specs.Lines.{line}
 use Rattle.condition_node.specs.declared.node.FoldNode.{FoldNode}
 use Rattle.condition_node.specs.declared.node.Node.{Node}
 use Rattle.condition_node.specs.declared.node.Node.TheVariants as node
-use Rattle.condition_node.specs.Nodes.{condition_of, Counts, WaitsFor, FoldsFor, NodeStands}
+use Rattle.condition_node.specs.Nodes.{condition_of, Counts, NodeStands}
 use Rattle.condition_node.specs.Turns.{IsTurn}
 use Rattle.condition_node.proofs.Folding.{fold_shown}
 use Rattle.condition_node.proofs.Knowing.{blockers_ask, witnesses_ask, gathers_ask}

@@ -1,4 +1,4 @@
-use Rattle.std.proofs.Common.{◌≡◌, ◌∙◌, sym, ap, refl, pos, SFits, to_z-of_z}
+use Rattle.std.proofs.Common.{◌∙◌, sym, ap, refl, pos, SFits, to_z-of_z}
 use Rattle.std.specs.Int.{w128}
 use Rattle.rule_model.specs.declared.condition.Accumulate.{Accumulate}
 use Rattle.rule_model.specs.declared.condition.Pattern.{Pattern}
