@@ -20,8 +20,7 @@ use Rattle.join_tests.specs.Joins.{Look, version_at, versions_at, joins}
 use Rattle.join_tests.proofs.Versions.{version_is}
 use Rattle.pair_memory.specs.declared.memories.Memories.{Memories}
 use Rattle.pair_memory.specs.Joined.{has_name}
-use Rattle.pair_memory.specs.Memories.{left_at, has_left, has_right}
-use Rattle.pair_memory.specs.Standing.{clean, cleaned, either, remembered, no_names, AlikeOn, PassesAlike, StandsFor, LooksAlike}
+use Rattle.pair_memory.specs.Standing.{clean, cleaned, either, remembered, no_names, AlikeOn, StandsFor, LooksAlike}
 use Rattle.pair_memory.proofs.Moving.{joins_alike}
 use Rattle.tally_node.specs.declared.count.Blockers.{Blockers}
 use Rattle.tally_node.specs.declared.count.Witnesses.{Witnesses}
@@ -157,9 +156,9 @@ pub counted_alike : {T : Type 0} (holds : T → Look → (Named → Bool) → Ty
 counted_alike {T} holds asks p q m look world other s rows forgotten known known_other named was = record {
   stands = was.stands;
   counts = λ row t is.
-  let there = (both_of (rows row) (clean forgotten row) (sym (was.stands.rows row) ∙ ap is_some is)).0 in
-  asks t world other (all_passing (joins q other) (candidates_of p q s) row) (λ c e. candidate_alike world other s no_names known known_other p q c (both_of (candidates_of p q s c) (joins q other row c) e).0 refl)
-  (subst (holds t world) (fun_ext (λ c. where_true (candidates_of p q s c) (joins q world row c) (joins q other row c) (same row c there))) (was.counts row t is));
+      let there = (both_of (rows row) (clean forgotten row) (sym (was.stands.rows row) ∙ ap is_some is)).0 in
+      asks t world other (all_passing (joins q other) (candidates_of p q s) row) (λ c e. candidate_alike world other s no_names known known_other p q c (both_of (candidates_of p q s c) (joins q other row c) e).0 refl)
+      (subst (holds t world) (fun_ext (λ c. where_true (candidates_of p q s c) (joins q world row c) (joins q other row c) (same row c there))) (was.counts row t is));
 }
   where
     same : (row : Row) (c : Named) → rows row ≡ true → candidates_of p q s c ≡ true → joins q world row c ≡ joins q other row c

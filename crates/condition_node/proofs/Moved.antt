@@ -1,5 +1,5 @@
 -- What a new node stands for, and what a node stands for by another store.
-use Rattle.std.proofs.Common.{◌≡◌, ◌∙◌, sym, ap, refl, subst, Bool}
+use Rattle.std.proofs.Common.{◌≡◌, ◌∙◌, ap, refl, subst, Bool}
 use mathlib.Core.Path.{fun_ext}
 use Rattle.std.specs.Option.{is_some}
 use Rattle.row_delta.specs.declared.row.Named.{Named}
@@ -20,7 +20,7 @@ use Rattle.condition_rows.specs.Looks.{empty_snapshot, HasAllOf, NameHeld}
 use Rattle.condition_rows.specs.Sets.{held, candidates_of}
 use Rattle.condition_node.specs.declared.node.Node.{Node}
 use Rattle.condition_node.specs.declared.node.Node.TheVariants as node
-use Rattle.condition_node.specs.Nodes.{Counts, WaitsFor, FoldsFor, NodeStands}
+use Rattle.condition_node.specs.Nodes.{Counts, NodeStands}
 use Rattle.condition_node.proofs.Knowing.{looks_alike}
 
 -- ---- a new node

@@ -1,10 +1,11 @@
 -- The rows of a node are what the line of its condition makes of the rows before it, without those that name a forgotten fact.
-use Rattle.std.proofs.Common.{◌≡◌, ◌∙◌, sym, ap, refl, subst, ℤ, List, Bool, true, false, not, ◌&&◌}
+use Rattle.std.proofs.Common.{◌≡◌, ◌∙◌, sym, ap, refl, subst, ℤ, Bool, true, false, not, ◌&&◌}
 use mathlib.Core.Path.{fun_ext}
+use Rattle.std.proofs.Math.Bool.{and-true, and-false, and_assoc}
 use Rattle.std.specs.List.{list_any}
 use Rattle.row_delta.specs.declared.row.Named.{Named}
 use Rattle.row_delta.specs.declared.row.Row.{Row}
-use Rattle.rule_model.specs.declared.condition.Condition.TheVariants.{Plain, Negated, Existing, Folded}
+use Rattle.rule_model.specs.declared.condition.Condition.TheVariants.{Plain, Negated, Existing}
 use Rattle.rule_model.specs.declared.condition.Pattern.{Pattern}
 use Rattle.rule_model.specs.declared.program.Program.{Program}
 use Rattle.rule_model.specs.Distinct.{HaveDistinctTags}
@@ -24,7 +25,6 @@ use Rattle.tally_node.specs.Origins.{itself, shows_any}
 use Rattle.tally_node.specs.Tallies.{shown}
 use Rattle.tally_node.proofs.Lawful.{witnesses_shown}
 use Rattle.not_node.specs.declared.node.NotNode.{NotNode}
-use Rattle.not_node.specs.Moments.{moment_at}
 use Rattle.not_node.specs.Rows.{not_rows}
 use Rattle.not_node.specs.Waiting.{mature}
 use Rattle.not_node.proofs.Lawful.{not_law}
@@ -36,24 +36,11 @@ use Rattle.condition_rows.proofs.Joined.{candidates_named}
 use Rattle.condition_node.specs.Nodes.{Counts, WaitsFor}
 use Rattle.condition_node.proofs.Knowing.{held_known, row_alike, joining_alike}
 
-and_true : (a : Bool) → (a && true) ≡ a
-and_true true = refl
-and_true false = refl
-
-and_nothing : (a : Bool) → (a && false) ≡ false
-and_nothing true = refl
-and_nothing false = refl
-
-asked_last : (a k b : Bool) → ((a && k) && b) ≡ ((a && b) && k)
-asked_last true true b = sym (and_true b)
-asked_last true false b = sym (and_nothing b)
-asked_last false k b = refl
-
-waits_last : (a k b m i : Bool) → ((a && k) ≡ true → m ≡ i) → (((a && k) && b) && m) ≡ ((a && (b && i)) && k)
-waits_last true true true m i h = h refl ∙ sym (and_true i)
-waits_last true true false m i h = refl
-waits_last true false b m i h = sym (and_nothing (b && i))
-waits_last false k b m i h = refl
+-- what is asked of the clean rows is asked of the rows, and then which are clean
+pub asked_first : (a k r g : Bool) → ((a && k) ≡ true → r ≡ g) → ((a && k) && r) ≡ ((a && g) && k)
+asked_first true true r g h = h refl ∙ sym (and-true g)
+asked_first true false r g h = sym (and-false g)
+asked_first false k r g h = refl
 
 module _ (p : Program) (look : Look) (s : Snapshot) (rows : Row → Bool) (forgotten : Named → Bool) (known : HasAllOf look s forgotten) (named : NameHeld s rows) where
   pub join_shown : {T : Type 0} (m : Memories T) → StandsFor m look rows (candidates_of p m.pattern s) forgotten → (row : Row) → made m look row ≡ cleaned (line p s (Plain m.pattern) rows) forgotten row
@@ -75,7 +62,7 @@ module _ (p : Program) (look : Look) (s : Snapshot) (rows : Row → Bool) (forgo
         let names = candidate_names p m.pattern s in
         let pass = joins m.pattern (held s) in
         witnesses_shown m look (held s) pass rows names forgotten (listed counts_witnesses m counts) row
-        ∙ asked_last (rows row) (clean forgotten row) (list_any (pass row) names)
+        ∙ asked_first (rows row) (clean forgotten row) (list_any (pass row) names) (list_any (pass row) names) (λ e. refl)
 
     -- a row that names no forgotten fact is mature by the store where it is by the snapshot
     ripe_alike : (q : Pattern) (floor : ℤ) → floor ≡ told_to p s q.entry.0 → (row : Row) → cleaned rows forgotten row ≡ true → is_mature p q (bound_in look row) floor ≡ is_ripe p q s row
@@ -95,4 +82,6 @@ module _ (p : Program) (look : Look) (s : Snapshot) (rows : Row → Bool) (forgo
         let names = candidate_names p q s in
         let pass = joins q (held s) in
         not_law p waiting look (held s) pass rows names forgotten (listed counts_blockers m waits.counts) row
-        ∙ waits_last (rows row) (clean forgotten row) (not (list_any (pass row) names)) (is_mature p q (bound_in look row) floor) (is_ripe p q s row) (ripe_alike q floor waits.floor row)
+        ∙ and_assoc (cleaned rows forgotten row) (not (list_any (pass row) names)) (is_mature p q (bound_in look row) floor)
+        ∙ asked_first (rows row) (clean forgotten row) (not (list_any (pass row) names) && is_mature p q (bound_in look row) floor) (not (list_any (pass row) names) && is_ripe p q s row)
+        (λ e. ap (λ b. not (list_any (pass row) names) && b) (ripe_alike q floor waits.floor row e))

@@ -1,5 +1,5 @@
 -- After a turn a node stands for the new rows and candidates.
-use Rattle.std.proofs.Common.{◌≡◌, ◌∙◌, sym, ap, refl, subst, cond, ℕ, ℤ, ◌-ℤ◌, ◌≤ℤ◌, int_lt, Bool, true, false, arith}
+use Rattle.std.proofs.Common.{◌≡◌, sym, subst, ℕ, ℤ, ◌-ℤ◌, ◌≤ℤ◌, Bool, arith}
 use Rattle.std.proofs.lemmas.Int.{ints}
 use Rattle.row_delta.specs.declared.delta.Delta.{Delta}
 use Rattle.row_delta.specs.declared.row.Named.{Named}
@@ -37,9 +37,9 @@ module _ {T : Type 0} (p : Program) (m n : Memories T) (look world : Look) (s ne
       let known_next = known_too world next forgotten turn.known_now in
       let before = counted_alike holds asks p q m look (held s) world s rows forgotten (held_known s no_names) turn.known turn.named counts in
       let after =
-          tally_law T holds m n look world (joins q world) rows rows_now (candidates_of p q s) (candidates_of p q next) forgotten left right before
-          (joining_alike look world s forgotten turn.at_hand known_s p q rows turn.named) (joining_alike look world next forgotten turn.at_hand_now known_next p q rows_now turn.named_now)
-          turn.leads turn.candidates (seen_alike p q look world s next forgotten turn.at_hand turn.at_hand_now known_s known_next) turn.stay stepped step in
+      tally_law T holds m n look world (joins q world) rows rows_now (candidates_of p q s) (candidates_of p q next) forgotten left right before
+      (joining_alike look world s forgotten turn.at_hand known_s p q rows turn.named) (joining_alike look world next forgotten turn.at_hand_now known_next p q rows_now turn.named_now)
+      turn.leads turn.candidates (seen_alike p q look world s next forgotten turn.at_hand turn.at_hand_now known_s known_next) turn.stay stepped step in
       subst (λ (q : Pattern). StandsCounted holds n look (held next) (joins q (held next)) rows_now (candidates_of p q next) forgotten) (sym stepped.pattern)
       (counted_alike holds asks p q n look world (held next) next rows_now forgotten turn.known_now (held_known next no_names) turn.named_now after)
 

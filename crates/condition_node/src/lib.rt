@@ -2,8 +2,8 @@
 //! It stands on the nodes of each kind and the rows of conditions, and assumes nothing of the outside.
 #![tactic(auto)]
 
-pub mod laws;
 mod copying;
+pub mod laws;
 mod node;
 
 pub use node::{FoldNode, Node};

@@ -108,13 +108,24 @@ impl Node {
             → IsDifference (cleaned (line program.now s (condition_of self.old) rows) forgotten) (cleaned (line program.now next (condition_of self.old) rows_now) forgotten) delta) }
     {
         match self {
-            Node::Join(join) => join.advance(alloc, left, right, facts),
+            Node::Join(join) => {
+                let delta = join.advance(alloc, left, right, facts)?;
+                Ok(delta)
+            }
             Node::Not(waiting) => {
                 let floor = told_to(program, waiting.pattern().entry, clock);
-                waiting.advance(alloc, program, left, right, floor, facts)
+                let delta = waiting.advance(alloc, program, left, right, floor, facts)?;
+                Ok(delta)
             }
-            Node::Exists(tally) => tally.advance(alloc, &(), left, right, facts),
-            Node::Fold(fold) => fold.tally.advance(alloc, &fold.accumulate, left, right, facts),
+            Node::Exists(tally) => {
+                let delta = tally.advance(alloc, &(), left, right, facts)?;
+                Ok(delta)
+            }
+            Node::Fold(fold) => {
+                let FoldNode { accumulate, tally } = fold;
+                let delta = tally.advance(alloc, accumulate, left, right, facts)?;
+                Ok(delta)
+            }
         }
     }
 }

@@ -1,5 +1,5 @@
 -- Rows that are made by one value more.
-use Rattle.std.proofs.Common.{◌≡◌, ◌∙◌, sym, ap, refl, subst, ℤ, List, Bool, true, false, Option, Some, None}
+use Rattle.std.proofs.Common.{◌≡◌, ◌∙◌, ap, refl, ℤ, List, Bool, true, false, Option, Some, None}
 use Rattle.std.specs.Option.{option_map}
 use Rattle.row_delta.specs.declared.row.Row.{Row}
 use Rattle.pair_memory.specs.Joined.{split_last}
