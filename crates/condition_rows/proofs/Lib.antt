@@ -1,6 +1,6 @@
 mod Holding
 mod Ends
-mod Joined
+pub mod Joined
 mod Kept
 mod Valued
 pub mod Whole
