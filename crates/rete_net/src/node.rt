@@ -34,7 +34,7 @@ impl NetNode {
         ensures condition { IfOk result (λ made. condition_of made.node ≡ condition.now) }
         ensures stands { IfOk result (λ made. NetNodeStands program.now made empty_snapshot no_rows) }
     {
-        let gate = PatternGate::new(alloc, condition.pattern())?;
+        let gate = PatternGate::new(alloc, condition.pattern());
         let node = Node::new(alloc, program, condition)?;
         Ok(NetNode { parent, gate, node })
     }

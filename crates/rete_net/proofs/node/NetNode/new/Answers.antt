@@ -9,6 +9,6 @@ use Rattle.rete_net.proofs.node.NetNode.new.Goals as goal
 
 pub returns-clause-stands : goal.returns-clause-stands
 returns-clause-stands c = record {
-  gate = subst (λ (q : Pattern). GateStands c.args.program.now q c.in_ok-gate.gate empty_snapshot) (c.pattern.ensures ∙ ap pattern_of (sym c.in_ok-node.ensures.condition)) (c.in_ok-gate.ensures c.args.program.now);
+  gate = subst (λ (q : Pattern). GateStands c.args.program.now q c.new-gate.result empty_snapshot) (c.pattern.ensures ∙ ap pattern_of (sym c.in_ok-node.ensures.condition)) (c.new-gate.ensures c.args.program.now);
   node = c.in_ok-node.ensures.stands (held empty_snapshot) no_names;
 }
