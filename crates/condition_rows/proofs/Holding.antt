@@ -69,7 +69,7 @@ version_of look f e =
     ap (option_and_then (λ (g : Fact). cond (is_version (name_of f) g) (Some g) None)) e
     ∙ ap (λ b. cond b (Some f) None) (name_equiv.refl (name_of f))
 
-versions_of : (look : Look) (fs : List Fact) → Holds look fs → versions_at look (map name_of fs) ≡ Some fs
+pub versions_of : (look : Look) (fs : List Fact) → Holds look fs → versions_at look (map name_of fs) ≡ Some fs
 versions_of look [] h = refl
 versions_of look (f ∷ fs) h =
     ap (λ rest. option_and_then (λ (g : Fact). option_map (λ facts. g ∷ facts) rest) (version_at look (name_of f))) (versions_of look fs h.1)

@@ -15,6 +15,7 @@ ghost use Rattle.rule_model.specs.Snapshots.{Snapshot};
 ghost use Rattle.rule_model.specs.Tuples.{name_of};
 ghost use Rattle.pair_memory.specs.Joined.{has_name};
 ghost use Rattle.condition_rows.specs.Sets.{rows_of, held, candidates_of, candidate_names};
+ghost use Rattle.condition_rows.specs.Looks.{NameHeld};
 ghost use Rattle.condition_rows.specs.Lines.{line, lines};
 
 /// Over facts with distinct tags one condition more at the end makes of the rows of the conditions before it what the line of its
@@ -31,6 +32,11 @@ pub fn rows_are_made_by_lines()
         → rows_of p s conditions row ≡ lines p s conditions row }
     ensures rule { (p : Program) (s : Snapshot) → HaveDistinctTags s.facts → (rule : Rule) (row : Row)
         → In row (rows p s rule.conditions) ↔ (lines p s rule.conditions row ≡ true) }
+{}
+
+/// Over facts with distinct tags the rows of conditions name versions of the snapshot alone.
+pub fn rows_name_versions_of_the_snapshot()
+    ensures { (p : Program) (s : Snapshot) → HaveDistinctTags s.facts → (conditions : List Condition) → NameHeld s (rows_of p s conditions) }
 {}
 
 /// Over facts with distinct tags each fact is held under its tag, and its name is of the candidates exactly where it is one; what is of

@@ -44,6 +44,13 @@ impl NotNode {
         }
     }
 
+    /// The pattern of the candidates. Takes no memory.
+    pub fn pattern(&self) -> &Pattern
+        ensures { result.now ≡ self.now.tally.memories.pattern }
+    {
+        self.tally.pattern()
+    }
+
     /// Takes what has changed in the rows of the conditions before this one and in its candidates, and a new floor, and answers
     /// what has changed in the left rows for which no candidate passes and that are mature. A floor below that of the last call
     /// is not taken. Where nothing changes but the floor, it costs one look at the least moment, and for each row that becomes
