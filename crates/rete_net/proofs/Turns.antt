@@ -53,12 +53,27 @@ module _ (p : Program) (look : Look) (gone : List Fact) (come : Option Fact) (cl
       (subst (λ n. Steps old n (left_delta first deltas old.parent) d) new_is
       (subst (λ n. Steps n new_node (left_delta first deltas n.parent) d) old_is step)))
 
-  pub stepped_one : SteppedBelow p look gone come clock first before (set now i new_node) (deltas ++ d ∷ []) (i + 1)
+  stepped_one : SteppedBelow p look gone come clock first before (set now i new_node) (deltas ++ d ∷ []) (i + 1)
   stepped_one k h old new e f = by (below_or_at k i h)
     where
       by : (k < i) ⊎ (k ≡ i) → Steps old new (left_delta first (take k (deltas ++ d ∷ [])) old.parent) (delta_at first (deltas ++ d ∷ []) k)
       by (inl lt) = earlier k lt old new e f
       by (inr at) = here k at old new e f
+
+-- the same where the differences so far, what came to the node and the new differences are equal to these
+pub stepped_more : (p : Program) (look : Look) (gone : List Fact) (come : Option Fact) (clock : ℤ) (first : Delta) (before now : List NetNode) (deltas : List Delta) (i : ℕ) (node new_node : NetNode) (d given : Delta) (lent_deltas deltas_now : List Delta)
+    → length deltas ≡ i → ((k : ℕ) → i ≤ k → slice_get now k ≡ slice_get before k) → SteppedBelow p look gone come clock first before now deltas i → slice_get now i ≡ Some node
+    → given ≡ left_delta first lent_deltas node.parent → lent_deltas ≡ deltas → deltas_now ≡ deltas ++ d ∷ [] → NodeStep p look gone come clock node new_node given d
+    → SteppedBelow p look gone come clock first before (set now i new_node) deltas_now (i + 1)
+stepped_more p look gone come clock first before now deltas i node new_node d given lent_deltas deltas_now done rest below is left same more step =
+    subst (λ (ds : List Delta). SteppedBelow p look gone come clock first before (set now i new_node) ds (i + 1)) (sym more)
+    (stepped_one p look gone come clock first before now deltas i node new_node d done rest below is
+    (subst (λ (l : Delta). NodeStep p look gone come clock node new_node l d) (left ∙ ap (λ (ds : List Delta). left_delta first ds node.parent) same) step))
+
+-- the same at an equal clock
+pub at_clock : (p : Program) (look : Look) (gone : List Fact) (come : Option Fact) (at clock : ℤ) (first : Delta) (before now : List NetNode) (deltas : List Delta) (n : ℕ) → at ≡ clock
+    → SteppedBelow p look gone come at first before now deltas n → SteppedBelow p look gone come clock first before now deltas n
+at_clock p look gone come at clock first before now deltas n e below = subst (λ (z : ℤ). SteppedBelow p look gone come z first before now deltas n) e below
 
 -- ---- the step of a network, out of that of its nodes
 
