@@ -1,7 +1,12 @@
 -- Snapshots with the same members at the same clock have the same matches.
-use Rattle.std.proofs.Common.{◌≡◌, Bool, true, false, List, refl, sym}
+use Rattle.std.proofs.Common.{◌≡◌, inl, inr, Bool, true, false, List, [], ◌∷◌, refl, sym, subst}
+use Rattle.std.specs.Ordering.{eq_by_cmp}
+use Rattle.std.proofs.lemmas.Map.Views.{tells_apart}
+use Rattle.fx_base.specs.Lists.{In}
 use Rattle.row_delta.specs.declared.row.Row.{Row}
-use Rattle.row_delta.specs.Rows.{has}
+use Rattle.row_delta.specs.Rows.{has, row_cmp}
+use Rattle.row_delta.specs.RowOrder.{row_exact, same_equiv}
+use Rattle.rule_model.proofs.Firsts.{or_left, or_right, or_split}
 use Rattle.rule_model.specs.declared.condition.Condition.{Condition}
 use Rattle.rule_model.specs.declared.matched.Match.{Match}
 use Rattle.rule_model.specs.declared.program.Program.{Program}
@@ -12,8 +17,16 @@ use Rattle.rule_model.specs.Distinct.{HaveDistinctTags}
 use Rattle.rule_model.specs.Snapshots.{Snapshot}
 use Rattle.rule_model.proofs.Named.{AllOf}
 use Rattle.rule_model.proofs.Order.{rows_over}
-use Rattle.rule_rows.proofs.Sets.{in_has, has_in}
 use Rattle.session.proofs.Rules.{same_found}
+
+in_has : (row : Row) (rs : List Row) → In row rs → has rs row ≡ true
+in_has row [] i = absurd i
+in_has row (other ∷ rs) (inl e) = or_left (eq_by_cmp row_cmp row other) (has rs row) (subst (λ (z : Row). eq_by_cmp row_cmp row z ≡ true) e (same_equiv.refl row))
+in_has row (other ∷ rs) (inr i) = or_right (eq_by_cmp row_cmp row other) (has rs row) (in_has row rs i)
+
+has_in : (row : Row) (rs : List Row) → has rs row ≡ true → In row rs
+has_in row [] e = absurd (let n : false ≡ true = e in cc)
+has_in row (other ∷ rs) e = elim (or_split (eq_by_cmp row_cmp row other) (has rs row) e) [ inl h ↦ inl (tells_apart row_exact row other h) | inr h ↦ inr (has_in row rs h) ]
 
 same_bool : (a b : Bool) → (a ≡ true → b ≡ true) → (b ≡ true → a ≡ true) → a ≡ b
 same_bool true b f g = sym (f refl)

@@ -1,5 +1,5 @@
 -- The faults of steps, by what a session has.
-use Rattle.std.proofs.Common.{◌≡◌, ◌≤◌, ◌^◌, ℕ, ℤ, pos, negsuc, ◌+◌, ◌+ℤ◌, ◌≤ℤ◌, ◌&&◌, not, cond, Bool, true, false, List, Option, Some, None, slice_get, Bor, FitsSigned, to_z, of_z, to_z-of_z, w64, refl, sym, ◌∙◌, ap, arith}
+use Rattle.std.proofs.Common.{◌≡◌, ◌≤◌, ◌^◌, ℕ, ℤ, pos, negsuc, ◌+◌, ◌+ℤ◌, ◌≤ℤ◌, ◌&&◌, not, cond, Bool, true, false, List, [], Option, Some, None, slice_get, Bor, FitsSigned, to_z, of_z, to_z-of_z, w64, refl, sym, ◌∙◌, ap, subst, arith}
 use Rattle.std.specs.Prelude.{if◌then◌else◌, int_lt, nat_eq, IfNone, IfSome, option_map}
 use Rattle.std.specs.Cmp.{nat_cmp_total}
 use Rattle.std.specs.FinMap.{get-insert, get-retain_keys}
@@ -23,9 +23,10 @@ use Rattle.rule_world.specs.Events.{clock_fault, most_millis, new_fault, times_o
 use Rattle.rule_world.specs.Worlds.{World, at_clock, kept, is_of_type, modify_fault, moved, retract_fault, settled, step_fault, stepped, with_new, with_revised, without_fact}
 use Rattle.rule_model.specs.Snapshots.{floor, floor_by}
 use Rattle.rule_model.specs.Types.{is_event, is_observed, lateness_of}
+use Rattle.rule_world.proofs.Faultless.{event_by, last_below_floor, started}
 use Rattle.rule_world.proofs.Vain.{vain_retraction}
 use Rattle.session.specs.Places.{IsSafe, floor_in, newest}
-use Rattle.session.specs.Standing.{Contents, Standing}
+use Rattle.session.specs.Standing.{Contents, Standing, last_start_in}
 use Rattle.session.specs.Waiting.{with_timer, without_timer, left_at}
 use Rattle.session.proofs.Exactly.{exact, after_without}
 use Rattle.session.proofs.Members.{got_old, none_left}
@@ -73,6 +74,17 @@ numbered k ty entry fields times = record {
   tag = record { 0 = k.next_tag };
   times = times;
 }
+
+-- an event that has no fault does not start below 0, where none before it did
+pub event_from_zero : (p : Program) (k : Contents) (ty : TypeId) (entry : EntryId) (fields : List Value) (times : Times) → ((e : ℕ) → pos 0 ≤ℤ last_start_in k.last_starts e)
+    → new_fault (slice_get p.types ty.0) (floor_in p k.last_starts k.clock entry.0) k.clock fields ≡ None → times ≡ times_of (slice_get p.types ty.0) k.clock fields
+    → is_event p ty.0 ≡ true → pos 0 ≤ℤ times.start
+unfolding floor
+event_from_zero p k ty entry fields times starts none is event =
+    let s = started (slice_get p.types ty.0) (floor_in p k.last_starts k.clock entry.0) k.clock fields (sym (event_by p ty.0) ∙ event) none in
+    let low = last_below_floor p (record { facts = []; clock = k.clock; last_start = last_start_in k.last_starts }) entry.0 in
+    subst (λ (t : Times). pos 0 ≤ℤ t.start) (sym is)
+    (later (pos 0) (last_start_in k.last_starts entry.0) _ (starts entry.0) (later (last_start_in k.last_starts entry.0) (floor_in p k.last_starts k.clock entry.0) _ low s.from_floor))
 
 module _ (p : Program) (k : Contents) (w : World) (st : Standing p k w) where
   module _ (ty : TypeId) (entry : EntryId) (fields : List Value) where

@@ -1,13 +1,16 @@
 pub mod Rules
 pub mod Alike
-pub mod Fewer
+pub mod Rising
 pub mod Members
 pub mod Timers
 pub mod Leaving
+pub mod Leads
+pub mod Ready
 pub mod Exactly
 pub mod Newest
 pub mod Stands
 pub mod Faults
+pub mod Follow
 pub mod Doing
 pub mod Tried
 pub mod Firings

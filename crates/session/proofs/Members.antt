@@ -1,17 +1,17 @@
 -- The facts of a map and those of a list: where both have the same, each at its tag.
 use Rattle.std.proofs.Common.{◌≡◌, ℕ, ◌<◌, ◌==◌, ◌⊎◌, inl, inr, not, ◌&&◌, Bool, true, false, cond, List, [], ◌∷◌, ◌++◌, map as list_map, Option, Some, None, refl, sym, ◌∙◌, ap, subst, arith}
 use Rattle.std.specs.Prelude.{if◌then◌else◌}
-use Rattle.std.specs.FinMap.{get-insert, get-remove}
+use Rattle.std.specs.FinMap.{get-insert, get-remove, same_map, nat_cmp-IsAntisymmetric}
 use Rattle.std.specs.Cmp.{nat_cmp_total}
 use Rattle.std.specs.Ordering.{nat_cmp, eq_by_cmp}
 use Rattle.std.proofs.lemmas.Bool.Decides.{nat_tests}
-use Rattle.std.proofs.lemmas.List.{map-append}
 use Rattle.fx_base.specs.declared.ids.Tag.{Tag}
 use Rattle.fx_base.specs.declared.value.Value.{Value}
 use Rattle.fx_base.specs.declared.fact.Fact.{Fact}
 use Rattle.fact_store.specs.Held.{HeldFacts, facts_of, tag_of}
+use Rattle.fact_store.proofs.Members.{from_list, from_map, tags_rise}
 use Rattle.fact_store.proofs.Stored.{tied, itself}
-use Rattle.fx_base.specs.Lists.{EachOnce, In}
+use Rattle.fx_base.specs.Lists.{In}
 use Rattle.rule_model.specs.Distinct.{HaveDistinctTags}
 use Rattle.rule_world.specs.Lawful.{IdsRise}
 use Rattle.rule_world.specs.Worlds.{has_id, revised, revised_in, without}
@@ -19,11 +19,12 @@ use Rattle.rule_world.proofs.Fresh.{AllBelow, revise, has_number}
 use Rattle.rule_world.proofs.Ids.{one_id}
 use Rattle.rule_model.proofs.Listed.{in_left, in_right, in_map, of_append, of_map}
 use Rattle.rule_model.proofs.Named.{AllOf, of_filter}
-use Rattle.rule_model.proofs.Once.{one_fact, once_append}
+use Rattle.rule_model.proofs.Once.{one_fact}
 use Rattle.rule_model.proofs.Order.{in_filter, passed}
 use Rattle.rule_world.proofs.Steps.{stays}
-use Rattle.rule_rows.proofs.Held.{held_of, in_held, held_distinct}
 use Rattle.session.specs.Gives.{version_of}
+use Rattle.session.specs.Waiting.{HaveOwnTags}
+use Rattle.session.proofs.Rising.{rising_distinct}
 use Rattle.std.specs.FinMap as map
 
 same_number : (m n : ℕ) → (m == n) ≡ true → m ≡ n
@@ -73,6 +74,10 @@ of_versions held facts d h = record {
   from = λ g i. h g.tag.0 ∙ version_in facts g d i;
 }
 
+-- their tags differ
+pub held_distinct : (held : HeldFacts) → HaveOwnTags held → HaveDistinctTags (facts_of held)
+held_distinct held own = rising_distinct (facts_of held) (tags_rise held own)
+
 module _ (held : HeldFacts) (facts : List Fact) (h : Holds held facts) where
   pub versions : HaveDistinctTags facts → (tag : ℕ) → map.get held tag ≡ version_of facts (tag_of tag)
   versions d tag = by (map.get held tag) (version_of facts (tag_of tag)) refl refl
@@ -91,10 +96,10 @@ module _ (held : HeldFacts) (facts : List Fact) (h : Holds held facts) where
 
   -- the map's list has the same members
   pub listed : AllOf facts (facts_of held)
-  listed g i = let r = held_of held g i in (h.to r.0 g r.1).0
+  listed g i = let r = from_list held g i in (h.to r.0 g r.1).0
 
   pub all_listed : AllOf (facts_of held) facts
-  all_listed g i = in_held held g g.tag.0 (h.from g i)
+  all_listed g i = from_map held g g.tag.0 (h.from g i)
 
 -- ---- one fact more in a map, and one fact less
 
@@ -148,40 +153,21 @@ none_left m out tag e = by (map.get (map.remove m out) tag) refl
     by None is = is
     by (Some x) is = absurd (let n : None ≡ Some x = sym e ∙ of_remove m x out tag is in cc)
 
--- ---- the list of a map and one fact behind it
-
-module _ (m : HeldFacts) (f : Fact) (new : map.get m f.tag.0 ≡ None) where
-  module _ (facts : List Fact) (h : Holds (map.insert m f.tag.0 f) facts) where
-    pub behind_of : AllOf facts (facts_of m ++ f ∷ [])
-    behind_of g i = elim (of_append g (facts_of m) (f ∷ []) i) [
-      | inl j ↦ (
-          let r = held_of m g j in
-          let apart : r.0 ≡ f.tag.0 → ⊥ = λ e. let n : None ≡ Some g = sym new ∙ ap (map.get m) (sym e) ∙ r.1 in absurd (cc) in
-          (h.to r.0 g (got_old m f r.0 apart ∙ r.1)).0)
-      | inr (inl e) ↦ subst (λ (z : Fact). In z facts) (sym e) (h.to f.tag.0 f (got_new m f)).0
-      | inr (inr k) ↦ absurd k
-    ]
-
-    pub of_behind : AllOf (facts_of m ++ f ∷ []) facts
-    of_behind g i = elim (of_insert m f g g.tag.0 (h.from g i)) [
-      | inl r ↦ in_right g (facts_of m) (f ∷ []) (inl r.0)
-      | inr e ↦ in_left g (facts_of m) (f ∷ []) (in_held m g g.tag.0 e)
-    ]
-
-  -- their tags differ
-  pub distinct_behind : ((tag : ℕ) (g : Fact) → map.get m tag ≡ Some g → g.tag.0 ≡ tag) → HaveDistinctTags (facts_of m ++ f ∷ [])
-  distinct_behind own =
-      subst (λ (ts : List Tag). EachOnce ts) (sym (map-append (λ (g : Fact). g.tag) (facts_of m) (f ∷ [])))
-      (once_append (list_map (λ (g : Fact). g.tag) (facts_of m)) (f.tag ∷ []) (held_distinct m own) (λ i. i, tt) other)
-    where
-      other : (t : Tag) → In t (list_map (λ (g : Fact). g.tag) (facts_of m)) → In t (f.tag ∷ []) → ⊥
-      other t i (inl e) =
-          let q = of_map (λ (g : Fact). g.tag) t (facts_of m) i in
-          let r = held_of m q.0 q.1 in
-          let s : r.0 ≡ f.tag.0 = sym (own r.0 q.0 r.1) ∙ ap (λ (z : Tag). z.0) (q.2 ∙ e) in
-          let n : None ≡ Some q.0 = sym new ∙ ap (map.get m) (sym s) ∙ r.1 in
-          absurd (cc)
-      other t i (inr j) = j
+-- one put in and another taken out, in either order
+pub swapped : (m : HeldFacts) (f : Fact) (out : ℕ) → (f.tag.0 ≡ out → ⊥) → map.remove (map.insert m f.tag.0 f) out ≡ map.insert (map.remove m out) f.tag.0 f
+swapped m f out apart = same_map nat_cmp_total nat_cmp-IsAntisymmetric (map.remove (map.insert m f.tag.0 f) out) (map.insert (map.remove m out) f.tag.0 f) at
+  where
+    at : (tag : ℕ) → map.get (map.remove (map.insert m f.tag.0 f) out) tag ≡ map.get (map.insert (map.remove m out) f.tag.0 f) tag
+    at tag =
+        get-remove nat_cmp_total (map.insert m f.tag.0 f) out tag ∙ ap (λ o. cond (eq_by_cmp nat_cmp tag out) None o) (get-insert nat_cmp_total m f.tag.0 f tag)
+        ∙ by (eq_by_cmp nat_cmp tag out) (eq_by_cmp nat_cmp tag f.tag.0) refl refl
+        ∙ sym (get-insert nat_cmp_total (map.remove m out) f.tag.0 f tag ∙ ap (λ o. cond (eq_by_cmp nat_cmp tag f.tag.0) (Some f) o) (get-remove nat_cmp_total m out tag))
+      where
+        by : (a b : Bool) → eq_by_cmp nat_cmp tag out ≡ a → eq_by_cmp nat_cmp tag f.tag.0 ≡ b → cond a None (cond b (Some f) (map.get m tag)) ≡ cond b (Some f) (cond a None (map.get m tag))
+        by true true h k = absurd (apart (sym (tied tag f.tag.0 k) ∙ tied tag out h))
+        by true false h k = refl
+        by false true h k = refl
+        by false false h k = refl
 
 -- ---- the three steps
 
@@ -201,24 +187,6 @@ module _ (held : HeldFacts) (facts : List Fact) (h : Holds held facts) where
       | inr (inr k) ↦ absurd k
     ];
   }
-
-  -- a fact is out, and in again
-  pub holds_again : (f : Fact) → In f facts → Holds (map.insert (map.remove held f.tag.0) f.tag.0 f) facts
-  holds_again f i = record {
-    to = λ tag g is. elim (of_insert (map.remove held f.tag.0) f g tag is) [
-      | inl r ↦ (subst (λ (z : Fact). In z facts) (sym r.0) i, ap (λ (z : Fact). z.tag.0) r.0 ∙ sym r.1)
-      | inr e ↦ h.to tag g (of_remove held g f.tag.0 tag e)
-    ];
-    from = λ g j. by g j (g.tag.0 == f.tag.0) refl;
-  }
-    where
-      by : (g : Fact) → In g facts → (b : Bool) → (g.tag.0 == f.tag.0) ≡ b → map.get (map.insert (map.remove held f.tag.0) f.tag.0 f) g.tag.0 ≡ Some g
-      by g j true e =
-          let n : g.tag.0 ≡ f.tag.0 = same_number g.tag.0 f.tag.0 e in
-          let s : Some f ≡ Some g = sym (h.from f i) ∙ ap (map.get held) (sym n) ∙ h.from g j in
-          ap (map.get (map.insert (map.remove held f.tag.0) f.tag.0 f)) n ∙ got_new (map.remove held f.tag.0) f ∙ s
-      by g j false e =
-          got_old (map.remove held f.tag.0) f g.tag.0 (λ n. other_number g.tag.0 f.tag.0 n e) ∙ not_out held f.tag.0 g.tag.0 (λ n. other_number g.tag.0 f.tag.0 n e) ∙ h.from g j
 
   module _ (low next_id : ℕ) (rise : IdsRise low facts next_id) (d : HaveDistinctTags facts) (f : Fact) (i : In f facts) (id : ℕ) (own : f.id.0 ≡ id) where
     same : (g : Fact) → In g facts → has_id id g ≡ true → g ≡ f

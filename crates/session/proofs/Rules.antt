@@ -1,12 +1,16 @@
 -- Matches, rule by rule, and what the differences of the rules do to an agenda.
-use Rattle.std.proofs.Common.{◌≡◌, if◌then◌else◌, ℕ, ◌+◌, ◌<◌, ◌≤◌, zero, suc, ◌==◌, ◌&&◌, ◌||◌, not, Bool, true, false, List, [], ◌∷◌, ◌++◌, map, length, take, get_or, slice_get, Option, Some, None, refl, sym, ◌∙◌, ap, subst, arith}
+use Rattle.std.proofs.Common.{◌≡◌, if◌then◌else◌, ℕ, ◌+◌, ◌<◌, ◌≤◌, zero, suc, ◌==◌, ◌&&◌, ◌||◌, not, Bool, true, false, List, [], ◌∷◌, ◌++◌, map, length, take, get_or, slice_get, Option, Some, None, refl, sym, ◌∙◌, ap, subst, append_assoc, arith}
 use Rattle.std.specs.Ordering.{eq_by_cmp}
+use Rattle.std.specs.Prelude.{IfSome, MatchOption}
+use Rattle.std.specs.Option.{option_to_list}
 use Rattle.std.proofs.Math.Bool.{and-true, and-false, and-not_self, or-false, or_assoc}
 use Rattle.std.proofs.lemmas.Bool.Decides.{nat_tests}
 use Rattle.std.proofs.lemmas.Grind.{common_steps}
 use Rattle.std.proofs.lemmas.List.{take_more, append-nil}
 use Rattle.std.proofs.lemmas.List.Folds.{list_any-append}
 use Rattle.row_delta.specs.declared.row.Row.{Row}
+use Rattle.rule_model.specs.declared.program.Program.{Program}
+use Rattle.rete_net.specs.Nets.{AreBetween}
 use Rattle.row_delta.specs.declared.delta.Delta.{Delta}
 use Rattle.row_delta.specs.Differences.{IsBetween}
 use Rattle.row_delta.specs.Rows.{row_cmp, has}
@@ -14,11 +18,8 @@ use Rattle.rule_model.specs.declared.matched.Match.{Match}
 use Rattle.rule_model.specs.declared.program.Rule.{Rule}
 use Rattle.rule_model.specs.Matches.{match_of, match_cmp, matches_from, has_match}
 use Rattle.rule_model.proofs.Exact.{match_parts}
-use Rattle.rule_model.specs.Rows.{HaveOperators}
-use Rattle.rule_world.specs.Programs.{UseOperators}
 use Rattle.agenda.specs.Agendas.{Marks, IsChanged}
-use Rattle.rule_eval.proofs.Alike.{none_between}
-use Rattle.session.specs.Refreshed.{is_simple_rule, by_kind, matches_by, IsRefreshed}
+use Rattle.session.specs.Refreshed.{matches_by, IsRefreshed}
 
 flip : (a b : ℕ) (t : Bool) → (a == b) ≡ t → (b == a) ≡ t
 flip a b t e = grind (arith, nat_tests)
@@ -207,35 +208,64 @@ rule_turn old new rules k rule d a b c lt is diff r ch = record {
       ∙ ap (λ z. has_match a.fired m && not (upto old rules (k + 1) m && not z)) (sym (upto_more new rules k rule m lt is));
 }
 
--- a rule whose rows are the same before and behind needs no turn
-pub rule_skipped : (old new : Rule → List Row) (rules : List Rule) (k : ℕ) (rule : Rule) (a b : Marks) → k < length rules → rule ≡ get_or rules k rule → new rule ≡ old rule
-    → IsRefreshed (take k rules) old new a b → IsRefreshed (take (k + 1) rules) old new a b
-rule_skipped old new rules k rule a b lt is same r =
-    rule_turn old new rules k rule nothing a b b lt is (subst (λ rows. IsBetween (old rule) rows nothing) (sym same) (none_between (old rule) nothing refl refl)) r (record {
-      saliences = refl;
-      pending = λ m. sym (ap (λ z. (has_match b.pending m && not z) || z) (and-false (k == m.rule.0)) ∙ or-false (has_match b.pending m && true) ∙ and-true (has_match b.pending m));
-      fired = λ m. sym (ap (λ z. has_match b.fired m && not z) (and-false (k == m.rule.0)) ∙ and-true (has_match b.fired m));
-    })
-  where
-    nothing : Delta
-    nothing = record { gone = []; come = [] }
-
 -- all rules are done
 pub rules_done : (old new : Rule → List Row) (rules : List Rule) (k : ℕ) (a b : Marks) → length rules ≤ k → IsRefreshed (take k rules) old new a b → IsRefreshed rules old new a b
 rules_done old new rules k a b h r = subst (λ (rs : List Rule). IsRefreshed rs old new a b) (all_taken rules k h) r
 
--- ---- operators
+-- ---- a difference for each rule
 
--- the conditions of each rule have operators
-pub operators_at : (rules : List Rule) (k : ℕ) (rule : Rule) → UseOperators rules → k < length rules → rule ≡ get_or rules k rule → HaveOperators rule.conditions
-operators_at [] k rule all lt is = absurd (omega arith)
-operators_at (r ∷ rules) zero rule all lt is = subst (λ (x : Rule). HaveOperators x.conditions) (sym is) all.0
-operators_at (r ∷ rules) (suc k) rule all lt is = operators_at rules k rule all.1 (omega arith) is
+-- the rule in a place
+rule_at : (rules : List Rule) (k : ℕ) → k < length rules → (rule : Rule) × (slice_get rules k ≡ Some rule) × (rule ≡ get_or rules k rule)
+rule_at [] k lt = absurd (omega arith)
+rule_at (rule ∷ rules) zero lt = (rule, refl, refl)
+rule_at (rule ∷ rules) (suc k) lt = rule_at rules k (omega arith)
 
--- ---- rules by their kind
+past_end : {A : Type 0} (xs : List A) → slice_get xs (length xs) ≡ None
+past_end [] = refl
+past_end (x ∷ xs) = past_end xs
 
-pub kind_simple : (simple other : Rule → List Row) (rule : Rule) → true ≡ is_simple_rule rule → by_kind simple other rule ≡ simple rule
-kind_simple simple other rule e = ap (λ z. if z then simple rule else other rule) (sym e)
+behind_front : {A : Type 0} (front : List A) (x : A) (rest : List A) → slice_get (front ++ x ∷ rest) (length front) ≡ Some x
+behind_front [] x rest = refl
+behind_front (y ∷ front) x rest = behind_front front x rest
 
-pub kind_other : (simple other : Rule → List Row) (rule : Rule) → false ≡ is_simple_rule rule → by_kind simple other rule ≡ other rule
-kind_other simple other rule e = ap (λ z. if z then simple rule else other rule) (sym e)
+one_longer : {A : Type 0} (xs : List A) (x : A) → length (xs ++ x ∷ []) ≡ length xs + 1
+one_longer [] x = refl
+one_longer (y ∷ xs) x = let e : length (xs ++ x ∷ []) ≡ length xs + 1 = one_longer xs x in omega (arith, e)
+
+pub if_none : {A : Type 0} (o : Option A) (B : Type 0) (C : A → Type 0) → MatchOption o B C → o ≡ None → B
+if_none None B C m e = m
+if_none (Some x) B C m e = absurd (cc)
+
+-- the rules before a place have had their turn, and these differences are still ahead
+pub record HaveTurned (p : Program) (old new : Rule → List Row) (deltas : List Delta) (k : ℕ) (ahead : List Delta) (a b : Marks) : Type 0 where
+  pub done : List Delta
+  pub parts : deltas ≡ done ++ ahead
+  pub many : length done ≡ k
+  pub refreshed : IsRefreshed (take k p.rules) old new a b
+
+pub none_turned : (p : Program) (old new : Rule → List Row) (deltas : List Delta) (ahead : List Delta) (a : Marks) → ahead ≡ deltas → HaveTurned p old new deltas 0 ahead a a
+none_turned p old new deltas ahead a e = record { done = []; parts = sym e; many = refl; refreshed = none_yet old new p.rules a }
+
+-- one rule more, by the difference in its place
+pub place_turn : (p : Program) (old new : Rule → List Row) (deltas : List Delta) (k : ℕ) (o : Option Delta) (ahead rest : List Delta) (a b c : Marks) → k < length p.rules
+    → AreBetween p old new deltas → HaveTurned p old new deltas k ahead a b → ahead ≡ option_to_list o ++ rest → (o ≡ None → ahead ≡ []) → IfSome o (λ d. IsChanged k d b c)
+    → HaveTurned p old new deltas (k + 1) rest a c
+place_turn p old new deltas k None ahead rest a b c lt between t items none ch =
+    let q = rule_at p.rules k lt in
+    let d = between k q.0 q.1 in
+    let all : deltas ≡ t.done = t.parts ∙ ap (λ xs. t.done ++ xs) (none refl) ∙ append-nil t.done in
+    let n : None ≡ Some d.0 = sym (ap (λ n. slice_get deltas n) (sym t.many) ∙ ap (λ xs. slice_get xs (length t.done)) all ∙ past_end t.done) ∙ d.1 in
+    absurd (cc)
+place_turn p old new deltas k (Some x) ahead rest a b c lt between t items none ch =
+    let q = rule_at p.rules k lt in
+    let d = between k q.0 q.1 in
+    let parts : deltas ≡ t.done ++ x ∷ rest = t.parts ∙ ap (λ xs. t.done ++ xs) items in
+    let found : slice_get deltas k ≡ Some x = ap (λ n. slice_get deltas n) (sym t.many) ∙ ap (λ xs. slice_get xs (length t.done)) parts ∙ behind_front t.done x rest in
+    let both : Some d.0 ≡ Some x = sym d.1 ∙ found in
+    let same : d.0 ≡ x = cc in
+    record {
+      done = t.done ++ x ∷ [];
+      parts = parts ∙ sym (append_assoc t.done (x ∷ []) rest);
+      many = one_longer t.done x ∙ ap (λ n. n + 1) t.many;
+      refreshed = rule_turn old new p.rules k q.0 x a b c lt q.2 (subst (λ (d : Delta). IsBetween (old q.0) (new q.0) d) same d.2) t.refreshed ch;
+    }

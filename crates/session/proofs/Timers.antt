@@ -160,6 +160,18 @@ module _ (p : Program) (held : HeldFacts) (timers : Timers) (timed : AreTimed p 
         by true = refl
         by false = is
 
+    -- what is left was there, and is present
+    pub left_found : (tag : ℕ) (g : Fact) → left_at held gone tag ≡ Some g → (map.get held tag ≡ Some g) × (is_present p clock g ≡ true)
+    left_found tag g is = by (map.get held tag) refl
+      where
+        some_if : (b : Bool) (f : Fact) → is_present p clock f ≡ b → map.get held tag ≡ Some f → (if b then Some f else None) ≡ Some g → (map.get held tag ≡ Some g) × (is_present p clock g ≡ true)
+        some_if true f h e k = let s : f ≡ g = cc in (e ∙ k, ap (is_present p clock) (sym s) ∙ h)
+        some_if false f h e k = absurd (let n : None ≡ Some g = k in cc)
+
+        by : (o : Option Fact) → map.get held tag ≡ o → (map.get held tag ≡ Some g) × (is_present p clock g ≡ true)
+        by None e = absurd (let n : None ≡ Some g = sym (left_none tag e) ∙ is in cc)
+        by (Some f) e = some_if (is_present p clock f) f refl e (sym (left_present tag f e) ∙ is)
+
     kept_by : (tag : ℕ) (b : Bool) → list_any (nat_eq tag) gone ≡ b → is_due clock timers tag ≡ b → cond (not b) (map.get timers tag) None ≡ expiry_at p (if b then None else map.get held tag)
     kept_by tag true e f = refl
     kept_by tag false e f = timed tag

@@ -1,5 +1,5 @@
 -- What becomes of an agenda where the rows of rules change.
-use Rattle.std.specs.Prelude.{◌≡◌, ◌&&◌, ◌||◌, not, Bool, ℤ, List, [], map, if◌then◌else◌}
+use Rattle.std.specs.Prelude.{◌≡◌, ◌&&◌, ◌||◌, not, Bool, ℤ, pos, List, [], map}
 use Rattle.fx_base.specs.declared.fact.Fact.{Fact}
 use Rattle.row_delta.specs.declared.row.Row.{Row}
 use Rattle.rule_model.specs.declared.matched.Match.{Match}
@@ -7,11 +7,14 @@ use Rattle.rule_model.specs.declared.program.Program.{Program}
 use Rattle.rule_model.specs.declared.program.Rule.{Rule}
 use Rattle.rule_model.specs.Matches.{matches_from, has_match}
 use Rattle.rule_model.specs.Rows.{rows}
-use Rattle.rule_model.specs.Simple.{are_simple}
-use Rattle.rule_rows.specs.Over.{over}
+use Rattle.rule_model.specs.Snapshots.{Snapshot}
 use Rattle.agenda.specs.Agendas.{Marks}
 
 -- ---- which rows the rules have
+
+-- these facts at this clock, where no event was inserted before; rows do not ask for it
+abbrev pub over : List Fact → ℤ → Snapshot
+over facts clock = record { facts = facts; clock = clock; last_start = λ entry. pos 0 }
 
 -- those over facts at a clock
 abbrev pub rows_at : Program → List Fact → ℤ → Rule → List Row
@@ -19,14 +22,6 @@ rows_at p facts clock rule = rows p (over facts clock) rule.conditions
 
 abbrev pub no_rows : Rule → List Row
 no_rows rule = []
-
--- a rule whose conditions are patterns without windows
-abbrev pub is_simple_rule : Rule → Bool
-is_simple_rule rule = are_simple rule.conditions
-
--- of a rule of such conditions the first, of any other rule the second
-abbrev pub by_kind : (Rule → List Row) → (Rule → List Row) → Rule → List Row
-by_kind simple other rule = if is_simple_rule rule then simple rule else other rule
 
 -- the rows of these rules as matches, the first rule having the place 0
 abbrev pub matches_by : (Rule → List Row) → List Rule → List Match

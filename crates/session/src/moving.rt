@@ -1,19 +1,23 @@
 ghost use Rattle.std.specs.Prelude.{◌≡◌, ◌+◌, ◌<◌, ◌^◌, ◌≤ℤ◌, ◌-ℤ◌, ℕ, pos, true, false, None, IfOk};
 ghost use Rattle.rule_world.specs.Events.{end_of_presence, most_millis};
+ghost use Rattle.rete_net.specs.declared.net.Rete.{Rete as ReteData};
 ghost use Rattle.rule_model.specs.Candidates.{is_present};
+ghost use Rattle.rule_model.specs.Types.{is_event};
 ghost use Rattle.rule_world.specs.Programs.{IsRunnable};
 ghost use Rattle.rule_world.specs.Worlds.{World, settled, at_clock, with_new, with_revised, without_fact, with_values, is_of_type, modify_fault, revised as revised_fact};
+ghost use Rattle.session.specs.Following.{Follows};
 ghost use Rattle.session.specs.Leading.{MovesTo};
 ghost use Rattle.session.specs.Places.{IsNewestTag, newest};
 ghost use Rattle.session.specs.Waiting.{with_timer, without_timer};
 ghost use Rattle.std.specs.FinMap as map;
 
 use crate::last_starts::last_starts_behind;
-use crate::refreshing::{advanced, refreshed, without_all};
+use crate::refreshing::{followed, without_all};
 use crate::state::State;
 use due_queue::DueQueue;
 use fact_store::FactStore;
-use fx_base::{Copies, Fact, FactId, Millis, NoMemory, Seq, Tag, TypeId, Value};
+use fx_base::{Copies, Fact, FactId, Facts, Millis, NoMemory, Seq, Tag, TypeId, Value};
+use rete_net::Rete;
 use rule_model::Program;
 use rule_world::presence_end;
 use std::alloc::Global;
@@ -98,42 +102,64 @@ impl State {
         self,
         alloc: Global,
         program: &Program,
+        net: &mut Rete,
         fact: Fact,
     ) -> Result<State, NoMemory>
         requires runnable { IsRunnable program.now }
+        requires follows { Follows program.now net.old self }
         requires low { self.next_tag < 2 ^ 63 }
         requires id { fact.id.0 ≡ self.next_id }
         requires tag { fact.tag.0 ≡ self.next_tag }
         requires start_low { (pos 0 -ℤ most_millis) ≤ℤ fact.times.start }
         requires start_high { fact.times.start ≤ℤ most_millis }
+        requires from_zero { is_event program.now fact.ty.0 ≡ true → pos 0 ≤ℤ fact.times.start }
         ensures stands { IfOk result (MovesTo program.now self (λ w. settled program.now (with_new program.now w fact))) }
+        ensures follows { IfOk result (Follows program.now net.new) }
         ensures tags { IfOk result (λ s. s.next_tag ≡ self.next_tag + 1) }
     {
         if program.is_present(self.clock, &fact) {
-            self.with_present(alloc, program, fact)
+            self.with_present(alloc, program, net, fact)
         } else {
             self.with_numbers(program, &fact)
         }
     }
 
     // The same with a fact that is present.
-    fn with_present(self, alloc: Global, program: &Program, fact: Fact) -> Result<State, NoMemory>
+    fn with_present(
+        self,
+        alloc: Global,
+        program: &Program,
+        net: &mut Rete,
+        fact: Fact,
+    ) -> Result<State, NoMemory>
         requires runnable { IsRunnable program.now }
+        requires follows { Follows program.now net.old self }
         requires low { self.next_tag < 2 ^ 63 }
         requires id { fact.id.0 ≡ self.next_id }
         requires tag { fact.tag.0 ≡ self.next_tag }
         requires start_low { (pos 0 -ℤ most_millis) ≤ℤ fact.times.start }
         requires start_high { fact.times.start ≤ℤ most_millis }
+        requires from_zero { is_event program.now fact.ty.0 ≡ true → pos 0 ≤ℤ fact.times.start }
         requires present { is_present program.now self.clock fact ≡ true }
         ensures stands { IfOk result (MovesTo program.now self (λ w. settled program.now (with_new program.now w fact))) }
+        ensures follows { IfOk result (Follows program.now net.new) }
         ensures tags { IfOk result (λ s. s.next_tag ≡ self.next_tag + 1) }
     {
         let mut state = self;
-        let (clock, old, new) = (state.clock, None, Some(&fact));
-        state.agenda = refreshed(alloc, program, clock, state.agenda, &state.facts, old, new)?;
+        let tag = fact.tag;
         state.last_starts = last_starts_behind(program, &fact, state.last_starts)?;
         state.expiries = timed(state.expiries, program, &fact)?;
         state.facts = with_fact(state.facts, fact)?;
+        state.agenda = followed(
+            alloc,
+            program,
+            net,
+            state.agenda,
+            &state.facts,
+            &[],
+            state.facts.fact(tag),
+            state.clock,
+        )?;
         state.next_id += 1;
         state.next_tag += 1;
         Ok(state)
@@ -142,8 +168,10 @@ impl State {
     // The same with an event that is not present any more.
     fn with_numbers(self, program: &Program, fact: &Fact) -> Result<State, NoMemory>
         requires low { self.next_tag < 2 ^ 63 }
+        requires from_zero { is_event program.now fact.now.ty.0 ≡ true → pos 0 ≤ℤ fact.now.times.start }
         requires absent { is_present program.now self.clock fact.now ≡ false }
         ensures stands { IfOk result (MovesTo program.now self (λ w. settled program.now (with_new program.now w fact.now))) }
+        ensures follows { IfOk result (λ s. (net : ReteData) → Follows program.now net self → Follows program.now net s) }
         ensures tags { IfOk result (λ s. s.next_tag ≡ self.next_tag + 1) }
     {
         let mut state = self;
@@ -158,23 +186,36 @@ impl State {
         self,
         alloc: Global,
         program: &Program,
+        net: &mut Rete,
         id: FactId,
         tag: Tag,
         sets: Seq<(usize, Value)>,
     ) -> Result<State, NoMemory>
         requires runnable { IsRunnable program.now }
+        requires follows { Follows program.now net.old self }
         requires low { self.next_tag < 2 ^ 63 }
         requires tag { IsNewestTag self.facts id.0 tag }
         requires plain { modify_fault program.now (newest self id.0) ≡ None }
         ensures stands { IfOk result (MovesTo program.now self (λ w. settled program.now (with_revised w id.0 sets))) }
+        ensures follows { IfOk result (Follows program.now net.new) }
         ensures tags { IfOk result (λ s. s.next_tag ≡ self.next_tag + 1) }
     {
         let mut state = self;
-        let before = state.facts.take(tag).unwrap();
-        let after = revised(alloc, &before, sets, Tag(state.next_tag))?;
-        let (clock, old, new) = (state.clock, Some(&before), Some(&after));
-        state.agenda = refreshed(alloc, program, clock, state.agenda, &state.facts, old, new)?;
+        let next = Tag(state.next_tag);
+        let before = state.facts.fact(tag).unwrap();
+        let after = revised(alloc, before, sets, next)?;
         state.facts = with_fact(state.facts, after)?;
+        state.agenda = followed(
+            alloc,
+            program,
+            net,
+            state.agenda,
+            &state.facts,
+            &[tag.0],
+            state.facts.fact(next),
+            state.clock,
+        )?;
+        state.facts.take(tag);
         state.next_tag += 1;
         Ok(state)
     }
@@ -184,20 +225,31 @@ impl State {
         self,
         alloc: Global,
         program: &Program,
+        net: &mut Rete,
         ty: TypeId,
         id: FactId,
         tag: Tag,
     ) -> Result<State, NoMemory>
         requires runnable { IsRunnable program.now }
+        requires follows { Follows program.now net.old self }
         requires tag { IsNewestTag self.facts id.0 tag }
         requires of_type { is_of_type ty.0 (newest self id.0) ≡ true }
         ensures stands { IfOk result (MovesTo program.now self (λ w. settled program.now (without_fact w ty.0 id.0))) }
+        ensures follows { IfOk result (Follows program.now net.new) }
         ensures tags { IfOk result (λ s. s.next_tag ≡ self.next_tag) }
     {
         let mut state = self;
-        let before = state.facts.take(tag).unwrap();
-        let (clock, old, new) = (state.clock, Some(&before), None);
-        state.agenda = refreshed(alloc, program, clock, state.agenda, &state.facts, old, new)?;
+        state.agenda = followed(
+            alloc,
+            program,
+            net,
+            state.agenda,
+            &state.facts,
+            &[tag.0],
+            None,
+            state.clock,
+        )?;
+        state.facts.take(tag);
         state.expiries = untimed(state.expiries, tag);
         Ok(state)
     }
@@ -207,22 +259,31 @@ impl State {
         self,
         alloc: Global,
         program: &Program,
+        net: &mut Rete,
         clock: Millis,
     ) -> Result<State, NoMemory>
         requires runnable { IsRunnable program.now }
+        requires follows { Follows program.now net.old self }
         requires low { pos 0 ≤ℤ clock }
         requires high { clock ≤ℤ most_millis }
         requires later { self.clock ≤ℤ clock }
         ensures stands { IfOk result (MovesTo program.now self (λ w. settled program.now (at_clock w clock))) }
+        ensures follows { IfOk result (Follows program.now net.new) }
         ensures tags { IfOk result (λ s. s.next_tag ≡ self.next_tag) }
     {
         let mut state = self;
-        let before = state.clock;
-        let agenda = advanced(alloc, program, before, clock, state.agenda, &state.facts)?;
         let due = state.expiries.take_due(clock)?;
-        let (facts, agenda) = without_all(alloc, program, before, agenda, state.facts, due)?;
-        state.facts = facts;
-        state.agenda = agenda;
+        state.agenda = followed(
+            alloc,
+            program,
+            net,
+            state.agenda,
+            &state.facts,
+            due.as_slice(),
+            None,
+            clock,
+        )?;
+        state.facts = without_all(state.facts, due);
         state.clock = clock;
         Ok(state)
     }

@@ -1,12 +1,13 @@
 ghost use Rattle.std.specs.Prelude.{◌≡◌, ◌+◌, ◌≤◌, ◌^◌, true, IfOk, is_some};
 ghost use Rattle.rule_model.specs.Matches.{saliences};
 
-use crate::refreshing::started;
+use crate::refreshing::refreshed;
 use crate::state::State;
 use agenda::Agenda;
 use change_read::asked_step;
 use engine::{Engine, Fired, Lines};
 use fx_base::{Millis, NoMemory, Seq};
+use rete_net::Rete;
 use rule_model::{LifeTable, Program, Rule};
 use script_read::Change;
 use std::alloc::Global;
@@ -23,28 +24,30 @@ fn saliences_of(alloc: Global, rules: &[Rule]) -> Result<Vec<i64>, NoMemory>
 }
 
 /// An engine in some lawful world of its program. It keeps the facts that are present under their tags, the clock, the last starts of the entry
-/// points, and an agenda.
+/// points, an agenda, and the network of its rules.
 #[derive(Drop)]
 pub struct Session {
     program: Program,
     lives: LifeTable,
     state: State,
+    net: Rete,
 }
 
 impl Model for Session {
-    ghost use Rattle.session.specs.Standing.{Shown, StandsForSome};
+    ghost use Rattle.session.specs.Standing.{Shown};
 
     ghost Value = { Shown };
 
     ghost use Rattle.std.specs.Coded.{codes};
     ghost use Rattle.rule_model.specs.ExpressionCode.{expression_code};
     ghost use Rattle.session.specs.Codes.{held_code, timers_code};
+    ghost use Rattle.session.specs.Following.{Keeps};
 
     ghost coded = { Prim.hlevel (codes, expression_code, held_code, timers_code) };
 
     ghost view = { λ s. record { program = s.program; lives = s.lives; contents = s.state } };
 
-    ghost invariant = { λ s. StandsForSome s.program s.lives s.state };
+    ghost invariant = { λ s. Keeps s.program s.lives s.state s.net };
 }
 
 impl Session {
@@ -66,12 +69,14 @@ impl Session {
         ensures next { IfOk result (λ s. s.contents.next_tag ≡ 1) }
     {
         let saliences = saliences_of(alloc, program.rules.as_slice())?;
-        let agenda = started(alloc, &program, Agenda::new(alloc, &saliences)?)?;
+        let (net, first) = Rete::build(alloc, &program)?;
+        let agenda = refreshed(&program, Agenda::new(alloc, &saliences)?, first)?;
         let state = State::new(alloc, agenda);
         Ok(Session {
             program,
             lives,
             state,
+            net,
         })
     }
 
@@ -86,9 +91,21 @@ impl Session {
         ensures tags { IfOk result (λ r. r.0.contents.next_tag ≤ self.contents.next_tag + 1) }
     {
         let mut lines = Vec::new(alloc);
-        let asked = asked_step(alloc, &self.program, &self.state, change)?;
-        let state = self.state.apply(alloc, &self.program, asked, &mut lines)?;
-        Ok((Session { state, ..self }, Seq::from_vec(lines)))
+        let Session {
+            program,
+            lives,
+            state,
+            mut net,
+        } = self;
+        let asked = asked_step(alloc, &program, &state, change)?;
+        let state = state.apply(alloc, &program, &mut net, asked, &mut lines)?;
+        let session = Session {
+            program,
+            lives,
+            state,
+            net,
+        };
+        Ok((session, Seq::from_vec(lines)))
     }
 
     /// The lines of one firing and of its actions, whose values are those of the world before it; `No` exactly where nothing is
@@ -104,8 +121,20 @@ impl Session {
         match self.state.plan(alloc, &self.program)? {
             Some(plan) => {
                 let mut lines = Vec::new(alloc);
-                let state = self.state.fire(alloc, &self.program, plan, &mut lines)?;
-                Ok((Session { state, ..self }, Fired::Yes(Seq::from_vec(lines))))
+                let Session {
+                    program,
+                    lives,
+                    state,
+                    mut net,
+                } = self;
+                let state = state.fire(alloc, &program, &mut net, plan, &mut lines)?;
+                let session = Session {
+                    program,
+                    lives,
+                    state,
+                    net,
+                };
+                Ok((session, Fired::Yes(Seq::from_vec(lines))))
             }
             None => Ok((self, Fired::No)),
         }

@@ -5,6 +5,7 @@ ghost use Rattle.rule_world.specs.Events.{most_millis, new_fault, times_of};
 ghost use Rattle.rule_world.specs.Programs.{IsRunnable};
 ghost use Rattle.engine.specs.declared.lines.OutLine.TheVariants.{Fault};
 ghost use Rattle.session.specs.Gives.{tries, does, does_all};
+ghost use Rattle.session.specs.Following.{Follows};
 ghost use Rattle.session.specs.Leading.{AllFit, MovesTo, StandsAfter, StandsAfterAll, Writes};
 ghost use Rattle.rule_world.specs.Worlds.{World};
 ghost use Rattle.session.specs.Standing.{Standing};
@@ -13,6 +14,7 @@ ghost use Rattle.session.specs.Places.{floor_in};
 use crate::state::State;
 use engine::OutLine;
 use fx_base::{EntryId, Fact, FactId, Millis, NoMemory, Seq, Tag, Times, TypeId, Value};
+use rete_net::Rete;
 use rule_model::{Program, Step};
 use rule_world::{Code, clock_after, clock_at, floor, new_times};
 use std::alloc::Global;
@@ -62,15 +64,18 @@ impl State {
         self,
         alloc: Global,
         program: &Program,
+        net: &mut Rete,
         ty: TypeId,
         entry: EntryId,
         fields: Seq<Value>,
         lines: &mut Vec<OutLine>,
     ) -> Result<State, NoMemory>
         requires runnable { IsRunnable program.now }
+        requires follows { Follows program.now net.old self }
         requires low { self.next_tag < 2 ^ 63 }
         ensures stands { IfOk result (MovesTo program.now self (λ w. (tries program.now w (Insert ty entry fields)).1)) }
         ensures lines { OnOk result (Writes program.now self (λ w. (tries program.now w (Insert ty entry fields)).0) lines.old.items lines.new.items) }
+        ensures follows { IfOk result (Follows program.now net.new) }
         ensures tags { IfOk result (λ s. s.next_tag ≤ self.next_tag + 1) }
     {
         match self.times_for(program, ty, entry, fields.as_slice()) {
@@ -86,7 +91,7 @@ impl State {
                     tag,
                     times,
                 };
-                self.with_new(alloc, program, fact)
+                self.with_new(alloc, program, net, fact)
             }
             Err(code) => self.refuse(code, lines),
         }
@@ -97,18 +102,21 @@ impl State {
         self,
         alloc: Global,
         program: &Program,
+        net: &mut Rete,
         id: FactId,
         sets: Seq<(usize, Value)>,
         lines: &mut Vec<OutLine>,
     ) -> Result<State, NoMemory>
         requires runnable { IsRunnable program.now }
+        requires follows { Follows program.now net.old self }
         requires low { self.next_tag < 2 ^ 63 }
         ensures stands { IfOk result (MovesTo program.now self (λ w. (tries program.now w (Modify id sets)).1)) }
         ensures lines { OnOk result (Writes program.now self (λ w. (tries program.now w (Modify id sets)).0) lines.old.items lines.new.items) }
+        ensures follows { IfOk result (Follows program.now net.new) }
         ensures tags { IfOk result (λ s. s.next_tag ≤ self.next_tag + 1) }
     {
         match self.modifiable(program, id) {
-            Ok(tag) => self.with_sets(alloc, program, id, tag, sets),
+            Ok(tag) => self.with_sets(alloc, program, net, id, tag, sets),
             Err(code) => self.refuse(code, lines),
         }
     }
@@ -118,20 +126,23 @@ impl State {
         self,
         alloc: Global,
         program: &Program,
+        net: &mut Rete,
         ty: TypeId,
         id: FactId,
         lines: &mut Vec<OutLine>,
     ) -> Result<State, NoMemory>
         requires runnable { IsRunnable program.now }
+        requires follows { Follows program.now net.old self }
         ensures stands { IfOk result (MovesTo program.now self (λ w. (tries program.now w (Retract ty id)).1)) }
         ensures lines { OnOk result (Writes program.now self (λ w. (tries program.now w (Retract ty id)).0) lines.old.items lines.new.items) }
+        ensures follows { IfOk result (Follows program.now net.new) }
         ensures tags { IfOk result (λ s. s.next_tag ≡ self.next_tag) }
     {
         if are_observed(program, ty) {
             return self.refuse(Code::EventObserved, lines);
         }
         match self.tag_of(ty, id) {
-            Some(tag) => self.without(alloc, program, ty, id, tag),
+            Some(tag) => self.without(alloc, program, net, ty, id, tag),
             None if program.is_event(ty) => Ok(self),
             None => self.refuse(Code::Absent, lines),
         }
@@ -142,16 +153,19 @@ impl State {
         self,
         alloc: Global,
         program: &Program,
+        net: &mut Rete,
         by: Millis,
         lines: &mut Vec<OutLine>,
     ) -> Result<State, NoMemory>
-        requires { IsRunnable program.now }
+        requires runnable { IsRunnable program.now }
+        requires follows { Follows program.now net.old self }
         ensures stands { IfOk result (MovesTo program.now self (λ w. (tries program.now w (Advance by)).1)) }
         ensures lines { OnOk result (Writes program.now self (λ w. (tries program.now w (Advance by)).0) lines.old.items lines.new.items) }
+        ensures follows { IfOk result (Follows program.now net.new) }
         ensures tags { IfOk result (λ s. s.next_tag ≡ self.next_tag) }
     {
         match clock_after(self.clock, by) {
-            Ok(clock) => self.with_clock(alloc, program, clock),
+            Ok(clock) => self.with_clock(alloc, program, net, clock),
             Err(code) => self.refuse(code, lines),
         }
     }
@@ -161,16 +175,19 @@ impl State {
         self,
         alloc: Global,
         program: &Program,
+        net: &mut Rete,
         moment: Millis,
         lines: &mut Vec<OutLine>,
     ) -> Result<State, NoMemory>
-        requires { IsRunnable program.now }
+        requires runnable { IsRunnable program.now }
+        requires follows { Follows program.now net.old self }
         ensures stands { IfOk result (MovesTo program.now self (λ w. (tries program.now w (At moment)).1)) }
         ensures lines { OnOk result (Writes program.now self (λ w. (tries program.now w (At moment)).0) lines.old.items lines.new.items) }
+        ensures follows { IfOk result (Follows program.now net.new) }
         ensures tags { IfOk result (λ s. s.next_tag ≡ self.next_tag) }
     {
         match clock_at(self.clock, moment) {
-            Ok(clock) => self.with_clock(alloc, program, clock),
+            Ok(clock) => self.with_clock(alloc, program, net, clock),
             Err(code) => self.refuse(code, lines),
         }
     }
@@ -180,23 +197,26 @@ impl State {
         self,
         alloc: Global,
         program: &Program,
+        net: &mut Rete,
         step: Step,
         lines: &mut Vec<OutLine>,
     ) -> Result<State, NoMemory>
         requires runnable { IsRunnable program.now }
+        requires follows { Follows program.now net.old self }
         requires low { self.next_tag < 2 ^ 63 }
         ensures stands { IfOk result (MovesTo program.now self (λ w. (tries program.now w step).1)) }
         ensures lines { OnOk result (Writes program.now self (λ w. (tries program.now w step).0) lines.old.items lines.new.items) }
+        ensures follows { IfOk result (Follows program.now net.new) }
         ensures tags { IfOk result (λ s. s.next_tag ≤ self.next_tag + 1) }
     {
         match step {
             Step::Insert { ty, entry, fields } => {
-                self.insert(alloc, program, ty, entry, fields, lines)
+                self.insert(alloc, program, net, ty, entry, fields, lines)
             }
-            Step::Modify { id, sets } => self.modify(alloc, program, id, sets, lines),
-            Step::Retract { ty, id } => self.retract(alloc, program, ty, id, lines),
-            Step::Advance(by) => self.advance(alloc, program, by, lines),
-            Step::At(moment) => self.go_to(alloc, program, moment, lines),
+            Step::Modify { id, sets } => self.modify(alloc, program, net, id, sets, lines),
+            Step::Retract { ty, id } => self.retract(alloc, program, net, ty, id, lines),
+            Step::Advance(by) => self.advance(alloc, program, net, by, lines),
+            Step::At(moment) => self.go_to(alloc, program, net, moment, lines),
         }
     }
 
@@ -205,17 +225,20 @@ impl State {
         self,
         alloc: Global,
         program: &Program,
+        net: &mut Rete,
         wanted: Result<Step, Code>,
         lines: &mut Vec<OutLine>,
     ) -> Result<State, NoMemory>
         requires runnable { IsRunnable program.now }
+        requires follows { Follows program.now net.old self }
         requires low { self.next_tag < 2 ^ 63 }
         ensures stands { IfOk result (StandsAfter program.now self wanted) }
         ensures lines { OnOk result (Writes program.now self (λ w. (does program.now w wanted).0) lines.old.items lines.new.items) }
+        ensures follows { IfOk result (Follows program.now net.new) }
         ensures tags { IfOk result (λ s. s.next_tag ≤ self.next_tag + 1) }
     {
         match wanted {
-            Ok(step) => self.step(alloc, program, step, lines),
+            Ok(step) => self.step(alloc, program, net, step, lines),
             Err(code) => self.refuse(code, lines),
         }
     }
@@ -225,18 +248,21 @@ impl State {
         self,
         alloc: Global,
         program: &Program,
+        net: &mut Rete,
         plan: Plan,
         lines: &mut Vec<OutLine>,
     ) -> Result<State, NoMemory>
         requires runnable { IsRunnable program.now }
+        requires follows { Follows program.now net.old self }
         requires low { self.next_tag + length plan.items ≤ 2 ^ 63 }
         ensures stands { IfOk result (StandsAfterAll program.now self plan.items) }
         ensures lines { OnOk result ((w : World) → Standing program.now self w → AllFit program.now w plan.items → lines.new.items ≡ lines.old.items ++ (does_all program.now w plan.items).0) }
+        ensures follows { IfOk result (Follows program.now net.new) }
         ensures tags { IfOk result (λ s. s.next_tag ≤ self.next_tag + length plan.items) }
     {
         let mut state = self;
         for wanted in plan {
-            state = state.apply(alloc, program, wanted, lines)?;
+            state = state.apply(alloc, program, net, wanted, lines)?;
         }
         Ok(state)
     }

@@ -1,22 +1,16 @@
-use Rattle.std.proofs.Common.{◌≡◌, sym, subst, to_z, of_z, to_z-of_z, w64}
-use Rattle.rule_world.specs.Programs.{UseOperators}
-use Rattle.session.proofs.Rules.{none_yet, operators_at, rule_turn, rules_done}
+use Rattle.session.proofs.Rules.{if_none, none_turned, place_turn, rules_done}
+use Rattle.session.proofs.Tried.{nothing_left}
 use Rattle.session.proofs.refreshing.refreshed.Goals as goal
 
-pub changed_rows-requires : goal.changed_rows-requires
-changed_rows-requires c =
-    operators_at c.as_slice-rule-items.result.now c.loop-place.place c.rule-item.result (subst UseOperators (sym c.as_slice-rule-items.ensures) c.requires.operators) c.loop-place-test.true c.rule-item.is
-
 pub loop-place-init : goal.loop-place-init
-loop-place-init c distinct = none_yet _ _ c.as_slice-rule-items.result.now _
+loop-place-init c old new between = none_turned c.args.program.now old new c.args.deltas.items _ c.args.agenda c.into_iter-rest.ensures.rest
 
 pub loop-place-preserved : goal.loop-place-preserved
-loop-place-preserved c distinct =
-    rule_turn _ _ c.as_slice-rule-items.result.now c.loop-place.place c.rule-item.result c.in_ok-delta.delta _ _ _ c.loop-place-test.true c.rule-item.is
-    (c.in_ok-delta.ensures distinct) (c.loop-place.invariant distinct) c.in_ok-agenda.ensures
+loop-place-preserved c old new between =
+    place_turn c.args.program.now old new c.args.deltas.items c.loop-place.place c.next.result c.loop-place.rest.rest.items c.next.new.self.rest.items c.args.agenda c.loop-place.agenda c.in_ok-agenda.agenda
+    (simp c.as_slice-place-end.ensures at c.loop-place-test.true) between (c.loop-place.invariant old new between) c.next.ensures.items
+    (λ e. nothing_left c.loop-place.rest.rest.items c.loop-place.rest.rest.len c.loop-place.rest.rest.ok.0 (if_none c.next.result _ _ c.next.ensures.cases e).0) c.in_ok-agenda.ensures
 
 pub returns : goal.returns
-returns c distinct =
-    let whole : to_z w64 (of_z w64 c.args.clock) ≡ c.args.clock = to_z-of_z c.ranges.clock in
-    let done = simp (whole, c.as_slice-rule-items.ensures) at (c.loop-place.invariant distinct) in
-    rules_done _ _ c.args.program.now.rules c.loop-place.place _ _ (simp c.as_slice-rule-items.ensures at c.loop-place-test.false) done
+returns c old new between =
+    rules_done old new c.args.program.now.rules c.loop-place.place c.args.agenda c.loop-place.agenda (simp c.as_slice-place-end.ensures at c.loop-place-test.false) (c.loop-place.invariant old new between).refreshed

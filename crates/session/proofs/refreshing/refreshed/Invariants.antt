@@ -1,12 +1,9 @@
-use Rattle.std.proofs.Common.{take, option_map}
-use Rattle.fact_store.specs.Held.{facts_of}
-use Rattle.rule_model.specs.Distinct.{HaveDistinctTags}
-use Rattle.rule_rows.specs.Over.{behind}
-use Rattle.session.specs.Refreshed.{rows_at, IsRefreshed}
+use Rattle.std.proofs.Common.{List}
+use Rattle.row_delta.specs.declared.row.Row.{Row}
+use Rattle.rule_model.specs.declared.program.Rule.{Rule}
+use Rattle.rete_net.specs.Nets.{AreBetween}
+use Rattle.session.proofs.Rules.{HaveTurned}
 use Rattle.session.proofs.refreshing.refreshed.Given as goal
 
--- the rules before this place have had their turn
 abbrev pub invariant-loop-place : goal.invariant-loop-place
-invariant-loop-place l = HaveDistinctTags (behind (behind (facts_of l.others) (option_map (λ f. f.now) l.before)) (option_map (λ f. f.now) l.after))
-    → IsRefreshed (take l.place l.rule-items) (rows_at l.program (behind (facts_of l.others) (option_map (λ f. f.now) l.before)) l.clock)
-    (rows_at l.program (behind (facts_of l.others) (option_map (λ f. f.now) l.after)) l.clock) l.fn.agenda l.agenda
+invariant-loop-place l = (old new : Rule → List Row) → AreBetween l.program old new l.fn.deltas.items → HaveTurned l.program old new l.fn.deltas.items l.place l.rest.rest.items l.fn.agenda l.agenda

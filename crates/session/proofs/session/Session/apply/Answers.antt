@@ -10,13 +10,16 @@ returns-clause-lines c w s =
 
 pub returns-clause-next : goal.returns-clause-next
 returns-clause-next c w s =
-    change_stands c.self.inside.program c.self.inside.lives c.self.inside.state c.args.self c.self.view_is w s c.args.change.now c.in_ok-asked.asked c.in_ok-asked.ensures c.in_ok-state.state c.self.invariant.runnable c.in_ok-state.ensures.stands
+    change_stands c.self.inside.program c.self.inside.lives c.self.inside.state c.args.self c.self.view_is w s c.args.change.now c.in_ok-asked.asked c.in_ok-asked.ensures c.in_ok-state.state c.self.invariant.some.runnable c.in_ok-state.ensures.stands
 
 pub returns-clause-known : goal.returns-clause-known
 returns-clause-known c =
     let taken = simp c.new-lines.ensures.items at c.in_ok-state.ensures.lines in
     rw c.from_vec.ensures
-    (change_known c.self.inside.program c.self.inside.lives c.self.inside.state c.self.invariant c.args.self c.self.view_is c.args.change.now c.in_ok-asked.asked c.in_ok-asked.ensures c.apply.new.lines.items taken)
+    (change_known c.self.inside.program c.self.inside.lives c.self.inside.state c.self.invariant.some c.args.self c.self.view_is c.args.change.now c.in_ok-asked.asked c.in_ok-asked.ensures c.apply.new.lines.items taken)
 
-pub invariant_of-result : goal.invariant_of-result
-invariant_of-result c = some_changed c.self.inside.program c.self.inside.lives c.self.inside.state c.self.invariant c.in_ok-state.state c.args.change.now c.in_ok-asked.asked c.in_ok-asked.ensures c.in_ok-state.ensures.stands
+pub invariant_of-session : goal.invariant_of-session
+invariant_of-session c = record {
+  some = some_changed c.self.inside.program c.self.inside.lives c.self.inside.state c.self.invariant.some c.in_ok-state.state c.args.change.now c.in_ok-asked.asked c.in_ok-asked.ensures c.in_ok-state.ensures.stands;
+  follows = c.in_ok-state.ensures.follows;
+}

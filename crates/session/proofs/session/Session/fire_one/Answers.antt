@@ -18,16 +18,19 @@ returns-in_ok-state-in-Some-clause-answers c w s =
     let planned = simp c.in-Some.is at c.in_ok-plan.ensures.plan in
     let written = simp c.new-lines.ensures.items at c.in_ok-state-in-Some.ensures.lines in
     rw c.from_vec.ensures
-    (shown_fires c.self.inside.program c.self.inside.lives c.self.inside.state c.args.self c.self.view_is w s c.in_ok-state-in-Some.state c.in-Some.plan.items c.fire.new.lines.items c.self.invariant.runnable planned c.in_ok-state-in-Some.ensures.stands written)
+    (shown_fires c.self.inside.program c.self.inside.lives c.self.inside.state c.args.self c.self.view_is w s c.in_ok-state-in-Some.state c.in-Some.plan.items c.fire.new.lines.items c.self.invariant.some.runnable planned c.in_ok-state-in-Some.ensures.stands written)
 
 pub returns-in_ok-state-in-Some-clause-known : goal.returns-in_ok-state-in-Some-clause-known
 returns-in_ok-state-in-Some-clause-known c =
     let planned = simp c.in-Some.is at c.in_ok-plan.ensures.plan in
     let written = simp c.new-lines.ensures.items at c.in_ok-state-in-Some.ensures.lines in
     rw c.from_vec.ensures
-    (fired_known c.self.inside.program c.self.inside.lives c.self.inside.state c.self.invariant c.args.self c.self.view_is c.in-Some.plan.items c.fire.new.lines.items planned written)
+    (fired_known c.self.inside.program c.self.inside.lives c.self.inside.state c.self.invariant.some c.args.self c.self.view_is c.in-Some.plan.items c.fire.new.lines.items planned written)
 
-pub invariant_of-result : goal.invariant_of-result
-invariant_of-result c =
+pub invariant_of-session : goal.invariant_of-session
+invariant_of-session c =
     let planned = simp c.in-Some.is at c.in_ok-plan.ensures.plan in
-    some_fired c.self.inside.program c.self.inside.lives c.self.inside.state c.self.invariant c.in_ok-state-in-Some.state c.in-Some.plan.items planned c.in_ok-state-in-Some.ensures.stands
+    record {
+      some = some_fired c.self.inside.program c.self.inside.lives c.self.inside.state c.self.invariant.some c.in_ok-state-in-Some.state c.in-Some.plan.items planned c.in_ok-state-in-Some.ensures.stands;
+      follows = c.in_ok-state-in-Some.ensures.follows;
+    }

@@ -9,6 +9,7 @@ loop-wanted-init c =
     let all : c.into_iter-wanted-iterator.result.rest.items ≡ c.args.plan.items = c.into_iter-wanted-iterator.ensures.into_iter_gives.0 in
     record {
       tags = omega (arith, ap length all);
+      follows = c.requires.follows;
       done = λ w s fit.
           subst (λ (rest : List (Result Step Code)). SoFar c.args.program.now w c.args.plan.items c.args.lines.now.items c.args.lines.now.items c.args.self rest) (sym all)
           (none_done c.args.program.now w c.args.plan.items c.args.lines.now.items c.args.self s fit);
@@ -19,6 +20,7 @@ loop-wanted-preserved c =
     let step : c.loop-wanted.wanted-iterator.rest.items ≡ c.in-Some.wanted ∷ c.next.new.self.rest.items = c.in-Some.ensures.steps.0 in
     record {
       tags = omega (arith, ap length step, c.loop-wanted.invariant.tags, c.in_ok-state.ensures.tags);
+      follows = c.in_ok-state.ensures.follows;
       done = λ w s fit.
           one_done c.args.program.now w c.args.plan.items c.args.lines.now.items c.loop-wanted.lines.items c.apply.new.lines.items c.loop-wanted.state c.in_ok-state.state c.in-Some.wanted c.next.new.self.rest.items s.lawful.ordered
           (subst (λ (rest : List (Result Step Code)). SoFar c.args.program.now w c.args.plan.items c.args.lines.now.items c.loop-wanted.lines.items c.loop-wanted.state rest) step (c.loop-wanted.invariant.done w s fit))

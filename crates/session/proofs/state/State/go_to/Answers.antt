@@ -4,6 +4,7 @@ use Rattle.rule_model.specs.declared.step.Step.TheVariants.{At}
 use Rattle.rule_world.specs.Events.{clock_fault}
 use Rattle.rule_world.specs.Worlds.{at_clock, kept, settled}
 use Rattle.session.specs.Standing.{Contents, Mirrors}
+use Rattle.session.proofs.Follow.{same_follows}
 use Rattle.session.proofs.Faults.{at_done, at_fault, clock_same}
 use Rattle.session.proofs.Tried.{done_moves, no_lines, on_ok, on_ok_weaker, refused_moves, refused_lines}
 use Rattle.session.proofs.state.State.go_to.Goals as goal
@@ -42,3 +43,6 @@ returns-in-Err-clause-lines c =
     let whole : to_z w64 (of_z w64 c.args.moment) ≡ c.args.moment = to_z-of_z c.ranges.moment in
     let fault = subst (λ (k : Contents). clock_fault k.clock c.args.moment ≡ Some c.in-Err.code) c.self.view_is (simp (same, whole) at c.in-Err.ensures.fault) in
     on_ok_weaker c.refuse.result (λ e w st. refused_lines p w (At c.args.moment) c.in-Err.code (at_fault p c.args.self w st c.args.moment (Some c.in-Err.code) fault) c.args.lines.now.items c.refuse.new.lines.items e) c.refuse.ensures.lines
+
+pub returns-in-Err-clause-follows : goal.returns-in-Err-clause-follows
+returns-in-Err-clause-follows c = IfOk-weaker c.refuse.result _ _ (λ s e. same_follows c.args.program.now c.args.net.now c.args.self s e c.requires.follows) c.refuse.ensures.state

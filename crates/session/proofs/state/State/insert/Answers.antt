@@ -4,9 +4,16 @@ use Rattle.rule_model.specs.declared.step.Step.TheVariants.{Insert}
 use Rattle.rule_world.specs.Worlds.{kept, settled, with_new}
 use Rattle.engine.specs.declared.lines.OutLine.TheVariants.{New}
 use Rattle.session.specs.Standing.{Contents, Mirrors}
-use Rattle.session.proofs.Faults.{insert_done, insert_fault, numbered}
+use Rattle.session.proofs.Follow.{same_follows}
+use Rattle.session.proofs.Faults.{event_from_zero, insert_done, insert_fault, numbered}
 use Rattle.session.proofs.Tried.{done_moves, done_lines, on_ok, on_ok_weaker, refused_moves, refused_lines}
 use Rattle.session.proofs.state.State.insert.Goals as goal
+
+pub with_new-requires-clause-from_zero : goal.with_new-requires-clause-from_zero
+with_new-requires-clause-from_zero c =
+    let none = simp c.as_slice.ensures at c.in-Ok.ensures.none in
+    let times = simp c.as_slice.ensures at c.in-Ok.ensures.times in
+    event_from_zero c.args.program.now c.args.self c.args.ty c.args.entry c.args.fields c.in-Ok.times c.requires.follows.starts none times
 
 pub returns-in_ok-push-in-Ok-clause-stands : goal.returns-in_ok-push-in-Ok-clause-stands
 returns-in_ok-push-in-Ok-clause-stands c =
@@ -41,3 +48,6 @@ returns-in-Err-clause-lines c =
     let fault = simp c.as_slice.ensures at c.in-Err.ensures.fault in
     on_ok_weaker c.refuse.result (λ e w st. refused_lines p w (Insert c.args.ty c.args.entry c.args.fields) c.in-Err.code (insert_fault p k w st c.args.ty c.args.entry c.args.fields (Some c.in-Err.code) fault)
     c.args.lines.now.items c.refuse.new.lines.items e) c.refuse.ensures.lines
+
+pub returns-in-Err-clause-follows : goal.returns-in-Err-clause-follows
+returns-in-Err-clause-follows c = IfOk-weaker c.refuse.result _ _ (λ s e. same_follows c.args.program.now c.args.net.now c.args.self s e c.requires.follows) c.refuse.ensures.state

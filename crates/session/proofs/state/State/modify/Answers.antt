@@ -2,6 +2,7 @@ use Rattle.std.proofs.Common.{Some, None, refl}
 use Rattle.std.proofs.lemmas.Result.{IfOk-weaker}
 use Rattle.rule_model.specs.declared.step.Step.TheVariants.{Modify}
 use Rattle.rule_world.specs.Worlds.{settled, with_revised}
+use Rattle.session.proofs.Follow.{same_follows}
 use Rattle.session.proofs.Faults.{modify_done, modify_fault_is}
 use Rattle.session.proofs.Tried.{done_moves, no_lines, on_ok, on_ok_weaker, refused_moves, refused_lines}
 use Rattle.session.proofs.state.State.modify.Goals as goal
@@ -28,3 +29,6 @@ returns-in-Err-clause-lines c =
     let p = c.args.program.now in
     on_ok_weaker c.refuse.result (λ e w st. refused_lines p w (Modify c.args.id c.args.sets) c.in-Err.code
     (modify_fault_is p c.args.self w st c.args.id c.args.sets (Some c.in-Err.code) c.in-Err.ensures.fault) c.args.lines.now.items c.refuse.new.lines.items e) c.refuse.ensures.lines
+
+pub returns-in-Err-clause-follows : goal.returns-in-Err-clause-follows
+returns-in-Err-clause-follows c = IfOk-weaker c.refuse.result _ _ (λ s e. same_follows c.args.program.now c.args.net.now c.args.self s e c.requires.follows) c.refuse.ensures.state

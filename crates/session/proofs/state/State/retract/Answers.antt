@@ -6,6 +6,7 @@ use Rattle.rule_model.specs.Types.{is_event}
 use Rattle.rule_world.specs.Worlds.{settled, stepped, without_fact}
 use Rattle.session.specs.Places.{newest}
 use Rattle.session.specs.Standing.{Mirrors}
+use Rattle.session.proofs.Follow.{same_follows}
 use Rattle.session.proofs.Faults.{retract_absent, retract_event, retract_observed, retract_fault_is, retract_done, retract_found, retract_vain}
 use Rattle.session.proofs.Tried.{done_moves, no_lines, on_ok, on_ok_weaker, refused_moves, refused_lines}
 use Rattle.session.proofs.state.State.retract.Goals as goal
@@ -61,3 +62,9 @@ returns-then-are_observed-clause-lines c =
     let p = c.args.program.now in
     on_ok_weaker c.refuse.result (λ e w st. refused_lines p w (Retract c.args.ty c.args.id) EventObserved
     (retract_fault_is p c.args.self w st c.args.ty c.args.id (Some EventObserved) (retract_observed p c.args.ty.0 (newest c.args.self c.args.id.0) (sym c.if-are_observed.ensures))) c.args.lines.now.items c.refuse.new.lines.items e) c.refuse.ensures.lines
+
+pub returns-in-None-2-clause-follows : goal.returns-in-None-2-clause-follows
+returns-in-None-2-clause-follows c = IfOk-weaker c.refuse-in-None-2.result _ _ (λ s e. same_follows c.args.program.now c.args.net.now c.args.self s e c.requires.follows) c.refuse-in-None-2.ensures.state
+
+pub returns-then-are_observed-clause-follows : goal.returns-then-are_observed-clause-follows
+returns-then-are_observed-clause-follows c = IfOk-weaker c.refuse.result _ _ (λ s e. same_follows c.args.program.now c.args.net.now c.args.self s e c.requires.follows) c.refuse.ensures.state
