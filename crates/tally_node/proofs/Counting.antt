@@ -78,9 +78,6 @@ number_less set n who is present = record {
   count = let e = is.count in let k = dropped_length who is.names (is.all who ∙ present) in omega arith;
 }
 
-pub number_none : IsNumber (λ c. false) 0
-number_none = record { names = []; distinct = tt; all = λ c. refl; count = refl }
-
 -- a set of none has nobody, and another has somebody
 pub nobody : (set : Named → Bool) → IsNumber set 0 → (c : Named) → set c ≡ false
 nobody set is c = sym (is.all c) ∙ by is.names is.count

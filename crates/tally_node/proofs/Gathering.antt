@@ -51,9 +51,6 @@ module _ (arg : Named → ℤ) where
 
 -- ---- one candidate
 module _ (a : Accumulate) (world : Look) where
-  pub gathers_none : (held : Held) → held.kind ≡ a.kind → held.values ≡ [] → Gathers a world (λ c. false) held
-  gathers_none held kind values = record { names = []; distinct = tt; all = λ c. refl; kind = kind; values = values }
-
   pub gathers_more : (set : Named → Bool) (held now : Held) (who : Named) → Gathers a world set held → set who ≡ false → now.kind ≡ held.kind → now.values ≡ insert_rising (argument_of a world who) held.values → Gathers a world (with_one set who) now
   gathers_more set held now who is absent kind values = record {
     names = who ∷ is.names;

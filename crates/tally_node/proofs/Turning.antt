@@ -8,16 +8,12 @@ use Rattle.row_delta.specs.Rows.{row_cmp, has}
 use Rattle.join_tests.specs.Joins.{Look}
 use Rattle.row_change.specs.Changes.{without, along}
 use Rattle.pair_memory.specs.declared.memories.Memories.{Memories}
-use Rattle.pair_memory.specs.Memories.{left_at, has_left, has_right, Keeps}
+use Rattle.pair_memory.specs.Memories.{left_at, has_left}
 use Rattle.pair_memory.proofs.Joining.{row_decides}
 use Rattle.tally_node.specs.Tallies.{Turned, TurnedIf, Steps, output_some, output_from, offers, shown, changed_at}
 use Rattle.tally_node.specs.Origins.{is_from}
 
 -- ---- a set of rows changed at one row
-as_it_was : (b n was is : Bool) → (b ≡ true → n ≡ was) → was ≡ is → n ≡ cond b is n
-as_it_was true n was is h e = h refl ∙ e
-as_it_was false n was is h e = refl
-
 both_true : (a b : Bool) → (a && b) ≡ true → (a ≡ true) × (b ≡ true)
 both_true true b e = (refl, e)
 both_true false b e = let f : false ≡ true = e in cc
@@ -41,9 +37,6 @@ changed false w i true h = refl
 changed false w i false h = refl
 
 module _ (origin : Row → Option Row) (gives : ℤ → Row → Bool) (now : Row → Bool) (row : Row) (was is : Option ℤ) (is_was : (r : Row) → is_from (origin r) row ≡ true → now r ≡ offers gives was r) where
-  pub unchanged_at : was ≡ is → (r : Row) → now r ≡ changed_at origin now row (offers gives is) r
-  unchanged_at same r = as_it_was (is_from (origin r) row) (now r) (offers gives was r) (offers gives is r) (is_was r) (ap (λ o. offers gives o r) same)
-
   module _ (gone come : List Row) (went : (r : Row) → has gone r ≡ (is_from (origin r) row && offers gives was r)) (came : (r : Row) → has come r ≡ (is_from (origin r) row && offers gives is r)) where
     pub rows_were : (r : Row) → has gone r ≡ true → now r ≡ true
     rows_were r e = let k = both_true (is_from (origin r) row) (offers gives was r) (sym (went r) ∙ e) in is_was r k.0 ∙ k.1
@@ -70,10 +63,6 @@ module _ {T : Type 0} (holds : T → Look → (Named → Bool) → Type 0) (look
       → Steps (TurnedIf b holds look comes who) before after
   steps_one true before after tally now was is turned = subst (λ o. Steps (TurnedIf true holds look comes who) o after) (sym (was refl)) (now, is, turned)
   steps_one false before after tally now was is turned = steps_same before after is
-
-  pub steps_none : (b : Bool) (before after : Option T) → (b ≡ true → before ≡ None) → after ≡ cond b None before → Steps (TurnedIf b holds look comes who) before after
-  steps_none true before after was is = subst (λ o. Steps (TurnedIf true holds look comes who) o after) (sym (was refl)) is
-  steps_none false before after was is = steps_same before after is
 
   pub steps_absent : (b : Bool) (o : Option T) → (b ≡ true → o ≡ None) → Steps (TurnedIf b holds look comes who) o o
   steps_absent true o was = subst (λ (x : Option T). Steps (TurnedIf true holds look comes who) x x) (sym (was refl)) refl
@@ -165,6 +154,3 @@ module _ {T : Type 0} (first next : Memories T) (look : Look) (row : Row) (was :
 
   pub untouched : (r : Row) → left_at next look r ≡ left_at first look r
   untouched r = taken r ∙ cond_none (eq_by_cmp row_cmp row r) (left_at first look r) (was_none r)
-
-  pub untouched_keeps : Keeps first next look (λ r. has_left first look r && not (eq_by_cmp row_cmp row r)) (has_right first look) → Keeps first next look (has_left first look) (has_right first look)
-  untouched_keeps k = record { pattern = k.pattern; rows = λ r. ap is_some (untouched r); names = k.names; agrees = k.agrees }
