@@ -7,6 +7,7 @@ use Rattle.fx_base.specs.Lists.{In}
 use Rattle.fx_base.specs.declared.fact.Fact.{Fact}
 use Rattle.row_delta.specs.Rows.{has}
 use Rattle.row_delta.specs.declared.delta.Delta.{Delta}
+use Rattle.row_delta.specs.declared.row.Named.{Named}
 use Rattle.row_delta.specs.declared.row.Row.{Row}
 use Rattle.row_change.specs.Changes.{IsDifference}
 use Rattle.rule_model.specs.Candidates.{fits}
@@ -33,7 +34,7 @@ use Rattle.window_gate.specs.declared.gate.Kept.TheVariants as kept
 use Rattle.window_gate.proofs.Insides.{inside_whole}
 use Rattle.pattern_gate.specs.declared.gate.PatternGate.{PatternGate}
 use Rattle.pattern_gate.specs.Gates.{arrival_of, arrivals, kind_of, has_good_window, GateStands}
-use Rattle.pattern_gate.specs.Moves.{IsKept, Moves}
+use Rattle.pattern_gate.specs.Moves.{IsKept, Moves, at_clock}
 use Rattle.pattern_gate.specs.Turns.{is_meant, is_one_meant, less_facts, more_fact, LetsAllGo, LetsCome, TakesStep}
 use Rattle.pattern_gate.proofs.Arriving.{filter_among, rising, left, meant, less_all, lets_all, more_one, lets_come, none_meant}
 use Rattle.pattern_gate.proofs.Inside.{rows_named}
@@ -182,3 +183,23 @@ module _ (p : Program) (q : Pattern) (s next : Snapshot) (gone : List Fact) (com
         names_differ p q s next moves.before moves.after delta
         (subst (λ (rows : List Row). IsDifference (has old) (has rows) delta)
         (rows_whole q.window whole s.clock next.clock (arrivals p q s) ∙ ap (rows_inside (kind_of q.window) next.clock) same_arrivals) (nothing (has old)))
+
+-- ---- the clock alone
+
+module _ (p : Program) (q : Pattern) (s : Snapshot) (clock : ℤ) (was : IsKept p s) (is : IsKept p (at_clock s clock)) where
+  arrivals_still : arrivals p q s ≡ arrivals p q (at_clock s clock)
+  arrivals_still = arrivals_meant p q s was ∙ sym (arrivals_meant p q (at_clock s clock) is)
+
+  module _ (gate : PatternGate) (stands : GateStands p q gate s) where
+    pub stands_still : Stands gate.gate (arrivals p q s) clock → GateStands p q gate (at_clock s clock)
+    stands_still now = record { window = stands.window; stands = subst (λ list. Stands gate.gate list clock) arrivals_still now }
+
+    pub same_candidates : ((row : Row) → has (rows_inside (window_of gate.gate) clock (arrivals p q s)) row ≡ has (rows_inside (window_of gate.gate) s.clock (arrivals p q s)) row)
+        → (who : Named) → candidates_of p q (at_clock s clock) who ≡ candidates_of p q s who
+    same_candidates same who =
+        sym (rows_named p q (at_clock s clock) is.in_order who)
+        ∙ ap (λ list. has (rows_inside (kind_of q.window) clock list) (row_naming who)) (sym arrivals_still)
+        ∙ ap (λ (k : WindowKind). has (rows_inside k clock (arrivals p q s)) (row_naming who)) (sym stands.window)
+        ∙ same (row_naming who)
+        ∙ ap (λ (k : WindowKind). has (rows_inside k s.clock (arrivals p q s)) (row_naming who)) stands.window
+        ∙ rows_named p q s was.in_order who
