@@ -1,9 +1,10 @@
 -- Until the first moment that is due, the clock changes nothing.
-use Rattle.std.proofs.Common.{◌≡◌, sym, ap, refl, ℕ, ℤ, ◌≤ℤ◌, ◌<ℤ◌, List, [], map, Bool, true, false, cond, not, ◌&&◌, ◌||◌, Option, Some, None, arith}
+use Rattle.std.proofs.Common.{◌≡◌, ◌∙◌, sym, ap, refl, inl, inr, ℕ, ℤ, ◌+ℤ◌, ◌≤ℤ◌, ◌<ℤ◌, List, [], ◌∷◌, map, Bool, true, false, cond, not, ◌&&◌, ◌||◌, Option, Some, None, option_map, arith}
 use Rattle.std.specs.Prelude.{IfSome, IsSomeAnd, int_le}
 use Rattle.std.specs.FinMap as timers
 use Rattle.std.proofs.lemmas.Int.{ints}
 use Rattle.due_queue.specs.Timers.{has_come, is_due}
+use Rattle.fx_base.specs.Lists.{In}
 use Rattle.row_delta.specs.Differences.{IsBetween}
 use Rattle.row_delta.specs.Rows.{has}
 use Rattle.row_delta.specs.declared.delta.Delta.{Delta}
@@ -12,8 +13,8 @@ use Rattle.window_gate.specs.declared.change.GateChange.TheVariants.{Clock}
 use Rattle.window_gate.specs.declared.change.WindowKind.TheVariants.{Time}
 use Rattle.window_gate.specs.declared.time_window.TimeWindow.{TimeWindow}
 use Rattle.window_gate.specs.Pieces.{takes_out}
-use Rattle.window_gate.specs.Standing.{KeepsTime, TagsDiffer}
-use Rattle.window_gate.specs.Windows.{Arrival, named_of, rows_inside}
+use Rattle.window_gate.specs.Standing.{KeepsTime, TagsDiffer, LeavesAt, with_tag}
+use Rattle.window_gate.specs.Windows.{Arrival, named_of, has_tag, inside, rows_inside}
 use Rattle.window_gate.proofs.Times.{other_kept, other_between}
 use Rattle.window_gate.proofs.Wholes.{none_in_order}
 
@@ -61,3 +62,25 @@ module _ (window : TimeWindow) (arrivals : List Arrival) (was now : ℤ) (pass :
       same_rows (rows_inside (Time window.millis) was arrivals) (rows_inside (Time window.millis) now arrivals)
       (other_between window arrivals was now pass keeps differ Clock differ [] window.due window.ids none_leaves none_taken (λ tag. refl) (λ named start e. absurd cc)
       [] nothing none_in_order (λ named. refl) refl refl)
+
+-- ---- the first moment is that of one inside
+
+found_if : (b : Bool) (x arrival : Arrival) (arrivals : List Arrival) (rest : Option Arrival) → (rest ≡ Some arrival → In arrival arrivals) → cond b (Some x) rest ≡ Some arrival → In arrival (x ∷ arrivals)
+found_if true x arrival arrivals rest h e = inl (let is : x ≡ arrival = cc in sym is)
+found_if false x arrival arrivals rest h e = inr (h e)
+
+-- what is found is there
+found_there : (tag : ℕ) (arrivals : List Arrival) (arrival : Arrival) → with_tag tag arrivals ≡ Some arrival → In arrival arrivals
+found_there tag [] arrival e = absurd cc
+found_there tag (x ∷ arrivals) arrival e = found_if (has_tag tag x.named) x arrival arrivals (with_tag tag arrivals) (found_there tag arrivals arrival) e
+
+leaving_one : (millis at : ℤ) (o : Option Arrival) → Some at ≡ option_map (λ arrival. arrival.start +ℤ millis) o → (arrival : Arrival) × (o ≡ Some arrival) × (at ≡ arrival.start +ℤ millis)
+leaving_one millis at None e = absurd cc
+leaving_one millis at (Some arrival) e = (arrival, refl, cc)
+
+pub one_leaves : (window : TimeWindow) (arrivals : List Arrival) (was : ℤ) → KeepsTime window arrivals was → (first : Option ℤ) → IfSome first (λ at. (tag : ℕ) × (timers.get window.due tag ≡ Some at))
+    → IfSome first (λ at. (arrival : Arrival) × In arrival (inside (Time window.millis) was arrivals) × LeavesAt (Time window.millis) arrival at)
+one_leaves window arrivals was keeps None waits = tt
+one_leaves window arrivals was keeps (Some at) waits =
+    let r = leaving_one window.millis at (with_tag waits.0 (inside (Time window.millis) was arrivals)) (sym waits.1 ∙ keeps.due waits.0) in
+    (r.0, found_there waits.0 (inside (Time window.millis) was arrivals) r.0 r.1, r.2)

@@ -5,14 +5,15 @@ ghost use Rattle.std.specs.FinMap as timers;
 ghost use Rattle.std.specs.List.{list_any};
 ghost use Rattle.std.specs.List.Sorted.{IsStrictlySortedBy};
 ghost use Rattle.std.specs.Ordering.{nat_cmp};
+ghost use Rattle.fx_base.specs.Lists.{In};
 ghost use Rattle.row_delta.specs.Differences.{IsBetween};
 ghost use Rattle.row_delta.specs.NameOrder.{name_cmp};
 ghost use Rattle.row_delta.specs.Rows.{has};
 ghost use Rattle.row_delta.specs.declared.row.Named.{Named};
 ghost use Rattle.row_delta.specs.declared.row.Row.{Row};
 ghost use Rattle.window_gate.specs.declared.change.WindowKind.TheVariants.{Time};
-ghost use Rattle.window_gate.specs.Windows.{Arrival, named_of, after, rows_inside};
-ghost use Rattle.window_gate.specs.Standing.{TagsDiffer, KeepsTime, MayPass, MayStart, MayChange, has_name, most};
+ghost use Rattle.window_gate.specs.Windows.{Arrival, named_of, after, inside, rows_inside};
+ghost use Rattle.window_gate.specs.Standing.{TagsDiffer, KeepsTime, MayPass, MayStart, MayChange, LeavesAt, has_name, most};
 ghost use Rattle.window_gate.specs.Pieces.{is_id, leaves};
 
 use crate::change::GateChange;
@@ -48,6 +49,8 @@ impl TimeWindow {
         ensures keeps { (arrivals : List Arrival) (was now : ℤ) → KeepsTime self.now arrivals was
             → TagsDiffer (map named_of arrivals) → was ≤ℤ now → IfSome result (λ at. now <ℤ at)
             → KeepsTime self.now arrivals now }
+        ensures leaves { (arrivals : List Arrival) (was : ℤ) → KeepsTime self.now arrivals was
+            → IfSome result (λ at. (arrival : Arrival) × In arrival (inside (Time self.now.millis) was arrivals) × LeavesAt (Time self.now.millis) arrival at) }
         ensures inside { (arrivals : List Arrival) (was now : ℤ) → KeepsTime self.now arrivals was
             → TagsDiffer (map named_of arrivals) → was ≤ℤ now → IfSome result (λ at. now <ℤ at)
             → (row : Row) → has (rows_inside (Time self.now.millis) now arrivals) row ≡ has (rows_inside (Time self.now.millis) was arrivals) row }
