@@ -91,7 +91,8 @@ named_arrivals [] = refl
 named_arrivals (f ∷ facts) = ap (λ names. name_of f ∷ names) (named_arrivals facts)
 
 module _ (p : Program) (q : Pattern) (s : Snapshot) (rise : IsStrictlySortedBy nat_cmp (map number s.facts)) where
-  inside_are : (w : WindowTag) → inside (kind_of w) s.clock (arrivals p q s) ≡ map arrival_of (filter (λ f. fits p q s.clock f && is_inside p q w s.clock s.facts f) s.facts)
+  -- what is inside is what arrived of the candidates
+  pub inside_are : (w : WindowTag) → inside (kind_of w) s.clock (arrivals p q s) ≡ map arrival_of (filter (λ f. fits p q s.clock f && is_inside p q w s.clock s.facts f) s.facts)
   inside_are Whole = inside_whole s.clock (arrivals p q s) ∙ ap (map arrival_of) (filter_same (fits p q s.clock) (λ f. fits p q s.clock f && true) s.facts (λ f. and_true (fits p q s.clock f)))
   inside_are (Time span) =
       inside_time span s.clock (arrivals p q s) ∙ filter_made (is_recent span s.clock) arrival_of (filter (fits p q s.clock) s.facts)

@@ -1,5 +1,5 @@
 -- What leads from one snapshot to the next is a step that the window takes.
-use Rattle.std.proofs.Common.{◌≡◌, ◌∙◌, sym, ap, refl, subst, inl, ℤ, pos, ◌≤ℤ◌, List, [], ◌∷◌, ◌++◌, map, Bool, true, false, not, ◌&&◌, ◌||◌, ◌==◌, Option, Some, None, int_le, arith}
+use Rattle.std.proofs.Common.{◌≡◌, ◌∙◌, sym, ap, refl, subst, inl, ℤ, pos, ◌≤ℤ◌, List, [], ◌∷◌, ◌++◌, map, Bool, true, false, not, ◌&&◌, ◌||◌, ◌==◌, Option, Some, None, IfSome, int_le, arith}
 use Rattle.std.specs.Option.{option_to_list}
 use Rattle.std.proofs.lemmas.Bool.Decides.{Decides-eqb}
 use Rattle.std.proofs.lemmas.Int.{ints}
@@ -7,9 +7,10 @@ use Rattle.fx_base.specs.Lists.{In}
 use Rattle.fx_base.specs.declared.fact.Fact.{Fact}
 use Rattle.row_delta.specs.Rows.{has}
 use Rattle.row_delta.specs.declared.delta.Delta.{Delta}
+use Rattle.row_delta.specs.declared.row.Named.{Named}
 use Rattle.row_delta.specs.declared.row.Row.{Row}
 use Rattle.row_change.specs.Changes.{IsDifference}
-use Rattle.rule_model.specs.Candidates.{fits}
+use Rattle.rule_model.specs.Candidates.{fits, candidates}
 use Rattle.rule_model.specs.Distinct.{HaveDistinctTags}
 use Rattle.rule_model.specs.Simple.{is_whole}
 use Rattle.rule_model.specs.Snapshots.{Snapshot}
@@ -20,23 +21,23 @@ use Rattle.rule_model.specs.declared.condition.Pattern.{Pattern}
 use Rattle.rule_model.specs.declared.condition.WindowTag.{WindowTag}
 use Rattle.rule_model.specs.declared.condition.WindowTag.TheVariants.{Whole, Time, Length}
 use Rattle.rule_model.specs.declared.program.Program.{Program}
-use Rattle.rule_model.proofs.Listed.{both_of, in_right}
+use Rattle.rule_model.proofs.Listed.{both_of, in_right, of_map}
 use Rattle.rule_world.specs.Events.{most_millis}
 use Rattle.rule_world.specs.Programs.{is_window}
 use Rattle.pair_memory.specs.Inputs.{row_naming, IsNameDifference}
 use Rattle.condition_rows.specs.Sets.{candidates_of}
-use Rattle.window_gate.specs.Standing.{TagsDiffer, Stands, Keeps, MayPass, MayStart, most, window_of, window_kept}
-use Rattle.window_gate.specs.Windows.{Arrival, rows_inside, named_of, single}
+use Rattle.window_gate.specs.Standing.{LeavesAt, TagsDiffer, Stands, Keeps, MayPass, MayStart, most, window_of, window_kept}
+use Rattle.window_gate.specs.Windows.{Arrival, inside, rows_inside, named_of, single}
 use Rattle.window_gate.specs.declared.change.WindowKind.{WindowKind}
 use Rattle.window_gate.specs.declared.gate.Kept.{Kept}
 use Rattle.window_gate.specs.declared.gate.Kept.TheVariants as kept
 use Rattle.window_gate.proofs.Insides.{inside_whole}
 use Rattle.pattern_gate.specs.declared.gate.PatternGate.{PatternGate}
 use Rattle.pattern_gate.specs.Gates.{arrival_of, arrivals, kind_of, has_good_window, GateStands}
-use Rattle.pattern_gate.specs.Moves.{IsKept, Moves}
+use Rattle.pattern_gate.specs.Moves.{IsKept, Moves, at_clock}
 use Rattle.pattern_gate.specs.Turns.{is_meant, is_one_meant, less_facts, more_fact, LetsAllGo, LetsCome, TakesStep}
 use Rattle.pattern_gate.proofs.Arriving.{filter_among, rising, left, meant, less_all, lets_all, more_one, lets_come, none_meant}
-use Rattle.pattern_gate.proofs.Inside.{rows_named}
+use Rattle.pattern_gate.proofs.Inside.{inside_are, rows_named}
 
 -- ---- windows
 
@@ -182,3 +183,33 @@ module _ (p : Program) (q : Pattern) (s next : Snapshot) (gone : List Fact) (com
         names_differ p q s next moves.before moves.after delta
         (subst (λ (rows : List Row). IsDifference (has old) (has rows) delta)
         (rows_whole q.window whole s.clock next.clock (arrivals p q s) ∙ ap (rows_inside (kind_of q.window) next.clock) same_arrivals) (nothing (has old)))
+
+-- ---- the clock alone
+
+module _ (p : Program) (q : Pattern) (s : Snapshot) (clock : ℤ) (was : IsKept p s) (is : IsKept p (at_clock s clock)) where
+  arrivals_still : arrivals p q s ≡ arrivals p q (at_clock s clock)
+  arrivals_still = arrivals_meant p q s was ∙ sym (arrivals_meant p q (at_clock s clock) is)
+
+  module _ (gate : PatternGate) (stands : GateStands p q gate s) where
+    pub stands_still : Stands gate.gate (arrivals p q s) clock → GateStands p q gate (at_clock s clock)
+    stands_still now = record { window = stands.window; stands = subst (λ list. Stands gate.gate list clock) arrivals_still now }
+
+    pub same_candidates : ((row : Row) → has (rows_inside (window_of gate.gate) clock (arrivals p q s)) row ≡ has (rows_inside (window_of gate.gate) s.clock (arrivals p q s)) row)
+        → (who : Named) → candidates_of p q (at_clock s clock) who ≡ candidates_of p q s who
+    same_candidates same who =
+        sym (rows_named p q (at_clock s clock) is.in_order who)
+        ∙ ap (λ list. has (rows_inside (kind_of q.window) clock list) (row_naming who)) (sym arrivals_still)
+        ∙ ap (λ (k : WindowKind). has (rows_inside k clock (arrivals p q s)) (row_naming who)) (sym stands.window)
+        ∙ same (row_naming who)
+        ∙ ap (λ (k : WindowKind). has (rows_inside k s.clock (arrivals p q s)) (row_naming who)) stands.window
+        ∙ rows_named p q s was.in_order who
+
+-- an arrival that leaves is that of a candidate
+pub candidate_leaves : (p : Program) (q : Pattern) (s : Snapshot) → IsKept p s → (gate : PatternGate) → GateStands p q gate s → (first : Option ℤ)
+    → IfSome first (λ at. (arrival : Arrival) × In arrival (inside (window_of gate.gate) s.clock (arrivals p q s)) × LeavesAt (window_of gate.gate) arrival at)
+    → IfSome first (λ at. (f : Fact) × In f (candidates p q s) × LeavesAt (kind_of q.window) (arrival_of f) at)
+candidate_leaves p q s is gate stands None leaves = tt
+candidate_leaves p q s is gate stands (Some at) leaves =
+    let r = subst (λ (k : WindowKind). (arrival : Arrival) × In arrival (inside k s.clock (arrivals p q s)) × LeavesAt k arrival at) stands.window leaves in
+    let f = of_map arrival_of r.0 (candidates p q s) (subst (λ (list : List Arrival). In r.0 list) (inside_are p q s is.in_order q.window) r.1) in
+    (f.0, f.1, subst (λ (a : Arrival). LeavesAt (kind_of q.window) a at) (sym f.2) r.2)

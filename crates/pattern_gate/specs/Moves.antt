@@ -1,5 +1,5 @@
 -- Snapshots as a store keeps them, and what leads from one to the next.
-use Rattle.std.specs.Prelude.{◌≡◌, ◌==◌, ◌++◌, not, Bool, true, pos, ◌≤ℤ◌, List, map, Option, option_to_list}
+use Rattle.std.specs.Prelude.{◌≡◌, ◌==◌, ◌++◌, not, Bool, true, ℤ, pos, ◌≤ℤ◌, List, map, Option, option_to_list}
 use Rattle.std.specs.List.{filter, list_any}
 use Rattle.std.specs.List.Sorted.{IsStrictlySortedBy}
 use Rattle.std.specs.Ordering.{nat_cmp}
@@ -31,3 +31,7 @@ pub record Moves (p : Program) (s next : Snapshot) (gone : List Fact) (come : Op
   pub held : (f : Fact) → In f gone → In f s.facts
   pub once : HaveDistinctTags gone
   pub facts : next.facts ≡ filter (λ (f : Fact). not (shares_tag gone f)) s.facts ++ option_to_list come
+
+-- the snapshot, where the clock alone has moved
+abbrev pub at_clock : Snapshot → ℤ → Snapshot
+at_clock s clock = record s { clock = clock }

@@ -1,10 +1,14 @@
-ghost use Rattle.std.specs.Prelude.{◌≡◌, Bool, true, ℤ, List, option_map, IfOk, OnOk};
+ghost use Rattle.std.specs.Prelude.{◌≡◌, Bool, true, ℤ, ◌≤ℤ◌, ◌<ℤ◌, List, option_map, IfOk, OnOk, IfSome};
 ghost use Rattle.std.specs.List.{list_any};
+ghost use Rattle.fx_base.specs.Lists.{In};
 ghost use Rattle.fx_base.specs.declared.fact.Fact.{Fact};
 ghost use Rattle.row_change.specs.Changes.{IsDifference};
+ghost use Rattle.row_delta.specs.declared.row.Named.{Named};
 ghost use Rattle.row_delta.specs.declared.row.Row.{Row};
 ghost use Rattle.row_delta.specs.Rows.{has};
+ghost use Rattle.rule_model.specs.declared.condition.Pattern.{Pattern};
 ghost use Rattle.rule_model.specs.declared.program.Program.{Program};
+ghost use Rattle.rule_model.specs.Candidates.{candidates};
 ghost use Rattle.rule_model.specs.Lent.{lent};
 ghost use Rattle.rule_model.specs.Snapshots.{Snapshot};
 ghost use Rattle.rule_model.specs.Tuples.{name_of};
@@ -13,9 +17,9 @@ ghost use Rattle.condition_rows.specs.Sets.{candidates_of};
 ghost use Rattle.condition_rows.specs.Looks.{empty_snapshot};
 ghost use Rattle.window_gate.specs.declared.change.WindowKind.{WindowKind};
 ghost use Rattle.window_gate.specs.Windows.{Arrival, after, rows_inside};
-ghost use Rattle.window_gate.specs.Standing.{Stands, Takes, window_of};
-ghost use Rattle.pattern_gate.specs.Moves.{Moves};
-ghost use Rattle.pattern_gate.specs.Gates.{GateStands, has_good_window, kind_of};
+ghost use Rattle.window_gate.specs.Standing.{LeavesAt, Stands, Takes, window_of};
+ghost use Rattle.pattern_gate.specs.Moves.{IsKept, Moves, at_clock};
+ghost use Rattle.pattern_gate.specs.Gates.{GateStands, arrival_of, has_good_window, kind_of};
 ghost use Rattle.pattern_gate.specs.Turns.{is_meant, is_given_meant, is_one_meant, less_fact, less_facts, more_fact, LetsGo, LetsAllGo, LetsCome, TakesStep, Reaches};
 
 use fx_base::{Fact, Millis, NoMemory};
@@ -41,6 +45,19 @@ impl PatternGate {
         PatternGate {
             gate: Gate::new(alloc, kind_of(pattern.window)),
         }
+    }
+
+    /// The moment of the clock from which a candidate leaves the window: until then a move of the clock alone changes nothing.
+    /// `None` where none ever does. Takes no memory.
+    pub fn quiet_until(&self) -> Option<Millis>
+        ensures stands { (p : Program) (pattern : Pattern) (s : Snapshot) (clock : ℤ) → GateStands p pattern self.now s → IsKept p s → IsKept p (at_clock s clock)
+            → s.clock ≤ℤ clock → IfSome result (λ at. clock <ℤ at) → GateStands p pattern self.now (at_clock s clock) }
+        ensures candidates { (p : Program) (pattern : Pattern) (s : Snapshot) (clock : ℤ) → GateStands p pattern self.now s → IsKept p s → IsKept p (at_clock s clock)
+            → s.clock ≤ℤ clock → IfSome result (λ at. clock <ℤ at) → (who : Named) → candidates_of p pattern (at_clock s clock) who ≡ candidates_of p pattern s who }
+        ensures leaves { (p : Program) (pattern : Pattern) (s : Snapshot) → GateStands p pattern self.now s → IsKept p s
+            → IfSome result (λ at. (f : Fact) × In f (candidates p pattern s) × LeavesAt (kind_of pattern.window) (arrival_of f) at) }
+    {
+        self.gate.quiet_until()
     }
 
     /// Takes the facts that go and the one that comes, if one does, and the clock in milliseconds, and answers what has changed

@@ -6,3 +6,4 @@ pub mod Numbers
 pub mod Lengths
 pub mod Waiting
 pub mod Times
+pub mod Quiet

@@ -106,3 +106,9 @@ MayChange window names Clock = Unit {0}
 pub record Takes (window : WindowKind) (arrivals : List Arrival) (was : ℤ) (change : GateChange) (now : ℤ) : Type 0 where
   pub passes : MayPass window was now
   pub changes : MayChange window (map named_of arrivals) change
+
+-- the clock alone lets the arrival leave the window at this moment, if it is inside before
+abbrev pub LeavesAt : WindowKind → Arrival → ℤ → Type 0
+LeavesAt Whole arrival at = ⊥
+LeavesAt (Time millis) arrival at = at ≡ arrival.start +ℤ millis
+LeavesAt (Length size) arrival at = ⊥

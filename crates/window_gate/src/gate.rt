@@ -1,8 +1,11 @@
-ghost use Rattle.std.specs.Prelude.{◌≡◌, ℤ, List, [], IfOk, map};
+ghost use Rattle.std.specs.Prelude.{◌≡◌, ℤ, ◌≤ℤ◌, ◌<ℤ◌, List, [], IfOk, IfSome, map};
+ghost use Rattle.fx_base.specs.Lists.{In};
 ghost use Rattle.row_delta.specs.Differences.{IsBetween, IsDisjoint};
+ghost use Rattle.row_delta.specs.Rows.{has};
+ghost use Rattle.row_delta.specs.declared.row.Row.{Row};
 ghost use Rattle.window_gate.specs.declared.change.WindowKind.TheVariants.{Whole};
-ghost use Rattle.window_gate.specs.Windows.{Arrival, named_of, after, rows_inside};
-ghost use Rattle.window_gate.specs.Standing.{Stands, Takes, TagsDiffer, MayChange, window_of};
+ghost use Rattle.window_gate.specs.Windows.{Arrival, named_of, after, inside, rows_inside};
+ghost use Rattle.window_gate.specs.Standing.{Stands, Takes, TagsDiffer, MayChange, LeavesAt, window_of};
 
 use crate::change::{GateChange, WindowKind};
 use crate::length_window::LengthWindow;
@@ -49,6 +52,22 @@ impl Gate {
             Kept::Whole => WindowKind::Whole,
             Kept::Time(window) => WindowKind::Time(window.millis),
             Kept::Length(window) => WindowKind::Length(window.size),
+        }
+    }
+
+    /// The moment of the clock from which a fact that is inside leaves by the clock alone; `None` where none ever does. Until then
+    /// a move of the clock changes nothing. Takes no memory.
+    pub fn quiet_until(&self) -> Option<Millis>
+        ensures stands { (arrivals : List Arrival) (was now : ℤ) → Stands self.now arrivals was → was ≤ℤ now → IfSome result (λ at. now <ℤ at)
+            → Stands self.now arrivals now }
+        ensures leaves { (arrivals : List Arrival) (was : ℤ) → Stands self.now arrivals was
+            → IfSome result (λ at. (arrival : Arrival) × In arrival (inside (window_of self.now) was arrivals) × LeavesAt (window_of self.now) arrival at) }
+        ensures inside { (arrivals : List Arrival) (was now : ℤ) → Stands self.now arrivals was → was ≤ℤ now → IfSome result (λ at. now <ℤ at)
+            → (row : Row) → has (rows_inside (window_of self.now) now arrivals) row ≡ has (rows_inside (window_of self.now) was arrivals) row }
+    {
+        match &self.kept {
+            Kept::Whole | Kept::Length(_) => None,
+            Kept::Time(window) => window.first_leaving(),
         }
     }
 

@@ -1,16 +1,19 @@
-ghost use Rattle.std.specs.Prelude.{◌≡◌, ℕ, ℤ, pos, ◌+ℤ◌, ◌≤ℤ◌, List, [], ◌&&◌, Some, None, cond, IfOk, OnOk, IfSome, IfNone, map, nat_eq, int_lt, unwrap_or};
+ghost use Rattle.std.specs.Prelude.{◌≡◌, ℕ, ℤ, pos, ◌+ℤ◌, ◌≤ℤ◌, ◌<ℤ◌, List, [], ◌&&◌, Some, None, cond, IfOk, OnOk, IfSome, IfNone, map, nat_eq, int_lt, unwrap_or};
 ghost use Rattle.std.specs.Bool.{OnTrue, OnFalse};
 ghost use Rattle.std.specs.BTreeMap.{get};
 ghost use Rattle.std.specs.FinMap as timers;
 ghost use Rattle.std.specs.List.{list_any};
 ghost use Rattle.std.specs.List.Sorted.{IsStrictlySortedBy};
 ghost use Rattle.std.specs.Ordering.{nat_cmp};
+ghost use Rattle.fx_base.specs.Lists.{In};
 ghost use Rattle.row_delta.specs.Differences.{IsBetween};
 ghost use Rattle.row_delta.specs.NameOrder.{name_cmp};
+ghost use Rattle.row_delta.specs.Rows.{has};
 ghost use Rattle.row_delta.specs.declared.row.Named.{Named};
+ghost use Rattle.row_delta.specs.declared.row.Row.{Row};
 ghost use Rattle.window_gate.specs.declared.change.WindowKind.TheVariants.{Time};
-ghost use Rattle.window_gate.specs.Windows.{Arrival, named_of, after, rows_inside};
-ghost use Rattle.window_gate.specs.Standing.{TagsDiffer, KeepsTime, MayPass, MayStart, MayChange, has_name, most};
+ghost use Rattle.window_gate.specs.Windows.{Arrival, named_of, after, inside, rows_inside};
+ghost use Rattle.window_gate.specs.Standing.{TagsDiffer, KeepsTime, MayPass, MayStart, MayChange, LeavesAt, has_name, most};
 ghost use Rattle.window_gate.specs.Pieces.{is_id, leaves};
 
 use crate::change::GateChange;
@@ -39,6 +42,20 @@ impl TimeWindow {
             due: DueQueue::new(alloc),
             ids: BTreeMap::new(alloc),
         }
+    }
+
+    /// The least moment at which a fact that is inside leaves; `None` where none is inside.
+    pub(crate) fn first_leaving(&self) -> Option<Millis>
+        ensures keeps { (arrivals : List Arrival) (was now : ℤ) → KeepsTime self.now arrivals was
+            → TagsDiffer (map named_of arrivals) → was ≤ℤ now → IfSome result (λ at. now <ℤ at)
+            → KeepsTime self.now arrivals now }
+        ensures leaves { (arrivals : List Arrival) (was : ℤ) → KeepsTime self.now arrivals was
+            → IfSome result (λ at. (arrival : Arrival) × In arrival (inside (Time self.now.millis) was arrivals) × LeavesAt (Time self.now.millis) arrival at) }
+        ensures inside { (arrivals : List Arrival) (was now : ℤ) → KeepsTime self.now arrivals was
+            → TagsDiffer (map named_of arrivals) → was ≤ℤ now → IfSome result (λ at. now <ℤ at)
+            → (row : Row) → has (rows_inside (Time self.now.millis) now arrivals) row ≡ has (rows_inside (Time self.now.millis) was arrivals) row }
+    {
+        self.due.first_moment()
     }
 
     /// What is due leaves, and what comes enters where it is inside at this moment.
