@@ -37,6 +37,13 @@ impl BetaJoin {
         }
     }
 
+    /// The pattern of the candidates. Takes no memory.
+    pub fn pattern(&self) -> &Pattern
+        ensures { result.now ≡ self.now.memories.pattern }
+    {
+        self.memories.pattern()
+    }
+
     /// Takes what has changed in the rows of the conditions before this one, and in its candidates, each named by a row of its
     /// own, and answers what has changed in the rows that are made of what is kept. For each row or candidate that comes or
     /// goes it costs the logarithm of what has the same join value, and a test of what has it on the other side. Where nothing

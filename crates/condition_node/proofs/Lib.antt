@@ -1,0 +1,6 @@
+pub mod Knowing
+pub mod Moved
+pub mod Shown
+pub mod Folding
+pub mod Turning
+pub mod Telling

@@ -1,9 +1,10 @@
-ghost use Rattle.std.specs.Prelude.{◌≡◌, Bool, IfOk, OnOk};
+ghost use Rattle.std.specs.Prelude.{◌≡◌, ◌-ℤ◌, Bool, IfOk, OnOk};
 ghost use Rattle.row_delta.specs.declared.row.Named.{Named};
 ghost use Rattle.row_delta.specs.declared.row.Row.{Row};
 ghost use Rattle.row_change.specs.Changes.{IsDifference};
 ghost use Rattle.rule_model.specs.Rows.{pattern_of};
 ghost use Rattle.rule_model.specs.Snapshots.{Snapshot};
+ghost use Rattle.rule_model.specs.Types.{lateness_of};
 ghost use Rattle.join_tests.specs.Joins.{Look};
 ghost use Rattle.pair_memory.specs.Standing.{cleaned, no_rows};
 ghost use Rattle.condition_rows.specs.Lines.{line};
@@ -11,11 +12,12 @@ ghost use Rattle.condition_rows.specs.Looks.{empty_snapshot};
 ghost use Rattle.condition_node.specs.Nodes.{condition_of, NodeStands};
 ghost use Rattle.condition_node.specs.Turns.{IsTurn};
 
+use crate::copying::Copied;
 use beta_join::BetaJoin;
-use fx_base::{Facts, Millis, NoMemory};
+use fx_base::{EntryId, Facts, Millis, NoMemory};
 use not_node::NotNode;
 use row_delta::Delta;
-use rule_model::{Accumulate, Condition, Program};
+use rule_model::{Accumulate, Condition, Pattern, Program};
 use std::alloc::Global;
 use tally_node::{Gathered, TallyNode, Witnesses};
 
@@ -35,13 +37,52 @@ pub enum Node {
     Fold(FoldNode),
 }
 
+/// The moment before which no event of an entry point can start any more, at this clock.
+fn told_to(program: &Program, entry: EntryId, clock: Millis) -> i128
+    ensures { result ≡ clock -ℤ lateness_of program.now entry.0 }
+{
+    i128::from(clock) - i128::from(program.lateness(entry))
+}
+
 impl Node {
     /// The node of a condition, which keeps nothing and so has no rows, at the clock 0. It copies the condition.
     pub fn new(alloc: Global, program: &Program, condition: &Condition) -> Result<Node, NoMemory>
         ensures condition { IfOk result (λ node. condition_of node ≡ condition.now) }
         ensures stands { IfOk result (λ node. (look : Look) (forgotten : Named → Bool) → NodeStands program.now node look empty_snapshot no_rows forgotten) }
     {
-        Err(NoMemory)
+        match condition {
+            Condition::Plain(pattern) => {
+                let pattern = pattern.copied(alloc)?;
+                Ok(Node::Join(BetaJoin::new(alloc, pattern)))
+            }
+            Condition::Negated(pattern) => {
+                let pattern = pattern.copied(alloc)?;
+                let floor = told_to(program, pattern.entry, 0);
+                Ok(Node::Not(NotNode::new(alloc, pattern, floor)))
+            }
+            Condition::Existing(pattern) => {
+                let pattern = pattern.copied(alloc)?;
+                Ok(Node::Exists(TallyNode::new(alloc, pattern)))
+            }
+            Condition::Folded(accumulate) => {
+                let pattern = accumulate.pattern.copied(alloc)?;
+                let accumulate = accumulate.copied(alloc)?;
+                let tally = TallyNode::new(alloc, pattern);
+                Ok(Node::Fold(FoldNode { accumulate, tally }))
+            }
+        }
+    }
+
+    /// The pattern of the candidates. Takes no memory.
+    pub fn pattern(&self) -> &Pattern
+        ensures { result.now ≡ pattern_of (condition_of self.now) }
+    {
+        match self {
+            Node::Join(join) => join.pattern(),
+            Node::Not(waiting) => waiting.pattern(),
+            Node::Exists(tally) => tally.pattern(),
+            Node::Fold(fold) => &fold.accumulate.pattern,
+        }
     }
 
     /// Takes what has changed in the rows of the conditions before this one, and in its candidates, each named by a row of its
@@ -66,6 +107,25 @@ impl Node {
             → IsTurn program.now (pattern_of (condition_of self.old)) (F.map facts.now) world s next rows rows_now forgotten left.now right.now
             → IsDifference (cleaned (line program.now s (condition_of self.old) rows) forgotten) (cleaned (line program.now next (condition_of self.old) rows_now) forgotten) delta) }
     {
-        Err(NoMemory)
+        match self {
+            Node::Join(join) => {
+                let delta = join.advance(alloc, left, right, facts)?;
+                Ok(delta)
+            }
+            Node::Not(waiting) => {
+                let floor = told_to(program, waiting.pattern().entry, clock);
+                let delta = waiting.advance(alloc, program, left, right, floor, facts)?;
+                Ok(delta)
+            }
+            Node::Exists(tally) => {
+                let delta = tally.advance(alloc, &(), left, right, facts)?;
+                Ok(delta)
+            }
+            Node::Fold(fold) => {
+                let FoldNode { accumulate, tally } = fold;
+                let delta = tally.advance(alloc, accumulate, left, right, facts)?;
+                Ok(delta)
+            }
+        }
     }
 }

@@ -1,7 +1,7 @@
-mod Holding
-mod Ends
-mod Joined
+pub mod Holding
+pub mod Ends
+pub mod Joined
 mod Kept
-mod Naming
+pub mod Naming
 mod Valued
 pub mod Whole

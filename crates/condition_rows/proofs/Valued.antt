@@ -1,7 +1,6 @@
 -- The line of an accumulate.
 use Rattle.std.proofs.Common.{◌≡◌, ◌∙◌, sym, ap, refl, subst, ℤ, inl, inr, List, [], ◌∷◌, ◌++◌, cond, Bool, true, false, ◌&&◌, Option, Some, None}
 use Rattle.std.specs.List.{filter}
-use Rattle.std.specs.Option.{option_map}
 use Rattle.std.specs.Ordering.{int_eq}
 use Rattle.std.proofs.lemmas.Cmp.{int_eq_equiv}
 use Rattle.std.proofs.lemmas.Bool.Decides.{Decides-int_eq}
@@ -21,49 +20,13 @@ use Rattle.rule_model.specs.Tuples.{Tuple, Bindings, empty_tuple, with_value, na
 use Rattle.rule_model.proofs.Listed.{in_if, of_result, both, both_of}
 use Rattle.rule_model.proofs.Named.{of_filter}
 use Rattle.join_tests.specs.Joins.{joins}
-use Rattle.pair_memory.specs.Joined.{behind_first, split_last}
+use Rattle.pair_memory.specs.Valued.{with_value as with_last_value, valued}
+use Rattle.pair_memory.proofs.Valued.{valued_with, valued_from}
 use Rattle.condition_rows.specs.Sets.{rows_of, held, partners}
-use Rattle.condition_rows.specs.Lines.{with_last_value, value_front, splits_value, valued, is_result, gives, line}
+use Rattle.condition_rows.specs.Lines.{is_result, gives, line}
 use Rattle.condition_rows.proofs.Ends.{same_truth, IsMade, tuple_of_row, row_of_tuple, split_end, with_end}
 use Rattle.condition_rows.proofs.Joined.{joins_made}
 use Rattle.condition_rows.proofs.Kept.{bound_made}
-
--- ---- a row as the row without its last value, and that value
-
-split_snoc : {A : Type 0} (xs : List A) (x : A) → split_last (xs ++ x ∷ []) ≡ Some (xs, x)
-split_snoc [] x = refl
-split_snoc (y ∷ ys) x = ap (λ o. Some (behind_first y o)) (split_snoc ys x)
-
--- whether a list is a front and a last element
-abbrev IsSplit : {A : Type 0} → List A → Option (List A × A) → Type 0
-IsSplit xs None = xs ≡ []
-IsSplit xs (Some p) = xs ≡ p.0 ++ p.1 ∷ []
-
-behind_split : {A : Type 0} (x : A) (xs : List A) (o : Option (List A × A)) → IsSplit xs o → IsSplit (x ∷ xs) (Some (behind_first x o))
-behind_split x xs None e = ap (λ ys. x ∷ ys) e
-behind_split x xs (Some p) e = ap (λ ys. x ∷ ys) e
-
-is_split : {A : Type 0} (xs : List A) → IsSplit xs (split_last xs)
-is_split [] = refl
-is_split (x ∷ xs) = behind_split x xs (split_last xs) (is_split xs)
-
-abbrev valued_row : List ℤ → Row → Row
-valued_row values row = record { facts = row.facts; values = values }
-
-pub valued_with : (test : Row → ℤ → Bool) (row : Row) (v : ℤ) → valued test (with_last_value row v) ≡ test row v
-unfolding valued
-valued_with test row v = ap (λ o. splits_value test (option_map (value_front row) o)) (split_snoc row.values v)
-
-split_value : (test : Row → ℤ → Bool) (row : Row) (o : Option (List ℤ × ℤ)) → IsSplit row.values o → splits_value test (option_map (value_front row) o) ≡ true
-    → (left : Row) × (v : ℤ) × (row ≡ with_last_value left v) × (test left v ≡ true)
-split_value test row None is e = absurd (let n : false ≡ true = e in cc)
-split_value test row (Some p) is e = (valued_row p.0 row, p.1, ap (λ values. valued_row values row) is, e)
-
-pub valued_from : (test : Row → ℤ → Bool) (row : Row) → valued test row ≡ true → (left : Row) × (v : ℤ) × (row ≡ with_last_value left v) × (test left v ≡ true)
-unfolding valued
-valued_from test row e = split_value test row (split_last row.values) (is_split row.values) e
-
--- ---- the result
 
 same_result : (n v : ℤ) → int_eq n v ≡ true → n ≡ v
 same_result n v e = (Decides-int_eq n v).0 e

@@ -1,8 +1,7 @@
 -- What one condition more at the end makes of the rows of the conditions before it, read backward from a row: for each kind of
 -- condition one line.
-use Rattle.std.specs.Prelude.{◌&&◌, not, Bool, false, ℤ, List, [], ◌∷◌, ◌++◌, Option, Some, None}
+use Rattle.std.specs.Prelude.{◌&&◌, not, Bool, false, ℤ, List, [], Option, Some, None}
 use Rattle.std.specs.List.{fold}
-use Rattle.std.specs.Option.{option_map}
 use Rattle.std.specs.Ordering.{eq_by_cmp, int_eq}
 use Rattle.row_delta.specs.declared.row.Row.{Row}
 use Rattle.row_delta.specs.Rows.{row_cmp}
@@ -17,31 +16,9 @@ use Rattle.rule_model.specs.Rows.{result_of}
 use Rattle.rule_model.specs.Snapshots.{Snapshot}
 use Rattle.rule_model.specs.Tests.{results_hold}
 use Rattle.join_tests.specs.Joins.{joins}
-use Rattle.pair_memory.specs.Joined.{split_last, joined}
+use Rattle.pair_memory.specs.Joined.{joined}
+use Rattle.pair_memory.specs.Valued.{valued}
 use Rattle.condition_rows.specs.Sets.{held, candidates_of, has_partner, partners}
-
--- ---- rows with a value more
-
--- a row with one value more
-abbrev pub with_last_value : Row → ℤ → Row
-with_last_value row v = record { facts = row.facts; values = row.values ++ v ∷ [] }
-
--- the row of the front of its values, and the last one
-abbrev pub value_front : Row → (List ℤ × ℤ) → Row × ℤ
-value_front row p = (record { facts = row.facts; values = p.0 }, p.1)
-
--- a row as the row without its last value, and that value
-abbrev pub unvalued : Row → Option (Row × ℤ)
-unvalued row = option_map (value_front row) (split_last row.values)
-
--- whether a test holds of a row and its last value
-abbrev pub splits_value : (Row → ℤ → Bool) → Option (Row × ℤ) → Bool
-splits_value test None = false
-splits_value test (Some p) = test p.0 p.1
-
--- the test holds of the row without its last value, and that value
-unfoldable pub valued : (Row → ℤ → Bool) → Row → Bool
-valued test row = splits_value test (unvalued row)
 
 -- ---- what a condition asks of a row
 

@@ -1,5 +1,5 @@
 //! Laws of the rows of conditions: each function's contract is the law, and its body is empty.
-ghost use Rattle.std.specs.Prelude.{◌≡◌, ◌↔◌, Bool, true, ℤ, List, [], ◌∷◌, ◌++◌, Some};
+ghost use Rattle.std.specs.Prelude.{◌≡◌, ◌↔◌, true, List, [], ◌∷◌, ◌++◌, Some};
 ghost use Rattle.fx_base.specs.Lists.{In};
 ghost use Rattle.fx_base.specs.declared.fact.Fact.{Fact};
 ghost use Rattle.row_delta.specs.declared.row.Named.{Named};
@@ -16,7 +16,7 @@ ghost use Rattle.rule_model.specs.Tuples.{name_of};
 ghost use Rattle.pair_memory.specs.Joined.{has_name};
 ghost use Rattle.condition_rows.specs.Sets.{rows_of, held, candidates_of, candidate_names};
 ghost use Rattle.condition_rows.specs.Looks.{NameHeld};
-ghost use Rattle.condition_rows.specs.Lines.{with_last_value, valued, line, lines};
+ghost use Rattle.condition_rows.specs.Lines.{line, lines};
 
 /// Over facts with distinct tags one condition more at the end makes of the rows of the conditions before it what the line of its
 /// kind says.
@@ -47,12 +47,4 @@ pub fn candidates_are_named()
         → candidates_of p pattern s (name_of f) ≡ is_candidate p pattern s f }
     ensures names { (p : Program) (s : Snapshot) → HaveDistinctTags s.facts → (pattern : Pattern) (who : Named)
         → has_name (candidate_names p pattern s) who ≡ candidates_of p pattern s who }
-{}
-
-/// A test of a row without its last value, and of that value, holds of a row with one value more where it holds of the row and the
-/// value, and of no other rows.
-pub fn a_valued_row_has_one_value_more()
-    ensures made { (test : Row → ℤ → Bool) (row : Row) (v : ℤ) → valued test (with_last_value row v) ≡ test row v }
-    ensures from { (test : Row → ℤ → Bool) (made : Row) → valued test made ≡ true
-        → (row : Row) × (v : ℤ) × (made ≡ with_last_value row v) × (test row v ≡ true) }
 {}

@@ -1,6 +1,6 @@
-ghost use Rattle.std.specs.Prelude.{◌≡◌, slice_get, option_map};
-ghost use Rattle.rule_model.specs.Lent.{named_at, bound_in};
-ghost use Rattle.rule_model.specs.Tests.{field_of, number_given};
+ghost use Rattle.std.specs.Prelude.{◌≡◌, option_map};
+ghost use Rattle.rule_model.specs.Lent.{bound_in};
+ghost use Rattle.rule_model.specs.Tests.{number_given};
 ghost use Rattle.join_tests.specs.Joins.{joins};
 ghost use Rattle.join_tests.specs.Keys.{join_key, earlier_value, given_or_true, row_value, candidate_value};
 ghost use Rattle.join_tests.specs.JoinValues.{shown};
@@ -8,7 +8,8 @@ ghost use Rattle.join_tests.specs.JoinValues.{shown};
 use crate::join_value::JoinValue;
 use crate::joins::does_join;
 use crate::key::{JoinKey, JoinSide, key_of_tests};
-use fx_base::{Fact, Facts, Value};
+use crate::row_facts::{field_value, named_fact};
+use fx_base::{Facts, Value};
 use row_delta::{Named, Row};
 use rule_model::Pattern;
 use std::marker::Model;
@@ -107,24 +108,6 @@ fn side_value<'a, F: Facts>(side: JoinSide, row: &Row, facts: &'a F) -> JoinValu
         JoinSide::Accumulated(place) => {
             JoinValue::Made(number_or_true(row.values.as_slice().get(place as usize).copied()))
         }
-    }
-}
-
-fn named_fact<'a, F: Facts>(row: &Row, place: u8, facts: &'a F) -> Option<&'a Fact>
-    ensures { option_map (λ f. f.now) result ≡ named_at (F.map facts.now) row.now.facts place }
-{
-    match row.facts.as_slice().get(place as usize) {
-        Some(named) => facts.fact(named.tag),
-        None => None,
-    }
-}
-
-fn field_value<'a>(fact: Option<&'a Fact>, field: u8) -> Option<&'a Value>
-    ensures { option_map (λ v. v.now) result ≡ field_of (option_map (λ f. f.now) fact.entry) field }
-{
-    match fact {
-        Some(fact) => fact.fields.as_slice().get(field as usize),
-        None => None,
     }
 }
 

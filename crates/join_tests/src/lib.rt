@@ -7,8 +7,10 @@ mod joins;
 mod key;
 mod keyed;
 pub mod laws;
+mod row_facts;
 
 pub use join_value::JoinValue;
 pub use joins::does_join;
 pub use key::{JoinKey, JoinSide};
 pub use keyed::KeyedPattern;
+pub use row_facts::{field_value, named_fact};

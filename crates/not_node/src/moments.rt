@@ -1,9 +1,10 @@
 ghost use Rattle.std.specs.Prelude.{◌≡◌, option_map, IfOk};
-ghost use Rattle.rule_model.specs.Lent.{bound_in, named_at};
+ghost use Rattle.rule_model.specs.Lent.{bound_in};
 ghost use Rattle.rule_model.specs.Maturity.{bounds_of, AreOperators};
 ghost use Rattle.not_node.specs.Moments.{latest_of, moment_at};
 
-use fx_base::{Fact, Facts, NoMemory, Times};
+use fx_base::{Facts, NoMemory, Times};
+use join_tests::named_fact;
 use row_delta::Row;
 use rule_model::{Pattern, Program, TimeTest};
 use std::alloc::Global;
@@ -59,15 +60,6 @@ fn bounds_of<F: Facts>(
         }
     }
     Ok(Some(bounds))
-}
-
-fn named_fact<'a, F: Facts>(row: &Row, place: u8, facts: &'a F) -> Option<&'a Fact>
-    ensures { option_map (λ f. f.now) result ≡ named_at (F.map facts.now) row.now.facts place }
-{
-    match row.facts.as_slice().get(place as usize) {
-        Some(named) => facts.fact(named.tag),
-        None => None,
-    }
 }
 
 /// Reads the operator of each temporal test, which is known to be one then.

@@ -12,7 +12,8 @@ use Rattle.row_delta.specs.declared.row.Row.{Row}
 use Rattle.row_delta.specs.Rows.{row_cmp, has}
 use Rattle.row_delta.specs.RowOrder.{same_equiv, row_exact}
 use Rattle.row_delta.specs.NameOrder.{name_cmp, name_equiv, name_exact}
-use Rattle.pair_memory.specs.Joined.{with_name, behind_first, split_last, front_of, unjoined, splits, joined, has_name}
+use Rattle.pair_memory.specs.Joined.{with_name, split_last, front_of, unjoined, splits, joined, has_name}
+use Rattle.pair_memory.proofs.Lasts.{split_snoc, is_snoc}
 
 equal_from : (o : Ordering) → is_eq o ≡ true → o ≡ Equal
 equal_from Less e = let f : false ≡ true = e in cc
@@ -24,24 +25,6 @@ row_decides a b = (λ e. row_exact a b (equal_from (row_cmp a b) e), λ e. subst
 
 pub name_decides : (a b : Named) → Decides (eq_by_cmp name_cmp a b) (a ≡ b)
 name_decides a b = (λ e. name_exact a b (equal_from (name_cmp a b) e), λ e. subst (λ c. eq_by_cmp name_cmp a c ≡ true) e (name_equiv.refl a))
-
-split_snoc : {A : Type 0} (xs : List A) (x : A) → split_last (xs ++ x ∷ []) ≡ Some (xs, x)
-split_snoc [] x = refl
-split_snoc (y ∷ ys) x = ap (λ o. Some (behind_first y o)) (split_snoc ys x)
-
-snoc_behind : {A : Type 0} (x : A) (xs : List A) (o : Option (List A × A)) → split_last xs ≡ o → (p : List A × A) → behind_first x o ≡ p → ((q : List A × A) → split_last xs ≡ Some q → xs ≡ q.0 ++ q.1 ∷ []) → (split_last xs ≡ None → xs ≡ []) → x ∷ xs ≡ p.0 ++ p.1 ∷ []
-snoc_behind x xs None e p is some none = ap (λ ys. x ∷ ys) (none e) ∙ ap (λ p. p.0 ++ p.1 ∷ []) is
-snoc_behind x xs (Some q) e p is some none = ap (λ ys. x ∷ ys) (some q e) ∙ ap (λ p. p.0 ++ p.1 ∷ []) is
-
-no_last : {A : Type 0} (xs : List A) → split_last xs ≡ None → xs ≡ []
-no_last [] e = refl
-no_last (x ∷ xs) e = cc
-
-is_snoc : {A : Type 0} (xs : List A) (p : List A × A) → split_last xs ≡ Some p → xs ≡ p.0 ++ p.1 ∷ []
-is_snoc [] p e = cc
-is_snoc (x ∷ xs) p e =
-    let h : behind_first x (split_last xs) ≡ p = cc in
-    snoc_behind x xs (split_last xs) refl p h (is_snoc xs) (no_last xs)
 
 abbrev row_of : List Named → Row → Row
 row_of facts row = record { facts = facts; values = row.values }

@@ -1,4 +1,6 @@
+pub mod Lasts
 pub mod Joining
+pub mod Valued
 pub mod Keeping
 pub mod Turning
 pub mod Found

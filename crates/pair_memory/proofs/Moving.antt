@@ -22,7 +22,7 @@ use Rattle.pair_memory.specs.Memories.{has_left, has_right}
 use Rattle.pair_memory.specs.Standing.{AlikeOn, MoveLaw}
 
 module _ (look other : Look) where
-  named_alike : (names : List Named) → AlikeOn look other names → (k : ℕ) → named_at look names k ≡ named_at other names k
+  pub named_alike : (names : List Named) → AlikeOn look other names → (k : ℕ) → named_at look names k ≡ named_at other names k
   named_alike [] h k = refl
   named_alike (n ∷ names) h zero = h.0
   named_alike (n ∷ names) h (suc k) = named_alike names h.1 k
@@ -50,7 +50,7 @@ module _ (look other : Look) where
       ap (λ rest. option_and_then (λ (f : Fact). option_map (λ facts. f ∷ facts) rest) (version_at look n)) (versions_alike names h.1)
       ∙ ap (option_and_then (λ (f : Fact). option_map (λ facts. f ∷ facts) (versions_at other names))) (version_alike n h.0)
 
-  joins_alike : (p : Pattern) (row : Row) (who : Named) → AlikeOn look other row.facts → look who.tag ≡ other who.tag → joins p look row who ≡ joins p other row who
+  pub joins_alike : (p : Pattern) (row : Row) (who : Named) → AlikeOn look other row.facts → look who.tag ≡ other who.tag → joins p look row who ≡ joins p other row who
   unfolding joins
   joins_alike p row who h e =
       ap (λ all. passes_given p (option_map (λ facts. tuple_of facts row.values) all) (version_at look who)) (versions_alike row.facts h)

@@ -1,8 +1,9 @@
 //! Laws of the memories: each function's contract is the law, and its body is empty.
-ghost use Rattle.std.specs.Prelude.{◌≡◌, ◌&&◌, Bool, true};
+ghost use Rattle.std.specs.Prelude.{◌≡◌, ◌&&◌, Bool, true, ℤ};
 ghost use Rattle.row_delta.specs.declared.row.Named.{Named};
 ghost use Rattle.row_delta.specs.declared.row.Row.{Row};
 ghost use Rattle.pair_memory.specs.Joined.{with_name, joined};
+ghost use Rattle.pair_memory.specs.Valued.{with_value, valued};
 ghost use Rattle.pair_memory.specs.Standing.{MoveLaw};
 ghost use Rattle.pair_memory.specs.Steps.{StepsLaw, ForgetsLaw};
 
@@ -12,6 +13,14 @@ pub fn a_joined_row_has_one_fact_more()
         → joined pass left right (with_name row who) ≡ (left row && (right who && pass row who)) }
     ensures from { (pass : Row → Named → Bool) (left : Row → Bool) (right : Named → Bool) (made : Row) → joined pass left right made ≡ true
         → (row : Row) × (who : Named) × (made ≡ with_name row who) }
+{}
+
+/// A test of a row without its last value, and of that value, holds of a row with one value more where it holds of the row and the
+/// value, and of no other rows.
+pub fn a_valued_row_has_one_value_more()
+    ensures made { (test : Row → ℤ → Bool) (row : Row) (v : ℤ) → valued test (with_value row v) ≡ test row v }
+    ensures from { (test : Row → ℤ → Bool) (made : Row) → valued test made ≡ true
+        → (row : Row) × (v : ℤ) × (made ≡ with_value row v) × (test row v ≡ true) }
 {}
 
 /// Two stores with the same facts at the tags that are kept show the same in the memories.

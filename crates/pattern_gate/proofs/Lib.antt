@@ -1,0 +1,4 @@
+pub mod Turning
+pub mod Arriving
+pub mod Inside
+pub mod Moving

@@ -1,5 +1,5 @@
 -- Snapshots as a store keeps them, and what leads from one to the next.
-use Rattle.std.specs.Prelude.{◌≡◌, ◌==◌, ◌++◌, not, Bool, true, ℤ, pos, ◌≤ℤ◌, List, map, Option, option_to_list}
+use Rattle.std.specs.Prelude.{◌≡◌, ◌==◌, ◌++◌, not, Bool, true, pos, ◌≤ℤ◌, List, map, Option, option_to_list}
 use Rattle.std.specs.List.{filter, list_any}
 use Rattle.std.specs.List.Sorted.{IsStrictlySortedBy}
 use Rattle.std.specs.Ordering.{nat_cmp}

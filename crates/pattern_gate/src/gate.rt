@@ -1,18 +1,30 @@
-ghost use Rattle.std.specs.Prelude.{◌≡◌, true, option_map, IfOk, OnOk};
+ghost use Rattle.std.specs.Prelude.{◌≡◌, Bool, true, ℤ, List, option_map, IfOk, OnOk};
+ghost use Rattle.std.specs.List.{list_any};
+ghost use Rattle.fx_base.specs.declared.fact.Fact.{Fact};
+ghost use Rattle.row_change.specs.Changes.{IsDifference};
+ghost use Rattle.row_delta.specs.declared.row.Row.{Row};
+ghost use Rattle.row_delta.specs.Rows.{has};
 ghost use Rattle.rule_model.specs.declared.program.Program.{Program};
 ghost use Rattle.rule_model.specs.Lent.{lent};
 ghost use Rattle.rule_model.specs.Snapshots.{Snapshot};
+ghost use Rattle.rule_model.specs.Tuples.{name_of};
 ghost use Rattle.pair_memory.specs.Inputs.{IsNameDifference};
 ghost use Rattle.condition_rows.specs.Sets.{candidates_of};
 ghost use Rattle.condition_rows.specs.Looks.{empty_snapshot};
+ghost use Rattle.window_gate.specs.declared.change.WindowKind.{WindowKind};
+ghost use Rattle.window_gate.specs.Windows.{Arrival, after, rows_inside};
+ghost use Rattle.window_gate.specs.Standing.{Stands, Takes, window_of};
 ghost use Rattle.pattern_gate.specs.Moves.{Moves};
-ghost use Rattle.pattern_gate.specs.Gates.{GateStands, has_good_window};
+ghost use Rattle.pattern_gate.specs.Gates.{GateStands, has_good_window, kind_of};
+ghost use Rattle.pattern_gate.specs.Turns.{is_meant, is_given_meant, is_one_meant, less_fact, less_facts, more_fact, LetsGo, LetsAllGo, LetsCome, TakesStep, Reaches};
 
 use fx_base::{Fact, Millis, NoMemory};
-use row_delta::Delta;
-use rule_model::{Pattern, Program};
+use row_change::Change;
+use row_delta::{Delta, Named};
+use rule_model::{Pattern, Program, WindowTag};
 use std::alloc::Global;
-use window_gate::Gate;
+use std::mem::replace;
+use window_gate::{Gate, GateChange, WindowKind};
 
 /// The window in front of the node of a pattern. It keeps what the window needs of the facts that fit the pattern: nothing
 /// without a window. After a call that was refused memory it is to be given up.
@@ -23,10 +35,12 @@ pub struct PatternGate {
 
 impl PatternGate {
     /// The gate of a pattern, to which no fact has come. Takes no memory.
-    pub fn new(alloc: Global, pattern: &Pattern) -> Result<PatternGate, NoMemory>
-        ensures { IfOk result (λ gate. (p : Program) → GateStands p pattern.now gate empty_snapshot) }
+    pub fn new(alloc: Global, pattern: &Pattern) -> PatternGate
+        ensures { (p : Program) → GateStands p pattern.now result empty_snapshot }
     {
-        Err(NoMemory)
+        PatternGate {
+            gate: Gate::new(alloc, kind_of(pattern.window)),
+        }
     }
 
     /// Takes the facts that go and the one that comes, if one does, and the clock in milliseconds, and answers what has changed
@@ -48,6 +62,167 @@ impl PatternGate {
             → Moves program.now s next (lent gone.now) (option_map (λ f. f.now) come.entry) → next.clock ≡ clock
             → IsNameDifference (candidates_of program.now pattern.now s) (candidates_of program.now pattern.now next) delta) }
     {
-        Err(NoMemory)
+        if pattern.window.is_whole() && !is_one_meant(pattern, gone, come) {
+            let delta = Change::none(alloc).delta(alloc)?;
+            return Ok(delta);
+        }
+        let delta = self.advanced(alloc, pattern, gone, come, clock)?;
+        Ok(delta)
+    }
+
+    /// A step in which a fact is meant, or the clock may let one leave.
+    fn advanced(
+        &mut self,
+        alloc: Global,
+        pattern: &Pattern,
+        gone: &[&Fact],
+        come: Option<&Fact>,
+        clock: Millis,
+    ) -> Result<Delta, NoMemory>
+        ensures window { OnOk result (window_of self.new.gate ≡ window_of self.old.gate) }
+        ensures stands { OnOk result ((arrivals : List Arrival) (was : ℤ) → Stands self.old.gate arrivals was
+            → TakesStep (window_of self.old.gate) pattern.now arrivals was (lent gone.now) (option_map (λ f. f.now) come.entry) clock
+            → Stands self.new.gate (more_fact pattern.now (less_facts pattern.now arrivals (lent gone.now)) (option_map (λ f. f.now) come.entry)) clock) }
+        ensures difference { IfOk result (λ delta. (arrivals : List Arrival) (was : ℤ) → Stands self.old.gate arrivals was
+            → TakesStep (window_of self.old.gate) pattern.now arrivals was (lent gone.now) (option_map (λ f. f.now) come.entry) clock
+            → IsDifference (has (rows_inside (window_of self.old.gate) was arrivals))
+            (has (rows_inside (window_of self.old.gate) clock (more_fact pattern.now (less_facts pattern.now arrivals (lent gone.now)) (option_map (λ f. f.now) come.entry)))) delta) }
+    {
+        let mut change = Change::none(alloc);
+        self.turn(alloc, &mut change, &GateChange::Clock, clock)?;
+        self.facts_go(alloc, &mut change, pattern, gone, clock)?;
+        self.fact_comes(alloc, &mut change, pattern, come, clock)?;
+        let delta = change.delta(alloc)?;
+        Ok(delta)
+    }
+
+    fn facts_go(
+        &mut self,
+        alloc: Global,
+        change: &mut Change,
+        pattern: &Pattern,
+        gone: &[&Fact],
+        clock: Millis,
+    ) -> Result<(), NoMemory>
+        ensures window { OnOk result (window_of self.new.gate ≡ window_of self.old.gate) }
+        ensures reaches { OnOk result ((old : Row → Bool) (window : WindowKind) (arrivals : List Arrival) → Reaches old window self.old change.old arrivals clock
+            → LetsAllGo window pattern.now clock arrivals (lent gone.now) → Reaches old window self.new change.new (less_facts pattern.now arrivals (lent gone.now)) clock) }
+    {
+        for fact in gone {
+            self.fact_goes(alloc, change, pattern, fact, clock)?;
+        }
+        Ok(())
+    }
+
+    fn fact_goes(
+        &mut self,
+        alloc: Global,
+        change: &mut Change,
+        pattern: &Pattern,
+        fact: &Fact,
+        clock: Millis,
+    ) -> Result<(), NoMemory>
+        ensures window { OnOk result (window_of self.new.gate ≡ window_of self.old.gate) }
+        ensures reaches { OnOk result ((old : Row → Bool) (window : WindowKind) (arrivals : List Arrival) → Reaches old window self.old change.old arrivals clock
+            → LetsGo window pattern.now clock arrivals fact.now → Reaches old window self.new change.new (less_fact pattern.now arrivals fact.now) clock) }
+    {
+        if !is_meant(pattern, fact) {
+            return Ok(());
+        }
+        self.turn(alloc, change, &GateChange::Gone(name_of(fact)), clock)
+    }
+
+    fn fact_comes(
+        &mut self,
+        alloc: Global,
+        change: &mut Change,
+        pattern: &Pattern,
+        come: Option<&Fact>,
+        clock: Millis,
+    ) -> Result<(), NoMemory>
+        ensures window { OnOk result (window_of self.new.gate ≡ window_of self.old.gate) }
+        ensures reaches { OnOk result ((old : Row → Bool) (window : WindowKind) (arrivals : List Arrival) → Reaches old window self.old change.old arrivals clock
+            → LetsCome window pattern.now clock arrivals (option_map (λ f. f.now) come.entry)
+            → Reaches old window self.new change.new (more_fact pattern.now arrivals (option_map (λ f. f.now) come.entry)) clock) }
+    {
+        match come {
+            Some(fact) => {
+                if !is_meant(pattern, fact) {
+                    return Ok(());
+                }
+                let event = GateChange::Come(name_of(fact), fact.times.start);
+                self.turn(alloc, change, &event, clock)
+            }
+            None => Ok(()),
+        }
+    }
+
+    /// What happens in front of the window changes the rows inside.
+    fn turn(
+        &mut self,
+        alloc: Global,
+        change: &mut Change,
+        event: &GateChange,
+        clock: Millis,
+    ) -> Result<(), NoMemory>
+        ensures window { OnOk result (window_of self.new.gate ≡ window_of self.old.gate) }
+        ensures reaches { OnOk result ((old : Row → Bool) (window : WindowKind) (arrivals : List Arrival) (was : ℤ) → Reaches old window self.old change.old arrivals was
+            → Takes window arrivals was event.now clock → Reaches old window self.new change.new (after arrivals event.now) clock) }
+    {
+        let gate = replace(&mut self.gate, Gate::new(alloc, WindowKind::Whole));
+        let (gate, delta) = gate.step(alloc, event, clock)?;
+        self.gate = gate;
+        let Delta { gone, come } = delta;
+        change.leave(alloc, gone.into_vec())?;
+        change.arrive(alloc, come.into_vec())?;
+        Ok(())
+    }
+}
+
+fn kind_of(window: WindowTag) -> WindowKind
+    ensures { result ≡ kind_of window }
+{
+    match window {
+        WindowTag::Whole => WindowKind::Whole,
+        WindowTag::Time(span) => WindowKind::Time(span),
+        WindowTag::Length(count) => WindowKind::Length(count),
+    }
+}
+
+fn name_of(fact: &Fact) -> Named
+    ensures { result ≡ name_of fact.now }
+{
+    Named {
+        id: fact.id,
+        tag: fact.tag,
+    }
+}
+
+/// Whether the fact is of the pattern's type and entry point, and passes the constant tests.
+fn is_meant(pattern: &Pattern, fact: &Fact) -> bool
+    ensures { result ≡ is_meant pattern.now fact.now }
+{
+    fact.ty == pattern.ty && fact.entry == pattern.entry && pattern.passes_alone(fact)
+}
+
+/// Whether one of the facts that go, or the one that comes, is meant.
+fn is_one_meant(pattern: &Pattern, gone: &[&Fact], come: Option<&Fact>) -> bool
+    ensures { result ≡ is_one_meant pattern.now (lent gone.now) (option_map (λ f. f.now) come.entry) }
+{
+    is_any_meant(pattern, gone) || is_given_meant(pattern, come)
+}
+
+fn is_any_meant(pattern: &Pattern, facts: &[&Fact]) -> bool
+    ensures { result ≡ list_any (λ f. is_meant pattern.now f.now) facts.now }
+{
+    facts.iter().any(|fact| is_meant(pattern, fact))
+}
+
+fn is_given_meant(pattern: &Pattern, fact: Option<&Fact>) -> bool
+    ensures { result ≡ is_given_meant pattern.now (option_map (λ f. f.now) fact.entry) }
+{
+    match fact {
+        Some(fact) => is_meant(pattern, fact),
+        None => false,
     }
 }

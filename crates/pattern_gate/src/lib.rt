@@ -3,5 +3,6 @@
 #![tactic(auto)]
 
 mod gate;
+pub mod laws;
 
 pub use gate::PatternGate;

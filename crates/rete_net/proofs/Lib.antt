@@ -1,0 +1,6 @@
+mod Turning
+mod Turns
+mod Chaining
+mod Growing
+mod Advancing
+mod Starting

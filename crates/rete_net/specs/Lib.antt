@@ -1,2 +1,4 @@
 pub mod Shapes
 pub mod Nets
+pub mod Steps
+pub mod Building

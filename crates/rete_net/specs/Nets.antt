@@ -1,5 +1,5 @@
 -- For which snapshot a network stands, and what it answers.
-use Rattle.std.specs.Prelude.{◌≡◌, ℕ, Bool, List, Option, Some, slice_get}
+use Rattle.std.specs.Prelude.{◌≡◌, ℕ, Bool, true, List, Option, Some, slice_get}
 use Rattle.row_delta.specs.declared.delta.Delta.{Delta}
 use Rattle.row_delta.specs.declared.row.Row.{Row}
 use Rattle.row_delta.specs.Differences.{IsBetween}
@@ -10,9 +10,9 @@ use Rattle.rule_model.specs.Rows.{pattern_of}
 use Rattle.rule_model.specs.Snapshots.{Snapshot}
 use Rattle.pair_memory.specs.Standing.{no_names}
 use Rattle.condition_rows.specs.Sets.{held, rows_of}
-use Rattle.pattern_gate.specs.Gates.{GateStands}
+use Rattle.pattern_gate.specs.Gates.{GateStands, has_good_window}
 use Rattle.condition_node.specs.Nodes.{condition_of, NodeStands}
-use Rattle.rete_net.specs.declared.net.NetNode.{NetNode}
+use Rattle.rete_net.specs.declared.node.NetNode.{NetNode}
 use Rattle.rete_net.specs.declared.net.Rete.{Rete}
 use Rattle.rete_net.specs.Shapes.{before, IsShaped, EndsAt}
 
@@ -21,12 +21,13 @@ pub record NetNodeStands (p : Program) (n : NetNode) (s : Snapshot) (rows : Row 
   pub gate : GateStands p (pattern_of (condition_of n.node)) n.gate s
   pub node : NodeStands p n.node (held s) s rows no_names
 
--- The network of a program stands for a snapshot: its nodes stand for the rows of the conditions before them, and each rule has a last
--- node.
+-- The network of a program stands for a snapshot: its nodes stand for the rows of the conditions before them, have windows of accepted
+-- files, and each rule has a last node.
 pub record NetStands (p : Program) (net : Rete) (s : Snapshot) : Type 0 where
   pub conditions : ℕ → List Condition
   pub shaped : IsShaped net.nodes.items conditions
   pub ends : (place : ℕ) (rule : Rule) → slice_get p.rules place ≡ Some rule → EndsAt net.nodes.items conditions net.ends.items place rule
+  pub windows : (k : ℕ) (n : NetNode) → slice_get net.nodes.items k ≡ Some n → has_good_window p (pattern_of (condition_of n.node)) ≡ true
   pub nodes : (k : ℕ) (n : NetNode) → slice_get net.nodes.items k ≡ Some n → NetNodeStands p n s (rows_of p s (before conditions n.parent))
 
 -- these are, for each rule by its place, the differences of these rows

@@ -3,7 +3,7 @@ use Rattle.std.specs.Prelude.{◌≡◌, ◌<◌, ◌∷◌, ◌++◌, ℕ, List
 use Rattle.rule_model.specs.declared.condition.Condition.{Condition}
 use Rattle.rule_model.specs.declared.program.Rule.{Rule}
 use Rattle.condition_node.specs.Nodes.{condition_of}
-use Rattle.rete_net.specs.declared.net.NetNode.{NetNode}
+use Rattle.rete_net.specs.declared.node.NetNode.{NetNode}
 
 -- the conditions before a node: those of its parent, where it has one
 abbrev pub before : (ℕ → List Condition) → Option ℕ → List Condition

@@ -2,6 +2,9 @@
 //! what changes in the rows of each rule. It stands on the nodes of conditions and their gates, and assumes nothing of the outside.
 #![tactic(auto)]
 
+mod build;
 mod net;
+mod node;
+mod steps;
 
 pub use net::Rete;

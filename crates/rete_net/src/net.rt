@@ -1,4 +1,5 @@
-ghost use Rattle.std.specs.Prelude.{◌≡◌, [], option_map, IfOk, OnOk};
+ghost use Rattle.std.specs.Prelude.{◌≡◌, List, [], length, option_map, IfOk, OnOk};
+ghost use Rattle.rule_model.specs.declared.condition.Condition.{Condition};
 ghost use Rattle.rule_model.specs.declared.program.Rule.{Rule};
 ghost use Rattle.rule_model.specs.Lent.{lent};
 ghost use Rattle.rule_model.specs.Rows.{rows};
@@ -8,22 +9,16 @@ ghost use Rattle.pair_memory.specs.Standing.{no_names};
 ghost use Rattle.condition_rows.specs.Looks.{empty_snapshot, HasAllOf};
 ghost use Rattle.pattern_gate.specs.Moves.{Moves};
 ghost use Rattle.rete_net.specs.Nets.{NetStands, AreBetween};
+ghost use Rattle.rete_net.specs.Building.{AreBuilt, HaveEnds};
+ghost use Rattle.rete_net.specs.Steps.{NetStep};
 
-use condition_node::Node;
+use crate::build::{NoFacts, empty_row_comes, no_change, put_chain};
+use crate::node::NetNode;
+use crate::steps::{answers_at, step_all};
 use fx_base::{Fact, Facts, Millis, NoMemory};
-use pattern_gate::PatternGate;
 use row_delta::Delta;
 use rule_model::Program;
 use std::alloc::Global;
-
-/// A node of the network: where the rows of the conditions before it come from, the gate of its candidates, and the node of its
-/// condition. Without a parent, the empty row alone is before it.
-#[derive(Drop)]
-struct NetNode {
-    parent: Option<usize>,
-    gate: PatternGate,
-    node: Node,
-}
 
 /// The network of a program: its nodes, each behind its parent, and the last node of each rule by the rule's place. After a call
 /// that was refused memory it is to be given up.
@@ -40,7 +35,10 @@ impl Rete {
         ensures stands { IsRunnable program.now → IfOk result (λ built. NetStands program.now built.0 empty_snapshot) }
         ensures first { IsRunnable program.now → IfOk result (λ built. AreBetween program.now (λ rule. []) (λ rule. rows program.now empty_snapshot rule.conditions) built.1.items) }
     {
-        Err(NoMemory)
+        let mut net = Rete::of_rules(alloc, program)?;
+        let first = empty_row_comes(alloc)?;
+        let deltas = net.step(alloc, program, &first, &[], None, 0, &NoFacts)?;
+        Ok((net, deltas))
     }
 
     /// Takes the facts that go and the one that comes, if one does, and the clock in milliseconds, and answers for each rule, by
@@ -64,6 +62,41 @@ impl Rete {
             → HasAllOf (F.map facts.now) s no_names → HasAllOf (F.map facts.now) next no_names
             → AreBetween program.now (λ rule. rows program.now s rule.conditions) (λ rule. rows program.now next rule.conditions) deltas.items) }
     {
-        Err(NoMemory)
+        let none = no_change(alloc);
+        let deltas = self.step(alloc, program, &none, gone, come, clock, facts)?;
+        Ok(deltas)
+    }
+
+    /// The nodes of all rules, which keep nothing.
+    fn of_rules(alloc: Global, program: &Program) -> Result<Rete, NoMemory>
+        ensures { IfOk result (λ net. IsRunnable program.now → (all : List (List Condition)) × AreBuilt program.now net.nodes.items all × HaveEnds all net.ends.items program.now.rules (length program.now.rules)) }
+    {
+        let mut nodes = Vec::new(alloc);
+        let mut ends = Vec::with_capacity(alloc, program.rules.as_slice().len())?;
+        for rule in program.rules.as_slice() {
+            let last = put_chain(&mut nodes, alloc, program, rule.conditions.as_slice())?;
+            ends.push(last.unwrap_or(0))?;
+        }
+        Ok(Rete { nodes, ends })
+    }
+
+    /// Lets all nodes take their step, and answers for each rule what its last node answers. `first` comes to the nodes without
+    /// a parent.
+    fn step<F: Facts>(
+        &mut self,
+        alloc: Global,
+        program: &Program,
+        first: &Delta,
+        gone: &[&Fact],
+        come: Option<&Fact>,
+        clock: Millis,
+        facts: &F,
+    ) -> Result<Vec<Delta>, NoMemory>
+        ensures ends { OnOk result (self.new.ends.items ≡ self.old.ends.items) }
+        ensures stepped { IfOk result (λ deltas. NetStep program.now (F.map facts.now) (lent gone.now) (option_map (λ f. f.now) come.entry) clock first.now self.old.nodes.items self.new.nodes.items self.old.ends.items deltas.items) }
+    {
+        let deltas = step_all(&mut self.nodes, alloc, program, first, gone, come, clock, facts)?;
+        let answers = answers_at(alloc, first, &deltas, &self.ends)?;
+        Ok(answers)
     }
 }

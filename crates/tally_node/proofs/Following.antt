@@ -17,6 +17,7 @@ use Rattle.row_delta.specs.NameOrder.{name_cmp, name_equiv}
 use Rattle.join_tests.specs.Joins.{Look}
 use Rattle.pair_memory.specs.Joined.{has_name}
 use Rattle.pair_memory.proofs.Joining.{row_decides, name_decides}
+use Rattle.pair_memory.proofs.Turning.{any_name}
 use Rattle.tally_node.specs.Tallies.{Turned, TurnedIf, Steps, counted, Follows, Arrives}
 
 -- ---- lists in order
@@ -164,40 +165,22 @@ module _ {T : Type 0} (holds : T → Look → (Named → Bool) → Type 0) (look
   arrives_one true set (Some x) after t h is q = let f : true ≡ false = h refl in cc
 
   -- one candidate more of a list in order
-  pub tally_more : (names : List Named) (i : ℕ) (who : Named) → i < length names → who ≡ get_or names i who → IsStrictlySortedBy name_cmp names → (t now : T)
+  pub tally_more : (names : List Named) (i : ℕ) (who : Named) → i < length names → who ≡ get_or names i any_name → IsStrictlySortedBy name_cmp names → (t now : T)
       → Turned holds look true who t now → holds t look (has_name (take i names)) → holds now look (has_name (take (i + 1) names))
   tally_more names i who below is sorted t now turned h =
-      subst (holds now look) (fun_ext (λ c. ap (λ b. has_name (take i names) c || b) (name_equiv.symm who c ∙ ap (eq_by_cmp name_cmp c) is) ∙ sym (list_any_more (eq_by_cmp name_cmp c) names i who below)))
-      (turned (has_name (take i names)) h (ap (λ x. has_name (take i names) x) is ∙ not_before name_cmp name_equiv names i who below sorted))
+      subst (holds now look) (fun_ext (λ c. ap (λ b. has_name (take i names) c || b) (name_equiv.symm who c ∙ ap (eq_by_cmp name_cmp c) is) ∙ sym (list_any_more (eq_by_cmp name_cmp c) names i any_name below)))
+      (turned (has_name (take i names)) h (ap (λ x. has_name (take i names) x) is ∙ not_before name_cmp name_equiv names i any_name below sorted))
 
 pub rows_more : (rows : List Row) (i : ℕ) (row : Row) → i < length rows → row ≡ get_or rows i row → (r : Row) → (has (take i rows) r || eq_by_cmp row_cmp row r) ≡ has (take (i + 1) rows) r
 rows_more rows i row below is r = ap (λ b. has (take i rows) r || b) (same_equiv.symm row r ∙ ap (eq_by_cmp row_cmp r) is) ∙ sym (list_any_more (eq_by_cmp row_cmp r) rows i row below)
-
-pub names_more : (names : List Named) (i : ℕ) (who : Named) → i < length names → who ≡ get_or names i who → (c : Named) → (has_name (take i names) c || eq_by_cmp name_cmp who c) ≡ has_name (take (i + 1) names) c
-names_more names i who below is c = ap (λ b. has_name (take i names) c || b) (name_equiv.symm who c ∙ ap (eq_by_cmp name_cmp c) is) ∙ sym (list_any_more (eq_by_cmp name_cmp c) names i who below)
 
 -- a row that takes its turn did not take it before
 pub rows_apart : (rows : List Row) (i : ℕ) (row : Row) → i < length rows → row ≡ get_or rows i row → IsStrictlySortedBy row_cmp rows → (r : Row) → eq_by_cmp row_cmp row r ≡ true → has (take i rows) r ≡ false
 rows_apart rows i row below is sorted r e = ap (has (take i rows)) (sym ((row_decides row r).0 e) ∙ is) ∙ not_before row_cmp same_equiv rows i row below sorted
 
-pub name_inside_list : (names : List Named) (i : ℕ) (who : Named) → i < length names → who ≡ get_or names i who → has_name names who ≡ true
-name_inside_list names i who below is = ap (λ x. has_name names x) is ∙ stands_in name_cmp name_equiv names i who below
-
--- within a list the default does not matter
-pub get_or_any : {A : Type 0} (xs : List A) (i : ℕ) (d e : A) → i < length xs → get_or xs i d ≡ get_or xs i e
-get_or_any [] i d e h = absurd (omega arith)
-get_or_any (x ∷ xs) zero d e h = refl
-get_or_any (x ∷ xs) (suc i) d e h = get_or_any xs i d e (omega arith)
-
-abbrev pub no_name : Named
-no_name = record { id = record { 0 = 0 }; tag = record { 0 = 0 } }
-
--- the version in a place
-abbrev pub name_at : List Named → ℕ → Named
-name_at names i = get_or names i no_name
-
-pub name_at_is : (names : List Named) (i : ℕ) → i < length names → name_at names i ≡ get_or names i (name_at names i)
-name_at_is names i h = get_or_any names i no_name (name_at names i) h
+-- the version in a place of a list, and what is the same, stands in the list
+pub name_within : (names : List Named) (i : ℕ) → i < length names → (c : Named) → eq_by_cmp name_cmp (get_or names i any_name) c ≡ true → has_name names c ≡ true
+name_within names i below c e = ap (has_name names) (sym ((name_decides (get_or names i any_name) c).0 e)) ∙ stands_in name_cmp name_equiv names i any_name below
 
 pub first_of : (a b : Bool) → (a && b) ≡ true → a ≡ true
 first_of true b e = refl

@@ -1,5 +1,5 @@
 -- One candidate more in a fold, and one less; rows with a value more.
-use Rattle.std.proofs.Common.{◌≡◌, ◌∙◌, sym, ap, refl, subst, ℤ, List, [], ◌∷◌, ◌++◌, map, Bool, true, false, cond, not, ◌&&◌, ◌||◌, Option, Some, None}
+use Rattle.std.proofs.Common.{◌≡◌, ◌∙◌, sym, ap, refl, ℤ, List, [], ◌∷◌, map, Bool, true, false, cond, not, ◌&&◌, ◌||◌, Option, Some, None}
 use Rattle.std.specs.Option.{option_map}
 use Rattle.std.proofs.lemmas.Bool.Decides.{Decides-int_eq}
 use Rattle.std.specs.Ordering.{eq_by_cmp, int_eq}
@@ -12,12 +12,14 @@ use Rattle.row_delta.specs.Rows.{row_cmp}
 use Rattle.row_delta.specs.NameOrder.{name_cmp, name_equiv}
 use Rattle.rule_model.specs.declared.condition.Accumulate.{Accumulate}
 use Rattle.join_tests.specs.Joins.{Look}
-use Rattle.pair_memory.specs.Joined.{has_name, split_last, behind_first}
+use Rattle.pair_memory.specs.Joined.{has_name}
+use Rattle.pair_memory.specs.Valued.{with_value, unvalued, splits_value, without_value, shows_value}
 use Rattle.pair_memory.proofs.Joining.{name_decides, row_decides}
+use Rattle.pair_memory.proofs.Valued.{unvalued_with, from_unvalued}
 use Rattle.tally_node.specs.Tallies.{with_one, less_one}
 use Rattle.tally_node.specs.Counts.{AreDistinct}
 use Rattle.tally_node.specs.Gathers.{argument_of, Gathers}
-use Rattle.tally_node.specs.Origins.{is_from, with_value, front_of, unvalued, is_last, shows_value}
+use Rattle.tally_node.specs.Origins.{is_from}
 use Rattle.tally_node.proofs.Counting.{or_swap, dropped, has_dropped, dropped_distinct}
 
 -- ---- the values of candidates
@@ -72,22 +74,6 @@ module _ (a : Accumulate) (world : Look) where
   }
 
 -- ---- rows with a value more
-split_snoc : (xs : List ℤ) (x : ℤ) → split_last (xs ++ x ∷ []) ≡ Some (xs, x)
-split_snoc [] x = refl
-split_snoc (y ∷ ys) x = ap (λ o. Some (behind_first y o)) (split_snoc ys x)
-
-is_snoc : (xs : List ℤ) (p : List ℤ × ℤ) → split_last xs ≡ Some p → xs ≡ p.0 ++ p.1 ∷ []
-is_snoc [] p e = let f : None ≡ Some p = e in cc
-is_snoc (x ∷ xs) p e = by (split_last xs) refl (is_snoc xs) e
-  where
-    empty : (ys : List ℤ) → split_last ys ≡ None → ys ≡ []
-    empty [] f = refl
-    empty (y ∷ ys) f = let g : Some (behind_first y (split_last ys)) ≡ None = f in cc
-
-    by : (o : Option (List ℤ × ℤ)) → split_last xs ≡ o → ((q : List ℤ × ℤ) → split_last xs ≡ Some q → xs ≡ q.0 ++ q.1 ∷ []) → Some (behind_first x o) ≡ Some p → x ∷ xs ≡ p.0 ++ p.1 ∷ []
-    by None f rest h = let g : behind_first x None ≡ p = cc in ap (λ ys. x ∷ ys) (empty xs f) ∙ ap (λ p. p.0 ++ p.1 ∷ []) g
-    by (Some q) f rest h = let g : behind_first x (Some q) ≡ p = cc in ap (λ ys. x ∷ ys) (rest q f) ∙ ap (λ p. p.0 ++ p.1 ∷ []) g
-
 same_either : (a b : Bool) → (a ≡ true → b ≡ true) → (b ≡ true → a ≡ true) → a ≡ b
 same_either true b f g = sym (f refl)
 same_either false true f g = g refl
@@ -100,23 +86,21 @@ two_of false b e = let f : false ≡ true = e in cc
 two_true : (a b : Bool) → a ≡ true → b ≡ true → (a && b) ≡ true
 two_true a b e f = ap (λ x. x && b) e ∙ f
 
-abbrev pub row_with : Row → List ℤ → Row
-row_with row values = record { facts = row.facts; values = values }
-
 -- the row with a value more is what it is read backward to be
-pub value_row : (r row : Row) (v : ℤ) → eq_by_cmp row_cmp r (with_value row v) ≡ (is_from (unvalued r) row && shows_value v r)
-value_row r row v = same_either _ _ forth (back (split_last r.values) refl)
+pub value_row : (r row : Row) (v : ℤ) → eq_by_cmp row_cmp r (with_value row v) ≡ (is_from (without_value r) row && shows_value v r)
+value_row r row v = same_either _ _ forth (back (unvalued r) refl)
   where
-    forth : eq_by_cmp row_cmp r (with_value row v) ≡ true → (is_from (unvalued r) row && shows_value v r) ≡ true
-    forth e =
-        let same = (row_decides r (with_value row v)).0 e in
-        subst (λ (x : Row). (is_from (unvalued x) row && shows_value v x) ≡ true) (sym same)
-        (ap (λ o. is_from (option_map (front_of (with_value row v)) o) row && is_last v o) (split_snoc row.values v)
-        ∙ two_true (eq_by_cmp row_cmp row row) (int_eq v v) ((row_decides row row).1 refl) ((Decides-int_eq v v).1 refl))
+    read : Option (Row × ℤ) → Bool
+    read o = is_from (option_map (λ (p : Row × ℤ). p.0) o) row && splits_value (λ left last. int_eq v last) o
 
-    back : (o : Option (List ℤ × ℤ)) → split_last r.values ≡ o → (is_from (unvalued r) row && shows_value v r) ≡ true → eq_by_cmp row_cmp r (with_value row v) ≡ true
-    back None s e = let f : false ≡ true = ap (λ o. is_from (option_map (front_of r) o) row && is_last v o) (sym s) ∙ e in cc
+    forth : eq_by_cmp row_cmp r (with_value row v) ≡ true → read (unvalued r) ≡ true
+    forth e =
+        ap (λ (x : Row). read (unvalued x)) ((row_decides r (with_value row v)).0 e) ∙ ap read (unvalued_with row v)
+        ∙ two_true (eq_by_cmp row_cmp row row) (int_eq v v) ((row_decides row row).1 refl) ((Decides-int_eq v v).1 refl)
+
+    back : (o : Option (Row × ℤ)) → unvalued r ≡ o → read (unvalued r) ≡ true → eq_by_cmp row_cmp r (with_value row v) ≡ true
+    back None s e = let f : false ≡ true = ap read (sym s) ∙ e in cc
     back (Some p) s e =
-        let k = two_of (eq_by_cmp row_cmp row (front_of r p)) (int_eq v p.1) (ap (λ o. is_from (option_map (front_of r) o) row && is_last v o) (sym s) ∙ e) in
+        let k = two_of (eq_by_cmp row_cmp row p.0) (int_eq v p.1) (ap read (sym s) ∙ e) in
         (row_decides r (with_value row v)).1
-        (ap (row_with r) (is_snoc r.values p s) ∙ ap (λ x. row_with r (p.0 ++ x ∷ [])) (sym ((Decides-int_eq v p.1).0 k.1)) ∙ ap (λ x. with_value x v) (sym ((row_decides row (front_of r p)).0 k.0)))
+        (from_unvalued r p s ∙ ap (λ x. with_value p.0 x) (sym ((Decides-int_eq v p.1).0 k.1)) ∙ ap (λ (x : Row). with_value x v) (sym ((row_decides row p.0).0 k.0)))

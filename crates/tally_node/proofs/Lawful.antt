@@ -4,7 +4,7 @@ use mathlib.Core.Path.{fun_ext}
 use Rattle.std.proofs.Math.Dec.{eqb-suc-zero}
 use Rattle.std.specs.List.{list_any}
 use Rattle.std.specs.Option.{is_some, option_map}
-use Rattle.std.specs.Ordering.{eq_by_cmp}
+use Rattle.std.specs.Ordering.{eq_by_cmp, int_eq}
 use Rattle.fx_base.specs.declared.fact.Fact.{Fact}
 use Rattle.fold_fn.specs.Held.{Held}
 use Rattle.fold_fn.specs.Results.{fold_result}
@@ -21,19 +21,21 @@ use Rattle.rule_model.specs.Rows.{argument, result_of}
 use Rattle.rule_model.specs.Tuples.{name_of}
 use Rattle.join_tests.specs.Joins.{Look, joins}
 use Rattle.pair_memory.specs.declared.memories.Memories.{Memories}
-use Rattle.pair_memory.specs.Joined.{has_name, split_last}
+use Rattle.pair_memory.specs.Joined.{has_name}
 use Rattle.pair_memory.specs.Memories.{left_at, has_left, has_right}
 use Rattle.pair_memory.specs.Standing.{clean, cleaned, either, remembered, PassesAlike, StandsFor}
 use Rattle.pair_memory.proofs.Joining.{name_decides}
 use Rattle.pair_memory.proofs.Moving.{move_law as memories_move}
 use Rattle.pair_memory.specs.Inputs.{IsNameDifference, IsStepped}
+use Rattle.pair_memory.specs.Valued.{unvalued, splits_value, valued, without_value, shows_value}
+use Rattle.pair_memory.proofs.Valued.{from_unvalued}
 use Rattle.pair_memory.proofs.Steps.{steps_law, forgets_law}
 use Rattle.tally_node.specs.declared.count.Blockers.{Blockers}
 use Rattle.tally_node.specs.declared.count.Witnesses.{Witnesses}
 use Rattle.tally_node.specs.Counts.{IsNumber, zero_where, counts_blockers, counts_witnesses, where_unblocked, where_witnessed}
 use Rattle.tally_node.specs.Gathers.{argument_given, argument_of, tested, result_for, is_result}
 use Rattle.tally_node.specs.Laws.{all_passing, StandsCounted, ForgottenStay, StartLaw, TallyLaw, ForgetLaw, DropLaw, MoveLaw, ShownLaw, GatheredLaw}
-use Rattle.tally_node.specs.Origins.{front_of, is_last, itself, shows_any, unvalued, shows_value, valued_at}
+use Rattle.tally_node.specs.Origins.{itself, shows_any}
 use Rattle.tally_node.specs.Tallies.{TallyStep, counted, SeeAlike, output_some, output_from, offers, shown}
 use Rattle.tally_node.proofs.Counting.{nobody, somebody}
 use Rattle.tally_node.proofs.Gathering.{same_values}
@@ -228,9 +230,10 @@ result_at : (kept : Bool) (result : Option ℤ) (v : ℤ) (output : Held → Opt
 result_at kept result v output None e h = ap (λ b. b && is_result result v) e
 result_at kept result v output (Some t) e h = ap (λ n. is_result n v) (h t refl) ∙ ap (λ b. b && is_result result v) e
 
-offers_some : (o : Option ℤ) (row : Row) (p : List ℤ × ℤ) → split_last row.values ≡ Some p → offers shows_value o row ≡ is_result o p.1
+-- a row that is read backward shows the number that there is where its last value is that number
+offers_some : (o : Option ℤ) (row : Row) (p : Row × ℤ) → unvalued row ≡ Some p → offers shows_value o row ≡ is_result o p.1
 offers_some None row p e = refl
-offers_some (Some v) row p e = ap (is_last v) e
+offers_some (Some v) row p e = ap (splits_value (λ left last. int_eq v last)) e
 
 -- what is taken of candidates is what is taken of the facts that a world knows of them
 arguments_are : (a : Accumulate) (world : Look) (facts : List Fact) → Holds world facts → map (argument_of a world) (map name_of facts) ≡ map (argument a.arg) facts
@@ -238,7 +241,8 @@ arguments_are a world [] h = refl
 arguments_are a world (f ∷ facts) h = ap (λ o. argument_given a.arg o ∷ map (argument_of a world) (map name_of facts)) h.0 ∙ ap (λ rest. argument a.arg f ∷ rest) (arguments_are a world facts h.1)
 
 pub gathered_shown : (a : Accumulate) → GatheredLaw a
-gathered_shown a m look world pass rows names forgotten of was known distinct all row = by (split_last row.values) refl
+unfolding valued
+gathered_shown a m look world pass rows names forgotten of was known distinct all row = by (unvalued row) refl
   where
     line : Row → ℤ → Bool
     line left v = cleaned rows forgotten left && is_result (tested a (bound_in look left) (result_of a (of left))) v
@@ -254,13 +258,16 @@ gathered_shown a m look world pass rows names forgotten of was known distinct al
         ∙ result-rising a.kind (map arg listed)
         ∙ ap (fold_result a.kind) (arguments_are a world (of left) (known left)))
 
-    by : (o : Option (List ℤ × ℤ)) → split_last row.values ≡ o → offers shows_value (output_from (result_for a) m look (option_map (front_of row) (split_last row.values))) row ≡ valued_at line row (split_last row.values)
-    by None s = ap (λ o. offers shows_value (output_from (result_for a) m look (option_map (front_of row) o)) row) s ∙ sym (ap (valued_at line row) s)
+    from_left : Option (Row × ℤ) → Bool
+    from_left o = offers shows_value (output_from (result_for a) m look (option_map (λ (p : Row × ℤ). p.0) o)) row
+
+    by : (o : Option (Row × ℤ)) → unvalued row ≡ o → from_left (unvalued row) ≡ splits_value line (unvalued row)
+    by None s = ap from_left s ∙ sym (ap (splits_value line) s)
     by (Some p) s =
-        ap (λ o. offers shows_value (output_from (result_for a) m look (option_map (front_of row) o)) row) s
-        ∙ offers_some (output_some (result_for a look (front_of row p)) (left_at m look (front_of row p))) row p s
-        ∙ result_at (cleaned rows forgotten (front_of row p)) (tested a (bound_in look (front_of row p)) (result_of a (of (front_of row p)))) p.1 (result_for a look (front_of row p)) (left_at m look (front_of row p)) (was.stands.rows (front_of row p)) (result_is (front_of row p))
-        ∙ sym (ap (valued_at line row) s)
+        ap from_left s
+        ∙ offers_some (output_some (result_for a look p.0) (left_at m look p.0)) row p s
+        ∙ result_at (cleaned rows forgotten p.0) (tested a (bound_in look p.0) (result_of a (of p.0))) p.1 (result_for a look p.0) (left_at m look p.0) (was.stands.rows p.0) (result_is p.0)
+        ∙ sym (ap (splits_value line) s)
 
 -- ---- a new node, what is dropped, and another store
 pub start_law : (T : Type 0) (holds : T → Look → (Named → Bool) → Type 0) → StartLaw T holds
@@ -297,9 +304,9 @@ drop_law T origin gives output same_facts m n look rows names forgotten old drop
 pub itself_facts : (row left : Row) → itself row ≡ Some left → left.facts ≡ row.facts
 itself_facts row left e = let f : row ≡ left = cc in ap (λ (r : Row). r.facts) (sym f)
 
-pub unvalued_facts : (row left : Row) → unvalued row ≡ Some left → left.facts ≡ row.facts
-unvalued_facts row left e = by (split_last row.values) e
+pub without_value_facts : (row left : Row) → without_value row ≡ Some left → left.facts ≡ row.facts
+without_value_facts row left e = by (unvalued row) refl e
   where
-    by : (o : Option (List ℤ × ℤ)) → option_map (front_of row) o ≡ Some left → left.facts ≡ row.facts
-    by None f = let h : None ≡ Some left = f in cc
-    by (Some p) f = let h : front_of row p ≡ left = cc in ap (λ (r : Row). r.facts) (sym h)
+    by : (o : Option (Row × ℤ)) → unvalued row ≡ o → option_map (λ (p : Row × ℤ). p.0) o ≡ Some left → left.facts ≡ row.facts
+    by None s f = let h : None ≡ Some left = f in cc
+    by (Some p) s f = let h : p.0 ≡ left = cc in ap (λ (r : Row). r.facts) (sym h) ∙ ap (λ (r : Row). r.facts) (sym (from_unvalued row p s))

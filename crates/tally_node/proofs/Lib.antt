@@ -1,5 +1,6 @@
 pub mod Turning
 pub mod Following
+pub mod Parts
 pub mod Stepping
 pub mod Counting
 pub mod Gathering

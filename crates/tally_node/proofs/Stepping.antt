@@ -1,14 +1,17 @@
 -- The four parts of a step together.
-use Rattle.std.proofs.Common.{◌≡◌, ◌∙◌, sym, ap, refl, subst, cond, Bool, true, false, not, ◌&&◌, Option, Some, None}
+use Rattle.std.proofs.Common.{◌≡◌, ◌∙◌, sym, ap, refl, subst, cond, List, [], ◌∷◌, Bool, true, false, not, ◌&&◌, Option, Some, None}
 use mathlib.Core.Path.{fun_ext}
 use Rattle.std.specs.Option.{is_some}
 use Rattle.row_delta.specs.declared.row.Named.{Named}
 use Rattle.row_delta.specs.declared.row.Row.{Row}
+use Rattle.row_delta.specs.declared.delta.Delta.{Delta}
+use Rattle.row_delta.specs.Rows.{has}
+use Rattle.row_change.specs.Changes.{are_none, changes_nothing}
 use Rattle.rule_model.specs.declared.condition.Pattern.{Pattern}
 use Rattle.join_tests.specs.Joins.{Look, joins}
 use Rattle.pair_memory.specs.declared.memories.Memories.{Memories}
 use Rattle.pair_memory.specs.Memories.{left_at, has_left, has_right}
-use Rattle.tally_node.specs.Tallies.{Steps, Follows, Arrives, passing}
+use Rattle.tally_node.specs.Tallies.{Steps, Follows, Arrives, passing, TallyStep}
 use Rattle.tally_node.proofs.Following.{follow_then}
 
 module _ {T : Type 0} (holds : T → Look → (Named → Bool) → Type 0) (world look : Look) where
@@ -66,3 +69,15 @@ module _ {T : Type 0} (holds : T → Look → (Named → Bool) → Type 0) (worl
           new.1,
           subst (holds new.0 world) (ap (λ (p : Pattern). passing p look (has_right m3 look) r) (e3 ∙ e2 ∙ e1) ∙ fun_ext (λ c. ap (λ b. b && joins m0.pattern look r c) (sym (r4 c)))) new.2,
         )
+
+-- where no row comes, and the memories stay, that is a step
+are_none_come : (gone come : List Row) → are_none gone come ≡ true → come ≡ []
+are_none_come [] [] e = refl
+are_none_come (row ∷ gone) come e = let f : false ≡ true = e in cc
+are_none_come [] (row ∷ come) e = let f : false ≡ true = e in cc
+
+pub no_step : {T : Type 0} (holds : T → Look → (Named → Bool) → Type 0) (look : Look) (m : Memories T) (left right : Delta) → changes_nothing left ≡ true → TallyStep holds look m m left right
+no_step holds look m left right nothing = record {
+  stays = λ world scope alike goes comes r t was not_gone. (t, was, λ extra apart h. h);
+  fresh = λ world alike r absent comes. let f : false ≡ true = sym (ap (λ (rows : List Row). has rows r) (are_none_come left.gone left.come nothing)) ∙ comes in cc;
+}

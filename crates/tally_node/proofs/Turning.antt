@@ -87,16 +87,6 @@ absent m look row is r e = ap (left_at m look) (sym ((row_decides row r).0 e)) �
     none None f = refl
     none (Some x) f = let h : true ≡ false = f in cc
 
--- one turn of the memories after the other
-pub keeps_then : {S : Type 0} (first next last : Memories S) (look : Look) (left left_next left_now : Row → Bool) (right right_next right_now : Named → Bool)
-    → Keeps first next look left right → Keeps next last look left_next right_next → ((r : Row) → left_next r ≡ left_now r) → ((c : Named) → right_next c ≡ right_now c) → Keeps first last look left_now right_now
-keeps_then first next last look left left_next left_now right right_next right_now k m h j = record {
-  pattern = m.pattern ∙ k.pattern;
-  rows = λ r. m.rows r ∙ h r;
-  names = λ c. m.names c ∙ j c;
-  agrees = λ before. m.agrees (k.agrees before);
-}
-
 -- ---- the rows of a node
 module _ {T : Type 0} (origin : Row → Option Row) (gives : ℤ → Row → Bool) (output : Look → Row → T → Option ℤ) where
   from_alike : (m n : Memories T) (look : Look) → ((r : Row) → left_at m look r ≡ left_at n look r) → (o : Option Row) → output_from output m look o ≡ output_from output n look o

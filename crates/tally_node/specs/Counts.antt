@@ -23,13 +23,16 @@ pub record IsNumber (set : Named → Bool) (n : ℕ) : Type 0 where
 abbrev pub zero_where : Bool → Option ℤ
 zero_where b = cond b (Some (pos 0)) None
 
--- blockers are the number of the candidates that pass
-abbrev pub counts_blockers : Blockers → Look → (Named → Bool) → Type 0
-counts_blockers t world set = IsNumber set t.0
+-- the number is that of the candidates of the set, whatever a world knows of them
+abbrev pub counts : ℕ → Look → (Named → Bool) → Type 0
+counts n world set = IsNumber set n
 
--- and so are witnesses
+-- blockers and witnesses are both such a number, of the candidates that pass
+abbrev pub counts_blockers : Blockers → Look → (Named → Bool) → Type 0
+counts_blockers t = counts t.0
+
 abbrev pub counts_witnesses : Witnesses → Look → (Named → Bool) → Type 0
-counts_witnesses t world set = IsNumber set t.0
+counts_witnesses t = counts t.0
 
 -- with blockers a left row is shown where there is none
 abbrev pub where_unblocked : Look → Row → Blockers → Option ℤ

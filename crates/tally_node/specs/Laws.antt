@@ -19,9 +19,10 @@ use Rattle.pair_memory.specs.Joined.{has_name}
 use Rattle.pair_memory.specs.Memories.{left_at, has_left, has_right, Keeps}
 use Rattle.pair_memory.specs.Standing.{clean, cleaned, either, remembered, no_rows, no_names, PassesAlike, StandsFor, LooksAlike}
 use Rattle.pair_memory.specs.Inputs.{IsNameDifference, IsStepped}
+use Rattle.pair_memory.specs.Valued.{without_value, shows_value, valued}
 use Rattle.tally_node.specs.Counts.{AreDistinct}
 use Rattle.tally_node.specs.Gathers.{gathers, tested, result_for, is_result}
-use Rattle.tally_node.specs.Origins.{itself, shows_any, unvalued, shows_value, valued}
+use Rattle.tally_node.specs.Origins.{itself, shows_any}
 use Rattle.tally_node.specs.Tallies.{TallyStep, shown, SeeAlike}
 
 -- the candidates of the world that pass for a row, forgotten ones too
@@ -93,5 +94,5 @@ GatheredLaw a = (m : Memories Held) (look world : Look) (pass : Row → Named �
     → StandsCounted (gathers a) m look world pass rows names forgotten
     → ((row : Row) → Holds world (of row)) → ((row : Row) → AreDistinct (map name_of (of row)))
     → ((row : Row) (who : Named) → has_name (map name_of (of row)) who ≡ all_passing pass names row who)
-    → (row : Row) → shown unvalued shows_value (result_for a) m look row
+    → (row : Row) → shown without_value shows_value (result_for a) m look row
     ≡ valued (λ left v. cleaned rows forgotten left && is_result (tested a (bound_in look left) (result_of a (of left))) v) row

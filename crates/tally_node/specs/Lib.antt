@@ -1,5 +1,6 @@
 pub mod Origins
 pub mod Tallies
+pub mod Parts
 pub mod Counts
 pub mod Gathers
 pub mod Laws

@@ -6,8 +6,6 @@ use Rattle.row_delta.specs.declared.row.Row.{Row}
 use Rattle.row_delta.specs.declared.delta.Delta.{Delta}
 use Rattle.row_delta.specs.Rows.{has}
 use Rattle.row_delta.specs.NameOrder.{name_cmp}
-use Rattle.row_change.specs.declared.change.Change.{Change}
-use Rattle.row_change.specs.Changes.{Leads}
 use Rattle.rule_model.specs.declared.condition.Pattern.{Pattern}
 use Rattle.join_tests.specs.Joins.{Look, joins}
 use Rattle.pair_memory.specs.declared.memories.Memories.{Memories}
@@ -65,10 +63,6 @@ shown origin gives output m look row = offers gives (output_from output m look (
 -- a set of rows, changed in those that come from one left row
 abbrev pub changed_at : (Row → Option Row) → (Row → Bool) → Row → (Row → Bool) → Row → Bool
 changed_at origin rows row is r = cond (is_from (origin r) row) (is r) (rows r)
-
--- what has changed so far leads on to the rows that the node has then
-abbrev pub LeadsOn : {T : Type 0} → (Memories T → Row → Bool) → Memories T → Memories T → Change → Change → Type 0
-LeadsOn rows before after change changed = (old : Row → Bool) → Leads old (rows before) change.gone.keys change.come.keys → Leads old (rows after) changed.gone.keys changed.come.keys
 
 -- ---- a step
 

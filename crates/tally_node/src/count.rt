@@ -1,4 +1,11 @@
-ghost use Rattle.std.specs.Prelude.{◌≡◌};
+ghost use Rattle.std.specs.Prelude.{◌≡◌, ◌&&◌, Bool, true, false, ℤ, IfOk};
+ghost use Rattle.std.specs.Ordering.{eq_by_cmp};
+ghost use Rattle.row_delta.specs.declared.row.Named.{Named};
+ghost use Rattle.row_delta.specs.declared.row.Row.{Row};
+ghost use Rattle.row_delta.specs.Rows.{row_cmp};
+ghost use Rattle.tally_node.specs.Counts.{IsNumber, zero_where};
+ghost use Rattle.tally_node.specs.Origins.{is_from, itself, shows_any};
+ghost use Rattle.tally_node.specs.Tallies.{with_one, less_one};
 
 use crate::Tally;
 use fx_base::{Copies, Facts, NoMemory};
@@ -12,6 +19,38 @@ pub struct Blockers(pub u64);
 /// The tally of an `exists`: how many candidates pass. The left row is a row of the node where one does.
 #[derive(Debug, Drop)]
 pub struct Witnesses(pub u64);
+
+/// One candidate more; a number that is full is refused memory.
+fn one_more(count: u64) -> Result<u64, NoMemory>
+    ensures { IfOk result (λ now. (set : Named → Bool) (who : Named) → IsNumber set count → set who ≡ false → IsNumber (with_one set who) now) }
+{
+    match count.checked_add(1) {
+        Some(now) => Ok(now),
+        None => Err(NoMemory),
+    }
+}
+
+/// One candidate less.
+fn one_less(count: u64) -> u64
+    ensures { (set : Named → Bool) (who : Named) → IsNumber set count → set who ≡ true → IsNumber (less_one set who) result }
+{
+    count.saturating_sub(1)
+}
+
+/// That a left row is a row of the node as it is, or none.
+fn zero_where(shows: bool) -> Option<i64>
+    ensures { result ≡ zero_where shows }
+{
+    if shows { Some(0) } else { None }
+}
+
+/// The left row as it is.
+fn itself(alloc: Global, row: &Row) -> Result<Row, NoMemory>
+    ensures { IfOk result (λ made. (value : ℤ) (r : Row) → eq_by_cmp row_cmp r made ≡ (is_from (itself r) row.now && shows_any value r)) }
+{
+    let copy = row.copy(alloc)?;
+    Ok(copy)
+}
 
 impl Tally for Blockers {
     ghost use Rattle.tally_node.specs.Counts.{counts_blockers, where_unblocked};
@@ -38,10 +77,8 @@ impl Tally for Blockers {
         _who: Named,
         _facts: &F,
     ) -> Result<Blockers, NoMemory> {
-        match self.0.checked_add(1) {
-            Some(count) => Ok(Blockers(count)),
-            None => Err(NoMemory),
-        }
+        let count = one_more(self.0)?;
+        Ok(Blockers(count))
     }
 
     fn take<F: Facts>(
@@ -51,16 +88,16 @@ impl Tally for Blockers {
         _who: Named,
         _facts: &F,
     ) -> Result<Blockers, NoMemory> {
-        Ok(Blockers(self.0.saturating_sub(1)))
+        Ok(Blockers(one_less(self.0)))
     }
 
     fn output<F: Facts>(&self, _plan: &(), _row: &Row, _facts: &F) -> Option<i64> {
-        if self.0 == 0 { Some(0) } else { None }
+        zero_where(self.0 == 0)
     }
 
     fn made(alloc: Global, row: &Row, _value: i64) -> Result<Row, NoMemory> {
-        let copy = row.copy(alloc)?;
-        Ok(copy)
+        let made = itself(alloc, row)?;
+        Ok(made)
     }
 }
 
@@ -89,10 +126,8 @@ impl Tally for Witnesses {
         _who: Named,
         _facts: &F,
     ) -> Result<Witnesses, NoMemory> {
-        match self.0.checked_add(1) {
-            Some(count) => Ok(Witnesses(count)),
-            None => Err(NoMemory),
-        }
+        let count = one_more(self.0)?;
+        Ok(Witnesses(count))
     }
 
     fn take<F: Facts>(
@@ -102,15 +137,15 @@ impl Tally for Witnesses {
         _who: Named,
         _facts: &F,
     ) -> Result<Witnesses, NoMemory> {
-        Ok(Witnesses(self.0.saturating_sub(1)))
+        Ok(Witnesses(one_less(self.0)))
     }
 
     fn output<F: Facts>(&self, _plan: &(), _row: &Row, _facts: &F) -> Option<i64> {
-        if self.0 != 0 { Some(0) } else { None }
+        zero_where(self.0 != 0)
     }
 
     fn made(alloc: Global, row: &Row, _value: i64) -> Result<Row, NoMemory> {
-        let copy = row.copy(alloc)?;
-        Ok(copy)
+        let made = itself(alloc, row)?;
+        Ok(made)
     }
 }

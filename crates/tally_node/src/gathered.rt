@@ -144,7 +144,7 @@ fn taken_in(field: Option<u8>, fact: &Fact) -> i64
 
 impl Tally for Gathered {
     ghost use Rattle.tally_node.specs.Gathers.{gathers, result_for};
-    ghost use Rattle.tally_node.specs.Origins.{unvalued, shows_value};
+    ghost use Rattle.pair_memory.specs.Valued.{without_value, shows_value};
 
     type Plan = Accumulate;
 
@@ -152,7 +152,7 @@ impl Tally for Gathered {
 
     ghost output = { result_for };
 
-    ghost origin = { unvalued };
+    ghost origin = { without_value };
 
     ghost gives = { shows_value };
 

@@ -2,11 +2,12 @@
 ghost use Rattle.std.specs.Prelude.{not};
 ghost use Rattle.fold_fn.specs.Held.{Held};
 ghost use Rattle.rule_model.specs.declared.condition.Accumulate.{Accumulate};
+ghost use Rattle.pair_memory.specs.Valued.{without_value, shows_value};
 ghost use Rattle.tally_node.specs.declared.count.Blockers.{Blockers};
 ghost use Rattle.tally_node.specs.declared.count.Witnesses.{Witnesses};
 ghost use Rattle.tally_node.specs.Counts.{counts_blockers, counts_witnesses, where_unblocked, where_witnessed};
 ghost use Rattle.tally_node.specs.Gathers.{gathers, result_for};
-ghost use Rattle.tally_node.specs.Origins.{itself, shows_any, unvalued, shows_value};
+ghost use Rattle.tally_node.specs.Origins.{itself, shows_any};
 ghost use Rattle.tally_node.specs.Laws.{StartLaw, TallyLaw, ForgetLaw, DropLaw, MoveLaw, ShownLaw, GatheredLaw};
 
 /// A node that keeps nothing counts nothing.
@@ -34,7 +35,7 @@ pub fn forgetting_keeps_the_tallies()
 pub fn what_is_dropped_names_an_old_fact()
     ensures blockers { DropLaw Blockers itself shows_any where_unblocked }
     ensures witnesses { DropLaw Witnesses itself shows_any where_witnessed }
-    ensures gathered { (a : Accumulate) → DropLaw Held unvalued shows_value (result_for a) }
+    ensures gathered { (a : Accumulate) → DropLaw Held without_value shows_value (result_for a) }
 {}
 
 /// What a node stands for depends on the facts at the tags that it keeps alone.

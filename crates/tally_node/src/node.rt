@@ -6,18 +6,19 @@ ghost use Rattle.row_delta.specs.declared.row.Named.{Named};
 ghost use Rattle.row_delta.specs.Rows.{has, row_cmp, InOrder};
 ghost use Rattle.row_delta.specs.NameOrder.{name_cmp};
 ghost use Rattle.row_change.specs.Changes.{Leads, IsDifference};
-ghost use Rattle.join_tests.specs.Joins.{Look, joins};
+ghost use Rattle.join_tests.specs.Joins.{Look};
 ghost use Rattle.pair_memory.specs.Joined.{has_name};
 ghost use Rattle.pair_memory.specs.Memories.{left_at, has_left, has_right, Keeps};
 ghost use Rattle.pair_memory.specs.Standing.{no_rows, no_names, StandsFor};
 ghost use Rattle.pair_memory.specs.Inputs.{IsStepped};
-ghost use Rattle.tally_node.specs.Tallies.{Turned, TurnedIf, Steps, offers, shown, changed_at, LeadsOn, SeeAlike, Follows, Arrives, passing, TallyStep};
+ghost use Rattle.tally_node.specs.Tallies.{Turned, offers, shown, changed_at, SeeAlike, TallyStep};
+ghost use Rattle.tally_node.specs.Parts.{PartStep, AllTurned, AllFollow, AllDropped, AllArrive, AllStay};
 ghost use Rattle.tally_node.specs.Origins.{is_from};
 
 use crate::Tally;
 use fx_base::{Copies, Facts, NoMemory, Seq};
 use pair_memory::{Memories, names_alone};
-use row_change::Change;
+use row_change::{Change, changes_nothing};
 use row_delta::{Delta, Named, Row};
 use rule_model::Pattern;
 use std::alloc::Global;
@@ -125,10 +126,8 @@ impl<T: Tally> TallyNode<T> {
         who: Named,
         facts: &F,
     ) -> Result<(), NoMemory>
-        ensures keeps { OnOk result (Keeps self.old.memories self.new.memories (F.map facts.now) (has_left self.old.memories (F.map facts.now)) (has_right self.old.memories (F.map facts.now))) }
-        ensures left { OnOk result ((world : Look) → world who.tag ≡ F.map facts.now who.tag → (r : Row) → Steps (TurnedIf (eq_by_cmp row_cmp row.now r) (T.holds plan.now) world comes who)
-            (left_at self.old.memories (F.map facts.now) r) (left_at self.new.memories (F.map facts.now) r)) }
-        ensures leads { OnOk result (LeadsOn (λ m. shown T.origin T.gives (T.output plan.now) m (F.map facts.now)) self.old.memories self.new.memories change.old change.new) }
+        ensures { OnOk result (PartStep (shown T.origin T.gives (T.output plan.now)) (AllTurned (T.holds plan.now) (F.map facts.now) comes who (eq_by_cmp row_cmp row.now)) self.old.memories self.new.memories (F.map facts.now)
+            (has_left self.old.memories (F.map facts.now)) (has_right self.old.memories (F.map facts.now)) change.old change.new) }
     {
         if !self.has_left(row, facts) {
             return Ok(());
@@ -159,10 +158,8 @@ impl<T: Tally> TallyNode<T> {
         facts: &F,
     ) -> Result<(), NoMemory>
         requires { IsStrictlySortedBy row_cmp rows.now }
-        ensures keeps { OnOk result (Keeps self.old.memories self.new.memories (F.map facts.now) (has_left self.old.memories (F.map facts.now)) (has_right self.old.memories (F.map facts.now))) }
-        ensures left { OnOk result ((world : Look) → world who.tag ≡ F.map facts.now who.tag → (r : Row) → Steps (TurnedIf (has rows.now r) (T.holds plan.now) world comes who)
-            (left_at self.old.memories (F.map facts.now) r) (left_at self.new.memories (F.map facts.now) r)) }
-        ensures leads { OnOk result (LeadsOn (λ m. shown T.origin T.gives (T.output plan.now) m (F.map facts.now)) self.old.memories self.new.memories change.old change.new) }
+        ensures { OnOk result (PartStep (shown T.origin T.gives (T.output plan.now)) (AllTurned (T.holds plan.now) (F.map facts.now) comes who (has rows.now)) self.old.memories self.new.memories (F.map facts.now)
+            (has_left self.old.memories (F.map facts.now)) (has_right self.old.memories (F.map facts.now)) change.old change.new) }
     {
         for row in rows {
             self.turn_at(alloc, plan, change, row, comes, who, facts)?;
@@ -178,11 +175,8 @@ impl<T: Tally> TallyNode<T> {
         who: Named,
         facts: &F,
     ) -> Result<(), NoMemory>
-        ensures keeps { OnOk result (Keeps self.old.memories self.new.memories (F.map facts.now) (has_left self.old.memories (F.map facts.now)) (λ c. has_right self.old.memories (F.map facts.now) c && not (eq_by_cmp name_cmp who c))) }
-        ensures left { OnOk result ((world : Look) (scope : Named → Bool) → SeeAlike scope (F.map facts.now) world → scope who ≡ true → (r : Row)
-            → Steps (Follows (T.holds plan.now) world scope (has_right self.old.memories (F.map facts.now)) (has_right self.new.memories (F.map facts.now)) (joins self.old.memories.pattern (F.map facts.now) r))
-            (left_at self.old.memories (F.map facts.now) r) (left_at self.new.memories (F.map facts.now) r)) }
-        ensures leads { OnOk result (LeadsOn (λ m. shown T.origin T.gives (T.output plan.now) m (F.map facts.now)) self.old.memories self.new.memories change.old change.new) }
+        ensures { OnOk result (PartStep (shown T.origin T.gives (T.output plan.now)) (AllFollow (T.holds plan.now) (F.map facts.now) (eq_by_cmp name_cmp who)) self.old.memories self.new.memories (F.map facts.now)
+            (has_left self.old.memories (F.map facts.now)) (λ c. has_right self.old.memories (F.map facts.now) c && not (eq_by_cmp name_cmp who c)) change.old change.new) }
     {
         if self.memories.take_right(who, facts) {
             let rows = self.memories.partners(alloc, who, facts)?;
@@ -200,11 +194,8 @@ impl<T: Tally> TallyNode<T> {
         who: Named,
         facts: &F,
     ) -> Result<(), NoMemory>
-        ensures keeps { OnOk result (Keeps self.old.memories self.new.memories (F.map facts.now) (has_left self.old.memories (F.map facts.now)) (λ c. has_right self.old.memories (F.map facts.now) c || eq_by_cmp name_cmp who c)) }
-        ensures left { OnOk result ((world : Look) (scope : Named → Bool) → SeeAlike scope (F.map facts.now) world → scope who ≡ true → (r : Row)
-            → Steps (Follows (T.holds plan.now) world scope (has_right self.old.memories (F.map facts.now)) (has_right self.new.memories (F.map facts.now)) (joins self.old.memories.pattern (F.map facts.now) r))
-            (left_at self.old.memories (F.map facts.now) r) (left_at self.new.memories (F.map facts.now) r)) }
-        ensures leads { OnOk result (LeadsOn (λ m. shown T.origin T.gives (T.output plan.now) m (F.map facts.now)) self.old.memories self.new.memories change.old change.new) }
+        ensures { OnOk result (PartStep (shown T.origin T.gives (T.output plan.now)) (AllFollow (T.holds plan.now) (F.map facts.now) (eq_by_cmp name_cmp who)) self.old.memories self.new.memories (F.map facts.now)
+            (has_left self.old.memories (F.map facts.now)) (λ c. has_right self.old.memories (F.map facts.now) c || eq_by_cmp name_cmp who c) change.old change.new) }
     {
         if self.memories.put_right(alloc, who, facts)? {
             return Ok(());
@@ -222,11 +213,8 @@ impl<T: Tally> TallyNode<T> {
         names: &[Named],
         facts: &F,
     ) -> Result<(), NoMemory>
-        ensures keeps { OnOk result (Keeps self.old.memories self.new.memories (F.map facts.now) (has_left self.old.memories (F.map facts.now)) (λ c. has_right self.old.memories (F.map facts.now) c && not (has_name names.now c))) }
-        ensures left { OnOk result ((world : Look) (scope : Named → Bool) → SeeAlike scope (F.map facts.now) world → ((c : Named) → has_name names.now c ≡ true → scope c ≡ true) → (r : Row)
-            → Steps (Follows (T.holds plan.now) world scope (has_right self.old.memories (F.map facts.now)) (has_right self.new.memories (F.map facts.now)) (joins self.old.memories.pattern (F.map facts.now) r))
-            (left_at self.old.memories (F.map facts.now) r) (left_at self.new.memories (F.map facts.now) r)) }
-        ensures leads { OnOk result (LeadsOn (λ m. shown T.origin T.gives (T.output plan.now) m (F.map facts.now)) self.old.memories self.new.memories change.old change.new) }
+        ensures { OnOk result (PartStep (shown T.origin T.gives (T.output plan.now)) (AllFollow (T.holds plan.now) (F.map facts.now) (has_name names.now)) self.old.memories self.new.memories (F.map facts.now)
+            (has_left self.old.memories (F.map facts.now)) (λ c. has_right self.old.memories (F.map facts.now) c && not (has_name names.now c)) change.old change.new) }
     {
         for who in names {
             self.name_leaves(alloc, plan, change, *who, facts)?;
@@ -242,11 +230,8 @@ impl<T: Tally> TallyNode<T> {
         names: &[Named],
         facts: &F,
     ) -> Result<(), NoMemory>
-        ensures keeps { OnOk result (Keeps self.old.memories self.new.memories (F.map facts.now) (has_left self.old.memories (F.map facts.now)) (λ c. has_right self.old.memories (F.map facts.now) c || has_name names.now c)) }
-        ensures left { OnOk result ((world : Look) (scope : Named → Bool) → SeeAlike scope (F.map facts.now) world → ((c : Named) → has_name names.now c ≡ true → scope c ≡ true) → (r : Row)
-            → Steps (Follows (T.holds plan.now) world scope (has_right self.old.memories (F.map facts.now)) (has_right self.new.memories (F.map facts.now)) (joins self.old.memories.pattern (F.map facts.now) r))
-            (left_at self.old.memories (F.map facts.now) r) (left_at self.new.memories (F.map facts.now) r)) }
-        ensures leads { OnOk result (LeadsOn (λ m. shown T.origin T.gives (T.output plan.now) m (F.map facts.now)) self.old.memories self.new.memories change.old change.new) }
+        ensures { OnOk result (PartStep (shown T.origin T.gives (T.output plan.now)) (AllFollow (T.holds plan.now) (F.map facts.now) (has_name names.now)) self.old.memories self.new.memories (F.map facts.now)
+            (has_left self.old.memories (F.map facts.now)) (λ c. has_right self.old.memories (F.map facts.now) c || has_name names.now c) change.old change.new) }
     {
         for who in names {
             self.name_comes(alloc, plan, change, *who, facts)?;
@@ -262,9 +247,8 @@ impl<T: Tally> TallyNode<T> {
         row: &Row,
         facts: &F,
     ) -> Result<(), NoMemory>
-        ensures keeps { OnOk result (Keeps self.old.memories self.new.memories (F.map facts.now) (λ r. has_left self.old.memories (F.map facts.now) r && not (eq_by_cmp row_cmp row.now r)) (has_right self.old.memories (F.map facts.now))) }
-        ensures left { OnOk result ((r : Row) → left_at self.new.memories (F.map facts.now) r ≡ cond (eq_by_cmp row_cmp row.now r) None (left_at self.old.memories (F.map facts.now) r)) }
-        ensures leads { OnOk result (LeadsOn (λ m. shown T.origin T.gives (T.output plan.now) m (F.map facts.now)) self.old.memories self.new.memories change.old change.new) }
+        ensures { OnOk result (PartStep (shown T.origin T.gives (T.output plan.now)) (AllDropped (F.map facts.now) (eq_by_cmp row_cmp row.now)) self.old.memories self.new.memories (F.map facts.now)
+            (λ r. has_left self.old.memories (F.map facts.now) r && not (eq_by_cmp row_cmp row.now r)) (has_right self.old.memories (F.map facts.now)) change.old change.new) }
     {
         match self.memories.take_left(row, facts) {
             Some(tally) => {
@@ -284,10 +268,8 @@ impl<T: Tally> TallyNode<T> {
         row: &Row,
         facts: &F,
     ) -> Result<(), NoMemory>
-        ensures keeps { OnOk result (Keeps self.old.memories self.new.memories (F.map facts.now) (λ r. has_left self.old.memories (F.map facts.now) r || eq_by_cmp row_cmp row.now r) (has_right self.old.memories (F.map facts.now))) }
-        ensures left { OnOk result ((world : Look) → SeeAlike (has_right self.old.memories (F.map facts.now)) (F.map facts.now) world → (r : Row) → Arrives (eq_by_cmp row_cmp row.now r) (T.holds plan.now) world (passing self.old.memories.pattern (F.map facts.now) (has_right self.old.memories (F.map facts.now)) r)
-            (left_at self.old.memories (F.map facts.now) r) (left_at self.new.memories (F.map facts.now) r)) }
-        ensures leads { OnOk result (LeadsOn (λ m. shown T.origin T.gives (T.output plan.now) m (F.map facts.now)) self.old.memories self.new.memories change.old change.new) }
+        ensures { OnOk result (PartStep (shown T.origin T.gives (T.output plan.now)) (AllArrive (T.holds plan.now) (F.map facts.now) (eq_by_cmp row_cmp row.now)) self.old.memories self.new.memories (F.map facts.now)
+            (λ r. has_left self.old.memories (F.map facts.now) r || eq_by_cmp row_cmp row.now r) (has_right self.old.memories (F.map facts.now)) change.old change.new) }
     {
         if self.has_left(row, facts) {
             return Ok(());
@@ -309,9 +291,8 @@ impl<T: Tally> TallyNode<T> {
         rows: &[Row],
         facts: &F,
     ) -> Result<(), NoMemory>
-        ensures keeps { OnOk result (Keeps self.old.memories self.new.memories (F.map facts.now) (λ r. has_left self.old.memories (F.map facts.now) r && not (has rows.now r)) (has_right self.old.memories (F.map facts.now))) }
-        ensures left { OnOk result ((r : Row) → left_at self.new.memories (F.map facts.now) r ≡ cond (has rows.now r) None (left_at self.old.memories (F.map facts.now) r)) }
-        ensures leads { OnOk result (LeadsOn (λ m. shown T.origin T.gives (T.output plan.now) m (F.map facts.now)) self.old.memories self.new.memories change.old change.new) }
+        ensures { OnOk result (PartStep (shown T.origin T.gives (T.output plan.now)) (AllDropped (F.map facts.now) (has rows.now)) self.old.memories self.new.memories (F.map facts.now)
+            (λ r. has_left self.old.memories (F.map facts.now) r && not (has rows.now r)) (has_right self.old.memories (F.map facts.now)) change.old change.new) }
     {
         for row in rows {
             self.row_leaves(alloc, plan, change, row, facts)?;
@@ -327,10 +308,8 @@ impl<T: Tally> TallyNode<T> {
         rows: &[Row],
         facts: &F,
     ) -> Result<(), NoMemory>
-        ensures keeps { OnOk result (Keeps self.old.memories self.new.memories (F.map facts.now) (λ r. has_left self.old.memories (F.map facts.now) r || has rows.now r) (has_right self.old.memories (F.map facts.now))) }
-        ensures left { OnOk result ((world : Look) → SeeAlike (has_right self.old.memories (F.map facts.now)) (F.map facts.now) world → (r : Row) → Arrives (has rows.now r) (T.holds plan.now) world (passing self.old.memories.pattern (F.map facts.now) (has_right self.old.memories (F.map facts.now)) r)
-            (left_at self.old.memories (F.map facts.now) r) (left_at self.new.memories (F.map facts.now) r)) }
-        ensures leads { OnOk result (LeadsOn (λ m. shown T.origin T.gives (T.output plan.now) m (F.map facts.now)) self.old.memories self.new.memories change.old change.new) }
+        ensures { OnOk result (PartStep (shown T.origin T.gives (T.output plan.now)) (AllArrive (T.holds plan.now) (F.map facts.now) (has rows.now)) self.old.memories self.new.memories (F.map facts.now)
+            (λ r. has_left self.old.memories (F.map facts.now) r || has rows.now r) (has_right self.old.memories (F.map facts.now)) change.old change.new) }
     {
         for row in rows {
             self.row_comes(alloc, plan, change, row, facts)?;
@@ -359,8 +338,29 @@ impl<T: Tally> TallyNode<T> {
     /// own, and answers what has changed in the rows of the node. For each row or candidate that comes or goes it costs the
     /// logarithm of what has the same join value, and a test of what has it on the other side; for each left row for which a
     /// candidate comes or goes, one more or one less in its tally, and where the tally then gives something else, two rows and
-    /// the logarithm of what has changed. Where nothing has changed, it takes no memory.
+    /// the logarithm of what has changed. Where nothing has changed, it costs a comparison.
     pub fn advance<F: Facts>(
+        &mut self,
+        alloc: Global,
+        plan: &T::Plan,
+        left: &Delta,
+        right: &Delta,
+        facts: &F,
+    ) -> Result<Delta, NoMemory>
+        ensures kept { OnOk result (IsStepped self.old.memories self.new.memories (F.map facts.now) left.now right.now) }
+        ensures tallies { OnOk result (TallyStep (T.holds plan.now) (F.map facts.now) self.old.memories self.new.memories left.now right.now) }
+        ensures difference { IfOk result (λ delta. IsDifference (shown T.origin T.gives (T.output plan.now) self.old.memories (F.map facts.now)) (shown T.origin T.gives (T.output plan.now) self.new.memories (F.map facts.now)) delta) }
+    {
+        if changes_nothing(left) && changes_nothing(right) {
+            let delta = Change::none(alloc).delta(alloc)?;
+            return Ok(delta);
+        }
+        let delta = self.advanced(alloc, plan, left, right, facts)?;
+        Ok(delta)
+    }
+
+    /// A step in which something changes.
+    fn advanced<F: Facts>(
         &mut self,
         alloc: Global,
         plan: &T::Plan,
@@ -390,7 +390,7 @@ impl<T: Tally> TallyNode<T> {
         facts: &F,
     ) -> Result<(), NoMemory>
         ensures keeps { OnOk result (Keeps self.old.memories self.new.memories (F.map facts.now) (has_left self.old.memories (F.map facts.now)) (λ c. has_right self.old.memories (F.map facts.now) c && not (has_name names.now c))) }
-        ensures left { OnOk result ((r : Row) → left_at self.new.memories (F.map facts.now) r ≡ left_at self.old.memories (F.map facts.now) r) }
+        ensures left { OnOk result (AllStay (F.map facts.now) self.old.memories self.new.memories) }
     {
         for who in names {
             self.memories.take_right(*who, facts);

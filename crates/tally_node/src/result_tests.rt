@@ -1,8 +1,9 @@
 ghost use Rattle.std.specs.Prelude.{◌≡◌, Some, option_map};
-ghost use Rattle.rule_model.specs.Lent.{bound_in, named_at};
-ghost use Rattle.rule_model.specs.Tests.{field_of, related_given, result_holds, results_hold};
+ghost use Rattle.rule_model.specs.Lent.{bound_in};
+ghost use Rattle.rule_model.specs.Tests.{related_given, result_holds, results_hold};
 
-use fx_base::{Fact, Facts, Value};
+use fx_base::{Facts, Value};
+use join_tests::{field_value, named_fact};
 use row_delta::Row;
 use rule_model::{RelTag, ResultTest, Side};
 
@@ -40,23 +41,5 @@ fn is_related(rel: RelTag, left: &Value, right: Option<&Value>) -> bool
     match right {
         Some(right) => rel.holds(left, right),
         None => false,
-    }
-}
-
-fn named_fact<'a, F: Facts>(row: &Row, place: u8, facts: &'a F) -> Option<&'a Fact>
-    ensures { option_map (λ f. f.now) result ≡ named_at (F.map facts.now) row.now.facts place }
-{
-    match row.facts.as_slice().get(place as usize) {
-        Some(named) => facts.fact(named.tag),
-        None => None,
-    }
-}
-
-fn field_value<'a>(fact: Option<&'a Fact>, field: u8) -> Option<&'a Value>
-    ensures { option_map (λ v. v.now) result ≡ field_of (option_map (λ f. f.now) fact.entry) field }
-{
-    match fact {
-        Some(fact) => fact.fields.as_slice().get(field as usize),
-        None => None,
     }
 }

@@ -79,14 +79,14 @@ none row [] e = refl
 none row (x ∷ xs) e = ap (λ b. b || has (map single xs) row) (e x) ∙ none row xs e
 
 -- a version's row stands where the version does
-one : (named : Named) (xs : List Named) → has (map single xs) (single named) ≡ has_name xs named
-one named [] = refl
-one named (x ∷ xs) = ap (λ o. is_eq o || has (map single xs) (single named)) (row_cmp-single named x) ∙ ap (λ b. eq_by_cmp name_cmp named x || b) (one named xs)
+pub has-single : (named : Named) (xs : List Named) → has (map single xs) (single named) ≡ has_name xs named
+has-single named [] = refl
+has-single named (x ∷ xs) = ap (λ o. is_eq o || has (map single xs) (single named)) (row_cmp-single named x) ∙ ap (λ b. eq_by_cmp name_cmp named x || b) (has-single named xs)
 
 -- what holds of membership of each version holds of each row
 shaped : (P : (List Named → Bool) → Type 0) → P (λ xs. false) → ((named : Named) → P (λ xs. has_name xs named)) → (facts : List Named) (values : List ℤ) → P (λ xs. has (map single xs) (row_of facts values))
 shaped P nowhere there [] values = subst P (sym (fun_ext (λ xs. none (row_of [] values) xs (no_facts values)))) nowhere
-shaped P nowhere there (fact ∷ []) [] = subst P (sym (fun_ext (λ xs. one fact xs))) (there fact)
+shaped P nowhere there (fact ∷ []) [] = subst P (sym (fun_ext (λ xs. has-single fact xs))) (there fact)
 shaped P nowhere there (fact ∷ []) (value ∷ values) = subst P (sym (fun_ext (λ xs. none (row_of (fact ∷ []) (value ∷ values)) xs (some_values fact value values)))) nowhere
 shaped P nowhere there (fact ∷ other ∷ facts) values = subst P (sym (fun_ext (λ xs. none (row_of (fact ∷ other ∷ facts) values) xs (more_facts fact other facts values)))) nowhere
 

@@ -3,8 +3,9 @@ use Rattle.tally_node.specs.declared.count.Witnesses.{Witnesses}
 use Rattle.fold_fn.specs.Held.{Held}
 use Rattle.tally_node.specs.Counts.{where_unblocked, where_witnessed}
 use Rattle.tally_node.specs.Gathers.{result_for}
-use Rattle.tally_node.specs.Origins.{itself, shows_any, unvalued, shows_value}
-use Rattle.tally_node.proofs.Lawful.{drop_law, itself_facts, unvalued_facts}
+use Rattle.pair_memory.specs.Valued.{without_value, shows_value}
+use Rattle.tally_node.specs.Origins.{itself, shows_any}
+use Rattle.tally_node.proofs.Lawful.{drop_law, itself_facts, without_value_facts}
 use Rattle.tally_node.proofs.laws.what_is_dropped_names_an_old_fact.Goals as goal
 
 pub returns-clause-blockers : goal.returns-clause-blockers
@@ -14,4 +15,4 @@ pub returns-clause-witnesses : goal.returns-clause-witnesses
 returns-clause-witnesses c = drop_law Witnesses itself shows_any where_witnessed itself_facts
 
 pub returns-clause-gathered : goal.returns-clause-gathered
-returns-clause-gathered c a = drop_law Held unvalued shows_value (result_for a) unvalued_facts
+returns-clause-gathered c a = drop_law Held without_value shows_value (result_for a) without_value_facts

@@ -2,8 +2,9 @@ use Rattle.std.proofs.Common.{◌≡◌, ◌∙◌, ap, List, ℤ, ◌++◌, ◌
 use Rattle.std.specs.Ordering.{eq_by_cmp}
 use Rattle.row_delta.specs.declared.row.Row.{Row}
 use Rattle.row_delta.specs.Rows.{row_cmp}
-use Rattle.tally_node.specs.Origins.{with_value}
-use Rattle.tally_node.proofs.Gathering.{value_row, row_with}
+use Rattle.pair_memory.specs.Valued.{with_value}
+use Rattle.pair_memory.proofs.Valued.{row_valued}
+use Rattle.tally_node.proofs.Gathering.{value_row}
 use Rattle.tally_node.proofs.gathered.GatheredTally.made.Goals as goal
 
 pub returns : goal.returns
@@ -12,6 +13,6 @@ returns c r =
     let pushed = simp to_z-of_z at c.in_ok-push.ensures.items in
     let values : c.from_vec.result ≡ c.in_ok-copy.copy.values ++ c.args.value ∷ [] =
     c.from_vec.ensures ∙ pushed ∙ ap (λ (xs : List ℤ). xs ++ c.args.value ∷ []) c.into_vec-values.ensures in
-    ap (λ (xs : List ℤ). eq_by_cmp row_cmp r (row_with c.in_ok-copy.copy xs)) values
+    ap (λ (xs : List ℤ). eq_by_cmp row_cmp r (row_valued c.in_ok-copy.copy xs)) values
     ∙ ap (λ (row : Row). eq_by_cmp row_cmp r (with_value row c.args.value)) c.in_ok-copy.ensures
     ∙ value_row r c.args.row.now c.args.value

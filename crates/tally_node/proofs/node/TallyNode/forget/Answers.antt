@@ -16,3 +16,6 @@ returns-clause-in_order g c =
     let look = g.F.Facts.map c.args.facts.now in
     let old = shown g.T.Tally.origin g.T.Tally.gives (g.T.Tally.output c.args.plan.now) c.args.self.now.memories look in
     (c.in_ok-delta.ensures old (shown g.T.Tally.origin g.T.Tally.gives (g.T.Tally.output c.args.plan.now) c.rows_leave.new.self.memories look) (c.in_ok-rows_leave.ensures.leads old (c.none-change.ensures old))).gone_in_order
+
+pub returns-clause-left : goal.returns-clause-left
+returns-clause-left g c r = c.in_ok-names_drop.ensures.left r ∙ c.in_ok-rows_leave.ensures.tallies r

@@ -1,39 +1,38 @@
-use Rattle.std.proofs.Common.{◌∙◌, sym, ap, subst, List, true, ◌&&◌}
-use Rattle.std.specs.Option.{is_some}
+use Rattle.std.proofs.Common.{◌∙◌, sym, ap, List}
+use Rattle.std.specs.Ordering.{eq_by_cmp}
 use Rattle.row_delta.specs.declared.row.Row.{Row}
 use Rattle.row_delta.specs.Rows.{has}
-use Rattle.rule_model.specs.declared.condition.Pattern.{Pattern}
+use Rattle.row_delta.specs.NameOrder.{name_cmp}
 use Rattle.join_tests.specs.Joins.{joins}
-use Rattle.pair_memory.specs.Memories.{left_at, has_left, has_right}
-use Rattle.row_change.proofs.Alike.{leads_alike}
+use Rattle.pair_memory.specs.Memories.{left_at, has_right}
 use Rattle.pair_memory.proofs.Turning.{name_present}
-use Rattle.tally_node.specs.Tallies.{TurnedIf, Steps}
-use Rattle.tally_node.proofs.Following.{steps_come, steps_follow_same}
-use Rattle.tally_node.proofs.Turning.{shown_alike}
+use Rattle.tally_node.specs.Parts.{AllFollow, AllStay}
+use Rattle.tally_node.proofs.Following.{steps_follow_same}
+use Rattle.tally_node.proofs.Parts.{unmoved, part_then, come_all}
 use Rattle.tally_node.proofs.node.TallyNode.name_comes.Goals as goal
 
-pub returns-then-branch-clause-left : goal.returns-then-branch-clause-left
-returns-then-branch-clause-left g c world scope alike inside r =
+pub returns-then-branch : goal.returns-then-branch
+returns-then-branch g c =
     let look = g.F.Facts.map c.args.facts.now in
     let m = c.args.self.now.memories in
-    steps_follow_same (g.T.Tally.holds c.args.plan.now) world scope (has_right m look) (has_right c.put_right.new.self look) (joins m.pattern look r)
-    (λ x. c.in_ok-put_right.ensures.keeps.names x ∙ sym (name_present (has_right m look) c.args.who (sym c.in_ok-put_right.ensures.before ∙ c.if-branch.true) x)) (left_at m look r) (left_at c.put_right.new.self look r) (c.in_ok-put_right.ensures.left r)
+    let n = c.put_right.new.self in
+    let holds = g.T.Tally.holds c.args.plan.now in
+    let keeps = c.in_ok-put_right.ensures.keeps in
+    unmoved g.T.Tally.origin g.T.Tally.gives (g.T.Tally.output c.args.plan.now) (AllFollow holds look (eq_by_cmp name_cmp c.args.who)) m n look _ _ c.args.change.now keeps c.in_ok-put_right.ensures.left
+    (λ world scope alike inside r.
+    steps_follow_same holds world scope (has_right m look) (has_right n look) (joins m.pattern look r)
+    (λ x. keeps.names x ∙ sym (name_present (has_right m look) c.args.who (sym c.in_ok-put_right.ensures.before ∙ c.if-branch.true) x)) (left_at m look r) (left_at n look r) (c.in_ok-put_right.ensures.left r))
 
-pub returns-then-branch-clause-leads : goal.returns-then-branch-clause-leads
-returns-then-branch-clause-leads g c old leads = leads_alike old _ _ _ _ leads (shown_alike g.T.Tally.origin g.T.Tally.gives (g.T.Tally.output c.args.plan.now) c.args.self.now.memories c.put_right.new.self (g.F.Facts.map c.args.facts.now) (λ r. sym (c.in_ok-put_right.ensures.left r)))
-
-pub returns-clause-left : goal.returns-clause-left
-returns-clause-left g c world scope alike inside r =
+pub returns : goal.returns
+returns g c =
     let look = g.F.Facts.map c.args.facts.now in
     let m = c.args.self.now.memories in
     let n = c.put_right.new.self in
     let z = c.turn_all.new.self.memories in
-    steps_come (g.T.Tally.holds c.args.plan.now) world scope (has_right m look) (has_right z look) (joins m.pattern look r) c.args.who inside (sym c.in_ok-put_right.ensures.before ∙ c.if-branch.false)
-    (λ x. c.in_ok-turn_all.ensures.keeps.names x ∙ c.in_ok-put_right.ensures.keeps.names x) (left_at m look r) (left_at z look r) (has c.as_slice.result.now r)
-    (ap (λ (rows : List Row). has rows r) c.as_slice.ensures.value ∙ c.in_ok-rows.ensures.rows r
-    ∙ ap (λ (p : Pattern). has_left n look r && joins p look r c.args.who) c.in_ok-put_right.ensures.keeps.pattern ∙ ap (λ o. is_some o && joins m.pattern look r c.args.who) (c.in_ok-put_right.ensures.left r))
-    (subst (λ o. Steps (TurnedIf (has c.as_slice.result.now r) (g.T.Tally.holds c.args.plan.now) world true c.args.who) o (left_at z look r)) (c.in_ok-put_right.ensures.left r) (c.in_ok-turn_all.ensures.left world (alike c.args.who inside) r))
-
-pub returns-clause-leads : goal.returns-clause-leads
-returns-clause-leads g c old leads =
-    c.in_ok-turn_all.ensures.leads old (leads_alike old _ _ _ _ leads (shown_alike g.T.Tally.origin g.T.Tally.gives (g.T.Tally.output c.args.plan.now) c.args.self.now.memories c.put_right.new.self (g.F.Facts.map c.args.facts.now) (λ r. sym (c.in_ok-put_right.ensures.left r))))
+    let keeps = c.in_ok-put_right.ensures.keeps in
+    part_then _ _ _ m n z look _ _ _ _ _ _ _ _ _
+    (unmoved g.T.Tally.origin g.T.Tally.gives (g.T.Tally.output c.args.plan.now) (AllStay look) m n look _ _ c.args.change.now keeps c.in_ok-put_right.ensures.left c.in_ok-put_right.ensures.left)
+    c.in_ok-turn_all.ensures keeps.rows keeps.names
+    (λ stay turned.
+    come_all (g.T.Tally.holds c.args.plan.now) look m n z c.args.who (has c.as_slice.result.now) (λ r. ap (λ (rows : List Row). has rows r) c.as_slice.ensures.value ∙ c.in_ok-rows.ensures.rows r) stay c.in_ok-turn_all.ensures.keeps.names
+    keeps (sym c.in_ok-put_right.ensures.before ∙ c.if-branch.false) turned)

@@ -1,19 +1,33 @@
 use Rattle.std.proofs.Common.{◌∙◌, sym, ap}
+use Rattle.std.specs.Ordering.{eq_by_cmp}
+use Rattle.row_delta.specs.Rows.{row_cmp}
 use Rattle.row_change.proofs.Alike.{leads_alike}
 use Rattle.tally_node.specs.Tallies.{shown, output_some}
-use Rattle.tally_node.proofs.Turning.{shown_from, gone_shown, shown_alike, untouched}
+use Rattle.tally_node.specs.Parts.{AllDropped}
+use Rattle.tally_node.proofs.Parts.{unmoved}
+use Rattle.tally_node.proofs.Turning.{shown_from, gone_shown, untouched}
 use Rattle.tally_node.proofs.node.TallyNode.row_leaves.Goals as goal
 
-pub returns-in-None-clause-leads : goal.returns-in-None-clause-leads
-returns-in-None-clause-leads g c old leads =
+pub returns-in-None : goal.returns-in-None
+returns-in-None g c =
     let look = g.F.Facts.map c.args.facts.now in
     let m = c.args.self.now.memories in
-    leads_alike old _ _ _ _ leads (shown_alike g.T.Tally.origin g.T.Tally.gives (g.T.Tally.output c.args.plan.now) c.args.self.now.memories c.take_left.new.self (g.F.Facts.map c.args.facts.now) (λ r. sym (untouched m c.take_left.new.self look c.args.row.now (sym c.take_left.ensures.taken ∙ c.in-None.is) c.take_left.ensures.left r)))
+    let n = c.take_left.new.self in
+    unmoved g.T.Tally.origin g.T.Tally.gives (g.T.Tally.output c.args.plan.now) (AllDropped look (eq_by_cmp row_cmp c.args.row.now)) m n look _ _ c.args.change.now c.take_left.ensures.keeps
+    (untouched m n look c.args.row.now (sym c.take_left.ensures.taken ∙ c.in-None.is) c.take_left.ensures.left) c.take_left.ensures.left
 
-pub returns-in_ok-note-in-Some-clause-leads : goal.returns-in_ok-note-in-Some-clause-leads
-returns-in_ok-note-in-Some-clause-leads g c old leads =
+pub returns-in_ok-note-in-Some : goal.returns-in_ok-note-in-Some
+returns-in_ok-note-in-Some g c =
     let look = g.F.Facts.map c.args.facts.now in
     let m = c.args.self.now.memories in
-    leads_alike old _ _ _ _
-    (c.in_ok-note-in-Some.ensures old (shown g.T.Tally.origin g.T.Tally.gives (g.T.Tally.output c.args.plan.now) m look) leads (shown_from g.T.Tally.origin g.T.Tally.gives (g.T.Tally.output c.args.plan.now) m look c.args.row.now c.output-was.result (ap (output_some (g.T.Tally.output c.args.plan.now (g.F.Facts.map c.args.facts.now) c.args.row.now)) (sym c.take_left.ensures.taken ∙ c.in-Some.is) ∙ sym c.output-was.ensures)))
-    (gone_shown m c.take_left.new.self look c.args.row.now g.T.Tally.origin g.T.Tally.gives (g.T.Tally.output c.args.plan.now) c.take_left.ensures.left)
+    let row = c.args.row.now in
+    let output = g.T.Tally.output c.args.plan.now in
+    record {
+      keeps = c.take_left.ensures.keeps;
+      tallies = c.take_left.ensures.left;
+      leads = λ old leads.
+          leads_alike old _ _ _ _
+          (c.in_ok-note-in-Some.ensures old (shown g.T.Tally.origin g.T.Tally.gives output m look) leads
+          (shown_from g.T.Tally.origin g.T.Tally.gives output m look row c.output-was.result (ap (output_some (output look row)) (sym c.take_left.ensures.taken ∙ c.in-Some.is) ∙ sym c.output-was.ensures)))
+          (gone_shown m c.take_left.new.self look row g.T.Tally.origin g.T.Tally.gives output c.take_left.ensures.left);
+    }

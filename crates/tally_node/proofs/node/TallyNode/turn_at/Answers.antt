@@ -1,28 +1,28 @@
-use Rattle.std.proofs.Common.{◌∙◌, sym, ap}
+use Rattle.std.proofs.Common.{◌∙◌, sym, ap, refl}
 use Rattle.std.proofs.lemmas.Result.{on_ok_weaker}
 use Rattle.std.specs.Ordering.{eq_by_cmp}
 use Rattle.row_delta.specs.Rows.{row_cmp}
-use Rattle.pair_memory.specs.Memories.{left_at}
 use Rattle.row_change.proofs.Alike.{leads_alike}
+use Rattle.pair_memory.specs.Memories.{left_at, has_left, has_right}
+use Rattle.pair_memory.proofs.Turning.{keeps_then}
 use Rattle.tally_node.specs.Tallies.{shown, output_some}
-use Rattle.tally_node.proofs.Turning.{shown_from, steps_one, steps_absent, absent, keeps_then, exchanged, was_there, exchanged_shown}
+use Rattle.tally_node.specs.Parts.{AllTurned}
+use Rattle.tally_node.proofs.Parts.{unmoved}
+use Rattle.tally_node.proofs.Turning.{shown_from, steps_one, steps_absent, absent, exchanged, was_there, exchanged_shown}
 use Rattle.tally_node.proofs.node.TallyNode.turn_at.Goals as goal
 
-pub returns-then-not-has_left-clause-left : goal.returns-then-not-has_left-clause-left
-returns-then-not-has_left-clause-left g c world alike r =
+pub returns-then-not-has_left : goal.returns-then-not-has_left
+returns-then-not-has_left g c =
     let look = g.F.Facts.map c.args.facts.now in
     let m = c.args.self.now.memories in
-    steps_absent (g.T.Tally.holds c.args.plan.now) world c.args.comes c.args.who (eq_by_cmp row_cmp c.args.row.now r) (left_at m look r)
-    (absent m look c.args.row.now (sym c.has_left.ensures ∙ c.if-not-has_left.true) r)
+    let holds = g.T.Tally.holds c.args.plan.now in
+    let turning = eq_by_cmp row_cmp c.args.row.now in
+    unmoved g.T.Tally.origin g.T.Tally.gives (g.T.Tally.output c.args.plan.now) (AllTurned holds look c.args.comes c.args.who turning) m m look (has_left m look) (has_right m look) c.args.change.now
+    (record { pattern = refl; rows = λ r. refl; names = λ x. refl; agrees = λ before. before }) (λ r. refl)
+    (λ world alike r. steps_absent holds world c.args.comes c.args.who (turning r) (left_at m look r) (absent m look c.args.row.now (sym c.has_left.ensures ∙ c.if-not-has_left.true) r))
 
-pub returns-in-Ok-exchange_left-clause-keeps : goal.returns-in-Ok-exchange_left-clause-keeps
-returns-in-Ok-exchange_left-clause-keeps g c =
-    let look = g.F.Facts.map c.args.facts.now in
-    let k = c.in-Ok.ensures.keeps in
-    on_ok_weaker c.note.result (λ noted. keeps_then c.args.self.now.memories c.exchange_left.new.self c.exchange_left-in-Ok.new.self look _ _ _ _ _ _ k c.in-Ok-exchange_left.ensures.keeps k.rows k.names) c.note.ensures
-
-pub returns-in-Ok-exchange_left-clause-left : goal.returns-in-Ok-exchange_left-clause-left
-returns-in-Ok-exchange_left-clause-left g c =
+pub returns-in-Ok-exchange_left : goal.returns-in-Ok-exchange_left
+returns-in-Ok-exchange_left g c =
     let look = g.F.Facts.map c.args.facts.now in
     let m = c.args.self.now.memories in
     let next = c.exchange_left.new.self in
@@ -30,27 +30,21 @@ returns-in-Ok-exchange_left-clause-left g c =
     let row = c.args.row.now in
     let tally = c.in-Ok.tally in
     let now = c.in_ok-now-in-Ok.now in
-    on_ok_weaker c.note.result
-    (λ noted world alike r.
-    steps_one (g.T.Tally.holds c.args.plan.now) world c.args.comes c.args.who (eq_by_cmp row_cmp row r) (left_at m look r) (left_at last look r) tally now
-    (was_there m next last look row tally c.none-blank.result now c.in-Ok.ensures.before c.in-Ok.ensures.left c.in-Ok-exchange_left.ensures.left r)
-    (exchanged m next last look row tally c.none-blank.result now c.in-Ok.ensures.before c.in-Ok.ensures.left c.in-Ok-exchange_left.ensures.left r)
-    (c.in_ok-now-in-Ok.ensures world alike))
-    c.note.ensures
-
-pub returns-in-Ok-exchange_left-clause-leads : goal.returns-in-Ok-exchange_left-clause-leads
-returns-in-Ok-exchange_left-clause-leads g c =
-    let look = g.F.Facts.map c.args.facts.now in
-    let m = c.args.self.now.memories in
-    let next = c.exchange_left.new.self in
-    let last = c.exchange_left-in-Ok.new.self in
-    let row = c.args.row.now in
+    let before = c.in-Ok.ensures.before in
+    let taken = c.in-Ok.ensures.left in
+    let put = c.in-Ok-exchange_left.ensures.left in
+    let keeps = c.in-Ok.ensures.keeps in
     let output = g.T.Tally.output c.args.plan.now in
     on_ok_weaker c.note.result
-    (λ noted old leads.
-    leads_alike old _ _ _ _
-    (noted old (shown g.T.Tally.origin g.T.Tally.gives output m look) leads
-    (shown_from g.T.Tally.origin g.T.Tally.gives output m look row c.output-was.result (ap (output_some (output look row)) c.in-Ok.ensures.before ∙ sym c.output-was.ensures)))
-    (exchanged_shown m next last look row c.in-Ok.tally c.none-blank.result c.in_ok-now-in-Ok.now c.in-Ok.ensures.before c.in-Ok.ensures.left c.in-Ok-exchange_left.ensures.left
-    g.T.Tally.origin g.T.Tally.gives output c.output-is.result c.output-is.ensures))
+    (λ noted. record {
+      keeps = keeps_then m next last look _ _ _ _ _ _ keeps c.in-Ok-exchange_left.ensures.keeps keeps.rows keeps.names;
+      tallies = λ world alike r.
+          steps_one (g.T.Tally.holds c.args.plan.now) world c.args.comes c.args.who (eq_by_cmp row_cmp row r) (left_at m look r) (left_at last look r) tally now
+          (was_there m next last look row tally c.none-blank.result now before taken put r) (exchanged m next last look row tally c.none-blank.result now before taken put r) (c.in_ok-now-in-Ok.ensures world alike);
+      leads = λ old leads.
+          leads_alike old _ _ _ _
+          (noted old (shown g.T.Tally.origin g.T.Tally.gives output m look) leads
+          (shown_from g.T.Tally.origin g.T.Tally.gives output m look row c.output-was.result (ap (output_some (output look row)) before ∙ sym c.output-was.ensures)))
+          (exchanged_shown m next last look row tally c.none-blank.result now before taken put g.T.Tally.origin g.T.Tally.gives output c.output-is.result c.output-is.ensures);
+    })
     c.note.ensures

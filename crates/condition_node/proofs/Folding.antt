@@ -1,0 +1,158 @@
+-- The rows of the node of an accumulate, and the facts over which its function goes.
+use Rattle.std.proofs.Common.{◌≡◌, ◌∙◌, sym, ap, refl, cond, map, ℤ, int_eq, slice_get, ℕ, List, [], ◌∷◌, Bool, true, false, ◌&&◌, ◌||◌, Option, Some, None, if◌then◌else◌}
+use mathlib.Core.Path.{fun_ext}
+use Rattle.std.specs.List.{filter}
+use Rattle.std.specs.Ordering.{eq_by_cmp}
+use Rattle.std.proofs.lemmas.Bool.Decides.{Decides-int_eq}
+use Rattle.fx_base.specs.Lists.{In, EachOnce}
+use Rattle.fx_base.specs.declared.fact.Fact.{Fact}
+use Rattle.row_delta.specs.NameOrder.{name_cmp}
+use Rattle.row_delta.specs.declared.row.Named.{Named}
+use Rattle.row_delta.specs.declared.row.Row.{Row}
+use Rattle.rule_model.specs.declared.condition.Accumulate.{Accumulate}
+use Rattle.rule_model.specs.declared.condition.Condition.TheVariants.{Folded}
+use Rattle.rule_model.specs.declared.condition.Pattern.{Pattern}
+use Rattle.rule_model.specs.declared.program.Program.{Program}
+use Rattle.rule_model.specs.Candidates.{is_candidate, candidates}
+use Rattle.rule_model.specs.Distinct.{HaveDistinctTags}
+use Rattle.rule_model.specs.Lent.{Holds, bound_in}
+use Rattle.rule_model.specs.Rows.{result_of}
+use Rattle.rule_model.specs.Snapshots.{Snapshot}
+use Rattle.rule_model.specs.Tests.{results_hold}
+use Rattle.rule_model.specs.Tuples.{Bindings, name_of}
+use Rattle.rule_model.proofs.Named.{of_filter}
+use Rattle.rule_model.proofs.Once.{one_fact, once_filter, once_map, once_facts}
+use Rattle.join_tests.specs.Joins.{Look, joins}
+use Rattle.pair_memory.specs.Joined.{has_name}
+use Rattle.pair_memory.specs.Standing.{clean, cleaned, AlikeOn}
+use Rattle.pair_memory.specs.Valued.{unvalued, splits_value, valued, without_value, shows_value}
+use Rattle.pair_memory.proofs.Joining.{name_decides}
+use Rattle.pair_memory.proofs.Moving.{named_alike}
+use Rattle.pair_memory.proofs.Valued.{from_unvalued}
+use Rattle.tally_node.specs.Counts.{AreDistinct}
+use Rattle.tally_node.specs.Gathers.{tested, result_for, is_result}
+use Rattle.tally_node.specs.Laws.{all_passing}
+use Rattle.tally_node.specs.Tallies.{shown}
+use Rattle.tally_node.proofs.Lawful.{gathered_shown}
+use Rattle.condition_rows.specs.Lines.{is_result as is_given, gives, line}
+use Rattle.condition_rows.specs.Looks.{HasAllOf, NameHeld}
+use Rattle.condition_rows.specs.Sets.{held, candidates_of, partners}
+use Rattle.condition_rows.proofs.Ends.{name_in}
+use Rattle.condition_rows.proofs.Holding.{held_all}
+use Rattle.condition_rows.proofs.Joined.{candidates_named}
+use Rattle.condition_node.specs.declared.node.FoldNode.{FoldNode}
+use Rattle.condition_node.specs.Nodes.{FoldsFor}
+use Rattle.condition_node.proofs.Knowing.{held_known, row_alike}
+use Rattle.condition_node.proofs.Shown.{asked_first}
+
+-- ---- the candidates that join a row
+absent : (b : Bool) → (b ≡ true → ⊥) → b ≡ false
+absent true h = absurd (h refl)
+absent false h = refl
+
+distinct : (names : List Named) → EachOnce names → AreDistinct names
+distinct [] once = tt
+distinct (n ∷ names) once = (absent (has_name names n) (λ e. once.0 (name_in n names e)), distinct names once.1)
+
+kept_one : (e h t : Bool) → (e ≡ true → t ≡ true) → (e || (h && t)) ≡ ((e || h) && t)
+kept_one true h t k = sym (k refl)
+kept_one false h t k = refl
+
+kept_none : (e h t : Bool) → (e ≡ true → t ≡ false) → (h && t) ≡ ((e || h) && t)
+kept_none true true t k = refl
+kept_none true false t k = sym (k refl)
+kept_none false h t k = refl
+
+module _ (test : Named → Bool) (who : Named) where
+  named_step : (b : Bool) (f : Fact) (kept : List Fact) (h : Bool) → test (name_of f) ≡ b → has_name (map name_of kept) who ≡ (h && test who)
+      → has_name (map name_of (cond b (f ∷ kept) kept)) who ≡ ((eq_by_cmp name_cmp who (name_of f) || h) && test who)
+  named_step true f kept h is rest =
+      ap (λ b. eq_by_cmp name_cmp who (name_of f) || b) rest
+      ∙ kept_one (eq_by_cmp name_cmp who (name_of f)) h (test who) (λ e. ap test ((name_decides who (name_of f)).0 e) ∙ is)
+  named_step false f kept h is rest =
+      rest ∙ kept_none (eq_by_cmp name_cmp who (name_of f)) h (test who) (λ e. ap test ((name_decides who (name_of f)).0 e) ∙ is)
+
+  -- the names of the facts whose names pass a test are the names that pass it
+  named_where : (facts : List Fact) → has_name (map name_of (filter (λ (f : Fact). test (name_of f)) facts)) who ≡ (has_name (map name_of facts) who && test who)
+  named_where [] = refl
+  named_where (f ∷ facts) = named_step (test (name_of f)) f (filter (λ (f : Fact). test (name_of f)) facts) (has_name (map name_of facts) who) refl (named_where facts)
+
+module _ (p : Program) (s : Snapshot) (tags : HaveDistinctTags s.facts) (q : Pattern) (row : Row) where
+  partner_in : (f : Fact) → In f (partners p q s row) → In f s.facts
+  unfolding partners
+  partner_in f i = of_filter (is_candidate p q s) f s.facts (of_filter (λ (g : Fact). joins q (held s) row (name_of g)) f (candidates p q s) i)
+
+  partners_held : Holds (held s) (partners p q s row)
+  partners_held = held_all s tags (partners p q s row) partner_in
+
+  partners_once : EachOnce (partners p q s row)
+  unfolding partners
+  partners_once = once_filter (λ (g : Fact). joins q (held s) row (name_of g)) (candidates p q s) (once_filter (is_candidate p q s) s.facts (once_facts s.facts tags))
+
+  partners_distinct : AreDistinct (map name_of (partners p q s row))
+  partners_distinct =
+      distinct (map name_of (partners p q s row))
+      (once_map name_of (partners p q s row) partners_once (λ f g i j e. one_fact s.facts tags f g (partner_in f i) (partner_in g j) (ap (λ (n : Named). n.tag) e)))
+
+  partners_named : (who : Named) → has_name (map name_of (partners p q s row)) who ≡ all_passing (joins q (held s)) (candidates_of p q s) row who
+  unfolding partners
+  partners_named who =
+      named_where (joins q (held s) row) who (candidates p q s) ∙ ap (λ b. b && joins q (held s) row who) (candidates_named p s tags q who)
+
+-- ---- the result
+abbrev looking : (ℕ → Option Fact) → Row → Bindings
+looking facts row = record { fact = facts; result = slice_get row.values }
+
+bound_alike : (look other : Look) (row : Row) → AlikeOn look other row.facts → bound_in look row ≡ bound_in other row
+bound_alike look other row h = ap (λ facts. looking facts row) (fun_ext (named_alike look other row.facts h))
+
+all_of_one : (e r : Bool) → (e ≡ true → r ≡ true) → e ≡ (e && r)
+all_of_one true r h = sym (h refl)
+all_of_one false r h = refl
+
+none_of_one : (e r : Bool) → (e ≡ true → r ≡ false) → false ≡ (e && r)
+none_of_one true r h = sym (h refl)
+none_of_one false r h = refl
+
+tested_given : (a : Accumulate) (bound : Bindings) (o : Option ℤ) (v : ℤ) → is_result (tested a bound o) v ≡ (is_given o v && results_hold bound v a.tests)
+tested_given a bound None v = refl
+tested_given a bound (Some n) v = by (results_hold bound n a.tests) refl
+  where
+    same : int_eq n v ≡ true → results_hold bound v a.tests ≡ results_hold bound n a.tests
+    same e = ap (λ n. results_hold bound n a.tests) (sym ((Decides-int_eq n v).0 e))
+
+    by : (b : Bool) → results_hold bound n a.tests ≡ b → is_result (if b then Some n else None) v ≡ (int_eq n v && results_hold bound v a.tests)
+    by true h = all_of_one (int_eq n v) (results_hold bound v a.tests) (λ e. same e ∙ h)
+    by false h = none_of_one (int_eq n v) (results_hold bound v a.tests) (λ e. same e ∙ h)
+
+-- ---- the rows of the node
+module _ (rows : Row → Bool) (forgotten : Named → Bool) (here given : Row → ℤ → Bool) (same : (left : Row) (v : ℤ) → cleaned rows forgotten left ≡ true → here left v ≡ given left v) where
+  split_clean : (row : Row) (o : Option (Row × ℤ)) → unvalued row ≡ o
+      → splits_value (λ left v. cleaned rows forgotten left && here left v) o ≡ (splits_value (λ left v. rows left && given left v) o && clean forgotten row)
+  split_clean row None e = refl
+  split_clean row (Some r) e =
+      asked_first (rows r.0) (clean forgotten r.0) (here r.0 r.1) (given r.0 r.1) (same r.0 r.1)
+      ∙ ap (λ b. (rows r.0 && given r.0 r.1) && b) (sym (ap (clean forgotten) (from_unvalued row r e)))
+
+  -- a test of what is clean and a value makes the clean rows
+  valued_clean : (row : Row) → valued (λ left v. cleaned rows forgotten left && here left v) row ≡ cleaned (valued (λ left v. rows left && given left v)) forgotten row
+  unfolding valued
+  valued_clean row = split_clean row (unvalued row) refl
+
+module _ (p : Program) (look : Look) (s : Snapshot) (rows : Row → Bool) (forgotten : Named → Bool) (known : HasAllOf look s forgotten) (named : NameHeld s rows) (tags : HaveDistinctTags s.facts) where
+  given_alike : (a : Accumulate) (q : Pattern) → q ≡ a.pattern → (left : Row) (v : ℤ) → cleaned rows forgotten left ≡ true
+      → is_result (tested a (bound_in look left) (result_of a (partners p q s left))) v ≡ gives p a s left v
+  unfolding gives
+  given_alike a q is left v e =
+      ap (λ bound. is_result (tested a bound (result_of a (partners p q s left))) v) (bound_alike look (held s) left (row_alike look (held s) s forgotten known (held_known s forgotten) p q rows named left e))
+      ∙ ap (λ (q : Pattern). is_result (tested a (bound_in (held s) left) (result_of a (partners p q s left))) v) is
+      ∙ tested_given a (bound_in (held s) left) (result_of a (partners p a.pattern s left)) v
+
+  pub fold_shown : (fold : FoldNode) → FoldsFor p fold look s rows forgotten
+      → (row : Row) → shown without_value shows_value (result_for fold.accumulate) fold.tally.memories look row ≡ cleaned (line p s (Folded fold.accumulate) rows) forgotten row
+  fold_shown fold folds row =
+      let a = fold.accumulate in
+      let m = fold.tally.memories in
+      let q = m.pattern in
+      gathered_shown a m look (held s) (joins q (held s)) rows (candidates_of p q s) forgotten (partners p q s) folds.counts (partners_held p s tags q) (partners_distinct p s tags q) (partners_named p s tags q) row
+      ∙ valued_clean rows forgotten (λ left v. is_result (tested a (bound_in look left) (result_of a (partners p q s left))) v) (gives p a s) (given_alike a q folds.pattern) row

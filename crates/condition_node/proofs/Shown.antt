@@ -1,0 +1,87 @@
+-- The rows of a node are what the line of its condition makes of the rows before it, without those that name a forgotten fact.
+use Rattle.std.proofs.Common.{◌≡◌, ◌∙◌, sym, ap, refl, subst, ℤ, Bool, true, false, not, ◌&&◌}
+use mathlib.Core.Path.{fun_ext}
+use Rattle.std.proofs.Math.Bool.{and-true, and-false, and_assoc}
+use Rattle.std.specs.List.{list_any}
+use Rattle.row_delta.specs.declared.row.Named.{Named}
+use Rattle.row_delta.specs.declared.row.Row.{Row}
+use Rattle.rule_model.specs.declared.condition.Condition.TheVariants.{Plain, Negated, Existing}
+use Rattle.rule_model.specs.declared.condition.Pattern.{Pattern}
+use Rattle.rule_model.specs.declared.program.Program.{Program}
+use Rattle.rule_model.specs.Distinct.{HaveDistinctTags}
+use Rattle.rule_model.specs.Lent.{bound_in}
+use Rattle.rule_model.specs.Maturity.{told_to, is_mature}
+use Rattle.rule_model.specs.Snapshots.{Snapshot}
+use Rattle.join_tests.specs.Joins.{Look, joins}
+use Rattle.pair_memory.specs.declared.memories.Memories.{Memories}
+use Rattle.pair_memory.specs.Joined.{has_name}
+use Rattle.pair_memory.specs.Memories.{made}
+use Rattle.pair_memory.specs.Standing.{clean, cleaned, StandsFor}
+use Rattle.pair_memory.proofs.Worlds.{made_clean}
+use Rattle.tally_node.specs.declared.count.Witnesses.{Witnesses}
+use Rattle.tally_node.specs.Counts.{counts_blockers, counts_witnesses, where_witnessed}
+use Rattle.tally_node.specs.Laws.{StandsCounted}
+use Rattle.tally_node.specs.Origins.{itself, shows_any}
+use Rattle.tally_node.specs.Tallies.{shown}
+use Rattle.tally_node.proofs.Lawful.{witnesses_shown}
+use Rattle.not_node.specs.declared.node.NotNode.{NotNode}
+use Rattle.not_node.specs.Rows.{not_rows}
+use Rattle.not_node.specs.Waiting.{mature}
+use Rattle.not_node.proofs.Lawful.{not_law}
+use Rattle.not_node.proofs.Maturing.{row_mature, moment_alike}
+use Rattle.condition_rows.specs.Lines.{is_ripe, line}
+use Rattle.condition_rows.specs.Looks.{HasAllOf, NameHeld}
+use Rattle.condition_rows.specs.Sets.{held, candidates_of, candidate_names, has_partner}
+use Rattle.condition_rows.proofs.Joined.{candidates_named}
+use Rattle.condition_node.specs.Nodes.{Counts, WaitsFor}
+use Rattle.condition_node.proofs.Knowing.{held_known, row_alike, joining_alike}
+
+-- what is asked of the clean rows is asked of the rows, and then which are clean
+pub asked_first : (a k r g : Bool) → ((a && k) ≡ true → r ≡ g) → ((a && k) && r) ≡ ((a && g) && k)
+asked_first true true r g h = h refl ∙ sym (and-true g)
+asked_first true false r g h = sym (and-false g)
+asked_first false k r g h = refl
+
+module _ (p : Program) (look : Look) (s : Snapshot) (rows : Row → Bool) (forgotten : Named → Bool) (known : HasAllOf look s forgotten) (named : NameHeld s rows) where
+  pub join_shown : {T : Type 0} (m : Memories T) → StandsFor m look rows (candidates_of p m.pattern s) forgotten → (row : Row) → made m look row ≡ cleaned (line p s (Plain m.pattern) rows) forgotten row
+  join_shown m stands row =
+      made_clean m look (joins m.pattern (held s)) rows (candidates_of p m.pattern s) forgotten stands
+      (joining_alike look (held s) s forgotten known (held_known s forgotten) p m.pattern rows named) row
+
+  module _ (tags : HaveDistinctTags s.facts) where
+    -- the candidates are those of the list of their names
+    listed : {T : Type 0} (holds : T → Look → (Named → Bool) → Type 0) (m : Memories T) → Counts holds p m look s rows forgotten
+        → StandsCounted holds m look (held s) (joins m.pattern (held s)) rows (has_name (candidate_names p m.pattern s)) forgotten
+    listed holds m counts =
+        subst (λ (names : Named → Bool). StandsCounted holds m look (held s) (joins m.pattern (held s)) rows names forgotten) (fun_ext (λ who. sym (candidates_named p s tags m.pattern who))) counts
+
+    pub exists_shown : (m : Memories Witnesses) → Counts counts_witnesses p m look s rows forgotten
+        → (row : Row) → shown itself shows_any where_witnessed m look row ≡ cleaned (line p s (Existing m.pattern) rows) forgotten row
+    unfolding has_partner
+    exists_shown m counts row =
+        let names = candidate_names p m.pattern s in
+        let pass = joins m.pattern (held s) in
+        witnesses_shown m look (held s) pass rows names forgotten (listed counts_witnesses m counts) row
+        ∙ asked_first (rows row) (clean forgotten row) (list_any (pass row) names) (list_any (pass row) names) (λ e. refl)
+
+    -- a row that names no forgotten fact is mature by the store where it is by the snapshot
+    ripe_alike : (q : Pattern) (floor : ℤ) → floor ≡ told_to p s q.entry.0 → (row : Row) → cleaned rows forgotten row ≡ true → is_mature p q (bound_in look row) floor ≡ is_ripe p q s row
+    unfolding is_ripe
+    ripe_alike q floor is row e =
+        sym (row_mature p q look row floor)
+        ∙ ap (mature floor) (sym (moment_alike p q look (held s) row (row_alike look (held s) s forgotten known (held_known s forgotten) p q rows named row e)))
+        ∙ row_mature p q (held s) row floor
+        ∙ ap (is_mature p q (bound_in (held s) row)) is
+
+    pub not_shown : (waiting : NotNode) → WaitsFor p waiting look s rows forgotten → (row : Row) → not_rows p look waiting row ≡ cleaned (line p s (Negated waiting.tally.memories.pattern) rows) forgotten row
+    unfolding has_partner
+    not_shown waiting waits row =
+        let m = waiting.tally.memories in
+        let q = m.pattern in
+        let floor = waiting.ripening.floor in
+        let names = candidate_names p q s in
+        let pass = joins q (held s) in
+        not_law p waiting look (held s) pass rows names forgotten (listed counts_blockers m waits.counts) row
+        ∙ and_assoc (cleaned rows forgotten row) (not (list_any (pass row) names)) (is_mature p q (bound_in look row) floor)
+        ∙ asked_first (rows row) (clean forgotten row) (not (list_any (pass row) names) && is_mature p q (bound_in look row) floor) (not (list_any (pass row) names) && is_ripe p q s row)
+        (λ e. ap (λ b. not (list_any (pass row) names) && b) (ripe_alike q floor waits.floor row e))

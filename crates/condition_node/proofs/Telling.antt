@@ -1,0 +1,123 @@
+-- A turn of the node of each kind: what it then stands for, and that it tells the difference of its line.
+use Rattle.std.proofs.Common.{◌≡◌, ◌∙◌, sym, ap, subst, ℕ, ℤ, ◌-ℤ◌, Bool}
+use Rattle.row_delta.specs.declared.delta.Delta.{Delta}
+use Rattle.row_delta.specs.declared.row.Named.{Named}
+use Rattle.row_delta.specs.declared.row.Row.{Row}
+use Rattle.row_change.specs.Changes.{IsDifference}
+use Rattle.row_change.proofs.Alike.{difference_alike}
+use Rattle.rule_model.specs.declared.condition.Accumulate.{Accumulate}
+use Rattle.rule_model.specs.declared.condition.Condition.TheVariants.{Plain, Negated, Existing, Folded}
+use Rattle.rule_model.specs.declared.condition.Pattern.{Pattern}
+use Rattle.rule_model.specs.declared.program.Program.{Program}
+use Rattle.rule_model.specs.Maturity.{told_to}
+use Rattle.rule_model.specs.Rows.{pattern_of}
+use Rattle.rule_model.specs.Snapshots.{Snapshot}
+use Rattle.rule_model.specs.Types.{lateness_of}
+use Rattle.join_tests.specs.Joins.{Look}
+use Rattle.pair_memory.specs.Inputs.{IsStepped}
+use Rattle.pair_memory.specs.Memories.{made}
+use Rattle.pair_memory.specs.Standing.{cleaned}
+use Rattle.pair_memory.specs.Valued.{without_value, shows_value}
+use Rattle.beta_join.specs.declared.join.BetaJoin.{BetaJoin}
+use Rattle.tally_node.specs.Counts.{counts_blockers, counts_witnesses, where_witnessed}
+use Rattle.tally_node.specs.Gathers.{gathers, result_for}
+use Rattle.tally_node.specs.Origins.{itself, shows_any}
+use Rattle.tally_node.specs.Tallies.{TallyStep, shown}
+use Rattle.tally_node.specs.declared.count.Witnesses.{Witnesses}
+use Rattle.tally_node.specs.declared.node.TallyNode.{TallyNode}
+use Rattle.not_node.specs.declared.node.NotNode.{NotNode}
+use Rattle.not_node.specs.Rows.{IsInStep, not_rows}
+use Rattle.not_node.specs.Waiting.{later}
+use Rattle.condition_rows.specs.Lines.{line}
+use Rattle.condition_node.specs.declared.node.FoldNode.{FoldNode}
+use Rattle.condition_node.specs.declared.node.Node.{Node}
+use Rattle.condition_node.specs.declared.node.Node.TheVariants as node
+use Rattle.condition_node.specs.Nodes.{condition_of, Counts, NodeStands}
+use Rattle.condition_node.specs.Turns.{IsTurn}
+use Rattle.condition_node.proofs.Folding.{fold_shown}
+use Rattle.condition_node.proofs.Knowing.{blockers_ask, witnesses_ask, gathers_ask}
+use Rattle.condition_node.proofs.Shown.{join_shown, exists_shown, not_shown}
+use Rattle.condition_node.proofs.Turning.{stands_next, counts_next, later_floor}
+
+-- from rows and candidates for which the one node stands it turns to the other, for each turn with these differences
+abbrev pub TurnsTo : Program → ℤ → Look → Node → Node → Delta → Delta → Type 0
+TurnsTo p clock look old new left right = (world : Look) (s next : Snapshot) (rows rows_now : Row → Bool) (forgotten : Named → Bool)
+    → NodeStands p old look s rows forgotten → next.clock ≡ clock → IsTurn p (pattern_of (condition_of old)) look world s next rows rows_now forgotten left right
+    → NodeStands p new look next rows_now forgotten
+
+-- and it tells this difference
+abbrev pub Tells : Program → ℤ → Look → Node → Delta → Delta → Delta → Type 0
+Tells p clock look old left right delta = (world : Look) (s next : Snapshot) (rows rows_now : Row → Bool) (forgotten : Named → Bool)
+    → NodeStands p old look s rows forgotten → next.clock ≡ clock → IsTurn p (pattern_of (condition_of old)) look world s next rows rows_now forgotten left right
+    → IsDifference (cleaned (line p s (condition_of old) rows) forgotten) (cleaned (line p next (condition_of old) rows_now) forgotten) delta
+
+pub told_by : (p : Program) (next : Snapshot) (entry : ℕ) (clock floor : ℤ) → next.clock ≡ clock → floor ≡ clock -ℤ lateness_of p entry → floor ≡ told_to p next entry
+unfolding told_to
+told_by p next entry clock floor at is = is ∙ ap (λ c. c -ℤ lateness_of p entry) (sym at)
+
+module _ (p : Program) (clock : ℤ) (look : Look) (left right : Delta) where
+  module _ (m n : BetaJoin) (stepped : IsStepped m.memories n.memories look left right) where
+    pub join_turns : TurnsTo p clock look (node.Join m) (node.Join n) left right
+    join_turns world s next rows rows_now forgotten stands at turn = stands_next p m.memories n.memories look world s next rows rows_now forgotten left right turn stepped stands
+
+    pub join_tells : (delta : Delta) → IsDifference (made m.memories look) (made n.memories look) delta → Tells p clock look (node.Join m) left right delta
+    join_tells delta is world s next rows rows_now forgotten stands at turn =
+        difference_alike (made m.memories look) (cleaned (line p s (Plain m.memories.pattern) rows) forgotten) (made n.memories look) (cleaned (line p next (Plain m.memories.pattern) rows_now) forgotten) delta
+        (join_shown p look s rows forgotten turn.at_hand turn.named m.memories stands)
+        (λ row. join_shown p look next rows_now forgotten turn.at_hand_now turn.named_now n.memories (join_turns world s next rows rows_now forgotten stands at turn) row
+        ∙ ap (λ (q : Pattern). cleaned (line p next (Plain q) rows_now) forgotten row) stepped.pattern) is
+
+  module _ (m n : TallyNode Witnesses) (stepped : IsStepped m.memories n.memories look left right) (step : TallyStep counts_witnesses look m.memories n.memories left right) where
+    pub exists_turns : TurnsTo p clock look (node.Exists m) (node.Exists n) left right
+    exists_turns world s next rows rows_now forgotten stands at turn =
+        counts_next p m.memories n.memories look world s next rows rows_now forgotten left right turn stepped counts_witnesses witnesses_ask stands step
+
+    pub exists_tells : (delta : Delta) → IsDifference (shown itself shows_any where_witnessed m.memories look) (shown itself shows_any where_witnessed n.memories look) delta → Tells p clock look (node.Exists m) left right delta
+    exists_tells delta is world s next rows rows_now forgotten stands at turn =
+        difference_alike (shown itself shows_any where_witnessed m.memories look) (cleaned (line p s (Existing m.memories.pattern) rows) forgotten)
+        (shown itself shows_any where_witnessed n.memories look) (cleaned (line p next (Existing m.memories.pattern) rows_now) forgotten) delta
+        (exists_shown p look s rows forgotten turn.at_hand turn.named turn.tags m.memories stands)
+        (λ row. exists_shown p look next rows_now forgotten turn.at_hand_now turn.named_now turn.tags_now n.memories (exists_turns world s next rows rows_now forgotten stands at turn) row
+        ∙ ap (λ (q : Pattern). cleaned (line p next (Existing q) rows_now) forgotten row) stepped.pattern) is
+
+  module _ (m n : NotNode) (floor : ℤ) (stepped : IsStepped m.tally.memories n.tally.memories look left right) (step : TallyStep counts_blockers look m.tally.memories n.tally.memories left right)
+      (floor_is : floor ≡ clock -ℤ lateness_of p m.tally.memories.pattern.entry.0) (risen : n.ripening.floor ≡ later m.ripening.floor floor) (in_step : IsInStep p look m → IsInStep p look n) where
+    pub not_turns : TurnsTo p clock look (node.Not m) (node.Not n) left right
+    not_turns world s next rows rows_now forgotten waits at turn =
+        let entry = m.tally.memories.pattern.entry.0 in
+        record {
+          counts = counts_next p m.tally.memories n.tally.memories look world s next rows rows_now forgotten left right turn stepped counts_blockers blockers_ask waits.counts step;
+          in_step = in_step waits.in_step;
+          floor = risen ∙ ap (λ a. later a floor) waits.floor
+              ∙ ap (later (told_to p s entry)) (told_by p next entry clock floor at floor_is)
+              ∙ later_floor p s next entry turn.clock
+              ∙ ap (λ (q : Pattern). told_to p next q.entry.0) (sym stepped.pattern);
+        }
+
+    pub not_tells : (delta : Delta) → (IsInStep p look m → IsDifference (not_rows p look m) (not_rows p look n) delta) → Tells p clock look (node.Not m) left right delta
+    not_tells delta is world s next rows rows_now forgotten waits at turn =
+        difference_alike (not_rows p look m) (cleaned (line p s (Negated m.tally.memories.pattern) rows) forgotten)
+        (not_rows p look n) (cleaned (line p next (Negated m.tally.memories.pattern) rows_now) forgotten) delta
+        (not_shown p look s rows forgotten turn.at_hand turn.named turn.tags m waits)
+        (λ row. not_shown p look next rows_now forgotten turn.at_hand_now turn.named_now turn.tags_now n (not_turns world s next rows rows_now forgotten waits at turn) row
+        ∙ ap (λ (q : Pattern). cleaned (line p next (Negated q) rows_now) forgotten row) stepped.pattern) (is waits.in_step)
+
+  module _ (m n : FoldNode) (same : n.accumulate ≡ m.accumulate) (stepped : IsStepped m.tally.memories n.tally.memories look left right) (step : TallyStep (gathers m.accumulate) look m.tally.memories n.tally.memories left right) where
+    pub fold_turns : TurnsTo p clock look (node.Fold m) (node.Fold n) left right
+    fold_turns world s next rows rows_now forgotten folds at turn =
+        let here = subst (λ (q : Pattern). IsTurn p q look world s next rows rows_now forgotten left right) (sym folds.pattern) turn in
+        record {
+          counts = subst (λ (a : Accumulate). Counts (gathers a) p n.tally.memories look next rows_now forgotten) (sym same)
+              (counts_next p m.tally.memories n.tally.memories look world s next rows rows_now forgotten left right here stepped (gathers m.accumulate) (gathers_ask m.accumulate) folds.counts step);
+          pattern = stepped.pattern ∙ folds.pattern ∙ ap (λ (a : Accumulate). a.pattern) (sym same);
+        }
+
+    pub fold_tells : (delta : Delta) → IsDifference (shown without_value shows_value (result_for m.accumulate) m.tally.memories look) (shown without_value shows_value (result_for m.accumulate) n.tally.memories look) delta
+        → Tells p clock look (node.Fold m) left right delta
+    fold_tells delta is world s next rows rows_now forgotten folds at turn =
+        difference_alike (shown without_value shows_value (result_for m.accumulate) m.tally.memories look) (cleaned (line p s (Folded m.accumulate) rows) forgotten)
+        (shown without_value shows_value (result_for m.accumulate) n.tally.memories look) (cleaned (line p next (Folded m.accumulate) rows_now) forgotten) delta
+        (fold_shown p look s rows forgotten turn.at_hand turn.named turn.tags m folds)
+        (λ row. ap (λ (a : Accumulate). shown without_value shows_value (result_for a) n.tally.memories look row) (sym same)
+        ∙ fold_shown p look next rows_now forgotten turn.at_hand_now turn.named_now turn.tags_now n (fold_turns world s next rows rows_now forgotten folds at turn) row
+        ∙ ap (λ (a : Accumulate). cleaned (line p next (Folded a) rows_now) forgotten row) same) is

@@ -1,0 +1,184 @@
+-- What leads from one snapshot to the next is a step that the window takes.
+use Rattle.std.proofs.Common.{◌≡◌, ◌∙◌, sym, ap, refl, subst, inl, ℤ, pos, ◌≤ℤ◌, List, [], ◌∷◌, ◌++◌, map, Bool, true, false, not, ◌&&◌, ◌||◌, ◌==◌, Option, Some, None, int_le, arith}
+use Rattle.std.specs.Option.{option_to_list}
+use Rattle.std.proofs.lemmas.Bool.Decides.{Decides-eqb}
+use Rattle.std.proofs.lemmas.Int.{ints}
+use Rattle.fx_base.specs.Lists.{In}
+use Rattle.fx_base.specs.declared.fact.Fact.{Fact}
+use Rattle.row_delta.specs.Rows.{has}
+use Rattle.row_delta.specs.declared.delta.Delta.{Delta}
+use Rattle.row_delta.specs.declared.row.Row.{Row}
+use Rattle.row_change.specs.Changes.{IsDifference}
+use Rattle.rule_model.specs.Candidates.{fits}
+use Rattle.rule_model.specs.Distinct.{HaveDistinctTags}
+use Rattle.rule_model.specs.Simple.{is_whole}
+use Rattle.rule_model.specs.Snapshots.{Snapshot}
+use Rattle.rule_model.specs.Tests.{tests_hold}
+use Rattle.rule_model.specs.Tuples.{unbound}
+use Rattle.rule_model.specs.Types.{is_event}
+use Rattle.rule_model.specs.declared.condition.Pattern.{Pattern}
+use Rattle.rule_model.specs.declared.condition.WindowTag.{WindowTag}
+use Rattle.rule_model.specs.declared.condition.WindowTag.TheVariants.{Whole, Time, Length}
+use Rattle.rule_model.specs.declared.program.Program.{Program}
+use Rattle.rule_model.proofs.Listed.{both_of, in_right}
+use Rattle.rule_world.specs.Events.{most_millis}
+use Rattle.rule_world.specs.Programs.{is_window}
+use Rattle.pair_memory.specs.Inputs.{row_naming, IsNameDifference}
+use Rattle.condition_rows.specs.Sets.{candidates_of}
+use Rattle.window_gate.specs.Standing.{TagsDiffer, Stands, Keeps, MayPass, MayStart, most, window_of, window_kept}
+use Rattle.window_gate.specs.Windows.{Arrival, rows_inside, named_of, single}
+use Rattle.window_gate.specs.declared.change.WindowKind.{WindowKind}
+use Rattle.window_gate.specs.declared.gate.Kept.{Kept}
+use Rattle.window_gate.specs.declared.gate.Kept.TheVariants as kept
+use Rattle.window_gate.proofs.Insides.{inside_whole}
+use Rattle.pattern_gate.specs.declared.gate.PatternGate.{PatternGate}
+use Rattle.pattern_gate.specs.Gates.{arrival_of, arrivals, kind_of, has_good_window, GateStands}
+use Rattle.pattern_gate.specs.Moves.{IsKept, Moves}
+use Rattle.pattern_gate.specs.Turns.{is_meant, is_one_meant, less_facts, more_fact, LetsAllGo, LetsCome, TakesStep}
+use Rattle.pattern_gate.proofs.Arriving.{filter_among, rising, left, meant, less_all, lets_all, more_one, lets_come, none_meant}
+use Rattle.pattern_gate.proofs.Inside.{rows_named}
+
+-- ---- windows
+
+within : (a b : ℤ) → int_le a b ≡ true → a ≤ℤ b
+within a b e = grind (arith, ints)
+
+at_most : (span : ℤ) → int_le span most_millis ≡ true → span ≤ℤ most
+unfolding most_millis
+at_most span e = within span most e
+
+starts_at_most : (start : ℤ) → start ≤ℤ most_millis → start ≤ℤ most
+unfolding most_millis
+starts_at_most start h = h
+
+-- a window that a program may have lets the clock pass
+pub may_pass : (p : Program) (q : Pattern) → has_good_window p q ≡ true → (a b : ℤ) → a ≤ℤ b → MayPass (kind_of q.window) a b
+may_pass p q good a b h = by q.window good
+  where
+    by : (w : WindowTag) → (is_whole w || (is_event p q.ty.0 && is_window w)) ≡ true → MayPass (kind_of w) a b
+    by Whole e = tt
+    by (Time span) e = (h, at_most span (both_of (int_le (pos 1) span) (int_le span most_millis) (both_of (is_event p q.ty.0) (is_window (Time span)) e).1).1)
+    by (Length count) e = tt
+
+same_type : (p : Program) (f : Fact) (q : Pattern) → is_meant q f ≡ true → is_event p q.ty.0 ≡ true → is_event p f.ty.0 ≡ true
+same_type p f q e is =
+    ap (is_event p) ((Decides-eqb f.ty.0 q.ty.0).0 (both_of (f.ty.0 == q.ty.0) (f.entry.0 == q.entry.0 && tests_hold unbound f q.alone) e).0) ∙ is
+
+-- and the events of a snapshot start where it lets them
+pub may_start : (p : Program) (q : Pattern) → has_good_window p q ≡ true → (s : Snapshot) → IsKept p s → (f : Fact) → In f s.facts → is_meant q f ≡ true → MayStart (kind_of q.window) f.times.start
+may_start p q good s is f i e = by q.window good
+  where
+    by : (w : WindowTag) → (is_whole w || (is_event p q.ty.0 && is_window w)) ≡ true → MayStart (kind_of w) f.times.start
+    by Whole h = tt
+    by (Time span) h =
+        let event = same_type p f q e (both_of (is_event p q.ty.0) (is_window (Time span)) h).0 in
+        (is.low f i event, starts_at_most f.times.start (is.high f i event))
+    by (Length count) h = tt
+
+-- ---- one snapshot
+
+-- its arrivals are the facts that are meant
+arrivals_meant : (p : Program) (q : Pattern) (s : Snapshot) → IsKept p s → arrivals p q s ≡ meant q s.facts
+arrivals_meant p q s is = ap (map arrival_of) (filter_among (fits p q s.clock) (is_meant q) s.facts (λ f i. ap (λ b. b && is_meant q f) (is.present f i)))
+
+-- a difference of the rows inside is one of the candidates
+pub names_differ : (p : Program) (q : Pattern) (s next : Snapshot) → IsKept p s → IsKept p next → (delta : Delta)
+    → IsDifference (has (rows_inside (kind_of q.window) s.clock (arrivals p q s))) (has (rows_inside (kind_of q.window) next.clock (arrivals p q next))) delta
+    → IsNameDifference (candidates_of p q s) (candidates_of p q next) delta
+names_differ p q s next is also delta differs =
+    let was = rows_named p q s is.in_order in
+    let now = rows_named p q next also.in_order in
+    record {
+      goes = λ who. differs.leads.goes (row_naming who)
+          ∙ ap (λ b. b && not (has (rows_inside (kind_of q.window) next.clock (arrivals p q next)) (row_naming who))) (was who) ∙ ap (λ b. candidates_of p q s who && not b) (now who);
+      comes = λ who. differs.leads.comes (row_naming who)
+          ∙ ap (λ b. b && not (has (rows_inside (kind_of q.window) s.clock (arrivals p q s)) (row_naming who))) (now who) ∙ ap (λ b. candidates_of p q next who && not b) (was who);
+    }
+
+-- ---- one after the other
+
+module _ (p : Program) (q : Pattern) (s next : Snapshot) (gone : List Fact) (come : Option Fact) (moves : Moves p s next gone come) where
+  went : less_facts q (arrivals p q s) gone ≡ meant q (left s.facts gone)
+  went = ap (λ list. less_facts q list gone) (arrivals_meant p q s moves.before) ∙ less_all q gone s.facts (rising s.facts moves.before.in_order) moves.once moves.held
+
+  pub arrived : more_fact q (less_facts q (arrivals p q s) gone) come ≡ arrivals p q next
+  arrived = ap (λ list. more_fact q list come) went ∙ more_one q (left s.facts gone) come ∙ ap (meant q) (sym moves.facts) ∙ sym (arrivals_meant p q next moves.after)
+
+  module _ (good : has_good_window p q ≡ true) where
+    comes_by : (o : Option Fact) → next.facts ≡ left s.facts gone ++ option_to_list o → LetsCome (kind_of q.window) q next.clock (meant q (left s.facts gone)) o
+    comes_by None e = tt
+    comes_by (Some f) e =
+        lets_come q (kind_of q.window) next.clock (may_pass p q good next.clock next.clock (omega (arith, ints))) (left s.facts gone) f
+        (subst (λ (facts : List Fact). HaveDistinctTags facts) e (rising next.facts moves.after.in_order))
+        (may_start p q good next moves.after f (subst (λ (facts : List Fact). In f facts) (sym e) (in_right f (left s.facts gone) (f ∷ []) (inl refl))))
+
+    takes : TakesStep (kind_of q.window) q (arrivals p q s) s.clock gone come next.clock
+    takes = record {
+      moves = record { passes = may_pass p q good s.clock next.clock moves.clock; changes = tt };
+      goes = subst (λ list. LetsAllGo (kind_of q.window) q next.clock list gone) (sym (arrivals_meant p q s moves.before))
+          (lets_all q (kind_of q.window) next.clock (may_pass p q good next.clock next.clock (omega (arith, ints))) gone s.facts (rising s.facts moves.before.in_order) moves.once moves.held);
+      comes = subst (λ list. LetsCome (kind_of q.window) q next.clock list come) (sym went) (comes_by come moves.facts);
+    }
+
+    module _ (gate : PatternGate) (clock : ℤ) (is : next.clock ≡ clock) (stands : GateStands p q gate s) where
+      step_taken : TakesStep (window_of gate.gate) q (arrivals p q s) s.clock gone come clock
+      step_taken = subst (λ (k : WindowKind). TakesStep k q (arrivals p q s) s.clock gone come clock) (sym stands.window)
+          (subst (λ now. TakesStep (kind_of q.window) q (arrivals p q s) s.clock gone come now) is takes)
+
+      -- a gate that takes the step stands for the next snapshot
+      pub gate_stands : (gate_now : PatternGate) → window_of gate_now.gate ≡ window_of gate.gate
+          → ((list : List Arrival) (was : ℤ) → Stands gate.gate list was → TakesStep (window_of gate.gate) q list was gone come clock → Stands gate_now.gate (more_fact q (less_facts q list gone) come) clock)
+          → GateStands p q gate_now next
+      gate_stands gate_now same steps = record {
+        window = same ∙ stands.window;
+        stands = subst (λ now. Stands gate_now.gate (arrivals p q next) now) (sym is)
+            (subst (λ list. Stands gate_now.gate list clock) arrived (steps (arrivals p q s) s.clock stands.stands step_taken));
+      }
+
+      -- and tells what has changed in the candidates
+      pub candidates_differ : (delta : Delta)
+          → ((list : List Arrival) (was : ℤ) → Stands gate.gate list was → TakesStep (window_of gate.gate) q list was gone come clock
+          → IsDifference (has (rows_inside (window_of gate.gate) was list)) (has (rows_inside (window_of gate.gate) clock (more_fact q (less_facts q list gone) come))) delta)
+          → IsNameDifference (candidates_of p q s) (candidates_of p q next) delta
+      candidates_differ delta steps =
+          names_differ p q s next moves.before moves.after delta
+          (subst (λ now. IsDifference (has (rows_inside (kind_of q.window) s.clock (arrivals p q s))) (has (rows_inside (kind_of q.window) now (arrivals p q next))) delta) (sym is)
+          (subst (λ list. IsDifference (has (rows_inside (kind_of q.window) s.clock (arrivals p q s))) (has (rows_inside (kind_of q.window) clock list)) delta) arrived
+          (subst (λ (k : WindowKind). IsDifference (has (rows_inside k s.clock (arrivals p q s))) (has (rows_inside k clock (more_fact q (less_facts q (arrivals p q s) gone) come))) delta) stands.window
+          (steps (arrivals p q s) s.clock stands.stands step_taken))))
+
+  -- ---- without a window, where no fact is meant
+
+  module _ (whole : is_whole q.window ≡ true) (none : is_one_meant q gone come ≡ false) where
+    same_arrivals : arrivals p q s ≡ arrivals p q next
+    same_arrivals = sym (none_meant q gone come (arrivals p q s) none) ∙ arrived
+
+    keeps_whole : (w : WindowTag) → is_whole w ≡ true → (k : Kept) → window_kept k ≡ kind_of w → (list : List Arrival) (now : ℤ) → Keeps k list now
+    keeps_whole w e kept.Whole is list now = tt
+    keeps_whole Whole e (kept.Time window) is list now = absurd cc
+    keeps_whole (Time span) e (kept.Time window) is list now = absurd (let n : false ≡ true = e in cc)
+    keeps_whole (Length count) e (kept.Time window) is list now = absurd (let n : false ≡ true = e in cc)
+    keeps_whole Whole e (kept.Length window) is list now = absurd cc
+    keeps_whole (Time span) e (kept.Length window) is list now = absurd (let n : false ≡ true = e in cc)
+    keeps_whole (Length count) e (kept.Length window) is list now = absurd (let n : false ≡ true = e in cc)
+
+    pub still_stands : (gate : PatternGate) → GateStands p q gate s → GateStands p q gate next
+    still_stands gate stands = record {
+      window = stands.window;
+      stands = record {
+        tags = subst (λ list. TagsDiffer (map named_of list)) same_arrivals stands.stands.tags;
+        keeps = keeps_whole q.window whole gate.gate.kept stands.window (arrivals p q next) next.clock;
+      };
+    }
+
+    rows_whole : (w : WindowTag) → is_whole w ≡ true → (was now : ℤ) (list : List Arrival) → rows_inside (kind_of w) was list ≡ rows_inside (kind_of w) now list
+    rows_whole Whole e was now list = ap (λ (xs : List Arrival). map single (map named_of xs)) (inside_whole was list ∙ sym (inside_whole now list))
+    rows_whole (Time span) e was now list = absurd (let n : false ≡ true = e in cc)
+    rows_whole (Length count) e was now list = absurd (let n : false ≡ true = e in cc)
+
+    pub nothing_differs : (delta : Delta) → ((rows : Row → Bool) → IsDifference rows rows delta) → IsNameDifference (candidates_of p q s) (candidates_of p q next) delta
+    nothing_differs delta nothing =
+        let old = rows_inside (kind_of q.window) s.clock (arrivals p q s) in
+        names_differ p q s next moves.before moves.after delta
+        (subst (λ (rows : List Row). IsDifference (has old) (has rows) delta)
+        (rows_whole q.window whole s.clock next.clock (arrivals p q s) ∙ ap (rows_inside (kind_of q.window) next.clock) same_arrivals) (nothing (has old)))

@@ -1,0 +1,14 @@
+use Rattle.std.proofs.Common.{◌∙◌, sym, ap, ◌||◌, option_map}
+use Rattle.fx_base.specs.declared.fact.Fact.{Fact}
+use Rattle.std.specs.Borrow.{Bor}
+use Rattle.pattern_gate.specs.Turns.{is_given_meant}
+use Rattle.pattern_gate.proofs.Turning.{any_lent}
+use Rattle.pattern_gate.proofs.gate.is_one_meant.Goals as goal
+
+pub returns-then-is_any_meant : goal.returns-then-is_any_meant
+returns-then-is_any_meant c =
+    c.if-is_any_meant.true ∙ ap (λ b. b || is_given_meant c.args.pattern.now (option_map (λ (f : Bor Fact). f.now) c.args.come)) (sym c.if-is_any_meant.true ∙ c.is_any_meant.ensures ∙ any_lent c.args.pattern.now c.args.gone.now)
+
+pub returns-else-is_any_meant : goal.returns-else-is_any_meant
+returns-else-is_any_meant c =
+    c.is_given_meant.ensures ∙ ap (λ b. b || is_given_meant c.args.pattern.now (option_map (λ (f : Bor Fact). f.now) c.args.come)) (sym c.if-is_any_meant.false ∙ c.is_any_meant.ensures ∙ any_lent c.args.pattern.now c.args.gone.now)

@@ -1,0 +1,21 @@
+//! The law of windows and candidates: the function's contract is the law, and its body is empty.
+ghost use Rattle.std.specs.Prelude.{◌≡◌, map};
+ghost use Rattle.std.specs.List.Sorted.{IsStrictlySortedBy};
+ghost use Rattle.std.specs.Ordering.{nat_cmp};
+ghost use Rattle.fx_base.specs.declared.fact.Fact.{Fact};
+ghost use Rattle.row_delta.specs.Rows.{has};
+ghost use Rattle.row_delta.specs.declared.row.Named.{Named};
+ghost use Rattle.rule_model.specs.Snapshots.{Snapshot};
+ghost use Rattle.rule_model.specs.declared.condition.Pattern.{Pattern};
+ghost use Rattle.rule_model.specs.declared.program.Program.{Program};
+ghost use Rattle.pair_memory.specs.Inputs.{row_naming};
+ghost use Rattle.condition_rows.specs.Sets.{candidates_of};
+ghost use Rattle.window_gate.specs.Windows.{rows_inside};
+ghost use Rattle.pattern_gate.specs.Gates.{arrivals, kind_of};
+
+/// Over facts in the order of their tags, what is inside the window of a pattern, of the facts that fit it, is what is of its
+/// candidates.
+pub fn what_is_inside_is_of_the_candidates()
+    ensures { (p : Program) (pattern : Pattern) (s : Snapshot) → IsStrictlySortedBy nat_cmp (map (λ (f : Fact). f.tag.0) s.facts) → (who : Named)
+        → has (rows_inside (kind_of pattern.window) s.clock (arrivals p pattern s)) (row_naming who) ≡ candidates_of p pattern s who }
+{}

@@ -1,0 +1,102 @@
+-- A step of a network over the rows of its conditions.
+use Rattle.std.proofs.Common.{◌≡◌, ◌∙◌, sym, ap, refl, subst, ℕ, ℤ, ◌&&◌, not, Bool, true, false, List, [], ◌∷◌, ◌++◌, Option, Some, None, slice_get}
+use mathlib.Core.Path.{fun_ext}
+use Rattle.fx_base.specs.declared.fact.Fact.{Fact}
+use Rattle.row_delta.specs.declared.delta.Delta.{Delta}
+use Rattle.row_delta.specs.declared.row.Row.{Row}
+use Rattle.row_delta.specs.Rows.{has}
+use Rattle.row_delta.specs.Differences.{IsBetween}
+use Rattle.row_change.specs.Changes.{Leads, IsDifference}
+use Rattle.rule_model.specs.declared.condition.Condition.{Condition}
+use Rattle.rule_model.specs.declared.program.Program.{Program}
+use Rattle.rule_model.specs.declared.program.Rule.{Rule}
+use Rattle.rule_model.specs.Distinct.{HaveDistinctTags}
+use Rattle.rule_model.specs.Rows.{rows}
+use Rattle.rule_model.specs.Snapshots.{Snapshot}
+use Rattle.join_tests.specs.Joins.{Look}
+use Rattle.condition_rows.specs.Sets.{rows_of}
+use Rattle.condition_rows.specs.Lines.{empty_row}
+use Rattle.condition_rows.proofs.Naming.{rows_named}
+use Rattle.condition_rows.proofs.Whole.{one_more}
+use Rattle.pattern_gate.specs.Moves.{Moves}
+use Rattle.rete_net.specs.declared.net.Rete.{Rete}
+use Rattle.rete_net.specs.declared.node.NetNode.{NetNode}
+use Rattle.rete_net.specs.Nets.{NetStands, AreBetween}
+use Rattle.rete_net.specs.Shapes.{EndsAt}
+use Rattle.rete_net.specs.Steps.{no_change, NetStep}
+use Rattle.rete_net.proofs.Chaining.{AreMade, IsGiven, AreStanding, standing_now, ends_now, answer_at}
+use Rattle.rete_net.proofs.Turning.{rising}
+
+-- the rows of conditions are what the lines make of them
+pub rows_made : (p : Program) (s : Snapshot) → HaveDistinctTags s.facts → AreMade p s (rows_of p s)
+rows_made p s d = record { more = λ front c. fun_ext (λ row. one_more p s d front c row); named = rows_named p s d }
+
+-- before the first condition there is the empty row alone
+pub first_row : (p : Program) (s : Snapshot) → rows p s [] ≡ empty_row ∷ []
+unfolding rows
+first_row p s = refl
+
+unmoved : (b : Bool) → false ≡ (b && not b)
+unmoved true = refl
+unmoved false = refl
+
+first_stays : (p : Program) (s next : Snapshot) → Leads (rows_of p s []) (rows_of p next []) no_change.gone no_change.come
+first_stays p s next =
+    subst (λ (rs : List Row). Leads (rows_of p s []) (λ row. has rs row) [] []) (first_row p s ∙ sym (first_row p next))
+    (record { goes = λ row. unmoved (rows_of p s [] row); comes = λ row. unmoved (rows_of p s [] row) })
+
+pub between_of : (old new : List Row) (delta : Delta) → IsDifference (has old) (has new) delta → IsBetween old new delta
+between_of old new delta is = record {
+  gone_in_order = is.gone_in_order;
+  come_in_order = is.come_in_order;
+  gone = is.leads.goes;
+  come = is.leads.comes;
+}
+
+module _ (p : Program) (look : Look) (s next : Snapshot) (gone : List Fact) (come : Option Fact) (clock : ℤ) (first : Delta) (was : List Condition → Row → Bool) (lists : List Condition → List Row)
+    (old new : Rete) (conditions : ℕ → List Condition) (answers : List Delta)
+    (given : IsGiven p look s next gone come clock) (made : AreMade p s was) (leads : Leads (was []) (rows_of p next []) first.gone first.come)
+    (standing : AreStanding p s was old.nodes.items conditions) (ends : (place : ℕ) (rule : Rule) → slice_get p.rules place ≡ Some rule → EndsAt old.nodes.items conditions old.ends.items place rule)
+    (same : new.ends.items ≡ old.ends.items) (step : NetStep p look gone come clock first old.nodes.items new.nodes.items old.ends.items answers)
+    (listed : (cs : List Condition) → was cs ≡ has (lists cs)) where
+  distinct_now : HaveDistinctTags next.facts
+  distinct_now = rising next.facts given.moves.after.in_order
+
+  pub stands_now : NetStands p new next
+  stands_now =
+      let now = standing_now p look s next gone come clock first was (rows_of p next) old.nodes.items new.nodes.items conditions step.deltas given made (rows_made p next distinct_now) leads standing step.nodes step.stepped in
+      record {
+        conditions = conditions;
+        shaped = now.shaped;
+        ends = λ place rule e.
+            subst (λ (places : List ℕ). EndsAt new.nodes.items conditions places place rule) (sym same)
+                (ends_now p look s next gone come clock first was (rows_of p next) old.nodes.items new.nodes.items conditions step.deltas given made (rows_made p next distinct_now) leads standing step.nodes step.stepped old.ends.items place rule (ends place rule e));
+        windows = now.windows;
+        nodes = now.stand;
+      }
+
+  pub between_now : AreBetween p (λ rule. lists rule.conditions) (λ rule. rows p next rule.conditions) answers
+  between_now place rule e =
+      let at = answer_at p look s next gone come clock first was (rows_of p next) old.nodes.items new.nodes.items conditions step.deltas given made (rows_made p next distinct_now) leads standing step.nodes step.stepped old.ends.items place rule (ends place rule e) in (
+        at.0,
+        ap (λ (deltas : List Delta). slice_get deltas place) step.answers ∙ at.1,
+        between_of (lists rule.conditions) (rows p next rule.conditions) at.0
+            (subst (λ (set : Row → Bool). IsDifference set (rows_of p next rule.conditions) at.0) (listed rule.conditions) at.2),
+      )
+
+module _ (p : Program) (look : Look) (s next : Snapshot) (gone : List Fact) (come : Option Fact) (clock : ℤ) (old new : Rete) (answers : List Delta)
+    (given : IsGiven p look s next gone come clock) (stands : NetStands p old s) (same : new.ends.items ≡ old.ends.items)
+    (step : NetStep p look gone come clock no_change old.nodes.items new.nodes.items old.ends.items answers) where
+  distinct : HaveDistinctTags s.facts
+  distinct = rising s.facts given.moves.before.in_order
+
+  standing : AreStanding p s (rows_of p s) old.nodes.items stands.conditions
+  standing = record { shaped = stands.shaped; windows = stands.windows; stand = stands.nodes }
+
+  pub net_stands : NetStands p new next
+  net_stands =
+      stands_now p look s next gone come clock no_change (rows_of p s) (rows p s) old new stands.conditions answers given (rows_made p s distinct) (first_stays p s next) standing stands.ends same step (λ cs. refl)
+
+  pub net_between : AreBetween p (λ rule. rows p s rule.conditions) (λ rule. rows p next rule.conditions) answers
+  net_between =
+      between_now p look s next gone come clock no_change (rows_of p s) (rows p s) old new stands.conditions answers given (rows_made p s distinct) (first_stays p s next) standing stands.ends same step (λ cs. refl)

@@ -1,0 +1,22 @@
+use Rattle.std.proofs.Common.{[], None, refl, pos}
+use Rattle.rete_net.specs.Steps.{empty_row_comes, NetStep}
+use Rattle.rete_net.proofs.Starting.{no_facts, built_stands, built_between}
+use Rattle.rete_net.proofs.Turns.{settled}
+use Rattle.rete_net.proofs.net.Rete.build.Goals as goal
+
+-- the first step of the nodes, in which the empty row comes
+step : (c : goal.After-drop-first-3)
+    → NetStep c.args.program.now no_facts [] None (pos 0) empty_row_comes c.in_ok-net.net.nodes.items c.step.new.self.nodes.items c.in_ok-net.net.ends.items c.in_ok-deltas.deltas.items
+step c =
+    settled c.args.program.now no_facts [] None (pos 0) (pos 0) c.in_ok-first.first empty_row_comes c.in_ok-net.net.nodes.items c.step.new.self.nodes.items c.in_ok-net.net.ends.items c.in_ok-deltas.deltas.items
+    refl c.in_ok-first.ensures c.in_ok-deltas.ensures.stepped
+
+pub returns-clause-stands : goal.returns-clause-stands
+returns-clause-stands c runnable =
+    let built = c.in_ok-net.ensures runnable in
+    built_stands c.args.program.now c.in_ok-net.net c.step.new.self built.0 c.in_ok-deltas.deltas.items built.1 built.2 c.in_ok-deltas.ensures.ends (step c)
+
+pub returns-clause-first : goal.returns-clause-first
+returns-clause-first c runnable =
+    let built = c.in_ok-net.ensures runnable in
+    built_between c.args.program.now c.in_ok-net.net c.step.new.self built.0 c.in_ok-deltas.deltas.items built.1 built.2 c.in_ok-deltas.ensures.ends (step c)

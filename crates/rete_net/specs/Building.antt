@@ -1,0 +1,35 @@
+-- Networks that are being built: which conditions their nodes have, and which node is the last one of each rule.
+use Rattle.std.specs.Prelude.{◌≡◌, ◌<◌, ◌∷◌, ◌++◌, true, ℕ, List, [], length, take, Option, Some, None, slice_get}
+use Rattle.rule_model.specs.declared.condition.Condition.{Condition}
+use Rattle.rule_model.specs.declared.program.Program.{Program}
+use Rattle.rule_model.specs.declared.program.Rule.{Rule}
+use Rattle.rule_model.specs.Rows.{pattern_of}
+use Rattle.pair_memory.specs.Standing.{no_rows}
+use Rattle.condition_rows.specs.Looks.{empty_snapshot}
+use Rattle.pattern_gate.specs.Gates.{has_good_window}
+use Rattle.condition_node.specs.Nodes.{condition_of}
+use Rattle.rete_net.specs.declared.node.NetNode.{NetNode}
+use Rattle.rete_net.specs.Nets.{NetNodeStands}
+
+-- a parent, of nodes with these conditions, is the node of those conditions; without one there is no condition
+abbrev pub IsParent : List (List Condition) → Option ℕ → List Condition → Type 0
+IsParent all None conditions = conditions ≡ []
+IsParent all (Some parent) conditions = slice_get all parent ≡ Some conditions
+
+-- the node in a place is behind one that stands before it, and has one condition more
+pub record IsBehind (all : List (List Condition)) (k : ℕ) (node : NetNode) : Type 0 where
+  pub before : List Condition
+  pub parent : IsParent (take k all) node.parent before
+  pub own : slice_get all k ≡ Some (before ++ condition_of node.node ∷ [])
+
+-- the nodes have these lists of conditions, each is behind its parent, and keeps nothing
+pub record AreBuilt (p : Program) (nodes : List NetNode) (all : List (List Condition)) : Type 0 where
+  pub length : length nodes ≡ length all
+  pub behind : (k : ℕ) (node : NetNode) → slice_get nodes k ≡ Some node → IsBehind all k node
+  pub windows : (k : ℕ) (node : NetNode) → slice_get nodes k ≡ Some node → has_good_window p (pattern_of (condition_of node.node)) ≡ true
+  pub fresh : (k : ℕ) (node : NetNode) → slice_get nodes k ≡ Some node → NetNodeStands p node empty_snapshot no_rows
+
+-- the first rules, so many, each have a last node with all their conditions
+abbrev pub HaveEnds : List (List Condition) → List ℕ → List Rule → ℕ → Type 0
+HaveEnds all ends rules n =
+    (place : ℕ) (rule : Rule) → place < n → slice_get rules place ≡ Some rule → (last : ℕ) × (slice_get ends place ≡ Some last) × (slice_get all last ≡ Some rule.conditions)

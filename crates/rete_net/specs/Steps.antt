@@ -1,0 +1,68 @@
+-- A step of the nodes of a network, each behind the one that it names, which stands before it.
+use Rattle.std.specs.Prelude.{◌≡◌, ◌<◌, Bool, true, ℕ, ℤ, List, [], ◌∷◌, map, Option, Some, None, slice_get, slice_index_or, length, take}
+use Rattle.fx_base.specs.declared.fact.Fact.{Fact}
+use Rattle.row_delta.specs.declared.delta.Delta.{Delta}
+use Rattle.row_delta.specs.declared.row.Row.{Row}
+use Rattle.row_change.specs.Changes.{Leads, IsDifference}
+use Rattle.rule_model.specs.declared.condition.Pattern.{Pattern}
+use Rattle.rule_model.specs.declared.program.Program.{Program}
+use Rattle.rule_model.specs.Rows.{pattern_of}
+use Rattle.rule_model.specs.Snapshots.{Snapshot}
+use Rattle.join_tests.specs.Joins.{Look}
+use Rattle.pair_memory.specs.Standing.{no_names}
+use Rattle.condition_rows.specs.Lines.{line, empty_row}
+use Rattle.condition_rows.specs.Looks.{HasAllOf, NameHeld}
+use Rattle.pattern_gate.specs.Gates.{has_good_window}
+use Rattle.pattern_gate.specs.Moves.{Moves}
+use Rattle.condition_node.specs.Nodes.{condition_of}
+use Rattle.rete_net.specs.declared.node.NetNode.{NetNode}
+use Rattle.rete_net.specs.Nets.{NetNodeStands}
+
+abbrev pub no_change : Delta
+no_change = record { gone = []; come = [] }
+
+abbrev pub empty_row_comes : Delta
+empty_row_comes = record { gone = []; come = empty_row ∷ [] }
+
+-- the difference in a place, or this one past the end
+abbrev pub delta_at : Delta → List Delta → ℕ → Delta
+delta_at none deltas place = slice_index_or deltas place none
+
+-- what comes to a node: what the node before it answered, or what comes to the first nodes
+abbrev pub left_delta : Delta → List Delta → Option ℕ → Delta
+left_delta first deltas None = first
+left_delta first deltas (Some parent) = delta_at first deltas parent
+
+-- What is given for a step of a node and its gate: what leads from one snapshot to the next, a store that has all versions of both, and the
+-- true difference of the rows of the conditions before the node.
+pub record IsNodeTurn (p : Program) (look : Look) (s next : Snapshot) (gone : List Fact) (come : Option Fact) (pattern : Pattern) (rows rows_now : Row → Bool) (left : Delta) : Type 0 where
+  pub window : has_good_window p pattern ≡ true
+  pub moves : Moves p s next gone come
+  pub at_hand : HasAllOf look s no_names
+  pub at_hand_now : HasAllOf look next no_names
+  pub named : NameHeld s rows
+  pub named_now : NameHeld next rows_now
+  pub leads : Leads rows rows_now left.gone left.come
+
+-- what a step of a node and its gate answers: where it stood it stands, and the answer is the true difference of the rows of its condition
+pub record NodeStep (p : Program) (look : Look) (gone : List Fact) (come : Option Fact) (clock : ℤ) (old new : NetNode) (left delta : Delta) : Type 0 where
+  pub parent : new.parent ≡ old.parent
+  pub condition : condition_of new.node ≡ condition_of old.node
+  pub stands : (s next : Snapshot) (rows rows_now : Row → Bool) → NetNodeStands p old s rows → next.clock ≡ clock
+      → IsNodeTurn p look s next gone come (pattern_of (condition_of old.node)) rows rows_now left → NetNodeStands p new next rows_now
+  pub difference : (s next : Snapshot) (rows rows_now : Row → Bool) → NetNodeStands p old s rows → next.clock ≡ clock
+      → IsNodeTurn p look s next gone come (pattern_of (condition_of old.node)) rows rows_now left
+      → IsDifference (line p s (condition_of old.node) rows) (line p next (condition_of old.node) rows_now) delta
+
+-- the nodes before this place took their step, each after those before it; what comes to the first nodes is `first`
+abbrev pub SteppedBelow : Program → Look → List Fact → Option Fact → ℤ → Delta → List NetNode → List NetNode → List Delta → ℕ → Type 0
+SteppedBelow p look gone come clock first before after deltas n =
+    (k : ℕ) → k < n → (old new : NetNode) → slice_get before k ≡ Some old → slice_get after k ≡ Some new
+    → NodeStep p look gone come clock old new (left_delta first (take k deltas) old.parent) (delta_at first deltas k)
+
+-- what a step of a network answers: its nodes took their step, and each answer is what the last node of a rule answered
+pub record NetStep (p : Program) (look : Look) (gone : List Fact) (come : Option Fact) (clock : ℤ) (first : Delta) (before after : List NetNode) (ends : List ℕ) (given : List Delta) : Type 0 where
+  pub deltas : List Delta
+  pub nodes : length after ≡ length before
+  pub stepped : SteppedBelow p look gone come clock first before after deltas (length before)
+  pub answers : given ≡ map (delta_at first deltas) ends

@@ -1,0 +1,73 @@
+ghost use Rattle.std.specs.Prelude.{◌≡◌, map, option_map, IfOk, length};
+ghost use Rattle.rule_model.specs.Lent.{lent};
+ghost use Rattle.rete_net.specs.Steps.{delta_at, left_delta, SteppedBelow};
+
+use crate::node::NetNode;
+use fx_base::{Copies, Fact, Facts, Millis, NoMemory};
+use row_delta::Delta;
+use rule_model::Program;
+use std::alloc::Global;
+
+// The difference in a place, or `none` past the end.
+fn delta_at<'d>(none: &'d Delta, deltas: &'d [Delta], place: usize) -> &'d Delta
+    ensures { result.now ≡ delta_at none.now deltas.now place }
+{
+    match deltas.get(place) {
+        Some(delta) => delta,
+        None => none,
+    }
+}
+
+// What comes to a node: what the node before it answered, or what comes to the first nodes.
+fn left_delta<'d>(first: &'d Delta, deltas: &'d [Delta], parent: Option<usize>) -> &'d Delta
+    ensures { result.now ≡ left_delta first.now deltas.now parent }
+{
+    match parent {
+        Some(parent) => delta_at(first, deltas, parent),
+        None => first,
+    }
+}
+
+/// Lets each node take its step, in order, and answers what has changed in the rows of each. `first` comes to the nodes without
+/// a parent.
+pub(crate) fn step_all<F: Facts>(
+    nodes: &mut [NetNode],
+    alloc: Global,
+    program: &Program,
+    first: &Delta,
+    gone: &[&Fact],
+    come: Option<&Fact>,
+    clock: Millis,
+    facts: &F,
+) -> Result<Vec<Delta>, NoMemory>
+    ensures { IfOk result (λ deltas. SteppedBelow program.now (F.map facts.now) (lent gone.now) (option_map (λ f. f.now) come.entry) clock first.now nodes.old nodes.new deltas.items (length nodes.old)) }
+{
+    let mut deltas = Vec::with_capacity(alloc, nodes.len())?;
+    for i in 0..nodes.len() {
+        let node = &mut nodes[i];
+        let left = left_delta(first, &deltas, node.parent);
+        let delta = node.advance(alloc, program, left, gone, come, clock, facts)?;
+        deltas.push(delta)?;
+    }
+    Ok(deltas)
+}
+
+/// Copies of the differences in these places.
+pub(crate) fn answers_at(
+    alloc: Global,
+    none: &Delta,
+    deltas: &[Delta],
+    ends: &[usize],
+) -> Result<Vec<Delta>, NoMemory>
+    ensures { IfOk result (λ answers. answers.items ≡ map (delta_at none.now deltas.now) ends.now) }
+{
+    let mut answers = Vec::with_capacity(alloc, ends.len())?;
+    for end in ends {
+        let delta = delta_at(none, deltas, *end);
+        answers.push(Delta {
+            gone: delta.gone.copy(alloc)?,
+            come: delta.come.copy(alloc)?,
+        })?;
+    }
+    Ok(answers)
+}

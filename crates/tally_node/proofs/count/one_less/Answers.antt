@@ -1,0 +1,8 @@
+use Rattle.std.proofs.Common.{sym, subst}
+use Rattle.tally_node.specs.Tallies.{less_one}
+use Rattle.tally_node.specs.Counts.{IsNumber}
+use Rattle.tally_node.proofs.Counting.{number_less}
+use Rattle.tally_node.proofs.count.one_less.Goals as goal
+
+pub returns : goal.returns
+returns c set who is present = subst (IsNumber (less_one set who)) (sym c.saturating_sub.ensures) (number_less set c.args.count who is present)

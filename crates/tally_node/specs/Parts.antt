@@ -1,0 +1,42 @@
+-- What a part of a step does to a node: to what it keeps, to its tallies and to what has changed so far.
+use Rattle.std.specs.Prelude.{◌≡◌, cond, Bool, true, None}
+use Rattle.row_delta.specs.declared.row.Named.{Named}
+use Rattle.row_delta.specs.declared.row.Row.{Row}
+use Rattle.row_change.specs.declared.change.Change.{Change}
+use Rattle.row_change.specs.Changes.{Leads}
+use Rattle.join_tests.specs.Joins.{Look, joins}
+use Rattle.pair_memory.specs.declared.memories.Memories.{Memories}
+use Rattle.pair_memory.specs.Memories.{left_at, has_right, Keeps}
+use Rattle.tally_node.specs.Tallies.{TurnedIf, Steps, SeeAlike, Follows, Arrives, passing}
+
+-- The memories then keep these rows and candidates, their tallies have become what the relation says, and what has changed so far leads
+-- on to the rows that the node has then.
+pub record PartStep {T : Type 0} (rows : Memories T → Look → Row → Bool) (becomes : Memories T → Memories T → Type 0) (before after : Memories T) (look : Look) (left : Row → Bool) (right : Named → Bool) (change changed : Change) : Type 0 where
+  pub keeps : Keeps before after look left right
+  pub tallies : becomes before after
+  pub leads : (old : Row → Bool) → Leads old (rows before look) change.gone.keys change.come.keys → Leads old (rows after look) changed.gone.keys changed.come.keys
+
+-- ---- what tallies become
+
+-- those of these rows take a turn, in which one candidate comes or goes, and the others stay
+abbrev pub AllTurned : {T : Type 0} → (T → Look → (Named → Bool) → Type 0) → Look → Bool → Named → (Row → Bool) → Memories T → Memories T → Type 0
+AllTurned holds look comes who turning before after = (world : Look) → world who.tag ≡ look who.tag → (r : Row)
+    → Steps (TurnedIf (turning r) holds world comes who) (left_at before look r) (left_at after look r)
+
+-- they follow the kept candidates, of which some of these come or go
+abbrev pub AllFollow : {T : Type 0} → (T → Look → (Named → Bool) → Type 0) → Look → (Named → Bool) → Memories T → Memories T → Type 0
+AllFollow holds look moving before after = (world : Look) (scope : Named → Bool) → SeeAlike scope look world → ((c : Named) → moving c ≡ true → scope c ≡ true) → (r : Row)
+    → Steps (Follows holds world scope (has_right before look) (has_right after look) (joins before.pattern look r)) (left_at before look r) (left_at after look r)
+
+-- those of these rows are dropped, and the others stay
+abbrev pub AllDropped : {T : Type 0} → Look → (Row → Bool) → Memories T → Memories T → Type 0
+AllDropped look gone before after = (r : Row) → left_at after look r ≡ cond (gone r) None (left_at before look r)
+
+-- those of these rows begin with the kept candidates that pass, where the row was not kept, and the others stay
+abbrev pub AllArrive : {T : Type 0} → (T → Look → (Named → Bool) → Type 0) → Look → (Row → Bool) → Memories T → Memories T → Type 0
+AllArrive holds look come before after = (world : Look) → SeeAlike (has_right before look) look world → (r : Row)
+    → Arrives (come r) holds world (passing before.pattern look (has_right before look) r) (left_at before look r) (left_at after look r)
+
+-- all stay
+abbrev pub AllStay : {T : Type 0} → Look → Memories T → Memories T → Type 0
+AllStay look before after = (r : Row) → left_at after look r ≡ left_at before look r
