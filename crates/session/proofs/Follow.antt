@@ -1,5 +1,5 @@
 -- The network follows a session in each of its steps.
-use Rattle.std.proofs.Common.{◌≡◌, ◌∙◌, inl, ℕ, ℤ, pos, ◌<◌, ◌≤ℤ◌, ◌&&◌, ◌==◌, Bool, true, false, List, [], ◌∷◌, Option, Some, None, if◌then◌else◌, refl, sym, ap, subst, arith}
+use Rattle.std.proofs.Common.{◌≡◌, ◌∙◌, inl, ℕ, ℤ, pos, ◌<◌, ◌≤ℤ◌, ◌&&◌, ◌==◌, Bool, true, false, List, [], ◌∷◌, Some, None, if◌then◌else◌, refl, sym, ap, subst, arith}
 use Rattle.std.specs.FinMap.{get-empty}
 use Rattle.std.specs.Ordering.{nat_cmp}
 use Rattle.fx_base.specs.declared.fact.Fact.{Fact}

@@ -1,5 +1,5 @@
 -- What leads from the facts before a step of the network to those behind it is what the network asks for.
-use Rattle.std.proofs.Common.{◌≡◌, ◌∙◌, inl, inr, sym, ap, refl, subst, ℕ, ℤ, ◌<◌, ◌==◌, ◌||◌, not, List, [], ◌∷◌, ◌++◌, map as list_map, filter_map, nat_eq, Bool, true, false, Option, Some, None, if◌then◌else◌, arith}
+use Rattle.std.proofs.Common.{◌≡◌, ◌∙◌, inl, inr, sym, ap, refl, subst, ℕ, ℤ, ◌<◌, ◌==◌, ◌||◌, not, List, [], ◌∷◌, ◌++◌, filter_map, nat_eq, Bool, true, false, Option, Some, None, if◌then◌else◌, arith}
 use Rattle.std.specs.List.{cons_option, filter, find, list_any}
 use Rattle.std.specs.Option.{option_to_list}
 use Rattle.std.proofs.lemmas.Bool.Decides.{nat_tests}
@@ -11,7 +11,6 @@ use Rattle.fact_store.specs.Held.{HeldFacts, facts_of}
 use Rattle.fact_store.proofs.Members.{from_list, from_map, tags_rise}
 use Rattle.rule_model.specs.declared.program.Program.{Program}
 use Rattle.rule_model.specs.Distinct.{HaveDistinctTags}
-use Rattle.rule_model.specs.Snapshots.{Snapshot}
 use Rattle.rule_model.proofs.Listed.{in_left, in_right, of_append, of_map}
 use Rattle.rule_model.proofs.Named.{AllOf, of_filter}
 use Rattle.rule_model.proofs.Order.{in_filter, passed}
@@ -22,7 +21,7 @@ use Rattle.pattern_gate.specs.Moves.{Moves, shares_tag}
 use Rattle.session.specs.Following.{Comes, Leads}
 use Rattle.session.specs.Gives.{version_of}
 use Rattle.session.specs.Refreshed.{over}
-use Rattle.session.specs.Waiting.{left_at, HaveOwnTags}
+use Rattle.session.specs.Waiting.{HaveOwnTags}
 use Rattle.session.proofs.Members.{got_new, got_old, of_insert, version_found}
 use Rattle.session.proofs.Rising.{Rise, rising_filter, rising_more, rising_same}
 use Rattle.std.specs.FinMap as map
@@ -175,7 +174,7 @@ module _ (p : Program) (before behind all : HeldFacts) (from to : ℤ) (gone : L
   from_next : AllOf (facts_of behind) next
   from_next f i = elim (of_append f (filter keeps (facts_of before)) (option_to_list come) i) [
     | inl j ↦ in_behind f (in_all f.tag.0 f (at_own before own_before f (of_filter keeps f (facts_of before) j)))
-      (sym (shared f) ∙ not_true (shares_tag out f) (passed keeps f (facts_of before) j))
+        (sym (shared f) ∙ not_true (shares_tag out f) (passed keeps f (facts_of before) j))
     | inr j ↦ by come l.comes j
   ]
     where
