@@ -1,5 +1,5 @@
-mod Holding
-mod Ends
+pub mod Holding
+pub mod Ends
 pub mod Joined
 mod Kept
 mod Valued
