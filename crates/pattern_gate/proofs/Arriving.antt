@@ -14,17 +14,15 @@ use Rattle.fx_base.specs.declared.ids.Tag.{Tag}
 use Rattle.rule_model.specs.Distinct.{HaveDistinctTags}
 use Rattle.rule_model.specs.Tuples.{name_of}
 use Rattle.rule_model.specs.declared.condition.Pattern.{Pattern}
-use Rattle.rule_model.proofs.Firsts.{or_left, or_right}
 use Rattle.rule_model.proofs.Listed.{in_map, of_map, in_right}
 use Rattle.rule_model.proofs.Named.{AllOf, of_filter}
 use Rattle.rule_model.proofs.Once.{one_fact}
 use Rattle.rule_model.proofs.Order.{in_filter, passed}
 use Rattle.rule_world.proofs.Fresh.{distinct_filtered}
 use Rattle.rule_world.proofs.Kept.{filter_same, filter_swap}
-use Rattle.row_delta.specs.declared.row.Named.{Named}
-use Rattle.window_gate.specs.Standing.{has_name, MayGo, MayPass, MayStart}
+use Rattle.condition_rows.proofs.Ends.{in_name}
+use Rattle.window_gate.specs.Standing.{MayGo, MayPass, MayStart}
 use Rattle.window_gate.specs.Windows.{Arrival, named_of, has_tag, after}
-use Rattle.window_gate.proofs.Names.{same_name, same_itself}
 use Rattle.window_gate.specs.declared.change.GateChange.TheVariants.{Come, Gone}
 use Rattle.window_gate.specs.declared.change.WindowKind.{WindowKind}
 use Rattle.window_gate.specs.declared.change.WindowKind.TheVariants.{Whole, Time, Length}
@@ -102,12 +100,6 @@ rising (f ∷ facts) rise = (
   rising facts (rising_rest f facts rise),
 )
 
--- a version of the list has its name there
-named_there : (who : Named) (names : List Named) → In who names → has_name names who ≡ true
-named_there who [] i = absurd i
-named_there who (x ∷ names) (inl e) = or_left (same_name who x) (has_name names who) (ap (same_name who) (sym e) ∙ same_itself who)
-named_there who (x ∷ names) (inr i) = or_right (same_name who x) (has_name names who) (named_there who names i)
-
 -- ---- a fact goes
 
 abbrev pub is_other : Fact → Fact → Bool
@@ -178,7 +170,7 @@ module _ (q : Pattern) where
 
   may_go : (kind : WindowKind) (facts : List Fact) (f : Fact) → In f facts → is_meant q f ≡ true → MayGo kind (map named_of (meant facts)) (name_of f)
   may_go Whole facts f i e =
-      named_there (name_of f) (map named_of (meant facts)) (in_map named_of (arrival_of f) (meant facts) (in_map arrival_of f (filter (is_meant q) facts) (in_filter (is_meant q) f facts e i)))
+      in_name (name_of f) (map named_of (meant facts)) (in_map named_of (arrival_of f) (meant facts) (in_map arrival_of f (filter (is_meant q) facts) (in_filter (is_meant q) f facts e i)))
   may_go (Time span) facts f i e = tt
   may_go (Length count) facts f i e = tt
 
