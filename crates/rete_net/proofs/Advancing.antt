@@ -1,5 +1,5 @@
 -- A step of a network over the rows of its conditions.
-use Rattle.std.proofs.Common.{◌≡◌, ◌∙◌, sym, ap, refl, subst, ℕ, ℤ, ◌&&◌, not, Bool, true, false, List, [], ◌∷◌, ◌++◌, Option, Some, None, slice_get}
+use Rattle.std.proofs.Common.{◌≡◌, ◌∙◌, sym, ap, refl, subst, ℕ, ℤ, ◌&&◌, not, Bool, true, false, List, [], ◌∷◌, Option, Some, slice_get}
 use mathlib.Core.Path.{fun_ext}
 use Rattle.fx_base.specs.declared.fact.Fact.{Fact}
 use Rattle.row_delta.specs.declared.delta.Delta.{Delta}
@@ -18,9 +18,7 @@ use Rattle.condition_rows.specs.Sets.{rows_of}
 use Rattle.condition_rows.specs.Lines.{empty_row}
 use Rattle.condition_rows.proofs.Naming.{rows_named}
 use Rattle.condition_rows.proofs.Whole.{one_more}
-use Rattle.pattern_gate.specs.Moves.{Moves}
 use Rattle.rete_net.specs.declared.net.Rete.{Rete}
-use Rattle.rete_net.specs.declared.node.NetNode.{NetNode}
 use Rattle.rete_net.specs.Nets.{NetStands, AreBetween}
 use Rattle.rete_net.specs.Shapes.{EndsAt}
 use Rattle.rete_net.specs.Steps.{no_change, NetStep}
@@ -70,7 +68,7 @@ module _ (p : Program) (look : Look) (s next : Snapshot) (gone : List Fact) (com
         shaped = now.shaped;
         ends = λ place rule e.
             subst (λ (places : List ℕ). EndsAt new.nodes.items conditions places place rule) (sym same)
-                (ends_now p look s next gone come clock first was (rows_of p next) old.nodes.items new.nodes.items conditions step.deltas given made (rows_made p next distinct_now) leads standing step.nodes step.stepped old.ends.items place rule (ends place rule e));
+            (ends_now p look s next gone come clock first was (rows_of p next) old.nodes.items new.nodes.items conditions step.deltas given made (rows_made p next distinct_now) leads standing step.nodes step.stepped old.ends.items place rule (ends place rule e));
         windows = now.windows;
         nodes = now.stand;
       }

@@ -109,7 +109,7 @@ module _ (p : Program) (look : Look) (s next : Snapshot) (gone : List Fact) (com
   stands_at k old new e f =
       let behind = before conditions old.parent in
       (step_at k old new e f).stands s next (was behind) (is behind) (standing.stand k old e) given.moment
-          (turn k old e (λ q lt. let w : k < length nodes = slice_get_within nodes k old e in all_below (suc q) q old (omega arith) (omega arith)))
+      (turn k old e (λ q lt. let w : k < length nodes = slice_get_within nodes k old e in all_below (suc q) q old (omega arith) (omega arith)))
 
   pub standing_now : AreStanding p next is nodes_now conditions
   standing_now = record {
@@ -121,7 +121,7 @@ module _ (p : Program) (look : Look) (s next : Snapshot) (gone : List Fact) (com
           let old = old_at k new f in
           let step = step_at k old.0 new old.1 f in
           subst (λ (c : Condition). conditions k ≡ before conditions new.parent ++ c ∷ []) (sym step.condition)
-              (subst (λ (parent : Option ℕ). conditions k ≡ before conditions parent ++ condition_of old.0.node ∷ []) (sym step.parent) (standing.shaped.own k old.0 old.1));
+          (subst (λ (parent : Option ℕ). conditions k ≡ before conditions parent ++ condition_of old.0.node ∷ []) (sym step.parent) (standing.shaped.own k old.0 old.1));
     };
     windows = λ k new f.
         let old = old_at k new f in

@@ -1,5 +1,5 @@
 -- A network that is being built, with one node more.
-use Rattle.std.proofs.Common.{◌≡◌, ◌∙◌, sym, ap, refl, subst, ℕ, zero, suc, ◌+◌, ◌<◌, ◌≤◌, nat_le, arith, Bool, true, false, ◌&&◌, List, [], ◌∷◌, ◌++◌, length, take, get_or, length-append, Option, Some, None, slice_get, ◌⊎◌, inl, inr}
+use Rattle.std.proofs.Common.{◌≡◌, ◌∙◌, sym, ap, refl, subst, ℕ, zero, suc, ◌+◌, ◌<◌, ◌≤◌, nat_le, arith, Bool, true, List, [], ◌∷◌, ◌++◌, length, take, get_or, length-append, Option, Some, None, slice_get, ◌⊎◌, inl, inr}
 use Rattle.std.proofs.Math.Seq.{take-append_seam}
 use Rattle.std.proofs.lemmas.Bool.Decides.{nat_tests}
 use Rattle.std.proofs.lemmas.List.{take-append-le, append_assoc, take_more}
@@ -110,11 +110,11 @@ module _ (p : Program) (nodes : List NetNode) (all more : List (List Condition))
     more ++ (take i conditions ++ condition_of node.node ∷ []) ∷ [],
     subst (λ (ns : List NetNode). AreBuilt p ns (all ++ (more ++ (take i conditions ++ condition_of node.node ∷ []) ∷ []))) (sym now)
         (subst (λ (xs : List (List Condition)). AreBuilt p (nodes ++ node ∷ []) xs) (append_assoc all more ((take i conditions ++ condition_of node.node ∷ []) ∷ []))
-            (one_more p nodes (all ++ more) node (take i conditions) built parent window_is fresh)),
+        (one_more p nodes (all ++ more) node (take i conditions) built parent window_is fresh)),
     ap (λ (xs : List (List Condition)). slice_get xs place) (sym (append_assoc all more ((take i conditions ++ condition_of node.node ∷ []) ∷ [])))
-    ∙ ap (slice_get ((all ++ more) ++ (take i conditions ++ condition_of node.node ∷ []) ∷ [])) at
-    ∙ parent_here p nodes (all ++ more) node (take i conditions) built parent window_is fresh
-    ∙ ap Some next_is,
+        ∙ ap (slice_get ((all ++ more) ++ (take i conditions ++ condition_of node.node ∷ []) ∷ [])) at
+        ∙ parent_here p nodes (all ++ more) node (take i conditions) built parent window_is fresh
+        ∙ ap Some next_is,
   )
 
 -- ---- one rule more
@@ -133,8 +133,7 @@ module _ (all more : List (List Condition)) (ends : List ℕ) (rules : List Rule
           (h.0, get_left ends (unwrap_or last 0 ∷ []) place h.0 h.1, get_left all more h.0 r.conditions h.2)
       by (inr at) =
           let known : Some rule ≡ Some r = sym found ∙ ap (slice_get rules) (sym at) ∙ e in
-          let same : rule ≡ r = cc in
-          (
+          let same : rule ≡ r = cc in (
             unwrap_or last 0,
             ap (slice_get (ends ++ unwrap_or last 0 ∷ [])) (at ∙ sym count) ∙ get_seam ends (unwrap_or last 0),
             subst (λ (s : Rule). slice_get (all ++ more) (unwrap_or last 0) ≡ Some s.conditions) same (ending (all ++ more) last rule.conditions ended some),

@@ -1,8 +1,7 @@
 -- The first step of a network, over no facts: the empty row comes.
-use Rattle.std.proofs.Common.{◌≡◌, ◌∙◌, sym, ap, refl, subst, ℕ, ℤ, pos, ◌≤ℤ◌, ◌<◌, arith, ◌&&◌, not, Bool, true, false, List, [], ◌∷◌, ◌++◌, length, take, get_or, Option, Some, None, slice_get}
+use Rattle.std.proofs.Common.{◌≡◌, ◌∙◌, sym, ap, refl, subst, ℕ, ℤ, pos, ◌≤ℤ◌, ◌<◌, arith, ◌&&◌, Bool, true, false, List, [], ◌∷◌, ◌++◌, length, take, get_or, Option, Some, None, slice_get}
 use mathlib.Core.Path.{fun_ext}
 use Rattle.std.specs.List.Sorted.{IsStrictlySortedBy}
-use Rattle.std.specs.Ordering.{nat_cmp}
 use Rattle.std.specs.Int.Signed.{≤ℤ_refl}
 use Rattle.std.proofs.lemmas.List.{get_or-take, length-take}
 use Rattle.std.proofs.lemmas.Option.{slice_get_within, get_or_from_slice_get, slice_get-get_or}
@@ -24,15 +23,15 @@ use Rattle.pair_memory.specs.Valued.{splits_value, unvalued, valued}
 use Rattle.condition_rows.specs.Sets.{held, candidates_of, rows_of}
 use Rattle.condition_rows.specs.Lines.{line, gives}
 use Rattle.condition_rows.specs.Looks.{empty_snapshot, HasAllOf}
-use Rattle.pattern_gate.specs.Moves.{IsKept, Moves}
+use Rattle.pattern_gate.specs.Moves.{IsKept}
 use Rattle.condition_node.specs.Nodes.{condition_of}
 use Rattle.rete_net.specs.declared.net.Rete.{Rete}
 use Rattle.rete_net.specs.declared.node.NetNode.{NetNode}
 use Rattle.rete_net.specs.Nets.{NetStands, AreBetween}
-use Rattle.rete_net.specs.Shapes.{before, IsShaped, EndsAt}
+use Rattle.rete_net.specs.Shapes.{before, EndsAt}
 use Rattle.rete_net.specs.Steps.{empty_row_comes, NetStep}
 use Rattle.rete_net.specs.Building.{IsParent, AreBuilt, HaveEnds}
-use Rattle.rete_net.proofs.Advancing.{rows_made, first_row, stands_now, between_now}
+use Rattle.rete_net.proofs.Advancing.{first_row, stands_now, between_now}
 use Rattle.rete_net.proofs.Chaining.{AreMade, IsGiven, AreStanding}
 use Rattle.rete_net.proofs.Turning.{and_true}
 
@@ -129,6 +128,7 @@ module _ (p : Program) (net new : Rete) (all : List (List Condition)) (answers :
       node_at : (nodes : List NetNode) (k : ℕ) → k < length nodes → (n : NetNode) × (slice_get nodes k ≡ Some n)
       node_at [] k h = absurd (omega arith)
       node_at (n ∷ nodes) k h = (get_or (n ∷ nodes) k n, slice_get-get_or (n ∷ nodes) k n h)
+
       there : (last : ℕ) → slice_get net.ends.items place ≡ Some last → slice_get all last ≡ Some rule.conditions
           → (n : NetNode) × (slice_get net.nodes.items last ≡ Some n) → EndsAt net.nodes.items conditions net.ends.items place rule
       there last found has n = record { last = last; node = n.0; found = found; there = n.1; all = get_or_from_slice_get all last rule.conditions [] has }

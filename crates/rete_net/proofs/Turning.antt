@@ -31,7 +31,6 @@ use Rattle.condition_node.specs.declared.node.Node.{Node}
 use Rattle.condition_node.specs.Nodes.{condition_of, NodeStands}
 use Rattle.condition_node.specs.Turns.{IsTurn}
 use Rattle.rete_net.specs.declared.node.NetNode.{NetNode}
-use Rattle.rete_net.specs.Nets.{NetNodeStands}
 use Rattle.rete_net.specs.Steps.{IsNodeTurn, NodeStep}
 
 -- ---- tags in order are distinct

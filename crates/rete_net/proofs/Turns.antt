@@ -81,16 +81,16 @@ whole_again : {A : Type 0} (n : ℕ) (xs ys : List A) → length xs ≡ n → ta
 whole_again n xs ys e = ap (λ m. take m (xs ++ ys)) (sym e) ∙ take-append_seam xs ys
 
 module _ (p : Program) (look : Look) (gone : List Fact) (come : Option Fact) (first : Delta) (ends : List ℕ) (answers : List Delta) where
-  pub net_step : (at clock : ℤ) (before given now rest : List NetNode) (n : ℕ) (deltas : List Delta) → at ≡ clock → given ≡ before → length now ≡ length given → n ≡ length before
-      → SteppedBelow p look gone come at first given now deltas (length given) → answers ≡ map (delta_at first deltas) ends
+  pub net_step : (at clock : ℤ) (before given now rest : List NetNode) (n : ℕ) (deltas lent_deltas : List Delta) (lent_ends : List ℕ) → at ≡ clock → given ≡ before → length now ≡ length given → n ≡ length before
+      → SteppedBelow p look gone come at first given now deltas (length given) → answers ≡ map (delta_at first lent_deltas) lent_ends → lent_deltas ≡ deltas → lent_ends ≡ ends
       → NetStep p look gone come clock first before (take n (now ++ rest)) ends answers
-  net_step at clock before given now rest n deltas e f long count stepped answered =
+  net_step at clock before given now rest n deltas lent_deltas lent_ends e f long count stepped answered same_deltas same_ends =
       subst (λ (after : List NetNode). NetStep p look gone come clock first before after ends answers) (sym (whole_again n now rest (long ∙ ap length f ∙ sym count)))
       (record {
         deltas = deltas;
         nodes = long ∙ ap length f;
         stepped = subst (λ (z : ℤ). SteppedBelow p look gone come z first before now deltas (length before)) e (subst (λ (ns : List NetNode). SteppedBelow p look gone come at first ns now deltas (length ns)) f stepped);
-        answers = answered;
+        answers = answered ∙ ap (λ (ds : List Delta). map (delta_at first ds) lent_ends) same_deltas ∙ ap (map (delta_at first deltas)) same_ends;
       })
 
 -- a step by the same clock and the same first difference

@@ -1,5 +1,5 @@
 -- For which snapshot a network stands, and what it answers.
-use Rattle.std.specs.Prelude.{◌≡◌, ℕ, Bool, true, List, Option, Some, slice_get}
+use Rattle.std.specs.Prelude.{◌≡◌, ℕ, Bool, true, List, Some, slice_get}
 use Rattle.row_delta.specs.declared.delta.Delta.{Delta}
 use Rattle.row_delta.specs.declared.row.Row.{Row}
 use Rattle.row_delta.specs.Differences.{IsBetween}

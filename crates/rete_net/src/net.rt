@@ -95,7 +95,16 @@ impl Rete {
         ensures ends { OnOk result (self.new.ends.items ≡ self.old.ends.items) }
         ensures stepped { IfOk result (λ deltas. NetStep program.now (F.map facts.now) (lent gone.now) (option_map (λ f. f.now) come.entry) clock first.now self.old.nodes.items self.new.nodes.items self.old.ends.items deltas.items) }
     {
-        let deltas = step_all(&mut self.nodes, alloc, program, first, gone, come, clock, facts)?;
+        let deltas = step_all(
+            &mut self.nodes,
+            alloc,
+            program,
+            first,
+            gone,
+            come,
+            clock,
+            facts,
+        )?;
         let answers = answers_at(alloc, first, &deltas, &self.ends)?;
         Ok(answers)
     }

@@ -56,7 +56,9 @@ impl NetNode {
         let right = self
             .gate
             .advance(alloc, program, self.node.pattern(), gone, come, clock)?;
-        let delta = self.node.advance(alloc, program, left, &right, clock, facts)?;
+        let delta = self
+            .node
+            .advance(alloc, program, left, &right, clock, facts)?;
         Ok(delta)
     }
 }

@@ -1,4 +1,4 @@
-use Rattle.std.proofs.Common.{◌≡◌, ◌∙◌, ap, Some, sym, ◌<◌, length, arith, get_or, length-append, to_z, of_z, to_z-of_z, w64}
+use Rattle.std.proofs.Common.{◌∙◌, ◌<◌, length, arith, get_or, length-append, to_z, of_z, to_z-of_z, w64}
 use Rattle.std.proofs.Math.ListN.{length-set}
 use Rattle.std.proofs.lemmas.Option.{slice_get-get_or}
 use Rattle.std.specs.Option.{option_map}

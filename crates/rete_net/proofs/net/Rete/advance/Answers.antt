@@ -1,4 +1,4 @@
-use Rattle.std.proofs.Common.{◌≡◌, ℤ, to_z, of_z, to_z-of_z, w64}
+use Rattle.std.proofs.Common.{◌≡◌, to_z, of_z, to_z-of_z, w64}
 use Rattle.std.specs.Option.{option_map}
 use Rattle.rule_model.specs.Lent.{lent}
 use Rattle.rete_net.specs.Steps.{no_change, NetStep}

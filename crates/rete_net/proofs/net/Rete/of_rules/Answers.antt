@@ -31,8 +31,7 @@ loop-rule-preserved c = record { count = let e = c.loop-rule.invariant.count in 
         let was = c.loop-rule.invariant.built runnable in
         let windows = passes_at (has_windows p) p.rules c.loop-rule.rule-index rule runnable.windows found in
         let some = passes_at has_conditions p.rules c.loop-rule.rule-index rule runnable.conditions found in
-        let more = c.in_ok-last.ensures was.0 was.1 (subst (λ (cs : List Condition). list_all (has_window p) cs ≡ true) (sym c.as_slice-in-loop-rule.ensures) windows) in
-        (
+        let more = c.in_ok-last.ensures was.0 was.1 (subst (λ (cs : List Condition). list_all (has_window p) cs ≡ true) (sym c.as_slice-in-loop-rule.ensures) windows) in (
           was.0 ++ more.0,
           more.1,
           subst (λ (ends : List ℕ). HaveEnds (was.0 ++ more.0) ends p.rules (c.loop-rule.rule-index + 1)) (sym ends_are)

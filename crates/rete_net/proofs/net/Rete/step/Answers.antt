@@ -1,16 +1,14 @@
-use Rattle.std.proofs.Common.{◌≡◌, ◌∙◌, ap, ℤ, List, length, drop, map, to_z, of_z, to_z-of_z, w64}
+use Rattle.std.proofs.Common.{length, drop, to_z, of_z, to_z-of_z, w64}
 use Rattle.std.specs.Option.{option_map}
-use Rattle.row_delta.specs.declared.delta.Delta.{Delta}
 use Rattle.rule_model.specs.Lent.{lent}
-use Rattle.rete_net.specs.Steps.{delta_at}
 use Rattle.rete_net.proofs.Turns.{net_step}
 use Rattle.rete_net.proofs.net.Rete.step.Goals as goal
 
 pub returns-clause-stepped : goal.returns-clause-stepped
 returns-clause-stepped g c =
-    let whole : to_z w64 (of_z w64 c.args.clock) ≡ c.args.clock = to_z-of_z c.ranges.clock in
     let nodes = c.args.self.now.nodes in
-    let answered = c.in_ok-answers.ensures ∙ ap (λ (ds : List Delta). map (delta_at c.args.first.now ds) c.deref-2.result.now) c.deref.ensures.value ∙ ap (map (delta_at c.args.first.now c.in_ok-deltas.deltas.items)) c.deref-2.ensures.value in
     net_step c.args.program.now (g.F.Facts.map c.args.facts.now) (lent c.args.gone.now) (option_map (λ f. f.now) c.args.come) c.args.first.now c.args.self.now.ends.items c.in_ok-answers.answers.items
-    (to_z w64 (of_z w64 c.args.clock)) c.args.clock nodes.items c.deref_mut.result.now c.step_all.new.nodes (drop (length c.step_all.new.nodes) nodes.items) nodes.len c.in_ok-deltas.deltas.items
-    whole c.deref_mut.ensures.value c.step_all.auto.nodes nodes.ok.0 c.in_ok-deltas.ensures answered
+    (to_z w64 (of_z w64 c.args.clock)) c.args.clock nodes.items c.deref_mut.result.now c.step_all.new.nodes (drop (length c.step_all.new.nodes) nodes.items) nodes.len
+    c.in_ok-deltas.deltas.items c.deref.result.now c.deref-2.result.now
+    (to_z-of_z c.ranges.clock) c.deref_mut.ensures.value c.step_all.auto.nodes nodes.ok.0 c.in_ok-deltas.ensures
+    c.in_ok-answers.ensures c.deref.ensures.value c.deref-2.ensures.value
