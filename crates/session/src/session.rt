@@ -90,21 +90,16 @@ impl Session {
         ensures table { IfOk result (λ r. r.0.lives ≡ self.lives) }
         ensures tags { IfOk result (λ r. r.0.contents.next_tag ≤ self.contents.next_tag + 1) }
     {
+        let mut session = self;
         let mut lines = Vec::new(alloc);
-        let Session {
-            program,
-            lives,
-            state,
-            mut net,
-        } = self;
-        let asked = asked_step(alloc, &program, &state, change)?;
-        let state = state.apply(alloc, &program, &mut net, asked, &mut lines)?;
-        let session = Session {
-            program,
-            lives,
-            state,
-            net,
-        };
+        let asked = asked_step(alloc, &session.program, &session.state, change)?;
+        session.state = session.state.apply(
+            alloc,
+            &session.program,
+            &mut session.net,
+            asked,
+            &mut lines,
+        )?;
         Ok((session, Seq::from_vec(lines)))
     }
 
@@ -118,25 +113,20 @@ impl Session {
         ensures table { IfOk result (λ r. r.0.lives ≡ self.lives) }
         ensures tags { IfOk result (λ r. r.0.contents.next_tag ≤ self.contents.next_tag + 16) }
     {
-        match self.state.plan(alloc, &self.program)? {
+        let mut session = self;
+        match session.state.plan(alloc, &session.program)? {
             Some(plan) => {
                 let mut lines = Vec::new(alloc);
-                let Session {
-                    program,
-                    lives,
-                    state,
-                    mut net,
-                } = self;
-                let state = state.fire(alloc, &program, &mut net, plan, &mut lines)?;
-                let session = Session {
-                    program,
-                    lives,
-                    state,
-                    net,
-                };
+                session.state = session.state.fire(
+                    alloc,
+                    &session.program,
+                    &mut session.net,
+                    plan,
+                    &mut lines,
+                )?;
                 Ok((session, Fired::Yes(Seq::from_vec(lines))))
             }
-            None => Ok((self, Fired::No)),
+            None => Ok((session, Fired::No)),
         }
     }
 
