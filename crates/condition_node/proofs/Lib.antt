@@ -4,3 +4,5 @@ pub mod Shown
 pub mod Folding
 pub mod Turning
 pub mod Telling
+pub mod Staying
+pub mod Quietness

@@ -1,4 +1,4 @@
-ghost use Rattle.std.specs.Prelude.{◌≡◌, ◌-ℤ◌, Bool, IfOk, OnOk};
+ghost use Rattle.std.specs.Prelude.{◌≡◌, ◌-ℤ◌, ◌+ℤ◌, ◌≤ℤ◌, ◌<ℤ◌, ◌^◌, pos, ℤ, Bool, IfOk, OnOk};
 ghost use Rattle.row_delta.specs.declared.row.Named.{Named};
 ghost use Rattle.row_delta.specs.declared.row.Row.{Row};
 ghost use Rattle.row_change.specs.Changes.{IsDifference};
@@ -10,6 +10,7 @@ ghost use Rattle.pair_memory.specs.Standing.{cleaned, no_rows};
 ghost use Rattle.condition_rows.specs.Lines.{line};
 ghost use Rattle.condition_rows.specs.Looks.{empty_snapshot};
 ghost use Rattle.condition_node.specs.Nodes.{condition_of, NodeStands};
+ghost use Rattle.condition_node.specs.Quiet.{IsBefore, IsQuiet};
 ghost use Rattle.condition_node.specs.Turns.{IsTurn};
 
 use crate::copying::Copied;
@@ -42,6 +43,13 @@ fn told_to(program: &Program, entry: EntryId, clock: Millis) -> i128
     ensures { result ≡ clock -ℤ lateness_of program.now entry.0 }
 {
     i128::from(clock) - i128::from(program.lateness(entry))
+}
+
+/// The clock from which a moment is past at an entry point of this lateness; nothing where no clock of 64 bits comes so far.
+fn clock_past(at: i128, lateness: Millis) -> Option<i128>
+    ensures { (clock : ℤ) → pos 0 ≤ℤ (at +ℤ lateness) → clock <ℤ pos (2 ^ 63) → IsBefore result clock → (clock -ℤ lateness) ≤ℤ at }
+{
+    at.checked_add(i128::from(lateness) + 1)
 }
 
 impl Node {
@@ -126,6 +134,21 @@ impl Node {
                 let delta = tally.advance(alloc, accumulate, left, right, facts)?;
                 Ok(delta)
             }
+        }
+    }
+    /// The clock, in milliseconds, from which a row that waits is mature: until then a move of the clock alone, which changes no
+    /// candidates, changes nothing here. `None` where no row waits. Takes no memory.
+    pub fn quiet_until(&self, program: &Program) -> Option<i128>
+        ensures { IsQuiet program.now self.now result }
+    {
+        match self {
+            Node::Not(waiting) => match waiting.next_moment() {
+                Some(at) => clock_past(at, program.lateness(waiting.pattern().entry)),
+                None => None,
+            },
+            Node::Join(_) => None,
+            Node::Exists(_) => None,
+            Node::Fold(_) => None,
         }
     }
 }

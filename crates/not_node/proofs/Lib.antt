@@ -2,3 +2,4 @@ pub mod Pairs
 pub mod Ripe
 pub mod Maturing
 pub mod Lawful
+pub mod Quiet

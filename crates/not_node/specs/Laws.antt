@@ -1,5 +1,5 @@
 -- When a row is mature, which rows a not has, and what a step, forgetting and a change of the store are for them.
-use Rattle.std.specs.Prelude.{◌≡◌, ◌&&◌, not, true, Bool, cond, List, None, ℤ}
+use Rattle.std.specs.Prelude.{◌≡◌, ◌&&◌, ◌≤ℤ◌, not, true, false, int_lt, Bool, cond, List, None, ℤ}
 use Rattle.std.specs.List.{list_any}
 use Rattle.row_delta.specs.declared.row.Named.{Named}
 use Rattle.row_delta.specs.declared.row.Row.{Row}
@@ -22,7 +22,7 @@ use Rattle.tally_node.specs.Tallies.{SeeAlike, TallyStep}
 use Rattle.not_node.specs.declared.node.NotNode.{NotNode}
 use Rattle.not_node.specs.Moments.{moment_at}
 use Rattle.not_node.specs.Rows.{IsInStep, not_rows}
-use Rattle.not_node.specs.Waiting.{mature}
+use Rattle.not_node.specs.Waiting.{waits, mature}
 
 -- A row that waits for its moment is mature where its tuple is.
 abbrev pub MaturityLaw : Type 0
@@ -67,3 +67,13 @@ DropLaw = (p : Program) (m n : NotNode) (look : Look) (rows : Row → Bool) (nam
 abbrev pub MoveLaw : Type 0
 MoveLaw = (p : Program) (node : NotNode) (look other : Look) → Agrees node.tally.memories look → LooksAlike node.tally.memories look other
     → ((row : Row) → not_rows p other node row ≡ not_rows p look node row) × (IsInStep p look node → IsInStep p other node)
+
+-- the node with another floor
+abbrev pub with_floor : NotNode → ℤ → NotNode
+with_floor node floor = record { tally = node.tally; ripening = record { floor = floor; waiting = node.ripening.waiting } }
+
+-- With a later floor that is not above the moment of a row that waits, a node has the same rows, and the same rows wait.
+abbrev pub QuietLaw : Type 0
+QuietLaw = (p : Program) (node : NotNode) (look : Look) (floor : ℤ) → IsInStep p look node → node.ripening.floor ≤ℤ floor
+    → ((at : ℤ) (row : Row) → waits node.ripening.waiting.keys at row ≡ true → int_lt at floor ≡ false)
+    → IsInStep p look (with_floor node floor) × ((row : Row) → not_rows p look (with_floor node floor) row ≡ not_rows p look node row)

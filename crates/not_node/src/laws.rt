@@ -1,5 +1,5 @@
 //! Laws of nots: each function's contract is the law, and its body is empty.
-ghost use Rattle.not_node.specs.Laws.{MaturityLaw, NotLaw, StepLaw, DropLaw, MoveLaw};
+ghost use Rattle.not_node.specs.Laws.{MaturityLaw, NotLaw, StepLaw, DropLaw, MoveLaw, QuietLaw};
 
 /// A row waits for its moment as long as its tuple is not mature.
 pub fn rows_mature_as_their_tuples_do()
@@ -24,4 +24,9 @@ pub fn what_is_dropped_names_an_old_fact()
 /// A not depends on the facts at the tags that it keeps alone.
 pub fn a_not_looks_at_kept_tags_alone()
     ensures { MoveLaw }
+{}
+
+/// With a later floor for which no row is due a not has the same rows.
+pub fn a_floor_alone_ripens_what_is_due()
+    ensures { QuietLaw }
 {}

@@ -1,4 +1,4 @@
-ghost use Rattle.std.specs.Prelude.{◌≡◌, ◌&&◌, not, cond, None, Bool, IfOk, OnOk};
+ghost use Rattle.std.specs.Prelude.{◌≡◌, ◌&&◌, not, cond, None, Bool, IfOk, OnOk, ℤ, Option, IfSome, true};
 ghost use Rattle.row_delta.specs.declared.row.Row.{Row};
 ghost use Rattle.row_delta.specs.declared.row.Named.{Named};
 ghost use Rattle.row_delta.specs.Rows.{has, InOrder};
@@ -12,7 +12,7 @@ ghost use Rattle.pair_memory.specs.Inputs.{IsStepped};
 ghost use Rattle.tally_node.specs.Counts.{counts_blockers};
 ghost use Rattle.tally_node.specs.Tallies.{TallyStep};
 ghost use Rattle.not_node.specs.Rows.{IsInStep, not_rows};
-ghost use Rattle.not_node.specs.Waiting.{later};
+ghost use Rattle.not_node.specs.Waiting.{waits, IsFrom, later};
 
 use crate::ripening::Ripening;
 use fx_base::{Facts, NoMemory, Seq};
@@ -49,6 +49,14 @@ impl NotNode {
         ensures { result.now ≡ self.now.tally.memories.pattern }
     {
         self.tally.pattern()
+    }
+
+    /// The least moment for which a row waits. Takes no memory.
+    pub fn next_moment(&self) -> Option<i128>
+        ensures waits { IfSome result (λ at. (row : Row) × (waits self.now.ripening.waiting.keys at row ≡ true)) }
+        ensures least { (at : ℤ) (row : Row) → waits self.now.ripening.waiting.keys at row ≡ true → IsFrom result at }
+    {
+        self.ripening.next_moment()
     }
 
     /// Takes what has changed in the rows of the conditions before this one and in its candidates, and a new floor, and answers

@@ -4,7 +4,7 @@ ghost use Rattle.row_delta.specs.declared.row.Row.{Row};
 ghost use Rattle.row_delta.specs.Rows.{has, row_cmp};
 ghost use Rattle.row_change.specs.Changes.{Leads, IsDifference};
 ghost use Rattle.not_node.specs.Moments.{moment_at};
-ghost use Rattle.not_node.specs.Waiting.{waits, waits_at, is_moment, mature, ripe, Awaits, later};
+ghost use Rattle.not_node.specs.Waiting.{waits, waits_at, is_moment, mature, ripe, Awaits, IsFrom, later};
 
 use crate::moments::moment_of;
 use fx_base::{Copies, Facts, NoMemory};
@@ -87,6 +87,17 @@ impl Ripening {
         ensures { result ≡ self.now.floor }
     {
         self.floor
+    }
+
+    /// The least moment for which a row waits. Takes no memory.
+    pub fn next_moment(&self) -> Option<i128>
+        ensures waits { IfSome result (λ at. (r : Row) × (waits self.now.waiting.keys at r ≡ true)) }
+        ensures least { (at : ℤ) (r : Row) → waits self.now.waiting.keys at r ≡ true → IsFrom result at }
+    {
+        match self.waiting.first() {
+            Some(pair) => Some(pair.0),
+            None => None,
+        }
     }
 
     /// Whether a row waits.

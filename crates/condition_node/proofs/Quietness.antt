@@ -1,0 +1,68 @@
+-- How long the nodes of each kind are quiet.
+use Rattle.std.proofs.Common.{◌≡◌, ◌∙◌, sym, ap, refl, subst, ℕ, ℤ, pos, ◌+ℤ◌, ◌-ℤ◌, ◌≤ℤ◌, ◌<ℤ◌, ◌^◌, int_lt, arith, Bool, true, false, not, ◌&&◌, Option, Some, None}
+use Rattle.std.proofs.lemmas.Int.{ints}
+use Rattle.row_delta.specs.declared.row.Row.{Row}
+use Rattle.rule_model.specs.declared.program.Program.{Program}
+use Rattle.rule_model.specs.Maturity.{told_to}
+use Rattle.rule_model.specs.Snapshots.{Snapshot}
+use Rattle.rule_model.specs.Types.{lateness_of}
+use Rattle.rule_model.proofs.Listed.{both_of}
+use Rattle.beta_join.specs.declared.join.BetaJoin.{BetaJoin}
+use Rattle.tally_node.specs.declared.count.Witnesses.{Witnesses}
+use Rattle.tally_node.specs.declared.node.TallyNode.{TallyNode}
+use Rattle.not_node.specs.declared.node.NotNode.{NotNode}
+use Rattle.not_node.specs.Moments.{moment_at}
+use Rattle.not_node.specs.Rows.{unblocked}
+use Rattle.not_node.specs.Waiting.{waits, is_moment}
+use Rattle.condition_node.specs.declared.node.FoldNode.{FoldNode}
+use Rattle.condition_node.specs.declared.node.Node.TheVariants as node
+use Rattle.condition_node.specs.Quiet.{at_clock, IsBefore, IsQuiet}
+use Rattle.condition_node.proofs.Knowing.{not_of}
+use Rattle.condition_node.proofs.Staying.{join_stays, exists_stays, fold_stays, not_stays}
+
+less_later : (a b l : ℤ) → a ≤ℤ b → (a -ℤ l) ≤ℤ (b -ℤ l)
+less_later a b l h = omega (arith, ints, h)
+
+not_below : (at least x : ℤ) → int_lt at least ≡ false → x ≤ℤ least → int_lt at x ≡ false
+not_below at least x e h = grind (arith, ints)
+
+least_low : (least c l : ℤ) → int_lt least (c -ℤ l) ≡ false → pos 0 ≤ℤ c → pos 0 ≤ℤ (least +ℤ l)
+least_low least c l e h = grind (arith, ints)
+
+told_later : (p : Program) (s : Snapshot) (clock : ℤ) (entry : ℕ) → s.clock ≤ℤ clock → told_to p s entry ≤ℤ told_to p (at_clock s clock) entry
+unfolding told_to
+told_later p s clock entry h = less_later s.clock clock (lateness_of p entry) h
+
+told_is : (p : Program) (s : Snapshot) (entry : ℕ) → told_to p s entry ≡ s.clock -ℤ lateness_of p entry
+unfolding told_to
+told_is p s entry = refl
+
+pub join_quiet : (p : Program) (join : BetaJoin) (until : Option ℤ) → IsQuiet p (node.Join join) until
+join_quiet p join until look s rows forgotten clock tags known named stands begun later low before same = join_stays p look s rows forgotten clock tags known named join same stands
+
+pub exists_quiet : (p : Program) (tally : TallyNode Witnesses) (until : Option ℤ) → IsQuiet p (node.Exists tally) until
+exists_quiet p tally until look s rows forgotten clock tags known named stands begun later low before same = exists_stays p look s rows forgotten clock tags known named tally same stands
+
+pub fold_quiet : (p : Program) (fold : FoldNode) (until : Option ℤ) → IsQuiet p (node.Fold fold) until
+fold_quiet p fold until look s rows forgotten clock tags known named stands begun later low before same = fold_stays p look s rows forgotten clock tags known named fold same stands
+
+module _ (p : Program) (waiting : NotNode) where
+  pub none_due : ((at : ℤ) (row : Row) → waits waiting.ripening.waiting.keys at row ≡ true → ⊥) → IsQuiet p (node.Not waiting) None
+  none_due none look s rows forgotten clock tags known named stands begun later low before same =
+      let entry = waiting.tally.memories.pattern.entry.0 in
+      not_stays p look s rows forgotten clock tags known named waiting same stands
+      (subst (λ (floor : ℤ). floor ≤ℤ told_to p (at_clock s clock) entry) (sym stands.floor) (told_later p s clock entry later)) (λ at row e. absurd (none at row e))
+
+  pub due_at : (until : Option ℤ) (least : ℤ) (first : Row) → waits waiting.ripening.waiting.keys least first ≡ true → ((at : ℤ) (row : Row) → waits waiting.ripening.waiting.keys at row ≡ true → int_lt at least ≡ false)
+      → ((clock : ℤ) → pos 0 ≤ℤ (least +ℤ lateness_of p waiting.tally.memories.pattern.entry.0) → clock <ℤ pos (2 ^ 63) → IsBefore until clock → (clock -ℤ lateness_of p waiting.tally.memories.pattern.entry.0) ≤ℤ least)
+      → IsQuiet p (node.Not waiting) until
+  due_at until least first there over reaches look s rows forgotten clock tags known named stands begun later low before same =
+      let m = waiting.tally.memories in
+      let entry = m.pattern.entry.0 in
+      let late = lateness_of p entry in
+      let x = unblocked m look first && is_moment (moment_at p m.pattern look first) least in
+      let due : int_lt least waiting.ripening.floor ≡ false = not_of (int_lt least waiting.ripening.floor) (both_of x (not (int_lt least waiting.ripening.floor)) (sym (stands.in_step least first) ∙ there)).1 in
+      let reached = reaches clock (least_low least s.clock late (ap (int_lt least) (sym (stands.floor ∙ told_is p s entry)) ∙ due) begun) low before in
+      not_stays p look s rows forgotten clock tags known named waiting same stands
+      (subst (λ (floor : ℤ). floor ≤ℤ told_to p (at_clock s clock) entry) (sym stands.floor) (told_later p s clock entry later))
+      (λ at row e. not_below at least (told_to p (at_clock s clock) entry) (over at row e) (subst (λ (floor : ℤ). floor ≤ℤ least) (sym (told_is p (at_clock s clock) entry)) reached))

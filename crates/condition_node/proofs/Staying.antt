@@ -1,0 +1,90 @@
+-- Where the clock alone changes neither the candidates nor what is mature, the line of a condition stays as it is.
+use Rattle.std.proofs.Common.{◌≡◌, ◌∙◌, sym, ap, refl, subst, ℤ, ◌≤ℤ◌, int_lt, Bool, true, false}
+use mathlib.Core.Path.{fun_ext}
+use Rattle.std.specs.Option.{is_some}
+use Rattle.row_delta.specs.declared.row.Named.{Named}
+use Rattle.row_delta.specs.declared.row.Row.{Row}
+use Rattle.rule_model.specs.declared.condition.Pattern.{Pattern}
+use Rattle.rule_model.specs.declared.program.Program.{Program}
+use Rattle.rule_model.specs.Distinct.{HaveDistinctTags}
+use Rattle.rule_model.specs.Maturity.{told_to}
+use Rattle.rule_model.specs.Snapshots.{Snapshot}
+use Rattle.join_tests.specs.Joins.{Look, versions_at, joins}
+use Rattle.pair_memory.specs.declared.memories.Memories.{Memories}
+use Rattle.pair_memory.specs.Standing.{cleaned, StandsFor}
+use Rattle.beta_join.specs.declared.join.BetaJoin.{BetaJoin}
+use Rattle.tally_node.specs.declared.count.Witnesses.{Witnesses}
+use Rattle.tally_node.specs.declared.node.TallyNode.{TallyNode}
+use Rattle.tally_node.specs.Counts.{counts_blockers, counts_witnesses}
+use Rattle.tally_node.specs.Gathers.{gathers}
+use Rattle.tally_node.specs.Laws.{StandsCounted}
+use Rattle.not_node.specs.declared.node.NotNode.{NotNode}
+use Rattle.not_node.specs.Laws.{with_floor}
+use Rattle.not_node.specs.Waiting.{waits}
+use Rattle.not_node.proofs.Quiet.{quiet_law}
+use Rattle.condition_rows.specs.Lines.{line}
+use Rattle.condition_rows.specs.Looks.{HasAllOf, NameHeld}
+use Rattle.condition_rows.specs.Sets.{held, candidates_of}
+use Rattle.condition_node.specs.declared.node.FoldNode.{FoldNode}
+use Rattle.condition_node.specs.declared.node.Node.{Node}
+use Rattle.condition_node.specs.declared.node.Node.TheVariants as node
+use Rattle.condition_node.specs.Nodes.{condition_of, Counts, WaitsFor, FoldsFor, NodeStands}
+use Rattle.condition_node.specs.Quiet.{at_clock}
+use Rattle.condition_node.proofs.Folding.{fold_shown}
+use Rattle.condition_node.proofs.Shown.{join_shown, exists_shown, not_shown}
+
+-- a snapshot holds the same versions at another clock
+held_alike : (s : Snapshot) (clock : ℤ) → held s ≡ held (at_clock s clock)
+unfolding held
+held_alike s clock = refl
+
+module _ (p : Program) (look : Look) (s : Snapshot) (rows : Row → Bool) (forgotten : Named → Bool) (clock : ℤ) (tags : HaveDistinctTags s.facts) (known : HasAllOf look s forgotten) (named : NameHeld s rows) where
+  abbrev next : Snapshot
+  next = at_clock s clock
+
+  known_next : HasAllOf look next forgotten
+  known_next tag f e clean = known tag f (ap (λ (h : Look). h tag) (held_alike s clock) ∙ e) clean
+
+  named_next : NameHeld next rows
+  named_next row e = subst (λ (h : Look). is_some (versions_at h row.facts) ≡ true) (held_alike s clock) (named row e)
+
+  abbrev SameCandidates : Pattern → Type 0
+  SameCandidates q = (who : Named) → candidates_of p q next who ≡ candidates_of p q s who
+
+  stands_on : {T : Type 0} (m : Memories T) → SameCandidates m.pattern → StandsFor m look rows (candidates_of p m.pattern s) forgotten → StandsFor m look rows (candidates_of p m.pattern next) forgotten
+  stands_on m same stands = subst (λ (names : Named → Bool). StandsFor m look rows names forgotten) (fun_ext (λ who. sym (same who))) stands
+
+  counts_on : {T : Type 0} (holds : T → Look → (Named → Bool) → Type 0) (m : Memories T) → SameCandidates m.pattern → Counts holds p m look s rows forgotten → Counts holds p m look next rows forgotten
+  counts_on holds m same counts =
+      subst (λ (names : Named → Bool). StandsCounted holds m look (held next) (joins m.pattern (held next)) rows names forgotten) (fun_ext (λ who. sym (same who)))
+      (subst (λ (h : Look). StandsCounted holds m look h (joins m.pattern h) rows (candidates_of p m.pattern s) forgotten) (held_alike s clock) counts)
+
+  abbrev LineStays : Node → Type 0
+  LineStays n = (row : Row) → cleaned (line p next (condition_of n) rows) forgotten row ≡ cleaned (line p s (condition_of n) rows) forgotten row
+
+  pub join_stays : (join : BetaJoin) → SameCandidates join.memories.pattern → NodeStands p (node.Join join) look s rows forgotten → LineStays (node.Join join)
+  join_stays join same stands row =
+      let m = join.memories in
+      sym (join_shown p look next rows forgotten known_next named_next m (stands_on m same stands) row) ∙ join_shown p look s rows forgotten known named m stands row
+
+  pub exists_stays : (tally : TallyNode Witnesses) → SameCandidates tally.memories.pattern → NodeStands p (node.Exists tally) look s rows forgotten → LineStays (node.Exists tally)
+  exists_stays tally same counts row =
+      let m = tally.memories in
+      sym (exists_shown p look next rows forgotten known_next named_next tags m (counts_on counts_witnesses m same counts) row) ∙ exists_shown p look s rows forgotten known named tags m counts row
+
+  pub fold_stays : (fold : FoldNode) → SameCandidates fold.accumulate.pattern → NodeStands p (node.Fold fold) look s rows forgotten → LineStays (node.Fold fold)
+  fold_stays fold same folds row =
+      let m = fold.tally.memories in
+      let here = subst SameCandidates (sym folds.pattern) same in
+      let folds_next : FoldsFor p fold look next rows forgotten = record { counts = counts_on (gathers fold.accumulate) m here folds.counts; pattern = folds.pattern } in
+      sym (fold_shown p look next rows forgotten known_next named_next tags fold folds_next row) ∙ fold_shown p look s rows forgotten known named tags fold folds row
+
+  pub not_stays : (waiting : NotNode) → SameCandidates waiting.tally.memories.pattern → NodeStands p (node.Not waiting) look s rows forgotten
+      → waiting.ripening.floor ≤ℤ told_to p next waiting.tally.memories.pattern.entry.0
+      → ((at : ℤ) (row : Row) → waits waiting.ripening.waiting.keys at row ≡ true → int_lt at (told_to p next waiting.tally.memories.pattern.entry.0) ≡ false) → LineStays (node.Not waiting)
+  not_stays waiting same waits later quiet row =
+      let m = waiting.tally.memories in
+      let floor = told_to p next m.pattern.entry.0 in
+      let stays = quiet_law p waiting look floor waits.in_step later quiet in
+      let risen : WaitsFor p (with_floor waiting floor) look next rows forgotten = record { counts = counts_on counts_blockers m same waits.counts; in_step = stays.0; floor = refl } in
+      sym (not_shown p look next rows forgotten known_next named_next tags (with_floor waiting floor) risen row) ∙ stays.1 row ∙ not_shown p look s rows forgotten known named tags waiting waits row

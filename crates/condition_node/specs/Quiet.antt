@@ -1,0 +1,32 @@
+-- How long a move of the clock alone changes nothing.
+use Rattle.std.specs.Prelude.{◌≡◌, ◌≤ℤ◌, ◌<ℤ◌, ◌^◌, pos, ℤ, Bool, Option, Some, None}
+use Rattle.row_delta.specs.declared.row.Named.{Named}
+use Rattle.row_delta.specs.declared.row.Row.{Row}
+use Rattle.rule_model.specs.declared.program.Program.{Program}
+use Rattle.rule_model.specs.Distinct.{HaveDistinctTags}
+use Rattle.rule_model.specs.Rows.{pattern_of}
+use Rattle.rule_model.specs.Snapshots.{Snapshot}
+use Rattle.join_tests.specs.Joins.{Look}
+use Rattle.pair_memory.specs.Standing.{cleaned}
+use Rattle.condition_rows.specs.Lines.{line}
+use Rattle.condition_rows.specs.Looks.{HasAllOf, NameHeld}
+use Rattle.condition_rows.specs.Sets.{candidates_of}
+use Rattle.condition_node.specs.declared.node.Node.{Node}
+use Rattle.condition_node.specs.Nodes.{condition_of, NodeStands}
+
+-- the snapshot at another clock
+abbrev pub at_clock : Snapshot → ℤ → Snapshot
+at_clock s clock = record s { clock = clock }
+
+-- the clock is before this moment, where there is one
+abbrev pub IsBefore : Option ℤ → ℤ → Type 0
+IsBefore None clock = Unit {0}
+IsBefore (Some moment) clock = clock <ℤ moment
+
+-- until this moment the clock alone changes nothing in what the condition makes of rows before it, where it does not change the candidates
+abbrev pub IsQuiet : Program → Node → Option ℤ → Type 0
+IsQuiet p node until = (look : Look) (s : Snapshot) (rows : Row → Bool) (forgotten : Named → Bool) (clock : ℤ)
+    → HaveDistinctTags s.facts → HasAllOf look s forgotten → NameHeld s rows → NodeStands p node look s rows forgotten
+    → pos 0 ≤ℤ s.clock → s.clock ≤ℤ clock → clock <ℤ pos (2 ^ 63) → IsBefore until clock
+    → ((who : Named) → candidates_of p (pattern_of (condition_of node)) (at_clock s clock) who ≡ candidates_of p (pattern_of (condition_of node)) s who)
+    → (row : Row) → cleaned (line p (at_clock s clock) (condition_of node) rows) forgotten row ≡ cleaned (line p s (condition_of node) rows) forgotten row
