@@ -34,6 +34,11 @@ out_by : (facts : HeldFacts) (tag t : ℕ) (b : Bool) → nat_eq t tag ≡ b →
 out_by facts tag t true e = ap (map.get (map.remove facts tag)) (same_number t tag e) ∙ is_out facts tag
 out_by facts tag t false e = not_out facts tag t (other_number t tag e)
 
+-- where none go, all are left
+pub none_gone : (facts : HeldFacts) (gone : List ℕ) → gone ≡ [] → (tag : ℕ) → map.get facts tag ≡ left_at facts gone tag
+none_gone facts [] e tag = refl
+none_gone facts (t ∷ gone) e tag = absurd cc
+
 -- one more is gone
 pub one_gone : (first facts rest : HeldFacts) (done : List ℕ) (tag : ℕ) → ((t : ℕ) → map.get facts t ≡ left_at first done t) → rest ≡ map.remove facts tag
     → (t : ℕ) → map.get rest t ≡ left_at first (done ++ tag ∷ []) t
