@@ -1,5 +1,5 @@
 -- How long the nodes of a network are quiet, and the network with them.
-use Rattle.std.proofs.Common.{◌≡◌, ◌∙◌, sym, ap, refl, subst, inl, inr, ℕ, zero, suc, ◌+◌, ℤ, pos, ◌<◌, ◌≤ℤ◌, ◌<ℤ◌, ◌^◌, arith, Bool, List, [], length, get_or, Option, Some, None, slice_get, IfSome}
+use Rattle.std.proofs.Common.{◌≡◌, ◌∙◌, sym, ap, refl, subst, inl, inr, ℕ, zero, suc, ◌+◌, ℤ, pos, ◌<◌, ◌≤ℤ◌, ◌<ℤ◌, ◌^◌, arith, Bool, List, length, get_or, Option, Some, None, slice_get, IfSome}
 use mathlib.Core.Path.{fun_ext}
 use Rattle.std.specs.Int.Signed.{≤ℤ_refl}
 use Rattle.std.proofs.lemmas.Option.{slice_get_within, slice_get-get_or}
@@ -46,7 +46,7 @@ node_quiet p n window moment until gate node least s rows clock stands named kep
     let b = least clock before in
     ap (λ (set : Row → Bool). set row) (sym (cleaned_none (line p (at_clock s clock) c rows)))
     ∙ node (held s) s rows no_names clock (rising s.facts kept.in_order) (held_has s) named stands.node begun later low b.1
-        (gate (pattern_of c) s clock stands.gate kept kept_now later (if_before window clock b.0)) row
+    (gate (pattern_of c) s clock stands.gate kept kept_now later (if_before window clock b.0)) row
     ∙ ap (λ (set : Row → Bool). set row) (cleaned_none (line p s c rows))
 
 -- up to an earlier moment too

@@ -8,7 +8,6 @@ use Rattle.row_delta.specs.Rows.{has}
 use Rattle.rule_model.specs.declared.condition.Condition.{Condition}
 use Rattle.rule_model.specs.declared.program.Program.{Program}
 use Rattle.rule_model.specs.declared.program.Rule.{Rule}
-use Rattle.rule_model.specs.Distinct.{HaveDistinctTags}
 use Rattle.rule_model.specs.Rows.{rows}
 use Rattle.rule_model.specs.Snapshots.{Snapshot}
 use Rattle.join_tests.specs.Joins.{Look}

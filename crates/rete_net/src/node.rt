@@ -70,6 +70,7 @@ impl NetNode {
         ensures { IsNodeQuiet program.now self.now result }
     {
         let window = widened(self.gate.quiet_until());
-        earlier(window, self.node.quiet_until(program))
+        let moment = self.node.quiet_until(program);
+        earlier(window, moment)
     }
 }

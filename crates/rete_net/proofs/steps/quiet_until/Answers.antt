@@ -1,4 +1,4 @@
-use Rattle.std.proofs.Common.{◌≡◌, ◌∙◌, sym, ap, ◌<◌, length, arith, Some, slice_get}
+use Rattle.std.proofs.Common.{◌∙◌, sym, ap, ◌<◌, length, arith, Some}
 use Rattle.std.proofs.lemmas.Option.{slice_get_within, slice_get-get_or}
 use Rattle.rete_net.proofs.Quieting.{quiet_more}
 use Rattle.rete_net.proofs.steps.quiet_until.Goals as goal
