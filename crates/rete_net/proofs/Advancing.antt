@@ -19,7 +19,7 @@ use Rattle.condition_rows.specs.Lines.{empty_row}
 use Rattle.condition_rows.proofs.Naming.{rows_named}
 use Rattle.condition_rows.proofs.Whole.{one_more}
 use Rattle.rete_net.specs.declared.net.Rete.{Rete}
-use Rattle.rete_net.specs.Nets.{NetStands, AreBetween}
+use Rattle.rete_net.specs.Nets.{NodesStand, AreBetween}
 use Rattle.rete_net.specs.Shapes.{EndsAt}
 use Rattle.rete_net.specs.Steps.{no_change, NetStep}
 use Rattle.rete_net.proofs.Chaining.{AreMade, IsGiven, AreStanding, standing_now, ends_now, answer_at}
@@ -38,7 +38,7 @@ unmoved : (b : Bool) → false ≡ (b && not b)
 unmoved true = refl
 unmoved false = refl
 
-first_stays : (p : Program) (s next : Snapshot) → Leads (rows_of p s []) (rows_of p next []) no_change.gone no_change.come
+pub first_stays : (p : Program) (s next : Snapshot) → Leads (rows_of p s []) (rows_of p next []) no_change.gone no_change.come
 first_stays p s next =
     subst (λ (rs : List Row). Leads (rows_of p s []) (λ row. has rs row) [] []) (first_row p s ∙ sym (first_row p next))
     (record { goes = λ row. unmoved (rows_of p s [] row); comes = λ row. unmoved (rows_of p s [] row) })
@@ -56,11 +56,11 @@ module _ (p : Program) (look : Look) (s next : Snapshot) (gone : List Fact) (com
     (given : IsGiven p look s next gone come clock) (made : AreMade p s was) (leads : Leads (was []) (rows_of p next []) first.gone first.come)
     (standing : AreStanding p s was old.nodes.items conditions) (ends : (place : ℕ) (rule : Rule) → slice_get p.rules place ≡ Some rule → EndsAt old.nodes.items conditions old.ends.items place rule)
     (same : new.ends.items ≡ old.ends.items) (step : NetStep p look gone come clock first old.nodes.items new.nodes.items old.ends.items answers)
-    (listed : (cs : List Condition) → was cs ≡ has (lists cs)) where
+    (listed : (place : ℕ) (rule : Rule) → slice_get p.rules place ≡ Some rule → was rule.conditions ≡ has (lists rule.conditions)) where
   distinct_now : HaveDistinctTags next.facts
   distinct_now = rising next.facts given.moves.after.in_order
 
-  pub stands_now : NetStands p new next
+  pub stands_now : NodesStand p new next
   stands_now =
       let now = standing_now p look s next gone come clock first was (rows_of p next) old.nodes.items new.nodes.items conditions step.deltas given made (rows_made p next distinct_now) leads standing step.nodes step.stepped in
       record {
@@ -79,22 +79,5 @@ module _ (p : Program) (look : Look) (s next : Snapshot) (gone : List Fact) (com
         at.0,
         ap (λ (deltas : List Delta). slice_get deltas place) step.answers ∙ at.1,
         between_of (lists rule.conditions) (rows p next rule.conditions) at.0
-            (subst (λ (set : Row → Bool). IsDifference set (rows_of p next rule.conditions) at.0) (listed rule.conditions) at.2),
+            (subst (λ (set : Row → Bool). IsDifference set (rows_of p next rule.conditions) at.0) (listed place rule e) at.2),
       )
-
-module _ (p : Program) (look : Look) (s next : Snapshot) (gone : List Fact) (come : Option Fact) (clock : ℤ) (old new : Rete) (answers : List Delta)
-    (given : IsGiven p look s next gone come clock) (stands : NetStands p old s) (same : new.ends.items ≡ old.ends.items)
-    (step : NetStep p look gone come clock no_change old.nodes.items new.nodes.items old.ends.items answers) where
-  distinct : HaveDistinctTags s.facts
-  distinct = rising s.facts given.moves.before.in_order
-
-  standing : AreStanding p s (rows_of p s) old.nodes.items stands.conditions
-  standing = record { shaped = stands.shaped; windows = stands.windows; stand = stands.nodes }
-
-  pub net_stands : NetStands p new next
-  net_stands =
-      stands_now p look s next gone come clock no_change (rows_of p s) (rows p s) old new stands.conditions answers given (rows_made p s distinct) (first_stays p s next) standing stands.ends same step (λ cs. refl)
-
-  pub net_between : AreBetween p (λ rule. rows p s rule.conditions) (λ rule. rows p next rule.conditions) answers
-  net_between =
-      between_now p look s next gone come clock no_change (rows_of p s) (rows p s) old new stands.conditions answers given (rows_made p s distinct) (first_stays p s next) standing stands.ends same step (λ cs. refl)

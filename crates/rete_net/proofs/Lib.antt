@@ -3,4 +3,6 @@ mod Turns
 mod Chaining
 mod Growing
 mod Advancing
+mod Quieting
+mod Seen
 mod Starting

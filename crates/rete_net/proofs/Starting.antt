@@ -28,11 +28,13 @@ use Rattle.condition_node.specs.Nodes.{condition_of}
 use Rattle.rete_net.specs.declared.net.Rete.{Rete}
 use Rattle.rete_net.specs.declared.node.NetNode.{NetNode}
 use Rattle.rete_net.specs.Nets.{NetStands, AreBetween}
+use Rattle.rete_net.specs.Quiet.{AreQuiet}
 use Rattle.rete_net.specs.Shapes.{before, EndsAt}
 use Rattle.rete_net.specs.Steps.{empty_row_comes, NetStep}
 use Rattle.rete_net.specs.Building.{IsParent, AreBuilt, HaveEnds}
 use Rattle.rete_net.proofs.Advancing.{first_row, stands_now, between_now}
 use Rattle.rete_net.proofs.Chaining.{AreMade, IsGiven, AreStanding}
+use Rattle.rete_net.proofs.Quieting.{seen_now}
 use Rattle.rete_net.proofs.Turning.{and_true}
 
 -- ---- conditions make nothing of no rows
@@ -133,10 +135,12 @@ module _ (p : Program) (net new : Rete) (all : List (List Condition)) (answers :
           → (n : NetNode) × (slice_get net.nodes.items last ≡ Some n) → EndsAt net.nodes.items conditions net.ends.items place rule
       there last found has n = record { last = last; node = n.0; found = found; there = n.1; all = get_or_from_slice_get all last rule.conditions [] has }
 
-  pub built_stands : NetStands p new empty_snapshot
-  built_stands =
-      stands_now p no_facts empty_snapshot empty_snapshot [] None (pos 0) empty_row_comes nothing (λ cs. []) net new conditions answers (starts p) (nothing_made p empty_snapshot) (first_comes p) standing end_at same step (λ cs. refl)
+  pub built_stands : AreQuiet p new.nodes.items new.quiet_until → NetStands p new empty_snapshot
+  built_stands quiet =
+      seen_now p new empty_snapshot
+      (stands_now p no_facts empty_snapshot empty_snapshot [] None (pos 0) empty_row_comes nothing (λ cs. []) net new conditions answers (starts p) (nothing_made p empty_snapshot) (first_comes p) standing end_at same step (λ place rule e. refl))
+      (kept p) (standstill (pos 0)) quiet
 
   pub built_between : AreBetween p (λ rule. []) (λ rule. rows p empty_snapshot rule.conditions) answers
   built_between =
-      between_now p no_facts empty_snapshot empty_snapshot [] None (pos 0) empty_row_comes nothing (λ cs. []) net new conditions answers (starts p) (nothing_made p empty_snapshot) (first_comes p) standing end_at same step (λ cs. refl)
+      between_now p no_facts empty_snapshot empty_snapshot [] None (pos 0) empty_row_comes nothing (λ cs. []) net new conditions answers (starts p) (nothing_made p empty_snapshot) (first_comes p) standing end_at same step (λ place rule e. refl)

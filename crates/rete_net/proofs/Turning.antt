@@ -64,7 +64,7 @@ none_named : (names : List Named) → list_any no_names names ≡ false
 none_named [] = refl
 none_named (n ∷ names) = none_named names
 
-cleaned_none : (rows : Row → Bool) → cleaned rows no_names ≡ rows
+pub cleaned_none : (rows : Row → Bool) → cleaned rows no_names ≡ rows
 cleaned_none rows = fun_ext (λ row. ap (λ b. rows row && not b) (none_named row.facts) ∙ and_true (rows row))
 
 remembered_none : (names : Named → Bool) → remembered names no_names ≡ names
@@ -74,7 +74,7 @@ abbrev MoveLaw : Type 0
 MoveLaw = (p : Program) (node : Node) (look other : Look) (s : Snapshot) (rows : Row → Bool) (forgotten : Named → Bool)
     → HasAllOf look s forgotten → HasAllOf other s forgotten → NameHeld s rows → NodeStands p node look s rows forgotten → NodeStands p node other s rows forgotten
 
-held_has : (s : Snapshot) → HasAllOf (held s) s no_names
+pub held_has : (s : Snapshot) → HasAllOf (held s) s no_names
 held_has s tag f e n = e
 
 module _ (p : Program) (look : Look) (gone : List Fact) (come : Option Fact) (clock : ℤ) (old new : NetNode) (left right delta : Delta) where

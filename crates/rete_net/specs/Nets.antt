@@ -1,5 +1,5 @@
 -- For which snapshot a network stands, and what it answers.
-use Rattle.std.specs.Prelude.{◌≡◌, ℕ, Bool, true, List, Some, slice_get}
+use Rattle.std.specs.Prelude.{◌≡◌, ◌≤ℤ◌, ◌<ℤ◌, ◌^◌, pos, ℕ, ℤ, Bool, true, List, Some, slice_get}
 use Rattle.row_delta.specs.declared.delta.Delta.{Delta}
 use Rattle.row_delta.specs.declared.row.Row.{Row}
 use Rattle.row_delta.specs.Differences.{IsBetween}
@@ -11,7 +11,9 @@ use Rattle.rule_model.specs.Snapshots.{Snapshot}
 use Rattle.pair_memory.specs.Standing.{no_names}
 use Rattle.condition_rows.specs.Sets.{held, rows_of}
 use Rattle.pattern_gate.specs.Gates.{GateStands, has_good_window}
+use Rattle.pattern_gate.specs.Moves.{IsKept, at_clock}
 use Rattle.condition_node.specs.Nodes.{condition_of, NodeStands}
+use Rattle.condition_node.specs.Quiet.{IsBefore}
 use Rattle.rete_net.specs.declared.node.NetNode.{NetNode}
 use Rattle.rete_net.specs.declared.net.Rete.{Rete}
 use Rattle.rete_net.specs.Shapes.{before, IsShaped, EndsAt}
@@ -21,14 +23,30 @@ pub record NetNodeStands (p : Program) (n : NetNode) (s : Snapshot) (rows : Row 
   pub gate : GateStands p (pattern_of (condition_of n.node)) n.gate s
   pub node : NodeStands p n.node (held s) s rows no_names
 
--- The network of a program stands for a snapshot: its nodes stand for the rows of the conditions before them, have windows of accepted
+-- The nodes of a program's network stand for a snapshot: each for the rows of the conditions before it. They have windows of accepted
 -- files, and each rule has a last node.
-pub record NetStands (p : Program) (net : Rete) (s : Snapshot) : Type 0 where
+pub record NodesStand (p : Program) (net : Rete) (s : Snapshot) : Type 0 where
   pub conditions : ℕ → List Condition
   pub shaped : IsShaped net.nodes.items conditions
   pub ends : (place : ℕ) (rule : Rule) → slice_get p.rules place ≡ Some rule → EndsAt net.nodes.items conditions net.ends.items place rule
   pub windows : (k : ℕ) (n : NetNode) → slice_get net.nodes.items k ≡ Some n → has_good_window p (pattern_of (condition_of n.node)) ≡ true
   pub nodes : (k : ℕ) (n : NetNode) → slice_get net.nodes.items k ≡ Some n → NetNodeStands p n s (rows_of p s (before conditions n.parent))
+
+-- the conditions of each node have the same rows in both snapshots
+abbrev pub HaveSameRows : Program → List NetNode → (ℕ → List Condition) → Snapshot → Snapshot → Type 0
+HaveSameRows p nodes conditions s other = (k : ℕ) (n : NetNode) → slice_get nodes k ≡ Some n → rows_of p s (conditions k) ≡ rows_of p other (conditions k)
+
+-- The network of a program stands for a snapshot: its nodes stand for it at a clock that they have seen, since which the rows have not
+-- changed, nor do they until something is due.
+pub record NetStands (p : Program) (net : Rete) (s : Snapshot) : Type 0 where
+  pub seen : ℤ
+  pub begun : pos 0 ≤ℤ seen
+  pub later : seen ≤ℤ s.clock
+  pub kept : IsKept p (at_clock s seen)
+  pub nodes : NodesStand p net (at_clock s seen)
+  pub unchanged : HaveSameRows p net.nodes.items nodes.conditions s (at_clock s seen)
+  pub quiet : (clock : ℤ) → s.clock ≤ℤ clock → clock <ℤ pos (2 ^ 63) → IsBefore net.quiet_until clock → IsKept p (at_clock s clock)
+      → HaveSameRows p net.nodes.items nodes.conditions (at_clock s clock) (at_clock s seen)
 
 -- these are, for each rule by its place, the differences of these rows
 abbrev pub AreBetween : Program → (Rule → List Row) → (Rule → List Row) → List Delta → Type 0

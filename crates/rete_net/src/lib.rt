@@ -5,6 +5,7 @@
 mod build;
 mod net;
 mod node;
+mod quiet;
 mod steps;
 
 pub use net::Rete;

@@ -1,31 +1,38 @@
-ghost use Rattle.std.specs.Prelude.{◌≡◌, List, [], length, option_map, IfOk, OnOk};
+ghost use Rattle.std.specs.Prelude.{◌≡◌, ◌≤ℤ◌, ℕ, List, [], length, Some, slice_get, option_map, IfOk, OnOk, IsTrue};
 ghost use Rattle.rule_model.specs.declared.condition.Condition.{Condition};
+ghost use Rattle.rule_model.specs.declared.program.Program.{Program as ProgramData};
 ghost use Rattle.rule_model.specs.declared.program.Rule.{Rule};
+ghost use Rattle.row_delta.specs.declared.row.Row.{Row};
+ghost use Rattle.row_delta.specs.Rows.{has};
 ghost use Rattle.rule_model.specs.Lent.{lent};
 ghost use Rattle.rule_model.specs.Rows.{rows};
 ghost use Rattle.rule_model.specs.Snapshots.{Snapshot};
 ghost use Rattle.rule_world.specs.Programs.{IsRunnable};
 ghost use Rattle.pair_memory.specs.Standing.{no_names};
 ghost use Rattle.condition_rows.specs.Looks.{empty_snapshot, HasAllOf};
-ghost use Rattle.pattern_gate.specs.Moves.{Moves};
+ghost use Rattle.pattern_gate.specs.Moves.{IsKept, Moves, at_clock};
 ghost use Rattle.rete_net.specs.Nets.{NetStands, AreBetween};
 ghost use Rattle.rete_net.specs.Building.{AreBuilt, HaveEnds};
+ghost use Rattle.rete_net.specs.Quiet.{AreQuiet};
 ghost use Rattle.rete_net.specs.Steps.{NetStep};
 
 use crate::build::{NoFacts, empty_row_comes, no_change, put_chain};
 use crate::node::NetNode;
-use crate::steps::{answers_at, step_all};
+use crate::quiet::is_before;
+use crate::steps::{answers_at, quiet_until, step_all};
 use fx_base::{Fact, Facts, Millis, NoMemory};
 use row_delta::Delta;
 use rule_model::Program;
 use std::alloc::Global;
 
-/// The network of a program: its nodes, each behind its parent, and the last node of each rule by the rule's place. After a call
-/// that was refused memory it is to be given up.
+/// The network of a program: its nodes, each behind its parent, the last node of each rule by the rule's place, and the moment of
+/// the clock, in milliseconds, from which something is due in a gate or a node. Until then a move of the clock alone changes
+/// nothing; without such a moment it never does. After a call that was refused memory it is to be given up.
 #[derive(Drop)]
 pub struct Rete {
     nodes: Vec<NetNode>,
     ends: Vec<usize>,
+    quiet_until: Option<i128>,
 }
 
 impl Rete {
@@ -67,6 +74,17 @@ impl Rete {
         Ok(deltas)
     }
 
+    /// Whether a move of the clock to this moment, in milliseconds, changes nothing where no fact goes or comes. Takes no memory.
+    pub fn is_quiet(&self, clock: Millis) -> bool
+        ensures stands { IsTrue result → (p : ProgramData) (s : Snapshot) → NetStands p self.now s → s.clock ≤ℤ clock → IsKept p (at_clock s clock)
+            → NetStands p self.now (at_clock s clock) }
+        ensures rows { IsTrue result → (p : ProgramData) (s : Snapshot) → NetStands p self.now s → s.clock ≤ℤ clock → IsKept p (at_clock s clock)
+            → (place : ℕ) (rule : Rule) → slice_get p.rules place ≡ Some rule
+            → (row : Row) → has (rows p (at_clock s clock) rule.conditions) row ≡ has (rows p s rule.conditions) row }
+    {
+        is_before(clock, self.quiet_until)
+    }
+
     /// The nodes of all rules, which keep nothing.
     fn of_rules(alloc: Global, program: &Program) -> Result<Rete, NoMemory>
         ensures { IfOk result (λ net. IsRunnable program.now → (all : List (List Condition)) × AreBuilt program.now net.nodes.items all × HaveEnds all net.ends.items program.now.rules (length program.now.rules)) }
@@ -77,7 +95,11 @@ impl Rete {
             let last = put_chain(&mut nodes, alloc, program, rule.conditions.as_slice())?;
             ends.push(last.unwrap_or(0))?;
         }
-        Ok(Rete { nodes, ends })
+        Ok(Rete {
+            nodes,
+            ends,
+            quiet_until: None,
+        })
     }
 
     /// Lets all nodes take their step, and answers for each rule what its last node answers. `first` comes to the nodes without
@@ -93,6 +115,7 @@ impl Rete {
         facts: &F,
     ) -> Result<Vec<Delta>, NoMemory>
         ensures ends { OnOk result (self.new.ends.items ≡ self.old.ends.items) }
+        ensures quiet { OnOk result (AreQuiet program.now self.new.nodes.items self.new.quiet_until) }
         ensures stepped { IfOk result (λ deltas. NetStep program.now (F.map facts.now) (lent gone.now) (option_map (λ f. f.now) come.entry) clock first.now self.old.nodes.items self.new.nodes.items self.old.ends.items deltas.items) }
     {
         let deltas = step_all(
@@ -105,6 +128,7 @@ impl Rete {
             clock,
             facts,
         )?;
+        self.quiet_until = quiet_until(&self.nodes, program);
         let answers = answers_at(alloc, first, &deltas, &self.ends)?;
         Ok(answers)
     }

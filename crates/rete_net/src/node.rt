@@ -4,8 +4,10 @@ ghost use Rattle.pair_memory.specs.Standing.{no_rows};
 ghost use Rattle.condition_rows.specs.Looks.{empty_snapshot};
 ghost use Rattle.condition_node.specs.Nodes.{condition_of};
 ghost use Rattle.rete_net.specs.Nets.{NetNodeStands};
+ghost use Rattle.rete_net.specs.Quiet.{IsNodeQuiet};
 ghost use Rattle.rete_net.specs.Steps.{NodeStep};
 
+use crate::quiet::{earlier, widened};
 use condition_node::Node;
 use fx_base::{Fact, Facts, Millis, NoMemory};
 use pattern_gate::PatternGate;
@@ -60,5 +62,15 @@ impl NetNode {
             .node
             .advance(alloc, program, left, &right, clock, facts)?;
         Ok(delta)
+    }
+
+    /// The moment of the clock, in milliseconds, from which something is due in the gate or the node: until then a move of the
+    /// clock alone changes nothing in the rows of its condition, where it does not change the rows before it.
+    pub(crate) fn quiet_until(&self, program: &Program) -> Option<i128>
+        ensures { IsNodeQuiet program.now self.now result }
+    {
+        let window = widened(self.gate.quiet_until());
+        let moment = self.node.quiet_until(program);
+        earlier(window, moment)
     }
 }

@@ -1,8 +1,10 @@
 ghost use Rattle.std.specs.Prelude.{◌≡◌, map, option_map, IfOk, length};
 ghost use Rattle.rule_model.specs.Lent.{lent};
+ghost use Rattle.rete_net.specs.Quiet.{AreQuiet};
 ghost use Rattle.rete_net.specs.Steps.{delta_at, left_delta, SteppedBelow};
 
 use crate::node::NetNode;
+use crate::quiet::earlier;
 use fx_base::{Copies, Fact, Facts, Millis, NoMemory};
 use row_delta::Delta;
 use rule_model::Program;
@@ -50,6 +52,17 @@ pub(crate) fn step_all<F: Facts>(
         deltas.push(delta)?;
     }
     Ok(deltas)
+}
+
+/// The least moment of the clock, in milliseconds, from which something is due in one of the nodes.
+pub(crate) fn quiet_until(nodes: &[NetNode], program: &Program) -> Option<i128>
+    ensures { AreQuiet program.now nodes.now result }
+{
+    let mut least = None;
+    for node in nodes {
+        least = earlier(least, node.quiet_until(program));
+    }
+    least
 }
 
 /// Copies of the differences in these places.

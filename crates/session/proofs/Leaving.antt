@@ -1,5 +1,5 @@
 -- Facts that leave a session, by their tags.
-use Rattle.std.proofs.Common.{◌≡◌, ◌∙◌, ◌++◌, ◌||◌, inl, inr, ℕ, Bool, true, false, nat_eq, List, [], ◌∷◌, Option, None, if◌then◌else◌, refl, sym, ap, subst, append_assoc, arith}
+use Rattle.std.proofs.Common.{◌≡◌, ◌∙◌, ◌++◌, ◌||◌, inl, inr, ℕ, Bool, true, false, nat_eq, ◌==◌, length, List, [], ◌∷◌, Option, None, if◌then◌else◌, refl, sym, ap, subst, append_assoc, arith}
 use Rattle.std.specs.declared.cmp.Ordering.TheVariants.{Less, Equal}
 use Rattle.std.specs.List.{AllByRecursion, list_any}
 use Rattle.std.specs.List.Sorted.{IsStrictlySortedBy}
@@ -33,6 +33,19 @@ or_none false false o = refl
 out_by : (facts : HeldFacts) (tag t : ℕ) (b : Bool) → nat_eq t tag ≡ b → map.get (map.remove facts tag) t ≡ (if b then None else map.get facts t)
 out_by facts tag t true e = ap (map.get (map.remove facts tag)) (same_number t tag e) ∙ is_out facts tag
 out_by facts tag t false e = not_out facts tag t (other_number t tag e)
+
+-- no tags, where their count says so
+no_count : (n : ℕ) → (n == 0) ≡ true → n ≡ 0
+no_count n e = grind (arith, nat_tests)
+
+pub no_tags : (n : ℕ) (b : Bool) (gone : List ℕ) → b ≡ (n == 0) → b ≡ true → n ≡ length gone → gone ≡ []
+no_tags n b [] e t count = refl
+no_tags n b (tag ∷ gone) e t count = let zero_is : n ≡ 0 = no_count n (sym e ∙ t) in absurd (omega arith)
+
+-- where none go, all are left
+pub none_gone : (facts : HeldFacts) (gone : List ℕ) → gone ≡ [] → (tag : ℕ) → map.get facts tag ≡ left_at facts gone tag
+none_gone facts [] e tag = refl
+none_gone facts (t ∷ gone) e tag = absurd cc
 
 -- one more is gone
 pub one_gone : (first facts rest : HeldFacts) (done : List ℕ) (tag : ℕ) → ((t : ℕ) → map.get facts t ≡ left_at first done t) → rest ≡ map.remove facts tag

@@ -143,6 +143,26 @@ same_found found other same rules m = is_found found rules m ∙ by (slice_get r
     by None = refl
     by (Some rule) = same rule m.row
 
+-- rules that keep their rows keep the agenda
+module _ (rules : List Rule) (old new : Rule → List Row) (same : (place : ℕ) (rule : Rule) → slice_get rules place ≡ Some rule → (row : Row) → has (new rule) row ≡ has (old rule) row) where
+  same_match : (m : Match) → has_match (matches_by new rules) m ≡ has_match (matches_by old rules) m
+  same_match m = is_found new rules m ∙ by (slice_get rules m.rule.0) refl ∙ sym (is_found old rules m)
+    where
+      by : (o : Option Rule) → slice_get rules m.rule.0 ≡ o → found_at new o m.row ≡ found_at old o m.row
+      by None e = refl
+      by (Some rule) e = same m.rule.0 rule e m.row
+
+  pub not_refreshed : (a : Marks) → IsRefreshed rules old new a a
+  not_refreshed a = record {
+    saliences = refl;
+    pending = λ m.
+        let was = has_match (matches_by old rules) m in
+        sym (ap (λ is. (has_match a.pending m && not (was && not is)) || (is && not was)) (same_match m) ∙ unchanged (has_match a.pending m) was);
+    fired = λ m.
+        let was = has_match (matches_by old rules) m in
+        sym (ap (λ is. has_match a.fired m && not (was && not is)) (same_match m) ∙ unchanged_mark (has_match a.fired m) was);
+  }
+
 -- ---- the loop over the rules
 
 -- for a match of this rule (t), for another match (not t): before the turn, over the old and the new facts; the rule's own rows

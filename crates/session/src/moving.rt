@@ -254,7 +254,8 @@ impl State {
         Ok(state)
     }
 
-    /// The state at a later clock, without the events that are not present any more.
+    /// The state at a later clock, without the events that are not present any more. Where nothing is due it costs a look at the
+    /// queue of expiries and one at the network's least moment.
     pub(crate) fn with_clock(
         self,
         alloc: Global,
@@ -273,6 +274,10 @@ impl State {
     {
         let mut state = self;
         let due = state.expiries.take_due(clock)?;
+        if due.is_empty() && net.is_quiet(clock) {
+            state.clock = clock;
+            return Ok(state);
+        }
         state.agenda = followed(
             alloc,
             program,

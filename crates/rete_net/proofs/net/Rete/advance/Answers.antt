@@ -2,7 +2,7 @@ use Rattle.std.proofs.Common.{◌≡◌, to_z, of_z, to_z-of_z, w64}
 use Rattle.std.specs.Option.{option_map}
 use Rattle.rule_model.specs.Lent.{lent}
 use Rattle.rete_net.specs.Steps.{no_change, NetStep}
-use Rattle.rete_net.proofs.Advancing.{net_stands, net_between}
+use Rattle.rete_net.proofs.Seen.{net_stands, net_between}
 use Rattle.rete_net.proofs.Turns.{settled}
 use Rattle.rete_net.proofs.net.Rete.advance.Given.{Over}
 use Rattle.rete_net.proofs.net.Rete.advance.Goals as goal
@@ -18,7 +18,7 @@ step g c =
 pub returns-clause-stands : goal.returns-clause-stands
 returns-clause-stands g c s next runnable stands moves at has has_now =
     net_stands c.args.program.now (g.F.Facts.map c.args.facts.now) s next (lent c.args.gone.now) (option_map (λ f. f.now) c.args.come) c.args.clock c.args.self.now c.step.new.self c.in_ok-deltas.deltas.items
-    (record { moves = moves; moment = at; at_hand = has; at_hand_now = has_now }) stands c.in_ok-deltas.ensures.ends (step g c)
+    (record { moves = moves; moment = at; at_hand = has; at_hand_now = has_now }) stands c.in_ok-deltas.ensures.ends (step g c) c.in_ok-deltas.ensures.quiet
 
 pub returns-clause-differences : goal.returns-clause-differences
 returns-clause-differences g c s next runnable stands moves at has has_now =

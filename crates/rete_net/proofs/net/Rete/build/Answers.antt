@@ -14,7 +14,7 @@ step c =
 pub returns-clause-stands : goal.returns-clause-stands
 returns-clause-stands c runnable =
     let built = c.in_ok-net.ensures runnable in
-    built_stands c.args.program.now c.in_ok-net.net c.step.new.self built.0 c.in_ok-deltas.deltas.items built.1 built.2 c.in_ok-deltas.ensures.ends (step c)
+    built_stands c.args.program.now c.in_ok-net.net c.step.new.self built.0 c.in_ok-deltas.deltas.items built.1 built.2 c.in_ok-deltas.ensures.ends (step c) c.in_ok-deltas.ensures.quiet
 
 pub returns-clause-first : goal.returns-clause-first
 returns-clause-first c runnable =
