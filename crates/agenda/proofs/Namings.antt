@@ -1,5 +1,5 @@
 -- How often a list of matches names a tag, as matches come and go.
-use Rattle.std.proofs.Common.{◌≡◌, ℕ, ◌+◌, ◌-◌, ◌<◌, ◌==◌, Bool, true, false, cond, ◌||◌, List, [], ◌∷◌, take, length, get_or, find, Some, option_map, unwrap_or, refl, sym, ◌∙◌, ap, arith}
+use Rattle.std.proofs.Common.{◌≡◌, ℕ, ◌+◌, ◌-◌, ◌==◌, Bool, true, false, cond, ◌||◌, List, [], ◌∷◌, find, Some, option_map, unwrap_or, refl, sym, ◌∙◌, ap, arith}
 use Rattle.std.specs.Prelude.{nat_lt}
 use Rattle.std.specs.List.{list_any, sum_by}
 use Rattle.std.specs.declared.cmp.Ordering.{Ordering}
@@ -8,9 +8,10 @@ use Rattle.std.specs.Ordering.{eq_by_cmp, is_eq, match_ordering}
 use Rattle.std.specs.BTreeMap.{BTreeMap, is_at}
 use Rattle.std.specs.BTreeSet.{insert_key}
 use Rattle.std.specs.Set.{remove_key}
-use Rattle.std.proofs.lemmas.List.Sums.{fold_more, sum_by-cons}
+use Rattle.std.proofs.lemmas.List.Sums.{sum_by-cons}
 use Rattle.std.proofs.lemmas.Map.Made.{sum_by-remove_key}
 use Rattle.std.proofs.lemmas.Map.Steps.{list_any_congr}
+use Rattle.std.proofs.lemmas.Bool.{or_parts}
 use Rattle.std.proofs.lemmas.Bool.Decides.{nat_tests}
 use Rattle.row_delta.specs.declared.row.Named.{Named}
 use Rattle.agenda.specs.declared.ranked.Ranked.{Ranked}
@@ -18,29 +19,18 @@ use Rattle.agenda.specs.Agendas.{matches, names_tag}
 use Rattle.agenda.specs.Ranks.{rank_cmp, rank_equiv}
 use Rattle.agenda.specs.Namings.{times_in, namings, times, CountsNamings}
 
-pub times_more : (tag : ℕ) (facts : List Named) (i : ℕ) (d : Named) → i < length facts → times_in tag (take (i + 1) facts) ≡ times_in tag (take i facts) + cond (tag == (get_or facts i d).tag.0) 1 0
-times_more tag facts i d lt = fold_more (λ (a : ℕ) (n : Named). a + cond (tag == n.tag.0) 1 0) 0 facts i d lt
-
-right_false : (a b : Bool) → (a || b) ≡ false → b ≡ false
-right_false true b e = let f : true ≡ false = e in cc
-right_false false b e = e
-
 placed_sum : (f : Ranked → ℕ) (o : Ordering) (k x : Ranked) (ks ls : List Ranked) → is_eq o ≡ false → sum_by f ls ≡ sum_by f ks + f k
     → sum_by f (match_ordering o (k ∷ x ∷ ks) (x ∷ ks) (x ∷ ls)) ≡ sum_by f (x ∷ ks) + f k
 placed_sum f Less k x ks ls e h = let a = sum_by-cons f k (x ∷ ks) in omega (arith, a)
 placed_sum f Equal k x ks ls e h = let g : true ≡ false = e in cc
 placed_sum f Greater k x ks ls e h = let a = sum_by-cons f x ls in let b = sum_by-cons f x ks in omega (arith, a, b, h)
 
-left_false : (a b : Bool) → (a || b) ≡ false → a ≡ false
-left_false true b e = e
-left_false false b e = refl
-
 -- a key that is not there adds its own number to a sum
 inserted : (f : Ranked → ℕ) (ks : List Ranked) (k : Ranked) → list_any (is_at (rank_cmp k)) ks ≡ false → sum_by f (insert_key rank_cmp ks k) ≡ sum_by f ks + f k
 inserted f [] k e = refl
 inserted f (x ∷ ks) k e =
-    placed_sum f (rank_cmp k x) k x ks (insert_key rank_cmp ks k) (left_false (is_eq (rank_cmp k x)) (list_any (is_at (rank_cmp k)) ks) e)
-    (inserted f ks k (right_false (is_eq (rank_cmp k x)) (list_any (is_at (rank_cmp k)) ks) e))
+    let parts = or_parts (is_eq (rank_cmp k x)) (list_any (is_at (rank_cmp k)) ks) e in
+    placed_sum f (rank_cmp k x) k x ks (insert_key rank_cmp ks k) parts.0 (inserted f ks k parts.1)
 
 pub put_counts : (old now : BTreeMap ℕ ℕ) (ks : List Ranked) (k : Ranked) → list_any (is_at (rank_cmp k)) ks ≡ false
     → ((tag : ℕ) → times now tag ≡ times old tag + times_in tag k.matched.row.facts) → CountsNamings old ks → CountsNamings now (insert_key rank_cmp ks k)
@@ -67,14 +57,13 @@ pop_counts old now ks ls k e less counts = record {
 }
 
 -- a key that is there stays there
-there : (k q : Ranked) (ks : List Ranked) (t : Bool) → eq_by_cmp rank_cmp k q ≡ t → list_any (is_at (rank_cmp k)) ks ≡ true
-    → list_any (eq_by_cmp rank_cmp q) ks ≡ cond t true (list_any (eq_by_cmp rank_cmp q) ks)
-there k q ks true e h = sym (list_any_congr rank_equiv k q ks e) ∙ h
-there k q ks false e h = refl
-
 pub put_again : (k q : Ranked) (ks : List Ranked) → list_any (is_at (rank_cmp k)) ks ≡ true
     → list_any (eq_by_cmp rank_cmp q) ks ≡ cond (eq_by_cmp rank_cmp k q) true (list_any (eq_by_cmp rank_cmp q) ks)
-put_again k q ks h = there k q ks (eq_by_cmp rank_cmp k q) refl h
+put_again k q ks h = by (eq_by_cmp rank_cmp k q) refl
+  where
+    by : (t : Bool) → eq_by_cmp rank_cmp k q ≡ t → list_any (eq_by_cmp rank_cmp q) ks ≡ cond t true (list_any (eq_by_cmp rank_cmp q) ks)
+    by true e = sym (list_any_congr rank_equiv k q ks e) ∙ h
+    by false e = refl
 
 either_counts : (a b : ℕ) → nat_lt 0 (a + b) ≡ (nat_lt 0 a || nat_lt 0 b)
 either_counts a b = grind (arith, nat_tests)

@@ -125,8 +125,7 @@ impl Agenda {
         let mut agenda = self;
         let Delta { gone, come } = delta;
         agenda.take_rows(rule, gone);
-        let changed = agenda.put_rows(rule, come)?;
-        Ok(changed)
+        agenda.put_rows(rule, come)
     }
 
     /// Marks the match that fires first as fired, and answers it.
