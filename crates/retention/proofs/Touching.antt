@@ -5,6 +5,7 @@ use Rattle.std.specs.Option.{is_some}
 use Rattle.std.specs.List.{list_any}
 use Rattle.std.specs.Ordering.{nat_cmp, eq_by_cmp}
 use Rattle.std.specs.FinMap as map
+use Rattle.std.proofs.Math.Bool.{and-true, and-false, or-true, or-false}
 use Rattle.std.proofs.lemmas.Bool.Decides.{nat_tests, Decides-eqb}
 use Rattle.std.proofs.lemmas.Cmp.{nat_cmp_total}
 use Rattle.std.proofs.lemmas.List.Folds.{list_any_more}
@@ -26,10 +27,8 @@ settled q tag named is now old e h =
 
 put_one : (t n old : Bool) → (t ≡ true → n ≡ false) → cond t true old ≡ (old || (t && not n))
 put_one true true old e = let f : true ≡ false = e refl in cc
-put_one true false true e = refl
-put_one true false false e = refl
-put_one false n true e = refl
-put_one false n false e = refl
+put_one true false old e = sym (or-true old)
+put_one false n old e = sym (or-false old)
 
 pub put_old : (q tag : ℕ) (named : ℕ → Bool) (now old : Bool) → named tag ≡ false → now ≡ cond (eq_by_cmp nat_cmp tag q) true old → now ≡ (old || ((q == tag) && not (named q)))
 put_old q tag named now old e h =
@@ -71,13 +70,9 @@ any_cond : (p : ℕ → Bool) (t : Bool) (xs ys : List ℕ) → list_any p (cond
 any_cond p true xs ys = refl
 any_cond p false xs ys = refl
 
-none : (t : Bool) → false ≡ (t && false)
-none true = refl
-none false = refl
-
 -- a tag is among those that a set has of a list where the set has it and it is in the list
 pub found_in : (p : ℕ → Bool) (q : ℕ) (tags : List Tag) → list_any (nat_eq q) (filter p (map (λ (t : Tag). t.0) tags)) ≡ (p q && is_among tags q)
-found_in p q [] = none (p q)
+found_in p q [] = sym (and-false (p q))
 found_in p q (t ∷ tags) =
     any_cond (nat_eq q) (p t.0) (t.0 ∷ filter p (map (λ (x : Tag). x.0) tags)) (filter p (map (λ (x : Tag). x.0) tags))
     ∙ found_one (p t.0) (p q) (q == t.0) (is_among tags q) (list_any (nat_eq q) (filter p (map (λ (x : Tag). x.0) tags))) (λ e. ap p ((Decides-eqb q t.0).0 e)) (found_in p q tags)
@@ -98,10 +93,8 @@ removed_or_not false k old now found took stays =
     (λ q. absent old k q (eq_by_cmp nat_cmp q k) refl (sym found) ∙ sym (map.get-remove nat_cmp_total old k q))
 
 without_one : (t o : Bool) → cond t false o ≡ (o && not t)
-without_one true true = refl
-without_one true false = refl
-without_one false true = refl
-without_one false false = refl
+without_one true o = sym (and-false o)
+without_one false o = sym (and-true o)
 
 pub released : (q tag : ℕ) (now old : Bool) → now ≡ cond (eq_by_cmp nat_cmp tag q) false old → now ≡ (old && not (q == tag))
 released q tag now old h = h ∙ ap (λ t. cond t false old) (tie tag q) ∙ without_one (q == tag) old

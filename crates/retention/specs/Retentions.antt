@@ -32,4 +32,4 @@ is_touched clock left r tag = is_due clock r.due tag || (lingers r tag && left t
 pub record Passes (clock : ℤ) (left named : ℕ → Bool) (before after : Retention) (old : ℕ → Bool) : Type 0 where
   pub due : after.due ≡ map.retain_keys before.due (λ tag. not (is_due clock before.due tag))
   pub lingering : (tag : ℕ) → lingers after tag ≡ cond (is_touched clock left before tag) (named tag) (lingers before tag)
-  pub old_ones : (tag : ℕ) → old tag ≡ (is_touched clock left before tag && not (named tag))
+  pub answer : (tag : ℕ) → old tag ≡ (is_touched clock left before tag && not (named tag))

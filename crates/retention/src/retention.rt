@@ -32,7 +32,8 @@ impl Retention {
         }
     }
 
-    /// Holds a new event, which is past its life from this moment on, in milliseconds. Where memory is refused, nothing changes.
+    /// Holds a new event, which is past its life from this moment on, in milliseconds; the moment may have come already. Where memory
+    /// is refused, nothing changes.
     pub fn hold(&mut self, tag: Tag, past_from: Millis) -> Result<(), NoMemory>
         requires { map.get self.old.due tag.0 ≡ None }
         ensures ok { OnOk result (self.new.due ≡ map.insert self.old.due tag.0 past_from) }

@@ -26,7 +26,7 @@ returns-clause-passes c =
       lingering = λ tag.
           (simp c.deref-2.ensures.value at c.in_ok-settle_all.ensures.lingering) tag
           ∙ ap (λ t. cond t (is_named c.args.agenda.now tag) (lingers c.args.self tag)) (touched_is c tag);
-      old_ones = λ tag.
+      answer = λ tag.
           (simp (c.deref-2.ensures.value, c.new-old.ensures.empty) at c.in_ok-settle_all.ensures.old) tag
           ∙ ap (λ t. t && not (is_named c.args.agenda.now tag)) (touched_is c tag);
     }
