@@ -3,17 +3,18 @@ ghost use Rattle.std.specs.Ordering.{eq_by_cmp};
 ghost use Rattle.row_delta.specs.Rows.{has, row_cmp};
 ghost use Rattle.rule_model.specs.Matches.{has_match, fire_cmp, match_cmp};
 ghost use Rattle.rule_model.specs.First.{first};
-ghost use Rattle.agenda.specs.Agendas.{IsChanged, names_id};
+ghost use Rattle.agenda.specs.Agendas.{IsChanged, names_id, names_tag};
 ghost use Rattle.rule_model.specs.declared.matched.Match.{Match};
 ghost use Rattle.agenda.specs.declared.ranked.Ranked.{Ranked};
 ghost use Rattle.std.specs.List.{list_any};
 
+use crate::naming::{lower_all, put_ranked, take_ranked, times_of};
 use crate::ranked::Ranked;
-use fx_base::{Copies, FactId, NoMemory, RuleId, Seq};
+use fx_base::{Copies, FactId, NoMemory, RuleId, Seq, Tag};
 use row_delta::{Delta, Row};
 use rule_model::Match;
 use std::alloc::Global;
-use std::collections::BTreeSet;
+use std::collections::{BTreeMap, BTreeSet};
 use std::marker::Model;
 
 /// The pending matches, in the order in which they fire, and those that were fired.
@@ -22,16 +23,19 @@ pub struct Agenda {
     saliences: Seq<i64>,
     pending: BTreeSet<Ranked, Global>,
     fired: BTreeSet<Match, Global>,
+    /// How often the pending matches name each tag.
+    named: BTreeMap<u64, u64>,
 }
 
 impl Model for Agenda {
-    ghost use Rattle.agenda.specs.Agendas.{Marks, AllWell, matches};
+    ghost use Rattle.agenda.specs.Agendas.{Marks, matches};
+    ghost use Rattle.agenda.specs.Namings.{IsSound};
 
     ghost Value = { Marks };
 
     ghost view = { λ a. record { saliences = a.saliences; pending = matches a.pending.keys; fired = a.fired.keys } };
 
-    ghost invariant = { λ a. AllWell a.saliences a.pending.keys };
+    ghost invariant = { λ a. IsSound a.saliences a.pending.keys a.named };
 }
 
 impl Agenda {
@@ -45,6 +49,7 @@ impl Agenda {
             saliences: Seq::from_vec(kept),
             pending: BTreeSet::new(alloc),
             fired: BTreeSet::new(alloc),
+            named: BTreeMap::new(alloc),
         })
     }
 
@@ -65,18 +70,29 @@ impl Agenda {
         ensures fired { (m : Match) → has_match self.new.fired m ≡ (has_match self.old.fired m && not (rule.0 == m.rule.0 && eq_by_cmp row_cmp row m.row)) }
     {
         let ranked = Ranked::of(self.saliences.as_slice(), rule, row);
-        self.pending.remove(&ranked);
+        take_ranked(&mut self.pending, &mut self.named, &ranked);
         self.fired.remove(&ranked.matched);
     }
 
-    fn put_row(&mut self, rule: RuleId, row: Row) -> Result<(), NoMemory>
-        ensures saliences { self.new.saliences ≡ self.old.saliences }
-        ensures pending { OnOk result ((m : Match) → has_match self.new.pending m ≡ (has_match self.old.pending m || (rule.0 == m.rule.0 && eq_by_cmp row_cmp row m.row))) }
-        ensures fired { self.new.fired ≡ self.old.fired }
+    fn put_row(self, rule: RuleId, row: Row) -> Result<Agenda, NoMemory>
+        ensures saliences { IfOk result (λ a. a.saliences ≡ self.saliences) }
+        ensures pending { IfOk result (λ a. (m : Match) → has_match a.pending m ≡ (has_match self.pending m || (rule.0 == m.rule.0 && eq_by_cmp row_cmp row m.row))) }
+        ensures fired { IfOk result (λ a. a.fired ≡ self.fired) }
     {
-        let ranked = Ranked::of(self.saliences.as_slice(), rule, row);
-        self.pending.insert(ranked)?;
-        Ok(())
+        let Agenda {
+            saliences,
+            mut pending,
+            fired,
+            mut named,
+        } = self;
+        let ranked = Ranked::of(saliences.as_slice(), rule, row);
+        put_ranked(&mut pending, &mut named, ranked)?;
+        Ok(Agenda {
+            saliences,
+            pending,
+            fired,
+            named,
+        })
     }
 
     fn take_rows(&mut self, rule: RuleId, rows: Seq<Row>)
@@ -89,26 +105,27 @@ impl Agenda {
         }
     }
 
-    fn put_rows(&mut self, rule: RuleId, rows: Seq<Row>) -> Result<(), NoMemory>
-        ensures saliences { self.new.saliences ≡ self.old.saliences }
-        ensures pending { OnOk result ((m : Match) → has_match self.new.pending m ≡ (has_match self.old.pending m || (rule.0 == m.rule.0 && has rows m.row))) }
-        ensures fired { self.new.fired ≡ self.old.fired }
+    fn put_rows(self, rule: RuleId, rows: Seq<Row>) -> Result<Agenda, NoMemory>
+        ensures saliences { IfOk result (λ a. a.saliences ≡ self.saliences) }
+        ensures pending { IfOk result (λ a. (m : Match) → has_match a.pending m ≡ (has_match self.pending m || (rule.0 == m.rule.0 && has rows m.row))) }
+        ensures fired { IfOk result (λ a. a.fired ≡ self.fired) }
     {
+        let mut agenda = self;
         for row in rows.into_vec() {
-            self.put_row(rule, row)?;
+            agenda = agenda.put_row(rule, row)?;
         }
-        Ok(())
+        Ok(agenda)
     }
 
-    /// Takes the rows that went out of both, and adds those that came to the pending ones.
+    /// Takes the rows that went out of both, and adds those that came to the pending ones. It costs the logarithm of the matches for
+    /// each row, and that of the named tags for each fact of a pending one. `NoMemory` is also told where a tag's count is full.
     pub fn change(self, rule: RuleId, delta: Delta) -> Result<Agenda, NoMemory>
         ensures { IfOk result (IsChanged rule.0 delta self) }
     {
         let mut agenda = self;
         let Delta { gone, come } = delta;
         agenda.take_rows(rule, gone);
-        agenda.put_rows(rule, come)?;
-        Ok(agenda)
+        agenda.put_rows(rule, come)
     }
 
     /// Marks the match that fires first as fired, and answers it.
@@ -124,6 +141,7 @@ impl Agenda {
             saliences,
             mut pending,
             mut fired,
+            mut named,
         } = self;
         let _n = pending.len();
         match pending.pop_first() {
@@ -135,11 +153,13 @@ impl Agenda {
                     row,
                 };
                 fired.insert(kept)?;
+                lower_all(&mut named, matched.row.facts.as_slice());
                 Ok((
                     Agenda {
                         saliences,
                         pending,
                         fired,
+                        named,
                     },
                     matched,
                 ))
@@ -148,11 +168,38 @@ impl Agenda {
         }
     }
 
-    /// Whether a pending match names the id.
+    /// Drops the fired matches of a rule with these rows; pending ones stay. It costs the logarithm of the fired matches for each
+    /// row. Takes no memory.
+    pub fn drop_fired(self, rule: RuleId, rows: Vec<Row>) -> Agenda
+        ensures saliences { result.saliences ≡ self.saliences }
+        ensures pending { result.pending ≡ self.pending }
+        ensures fired { (m : Match) → has_match result.fired m ≡ (has_match self.fired m && not (rule.0 == m.rule.0 && has rows.items m.row)) }
+    {
+        let mut agenda = self;
+        drop_rows(&mut agenda.fired, rule, rows);
+        agenda
+    }
+
+    /// Whether a pending match names this version of a fact. It costs the logarithm of the named tags. Takes no memory.
+    pub fn names_tag(&self, tag: Tag) -> bool
+        ensures { result ≡ list_any (names_tag tag.0) self.now.pending }
+    {
+        times_of(&self.named, tag.0) > 0
+    }
+
+    /// Whether a pending match names the id. It walks over the pending matches.
     pub fn names(&self, id: FactId) -> bool
         ensures { result ≡ list_any (names_id id.0) self.now.pending }
     {
         some_names(&self.pending, id)
+    }
+}
+
+fn drop_rows(fired: &mut BTreeSet<Match, Global>, rule: RuleId, rows: Vec<Row>)
+    ensures { (m : Match) → has_match fired.new.keys m ≡ (has_match fired.old.keys m && not (rule.0 == m.rule.0 && has rows.items m.row)) }
+{
+    for row in rows {
+        fired.remove(&Match { rule, row });
     }
 }
 

@@ -7,20 +7,21 @@ use Rattle.rule_model.specs.Matches.{has_match, match_cmp, fire_cmp}
 use Rattle.rule_model.specs.First.{first}
 use Rattle.agenda.specs.Agendas.{Marks, matches}
 use Rattle.agenda.proofs.Heads.{top_of}
+use Rattle.agenda.proofs.Namings.{pop_counts}
 use Rattle.agenda.proofs.Steps.{fired_put, pending_popped, well_parts}
 use Rattle.agenda.proofs.agenda.Agenda.fire_top.Goals as goal
 
 pub returns-in_ok-insert-in-Some-clause-top : goal.returns-in_ok-insert-in-Some-clause-top
 returns-in_ok-insert-in-Some-clause-top c =
     subst (λ (h : Marks). Some c.in-Some.ranked.matched ≡ first (fire_cmp h.saliences) h.pending) c.self.view_is
-    (top_of c.self.inside.saliences c.self.inside.pending.keys c.pop_first.new.self.keys c.in-Some.ranked c.self.invariant c.len-n.ensures.ordered c.in-Some.ensures.removal)
+    (top_of c.self.inside.saliences c.self.inside.pending.keys c.pop_first.new.self.keys c.in-Some.ranked c.self.invariant.well c.len-n.ensures.ordered c.in-Some.ensures.removal)
 
 pub returns-in_ok-insert-in-Some-clause-pending : goal.returns-in_ok-insert-in-Some-clause-pending
 returns-in_ok-insert-in-Some-clause-pending c m =
-    let p = well_parts c.self.inside.saliences c.self.inside.pending.keys c.pop_first.new.self.keys c.in-Some.ranked c.self.invariant c.in-Some.ensures.removal in
+    let p = well_parts c.self.inside.saliences c.self.inside.pending.keys c.pop_first.new.self.keys c.in-Some.ranked c.self.invariant.well c.in-Some.ensures.removal in
     let v : matches c.self.inside.pending.keys ≡ c.args.self.pending = ap (λ (h : Marks). h.pending) c.self.view_is in
     subst (λ ms. has_match (matches c.pop_first.new.self.keys) m ≡ (has_match ms m && not (eq_by_cmp match_cmp c.in-Some.ranked.matched m))) v
-    (pending_popped c.self.inside.saliences c.in-Some.ranked c.self.inside.pending.keys c.pop_first.new.self.keys c.self.invariant p.1 p.0 c.in-Some.ensures.updates.0 m)
+    (pending_popped c.self.inside.saliences c.in-Some.ranked c.self.inside.pending.keys c.pop_first.new.self.keys c.self.invariant.well p.1 p.0 c.in-Some.ensures.updates.0 m)
 
 abbrev match_of : ℕ → Row → Match
 match_of rule row = record { rule = record { 0 = rule }; row = row }
@@ -31,3 +32,9 @@ returns-in_ok-insert-in-Some-clause-fired c m =
     fired_put (match_of c.in-Some.ranked.matched.rule.0 c.in_ok-row-in-Some.row) c.self.inside.fired.keys c.insert.new.self.keys c.in_ok-insert-in-Some.ensures.updates.0 m
     ∙ ap (λ ms. has_match ms m || eq_by_cmp match_cmp (match_of c.in-Some.ranked.matched.rule.0 c.in_ok-row-in-Some.row) m) v
     ∙ ap (λ row. has_match c.args.self.fired m || eq_by_cmp match_cmp (match_of c.in-Some.ranked.matched.rule.0 row) m) c.in_ok-row-in-Some.ensures
+
+pub invariant_of-result : goal.invariant_of-result
+invariant_of-result c = record {
+  well = (well_parts c.self.inside.saliences c.self.inside.pending.keys c.pop_first.new.self.keys c.in-Some.ranked c.self.invariant.well c.in-Some.ensures.removal).1;
+  counts = pop_counts c.self.inside.named c.lower_all.new.named c.self.inside.pending.keys c.pop_first.new.self.keys c.in-Some.ranked c.in-Some.ensures.removal (simp c.as_slice.ensures at c.lower_all.ensures) c.self.invariant.counts;
+}

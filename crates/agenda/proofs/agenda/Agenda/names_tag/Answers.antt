@@ -1,0 +1,10 @@
+use Rattle.std.proofs.Common.{◌∙◌, ap, nat_lt}
+use Rattle.std.specs.List.{list_any}
+use Rattle.agenda.specs.Agendas.{Marks, names_tag}
+use Rattle.agenda.proofs.Namings.{named_is}
+use Rattle.agenda.proofs.agenda.Agenda.names_tag.Goals as goal
+
+pub returns : goal.returns
+returns c =
+    ap (nat_lt 0) (c.times_of.ensures ∙ c.self.invariant.counts.each c.args.tag.0) ∙ named_is c.args.tag.0 c.self.inside.pending.keys
+    ∙ ap (λ (v : Marks). list_any (names_tag c.args.tag.0) v.pending) c.self.view_is

@@ -1,0 +1,4 @@
+pub mod Touching
+pub mod Calls
+pub mod Past
+pub mod Leaving

@@ -1,0 +1,3 @@
+pub mod Retentions
+pub mod Watching
+pub mod RetentionLaws
