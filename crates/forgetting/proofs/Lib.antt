@@ -1,0 +1,4 @@
+pub mod Naming
+pub mod Before
+pub mod Forgotten
+pub mod Stepping

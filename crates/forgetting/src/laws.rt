@@ -1,0 +1,24 @@
+//! Laws of forgetting: each function's contract is the law, and its body is empty.
+ghost use Rattle.forgetting.specs.Sights.{EndLaw};
+ghost use Rattle.forgetting.specs.Steps.{KeptBeforeLaw, LeftLaw, DropLaw, StepLaw};
+
+/// An event of a finite life is within it up to that long behind its end.
+pub fn lives_end_as_said()
+    ensures { EndLaw }
+{}
+
+/// What was there and is kept behind a step was kept before it, where the matches that come name nothing forgotten.
+pub fn what_is_kept_was_kept()
+    ensures { KeptBeforeLaw }
+{}
+
+/// What a step has to look at: of what has left, the tags of the matches that go; of what is dropped, the fired matches.
+pub fn differences_tell_what_left_and_what_to_drop()
+    ensures left { LeftLaw }
+    ensures dropped { DropLaw }
+{}
+
+/// A step in two phases, the change and then the forgetting, leaves exactly what is kept behind the step.
+pub fn a_step_leaves_what_is_kept()
+    ensures { StepLaw }
+{}
