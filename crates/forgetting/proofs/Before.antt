@@ -69,7 +69,7 @@ unmarked : (x y : Bool) → y ≡ true → (x && y) ≡ false → x ≡ false
 unmarked true y e f = sym (sym f ∙ e)
 unmarked false y e f = refl
 
-module _ (lives : Lives) (new : ℕ → Option Fact) (out : ℕ → Bool) (was is : Sight) (lawful : IsLawful was) (lawful_now : IsLawful is) (step : IsStep new out was is)
+module _ (lives : Lives) (new : Option Fact) (out : Fact → Bool) (was is : Sight) (lawful : IsLawful was) (lawful_now : IsLawful is) (step : IsStep new out was is)
     (clean : ComeClean lives was is) (tag : ℕ) (there : is_some (was.facts tag) ≡ true) where
   -- a pending match that names it was pending, or comes
   by_match : (m : Match) → names_tag tag m ≡ true → has_match is.pending m ≡ true → (t : Bool) → was.matches m ≡ t → is_kept lives was tag ≡ true

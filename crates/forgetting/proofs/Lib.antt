@@ -2,3 +2,4 @@ pub mod Naming
 pub mod Before
 pub mod Forgotten
 pub mod Stepping
+pub mod Firing

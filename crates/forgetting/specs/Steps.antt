@@ -1,26 +1,30 @@
 -- A step in two phases: the store and the agenda take the change, and then what is no longer kept is forgotten.
-use Rattle.std.specs.Prelude.{◌≡◌, ◌≤ℤ◌, ℕ, ℤ, ◌&&◌, ◌||◌, Bool, true, false, cond, not, Option, Some, None, is_some}
+use Rattle.std.specs.Prelude.{◌≡◌, ◌≤ℤ◌, ℕ, ℤ, ◌==◌, ◌&&◌, ◌||◌, Bool, true, false, cond, not, Option, Some, None, is_some}
 use Rattle.fx_base.specs.declared.fact.Fact.{Fact}
 use Rattle.rule_model.specs.declared.matched.Match.{Match}
 use Rattle.rule_model.specs.Matches.{has_match}
 use Rattle.agenda.specs.Agendas.{Marks, names_tag}
 use Rattle.retention.specs.Retentions.{lingers, is_named, Passes}
 use Rattle.retention.specs.Watching.{Covers}
-use Rattle.forgetting.specs.Sights.{Lives, Sight, Holding, HoldsKept, IsLawful, kept, is_kept, is_clean, some_tag, ends_of}
+use Rattle.forgetting.specs.Sights.{Lives, Sight, Holding, HoldsKept, IsLawful, only, kept, is_kept, is_clean, some_tag, ends_of}
 
 -- ---- steps of worlds
 
--- what stands under a tag where a fact comes under it or what is there goes out
-abbrev pub changed : Option Fact → Bool → Option Fact → Option Fact
-changed (Some f) out was = Some f
-changed None true was = None
-changed None false was = was
+-- the new fact under its tag, where there is one
+abbrev pub brought : Option Fact → ℕ → Option Fact
+brought None tag = None
+brought (Some f) tag = cond (f.tag.0 == tag) (Some f) None
 
--- Facts come under tags that none had, facts go out, and the clock moves on or stands. Of the fired matches those stay fired that are
--- matches still.
-pub record IsStep (new : ℕ → Option Fact) (out : ℕ → Bool) (was is : Sight) : Type 0 where
-  pub facts : (tag : ℕ) → is.facts tag ≡ changed (new tag) (out tag) (was.facts tag)
-  pub fresh : (tag : ℕ) → is_some (new tag) ≡ true → was.facts tag ≡ None
+-- what stands under a tag: what came under it, or what was there and does not go out
+abbrev pub changed : Option Fact → (Fact → Bool) → Option Fact → Option Fact
+changed (Some f) out was = Some f
+changed None out was = only (λ f. not (out f)) was
+
+-- A fact may come, under a tag that none had, and facts go out, and the clock moves on or stands. Of the fired matches those stay fired
+-- that are matches still.
+pub record IsStep (new : Option Fact) (out : Fact → Bool) (was is : Sight) : Type 0 where
+  pub facts : (tag : ℕ) → is.facts tag ≡ changed (brought new tag) out (was.facts tag)
+  pub fresh : (tag : ℕ) → is_some (brought new tag) ≡ true → was.facts tag ≡ None
   pub clock : was.clock ≤ℤ is.clock
   pub fired : (m : Match) → is.fired m ≡ (was.fired m && is.matches m)
 
@@ -33,15 +37,15 @@ abbrev pub KeptBefore : Lives → Sight → Sight → Type 0
 KeptBefore lives was is = (tag : ℕ) (f : Fact) → was.facts tag ≡ Some f → kept lives is tag ≡ Some f → is_kept lives was tag ≡ true
 
 abbrev pub KeptBeforeLaw : Type 0
-KeptBeforeLaw = (lives : Lives) (new : ℕ → Option Fact) (out : ℕ → Bool) (was is : Sight) → IsLawful was → IsLawful is → IsStep new out was is → ComeClean lives was is
+KeptBeforeLaw = (lives : Lives) (new : Option Fact) (out : Fact → Bool) (was is : Sight) → IsLawful was → IsLawful is → IsStep new out was is → ComeClean lives was is
     → KeptBefore lives was is
 
 -- ---- the first phase
 
 -- The store and the retention take what comes and what goes out, and the agenda takes the difference of the matches that name no
 -- forgotten fact.
-pub record Takes (lives : Lives) (new : ℕ → Option Fact) (out : ℕ → Bool) (was is : Sight) (before middle : Holding) (gone come : Match → Bool) : Type 0 where
-  pub store : (tag : ℕ) → middle.store tag ≡ changed (new tag) (out tag) (before.store tag)
+pub record Takes (lives : Lives) (new : Option Fact) (out : Fact → Bool) (was is : Sight) (before middle : Holding) (gone come : Match → Bool) : Type 0 where
+  pub store : (tag : ℕ) → middle.store tag ≡ changed (brought new tag) out (before.store tag)
   pub covered : Covers (ends_of lives middle.store) is.clock middle.retention
   pub lingering : (tag : ℕ) → lingers middle.retention tag ≡ true → lingers before.retention tag ≡ true
   pub goes : (m : Match) → gone m ≡ ((was.matches m && is_clean lives was m) && not (is.matches m && is_clean lives was m))
@@ -79,7 +83,7 @@ DropLaw = (middle after : Marks) (old : ℕ → Bool) (dropped : Match → Bool)
 
 -- a step in two phases leaves a session that holds exactly what is kept behind the step
 abbrev pub StepLaw : Type 0
-StepLaw = (lives : Lives) (new : ℕ → Option Fact) (out : ℕ → Bool) (was is : Sight) (before middle after : Holding) (gone come : Match → Bool) (left old : ℕ → Bool)
+StepLaw = (lives : Lives) (new : Option Fact) (out : Fact → Bool) (was is : Sight) (before middle after : Holding) (gone come : Match → Bool) (left old : ℕ → Bool)
     → IsLawful was → IsLawful is → IsStep new out was is → ComeClean lives was is
     → HoldsKept lives was before → Takes lives new out was is before middle gone come → HasLeft before.agenda middle.agenda left → Forgets is.clock left middle after old
     → HoldsKept lives is after

@@ -1,5 +1,6 @@
 //! Laws of forgetting: each function's contract is the law, and its body is empty.
 ghost use Rattle.forgetting.specs.Sights.{EndLaw};
+ghost use Rattle.forgetting.specs.Firings.{FireLaw};
 ghost use Rattle.forgetting.specs.Steps.{KeptBeforeLaw, LeftLaw, DropLaw, StepLaw};
 
 /// An event of a finite life is within it up to that long behind its end.
@@ -21,4 +22,9 @@ pub fn differences_tell_what_left_and_what_to_drop()
 /// A step in two phases, the change and then the forgetting, leaves exactly what is kept behind the step.
 pub fn a_step_leaves_what_is_kept()
     ensures { StepLaw }
+{}
+
+/// So does a firing.
+pub fn a_firing_leaves_what_is_kept()
+    ensures { FireLaw }
 {}
