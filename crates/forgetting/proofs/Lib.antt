@@ -3,3 +3,4 @@ pub mod Before
 pub mod Forgotten
 pub mod Stepping
 pub mod Firing
+pub mod Covering

@@ -1,3 +1,4 @@
 pub mod Sights
 pub mod Steps
 pub mod Firings
+pub mod Covering

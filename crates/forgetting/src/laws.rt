@@ -1,5 +1,6 @@
 //! Laws of forgetting: each function's contract is the law, and its body is empty.
 ghost use Rattle.forgetting.specs.Sights.{EndLaw};
+ghost use Rattle.forgetting.specs.Covering.{LaterCovers, FreeCovers, InsertCovers, RetractCovers, EndlessCovers};
 ghost use Rattle.forgetting.specs.Firings.{FireLaw};
 ghost use Rattle.forgetting.specs.Steps.{KeptBeforeLaw, LeftLaw, DropLaw, StepLaw};
 
@@ -27,4 +28,14 @@ pub fn a_step_leaves_what_is_kept()
 /// So does a firing.
 pub fn a_firing_leaves_what_is_kept()
     ensures { FireLaw }
+{}
+
+/// A call of the session begins with what its retention covers; then the store and the retention take together what comes and what goes
+/// out.
+pub fn the_first_phase_covers_the_store()
+    ensures later { LaterCovers }
+    ensures free { FreeCovers }
+    ensures insert { InsertCovers }
+    ensures retract { RetractCovers }
+    ensures endless { EndlessCovers }
 {}
