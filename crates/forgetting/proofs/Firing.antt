@@ -18,14 +18,10 @@ use Rattle.forgetting.specs.Sights.{is_needed, is_kept, some_tag, each_tag, ends
 use Rattle.forgetting.specs.Steps.{changed}
 use Rattle.forgetting.specs.Firings.{FireLaw}
 use Rattle.forgetting.proofs.Before.{kept_before, needed_kept, pending_kept}
-use Rattle.forgetting.proofs.Forgotten.{IsForgotten, still_kept, holds_kept}
+use Rattle.forgetting.proofs.Forgotten.{all_stay, IsForgotten, still_kept, holds_kept}
 use Rattle.forgetting.proofs.Naming.{found, witness}
 
-all_stay : (o : Option Fact) → o ≡ changed None (λ f. false) o
-all_stay None = refl
-all_stay (Some f) = refl
-
-stands : (a b : ℤ) → b ≡ a → a ≤ℤ b
+pub stands : (a b : ℤ) → b ≡ a → a ≤ℤ b
 stands a b e = grind (arith, ints)
 
 still_pending : (a b s : Bool) → ((a && not b) && not s) ≡ (a && not (b || s))

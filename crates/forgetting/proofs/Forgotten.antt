@@ -81,6 +81,11 @@ stays None None out keep fresh here next = absurd (let e : false ≡ true = here
 stays None (Some f) out keep fresh here next =
     two_tests keep (λ x. not (out x)) f ∙ ap (λ t. cond t (Some f) None) (and_is (keep f) (not (out f)) (sym (chosen (not (out f)) f) ∙ next))
 
+-- where nothing comes and nothing goes out
+pub all_stay : (o : Option Fact) → o ≡ changed None (λ f. false) o
+all_stay None = refl
+all_stay (Some f) = refl
+
 left_over : (d : Bool) (o : Option Fact) → is_some (cond d None o) ≡ (is_some o && not d)
 left_over true None = refl
 left_over true (Some f) = refl

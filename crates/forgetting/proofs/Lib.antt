@@ -4,3 +4,5 @@ pub mod Forgotten
 pub mod Stepping
 pub mod Firing
 pub mod Covering
+pub mod Seeing
+pub mod WorldSteps

@@ -2,3 +2,4 @@ pub mod Sights
 pub mod Steps
 pub mod Firings
 pub mod Covering
+pub mod WorldSights

@@ -3,6 +3,7 @@ ghost use Rattle.forgetting.specs.Sights.{EndLaw};
 ghost use Rattle.forgetting.specs.Covering.{LaterCovers, FreeCovers, InsertCovers, RetractCovers, EndlessCovers};
 ghost use Rattle.forgetting.specs.Firings.{FireLaw};
 ghost use Rattle.forgetting.specs.Steps.{KeptBeforeLaw, LeftLaw, DropLaw, StepLaw};
+ghost use Rattle.forgetting.specs.WorldSights.{SightLaw, WorldStepLaw, WorldFireLaw};
 
 /// An event of a finite life is within it up to that long behind its end.
 pub fn lives_end_as_said()
@@ -38,4 +39,11 @@ pub fn the_first_phase_covers_the_store()
     ensures insert { InsertCovers }
     ensures retract { RetractCovers }
     ensures endless { EndlessCovers }
+{}
+
+/// How forgetting sees the worlds of a program, their steps and their firings.
+pub fn worlds_are_seen_by_tags()
+    ensures sight { SightLaw }
+    ensures step { WorldStepLaw }
+    ensures firing { WorldFireLaw }
 {}
