@@ -1,5 +1,5 @@
 -- The worlds of a program as forgetting sees them, and the facts under their tags.
-use Rattle.std.proofs.Common.{◌≡◌, ◌<◌, ℕ, ◌==◌, ◌&&◌, ◌||◌, ◌++◌, Bool, true, false, cond, not, List, [], ◌∷◌, inl, inr, refl, sym, ◌∙◌, ap, subst, arith, Option, Some, None}
+use Rattle.std.proofs.Common.{◌≡◌, ◌<◌, ℕ, ◌==◌, ◌||◌, ◌++◌, Bool, true, false, cond, not, List, [], ◌∷◌, inl, inr, refl, sym, ◌∙◌, ap, subst, arith, Option, Some, None}
 use Rattle.std.specs.Prelude.{is_some, map}
 use Rattle.std.specs.List.{filter}
 use Rattle.std.specs.Ordering.{eq_by_cmp}
@@ -10,14 +10,13 @@ use Rattle.fx_base.specs.declared.fact.Fact.{Fact}
 use Rattle.fx_base.specs.declared.ids.Tag.{Tag}
 use Rattle.fx_base.specs.declared.value.Value.{Value}
 use Rattle.row_delta.specs.declared.row.Named.{Named}
-use Rattle.rule_model.specs.declared.program.Program.{Program}
 use Rattle.rule_model.specs.Distinct.{HaveDistinctTags}
 use Rattle.rule_model.specs.MatchOrders.{match_equiv}
 use Rattle.rule_model.specs.Matches.{has_match, match_cmp}
 use Rattle.rule_model.proofs.Listed.{in_map}
 use Rattle.rule_model.proofs.Named.{named_of}
 use Rattle.rule_model.proofs.RuleOf.{rule_of}
-use Rattle.rule_world.specs.Worlds.{World, snapshot, present, kept, fact_of, has_id, revised, revised_in}
+use Rattle.rule_world.specs.Worlds.{snapshot, present, kept, fact_of, has_id, revised, revised_in}
 use Rattle.rule_world.proofs.Fresh.{AllBelow}
 use Rattle.rule_world.proofs.Kept.{kept_matches}
 use Rattle.rule_world.proofs.Pending.{has_pending}

@@ -1,17 +1,14 @@
 -- A step of a world is one of the sights.
-use Rattle.std.proofs.Common.{◌≡◌, ◌<◌, ℕ, ℤ, ◌==◌, ◌&&◌, ◌≤ℤ◌, ◌+ℤ◌, ◌++◌, Bool, true, false, cond, not, List, [], ◌∷◌, refl, sym, ◌∙◌, ap, arith, Option, Some, None}
+use Rattle.std.proofs.Common.{◌≡◌, ◌<◌, ℕ, ℤ, ◌==◌, ◌&&◌, ◌≤ℤ◌, ◌+ℤ◌, Bool, true, false, cond, not, List, refl, sym, ◌∙◌, ap, arith, Option, Some, None}
 use Rattle.std.specs.Prelude.{is_some, option_map}
-use Rattle.fx_base.specs.Lists.{In}
 use Rattle.fx_base.specs.declared.fact.Fact.{Fact}
 use Rattle.fx_base.specs.declared.value.Value.{Value}
-use Rattle.rule_model.specs.declared.matched.Match.{Match}
 use Rattle.rule_model.specs.declared.program.Program.{Program}
 use Rattle.rule_model.specs.declared.step.Step.{Step}
 use Rattle.rule_model.specs.declared.step.Step.TheVariants.{Insert, Modify, Retract, Advance, At}
 use Rattle.rule_model.specs.Candidates.{is_present}
 use Rattle.rule_model.specs.Distinct.{HaveDistinctTags}
 use Rattle.rule_model.specs.Matches.{matches, has_match}
-use Rattle.rule_world.specs.Events.{clock_fault}
 use Rattle.rule_world.specs.Lawful.{IsOrdered}
 use Rattle.rule_world.specs.Worlds.{World, snapshot, present, kept, found, moved, settled, stepped, step_fault, modify_fault, new_fact, with_new, with_revised, without_fact, at_clock, revised, has_id}
 use Rattle.rule_world.proofs.Faultless.{moved_forward}

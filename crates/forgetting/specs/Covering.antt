@@ -1,5 +1,5 @@
 -- What a retention covers as the store takes what comes in a step and what goes out.
-use Rattle.std.specs.Prelude.{◌≡◌, ◌≤ℤ◌, ℕ, ℤ, ◌==◌, ◌&&◌, Bool, true, false, not, Option, Some, None, is_some}
+use Rattle.std.specs.Prelude.{◌≡◌, ◌≤ℤ◌, ℕ, ℤ, ◌==◌, ◌&&◌, Bool, true, false, not, Option, Some, None}
 use Rattle.std.specs.FinMap as map
 use Rattle.fx_base.specs.declared.fact.Fact.{Fact}
 use Rattle.retention.specs.Retentions.{lingers}
