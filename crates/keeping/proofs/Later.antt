@@ -1,0 +1,94 @@
+-- What is forgotten stays forgotten, by steps and by firings.
+use Rattle.std.proofs.Common.{◌≡◌, ◌∙◌, ◌||◌, not, Bool, true, false, inl, inr, ◌∷◌, Option, Some, None, refl, sym, ap, subst}
+use Rattle.std.specs.Prelude.{slice_get}
+use Rattle.std.specs.Ordering.{eq_by_cmp}
+use Rattle.fx_base.specs.Lists.{In}
+use Rattle.fx_base.specs.declared.fact.Fact.{Fact}
+use Rattle.row_delta.specs.declared.row.Named.{Named}
+use Rattle.rule_model.specs.declared.life.LifeTable.{LifeTable}
+use Rattle.rule_model.specs.declared.matched.Match.{Match}
+use Rattle.rule_model.specs.declared.program.Program.{Program}
+use Rattle.rule_model.specs.declared.step.Step.{Step}
+use Rattle.rule_model.specs.Matches.{matches, match_cmp, has_match}
+use Rattle.rule_model.specs.Tuples.{name_of}
+use Rattle.rule_model.proofs.Firsts.{or_left, or_right, or_split}
+use Rattle.rule_model.proofs.Named.{of_filter}
+use Rattle.rule_model.proofs.Order.{in_filter, passed}
+use Rattle.rule_world.specs.Lawful.{IsOrdered}
+use Rattle.rule_world.specs.Worlds.{World, snapshot, stepped, marked, pending}
+use Rattle.rule_world.proofs.Steps.{step_in_order}
+use Rattle.rule_lives.proofs.Basics.{not_true}
+use Rattle.rule_lives.proofs.Remains.{kept_before}
+use Rattle.join_tests.specs.Joins.{version_at}
+use Rattle.pair_memory.specs.Joined.{has_name}
+use Rattle.condition_rows.specs.Sets.{held}
+use Rattle.keeping.specs.Kept.{is_alive, is_named, is_kept, is_lost, is_forgotten}
+use Rattle.keeping.specs.Steps.{IsLawfulStep}
+use Rattle.keeping.proofs.Decided.{is_so, is_tested}
+use Rattle.keeping.proofs.Members.{some_passes, passing_one}
+use Rattle.keeping.proofs.Versions.{lost, forgotten_fact, same_fact}
+
+-- what is not kept is forgotten, of a world in order
+not_kept_is_forgotten : (p : Program) (table : LifeTable) (w : World) → IsOrdered p w → (f : Fact) → In f w.facts → is_kept p table w f ≡ false → is_forgotten p table w (name_of f) ≡ true
+not_kept_is_forgotten p table w o f i e = forgotten_fact p table w o.tags f i ∙ ap not e
+
+-- ---- steps
+
+module _ (p : Program) (table : LifeTable) (w : World) (step : Step) (given : IsLawfulStep p table w step) where
+  pub was_kept : (f : Fact) → In f w.facts → In f (stepped p w step).facts → is_kept p table (stepped p w step) f ≡ true → is_kept p table w f ≡ true
+  was_kept f i j e = is_tested p table w given.lives f (kept_before p table w step given.flagged given.operators given.lives given.lawful given.faultless f (is_so p table (stepped p w step) given.lives f j e) i)
+
+  same_behind : (f g : Fact) → In g w.facts → In f (stepped p w step).facts → name_of f ≡ name_of g → f ≡ g
+  unfolding stepped
+  same_behind f g i j e = same_fact p w step given.lawful.ordered g f i j e
+
+  pub still_forgotten : (f : Fact) → is_forgotten p table w (name_of f) ≡ true → In f (stepped p w step).facts → is_forgotten p table (stepped p w step) (name_of f) ≡ true
+  still_forgotten f forgotten j =
+      let g = lost p table w (name_of f) forgotten in
+      let same = same_behind f g.fact g.inside j (sym g.named) in
+      let inside = subst (λ (x : Fact). In x w.facts) (sym same) g.inside in
+      not_kept_is_forgotten p table (stepped p w step) (step_in_order p w step given.lawful.ordered) f j
+      (not_true (is_kept p table (stepped p w step) f) (λ e.
+      let n : true ≡ false = sym (was_kept f inside j e) ∙ ap (is_kept p table w) same ∙ g.not_kept in
+      absurd cc))
+
+-- ---- firings
+
+module _ (p : Program) (table : LifeTable) (w : World) (m : Match) where
+  unfired : (n : Match) → not (has_match (m ∷ w.fired) n) ≡ true → not (has_match w.fired n) ≡ true
+  unfired n e = by (eq_by_cmp match_cmp n m) (has_match w.fired n) e
+    where
+      by : (a b : Bool) → not (a || b) ≡ true → not b ≡ true
+      by true b e = absurd (let n : false ≡ true = e in cc)
+      by false b e = e
+
+  was_pending : (n : Match) → In n (pending p (marked w m)) → In n (pending p w)
+  was_pending n i =
+      in_filter (λ (q : Match). not (has_match w.fired q)) n (matches p (snapshot w))
+      (unfired n (passed (λ (q : Match). not (has_match (m ∷ w.fired) q)) n (matches p (snapshot w)) i))
+      (of_filter (λ (q : Match). not (has_match (m ∷ w.fired) q)) n (matches p (snapshot w)) i)
+
+  was_named : (f : Fact) → is_named p (marked w m) f ≡ true → is_named p w f ≡ true
+  was_named f e =
+      let n = passing_one (λ (q : Match). has_name q.row.facts (name_of f)) (pending p (marked w m)) e in
+      some_passes (λ (q : Match). has_name q.row.facts (name_of f)) n.0 (pending p w) (was_pending n.0 n.1) n.2
+
+  pub kept_unfired : (f : Fact) → is_kept p table (marked w m) f ≡ true → is_kept p table w f ≡ true
+  unfolding is_kept
+  kept_unfired f e = elim (or_split (is_alive p (slice_get table.lives f.ty.0) w.clock f) (is_named p (marked w m) f) e) [
+    | inl alive ↦ or_left (is_alive p (slice_get table.lives f.ty.0) w.clock f) (is_named p w f) alive
+    | inr own ↦ or_right (is_alive p (slice_get table.lives f.ty.0) w.clock f) (is_named p w f) (was_named f own)
+  ]
+
+  flipped : (a b : Bool) → (b ≡ true → a ≡ true) → not a ≡ true → not b ≡ true
+  flipped true b h e = absurd (let n : false ≡ true = e in cc)
+  flipped false true h e = absurd (let n : false ≡ true = h refl in cc)
+  flipped false false h e = refl
+
+  lost_fired : (there : Option Fact) → is_lost p table w there ≡ true → is_lost p table (marked w m) there ≡ true
+  lost_fired None e = e
+  lost_fired (Some f) e = flipped (is_kept p table w f) (is_kept p table (marked w m) f) (kept_unfired f) e
+
+  pub forgotten_fired : (who : Named) → is_forgotten p table w who ≡ true → is_forgotten p table (marked w m) who ≡ true
+  unfolding is_forgotten
+  forgotten_fired who e = lost_fired (version_at (held (snapshot w)) who) e

@@ -1,0 +1,6 @@
+pub mod Members
+pub mod Decided
+pub mod Versions
+pub mod Coming
+pub mod Staying
+pub mod Later

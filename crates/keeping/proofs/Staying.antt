@@ -1,0 +1,262 @@
+-- What is forgotten stays a candidate, or stays none.
+use Rattle.std.proofs.Common.{◌≡◌, ◌∙◌, ◌&&◌, ◌||◌, ◌==◌, not, ℕ, ℤ, ◌+ℤ◌, ◌-ℤ◌, ◌≤ℤ◌, ◌<ℤ◌, Bool, true, false, if◌then◌else◌, List, [], ◌∷◌, Option, Some, None, refl, sym, subst, ap, arith}
+use Rattle.std.specs.Prelude.{slice_get, int_le, int_lt}
+use Rattle.std.specs.List.{list_any}
+use Rattle.std.proofs.lemmas.Int.{ints}
+use Rattle.fx_base.specs.Lists.{In}
+use Rattle.fx_base.specs.declared.fact.Fact.{Fact}
+use Rattle.fx_base.specs.declared.value.Value.{Value}
+use Rattle.row_delta.specs.declared.row.Named.{Named}
+use Rattle.rule_model.specs.declared.condition.Condition.{Condition}
+use Rattle.rule_model.specs.declared.condition.Condition.TheVariants as kinds
+use Rattle.rule_model.specs.declared.condition.WindowTag.{WindowTag}
+use Rattle.rule_model.specs.declared.condition.WindowTag.TheVariants.{Whole, Time, Length}
+use Rattle.rule_model.specs.declared.life.Life.{Life}
+use Rattle.rule_model.specs.declared.life.Life.TheVariants.{Plain, Explicit, Finite, Infinite}
+use Rattle.rule_model.specs.declared.life.LifeTable.{LifeTable}
+use Rattle.rule_model.specs.declared.program.Program.{Program}
+use Rattle.rule_model.specs.declared.program.Rule.{Rule}
+use Rattle.rule_model.specs.declared.step.Step.{Step}
+use Rattle.rule_model.specs.declared.step.Step.TheVariants.{Insert, Modify, Retract, Advance, At}
+use Rattle.rule_model.specs.Candidates.{is_within, is_present, is_inside, is_candidate}
+use Rattle.rule_model.specs.Rows.{pattern_of}
+use Rattle.rule_model.specs.Simple.{observes, observes_type}
+use Rattle.rule_model.specs.Snapshots.{Snapshot}
+use Rattle.rule_model.specs.Tests.{tests_hold}
+use Rattle.rule_model.specs.Tuples.{unbound, name_of}
+use Rattle.rule_model.specs.Types.{is_event, is_observed, expiry_of}
+use Rattle.rule_model.proofs.Listed.{both, both_of, in_map, in_left}
+use Rattle.rule_model.proofs.Named.{of_filter}
+use Rattle.rule_model.proofs.Order.{in_filter}
+use Rattle.rule_model.proofs.RuleOf.{in_place}
+use Rattle.rule_world.specs.declared.code.Code.TheVariants.{EventObserved, Absent}
+use Rattle.rule_world.specs.Lawful.{IsLawful}
+use Rattle.rule_world.specs.Worlds.{World, snapshot, moved, step_fault, modify_fault, retract_fault, is_of_type, found, new_fact, has_id, revised, revised_in}
+use Rattle.rule_world.proofs.Faultless.{modified_plain}
+use Rattle.rule_world.proofs.Found.{fact_with, found_there}
+use Rattle.rule_world.proofs.Fresh.{revise}
+use Rattle.rule_world.proofs.Keeping.{was_present}
+use Rattle.rule_world.proofs.Steps.{stays}
+use Rattle.rule_lives.specs.Keeping.{AreLives}
+use Rattle.rule_lives.specs.Law.{ObservedAreFlagged}
+use Rattle.rule_lives.specs.Lifetimes.{IsLife}
+use Rattle.rule_lives.specs.Networks.{binds}
+use Rattle.rule_lives.specs.Reach.{finite, infinite}
+use Rattle.rule_lives.proofs.Basics.{not_true, number_same, same_number}
+use Rattle.rule_lives.proofs.Keeps.{clock_on}
+use Rattle.rule_lives.proofs.Limits.{lives_below}
+use Rattle.condition_rows.specs.Sets.{candidates_of}
+use Rattle.condition_rows.proofs.Ends.{same_truth}
+use Rattle.condition_rows.proofs.Joined.{candidate_named, candidate_of}
+use Rattle.keeping.specs.Kept.{is_alive, is_named, is_kept, is_forgotten}
+use Rattle.keeping.specs.Steps.{IsLawfulStep, behind}
+use Rattle.keeping.proofs.Members.{some_passes}
+use Rattle.keeping.proofs.Versions.{lost, tags_behind, same_fact}
+
+-- ---- no step takes away an observed event
+
+-- what has the id of a modification is a plain fact
+modified_is_plain : (p : Program) (w : World) (id : ℕ) → IsLawful p w → modify_fault p (found p w id) ≡ None → (f : Fact) → In f w.facts → has_id id f ≡ true → is_event p f.ty.0 ≡ false
+modified_is_plain p w id law none f i h = by (found p w id) refl none
+  where
+    by : (there : Option Fact) → found p w id ≡ there → modify_fault p there ≡ None → is_event p f.ty.0 ≡ false
+    by None e k = absurd cc
+    by (Some g) e k =
+        let there : Some g ≡ Some f = sym (found_there p w id g law.ordered e) ∙ fact_with w.facts 1 w.next_id id f law.ordered.ids i h in
+        let one : g ≡ f = cc in
+        ap (λ (x : Fact). is_event p x.ty.0) (sym one) ∙ modified_plain p (Some g) g k refl
+
+retracted_is_not_observed : (p : Program) (ty : ℕ) (there : Option Fact) → retract_fault p ty there ≡ None → is_event p ty ≡ true → is_observed p ty ≡ false
+retracted_is_not_observed p ty there none event = by (is_event p ty) (is_observed p ty) event none
+  where
+    by : (a b : Bool) → a ≡ true → (if a then (if b then Some EventObserved else None) else if is_of_type ty there then None else Some Absent) ≡ None → b ≡ false
+    by true true e k = absurd cc
+    by true false e k = refl
+    by false b e k = absurd cc
+
+unrevised : (id tag : ℕ) (sets : List (ℕ × Value)) (f : Fact) → has_id id f ≡ false → revise id tag sets f ≡ f
+unrevised id tag sets f e = ap (λ b. if b then revised tag sets f else f) e
+
+pub observed_stays : (p : Program) (w : World) (step : Step) → IsLawful p w → step_fault p w step ≡ None → (f : Fact) → In f w.facts → is_event p f.ty.0 ≡ true → is_observed p f.ty.0 ≡ true
+    → In f (moved p w step).facts
+unfolding moved step_fault
+observed_stays p w (Insert ty entry fields) law none f i event observed = in_left f w.facts (new_fact p w ty.0 entry.0 fields ∷ []) i
+observed_stays p w (Modify id sets) law none f i event observed =
+    let other = not_true (has_id id.0 f) (λ h. let n : true ≡ false = sym event ∙ modified_is_plain p w id.0 law none f i h in absurd cc) in
+    subst (λ (g : Fact). In g (revised_in id.0 w.next_tag sets w.facts)) (unrevised id.0 w.next_tag sets f other) (in_map (revise id.0 w.next_tag sets) f w.facts i)
+observed_stays p w (Retract ty id) law none f i event observed =
+    in_filter (stays ty.0 id.0) f w.facts (ap not (not_true (f.ty.0 == ty.0 && has_id id.0 f) (λ h.
+    let same = same_number f.ty.0 ty.0 (both_of (f.ty.0 == ty.0) (has_id id.0 f) h).0 in
+    let unseen = retracted_is_not_observed p ty.0 (found p w id.0) none (ap (is_event p) (sym same) ∙ event) in
+    let n : true ≡ false = sym observed ∙ ap (is_observed p) same ∙ unseen in
+    absurd cc))) i
+observed_stays p w (Advance by) law none f i event observed = i
+observed_stays p w (At moment) law none f i event observed = i
+
+side_observes : (c : Condition) → binds c ≡ false → observes c ≡ true
+side_observes (kinds.Plain q) e = absurd cc
+side_observes (kinds.Negated q) e = refl
+side_observes (kinds.Existing q) e = refl
+side_observes (kinds.Folded a) e = refl
+
+observed_of : (p : Program) (rule : Rule) → ObservedAreFlagged p → In rule p.rules → (k : ℕ) (c : Condition) → slice_get rule.conditions k ≡ Some c → binds c ≡ false
+    → is_event p (pattern_of c).ty.0 ≡ true → is_observed p (pattern_of c).ty.0 ≡ true
+observed_of p rule flagged in_rules k c at_k side event =
+    let ty = (pattern_of c).ty.0 in
+    flagged ty ∙ both (is_event p ty) _ event
+    (some_passes (λ (r : Rule). list_any (observes_type ty) r.conditions) rule p.rules in_rules
+    (some_passes (observes_type ty) c rule.conditions (in_place rule.conditions k c at_k)
+    (both (observes c) (ty == ty) (side_observes c side) (number_same ty ty refl))))
+
+-- ---- a fact past its life, over two snapshots
+
+after_life : (a b : ℤ) → int_le a b ≡ false → b <ℤ a
+after_life a b e = grind (arith, ints)
+
+not_below : (a b : ℤ) → b ≤ℤ a → int_lt a b ≡ false
+not_below a b h = grind (arith, ints)
+
+too_old : (clock start end n span : ℤ) → start ≤ℤ end → (end +ℤ n) <ℤ clock → span ≤ℤ n → span ≤ℤ (clock -ℤ start)
+too_old clock start end n span order past longer = omega (arith, ints)
+
+later_too : (a b c : ℤ) → a <ℤ b → b ≤ℤ c → a <ℤ c
+later_too a b c h k = omega (arith, ints)
+
+or_true : (a : Bool) → (a || true) ≡ true
+or_true true = refl
+or_true false = refl
+
+endless_present : (p : Program) (clock : ℤ) (f : Fact) → expiry_of p f.ty.0 ≡ None → is_present p clock f ≡ true
+unfolding is_present
+endless_present p clock f e = ap (λ (x : Option ℤ). not (is_event p f.ty.0) || is_within x (clock -ℤ f.times.start)) e ∙ or_true (not (is_event p f.ty.0))
+
+-- neither is a candidate, where it is present in neither
+absent_same : (a b r c d : Bool) → a ≡ false → b ≡ false → ((a && r) && c) ≡ ((b && r) && d)
+absent_same true b r c d e h = absurd cc
+absent_same false true r c d e h = absurd cc
+absent_same false false r c d e h = refl
+
+never : (a c : Bool) → ((a && false) && c) ≡ false
+never true c = refl
+never false c = refl
+
+-- or where presence and windows agree for the facts of the type
+present_same : (a b t r c d : Bool) → a ≡ b → (t ≡ true → c ≡ d) → ((a && (t && r)) && c) ≡ ((b && (t && r)) && d)
+present_same a b true r c d e h = ap (λ x. (x && r) && c) e ∙ ap (λ x. (b && r) && x) (h refl)
+present_same a b false r c d e h = never a c ∙ sym (never b d)
+
+module _ (p : Program) (s o : Snapshot) (from : s.clock ≤ℤ o.clock) (rule : Rule) (in_rules : In rule p.rules) (k : ℕ) (c : Condition) (at_k : slice_get rule.conditions k ≡ Some c) (f : Fact) where
+  abbrev alone : Bool
+  alone = f.entry.0 == (pattern_of c).entry.0 && tests_hold unbound f (pattern_of c).alone
+
+  -- a fact that is not present comes into no pattern any more
+  gone_same : is_present p s.clock f ≡ false → is_candidate p (pattern_of c) o f ≡ is_candidate p (pattern_of c) s f
+  gone_same absent =
+      let absent_too = not_true (is_present p o.clock f) (λ h. let n : true ≡ false = sym (was_present p f s.clock o.clock from h) ∙ absent in absurd cc) in
+      absent_same (is_present p o.clock f) (is_present p s.clock f) (f.ty.0 == (pattern_of c).ty.0 && alone)
+      (is_inside p (pattern_of c) (pattern_of c).window o.clock o.facts f) (is_inside p (pattern_of c) (pattern_of c).window s.clock s.facts f) absent_too absent
+
+  module _ (n : ℤ) (life : IsLife p f.ty.0 (finite n)) (order : f.times.start ≤ℤ f.times.end) (past : (f.times.end +ℤ n) <ℤ s.clock) where
+    -- an event past its life is in no window of time, and windows of length make lives endless
+    window_same : (pattern_of c).ty.0 ≡ f.ty.0 → (window : WindowTag) → (pattern_of c).window ≡ window
+        → is_inside p (pattern_of c) window o.clock o.facts f ≡ is_inside p (pattern_of c) window s.clock s.facts f
+    window_same ty Whole is = refl
+    window_same ty (Time span) is =
+        let longer : span ≤ℤ n = lives_below p f.ty.0 n rule (record { place = k; condition = c }) life in_rules at_k ty (Time span) (finite span) is refl in
+        not_below (o.clock -ℤ f.times.start) span (too_old o.clock f.times.start f.times.end n span order (later_too (f.times.end +ℤ n) s.clock o.clock past from) longer)
+        ∙ sym (not_below (s.clock -ℤ f.times.start) span (too_old s.clock f.times.start f.times.end n span order past longer))
+    window_same ty (Length count) is =
+        absurd (lives_below p f.ty.0 n rule (record { place = k; condition = c }) life in_rules at_k ty (Length count) infinite is refl)
+
+    past_same : is_candidate p (pattern_of c) o f ≡ is_candidate p (pattern_of c) s f
+    past_same =
+        present_same (is_present p o.clock f) (is_present p s.clock f) (f.ty.0 == (pattern_of c).ty.0) alone
+        (is_inside p (pattern_of c) (pattern_of c).window o.clock o.facts f) (is_inside p (pattern_of c) (pattern_of c).window s.clock s.facts f)
+        (endless_present p o.clock f life.unexpired ∙ sym (endless_present p s.clock f life.unexpired))
+        (λ t. window_same (sym (same_number f.ty.0 (pattern_of c).ty.0 t)) (pattern_of c).window refl)
+
+-- ---- what is not kept
+
+both_false : (a b : Bool) → (a || b) ≡ false → a ≡ false
+both_false true b e = e
+both_false false b e = refl
+
+module _ (p : Program) (table : LifeTable) (w : World) (are : AreLives p table) where
+  not_alive : (f : Fact) → is_kept p table w f ≡ false → is_alive p (slice_get table.lives f.ty.0) w.clock f ≡ false
+  unfolding is_kept
+  not_alive f e = both_false (is_alive p (slice_get table.lives f.ty.0) w.clock f) (is_named p w f) e
+
+  -- what is not kept is an event
+  event_by : (f : Fact) (life : Option Life) → slice_get table.lives f.ty.0 ≡ life → is_alive p life w.clock f ≡ false → is_event p f.ty.0 ≡ true
+  event_by f None at e = absurd (let n : true ≡ false = e in cc)
+  event_by f (Some Plain) at e = absurd (let n : true ≡ false = e in cc)
+  event_by f (Some (Explicit expiry)) at e = (are.each f.ty.0 (Explicit expiry) at).0
+  event_by f (Some (Finite n)) at e = (are.each f.ty.0 (Finite n) at).event
+  event_by f (Some Infinite) at e = absurd (let n : true ≡ false = e in cc)
+
+  pub lost_event : (f : Fact) → is_kept p table w f ≡ false → is_event p f.ty.0 ≡ true
+  lost_event f e = event_by f (slice_get table.lives f.ty.0) refl (not_alive f e)
+
+  module _ (law : IsLawful p w) (o : Snapshot) (from : w.clock ≤ℤ o.clock) (rule : Rule) (in_rules : In rule p.rules) (k : ℕ) (c : Condition) (at_k : slice_get rule.conditions k ≡ Some c)
+      (f : Fact) (inside : In f w.facts) where
+    same_by : (life : Option Life) → slice_get table.lives f.ty.0 ≡ life → is_alive p life w.clock f ≡ false → is_candidate p (pattern_of c) o f ≡ is_candidate p (pattern_of c) (snapshot w) f
+    same_by None at e = absurd (let n : true ≡ false = e in cc)
+    same_by (Some Plain) at e = absurd (let n : true ≡ false = e in cc)
+    same_by (Some (Explicit expiry)) at e = gone_same p (snapshot w) o from rule in_rules k c at_k f e
+    same_by (Some (Finite n)) at e =
+        let life = are.each f.ty.0 (Finite n) at in
+        past_same p (snapshot w) o from rule in_rules k c at_k f n life (((law.sound f inside).timed life.event).event.ordered) (after_life w.clock (f.times.end +ℤ n) e)
+    same_by (Some Infinite) at e = absurd (let n : true ≡ false = e in cc)
+
+    pub lost_same : is_kept p table w f ≡ false → is_candidate p (pattern_of c) o f ≡ is_candidate p (pattern_of c) (snapshot w) f
+    lost_same e = same_by (slice_get table.lives f.ty.0) refl (not_alive f e)
+
+-- ---- over a step
+
+module _ (p : Program) (table : LifeTable) (w : World) (step : Step) (given : IsLawfulStep p table w step) (rule : Rule) (in_rules : In rule p.rules) (k : ℕ) (c : Condition) (at_k : slice_get rule.conditions k ≡ Some c) where
+  abbrev next : Snapshot
+  next = behind p w step
+
+  fact_same : (f : Fact) → In f w.facts → is_kept p table w f ≡ false → In f next.facts → candidates_of p (pattern_of c) next (name_of f) ≡ candidates_of p (pattern_of c) (snapshot w) (name_of f)
+  fact_same f i e there =
+      candidate_named p next (tags_behind p w step given.lawful.ordered) (pattern_of c) f there
+      ∙ lost_same p table w given.lives given.lawful next (clock_on p w step given.lawful given.faultless) rule in_rules k c at_k f i e
+      ∙ sym (candidate_named p (snapshot w) given.lawful.ordered.tags (pattern_of c) f i)
+
+  -- what is still there
+  pub there_same : (f : Fact) → is_forgotten p table w (name_of f) ≡ true → In f next.facts → candidates_of p (pattern_of c) next (name_of f) ≡ candidates_of p (pattern_of c) (snapshot w) (name_of f)
+  there_same f forgotten there =
+      let g = lost p table w (name_of f) forgotten in
+      let same : f ≡ g.fact = same_fact p w step given.lawful.ordered g.fact f g.inside there (sym g.named) in
+      fact_same f (subst (λ (x : Fact). In x w.facts) (sym same) g.inside) (ap (is_kept p table w) same ∙ g.not_kept) there
+
+  module _ (side : binds c ≡ false) (who : Named) (forgotten : is_forgotten p table w who ≡ true) where
+    abbrev named_same : Fact → Type 0
+    named_same f = candidates_of p (pattern_of c) next (name_of f) ≡ candidates_of p (pattern_of c) (snapshot w) (name_of f)
+
+    was_too : candidates_of p (pattern_of c) next who ≡ true → candidates_of p (pattern_of c) (snapshot w) who ≡ true
+    was_too e =
+        let f = candidate_of p next (tags_behind p w step given.lawful.ordered) (pattern_of c) who e in
+        let there = of_filter (is_candidate p (pattern_of c) next) f.0 next.facts f.1 in
+        let same = there_same f.0 (ap (is_forgotten p table w) f.2 ∙ forgotten) there in
+        ap (candidates_of p (pattern_of c) (snapshot w)) (sym f.2) ∙ sym same ∙ ap (candidates_of p (pattern_of c) next) f.2 ∙ e
+
+    is_too : candidates_of p (pattern_of c) (snapshot w) who ≡ true → candidates_of p (pattern_of c) next who ≡ true
+    is_too e =
+        let g = lost p table w who forgotten in
+        let q = pattern_of c in
+        let tested = sym (candidate_named p (snapshot w) given.lawful.ordered.tags q g.fact g.inside) ∙ ap (candidates_of p q (snapshot w)) g.named ∙ e in
+        let ty = of_type (snapshot w) g.fact tested in
+        let event = lost_event p table w given.lives g.fact g.not_kept in
+        let observed = ap (is_observed p) ty ∙ observed_of p rule given.flagged in_rules k c at_k side (ap (is_event p) (sym ty) ∙ event) in
+        let there = observed_stays p w step given.lawful given.faultless g.fact g.inside event observed in
+        ap (candidates_of p q next) (sym g.named) ∙ fact_same g.fact g.inside g.not_kept there ∙ ap (candidates_of p q (snapshot w)) g.named ∙ e
+      where
+        of_type : (s : Snapshot) (f : Fact) → is_candidate p (pattern_of c) s f ≡ true → f.ty.0 ≡ (pattern_of c).ty.0
+        of_type s f h =
+            let fit = both_of _ (is_inside p (pattern_of c) (pattern_of c).window s.clock s.facts f) h in
+            let typed = both_of (is_present p s.clock f) (f.ty.0 == (pattern_of c).ty.0 && (f.entry.0 == (pattern_of c).entry.0 && tests_hold unbound f (pattern_of c).alone)) fit.0 in
+            same_number f.ty.0 (pattern_of c).ty.0 (both_of (f.ty.0 == (pattern_of c).ty.0) (f.entry.0 == (pattern_of c).entry.0 && tests_hold unbound f (pattern_of c).alone) typed.1).0
+
+    pub side_same : candidates_of p (pattern_of c) next who ≡ candidates_of p (pattern_of c) (snapshot w) who
+    side_same = same_truth (candidates_of p (pattern_of c) next who) (candidates_of p (pattern_of c) (snapshot w) who) was_too is_too

@@ -1,0 +1,32 @@
+-- The steps of which the laws of what is kept speak, and the rows that come in them.
+use Rattle.std.specs.Prelude.{◌≡◌, true, false, List, None}
+use Rattle.row_delta.specs.declared.row.Row.{Row}
+use Rattle.rule_model.specs.declared.condition.Condition.{Condition}
+use Rattle.rule_model.specs.declared.life.LifeTable.{LifeTable}
+use Rattle.rule_model.specs.declared.program.Program.{Program}
+use Rattle.rule_model.specs.declared.step.Step.{Step}
+use Rattle.rule_model.specs.Snapshots.{Snapshot}
+use Rattle.rule_world.specs.Lawful.{IsLawful}
+use Rattle.rule_world.specs.Programs.{UseOperators}
+use Rattle.rule_world.specs.Worlds.{World, snapshot, moved, step_fault}
+use Rattle.rule_lives.specs.Keeping.{AreLives}
+use Rattle.rule_lives.specs.Law.{ObservedAreFlagged}
+use Rattle.condition_rows.specs.Sets.{rows_of}
+
+-- a step without a fault of a lawful world, with the table of lives of a program whose observed types are flagged and whose temporal tests
+-- have operators, as those of every runnable program
+pub record IsLawfulStep (p : Program) (table : LifeTable) (w : World) (step : Step) : Type 0 where
+  pub flagged : ObservedAreFlagged p
+  pub operators : UseOperators p.rules
+  pub lives : AreLives p table
+  pub lawful : IsLawful p w
+  pub faultless : step_fault p w step ≡ None
+
+-- what conditions look at behind the step
+abbrev pub behind : Program → World → Step → Snapshot
+behind p w step = snapshot (moved p w step)
+
+-- the row is one of the conditions behind the step, and was none before it
+pub record RowComes (p : Program) (w : World) (step : Step) (conditions : List Condition) (row : Row) : Type 0 where
+  pub is : rows_of p (behind p w step) conditions row ≡ true
+  pub was_not : rows_of p (snapshot w) conditions row ≡ false

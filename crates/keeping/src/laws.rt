@@ -1,0 +1,86 @@
+//! Laws of what is kept: each function's contract is the law, and its body is empty.
+ghost use Rattle.std.specs.Prelude.{◌≡◌, ◌↔◌, ◌&&◌, not, ℕ, true, false, take, Some, slice_get};
+ghost use Rattle.fx_base.specs.Lists.{In};
+ghost use Rattle.fx_base.specs.declared.fact.Fact.{Fact};
+ghost use Rattle.row_delta.specs.declared.row.Named.{Named};
+ghost use Rattle.row_delta.specs.declared.row.Row.{Row};
+ghost use Rattle.rule_model.specs.declared.condition.Condition.{Condition};
+ghost use Rattle.rule_model.specs.declared.life.LifeTable.{LifeTable};
+ghost use Rattle.rule_model.specs.declared.matched.Match.{Match};
+ghost use Rattle.rule_model.specs.declared.program.Program.{Program};
+ghost use Rattle.rule_model.specs.declared.program.Rule.{Rule};
+ghost use Rattle.rule_model.specs.declared.step.Step.{Step};
+ghost use Rattle.rule_model.specs.Distinct.{HaveDistinctTags};
+ghost use Rattle.rule_model.specs.Rows.{pattern_of};
+ghost use Rattle.rule_model.specs.Tuples.{name_of};
+ghost use Rattle.rule_world.specs.Worlds.{World, snapshot, stepped, marked};
+ghost use Rattle.rule_lives.specs.Keeping.{AreLives, IsKept};
+ghost use Rattle.rule_lives.specs.Networks.{binds};
+ghost use Rattle.join_tests.specs.Joins.{Look, joins};
+ghost use Rattle.pair_memory.specs.Standing.{clean, no_names};
+ghost use Rattle.condition_rows.specs.Looks.{HasAllOf};
+ghost use Rattle.condition_rows.specs.Sets.{candidates_of};
+ghost use Rattle.keeping.specs.Kept.{is_kept, kept_facts, is_forgotten};
+ghost use Rattle.keeping.specs.Steps.{IsLawfulStep, behind, RowComes};
+
+/// With a table of the program's lives the test is true of a fact of a world exactly where it is kept, and the list has exactly what is
+/// kept.
+pub fn kept_is_decided()
+    ensures fact { (p : Program) (table : LifeTable) (w : World) → AreLives p table → (f : Fact) → In f w.facts
+        → (is_kept p table w f ≡ true) ↔ IsKept p table w f }
+    ensures facts { (p : Program) (table : LifeTable) (w : World) → AreLives p table → (f : Fact)
+        → In f (kept_facts p table w) ↔ IsKept p table w f }
+{}
+
+/// What is forgotten is a fact of the world, by its name, that is not kept; over facts with distinct tags a fact of the world is
+/// forgotten exactly where it is not kept.
+pub fn what_is_not_kept_is_forgotten()
+    ensures named { (p : Program) (table : LifeTable) (w : World) (who : Named) → is_forgotten p table w who ≡ true
+        → (f : Fact) × In f w.facts × (name_of f ≡ who) × (is_kept p table w f ≡ false) }
+    ensures fact { (p : Program) (table : LifeTable) (w : World) → HaveDistinctTags w.facts → (f : Fact) → In f w.facts
+        → is_forgotten p table w (name_of f) ≡ not (is_kept p table w f) }
+{}
+
+/// For a row of the conditions before a `not`, an `exists` or an `accumulate` that comes in a step, what was forgotten before the step
+/// is behind it no candidate that passes, whatever look has all versions of the snapshot there.
+pub fn rows_that_come_meet_what_is_kept()
+    ensures { (p : Program) (table : LifeTable) (w : World) (step : Step) → IsLawfulStep p table w step
+        → (rule : Rule) → In rule p.rules → (q : ℕ) (c : Condition) → slice_get rule.conditions q ≡ Some c → binds c ≡ false
+        → (look : Look) → HasAllOf look (behind p w step) no_names
+        → (row : Row) → RowComes p w step (take q rule.conditions) row
+        → (who : Named) → is_forgotten p table w who ≡ true
+        → (candidates_of p (pattern_of c) (behind p w step) who && joins (pattern_of c) look row who) ≡ false }
+{}
+
+/// What was forgotten before a step is behind it a candidate of a condition exactly where it was one: where the step did not take the
+/// fact away, and for a `not`, an `exists` or an `accumulate` always.
+pub fn what_is_forgotten_stays_a_candidate()
+    ensures there { (p : Program) (table : LifeTable) (w : World) (step : Step) → IsLawfulStep p table w step
+        → (rule : Rule) → In rule p.rules → (q : ℕ) (c : Condition) → slice_get rule.conditions q ≡ Some c
+        → (f : Fact) → is_forgotten p table w (name_of f) ≡ true → In f (behind p w step).facts
+        → candidates_of p (pattern_of c) (behind p w step) (name_of f) ≡ candidates_of p (pattern_of c) (snapshot w) (name_of f) }
+    ensures observed { (p : Program) (table : LifeTable) (w : World) (step : Step) → IsLawfulStep p table w step
+        → (rule : Rule) → In rule p.rules → (q : ℕ) (c : Condition) → slice_get rule.conditions q ≡ Some c → binds c ≡ false
+        → (who : Named) → is_forgotten p table w who ≡ true
+        → candidates_of p (pattern_of c) (behind p w step) who ≡ candidates_of p (pattern_of c) (snapshot w) who }
+{}
+
+/// A row of a whole rule that comes in a step names nothing that was forgotten before the step.
+pub fn rows_that_come_name_what_is_kept()
+    ensures { (p : Program) (table : LifeTable) (w : World) (step : Step) → IsLawfulStep p table w step
+        → (rule : Rule) → In rule p.rules → (row : Row) → RowComes p w step rule.conditions row
+        → clean (is_forgotten p table w) row ≡ true }
+{}
+
+/// What is kept behind a step and was a fact before it was kept before it, so what was forgotten and is still a fact stays forgotten.
+/// The same of a firing, which leaves the facts.
+pub fn what_is_forgotten_stays_forgotten()
+    ensures kept { (p : Program) (table : LifeTable) (w : World) (step : Step) → IsLawfulStep p table w step
+        → (f : Fact) → In f w.facts → In f (stepped p w step).facts
+        → is_kept p table (stepped p w step) f ≡ true → is_kept p table w f ≡ true }
+    ensures step { (p : Program) (table : LifeTable) (w : World) (step : Step) → IsLawfulStep p table w step
+        → (f : Fact) → is_forgotten p table w (name_of f) ≡ true → In f (stepped p w step).facts
+        → is_forgotten p table (stepped p w step) (name_of f) ≡ true }
+    ensures firing { (p : Program) (table : LifeTable) (w : World) (m : Match) (who : Named)
+        → is_forgotten p table w who ≡ true → is_forgotten p table (marked w m) who ≡ true }
+{}

@@ -1,0 +1,5 @@
+//! What an engine that forgets keeps of a world, decided by the clock, the table of lives and the pending matches, and what follows of
+//! it for the rows of conditions and for candidates. It has definitions and laws alone, and assumes nothing of the outside.
+#![tactic(auto)]
+
+pub mod laws;
