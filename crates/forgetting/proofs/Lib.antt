@@ -1,0 +1,8 @@
+pub mod Naming
+pub mod Before
+pub mod Forgotten
+pub mod Stepping
+pub mod Firing
+pub mod Covering
+pub mod Seeing
+pub mod WorldSteps

@@ -1,0 +1,155 @@
+-- The worlds of a program as forgetting sees them, and the facts under their tags.
+use Rattle.std.proofs.Common.{◌≡◌, ◌<◌, ℕ, ◌==◌, ◌||◌, ◌++◌, Bool, true, false, cond, not, List, [], ◌∷◌, inl, inr, refl, sym, ◌∙◌, ap, subst, arith, Option, Some, None}
+use Rattle.std.specs.Prelude.{is_some, map}
+use Rattle.std.specs.List.{filter}
+use Rattle.std.specs.Ordering.{eq_by_cmp}
+use Rattle.std.proofs.Math.Bool.{or_comm}
+use Rattle.std.proofs.lemmas.Bool.Decides.{nat_tests, Decides-eqb}
+use Rattle.fx_base.specs.Lists.{In}
+use Rattle.fx_base.specs.declared.fact.Fact.{Fact}
+use Rattle.fx_base.specs.declared.ids.Tag.{Tag}
+use Rattle.fx_base.specs.declared.value.Value.{Value}
+use Rattle.row_delta.specs.declared.row.Named.{Named}
+use Rattle.rule_model.specs.Distinct.{HaveDistinctTags}
+use Rattle.rule_model.specs.MatchOrders.{match_equiv}
+use Rattle.rule_model.specs.Matches.{has_match, match_cmp}
+use Rattle.rule_model.proofs.Listed.{in_map}
+use Rattle.rule_model.proofs.Named.{named_of}
+use Rattle.rule_model.proofs.RuleOf.{rule_of}
+use Rattle.rule_world.specs.Worlds.{snapshot, present, kept, fact_of, has_id, revised, revised_in}
+use Rattle.rule_world.proofs.Fresh.{AllBelow}
+use Rattle.rule_world.proofs.Kept.{kept_matches}
+use Rattle.rule_world.proofs.Pending.{has_pending}
+use Rattle.forgetting.specs.Sights.{only}
+use Rattle.forgetting.specs.Steps.{brought, changed}
+use Rattle.forgetting.specs.WorldSights.{fact_at, SightLaw, WorldFireLaw}
+use Rattle.forgetting.proofs.Naming.{each_in}
+
+abbrev tag_of : ℕ → Tag
+tag_of number = record { 0 = number }
+
+pub same_tag : (a b : ℕ) → (a == b) ≡ true → a ≡ b
+same_tag a b = (Decides-eqb a b).0
+
+is_same : (a b : ℕ) → a ≡ b → (a == b) ≡ true
+is_same a b = (Decides-eqb a b).1
+
+-- ---- the fact under a tag
+
+-- a fact of the list stands under its tag, or another does
+in_at : (facts : List Fact) (g : Fact) → In g facts → is_some (fact_at facts g.tag.0) ≡ true
+in_at [] g i = absurd i
+in_at (f ∷ facts) g (inl s) = ap (λ b. is_some (cond b (Some f) (fact_at facts g.tag.0))) (is_same f.tag.0 g.tag.0 (ap (λ (x : Fact). x.tag.0) (sym s)))
+in_at (f ∷ facts) g (inr j) = by (f.tag.0 == g.tag.0) (in_at facts g j)
+  where
+    by : (t : Bool) → is_some (fact_at facts g.tag.0) ≡ true → is_some (cond t (Some f) (fact_at facts g.tag.0)) ≡ true
+    by true h = refl
+    by false h = h
+
+-- no fact stands under a tag that none has
+pub free_at : (facts : List Fact) (tag : ℕ) → ((g : Fact) → In g facts → g.tag.0 ≡ tag → ⊥) → fact_at facts tag ≡ None
+free_at [] tag none = refl
+free_at (g ∷ facts) tag none = by (g.tag.0 == tag) refl (free_at facts tag (λ x i. none x (inr i)))
+  where
+    by : (t : Bool) → (g.tag.0 == tag) ≡ t → fact_at facts tag ≡ None → cond t (Some g) (fact_at facts tag) ≡ None
+    by true e rest = absurd (none g (inl refl) (same_tag g.tag.0 tag e))
+    by false e rest = rest
+
+-- of facts with distinct tags no other stands under the tag of the first
+alone_at : (f : Fact) (facts : List Fact) (tag : ℕ) → HaveDistinctTags (f ∷ facts) → (f.tag.0 == tag) ≡ true → fact_at facts tag ≡ None
+alone_at f facts tag distinct e =
+    free_at facts tag (λ g i s.
+    let same : g.tag ≡ f.tag = ap tag_of (s ∙ sym (same_tag f.tag.0 tag e)) in
+    distinct.0 (subst (λ (t : Tag). In t (map (λ (x : Fact). x.tag) facts)) same (in_map (λ (x : Fact). x.tag) g facts i)))
+
+-- ---- facts that go out
+
+pub at_filter : (test : Fact → Bool) (facts : List Fact) (tag : ℕ) → HaveDistinctTags facts → fact_at (filter test facts) tag ≡ only test (fact_at facts tag)
+at_filter test [] tag distinct = refl
+at_filter test (f ∷ facts) tag distinct = by (test f) (f.tag.0 == tag) refl refl (at_filter test facts tag distinct.1)
+  where
+    by : (k t : Bool) → test f ≡ k → (f.tag.0 == tag) ≡ t → fact_at (filter test facts) tag ≡ only test (fact_at facts tag)
+        → fact_at (cond k (f ∷ filter test facts) (filter test facts)) tag ≡ only test (cond t (Some f) (fact_at facts tag))
+    by true true k t rest = ap (λ b. cond b (Some f) (fact_at (filter test facts) tag)) t ∙ sym (ap (λ b. cond b (Some f) None) k)
+    by true false k t rest = ap (λ b. cond b (Some f) (fact_at (filter test facts) tag)) t ∙ rest
+    by false true k t rest = rest ∙ ap (only test) (alone_at f facts tag distinct t) ∙ sym (ap (λ b. cond b (Some f) None) k)
+    by false false k t rest = rest
+
+pub only_same : (a b : Fact → Bool) (o : Option Fact) → ((f : Fact) → a f ≡ b f) → only a o ≡ only b o
+only_same a b None e = refl
+only_same a b (Some f) e = ap (λ t. cond t (Some f) None) (e f)
+
+-- ---- a fact that comes
+
+pub at_end : (facts : List Fact) (f : Fact) (tag : ℕ) → ((f.tag.0 == tag) ≡ true → fact_at facts tag ≡ None)
+    → fact_at (facts ++ f ∷ []) tag ≡ changed (brought (Some f) tag) (λ g. false) (fact_at facts tag)
+at_end [] f tag free = by (f.tag.0 == tag)
+  where
+    by : (t : Bool) → cond t (Some f) None ≡ changed (cond t (Some f) None) (λ g. false) None
+    by true = refl
+    by false = refl
+at_end (g ∷ facts) f tag free = by (f.tag.0 == tag) (g.tag.0 == tag) (fact_at facts tag) (fact_at (facts ++ f ∷ []) tag) free (at_end facts f tag)
+  where
+    by : (t u : Bool) (rest more : Option Fact) → (t ≡ true → cond u (Some g) rest ≡ None) → ((t ≡ true → rest ≡ None) → more ≡ changed (cond t (Some f) None) (λ x. false) rest)
+        → cond u (Some g) more ≡ changed (cond t (Some f) None) (λ x. false) (cond u (Some g) rest)
+    by true true rest more free h = absurd (let e : Some g ≡ None = free refl in cc)
+    by false true rest more free h = refl
+    by t false rest more free h = h free
+
+-- ---- a fact that is revised
+
+module _ (id next : ℕ) (sets : List (ℕ × Value)) where
+  -- under the other tags
+  pub at_revised : (facts : List Fact) (tag : ℕ) → HaveDistinctTags facts → (next == tag) ≡ false
+      → fact_at (revised_in id next sets facts) tag ≡ only (λ f. not (has_id id f)) (fact_at facts tag)
+  at_revised [] tag distinct other = refl
+  at_revised (f ∷ facts) tag distinct other = by (has_id id f) (f.tag.0 == tag) refl refl (at_revised facts tag distinct.1 other)
+    where
+      test : Fact → Bool
+      test x = not (has_id id x)
+
+      by : (k t : Bool) → has_id id f ≡ k → (f.tag.0 == tag) ≡ t → fact_at (revised_in id next sets facts) tag ≡ only test (fact_at facts tag)
+          → fact_at (cond k (revised next sets f) f ∷ revised_in id next sets facts) tag ≡ only test (cond t (Some f) (fact_at facts tag))
+      by true true k t rest =
+          ap (λ b. cond b (Some (revised next sets f)) (fact_at (revised_in id next sets facts) tag)) other ∙ rest
+          ∙ ap (only test) (alone_at f facts tag distinct t) ∙ sym (ap (λ b. cond (not b) (Some f) None) k)
+      by true false k t rest = ap (λ b. cond b (Some (revised next sets f)) (fact_at (revised_in id next sets facts) tag)) other ∙ rest
+      by false true k t rest = ap (λ b. cond b (Some f) (fact_at (revised_in id next sets facts) tag)) t ∙ sym (ap (λ b. cond (not b) (Some f) None) k)
+      by false false k t rest = ap (λ b. cond b (Some f) (fact_at (revised_in id next sets facts) tag)) t ∙ rest
+
+  not_next : (a : ℕ) → a < next → (a == next) ≡ false
+  not_next a h = grind (arith, nat_tests)
+
+  -- and under the next one
+  pub at_next : (facts : List Fact) (g : Fact) → AllBelow next facts → fact_of facts id ≡ Some g → fact_at (revised_in id next sets facts) next ≡ Some (revised next sets g)
+  unfolding fact_of
+  at_next [] g below e = absurd cc
+  at_next (f ∷ facts) g below e = by (has_id id f) e (at_next facts g (λ x i. below x (inr i)))
+    where
+      by : (k : Bool) → cond k (Some f) (fact_of facts id) ≡ Some g → (fact_of facts id ≡ Some g → fact_at (revised_in id next sets facts) next ≡ Some (revised next sets g))
+          → fact_at (cond k (revised next sets f) f ∷ revised_in id next sets facts) next ≡ Some (revised next sets g)
+      by true h rest =
+          let s : f ≡ g = cc in
+          ap (λ b. cond b (Some (revised next sets f)) (fact_at (revised_in id next sets facts) next)) (is_same next next refl) ∙ ap (λ x. Some (revised next sets x)) s
+      by false h rest = ap (λ b. cond b (Some f) (fact_at (revised_in id next sets facts) next)) (not_next f.tag.0 (below f (inl refl))) ∙ rest h
+
+-- ---- worlds
+
+pub sight_law : SightLaw
+sight_law p w ordered = record {
+  names = λ m e.
+      let of = rule_of p (snapshot (kept p w)) m (ap (λ ms. has_match ms m) (kept_matches p w) ∙ e) in
+      each_in (λ (n : Named). is_some (fact_at (present p w) n.tag.0)) m.row.facts (λ n i.
+      let q = named_of p (snapshot (kept p w)) of.rule.conditions m.row of.row n i in
+      subst (λ (n : Named). is_some (fact_at (present p w) n.tag.0) ≡ true) q.2 (in_at (present p w) q.0 q.1));
+  fired = ordered.fired;
+  pending = has_pending p w;
+}
+
+pub world_fire_law : WorldFireLaw
+world_fire_law p w m = record {
+  facts = λ tag. refl;
+  clock = refl;
+  matches = λ x. refl;
+  fired = λ x. or_comm (eq_by_cmp match_cmp x m) (has_match w.fired x) ∙ ap (λ t. has_match w.fired x || t) (match_equiv.symm x m);
+}

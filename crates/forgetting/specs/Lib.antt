@@ -1,0 +1,5 @@
+pub mod Sights
+pub mod Steps
+pub mod Firings
+pub mod Covering
+pub mod WorldSights

@@ -1,0 +1,57 @@
+-- How forgetting sees the worlds of a program, their steps and their firings.
+use Rattle.std.specs.Prelude.{◌≡◌, ℕ, ◌+ℤ◌, ◌==◌, ◌&&◌, Bool, false, not, List, [], ◌∷◌, Option, Some, None, option_map, if◌then◌else◌}
+use Rattle.fx_base.specs.declared.fact.Fact.{Fact}
+use Rattle.rule_model.specs.declared.matched.Match.{Match}
+use Rattle.rule_model.specs.declared.program.Program.{Program}
+use Rattle.rule_model.specs.declared.step.Step.{Step}
+use Rattle.rule_model.specs.declared.step.Step.TheVariants.{Insert, Modify, Retract, Advance, At}
+use Rattle.rule_model.specs.Candidates.{is_present}
+use Rattle.rule_model.specs.Matches.{matches, has_match}
+use Rattle.rule_world.specs.Lawful.{IsOrdered}
+use Rattle.rule_world.specs.Worlds.{World, snapshot, present, found, pending, new_fact, revised, has_id, stepped, step_fault, marked}
+use Rattle.forgetting.specs.Sights.{Sight, IsLawful, only}
+use Rattle.forgetting.specs.Steps.{IsStep}
+use Rattle.forgetting.specs.Firings.{IsMarked}
+
+-- the fact with a tag
+abbrev pub fact_at : List Fact → ℕ → Option Fact
+fact_at [] tag = None
+fact_at (f ∷ facts) tag = if f.tag.0 == tag then Some f else fact_at facts tag
+
+-- the present facts of a world, its clock and its marks
+abbrev pub sight_of : Program → World → Sight
+sight_of p w = record {
+  facts = fact_at (present p w);
+  clock = w.clock;
+  matches = has_match (matches p (snapshot w));
+  fired = has_match w.fired;
+  pending = pending p w;
+}
+
+-- the version that comes in a step: of a new fact where it is present, of a modified one always
+abbrev pub comes : Program → World → Step → Option Fact
+comes p w (Insert ty entry fields) = only (is_present p w.clock) (Some (new_fact p w ty.0 entry.0 fields))
+comes p w (Modify id sets) = option_map (revised w.next_tag sets) (found p w id.0)
+comes p w (Retract ty id) = None
+comes p w (Advance by) = None
+comes p w (At moment) = None
+
+-- which facts go out: the version that is modified, the fact that is retracted, and what is not present any more
+abbrev pub goes : Program → World → Step → Fact → Bool
+goes p w (Insert ty entry fields) f = false
+goes p w (Modify id sets) f = has_id id.0 f
+goes p w (Retract ty id) f = f.ty.0 == ty.0 && has_id id.0 f
+goes p w (Advance by) f = not (is_present p (w.clock +ℤ by) f)
+goes p w (At moment) f = not (is_present p moment f)
+
+-- the sight of a world whose numbers and marks are in order is lawful
+abbrev pub SightLaw : Type 0
+SightLaw = (p : Program) (w : World) → IsOrdered p w → IsLawful (sight_of p w)
+
+-- a step without a fault is one of the sights
+abbrev pub WorldStepLaw : Type 0
+WorldStepLaw = (p : Program) (w : World) (step : Step) → IsOrdered p w → step_fault p w step ≡ None → IsStep (comes p w step) (goes p w step) (sight_of p w) (sight_of p (stepped p w step))
+
+-- and a firing marks its match
+abbrev pub WorldFireLaw : Type 0
+WorldFireLaw = (p : Program) (w : World) (m : Match) → IsMarked m (sight_of p w) (sight_of p (marked w m))

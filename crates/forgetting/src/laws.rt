@@ -1,0 +1,49 @@
+//! Laws of forgetting: each function's contract is the law, and its body is empty.
+ghost use Rattle.forgetting.specs.Sights.{EndLaw};
+ghost use Rattle.forgetting.specs.Covering.{LaterCovers, FreeCovers, InsertCovers, RetractCovers, EndlessCovers};
+ghost use Rattle.forgetting.specs.Firings.{FireLaw};
+ghost use Rattle.forgetting.specs.Steps.{KeptBeforeLaw, LeftLaw, DropLaw, StepLaw};
+ghost use Rattle.forgetting.specs.WorldSights.{SightLaw, WorldStepLaw, WorldFireLaw};
+
+/// An event of a finite life is within it up to that long behind its end.
+pub fn lives_end_as_said()
+    ensures { EndLaw }
+{}
+
+/// What was there and is kept behind a step was kept before it, where the matches that come name nothing forgotten.
+pub fn what_is_kept_was_kept()
+    ensures { KeptBeforeLaw }
+{}
+
+/// What a step has to look at: of what has left, the tags of the matches that go; of what is dropped, the fired matches.
+pub fn differences_tell_what_left_and_what_to_drop()
+    ensures left { LeftLaw }
+    ensures dropped { DropLaw }
+{}
+
+/// A step in two phases, the change and then the forgetting, leaves exactly what is kept behind the step.
+pub fn a_step_leaves_what_is_kept()
+    ensures { StepLaw }
+{}
+
+/// So does a firing.
+pub fn a_firing_leaves_what_is_kept()
+    ensures { FireLaw }
+{}
+
+/// A call of the session begins with what its retention covers; then the store and the retention take together what comes and what goes
+/// out.
+pub fn the_first_phase_covers_the_store()
+    ensures later { LaterCovers }
+    ensures free { FreeCovers }
+    ensures insert { InsertCovers }
+    ensures retract { RetractCovers }
+    ensures endless { EndlessCovers }
+{}
+
+/// How forgetting sees the worlds of a program, their steps and their firings.
+pub fn worlds_are_seen_by_tags()
+    ensures sight { SightLaw }
+    ensures step { WorldStepLaw }
+    ensures firing { WorldFireLaw }
+{}
