@@ -1,11 +1,10 @@
 -- What the sight of a world keeps by a table of lives.
-use Rattle.std.proofs.Common.{◌≡◌, ◌<◌, ℕ, ℤ, zero, suc, ◌==◌, ◌&&◌, ◌||◌, ◌+ℤ◌, ◌-ℤ◌, Bool, true, false, cond, not, inl, inr, List, [], ◌∷◌, length, refl, sym, ◌∙◌, ap, subst, arith, Option, Some, None}
+use Rattle.std.proofs.Common.{◌≡◌, ℕ, ℤ, zero, suc, ◌==◌, ◌&&◌, ◌||◌, ◌+ℤ◌, ◌-ℤ◌, Bool, true, false, cond, not, inl, inr, List, [], ◌∷◌, length, refl, sym, ◌∙◌, ap, subst, arith, Option, Some, None}
 use Rattle.std.specs.Prelude.{is_some, slice_get, int_le, pos}
 use Rattle.std.specs.List.{list_any}
 use Rattle.std.proofs.lemmas.Int.{ints}
 use Rattle.fx_base.specs.Lists.{In}
 use Rattle.fx_base.specs.declared.fact.Fact.{Fact}
-use Rattle.fx_base.specs.declared.ids.Tag.{Tag}
 use Rattle.row_delta.specs.declared.row.Named.{Named}
 use Rattle.rule_model.specs.declared.life.Life.{Life}
 use Rattle.rule_model.specs.declared.life.Life.TheVariants.{Plain, Explicit, Finite, Infinite}

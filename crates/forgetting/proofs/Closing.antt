@@ -1,9 +1,8 @@
 -- Steps and firings of a lawful world with the lives of its program.
-use Rattle.std.proofs.Common.{◌≡◌, ◌<◌, ℕ, ◌&&◌, Bool, true, false, cond, not, inl, inr, refl, sym, ◌∙◌, ap, subst, arith, Option, Some, None}
+use Rattle.std.proofs.Common.{◌≡◌, ◌<◌, Bool, true, false, cond, not, inl, inr, refl, sym, ◌∙◌, ap, subst, arith, Option, Some, None}
 use Rattle.std.specs.Prelude.{is_some}
 use Rattle.fx_base.specs.Lists.{In}
 use Rattle.fx_base.specs.declared.fact.Fact.{Fact}
-use Rattle.fx_base.specs.declared.ids.Tag.{Tag}
 use Rattle.row_delta.specs.declared.row.Named.{Named}
 use Rattle.rule_model.specs.declared.life.LifeTable.{LifeTable}
 use Rattle.rule_model.specs.declared.matched.Match.{Match}
@@ -15,7 +14,7 @@ use Rattle.rule_model.specs.Tuples.{name_of}
 use Rattle.rule_model.proofs.Named.{named_of}
 use Rattle.rule_model.proofs.Once.{one_fact}
 use Rattle.rule_model.proofs.RuleOf.{rule_of}
-use Rattle.rule_world.specs.Worlds.{World, snapshot, present, moved, stepped, marked}
+use Rattle.rule_world.specs.Worlds.{World, snapshot, present, stepped, marked}
 use Rattle.rule_world.proofs.Fresh.{and_parts, below_of}
 use Rattle.rule_world.proofs.Steps.{step_in_order, firing_in_order}
 use Rattle.rule_world.proofs.Vain.{next_tag}

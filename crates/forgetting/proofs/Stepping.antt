@@ -1,5 +1,5 @@
 -- The laws of a step in two phases.
-use Rattle.std.proofs.Common.{◌≡◌, ℤ, ◌≤ℤ◌, ◌+ℤ◌, ◌&&◌, ◌||◌, Bool, true, false, not, refl, sym, ◌∙◌, ap, arith, ℕ, None}
+use Rattle.std.proofs.Common.{◌≡◌, ℤ, ◌≤ℤ◌, ◌+ℤ◌, ◌&&◌, ◌||◌, Bool, true, false, not, refl, sym, ◌∙◌, ap, arith, None}
 use Rattle.std.specs.Prelude.{int_le, pos, is_some, option_and_then}
 use Rattle.std.proofs.lemmas.Int.{ints}
 use Rattle.rule_model.specs.declared.matched.Match.{Match}
