@@ -1,6 +1,6 @@
 -- What the sight of a world keeps by a table of lives.
 use Rattle.std.proofs.Common.{◌≡◌, ℕ, ℤ, zero, suc, ◌==◌, ◌&&◌, ◌||◌, ◌+ℤ◌, ◌-ℤ◌, Bool, true, false, cond, not, inl, inr, List, [], ◌∷◌, length, refl, sym, ◌∙◌, ap, subst, arith, Option, Some, None}
-use Rattle.std.specs.Prelude.{is_some, slice_get, int_le, pos}
+use Rattle.std.specs.Prelude.{is_some, option_map, slice_get, int_le, pos}
 use Rattle.std.specs.List.{list_any}
 use Rattle.std.proofs.lemmas.Int.{ints}
 use Rattle.fx_base.specs.Lists.{In}
@@ -20,8 +20,9 @@ use Rattle.rule_model.proofs.Named.{of_filter}
 use Rattle.rule_model.proofs.Once.{one_fact}
 use Rattle.rule_model.proofs.RuleOf.{has_in}
 use Rattle.rule_world.specs.Lawful.{IsOrdered}
-use Rattle.rule_world.specs.Worlds.{World, snapshot, present, pending}
-use Rattle.rule_world.proofs.Faultless.{event_by}
+use Rattle.rule_world.specs.Worlds.{World, snapshot, present, found, pending, step_fault, revised, has_id}
+use Rattle.rule_world.proofs.Faultless.{event_by, modified_plain}
+use Rattle.rule_world.proofs.Found.{fact_with}
 use Rattle.rule_world.proofs.Fresh.{and_parts}
 use Rattle.rule_world.proofs.Keeping.{kept_ordered}
 use Rattle.rule_world.proofs.Pending.{has_pending}
@@ -35,7 +36,7 @@ use Rattle.keeping.proofs.Versions.{forgotten_fact}
 use Rattle.pair_memory.specs.Standing.{clean}
 use Rattle.forgetting.specs.Sights.{end_of_life, ends_by, only, is_needed, is_kept_fact, kept, is_kept, is_forgotten, is_clean}
 use Rattle.forgetting.specs.WorldSights.{fact_at, sight_of}
-use Rattle.forgetting.specs.Tables.{PlainEndless, ExpiredEndless}
+use Rattle.forgetting.specs.Tables.{PlainEndless, ExpiredEndless, ModifyEndless}
 use Rattle.forgetting.proofs.Before.{chosen}
 use Rattle.forgetting.proofs.Forgotten.{two_tests}
 use Rattle.forgetting.proofs.Naming.{same_bool, some_in, one_in, holds_of}
@@ -70,6 +71,20 @@ expired_endless p table clock f are gone = by (slice_get table.lives f.ty.0) ref
     by (Some (Explicit expiry)) at = refl
     by (Some (Finite n)) at = absurd (let e : true ≡ false = sym (unexpired_present p clock f (are.each f.ty.0 (Finite n) at).unexpired) ∙ gone in cc)
     by (Some Infinite) at = refl
+
+pub modify_endless : ModifyEndless
+unfolding step_fault
+modify_endless p table w id sets are o none = (λ f. by (found p w id.0) refl f, λ tag f at named. here f (fact_in (present p w) tag f at).0 named)
+  where
+    here : (f : Fact) → In f (present p w) → has_id id.0 f ≡ true → ends_by table f ≡ None
+    here f i named =
+        plain_endless p table f are (modified_plain p (found p w id.0) f none (fact_with (present p w) 1 w.next_id id.0 f (kept_ordered p w o).ids i named))
+
+    by : (x : Option Fact) → found p w id.0 ≡ x → (f : Fact) → option_map (revised w.next_tag sets) x ≡ Some f → ends_by table f ≡ None
+    by None e f is = absurd (let n : None ≡ Some f = is in cc)
+    by (Some g) e f is =
+        let s : revised w.next_tag sets g ≡ f = cc in
+        ap (ends_by table) (sym s) ∙ plain_endless p table (revised w.next_tag sets g) are (modified_plain p (found p w id.0) g none e)
 
 -- ---- one fact of a world
 

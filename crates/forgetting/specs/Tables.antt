@@ -1,16 +1,19 @@
 -- With the lives of a program's types the sight of a lawful world keeps what is kept of the world, so a session that forgets needs no
 -- premise but those of the world.
-use Rattle.std.specs.Prelude.{◌≡◌, ℕ, ℤ, Bool, true, false, None}
+use Rattle.std.specs.Prelude.{◌≡◌, ℕ, ℤ, Bool, true, false, List, Option, Some, None}
 use Rattle.fx_base.specs.declared.fact.Fact.{Fact}
+use Rattle.fx_base.specs.declared.ids.FactId.{FactId}
+use Rattle.fx_base.specs.declared.value.Value.{Value}
 use Rattle.rule_model.specs.declared.life.LifeTable.{LifeTable}
 use Rattle.rule_model.specs.declared.matched.Match.{Match}
 use Rattle.rule_model.specs.declared.program.Program.{Program}
 use Rattle.rule_model.specs.declared.step.Step.{Step}
+use Rattle.rule_model.specs.declared.step.Step.TheVariants.{Modify}
 use Rattle.rule_model.specs.Candidates.{is_present}
 use Rattle.rule_model.specs.Matches.{matches, has_match}
 use Rattle.rule_model.specs.Types.{is_event}
 use Rattle.rule_world.specs.Lawful.{IsOrdered}
-use Rattle.rule_world.specs.Worlds.{World, snapshot, pending, stepped, marked}
+use Rattle.rule_world.specs.Worlds.{World, snapshot, pending, stepped, step_fault, marked}
 use Rattle.rule_lives.specs.Keeping.{AreLives}
 use Rattle.agenda.specs.Agendas.{names_tag}
 use Rattle.pair_memory.specs.Standing.{clean}
@@ -38,6 +41,12 @@ PlainEndless = (p : Program) (table : LifeTable) (f : Fact) → AreLives p table
 
 abbrev pub ExpiredEndless : Type 0
 ExpiredEndless = (p : Program) (table : LifeTable) (clock : ℤ) (f : Fact) → AreLives p table → is_present p clock f ≡ false → ends_by table f ≡ None
+
+-- nor those of the versions that come and go out in a modification
+abbrev pub ModifyEndless : Type 0
+ModifyEndless = (p : Program) (table : LifeTable) (w : World) (id : FactId) (sets : List (ℕ × Value)) → AreLives p table → IsOrdered p w → step_fault p w (Modify id sets) ≡ None
+    → ((f : Fact) → comes p w (Modify id sets) ≡ Some f → ends_by table f ≡ None)
+    × ((tag : ℕ) (f : Fact) → (sight_of p w).facts tag ≡ Some f → goes p w (Modify id sets) f ≡ true → ends_by table f ≡ None)
 
 -- ---- steps and firings of a world
 

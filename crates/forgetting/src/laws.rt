@@ -3,8 +3,8 @@ ghost use Rattle.forgetting.specs.Sights.{EndLaw};
 ghost use Rattle.forgetting.specs.Covering.{LaterCovers, FreeCovers, InsertCovers, RetractCovers, EndlessCovers};
 ghost use Rattle.forgetting.specs.Firings.{FireLaw};
 ghost use Rattle.forgetting.specs.Steps.{StartLaw, KeptBeforeLaw, LeftLaw, DropLaw, StepLaw};
-ghost use Rattle.forgetting.specs.Tables.{SameKept, SameClean, PlainEndless, ExpiredEndless, StepComesClean, WorldStepKept, WorldFireKept};
-ghost use Rattle.forgetting.specs.WorldSights.{SightLaw, WorldStepLaw, WorldFireLaw};
+ghost use Rattle.forgetting.specs.Tables.{SameKept, SameClean, PlainEndless, ExpiredEndless, ModifyEndless, StepComesClean, WorldStepKept, WorldFireKept};
+ghost use Rattle.forgetting.specs.WorldSights.{SightLaw, WorldStepLaw, RetractsOne, WorldFireLaw};
 
 /// An event of a finite life is within it up to that long behind its end.
 pub fn lives_end_as_said()
@@ -51,6 +51,7 @@ pub fn the_first_phase_covers_the_store()
 pub fn worlds_are_seen_by_tags()
     ensures sight { SightLaw }
     ensures step { WorldStepLaw }
+    ensures retracted { RetractsOne }
     ensures firing { WorldFireLaw }
 {}
 
@@ -61,6 +62,7 @@ pub fn what_is_kept_is_that_of_the_world()
     ensures clean { SameClean }
     ensures plain { PlainEndless }
     ensures expired { ExpiredEndless }
+    ensures modified { ModifyEndless }
 {}
 
 /// Then a match that comes in a step names nothing forgotten, so a step and a firing in two phases leave exactly what is kept of the next
