@@ -1,6 +1,7 @@
 -- Steps and firings of a lawful world with the lives of its program.
 use Rattle.std.proofs.Common.{◌≡◌, ◌<◌, Bool, true, false, cond, not, inl, inr, refl, sym, ◌∙◌, ap, subst, arith, Option, Some, None}
 use Rattle.std.specs.Prelude.{is_some}
+use Rattle.std.specs.List.{list_any}
 use Rattle.fx_base.specs.Lists.{In}
 use Rattle.fx_base.specs.declared.fact.Fact.{Fact}
 use Rattle.row_delta.specs.declared.row.Named.{Named}
@@ -19,13 +20,15 @@ use Rattle.rule_world.proofs.Fresh.{and_parts, below_of}
 use Rattle.rule_world.proofs.Steps.{step_in_order, firing_in_order}
 use Rattle.rule_world.proofs.Vain.{next_tag}
 use Rattle.rule_lives.proofs.Remains.{match_names_kept}
-use Rattle.keeping.specs.Kept.{is_kept as is_kept_in}
+use Rattle.keeping.specs.Kept.{is_kept as is_kept_in, is_forgotten as is_forgotten_in}
 use Rattle.keeping.specs.Steps.{IsLawfulStep}
 use Rattle.keeping.proofs.Decided.{is_tested}
-use Rattle.forgetting.specs.Sights.{ends_by, only, is_kept, is_forgotten, some_tag}
+use Rattle.keeping.proofs.Versions.{lost}
+use Rattle.pair_memory.specs.Standing.{clean}
+use Rattle.forgetting.specs.Sights.{ends_by, only, is_kept, is_forgotten, is_clean}
 use Rattle.forgetting.specs.WorldSights.{fact_at, sight_of, comes, goes}
-use Rattle.forgetting.specs.Tables.{StepComesClean, WorldStepKept, WorldFireKept}
-use Rattle.forgetting.proofs.Agreeing.{present_at, same_kept}
+use Rattle.forgetting.specs.Tables.{StepComesClean, NextClean, WorldStepKept, WorldFireKept}
+use Rattle.forgetting.proofs.Agreeing.{present_at, same_kept, same_clean}
 use Rattle.forgetting.proofs.Firing.{fire_law}
 use Rattle.forgetting.proofs.Naming.{one_in, not_true}
 use Rattle.forgetting.proofs.Seeing.{tag_of, fact_in, sight_law, world_fire_law}
@@ -67,12 +70,31 @@ module _ (p : Program) (table : LifeTable) (w : World) (step : Step) (given : Is
       let n : true ≡ false = sym here ∙ not_true _ both.1 in
       cc
 
-  clean : (t : Bool) → some_tag (is_forgotten (ends_by table) (sight_of p w)) m ≡ t → not t ≡ true
-  clean false e = refl
-  clean true e = let n = one_in (λ (k : Named). is_forgotten (ends_by table) (sight_of p w) k.tag.0) m.row.facts e in absurd (none_forgotten n.0 n.1 n.2)
+  none_lost : (n : Named) → In n m.row.facts → is_forgotten_in p table w n ≡ true → ⊥
+  none_lost n i e =
+      let f = lost p table w n e in
+      let n : true ≡ false = sym (kept_own f.fact f.inside (subst (λ (k : Named). In k m.row.facts) (sym f.named) i)) ∙ f.not_kept in
+      cc
+
+  none_of : (test : Named → Bool) → ((n : Named) → In n m.row.facts → test n ≡ true → ⊥) → not (list_any test m.row.facts) ≡ true
+  none_of test h = by (list_any test m.row.facts) refl
+    where
+      by : (t : Bool) → list_any test m.row.facts ≡ t → not t ≡ true
+      by false e = refl
+      by true e = let n = one_in test m.row.facts e in absurd (h n.0 n.1 n.2)
 
 pub step_comes_clean : StepComesClean
-step_comes_clean p table w step given m is was_not = clean p table w step given m is was_not (some_tag (is_forgotten (ends_by table) (sight_of p w)) m) refl
+step_comes_clean p table w step given m is was_not =
+    none_of p table w step given m is was_not (λ (n : Named). is_forgotten (ends_by table) (sight_of p w) n.tag.0) (none_forgotten p table w step given m is was_not)
+
+pub next_clean : NextClean
+next_clean p table w step given m is = by (has_match (matches p (snapshot w)) m) refl
+  where
+    by : (t : Bool) → has_match (matches p (snapshot w)) m ≡ t → is_clean (ends_by table) (sight_of p w) m ≡ clean (is_forgotten_in p table w) m.row
+    by true was = same_clean p table w given.lives given.lawful.ordered m was
+    by false was_not =
+        step_comes_clean p table w step given m is was_not
+        ∙ sym (none_of p table w step given m is was_not (is_forgotten_in p table w) (none_lost p table w step given m is was_not))
 
 pub world_step_kept : WorldStepKept
 world_step_kept p table w step before middle after gone come left old given holds takes leaves forgets =

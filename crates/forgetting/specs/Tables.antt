@@ -54,6 +54,11 @@ ModifyEndless = (p : Program) (table : LifeTable) (w : World) (id : FactId) (set
 abbrev pub StepComesClean : Type 0
 StepComesClean = (p : Program) (table : LifeTable) (w : World) (step : Step) → IsLawfulStep p table w step → ComeClean (ends_by table) (sight_of p w) (sight_of p (stepped p w step))
 
+-- so of the matches of both worlds those name nothing forgotten whose rows are clean of the versions that are forgotten before the step
+abbrev pub NextClean : Type 0
+NextClean = (p : Program) (table : LifeTable) (w : World) (step : Step) → IsLawfulStep p table w step → (m : Match) → has_match (matches p (snapshot (stepped p w step))) m ≡ true
+    → is_clean (ends_by table) (sight_of p w) m ≡ clean (is_forgotten p table w) m.row
+
 -- a step in two phases leaves a session that holds exactly what is kept of the next world
 abbrev pub WorldStepKept : Type 0
 WorldStepKept = (p : Program) (table : LifeTable) (w : World) (step : Step) (before middle after : Holding) (gone come : Match → Bool) (left old : ℕ → Bool)

@@ -3,7 +3,7 @@ ghost use Rattle.forgetting.specs.Sights.{EndLaw};
 ghost use Rattle.forgetting.specs.Covering.{LaterCovers, FreeCovers, InsertCovers, RetractCovers, EndlessCovers};
 ghost use Rattle.forgetting.specs.Firings.{FireLaw};
 ghost use Rattle.forgetting.specs.Steps.{StartLaw, KeptBeforeLaw, LeftLaw, DropLaw, StepLaw};
-ghost use Rattle.forgetting.specs.Tables.{SameKept, SameClean, PlainEndless, ExpiredEndless, ModifyEndless, StepComesClean, WorldStepKept, WorldFireKept};
+ghost use Rattle.forgetting.specs.Tables.{SameKept, SameClean, PlainEndless, ExpiredEndless, ModifyEndless, StepComesClean, NextClean, WorldStepKept, WorldFireKept};
 ghost use Rattle.forgetting.specs.WorldSights.{SightLaw, WorldStepLaw, RetractsOne, WorldFireLaw};
 
 /// An event of a finite life is within it up to that long behind its end.
@@ -69,6 +69,7 @@ pub fn what_is_kept_is_that_of_the_world()
 /// world, with no premise on matches.
 pub fn a_world_is_left_as_it_is_kept()
     ensures clean { StepComesClean }
+    ensures next { NextClean }
     ensures step { WorldStepKept }
     ensures firing { WorldFireKept }
 {}
