@@ -41,7 +41,7 @@ none_kept : (u : Bool) (f : Fact) → (u ≡ true → false ≡ true) → None �
 none_kept true f e = absurd (let g : false ≡ true = e refl in cc)
 none_kept false f e = refl
 
-two_tests : (a b : Fact → Bool) (f : Fact) → only b (only a (Some f)) ≡ cond (a f && b f) (Some f) None
+pub two_tests : (a b : Fact → Bool) (f : Fact) → only b (only a (Some f)) ≡ cond (a f && b f) (Some f) None
 two_tests a b f = by (a f)
   where
     by : (k : Bool) → only b (cond k (Some f) None) ≡ cond (k && b f) (Some f) None

@@ -6,3 +6,5 @@ pub mod Firing
 pub mod Covering
 pub mod Seeing
 pub mod WorldSteps
+pub mod Agreeing
+pub mod Closing

@@ -10,13 +10,17 @@ use Rattle.fx_base.specs.declared.fact.Fact.{Fact}
 use Rattle.fx_base.specs.declared.ids.Tag.{Tag}
 use Rattle.fx_base.specs.declared.value.Value.{Value}
 use Rattle.row_delta.specs.declared.row.Named.{Named}
+use Rattle.rule_model.specs.declared.matched.Match.{Match}
+use Rattle.rule_model.specs.declared.program.Program.{Program}
 use Rattle.rule_model.specs.Distinct.{HaveDistinctTags}
 use Rattle.rule_model.specs.MatchOrders.{match_equiv}
-use Rattle.rule_model.specs.Matches.{has_match, match_cmp}
+use Rattle.rule_model.specs.Matches.{matches, has_match, match_cmp}
+use Rattle.rule_model.specs.Tuples.{name_of}
 use Rattle.rule_model.proofs.Listed.{in_map}
 use Rattle.rule_model.proofs.Named.{named_of}
+use Rattle.rule_model.proofs.Once.{one_fact}
 use Rattle.rule_model.proofs.RuleOf.{rule_of}
-use Rattle.rule_world.specs.Worlds.{snapshot, present, kept, fact_of, has_id, revised, revised_in}
+use Rattle.rule_world.specs.Worlds.{World, snapshot, present, kept, fact_of, has_id, revised, revised_in}
 use Rattle.rule_world.proofs.Fresh.{AllBelow}
 use Rattle.rule_world.proofs.Kept.{kept_matches}
 use Rattle.rule_world.proofs.Pending.{has_pending}
@@ -25,13 +29,13 @@ use Rattle.forgetting.specs.Steps.{brought, changed}
 use Rattle.forgetting.specs.WorldSights.{fact_at, SightLaw, WorldFireLaw}
 use Rattle.forgetting.proofs.Naming.{each_in}
 
-abbrev tag_of : ℕ → Tag
+abbrev pub tag_of : ℕ → Tag
 tag_of number = record { 0 = number }
 
 pub same_tag : (a b : ℕ) → (a == b) ≡ true → a ≡ b
 same_tag a b = (Decides-eqb a b).0
 
-is_same : (a b : ℕ) → a ≡ b → (a == b) ≡ true
+pub is_same : (a b : ℕ) → a ≡ b → (a == b) ≡ true
 is_same a b = (Decides-eqb a b).1
 
 -- ---- the fact under a tag
@@ -45,6 +49,27 @@ in_at (f ∷ facts) g (inr j) = by (f.tag.0 == g.tag.0) (in_at facts g j)
     by : (t : Bool) → is_some (fact_at facts g.tag.0) ≡ true → is_some (cond t (Some f) (fact_at facts g.tag.0)) ≡ true
     by true h = refl
     by false h = h
+
+-- the fact under a tag stands in the list and has the tag
+pub fact_in : (facts : List Fact) (tag : ℕ) (f : Fact) → fact_at facts tag ≡ Some f → In f facts × (f.tag.0 ≡ tag)
+fact_in [] tag f e = absurd (let n : None ≡ Some f = e in cc)
+fact_in (g ∷ facts) tag f e = by (g.tag.0 == tag) refl e (fact_in facts tag f)
+  where
+    by : (t : Bool) → (g.tag.0 == tag) ≡ t → cond t (Some g) (fact_at facts tag) ≡ Some f → (fact_at facts tag ≡ Some f → In f facts × (f.tag.0 ≡ tag))
+        → In f (g ∷ facts) × (f.tag.0 ≡ tag)
+    by true h is rest = let s : g ≡ f = cc in (inl (sym s), ap (λ (x : Fact). x.tag.0) (sym s) ∙ same_tag g.tag.0 tag h)
+    by false h is rest = let r = rest is in (inr r.0, r.1)
+
+pub some_fact : (o : Option Fact) → is_some o ≡ true → (f : Fact) × (o ≡ Some f)
+some_fact None e = absurd (let n : false ≡ true = e in cc)
+some_fact (Some f) e = (f, refl)
+
+-- of facts with distinct tags each stands under its own
+pub own_at : (facts : List Fact) → HaveDistinctTags facts → (g : Fact) → In g facts → fact_at facts g.tag.0 ≡ Some g
+own_at facts distinct g i =
+    let f = some_fact (fact_at facts g.tag.0) (in_at facts g i) in
+    let own = fact_in facts g.tag.0 f.0 f.1 in
+    f.1 ∙ ap Some (one_fact facts distinct f.0 g own.0 i (ap tag_of own.1))
 
 -- no fact stands under a tag that none has
 pub free_at : (facts : List Fact) (tag : ℕ) → ((g : Fact) → In g facts → g.tag.0 ≡ tag → ⊥) → fact_at facts tag ≡ None
@@ -135,13 +160,18 @@ module _ (id next : ℕ) (sets : List (ℕ × Value)) where
 
 -- ---- worlds
 
+-- a match of a world names present facts
+pub named_present : (p : Program) (w : World) (m : Match) → has_match (matches p (snapshot w)) m ≡ true → (n : Named) → In n m.row.facts → (g : Fact) × In g (present p w) × (name_of g ≡ n)
+named_present p w m e n i =
+    let of = rule_of p (snapshot (kept p w)) m (ap (λ ms. has_match ms m) (kept_matches p w) ∙ e) in
+    named_of p (snapshot (kept p w)) of.rule.conditions m.row of.row n i
+
 pub sight_law : SightLaw
 sight_law p w ordered = record {
   names = λ m e.
-      let of = rule_of p (snapshot (kept p w)) m (ap (λ ms. has_match ms m) (kept_matches p w) ∙ e) in
       each_in (λ (n : Named). is_some (fact_at (present p w) n.tag.0)) m.row.facts (λ n i.
-      let q = named_of p (snapshot (kept p w)) of.rule.conditions m.row of.row n i in
-      subst (λ (n : Named). is_some (fact_at (present p w) n.tag.0) ≡ true) q.2 (in_at (present p w) q.0 q.1));
+      let g = named_present p w m e n i in
+      subst (λ (n : Named). is_some (fact_at (present p w) n.tag.0) ≡ true) g.2 (in_at (present p w) g.0 g.1));
   fired = ordered.fired;
   pending = has_pending p w;
 }

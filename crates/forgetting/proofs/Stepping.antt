@@ -1,13 +1,14 @@
 -- The laws of a step in two phases.
-use Rattle.std.proofs.Common.{◌≡◌, ℤ, ◌≤ℤ◌, ◌+ℤ◌, ◌&&◌, ◌||◌, Bool, true, false, not, refl, sym, ◌∙◌, ap, arith}
-use Rattle.std.specs.Prelude.{int_le, pos, is_some}
+use Rattle.std.proofs.Common.{◌≡◌, ℤ, ◌≤ℤ◌, ◌+ℤ◌, ◌&&◌, ◌||◌, Bool, true, false, not, refl, sym, ◌∙◌, ap, arith, None}
+use Rattle.std.specs.Prelude.{int_le, pos, is_some, option_and_then}
 use Rattle.std.proofs.lemmas.Int.{ints}
 use Rattle.rule_model.specs.declared.matched.Match.{Match}
 use Rattle.rule_model.specs.Matches.{has_match}
 use Rattle.rule_world.proofs.Fresh.{and_parts}
 use Rattle.due_queue.specs.Timers.{has_come}
-use Rattle.forgetting.specs.Sights.{Lives, Sight, IsLawful, EndLaw, end_of_life, is_kept, is_clean, some_tag, each_tag}
-use Rattle.forgetting.specs.Steps.{LeftLaw, DropLaw, StepLaw}
+use Rattle.retention.proofs.Calls.{new_law, same_watched}
+use Rattle.forgetting.specs.Sights.{Lives, Sight, IsLawful, EndLaw, end_of_life, only, is_needed, is_kept_fact, ends_of, is_kept, is_clean, some_tag, each_tag}
+use Rattle.forgetting.specs.Steps.{StartLaw, LeftLaw, DropLaw, StepLaw}
 use Rattle.forgetting.proofs.Before.{pending_kept, kept_before_law}
 use Rattle.forgetting.proofs.Forgotten.{IsForgotten, still_kept, holds_kept}
 use Rattle.forgetting.proofs.Naming.{clean_is}
@@ -26,6 +27,18 @@ end_law table f n now e =
       λ h. within now (f.times.end +ℤ n) (sym same ∙ h),
       λ h. same ∙ until now (f.times.end +ℤ n) h,
     )
+
+-- ---- the beginning
+
+pub start_law : StartLaw
+start_law lives w s no_facts none_fired empty due lingering pending unfired = record {
+  store = λ tag. empty tag ∙ sym (ap (only (is_kept_fact lives w tag)) (no_facts tag));
+  watched =
+      same_watched (λ tag. None) (ends_of lives s.store) w.clock (is_needed w) (is_needed w) s.retention (λ tag. sym (ap (option_and_then lives) (empty tag))) (λ tag. refl)
+      (new_law w.clock (is_needed w) s.retention due lingering);
+  pending = pending;
+  fired = λ m. unfired m ∙ sym (ap (λ t. t && each_tag (is_kept lives w) m) (none_fired m));
+}
 
 -- ---- what left, and what is dropped
 

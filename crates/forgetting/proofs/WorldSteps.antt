@@ -9,18 +9,22 @@ use Rattle.rule_model.specs.declared.step.Step.TheVariants.{Insert, Modify, Retr
 use Rattle.rule_model.specs.Candidates.{is_present}
 use Rattle.rule_model.specs.Distinct.{HaveDistinctTags}
 use Rattle.rule_model.specs.Matches.{matches, has_match}
+use Rattle.rule_model.proofs.Once.{one_fact}
 use Rattle.rule_world.specs.Lawful.{IsOrdered}
 use Rattle.rule_world.specs.Worlds.{World, snapshot, present, kept, found, moved, settled, stepped, step_fault, modify_fault, new_fact, with_new, with_revised, without_fact, at_clock, revised, has_id}
 use Rattle.rule_world.proofs.Faultless.{moved_forward}
-use Rattle.rule_world.proofs.Fresh.{AllBelow, below_of}
+use Rattle.rule_world.proofs.Found.{found_in}
+use Rattle.rule_world.proofs.Fresh.{AllBelow, below_of, and_both, and_parts, has_number}
+use Rattle.rule_world.proofs.Ids.{one_id}
 use Rattle.rule_world.proofs.Keeping.{kept_ordered, kept_new, kept_numbers, kept_revised, kept_without, kept_later}
 use Rattle.rule_world.proofs.Pending.{has_still}
 use Rattle.forgetting.specs.Sights.{only}
 use Rattle.forgetting.specs.Steps.{brought, changed, IsStep}
-use Rattle.forgetting.specs.WorldSights.{fact_at, sight_of, comes, goes, WorldStepLaw}
+use Rattle.forgetting.specs.WorldSights.{fact_at, sight_of, comes, goes, WorldStepLaw, RetractsOne}
 use Rattle.forgetting.proofs.Firing.{stands}
 use Rattle.forgetting.proofs.Forgotten.{all_stay}
-use Rattle.forgetting.proofs.Seeing.{same_tag, free_at, at_filter, only_same, at_end, at_revised, at_next}
+use Rattle.forgetting.proofs.Naming.{same_bool}
+use Rattle.forgetting.proofs.Seeing.{tag_of, same_tag, is_same, fact_in, free_at, at_filter, only_same, at_end, at_revised, at_next}
 
 twice_not : (t : Bool) → t ≡ not (not t)
 twice_not true = refl
@@ -120,3 +124,16 @@ world_step_law p w (Advance by) o none =
 world_step_law p w (At moment) o none =
     let le = (moved_forward w.clock moment none).0 in
     is_step p w o (at_clock w moment) (At moment) (λ tag. later_facts p w o moment tag le) le refl
+
+pub retracts_one : RetractsOne
+retracts_one p w ty id g o found_one typed tag f at =
+    let own = fact_in (present p w) tag f at in
+    let there_g = found_in (present p w) id.0 g found_one in
+    same_bool (f.ty.0 == ty.0 && has_id id.0 f) (tag == g.tag.0)
+    (λ e.
+    let named = has_number id.0 f (and_parts (f.ty.0 == ty.0) (has_id id.0 f) e).1 in
+    let same = one_id (present p w) 1 w.next_id f g (kept_ordered p w o).ids own.0 there_g.0 (named ∙ sym there_g.1) in
+    is_same tag g.tag.0 (sym own.1 ∙ ap (λ (x : Fact). x.tag.0) same))
+    (λ e.
+    let same = one_fact (present p w) (distinct p w o) f g own.0 there_g.0 (ap tag_of (own.1 ∙ same_tag tag g.tag.0 e)) in
+    and_both (f.ty.0 == ty.0) (has_id id.0 f) (is_same f.ty.0 ty.0 (ap (λ (x : Fact). x.ty.0) same ∙ typed)) (is_same f.id.0 id.0 (ap (λ (x : Fact). x.id.0) same ∙ there_g.1)))

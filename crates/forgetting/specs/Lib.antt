@@ -3,3 +3,4 @@ pub mod Steps
 pub mod Firings
 pub mod Covering
 pub mod WorldSights
+pub mod Tables

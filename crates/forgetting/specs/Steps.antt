@@ -1,5 +1,6 @@
 -- A step in two phases: the store and the agenda take the change, and then what is no longer kept is forgotten.
 use Rattle.std.specs.Prelude.{◌≡◌, ◌≤ℤ◌, ℕ, ℤ, ◌==◌, ◌&&◌, ◌||◌, Bool, true, false, cond, not, Option, Some, None, is_some}
+use Rattle.std.specs.FinMap as map
 use Rattle.fx_base.specs.declared.fact.Fact.{Fact}
 use Rattle.rule_model.specs.declared.matched.Match.{Match}
 use Rattle.rule_model.specs.Matches.{has_match}
@@ -7,6 +8,15 @@ use Rattle.agenda.specs.Agendas.{Marks, names_tag}
 use Rattle.retention.specs.Retentions.{lingers, is_named, Passes}
 use Rattle.retention.specs.Watching.{Covers}
 use Rattle.forgetting.specs.Sights.{Lives, Sight, Holding, HoldsKept, IsLawful, only, kept, is_kept, is_clean, some_tag, ends_of}
+
+-- ---- the beginning
+
+-- a session that has nothing holds exactly what is kept of a world without facts and fired matches
+abbrev pub StartLaw : Type 0
+StartLaw = (lives : Lives) (w : Sight) (s : Holding) → ((tag : ℕ) → w.facts tag ≡ None) → ((m : Match) → w.fired m ≡ false)
+    → ((tag : ℕ) → s.store tag ≡ None) → s.retention.due ≡ map.empty → ((tag : ℕ) → lingers s.retention tag ≡ false)
+    → ((m : Match) → has_match s.agenda.pending m ≡ has_match w.pending m) → ((m : Match) → has_match s.agenda.fired m ≡ false)
+    → HoldsKept lives w s
 
 -- ---- steps of worlds
 

@@ -1,6 +1,8 @@
 -- How forgetting sees the worlds of a program, their steps and their firings.
 use Rattle.std.specs.Prelude.{◌≡◌, ℕ, ◌+ℤ◌, ◌==◌, ◌&&◌, Bool, false, not, List, [], ◌∷◌, Option, Some, None, option_map, if◌then◌else◌}
 use Rattle.fx_base.specs.declared.fact.Fact.{Fact}
+use Rattle.fx_base.specs.declared.ids.FactId.{FactId}
+use Rattle.fx_base.specs.declared.ids.TypeId.{TypeId}
 use Rattle.rule_model.specs.declared.matched.Match.{Match}
 use Rattle.rule_model.specs.declared.program.Program.{Program}
 use Rattle.rule_model.specs.declared.step.Step.{Step}
@@ -55,3 +57,8 @@ WorldStepLaw = (p : Program) (w : World) (step : Step) → IsOrdered p w → ste
 -- and a firing marks its match
 abbrev pub WorldFireLaw : Type 0
 WorldFireLaw = (p : Program) (w : World) (m : Match) → IsMarked m (sight_of p w) (sight_of p (marked w m))
+
+-- of the present facts one goes out in the retraction of a fact that is found: the one of its tag
+abbrev pub RetractsOne : Type 0
+RetractsOne = (p : Program) (w : World) (ty : TypeId) (id : FactId) (g : Fact) → IsOrdered p w → found p w id.0 ≡ Some g → g.ty.0 ≡ ty.0
+    → (tag : ℕ) (f : Fact) → (sight_of p w).facts tag ≡ Some f → goes p w (Retract ty id) f ≡ (tag == g.tag.0)

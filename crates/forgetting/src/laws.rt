@@ -2,12 +2,18 @@
 ghost use Rattle.forgetting.specs.Sights.{EndLaw};
 ghost use Rattle.forgetting.specs.Covering.{LaterCovers, FreeCovers, InsertCovers, RetractCovers, EndlessCovers};
 ghost use Rattle.forgetting.specs.Firings.{FireLaw};
-ghost use Rattle.forgetting.specs.Steps.{KeptBeforeLaw, LeftLaw, DropLaw, StepLaw};
-ghost use Rattle.forgetting.specs.WorldSights.{SightLaw, WorldStepLaw, WorldFireLaw};
+ghost use Rattle.forgetting.specs.Steps.{StartLaw, KeptBeforeLaw, LeftLaw, DropLaw, StepLaw};
+ghost use Rattle.forgetting.specs.Tables.{SameKept, SameClean, PlainEndless, ExpiredEndless, ModifyEndless, StepComesClean, NextClean, WorldStepKept, WorldFireKept};
+ghost use Rattle.forgetting.specs.WorldSights.{SightLaw, WorldStepLaw, RetractsOne, WorldFireLaw};
 
 /// An event of a finite life is within it up to that long behind its end.
 pub fn lives_end_as_said()
     ensures { EndLaw }
+{}
+
+/// A session begins with what is kept.
+pub fn a_session_begins_with_what_is_kept()
+    ensures { StartLaw }
 {}
 
 /// What was there and is kept behind a step was kept before it, where the matches that come name nothing forgotten.
@@ -45,5 +51,25 @@ pub fn the_first_phase_covers_the_store()
 pub fn worlds_are_seen_by_tags()
     ensures sight { SightLaw }
     ensures step { WorldStepLaw }
+    ensures retracted { RetractsOne }
     ensures firing { WorldFireLaw }
+{}
+
+/// With the lives of a program's types the sight of a world keeps what is kept of the world, and the lives of plain facts and of what is
+/// not present any more do not end.
+pub fn what_is_kept_is_that_of_the_world()
+    ensures kept { SameKept }
+    ensures clean { SameClean }
+    ensures plain { PlainEndless }
+    ensures expired { ExpiredEndless }
+    ensures modified { ModifyEndless }
+{}
+
+/// Then a match that comes in a step names nothing forgotten, so a step and a firing in two phases leave exactly what is kept of the next
+/// world, with no premise on matches.
+pub fn a_world_is_left_as_it_is_kept()
+    ensures clean { StepComesClean }
+    ensures next { NextClean }
+    ensures step { WorldStepKept }
+    ensures firing { WorldFireKept }
 {}
