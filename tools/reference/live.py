@@ -14,7 +14,7 @@ from meaning import World
 from replay import put, rule_file
 from run import Run, program_or_refusal
 
-LIMIT, STAGE = 100_000, 10
+LIMIT, STAGE = 100_000, 13
 
 
 def main() -> int:

@@ -1,5 +1,5 @@
 -- What the words behind the program's own name ask for.
-use Rattle.std.specs.Prelude.{ℕ, ◌≤◌, ◌&&◌, Bool, List, length, map, nat_le, Option, Some, None, option_and_then, unwrap_or, if◌then◌else◌, codes, string_bytes}
+use Rattle.std.specs.Prelude.{ℕ, ◌<◌, ◌≤◌, ◌^◌, ◌&&◌, Bool, List, length, map, nat_lt, nat_le, Option, Some, None, option_map, option_and_then, unwrap_or, if◌then◌else◌, codes, string_bytes}
 use Rattle.std.proofs.Common.{String, Global}
 use Rattle.std.specs.Char.{is_ascii_digit}
 use Rattle.std.specs.List.{list_all}
@@ -7,6 +7,7 @@ use Rattle.std.specs.Str.{bytes_eq}
 use Rattle.std.specs.Str.Parse.{digits_value}
 use Rattle.clap.specs.Words.{Row, Text, first_of}
 use Rattle.command_words.specs.declared.asking.Asked.{Asked}
+use Rattle.command_words.specs.declared.asking.Asked.TheVariants.{RuleFile, Load}
 use Rattle.command_words.specs.declared.asking.Mode.{Mode}
 use Rattle.command_words.specs.declared.asking.Mode.TheVariants.{Run, Check, Lives}
 use Rattle.command_words.specs.Command.{matched}
@@ -17,13 +18,13 @@ mode_of name = if bytes_eq name (codes "run") then Some Run
     else (if bytes_eq name (codes "check") then Some Check
     else (if bytes_eq name (codes "lives") then Some Lives else None))
 
--- from 1 to 7 decimal digits
-abbrev pub is_numeral : Text → Bool
-is_numeral text = nat_le 1 (length text) && (nat_le (length text) 7 && list_all is_ascii_digit text)
+-- from 1 to so many decimal digits
+abbrev pub is_numeral : ℕ → Text → Bool
+is_numeral most text = nat_le 1 (length text) && (nat_le (length text) most && list_all is_ascii_digit text)
 
--- the number that the text writes
-unfoldable pub number_of : Text → Option ℕ
-number_of text = if is_numeral text then Some (digits_value 10 text) else None
+-- the number that the text writes in at most so many digits
+unfoldable pub number_of : ℕ → Text → Option ℕ
+number_of most text = if is_numeral most text then Some (digits_value 10 text) else None
 
 -- a limit is from 1 to 1,000,000
 abbrev pub IsLimit : ℕ → Type 0
@@ -35,25 +36,41 @@ limited n = if nat_le 1 n && nat_le n 1000000 then Some n else None
 
 -- the limit that the text writes
 unfoldable pub limit_of : Text → Option ℕ
-limit_of text = option_and_then limited (number_of text)
+limit_of text = option_and_then limited (number_of 7 text)
+
+-- the number of a load is from 0 to 2,147,483,647
+abbrev pub IsLoadNumber : ℕ → Type 0
+IsLoadNumber n = n < 2 ^ 31
+
+-- the number, where it is that of a load
+abbrev pub load_numbered : ℕ → Option ℕ
+load_numbered n = if nat_lt n (2 ^ 31) then Some n else None
+
+-- the number of a load that the text writes
+unfoldable pub load_number_of : Text → Option ℕ
+load_number_of text = option_and_then load_numbered (number_of 10 text)
 
 -- what an option was given, or its default
 abbrev pub given_or : Text → Text → List Row → Text
 given_or name default rows = unwrap_or (first_of name rows) default
 
-abbrev pub asks : Mode → ℕ → Text → Asked
-asks m n file = record { mode = m; limit = n; rules = file }
+-- the limit and the number of a load are within their bounds
+abbrev pub IsWithinBounds : Asked → Type 0
+IsWithinBounds (RuleFile name m n) = IsLimit n
+IsWithinBounds (Load k n) = IsLoadNumber k × IsLimit n
 
--- nothing, unless each part is there
-abbrev pub asks_parts : Option Mode → Option ℕ → Option Text → Option Asked
-asks_parts (Some m) (Some n) (Some file) = Some (asks m n file)
-asks_parts _ _ _ = None
+-- a mode, a limit, and either the name of a rule file or, in the mode `run`, the number of a load; of all else nothing
+abbrev pub asks_parts : Option Mode → Option ℕ → Option Text → Option Text → Option Asked
+asks_parts (Some m) (Some n) (Some name) None = Some (RuleFile name m n)
+asks_parts (Some Run) (Some n) None (Some text) = option_map (λ k. Load k n) (load_number_of text)
+asks_parts _ _ _ _ = None
 
 -- what the arguments ask for
 unfoldable pub asked_rows : List Row → Option Asked
 asked_rows rows = asks_parts (mode_of (given_or (codes "mode") (codes "run") rows))
     (limit_of (given_or (codes "limit") (codes "100000") rows))
     (first_of (codes "rules") rows)
+    (first_of (codes "gen") rows)
 
 -- what words with these bytes ask for, or nothing where they are refused
 unfoldable pub asked_words : List Text → Option Asked

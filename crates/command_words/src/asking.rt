@@ -11,12 +11,11 @@ pub enum Mode {
     Lives,
 }
 
-/// What the words ask for.
+/// What the words ask for. A limit is the most firings of a run, from 1 to 1,000,000.
 #[derive(Debug, PartialEq, Drop)]
-pub struct Asked {
-    pub mode: Mode,
-    /// The most firings of a run, from 1 to 1,000,000.
-    pub limit: u64,
-    /// The name of the rule file.
-    pub rules: Text,
+pub enum Asked {
+    /// What the mode does with the rule file of this name.
+    RuleFile { name: Text, mode: Mode, limit: u64 },
+    /// The run over the load that is generated with this number, which is below 2^31.
+    Load { number: u32, limit: u64 },
 }

@@ -28,6 +28,7 @@ fn command<'a>(alloc: Global) -> Result<Command<'a>, NoMemory>
         .no_binary_name(true)
         .arg(option(alloc, "mode"))?
         .arg(option(alloc, "limit"))?
+        .arg(option(alloc, "gen"))?
         .arg(positional(alloc, "rules"))?;
     Ok(command)
 }

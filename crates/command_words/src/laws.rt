@@ -1,19 +1,23 @@
 //! Laws of what words ask for, the contracts of functions that do nothing.
 ghost use Rattle.std.specs.Prelude.{◌≡◌, [], ◌∷◌, Some, None, codes};
-ghost use Rattle.command_words.specs.Asked.{asks, asked_words};
+ghost use Rattle.command_words.specs.Asked.{asked_words};
+ghost use Rattle.command_words.specs.declared.asking.Asked.TheVariants.{RuleFile, Load};
 
 use crate::Mode;
 
-/// The defaults, the options in both forms and in any place, and what else is the name of a rule file.
+/// The defaults, the options in both forms and in any place, and what else is the name of a rule file; a load.
 pub fn words_ask_for_what_they_say()
-    ensures defaults { asked_words (codes "RULES" ∷ []) ≡ Some (asks Mode.Run 100000 (codes "RULES")) }
+    ensures defaults { asked_words (codes "RULES" ∷ []) ≡ Some (RuleFile (codes "RULES") Mode.Run 100000) }
     ensures options { asked_words (codes "--mode" ∷ codes "check" ∷ codes "--limit" ∷ codes "0000003" ∷ codes "r" ∷ [])
-        ≡ Some (asks Mode.Check 3 (codes "r")) }
+        ≡ Some (RuleFile (codes "r") Mode.Check 3) }
     ensures equals_signs { asked_words (codes "r" ∷ codes "--limit=1000000" ∷ codes "--mode=lives" ∷ [])
-        ≡ Some (asks Mode.Lives 1000000 (codes "r")) }
-    ensures after_dashes { asked_words (codes "--" ∷ codes "--mode" ∷ []) ≡ Some (asks Mode.Run 100000 (codes "--mode")) }
-    ensures dash { asked_words (codes "-" ∷ []) ≡ Some (asks Mode.Run 100000 (codes "-")) }
-    ensures empty { asked_words ([] ∷ []) ≡ Some (asks Mode.Run 100000 []) }
+        ≡ Some (RuleFile (codes "r") Mode.Lives 1000000) }
+    ensures after_dashes { asked_words (codes "--" ∷ codes "--mode" ∷ []) ≡ Some (RuleFile (codes "--mode") Mode.Run 100000) }
+    ensures dash { asked_words (codes "-" ∷ []) ≡ Some (RuleFile (codes "-") Mode.Run 100000) }
+    ensures empty { asked_words ([] ∷ []) ≡ Some (RuleFile [] Mode.Run 100000) }
+    ensures load { asked_words (codes "--gen" ∷ codes "0" ∷ []) ≡ Some (Load 0 100000) }
+    ensures load_with_options { asked_words (codes "--limit=5" ∷ codes "--gen=2147483647" ∷ codes "--mode" ∷ codes "run" ∷ [])
+        ≡ Some (Load 2147483647 5) }
 {}
 
 /// Words that are refused.
@@ -26,4 +30,8 @@ pub fn other_words_are_refused()
     ensures digits { asked_words (codes "--limit" ∷ codes "00000003" ∷ codes "r" ∷ []) ≡ None }
     ensures twice { asked_words (codes "--mode" ∷ codes "run" ∷ codes "--mode" ∷ codes "run" ∷ codes "r" ∷ []) ≡ None }
     ensures two { asked_words (codes "r" ∷ codes "s" ∷ []) ≡ None }
+    ensures load_and_rules { asked_words (codes "--gen" ∷ codes "1" ∷ codes "r" ∷ []) ≡ None }
+    ensures load_checked { asked_words (codes "--gen" ∷ codes "1" ∷ codes "--mode" ∷ codes "check" ∷ []) ≡ None }
+    ensures load_above { asked_words (codes "--gen" ∷ codes "2147483648" ∷ []) ≡ None }
+    ensures load_digits { asked_words (codes "--gen" ∷ codes "00000000001" ∷ []) ≡ None }
 {}

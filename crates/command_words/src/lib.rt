@@ -1,4 +1,4 @@
-//! Reads the words of the program's command line: the mode, the limit of firings and the name of the rule file.
+//! Reads the words of the program's command line: the mode, the limit of firings, and the name of the rule file or the number of a load.
 //! It stands on clap's reading of words by a command, and adds the defaults and tests of values.
 #![tactic(auto)]
 

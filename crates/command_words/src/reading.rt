@@ -1,9 +1,10 @@
 ghost use Rattle.std.specs.Prelude.{◌≡◌, option_map, IfOk, IfSome};
 ghost use Rattle.clap.specs.Words.{found_of, rows_of, first_of};
-ghost use Rattle.command_words.specs.Asked.{IsLimit, mode_of, given_or, asked_rows, asked_by};
+ghost use Rattle.command_words.specs.Asked.{IsWithinBounds, mode_of, given_or, load_number_of, asked_rows, asked_by};
+ghost use Rattle.command_words.specs.declared.asking.Asked.TheVariants.{Load};
 
 use crate::command::parse;
-use crate::numbers::limit_of;
+use crate::numbers::{limit_of, load_number_of};
 use crate::{Asked, Mode};
 use clap::ArgMatches;
 use fx_base::{NoMemory, Text};
@@ -38,19 +39,26 @@ fn given_or<'a>(matches: &ArgMatches<'a>, name: &str, default: &'a str) -> &'a s
     given(matches, name).unwrap_or(default)
 }
 
+fn load(text: &str, limit: u64) -> Option<Asked>
+    ensures { result ≡ option_map (λ number. Load number limit) (load_number_of text.now) }
+{
+    let number = load_number_of(text)?;
+    Some(Asked::Load { number, limit })
+}
+
 #[tactic(auto, unfolding(crate::specs::Asked::asked_rows))]
 fn asked_of(alloc: Global, matches: &ArgMatches) -> Result<Option<Asked>, NoMemory>
     ensures { IfOk result (λ asked. asked ≡ asked_rows (rows_of (found_of matches.now))) }
 {
     let mode = mode_of(given_or(matches, "mode", MODE_DEFAULT));
     let limit = limit_of(given_or(matches, "limit", LIMIT_DEFAULT));
-    let rules = given(matches, "rules");
-    match (mode, limit, rules) {
-        (Some(mode), Some(limit), Some(rules)) => Ok(Some(Asked {
+    match (mode, limit, given(matches, "rules"), given(matches, "gen")) {
+        (Some(mode), Some(limit), Some(name), None) => Ok(Some(Asked::RuleFile {
+            name: Text::new(alloc, name)?,
             mode,
             limit,
-            rules: Text::new(alloc, rules)?,
         })),
+        (Some(Mode::Run), Some(limit), None, Some(text)) => Ok(load(text, limit)),
         _ => Ok(None),
     }
 }
@@ -59,7 +67,7 @@ fn asked_of(alloc: Global, matches: &ArgMatches) -> Result<Option<Asked>, NoMemo
 #[tactic(auto, unfolding(crate::specs::Asked::asked_words, crate::specs::Asked::asked_by))]
 pub fn asked(alloc: Global, words: &[String]) -> Result<Option<Asked>, NoMemory>
     ensures asks { IfOk result (λ asked. asked ≡ asked_by words.now) }
-    ensures limit { IfOk result (λ asked. IfSome asked (λ asked. IsLimit asked.limit)) }
+    ensures within { IfOk result (λ asked. IfSome asked IsWithinBounds) }
 {
     match parse(alloc, words)? {
         Some(matches) => asked_of(alloc, &matches),

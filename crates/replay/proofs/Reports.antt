@@ -5,8 +5,10 @@ use Rattle.std.proofs.lemmas.Bool.Decides.{nat_tests}
 use Rattle.std.proofs.lemmas.List.{take_all, length-take}
 use Rattle.fx_io.specs.Outside.{IsMissing, IsFound, file_told, append, AppendsFront}
 use Rattle.command_words.specs.declared.asking.Asked.{Asked}
+use Rattle.command_words.specs.declared.asking.Asked.TheVariants.{RuleFile, Load}
 use Rattle.command_words.specs.declared.asking.Mode.{Mode}
 use Rattle.command_words.specs.Asked.{asked_by}
+use Rattle.gen_load.specs.Rules.{rules_text}
 use Rattle.drl_parse.specs.Parsed.{file_limit, parsed, parsed_by}
 use Rattle.rule_model.specs.declared.program.Program.{Program}
 use Rattle.replay.specs.declared.refusal.RefusalCode.TheVariants.{Missing}
@@ -16,7 +18,7 @@ use Rattle.replay.specs.declared.rule_file.Reading.TheVariants.{Refused}
 use Rattle.replay.specs.Firings.{Gives, Fires}
 use Rattle.replay.specs.Refusals.{reading, refusal_text, whole_file, IsRefused}
 use Rattle.replay.specs.Report.{Report, IsReport, Reports}
-use Rattle.replay.specs.Wanted.{Wanted, Files, usage_line, refuses, wanted, wanted_by, wanted_of, wanted_by_name, wanted_by_file, wanted_by_reading}
+use Rattle.replay.specs.Wanted.{Wanted, Files, usage_line, refuses, sums_up, wanted, wanted_by, wanted_of, wanted_by_name, wanted_by_number, wanted_by_file, wanted_by_reading}
 use Rattle.replay.proofs.Tables.{one_report}
 
 -- what words want that are refused
@@ -24,10 +26,21 @@ pub no_words : (words : List (String Global)) (files : Files) → asked_by words
 unfolding wanted
 no_words words files e = ap (λ (asked : Option Asked). wanted_by asked files) e
 
--- what other words want
-pub by_words : (words : List (String Global)) (asked : Asked) (files : Files) → asked_by words ≡ Some asked → wanted words files ≡ wanted_by_name (wanted_of asked.mode asked.limit) files asked.rules
+-- what words want that name a rule file
+pub by_name : (words : List (String Global)) (name : List ℕ) (mode : Mode) (limit : ℕ) (files : Files) → asked_by words ≡ Some (RuleFile name mode limit)
+    → wanted words files ≡ wanted_by_name (wanted_of mode limit) files name
 unfolding wanted
-by_words words asked files e = ap (λ (asked : Option Asked). wanted_by asked files) e
+by_name words name mode limit files e = ap (λ (asked : Option Asked). wanted_by asked files) e
+
+-- what words want that give the number of a load
+pub by_number : (words : List (String Global)) (number limit : ℕ) (files : Files) → asked_by words ≡ Some (Load number limit) → wanted words files ≡ wanted_by_number number limit
+unfolding wanted
+by_number words number limit files e = ap (λ (asked : Option Asked). wanted_by asked files) e
+
+-- what is wanted of a load, by what its rule file is
+pub a_load : (number limit : ℕ) (found : Reading) → reading rules_text ≡ found → wanted_by_number number limit ≡ wanted_by_reading (sums_up number limit) found
+unfolding wanted_by_number
+a_load number limit found e = ap (wanted_by_reading (sums_up number limit)) e
 
 -- the report of a mode that is known
 pub of_mode : (gives : Gives) (fires : Fires) (m n : Mode) (limit : ℕ) (p : Program) (script : List ℕ) (before after : Option (List ℕ)) (status : ℕ) → m ≡ n

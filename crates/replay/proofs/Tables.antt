@@ -13,7 +13,7 @@ use Rattle.rule_lives.specs.Reach.{Limit, finite, infinite, Below}
 use Rattle.replay.specs.Firings.{Gives, Fires}
 use Rattle.replay.specs.Report.{Report, IsReport}
 use Rattle.replay.specs.Texts.{lives_text}
-use Rattle.replay.specs.Wanted.{Wanted, usage_line, refuses, runs, accepts, tells_lives}
+use Rattle.replay.specs.Wanted.{Wanted, usage_line, refuses, runs, accepts, tells_lives, sums_up}
 
 int_same : (a b : ℤ) → a ≤ℤ b → b ≤ℤ a → a ≡ b
 int_same a b h k = omega (arith, ints)
@@ -95,6 +95,7 @@ one_report gives fires usage_line script r q h k = h ∙ sym k
 one_report gives fires (refuses refusal) script r q h k = h ∙ sym k
 one_report gives fires (runs limit program) script r q h k = h ∙ sym k
 one_report gives fires (accepts program) script r q h k = h ∙ sym k
+one_report gives fires (sums_up number limit program) script r q h k = h ∙ sym k
 one_report gives fires (tells_lives program) script r q h k =
     h.2 ∙ ap lives_report (same_lives_text program h.0 k.0 h.1 k.1) ∙ sym k.2
   where

@@ -1,6 +1,7 @@
 pub mod Texts
 pub mod Firings
 pub mod Run
+pub mod Summary
 pub mod Faults
 pub mod Turns
 pub mod Refusals

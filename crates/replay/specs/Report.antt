@@ -4,13 +4,15 @@ use Rattle.fx_io.specs.Outside.{append}
 use Rattle.fx_io.specs.Lines.{lines_of, HasNoEnd}
 use Rattle.rule_model.specs.declared.life.LifeTable.{LifeTable}
 use Rattle.rule_lives.specs.Keeping.{AreLives}
+use Rattle.gen_load.specs.Script.{script_text}
 use Rattle.replay.specs.declared.turn.Ended.{Ended}
 use Rattle.replay.specs.declared.turn.Ended.TheVariants.{Script, Limit}
 use Rattle.replay.specs.Firings.{Gives, Fires}
 use Rattle.replay.specs.Refusals.{refusal_text}
 use Rattle.replay.specs.Run.{Outcome, whole_run}
+use Rattle.replay.specs.Summary.{summary_text}
 use Rattle.replay.specs.Texts.{usage, accepted_text, lives_text}
-use Rattle.replay.specs.Wanted.{Wanted, usage_line, refuses, runs, accepts, tells_lives}
+use Rattle.replay.specs.Wanted.{Wanted, usage_line, refuses, runs, accepts, tells_lives, sums_up}
 
 -- what is written, and the status
 pub record Report : Type 0 where
@@ -25,8 +27,12 @@ run_status Limit = 4
 abbrev pub outcome_report : Outcome → Report
 outcome_report outcome = record { bytes = outcome.bytes; status = run_status outcome.ended }
 
+-- the summary of what a run prints, with the status of the run
+abbrev pub summary_report : ℕ → Outcome → Report
+summary_report number outcome = record { bytes = summary_text number outcome.bytes; status = run_status outcome.ended }
+
 -- What is written where this is wanted, and the status: the usage line; the refusal; the run of the script; the numbers of types and
--- rules of the program; the lives of its types, by the table that has them.
+-- rules of the program; the lives of its types, by the table that has them; the summary of the run of the script of a load.
 abbrev pub IsReport : Gives → Fires → Wanted → List ℕ → Report → Type 0
 IsReport gives fires usage_line script r = r ≡ record { bytes = usage; status = 2 }
 IsReport gives fires (refuses refusal) script r = r ≡ record { bytes = refusal_text refusal; status = 3 }
@@ -34,6 +40,8 @@ IsReport gives fires (runs limit program) script r = r ≡ outcome_report (whole
 IsReport gives fires (accepts program) script r = r ≡ record { bytes = accepted_text program; status = 0 }
 IsReport gives fires (tells_lives program) script r =
     (table : LifeTable) × AreLives program table × (r ≡ record { bytes = lives_text program.types table.lives; status = 0 })
+IsReport gives fires (sums_up number limit program) script r =
+    r ≡ summary_report number (whole_run gives fires limit program (lines_of (script_text number)))
 
 -- the written bytes and the status are those of a report
 abbrev pub Reports : Option (List ℕ) → Option (List ℕ) → ℕ → Report → Type 0

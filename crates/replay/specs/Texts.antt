@@ -74,7 +74,7 @@ has_fault lines = list_any is_fault lines
 
 -- where the words are refused
 abbrev pub usage : List ℕ
-usage = codes "usage: replay [--mode run|check|lives] [--limit N] RULES" ++ 10 ∷ []
+usage = codes "usage: replay [--mode run|check|lives] [--limit N] RULES | replay [--limit N] --gen N" ++ 10 ∷ []
 
 -- the rule file is accepted, with so many types and rules
 abbrev pub accepted_text : Program → List ℕ

@@ -1,16 +1,19 @@
 -- What the words and the rule file ask for.
-use Rattle.std.specs.Prelude.{ℕ, List, Option, Some, None}
+use Rattle.std.specs.Prelude.{ℕ, ◌≡◌, ◌⊎◌, List, Option, Some, None, IfSome}
 use Rattle.std.proofs.Common.{String, Global}
+use Rattle.fx_io.specs.Outside.{Rose, file_told}
 use Rattle.command_words.specs.declared.asking.Asked.{Asked}
+use Rattle.command_words.specs.declared.asking.Asked.TheVariants.{RuleFile, Load}
 use Rattle.command_words.specs.declared.asking.Mode.{Mode}
 use Rattle.command_words.specs.declared.asking.Mode.TheVariants.{Run, Check, Lives}
 use Rattle.command_words.specs.Asked.{asked_by}
+use Rattle.gen_load.specs.Rules.{rules_text}
 use Rattle.rule_model.specs.declared.program.Program.{Program}
 use Rattle.replay.specs.declared.refusal.Refusal.{Refusal}
 use Rattle.replay.specs.declared.refusal.RefusalCode.TheVariants.{Missing}
 use Rattle.replay.specs.declared.rule_file.Reading.{Reading}
 use Rattle.replay.specs.declared.rule_file.Reading.TheVariants.{Accepted, Refused}
-use Rattle.replay.specs.Refusals.{reading, whole_file}
+use Rattle.replay.specs.Refusals.{reading, whole_file, IsRefused}
 
 pub data Wanted : Type 0 where
   -- the usage line: the words are refused
@@ -23,6 +26,8 @@ pub data Wanted : Type 0 where
   accepts : Program → Wanted
   -- the lives of the types of a program
   tells_lives : Program → Wanted
+  -- the summary of a run over the load of this number: that of its script over a program, with at most so many firings
+  sums_up : ℕ → ℕ → Program → Wanted
 
 -- the files of a shelf by their names
 abbrev pub Files : Type 0
@@ -47,9 +52,14 @@ wanted_by_file of_program (Some file) = wanted_by_reading of_program (reading fi
 unfoldable pub wanted_by_name : (Program → Wanted) → Files → List ℕ → Wanted
 wanted_by_name of_program files name = wanted_by_file of_program (files name)
 
+-- of the load of a number, with a limit of firings: its rule file is read as any other
+unfoldable pub wanted_by_number : ℕ → ℕ → Wanted
+wanted_by_number number limit = wanted_by_reading (sums_up number limit) (reading rules_text)
+
 abbrev pub wanted_by : Option Asked → Files → Wanted
 wanted_by None files = usage_line
-wanted_by (Some asked) files = wanted_by_name (wanted_of asked.mode asked.limit) files asked.rules
+wanted_by (Some (RuleFile name mode limit)) files = wanted_by_name (wanted_of mode limit) files name
+wanted_by (Some (Load number limit)) files = wanted_by_number number limit
 
 -- of these words
 unfoldable pub wanted : List (String Global) → Files → Wanted
@@ -59,3 +69,20 @@ wanted words files = wanted_by (asked_by words) files
 abbrev pub IfRefuses : Wanted → (Refusal → Type 0) → Type 0
 IfRefuses (refuses refusal) P = P refusal
 IfRefuses _ P = ⊥
+
+-- ---- what is asked of the shelf and of the script
+
+-- a rule file of the shelf is asked for
+abbrev pub ReadsFile : Asked → Type 0
+ReadsFile (RuleFile name mode limit) = Unit {0}
+ReadsFile (Load number limit) = ⊥
+
+-- the script is to be run
+abbrev pub RunsScript : Asked → Type 0
+RunsScript (RuleFile name mode limit) = mode ≡ Run
+RunsScript (Load number limit) = ⊥
+
+-- the rule file that is asked for is missing, as the shelf's counts of misses before and after say, or its bytes are refused, where they are told
+abbrev pub IsUnfit : Option Files → (List ℕ → ℕ) → (List ℕ → ℕ) → Asked → Type 0
+IsUnfit told before after (RuleFile name mode limit) = Rose (before name) (after name) ⊎ IfSome (file_told told name) (λ file. IsRefused (reading file))
+IsUnfit told before after (Load number limit) = IsRefused (reading rules_text)

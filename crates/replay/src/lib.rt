@@ -1,5 +1,5 @@
 //! The program: it reads a rule file and replays a script over it, and writes what fires and what is faulty. In other modes it writes
-//! whether the file is accepted, or how long the events of its types matter.
+//! whether the file is accepted, or how long the events of its types matter. It also runs over a generated load, and writes a summary.
 //! It knows the outside by its traits alone, so that its answer is a matter of proof.
 #![tactic(auto)]
 
@@ -7,12 +7,14 @@ mod fault;
 mod firing;
 mod gathered;
 pub mod laws;
+mod load;
 mod modes;
 mod obeying;
 mod refusal;
 mod rule_file;
 mod running;
 mod saying;
+mod summing;
 mod text;
 mod top;
 mod turn;

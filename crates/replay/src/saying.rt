@@ -9,7 +9,7 @@ use std::alloc::Global;
 
 /// Writes lines and answers the status, or 6.
 pub(crate) fn say<K: Sink>(out: &mut K, lines: &[u8], status: u8) -> u8
-    requires { status ≤ 3 }
+    requires { status ≤ 4 }
     ensures said { result ≤ 4 → (K.written out.new ≡ append (K.written out.old) lines.now) × (result ≡ status) }
     ensures front { 5 ≤ result → AppendsFront (K.written out.old) (K.written out.new) lines.now }
     ensures either { (result ≡ status) ⊎ (result ≡ 6) }

@@ -1,23 +1,25 @@
 ghost use Rattle.std.specs.Prelude.{◌≡◌, ◌≢◌, ◌⊎◌, ◌<◌, ◌≤◌, ◌^◌, [], List, Option, ℕ, length, Some, None, IfSome};
 ghost use Rattle.fx_io.specs.Lines.{lines_of};
 ghost use Rattle.fx_io.specs.Outside.{Rose, append, AppendsFront, count_after, file_told};
-ghost use Rattle.command_words.specs.declared.asking.Asked.{Asked as WordsAsk};
+ghost use Rattle.command_words.specs.declared.asking.Asked.TheVariants.{RuleFile};
+ghost use Rattle.command_words.specs.declared.asking.Mode.{Mode as ModeAsked};
 ghost use Rattle.command_words.specs.Asked.{asked_by};
 ghost use Rattle.rule_world.specs.Programs.{IsRunnable};
 ghost use Rattle.replay.specs.Refusals.{refusal_text, reading, IsRefused};
 ghost use Rattle.replay.specs.Report.{Report, IsReport, outcome_report, Reports, TakesFor, IsLong};
 ghost use Rattle.replay.specs.Run.{whole_run};
 ghost use Rattle.replay.specs.Texts.{usage};
-ghost use Rattle.replay.specs.Wanted.{Files, runs, wanted, wanted_of, wanted_by_name, IfRefuses};
+ghost use Rattle.replay.specs.Wanted.{Files, runs, wanted, wanted_of, wanted_by_name, IfRefuses, ReadsFile, RunsScript, IsUnfit};
 
 use crate::fault::RunFault;
+use crate::load::run_load;
 use crate::modes::{accept, tell_lives};
 use crate::refusal::{RefusalCode, whole_file};
 use crate::rule_file::{FileFault, Reading, read_whole, reading_of};
 use crate::running::run;
 use crate::saying::{refuse, say};
 use crate::turn::Ended;
-use command_words::{Mode, asked};
+use command_words::{Asked, Mode, asked};
 use engine::Engine;
 use fx_io::{Shelf, Sink, Source};
 use rule_model::Program;
@@ -27,7 +29,7 @@ use std::alloc::Global;
 const FILE_MAX: usize = 1_048_576;
 
 /// What is written where the words are refused.
-const USAGE: &[u8] = b"usage: replay [--mode run|check|lives] [--limit N] RULES\n";
+const USAGE: &[u8] = b"usage: replay [--mode run|check|lives] [--limit N] RULES | replay [--limit N] --gen N\n";
 
 // Runs a program over a script.
 fn run_program<E: Engine, S: Source, K: Sink>(
@@ -195,12 +197,15 @@ pub fn run_rules<E: Engine, F: Shelf, S: Source, K: Sink>(
 /// Does all that the program does for the words behind its own name, with an engine of this type, and answers the status.
 /// In the mode `run` it runs the script over the rule file, as [`run_rules`] does, with the limit of firings of the words.
 /// In the mode `check` it writes that the rule file is accepted, and in the mode `lives` how long, in milliseconds, the events
-/// of its types matter: both leave the script alone, and the limit means nothing to them.
+/// of its types matter: both leave the script alone, and the limit means nothing to them. Where the words ask for the load of a number,
+/// it runs the load's script over the load's rule file, with the limit of the words, prints nothing of that, and writes how many lines
+/// it would print, and how many of these say what fires and what is faulty: the shelf and the script are left alone.
 ///
 /// The status is 0 where the script was read to its end, or the rule file of another mode is accepted, 1 where a line of the
 /// script was a fault, 2 where the words are refused, 3 where the rule file is missing or refused, 4 where a match was pending
 /// when no firing was left, 5 where a read failed, 6 where a write failed, 7 where memory was refused, and 8 where the script has
-/// more than 1 GiB. Of these the modes other than `run` have 0, 3, 5, 6 and 7.
+/// more than 1 GiB. Of these the modes other than `run` have 0, 3, 5, 6 and 7, and a load has those of its run, 0, 1 and 4, besides
+/// 3, 6 and 7.
 pub fn replay<E: Engine, F: Shelf, S: Source, K: Sink>(
     alloc: Global,
     words: &[String],
@@ -231,24 +236,25 @@ pub fn replay<E: Engine, F: Shelf, S: Source, K: Sink>(
     // The causes of the answers, of whatever shelf, script and sink.
     ensures words { result ≡ 2 → asked_by words.now ≡ None }
     ensures not_words { asked_by words.now ≡ None → (result ≡ 2) ⊎ ((6 ≤ result) × (result ≤ 7)) }
-    ensures file { result ≡ 3 → IfSome (asked_by words.now) (λ asked. Rose (F.misses shelf.old asked.rules) (F.misses shelf.new asked.rules)
-        ⊎ IfSome (file_told (F.files shelf.old) asked.rules) (λ file. IsRefused (reading file))) }
-    ensures read { result ≡ 5 → (asked : WordsAsk) × (asked_by words.now ≡ Some asked)
-        × (Rose (F.faults shelf.old asked.rules) (F.faults shelf.new asked.rules) ⊎ ((asked.mode ≡ Mode.Run) × Rose (S.faults script.old) (S.faults script.new))) }
+    ensures file { result ≡ 3 → IfSome (asked_by words.now) (IsUnfit (F.files shelf.old) (F.misses shelf.old) (F.misses shelf.new)) }
+    ensures read { result ≡ 5 → (name : List ℕ) × (mode : ModeAsked) × (limit : ℕ) × (asked_by words.now ≡ Some (RuleFile name mode limit))
+        × (Rose (F.faults shelf.old name) (F.faults shelf.new name) ⊎ ((mode ≡ Mode.Run) × Rose (S.faults script.old) (S.faults script.new))) }
     ensures write { result ≡ 6 → Rose (K.faults out.old) (K.faults out.new) }
     ensures taken { (n : ℕ) × (S.given script.new ≡ count_after (S.given script.old) n) × TakesFor result n }
 
-    // The script is left alone where it is not run, and read to its end where its run comes there.
+    // The script is left alone where it is not run, and read to its end where its run comes there; the shelf, where no rule file of it
+    // is asked for.
     ensures untouched { (result ≡ 2) ⊎ (result ≡ 3) → script.new ≡ script.old }
-    ensures no_run { IfSome (asked_by words.now) (λ asked. asked.mode ≢ Mode.Run) → script.new ≡ script.old }
-    ensures nothing_left { result ≤ 1 → IfSome (asked_by words.now) (λ asked. asked.mode ≡ Mode.Run
+    ensures no_run { IfSome (asked_by words.now) (λ asked. ¬ RunsScript asked) → script.new ≡ script.old }
+    ensures nothing_left { result ≤ 1 → IfSome (asked_by words.now) (λ asked. RunsScript asked
         → IfSome (S.left script.new) (λ bytes. bytes ≡ [])) }
+    ensures no_file { IfSome (asked_by words.now) (λ asked. ¬ ReadsFile asked) → shelf.new ≡ shelf.old }
 {
     match asked(alloc, words) {
-        Ok(Some(wanted)) => {
-            let name = wanted.rules.as_str();
-            answer::<E, F, S, K>(alloc, wanted.mode, wanted.limit, name, shelf, script, out)
+        Ok(Some(Asked::RuleFile { name, mode, limit })) => {
+            answer::<E, F, S, K>(alloc, mode, limit, name.as_str(), shelf, script, out)
         }
+        Ok(Some(Asked::Load { number, limit })) => run_load::<E, K>(alloc, number, limit, out),
         Ok(None) => say(out, USAGE, 2),
         Err(_) => 7,
     }

@@ -1,3 +1,6 @@
+ghost use Rattle.std.specs.Prelude.{◌≡◌, ◌⊎◌, ◌≤◌};
+ghost use Rattle.replay.specs.Report.{run_status};
+
 /// What became of a line of the script.
 #[derive(Clone, Copy, Debug, PartialEq, Eq)]
 pub(crate) enum Turn {
@@ -14,4 +17,18 @@ pub(crate) enum Ended {
     Script(bool),
     /// At the limit of firings.
     Limit,
+}
+
+impl Ended {
+    /// The status of the program.
+    pub(crate) fn status(self) -> u8
+        ensures status { result ≡ run_status self }
+        ensures answers { (result ≤ 1) ⊎ (result ≡ 4) }
+    {
+        match self {
+            Ended::Script(false) => 0,
+            Ended::Script(true) => 1,
+            Ended::Limit => 4,
+        }
+    }
 }

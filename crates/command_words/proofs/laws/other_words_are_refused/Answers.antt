@@ -1,11 +1,11 @@
 use Rattle.std.proofs.Common.{refl}
 use Rattle.clap.proofs.OnLiterals.{clap_on_literals}
-use Rattle.command_words.specs.Asked.{number_of, limit_of, asked_rows, asked_words}
+use Rattle.command_words.specs.Asked.{number_of, limit_of, load_number_of, asked_rows, asked_words}
 use Rattle.command_words.specs.Command.{replay_app, matched}
 use Rattle.command_words.proofs.laws.other_words_are_refused.Goals as goal
 
 pub returns : goal.returns
-unfolding clap_on_literals replay_app matched number_of limit_of asked_rows asked_words
+unfolding clap_on_literals replay_app matched number_of limit_of load_number_of asked_rows asked_words
 returns c = record {
   no_words = refl;
   help = refl;
@@ -15,4 +15,8 @@ returns c = record {
   digits = refl;
   twice = refl;
   two = refl;
+  load_and_rules = refl;
+  load_checked = refl;
+  load_above = refl;
+  load_digits = refl;
 }

@@ -1,11 +1,11 @@
 use Rattle.std.proofs.Common.{refl}
 use Rattle.clap.proofs.OnLiterals.{clap_on_literals}
-use Rattle.command_words.specs.Asked.{number_of, limit_of, asked_rows, asked_words}
+use Rattle.command_words.specs.Asked.{number_of, limit_of, load_number_of, asked_rows, asked_words}
 use Rattle.command_words.specs.Command.{replay_app, matched}
 use Rattle.command_words.proofs.laws.words_ask_for_what_they_say.Goals as goal
 
 pub returns : goal.returns
-unfolding clap_on_literals replay_app matched number_of limit_of asked_rows asked_words
+unfolding clap_on_literals replay_app matched number_of limit_of load_number_of asked_rows asked_words
 returns c = record {
   defaults = refl;
   options = refl;
@@ -13,4 +13,6 @@ returns c = record {
   after_dashes = refl;
   dash = refl;
   empty = refl;
+  load = refl;
+  load_with_options = refl;
 }

@@ -2,10 +2,10 @@ use Rattle.std.proofs.Common.{IfSome, Option, subst, sym}
 use Rattle.std.proofs.lemmas.Result.{IfOk-weaker}
 use Rattle.clap.specs.Words.{found_of, rows_of}
 use Rattle.command_words.specs.declared.asking.Asked.{Asked}
-use Rattle.command_words.specs.Asked.{IsLimit}
+use Rattle.command_words.specs.Asked.{IsWithinBounds}
 use Rattle.command_words.proofs.Limits.{rows_within}
 use Rattle.command_words.proofs.reading.asked.Goals as goal
 
-pub returns-in-Some-clause-limit : goal.returns-in-Some-clause-limit
-returns-in-Some-clause-limit c = IfOk-weaker c.asked_of.result _ _
-    (λ asked e. subst (λ (o : Option Asked). IfSome o (λ a. IsLimit a.limit)) (sym e) (rows_within (rows_of (found_of c.in-Some.matches)))) c.asked_of.ensures
+pub returns-in-Some-clause-within : goal.returns-in-Some-clause-within
+returns-in-Some-clause-within c = IfOk-weaker c.asked_of.result _ _
+    (λ asked e. subst (λ (o : Option Asked). IfSome o IsWithinBounds) (sym e) (rows_within (rows_of (found_of c.in-Some.matches)))) c.asked_of.ensures

@@ -1,0 +1,15 @@
+use Rattle.std.proofs.Common.{◌≡◌, ◌≤◌, ◌+◌, length}
+use Rattle.fx_io.specs.Lines.{lines_of}
+use Rattle.replay.specs.Summary.{lines_with}
+use Rattle.replay.proofs.Counted.{counted}
+use Rattle.replay.proofs.summing.lines_with.Given as goal
+
+-- the lines that were counted and those of the rest are all of them
+abbrev pub invariant-loop-rest : goal.invariant-loop-rest
+invariant-loop-rest l = record {
+  so_far : counted l.front l.count (lines_of l.rest) ≡ lines_with l.front l.text;
+  few : l.count + length l.rest ≤ length l.text;
+}
+
+abbrev pub decreases-loop-rest : goal.decreases-loop-rest
+decreases-loop-rest l = length l.rest

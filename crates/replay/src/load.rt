@@ -1,0 +1,118 @@
+//! The run over a generated load, of which a summary is written.
+ghost use Rattle.std.specs.Prelude.{◌≡◌, ◌⊎◌, ◌<◌, ◌≤◌, ◌^◌, List, ℕ, IfOk};
+ghost use Rattle.fx_io.specs.Outside.{Rose, append, AppendsFront};
+ghost use Rattle.fx_io.specs.Lines.{lines_of};
+ghost use Rattle.gen_load.specs.Rules.{rules_text};
+ghost use Rattle.gen_load.specs.Script.{script_text};
+ghost use Rattle.rule_world.specs.Programs.{IsRunnable};
+ghost use Rattle.replay.specs.Refusals.{refusal_text, reading, IsRefused};
+ghost use Rattle.replay.specs.Report.{Report, IsReport, Reports, run_status};
+ghost use Rattle.replay.specs.Run.{whole_run};
+ghost use Rattle.replay.specs.Summary.{summary_text};
+ghost use Rattle.replay.specs.Wanted.{wanted_by_number, IfRefuses};
+
+use crate::rule_file::{Reading, reading_of};
+use crate::running::run;
+use crate::saying::{refuse, say};
+use crate::summing::push_summary;
+use crate::turn::Ended;
+use engine::Engine;
+use fx_base::{NoMemory, Seq};
+use fx_io::{MemSink, PlainSource, Sink};
+use gen_load::{Generated, generate};
+use rule_model::Program;
+use std::alloc::Global;
+
+/// Room for what a run over a load prints: for 1,000,000 firings of at most 28 bytes, 20,000 insertions and 60,000 faults, in bytes.
+const PRINTED_MAX: usize = 33_554_432;
+
+// Runs a program over a script in memory, with what it prints. The source has less than 1 GiB and does not fail, and the sink has room
+// enough: what stops a run is want of memory.
+fn run_in_memory<E: Engine>(
+    alloc: Global,
+    program: Program,
+    limit: u64,
+    script: Seq<u8>,
+) -> Result<(Ended, MemSink), NoMemory>
+    requires runnable { IsRunnable program }
+    requires low { limit ≤ 1000000 }
+    ensures ended { IfOk result (λ r. r.0 ≡ (whole_run E.gives E.fires limit program (lines_of script)).ended) }
+    ensures printed { IfOk result (λ r. r.1.written ≡ (whole_run E.gives E.fires limit program (lines_of script)).bytes) }
+{
+    let mut source = PlainSource::new(script.into_vec());
+    let mut printed = MemSink::new(alloc, PRINTED_MAX, Vec::new(alloc))?;
+    match run::<E, PlainSource, MemSink>(alloc, program, limit, &mut source, &mut printed) {
+        Ok(ended) => Ok((ended, printed)),
+        Err(_) => Err(NoMemory),
+    }
+}
+
+// Writes the summary of what the run over the load of this number printed.
+fn sum_up<K: Sink>(alloc: Global, number: u32, ended: Ended, printed: &[u8], out: &mut K) -> u8
+    ensures said { result ≤ 4 → (K.written out.new ≡ append (K.written out.old) (summary_text number printed.now)) × (result ≡ run_status ended) }
+    ensures front { 5 ≤ result → AppendsFront (K.written out.old) (K.written out.new) (summary_text number printed.now) }
+    ensures answers { (result ≤ 1) ⊎ (result ≡ 4) ⊎ ((6 ≤ result) × (result ≤ 7)) }
+    ensures cause { result ≡ 6 → Rose (K.faults out.old) (K.faults out.new) }
+{
+    let mut text = Vec::new(alloc);
+    match push_summary(&mut text, alloc, number, printed) {
+        Ok(()) => say(out, text.as_slice(), ended.status()),
+        Err(_) => 7,
+    }
+}
+
+// Runs the program over the script of the load of this number, and writes the summary.
+fn run_and_sum_up<E: Engine, K: Sink>(
+    alloc: Global,
+    number: u32,
+    limit: u64,
+    program: Program,
+    script: Seq<u8>,
+    out: &mut K,
+) -> u8
+    requires runnable { IsRunnable program }
+    requires low { limit ≤ 1000000 }
+    ensures exact { let outcome = whole_run E.gives E.fires limit program (lines_of script) in
+        result ≤ 4 → (K.written out.new ≡ append (K.written out.old) (summary_text number outcome.bytes)) × (result ≡ run_status outcome.ended) }
+    ensures front { 5 ≤ result → AppendsFront (K.written out.old) (K.written out.new)
+        (summary_text number (whole_run E.gives E.fires limit program (lines_of script)).bytes) }
+    ensures answers { (result ≤ 1) ⊎ (result ≡ 4) ⊎ ((6 ≤ result) × (result ≤ 7)) }
+    ensures cause { result ≡ 6 → Rose (K.faults out.old) (K.faults out.new) }
+{
+    match run_in_memory::<E>(alloc, program, limit, script) {
+        Ok((ended, printed)) => sum_up(alloc, number, ended, printed.written(), out),
+        Err(_) => 7,
+    }
+}
+
+/// Runs over the load of this number with an engine of this type, with at most so many firings, and writes the summary.
+pub(crate) fn run_load<E: Engine, K: Sink>(
+    alloc: Global,
+    number: u32,
+    limit: u64,
+    out: &mut K,
+) -> u8
+    requires numbered { number < 2 ^ 31 }
+    requires low { limit ≤ 1000000 }
+    ensures exact { (bytes : List ℕ) → result ≤ 4
+        → (r : Report) × IsReport E.gives E.fires (wanted_by_number number limit) bytes r × Reports (K.written out.old) (K.written out.new) result r }
+    ensures front { (bytes : List ℕ) → 5 ≤ result
+        → (r : Report) → IsReport E.gives E.fires (wanted_by_number number limit) bytes r → AppendsFront (K.written out.old) (K.written out.new) r.bytes }
+    ensures refusal { result ≡ 3
+        → IfRefuses (wanted_by_number number limit) (λ refusal. K.written out.new ≡ append (K.written out.old) (refusal_text refusal)) }
+    ensures answers { (result ≤ 1) ⊎ ((3 ≤ result) × (result ≤ 4)) ⊎ ((6 ≤ result) × (result ≤ 7)) }
+    ensures file { result ≡ 3 → IsRefused (reading rules_text) }
+    ensures write { result ≡ 6 → Rose (K.faults out.old) (K.faults out.new) }
+{
+    let Generated { rules, script } = match generate(alloc, number) {
+        Ok(load) => load,
+        Err(_) => return 7,
+    };
+    match reading_of(alloc, rules.as_slice()) {
+        Ok(Reading::Accepted(program)) => {
+            run_and_sum_up::<E, K>(alloc, number, limit, program, script, out)
+        }
+        Ok(Reading::Refused(refusal)) => refuse(alloc, out, refusal),
+        Err(_) => 7,
+    }
+}
