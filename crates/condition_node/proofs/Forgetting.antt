@@ -49,49 +49,44 @@ went : (a b gone : Bool) → gone ≡ (a && not b) → gone ≡ true → a ≡ t
 went a b gone e f = (both_of a (not b) (sym e ∙ f)).0
 
 module _ (p : Program) (look : Look) (old : Named → Bool) (dropped gone : List Row) where
-  -- for each snapshot and rows for which the one node stands, where these rows are those that name an old fact
-  abbrev pub Forgotten : Node → (Snapshot → (Row → Bool) → (Named → Bool) → Type 0) → Type 0
-  Forgotten n claim = (s : Snapshot) (left : Row → Bool) (forgotten : Named → Bool) → ForgetsIn p n look s left forgotten old dropped → claim s left forgotten
+  -- for each snapshot and rows for which the node stands, where these rows are those that name an old fact
+  abbrev pub In : Node → (Snapshot → (Row → Bool) → (Named → Bool) → Type 0) → Type 0
+  In m claim = (s : Snapshot) (left : Row → Bool) (forgotten : Named → Bool) → ForgetsIn p m look s left forgotten old dropped → claim s left forgotten
 
-  abbrev pub StandsOn : Node → Node → Type 0
-  StandsOn m n = Forgotten m (λ s left forgotten. NodeStands p n look s left (either forgotten old))
-
-  abbrev pub Drops : Node → Type 0
-  Drops m = Forgotten m (λ s left forgotten. (row : Row) → cleaned (line p s (condition_of m) left) forgotten row ≡ true → has gone row ≡ not (clean old row))
-
-  abbrev pub DropsAlone : Node → Type 0
-  DropsAlone m = Forgotten m (λ s left forgotten. (row : Row) → has gone row ≡ true → cleaned (line p s (condition_of m) left) forgotten row ≡ true)
-
-  abbrev pub Ordered : Node → Type 0
-  Ordered m = Forgotten m (λ s left forgotten. InOrder gone)
-
-  pub not_ordered : (m : NotNode) → (IsInStep p look m → InOrder gone) → Ordered (node.Not m)
-  not_ordered m in_order s left forgotten is = in_order is.stands.in_step
+  -- the one node becomes the other, and these rows go
+  pub record Forgets (m n : Node) : Type 0 where
+    pub stands : In m (λ s left forgotten. NodeStands p n look s left (either forgotten old))
+    pub drops : In m (λ s left forgotten. (row : Row) → cleaned (line p s (condition_of m) left) forgotten row ≡ true → has gone row ≡ not (clean old row))
+    pub alone : In m (λ s left forgotten. (row : Row) → has gone row ≡ true → cleaned (line p s (condition_of m) left) forgotten row ≡ true)
+    pub ordered : In m (λ s left forgotten. InOrder gone)
 
   -- the memories without the rows that are dropped and without the old candidates
-  abbrev pub Lessened : {T : Type 0} → Memories T → Memories T → Type 0
+  abbrev Lessened : {T : Type 0} → Memories T → Memories T → Type 0
   Lessened m n = Keeps m n look (λ row. has_left m look row && not (has dropped row)) (λ who. has_right m look who && not (old who))
 
-  module _ (m n : BetaJoin) (kept : Lessened m.memories n.memories) (told : (row : Row) → has gone row ≡ (made m.memories look row && not (made n.memories look row))) where
-    law : Forgotten (node.Join m) (λ s left forgotten. StandsFor n.memories look left (candidates_of p m.memories.pattern s) (either forgotten old)
+  -- what went is what the one shows and the other does not
+  abbrev Went : (Row → Bool) → (Row → Bool) → Type 0
+  Went rows rows_now = (row : Row) → has gone row ≡ (rows row && not (rows_now row))
+
+  module _ (m n : BetaJoin) (kept : Lessened m.memories n.memories) (told : Went (made m.memories look) (made n.memories look)) (ordered : InOrder gone) where
+    law : In (node.Join m) (λ s left forgotten. StandsFor n.memories look left (candidates_of p m.memories.pattern s) (either forgotten old)
         × ((row : Row) → cleaned (line p s (condition_of (node.Join m)) left) forgotten row ≡ true → has gone row ≡ not (clean old row)))
     law s left forgotten is =
         let q = m.memories.pattern in
         join_forgets (Unit {0}) m.memories n.memories look (joins q (held s)) left (candidates_of p q s) forgotten old dropped gone is.stands
         (joining_alike look (held s) s forgotten is.at_hand (held_known s forgotten) p q left is.named) is.rows kept told
 
-    pub join_stands : StandsOn (node.Join m) (node.Join n)
-    join_stands s left forgotten is = subst (λ (q : Pattern). StandsFor n.memories look left (candidates_of p q s) (either forgotten old)) (sym kept.pattern) (law s left forgotten is).0
-
-    pub join_drops : Drops (node.Join m)
-    join_drops s left forgotten is = (law s left forgotten is).1
-
-    pub join_drops_alone : DropsAlone (node.Join m)
-    join_drops_alone s left forgotten is row e =
-        sym (join_shown p look s left forgotten is.at_hand is.named m.memories is.stands row) ∙ went (made m.memories look row) (made n.memories look row) (has gone row) (told row) e
+    pub join_forgot : (before : Node) → before ≡ node.Join m → Forgets before (node.Join n)
+    join_forgot before same = subst (λ (b : Node). Forgets b (node.Join n)) (sym same) (record {
+      stands = λ s left forgotten is. subst (λ (q : Pattern). StandsFor n.memories look left (candidates_of p q s) (either forgotten old)) (sym kept.pattern) (law s left forgotten is).0;
+      drops = λ s left forgotten is. (law s left forgotten is).1;
+      alone = λ s left forgotten is row e.
+          sym (join_shown p look s left forgotten is.at_hand is.named m.memories is.stands row) ∙ went (made m.memories look row) (made n.memories look row) (has gone row) (told row) e;
+      ordered = λ s left forgotten is. ordered;
+    })
 
   -- the tallies of the rows that stay are left as they are
-  abbrev pub LeftAlone : {T : Type 0} → Memories T → Memories T → Type 0
+  abbrev LeftAlone : {T : Type 0} → Memories T → Memories T → Type 0
   LeftAlone m n = (row : Row) → left_at n look row ≡ cond (has dropped row) None (left_at m look row)
 
   counts_on : {T : Type 0} (holds : T → Look → (Named → Bool) → Type 0) (m n : Memories T) → Lessened m n → LeftAlone m n → (s : Snapshot) (left : Row → Bool) (forgotten : Named → Bool)
@@ -101,59 +96,56 @@ module _ (p : Program) (look : Look) (old : Named → Bool) (dropped gone : List
       (tally_forgets T holds m n look (held s) (joins m.pattern (held s)) left (candidates_of p m.pattern s) forgotten old dropped counts rows kept alone)
 
   module _ (m n : TallyNode Witnesses) (kept : Lessened m.memories n.memories) (alone : LeftAlone m.memories n.memories)
-      (told : (row : Row) → has gone row ≡ (shown itself shows_any where_witnessed m.memories look row && not (shown itself shows_any where_witnessed n.memories look row))) where
-    pub exists_stands : StandsOn (node.Exists m) (node.Exists n)
-    exists_stands s left forgotten is = counts_on counts_witnesses m.memories n.memories kept alone s left forgotten is.rows is.stands
-
-    pub exists_drops : Drops (node.Exists m)
-    exists_drops s left forgotten is row e =
-        drop_law Witnesses itself shows_any where_witnessed itself_facts m.memories n.memories look left (candidates_of p m.memories.pattern s) forgotten old dropped gone is.stands.stands is.rows alone told row
-        (exists_shown p look s left forgotten is.at_hand is.named is.tags m.memories is.stands row ∙ e)
-
-    pub exists_drops_alone : DropsAlone (node.Exists m)
-    exists_drops_alone s left forgotten is row e =
-        sym (exists_shown p look s left forgotten is.at_hand is.named is.tags m.memories is.stands row)
-        ∙ went (shown itself shows_any where_witnessed m.memories look row) (shown itself shows_any where_witnessed n.memories look row) (has gone row) (told row) e
+      (told : Went (shown itself shows_any where_witnessed m.memories look) (shown itself shows_any where_witnessed n.memories look)) (ordered : InOrder gone) where
+    pub exists_forgot : (before : Node) → before ≡ node.Exists m → Forgets before (node.Exists n)
+    exists_forgot before same = subst (λ (b : Node). Forgets b (node.Exists n)) (sym same) (record {
+      stands = λ s left forgotten is. counts_on counts_witnesses m.memories n.memories kept alone s left forgotten is.rows is.stands;
+      drops = λ s left forgotten is row e.
+          drop_law Witnesses itself shows_any where_witnessed itself_facts m.memories n.memories look left (candidates_of p m.memories.pattern s) forgotten old dropped gone is.stands.stands is.rows alone told row
+          (exists_shown p look s left forgotten is.at_hand is.named is.tags m.memories is.stands row ∙ e);
+      alone = λ s left forgotten is row e.
+          sym (exists_shown p look s left forgotten is.at_hand is.named is.tags m.memories is.stands row)
+          ∙ went (shown itself shows_any where_witnessed m.memories look row) (shown itself shows_any where_witnessed n.memories look row) (has gone row) (told row) e;
+      ordered = λ s left forgotten is. ordered;
+    })
 
   module _ (m n : NotNode) (kept : Lessened m.tally.memories n.tally.memories) (alone : LeftAlone m.tally.memories n.tally.memories) (floor : n.ripening.floor ≡ m.ripening.floor)
-      (in_step : IsInStep p look m → IsInStep p look n) (told : IsInStep p look m → (row : Row) → has gone row ≡ (not_rows p look m row && not (not_rows p look n row))) where
-    pub not_stands : StandsOn (node.Not m) (node.Not n)
-    not_stands s left forgotten is = record {
-      counts = counts_on counts_blockers m.tally.memories n.tally.memories kept alone s left forgotten is.rows is.stands.counts;
-      in_step = in_step is.stands.in_step;
-      floor = floor ∙ is.stands.floor ∙ ap (λ (q : Pattern). told_to p s q.entry.0) (sym kept.pattern);
-    }
+      (in_step : IsInStep p look m → IsInStep p look n) (told : IsInStep p look m → Went (not_rows p look m) (not_rows p look n)) (ordered : IsInStep p look m → InOrder gone) where
+    pub not_forgot : (before : Node) → before ≡ node.Not m → Forgets before (node.Not n)
+    not_forgot before same = subst (λ (b : Node). Forgets b (node.Not n)) (sym same) (record {
+      stands = λ s left forgotten is. record {
+        counts = counts_on counts_blockers m.tally.memories n.tally.memories kept alone s left forgotten is.rows is.stands.counts;
+        in_step = in_step is.stands.in_step;
+        floor = floor ∙ is.stands.floor ∙ ap (λ (q : Pattern). told_to p s q.entry.0) (sym kept.pattern);
+      };
+      drops = λ s left forgotten is row e.
+          not_drops p m n look left (candidates_of p m.tally.memories.pattern s) forgotten old dropped gone is.stands.counts.stands is.rows kept.pattern floor alone (told is.stands.in_step) row
+          (not_shown p look s left forgotten is.at_hand is.named is.tags m is.stands row ∙ e);
+      alone = λ s left forgotten is row e.
+          sym (not_shown p look s left forgotten is.at_hand is.named is.tags m is.stands row) ∙ went (not_rows p look m row) (not_rows p look n row) (has gone row) (told is.stands.in_step row) e;
+      ordered = λ s left forgotten is. ordered is.stands.in_step;
+    })
 
-    pub not_drops_old : Drops (node.Not m)
-    not_drops_old s left forgotten is row e =
-        not_drops p m n look left (candidates_of p m.tally.memories.pattern s) forgotten old dropped gone is.stands.counts.stands is.rows kept.pattern floor alone (told is.stands.in_step) row
-        (not_shown p look s left forgotten is.at_hand is.named is.tags m is.stands row ∙ e)
-
-    pub not_drops_alone : DropsAlone (node.Not m)
-    not_drops_alone s left forgotten is row e =
-        sym (not_shown p look s left forgotten is.at_hand is.named is.tags m is.stands row) ∙ went (not_rows p look m row) (not_rows p look n row) (has gone row) (told is.stands.in_step row) e
-
-  module _ (m n : FoldNode) (same : n.accumulate ≡ m.accumulate) (kept : Lessened m.tally.memories n.tally.memories) (alone : LeftAlone m.tally.memories n.tally.memories)
-      (told : (row : Row) → has gone row
-      ≡ (shown without_value shows_value (result_for m.accumulate) m.tally.memories look row && not (shown without_value shows_value (result_for m.accumulate) n.tally.memories look row))) where
-    pub fold_stands : StandsOn (node.Fold m) (node.Fold n)
-    fold_stands s left forgotten is = record {
-      counts = subst (λ (a : Accumulate). Counts (gathers a) p n.tally.memories look s left (either forgotten old)) (sym same)
-          (counts_on (gathers m.accumulate) m.tally.memories n.tally.memories kept alone s left forgotten is.rows is.stands.counts);
-      pattern = kept.pattern ∙ is.stands.pattern ∙ ap (λ (a : Accumulate). a.pattern) (sym same);
-    }
-
-    pub fold_drops : Drops (node.Fold m)
-    fold_drops s left forgotten is row e =
+  module _ (m n : FoldNode) (still : n.accumulate ≡ m.accumulate) (kept : Lessened m.tally.memories n.tally.memories) (alone : LeftAlone m.tally.memories n.tally.memories)
+      (told : Went (shown without_value shows_value (result_for m.accumulate) m.tally.memories look) (shown without_value shows_value (result_for m.accumulate) n.tally.memories look)) (ordered : InOrder gone) where
+    pub fold_forgot : (before : Node) → before ≡ node.Fold m → Forgets before (node.Fold n)
+    fold_forgot before same =
         let t = m.tally.memories in
-        drop_law Held without_value shows_value (result_for m.accumulate) without_value_facts t n.tally.memories look left (candidates_of p t.pattern s) forgotten old dropped gone is.stands.counts.stands is.rows alone told row
-        (fold_shown p look s left forgotten is.at_hand is.named is.tags m is.stands row ∙ e)
-
-    pub fold_drops_alone : DropsAlone (node.Fold m)
-    fold_drops_alone s left forgotten is row e =
-        let t = m.tally.memories in
-        sym (fold_shown p look s left forgotten is.at_hand is.named is.tags m is.stands row)
-        ∙ went (shown without_value shows_value (result_for m.accumulate) t look row) (shown without_value shows_value (result_for m.accumulate) n.tally.memories look row) (has gone row) (told row) e
+        let u = n.tally.memories in
+        subst (λ (b : Node). Forgets b (node.Fold n)) (sym same) (record {
+          stands = λ s left forgotten is. record {
+            counts = subst (λ (a : Accumulate). Counts (gathers a) p u look s left (either forgotten old)) (sym still)
+                (counts_on (gathers m.accumulate) t u kept alone s left forgotten is.rows is.stands.counts);
+            pattern = kept.pattern ∙ is.stands.pattern ∙ ap (λ (a : Accumulate). a.pattern) (sym still);
+          };
+          drops = λ s left forgotten is row e.
+              drop_law Held without_value shows_value (result_for m.accumulate) without_value_facts t u look left (candidates_of p t.pattern s) forgotten old dropped gone is.stands.counts.stands is.rows alone told row
+              (fold_shown p look s left forgotten is.at_hand is.named is.tags m is.stands row ∙ e);
+          alone = λ s left forgotten is row e.
+              sym (fold_shown p look s left forgotten is.at_hand is.named is.tags m is.stands row)
+              ∙ went (shown without_value shows_value (result_for m.accumulate) t look row) (shown without_value shows_value (result_for m.accumulate) u look row) (has gone row) (told row) e;
+          ordered = λ s left forgotten is. ordered;
+        })
 
 -- ---- nothing is old
 
@@ -169,18 +161,14 @@ or_none : (b : Bool) → b ≡ (b || false)
 or_none true = refl
 or_none false = refl
 
-module _ (p : Program) (look : Look) (n : Node) (rows : List Row) (names : List Named) (no_names : names ≡ []) (gone : List Row) (no_rows : gone ≡ []) where
-  pub nothing_old : StandsOn p look (has_name names) rows gone n n
-  nothing_old s left forgotten is =
-      subst (λ (facts : Named → Bool). NodeStands p n look s left facts) (fun_ext (λ who. or_none (forgotten who) ∙ ap (λ (ns : List Named). forgotten who || has_name ns who) (sym no_names))) is.stands
-
-  pub nothing_drops : Drops p look (has_name names) rows gone n
-  nothing_drops s left forgotten is row e =
-      ap (λ (rs : List Row). has rs row) no_rows ∙ sym (ap (λ (ns : List Named). not (clean (has_name ns) row)) no_names ∙ ap (λ b. not (not b)) (none_old row.facts))
-
-  pub nothing_drops_alone : DropsAlone p look (has_name names) rows gone n
-  nothing_drops_alone s left forgotten is row e = absurd (let torn : false ≡ true = sym (ap (λ (rs : List Row). has rs row) no_rows) ∙ e in cc)
-
-  pub nothing_ordered : Ordered p look (has_name names) rows gone n
-  unfolding IsStrictlySortedBy
-  nothing_ordered s left forgotten is = subst (λ (rs : List Row). InOrder rs) (sym no_rows) tt
+-- where nothing is dropped and nothing is old, the node stays as it is and nothing goes
+pub nothing_forgot : (p : Program) (look : Look) (n : Node) (rows : List Row) (names : List Named) → names ≡ [] → (gone : List Row) → gone ≡ [] → Forgets p look (has_name names) rows gone n n
+unfolding IsStrictlySortedBy
+nothing_forgot p look n rows names no_names gone no_rows = record {
+  stands = λ s left forgotten is.
+      subst (λ (facts : Named → Bool). NodeStands p n look s left facts) (fun_ext (λ who. or_none (forgotten who) ∙ ap (λ (ns : List Named). forgotten who || has_name ns who) (sym no_names))) is.stands;
+  drops = λ s left forgotten is row e.
+      ap (λ (rs : List Row). has rs row) no_rows ∙ sym (ap (λ (ns : List Named). not (clean (has_name ns) row)) no_names ∙ ap (λ b. not (not b)) (none_old row.facts));
+  alone = λ s left forgotten is row e. absurd (let torn : false ≡ true = sym (ap (λ (rs : List Row). has rs row) no_rows) ∙ e in cc);
+  ordered = λ s left forgotten is. subst (λ (rs : List Row). InOrder rs) (sym no_rows) tt;
+}

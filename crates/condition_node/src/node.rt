@@ -143,10 +143,10 @@ impl Node {
         }
     }
 
-    /// Drops those rows of the conditions before this one that name an old fact, which are these rows, in order, and the old
-    /// candidates; answers the rows of the condition that go with them, in order. What it counts or gathers beside rows that stay
-    /// is left as it is, old facts included. `facts` still has the old facts. It costs what a step costs in which these rows and
-    /// candidates go, and a comparison where there are none.
+    /// Drops the rows of the conditions before this one that name an old fact (`rows`), and the old candidates, and answers the rows
+    /// of the condition that go with them, in order. What it counts or gathers beside rows that stay is left as it is, old facts
+    /// included. `facts` still has the old facts. It costs what a step costs in which these rows and candidates go; where there
+    /// are none, a comparison.
     pub fn forget<F: Facts>(
         &mut self,
         alloc: Global,
