@@ -1,7 +1,5 @@
-pub mod Alike
-pub mod Filtered
+pub mod Counted
 pub mod Folds
+pub mod Operators
 pub mod Ripe
 pub mod Stepwise
-pub mod Unasked
-pub mod Untaken

@@ -7,6 +7,8 @@ ghost use Rattle.rule_model.specs.Lent.{lent};
 ghost use Rattle.rule_model.specs.Maturity.{AreOperators};
 ghost use Rattle.rule_model.specs.Rows.{result_of as result_by, with_result, extended, tuples, rows, pattern_of, HaveOperators};
 ghost use Rattle.rule_model.specs.Tuples.{empty_tuple, with_fact};
+ghost use Rattle.rule_model.specs.declared.program.Rule.{Rule};
+ghost use Rattle.rule_world.specs.Programs.{UseOperators};
 
 use crate::bindings::{Bindings, rows_named};
 use crate::folding::{do_hold, result_of};
@@ -135,9 +137,9 @@ fn found_bindings<'f>(
     Ok(all)
 }
 
-/// The rows of conditions over these facts, at a clock, in the order of their definition.
+// The rows of conditions over these facts, at a clock, in the order of their definition.
 #[tactic(auto, unfolding(rule_model::specs::Rows::rows))]
-pub fn rows_of(
+fn rows_of(
     alloc: Global,
     program: &Program,
     clock: Millis,
@@ -149,4 +151,22 @@ pub fn rows_of(
 {
     let all = found_bindings(alloc, &Moment { program, clock }, conditions, facts)?;
     rows_named(alloc, &all)
+}
+
+/// The rows of each rule of a program over these facts, at a clock in milliseconds: a list for each rule by its place, in the order of
+/// the definition. For each condition of a rule it costs what was bound before, times the facts.
+pub fn rows_of_rules(
+    alloc: Global,
+    program: &Program,
+    clock: Millis,
+    facts: &[&Fact],
+) -> Result<Vec<Seq<Row>>, NoMemory>
+    requires { UseOperators program.now.rules }
+    ensures { IfOk result (λ found. found.items ≡ map (λ (rule : Rule). rows program.now (over (lent facts.now) clock) rule.conditions) program.now.rules) }
+{
+    let mut all = Vec::new(alloc);
+    for rule in program.rules.as_slice() {
+        all.push(rows_of(alloc, program, clock, facts, rule.conditions.as_slice())?)?;
+    }
+    Ok(all)
 }

@@ -1,6 +1,0 @@
-use Rattle.std.proofs.Common.{◌≡◌, ◌++◌, map, drop}
-use Rattle.rule_model.specs.Tuples.{row_of}
-use Rattle.rule_rows.proofs.bindings.rows_named.Given as goal
-
-abbrev pub invariant-loop-bindings : goal.invariant-loop-bindings
-invariant-loop-bindings l = l.rows.items ++ map row_of (drop l.bindings-index l.all) ≡ map row_of l.all
