@@ -6,3 +6,5 @@ pub mod Turning
 pub mod Telling
 pub mod Staying
 pub mod Quietness
+pub mod Still
+pub mod Forgetting

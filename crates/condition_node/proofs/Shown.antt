@@ -73,15 +73,19 @@ module _ (p : Program) (look : Look) (s : Snapshot) (rows : Row → Bool) (forgo
         ∙ row_mature p q (held s) row floor
         ∙ ap (is_mature p q (bound_in (held s) row)) is
 
-    pub not_shown : (waiting : NotNode) → WaitsFor p waiting look s rows forgotten → (row : Row) → not_rows p look waiting row ≡ cleaned (line p s (Negated waiting.tally.memories.pattern) rows) forgotten row
+    pub not_shown_at : (waiting : NotNode) → Counts counts_blockers p waiting.tally.memories look s rows forgotten → waiting.ripening.floor ≡ told_to p s waiting.tally.memories.pattern.entry.0
+        → (row : Row) → not_rows p look waiting row ≡ cleaned (line p s (Negated waiting.tally.memories.pattern) rows) forgotten row
     unfolding has_partner
-    not_shown waiting waits row =
+    not_shown_at waiting counts told row =
         let m = waiting.tally.memories in
         let q = m.pattern in
         let floor = waiting.ripening.floor in
         let names = candidate_names p q s in
         let pass = joins q (held s) in
-        not_law p waiting look (held s) pass rows names forgotten (listed counts_blockers m waits.counts) row
+        not_law p waiting look (held s) pass rows names forgotten (listed counts_blockers m counts) row
         ∙ and_assoc (cleaned rows forgotten row) (not (list_any (pass row) names)) (is_mature p q (bound_in look row) floor)
         ∙ asked_first (rows row) (clean forgotten row) (not (list_any (pass row) names) && is_mature p q (bound_in look row) floor) (not (list_any (pass row) names) && is_ripe p q s row)
-        (λ e. ap (λ b. not (list_any (pass row) names) && b) (ripe_alike q floor waits.floor row e))
+        (λ e. ap (λ b. not (list_any (pass row) names) && b) (ripe_alike q floor told row e))
+
+    pub not_shown : (waiting : NotNode) → WaitsFor p waiting look s rows forgotten → (row : Row) → not_rows p look waiting row ≡ cleaned (line p s (Negated waiting.tally.memories.pattern) rows) forgotten row
+    not_shown waiting waits row = not_shown_at waiting waits.counts waits.floor row

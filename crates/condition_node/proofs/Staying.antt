@@ -1,9 +1,10 @@
 -- Where the clock alone changes neither the candidates nor what is mature, the line of a condition stays as it is.
-use Rattle.std.proofs.Common.{◌≡◌, ◌∙◌, sym, ap, refl, subst, ℤ, ◌≤ℤ◌, int_lt, Bool, true, false}
+use Rattle.std.proofs.Common.{◌≡◌, ◌∙◌, sym, ap, refl, subst, ℤ, ◌≤ℤ◌, int_lt, Bool, true, false, ◌&&◌}
 use mathlib.Core.Path.{fun_ext}
 use Rattle.std.specs.Option.{is_some}
 use Rattle.row_delta.specs.declared.row.Named.{Named}
 use Rattle.row_delta.specs.declared.row.Row.{Row}
+use Rattle.rule_model.specs.declared.condition.Condition.TheVariants.{Negated}
 use Rattle.rule_model.specs.declared.condition.Pattern.{Pattern}
 use Rattle.rule_model.specs.declared.program.Program.{Program}
 use Rattle.rule_model.specs.Distinct.{HaveDistinctTags}
@@ -20,7 +21,9 @@ use Rattle.tally_node.specs.Gathers.{gathers}
 use Rattle.tally_node.specs.Laws.{StandsCounted}
 use Rattle.not_node.specs.declared.node.NotNode.{NotNode}
 use Rattle.not_node.specs.Laws.{with_floor}
-use Rattle.not_node.specs.Waiting.{waits}
+use Rattle.not_node.specs.Moments.{moment_at}
+use Rattle.not_node.specs.Rows.{unblocked}
+use Rattle.not_node.specs.Waiting.{mature, waits}
 use Rattle.not_node.proofs.Quiet.{quiet_law}
 use Rattle.condition_rows.specs.Lines.{line}
 use Rattle.condition_rows.specs.Looks.{HasAllOf, NameHeld}
@@ -31,7 +34,7 @@ use Rattle.condition_node.specs.declared.node.Node.TheVariants as node
 use Rattle.condition_node.specs.Nodes.{condition_of, Counts, WaitsFor, FoldsFor, NodeStands}
 use Rattle.condition_node.specs.Quiet.{at_clock}
 use Rattle.condition_node.proofs.Folding.{fold_shown}
-use Rattle.condition_node.proofs.Shown.{join_shown, exists_shown, not_shown}
+use Rattle.condition_node.proofs.Shown.{join_shown, exists_shown, not_shown, not_shown_at}
 
 -- a snapshot holds the same versions at another clock
 held_alike : (s : Snapshot) (clock : ℤ) → held s ≡ held (at_clock s clock)
@@ -88,3 +91,16 @@ module _ (p : Program) (look : Look) (s : Snapshot) (rows : Row → Bool) (forgo
       let stays = quiet_law p waiting look floor waits.in_step later quiet in
       let risen : WaitsFor p (with_floor waiting floor) look next rows forgotten = record { counts = counts_on counts_blockers m same waits.counts; in_step = stays.0; floor = refl } in
       sym (not_shown p look next rows forgotten known_next named_next tags (with_floor waiting floor) risen row) ∙ stays.1 row ∙ not_shown p look s rows forgotten known named tags waiting waits row
+
+  -- a row for which no candidate passes comes where its moment is past
+  pub not_ripens : (waiting : NotNode) → SameCandidates waiting.tally.memories.pattern → NodeStands p (node.Not waiting) look s rows forgotten
+      → (row : Row) → unblocked waiting.tally.memories look row ≡ true → mature waiting.ripening.floor (moment_at p waiting.tally.memories.pattern look row) ≡ false
+      → mature (told_to p next waiting.tally.memories.pattern.entry.0) (moment_at p waiting.tally.memories.pattern look row) ≡ true
+      → (cleaned (line p s (Negated waiting.tally.memories.pattern) rows) forgotten row ≡ false) × (cleaned (line p next (Negated waiting.tally.memories.pattern) rows) forgotten row ≡ true)
+  not_ripens waiting same waits row none early ripe =
+      let m = waiting.tally.memories in
+      let moment = moment_at p m.pattern look row in
+      let floor = told_to p next m.pattern.entry.0 in (
+        sym (not_shown p look s rows forgotten known named tags waiting waits row) ∙ ap (λ b. b && mature waiting.ripening.floor moment) none ∙ early,
+        sym (not_shown_at p look next rows forgotten known_next named_next tags (with_floor waiting floor) (counts_on counts_blockers m same waits.counts) refl row) ∙ ap (λ b. b && mature floor moment) none ∙ ripe,
+      )

@@ -1,5 +1,5 @@
 -- A turn of the node of each kind: what it then stands for, and that it tells the difference of its line.
-use Rattle.std.proofs.Common.{◌≡◌, ◌∙◌, sym, ap, subst, ℕ, ℤ, ◌-ℤ◌, Bool}
+use Rattle.std.proofs.Common.{◌≡◌, ◌∙◌, sym, ap, refl, subst, ℕ, ℤ, ◌-ℤ◌, Bool}
 use Rattle.row_delta.specs.declared.delta.Delta.{Delta}
 use Rattle.row_delta.specs.declared.row.Named.{Named}
 use Rattle.row_delta.specs.declared.row.Row.{Row}
@@ -10,7 +10,6 @@ use Rattle.rule_model.specs.declared.condition.Condition.TheVariants.{Plain, Neg
 use Rattle.rule_model.specs.declared.condition.Pattern.{Pattern}
 use Rattle.rule_model.specs.declared.program.Program.{Program}
 use Rattle.rule_model.specs.Maturity.{told_to}
-use Rattle.rule_model.specs.Rows.{pattern_of}
 use Rattle.rule_model.specs.Snapshots.{Snapshot}
 use Rattle.rule_model.specs.Types.{lateness_of}
 use Rattle.join_tests.specs.Joins.{Look}
@@ -42,13 +41,13 @@ use Rattle.condition_node.proofs.Turning.{stands_next, counts_next, later_floor}
 -- from rows and candidates for which the one node stands it turns to the other, for each turn with these differences
 abbrev pub TurnsTo : Program → ℤ → Look → Node → Node → Delta → Delta → Type 0
 TurnsTo p clock look old new left right = (world : Look) (s next : Snapshot) (rows rows_now : Row → Bool) (forgotten : Named → Bool)
-    → NodeStands p old look s rows forgotten → next.clock ≡ clock → IsTurn p (pattern_of (condition_of old)) look world s next rows rows_now forgotten left right
+    → NodeStands p old look s rows forgotten → next.clock ≡ clock → IsTurn p (condition_of old) look world s next rows rows_now forgotten left right
     → NodeStands p new look next rows_now forgotten
 
 -- and it tells this difference
 abbrev pub Tells : Program → ℤ → Look → Node → Delta → Delta → Delta → Type 0
 Tells p clock look old left right delta = (world : Look) (s next : Snapshot) (rows rows_now : Row → Bool) (forgotten : Named → Bool)
-    → NodeStands p old look s rows forgotten → next.clock ≡ clock → IsTurn p (pattern_of (condition_of old)) look world s next rows rows_now forgotten left right
+    → NodeStands p old look s rows forgotten → next.clock ≡ clock → IsTurn p (condition_of old) look world s next rows rows_now forgotten left right
     → IsDifference (cleaned (line p s (condition_of old) rows) forgotten) (cleaned (line p next (condition_of old) rows_now) forgotten) delta
 
 pub told_by : (p : Program) (next : Snapshot) (entry : ℕ) (clock floor : ℤ) → next.clock ≡ clock → floor ≡ clock -ℤ lateness_of p entry → floor ≡ told_to p next entry
@@ -58,7 +57,7 @@ told_by p next entry clock floor at is = is ∙ ap (λ c. c -ℤ lateness_of p e
 module _ (p : Program) (clock : ℤ) (look : Look) (left right : Delta) where
   module _ (m n : BetaJoin) (stepped : IsStepped m.memories n.memories look left right) where
     pub join_turns : TurnsTo p clock look (node.Join m) (node.Join n) left right
-    join_turns world s next rows rows_now forgotten stands at turn = stands_next p m.memories n.memories look world s next rows rows_now forgotten left right turn stepped stands
+    join_turns world s next rows rows_now forgotten stands at turn = stands_next p m.memories n.memories look world s next rows rows_now forgotten left right (Plain m.memories.pattern) turn stepped refl stands
 
     pub join_tells : (delta : Delta) → IsDifference (made m.memories look) (made n.memories look) delta → Tells p clock look (node.Join m) left right delta
     join_tells delta is world s next rows rows_now forgotten stands at turn =
@@ -70,7 +69,7 @@ module _ (p : Program) (clock : ℤ) (look : Look) (left right : Delta) where
   module _ (m n : TallyNode Witnesses) (stepped : IsStepped m.memories n.memories look left right) (step : TallyStep counts_witnesses look m.memories n.memories left right) where
     pub exists_turns : TurnsTo p clock look (node.Exists m) (node.Exists n) left right
     exists_turns world s next rows rows_now forgotten stands at turn =
-        counts_next p m.memories n.memories look world s next rows rows_now forgotten left right turn stepped counts_witnesses witnesses_ask stands step
+        counts_next p m.memories n.memories look world s next rows rows_now forgotten left right (Existing m.memories.pattern) turn stepped refl counts_witnesses witnesses_ask turn.stay stands step
 
     pub exists_tells : (delta : Delta) → IsDifference (shown itself shows_any where_witnessed m.memories look) (shown itself shows_any where_witnessed n.memories look) delta → Tells p clock look (node.Exists m) left right delta
     exists_tells delta is world s next rows rows_now forgotten stands at turn =
@@ -86,7 +85,7 @@ module _ (p : Program) (clock : ℤ) (look : Look) (left right : Delta) where
     not_turns world s next rows rows_now forgotten waits at turn =
         let entry = m.tally.memories.pattern.entry.0 in
         record {
-          counts = counts_next p m.tally.memories n.tally.memories look world s next rows rows_now forgotten left right turn stepped counts_blockers blockers_ask waits.counts step;
+          counts = counts_next p m.tally.memories n.tally.memories look world s next rows rows_now forgotten left right (Negated m.tally.memories.pattern) turn stepped refl counts_blockers blockers_ask turn.stay waits.counts step;
           in_step = in_step waits.in_step;
           floor = risen ∙ ap (λ a. later a floor) waits.floor
               ∙ ap (later (told_to p s entry)) (told_by p next entry clock floor at floor_is)
@@ -105,10 +104,9 @@ module _ (p : Program) (clock : ℤ) (look : Look) (left right : Delta) where
   module _ (m n : FoldNode) (same : n.accumulate ≡ m.accumulate) (stepped : IsStepped m.tally.memories n.tally.memories look left right) (step : TallyStep (gathers m.accumulate) look m.tally.memories n.tally.memories left right) where
     pub fold_turns : TurnsTo p clock look (node.Fold m) (node.Fold n) left right
     fold_turns world s next rows rows_now forgotten folds at turn =
-        let here = subst (λ (q : Pattern). IsTurn p q look world s next rows rows_now forgotten left right) (sym folds.pattern) turn in
         record {
           counts = subst (λ (a : Accumulate). Counts (gathers a) p n.tally.memories look next rows_now forgotten) (sym same)
-              (counts_next p m.tally.memories n.tally.memories look world s next rows rows_now forgotten left right here stepped (gathers m.accumulate) (gathers_ask m.accumulate) folds.counts step);
+              (counts_next p m.tally.memories n.tally.memories look world s next rows rows_now forgotten left right (Folded m.accumulate) turn stepped folds.pattern (gathers m.accumulate) (gathers_ask m.accumulate) turn.stay folds.counts step);
           pattern = stepped.pattern ∙ folds.pattern ∙ ap (λ (a : Accumulate). a.pattern) (sym same);
         }
 

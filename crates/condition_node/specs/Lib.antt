@@ -1,3 +1,4 @@
 pub mod Nodes
 pub mod Turns
 pub mod Quiet
+pub mod Forgetting

@@ -1,5 +1,5 @@
 -- Of which condition a node is, and for which rows it stands.
-use Rattle.std.specs.Prelude.{◌≡◌, Bool}
+use Rattle.std.specs.Prelude.{◌≡◌, Bool, true, false}
 use Rattle.row_delta.specs.declared.row.Named.{Named}
 use Rattle.row_delta.specs.declared.row.Row.{Row}
 use Rattle.rule_model.specs.declared.condition.Condition.{Condition}
@@ -26,6 +26,13 @@ condition_of (node.Join join) = Plain join.memories.pattern
 condition_of (node.Not waiting) = Negated waiting.tally.memories.pattern
 condition_of (node.Exists tally) = Existing tally.memories.pattern
 condition_of (node.Fold fold) = Folded fold.accumulate
+
+-- a `not`, whose rows the clock alone may change
+abbrev pub is_negated : Condition → Bool
+is_negated (Plain pattern) = false
+is_negated (Negated pattern) = true
+is_negated (Existing pattern) = false
+is_negated (Folded accumulate) = false
 
 -- the tallies are those of the candidates of the snapshot that pass for each row
 abbrev pub Counts : {T : Type 0} → (T → Look → (Named → Bool) → Type 0) → Program → Memories T → Look → Snapshot → (Row → Bool) → (Named → Bool) → Type 0

@@ -1,5 +1,5 @@
 -- How long a move of the clock alone changes nothing.
-use Rattle.std.specs.Prelude.{◌≡◌, ◌≤ℤ◌, ◌<ℤ◌, ◌^◌, pos, ℤ, Bool, Option, Some, None}
+use Rattle.std.specs.Prelude.{◌≡◌, ◌≤ℤ◌, ◌<ℤ◌, ◌^◌, pos, ℤ, Bool, true, false, Option, Some, None}
 use Rattle.row_delta.specs.declared.row.Named.{Named}
 use Rattle.row_delta.specs.declared.row.Row.{Row}
 use Rattle.rule_model.specs.declared.program.Program.{Program}
@@ -30,3 +30,10 @@ IsQuiet p node until = (look : Look) (s : Snapshot) (rows : Row → Bool) (forgo
     → pos 0 ≤ℤ s.clock → s.clock ≤ℤ clock → clock <ℤ pos (2 ^ 63) → IsBefore until clock
     → ((who : Named) → candidates_of p (pattern_of (condition_of node)) (at_clock s clock) who ≡ candidates_of p (pattern_of (condition_of node)) s who)
     → (row : Row) → cleaned (line p (at_clock s clock) (condition_of node) rows) forgotten row ≡ cleaned (line p s (condition_of node) rows) forgotten row
+
+-- at this moment the clock alone makes a row of rows before the condition, where it does not change the candidates
+abbrev pub IsDue : Program → Node → ℤ → Type 0
+IsDue p node moment = (look : Look) (s : Snapshot) (rows : Row → Bool) (forgotten : Named → Bool)
+    → HaveDistinctTags s.facts → HasAllOf look s forgotten → NameHeld s rows → NodeStands p node look s rows forgotten
+    → ((who : Named) → candidates_of p (pattern_of (condition_of node)) (at_clock s moment) who ≡ candidates_of p (pattern_of (condition_of node)) s who)
+    → (row : Row) × (cleaned (line p s (condition_of node) rows) forgotten row ≡ false) × (cleaned (line p (at_clock s moment) (condition_of node) rows) forgotten row ≡ true)

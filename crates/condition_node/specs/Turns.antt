@@ -4,9 +4,11 @@ use Rattle.row_delta.specs.declared.delta.Delta.{Delta}
 use Rattle.row_delta.specs.declared.row.Named.{Named}
 use Rattle.row_delta.specs.declared.row.Row.{Row}
 use Rattle.row_change.specs.Changes.{Leads}
-use Rattle.rule_model.specs.declared.condition.Pattern.{Pattern}
+use Rattle.rule_model.specs.declared.condition.Condition.{Condition}
+use Rattle.rule_model.specs.declared.condition.Condition.TheVariants.{Plain}
 use Rattle.rule_model.specs.declared.program.Program.{Program}
 use Rattle.rule_model.specs.Distinct.{HaveDistinctTags}
+use Rattle.rule_model.specs.Rows.{pattern_of}
 use Rattle.rule_model.specs.Snapshots.{Snapshot}
 use Rattle.join_tests.specs.Joins.{Look, joins}
 use Rattle.pair_memory.specs.Inputs.{IsNameDifference}
@@ -15,9 +17,16 @@ use Rattle.tally_node.specs.Laws.{ForgottenStay}
 use Rattle.condition_rows.specs.Sets.{candidates_of}
 use Rattle.condition_rows.specs.Looks.{HasAllOf, NameHeld}
 
+-- What a condition counts or gathers of forgotten facts stays as it is, and for rows that come there is none of it. A condition that binds
+-- a fact counts nothing: its rows name what they are made of.
+abbrev pub CountedStay : Condition → Program → Look → Snapshot → Snapshot → (Row → Bool) → (Row → Bool) → (Named → Bool) → Delta → Type 0
+CountedStay (Plain q) p world s next rows rows_now forgotten left = Unit {0}
+CountedStay c p world s next rows rows_now forgotten left =
+    ForgottenStay (joins (pattern_of c) world) rows rows_now (candidates_of p (pattern_of c) s) (candidates_of p (pattern_of c) next) forgotten left
+
 -- The true differences of the rows of the conditions before a node and of its candidates, from one snapshot to the next, of what names no
 -- forgotten fact. The store has at hand what is remembered of both snapshots; `world` has all of both.
-pub record IsTurn (p : Program) (pattern : Pattern) (look world : Look) (s next : Snapshot) (rows rows_now : Row → Bool) (forgotten : Named → Bool) (left right : Delta) : Type 0 where
+pub record IsTurn (p : Program) (condition : Condition) (look world : Look) (s next : Snapshot) (rows rows_now : Row → Bool) (forgotten : Named → Bool) (left right : Delta) : Type 0 where
   pub tags : HaveDistinctTags s.facts
   pub tags_now : HaveDistinctTags next.facts
   pub clock : s.clock ≤ℤ next.clock
@@ -27,6 +36,6 @@ pub record IsTurn (p : Program) (pattern : Pattern) (look world : Look) (s next 
   pub known_now : HasAllOf world next no_names
   pub named : NameHeld s rows
   pub named_now : NameHeld next rows_now
-  pub stay : ForgottenStay (joins pattern world) rows rows_now (candidates_of p pattern s) (candidates_of p pattern next) forgotten left
+  pub stay : CountedStay condition p world s next rows rows_now forgotten left
   pub leads : Leads (cleaned rows forgotten) (cleaned rows_now forgotten) left.gone left.come
-  pub candidates : IsNameDifference (remembered (candidates_of p pattern s) forgotten) (remembered (candidates_of p pattern next) forgotten) right
+  pub candidates : IsNameDifference (remembered (candidates_of p (pattern_of condition) s) forgotten) (remembered (candidates_of p (pattern_of condition) next) forgotten) right

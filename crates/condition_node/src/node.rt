@@ -1,23 +1,28 @@
-ghost use Rattle.std.specs.Prelude.{◌≡◌, ◌-ℤ◌, ◌+ℤ◌, ◌≤ℤ◌, ◌<ℤ◌, ◌^◌, pos, ℤ, Bool, IfOk, OnOk};
+ghost use Rattle.std.specs.Prelude.{◌≡◌, ◌-ℤ◌, ◌+ℤ◌, ◌≤ℤ◌, ◌<ℤ◌, ◌^◌, pos, ℤ, not, Bool, true, false, None, IfOk, IfSome, OnOk, IsTrue};
+ghost use Rattle.row_delta.specs.declared.delta.Delta.{Delta};
 ghost use Rattle.row_delta.specs.declared.row.Named.{Named};
 ghost use Rattle.row_delta.specs.declared.row.Row.{Row};
-ghost use Rattle.row_change.specs.Changes.{IsDifference};
+ghost use Rattle.row_delta.specs.Rows.{has, InOrder};
+ghost use Rattle.row_change.specs.Changes.{IsDifference, changes_nothing};
+ghost use Rattle.rule_model.specs.declared.program.Program.{Program};
 ghost use Rattle.rule_model.specs.Rows.{pattern_of};
 ghost use Rattle.rule_model.specs.Snapshots.{Snapshot};
 ghost use Rattle.rule_model.specs.Types.{lateness_of};
 ghost use Rattle.join_tests.specs.Joins.{Look};
-ghost use Rattle.pair_memory.specs.Standing.{cleaned, no_rows};
+ghost use Rattle.pair_memory.specs.Joined.{has_name};
+ghost use Rattle.pair_memory.specs.Standing.{clean, cleaned, either, no_rows};
 ghost use Rattle.condition_rows.specs.Lines.{line};
 ghost use Rattle.condition_rows.specs.Looks.{empty_snapshot};
-ghost use Rattle.condition_node.specs.Nodes.{condition_of, NodeStands};
-ghost use Rattle.condition_node.specs.Quiet.{IsBefore, IsQuiet};
+ghost use Rattle.condition_node.specs.Forgetting.{ForgetsIn};
+ghost use Rattle.condition_node.specs.Nodes.{condition_of, is_negated, NodeStands};
+ghost use Rattle.condition_node.specs.Quiet.{IsBefore, IsDue, IsQuiet};
 ghost use Rattle.condition_node.specs.Turns.{IsTurn};
 
 use crate::copying::Copied;
 use beta_join::BetaJoin;
-use fx_base::{EntryId, Facts, Millis, NoMemory};
+use fx_base::{EntryId, Facts, Millis, NoMemory, Seq};
 use not_node::NotNode;
-use row_delta::Delta;
+use row_delta::{Delta, Named, Row};
 use rule_model::{Accumulate, Condition, Pattern, Program};
 use std::alloc::Global;
 use tally_node::{Gathered, TallyNode, Witnesses};
@@ -47,7 +52,8 @@ fn told_to(program: &Program, entry: EntryId, clock: Millis) -> i128
 
 /// The clock from which a moment is past at an entry point of this lateness; nothing where no clock of 64 bits comes so far.
 fn clock_past(at: i128, lateness: Millis) -> Option<i128>
-    ensures { (clock : ℤ) → pos 0 ≤ℤ (at +ℤ lateness) → clock <ℤ pos (2 ^ 63) → IsBefore result clock → (clock -ℤ lateness) ≤ℤ at }
+    ensures reaches { (clock : ℤ) → pos 0 ≤ℤ (at +ℤ lateness) → clock <ℤ pos (2 ^ 63) → IsBefore result clock → (clock -ℤ lateness) ≤ℤ at }
+    ensures exact { IfSome result (λ moment. moment ≡ (at +ℤ lateness) +ℤ pos 1) }
 {
     at.checked_add(i128::from(lateness) + 1)
 }
@@ -108,11 +114,11 @@ impl Node {
         ensures condition { OnOk result (condition_of self.new ≡ condition_of self.old) }
         ensures stands { OnOk result ((world : Look) (s next : Snapshot) (rows rows_now : Row → Bool) (forgotten : Named → Bool)
             → NodeStands program.now self.old (F.map facts.now) s rows forgotten → next.clock ≡ clock
-            → IsTurn program.now (pattern_of (condition_of self.old)) (F.map facts.now) world s next rows rows_now forgotten left.now right.now
+            → IsTurn program.now (condition_of self.old) (F.map facts.now) world s next rows rows_now forgotten left.now right.now
             → NodeStands program.now self.new (F.map facts.now) next rows_now forgotten) }
         ensures difference { IfOk result (λ delta. (world : Look) (s next : Snapshot) (rows rows_now : Row → Bool) (forgotten : Named → Bool)
             → NodeStands program.now self.old (F.map facts.now) s rows forgotten → next.clock ≡ clock
-            → IsTurn program.now (pattern_of (condition_of self.old)) (F.map facts.now) world s next rows rows_now forgotten left.now right.now
+            → IsTurn program.now (condition_of self.old) (F.map facts.now) world s next rows rows_now forgotten left.now right.now
             → IsDifference (cleaned (line program.now s (condition_of self.old) rows) forgotten) (cleaned (line program.now next (condition_of self.old) rows_now) forgotten) delta) }
     {
         match self {
@@ -136,10 +142,84 @@ impl Node {
             }
         }
     }
-    /// The clock, in milliseconds, from which a row that waits is mature: until then a move of the clock alone, which changes no
-    /// candidates, changes nothing here. `None` where no row waits. Takes no memory.
+
+    /// Drops the rows of the conditions before this one that name an old fact (`rows`), and the old candidates, and answers the rows
+    /// of the condition that go with them, in order. What it counts or gathers beside rows that stay is left as it is, old facts
+    /// included. `facts` still has the old facts. It costs what a step costs in which these rows and candidates go; where there
+    /// are none, a comparison.
+    pub fn forget<F: Facts>(
+        &mut self,
+        alloc: Global,
+        program: &Program,
+        rows: &[Row],
+        old: &[Named],
+        facts: &F,
+    ) -> Result<Seq<Row>, NoMemory>
+        ensures condition { OnOk result (condition_of self.new ≡ condition_of self.old) }
+        ensures stands { OnOk result ((s : Snapshot) (left : Row → Bool) (forgotten : Named → Bool)
+            → ForgetsIn program.now self.old (F.map facts.now) s left forgotten (has_name old.now) rows.now
+            → NodeStands program.now self.new (F.map facts.now) s left (either forgotten (has_name old.now))) }
+        ensures dropped { IfOk result (λ gone. (s : Snapshot) (left : Row → Bool) (forgotten : Named → Bool)
+            → ForgetsIn program.now self.old (F.map facts.now) s left forgotten (has_name old.now) rows.now
+            → (row : Row) → cleaned (line program.now s (condition_of self.old) left) forgotten row ≡ true → has gone row ≡ not (clean (has_name old.now) row)) }
+        ensures dropped_alone { IfOk result (λ gone. (s : Snapshot) (left : Row → Bool) (forgotten : Named → Bool)
+            → ForgetsIn program.now self.old (F.map facts.now) s left forgotten (has_name old.now) rows.now
+            → (row : Row) → has gone row ≡ true → cleaned (line program.now s (condition_of self.old) left) forgotten row ≡ true) }
+        ensures in_order { IfOk result (λ gone. (s : Snapshot) (left : Row → Bool) (forgotten : Named → Bool)
+            → ForgetsIn program.now self.old (F.map facts.now) s left forgotten (has_name old.now) rows.now → InOrder gone) }
+    {
+        if rows.is_empty() && old.is_empty() {
+            return Ok(Seq::from_vec(Vec::new(alloc)));
+        }
+        match self {
+            Node::Join(join) => {
+                let gone = join.forget(alloc, rows, old, facts)?;
+                Ok(gone)
+            }
+            Node::Not(waiting) => {
+                let gone = waiting.forget(alloc, program, rows, old, facts)?;
+                Ok(gone)
+            }
+            Node::Exists(tally) => {
+                let gone = tally.forget(alloc, &(), rows, old, facts)?;
+                Ok(gone)
+            }
+            Node::Fold(fold) => {
+                let FoldNode { accumulate, tally } = fold;
+                let gone = tally.forget(alloc, accumulate, rows, old, facts)?;
+                Ok(gone)
+            }
+        }
+    }
+
+    /// Whether the node stays as it is, and with it what its condition makes, whatever the clock, where nothing changes in the
+    /// rows before it and in its candidates. So it is but for a `not`, for which a row may become mature. Takes no memory.
+    pub fn is_still(&self) -> bool
+        ensures exact { result ≡ not (is_negated (condition_of self.now)) }
+        ensures stands { IsTrue result → (p : Program) (look world : Look) (s next : Snapshot) (rows rows_now : Row → Bool) (forgotten : Named → Bool) (left right : Delta)
+            → changes_nothing left ≡ true → changes_nothing right ≡ true
+            → NodeStands p self.now look s rows forgotten → IsTurn p (condition_of self.now) look world s next rows rows_now forgotten left right
+            → NodeStands p self.now look next rows_now forgotten }
+        ensures rows { IsTrue result → (p : Program) (look world : Look) (s next : Snapshot) (rows rows_now : Row → Bool) (forgotten : Named → Bool) (left right : Delta)
+            → changes_nothing left ≡ true → changes_nothing right ≡ true
+            → NodeStands p self.now look s rows forgotten → IsTurn p (condition_of self.now) look world s next rows rows_now forgotten left right
+            → (row : Row) → cleaned (line p next (condition_of self.now) rows_now) forgotten row ≡ cleaned (line p s (condition_of self.now) rows) forgotten row }
+    {
+        match self {
+            Node::Not(_) => false,
+            Node::Join(_) => true,
+            Node::Exists(_) => true,
+            Node::Fold(_) => true,
+        }
+    }
+
+    /// The least clock, in milliseconds, at which a row that waits is mature: until then a move of the clock alone, which changes
+    /// no candidates, changes nothing here, and with it a row comes. `None` where no row waits, or for no clock of 128 bits.
+    /// Takes no memory.
     pub fn quiet_until(&self, program: &Program) -> Option<i128>
-        ensures { IsQuiet program.now self.now result }
+        ensures quiet { IsQuiet program.now self.now result }
+        ensures due { IfSome result (λ moment. IsDue program.now self.now moment) }
+        ensures others { is_negated (condition_of self.now) ≡ false → result ≡ None }
     {
         match self {
             Node::Not(waiting) => match waiting.next_moment() {

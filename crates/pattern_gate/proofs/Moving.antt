@@ -177,12 +177,19 @@ module _ (p : Program) (q : Pattern) (s next : Snapshot) (gone : List Fact) (com
     rows_whole (Time span) e was now list = absurd (let n : false ≡ true = e in cc)
     rows_whole (Length count) e was now list = absurd (let n : false ≡ true = e in cc)
 
-    pub nothing_differs : (delta : Delta) → ((rows : Row → Bool) → IsDifference rows rows delta) → IsNameDifference (candidates_of p q s) (candidates_of p q next) delta
-    nothing_differs delta nothing =
-        let old = rows_inside (kind_of q.window) s.clock (arrivals p q s) in
-        names_differ p q s next moves.before moves.after delta
-        (subst (λ (rows : List Row). IsDifference (has old) (has rows) delta)
-        (rows_whole q.window whole s.clock next.clock (arrivals p q s) ∙ ap (rows_inside (kind_of q.window) next.clock) same_arrivals) (nothing (has old)))
+    pub candidates_still : (who : Named) → candidates_of p q next who ≡ candidates_of p q s who
+    candidates_still who =
+        sym (rows_named p q next moves.after.in_order who)
+        ∙ ap (λ (rows : List Row). has rows (row_naming who))
+        (sym (rows_whole q.window whole s.clock next.clock (arrivals p q s) ∙ ap (rows_inside (kind_of q.window) next.clock) same_arrivals))
+        ∙ rows_named p q s moves.before.in_order who
+
+-- where the candidates are the same, nothing goes and nothing comes
+pub nothing_differs : (names names_now : Named → Bool) → ((who : Named) → names_now who ≡ names who) → (delta : Delta) → ((rows : Row → Bool) → IsDifference rows rows delta) → IsNameDifference names names_now delta
+nothing_differs names names_now same delta nothing = record {
+  goes = λ who. let is = nothing (λ row. names who) in is.leads.goes (row_naming who) ∙ ap (λ b. names who && not b) (sym (same who));
+  comes = λ who. let is = nothing (λ row. names who) in is.leads.comes (row_naming who) ∙ ap (λ b. b && not (names who)) (sym (same who));
+}
 
 -- ---- the clock alone
 

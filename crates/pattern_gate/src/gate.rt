@@ -1,4 +1,4 @@
-ghost use Rattle.std.specs.Prelude.{◌≡◌, Bool, true, ℤ, ◌≤ℤ◌, ◌<ℤ◌, List, option_map, IfOk, OnOk, IfSome};
+ghost use Rattle.std.specs.Prelude.{◌≡◌, ◌&&◌, not, Bool, true, ℤ, ◌≤ℤ◌, ◌<ℤ◌, List, option_map, IfOk, OnOk, IfSome, IsTrue};
 ghost use Rattle.std.specs.List.{list_any};
 ghost use Rattle.fx_base.specs.Lists.{In};
 ghost use Rattle.fx_base.specs.declared.fact.Fact.{Fact};
@@ -10,6 +10,7 @@ ghost use Rattle.rule_model.specs.declared.condition.Pattern.{Pattern};
 ghost use Rattle.rule_model.specs.declared.program.Program.{Program};
 ghost use Rattle.rule_model.specs.Candidates.{candidates};
 ghost use Rattle.rule_model.specs.Lent.{lent};
+ghost use Rattle.rule_model.specs.Simple.{is_whole};
 ghost use Rattle.rule_model.specs.Snapshots.{Snapshot};
 ghost use Rattle.rule_model.specs.Tuples.{name_of};
 ghost use Rattle.pair_memory.specs.Inputs.{IsNameDifference};
@@ -60,6 +61,19 @@ impl PatternGate {
         self.gate.quiet_until()
     }
 
+    /// Whether the gate stays as it is, and with it the candidates, whatever the clock, where these facts go and this one comes,
+    /// if one does: the pattern has no window, and none of these facts is meant. Of each fact it costs the constant tests. Takes
+    /// no memory.
+    pub fn is_still(&self, pattern: &Pattern, gone: &[&Fact], come: Option<&Fact>) -> bool
+        ensures exact { result ≡ (is_whole pattern.now.window && not (is_one_meant pattern.now (lent gone.now) (option_map (λ f. f.now) come.entry))) }
+        ensures stands { IsTrue result → (p : Program) (s next : Snapshot) → GateStands p pattern.now self.now s
+            → Moves p s next (lent gone.now) (option_map (λ f. f.now) come.entry) → GateStands p pattern.now self.now next }
+        ensures candidates { IsTrue result → (p : Program) (s next : Snapshot)
+            → Moves p s next (lent gone.now) (option_map (λ f. f.now) come.entry) → (who : Named) → candidates_of p pattern.now next who ≡ candidates_of p pattern.now s who }
+    {
+        pattern.window.is_whole() && !is_one_meant(pattern, gone, come)
+    }
+
     /// Takes the facts that go and the one that comes, if one does, and the clock in milliseconds, and answers what has changed
     /// in the candidates of the pattern, each named by a row of its own. For each of these facts it costs the constant tests,
     /// and for those that fit the logarithm of what a window keeps. Where no fact fits and no window has something due, it costs
@@ -79,7 +93,7 @@ impl PatternGate {
             → Moves program.now s next (lent gone.now) (option_map (λ f. f.now) come.entry) → next.clock ≡ clock
             → IsNameDifference (candidates_of program.now pattern.now s) (candidates_of program.now pattern.now next) delta) }
     {
-        if pattern.window.is_whole() && !is_one_meant(pattern, gone, come) {
+        if self.is_still(pattern, gone, come) {
             let delta = Change::none(alloc).delta(alloc)?;
             return Ok(delta);
         }

@@ -30,6 +30,7 @@ use Rattle.pattern_gate.specs.Moves.{Moves}
 use Rattle.condition_node.specs.declared.node.Node.{Node}
 use Rattle.condition_node.specs.Nodes.{condition_of, NodeStands}
 use Rattle.condition_node.specs.Turns.{IsTurn}
+use Rattle.condition_node.proofs.Turning.{none_counted}
 use Rattle.rete_net.specs.declared.node.NetNode.{NetNode}
 use Rattle.rete_net.specs.Steps.{IsNodeTurn, NodeStep}
 
@@ -93,7 +94,7 @@ module _ (p : Program) (look : Look) (gone : List Fact) (come : Option Fact) (cl
 
   abbrev Steps : ℤ → (Snapshot → Snapshot → (Row → Bool) → (Row → Bool) → (Named → Bool) → Type 0) → Type 0
   Steps at claim = (world : Look) (s next : Snapshot) (rows rows_now : Row → Bool) (forgotten : Named → Bool) → NodeStands p old.node look s rows forgotten → next.clock ≡ at
-      → IsTurn p meant look world s next rows rows_now forgotten left right → claim s next rows rows_now forgotten
+      → IsTurn p (condition_of old.node) look world s next rows rows_now forgotten left right → claim s next rows rows_now forgotten
 
   abbrev NodeStays : ℤ → Type 0
   NodeStays at = Steps at (λ s next rows rows_now forgotten. NodeStands p new.node look next rows_now forgotten)
@@ -112,7 +113,7 @@ module _ (p : Program) (look : Look) (gone : List Fact) (come : Option Fact) (cl
         subst (λ (set : Named → Bool). IsNameDifference set (remembered (candidates_of p meant next) no_names) right) (sym (remembered_none (candidates_of p meant s)))
         (subst (λ (set : Named → Bool). IsNameDifference (candidates_of p meant s) set right) (sym (remembered_none (candidates_of p meant next))) names)
 
-    turn : IsTurn p meant look look s next rows rows_now no_names left right
+    turn : IsTurn p (condition_of old.node) look look s next rows rows_now no_names left right
     turn = record {
       tags = rising s.facts is.moves.before.in_order;
       tags_now = rising next.facts is.moves.after.in_order;
@@ -123,7 +124,7 @@ module _ (p : Program) (look : Look) (gone : List Fact) (come : Option Fact) (cl
       known_now = is.at_hand_now;
       named = is.named;
       named_now = is.named_now;
-      stay = record { stays = λ row who e f g. absurd (torn false g refl); comes = λ row who e g. absurd (torn false g refl) };
+      stay = none_counted p look s next rows rows_now left (condition_of old.node);
       leads = cleaned_leads;
       candidates = remembered_names;
     }

@@ -1,32 +1,44 @@
-use Rattle.std.proofs.Common.{◌≡◌, ◌∙◌, sym, ap, subst, pos, ℤ, ◌+ℤ◌, ◌-ℤ◌, ◌≤ℤ◌, ◌<ℤ◌, ◌^◌, None, SFits, w64, to_z-of_z}
+use Rattle.std.proofs.Common.{◌≡◌, ◌∙◌, sym, ap, subst, pos, ℤ, ◌+ℤ◌, ◌-ℤ◌, ◌≤ℤ◌, ◌<ℤ◌, ◌^◌, None, IfSome, SFits, w64, to_z-of_z}
 use Rattle.std.specs.Int.{w128}
 use Rattle.rule_model.specs.declared.condition.Pattern.{Pattern}
 use Rattle.rule_model.specs.Types.{lateness_of}
 use Rattle.condition_node.specs.declared.node.Node.{Node}
-use Rattle.condition_node.specs.Quiet.{IsBefore, IsQuiet}
-use Rattle.condition_node.proofs.Quietness.{join_quiet, exists_quiet, fold_quiet, none_due, due_at}
+use Rattle.condition_node.specs.Quiet.{IsBefore, IsDue, IsQuiet}
+use Rattle.condition_node.proofs.Quietness.{join_quiet, exists_quiet, fold_quiet, none_due, due_at, if_due}
 use Rattle.condition_node.proofs.node.Node.quiet_until.Goals as goal
 
-pub returns-in-Some : goal.returns-in-Some
-returns-in-Some c =
+pub returns-in-Some-clause-quiet : goal.returns-in-Some-clause-quiet
+returns-in-Some-clause-quiet c =
     let p = c.args.program.now in
     let told = c.in-Some.ensures in
     let fits : SFits w128 c.in-Some.at = search in
     let small : SFits w64 c.lateness.result = search in
-    let reaches = simp to_z-of_z at c.clock_past.ensures in
+    let reaches = simp to_z-of_z at c.clock_past.ensures.reaches in
     let late = c.lateness.ensures ∙ ap (λ (q : Pattern). lateness_of p q.entry.0) c.pattern.ensures in
     subst (λ (n : Node). IsQuiet p n c.clock_past.result) (sym c.in-Not.is)
     (due_at p c.in-Not.waiting c.clock_past.result c.in-Some.at told.waits.0 told.waits.1 told.least
     (subst (λ (l : ℤ). (clock : ℤ) → pos 0 ≤ℤ (c.in-Some.at +ℤ l) → clock <ℤ pos (2 ^ 63) → IsBefore c.clock_past.result clock → (clock -ℤ l) ≤ℤ c.in-Some.at) late reaches))
 
-pub returns-in-None : goal.returns-in-None
-returns-in-None c = subst (λ (n : Node). IsQuiet c.args.program.now n None) (sym c.in-Not.is) (none_due c.args.program.now c.in-Not.waiting c.in-None.ensures.least)
+pub returns-in-Some-clause-due : goal.returns-in-Some-clause-due
+returns-in-Some-clause-due c =
+    let p = c.args.program.now in
+    let told = c.in-Some.ensures in
+    let fits : SFits w128 c.in-Some.at = search in
+    let small : SFits w64 c.lateness.result = search in
+    let exact = simp to_z-of_z at c.clock_past.ensures.exact in
+    let late = c.lateness.ensures ∙ ap (λ (q : Pattern). lateness_of p q.entry.0) c.pattern.ensures in
+    subst (λ (n : Node). IfSome c.clock_past.result (λ moment. IsDue p n moment)) (sym c.in-Not.is)
+    (if_due p c.in-Not.waiting c.in-Some.at told.waits.0 told.waits.1 c.clock_past.result
+    (subst (λ (l : ℤ). IfSome c.clock_past.result (λ moment. moment ≡ (c.in-Some.at +ℤ l) +ℤ pos 1)) late exact))
 
-pub returns-in-Join : goal.returns-in-Join
-returns-in-Join c = subst (λ (n : Node). IsQuiet c.args.program.now n None) (sym c.in-Join.is) (join_quiet c.args.program.now c.in-Join.field-0 None)
+pub returns-in-None-clause-quiet : goal.returns-in-None-clause-quiet
+returns-in-None-clause-quiet c = subst (λ (n : Node). IsQuiet c.args.program.now n None) (sym c.in-Not.is) (none_due c.args.program.now c.in-Not.waiting c.in-None.ensures.least)
 
-pub returns-in-Exists : goal.returns-in-Exists
-returns-in-Exists c = subst (λ (n : Node). IsQuiet c.args.program.now n None) (sym c.in-Exists.is) (exists_quiet c.args.program.now c.in-Exists.field-0 None)
+pub returns-in-Join-clause-quiet : goal.returns-in-Join-clause-quiet
+returns-in-Join-clause-quiet c = subst (λ (n : Node). IsQuiet c.args.program.now n None) (sym c.in-Join.is) (join_quiet c.args.program.now c.in-Join.field-0 None)
 
-pub returns-in-Fold : goal.returns-in-Fold
-returns-in-Fold c = subst (λ (n : Node). IsQuiet c.args.program.now n None) (sym c.in-Fold.is) (fold_quiet c.args.program.now c.in-Fold.field-0 None)
+pub returns-in-Exists-clause-quiet : goal.returns-in-Exists-clause-quiet
+returns-in-Exists-clause-quiet c = subst (λ (n : Node). IsQuiet c.args.program.now n None) (sym c.in-Exists.is) (exists_quiet c.args.program.now c.in-Exists.field-0 None)
+
+pub returns-in-Fold-clause-quiet : goal.returns-in-Fold-clause-quiet
+returns-in-Fold-clause-quiet c = subst (λ (n : Node). IsQuiet c.args.program.now n None) (sym c.in-Fold.is) (fold_quiet c.args.program.now c.in-Fold.field-0 None)
