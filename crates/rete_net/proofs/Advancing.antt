@@ -19,10 +19,11 @@ use Rattle.condition_rows.specs.Lines.{empty_row}
 use Rattle.condition_rows.proofs.Naming.{rows_named}
 use Rattle.condition_rows.proofs.Whole.{one_more}
 use Rattle.rete_net.specs.declared.net.Rete.{Rete}
+use Rattle.rete_net.specs.declared.node.NetNode.{NetNode}
 use Rattle.rete_net.specs.Nets.{NodesStand, AreBetween}
-use Rattle.rete_net.specs.Shapes.{EndsAt}
+use Rattle.rete_net.specs.Shapes.{IsShaped, EndsAt, IsFront}
 use Rattle.rete_net.specs.Steps.{no_change, NetStep}
-use Rattle.rete_net.proofs.Chaining.{AreMade, IsGiven, AreStanding, standing_now, ends_now, answer_at}
+use Rattle.rete_net.proofs.Chaining.{AreMade, IsGiven, AreStanding, old_at, standing_now, ends_now, answer_at}
 use Rattle.rete_net.proofs.Turning.{rising}
 
 -- the rows of conditions are what the lines make of them
@@ -55,10 +56,13 @@ module _ (p : Program) (look : Look) (s next : Snapshot) (gone : List Fact) (com
     (old new : Rete) (conditions : ℕ → List Condition) (answers : List Delta)
     (given : IsGiven p look s next gone come clock) (made : AreMade p s was) (leads : Leads (was []) (rows_of p next []) first.gone first.come)
     (standing : AreStanding p s was old.nodes.items conditions) (ends : (place : ℕ) (rule : Rule) → slice_get p.rules place ≡ Some rule → EndsAt old.nodes.items conditions old.ends.items place rule)
-    (same : new.ends.items ≡ old.ends.items) (step : NetStep p look gone come clock first old.nodes.items new.nodes.items old.ends.items answers)
+    (fronts : (k : ℕ) (n : NetNode) → slice_get old.nodes.items k ≡ Some n → IsFront p (conditions k)) (same : new.ends.items ≡ old.ends.items) (step : NetStep p look gone come clock first old.nodes.items new.nodes.items old.ends.items answers)
     (listed : (place : ℕ) (rule : Rule) → slice_get p.rules place ≡ Some rule → was rule.conditions ≡ has (lists rule.conditions)) where
   distinct_now : HaveDistinctTags next.facts
   distinct_now = rising next.facts given.moves.after.in_order
+
+  pub shaped_now : IsShaped new.nodes.items conditions
+  shaped_now = (standing_now p look s next gone come clock first was (rows_of p next) old.nodes.items new.nodes.items conditions step.deltas given made (rows_made p next distinct_now) leads standing step.nodes step.stepped).shaped
 
   pub stands_now : NodesStand p new next
   stands_now =
@@ -69,6 +73,9 @@ module _ (p : Program) (look : Look) (s next : Snapshot) (gone : List Fact) (com
         ends = λ place rule e.
             subst (λ (places : List ℕ). EndsAt new.nodes.items conditions places place rule) (sym same)
             (ends_now p look s next gone come clock first was (rows_of p next) old.nodes.items new.nodes.items conditions step.deltas given made (rows_made p next distinct_now) leads standing step.nodes step.stepped old.ends.items place rule (ends place rule e));
+        fronts = λ k n f.
+            let old_node = old_at p look s next gone come clock first was (rows_of p next) old.nodes.items new.nodes.items conditions step.deltas given made (rows_made p next distinct_now) leads standing step.nodes step.stepped k n f in
+            fronts k old_node.0 old_node.1;
         windows = now.windows;
         nodes = now.stand;
       }

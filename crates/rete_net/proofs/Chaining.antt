@@ -99,7 +99,7 @@ module _ (p : Program) (look : Look) (s next : Snapshot) (gone : List Fact) (com
   answered k old e = all_below (suc k) k old (omega arith) (slice_get_within nodes k old e)
 
   -- the nodes behind the step, and what they were before it
-  old_at : (k : ℕ) (new : NetNode) → slice_get nodes_now k ≡ Some new → (old : NetNode) × (slice_get nodes k ≡ Some old)
+  pub old_at : (k : ℕ) (new : NetNode) → slice_get nodes_now k ≡ Some new → (old : NetNode) × (slice_get nodes k ≡ Some old)
   old_at k new f =
       let within : k < length nodes_now = slice_get_within nodes_now k new f in
       let lt : k < length nodes = omega arith in

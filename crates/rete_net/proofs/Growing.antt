@@ -6,6 +6,7 @@ use Rattle.std.proofs.lemmas.List.{take-append-le, append_assoc, take_more}
 use Rattle.std.proofs.lemmas.Option.{slice_get_within, slice_get-get_or}
 use Rattle.std.specs.List.{list_all}
 use Rattle.std.specs.Option.{unwrap_or}
+use Rattle.fx_base.specs.Lists.{In}
 use Rattle.rule_model.specs.declared.condition.Condition.{Condition}
 use Rattle.rule_model.specs.declared.program.Program.{Program}
 use Rattle.rule_model.specs.declared.program.Rule.{Rule}
@@ -15,10 +16,12 @@ use Rattle.pair_memory.specs.Standing.{no_rows}
 use Rattle.condition_rows.specs.Looks.{empty_snapshot}
 use Rattle.pattern_gate.specs.Gates.{has_good_window}
 use Rattle.condition_node.specs.Nodes.{condition_of}
+use Rattle.rete_net.specs.declared.build.Origin.{Origin}
 use Rattle.rete_net.specs.declared.node.NetNode.{NetNode}
 use Rattle.rete_net.specs.Nets.{NetNodeStands}
+use Rattle.rete_net.specs.Shapes.{IsFront}
 use Rattle.rule_world.specs.Programs.{has_window}
-use Rattle.rete_net.specs.Building.{IsParent, IsBehind, AreBuilt, HaveEnds}
+use Rattle.rete_net.specs.Building.{IsParent, IsBehind, AreBuilt, HaveEnds, AreDistinct, IsFrom, AreGrown}
 use Rattle.rete_net.proofs.Turns.{below_or_at}
 
 -- ---- lists with one element more
@@ -91,30 +94,152 @@ pub ending : (all : List (List Condition)) (last : Option ℕ) (cs : List Condit
 ending all None cs is h = absurd (nothing_short cs h is)
 ending all (Some last) cs is h = is
 
--- ---- one condition more of a rule
+-- ---- conditions before a node
 
-module _ (p : Program) (nodes : List NetNode) (all more : List (List Condition)) (node : NetNode) (conditions : List Condition) (i : ℕ) (condition : Condition)
-    (built : AreBuilt p nodes (all ++ more)) (parent : IsParent (all ++ more) node.parent (take i conditions)) (own_is : condition_of node.node ≡ condition) (item : condition ≡ get_or conditions i condition)
-    (within : i < length conditions) (windows : list_all (has_window p) conditions ≡ true) (fresh : NetNodeStands p node empty_snapshot no_rows) where
-  next_is : take i conditions ++ condition_of node.node ∷ [] ≡ take (i + 1) conditions
-  next_is = ap (λ (c : Condition). take i conditions ++ c ∷ []) (own_is ∙ item) ∙ sym (take_more conditions i condition within)
+-- nothing ends in an element
+nothing_last : {A : Type 0} (xs : List A) (x : A) → [] ≡ xs ++ x ∷ [] → ⊥
+nothing_last [] x e = cc
+nothing_last (y ∷ xs) x e = cc
+
+-- lists with one element more are equal where both parts are
+pub parted : {A : Type 0} (xs ys : List A) (x y : A) → xs ++ x ∷ [] ≡ ys ++ y ∷ [] → (xs ≡ ys) × (x ≡ y)
+parted [] [] x y e = let same : x ≡ y = cc in (refl, same)
+parted [] (b ∷ ys) x y e = let rest : [] ≡ ys ++ y ∷ [] = cc in absurd (nothing_last ys y rest)
+parted (a ∷ xs) [] x y e = let rest : [] ≡ xs ++ x ∷ [] = cc in absurd (nothing_last xs x rest)
+parted (a ∷ xs) (b ∷ ys) x y e =
+    let rest : xs ++ x ∷ [] ≡ ys ++ y ∷ [] = cc in
+    let is = parted xs ys x y rest in
+    let first : a ≡ b = cc in
+    (ap (λ (z : _). z ∷ xs) first ∙ ap (λ (zs : List _). b ∷ zs) is.0, is.1)
+
+-- what stands in a front stands in the list
+in_whole : {A : Type 0} (n : ℕ) (xs : List A) (k : ℕ) (x : A) → slice_get (take n xs) k ≡ Some x → slice_get xs k ≡ Some x
+in_whole zero xs k x e = absurd (let no : None ≡ Some x = e in cc)
+in_whole (suc n) [] k x e = e
+in_whole (suc n) (y ∷ xs) zero x e = e
+in_whole (suc n) (y ∷ xs) (suc k) x e = in_whole n xs k x e
+
+-- a place in a list has an element
+pub has_at : {A : Type 0} (xs : List A) (k : ℕ) → k < length xs → (x : A) × (slice_get xs k ≡ Some x)
+has_at [] k h = absurd (omega arith)
+has_at (x ∷ xs) k h = (get_or (x ∷ xs) k x, slice_get-get_or (x ∷ xs) k x h)
+
+both_at : {A : Type 0} (o : Option A) (x y : A) → o ≡ Some x → o ≡ Some y → x ≡ y
+both_at o x y e f = let same : Some x ≡ Some y = sym e ∙ f in cc
+
+-- ---- one node more among distinct ones
+
+module _ (p : Program) (nodes : List NetNode) (origins : List Origin) (all : List (List Condition)) (grown : AreGrown p nodes origins all) where
+  node_of : (k : ℕ) (cs : List Condition) → slice_get all k ≡ Some cs → (n : NetNode) × (slice_get nodes k ≡ Some n)
+  node_of k cs e =
+      let same = grown.built.length in
+      let within : k < length all = slice_get_within all k cs e in
+      has_at nodes k (omega arith)
+
+  whole_parent : (k : ℕ) (o : Option ℕ) (cs : List Condition) → IsParent (take k all) o cs → IsParent all o cs
+  whole_parent k None cs is = is
+  whole_parent k (Some parent) cs is = in_whole k all parent cs is
+
+  same_before : (o : Option ℕ) (cs ds : List Condition) → IsParent all o cs → IsParent all o ds → cs ≡ ds
+  same_before None cs ds is other = is ∙ sym other
+  same_before (Some parent) cs ds is other = both_at (slice_get all parent) cs ds is other
+
+  never_empty : (k : ℕ) (cs : List Condition) → cs ≡ [] → slice_get all k ≡ Some cs → ⊥
+  never_empty k cs none e =
+      let n = node_of k cs e in
+      let is = grown.built.behind k n.0 n.1 in
+      nothing_last is.before (condition_of n.0.node) (sym none ∙ both_at (slice_get all k) cs (is.before ++ condition_of n.0.node ∷ []) e is.own)
+
+  same_parent : (o r : Option ℕ) (cs : List Condition) → IsParent all o cs → IsParent all r cs → o ≡ r
+  same_parent None None cs is other = refl
+  same_parent None (Some k) cs is other = absurd (never_empty k cs is other)
+  same_parent (Some k) None cs is other = absurd (never_empty k cs other is)
+  same_parent (Some j) (Some k) cs is other = ap Some (grown.distinct j k cs is other)
+
+  module _ (parent : Option ℕ) (front : List Condition) (c : Condition) (behind : IsParent all parent front) where
+    -- the node that is there, of this parent and this condition
+    pub found_node : (k : ℕ) (origin : Origin) → slice_get origins k ≡ Some origin → origin.parent ≡ parent → origin.condition.now ≡ c → slice_get all k ≡ Some (front ++ c ∷ [])
+    found_node k origin e same own =
+        let count = grown.count in
+        let within : k < length origins = slice_get_within origins k origin e in
+        let n = has_at nodes k (omega arith) in
+        let from = grown.from k n.0 origin n.1 e in
+        let is = grown.built.behind k n.0 n.1 in
+        let front_is : is.before ≡ front = same_before parent is.before front (subst (λ (o : Option ℕ). IsParent all o is.before) (from.parent ∙ same) (whole_parent k n.0.parent is.before is.parent)) behind in
+        is.own ∙ ap (λ (cs : List Condition). Some (cs ++ condition_of n.0.node ∷ [])) front_is ∙ ap (λ (d : Condition). Some (front ++ d ∷ [])) (from.condition ∙ own)
+
+    -- where none is there, no node has these conditions
+    pub no_node : ((k : ℕ) (origin : Origin) → slice_get origins k ≡ Some origin → origin.parent ≡ parent → origin.condition.now ≡ c → ⊥) → (k : ℕ) → slice_get all k ≡ Some (front ++ c ∷ []) → ⊥
+    no_node missing k e =
+        let n = node_of k (front ++ c ∷ []) e in
+        let within : k < length nodes = slice_get_within nodes k n.0 n.1 in
+        let count = grown.count in
+        let origin = has_at origins k (omega arith) in
+        let from = grown.from k n.0 origin.0 n.1 origin.1 in
+        let is = grown.built.behind k n.0 n.1 in
+        let parts = parted is.before front (condition_of n.0.node) c (both_at (slice_get all k) (is.before ++ condition_of n.0.node ∷ []) (front ++ c ∷ []) is.own e) in
+        let same : n.0.parent ≡ parent = same_parent n.0.parent parent front (subst (IsParent all n.0.parent) parts.0 (whole_parent k n.0.parent is.before is.parent)) behind in
+        missing k origin.0 origin.1 (sym from.parent ∙ same) (sym from.condition ∙ parts.1)
+
+distinct_more : (all : List (List Condition)) (own : List Condition) → AreDistinct all → ((k : ℕ) → slice_get all k ≡ Some own → ⊥) → AreDistinct (all ++ own ∷ [])
+distinct_more all own distinct new j k cs e f =
+    each_more all own (λ i xs. (h : ℕ) → slice_get (all ++ own ∷ []) h ≡ Some xs → i ≡ h)
+    (λ i xs at. λ h there. each_more all own (λ g ys. ys ≡ xs → i ≡ g) (λ g ys found same. distinct i g xs at (found ∙ ap Some same)) (λ same. absurd (new i (at ∙ ap Some (sym same)))) h xs there refl)
+    (λ h there. each_more all own (λ g ys. ys ≡ own → length all ≡ g) (λ g ys found same. absurd (new g (found ∙ ap Some same))) (λ same. refl) h own there refl)
+    j cs e k f
+
+module _ (p : Program) (nodes : List NetNode) (origins : List Origin) (all : List (List Condition)) (node : NetNode) (origin : Origin) (front : List Condition) (condition : Condition)
+    (grown : AreGrown p nodes origins all) (behind : IsParent all origin.parent front) (is_front : IsFront p (front ++ condition ∷ [])) (window : has_window p condition ≡ true)
+    (missing : (k : ℕ) (o : Origin) → slice_get origins k ≡ Some o → o.parent ≡ origin.parent → o.condition.now ≡ condition → ⊥)
+    (from : IsFrom node origin) (own_is : origin.condition.now ≡ condition) (fresh : NetNodeStands p node empty_snapshot no_rows) where
+  node_behind : IsParent all node.parent front
+  node_behind = subst (λ (o : Option ℕ). IsParent all o front) (sym from.parent) behind
 
   window_is : has_good_window p (pattern_of (condition_of node.node)) ≡ true
-  window_is =
-      let there : slice_get conditions i ≡ Some condition = slice_get-get_or conditions i condition within ∙ ap Some (sym item) in
-      ap (λ (c : Condition). has_window p c) own_is ∙ passes_at (has_window p) conditions i condition windows there
+  window_is = ap (λ (c : Condition). has_window p c) (from.condition ∙ own_is) ∙ window
 
-  pub chain_more : (nodes_now : List NetNode) (place : ℕ) → place ≡ length nodes → nodes_now ≡ nodes ++ node ∷ []
-      → (x : List (List Condition)) × AreBuilt p nodes_now (all ++ x) × IsParent (all ++ x) (Some place) (take (i + 1) conditions)
-  chain_more nodes_now place at now = (
-    more ++ (take i conditions ++ condition_of node.node ∷ []) ∷ [],
-    subst (λ (ns : List NetNode). AreBuilt p ns (all ++ (more ++ (take i conditions ++ condition_of node.node ∷ []) ∷ []))) (sym now)
-        (subst (λ (xs : List (List Condition)). AreBuilt p (nodes ++ node ∷ []) xs) (append_assoc all more ((take i conditions ++ condition_of node.node ∷ []) ∷ []))
-        (one_more p nodes (all ++ more) node (take i conditions) built parent window_is fresh)),
-    ap (λ (xs : List (List Condition)). slice_get xs place) (sym (append_assoc all more ((take i conditions ++ condition_of node.node ∷ []) ∷ [])))
-        ∙ ap (slice_get ((all ++ more) ++ (take i conditions ++ condition_of node.node ∷ []) ∷ [])) at
-        ∙ parent_here p nodes (all ++ more) node (take i conditions) built parent window_is fresh
-        ∙ ap Some next_is,
+  built_more : AreBuilt p (nodes ++ node ∷ []) (all ++ (front ++ condition ∷ []) ∷ [])
+  built_more =
+      subst (λ (c : Condition). AreBuilt p (nodes ++ node ∷ []) (all ++ (front ++ c ∷ []) ∷ [])) (from.condition ∙ own_is)
+      (one_more p nodes all node front grown.built node_behind window_is fresh)
+
+  from_more : (k : ℕ) (n : NetNode) (o : Origin) → slice_get (nodes ++ node ∷ []) k ≡ Some n → slice_get (origins ++ origin ∷ []) k ≡ Some o → IsFrom n o
+  from_more k n o e f =
+      each_more nodes node (λ i m. (r : Origin) → slice_get (origins ++ origin ∷ []) i ≡ Some r → IsFrom m r)
+      (λ i m at r there. each_more origins origin (λ h q. h ≡ i → IsFrom m q)
+      (λ h q found same. grown.from i m q at (ap (slice_get origins) (sym same) ∙ found))
+      (λ same. let within : i < length nodes = slice_get_within nodes i m at in let count = grown.count in absurd (omega arith)) i r there refl)
+      (λ r there. each_more origins origin (λ h q. h ≡ length nodes → IsFrom node q)
+      (λ h q found same. let within : h < length origins = slice_get_within origins h q found in let count = grown.count in absurd (omega arith))
+      (λ same. from) (length nodes) r there refl)
+      k n e o f
+
+  pub grown_more : AreGrown p (nodes ++ node ∷ []) (origins ++ origin ∷ []) (all ++ (front ++ condition ∷ []) ∷ [])
+  grown_more = record {
+    built = built_more;
+    fronts = each_more all (front ++ condition ∷ []) (λ k cs. IsFront p cs) grown.fronts is_front;
+    distinct = distinct_more all (front ++ condition ∷ []) grown.distinct (no_node p nodes origins all grown origin.parent front condition behind missing);
+    count = let same = grown.count in simp length-append (omega arith);
+    from = from_more;
+  }
+
+-- ---- one condition more of a rule
+
+module _ (p : Program) (nodes : List NetNode) (origins : List Origin) (all more : List (List Condition)) (place : ℕ) (rule : Rule) (i : ℕ) (condition : Condition) where
+  pub chain_more : In rule p.rules → list_all (has_window p) rule.conditions ≡ true → i < length rule.conditions → condition ≡ get_or rule.conditions i condition → IsFront p (take i rule.conditions ++ condition ∷ []) × (has_window p condition ≡ true)
+  chain_more there windows within item = (
+    (rule, there, i + 1, ap (λ (c : Condition). take i rule.conditions ++ c ∷ []) item ∙ sym (take_more rule.conditions i condition within)),
+    passes_at (has_window p) rule.conditions i condition windows (slice_get-get_or rule.conditions i condition within ∙ ap Some (sym item)),
+  )
+
+  pub chain_on : (yet : List (List Condition)) → i < length rule.conditions → condition ≡ get_or rule.conditions i condition
+      → AreGrown p nodes origins ((all ++ more) ++ yet) → slice_get ((all ++ more) ++ yet) place ≡ Some (take i rule.conditions ++ condition ∷ [])
+      → (x : List (List Condition)) × AreGrown p nodes origins (all ++ x) × IsParent (all ++ x) (Some place) (take (i + 1) rule.conditions)
+  chain_on yet within item grown at = (
+    more ++ yet,
+    subst (AreGrown p nodes origins) (append_assoc all more yet) grown,
+    ap (λ (xs : List (List Condition)). slice_get xs place) (sym (append_assoc all more yet)) ∙ at
+        ∙ ap Some (ap (λ (c : Condition). take i rule.conditions ++ c ∷ []) item ∙ sym (take_more rule.conditions i condition within)),
   )
 
 -- ---- one rule more

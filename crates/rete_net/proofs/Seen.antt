@@ -80,12 +80,12 @@ module _ (p : Program) (look : Look) (s next : Snapshot) (gone : List Fact) (com
   pub net_stands : AreQuiet p new.nodes.items new.quiet_until → NetStands p new next
   net_stands quiet =
       seen_now p new next
-      (stands_now p look was next gone come clock no_change (rows_of p was) (rows p s) old new stands.nodes.conditions answers from_seen made (first_stays p was next) standing stands.nodes.ends same step listed)
+      (stands_now p look was next gone come clock no_change (rows_of p was) (rows p s) old new stands.nodes.conditions answers from_seen made (first_stays p was next) standing stands.nodes.ends stands.nodes.fronts same step listed)
       given.moves.after (onward (pos 0) stands.seen next.clock stands.begun from_seen.moves.clock) quiet
 
   pub net_between : AreBetween p (λ rule. rows p s rule.conditions) (λ rule. rows p next rule.conditions) answers
   net_between =
-      between_now p look was next gone come clock no_change (rows_of p was) (rows p s) old new stands.nodes.conditions answers from_seen made (first_stays p was next) standing stands.nodes.ends same step listed
+      between_now p look was next gone come clock no_change (rows_of p was) (rows p s) old new stands.nodes.conditions answers from_seen made (first_stays p was next) standing stands.nodes.ends stands.nodes.fronts same step listed
 
 -- ---- the clock moves alone, before something is due
 

@@ -9,7 +9,9 @@ use Rattle.condition_rows.specs.Looks.{empty_snapshot}
 use Rattle.pattern_gate.specs.Gates.{has_good_window}
 use Rattle.condition_node.specs.Nodes.{condition_of}
 use Rattle.rete_net.specs.declared.node.NetNode.{NetNode}
+use Rattle.rete_net.specs.declared.build.Origin.{Origin}
 use Rattle.rete_net.specs.Nets.{NetNodeStands}
+use Rattle.rete_net.specs.Shapes.{IsFront}
 
 -- a parent, of nodes with these conditions, is the node of those conditions; without one there is no condition
 abbrev pub IsParent : List (List Condition) → Option ℕ → List Condition → Type 0
@@ -28,6 +30,27 @@ pub record AreBuilt (p : Program) (nodes : List NetNode) (all : List (List Condi
   pub behind : (k : ℕ) (node : NetNode) → slice_get nodes k ≡ Some node → IsBehind all k node
   pub windows : (k : ℕ) (node : NetNode) → slice_get nodes k ≡ Some node → has_good_window p (pattern_of (condition_of node.node)) ≡ true
   pub fresh : (k : ℕ) (node : NetNode) → slice_get nodes k ≡ Some node → NetNodeStands p node empty_snapshot no_rows
+
+-- each of these lists is the front of a rule
+abbrev pub AreFronts : Program → List (List Condition) → Type 0
+AreFronts p all = (k : ℕ) (conditions : List Condition) → slice_get all k ≡ Some conditions → IsFront p conditions
+
+-- each stands once
+abbrev pub AreDistinct : List (List Condition) → Type 0
+AreDistinct all = (j k : ℕ) (conditions : List Condition) → slice_get all j ≡ Some conditions → slice_get all k ≡ Some conditions → j ≡ k
+
+-- the origin names the parent and the condition of the node
+pub record IsFrom (node : NetNode) (origin : Origin) : Type 0 where
+  pub parent : node.parent ≡ origin.parent
+  pub condition : condition_of node.node ≡ origin.condition.now
+
+-- nodes that were built for distinct fronts, with their origins
+pub record AreGrown (p : Program) (nodes : List NetNode) (origins : List Origin) (all : List (List Condition)) : Type 0 where
+  pub built : AreBuilt p nodes all
+  pub fronts : AreFronts p all
+  pub distinct : AreDistinct all
+  pub count : length origins ≡ length nodes
+  pub from : (k : ℕ) (node : NetNode) (origin : Origin) → slice_get nodes k ≡ Some node → slice_get origins k ≡ Some origin → IsFrom node origin
 
 -- the first rules, so many, each have a last node with all their conditions
 abbrev pub HaveEnds : List (List Condition) → List ℕ → List Rule → ℕ → Type 0

@@ -16,7 +16,7 @@ use Rattle.condition_node.specs.Nodes.{condition_of, NodeStands}
 use Rattle.condition_node.specs.Quiet.{IsBefore}
 use Rattle.rete_net.specs.declared.node.NetNode.{NetNode}
 use Rattle.rete_net.specs.declared.net.Rete.{Rete}
-use Rattle.rete_net.specs.Shapes.{before, IsShaped, EndsAt}
+use Rattle.rete_net.specs.Shapes.{before, IsShaped, EndsAt, IsFront}
 
 -- a node and its gate stand for the rows of the conditions before it, in a snapshot
 pub record NetNodeStands (p : Program) (n : NetNode) (s : Snapshot) (rows : Row → Bool) : Type 0 where
@@ -24,11 +24,12 @@ pub record NetNodeStands (p : Program) (n : NetNode) (s : Snapshot) (rows : Row 
   pub node : NodeStands p n.node (held s) s rows no_names
 
 -- The nodes of a program's network stand for a snapshot: each for the rows of the conditions before it. They have windows of accepted
--- files, and each rule has a last node.
+-- files and the first conditions of rules, and each rule has a last node.
 pub record NodesStand (p : Program) (net : Rete) (s : Snapshot) : Type 0 where
   pub conditions : ℕ → List Condition
   pub shaped : IsShaped net.nodes.items conditions
   pub ends : (place : ℕ) (rule : Rule) → slice_get p.rules place ≡ Some rule → EndsAt net.nodes.items conditions net.ends.items place rule
+  pub fronts : (k : ℕ) (n : NetNode) → slice_get net.nodes.items k ≡ Some n → IsFront p (conditions k)
   pub windows : (k : ℕ) (n : NetNode) → slice_get net.nodes.items k ≡ Some n → has_good_window p (pattern_of (condition_of n.node)) ≡ true
   pub nodes : (k : ℕ) (n : NetNode) → slice_get net.nodes.items k ≡ Some n → NetNodeStands p n s (rows_of p s (before conditions n.parent))
 

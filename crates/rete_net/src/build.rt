@@ -1,16 +1,21 @@
-ghost use Rattle.std.specs.Prelude.{◌≡◌, ◌≤◌, [], ◌∷◌, ◌++◌, true, IfOk, OnOk, List, length};
+ghost use Rattle.std.specs.Prelude.{◌≡◌, ◌↔◌, ◌∷◌, ◌++◌, ℕ, true, IfOk, IfSome, IsNone, IsTrue, List, [], Some, slice_get};
 ghost use Rattle.std.specs.List.{list_all};
+ghost use Rattle.fx_base.specs.Lists.{In};
 ghost use Rattle.row_delta.specs.declared.delta.Delta.{Delta};
 ghost use Rattle.rule_model.specs.declared.condition.Condition.{Condition};
+ghost use Rattle.rule_model.specs.declared.program.Program.{Program as ProgramData};
 ghost use Rattle.rule_model.specs.Rows.{pattern_of};
 ghost use Rattle.rule_world.specs.Programs.{IsRunnable, has_window};
-ghost use Rattle.rete_net.specs.Building.{AreBuilt, IsParent, HaveEnds};
+ghost use Rattle.rete_net.specs.declared.build.Origin.{Origin as OriginData};
+ghost use Rattle.rete_net.specs.Building.{AreGrown, IsParent};
+ghost use Rattle.rete_net.specs.Shapes.{IsFront};
 ghost use Rattle.rete_net.specs.Steps.{no_change, empty_row_comes};
 
 use crate::node::NetNode;
+use crate::sameness::Same;
 use fx_base::{Fact, Facts, NoMemory, Seq, Tag};
 use row_delta::{Delta, Row};
-use rule_model::{Condition, Program};
+use rule_model::{Condition, Program, Rule};
 use std::alloc::Global;
 
 /// The store that holds nothing.
@@ -51,22 +56,94 @@ pub(crate) fn empty_row_comes(alloc: Global) -> Result<Delta, NoMemory>
     })
 }
 
-/// Puts the nodes of these conditions, each behind the one before it, behind the nodes that are there, and answers the last one;
-/// `None` where there is no condition.
-pub(crate) fn put_chain(
-    nodes: &mut Vec<NetNode>,
-    alloc: Global,
-    program: &Program,
-    conditions: &[Condition],
-) -> Result<Option<usize>, NoMemory>
-    ensures { IfOk result (λ last. (all : List (List Condition)) → AreBuilt program.now nodes.old.items all → list_all (has_window program.now) conditions.now ≡ true
-        → (more : List (List Condition)) × AreBuilt program.now nodes.new.items (all ++ more) × IsParent (all ++ more) last conditions.now) }
-{
-    let mut last = None;
-    for condition in conditions {
-        let place = nodes.len();
-        nodes.push(NetNode::new(alloc, program, last, condition)?)?;
-        last = Some(place);
+/// Behind which parent a node stands, and of which condition it is.
+#[derive(Drop)]
+pub(crate) struct Origin<'p> {
+    parent: Option<usize>,
+    condition: &'p Condition,
+}
+
+impl Origin<'_> {
+    fn names(&self, parent: Option<usize>, condition: &Condition) -> bool
+        ensures { IsTrue result ↔ ((self.now.parent ≡ parent) × (self.now.condition.now ≡ condition.now)) }
+    {
+        self.parent == parent && self.condition.is_same(condition)
     }
-    Ok(last)
+}
+
+/// The nodes of a network that is being built, each behind its parent, and where each comes from.
+#[derive(Drop)]
+pub(crate) struct Builder<'p> {
+    pub(crate) nodes: Vec<NetNode>,
+    origins: Vec<Origin<'p>>,
+}
+
+// The place of the first of these origins that has this parent and this condition. It looks at each, and compares the conditions of
+// those with this parent. Takes no memory.
+fn place_of(origins: &[Origin], parent: Option<usize>, condition: &Condition) -> Option<usize>
+    ensures found { IfSome result (λ place. (origin : OriginData) × (slice_get origins.now place ≡ Some origin) × (origin.parent ≡ parent) × (origin.condition.now ≡ condition.now)) }
+    ensures missing { IsNone result → (place : ℕ) (origin : OriginData) → slice_get origins.now place ≡ Some origin → origin.parent ≡ parent → origin.condition.now ≡ condition.now → ⊥ }
+{
+    for place in 0..origins.len() {
+        if origins[place].names(parent, condition) {
+            return Some(place);
+        }
+    }
+    None
+}
+
+impl<'p> Builder<'p> {
+    /// No nodes. Takes no memory.
+    pub(crate) fn new(alloc: Global) -> Builder<'p>
+        ensures { (p : ProgramData) → AreGrown p result.nodes.items result.origins.items [] }
+    {
+        Builder {
+            nodes: Vec::new(alloc),
+            origins: Vec::new(alloc),
+        }
+    }
+
+    /// Puts the nodes of a rule's conditions, each behind the one before it, and answers the last one; `None` where there is no
+    /// condition. Of first conditions that are there it takes the nodes that are there. For each condition it looks at all nodes.
+    pub(crate) fn put_chain(
+        &mut self,
+        alloc: Global,
+        program: &Program,
+        rule: &'p Rule,
+    ) -> Result<Option<usize>, NoMemory>
+        ensures { IfOk result (λ last. (all : List (List Condition)) → AreGrown program.now self.old.nodes.items self.old.origins.items all
+            → In rule.now program.now.rules → list_all (has_window program.now) rule.now.conditions ≡ true
+            → (more : List (List Condition)) × AreGrown program.now self.new.nodes.items self.new.origins.items (all ++ more) × IsParent (all ++ more) last rule.now.conditions) }
+    {
+        let mut last = None;
+        for condition in rule.conditions.as_slice() {
+            let place = self.put(alloc, program, last, condition)?;
+            last = Some(place);
+        }
+        Ok(last)
+    }
+
+    // The place of the node of a condition behind a parent: of the one that is there, or else of a new one.
+    fn put(
+        &mut self,
+        alloc: Global,
+        program: &Program,
+        parent: Option<usize>,
+        condition: &'p Condition,
+    ) -> Result<usize, NoMemory>
+        ensures { IfOk result (λ place. (all : List (List Condition)) (front : List Condition) → AreGrown program.now self.old.nodes.items self.old.origins.items all
+            → IsParent all parent front → IsFront program.now (front ++ condition.now ∷ []) → has_window program.now condition.now ≡ true
+            → (more : List (List Condition)) × AreGrown program.now self.new.nodes.items self.new.origins.items (all ++ more) × (slice_get (all ++ more) place ≡ Some (front ++ condition.now ∷ []))) }
+    {
+        match place_of(&self.origins, parent, condition) {
+            Some(place) => Ok(place),
+            None => {
+                let place = self.nodes.len();
+                let node = NetNode::new(alloc, program, parent, condition)?;
+                self.nodes.push(node)?;
+                self.origins.push(Origin { parent, condition })?;
+                Ok(place)
+            }
+        }
+    }
 }

@@ -6,6 +6,7 @@ mod build;
 mod net;
 mod node;
 mod quiet;
+mod sameness;
 mod steps;
 
 pub use net::Rete;

@@ -1,4 +1,4 @@
-ghost use Rattle.std.specs.Prelude.{◌≡◌, ◌≤ℤ◌, ℕ, List, [], length, Some, slice_get, option_map, IfOk, OnOk, IsTrue};
+ghost use Rattle.std.specs.Prelude.{◌≡◌, ◌↔◌, ◌≤ℤ◌, ℕ, List, [], length, Some, slice_get, option_map, IfOk, OnOk, IsTrue};
 ghost use Rattle.rule_model.specs.declared.condition.Condition.{Condition};
 ghost use Rattle.rule_model.specs.declared.program.Program.{Program as ProgramData};
 ghost use Rattle.rule_model.specs.declared.program.Rule.{Rule};
@@ -11,12 +11,14 @@ ghost use Rattle.rule_world.specs.Programs.{IsRunnable};
 ghost use Rattle.pair_memory.specs.Standing.{no_names};
 ghost use Rattle.condition_rows.specs.Looks.{empty_snapshot, HasAllOf};
 ghost use Rattle.pattern_gate.specs.Moves.{IsKept, Moves, at_clock};
+ghost use Rattle.condition_node.specs.Quiet.{IsBefore};
 ghost use Rattle.rete_net.specs.Nets.{NetStands, AreBetween};
-ghost use Rattle.rete_net.specs.Building.{AreBuilt, HaveEnds};
+ghost use Rattle.rete_net.specs.Building.{AreBuilt, AreDistinct, AreFronts, HaveEnds};
 ghost use Rattle.rete_net.specs.Quiet.{AreQuiet};
+ghost use Rattle.rete_net.specs.Shapes.{AreShared};
 ghost use Rattle.rete_net.specs.Steps.{NetStep};
 
-use crate::build::{NoFacts, empty_row_comes, no_change, put_chain};
+use crate::build::{Builder, NoFacts, empty_row_comes, no_change};
 use crate::node::NetNode;
 use crate::quiet::is_before;
 use crate::steps::{answers_at, quiet_until, step_all};
@@ -37,9 +39,11 @@ pub struct Rete {
 
 impl Rete {
     /// The network of a program over no facts at the clock 0, and for each rule, by its place, the rows that it has there, as they
-    /// come. It copies the conditions.
+    /// come. Rules whose first conditions are equal share the nodes of these: there is a node for each distinct front. It copies the
+    /// conditions, and for each of them it looks at the nodes that are there.
     pub fn build(alloc: Global, program: &Program) -> Result<(Rete, Vec<Delta>), NoMemory>
         ensures stands { IsRunnable program.now → IfOk result (λ built. NetStands program.now built.0 empty_snapshot) }
+        ensures shared { IsRunnable program.now → IfOk result (λ built. AreShared built.0.nodes.items) }
         ensures first { IsRunnable program.now → IfOk result (λ built. AreBetween program.now (λ rule. []) (λ rule. rows program.now empty_snapshot rule.conditions) built.1.items) }
     {
         let mut net = Rete::of_rules(alloc, program)?;
@@ -74,8 +78,16 @@ impl Rete {
         Ok(deltas)
     }
 
+    /// How many nodes there are. Takes no memory.
+    pub fn nodes(&self) -> usize
+        ensures { result ≡ length self.now.nodes.items }
+    {
+        self.nodes.len()
+    }
+
     /// Whether a move of the clock to this moment, in milliseconds, changes nothing where no fact goes or comes. Takes no memory.
     pub fn is_quiet(&self, clock: Millis) -> bool
+        ensures exact { IsTrue result ↔ IsBefore self.now.quiet_until clock }
         ensures stands { IsTrue result → (p : ProgramData) (s : Snapshot) → NetStands p self.now s → s.clock ≤ℤ clock → IsKept p (at_clock s clock)
             → NetStands p self.now (at_clock s clock) }
         ensures rows { IsTrue result → (p : ProgramData) (s : Snapshot) → NetStands p self.now s → s.clock ≤ℤ clock → IsKept p (at_clock s clock)
@@ -87,16 +99,17 @@ impl Rete {
 
     /// The nodes of all rules, which keep nothing.
     fn of_rules(alloc: Global, program: &Program) -> Result<Rete, NoMemory>
-        ensures { IfOk result (λ net. IsRunnable program.now → (all : List (List Condition)) × AreBuilt program.now net.nodes.items all × HaveEnds all net.ends.items program.now.rules (length program.now.rules)) }
+        ensures { IfOk result (λ net. IsRunnable program.now → (all : List (List Condition)) × AreBuilt program.now net.nodes.items all × HaveEnds all net.ends.items program.now.rules (length program.now.rules)
+            × AreFronts program.now all × AreDistinct all) }
     {
-        let mut nodes = Vec::new(alloc);
+        let mut builder = Builder::new(alloc);
         let mut ends = Vec::with_capacity(alloc, program.rules.as_slice().len())?;
         for rule in program.rules.as_slice() {
-            let last = put_chain(&mut nodes, alloc, program, rule.conditions.as_slice())?;
+            let last = builder.put_chain(alloc, program, rule)?;
             ends.push(last.unwrap_or(0))?;
         }
         Ok(Rete {
-            nodes,
+            nodes: builder.nodes,
             ends,
             quiet_until: None,
         })

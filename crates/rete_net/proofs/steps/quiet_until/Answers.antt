@@ -9,7 +9,7 @@ loop-node-preserved c =
     let i = c.loop-node.node-index in
     let within : c.loop-node.node-index < length c.args.nodes.now = omega arith in
     quiet_more c.args.program.now nodes c.loop-node.least c.quiet_until.result c.earlier-least.result i c.node-item.result
-    c.loop-node.invariant (slice_get-get_or nodes i c.node-item.result within ∙ ap Some (sym c.node-item.is)) c.quiet_until.ensures c.earlier-least.ensures
+    c.loop-node.invariant (slice_get-get_or nodes i c.node-item.result within ∙ ap Some (sym c.node-item.is)) c.quiet_until.ensures (λ clock. (c.earlier-least.ensures clock).0)
 
 pub returns : goal.returns
 returns c k n e =

@@ -1,6 +1,6 @@
 use Rattle.std.proofs.Common.{[], None, refl, pos}
 use Rattle.rete_net.specs.Steps.{empty_row_comes, NetStep}
-use Rattle.rete_net.proofs.Starting.{no_facts, built_stands, built_between}
+use Rattle.rete_net.proofs.Starting.{no_facts, built_stands, built_shared, built_between}
 use Rattle.rete_net.proofs.Turns.{settled}
 use Rattle.rete_net.proofs.net.Rete.build.Goals as goal
 
@@ -14,9 +14,14 @@ step c =
 pub returns-clause-stands : goal.returns-clause-stands
 returns-clause-stands c runnable =
     let built = c.in_ok-net.ensures runnable in
-    built_stands c.args.program.now c.in_ok-net.net c.step.new.self built.0 c.in_ok-deltas.deltas.items built.1 built.2 c.in_ok-deltas.ensures.ends (step c) c.in_ok-deltas.ensures.quiet
+    built_stands c.args.program.now c.in_ok-net.net c.step.new.self built.0 c.in_ok-deltas.deltas.items built.1 built.2 built.3 built.4 c.in_ok-deltas.ensures.ends (step c) c.in_ok-deltas.ensures.quiet
 
 pub returns-clause-first : goal.returns-clause-first
 returns-clause-first c runnable =
     let built = c.in_ok-net.ensures runnable in
-    built_between c.args.program.now c.in_ok-net.net c.step.new.self built.0 c.in_ok-deltas.deltas.items built.1 built.2 c.in_ok-deltas.ensures.ends (step c)
+    built_between c.args.program.now c.in_ok-net.net c.step.new.self built.0 c.in_ok-deltas.deltas.items built.1 built.2 built.3 built.4 c.in_ok-deltas.ensures.ends (step c)
+
+pub returns-clause-shared : goal.returns-clause-shared
+returns-clause-shared c runnable =
+    let built = c.in_ok-net.ensures runnable in
+    built_shared c.args.program.now c.in_ok-net.net c.step.new.self built.0 c.in_ok-deltas.deltas.items built.1 built.2 built.3 built.4 c.in_ok-deltas.ensures.ends (step c)

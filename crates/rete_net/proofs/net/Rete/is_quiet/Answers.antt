@@ -6,7 +6,7 @@ use Rattle.rete_net.proofs.net.Rete.is_quiet.Goals as goal
 before_due : (c : goal.After-is_before) → IsTrue c.is_before.result → IsBefore c.args.self.now.quiet_until c.args.clock
 before_due c told =
     let whole : to_z w64 (of_z w64 c.args.clock) ≡ c.args.clock = to_z-of_z c.ranges.clock in
-    subst (IsBefore c.args.self.now.quiet_until) whole (c.is_before.ensures told)
+    subst (IsBefore c.args.self.now.quiet_until) whole (c.is_before.ensures.0 told)
 
 pub returns-clause-stands : goal.returns-clause-stands
 returns-clause-stands c told p s stands later kept = quiet_stands p c.args.self.now s c.args.clock stands later (fits_low c.args.clock c.ranges.clock) (before_due c told) kept
