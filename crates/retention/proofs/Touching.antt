@@ -13,7 +13,7 @@ use Rattle.fx_base.specs.declared.ids.Tag.{Tag}
 use Rattle.due_queue.specs.Timers.{Timers}
 use Rattle.retention.specs.Retentions.{is_among}
 
-pub tie : (a b : ℕ) → eq_by_cmp nat_cmp a b ≡ (b == a)
+tie : (a b : ℕ) → eq_by_cmp nat_cmp a b ≡ (b == a)
 tie a b = grind (arith, nat_tests)
 
 at_one : {A : Type 0} (t : Bool) (q tag : ℕ) (f : ℕ → A) (y : A) → (q == tag) ≡ t → cond t (f tag) y ≡ cond t (f q) y
