@@ -64,7 +64,8 @@ const ELEVEN: &[u8] = b"{\"do\":\"insert\",\"type\":\"Item\",\"fields\":{\"price
 /// A script that is cut off without a line end.
 const CUT: &[u8] = b"{\"do\":\"fire\"";
 
-const USAGE: &[u8] = b"usage: replay [--mode run|check|lives] [--limit N] RULES\n";
+const USAGE: &[u8] =
+    b"usage: replay [--mode run|check|lives] [--limit N] RULES | replay [--limit N] --gen N\n";
 
 /// Types of each sort of life.
 const SORTS: &str = "declare A @role( event ) end\n\
@@ -191,6 +192,96 @@ const CASES: &[Case] = &[
         bad_writes: &[1],
         status: 6,
         output: b"",
+    },
+    Case {
+        words: &["--gen", "1", "RULES"],
+        rules: ITEM,
+        script: CUT,
+        bad_reads: &[1],
+        bad_writes: &[],
+        status: 2,
+        output: USAGE,
+    },
+    Case {
+        words: &["--gen=1", "--mode", "check"],
+        rules: ITEM,
+        script: CUT,
+        bad_reads: &[1],
+        bad_writes: &[],
+        status: 2,
+        output: USAGE,
+    },
+    Case {
+        words: &["--mode=lives", "--gen", "1"],
+        rules: ITEM,
+        script: CUT,
+        bad_reads: &[1],
+        bad_writes: &[],
+        status: 2,
+        output: USAGE,
+    },
+    Case {
+        words: &["--gen", "2147483648"],
+        rules: ITEM,
+        script: CUT,
+        bad_reads: &[1],
+        bad_writes: &[],
+        status: 2,
+        output: USAGE,
+    },
+    Case {
+        words: &["--gen", "00000000001"],
+        rules: ITEM,
+        script: CUT,
+        bad_reads: &[1],
+        bad_writes: &[],
+        status: 2,
+        output: USAGE,
+    },
+    Case {
+        words: &["--limit", "10", "--gen", "1"],
+        rules: ITEM,
+        script: CUT,
+        bad_reads: &[1],
+        bad_writes: &[],
+        status: 4,
+        output: b"gen 1 lines 64 fires 10 faults 0\n",
+    },
+    Case {
+        words: &["--mode=run", "--gen=2147483647", "--limit=3"],
+        rules: ITEM,
+        script: CUT,
+        bad_reads: &[1],
+        bad_writes: &[],
+        status: 4,
+        output: b"gen 2147483647 lines 27 fires 3 faults 0\n",
+    },
+    Case {
+        words: &["--gen", "0000000000", "--limit", "1"],
+        rules: ITEM,
+        script: CUT,
+        bad_reads: &[1],
+        bad_writes: &[],
+        status: 4,
+        output: b"gen 0 lines 16 fires 1 faults 0\n",
+    },
+    Case {
+        words: &["--gen", "0", "--limit", "1"],
+        rules: ITEM,
+        script: CUT,
+        bad_reads: &[],
+        bad_writes: &[1],
+        status: 6,
+        output: b"",
+    },
+    Case {
+        words: &["--gen", "1"],
+        rules: ITEM,
+        script: CUT,
+        bad_reads: &[1],
+        bad_writes: &[],
+        status: 0,
+        output: b"gen 1 lines 34905 fires 14905 faults 0\n",
     },
 ];
 

@@ -29,7 +29,8 @@ use std::alloc::Global;
 const FILE_MAX: usize = 1_048_576;
 
 /// What is written where the words are refused.
-const USAGE: &[u8] = b"usage: replay [--mode run|check|lives] [--limit N] RULES | replay [--limit N] --gen N\n";
+const USAGE: &[u8] =
+    b"usage: replay [--mode run|check|lives] [--limit N] RULES | replay [--limit N] --gen N\n";
 
 // Runs a program over a script.
 fn run_program<E: Engine, S: Source, K: Sink>(

@@ -1,15 +1,16 @@
 //! The program `replay`: the top call with the engine `Session`. Its one contract is what the project promises of a run.
 #![tactic(auto)]
 
-ghost use Rattle.std.specs.Prelude.{◌≡◌, ◌≢◌, ◌⊎◌, ◌<◌, ◌≤◌, ◌^◌, [], List, ℕ, length, Some, None, IfSome};
-ghost use Rattle.fx_io.specs.Outside.{Rose, append, AppendsFront, count_after, file_told};
-ghost use Rattle.command_words.specs.declared.asking.Asked.{Asked};
+ghost use Rattle.std.specs.Prelude.{◌≡◌, ◌⊎◌, ◌<◌, ◌≤◌, ◌^◌, [], List, ℕ, length, Some, None, IfSome};
+ghost use Rattle.fx_io.specs.Outside.{Rose, append, AppendsFront, count_after};
+ghost use Rattle.command_words.specs.declared.asking.Asked.TheVariants.{RuleFile};
+ghost use Rattle.command_words.specs.declared.asking.Mode.{Mode};
 ghost use Rattle.command_words.specs.declared.asking.Mode.TheVariants.{Run};
 ghost use Rattle.command_words.specs.Asked.{asked_by};
-ghost use Rattle.replay.specs.Refusals.{refusal_text, reading, IsRefused};
+ghost use Rattle.replay.specs.Refusals.{refusal_text};
 ghost use Rattle.replay.specs.Report.{Report, IsReport, Reports, TakesFor, IsLong};
 ghost use Rattle.replay.specs.Texts.{usage};
-ghost use Rattle.replay.specs.Wanted.{Files, wanted, IfRefuses};
+ghost use Rattle.replay.specs.Wanted.{Files, wanted, IfRefuses, ReadsFile, RunsScript, IsUnfit};
 ghost use Rattle.session.specs.Gives.{gives, fires};
 
 use fx_io::{Shelf, Sink, Source};
@@ -20,13 +21,15 @@ use std::alloc::Global;
 /// Does all that the program does for the words behind its own name, and answers the status.
 /// In the mode `run` it runs the script over the rule file, with the limit of firings of the words. In the mode `check` it writes
 /// that the rule file is accepted, and in the mode `lives` how long, in milliseconds, the events of its types matter: both leave the
-/// script alone, and the limit means nothing to them. The report of a run is that of an engine which keeps everything that was
-/// inserted and takes every match anew after each change (`gives` and `fires` of `session/specs/Gives.antt`).
+/// script alone, and the limit means nothing to them. Where the words ask for the load of a number, it runs the load's script over the
+/// load's rule file, with the limit of the words, prints nothing of that, and writes how many lines it would print, and how many of these
+/// say what fires and what is faulty: the shelf and the script are left alone. The report of a run is that of an engine which keeps
+/// everything that was inserted and takes every match anew after each change (`gives` and `fires` of `session/specs/Gives.antt`).
 ///
 /// The status is 0 where the script was read to its end, or the rule file of another mode is accepted, 1 where a line of the script
 /// was a fault, 2 where the words are refused, 3 where the rule file is missing or refused, 4 where a match was pending when no firing
 /// was left, 5 where a read failed, 6 where a write failed, 7 where memory was refused, and 8 where the script has more than 1 GiB. Of
-/// these the modes other than `run` have 0, 3, 5, 6 and 7.
+/// these the modes other than `run` have 0, 3, 5, 6 and 7, and a load has those of its run, 0, 1 and 4, besides 3, 6 and 7.
 pub fn run<F: Shelf, S: Source, K: Sink>(
     alloc: Global,
     words: &[String],
@@ -57,18 +60,19 @@ pub fn run<F: Shelf, S: Source, K: Sink>(
     // The causes of the answers, of whatever shelf, script and sink.
     ensures words { result ≡ 2 → asked_by words.now ≡ None }
     ensures not_words { asked_by words.now ≡ None → (result ≡ 2) ⊎ ((6 ≤ result) × (result ≤ 7)) }
-    ensures file { result ≡ 3 → IfSome (asked_by words.now) (λ asked. Rose (F.misses shelf.old asked.rules) (F.misses shelf.new asked.rules)
-        ⊎ IfSome (file_told (F.files shelf.old) asked.rules) (λ file. IsRefused (reading file))) }
-    ensures read { result ≡ 5 → (asked : Asked) × (asked_by words.now ≡ Some asked)
-        × (Rose (F.faults shelf.old asked.rules) (F.faults shelf.new asked.rules) ⊎ ((asked.mode ≡ Run) × Rose (S.faults script.old) (S.faults script.new))) }
+    ensures file { result ≡ 3 → IfSome (asked_by words.now) (IsUnfit (F.files shelf.old) (F.misses shelf.old) (F.misses shelf.new)) }
+    ensures read { result ≡ 5 → (name : List ℕ) × (mode : Mode) × (limit : ℕ) × (asked_by words.now ≡ Some (RuleFile name mode limit))
+        × (Rose (F.faults shelf.old name) (F.faults shelf.new name) ⊎ ((mode ≡ Run) × Rose (S.faults script.old) (S.faults script.new))) }
     ensures write { result ≡ 6 → Rose (K.faults out.old) (K.faults out.new) }
     ensures taken { (n : ℕ) × (S.given script.new ≡ count_after (S.given script.old) n) × TakesFor result n }
 
-    // The script is left alone where it is not run, and read to its end where its run comes there.
+    // The script is left alone where it is not run, and read to its end where its run comes there; the shelf, where no rule file of it
+    // is asked for.
     ensures untouched { (result ≡ 2) ⊎ (result ≡ 3) → script.new ≡ script.old }
-    ensures no_run { IfSome (asked_by words.now) (λ asked. asked.mode ≢ Run) → script.new ≡ script.old }
-    ensures nothing_left { result ≤ 1 → IfSome (asked_by words.now) (λ asked. asked.mode ≡ Run
+    ensures no_run { IfSome (asked_by words.now) (λ asked. ¬ RunsScript asked) → script.new ≡ script.old }
+    ensures nothing_left { result ≤ 1 → IfSome (asked_by words.now) (λ asked. RunsScript asked
         → IfSome (S.left script.new) (λ bytes. bytes ≡ [])) }
+    ensures no_file { IfSome (asked_by words.now) (λ asked. ¬ ReadsFile asked) → shelf.new ≡ shelf.old }
 {
     replay::<Session, F, S, K>(alloc, words, shelf, script, out)
 }
