@@ -5,7 +5,6 @@ use Rattle.std.proofs.Math.Bool.{and-true, and-false, and_assoc}
 use Rattle.std.proofs.lemmas.Map.Made.{is_member-filter}
 use Rattle.std.specs.List.{filter, list_any}
 use Rattle.fx_base.specs.declared.fact.Fact.{Fact}
-use Rattle.row_delta.specs.declared.delta.Delta.{Delta}
 use Rattle.row_delta.specs.declared.row.Named.{Named}
 use Rattle.row_delta.specs.declared.row.Row.{Row}
 use Rattle.row_delta.specs.RowOrder.{same_equiv}
@@ -26,6 +25,7 @@ use Rattle.pair_memory.proofs.Worlds.{joined_clean, clean_either}
 use Rattle.condition_rows.specs.Lines.{gives, is_ripe, line}
 use Rattle.condition_rows.specs.Sets.{held, candidates_of, has_partner}
 use Rattle.pattern_gate.proofs.Arriving.{filter_all}
+use Rattle.rete_net.specs.declared.changes.RuleChange.{RuleChange}
 use Rattle.rete_net.specs.Forgetting.{CountsNone, AreNotNeeded}
 use Rattle.rete_net.specs.Nets.{clean_rows, AreBetween}
 
@@ -62,11 +62,11 @@ whole_rows : (p : Program) (s : Snapshot) → clean_rows p s no_names ≡ (λ (r
 whole_rows p s = fun_ext (λ rule. all_clean (rows p s rule.conditions))
 
 -- the differences of the rows that name no forgotten fact are those of the rows
-pub between_whole : (p : Program) (s next : Snapshot) (deltas : List Delta) → AreBetween p (clean_rows p s no_names) (clean_rows p next no_names) deltas
-    → AreBetween p (λ rule. rows p s rule.conditions) (λ rule. rows p next rule.conditions) deltas
-between_whole p s next deltas are =
-    subst (λ (old : Rule → List Row). AreBetween p old (λ rule. rows p next rule.conditions) deltas) (whole_rows p s)
-    (subst (λ (new : Rule → List Row). AreBetween p (clean_rows p s no_names) new deltas) (whole_rows p next) are)
+pub between_whole : (p : Program) (s next : Snapshot) (changes : List RuleChange) → AreBetween p (clean_rows p s no_names) (clean_rows p next no_names) changes
+    → AreBetween p (λ rule. rows p s rule.conditions) (λ rule. rows p next rule.conditions) changes
+between_whole p s next changes are =
+    subst (λ (old : Rule → List Row). AreBetween p old (λ rule. rows p next rule.conditions) changes) (whole_rows p s)
+    (subst (λ (new : Rule → List Row). AreBetween p (clean_rows p s no_names) new changes) (whole_rows p next) are)
 
 pub same_whole : (rows others : Row → Bool) (row : Row) → cleaned rows no_names row ≡ cleaned others no_names row → rows row ≡ others row
 same_whole rows others row e = ap (λ (set : Row → Bool). set row) (sym (cleaned_none rows)) ∙ e ∙ ap (λ (set : Row → Bool). set row) (cleaned_none others)

@@ -191,6 +191,7 @@ module _ (p : Program) (look : Look) (s : Snapshot) (forgotten old : Named → B
         subst (λ (places : List ℕ). EndsAt new.nodes.items stands.nodes.conditions places place rule) (sym ends)
         (ends_keep p look was (rows_of p was) forgotten old net.nodes.items new.nodes.items stands.nodes.conditions dropped tags known (rows_made p was tags) (none_old p was forgotten old) standing same forgot
         net.ends.items place rule (stands.nodes.ends place rule e));
+    count = ap length ends ∙ stands.nodes.count;
     fronts = λ k n f. let o = node_was k n f in stands.nodes.fronts k o.0 o.1;
     windows = now.windows;
     nodes = now.stand;

@@ -14,3 +14,5 @@ mod Dropping
 mod Listing
 mod Fewer
 mod Unmissed
+mod Answering
+mod Skipping

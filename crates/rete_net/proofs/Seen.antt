@@ -3,7 +3,6 @@ use Rattle.std.proofs.Common.{◌≡◌, ◌∙◌, sym, ap, refl, subst, ℕ, �
 use Rattle.std.proofs.lemmas.Int.{ints}
 use Rattle.std.proofs.lemmas.Option.{slice_get_within}
 use Rattle.fx_base.specs.declared.fact.Fact.{Fact}
-use Rattle.row_delta.specs.declared.delta.Delta.{Delta}
 use Rattle.row_delta.specs.declared.row.Named.{Named}
 use Rattle.row_delta.specs.declared.row.Row.{Row}
 use Rattle.row_delta.specs.Rows.{has}
@@ -16,9 +15,11 @@ use Rattle.join_tests.specs.Joins.{Look}
 use Rattle.pair_memory.specs.Standing.{cleaned, no_names}
 use Rattle.condition_rows.specs.Looks.{HasAllOf}
 use Rattle.condition_rows.specs.Sets.{held, rows_of}
+use Rattle.rule_world.specs.Programs.{IsRunnable}
 use Rattle.pattern_gate.specs.Moves.{IsKept, Moves, at_clock}
 use Rattle.condition_node.specs.Nodes.{condition_of}
 use Rattle.condition_node.specs.Quiet.{IsBefore}
+use Rattle.rete_net.specs.declared.changes.RuleChange.{RuleChange}
 use Rattle.rete_net.specs.declared.net.Rete.{Rete}
 use Rattle.rete_net.specs.declared.node.NetNode.{NetNode}
 use Rattle.rete_net.specs.Forgetting.{AreNotNeeded}
@@ -27,6 +28,7 @@ use Rattle.rete_net.specs.Quiet.{AreQuiet}
 use Rattle.rete_net.specs.Steps.{no_change, NetStep}
 use Rattle.rete_net.specs.Shapes.{before, IsFront}
 use Rattle.rete_net.proofs.Advancing.{rows_made, same_first, first_stays, stands_now, between_now}
+use Rattle.rete_net.proofs.Answering.{few_ends}
 use Rattle.rete_net.proofs.Beside.{both_held, both_known, both_known_now, stays_beside}
 use Rattle.rete_net.proofs.Chaining.{AreMade, IsGiven, AreStanding, StaysBeside}
 use Rattle.rete_net.proofs.Cleaning.{has_clean}
@@ -56,7 +58,7 @@ rule_rows p net at s other forgotten nodes same place rule e =
 
 -- ---- a step
 
-module _ (p : Program) (look : Look) (s next : Snapshot) (gone : List Fact) (come : Option Fact) (clock : ℤ) (forgotten : Named → Bool) (old new : Rete) (answers : List Delta)
+module _ (p : Program) (look : Look) (s next : Snapshot) (gone : List Fact) (come : Option Fact) (clock : ℤ) (forgotten : Named → Bool) (old new : Rete) (answers : List RuleChange)
     (moves : Moves p s next gone come) (moment : next.clock ≡ clock) (apart : AreNotNeeded p forgotten s next gone come) (has_before : HasAllOf look s forgotten) (has_now : HasAllOf look next forgotten)
     (stands : NetStands p old s forgotten) (same : new.ends.items ≡ old.ends.items)
     (step : NetStep p look gone come clock no_change old.nodes.items new.nodes.items old.ends.items answers) where
@@ -119,13 +121,14 @@ module _ (p : Program) (look : Look) (s next : Snapshot) (gone : List Fact) (com
   net_stands quiet =
       seen_now p new next forgotten
       (stands_now p look was next gone come clock forgotten no_change (rows_of p was) (clean_rows p s forgotten) old new stands.nodes.conditions answers from_seen made (first_stays p was next forgotten) standing beside
-      stands.nodes.ends stands.nodes.fronts same step listed)
+      stands.nodes.ends stands.nodes.count stands.nodes.fronts same step listed)
       moves.after (onward (pos 0) stands.seen next.clock stands.begun from_seen.moves.clock) quiet
 
-  pub net_between : AreBetween p (clean_rows p s forgotten) (clean_rows p next forgotten) answers
-  net_between =
+  pub net_between : IsRunnable p → AreBetween p (clean_rows p s forgotten) (clean_rows p next forgotten) answers
+  net_between runnable =
       between_now p look was next gone come clock forgotten no_change (rows_of p was) (clean_rows p s forgotten) old new stands.nodes.conditions answers from_seen made (first_stays p was next forgotten) standing beside
-      stands.nodes.ends stands.nodes.fronts same step listed
+      stands.nodes.ends stands.nodes.count stands.nodes.fronts same step listed
+      (few_ends p old.ends.items stands.nodes.count runnable)
 
 -- ---- the clock moves alone, before something is due
 

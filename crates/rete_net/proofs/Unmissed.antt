@@ -272,6 +272,7 @@ module _ (p : Program) (net : Rete) (s : Snapshot) (forgotten : Named → Bool) 
     conditions = stands.nodes.conditions;
     shaped = stands.nodes.shaped;
     ends = stands.nodes.ends;
+    count = stands.nodes.count;
     fronts = stands.nodes.fronts;
     windows = stands.nodes.windows;
     nodes = node_now;
