@@ -40,14 +40,16 @@ rows_absent (a ∷ answers) i before =
 
 -- the entries of the rules before a place
 pub record AreListedBelow (dropped : List (List Row)) (ends : List ℕ) (answers : List RuleRows) (i : ℕ) : Type 0 where
-  pub listed : AreListed answers
-  pub below : AreBefore answers i
+  pub listed : AreListed answers i
   pub rows : (k end : ℕ) → k < i → slice_get ends k ≡ Some end → rows_for answers k ≡ dropped_at dropped end
 
 pub none_listed : (dropped : List (List Row)) (ends : List ℕ) → AreListedBelow dropped ends [] 0
 none_listed dropped ends = record {
-  listed = record { in_order = λ j k a b h e f. absurd (let n : None ≡ Some a = e in cc); some = λ k a e. absurd (let n : None ≡ Some a = e in cc) };
-  below = λ k a e. absurd (let n : None ≡ Some a = e in cc);
+  listed = record {
+    within = λ k a e. absurd (let n : None ≡ Some a = e in cc);
+    in_order = λ j k a b h e f. absurd (let n : None ≡ Some a = e in cc);
+    some = λ k a e. absurd (let n : None ≡ Some a = e in cc);
+  };
   rows = λ k end h e. absurd (omega arith);
 }
 
@@ -67,32 +69,31 @@ module _ (dropped : List (List Row)) (ends : List ℕ) (answers : List RuleRows)
         each_more answers x (λ m c. (l : ℕ) (d : RuleRows) → l < m → slice_get (answers ++ x ∷ []) l ≡ Some d → d.place < c.place)
         (λ m c found. λ l d lt there. each_more answers x (λ o g. o < m → g.place < c.place) (λ o g at less. was.listed.in_order o m g c less at found)
         (λ less. let within : m < length answers = slice_get_within answers m c found in absurd (omega arith)) l d there lt)
-        (λ l d lt there. each_more answers x (λ o g. o < length answers → g.place < i) (λ o g at less. was.below o g at) (λ less. absurd (omega arith)) l d there lt)
+        (λ l d lt there. each_more answers x (λ o g. o < length answers → g.place < i) (λ o g at less. was.listed.within o g at) (λ less. absurd (omega arith)) l d there lt)
         k b f j a h e
 
     rows_at : (k other : ℕ) → k < i + 1 → slice_get ends k ≡ Some other → rows_for (answers ++ x ∷ []) k ≡ dropped_at dropped other
     rows_at k other h e = elim (below_or_at k i h) [
       | inl lt ↦ rows_other answers x k (λ at. absurd (omega arith)) ∙ was.rows k other lt e
-      | inr at ↦ ap (rows_for (answers ++ x ∷ [])) at ∙ rows_here answers x i refl was.below ∙ at_once (row ∷ rows) is k other at e
+      | inr at ↦ ap (rows_for (answers ++ x ∷ [])) at ∙ rows_here answers x i refl was.listed.within ∙ at_once (row ∷ rows) is k other at e
     ]
 
     one_listed : AreListedBelow dropped ends (answers ++ x ∷ []) (i + 1)
     one_listed = record {
       listed = record {
+        within = each_more answers x (λ k a. a.place < i + 1) (λ k a e. let lt : a.place < i = was.listed.within k a e in omega arith) (omega arith);
         in_order = order;
         some = each_more answers x (λ k a. a.rows ≡ [] → ⊥) was.listed.some (λ none. cc);
       };
-      below = each_more answers x (λ k a. a.place < i + 1) (λ k a e. let lt : a.place < i = was.below k a e in omega arith) (omega arith);
       rows = rows_at;
     }
 
   none_more : [] ≡ dropped_at dropped end → AreListedBelow dropped ends answers (i + 1)
   none_more is = record {
-    listed = was.listed;
-    below = λ k a e. let lt : a.place < i = was.below k a e in omega arith;
+    listed = record { within = λ k a e. let lt : a.place < i = was.listed.within k a e in omega arith; in_order = was.listed.in_order; some = was.listed.some };
     rows = λ k other h e. elim (below_or_at k i h) [
       | inl lt ↦ was.rows k other lt e
-      | inr at ↦ ap (rows_for answers) at ∙ rows_absent answers i was.below ∙ at_once [] is k other at e
+      | inr at ↦ ap (rows_for answers) at ∙ rows_absent answers i was.listed.within ∙ at_once [] is k other at e
     ];
   }
 

@@ -71,8 +71,9 @@ abbrev pub rows_for : List RuleRows → ℕ → List Row
 rows_for [] place = []
 rows_for (answer ∷ answers) place = cond (answer.place == place) answer.rows (rows_for answers place)
 
--- the entries are of rules of which rows are dropped, each once and in the order of the rules
-pub record AreListed (answers : List RuleRows) : Type 0 where
+-- the entries are of rules of which rows are dropped, each once and in the order of the rules, of which there are so many
+pub record AreListed (answers : List RuleRows) (rules : ℕ) : Type 0 where
+  pub within : (k : ℕ) (a : RuleRows) → slice_get answers k ≡ Some a → a.place < rules
   pub in_order : (j k : ℕ) (a b : RuleRows) → j < k → slice_get answers j ≡ Some a → slice_get answers k ≡ Some b → a.place < b.place
   pub some : (k : ℕ) (a : RuleRows) → slice_get answers k ≡ Some a → a.rows ≡ [] → ⊥
 

@@ -84,7 +84,7 @@ pub(crate) fn rows_of_rules(
     dropped: &[Seq<Row>],
     ends: &[usize],
 ) -> Result<Vec<RuleRows>, NoMemory>
-    ensures listed { IfOk result (λ answers. AreListed answers.items) }
+    ensures listed { IfOk result (λ answers. AreListed answers.items (length ends.now)) }
     ensures rows { IfOk result (λ answers. (place end : ℕ) → slice_get ends.now place ≡ Some end → rows_for answers.items place ≡ dropped_at dropped.now end) }
 {
     let none = Seq::from_vec(Vec::new(alloc));

@@ -59,8 +59,8 @@ impl Rete {
     }
 
     /// Takes the facts that go and the one that comes, if one does, and the clock in milliseconds, and answers of the rules
-    /// whose rows change, in their order, what has changed in them. `facts` has those that stay, those that go and the one that
-    /// comes. A node that nothing reaches costs the constant tests of each of these facts and a look, and takes no memory: one
+    /// whose rows change, in their order, what has changed in them, but for rows that name a forgotten fact; no rule may need one.
+    /// `facts` has those that stay and are not forgotten, those that go and the one that comes. A node that nothing reaches costs the constant tests of each of these facts and a look, and takes no memory: one
     /// before whose condition no row changes, whose pattern no such fact fits, and that has neither a window nor a `not`. The
     /// others cost what their gates and nodes say, and a change is copied once for each rule that has it.
     pub fn advance<F: Facts>(
@@ -122,7 +122,7 @@ impl Rete {
             → NetStands program.now self.new s (either forgotten (has_name old.now))) }
         ensures dropped { IfOk result (λ answers. (s : Snapshot) (forgotten : NamedData → Bool) → NetStands program.now self.old s forgotten → HasAllOf (F.map facts.now) s forgotten
             → AreDropped program.now s forgotten (has_name old.now) answers.items) }
-        ensures listed { IfOk result (λ answers. AreListed answers.items) }
+        ensures listed { IfOk result (λ answers. AreListed answers.items (length self.old.ends.items)) }
     {
         let dropped = self.forget_nodes(alloc, program, old, facts)?;
         let answers = rows_of_rules(alloc, &dropped, &self.ends)?;

@@ -1,6 +1,7 @@
-use Rattle.std.proofs.Common.{◌∙◌, sym, subst, ◌+◌, ◌<◌, length, arith, get_or, List}
+use Rattle.std.proofs.Common.{◌≡◌, ◌∙◌, sym, subst, ◌+◌, ◌<◌, length, arith, get_or, List}
 use Rattle.std.proofs.lemmas.Option.{slice_get_within, slice_get-get_or}
 use Rattle.rete_net.specs.declared.forgetting.RuleRows.{RuleRows}
+use Rattle.rete_net.specs.Dropped.{AreListed}
 use Rattle.rete_net.proofs.Listing.{AreListedBelow, none_listed, listed_more}
 use Rattle.rete_net.proofs.forgetting.rows_of_rules.Goals as goal
 
@@ -13,7 +14,9 @@ loop-place-preserved c =
     c.dropped_at-rows.result.now (c.dropped_at-rows.ensures (c.from_vec-none.ensures ∙ c.new.ensures.items)))
 
 pub returns-clause-listed : goal.returns-clause-listed
-returns-clause-listed c = c.loop-place.invariant.listed
+returns-clause-listed c =
+    let all : c.loop-place.place ≡ length c.args.ends.now = omega arith in
+    subst (AreListed c.loop-place.answers.items) all c.loop-place.invariant.listed
 
 pub returns-clause-rows : goal.returns-clause-rows
 returns-clause-rows c place end e =

@@ -1,5 +1,6 @@
-use Rattle.std.proofs.Common.{◌∙◌}
+use Rattle.std.proofs.Common.{◌∙◌, subst, ℕ, List, length}
 use Rattle.pair_memory.specs.Joined.{has_name}
+use Rattle.rete_net.specs.Dropped.{AreListed}
 use Rattle.rete_net.proofs.Dropping.{net_forgets, rules_drop}
 use Rattle.rete_net.proofs.net.Rete.forget.Goals as goal
 
@@ -15,3 +16,7 @@ returns-clause-dropped g c s forgotten stands has_all =
     rules_drop c.args.program.now (g.F.Facts.map c.args.facts.now) s forgotten (has_name c.args.old.now) c.args.self.now c.forget_nodes.new.self c.in_ok-dropped.dropped.items stands has_all
     told.ends told.quiet told.forgot.nodes told.forgot.forgot c.in_ok-answers.answers.items
     c.deref.result.now c.deref-2.result.now c.deref.ensures.value (c.deref-2.ensures.value ∙ told.ends) c.in_ok-answers.ensures.rows
+
+pub returns-clause-listed : goal.returns-clause-listed
+returns-clause-listed g c =
+    subst (λ (ends : List ℕ). AreListed c.in_ok-answers.answers.items (length ends)) (c.deref-2.ensures.value ∙ c.in_ok-dropped.ensures.ends) c.in_ok-answers.ensures.listed

@@ -1,4 +1,5 @@
 use Rattle.std.proofs.Common.{[], pos, rules}
+use Rattle.pair_memory.specs.Standing.{no_names}
 use Rattle.session.specs.Refreshed.{no_rows, rows_at}
 use Rattle.session.proofs.Follow.{first_follows}
 use Rattle.session.proofs.Knowing.{some_at_start}
