@@ -1,29 +1,35 @@
-ghost use Rattle.std.specs.Prelude.{◌≡◌, ◌↔◌, ◌≤ℤ◌, ℕ, List, [], length, Some, slice_get, option_map, IfOk, OnOk, IsTrue};
+ghost use Rattle.std.specs.Prelude.{◌≡◌, ◌↔◌, ◌≤ℤ◌, ℕ, Bool, List, [], length, Some, slice_get, option_map, IfOk, OnOk, IsTrue};
 ghost use Rattle.rule_model.specs.declared.condition.Condition.{Condition};
 ghost use Rattle.rule_model.specs.declared.program.Program.{Program as ProgramData};
 ghost use Rattle.rule_model.specs.declared.program.Rule.{Rule};
-ghost use Rattle.row_delta.specs.declared.row.Row.{Row};
-ghost use Rattle.row_delta.specs.Rows.{has};
+ghost use Rattle.row_delta.specs.declared.row.Named.{Named as NamedData};
+ghost use Rattle.row_delta.specs.declared.row.Row.{Row as RowData};
 ghost use Rattle.rule_model.specs.Lent.{lent};
 ghost use Rattle.rule_model.specs.Rows.{rows};
 ghost use Rattle.rule_model.specs.Snapshots.{Snapshot};
 ghost use Rattle.rule_world.specs.Programs.{IsRunnable};
-ghost use Rattle.pair_memory.specs.Standing.{no_names};
+ghost use Rattle.pair_memory.specs.Joined.{has_name};
+ghost use Rattle.pair_memory.specs.Standing.{cleaned, either};
 ghost use Rattle.condition_rows.specs.Looks.{empty_snapshot, HasAllOf};
+ghost use Rattle.condition_rows.specs.Sets.{rows_of};
 ghost use Rattle.pattern_gate.specs.Moves.{IsKept, Moves, at_clock};
 ghost use Rattle.condition_node.specs.Quiet.{IsBefore};
-ghost use Rattle.rete_net.specs.Nets.{NetStands, AreBetween};
+ghost use Rattle.rete_net.specs.Dropped.{AllForget, AreDropped, AreListed};
+ghost use Rattle.rete_net.specs.Forgetting.{AreNotNeeded};
+ghost use Rattle.rete_net.specs.Nets.{NetStands, clean_rows, AreBetween};
 ghost use Rattle.rete_net.specs.Building.{AreBuilt, AreDistinct, AreFronts, HaveEnds};
 ghost use Rattle.rete_net.specs.Quiet.{AreQuiet};
 ghost use Rattle.rete_net.specs.Shapes.{AreShared};
 ghost use Rattle.rete_net.specs.Steps.{NetStep};
 
 use crate::build::{Builder, NoFacts, empty_row_comes, no_change};
+use crate::changes::{RuleChange, changes_at};
+use crate::forgetting::{RuleRows, forget_all, rows_of_rules};
 use crate::node::NetNode;
 use crate::quiet::is_before;
-use crate::steps::{answers_at, quiet_until, step_all};
-use fx_base::{Fact, Facts, Millis, NoMemory};
-use row_delta::Delta;
+use crate::steps::{quiet_until, step_all};
+use fx_base::{Fact, Facts, Millis, NoMemory, Seq};
+use row_delta::{Delta, Named, Row};
 use rule_model::Program;
 use std::alloc::Global;
 
@@ -38,23 +44,25 @@ pub struct Rete {
 }
 
 impl Rete {
-    /// The network of a program over no facts at the clock 0, and for each rule, by its place, the rows that it has there, as they
-    /// come. Rules whose first conditions are equal share the nodes of these: there is a node for each distinct front. It copies the
+    /// The network of a program over no facts at the clock 0, and of the rules that have rows there, in their order, these rows as
+    /// they come. Rules whose first conditions are equal share the nodes of these: there is a node for each distinct front. It copies the
     /// conditions, and for each of them it looks at the nodes that are there.
-    pub fn build(alloc: Global, program: &Program) -> Result<(Rete, Vec<Delta>), NoMemory>
-        ensures stands { IsRunnable program.now → IfOk result (λ built. NetStands program.now built.0 empty_snapshot) }
+    pub fn build(alloc: Global, program: &Program) -> Result<(Rete, Vec<RuleChange>), NoMemory>
+        ensures stands { IsRunnable program.now → IfOk result (λ built. (forgotten : NamedData → Bool) → NetStands program.now built.0 empty_snapshot forgotten) }
         ensures shared { IsRunnable program.now → IfOk result (λ built. AreShared built.0.nodes.items) }
         ensures first { IsRunnable program.now → IfOk result (λ built. AreBetween program.now (λ rule. []) (λ rule. rows program.now empty_snapshot rule.conditions) built.1.items) }
     {
         let mut net = Rete::of_rules(alloc, program)?;
         let first = empty_row_comes(alloc)?;
-        let deltas = net.step(alloc, program, &first, &[], None, 0, &NoFacts)?;
-        Ok((net, deltas))
+        let changes = net.step(alloc, program, &first, &[], None, 0, &NoFacts)?;
+        Ok((net, changes))
     }
 
-    /// Takes the facts that go and the one that comes, if one does, and the clock in milliseconds, and answers for each rule, by
-    /// its place, what has changed in its rows. `facts` has those that stay, those that go and the one that comes. A node that
-    /// nothing reaches costs a look at each of these facts and at the least moment that is due in it.
+    /// Takes the facts that go and the one that comes, if one does, and the clock in milliseconds, and answers of the rules
+    /// whose rows change, in their order, what has changed in them, but for rows that name a forgotten fact; no rule may need one.
+    /// `facts` has those that stay and are not forgotten, those that go and the one that comes. A node that nothing reaches costs the constant tests of each of these facts and a look, and takes no memory: one
+    /// before whose condition no row changes, whose pattern no such fact fits, and that has neither a window nor a `not`. The
+    /// others cost what their gates and nodes say, and a change is copied once for each rule that has it.
     pub fn advance<F: Facts>(
         &mut self,
         alloc: Global,
@@ -63,19 +71,21 @@ impl Rete {
         come: Option<&Fact>,
         clock: Millis,
         facts: &F,
-    ) -> Result<Vec<Delta>, NoMemory>
-        ensures stands { OnOk result ((s next : Snapshot) → IsRunnable program.now → NetStands program.now self.old s
+    ) -> Result<Vec<RuleChange>, NoMemory>
+        ensures stands { OnOk result ((s next : Snapshot) (forgotten : NamedData → Bool) → IsRunnable program.now → NetStands program.now self.old s forgotten
             → Moves program.now s next (lent gone.now) (option_map (λ f. f.now) come.entry) → next.clock ≡ clock
-            → HasAllOf (F.map facts.now) s no_names → HasAllOf (F.map facts.now) next no_names
-            → NetStands program.now self.new next) }
-        ensures differences { IfOk result (λ deltas. (s next : Snapshot) → IsRunnable program.now → NetStands program.now self.old s
+            → AreNotNeeded program.now forgotten s next (lent gone.now) (option_map (λ f. f.now) come.entry)
+            → HasAllOf (F.map facts.now) s forgotten → HasAllOf (F.map facts.now) next forgotten
+            → NetStands program.now self.new next forgotten) }
+        ensures differences { IfOk result (λ changes. (s next : Snapshot) (forgotten : NamedData → Bool) → IsRunnable program.now → NetStands program.now self.old s forgotten
             → Moves program.now s next (lent gone.now) (option_map (λ f. f.now) come.entry) → next.clock ≡ clock
-            → HasAllOf (F.map facts.now) s no_names → HasAllOf (F.map facts.now) next no_names
-            → AreBetween program.now (λ rule. rows program.now s rule.conditions) (λ rule. rows program.now next rule.conditions) deltas.items) }
+            → AreNotNeeded program.now forgotten s next (lent gone.now) (option_map (λ f. f.now) come.entry)
+            → HasAllOf (F.map facts.now) s forgotten → HasAllOf (F.map facts.now) next forgotten
+            → AreBetween program.now (clean_rows program.now s forgotten) (clean_rows program.now next forgotten) changes.items) }
     {
         let none = no_change(alloc);
-        let deltas = self.step(alloc, program, &none, gone, come, clock, facts)?;
-        Ok(deltas)
+        let changes = self.step(alloc, program, &none, gone, come, clock, facts)?;
+        Ok(changes)
     }
 
     /// How many nodes there are. Takes no memory.
@@ -88,19 +98,41 @@ impl Rete {
     /// Whether a move of the clock to this moment, in milliseconds, changes nothing where no fact goes or comes. Takes no memory.
     pub fn is_quiet(&self, clock: Millis) -> bool
         ensures exact { IsTrue result ↔ IsBefore self.now.quiet_until clock }
-        ensures stands { IsTrue result → (p : ProgramData) (s : Snapshot) → NetStands p self.now s → s.clock ≤ℤ clock → IsKept p (at_clock s clock)
-            → NetStands p self.now (at_clock s clock) }
-        ensures rows { IsTrue result → (p : ProgramData) (s : Snapshot) → NetStands p self.now s → s.clock ≤ℤ clock → IsKept p (at_clock s clock)
+        ensures stands { IsTrue result → (p : ProgramData) (s : Snapshot) (forgotten : NamedData → Bool) → NetStands p self.now s forgotten → s.clock ≤ℤ clock → IsKept p (at_clock s clock)
+            → NetStands p self.now (at_clock s clock) forgotten }
+        ensures rows { IsTrue result → (p : ProgramData) (s : Snapshot) (forgotten : NamedData → Bool) → NetStands p self.now s forgotten → s.clock ≤ℤ clock → IsKept p (at_clock s clock)
             → (place : ℕ) (rule : Rule) → slice_get p.rules place ≡ Some rule
-            → (row : Row) → has (rows p (at_clock s clock) rule.conditions) row ≡ has (rows p s rule.conditions) row }
+            → (row : RowData) → cleaned (rows_of p (at_clock s clock) rule.conditions) forgotten row ≡ cleaned (rows_of p s rule.conditions) forgotten row }
     {
         is_before(clock, self.quiet_until)
+    }
+
+    /// Drops these old facts from what the nodes keep, and answers for each rule of which rows go with them those rows, in order, and
+    /// the rules in their order. What nodes count or gather beside rows that stay is left as it is, old facts included, and `facts`
+    /// still has them. It costs what a step costs in which these rows and candidates go, a comparison for each node that has nothing
+    /// to drop, and a copy of the rows that are answered.
+    pub fn forget<F: Facts>(
+        &mut self,
+        alloc: Global,
+        program: &Program,
+        old: &[Named],
+        facts: &F,
+    ) -> Result<Vec<RuleRows>, NoMemory>
+        ensures stands { OnOk result ((s : Snapshot) (forgotten : NamedData → Bool) → NetStands program.now self.old s forgotten → HasAllOf (F.map facts.now) s forgotten
+            → NetStands program.now self.new s (either forgotten (has_name old.now))) }
+        ensures dropped { IfOk result (λ answers. (s : Snapshot) (forgotten : NamedData → Bool) → NetStands program.now self.old s forgotten → HasAllOf (F.map facts.now) s forgotten
+            → AreDropped program.now s forgotten (has_name old.now) answers.items) }
+        ensures listed { IfOk result (λ answers. AreListed answers.items (length self.old.ends.items)) }
+    {
+        let dropped = self.forget_nodes(alloc, program, old, facts)?;
+        let answers = rows_of_rules(alloc, &dropped, &self.ends)?;
+        Ok(answers)
     }
 
     /// The nodes of all rules, which keep nothing.
     fn of_rules(alloc: Global, program: &Program) -> Result<Rete, NoMemory>
         ensures { IfOk result (λ net. IsRunnable program.now → (all : List (List Condition)) × AreBuilt program.now net.nodes.items all × HaveEnds all net.ends.items program.now.rules (length program.now.rules)
-            × AreFronts program.now all × AreDistinct all) }
+            × AreFronts program.now all × AreDistinct all × (length net.ends.items ≡ length program.now.rules)) }
     {
         let mut builder = Builder::new(alloc);
         let mut ends = Vec::with_capacity(alloc, program.rules.as_slice().len())?;
@@ -115,8 +147,24 @@ impl Rete {
         })
     }
 
-    /// Lets all nodes take their step, and answers for each rule what its last node answers. `first` comes to the nodes without
-    /// a parent.
+    /// Lets all nodes drop what is old, and answers what each dropped.
+    fn forget_nodes<F: Facts>(
+        &mut self,
+        alloc: Global,
+        program: &Program,
+        old: &[Named],
+        facts: &F,
+    ) -> Result<Vec<Seq<Row>>, NoMemory>
+        ensures ends { OnOk result (self.new.ends.items ≡ self.old.ends.items) }
+        ensures quiet { OnOk result (self.new.quiet_until ≡ self.old.quiet_until) }
+        ensures forgot { IfOk result (λ dropped. AllForget program.now (F.map facts.now) (has_name old.now) self.old.nodes.items self.new.nodes.items dropped.items) }
+    {
+        let dropped = forget_all(&mut self.nodes, alloc, program, old, facts)?;
+        Ok(dropped)
+    }
+
+    /// Lets all nodes take their step, and answers what the last nodes of the rules answer. `first` comes to the nodes without a
+    /// parent.
     fn step<F: Facts>(
         &mut self,
         alloc: Global,
@@ -126,10 +174,10 @@ impl Rete {
         come: Option<&Fact>,
         clock: Millis,
         facts: &F,
-    ) -> Result<Vec<Delta>, NoMemory>
+    ) -> Result<Vec<RuleChange>, NoMemory>
         ensures ends { OnOk result (self.new.ends.items ≡ self.old.ends.items) }
         ensures quiet { OnOk result (AreQuiet program.now self.new.nodes.items self.new.quiet_until) }
-        ensures stepped { IfOk result (λ deltas. NetStep program.now (F.map facts.now) (lent gone.now) (option_map (λ f. f.now) come.entry) clock first.now self.old.nodes.items self.new.nodes.items self.old.ends.items deltas.items) }
+        ensures stepped { IfOk result (λ changes. NetStep program.now (F.map facts.now) (lent gone.now) (option_map (λ f. f.now) come.entry) clock first.now self.old.nodes.items self.new.nodes.items self.old.ends.items changes.items) }
     {
         let deltas = step_all(
             &mut self.nodes,
@@ -142,7 +190,7 @@ impl Rete {
             facts,
         )?;
         self.quiet_until = quiet_until(&self.nodes, program);
-        let answers = answers_at(alloc, first, &deltas, &self.ends)?;
-        Ok(answers)
+        let changes = changes_at(alloc, first, &deltas, &self.ends)?;
+        Ok(changes)
     }
 }
