@@ -6,7 +6,8 @@ use fx_base::limits::MOST_MILLIS;
 use fx_base::{
     Copies, EntryId, Fact, FactId, Facts, Millis, NoMemory, Seq, Tag, Text, Times, TypeId, Value,
 };
-use rete_net::Rete;
+use rete_net::{Rete, RuleChange};
+use row_change::changes_nothing;
 use row_delta::{Delta, Row};
 use rule_eval::rows_of_rules;
 use rule_model::Program;
@@ -83,24 +84,35 @@ fn is_possible(rows: &[Row], gone: &[Row], come: &[Row]) -> bool {
             .any(|row| rows.contains(row) || gone.contains(row))
 }
 
-/// The rows of the rules behind what the network answers, by their places; `None` where it cannot be so.
+/// The rows of the rules behind what the network answers for those that change, by their places; `None` where it cannot be so: an
+/// answer for no rule, or not in the order of the rules, or one without a row.
 fn behind_answers(
     alloc: Global,
     rules: Vec<RuleRows>,
-    deltas: Vec<Delta>,
+    changes: Vec<RuleChange>,
 ) -> Result<Option<Vec<RuleRows>>, NoMemory> {
     let mut next = Vec::with_capacity(alloc, rules.len())?;
-    let mut rest = deltas.into_iter();
-    for rule in rules {
-        let Some(delta) = rest.next() else {
-            return Ok(None);
-        };
-        let Some(rule) = rule.behind(alloc, &delta)? else {
-            return Ok(None);
-        };
-        next.push(rule)?;
+    let mut rest = changes.into_iter();
+    let mut change = rest.next();
+    for (place, rule) in rules.into_iter().enumerate() {
+        match change {
+            Some(found) if usize::from(found.rule.0) == place => {
+                if changes_nothing(&found.delta) {
+                    return Ok(None);
+                }
+                let Some(rule) = rule.behind(alloc, &found.delta)? else {
+                    return Ok(None);
+                };
+                next.push(rule)?;
+                change = rest.next();
+            }
+            other => {
+                next.push(rule)?;
+                change = other;
+            }
+        }
     }
-    Ok(Some(next))
+    Ok(if change.is_none() { Some(next) } else { None })
 }
 
 /// No rows of these rules.

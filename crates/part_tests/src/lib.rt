@@ -11,6 +11,8 @@ mod commands;
 #[cfg(test)]
 mod folds;
 #[cfg(test)]
+mod held_events;
+#[cfg(test)]
 mod held_facts;
 #[cfg(test)]
 mod lines;

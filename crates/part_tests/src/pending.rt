@@ -4,16 +4,21 @@ use row_delta::{Delta, Named, Row};
 use std::alloc::Global;
 use std::test::Fail;
 
-/// One row of one fact comes.
-fn comes(alloc: Global, tag: u64) -> Result<Delta, NoMemory> {
+/// The row of one fact.
+fn row_of(alloc: Global, tag: u64) -> Result<Row, NoMemory> {
     let named = Named {
         id: FactId(tag),
         tag: Tag(tag),
     };
-    let row = Row {
+    Ok(Row {
         facts: Seq::from_vec(vec![in alloc; named]?),
         values: Seq::from_vec(Vec::new(alloc)),
-    };
+    })
+}
+
+/// One row of one fact comes.
+pub(crate) fn comes(alloc: Global, tag: u64) -> Result<Delta, NoMemory> {
+    let row = row_of(alloc, tag)?;
     Ok(Delta {
         gone: Seq::from_vec(Vec::new(alloc)),
         come: Seq::from_vec(vec![in alloc; row]?),
@@ -29,7 +34,7 @@ fn is_first(agenda: &Agenda, rule: u16) -> bool {
 }
 
 /// The agenda behind the first firing.
-fn after_one(alloc: Global, agenda: Agenda) -> Result<Agenda, NoMemory> {
+pub(crate) fn after_one(alloc: Global, agenda: Agenda) -> Result<Agenda, NoMemory> {
     if agenda.top().is_none() {
         return Ok(agenda);
     }
@@ -47,5 +52,19 @@ fn the_greatest_salience_fires_first(rt: HostRuntime) -> Result<(), Fail> {
     assert!(rt; is_first(&agenda, 0));
     let agenda = after_one(alloc, agenda)?;
     assert!(rt; agenda.top().is_none());
+    Ok(())
+}
+
+#[test]
+fn a_tag_is_named_while_its_match_is_pending(rt: HostRuntime) -> Result<(), Fail> {
+    let alloc = rt.alloc();
+    let agenda = Agenda::new(alloc, &[0])?;
+    let agenda = agenda.change(RuleId(0), comes(alloc, 2)?)?;
+    assert!(rt; agenda.names_tag(Tag(2)));
+    assert!(rt; !agenda.names_tag(Tag(1)));
+    let agenda = after_one(alloc, agenda)?;
+    assert!(rt; !agenda.names_tag(Tag(2)));
+    let fired = vec![in alloc; row_of(alloc, 2)?]?;
+    assert!(rt; agenda.drop_fired(RuleId(0), fired).top().is_none());
     Ok(())
 }
