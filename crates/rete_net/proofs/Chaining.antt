@@ -1,8 +1,7 @@
 -- A step of all nodes, one after those before it, over the rows that conditions have before the step and behind it.
-use Rattle.std.proofs.Common.{◌≡◌, ◌∙◌, sym, ap, refl, subst, ℕ, zero, suc, ℤ, ◌<◌, List, [], ◌∷◌, ◌++◌, map, take, get_or, length, arith, Bool, true, Option, Some, None, slice_get}
+use Rattle.std.proofs.Common.{◌≡◌, ◌∙◌, sym, refl, subst, ℕ, zero, suc, ℤ, ◌<◌, List, [], ◌∷◌, ◌++◌, take, get_or, length, arith, Bool, true, Option, Some, None, slice_get}
 use Rattle.std.proofs.lemmas.List.{get_or-take}
-use Rattle.std.proofs.lemmas.Option.{slice_get_within, slice_get-get_or, slice_get-map}
-use Rattle.std.specs.Option.{option_map}
+use Rattle.std.proofs.lemmas.Option.{slice_get_within, slice_get-get_or}
 use Rattle.fx_base.specs.declared.fact.Fact.{Fact}
 use Rattle.row_delta.specs.declared.delta.Delta.{Delta}
 use Rattle.row_delta.specs.declared.row.Row.{Row}
@@ -137,10 +136,5 @@ module _ (p : Program) (look : Look) (s next : Snapshot) (gone : List Fact) (com
       let new = now_at at.last at.node at.there in
       record { last = at.last; node = new.0; found = at.found; there = new.1; all = at.all }
 
-  pub answer_at : (ends : List ℕ) (place : ℕ) (rule : Rule) → EndsAt nodes conditions ends place rule
-      → (delta : Delta) × (slice_get (map (delta_at first deltas) ends) place ≡ Some delta) × IsDifference (was rule.conditions) (is rule.conditions) delta
-  answer_at ends place rule at = (
-    delta_at first deltas at.last,
-    slice_get-map (delta_at first deltas) ends place ∙ ap (option_map (delta_at first deltas)) at.found,
-    subst (λ (cs : List Condition). IsDifference (was cs) (is cs) (delta_at first deltas at.last)) at.all (answered at.last at.node at.there),
-  )
+  pub answer_at : (ends : List ℕ) (place : ℕ) (rule : Rule) (at : EndsAt nodes conditions ends place rule) → IsDifference (was rule.conditions) (is rule.conditions) (delta_at first deltas at.last)
+  answer_at ends place rule at = subst (λ (cs : List Condition). IsDifference (was cs) (is cs) (delta_at first deltas at.last)) at.all (answered at.last at.node at.there)

@@ -6,3 +6,5 @@ mod Advancing
 mod Quieting
 mod Seen
 mod Starting
+mod Answering
+mod Skipping

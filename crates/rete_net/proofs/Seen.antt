@@ -2,7 +2,6 @@
 use Rattle.std.proofs.Common.{◌≡◌, ◌∙◌, sym, ap, subst, ℕ, ℤ, pos, negsuc, ◌<◌, ◌≤ℤ◌, ◌<ℤ◌, ◌^◌, arith, Bool, List, Option, Some, slice_get, SFits, w64}
 use Rattle.std.proofs.lemmas.Int.{ints}
 use Rattle.fx_base.specs.declared.fact.Fact.{Fact}
-use Rattle.row_delta.specs.declared.delta.Delta.{Delta}
 use Rattle.row_delta.specs.declared.row.Row.{Row}
 use Rattle.row_delta.specs.Rows.{has}
 use Rattle.rule_model.specs.declared.condition.Condition.{Condition}
@@ -14,13 +13,16 @@ use Rattle.join_tests.specs.Joins.{Look}
 use Rattle.pair_memory.specs.Standing.{no_names}
 use Rattle.condition_rows.specs.Looks.{HasAllOf}
 use Rattle.condition_rows.specs.Sets.{held, rows_of}
+use Rattle.rule_world.specs.Programs.{IsRunnable}
 use Rattle.pattern_gate.specs.Moves.{IsKept, at_clock}
 use Rattle.condition_node.specs.Quiet.{IsBefore}
+use Rattle.rete_net.specs.declared.changes.RuleChange.{RuleChange}
 use Rattle.rete_net.specs.declared.net.Rete.{Rete}
 use Rattle.rete_net.specs.Nets.{HaveSameRows, NodesStand, NetStands, AreBetween}
 use Rattle.rete_net.specs.Quiet.{AreQuiet}
 use Rattle.rete_net.specs.Steps.{no_change, NetStep}
 use Rattle.rete_net.proofs.Advancing.{rows_made, first_stays, stands_now, between_now}
+use Rattle.rete_net.proofs.Answering.{few_ends}
 use Rattle.rete_net.proofs.Chaining.{AreMade, IsGiven, AreStanding}
 use Rattle.rete_net.proofs.Quieting.{seen_now}
 use Rattle.rete_net.proofs.Turning.{rising}
@@ -47,7 +49,7 @@ rule_rows p net at s other nodes same place rule e =
 
 -- ---- a step
 
-module _ (p : Program) (look : Look) (s next : Snapshot) (gone : List Fact) (come : Option Fact) (clock : ℤ) (old new : Rete) (answers : List Delta)
+module _ (p : Program) (look : Look) (s next : Snapshot) (gone : List Fact) (come : Option Fact) (clock : ℤ) (old new : Rete) (answers : List RuleChange)
     (given : IsGiven p look s next gone come clock) (stands : NetStands p old s) (same : new.ends.items ≡ old.ends.items)
     (step : NetStep p look gone come clock no_change old.nodes.items new.nodes.items old.ends.items answers) where
   abbrev was : Snapshot
@@ -80,12 +82,13 @@ module _ (p : Program) (look : Look) (s next : Snapshot) (gone : List Fact) (com
   pub net_stands : AreQuiet p new.nodes.items new.quiet_until → NetStands p new next
   net_stands quiet =
       seen_now p new next
-      (stands_now p look was next gone come clock no_change (rows_of p was) (rows p s) old new stands.nodes.conditions answers from_seen made (first_stays p was next) standing stands.nodes.ends stands.nodes.fronts same step listed)
+      (stands_now p look was next gone come clock no_change (rows_of p was) (rows p s) old new stands.nodes.conditions answers from_seen made (first_stays p was next) standing stands.nodes.ends stands.nodes.count stands.nodes.fronts same step listed)
       given.moves.after (onward (pos 0) stands.seen next.clock stands.begun from_seen.moves.clock) quiet
 
-  pub net_between : AreBetween p (λ rule. rows p s rule.conditions) (λ rule. rows p next rule.conditions) answers
-  net_between =
-      between_now p look was next gone come clock no_change (rows_of p was) (rows p s) old new stands.nodes.conditions answers from_seen made (first_stays p was next) standing stands.nodes.ends stands.nodes.fronts same step listed
+  pub net_between : IsRunnable p → AreBetween p (λ rule. rows p s rule.conditions) (λ rule. rows p next rule.conditions) answers
+  net_between runnable =
+      between_now p look was next gone come clock no_change (rows_of p was) (rows p s) old new stands.nodes.conditions answers from_seen made (first_stays p was next) standing stands.nodes.ends stands.nodes.count stands.nodes.fronts same step listed
+      (few_ends p old.ends.items stands.nodes.count runnable)
 
 -- ---- the clock moves alone, before something is due
 

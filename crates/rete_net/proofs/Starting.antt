@@ -5,7 +5,6 @@ use Rattle.std.specs.List.Sorted.{IsStrictlySortedBy}
 use Rattle.std.specs.Int.Signed.{≤ℤ_refl}
 use Rattle.std.proofs.lemmas.List.{get_or-take, length-take}
 use Rattle.std.proofs.lemmas.Option.{slice_get_within, get_or_from_slice_get, slice_get-get_or}
-use Rattle.row_delta.specs.declared.delta.Delta.{Delta}
 use Rattle.row_delta.specs.declared.row.Named.{Named}
 use Rattle.row_delta.specs.declared.row.Row.{Row}
 use Rattle.row_delta.specs.Rows.{has}
@@ -25,6 +24,8 @@ use Rattle.condition_rows.specs.Lines.{line, gives}
 use Rattle.condition_rows.specs.Looks.{empty_snapshot, HasAllOf}
 use Rattle.pattern_gate.specs.Moves.{IsKept}
 use Rattle.condition_node.specs.Nodes.{condition_of}
+use Rattle.rule_world.specs.Programs.{IsRunnable}
+use Rattle.rete_net.specs.declared.changes.RuleChange.{RuleChange}
 use Rattle.rete_net.specs.declared.net.Rete.{Rete}
 use Rattle.rete_net.specs.declared.node.NetNode.{NetNode}
 use Rattle.rete_net.specs.Nets.{NodesStand, NetStands, AreBetween}
@@ -33,6 +34,7 @@ use Rattle.rete_net.specs.Shapes.{before, EndsAt, IsFront, AreShared}
 use Rattle.rete_net.specs.Steps.{empty_row_comes, NetStep}
 use Rattle.rete_net.specs.Building.{IsParent, AreBuilt, HaveEnds, AreFronts, AreDistinct}
 use Rattle.rete_net.proofs.Advancing.{first_row, shaped_now, stands_now, between_now}
+use Rattle.rete_net.proofs.Answering.{few_ends}
 use Rattle.rete_net.proofs.Chaining.{AreMade, IsGiven, AreStanding}
 use Rattle.rete_net.proofs.Growing.{has_at}
 use Rattle.rete_net.proofs.Quieting.{seen_now}
@@ -93,8 +95,8 @@ first_comes p = record {
 
 -- ---- what was built
 
-module _ (p : Program) (net new : Rete) (all : List (List Condition)) (answers : List Delta) (built : AreBuilt p net.nodes.items all)
-    (ends : HaveEnds all net.ends.items p.rules (length p.rules)) (fronts_are : AreFronts p all) (distinct : AreDistinct all) (same : new.ends.items ≡ net.ends.items)
+module _ (p : Program) (net new : Rete) (all : List (List Condition)) (answers : List RuleChange) (built : AreBuilt p net.nodes.items all)
+    (ends : HaveEnds all net.ends.items p.rules (length p.rules)) (fronts_are : AreFronts p all) (distinct : AreDistinct all) (count : length net.ends.items ≡ length p.rules) (same : new.ends.items ≡ net.ends.items)
     (step : NetStep p no_facts [] None (pos 0) empty_row_comes net.nodes.items new.nodes.items net.ends.items answers) where
   abbrev conditions : ℕ → List Condition
   conditions k = get_or all k []
@@ -125,7 +127,7 @@ module _ (p : Program) (net new : Rete) (all : List (List Condition)) (answers :
   end_at place rule e =
       let r = ends place rule (slice_get_within p.rules place rule e) e in
       let inside : r.0 < length all = slice_get_within all r.0 rule.conditions r.2 in
-      let count = built.length in
+      let many = built.length in
       there r.0 r.1 r.2 (has_at net.nodes.items r.0 (omega arith))
     where
       there : (last : ℕ) → slice_get net.ends.items place ≡ Some last → slice_get all last ≡ Some rule.conditions
@@ -134,21 +136,21 @@ module _ (p : Program) (net new : Rete) (all : List (List Condition)) (answers :
 
   -- the conditions of a node are those that it was built for
   listed : (k : ℕ) → k < length net.nodes.items → slice_get all k ≡ Some (conditions k)
-  listed k h = let count = built.length in slice_get-get_or all k [] (omega arith)
+  listed k h = let many = built.length in slice_get-get_or all k [] (omega arith)
 
   fronts : (k : ℕ) (n : NetNode) → slice_get net.nodes.items k ≡ Some n → IsFront p (conditions k)
   fronts k n e = fronts_are k (conditions k) (listed k (slice_get_within net.nodes.items k n e))
 
   nodes_now : NodesStand p new empty_snapshot
   nodes_now =
-      stands_now p no_facts empty_snapshot empty_snapshot [] None (pos 0) empty_row_comes nothing (λ cs. []) net new conditions answers (starts p) (nothing_made p empty_snapshot) (first_comes p) standing end_at fronts same step (λ place rule e. refl)
+      stands_now p no_facts empty_snapshot empty_snapshot [] None (pos 0) empty_row_comes nothing (λ cs. []) net new conditions answers (starts p) (nothing_made p empty_snapshot) (first_comes p) standing end_at count fronts same step (λ place rule e. refl)
 
   pub built_shared : AreShared new.nodes.items
   built_shared = record {
     conditions = conditions;
-    shaped = shaped_now p no_facts empty_snapshot empty_snapshot [] None (pos 0) empty_row_comes nothing (λ cs. []) net new conditions answers (starts p) (nothing_made p empty_snapshot) (first_comes p) standing end_at fronts same step (λ place rule e. refl);
+    shaped = shaped_now p no_facts empty_snapshot empty_snapshot [] None (pos 0) empty_row_comes nothing (λ cs. []) net new conditions answers (starts p) (nothing_made p empty_snapshot) (first_comes p) standing end_at count fronts same step (λ place rule e. refl);
     once = λ j k a b e f equal.
-        let count = step.nodes in
+        let many = step.nodes in
         let low : j < length new.nodes.items = slice_get_within new.nodes.items j a e in
         let high : k < length new.nodes.items = slice_get_within new.nodes.items k b f in
         distinct j k (conditions j) (listed j (omega arith)) (listed k (omega arith) ∙ ap Some (sym equal));
@@ -158,6 +160,7 @@ module _ (p : Program) (net new : Rete) (all : List (List Condition)) (answers :
   built_stands quiet =
       seen_now p new empty_snapshot nodes_now (kept p) (standstill (pos 0)) quiet
 
-  pub built_between : AreBetween p (λ rule. []) (λ rule. rows p empty_snapshot rule.conditions) answers
-  built_between =
-      between_now p no_facts empty_snapshot empty_snapshot [] None (pos 0) empty_row_comes nothing (λ cs. []) net new conditions answers (starts p) (nothing_made p empty_snapshot) (first_comes p) standing end_at fronts same step (λ place rule e. refl)
+  pub built_between : IsRunnable p → AreBetween p (λ rule. []) (λ rule. rows p empty_snapshot rule.conditions) answers
+  built_between runnable =
+      between_now p no_facts empty_snapshot empty_snapshot [] None (pos 0) empty_row_comes nothing (λ cs. []) net new conditions answers (starts p) (nothing_made p empty_snapshot) (first_comes p) standing end_at count fronts same step (λ place rule e. refl)
+      (few_ends p net.ends.items count runnable)

@@ -1,5 +1,5 @@
 -- One node after the others.
-use Rattle.std.proofs.Common.{◌≡◌, ◌∙◌, sym, ap, refl, subst, ℕ, zero, suc, ℤ, ◌+◌, ◌<◌, ◌≤◌, List, [], ◌∷◌, ◌++◌, length, map, take, arith, Option, Some, slice_get, ◌⊎◌, inl, inr}
+use Rattle.std.proofs.Common.{◌≡◌, ◌∙◌, sym, ap, refl, subst, ℕ, zero, suc, ℤ, ◌+◌, ◌<◌, ◌≤◌, ◌^◌, List, [], ◌∷◌, ◌++◌, length, take, arith, Option, Some, slice_get, ◌⊎◌, inl, inr}
 use Rattle.std.proofs.Math.ListN.{set}
 use Rattle.std.proofs.Math.Seq.{get_or-append_seam, take-append_seam}
 use Rattle.std.proofs.lemmas.List.{take-append-le, get_or_append_left}
@@ -7,8 +7,9 @@ use Rattle.fx_base.specs.declared.fact.Fact.{Fact}
 use Rattle.row_delta.specs.declared.delta.Delta.{Delta}
 use Rattle.rule_model.specs.declared.program.Program.{Program}
 use Rattle.join_tests.specs.Joins.{Look}
+use Rattle.rete_net.specs.declared.changes.RuleChange.{RuleChange}
 use Rattle.rete_net.specs.declared.node.NetNode.{NetNode}
-use Rattle.rete_net.specs.Steps.{delta_at, left_delta, NodeStep, SteppedBelow, NetStep}
+use Rattle.rete_net.specs.Steps.{delta_at, left_delta, changes_from, NodeStep, SteppedBelow, NetStep}
 
 pub set_other : {A : Type 0} (xs : List A) (i k : ℕ) (v : A) → (k ≡ i → ⊥) → slice_get (set xs i v) k ≡ slice_get xs k
 set_other [] i k v h = refl
@@ -80,9 +81,9 @@ at_clock p look gone come at clock first before now deltas n e below = subst (λ
 whole_again : {A : Type 0} (n : ℕ) (xs ys : List A) → length xs ≡ n → take n (xs ++ ys) ≡ xs
 whole_again n xs ys e = ap (λ m. take m (xs ++ ys)) (sym e) ∙ take-append_seam xs ys
 
-module _ (p : Program) (look : Look) (gone : List Fact) (come : Option Fact) (first : Delta) (ends : List ℕ) (answers : List Delta) where
+module _ (p : Program) (look : Look) (gone : List Fact) (come : Option Fact) (first : Delta) (ends : List ℕ) (answers : List RuleChange) where
   pub net_step : (at clock : ℤ) (before given now rest : List NetNode) (n : ℕ) (deltas lent_deltas : List Delta) (lent_ends : List ℕ) → at ≡ clock → given ≡ before → length now ≡ length given → n ≡ length before
-      → SteppedBelow p look gone come at first given now deltas (length given) → answers ≡ map (delta_at first lent_deltas) lent_ends → lent_deltas ≡ deltas → lent_ends ≡ ends
+      → SteppedBelow p look gone come at first given now deltas (length given) → (length lent_ends < 2 ^ 16 → answers ≡ changes_from first lent_deltas 0 lent_ends) → lent_deltas ≡ deltas → lent_ends ≡ ends
       → NetStep p look gone come clock first before (take n (now ++ rest)) ends answers
   net_step at clock before given now rest n deltas lent_deltas lent_ends e f long count stepped answered same_deltas same_ends =
       subst (λ (after : List NetNode). NetStep p look gone come clock first before after ends answers) (sym (whole_again n now rest (long ∙ ap length f ∙ sym count)))
@@ -90,11 +91,11 @@ module _ (p : Program) (look : Look) (gone : List Fact) (come : Option Fact) (fi
         deltas = deltas;
         nodes = long ∙ ap length f;
         stepped = subst (λ (z : ℤ). SteppedBelow p look gone come z first before now deltas (length before)) e (subst (λ (ns : List NetNode). SteppedBelow p look gone come at first ns now deltas (length ns)) f stepped);
-        answers = answered ∙ ap (λ (ds : List Delta). map (delta_at first ds) lent_ends) same_deltas ∙ ap (map (delta_at first deltas)) same_ends;
+        answers = subst (λ (es : List ℕ). length es < 2 ^ 16 → answers ≡ changes_from first deltas 0 es) same_ends (subst (λ (ds : List Delta). length lent_ends < 2 ^ 16 → answers ≡ changes_from first ds 0 lent_ends) same_deltas answered);
       })
 
 -- a step by the same clock and the same first difference
-pub settled : (p : Program) (look : Look) (gone : List Fact) (come : Option Fact) (at clock : ℤ) (given first : Delta) (before after : List NetNode) (ends : List ℕ) (answers : List Delta) → at ≡ clock → given ≡ first
+pub settled : (p : Program) (look : Look) (gone : List Fact) (come : Option Fact) (at clock : ℤ) (given first : Delta) (before after : List NetNode) (ends : List ℕ) (answers : List RuleChange) → at ≡ clock → given ≡ first
     → NetStep p look gone come at given before after ends answers → NetStep p look gone come clock first before after ends answers
 settled p look gone come at clock given first before after ends answers e f step =
     subst (λ (z : ℤ). NetStep p look gone come z first before after ends answers) e (subst (λ (d : Delta). NetStep p look gone come at d before after ends answers) f step)

@@ -1,8 +1,12 @@
 -- For which snapshot a network stands, and what it answers.
-use Rattle.std.specs.Prelude.{◌≡◌, ◌≤ℤ◌, ◌<ℤ◌, ◌^◌, pos, ℕ, ℤ, Bool, true, List, Some, slice_get}
+use Rattle.std.specs.Prelude.{◌≡◌, ◌==◌, ◌≤ℤ◌, ◌<ℤ◌, ◌^◌, pos, ℕ, ℤ, Bool, true, false, cond, List, [], ◌∷◌, length, map, Option, Some, None, slice_get}
+use Rattle.std.specs.List.Sorted.{IsStrictlySortedBy}
+use Rattle.std.specs.Ordering.{nat_cmp}
 use Rattle.row_delta.specs.declared.delta.Delta.{Delta}
 use Rattle.row_delta.specs.declared.row.Row.{Row}
 use Rattle.row_delta.specs.Differences.{IsBetween}
+use Rattle.row_delta.specs.Rows.{has}
+use Rattle.row_change.specs.Changes.{changes_nothing}
 use Rattle.rule_model.specs.declared.condition.Condition.{Condition}
 use Rattle.rule_model.specs.declared.program.Program.{Program}
 use Rattle.rule_model.specs.declared.program.Rule.{Rule}
@@ -14,6 +18,7 @@ use Rattle.pattern_gate.specs.Gates.{GateStands, has_good_window}
 use Rattle.pattern_gate.specs.Moves.{IsKept, at_clock}
 use Rattle.condition_node.specs.Nodes.{condition_of, NodeStands}
 use Rattle.condition_node.specs.Quiet.{IsBefore}
+use Rattle.rete_net.specs.declared.changes.RuleChange.{RuleChange}
 use Rattle.rete_net.specs.declared.node.NetNode.{NetNode}
 use Rattle.rete_net.specs.declared.net.Rete.{Rete}
 use Rattle.rete_net.specs.Shapes.{before, IsShaped, EndsAt, IsFront}
@@ -29,6 +34,7 @@ pub record NodesStand (p : Program) (net : Rete) (s : Snapshot) : Type 0 where
   pub conditions : ℕ → List Condition
   pub shaped : IsShaped net.nodes.items conditions
   pub ends : (place : ℕ) (rule : Rule) → slice_get p.rules place ≡ Some rule → EndsAt net.nodes.items conditions net.ends.items place rule
+  pub count : length net.ends.items ≡ length p.rules
   pub fronts : (k : ℕ) (n : NetNode) → slice_get net.nodes.items k ≡ Some n → IsFront p (conditions k)
   pub windows : (k : ℕ) (n : NetNode) → slice_get net.nodes.items k ≡ Some n → has_good_window p (pattern_of (condition_of n.node)) ≡ true
   pub nodes : (k : ℕ) (n : NetNode) → slice_get net.nodes.items k ≡ Some n → NetNodeStands p n s (rows_of p s (before conditions n.parent))
@@ -49,7 +55,18 @@ pub record NetStands (p : Program) (net : Rete) (s : Snapshot) : Type 0 where
   pub quiet : (clock : ℤ) → s.clock ≤ℤ clock → clock <ℤ pos (2 ^ 63) → IsBefore net.quiet_until clock → IsKept p (at_clock s clock)
       → HaveSameRows p net.nodes.items nodes.conditions (at_clock s clock) (at_clock s seen)
 
--- these are, for each rule by its place, the differences of these rows
-abbrev pub AreBetween : Program → (Rule → List Row) → (Rule → List Row) → List Delta → Type 0
-AreBetween p old new deltas =
-    (place : ℕ) (rule : Rule) → slice_get p.rules place ≡ Some rule → (delta : Delta) × (slice_get deltas place ≡ Some delta) × IsBetween (old rule) (new rule) delta
+-- what has changed in the rows of the rule in a place, if it is one of these changes
+abbrev pub change_of : List RuleChange → ℕ → Option Delta
+change_of [] place = None
+change_of (c ∷ changes) place = cond (c.rule.0 == place) (Some c.delta) (change_of changes place)
+
+-- the rows have changed by this difference, which has a row; without one they are the same
+abbrev pub IsChange : Option Delta → List Row → List Row → Type 0
+IsChange None old new = (row : Row) → has old row ≡ has new row
+IsChange (Some delta) old new = IsBetween old new delta × (changes_nothing delta ≡ false)
+
+-- these are, in the order of the rules, the changes of those whose rows have changed, each once
+pub record AreBetween (p : Program) (old new : Rule → List Row) (changes : List RuleChange) : Type 0 where
+  pub in_order : IsStrictlySortedBy nat_cmp (map (λ (c : RuleChange). c.rule.0) changes)
+  pub placed : (place : ℕ) (delta : Delta) → change_of changes place ≡ Some delta → (rule : Rule) × (slice_get p.rules place ≡ Some rule)
+  pub each : (place : ℕ) (rule : Rule) → slice_get p.rules place ≡ Some rule → IsChange (change_of changes place) (old rule) (new rule)

@@ -1,9 +1,9 @@
 -- A step of the nodes of a network, each behind the one that it names, which stands before it.
-use Rattle.std.specs.Prelude.{◌≡◌, ◌<◌, Bool, true, ℕ, ℤ, List, [], ◌∷◌, map, Option, Some, None, slice_get, slice_index_or, length, take}
+use Rattle.std.specs.Prelude.{◌≡◌, ◌<◌, ◌+◌, ◌^◌, Bool, true, ℕ, ℤ, cond, List, [], ◌∷◌, ◌++◌, Option, Some, None, slice_get, slice_index_or, length, take}
 use Rattle.fx_base.specs.declared.fact.Fact.{Fact}
 use Rattle.row_delta.specs.declared.delta.Delta.{Delta}
 use Rattle.row_delta.specs.declared.row.Row.{Row}
-use Rattle.row_change.specs.Changes.{Leads, IsDifference}
+use Rattle.row_change.specs.Changes.{Leads, IsDifference, changes_nothing}
 use Rattle.rule_model.specs.declared.condition.Pattern.{Pattern}
 use Rattle.rule_model.specs.declared.program.Program.{Program}
 use Rattle.rule_model.specs.Rows.{pattern_of}
@@ -15,6 +15,7 @@ use Rattle.condition_rows.specs.Looks.{HasAllOf, NameHeld}
 use Rattle.pattern_gate.specs.Gates.{has_good_window}
 use Rattle.pattern_gate.specs.Moves.{Moves}
 use Rattle.condition_node.specs.Nodes.{condition_of}
+use Rattle.rete_net.specs.declared.changes.RuleChange.{RuleChange}
 use Rattle.rete_net.specs.declared.node.NetNode.{NetNode}
 use Rattle.rete_net.specs.Nets.{NetNodeStands}
 
@@ -60,9 +61,18 @@ SteppedBelow p look gone come clock first before after deltas n =
     (k : ℕ) → k < n → (old new : NetNode) → slice_get before k ≡ Some old → slice_get after k ≡ Some new
     → NodeStep p look gone come clock old new (left_delta first (take k deltas) old.parent) (delta_at first deltas k)
 
--- what a step of a network answers: its nodes took their step, and each answer is what the last node of a rule answered
-pub record NetStep (p : Program) (look : Look) (gone : List Fact) (come : Option Fact) (clock : ℤ) (first : Delta) (before after : List NetNode) (ends : List ℕ) (given : List Delta) : Type 0 where
+-- the change of the rule in a place, if the difference has a row
+abbrev pub change_at : ℕ → Delta → List RuleChange
+change_at place delta = cond (changes_nothing delta) [] (record { rule = record { 0 = place }; delta = delta } ∷ [])
+
+-- the changes of the rules from a place on, whose last nodes are these
+abbrev pub changes_from : Delta → List Delta → ℕ → List ℕ → List RuleChange
+changes_from none deltas place [] = []
+changes_from none deltas place (end ∷ ends) = change_at place (delta_at none deltas end) ++ changes_from none deltas (place + 1) ends
+
+-- what a step of a network answers: its nodes took their step, and the changes are what the last nodes of the rules answered
+pub record NetStep (p : Program) (look : Look) (gone : List Fact) (come : Option Fact) (clock : ℤ) (first : Delta) (before after : List NetNode) (ends : List ℕ) (given : List RuleChange) : Type 0 where
   pub deltas : List Delta
   pub nodes : length after ≡ length before
   pub stepped : SteppedBelow p look gone come clock first before after deltas (length before)
-  pub answers : given ≡ map (delta_at first deltas) ends
+  pub answers : length ends < 2 ^ 16 → given ≡ changes_from first deltas 0 ends

@@ -64,6 +64,7 @@ pub(crate) struct Origin<'p> {
 }
 
 impl Origin<'_> {
+    // Whether it has this parent and this condition. Takes no memory.
     fn names(&self, parent: Option<usize>, condition: &Condition) -> bool
         ensures { IsTrue result ↔ ((self.now.parent ≡ parent) × (self.now.condition.now ≡ condition.now)) }
     {

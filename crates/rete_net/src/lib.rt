@@ -1,12 +1,14 @@
 //! The network of a program: a node for each condition of its rules, which answers for a change of the facts and a move of the clock
-//! what changes in the rows of each rule. It stands on the nodes of conditions and their gates, and assumes nothing of the outside.
+//! what changes in the rows of which rules. It stands on the nodes of conditions and their gates, and assumes nothing of the outside.
 #![tactic(auto)]
 
 mod build;
+mod changes;
 mod net;
 mod node;
 mod quiet;
 mod sameness;
 mod steps;
 
+pub use changes::RuleChange;
 pub use net::Rete;

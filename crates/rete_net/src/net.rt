@@ -19,9 +19,10 @@ ghost use Rattle.rete_net.specs.Shapes.{AreShared};
 ghost use Rattle.rete_net.specs.Steps.{NetStep};
 
 use crate::build::{Builder, NoFacts, empty_row_comes, no_change};
+use crate::changes::{RuleChange, changes_at};
 use crate::node::NetNode;
 use crate::quiet::is_before;
-use crate::steps::{answers_at, quiet_until, step_all};
+use crate::steps::{quiet_until, step_all};
 use fx_base::{Fact, Facts, Millis, NoMemory};
 use row_delta::Delta;
 use rule_model::Program;
@@ -38,23 +39,25 @@ pub struct Rete {
 }
 
 impl Rete {
-    /// The network of a program over no facts at the clock 0, and for each rule, by its place, the rows that it has there, as they
-    /// come. Rules whose first conditions are equal share the nodes of these: there is a node for each distinct front. It copies the
+    /// The network of a program over no facts at the clock 0, and of the rules that have rows there, in their order, these rows as
+    /// they come. Rules whose first conditions are equal share the nodes of these: there is a node for each distinct front. It copies the
     /// conditions, and for each of them it looks at the nodes that are there.
-    pub fn build(alloc: Global, program: &Program) -> Result<(Rete, Vec<Delta>), NoMemory>
+    pub fn build(alloc: Global, program: &Program) -> Result<(Rete, Vec<RuleChange>), NoMemory>
         ensures stands { IsRunnable program.now → IfOk result (λ built. NetStands program.now built.0 empty_snapshot) }
         ensures shared { IsRunnable program.now → IfOk result (λ built. AreShared built.0.nodes.items) }
         ensures first { IsRunnable program.now → IfOk result (λ built. AreBetween program.now (λ rule. []) (λ rule. rows program.now empty_snapshot rule.conditions) built.1.items) }
     {
         let mut net = Rete::of_rules(alloc, program)?;
         let first = empty_row_comes(alloc)?;
-        let deltas = net.step(alloc, program, &first, &[], None, 0, &NoFacts)?;
-        Ok((net, deltas))
+        let changes = net.step(alloc, program, &first, &[], None, 0, &NoFacts)?;
+        Ok((net, changes))
     }
 
-    /// Takes the facts that go and the one that comes, if one does, and the clock in milliseconds, and answers for each rule, by
-    /// its place, what has changed in its rows. `facts` has those that stay, those that go and the one that comes. A node that
-    /// nothing reaches costs a look at each of these facts and at the least moment that is due in it.
+    /// Takes the facts that go and the one that comes, if one does, and the clock in milliseconds, and answers of the rules
+    /// whose rows change, in their order, what has changed in them. `facts` has those that stay, those that go and the one that
+    /// comes. A node that nothing reaches costs the constant tests of each of these facts and a look, and takes no memory: one
+    /// before whose condition no row changes, whose pattern no such fact fits, and that has neither a window nor a `not`. The
+    /// others cost what their gates and nodes say, and a change is copied once for each rule that has it.
     pub fn advance<F: Facts>(
         &mut self,
         alloc: Global,
@@ -63,19 +66,19 @@ impl Rete {
         come: Option<&Fact>,
         clock: Millis,
         facts: &F,
-    ) -> Result<Vec<Delta>, NoMemory>
+    ) -> Result<Vec<RuleChange>, NoMemory>
         ensures stands { OnOk result ((s next : Snapshot) → IsRunnable program.now → NetStands program.now self.old s
             → Moves program.now s next (lent gone.now) (option_map (λ f. f.now) come.entry) → next.clock ≡ clock
             → HasAllOf (F.map facts.now) s no_names → HasAllOf (F.map facts.now) next no_names
             → NetStands program.now self.new next) }
-        ensures differences { IfOk result (λ deltas. (s next : Snapshot) → IsRunnable program.now → NetStands program.now self.old s
+        ensures differences { IfOk result (λ changes. (s next : Snapshot) → IsRunnable program.now → NetStands program.now self.old s
             → Moves program.now s next (lent gone.now) (option_map (λ f. f.now) come.entry) → next.clock ≡ clock
             → HasAllOf (F.map facts.now) s no_names → HasAllOf (F.map facts.now) next no_names
-            → AreBetween program.now (λ rule. rows program.now s rule.conditions) (λ rule. rows program.now next rule.conditions) deltas.items) }
+            → AreBetween program.now (λ rule. rows program.now s rule.conditions) (λ rule. rows program.now next rule.conditions) changes.items) }
     {
         let none = no_change(alloc);
-        let deltas = self.step(alloc, program, &none, gone, come, clock, facts)?;
-        Ok(deltas)
+        let changes = self.step(alloc, program, &none, gone, come, clock, facts)?;
+        Ok(changes)
     }
 
     /// How many nodes there are. Takes no memory.
@@ -100,7 +103,7 @@ impl Rete {
     /// The nodes of all rules, which keep nothing.
     fn of_rules(alloc: Global, program: &Program) -> Result<Rete, NoMemory>
         ensures { IfOk result (λ net. IsRunnable program.now → (all : List (List Condition)) × AreBuilt program.now net.nodes.items all × HaveEnds all net.ends.items program.now.rules (length program.now.rules)
-            × AreFronts program.now all × AreDistinct all) }
+            × AreFronts program.now all × AreDistinct all × (length net.ends.items ≡ length program.now.rules)) }
     {
         let mut builder = Builder::new(alloc);
         let mut ends = Vec::with_capacity(alloc, program.rules.as_slice().len())?;
@@ -115,8 +118,8 @@ impl Rete {
         })
     }
 
-    /// Lets all nodes take their step, and answers for each rule what its last node answers. `first` comes to the nodes without
-    /// a parent.
+    /// Lets all nodes take their step, and answers what the last nodes of the rules answer. `first` comes to the nodes without a
+    /// parent.
     fn step<F: Facts>(
         &mut self,
         alloc: Global,
@@ -126,10 +129,10 @@ impl Rete {
         come: Option<&Fact>,
         clock: Millis,
         facts: &F,
-    ) -> Result<Vec<Delta>, NoMemory>
+    ) -> Result<Vec<RuleChange>, NoMemory>
         ensures ends { OnOk result (self.new.ends.items ≡ self.old.ends.items) }
         ensures quiet { OnOk result (AreQuiet program.now self.new.nodes.items self.new.quiet_until) }
-        ensures stepped { IfOk result (λ deltas. NetStep program.now (F.map facts.now) (lent gone.now) (option_map (λ f. f.now) come.entry) clock first.now self.old.nodes.items self.new.nodes.items self.old.ends.items deltas.items) }
+        ensures stepped { IfOk result (λ changes. NetStep program.now (F.map facts.now) (lent gone.now) (option_map (λ f. f.now) come.entry) clock first.now self.old.nodes.items self.new.nodes.items self.old.ends.items changes.items) }
     {
         let deltas = step_all(
             &mut self.nodes,
@@ -142,7 +145,7 @@ impl Rete {
             facts,
         )?;
         self.quiet_until = quiet_until(&self.nodes, program);
-        let answers = answers_at(alloc, first, &deltas, &self.ends)?;
-        Ok(answers)
+        let changes = changes_at(alloc, first, &deltas, &self.ends)?;
+        Ok(changes)
     }
 }

@@ -1,16 +1,22 @@
-ghost use Rattle.std.specs.Prelude.{◌≡◌, option_map, IfOk};
+ghost use Rattle.std.specs.Prelude.{◌≡◌, ℤ, true, option_map, IfOk, IsTrue};
+ghost use Rattle.row_delta.specs.declared.delta.Delta.{Delta as DeltaData};
+ghost use Rattle.row_change.specs.Changes.{changes_nothing};
+ghost use Rattle.rule_model.specs.declared.program.Program.{Program as ProgramData};
 ghost use Rattle.rule_model.specs.Lent.{lent};
+ghost use Rattle.join_tests.specs.Joins.{Look};
 ghost use Rattle.pair_memory.specs.Standing.{no_rows};
 ghost use Rattle.condition_rows.specs.Looks.{empty_snapshot};
 ghost use Rattle.condition_node.specs.Nodes.{condition_of};
 ghost use Rattle.rete_net.specs.Nets.{NetNodeStands};
 ghost use Rattle.rete_net.specs.Quiet.{IsNodeQuiet};
-ghost use Rattle.rete_net.specs.Steps.{NodeStep};
+ghost use Rattle.rete_net.specs.Steps.{no_change, NodeStep};
 
+use crate::build::no_change;
 use crate::quiet::{earlier, widened};
 use condition_node::Node;
 use fx_base::{Fact, Facts, Millis, NoMemory};
 use pattern_gate::PatternGate;
+use row_change::changes_nothing;
 use row_delta::Delta;
 use rule_model::{Condition, Program};
 use std::alloc::Global;
@@ -42,7 +48,7 @@ impl NetNode {
     }
 
     /// Takes what has changed in the rows before it and what goes and comes, and answers what has changed in the rows of its
-    /// condition.
+    /// condition. Where nothing has changed before it and it is still, it takes no memory.
     pub(crate) fn advance<F: Facts>(
         &mut self,
         alloc: Global,
@@ -55,6 +61,9 @@ impl NetNode {
     ) -> Result<Delta, NoMemory>
         ensures { IfOk result (λ delta. NodeStep program.now (F.map facts.now) (lent gone.now) (option_map (λ f. f.now) come.entry) clock self.old self.new left.now delta) }
     {
+        if changes_nothing(left) && self.is_still(gone, come) {
+            return Ok(no_change(alloc));
+        }
         let right = self
             .gate
             .advance(alloc, program, self.node.pattern(), gone, come, clock)?;
@@ -62,6 +71,15 @@ impl NetNode {
             .node
             .advance(alloc, program, left, &right, clock, facts)?;
         Ok(delta)
+    }
+
+    /// Whether it stays as it is, whatever the clock, where these facts go and this one comes, if one does, and nothing changes in
+    /// the rows before it. Of each fact it costs the constant tests. Takes no memory.
+    fn is_still(&self, gone: &[&Fact], come: Option<&Fact>) -> bool
+        ensures { IsTrue result → (p : ProgramData) (look : Look) (clock : ℤ) (left : DeltaData) → changes_nothing left ≡ true
+            → NodeStep p look (lent gone.now) (option_map (λ f. f.now) come.entry) clock self.now self.now left no_change }
+    {
+        self.node.is_still() && self.gate.is_still(self.node.pattern(), gone, come)
     }
 
     /// The moment of the clock, in milliseconds, from which something is due in the gate or the node: until then a move of the

@@ -1,17 +1,17 @@
-ghost use Rattle.std.specs.Prelude.{◌≡◌, map, option_map, IfOk, length};
+ghost use Rattle.std.specs.Prelude.{◌≡◌, option_map, IfOk, length};
 ghost use Rattle.rule_model.specs.Lent.{lent};
 ghost use Rattle.rete_net.specs.Quiet.{AreQuiet};
 ghost use Rattle.rete_net.specs.Steps.{delta_at, left_delta, SteppedBelow};
 
 use crate::node::NetNode;
 use crate::quiet::earlier;
-use fx_base::{Copies, Fact, Facts, Millis, NoMemory};
+use fx_base::{Fact, Facts, Millis, NoMemory};
 use row_delta::Delta;
 use rule_model::Program;
 use std::alloc::Global;
 
-// The difference in a place, or `none` past the end.
-fn delta_at<'d>(none: &'d Delta, deltas: &'d [Delta], place: usize) -> &'d Delta
+/// The difference in a place, or `none` past the end.
+pub(crate) fn delta_at<'d>(none: &'d Delta, deltas: &'d [Delta], place: usize) -> &'d Delta
     ensures { result.now ≡ delta_at none.now deltas.now place }
 {
     match deltas.get(place) {
@@ -63,24 +63,4 @@ pub(crate) fn quiet_until(nodes: &[NetNode], program: &Program) -> Option<i128>
         least = earlier(least, node.quiet_until(program));
     }
     least
-}
-
-/// Copies of the differences in these places.
-pub(crate) fn answers_at(
-    alloc: Global,
-    none: &Delta,
-    deltas: &[Delta],
-    ends: &[usize],
-) -> Result<Vec<Delta>, NoMemory>
-    ensures { IfOk result (λ answers. answers.items ≡ map (delta_at none.now deltas.now) ends.now) }
-{
-    let mut answers = Vec::with_capacity(alloc, ends.len())?;
-    for end in ends {
-        let delta = delta_at(none, deltas, *end);
-        answers.push(Delta {
-            gone: delta.gone.copy(alloc)?,
-            come: delta.come.copy(alloc)?,
-        })?;
-    }
-    Ok(answers)
 }

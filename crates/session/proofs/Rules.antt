@@ -1,25 +1,25 @@
--- Matches, rule by rule, and what the differences of the rules do to an agenda.
-use Rattle.std.proofs.Common.{◌≡◌, ℕ, ◌+◌, ◌<◌, ◌≤◌, zero, suc, ◌==◌, ◌&&◌, ◌||◌, not, Bool, true, false, List, [], ◌∷◌, ◌++◌, map, length, take, get_or, slice_get, Option, Some, None, refl, sym, ◌∙◌, ap, subst, append_assoc, arith}
-use Rattle.std.specs.Ordering.{eq_by_cmp}
-use Rattle.std.specs.Prelude.{IfSome, MatchOption}
-use Rattle.std.specs.Option.{option_to_list}
-use Rattle.std.proofs.Math.Bool.{and-true, and-not_self, or-false, or_assoc}
+-- Matches, rule by rule, and what the changes of rules do to an agenda.
+use Rattle.std.proofs.Common.{◌≡◌, ℕ, ◌+◌, ◌<◌, ◌≤◌, zero, suc, ◌==◌, ◌&&◌, ◌||◌, not, Bool, true, false, cond, List, [], ◌∷◌, ◌++◌, map, slice_get, Option, Some, None, refl, sym, ◌∙◌, ap, subst, append_assoc, arith}
+use Rattle.std.specs.declared.cmp.Ordering.TheVariants.{Less}
+use Rattle.std.specs.List.{AllByRecursion}
+use Rattle.std.specs.List.Sorted.{IsStrictlySortedBy}
+use Rattle.std.specs.Ordering.{eq_by_cmp, nat_cmp}
+use Rattle.std.proofs.Math.Bool.{and-true, and-not_self, or-false}
 use Rattle.std.proofs.lemmas.Bool.Decides.{nat_tests}
-use Rattle.std.proofs.lemmas.Grind.{common_steps}
-use Rattle.std.proofs.lemmas.List.{take_more, append-nil}
+use Rattle.std.proofs.lemmas.List.{append-nil}
 use Rattle.std.proofs.lemmas.List.Folds.{list_any-append}
-use Rattle.row_delta.specs.declared.row.Row.{Row}
-use Rattle.rule_model.specs.declared.program.Program.{Program}
-use Rattle.rete_net.specs.Nets.{AreBetween}
 use Rattle.row_delta.specs.declared.delta.Delta.{Delta}
-use Rattle.row_delta.specs.Differences.{IsBetween}
+use Rattle.row_delta.specs.declared.row.Row.{Row}
 use Rattle.row_delta.specs.Rows.{row_cmp, has}
 use Rattle.rule_model.specs.declared.matched.Match.{Match}
+use Rattle.rule_model.specs.declared.program.Program.{Program}
 use Rattle.rule_model.specs.declared.program.Rule.{Rule}
 use Rattle.rule_model.specs.Matches.{match_of, match_cmp, matches_from, has_match}
 use Rattle.rule_model.proofs.Exact.{match_parts}
+use Rattle.rete_net.specs.declared.changes.RuleChange.{RuleChange}
+use Rattle.rete_net.specs.Nets.{change_of, IsChange, AreBetween}
 use Rattle.agenda.specs.Agendas.{Marks, IsChanged}
-use Rattle.session.specs.Refreshed.{matches_by, IsRefreshed}
+use Rattle.session.specs.Refreshed.{matches_by, only_in, IsRefreshed}
 
 flip : (a b : ℕ) (t : Bool) → (a == b) ≡ t → (b == a) ≡ t
 flip a b t e = grind (arith, nat_tests)
@@ -42,38 +42,6 @@ unchanged a b = ap (λ z. (a && not z) || z) (and-not_self b) ∙ or-false (a &&
 pub unchanged_mark : (a b : Bool) → (a && not (b && not b)) ≡ a
 unchanged_mark a b = ap (λ z. a && not z) (and-not_self b) ∙ and-true a
 
--- the matches of one rule more
-rule_more : (found : Rule → List Row) (j : ℕ) (rules : List Rule) (rule : Rule) (m : Match)
-    → has_match (matches_from j (map found (rules ++ rule ∷ []))) m ≡ (has_match (matches_from j (map found rules)) m || ((j + length rules) == m.rule.0 && has (found rule) m.row))
-unfolding matches_from
-rule_more found j [] rule m =
-    let e : j + 0 ≡ j = omega arith in
-    ap (λ ms. has_match ms m) (append-nil (map (match_of j) (found rule)))
-    ∙ with_rule j (found rule) m (j == m.rule.0) refl ∙ ap (λ n. n == m.rule.0 && has (found rule) m.row) (sym e)
-rule_more found j (r ∷ rules) rule m =
-    let e : (j + 1) + length rules ≡ j + length (r ∷ rules) = omega arith in
-    list_any-append (eq_by_cmp match_cmp m) (map (match_of j) (found r)) (matches_from (j + 1) (map found (rules ++ rule ∷ [])))
-    ∙ ap (λ z. has_match (map (match_of j) (found r)) m || z) (rule_more found (j + 1) rules rule m)
-    ∙ sym (or_assoc (has_match (map (match_of j) (found r)) m) (has_match (matches_from (j + 1) (map found rules)) m) _)
-    ∙ ap (λ z. z || ((j + 1) + length rules == m.rule.0 && has (found rule) m.row))
-    (sym (list_any-append (eq_by_cmp match_cmp m) (map (match_of j) (found r)) (matches_from (j + 1) (map found rules))))
-    ∙ ap (λ n. has_match (matches_from j (map found (r ∷ rules))) m || (n == m.rule.0 && has (found rule) m.row)) e
-
--- whether it is a match of the first rules, so many
-abbrev pub upto : (Rule → List Row) → List Rule → ℕ → Match → Bool
-upto found rules k m = has_match (matches_by found (take k rules)) m
-
-upto_more : (found : Rule → List Row) (rules : List Rule) (k : ℕ) (rule : Rule) (m : Match) → k < length rules → rule ≡ get_or rules k rule
-    → upto found rules (k + 1) m ≡ (upto found rules k m || (k == m.rule.0 && has (found rule) m.row))
-upto_more found rules k rule m lt is =
-    let grown : take (k + 1) rules ≡ take k rules ++ rule ∷ [] = take_more rules k rule lt ∙ ap (λ r. take k rules ++ r ∷ []) (sym is) in
-    let n : 0 + length (take k rules) ≡ k = grind (arith, common_steps) in
-    ap (λ rs. has_match (matches_by found rs) m) grown ∙ rule_more found 0 (take k rules) rule m
-    ∙ ap (λ z. upto found rules k m || (z == m.rule.0 && has (found rule) m.row)) n
-
-all_taken : (rules : List Rule) (k : ℕ) → length rules ≤ k → take k rules ≡ rules
-all_taken rules k h = grind (arith, common_steps)
-
 -- ---- the first rules have no match of a later one
 
 or_no : (a b : Bool) → a ≡ false → b ≡ false → (a || b) ≡ false
@@ -82,19 +50,6 @@ or_no false b e h = h
 
 other_number : (j n : ℕ) → j + 1 ≤ n → (j == n) ≡ false
 other_number j n le = grind (arith, nat_tests)
-
-before_rule : (found : Rule → List Row) (j : ℕ) (rules : List Rule) (m : Match) → j + length rules ≤ m.rule.0 → has_match (matches_from j (map found rules)) m ≡ false
-unfolding matches_from
-before_rule found j [] m le = refl
-before_rule found j (rule ∷ rules) m le =
-    list_any-append (eq_by_cmp match_cmp m) (map (match_of j) (found rule)) (matches_from (j + 1) (map found rules))
-    ∙ or_no _ _ (with_rule j (found rule) m false (other_number j m.rule.0 (omega arith))) (before_rule found (j + 1) rules m (omega arith))
-
-upto_none : (found : Rule → List Row) (rules : List Rule) (k : ℕ) (m : Match) → k < length rules → (k == m.rule.0) ≡ true → upto found rules k m ≡ false
-upto_none found rules k m lt e =
-    let same : k ≡ m.rule.0 = grind (arith, nat_tests) in
-    let n : 0 + length (take k rules) ≡ k = grind (arith, common_steps) in
-    before_rule found 0 (take k rules) m (omega arith)
 
 -- ---- a match is a row of its rule
 
@@ -163,129 +118,174 @@ module _ (rules : List Rule) (old new : Rule → List Row) (same : (place : ℕ)
         sym (ap (λ is. has_match a.fired m && not (was && not is)) (same_match m) ∙ unchanged_mark (has_match a.fired m) was);
   }
 
--- ---- the loop over the rules
+-- ---- the changes of rules, one after the other
 
--- for a match of this rule (t), for another match (not t): before the turn, over the old and the new facts; the rule's own rows
-turned_pending : (t : Bool) (p was is old new : Bool) → (t ≡ true → was ≡ false) → (t ≡ true → is ≡ false)
-    → ((((p && not (was && not is)) || (is && not was)) && not (t && (old && not new))) || (t && (new && not old)))
-    ≡ ((p && not ((was || (t && old)) && not (is || (t && new)))) || ((is || (t && new)) && not (was || (t && old))))
-turned_pending false p was is old new w i =
-    let a : (was || false) ≡ was = or-false was in
-    let b : (is || false) ≡ is = or-false is in
-    or-false _ ∙ and-true ((p && not (was && not is)) || (is && not was)) ∙ ap (λ z. (p && not (z && not is)) || (is && not z)) (sym a) ∙ ap (λ z. (p && not ((was || false) && not z)) || (z && not (was || false))) (sym b)
-turned_pending true p true is old new w i = let e : true ≡ false = w refl in cc
-turned_pending true p false true old new w i = let e : true ≡ false = i refl in cc
-turned_pending true true false false old new w i = refl
-turned_pending true false false false old new w i = refl
+-- the rows that go, and those that come, by a change, if there is one
+abbrev pub goes : Option Delta → Row → Bool
+goes None row = false
+goes (Some d) row = has d.gone row
 
-turned_fired : (t : Bool) (p was is old new : Bool) → (t ≡ true → was ≡ false) → (t ≡ true → is ≡ false)
-    → ((p && not (was && not is)) && not (t && (old && not new))) ≡ (p && not ((was || (t && old)) && not (is || (t && new))))
-turned_fired false p was is old new w i =
-    and-true (p && not (was && not is)) ∙ ap (λ z. p && not (z && not is)) (sym (or-false was)) ∙ ap (λ z. p && not ((was || false) && not z)) (sym (or-false is))
-turned_fired true p true is old new w i = let e : true ≡ false = w refl in cc
-turned_fired true p false true old new w i = let e : true ≡ false = i refl in cc
-turned_fired true true false false old new w i = refl
-turned_fired true false false false old new w i = refl
+abbrev pub comes : Option Delta → Row → Bool
+comes None row = false
+comes (Some d) row = has d.come row
 
--- nothing is done before the first turn
-pub none_yet : (old new : Rule → List Row) (rules : List Rule) (a : Marks) → IsRefreshed (take 0 rules) old new a a
-unfolding matches_from
-none_yet old new rules a = record {
+-- these changes were made in an agenda
+pub record AreMade (changes : List RuleChange) (a b : Marks) : Type 0 where
+  pub saliences : b.saliences ≡ a.saliences
+  pub pending : (m : Match) → has_match b.pending m ≡ ((has_match a.pending m && not (goes (change_of changes m.rule.0) m.row)) || comes (change_of changes m.rule.0) m.row)
+  pub fired : (m : Match) → has_match b.fired m ≡ (has_match a.fired m && not (goes (change_of changes m.rule.0) m.row))
+
+none_made : (a : Marks) → AreMade [] a a
+none_made a = record {
   saliences = refl;
   pending = λ m. sym (or-false _ ∙ and-true (has_match a.pending m));
   fired = λ m. sym (and-true (has_match a.fired m));
 }
 
--- one rule more
-pub rule_turn : (old new : Rule → List Row) (rules : List Rule) (k : ℕ) (rule : Rule) (d : Delta) (a b c : Marks) → k < length rules → rule ≡ get_or rules k rule
-    → IsBetween (old rule) (new rule) d → IsRefreshed (take k rules) old new a b → IsChanged k d b c → IsRefreshed (take (k + 1) rules) old new a c
-rule_turn old new rules k rule d a b c lt is diff r ch = record {
-  saliences = ch.saliences ∙ r.saliences;
+-- the first of two changes
+abbrev or_later : Option Delta → Option Delta → Option Delta
+or_later None later = later
+or_later (Some d) later = Some d
+
+abbrev given : Bool → Delta → Option Delta
+given t d = cond t (Some d) None
+
+change_more : (done : List RuleChange) (c : RuleChange) (place : ℕ) → change_of (done ++ c ∷ []) place ≡ or_later (change_of done place) (given (c.rule.0 == place) c.delta)
+change_more [] c place = refl
+change_more (x ∷ done) c place =
+    elim (x.rule.0 == place) as (λ t. cond t (Some x.delta) (change_of (done ++ c ∷ []) place) ≡ or_later (cond t (Some x.delta) (change_of done place)) (given (c.rule.0 == place) c.delta)) [
+      | true ↦ refl
+      | false ↦ change_more done c place
+    ]
+
+-- for a match of the rule of one change more (t), which has none so far, and for another match (not t)
+made_pending : (t : Bool) (o : Option Delta) (p : Bool) (d : Delta) (row : Row) → (t ≡ true → o ≡ None)
+    → ((((p && not (goes o row)) || comes o row) && not (t && has d.gone row)) || (t && has d.come row)) ≡ ((p && not (goes (or_later o (given t d)) row)) || comes (or_later o (given t d)) row)
+made_pending false None p d row new = or-false _ ∙ and-true _
+made_pending false (Some x) p d row new = or-false _ ∙ and-true _
+made_pending true None true d row new = refl
+made_pending true None false d row new = refl
+made_pending true (Some x) p d row new = absurd (let no : Some x ≡ None = new refl in cc)
+
+made_fired : (t : Bool) (o : Option Delta) (p : Bool) (d : Delta) (row : Row) → (t ≡ true → o ≡ None)
+    → ((p && not (goes o row)) && not (t && has d.gone row)) ≡ (p && not (goes (or_later o (given t d)) row))
+made_fired false None p d row new = and-true _
+made_fired false (Some x) p d row new = and-true _
+made_fired true None true d row new = refl
+made_fired true None false d row new = refl
+made_fired true (Some x) p d row new = absurd (let no : Some x ≡ None = new refl in cc)
+
+one_made : (done : List RuleChange) (c : RuleChange) (a b d : Marks) → change_of done c.rule.0 ≡ None → AreMade done a b → IsChanged c.rule.0 c.delta b d → AreMade (done ++ c ∷ []) a d
+one_made done c a b d new made ch = record {
+  saliences = ch.saliences ∙ made.saliences;
   pending = λ m.
-      let t = k == m.rule.0 in
-      let was = upto old rules k m in
-      let now = upto new rules k m in
-      let before = has (old rule) m.row in
-      let after = has (new rule) m.row in
+      let t = c.rule.0 == m.rule.0 in
+      let p = has_match a.pending m in
       ch.pending m
-      ∙ ap (λ z. (z && not (t && has d.gone m.row)) || (t && has d.come m.row)) (r.pending m)
-      ∙ ap (λ z. (((has_match a.pending m && not (was && not now)) || (now && not was)) && not (t && z)) || (t && has d.come m.row)) (diff.gone m.row)
-      ∙ ap (λ z. (((has_match a.pending m && not (was && not now)) || (now && not was)) && not (t && (before && not after))) || (t && z)) (diff.come m.row)
-      ∙ turned_pending t (has_match a.pending m) was now before after (upto_none old rules k m lt) (upto_none new rules k m lt)
-      ∙ ap (λ z. (has_match a.pending m && not (z && not (now || (t && after)))) || ((now || (t && after)) && not z)) (sym (upto_more old rules k rule m lt is))
-      ∙ ap (λ z. (has_match a.pending m && not (upto old rules (k + 1) m && not z)) || (z && not (upto old rules (k + 1) m))) (sym (upto_more new rules k rule m lt is));
+      ∙ ap (λ z. (z && not (t && has c.delta.gone m.row)) || (t && has c.delta.come m.row)) (made.pending m)
+      ∙ made_pending t (change_of done m.rule.0) p c.delta m.row (same_rule m)
+      ∙ ap (λ (o : Option Delta). (p && not (goes o m.row)) || comes o m.row) (sym (change_more done c m.rule.0));
   fired = λ m.
-      let t = k == m.rule.0 in
-      let was = upto old rules k m in
-      let now = upto new rules k m in
-      let before = has (old rule) m.row in
-      let after = has (new rule) m.row in
+      let t = c.rule.0 == m.rule.0 in
+      let p = has_match a.fired m in
       ch.fired m
-      ∙ ap (λ z. z && not (t && has d.gone m.row)) (r.fired m)
-      ∙ ap (λ z. (has_match a.fired m && not (was && not now)) && not (t && z)) (diff.gone m.row)
-      ∙ turned_fired t (has_match a.fired m) was now before after (upto_none old rules k m lt) (upto_none new rules k m lt)
-      ∙ ap (λ z. has_match a.fired m && not (z && not (now || (t && after)))) (sym (upto_more old rules k rule m lt is))
-      ∙ ap (λ z. has_match a.fired m && not (upto old rules (k + 1) m && not z)) (sym (upto_more new rules k rule m lt is));
+      ∙ ap (λ z. z && not (t && has c.delta.gone m.row)) (made.fired m)
+      ∙ made_fired t (change_of done m.rule.0) p c.delta m.row (same_rule m)
+      ∙ ap (λ (o : Option Delta). p && not (goes o m.row)) (sym (change_more done c m.rule.0));
 }
+  where
+    same_rule : (m : Match) → (c.rule.0 == m.rule.0) ≡ true → change_of done m.rule.0 ≡ None
+    same_rule m e =
+        let same : c.rule.0 ≡ m.rule.0 = grind (arith, nat_tests) in
+        subst (λ n. change_of done n ≡ None) same new
 
--- all rules are done
-pub rules_done : (old new : Rule → List Row) (rules : List Rule) (k : ℕ) (a b : Marks) → length rules ≤ k → IsRefreshed (take k rules) old new a b → IsRefreshed rules old new a b
-rules_done old new rules k a b h r = subst (λ (rs : List Rule). IsRefreshed rs old new a b) (all_taken rules k h) r
+-- ---- changes in the order of their rules
 
--- ---- a difference for each rule
+later_rule : (a b : ℕ) → nat_cmp a b ≡ Less → (a == b) ≡ false
+later_rule a b e = grind (arith, nat_tests, nat_cmp)
 
--- the rule in a place
-rule_at : (rules : List Rule) (k : ℕ) → k < length rules → (rule : Rule) × (slice_get rules k ≡ Some rule) × (rule ≡ get_or rules k rule)
-rule_at [] k lt = absurd (omega arith)
-rule_at (rule ∷ rules) zero lt = (rule, refl, refl)
-rule_at (rule ∷ rules) (suc k) lt = rule_at rules k (omega arith)
+-- no change before one in the order has its rule
+first_of_rule : (done : List RuleChange) (c : RuleChange) (rest : List RuleChange) → IsStrictlySortedBy nat_cmp (map (λ (x : RuleChange). x.rule.0) (done ++ c ∷ rest)) → change_of done c.rule.0 ≡ None
+unfolding IsStrictlySortedBy
+first_of_rule [] c rest rise = refl
+first_of_rule (x ∷ done) c rest rise =
+    ap (λ t. cond t (Some x.delta) (change_of done c.rule.0)) (later_rule x.rule.0 c.rule.0 (below done rise.0)) ∙ first_of_rule done c rest rise.1
+  where
+    below : (front : List RuleChange) → AllByRecursion (λ n. nat_cmp x.rule.0 n ≡ Less) (map (λ (y : RuleChange). y.rule.0) (front ++ c ∷ rest)) → nat_cmp x.rule.0 c.rule.0 ≡ Less
+    below [] less = less.0
+    below (y ∷ front) less = below front less.1
 
-past_end : {A : Type 0} (xs : List A) → slice_get xs (length xs) ≡ None
-past_end [] = refl
-past_end (x ∷ xs) = past_end xs
+-- these changes were made, and those are still ahead
+pub record AreAhead (changes ahead : List RuleChange) (a b : Marks) : Type 0 where
+  pub done : List RuleChange
+  pub parts : changes ≡ done ++ ahead
+  pub made : AreMade done a b
 
-behind_front : {A : Type 0} (front : List A) (x : A) (rest : List A) → slice_get (front ++ x ∷ rest) (length front) ≡ Some x
-behind_front [] x rest = refl
-behind_front (y ∷ front) x rest = behind_front front x rest
+pub all_ahead : (changes ahead : List RuleChange) (a : Marks) → ahead ≡ changes → AreAhead changes ahead a a
+all_ahead changes ahead a e = record { done = []; parts = sym e; made = none_made a }
 
-one_longer : {A : Type 0} (xs : List A) (x : A) → length (xs ++ x ∷ []) ≡ length xs + 1
-one_longer [] x = refl
-one_longer (y ∷ xs) x = let e : length (xs ++ x ∷ []) ≡ length xs + 1 = one_longer xs x in omega (arith, e)
-
-pub if_none : {A : Type 0} (o : Option A) (B : Type 0) (C : A → Type 0) → MatchOption o B C → o ≡ None → B
-if_none None B C m e = m
-if_none (Some x) B C m e = absurd (cc)
-
--- the rules before a place have had their turn, and these differences are still ahead
-pub record HaveTurned (p : Program) (old new : Rule → List Row) (deltas : List Delta) (k : ℕ) (ahead : List Delta) (a b : Marks) : Type 0 where
-  pub done : List Delta
-  pub parts : deltas ≡ done ++ ahead
-  pub many : length done ≡ k
-  pub refreshed : IsRefreshed (take k p.rules) old new a b
-
-pub none_turned : (p : Program) (old new : Rule → List Row) (deltas : List Delta) (ahead : List Delta) (a : Marks) → ahead ≡ deltas → HaveTurned p old new deltas 0 ahead a a
-none_turned p old new deltas ahead a e = record { done = []; parts = sym e; many = refl; refreshed = none_yet old new p.rules a }
-
--- one rule more, by the difference in its place
-pub place_turn : (p : Program) (old new : Rule → List Row) (deltas : List Delta) (k : ℕ) (o : Option Delta) (ahead rest : List Delta) (a b c : Marks) → k < length p.rules
-    → AreBetween p old new deltas → HaveTurned p old new deltas k ahead a b → ahead ≡ option_to_list o ++ rest → (o ≡ None → ahead ≡ []) → IfSome o (λ d. IsChanged k d b c)
-    → HaveTurned p old new deltas (k + 1) rest a c
-place_turn p old new deltas k None ahead rest a b c lt between t items none ch =
-    let q = rule_at p.rules k lt in
-    let d = between k q.0 q.1 in
-    let all : deltas ≡ t.done = t.parts ∙ ap (λ xs. t.done ++ xs) (none refl) ∙ append-nil t.done in
-    let n : None ≡ Some d.0 = sym (ap (λ n. slice_get deltas n) (sym t.many) ∙ ap (λ xs. slice_get xs (length t.done)) all ∙ past_end t.done) ∙ d.1 in
-    absurd (cc)
-place_turn p old new deltas k (Some x) ahead rest a b c lt between t items none ch =
-    let q = rule_at p.rules k lt in
-    let d = between k q.0 q.1 in
-    let parts : deltas ≡ t.done ++ x ∷ rest = t.parts ∙ ap (λ xs. t.done ++ xs) items in
-    let found : slice_get deltas k ≡ Some x = ap (λ n. slice_get deltas n) (sym t.many) ∙ ap (λ xs. slice_get xs (length t.done)) parts ∙ behind_front t.done x rest in
-    let both : Some d.0 ≡ Some x = sym d.1 ∙ found in
-    let same : d.0 ≡ x = cc in
+pub change_turn : (changes ahead rest : List RuleChange) (c : RuleChange) (a b d : Marks) → IsStrictlySortedBy nat_cmp (map (λ (x : RuleChange). x.rule.0) changes)
+    → AreAhead changes ahead a b → ahead ≡ c ∷ rest → IsChanged c.rule.0 c.delta b d → AreAhead changes rest a d
+change_turn changes ahead rest c a b d rise so_far items ch =
+    let parts : changes ≡ so_far.done ++ c ∷ rest = so_far.parts ∙ ap (λ xs. so_far.done ++ xs) items in
     record {
-      done = t.done ++ x ∷ [];
-      parts = parts ∙ sym (append_assoc t.done (x ∷ []) rest);
-      many = one_longer t.done x ∙ ap (λ n. n + 1) t.many;
-      refreshed = rule_turn old new p.rules k q.0 x a b c lt q.2 (subst (λ (d : Delta). IsBetween (old q.0) (new q.0) d) same d.2) t.refreshed ch;
+      done = so_far.done ++ c ∷ [];
+      parts = parts ∙ sym (append_assoc so_far.done (c ∷ []) rest);
+      made = one_made so_far.done c a b d (first_of_rule so_far.done c rest (subst (λ (xs : List RuleChange). IsStrictlySortedBy nat_cmp (map (λ (x : RuleChange). x.rule.0) xs)) parts rise)) so_far.made ch;
     }
+
+pub none_ahead : (changes ahead : List RuleChange) (a b : Marks) → ahead ≡ [] → AreAhead changes ahead a b → AreMade changes a b
+none_ahead changes ahead a b none so_far =
+    subst (λ (xs : List RuleChange). AreMade xs a b) (sym (so_far.parts ∙ ap (λ xs. so_far.done ++ xs) none ∙ append-nil so_far.done)) so_far.made
+
+-- ---- the changes between the rows of rules
+
+gone_between : (o : Option Delta) (old new : List Row) (row : Row) → IsChange o old new → goes o row ≡ (has old row && not (has new row))
+gone_between None old new row same = sym (and-not_self (has old row)) ∙ ap (λ z. has old row && not z) (same row)
+gone_between (Some d) old new row is = is.0.gone row
+
+come_between : (o : Option Delta) (old new : List Row) (row : Row) → IsChange o old new → comes o row ≡ (has new row && not (has old row))
+come_between None old new row same = sym (and-not_self (has new row)) ∙ ap (λ z. has new row && not z) (sym (same row))
+come_between (Some d) old new row is = is.0.come row
+
+module _ (p : Program) (old new : Rule → List Row) (changes : List RuleChange) (between : AreBetween p old new changes) where
+  -- in a place where no rule stands there is no change
+  no_rule : (place : ℕ) → slice_get p.rules place ≡ None → (o : Option Delta) → change_of changes place ≡ o → o ≡ None
+  no_rule place none None e = refl
+  no_rule place none (Some d) e =
+      let is = between.placed place d e in
+      absurd (let no : None ≡ Some is.0 = sym none ∙ is.1 in cc)
+
+  module _ (m : Match) where
+    abbrev change : Option Delta
+    change = change_of changes m.rule.0
+
+    gone_at : (o : Option Rule) → slice_get p.rules m.rule.0 ≡ o → goes change m.row ≡ (found_at old o m.row && not (found_at new o m.row))
+    gone_at None e = ap (λ (d : Option Delta). goes d m.row) (no_rule m.rule.0 e change refl)
+    gone_at (Some rule) e = gone_between change (old rule) (new rule) m.row (between.each m.rule.0 rule e)
+
+    come_at : (o : Option Rule) → slice_get p.rules m.rule.0 ≡ o → comes change m.row ≡ (found_at new o m.row && not (found_at old o m.row))
+    come_at None e = ap (λ (d : Option Delta). comes d m.row) (no_rule m.rule.0 e change refl)
+    come_at (Some rule) e = come_between change (old rule) (new rule) m.row (between.each m.rule.0 rule e)
+
+    gone_is : goes change m.row ≡ only_in p.rules old new m
+    gone_is =
+        gone_at (slice_get p.rules m.rule.0) refl
+        ∙ ap (λ z. z && not (found_at new (slice_get p.rules m.rule.0) m.row)) (sym (is_found old p.rules m))
+        ∙ ap (λ z. has_match (matches_by old p.rules) m && not z) (sym (is_found new p.rules m))
+
+    come_is : comes change m.row ≡ only_in p.rules new old m
+    come_is =
+        come_at (slice_get p.rules m.rule.0) refl
+        ∙ ap (λ z. z && not (found_at old (slice_get p.rules m.rule.0) m.row)) (sym (is_found new p.rules m))
+        ∙ ap (λ z. has_match (matches_by new p.rules) m && not z) (sym (is_found old p.rules m))
+
+  pub all_made : (a b : Marks) → AreMade changes a b → IsRefreshed p.rules old new a b
+  all_made a b made = record {
+    saliences = made.saliences;
+    pending = λ m.
+        made.pending m
+        ∙ ap (λ z. (has_match a.pending m && not z) || comes (change_of changes m.rule.0) m.row) (gone_is m)
+        ∙ ap (λ z. (has_match a.pending m && not (only_in p.rules old new m)) || z) (come_is m);
+    fired = λ m. made.fired m ∙ ap (λ z. has_match a.fired m && not z) (gone_is m);
+  }

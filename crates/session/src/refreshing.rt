@@ -1,8 +1,8 @@
-ghost use Rattle.std.specs.Prelude.{◌≡◌, ◌<◌, ◌≤◌, ◌^◌, ℕ, ℤ, List, length, filter_map, option_map, IfOk, IfSome, OnOk};
-ghost use Rattle.agenda.specs.Agendas.{IsChanged};
+ghost use Rattle.std.specs.Prelude.{◌≡◌, ℕ, ℤ, List, filter_map, option_map, IfOk, OnOk};
 ghost use Rattle.fact_store.specs.Held.{HeldFacts, facts_of};
 ghost use Rattle.rete_net.specs.Nets.{AreBetween, NetStands};
 ghost use Rattle.row_delta.specs.declared.row.Row.{Row as RowData};
+ghost use Rattle.rule_model.specs.declared.program.Program.{Program as ProgramData};
 ghost use Rattle.rule_model.specs.declared.program.Rule.{Rule as RuleData};
 ghost use Rattle.rule_model.specs.Lent.{lent};
 ghost use Rattle.session.specs.Refreshed.{over};
@@ -14,36 +14,19 @@ ghost use Rattle.std.specs.FinMap as map;
 
 use agenda::Agenda;
 use fact_store::FactStore;
-use fx_base::{Fact, Facts, Millis, NoMemory, RuleId, Tag};
-use rete_net::Rete;
-use row_delta::Delta;
+use fx_base::{Fact, Facts, Millis, NoMemory, Tag};
+use rete_net::{Rete, RuleChange};
 use rule_model::Program;
 use std::alloc::Global;
 
-// The agenda after a change of the rows of the rule in this place, if there is one.
-fn changed(agenda: Agenda, place: usize, delta: Option<Delta>) -> Result<Agenda, NoMemory>
-    requires { place < 2 ^ 16 }
-    ensures { IfSome delta (λ d. IfOk result (IsChanged place d agenda)) }
-{
-    match delta {
-        Some(delta) => agenda.change(RuleId(place as u16), delta),
-        None => Ok(agenda),
-    }
-}
-
-/// The agenda after these changes of the rows of the rules, by their places.
-pub(crate) fn refreshed(
-    program: &Program,
-    agenda: Agenda,
-    deltas: Vec<Delta>,
-) -> Result<Agenda, NoMemory>
-    requires { length program.now.rules ≤ 256 }
-    ensures { (old new : RuleData → List RowData) → AreBetween program.now old new deltas.items → IfOk result (IsRefreshed program.now.rules old new agenda) }
+/// The agenda after these changes of the rows of rules.
+pub(crate) fn refreshed(agenda: Agenda, changes: Vec<RuleChange>) -> Result<Agenda, NoMemory>
+    ensures { (p : ProgramData) (old new : RuleData → List RowData) → AreBetween p old new changes.items → IfOk result (IsRefreshed p.rules old new agenda) }
 {
     let mut agenda = agenda;
-    let mut rest = deltas.into_iter();
-    for place in 0..program.rules.as_slice().len() {
-        agenda = changed(agenda, place, rest.next())?;
+    for change in changes {
+        let RuleChange { rule, delta } = change;
+        agenda = agenda.change(rule, delta)?;
     }
     Ok(agenda)
 }
@@ -85,8 +68,8 @@ pub(crate) fn followed(
         → IfOk result (IsRefreshed program.now.rules (rows_at program.now (facts_of before) from) (rows_at program.now (facts_of behind) clock) agenda) }
 {
     let gone = facts_at(alloc, facts, gone)?;
-    let deltas = net.advance(alloc, program, gone.as_slice(), come, clock, facts)?;
-    refreshed(program, agenda, deltas)
+    let changes = net.advance(alloc, program, gone.as_slice(), come, clock, facts)?;
+    refreshed(agenda, changes)
 }
 
 /// The facts without those of these tags.

@@ -70,7 +70,7 @@ impl Session {
     {
         let saliences = saliences_of(alloc, program.rules.as_slice())?;
         let (net, first) = Rete::build(alloc, &program)?;
-        let agenda = refreshed(&program, Agenda::new(alloc, &saliences)?, first)?;
+        let agenda = refreshed(Agenda::new(alloc, &saliences)?, first)?;
         let state = State::new(alloc, agenda);
         Ok(Session {
             program,

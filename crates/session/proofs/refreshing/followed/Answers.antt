@@ -13,7 +13,7 @@ returns-clause-net c before behind from l st =
     let come = option_map (λ f. f.now) c.args.come in
     let whole : to_z w64 (of_z w64 c.args.clock) ≡ c.args.clock = to_z-of_z c.ranges.clock in
     let moves = subst (λ (out : List Fact). Moves p (over (facts_of before) from) (over (facts_of behind) c.args.clock) out come) (sym c.in_ok-gone.ensures) (leads_move p before behind c.args.facts.now from c.args.clock c.args.gone.now come l) in
-    let stands = simp (whole, c.as_slice.ensures.value) at c.in_ok-deltas.ensures.stands in
+    let stands = simp (whole, c.as_slice.ensures.value) at c.in_ok-changes.ensures.stands in
     on_ok c.refreshed.result (stands (over (facts_of before) from) (over (facts_of behind) c.args.clock) c.requires st moves refl
     (has_before p before behind c.args.facts.now from c.args.clock c.args.gone.now come l) (has_behind p before behind c.args.facts.now from c.args.clock c.args.gone.now come l))
 
@@ -23,7 +23,7 @@ returns-clause-agenda c before behind from l st =
     let come = option_map (λ f. f.now) c.args.come in
     let whole : to_z w64 (of_z w64 c.args.clock) ≡ c.args.clock = to_z-of_z c.ranges.clock in
     let moves = subst (λ (out : List Fact). Moves p (over (facts_of before) from) (over (facts_of behind) c.args.clock) out come) (sym c.in_ok-gone.ensures) (leads_move p before behind c.args.facts.now from c.args.clock c.args.gone.now come l) in
-    let differences = simp (whole, c.as_slice.ensures.value) at c.in_ok-deltas.ensures.differences in
-    c.refreshed.ensures (rows_at p (facts_of before) from) (rows_at p (facts_of behind) c.args.clock)
+    let differences = simp (whole, c.as_slice.ensures.value) at c.in_ok-changes.ensures.differences in
+    c.refreshed.ensures p (rows_at p (facts_of before) from) (rows_at p (facts_of behind) c.args.clock)
     (differences (over (facts_of before) from) (over (facts_of behind) c.args.clock) c.requires st moves refl
     (has_before p before behind c.args.facts.now from c.args.clock c.args.gone.now come l) (has_behind p before behind c.args.facts.now from c.args.clock c.args.gone.now come l))

@@ -1,9 +1,11 @@
 use Rattle.std.proofs.Common.{List}
 use Rattle.row_delta.specs.declared.row.Row.{Row}
+use Rattle.rule_model.specs.declared.program.Program.{Program}
 use Rattle.rule_model.specs.declared.program.Rule.{Rule}
 use Rattle.rete_net.specs.Nets.{AreBetween}
-use Rattle.session.proofs.Rules.{HaveTurned}
+use Rattle.session.proofs.Rules.{AreAhead}
 use Rattle.session.proofs.refreshing.refreshed.Given as goal
 
-abbrev pub invariant-loop-place : goal.invariant-loop-place
-invariant-loop-place l = (old new : Rule → List Row) → AreBetween l.program old new l.fn.deltas.items → HaveTurned l.program old new l.fn.deltas.items l.place l.rest.rest.items l.fn.agenda l.agenda
+abbrev pub invariant-loop-change : goal.invariant-loop-change
+invariant-loop-change l =
+    (p : Program) (old new : Rule → List Row) → AreBetween p old new l.fn.changes.items → AreAhead l.fn.changes.items l.change-iterator.rest.items l.fn.agenda l.agenda

@@ -9,18 +9,18 @@ use Rattle.rete_net.proofs.net.Rete.advance.Goals as goal
 
 -- the step of the nodes, at the clock that was given, where nothing comes to the first of them
 step : (g : Over) (c : goal.After-drop-none-3 g)
-    → NetStep c.args.program.now (g.F.Facts.map c.args.facts.now) (lent c.args.gone.now) (option_map (λ f. f.now) c.args.come) c.args.clock no_change c.args.self.now.nodes.items c.step.new.self.nodes.items c.args.self.now.ends.items c.in_ok-deltas.deltas.items
+    → NetStep c.args.program.now (g.F.Facts.map c.args.facts.now) (lent c.args.gone.now) (option_map (λ f. f.now) c.args.come) c.args.clock no_change c.args.self.now.nodes.items c.step.new.self.nodes.items c.args.self.now.ends.items c.in_ok-changes.changes.items
 step g c =
     let whole : to_z w64 (of_z w64 c.args.clock) ≡ c.args.clock = to_z-of_z c.ranges.clock in
     settled c.args.program.now (g.F.Facts.map c.args.facts.now) (lent c.args.gone.now) (option_map (λ f. f.now) c.args.come) (to_z w64 (of_z w64 c.args.clock)) c.args.clock c.no_change-none.result no_change
-    c.args.self.now.nodes.items c.step.new.self.nodes.items c.args.self.now.ends.items c.in_ok-deltas.deltas.items whole c.no_change-none.ensures c.in_ok-deltas.ensures.stepped
+    c.args.self.now.nodes.items c.step.new.self.nodes.items c.args.self.now.ends.items c.in_ok-changes.changes.items whole c.no_change-none.ensures c.in_ok-changes.ensures.stepped
 
 pub returns-clause-stands : goal.returns-clause-stands
 returns-clause-stands g c s next runnable stands moves at has has_now =
-    net_stands c.args.program.now (g.F.Facts.map c.args.facts.now) s next (lent c.args.gone.now) (option_map (λ f. f.now) c.args.come) c.args.clock c.args.self.now c.step.new.self c.in_ok-deltas.deltas.items
-    (record { moves = moves; moment = at; at_hand = has; at_hand_now = has_now }) stands c.in_ok-deltas.ensures.ends (step g c) c.in_ok-deltas.ensures.quiet
+    net_stands c.args.program.now (g.F.Facts.map c.args.facts.now) s next (lent c.args.gone.now) (option_map (λ f. f.now) c.args.come) c.args.clock c.args.self.now c.step.new.self c.in_ok-changes.changes.items
+    (record { moves = moves; moment = at; at_hand = has; at_hand_now = has_now }) stands c.in_ok-changes.ensures.ends (step g c) c.in_ok-changes.ensures.quiet
 
 pub returns-clause-differences : goal.returns-clause-differences
 returns-clause-differences g c s next runnable stands moves at has has_now =
-    net_between c.args.program.now (g.F.Facts.map c.args.facts.now) s next (lent c.args.gone.now) (option_map (λ f. f.now) c.args.come) c.args.clock c.args.self.now c.step.new.self c.in_ok-deltas.deltas.items
-    (record { moves = moves; moment = at; at_hand = has; at_hand_now = has_now }) stands c.in_ok-deltas.ensures.ends (step g c)
+    net_between c.args.program.now (g.F.Facts.map c.args.facts.now) s next (lent c.args.gone.now) (option_map (λ f. f.now) c.args.come) c.args.clock c.args.self.now c.step.new.self c.in_ok-changes.changes.items
+    (record { moves = moves; moment = at; at_hand = has; at_hand_now = has_now }) stands c.in_ok-changes.ensures.ends (step g c) runnable

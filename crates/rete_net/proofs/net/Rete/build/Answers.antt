@@ -6,22 +6,22 @@ use Rattle.rete_net.proofs.net.Rete.build.Goals as goal
 
 -- the first step of the nodes, in which the empty row comes
 step : (c : goal.After-drop-first-3)
-    → NetStep c.args.program.now no_facts [] None (pos 0) empty_row_comes c.in_ok-net.net.nodes.items c.step.new.self.nodes.items c.in_ok-net.net.ends.items c.in_ok-deltas.deltas.items
+    → NetStep c.args.program.now no_facts [] None (pos 0) empty_row_comes c.in_ok-net.net.nodes.items c.step.new.self.nodes.items c.in_ok-net.net.ends.items c.in_ok-changes.changes.items
 step c =
-    settled c.args.program.now no_facts [] None (pos 0) (pos 0) c.in_ok-first.first empty_row_comes c.in_ok-net.net.nodes.items c.step.new.self.nodes.items c.in_ok-net.net.ends.items c.in_ok-deltas.deltas.items
-    refl c.in_ok-first.ensures c.in_ok-deltas.ensures.stepped
+    settled c.args.program.now no_facts [] None (pos 0) (pos 0) c.in_ok-first.first empty_row_comes c.in_ok-net.net.nodes.items c.step.new.self.nodes.items c.in_ok-net.net.ends.items c.in_ok-changes.changes.items
+    refl c.in_ok-first.ensures c.in_ok-changes.ensures.stepped
 
 pub returns-clause-stands : goal.returns-clause-stands
 returns-clause-stands c runnable =
     let built = c.in_ok-net.ensures runnable in
-    built_stands c.args.program.now c.in_ok-net.net c.step.new.self built.0 c.in_ok-deltas.deltas.items built.1 built.2 built.3 built.4 c.in_ok-deltas.ensures.ends (step c) c.in_ok-deltas.ensures.quiet
+    built_stands c.args.program.now c.in_ok-net.net c.step.new.self built.0 c.in_ok-changes.changes.items built.1 built.2 built.3 built.4 built.5 c.in_ok-changes.ensures.ends (step c) c.in_ok-changes.ensures.quiet
 
 pub returns-clause-first : goal.returns-clause-first
 returns-clause-first c runnable =
     let built = c.in_ok-net.ensures runnable in
-    built_between c.args.program.now c.in_ok-net.net c.step.new.self built.0 c.in_ok-deltas.deltas.items built.1 built.2 built.3 built.4 c.in_ok-deltas.ensures.ends (step c)
+    built_between c.args.program.now c.in_ok-net.net c.step.new.self built.0 c.in_ok-changes.changes.items built.1 built.2 built.3 built.4 built.5 c.in_ok-changes.ensures.ends (step c) runnable
 
 pub returns-clause-shared : goal.returns-clause-shared
 returns-clause-shared c runnable =
     let built = c.in_ok-net.ensures runnable in
-    built_shared c.args.program.now c.in_ok-net.net c.step.new.self built.0 c.in_ok-deltas.deltas.items built.1 built.2 built.3 built.4 c.in_ok-deltas.ensures.ends (step c)
+    built_shared c.args.program.now c.in_ok-net.net c.step.new.self built.0 c.in_ok-changes.changes.items built.1 built.2 built.3 built.4 built.5 c.in_ok-changes.ensures.ends (step c)

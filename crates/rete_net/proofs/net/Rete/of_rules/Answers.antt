@@ -50,4 +50,5 @@ pub returns : goal.returns
 returns c runnable =
     let was = c.loop-rule.invariant.built runnable in
     let rules : length c.as_slice-rule-items.result.now ≡ length c.args.program.now.rules = ap (λ (rs : List Rule). length rs) c.as_slice-rule-items.ensures in
-    (was.0, was.1.built, λ place rule lt e. was.2 place rule (omega (arith, rules)) e, was.1.fronts, was.1.distinct)
+    let count = c.loop-rule.invariant.count in
+    (was.0, was.1.built, λ place rule lt e. was.2 place rule (omega (arith, rules)) e, was.1.fronts, was.1.distinct, omega (arith, rules, count))

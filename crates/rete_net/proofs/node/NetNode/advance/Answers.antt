@@ -1,9 +1,22 @@
-use Rattle.std.proofs.Common.{◌≡◌, refl, to_z, of_z, to_z-of_z, w64}
+use Rattle.std.proofs.Common.{◌≡◌, ◌∙◌, sym, refl, subst, to_z, of_z, to_z-of_z, w64}
 use Rattle.std.specs.Option.{option_map}
+use Rattle.row_delta.specs.declared.delta.Delta.{Delta}
 use Rattle.rule_model.specs.Lent.{lent}
 use Rattle.condition_node.proofs.Moved.{node_moves}
+use Rattle.rete_net.specs.Steps.{NodeStep}
 use Rattle.rete_net.proofs.Turning.{node_step}
 use Rattle.rete_net.proofs.node.NetNode.advance.Goals as goal
+
+pub returns-then-is_still : goal.returns-then-is_still
+returns-then-is_still g c =
+    let p = c.args.program.now in
+    let look = g.F.Facts.map c.args.facts.now in
+    let gone = lent c.args.gone.now in
+    let come = option_map (λ f. f.now) c.args.come in
+    let node = c.args.self.now in
+    let left = c.args.left.now in
+    subst (λ (delta : Delta). NodeStep p look gone come c.args.clock node node left delta) (sym c.no_change.ensures)
+    (c.is_still.ensures c.if-is_still.true p look c.args.clock left (sym c.changes_nothing.ensures ∙ c.if-changes_nothing.true))
 
 pub returns : goal.returns
 returns g c =
