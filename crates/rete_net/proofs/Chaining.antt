@@ -1,10 +1,12 @@
--- A step of all nodes, one after those before it, over the rows that conditions have before the step and behind it.
+-- A step of all nodes, one after those before it, over the rows that conditions have before the step and behind it, where some facts have
+-- been forgotten.
 use Rattle.std.proofs.Common.{◌≡◌, ◌∙◌, sym, ap, refl, subst, ℕ, zero, suc, ℤ, ◌<◌, List, [], ◌∷◌, ◌++◌, map, take, get_or, length, arith, Bool, true, Option, Some, None, slice_get}
 use Rattle.std.proofs.lemmas.List.{get_or-take}
 use Rattle.std.proofs.lemmas.Option.{slice_get_within, slice_get-get_or, slice_get-map}
 use Rattle.std.specs.Option.{option_map}
 use Rattle.fx_base.specs.declared.fact.Fact.{Fact}
 use Rattle.row_delta.specs.declared.delta.Delta.{Delta}
+use Rattle.row_delta.specs.declared.row.Named.{Named}
 use Rattle.row_delta.specs.declared.row.Row.{Row}
 use Rattle.row_change.specs.Changes.{Leads, IsDifference}
 use Rattle.rule_model.specs.declared.condition.Condition.{Condition}
@@ -13,12 +15,14 @@ use Rattle.rule_model.specs.declared.program.Rule.{Rule}
 use Rattle.rule_model.specs.Rows.{pattern_of}
 use Rattle.rule_model.specs.Snapshots.{Snapshot}
 use Rattle.join_tests.specs.Joins.{Look}
-use Rattle.pair_memory.specs.Standing.{no_names}
+use Rattle.pair_memory.specs.Standing.{cleaned, no_names}
 use Rattle.condition_rows.specs.Lines.{line}
 use Rattle.condition_rows.specs.Looks.{HasAllOf, NameHeld}
+use Rattle.condition_rows.specs.Sets.{candidates_of}
 use Rattle.pattern_gate.specs.Gates.{has_good_window}
 use Rattle.pattern_gate.specs.Moves.{Moves}
 use Rattle.condition_node.specs.Nodes.{condition_of}
+use Rattle.condition_node.specs.Turns.{CountedStay}
 use Rattle.rete_net.specs.declared.node.NetNode.{NetNode}
 use Rattle.rete_net.specs.Nets.{NetNodeStands}
 use Rattle.rete_net.specs.Shapes.{before, IsShaped, EndsAt}
@@ -29,45 +33,60 @@ pub record AreMade (p : Program) (s : Snapshot) (sets : List Condition → Row �
   pub more : (front : List Condition) (c : Condition) → sets (front ++ c ∷ []) ≡ line p s c (sets front)
   pub named : (conditions : List Condition) → NameHeld s (sets conditions)
 
--- what leads from the one snapshot to the other, and a store that has all versions of both
-pub record IsGiven (p : Program) (look : Look) (s next : Snapshot) (gone : List Fact) (come : Option Fact) (clock : ℤ) : Type 0 where
+-- what leads from the one snapshot to the other, a store that has at hand what is remembered of both, and a world that has all of both
+pub record IsGiven (p : Program) (look : Look) (s next : Snapshot) (gone : List Fact) (come : Option Fact) (clock : ℤ) (forgotten : Named → Bool) : Type 0 where
   pub moves : Moves p s next gone come
   pub moment : next.clock ≡ clock
-  pub at_hand : HasAllOf look s no_names
-  pub at_hand_now : HasAllOf look next no_names
+  pub at_hand : HasAllOf look s forgotten
+  pub at_hand_now : HasAllOf look next forgotten
+  pub world : Look
+  pub known : HasAllOf world s no_names
+  pub known_now : HasAllOf world next no_names
 
 -- nodes that stand for these rows of the conditions before them
-pub record AreStanding (p : Program) (s : Snapshot) (sets : List Condition → Row → Bool) (nodes : List NetNode) (conditions : ℕ → List Condition) : Type 0 where
+pub record AreStanding (p : Program) (s : Snapshot) (sets : List Condition → Row → Bool) (forgotten : Named → Bool) (nodes : List NetNode) (conditions : ℕ → List Condition) : Type 0 where
   pub shaped : IsShaped nodes conditions
   pub windows : (k : ℕ) (n : NetNode) → slice_get nodes k ≡ Some n → has_good_window p (pattern_of (condition_of n.node)) ≡ true
-  pub stand : (k : ℕ) (n : NetNode) → slice_get nodes k ≡ Some n → NetNodeStands p n s (sets (before conditions n.parent))
+  pub stand : (k : ℕ) (n : NetNode) → slice_get nodes k ≡ Some n → NetNodeStands p n s (sets (before conditions n.parent)) forgotten
 
-module _ (p : Program) (look : Look) (s next : Snapshot) (gone : List Fact) (come : Option Fact) (clock : ℤ) (first : Delta) (was is : List Condition → Row → Bool)
+-- of forgotten facts nothing changes for a node: they are candidates as they were, and what its condition counts of them stays
+pub record StaysBeside (p : Program) (world : Look) (s next : Snapshot) (condition : Condition) (rows rows_now : Row → Bool) (forgotten : Named → Bool) : Type 0 where
+  pub same : (who : Named) → forgotten who ≡ true → candidates_of p (pattern_of condition) s who ≡ candidates_of p (pattern_of condition) next who
+  pub stay : (left : Delta) → Leads (cleaned rows forgotten) (cleaned rows_now forgotten) left.gone left.come → CountedStay condition p world s next rows rows_now forgotten left
+
+module _ (p : Program) (look : Look) (s next : Snapshot) (gone : List Fact) (come : Option Fact) (clock : ℤ) (forgotten : Named → Bool) (first : Delta) (was is : List Condition → Row → Bool)
     (nodes nodes_now : List NetNode) (conditions : ℕ → List Condition) (deltas : List Delta)
-    (given : IsGiven p look s next gone come clock) (made : AreMade p s was) (made_now : AreMade p next is) (leads : Leads (was []) (is []) first.gone first.come)
-    (standing : AreStanding p s was nodes conditions) (same : length nodes_now ≡ length nodes) (stepped : SteppedBelow p look gone come clock first nodes nodes_now deltas (length nodes)) where
-  -- the node of a place answers the true difference of the rows of its conditions
+    (given : IsGiven p look s next gone come clock forgotten) (made : AreMade p s was) (made_now : AreMade p next is) (leads : Leads (cleaned (was []) forgotten) (cleaned (is []) forgotten) first.gone first.come)
+    (standing : AreStanding p s was forgotten nodes conditions)
+    (beside : (k : ℕ) (n : NetNode) → slice_get nodes k ≡ Some n → StaysBeside p given.world s next (condition_of n.node) (was (before conditions n.parent)) (is (before conditions n.parent)) forgotten)
+    (same : length nodes_now ≡ length nodes) (stepped : SteppedBelow p look gone come clock first nodes nodes_now deltas (length nodes)) where
+  -- the node of a place answers the true difference of the rows of its conditions, of those that name no forgotten fact
   abbrev Answers : ℕ → Type 0
-  Answers k = IsDifference (was (conditions k)) (is (conditions k)) (delta_at first deltas k)
+  Answers k = IsDifference (cleaned (was (conditions k)) forgotten) (cleaned (is (conditions k)) forgotten) (delta_at first deltas k)
 
   -- what comes to a node is the difference of the rows of the conditions before it
   from_parent : (k : ℕ) (old : NetNode) → slice_get nodes k ≡ Some old → ((q : ℕ) → q < k → Answers q) → (parent : Option ℕ) → old.parent ≡ parent
-      → Leads (was (before conditions parent)) (is (before conditions parent)) (left_delta first (take k deltas) parent).gone (left_delta first (take k deltas) parent).come
+      → Leads (cleaned (was (before conditions parent)) forgotten) (cleaned (is (before conditions parent)) forgotten) (left_delta first (take k deltas) parent).gone (left_delta first (take k deltas) parent).come
   from_parent k old e answers None at = leads
   from_parent k old e answers (Some q) at =
       let lt : q < k = standing.shaped.parents k q old e at in
-      subst (λ (d : Delta). Leads (was (conditions q)) (is (conditions q)) d.gone d.come) (sym (get_or-take k deltas q first lt)) (answers q lt).leads
+      subst (λ (d : Delta). Leads (cleaned (was (conditions q)) forgotten) (cleaned (is (conditions q)) forgotten) d.gone d.come) (sym (get_or-take k deltas q first lt)) (answers q lt).leads
 
   turn : (k : ℕ) (old : NetNode) → slice_get nodes k ≡ Some old → ((q : ℕ) → q < k → Answers q)
-      → IsNodeTurn p look s next gone come (pattern_of (condition_of old.node)) (was (before conditions old.parent)) (is (before conditions old.parent)) (left_delta first (take k deltas) old.parent)
+      → IsNodeTurn p look s next gone come (condition_of old.node) (was (before conditions old.parent)) (is (before conditions old.parent)) forgotten (left_delta first (take k deltas) old.parent)
   turn k old e answers = record {
     window = standing.windows k old e;
     moves = given.moves;
     at_hand = given.at_hand;
     at_hand_now = given.at_hand_now;
+    world = given.world;
+    known = given.known;
+    known_now = given.known_now;
     named = made.named (before conditions old.parent);
     named_now = made_now.named (before conditions old.parent);
     leads = from_parent k old e answers old.parent refl;
+    same = (beside k old e).same;
+    stay = (beside k old e).stay (left_delta first (take k deltas) old.parent) (from_parent k old e answers old.parent refl);
   }
 
   -- the node of a place, behind the step
@@ -86,10 +105,10 @@ module _ (p : Program) (look : Look) (s next : Snapshot) (gone : List Fact) (com
       let new = now_at k old e in
       let behind = before conditions old.parent in
       let c = condition_of old.node in
-      let d = (step_at k old new.0 e new.1).difference s next (was behind) (is behind) (standing.stand k old e) given.moment (turn k old e answers) in
-      subst (λ (cs : List Condition). IsDifference (was cs) (is cs) (delta_at first deltas k)) (sym (standing.shaped.own k old e))
-      (subst (λ (set : Row → Bool). IsDifference set (is (behind ++ c ∷ [])) (delta_at first deltas k)) (sym (made.more behind c))
-      (subst (λ (set : Row → Bool). IsDifference (line p s c (was behind)) set (delta_at first deltas k)) (sym (made_now.more behind c)) d))
+      let d = (step_at k old new.0 e new.1).difference s next (was behind) (is behind) forgotten (standing.stand k old e) given.moment (turn k old e answers) in
+      subst (λ (cs : List Condition). IsDifference (cleaned (was cs) forgotten) (cleaned (is cs) forgotten) (delta_at first deltas k)) (sym (standing.shaped.own k old e))
+      (subst (λ (set : Row → Bool). IsDifference (cleaned set forgotten) (cleaned (is (behind ++ c ∷ [])) forgotten) (delta_at first deltas k)) (sym (made.more behind c))
+      (subst (λ (set : Row → Bool). IsDifference (cleaned (line p s c (was behind)) forgotten) (cleaned set forgotten) (delta_at first deltas k)) (sym (made_now.more behind c)) d))
 
   all_below : (b k : ℕ) (some : NetNode) → k < b → k < length nodes → Answers k
   all_below zero k some h l = absurd (omega arith)
@@ -105,13 +124,13 @@ module _ (p : Program) (look : Look) (s next : Snapshot) (gone : List Fact) (com
       let lt : k < length nodes = omega arith in
       (get_or nodes k new, slice_get-get_or nodes k new lt)
 
-  stands_at : (k : ℕ) (old new : NetNode) → slice_get nodes k ≡ Some old → slice_get nodes_now k ≡ Some new → NetNodeStands p new next (is (before conditions old.parent))
+  stands_at : (k : ℕ) (old new : NetNode) → slice_get nodes k ≡ Some old → slice_get nodes_now k ≡ Some new → NetNodeStands p new next (is (before conditions old.parent)) forgotten
   stands_at k old new e f =
       let behind = before conditions old.parent in
-      (step_at k old new e f).stands s next (was behind) (is behind) (standing.stand k old e) given.moment
+      (step_at k old new e f).stands s next (was behind) (is behind) forgotten (standing.stand k old e) given.moment
       (turn k old e (λ q lt. let w : k < length nodes = slice_get_within nodes k old e in all_below (suc q) q old (omega arith) (omega arith)))
 
-  pub standing_now : AreStanding p next is nodes_now conditions
+  pub standing_now : AreStanding p next is forgotten nodes_now conditions
   standing_now = record {
     shaped = record {
       parents = λ k parent new f at.
@@ -128,7 +147,7 @@ module _ (p : Program) (look : Look) (s next : Snapshot) (gone : List Fact) (com
         subst (λ (c : Condition). has_good_window p (pattern_of c) ≡ true) (sym (step_at k old.0 new old.1 f).condition) (standing.windows k old.0 old.1);
     stand = λ k new f.
         let old = old_at k new f in
-        subst (λ (parent : Option ℕ). NetNodeStands p new next (is (before conditions parent))) (sym (step_at k old.0 new old.1 f).parent) (stands_at k old.0 new old.1 f);
+        subst (λ (parent : Option ℕ). NetNodeStands p new next (is (before conditions parent)) forgotten) (sym (step_at k old.0 new old.1 f).parent) (stands_at k old.0 new old.1 f);
   }
 
   -- the last node of a rule is where it was, and answered the difference of the rows of the rule
@@ -138,9 +157,9 @@ module _ (p : Program) (look : Look) (s next : Snapshot) (gone : List Fact) (com
       record { last = at.last; node = new.0; found = at.found; there = new.1; all = at.all }
 
   pub answer_at : (ends : List ℕ) (place : ℕ) (rule : Rule) → EndsAt nodes conditions ends place rule
-      → (delta : Delta) × (slice_get (map (delta_at first deltas) ends) place ≡ Some delta) × IsDifference (was rule.conditions) (is rule.conditions) delta
+      → (delta : Delta) × (slice_get (map (delta_at first deltas) ends) place ≡ Some delta) × IsDifference (cleaned (was rule.conditions) forgotten) (cleaned (is rule.conditions) forgotten) delta
   answer_at ends place rule at = (
     delta_at first deltas at.last,
     slice_get-map (delta_at first deltas) ends place ∙ ap (option_map (delta_at first deltas)) at.found,
-    subst (λ (cs : List Condition). IsDifference (was cs) (is cs) (delta_at first deltas at.last)) at.all (answered at.last at.node at.there),
+    subst (λ (cs : List Condition). IsDifference (cleaned (was cs) forgotten) (cleaned (is cs) forgotten) (delta_at first deltas at.last)) at.all (answered at.last at.node at.there),
   )

@@ -12,13 +12,11 @@ use Rattle.rule_model.specs.declared.program.Program.{Program}
 use Rattle.rule_model.specs.declared.program.Rule.{Rule}
 use Rattle.rule_model.specs.Rows.{pattern_of}
 use Rattle.rule_model.proofs.Listed.{both_of}
-use Rattle.pair_memory.specs.Standing.{no_rows}
-use Rattle.condition_rows.specs.Looks.{empty_snapshot}
 use Rattle.pattern_gate.specs.Gates.{has_good_window}
 use Rattle.condition_node.specs.Nodes.{condition_of}
 use Rattle.rete_net.specs.declared.build.Origin.{Origin}
 use Rattle.rete_net.specs.declared.node.NetNode.{NetNode}
-use Rattle.rete_net.specs.Nets.{NetNodeStands}
+use Rattle.rete_net.specs.Nets.{IsFresh}
 use Rattle.rete_net.specs.Shapes.{IsFront}
 use Rattle.rule_world.specs.Programs.{has_window}
 use Rattle.rete_net.specs.Building.{IsParent, IsBehind, AreBuilt, HaveEnds, AreDistinct, IsFrom, AreGrown}
@@ -51,7 +49,7 @@ passes_at test (y ∷ xs) (suc k) x h e = passes_at test xs k x (both_of (test y
 -- ---- one node more
 
 module _ (p : Program) (nodes : List NetNode) (all : List (List Condition)) (node : NetNode) (cs : List Condition) (built : AreBuilt p nodes all) (parent : IsParent all node.parent cs)
-    (window : has_good_window p (pattern_of (condition_of node.node)) ≡ true) (fresh : NetNodeStands p node empty_snapshot no_rows) where
+    (window : has_good_window p (pattern_of (condition_of node.node)) ≡ true) (fresh : IsFresh p node) where
   abbrev own : List Condition
   own = cs ++ condition_of node.node ∷ []
 
@@ -79,7 +77,7 @@ module _ (p : Program) (nodes : List NetNode) (all : List (List Condition)) (nod
     length = let same = built.length in simp length-append (omega arith);
     behind = each_more nodes node (λ k n. IsBehind (all ++ own ∷ []) k n) behind_left behind_here;
     windows = each_more nodes node (λ k n. has_good_window p (pattern_of (condition_of n.node)) ≡ true) built.windows window;
-    fresh = each_more nodes node (λ k n. NetNodeStands p n empty_snapshot no_rows) built.fresh fresh;
+    fresh = each_more nodes node (λ k n. IsFresh p n) built.fresh fresh;
   }
 
   pub parent_here : IsParent (all ++ own ∷ []) (Some (length nodes)) own
@@ -191,7 +189,7 @@ distinct_more all own distinct new j k cs e f =
 module _ (p : Program) (nodes : List NetNode) (origins : List Origin) (all : List (List Condition)) (node : NetNode) (origin : Origin) (front : List Condition) (condition : Condition)
     (grown : AreGrown p nodes origins all) (behind : IsParent all origin.parent front) (is_front : IsFront p (front ++ condition ∷ [])) (window : has_window p condition ≡ true)
     (missing : (k : ℕ) (o : Origin) → slice_get origins k ≡ Some o → o.parent ≡ origin.parent → o.condition.now ≡ condition → ⊥)
-    (from : IsFrom node origin) (own_is : origin.condition.now ≡ condition) (fresh : NetNodeStands p node empty_snapshot no_rows) where
+    (from : IsFrom node origin) (own_is : origin.condition.now ≡ condition) (fresh : IsFresh p node) where
   node_behind : IsParent all node.parent front
   node_behind = subst (λ (o : Option ℕ). IsParent all o front) (sym from.parent) behind
 

@@ -1,8 +1,16 @@
 mod Turning
 mod Turns
+mod Along
+pub mod Cleaning
 mod Chaining
+mod Beside
 mod Growing
 mod Advancing
 mod Quieting
 mod Seen
 mod Starting
+mod Forgets
+mod Dropping
+mod Listing
+mod Fewer
+mod Unmissed

@@ -5,13 +5,12 @@ use Rattle.std.specs.Int.Signed.{≤ℤ_refl}
 use Rattle.std.proofs.lemmas.Option.{slice_get_within, slice_get-get_or}
 use Rattle.row_delta.specs.declared.row.Named.{Named}
 use Rattle.row_delta.specs.declared.row.Row.{Row}
-use Rattle.row_delta.specs.Rows.{has}
 use Rattle.rule_model.specs.declared.condition.Condition.{Condition}
 use Rattle.rule_model.specs.declared.condition.Pattern.{Pattern}
 use Rattle.rule_model.specs.declared.program.Program.{Program}
 use Rattle.rule_model.specs.Rows.{pattern_of}
 use Rattle.rule_model.specs.Snapshots.{Snapshot}
-use Rattle.pair_memory.specs.Standing.{no_names}
+use Rattle.pair_memory.specs.Standing.{cleaned}
 use Rattle.condition_rows.specs.Lines.{line}
 use Rattle.condition_rows.specs.Sets.{held, candidates_of, rows_of}
 use Rattle.pattern_gate.specs.Gates.{GateStands}
@@ -20,12 +19,13 @@ use Rattle.condition_node.specs.Nodes.{condition_of}
 use Rattle.condition_node.specs.Quiet.{IsBefore, IsQuiet}
 use Rattle.rete_net.specs.declared.net.Rete.{Rete}
 use Rattle.rete_net.specs.declared.node.NetNode.{NetNode}
-use Rattle.rete_net.specs.Nets.{NodesStand, NetStands}
-use Rattle.rete_net.specs.Quiet.{IsNodeQuiet, AreQuiet}
+use Rattle.rete_net.specs.Nets.{HaveSame, NodesStand, NetStands}
+use Rattle.rete_net.specs.Quiet.{StaysAt, IsNodeQuiet, AreQuiet}
 use Rattle.rete_net.specs.Shapes.{before}
-use Rattle.rete_net.proofs.Advancing.{first_row, rows_made}
+use Rattle.rete_net.proofs.Advancing.{same_first, rows_made}
 use Rattle.rete_net.proofs.Chaining.{AreMade}
-use Rattle.rete_net.proofs.Turning.{cleaned_none, held_has, rising}
+use Rattle.rete_net.proofs.Cleaning.{line_cleaned}
+use Rattle.rete_net.proofs.Turning.{held_has, rising}
 use Rattle.rete_net.proofs.Turns.{below_or_at}
 
 -- ---- one node
@@ -41,17 +41,17 @@ if_before (Some at) clock h = h
 
 pub node_quiet : (p : Program) (n : NetNode) (window moment until : Option ℤ) → IsGateQuiet p n window → IsQuiet p n.node moment
     → ((clock : ℤ) → IsBefore until clock → IsBefore window clock × IsBefore moment clock) → IsNodeQuiet p n until
-node_quiet p n window moment until gate node least s rows clock stands named kept kept_now begun later low before row =
-    let c = condition_of n.node in
+node_quiet p n window moment until gate node least s rows forgotten clock stands named kept kept_now begun later low before =
     let b = least clock before in
-    ap (λ (set : Row → Bool). set row) (sym (cleaned_none (line p (at_clock s clock) c rows)))
-    ∙ node (held s) s rows no_names clock (rising s.facts kept.in_order) (held_has s) named stands.node begun later low b.1
-    (gate (pattern_of c) s clock stands.gate kept kept_now later (if_before window clock b.0)) row
-    ∙ ap (λ (set : Row → Bool). set row) (cleaned_none (line p s c rows))
+    let same = gate (pattern_of (condition_of n.node)) s clock stands.gate kept kept_now later (if_before window clock b.0) in
+    record {
+      same_candidates = same;
+      same_line = node (held s) s rows forgotten clock (rising s.facts kept.in_order) (held_has s forgotten) named stands.node begun later low b.1 same;
+    }
 
 -- up to an earlier moment too
 pub node_quieter : (p : Program) (n : NetNode) (until sooner : Option ℤ) → ((clock : ℤ) → IsBefore sooner clock → IsBefore until clock) → IsNodeQuiet p n until → IsNodeQuiet p n sooner
-node_quieter p n until sooner weaker quiet s rows clock stands named kept kept_now begun later low before = quiet s rows clock stands named kept kept_now begun later low (weaker clock before)
+node_quieter p n until sooner weaker quiet s rows forgotten clock stands named kept kept_now begun later low before = quiet s rows forgotten clock stands named kept kept_now begun later low (weaker clock before)
 
 -- ---- the nodes before a place, and one more
 
@@ -70,7 +70,7 @@ quiet_more p nodes least moment now i node below found quiet both k n h e = elim
 
 -- ---- all nodes
 
-module _ (p : Program) (net : Rete) (s : Snapshot) (nodes : NodesStand p net s) (kept : IsKept p s) (begun : pos 0 ≤ℤ s.clock) (quiet : AreQuiet p net.nodes.items net.quiet_until) where
+module _ (p : Program) (net : Rete) (s : Snapshot) (forgotten : Named → Bool) (nodes : NodesStand p net s forgotten) (kept : IsKept p s) (begun : pos 0 ≤ℤ s.clock) (quiet : AreQuiet p net.nodes.items net.quiet_until) where
   module _ (clock : ℤ) (later : s.clock ≤ℤ clock) (low : clock <ℤ pos (2 ^ 63)) (before_due : IsBefore net.quiet_until clock) (kept_now : IsKept p (at_clock s clock)) where
     abbrev next : Snapshot
     next = at_clock s clock
@@ -81,12 +81,17 @@ module _ (p : Program) (net : Rete) (s : Snapshot) (nodes : NodesStand p net s) 
     made_now : AreMade p next (rows_of p next)
     made_now = rows_made p next (rising s.facts kept.in_order)
 
-    -- the conditions have the same rows at the clock
+    -- the conditions have the same rows at the clock, of those that name no forgotten fact
     abbrev Stay : List Condition → Type 0
-    Stay cs = rows_of p next cs ≡ rows_of p s cs
+    Stay cs = cleaned (rows_of p next cs) forgotten ≡ cleaned (rows_of p s cs) forgotten
+
+    stays_at : (k : ℕ) (n : NetNode) → slice_get net.nodes.items k ≡ Some n → StaysAt p n s (rows_of p s (before nodes.conditions n.parent)) forgotten clock
+    stays_at k n e =
+        let behind = before nodes.conditions n.parent in
+        quiet k n e s (rows_of p s behind) forgotten clock (nodes.nodes k n e) (made.named behind) kept kept_now begun later low before_due
 
     from_parent : (k : ℕ) (n : NetNode) → slice_get net.nodes.items k ≡ Some n → ((q : ℕ) → q < k → Stay (nodes.conditions q)) → (parent : Option ℕ) → n.parent ≡ parent → Stay (before nodes.conditions parent)
-    from_parent k n e rest None at = ap has (first_row p next ∙ sym (first_row p s))
+    from_parent k n e rest None at = ap (λ (set : Row → Bool). cleaned set forgotten) (same_first p next s)
     from_parent k n e rest (Some q) at = rest q (nodes.shaped.parents k q n e at)
 
     one : (k : ℕ) (n : NetNode) → slice_get net.nodes.items k ≡ Some n → ((q : ℕ) → q < k → Stay (nodes.conditions q)) → Stay (nodes.conditions k)
@@ -94,25 +99,31 @@ module _ (p : Program) (net : Rete) (s : Snapshot) (nodes : NodesStand p net s) 
         let behind = before nodes.conditions n.parent in
         let c = condition_of n.node in
         subst Stay (sym (nodes.shaped.own k n e))
-        (made_now.more behind c ∙ ap (line p next c) (from_parent k n e rest n.parent refl)
-        ∙ fun_ext (quiet k n e s (rows_of p s behind) clock (nodes.nodes k n e) (made.named behind) kept kept_now begun later low before_due)
-        ∙ sym (made.more behind c))
+        (ap (λ (set : Row → Bool). cleaned set forgotten) (made_now.more behind c)
+        ∙ sym (line_cleaned p next forgotten (rows_of p next behind) c)
+        ∙ ap (λ (set : Row → Bool). cleaned (line p next c set) forgotten) (from_parent k n e rest n.parent refl)
+        ∙ line_cleaned p next forgotten (rows_of p s behind) c
+        ∙ fun_ext (stays_at k n e).same_line
+        ∙ ap (λ (set : Row → Bool). cleaned set forgotten) (sym (made.more behind c)))
 
     all_below : (b k : ℕ) (some : NetNode) → k < b → k < length net.nodes.items → Stay (nodes.conditions k)
     all_below zero k some h l = absurd (omega arith)
     all_below (suc b) k some h l = one k (get_or net.nodes.items k some) (slice_get-get_or net.nodes.items k some l) (λ q lt. all_below b q some (omega arith) (omega arith))
 
-    stay : (k : ℕ) (n : NetNode) → slice_get net.nodes.items k ≡ Some n → Stay (nodes.conditions k)
-    stay k n e = all_below (suc k) k n (omega arith) (slice_get_within net.nodes.items k n e)
+    stay : HaveSame p net.nodes.items nodes.conditions forgotten next s
+    stay = record {
+      same_rows = λ k n e. all_below (suc k) k n (omega arith) (slice_get_within net.nodes.items k n e);
+      same_candidates = λ k n e. (stays_at k n e).same_candidates;
+    }
 
   -- the network has seen the clock of the snapshot
-  pub seen_now : NetStands p net s
+  pub seen_now : NetStands p net s forgotten
   seen_now = record {
     seen = s.clock;
     begun = begun;
     later = ≤ℤ_refl s.clock;
     kept = kept;
     nodes = nodes;
-    unchanged = λ k n e. refl;
+    unchanged = record { same_rows = λ k n e. refl; same_candidates = λ k n e who. refl };
     quiet = stay;
   }

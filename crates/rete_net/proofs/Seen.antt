@@ -1,8 +1,10 @@
 -- A network that stands for a snapshot, over the clock that its nodes have seen.
-use Rattle.std.proofs.Common.{◌≡◌, ◌∙◌, sym, ap, subst, ℕ, ℤ, pos, negsuc, ◌<◌, ◌≤ℤ◌, ◌<ℤ◌, ◌^◌, arith, Bool, List, Option, Some, slice_get, SFits, w64}
+use Rattle.std.proofs.Common.{◌≡◌, ◌∙◌, sym, ap, refl, subst, ℕ, ℤ, pos, negsuc, ◌<◌, ◌≤ℤ◌, ◌<ℤ◌, ◌^◌, arith, Bool, List, length, Option, Some, None, slice_get, SFits, w64}
 use Rattle.std.proofs.lemmas.Int.{ints}
+use Rattle.std.proofs.lemmas.Option.{slice_get_within}
 use Rattle.fx_base.specs.declared.fact.Fact.{Fact}
 use Rattle.row_delta.specs.declared.delta.Delta.{Delta}
+use Rattle.row_delta.specs.declared.row.Named.{Named}
 use Rattle.row_delta.specs.declared.row.Row.{Row}
 use Rattle.row_delta.specs.Rows.{has}
 use Rattle.rule_model.specs.declared.condition.Condition.{Condition}
@@ -11,17 +13,24 @@ use Rattle.rule_model.specs.declared.program.Rule.{Rule}
 use Rattle.rule_model.specs.Rows.{rows}
 use Rattle.rule_model.specs.Snapshots.{Snapshot}
 use Rattle.join_tests.specs.Joins.{Look}
-use Rattle.pair_memory.specs.Standing.{no_names}
+use Rattle.pair_memory.specs.Standing.{cleaned, no_names}
 use Rattle.condition_rows.specs.Looks.{HasAllOf}
 use Rattle.condition_rows.specs.Sets.{held, rows_of}
-use Rattle.pattern_gate.specs.Moves.{IsKept, at_clock}
+use Rattle.pattern_gate.specs.Moves.{IsKept, Moves, at_clock}
+use Rattle.condition_node.specs.Nodes.{condition_of}
 use Rattle.condition_node.specs.Quiet.{IsBefore}
 use Rattle.rete_net.specs.declared.net.Rete.{Rete}
-use Rattle.rete_net.specs.Nets.{HaveSameRows, NodesStand, NetStands, AreBetween}
+use Rattle.rete_net.specs.declared.node.NetNode.{NetNode}
+use Rattle.rete_net.specs.Forgetting.{AreNotNeeded}
+use Rattle.rete_net.specs.Nets.{HaveSame, NodesStand, NetStands, clean_rows, AreBetween}
 use Rattle.rete_net.specs.Quiet.{AreQuiet}
 use Rattle.rete_net.specs.Steps.{no_change, NetStep}
-use Rattle.rete_net.proofs.Advancing.{rows_made, first_stays, stands_now, between_now}
-use Rattle.rete_net.proofs.Chaining.{AreMade, IsGiven, AreStanding}
+use Rattle.rete_net.specs.Shapes.{before, IsFront}
+use Rattle.rete_net.proofs.Advancing.{rows_made, same_first, first_stays, stands_now, between_now}
+use Rattle.rete_net.proofs.Beside.{both_held, both_known, both_known_now, stays_beside}
+use Rattle.rete_net.proofs.Chaining.{AreMade, IsGiven, AreStanding, StaysBeside}
+use Rattle.rete_net.proofs.Cleaning.{has_clean}
+use Rattle.rete_net.proofs.Growing.{has_at}
 use Rattle.rete_net.proofs.Quieting.{seen_now}
 use Rattle.rete_net.proofs.Turning.{rising}
 
@@ -34,64 +43,95 @@ fits_low (pos n) fits = let low : n < 2 ^ 63 = fits.sfits in omega (arith, ints,
 fits_low (negsuc n) fits = omega (arith, ints)
 
 -- a store that has the versions of a snapshot has them at any clock
-at_hand_at : (look : Look) (s : Snapshot) (clock : ℤ) → HasAllOf look s no_names → HasAllOf look (at_clock s clock) no_names
+pub at_hand_at : (look : Look) (s : Snapshot) (clock : ℤ) (forgotten : Named → Bool) → HasAllOf look s forgotten → HasAllOf look (at_clock s clock) forgotten
 unfolding held
-at_hand_at look s clock has tag f e known = has tag f e known
+at_hand_at look s clock forgotten has tag f e known = has tag f e known
 
 -- a rule has the rows of its last node
-rule_rows : (p : Program) (net : Rete) (at s other : Snapshot) (nodes : NodesStand p net at) → HaveSameRows p net.nodes.items nodes.conditions s other
-    → (place : ℕ) (rule : Rule) → slice_get p.rules place ≡ Some rule → rows_of p s rule.conditions ≡ rows_of p other rule.conditions
-rule_rows p net at s other nodes same place rule e =
+rule_rows : (p : Program) (net : Rete) (at s other : Snapshot) (forgotten : Named → Bool) (nodes : NodesStand p net at forgotten) → HaveSame p net.nodes.items nodes.conditions forgotten s other
+    → (place : ℕ) (rule : Rule) → slice_get p.rules place ≡ Some rule → cleaned (rows_of p s rule.conditions) forgotten ≡ cleaned (rows_of p other rule.conditions) forgotten
+rule_rows p net at s other forgotten nodes same place rule e =
     let end = nodes.ends place rule e in
-    subst (λ (cs : List Condition). rows_of p s cs ≡ rows_of p other cs) end.all (same end.last end.node end.there)
+    subst (λ (cs : List Condition). cleaned (rows_of p s cs) forgotten ≡ cleaned (rows_of p other cs) forgotten) end.all (same.same_rows end.last end.node end.there)
 
 -- ---- a step
 
-module _ (p : Program) (look : Look) (s next : Snapshot) (gone : List Fact) (come : Option Fact) (clock : ℤ) (old new : Rete) (answers : List Delta)
-    (given : IsGiven p look s next gone come clock) (stands : NetStands p old s) (same : new.ends.items ≡ old.ends.items)
+module _ (p : Program) (look : Look) (s next : Snapshot) (gone : List Fact) (come : Option Fact) (clock : ℤ) (forgotten : Named → Bool) (old new : Rete) (answers : List Delta)
+    (moves : Moves p s next gone come) (moment : next.clock ≡ clock) (apart : AreNotNeeded p forgotten s next gone come) (has_before : HasAllOf look s forgotten) (has_now : HasAllOf look next forgotten)
+    (stands : NetStands p old s forgotten) (same : new.ends.items ≡ old.ends.items)
     (step : NetStep p look gone come clock no_change old.nodes.items new.nodes.items old.ends.items answers) where
   abbrev was : Snapshot
   was = at_clock s stands.seen
 
-  from_seen : IsGiven p look was next gone come clock
+  abbrev world : Look
+  world = both_held s next
+
+  known_now : HasAllOf world next no_names
+  known_now = both_known_now p look s next gone come forgotten moves apart has_before has_now
+
+  abbrev from_seen : IsGiven p look was next gone come clock forgotten
   from_seen = record {
     moves = record {
       before = stands.kept;
-      after = given.moves.after;
-      clock = onward stands.seen s.clock next.clock stands.later given.moves.clock;
-      held = given.moves.held;
-      once = given.moves.once;
-      facts = given.moves.facts;
+      after = moves.after;
+      clock = onward stands.seen s.clock next.clock stands.later moves.clock;
+      held = moves.held;
+      once = moves.once;
+      facts = moves.facts;
     };
-    moment = given.moment;
-    at_hand = at_hand_at look s stands.seen given.at_hand;
-    at_hand_now = given.at_hand_now;
+    moment = moment;
+    at_hand = at_hand_at look s stands.seen forgotten has_before;
+    at_hand_now = has_now;
+    world = world;
+    known = at_hand_at world s stands.seen no_names (both_known s next);
+    known_now = known_now;
   }
 
   made : AreMade p was (rows_of p was)
   made = rows_made p was (rising s.facts stands.kept.in_order)
 
-  standing : AreStanding p was (rows_of p was) old.nodes.items stands.nodes.conditions
+  made_now : AreMade p next (rows_of p next)
+  made_now = rows_made p next (rising next.facts moves.after.in_order)
+
+  standing : AreStanding p was (rows_of p was) forgotten old.nodes.items stands.nodes.conditions
   standing = record { shaped = stands.nodes.shaped; windows = stands.nodes.windows; stand = stands.nodes.nodes }
 
-  listed : (place : ℕ) (rule : Rule) → slice_get p.rules place ≡ Some rule → rows_of p was rule.conditions ≡ has (rows p s rule.conditions)
-  listed place rule e = sym (rule_rows p old was s was stands.nodes stands.unchanged place rule e)
+  same_before : (k : ℕ) (n : NetNode) → slice_get old.nodes.items k ≡ Some n → (parent : Option ℕ) → n.parent ≡ parent
+      → cleaned (rows_of p s (before stands.nodes.conditions parent)) forgotten ≡ cleaned (rows_of p was (before stands.nodes.conditions parent)) forgotten
+  same_before k n e None at = ap (λ (set : Row → Bool). cleaned set forgotten) (same_first p s was)
+  same_before k n e (Some q) at =
+      let lt : q < k = stands.nodes.shaped.parents k q n e at in
+      let within : k < length old.nodes.items = slice_get_within old.nodes.items k n e in
+      let node = has_at old.nodes.items q (omega arith) in
+      stands.unchanged.same_rows q node.0 node.1
 
-  pub net_stands : AreQuiet p new.nodes.items new.quiet_until → NetStands p new next
+  beside : (k : ℕ) (n : NetNode) → slice_get old.nodes.items k ≡ Some n
+      → StaysBeside p from_seen.world was next (condition_of n.node) (rows_of p was (before stands.nodes.conditions n.parent)) (rows_of p next (before stands.nodes.conditions n.parent)) forgotten
+  beside k n e =
+      let behind = before stands.nodes.conditions n.parent in
+      stays_beside p world was s next gone come forgotten apart known_now behind (condition_of n.node) (subst (IsFront p) (stands.nodes.shaped.own k n e) (stands.nodes.fronts k n e))
+      (made_now.named behind) (same_before k n e n.parent refl) (stands.unchanged.same_candidates k n e)
+
+  listed : (place : ℕ) (rule : Rule) → slice_get p.rules place ≡ Some rule → cleaned (rows_of p was rule.conditions) forgotten ≡ has (clean_rows p s forgotten rule)
+  listed place rule e = sym (rule_rows p old was s was forgotten stands.nodes stands.unchanged place rule e) ∙ sym (has_clean (rows p s rule.conditions) forgotten)
+
+  pub net_stands : AreQuiet p new.nodes.items new.quiet_until → NetStands p new next forgotten
   net_stands quiet =
-      seen_now p new next
-      (stands_now p look was next gone come clock no_change (rows_of p was) (rows p s) old new stands.nodes.conditions answers from_seen made (first_stays p was next) standing stands.nodes.ends stands.nodes.fronts same step listed)
-      given.moves.after (onward (pos 0) stands.seen next.clock stands.begun from_seen.moves.clock) quiet
+      seen_now p new next forgotten
+      (stands_now p look was next gone come clock forgotten no_change (rows_of p was) (clean_rows p s forgotten) old new stands.nodes.conditions answers from_seen made (first_stays p was next forgotten) standing beside
+      stands.nodes.ends stands.nodes.fronts same step listed)
+      moves.after (onward (pos 0) stands.seen next.clock stands.begun from_seen.moves.clock) quiet
 
-  pub net_between : AreBetween p (λ rule. rows p s rule.conditions) (λ rule. rows p next rule.conditions) answers
+  pub net_between : AreBetween p (clean_rows p s forgotten) (clean_rows p next forgotten) answers
   net_between =
-      between_now p look was next gone come clock no_change (rows_of p was) (rows p s) old new stands.nodes.conditions answers from_seen made (first_stays p was next) standing stands.nodes.ends stands.nodes.fronts same step listed
+      between_now p look was next gone come clock forgotten no_change (rows_of p was) (clean_rows p s forgotten) old new stands.nodes.conditions answers from_seen made (first_stays p was next forgotten) standing beside
+      stands.nodes.ends stands.nodes.fronts same step listed
 
 -- ---- the clock moves alone, before something is due
 
-module _ (p : Program) (net : Rete) (s : Snapshot) (clock : ℤ) (stands : NetStands p net s) (later : s.clock ≤ℤ clock) (low : clock <ℤ pos (2 ^ 63))
+module _ (p : Program) (net : Rete) (s : Snapshot) (forgotten : Named → Bool) (clock : ℤ) (stands : NetStands p net s forgotten) (later : s.clock ≤ℤ clock) (low : clock <ℤ pos (2 ^ 63))
     (before_due : IsBefore net.quiet_until clock) (kept : IsKept p (at_clock s clock)) where
-  pub quiet_stands : NetStands p net (at_clock s clock)
+  pub quiet_stands : NetStands p net (at_clock s clock) forgotten
   quiet_stands = record {
     seen = stands.seen;
     begun = stands.begun;
@@ -102,9 +142,10 @@ module _ (p : Program) (net : Rete) (s : Snapshot) (clock : ℤ) (stands : NetSt
     quiet = λ at more fits until there. stands.quiet at (onward s.clock clock at later more) fits until there;
   }
 
-  pub quiet_rows : (place : ℕ) (rule : Rule) → slice_get p.rules place ≡ Some rule → (row : Row) → has (rows p (at_clock s clock) rule.conditions) row ≡ has (rows p s rule.conditions) row
+  pub quiet_rows : (place : ℕ) (rule : Rule) → slice_get p.rules place ≡ Some rule
+      → (row : Row) → cleaned (rows_of p (at_clock s clock) rule.conditions) forgotten row ≡ cleaned (rows_of p s rule.conditions) forgotten row
   quiet_rows place rule e row =
       let was = at_clock s stands.seen in
       ap (λ (set : Row → Bool). set row)
-      (rule_rows p net was (at_clock s clock) was stands.nodes (stands.quiet clock later low before_due kept) place rule e
-      ∙ sym (rule_rows p net was s was stands.nodes stands.unchanged place rule e))
+      (rule_rows p net was (at_clock s clock) was forgotten stands.nodes (stands.quiet clock later low before_due kept) place rule e
+      ∙ sym (rule_rows p net was s was forgotten stands.nodes stands.unchanged place rule e))

@@ -1,7 +1,8 @@
 -- The first step of a network, over no facts: the empty row comes.
-use Rattle.std.proofs.Common.{◌≡◌, ◌∙◌, sym, ap, refl, subst, ℕ, ℤ, pos, ◌≤ℤ◌, ◌<◌, arith, ◌&&◌, Bool, true, false, List, [], ◌∷◌, ◌++◌, length, take, get_or, Option, Some, None, slice_get}
+use Rattle.std.proofs.Common.{◌≡◌, ◌∙◌, sym, ap, refl, subst, inl, inr, ℕ, ℤ, pos, ◌≤ℤ◌, ◌<◌, arith, ◌&&◌, not, Bool, true, false, List, [], ◌∷◌, ◌++◌, length, take, get_or, Option, Some, None, slice_get}
 use mathlib.Core.Path.{fun_ext}
 use Rattle.std.specs.List.Sorted.{IsStrictlySortedBy}
+use Rattle.fx_base.specs.Lists.{In}
 use Rattle.std.specs.Int.Signed.{≤ℤ_refl}
 use Rattle.std.proofs.lemmas.List.{get_or-take, length-take}
 use Rattle.std.proofs.lemmas.Option.{slice_get_within, get_or_from_slice_get, slice_get-get_or}
@@ -12,31 +13,37 @@ use Rattle.row_delta.specs.Rows.{has}
 use Rattle.row_change.specs.Changes.{Leads}
 use Rattle.rule_model.specs.declared.condition.Condition.{Condition}
 use Rattle.rule_model.specs.declared.condition.Condition.TheVariants.{Plain, Negated, Existing, Folded}
+use Rattle.rule_model.specs.declared.condition.Pattern.{Pattern}
 use Rattle.rule_model.specs.declared.program.Program.{Program}
 use Rattle.rule_model.specs.declared.program.Rule.{Rule}
 use Rattle.rule_model.specs.Rows.{rows}
 use Rattle.rule_model.specs.Snapshots.{Snapshot}
+use Rattle.rule_model.proofs.Listed.{both_of}
 use Rattle.join_tests.specs.Joins.{Look, joins}
 use Rattle.pair_memory.specs.Joined.{splits, joined, unjoined}
-use Rattle.pair_memory.specs.Standing.{no_rows, no_names}
+use Rattle.pair_memory.specs.Standing.{clean, cleaned, no_rows, no_names}
 use Rattle.pair_memory.specs.Valued.{splits_value, unvalued, valued}
 use Rattle.condition_rows.specs.Sets.{held, candidates_of, rows_of}
-use Rattle.condition_rows.specs.Lines.{line, gives}
+use Rattle.condition_rows.specs.Lines.{empty_row, line, gives}
 use Rattle.condition_rows.specs.Looks.{empty_snapshot, HasAllOf}
+use Rattle.condition_rows.proofs.Ends.{has_in}
+use Rattle.condition_rows.proofs.Naming.{rows_named}
 use Rattle.pattern_gate.specs.Moves.{IsKept}
 use Rattle.condition_node.specs.Nodes.{condition_of}
 use Rattle.rete_net.specs.declared.net.Rete.{Rete}
 use Rattle.rete_net.specs.declared.node.NetNode.{NetNode}
 use Rattle.rete_net.specs.Nets.{NodesStand, NetStands, AreBetween}
+use Rattle.rete_net.specs.Forgetting.{CountsNone}
 use Rattle.rete_net.specs.Quiet.{AreQuiet}
 use Rattle.rete_net.specs.Shapes.{before, EndsAt, IsFront, AreShared}
 use Rattle.rete_net.specs.Steps.{empty_row_comes, NetStep}
 use Rattle.rete_net.specs.Building.{IsParent, AreBuilt, HaveEnds, AreFronts, AreDistinct}
 use Rattle.rete_net.proofs.Advancing.{first_row, shaped_now, stands_now, between_now}
-use Rattle.rete_net.proofs.Chaining.{AreMade, IsGiven, AreStanding}
+use Rattle.rete_net.proofs.Beside.{stay_of}
+use Rattle.rete_net.proofs.Chaining.{AreMade, IsGiven, AreStanding, StaysBeside}
+use Rattle.rete_net.proofs.Cleaning.{all_clean}
 use Rattle.rete_net.proofs.Growing.{has_at}
 use Rattle.rete_net.proofs.Quieting.{seen_now}
-use Rattle.rete_net.proofs.Turning.{and_true}
 
 -- ---- conditions make nothing of no rows
 
@@ -70,25 +77,59 @@ kept p = record { in_order = tt; present = λ f i. absurd i; low = λ f i. absur
 abbrev pub no_facts : Look
 no_facts tag = None
 
-none_held : HasAllOf no_facts empty_snapshot no_names
+none_held : (forgotten : Named → Bool) → HasAllOf no_facts empty_snapshot forgotten
 unfolding held
-none_held tag f e n = e
+none_held forgotten tag f e n = e
 
 standstill : (n : ℤ) → n ≤ℤ n
 standstill n = ≤ℤ_refl n
 
-starts : (p : Program) → IsGiven p no_facts empty_snapshot empty_snapshot [] None (pos 0)
-starts p = record {
+abbrev starts : (p : Program) (forgotten : Named → Bool) → IsGiven p no_facts empty_snapshot empty_snapshot [] None (pos 0) forgotten
+starts p forgotten = record {
   moves = record { before = kept p; after = kept p; clock = standstill (pos 0); held = λ f i. absurd i; once = tt; facts = refl };
   moment = refl;
-  at_hand = none_held;
-  at_hand_now = none_held;
+  at_hand = none_held forgotten;
+  at_hand_now = none_held forgotten;
+  world = no_facts;
+  known = none_held no_names;
+  known_now = none_held no_names;
 }
 
-first_comes : (p : Program) → Leads no_rows (rows_of p empty_snapshot []) empty_row_comes.gone empty_row_comes.come
-first_comes p = record {
+kept_alone : (b k : Bool) → (b ≡ true → k ≡ true) → b ≡ ((b && k) && true)
+kept_alone true k h = ap (λ x. x && true) (sym (h refl))
+kept_alone false k h = refl
+
+names_nothing : (forgotten : Named → Bool) (row : Row) → In row (empty_row ∷ []) → clean forgotten row ≡ true
+names_nothing forgotten row (inl e) = ap (clean forgotten) e
+names_nothing forgotten row (inr i) = absurd i
+
+first_comes : (p : Program) (forgotten : Named → Bool) → Leads (cleaned no_rows forgotten) (cleaned (rows_of p empty_snapshot []) forgotten) empty_row_comes.gone empty_row_comes.come
+first_comes p forgotten = record {
   goes = λ row. refl;
-  comes = λ row. ap (λ (rs : List Row). has rs row) (sym (first_row p empty_snapshot)) ∙ sym (and_true (rows_of p empty_snapshot [] row));
+  comes = λ row.
+      kept_alone (has (empty_row ∷ []) row) (clean forgotten row) (λ e. names_nothing forgotten row (has_in row (empty_row ∷ []) e))
+      ∙ ap (λ (rs : List Row). (has rs row && clean forgotten row) && true) (sym (first_row p empty_snapshot));
+}
+
+-- ---- of no facts none is counted
+
+no_candidate : (p : Program) (q : Pattern) (who : Named) → candidates_of p q empty_snapshot who ≡ false
+unfolding candidates_of held
+no_candidate p q who = refl
+
+counts_none : (p : Program) (forgotten : Named → Bool) (c : Condition) (row : Row) → CountsNone c p empty_snapshot forgotten row
+counts_none p forgotten (Plain q) row = tt
+counts_none p forgotten (Negated q) row = λ who e. ap (λ b. b && joins q (held empty_snapshot) row who) (no_candidate p q who)
+counts_none p forgotten (Existing q) row = λ who e. ap (λ b. b && joins q (held empty_snapshot) row who) (no_candidate p q who)
+counts_none p forgotten (Folded a) row = λ who e. ap (λ b. b && joins a.pattern (held empty_snapshot) row who) (no_candidate p a.pattern who)
+
+beside : (p : Program) (forgotten : Named → Bool) (c : Condition) (behind : List Condition) → StaysBeside p no_facts empty_snapshot empty_snapshot c no_rows (rows_of p empty_snapshot behind) forgotten
+beside p forgotten c behind = record {
+  same = λ who e. refl;
+  stay = λ left leads.
+      stay_of p no_facts empty_snapshot empty_snapshot no_rows (rows_of p empty_snapshot behind) forgotten left c (none_held no_names) (rows_named p empty_snapshot tt behind)
+      (λ row e. (both_of (rows_of p empty_snapshot behind row) (clean forgotten row) (both_of (cleaned (rows_of p empty_snapshot behind) forgotten row) (not (cleaned no_rows forgotten row)) (sym (leads.comes row) ∙ e)).0).0)
+      (λ who e. refl) (λ row e. counts_none p forgotten c row);
 }
 
 -- ---- what was built
@@ -118,8 +159,8 @@ module _ (p : Program) (net new : Rete) (all : List (List Condition)) (answers :
       let is = built.behind k n e in
       get_or_from_slice_get all k (is.before ++ condition_of n.node ∷ []) [] is.own ∙ ap (λ (cs : List Condition). cs ++ condition_of n.node ∷ []) (sym (before_is k is.before n.parent is.parent))
 
-  standing : AreStanding p empty_snapshot nothing net.nodes.items conditions
-  standing = record { shaped = record { parents = earlier; own = own }; windows = built.windows; stand = built.fresh }
+  standing : (forgotten : Named → Bool) → AreStanding p empty_snapshot nothing forgotten net.nodes.items conditions
+  standing forgotten = record { shaped = record { parents = earlier; own = own }; windows = built.windows; stand = λ k n e. built.fresh k n e forgotten }
 
   end_at : (place : ℕ) (rule : Rule) → slice_get p.rules place ≡ Some rule → EndsAt net.nodes.items conditions net.ends.items place rule
   end_at place rule e =
@@ -139,14 +180,16 @@ module _ (p : Program) (net new : Rete) (all : List (List Condition)) (answers :
   fronts : (k : ℕ) (n : NetNode) → slice_get net.nodes.items k ≡ Some n → IsFront p (conditions k)
   fronts k n e = fronts_are k (conditions k) (listed k (slice_get_within net.nodes.items k n e))
 
-  nodes_now : NodesStand p new empty_snapshot
-  nodes_now =
-      stands_now p no_facts empty_snapshot empty_snapshot [] None (pos 0) empty_row_comes nothing (λ cs. []) net new conditions answers (starts p) (nothing_made p empty_snapshot) (first_comes p) standing end_at fronts same step (λ place rule e. refl)
+  nodes_now : (forgotten : Named → Bool) → NodesStand p new empty_snapshot forgotten
+  nodes_now forgotten =
+      stands_now p no_facts empty_snapshot empty_snapshot [] None (pos 0) forgotten empty_row_comes nothing (λ rule. []) net new conditions answers (starts p forgotten) (nothing_made p empty_snapshot) (first_comes p forgotten)
+      (standing forgotten) (λ k n e. beside p forgotten (condition_of n.node) (before conditions n.parent)) end_at fronts same step (λ place rule e. refl)
 
   pub built_shared : AreShared new.nodes.items
   built_shared = record {
     conditions = conditions;
-    shaped = shaped_now p no_facts empty_snapshot empty_snapshot [] None (pos 0) empty_row_comes nothing (λ cs. []) net new conditions answers (starts p) (nothing_made p empty_snapshot) (first_comes p) standing end_at fronts same step (λ place rule e. refl);
+    shaped = shaped_now p no_facts empty_snapshot empty_snapshot [] None (pos 0) no_names empty_row_comes nothing (λ rule. []) net new conditions answers (starts p no_names) (nothing_made p empty_snapshot) (first_comes p no_names)
+        (standing no_names) (λ k n e. beside p no_names (condition_of n.node) (before conditions n.parent)) end_at fronts same step (λ place rule e. refl);
     once = λ j k a b e f equal.
         let count = step.nodes in
         let low : j < length new.nodes.items = slice_get_within new.nodes.items j a e in
@@ -154,10 +197,12 @@ module _ (p : Program) (net new : Rete) (all : List (List Condition)) (answers :
         distinct j k (conditions j) (listed j (omega arith)) (listed k (omega arith) ∙ ap Some (sym equal));
   }
 
-  pub built_stands : AreQuiet p new.nodes.items new.quiet_until → NetStands p new empty_snapshot
-  built_stands quiet =
-      seen_now p new empty_snapshot nodes_now (kept p) (standstill (pos 0)) quiet
+  pub built_stands : AreQuiet p new.nodes.items new.quiet_until → (forgotten : Named → Bool) → NetStands p new empty_snapshot forgotten
+  built_stands quiet forgotten =
+      seen_now p new empty_snapshot forgotten (nodes_now forgotten) (kept p) (standstill (pos 0)) quiet
 
   pub built_between : AreBetween p (λ rule. []) (λ rule. rows p empty_snapshot rule.conditions) answers
   built_between =
-      between_now p no_facts empty_snapshot empty_snapshot [] None (pos 0) empty_row_comes nothing (λ cs. []) net new conditions answers (starts p) (nothing_made p empty_snapshot) (first_comes p) standing end_at fronts same step (λ place rule e. refl)
+      subst (λ (lists : Rule → List Row). AreBetween p (λ rule. []) lists answers) (fun_ext (λ rule. all_clean (rows p empty_snapshot rule.conditions)))
+      (between_now p no_facts empty_snapshot empty_snapshot [] None (pos 0) no_names empty_row_comes nothing (λ rule. []) net new conditions answers (starts p no_names) (nothing_made p empty_snapshot) (first_comes p no_names)
+      (standing no_names) (λ k n e. beside p no_names (condition_of n.node) (before conditions n.parent)) end_at fronts same step (λ place rule e. refl))

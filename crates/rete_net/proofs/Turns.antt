@@ -77,7 +77,7 @@ at_clock p look gone come at clock first before now deltas n e below = subst (λ
 
 -- ---- the step of a network, out of that of its nodes
 
-whole_again : {A : Type 0} (n : ℕ) (xs ys : List A) → length xs ≡ n → take n (xs ++ ys) ≡ xs
+pub whole_again : {A : Type 0} (n : ℕ) (xs ys : List A) → length xs ≡ n → take n (xs ++ ys) ≡ xs
 whole_again n xs ys e = ap (λ m. take m (xs ++ ys)) (sym e) ∙ take-append_seam xs ys
 
 module _ (p : Program) (look : Look) (gone : List Fact) (come : Option Fact) (first : Delta) (ends : List ℕ) (answers : List Delta) where

@@ -4,13 +4,11 @@ use Rattle.rule_model.specs.declared.condition.Condition.{Condition}
 use Rattle.rule_model.specs.declared.program.Program.{Program}
 use Rattle.rule_model.specs.declared.program.Rule.{Rule}
 use Rattle.rule_model.specs.Rows.{pattern_of}
-use Rattle.pair_memory.specs.Standing.{no_rows}
-use Rattle.condition_rows.specs.Looks.{empty_snapshot}
 use Rattle.pattern_gate.specs.Gates.{has_good_window}
 use Rattle.condition_node.specs.Nodes.{condition_of}
 use Rattle.rete_net.specs.declared.node.NetNode.{NetNode}
 use Rattle.rete_net.specs.declared.build.Origin.{Origin}
-use Rattle.rete_net.specs.Nets.{NetNodeStands}
+use Rattle.rete_net.specs.Nets.{IsFresh}
 use Rattle.rete_net.specs.Shapes.{IsFront}
 
 -- a parent, of nodes with these conditions, is the node of those conditions; without one there is no condition
@@ -29,7 +27,7 @@ pub record AreBuilt (p : Program) (nodes : List NetNode) (all : List (List Condi
   pub length : length nodes ≡ length all
   pub behind : (k : ℕ) (node : NetNode) → slice_get nodes k ≡ Some node → IsBehind all k node
   pub windows : (k : ℕ) (node : NetNode) → slice_get nodes k ≡ Some node → has_good_window p (pattern_of (condition_of node.node)) ≡ true
-  pub fresh : (k : ℕ) (node : NetNode) → slice_get nodes k ≡ Some node → NetNodeStands p node empty_snapshot no_rows
+  pub fresh : (k : ℕ) (node : NetNode) → slice_get nodes k ≡ Some node → IsFresh p node
 
 -- each of these lists is the front of a rule
 abbrev pub AreFronts : Program → List (List Condition) → Type 0

@@ -1,15 +1,18 @@
--- For which snapshot a network stands, and what it answers.
+-- For which snapshot a network stands, where some facts have been forgotten, and what it answers.
 use Rattle.std.specs.Prelude.{◌≡◌, ◌≤ℤ◌, ◌<ℤ◌, ◌^◌, pos, ℕ, ℤ, Bool, true, List, Some, slice_get}
+use Rattle.std.specs.List.{filter}
 use Rattle.row_delta.specs.declared.delta.Delta.{Delta}
+use Rattle.row_delta.specs.declared.row.Named.{Named}
 use Rattle.row_delta.specs.declared.row.Row.{Row}
 use Rattle.row_delta.specs.Differences.{IsBetween}
 use Rattle.rule_model.specs.declared.condition.Condition.{Condition}
 use Rattle.rule_model.specs.declared.program.Program.{Program}
 use Rattle.rule_model.specs.declared.program.Rule.{Rule}
-use Rattle.rule_model.specs.Rows.{pattern_of}
+use Rattle.rule_model.specs.Rows.{pattern_of, rows}
 use Rattle.rule_model.specs.Snapshots.{Snapshot}
-use Rattle.pair_memory.specs.Standing.{no_names}
-use Rattle.condition_rows.specs.Sets.{held, rows_of}
+use Rattle.pair_memory.specs.Standing.{clean, cleaned, no_rows}
+use Rattle.condition_rows.specs.Looks.{empty_snapshot}
+use Rattle.condition_rows.specs.Sets.{held, candidates_of, rows_of}
 use Rattle.pattern_gate.specs.Gates.{GateStands, has_good_window}
 use Rattle.pattern_gate.specs.Moves.{IsKept, at_clock}
 use Rattle.condition_node.specs.Nodes.{condition_of, NodeStands}
@@ -18,36 +21,48 @@ use Rattle.rete_net.specs.declared.node.NetNode.{NetNode}
 use Rattle.rete_net.specs.declared.net.Rete.{Rete}
 use Rattle.rete_net.specs.Shapes.{before, IsShaped, EndsAt, IsFront}
 
--- a node and its gate stand for the rows of the conditions before it, in a snapshot
-pub record NetNodeStands (p : Program) (n : NetNode) (s : Snapshot) (rows : Row → Bool) : Type 0 where
+-- A node and its gate stand for the rows of the conditions before it, in a snapshot. The node has dropped what was forgotten; the gate
+-- stands for the whole snapshot, since a gate without a window keeps nothing.
+pub record NetNodeStands (p : Program) (n : NetNode) (s : Snapshot) (rows : Row → Bool) (forgotten : Named → Bool) : Type 0 where
   pub gate : GateStands p (pattern_of (condition_of n.node)) n.gate s
-  pub node : NodeStands p n.node (held s) s rows no_names
+  pub node : NodeStands p n.node (held s) s rows forgotten
+
+-- a new node stands where there is nothing, whatever is called forgotten
+abbrev pub IsFresh : Program → NetNode → Type 0
+IsFresh p n = (forgotten : Named → Bool) → NetNodeStands p n empty_snapshot no_rows forgotten
 
 -- The nodes of a program's network stand for a snapshot: each for the rows of the conditions before it. They have windows of accepted
 -- files and the first conditions of rules, and each rule has a last node.
-pub record NodesStand (p : Program) (net : Rete) (s : Snapshot) : Type 0 where
+pub record NodesStand (p : Program) (net : Rete) (s : Snapshot) (forgotten : Named → Bool) : Type 0 where
   pub conditions : ℕ → List Condition
   pub shaped : IsShaped net.nodes.items conditions
   pub ends : (place : ℕ) (rule : Rule) → slice_get p.rules place ≡ Some rule → EndsAt net.nodes.items conditions net.ends.items place rule
   pub fronts : (k : ℕ) (n : NetNode) → slice_get net.nodes.items k ≡ Some n → IsFront p (conditions k)
   pub windows : (k : ℕ) (n : NetNode) → slice_get net.nodes.items k ≡ Some n → has_good_window p (pattern_of (condition_of n.node)) ≡ true
-  pub nodes : (k : ℕ) (n : NetNode) → slice_get net.nodes.items k ≡ Some n → NetNodeStands p n s (rows_of p s (before conditions n.parent))
+  pub nodes : (k : ℕ) (n : NetNode) → slice_get net.nodes.items k ≡ Some n → NetNodeStands p n s (rows_of p s (before conditions n.parent)) forgotten
 
--- the conditions of each node have the same rows in both snapshots
-abbrev pub HaveSameRows : Program → List NetNode → (ℕ → List Condition) → Snapshot → Snapshot → Type 0
-HaveSameRows p nodes conditions s other = (k : ℕ) (n : NetNode) → slice_get nodes k ≡ Some n → rows_of p s (conditions k) ≡ rows_of p other (conditions k)
+-- The nodes have the same before them in both snapshots: the conditions of each have the same rows that name no forgotten fact, and its
+-- pattern has the same candidates.
+pub record HaveSame (p : Program) (nodes : List NetNode) (conditions : ℕ → List Condition) (forgotten : Named → Bool) (s other : Snapshot) : Type 0 where
+  pub same_rows : (k : ℕ) (n : NetNode) → slice_get nodes k ≡ Some n → cleaned (rows_of p s (conditions k)) forgotten ≡ cleaned (rows_of p other (conditions k)) forgotten
+  pub same_candidates : (k : ℕ) (n : NetNode) → slice_get nodes k ≡ Some n → (who : Named)
+      → candidates_of p (pattern_of (condition_of n.node)) s who ≡ candidates_of p (pattern_of (condition_of n.node)) other who
 
--- The network of a program stands for a snapshot: its nodes stand for it at a clock that they have seen, since which the rows have not
--- changed, nor do they until something is due.
-pub record NetStands (p : Program) (net : Rete) (s : Snapshot) : Type 0 where
+-- The network of a program stands for a snapshot, of which some facts have been forgotten: its nodes stand for it at a clock that they
+-- have seen, since which nothing has changed before them, nor does it until something is due.
+pub record NetStands (p : Program) (net : Rete) (s : Snapshot) (forgotten : Named → Bool) : Type 0 where
   pub seen : ℤ
   pub begun : pos 0 ≤ℤ seen
   pub later : seen ≤ℤ s.clock
   pub kept : IsKept p (at_clock s seen)
-  pub nodes : NodesStand p net (at_clock s seen)
-  pub unchanged : HaveSameRows p net.nodes.items nodes.conditions s (at_clock s seen)
+  pub nodes : NodesStand p net (at_clock s seen) forgotten
+  pub unchanged : HaveSame p net.nodes.items nodes.conditions forgotten s (at_clock s seen)
   pub quiet : (clock : ℤ) → s.clock ≤ℤ clock → clock <ℤ pos (2 ^ 63) → IsBefore net.quiet_until clock → IsKept p (at_clock s clock)
-      → HaveSameRows p net.nodes.items nodes.conditions (at_clock s clock) (at_clock s seen)
+      → HaveSame p net.nodes.items nodes.conditions forgotten (at_clock s clock) (at_clock s seen)
+
+-- the rows of a rule in a snapshot that name no forgotten fact
+abbrev pub clean_rows : Program → Snapshot → (Named → Bool) → Rule → List Row
+clean_rows p s forgotten rule = filter (clean forgotten) (rows p s rule.conditions)
 
 -- these are, for each rule by its place, the differences of these rows
 abbrev pub AreBetween : Program → (Rule → List Row) → (Rule → List Row) → List Delta → Type 0

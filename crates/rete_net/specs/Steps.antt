@@ -2,19 +2,22 @@
 use Rattle.std.specs.Prelude.{◌≡◌, ◌<◌, Bool, true, ℕ, ℤ, List, [], ◌∷◌, map, Option, Some, None, slice_get, slice_index_or, length, take}
 use Rattle.fx_base.specs.declared.fact.Fact.{Fact}
 use Rattle.row_delta.specs.declared.delta.Delta.{Delta}
+use Rattle.row_delta.specs.declared.row.Named.{Named}
 use Rattle.row_delta.specs.declared.row.Row.{Row}
 use Rattle.row_change.specs.Changes.{Leads, IsDifference}
-use Rattle.rule_model.specs.declared.condition.Pattern.{Pattern}
+use Rattle.rule_model.specs.declared.condition.Condition.{Condition}
 use Rattle.rule_model.specs.declared.program.Program.{Program}
 use Rattle.rule_model.specs.Rows.{pattern_of}
 use Rattle.rule_model.specs.Snapshots.{Snapshot}
 use Rattle.join_tests.specs.Joins.{Look}
-use Rattle.pair_memory.specs.Standing.{no_names}
+use Rattle.pair_memory.specs.Standing.{cleaned, no_names}
 use Rattle.condition_rows.specs.Lines.{line, empty_row}
 use Rattle.condition_rows.specs.Looks.{HasAllOf, NameHeld}
+use Rattle.condition_rows.specs.Sets.{candidates_of}
 use Rattle.pattern_gate.specs.Gates.{has_good_window}
 use Rattle.pattern_gate.specs.Moves.{Moves}
 use Rattle.condition_node.specs.Nodes.{condition_of}
+use Rattle.condition_node.specs.Turns.{CountedStay}
 use Rattle.rete_net.specs.declared.node.NetNode.{NetNode}
 use Rattle.rete_net.specs.Nets.{NetNodeStands}
 
@@ -33,26 +36,32 @@ abbrev pub left_delta : Delta → List Delta → Option ℕ → Delta
 left_delta first deltas None = first
 left_delta first deltas (Some parent) = delta_at first deltas parent
 
--- What is given for a step of a node and its gate: what leads from one snapshot to the next, a store that has all versions of both, and the
--- true difference of the rows of the conditions before the node.
-pub record IsNodeTurn (p : Program) (look : Look) (s next : Snapshot) (gone : List Fact) (come : Option Fact) (pattern : Pattern) (rows rows_now : Row → Bool) (left : Delta) : Type 0 where
-  pub window : has_good_window p pattern ≡ true
+-- What is given for a step of a node and its gate: what leads from one snapshot to the next, a store that has at hand what is remembered of
+-- both, and the true difference of the rows of the conditions before the node, of those that name no forgotten fact. Nothing changes of
+-- the forgotten facts; `world` has all versions of both snapshots.
+pub record IsNodeTurn (p : Program) (look : Look) (s next : Snapshot) (gone : List Fact) (come : Option Fact) (condition : Condition) (rows rows_now : Row → Bool) (forgotten : Named → Bool) (left : Delta) : Type 0 where
+  pub window : has_good_window p (pattern_of condition) ≡ true
   pub moves : Moves p s next gone come
-  pub at_hand : HasAllOf look s no_names
-  pub at_hand_now : HasAllOf look next no_names
+  pub at_hand : HasAllOf look s forgotten
+  pub at_hand_now : HasAllOf look next forgotten
+  pub world : Look
+  pub known : HasAllOf world s no_names
+  pub known_now : HasAllOf world next no_names
   pub named : NameHeld s rows
   pub named_now : NameHeld next rows_now
-  pub leads : Leads rows rows_now left.gone left.come
+  pub leads : Leads (cleaned rows forgotten) (cleaned rows_now forgotten) left.gone left.come
+  pub same : (who : Named) → forgotten who ≡ true → candidates_of p (pattern_of condition) s who ≡ candidates_of p (pattern_of condition) next who
+  pub stay : CountedStay condition p world s next rows rows_now forgotten left
 
 -- what a step of a node and its gate answers: where it stood it stands, and the answer is the true difference of the rows of its condition
 pub record NodeStep (p : Program) (look : Look) (gone : List Fact) (come : Option Fact) (clock : ℤ) (old new : NetNode) (left delta : Delta) : Type 0 where
   pub parent : new.parent ≡ old.parent
   pub condition : condition_of new.node ≡ condition_of old.node
-  pub stands : (s next : Snapshot) (rows rows_now : Row → Bool) → NetNodeStands p old s rows → next.clock ≡ clock
-      → IsNodeTurn p look s next gone come (pattern_of (condition_of old.node)) rows rows_now left → NetNodeStands p new next rows_now
-  pub difference : (s next : Snapshot) (rows rows_now : Row → Bool) → NetNodeStands p old s rows → next.clock ≡ clock
-      → IsNodeTurn p look s next gone come (pattern_of (condition_of old.node)) rows rows_now left
-      → IsDifference (line p s (condition_of old.node) rows) (line p next (condition_of old.node) rows_now) delta
+  pub stands : (s next : Snapshot) (rows rows_now : Row → Bool) (forgotten : Named → Bool) → NetNodeStands p old s rows forgotten → next.clock ≡ clock
+      → IsNodeTurn p look s next gone come (condition_of old.node) rows rows_now forgotten left → NetNodeStands p new next rows_now forgotten
+  pub difference : (s next : Snapshot) (rows rows_now : Row → Bool) (forgotten : Named → Bool) → NetNodeStands p old s rows forgotten → next.clock ≡ clock
+      → IsNodeTurn p look s next gone come (condition_of old.node) rows rows_now forgotten left
+      → IsDifference (cleaned (line p s (condition_of old.node) rows) forgotten) (cleaned (line p next (condition_of old.node) rows_now) forgotten) delta
 
 -- the nodes before this place took their step, each after those before it; what comes to the first nodes is `first`
 abbrev pub SteppedBelow : Program → Look → List Fact → Option Fact → ℤ → Delta → List NetNode → List NetNode → List Delta → ℕ → Type 0

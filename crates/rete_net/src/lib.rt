@@ -3,10 +3,13 @@
 #![tactic(auto)]
 
 mod build;
+mod forgetting;
+pub mod laws;
 mod net;
 mod node;
 mod quiet;
 mod sameness;
 mod steps;
 
+pub use forgetting::RuleRows;
 pub use net::Rete;

@@ -1,29 +1,34 @@
-ghost use Rattle.std.specs.Prelude.{◌≡◌, ◌↔◌, ◌≤ℤ◌, ℕ, List, [], length, Some, slice_get, option_map, IfOk, OnOk, IsTrue};
+ghost use Rattle.std.specs.Prelude.{◌≡◌, ◌↔◌, ◌≤ℤ◌, ℕ, Bool, List, [], length, Some, slice_get, option_map, IfOk, OnOk, IsTrue};
 ghost use Rattle.rule_model.specs.declared.condition.Condition.{Condition};
 ghost use Rattle.rule_model.specs.declared.program.Program.{Program as ProgramData};
 ghost use Rattle.rule_model.specs.declared.program.Rule.{Rule};
-ghost use Rattle.row_delta.specs.declared.row.Row.{Row};
-ghost use Rattle.row_delta.specs.Rows.{has};
+ghost use Rattle.row_delta.specs.declared.row.Named.{Named as NamedData};
+ghost use Rattle.row_delta.specs.declared.row.Row.{Row as RowData};
 ghost use Rattle.rule_model.specs.Lent.{lent};
 ghost use Rattle.rule_model.specs.Rows.{rows};
 ghost use Rattle.rule_model.specs.Snapshots.{Snapshot};
 ghost use Rattle.rule_world.specs.Programs.{IsRunnable};
-ghost use Rattle.pair_memory.specs.Standing.{no_names};
+ghost use Rattle.pair_memory.specs.Joined.{has_name};
+ghost use Rattle.pair_memory.specs.Standing.{cleaned, either};
 ghost use Rattle.condition_rows.specs.Looks.{empty_snapshot, HasAllOf};
+ghost use Rattle.condition_rows.specs.Sets.{rows_of};
 ghost use Rattle.pattern_gate.specs.Moves.{IsKept, Moves, at_clock};
 ghost use Rattle.condition_node.specs.Quiet.{IsBefore};
-ghost use Rattle.rete_net.specs.Nets.{NetStands, AreBetween};
+ghost use Rattle.rete_net.specs.Dropped.{AllForget, AreDropped, AreListed};
+ghost use Rattle.rete_net.specs.Forgetting.{AreNotNeeded};
+ghost use Rattle.rete_net.specs.Nets.{NetStands, clean_rows, AreBetween};
 ghost use Rattle.rete_net.specs.Building.{AreBuilt, AreDistinct, AreFronts, HaveEnds};
 ghost use Rattle.rete_net.specs.Quiet.{AreQuiet};
 ghost use Rattle.rete_net.specs.Shapes.{AreShared};
 ghost use Rattle.rete_net.specs.Steps.{NetStep};
 
 use crate::build::{Builder, NoFacts, empty_row_comes, no_change};
+use crate::forgetting::{RuleRows, forget_all, rows_of_rules};
 use crate::node::NetNode;
 use crate::quiet::is_before;
 use crate::steps::{answers_at, quiet_until, step_all};
-use fx_base::{Fact, Facts, Millis, NoMemory};
-use row_delta::Delta;
+use fx_base::{Fact, Facts, Millis, NoMemory, Seq};
+use row_delta::{Delta, Named, Row};
 use rule_model::Program;
 use std::alloc::Global;
 
@@ -42,7 +47,7 @@ impl Rete {
     /// come. Rules whose first conditions are equal share the nodes of these: there is a node for each distinct front. It copies the
     /// conditions, and for each of them it looks at the nodes that are there.
     pub fn build(alloc: Global, program: &Program) -> Result<(Rete, Vec<Delta>), NoMemory>
-        ensures stands { IsRunnable program.now → IfOk result (λ built. NetStands program.now built.0 empty_snapshot) }
+        ensures stands { IsRunnable program.now → IfOk result (λ built. (forgotten : NamedData → Bool) → NetStands program.now built.0 empty_snapshot forgotten) }
         ensures shared { IsRunnable program.now → IfOk result (λ built. AreShared built.0.nodes.items) }
         ensures first { IsRunnable program.now → IfOk result (λ built. AreBetween program.now (λ rule. []) (λ rule. rows program.now empty_snapshot rule.conditions) built.1.items) }
     {
@@ -64,14 +69,16 @@ impl Rete {
         clock: Millis,
         facts: &F,
     ) -> Result<Vec<Delta>, NoMemory>
-        ensures stands { OnOk result ((s next : Snapshot) → IsRunnable program.now → NetStands program.now self.old s
+        ensures stands { OnOk result ((s next : Snapshot) (forgotten : NamedData → Bool) → IsRunnable program.now → NetStands program.now self.old s forgotten
             → Moves program.now s next (lent gone.now) (option_map (λ f. f.now) come.entry) → next.clock ≡ clock
-            → HasAllOf (F.map facts.now) s no_names → HasAllOf (F.map facts.now) next no_names
-            → NetStands program.now self.new next) }
-        ensures differences { IfOk result (λ deltas. (s next : Snapshot) → IsRunnable program.now → NetStands program.now self.old s
+            → AreNotNeeded program.now forgotten s next (lent gone.now) (option_map (λ f. f.now) come.entry)
+            → HasAllOf (F.map facts.now) s forgotten → HasAllOf (F.map facts.now) next forgotten
+            → NetStands program.now self.new next forgotten) }
+        ensures differences { IfOk result (λ deltas. (s next : Snapshot) (forgotten : NamedData → Bool) → IsRunnable program.now → NetStands program.now self.old s forgotten
             → Moves program.now s next (lent gone.now) (option_map (λ f. f.now) come.entry) → next.clock ≡ clock
-            → HasAllOf (F.map facts.now) s no_names → HasAllOf (F.map facts.now) next no_names
-            → AreBetween program.now (λ rule. rows program.now s rule.conditions) (λ rule. rows program.now next rule.conditions) deltas.items) }
+            → AreNotNeeded program.now forgotten s next (lent gone.now) (option_map (λ f. f.now) come.entry)
+            → HasAllOf (F.map facts.now) s forgotten → HasAllOf (F.map facts.now) next forgotten
+            → AreBetween program.now (clean_rows program.now s forgotten) (clean_rows program.now next forgotten) deltas.items) }
     {
         let none = no_change(alloc);
         let deltas = self.step(alloc, program, &none, gone, come, clock, facts)?;
@@ -88,13 +95,35 @@ impl Rete {
     /// Whether a move of the clock to this moment, in milliseconds, changes nothing where no fact goes or comes. Takes no memory.
     pub fn is_quiet(&self, clock: Millis) -> bool
         ensures exact { IsTrue result ↔ IsBefore self.now.quiet_until clock }
-        ensures stands { IsTrue result → (p : ProgramData) (s : Snapshot) → NetStands p self.now s → s.clock ≤ℤ clock → IsKept p (at_clock s clock)
-            → NetStands p self.now (at_clock s clock) }
-        ensures rows { IsTrue result → (p : ProgramData) (s : Snapshot) → NetStands p self.now s → s.clock ≤ℤ clock → IsKept p (at_clock s clock)
+        ensures stands { IsTrue result → (p : ProgramData) (s : Snapshot) (forgotten : NamedData → Bool) → NetStands p self.now s forgotten → s.clock ≤ℤ clock → IsKept p (at_clock s clock)
+            → NetStands p self.now (at_clock s clock) forgotten }
+        ensures rows { IsTrue result → (p : ProgramData) (s : Snapshot) (forgotten : NamedData → Bool) → NetStands p self.now s forgotten → s.clock ≤ℤ clock → IsKept p (at_clock s clock)
             → (place : ℕ) (rule : Rule) → slice_get p.rules place ≡ Some rule
-            → (row : Row) → has (rows p (at_clock s clock) rule.conditions) row ≡ has (rows p s rule.conditions) row }
+            → (row : RowData) → cleaned (rows_of p (at_clock s clock) rule.conditions) forgotten row ≡ cleaned (rows_of p s rule.conditions) forgotten row }
     {
         is_before(clock, self.quiet_until)
+    }
+
+    /// Drops these old facts from what the nodes keep, and answers for each rule of which rows go with them those rows, in order, and
+    /// the rules in their order. What nodes count or gather beside rows that stay is left as it is, old facts included, and `facts`
+    /// still has them. It costs what a step costs in which these rows and candidates go, a comparison for each node that has nothing
+    /// to drop, and a copy of the rows that are answered.
+    pub fn forget<F: Facts>(
+        &mut self,
+        alloc: Global,
+        program: &Program,
+        old: &[Named],
+        facts: &F,
+    ) -> Result<Vec<RuleRows>, NoMemory>
+        ensures stands { OnOk result ((s : Snapshot) (forgotten : NamedData → Bool) → NetStands program.now self.old s forgotten → HasAllOf (F.map facts.now) s forgotten
+            → NetStands program.now self.new s (either forgotten (has_name old.now))) }
+        ensures dropped { IfOk result (λ answers. (s : Snapshot) (forgotten : NamedData → Bool) → NetStands program.now self.old s forgotten → HasAllOf (F.map facts.now) s forgotten
+            → AreDropped program.now s forgotten (has_name old.now) answers.items) }
+        ensures listed { IfOk result (λ answers. AreListed answers.items (length self.old.ends.items)) }
+    {
+        let dropped = self.forget_nodes(alloc, program, old, facts)?;
+        let answers = rows_of_rules(alloc, &dropped, &self.ends)?;
+        Ok(answers)
     }
 
     /// The nodes of all rules, which keep nothing.
@@ -113,6 +142,22 @@ impl Rete {
             ends,
             quiet_until: None,
         })
+    }
+
+    /// Lets all nodes drop what is old, and answers what each dropped.
+    fn forget_nodes<F: Facts>(
+        &mut self,
+        alloc: Global,
+        program: &Program,
+        old: &[Named],
+        facts: &F,
+    ) -> Result<Vec<Seq<Row>>, NoMemory>
+        ensures ends { OnOk result (self.new.ends.items ≡ self.old.ends.items) }
+        ensures quiet { OnOk result (self.new.quiet_until ≡ self.old.quiet_until) }
+        ensures forgot { IfOk result (λ dropped. AllForget program.now (F.map facts.now) (has_name old.now) self.old.nodes.items self.new.nodes.items dropped.items) }
+    {
+        let dropped = forget_all(&mut self.nodes, alloc, program, old, facts)?;
+        Ok(dropped)
     }
 
     /// Lets all nodes take their step, and answers for each rule what its last node answers. `first` comes to the nodes without

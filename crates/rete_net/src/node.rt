@@ -1,17 +1,17 @@
 ghost use Rattle.std.specs.Prelude.{◌≡◌, option_map, IfOk};
 ghost use Rattle.rule_model.specs.Lent.{lent};
-ghost use Rattle.pair_memory.specs.Standing.{no_rows};
-ghost use Rattle.condition_rows.specs.Looks.{empty_snapshot};
+ghost use Rattle.pair_memory.specs.Joined.{has_name};
 ghost use Rattle.condition_node.specs.Nodes.{condition_of};
-ghost use Rattle.rete_net.specs.Nets.{NetNodeStands};
+ghost use Rattle.rete_net.specs.Dropped.{NodeForgets};
+ghost use Rattle.rete_net.specs.Nets.{IsFresh};
 ghost use Rattle.rete_net.specs.Quiet.{IsNodeQuiet};
 ghost use Rattle.rete_net.specs.Steps.{NodeStep};
 
 use crate::quiet::{earlier, widened};
 use condition_node::Node;
-use fx_base::{Fact, Facts, Millis, NoMemory};
+use fx_base::{Fact, Facts, Millis, NoMemory, Seq};
 use pattern_gate::PatternGate;
-use row_delta::Delta;
+use row_delta::{Delta, Named, Row};
 use rule_model::{Condition, Program};
 use std::alloc::Global;
 
@@ -34,7 +34,7 @@ impl NetNode {
     ) -> Result<NetNode, NoMemory>
         ensures parent { IfOk result (λ made. made.parent ≡ parent) }
         ensures condition { IfOk result (λ made. condition_of made.node ≡ condition.now) }
-        ensures stands { IfOk result (λ made. NetNodeStands program.now made empty_snapshot no_rows) }
+        ensures stands { IfOk result (λ made. IsFresh program.now made) }
     {
         let gate = PatternGate::new(alloc, condition.pattern());
         let node = Node::new(alloc, program, condition)?;
@@ -62,6 +62,22 @@ impl NetNode {
             .node
             .advance(alloc, program, left, &right, clock, facts)?;
         Ok(delta)
+    }
+
+    /// Drops those of the rows before it that name an old fact, which are these, and the old candidates, and answers the rows of its
+    /// condition that go with them, in order. The gate stands for the whole snapshot, and keeps them.
+    pub(crate) fn forget<F: Facts>(
+        &mut self,
+        alloc: Global,
+        program: &Program,
+        rows: &[Row],
+        old: &[Named],
+        facts: &F,
+    ) -> Result<Seq<Row>, NoMemory>
+        ensures { IfOk result (λ gone. NodeForgets program.now (F.map facts.now) (has_name old.now) self.old self.new rows.now gone) }
+    {
+        let gone = self.node.forget(alloc, program, rows, old, facts)?;
+        Ok(gone)
     }
 
     /// The moment of the clock, in milliseconds, from which something is due in the gate or the node: until then a move of the

@@ -16,6 +16,7 @@ use Rattle.rule_model.specs.Types.{is_event}
 use Rattle.rule_world.specs.Events.{end_of_presence, most_millis}
 use Rattle.rule_world.specs.Worlds.{last_start_with, modify_fault, revised}
 use Rattle.agenda.specs.Agendas.{Marks}
+use Rattle.pair_memory.specs.Standing.{no_names}
 use Rattle.rete_net.specs.declared.net.Rete.{Rete}
 use Rattle.rete_net.specs.Nets.{NetStands}
 use Rattle.session.specs.Following.{Follows, Leads}
@@ -60,7 +61,7 @@ module _ (p : Program) (net next : Rete) (k : Contents) (f : Follows p net k) (s
     new_leads = lead_new p k.facts k.expiries k.clock f.ready x fit more made (above x.tag.0 at)
 
     pub new_follows : (later : Timers) (starts : List ℤ) (b : Marks) (id tag : ℕ) → later ≡ with_timer k.expiries x.tag.0 (end_of_presence p x.ty.0 x.times.start)
-        → ((entry : ℕ) → last_start_in starts entry ≡ last_start_with p x (last_start_in k.last_starts) entry) → NetStands p next (over (facts_of more) k.clock)
+        → ((entry : ℕ) → last_start_in starts entry ≡ last_start_with p x (last_start_in k.last_starts) entry) → NetStands p next (over (facts_of more) k.clock) no_names
         → Follows p next (contents more later k.clock starts b id tag)
     new_follows later starts b id tag timed last stands = record {
       ready = ready_new p k.facts k.expiries k.clock f.ready x fit more made later (free x.tag.0 at) timed;
@@ -78,7 +79,7 @@ module _ (p : Program) (net next : Rete) (k : Contents) (f : Follows p net k) (s
     less_leads less made = lead_less p k.facts k.expiries k.clock f.ready less tag.0 made is.fact there
 
     pub less_follows : (less : HeldFacts) → less ≡ map.remove k.facts tag.0 → (fewer : Timers) (b : Marks) → ((t : ℕ) → map.get fewer t ≡ without_timer k.expiries tag.0 t)
-        → NetStands p next (over (facts_of less) k.clock) → Follows p next (contents less fewer k.clock k.last_starts b k.next_id k.next_tag)
+        → NetStands p next (over (facts_of less) k.clock) no_names → Follows p next (contents less fewer k.clock k.last_starts b k.next_id k.next_tag)
     less_follows less made fewer b untimed stands = record {
       ready = ready_less p k.facts k.expiries k.clock f.ready less tag.0 made fewer untimed;
       starts = f.starts;
@@ -104,7 +105,7 @@ module _ (p : Program) (net next : Rete) (k : Contents) (f : Follows p net k) (s
       pub revised_leads : Leads p k.facts k.clock behind k.clock all (tag.0 ∷ []) (Some after)
       revised_leads = lead_revised p k.facts k.expiries k.clock f.ready tag.0 before after all behind (sym taken) plain_after made left (above after.tag.0 at_next)
 
-      pub revised_follows : (b : Marks) (next_tag : ℕ) → NetStands p next (over (facts_of behind) k.clock) → Follows p next (contents behind k.expiries k.clock k.last_starts b k.next_id next_tag)
+      pub revised_follows : (b : Marks) (next_tag : ℕ) → NetStands p next (over (facts_of behind) k.clock) no_names → Follows p next (contents behind k.expiries k.clock k.last_starts b k.next_id next_tag)
       revised_follows b next_tag stands = record {
         ready = ready_revised p k.facts k.expiries k.clock f.ready tag.0 before after all behind (sym taken) plain_after made left (free after.tag.0 at_next) no_event;
         starts = f.starts;
@@ -117,7 +118,7 @@ module _ (p : Program) (net next : Rete) (k : Contents) (f : Follows p net k) (s
     pub later_leads : k.clock ≤ℤ clock → Leads p k.facts k.clock fewer clock k.facts gone None
     later_leads le = lead_later p k.facts k.expiries k.clock f.ready clock later gone takes fewer left le
 
-    pub later_follows : (b : Marks) → NetStands p next (over (facts_of fewer) clock) → Follows p next (contents fewer later clock k.last_starts b k.next_id k.next_tag)
+    pub later_follows : (b : Marks) → NetStands p next (over (facts_of fewer) clock) no_names → Follows p next (contents fewer later clock k.last_starts b k.next_id k.next_tag)
     later_follows b stands = record {
       ready = ready_later p k.facts k.expiries k.clock f.ready clock later gone takes fewer left;
       starts = f.starts;
@@ -147,11 +148,11 @@ no_member (f ∷ facts) h = absurd (h f (inl refl))
 none_held : facts_of map.empty ≡ []
 none_held = no_member (facts_of map.empty) (λ f i. let r = from_list map.empty f i in absurd (let n : None ≡ Some f = sym (get-empty nat_cmp r.0) ∙ r.1 in cc))
 
-pub first_follows : (p : Program) (net : Rete) (k : Contents) (b : Marks) → k ≡ contents map.empty map.empty (pos 0) [] b 1 1 → NetStands p net (over [] (pos 0)) → Follows p net k
+pub first_follows : (p : Program) (net : Rete) (k : Contents) (b : Marks) → k ≡ contents map.empty map.empty (pos 0) [] b 1 1 → NetStands p net (over [] (pos 0)) no_names → Follows p net k
 first_follows p net k b is stands = subst (Follows p net) (sym is) (record {
   ready = ready_empty p;
   starts = λ entry. low entry;
-  stands = subst (λ facts. NetStands p net (over facts (pos 0))) (sym none_held) stands;
+  stands = subst (λ facts. NetStands p net (over facts (pos 0)) no_names) (sym none_held) stands;
 })
   where
     low : (entry : ℕ) → pos 0 ≤ℤ last_start_in [] entry

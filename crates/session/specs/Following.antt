@@ -7,6 +7,7 @@ use Rattle.fact_store.specs.Held.{HeldFacts, facts_of}
 use Rattle.rule_model.specs.declared.program.Program.{Program}
 use Rattle.session.specs.Refreshed.{over}
 use Rattle.pattern_gate.specs.Moves.{IsKept}
+use Rattle.pair_memory.specs.Standing.{no_names}
 use Rattle.rete_net.specs.declared.net.Rete.{Rete}
 use Rattle.rete_net.specs.Nets.{NetStands}
 use Rattle.rule_model.specs.declared.life.LifeTable.{LifeTable}
@@ -24,7 +25,7 @@ pub record IsReady (p : Program) (facts : HeldFacts) (expiries : Timers) (clock 
 pub record Follows (p : Program) (net : Rete) (k : Contents) : Type 0 where
   pub ready : IsReady p k.facts k.expiries k.clock
   pub starts : (entry : ℕ) → pos 0 ≤ℤ last_start_in k.last_starts entry
-  pub stands : NetStands p net (over (facts_of k.facts) k.clock)
+  pub stands : NetStands p net (over (facts_of k.facts) k.clock) no_names
 
 -- A session keeps what stands for some world, and its network follows.
 pub record Keeps (p : Program) (lives : LifeTable) (k : Contents) (net : Rete) : Type 0 where

@@ -1,6 +1,7 @@
 ghost use Rattle.std.specs.Prelude.{◌≡◌, ◌<◌, ◌≤◌, ◌^◌, ℕ, ℤ, List, length, filter_map, option_map, IfOk, IfSome, OnOk};
 ghost use Rattle.agenda.specs.Agendas.{IsChanged};
 ghost use Rattle.fact_store.specs.Held.{HeldFacts, facts_of};
+ghost use Rattle.pair_memory.specs.Standing.{no_names};
 ghost use Rattle.rete_net.specs.Nets.{AreBetween, NetStands};
 ghost use Rattle.row_delta.specs.declared.row.Row.{Row as RowData};
 ghost use Rattle.rule_model.specs.declared.program.Rule.{Rule as RuleData};
@@ -79,9 +80,9 @@ pub(crate) fn followed(
 ) -> Result<Agenda, NoMemory>
     requires { IsRunnable program.now }
     ensures net { (before behind : HeldFacts) (from : ℤ) → Leads program.now before from behind clock facts.now gone.now (option_map (λ f. f.now) come.entry)
-        → NetStands program.now net.old (over (facts_of before) from) → OnOk result (NetStands program.now net.new (over (facts_of behind) clock)) }
+        → NetStands program.now net.old (over (facts_of before) from) no_names → OnOk result (NetStands program.now net.new (over (facts_of behind) clock) no_names) }
     ensures agenda { (before behind : HeldFacts) (from : ℤ) → Leads program.now before from behind clock facts.now gone.now (option_map (λ f. f.now) come.entry)
-        → NetStands program.now net.old (over (facts_of before) from)
+        → NetStands program.now net.old (over (facts_of before) from) no_names
         → IfOk result (IsRefreshed program.now.rules (rows_at program.now (facts_of before) from) (rows_at program.now (facts_of behind) clock) agenda) }
 {
     let gone = facts_at(alloc, facts, gone)?;

@@ -16,11 +16,11 @@ step g c =
     c.args.self.now.nodes.items c.step.new.self.nodes.items c.args.self.now.ends.items c.in_ok-deltas.deltas.items whole c.no_change-none.ensures c.in_ok-deltas.ensures.stepped
 
 pub returns-clause-stands : goal.returns-clause-stands
-returns-clause-stands g c s next runnable stands moves at has has_now =
-    net_stands c.args.program.now (g.F.Facts.map c.args.facts.now) s next (lent c.args.gone.now) (option_map (λ f. f.now) c.args.come) c.args.clock c.args.self.now c.step.new.self c.in_ok-deltas.deltas.items
-    (record { moves = moves; moment = at; at_hand = has; at_hand_now = has_now }) stands c.in_ok-deltas.ensures.ends (step g c) c.in_ok-deltas.ensures.quiet
+returns-clause-stands g c s next forgotten runnable stands moves at apart has has_now =
+    net_stands c.args.program.now (g.F.Facts.map c.args.facts.now) s next (lent c.args.gone.now) (option_map (λ f. f.now) c.args.come) c.args.clock forgotten c.args.self.now c.step.new.self c.in_ok-deltas.deltas.items
+    moves at apart has has_now stands c.in_ok-deltas.ensures.ends (step g c) c.in_ok-deltas.ensures.quiet
 
 pub returns-clause-differences : goal.returns-clause-differences
-returns-clause-differences g c s next runnable stands moves at has has_now =
-    net_between c.args.program.now (g.F.Facts.map c.args.facts.now) s next (lent c.args.gone.now) (option_map (λ f. f.now) c.args.come) c.args.clock c.args.self.now c.step.new.self c.in_ok-deltas.deltas.items
-    (record { moves = moves; moment = at; at_hand = has; at_hand_now = has_now }) stands c.in_ok-deltas.ensures.ends (step g c)
+returns-clause-differences g c s next forgotten runnable stands moves at apart has has_now =
+    net_between c.args.program.now (g.F.Facts.map c.args.facts.now) s next (lent c.args.gone.now) (option_map (λ f. f.now) c.args.come) c.args.clock forgotten c.args.self.now c.step.new.self c.in_ok-deltas.deltas.items
+    moves at apart has has_now stands c.in_ok-deltas.ensures.ends (step g c)

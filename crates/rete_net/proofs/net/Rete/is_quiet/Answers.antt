@@ -9,7 +9,7 @@ before_due c told =
     subst (IsBefore c.args.self.now.quiet_until) whole (c.is_before.ensures.0 told)
 
 pub returns-clause-stands : goal.returns-clause-stands
-returns-clause-stands c told p s stands later kept = quiet_stands p c.args.self.now s c.args.clock stands later (fits_low c.args.clock c.ranges.clock) (before_due c told) kept
+returns-clause-stands c told p s forgotten stands later kept = quiet_stands p c.args.self.now s forgotten c.args.clock stands later (fits_low c.args.clock c.ranges.clock) (before_due c told) kept
 
 pub returns-clause-rows : goal.returns-clause-rows
-returns-clause-rows c told p s stands later kept = quiet_rows p c.args.self.now s c.args.clock stands later (fits_low c.args.clock c.ranges.clock) (before_due c told) kept
+returns-clause-rows c told p s forgotten stands later kept = quiet_rows p c.args.self.now s forgotten c.args.clock stands later (fits_low c.args.clock c.ranges.clock) (before_due c told) kept

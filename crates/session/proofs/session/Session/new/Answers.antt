@@ -1,4 +1,5 @@
 use Rattle.std.proofs.Common.{[], pos, rules}
+use Rattle.pair_memory.specs.Standing.{no_names}
 use Rattle.session.specs.Refreshed.{no_rows, rows_at}
 use Rattle.session.proofs.Follow.{first_follows}
 use Rattle.session.proofs.Knowing.{some_at_start}
@@ -18,5 +19,5 @@ invariant_of-result c =
     record {
       some = some_at_start p c.args.lives c.new-state.result c.requires.runnable c.requires.table
           (empty_stands p c.new-state.result c.in_ok-new.field-0 c.in_ok-agenda.agenda (search rules) (c.in_ok-agenda.ensures no_rows (rows_at p [] (pos 0)) (c.in_ok-net.ensures.first c.requires.runnable)) parts);
-      follows = first_follows p c.in_ok-net.net c.new-state.result c.in_ok-agenda.agenda parts (c.in_ok-net.ensures.stands c.requires.runnable);
+      follows = first_follows p c.in_ok-net.net c.new-state.result c.in_ok-agenda.agenda parts (c.in_ok-net.ensures.stands c.requires.runnable no_names);
     }

@@ -1,5 +1,8 @@
 use Rattle.std.proofs.Common.{◌≡◌, ◌≤ℤ◌, sym, subst, to_z, of_z, w64}
 use Rattle.fact_store.specs.Held.{facts_of}
+use Rattle.pair_memory.specs.Standing.{no_names}
+use Rattle.condition_rows.specs.Sets.{rows_of}
+use Rattle.rete_net.proofs.Cleaning.{same_whole}
 use Rattle.rule_world.specs.Worlds.{kept}
 use Rattle.session.specs.Following.{Follows}
 use Rattle.session.specs.Standing.{Contents, Mirrors, Standing}
@@ -32,10 +35,11 @@ returns-then-is_quiet-clause-stands c w s =
     let left = none_gone k.facts c.in_ok-due.due.items (no_tags c.in_ok-due.due.len c.is_empty.result c.in_ok-due.due.items c.is_empty.ensures c.if-is_empty.true c.in_ok-due.due.ok.0) in
     let leads = later_leads p c.args.net.now c.args.net.now k f c.state.invariant c.args.clock c.take_due.new.self c.in_ok-due.due.items takes k.facts left moves in
     let later : w.clock ≤ℤ c.args.clock = subst (λ z. z ≤ℤ c.args.clock) s.mirrors.clock c.requires.later in
-    let rows = (simp same at c.is_quiet.ensures.rows) c.if-is_quiet.true p (over (facts_of k.facts) k.clock) f.stands moves leads.kept_behind in
+    let clean = (simp same at c.is_quiet.ensures.rows) c.if-is_quiet.true p (over (facts_of k.facts) k.clock) no_names f.stands moves leads.kept_behind in
     rw same (subst (Mirrors p _) (sym (after_clock p w c.args.clock later))
     (clock_moves p k (kept p w) c.args.clock (exact p k w st) c.take_due.new.self c.in_ok-due.due.items takes k.facts left
-    k.agenda (not_refreshed p.rules (rows_at p (facts_of k.facts) k.clock) (rows_at p (facts_of k.facts) c.args.clock) rows k.agenda)))
+    k.agenda (not_refreshed p.rules (rows_at p (facts_of k.facts) k.clock) (rows_at p (facts_of k.facts) c.args.clock)
+    (λ place rule e row. same_whole (rows_of p (over (facts_of k.facts) c.args.clock) rule.conditions) (rows_of p (over (facts_of k.facts) k.clock) rule.conditions) row (clean place rule e row)) k.agenda)))
 
 pub returns-then-is_quiet-clause-follows : goal.returns-then-is_quiet-clause-follows
 returns-then-is_quiet-clause-follows c =
@@ -47,7 +51,7 @@ returns-then-is_quiet-clause-follows c =
     let takes = simp same at c.in_ok-due.ensures.ok in
     let left = none_gone k.facts c.in_ok-due.due.items (no_tags c.in_ok-due.due.len c.is_empty.result c.in_ok-due.due.items c.is_empty.ensures c.if-is_empty.true c.in_ok-due.due.ok.0) in
     let leads = later_leads p c.args.net.now c.args.net.now k f c.state.invariant c.args.clock c.take_due.new.self c.in_ok-due.due.items takes k.facts left moves in
-    let stands = (simp same at c.is_quiet.ensures.stands) c.if-is_quiet.true p (over (facts_of k.facts) k.clock) f.stands moves leads.kept_behind in
+    let stands = (simp same at c.is_quiet.ensures.stands) c.if-is_quiet.true p (over (facts_of k.facts) k.clock) no_names f.stands moves leads.kept_behind in
     rw same (later_follows p c.args.net.now c.args.net.now k f c.state.invariant c.args.clock c.take_due.new.self c.in_ok-due.due.items takes k.facts left k.agenda stands)
 
 -- where something is

@@ -1,0 +1,228 @@
+-- The nodes of a network forget, one after those before it.
+use Rattle.std.proofs.Common.{◌≡◌, ◌∙◌, sym, ap, refl, subst, inl, inr, ℕ, zero, suc, ℤ, ◌+◌, ◌<◌, ◌≤◌, ◌&&◌, not, Bool, true, false, List, [], ◌∷◌, ◌++◌, take, length, arith, Option, Some, None, slice_get}
+use Rattle.std.proofs.Math.ListN.{set}
+use Rattle.std.proofs.lemmas.List.{get_or-take}
+use Rattle.std.proofs.lemmas.Option.{slice_get_within}
+use Rattle.std.specs.List.Sorted.{IsStrictlySortedBy}
+use Rattle.fx_base.specs.Lists.{In}
+use Rattle.row_delta.specs.declared.row.Named.{Named}
+use Rattle.row_delta.specs.declared.row.Row.{Row}
+use Rattle.row_delta.specs.Rows.{has}
+use Rattle.rule_model.specs.declared.condition.Condition.{Condition}
+use Rattle.rule_model.specs.declared.program.Program.{Program}
+use Rattle.rule_model.specs.declared.program.Rule.{Rule}
+use Rattle.rule_model.specs.Distinct.{HaveDistinctTags}
+use Rattle.rule_model.specs.Rows.{pattern_of}
+use Rattle.rule_model.specs.Snapshots.{Snapshot}
+use Rattle.join_tests.specs.Joins.{Look}
+use Rattle.pair_memory.specs.Standing.{clean, cleaned, either}
+use Rattle.condition_rows.specs.Lines.{empty_row}
+use Rattle.condition_rows.specs.Looks.{HasAllOf}
+use Rattle.condition_rows.specs.Sets.{candidates_of, rows_of}
+use Rattle.condition_rows.proofs.Ends.{has_in}
+use Rattle.pattern_gate.specs.Gates.{has_good_window}
+use Rattle.pattern_gate.specs.Moves.{at_clock}
+use Rattle.condition_node.specs.Nodes.{condition_of}
+use Rattle.condition_node.specs.Quiet.{IsBefore}
+use Rattle.rete_net.specs.declared.forgetting.RuleRows.{RuleRows}
+use Rattle.rete_net.specs.declared.net.Rete.{Rete}
+use Rattle.rete_net.specs.declared.node.NetNode.{NetNode}
+use Rattle.rete_net.specs.Dropped.{AreOld, IsForgetting, NodeForgets, dropped_at, dropped_before, ForgotBelow, AllForget, rows_for, AreDropped}
+use Rattle.rete_net.specs.Nets.{NetNodeStands, HaveSame, NodesStand, NetStands}
+use Rattle.rete_net.specs.Shapes.{before, EndsAt}
+use Rattle.rete_net.proofs.Advancing.{first_row, rows_made}
+use Rattle.rete_net.proofs.Along.{one_more}
+use Rattle.rete_net.proofs.Chaining.{AreMade, AreStanding}
+use Rattle.rete_net.proofs.Cleaning.{cleaned_either}
+use Rattle.rete_net.proofs.Growing.{has_at}
+use Rattle.rete_net.proofs.Seen.{at_hand_at}
+use Rattle.rete_net.proofs.Turning.{rising}
+use Rattle.rete_net.proofs.Turns.{whole_again}
+
+module _ (p : Program) (look : Look) (s : Snapshot) (sets : List Condition → Row → Bool) (forgotten old : Named → Bool) (nodes nodes_now : List NetNode) (conditions : ℕ → List Condition) (dropped : List (List Row))
+    (tags : HaveDistinctTags s.facts) (at_hand : HasAllOf look s forgotten) (made : AreMade p s sets) (none : AreOld (cleaned (sets []) forgotten) old [])
+    (standing : AreStanding p s sets forgotten nodes conditions) (same : length nodes_now ≡ length nodes) (forgot : ForgotBelow p look old nodes nodes_now dropped (length nodes)) where
+  -- the node of a place drops the rows of its conditions that name an old fact
+  abbrev Drops : ℕ → Type 0
+  Drops k = AreOld (cleaned (sets (conditions k)) forgotten) old (dropped_at dropped k)
+
+  from_parent : (k : ℕ) (was : NetNode) → slice_get nodes k ≡ Some was → ((q : ℕ) → q < k → Drops q) → (parent : Option ℕ) → was.parent ≡ parent
+      → AreOld (cleaned (sets (before conditions parent)) forgotten) old (dropped_before (take k dropped) parent)
+  from_parent k was e drops None at = none
+  from_parent k was e drops (Some q) at =
+      let lt : q < k = standing.shaped.parents k q was e at in
+      subst (AreOld (cleaned (sets (conditions q)) forgotten) old) (sym (get_or-take k dropped q [] lt)) (drops q lt)
+
+  given : (k : ℕ) (was : NetNode) → slice_get nodes k ≡ Some was → ((q : ℕ) → q < k → Drops q) → IsForgetting look s (sets (before conditions was.parent)) forgotten old (dropped_before (take k dropped) was.parent)
+  given k was e drops = record { tags = tags; at_hand = at_hand; named = made.named (before conditions was.parent); rows_old = from_parent k was e drops was.parent refl }
+
+  forgot_at : (k : ℕ) (was is : NetNode) → slice_get nodes k ≡ Some was → slice_get nodes_now k ≡ Some is → NodeForgets p look old was is (dropped_before (take k dropped) was.parent) (dropped_at dropped k)
+  forgot_at k was is e f = forgot k (slice_get_within nodes k was e) was is e f
+
+  now_at : (k : ℕ) (was : NetNode) → slice_get nodes k ≡ Some was → (is : NetNode) × (slice_get nodes_now k ≡ Some is)
+  now_at k was e = let within : k < length nodes = slice_get_within nodes k was e in has_at nodes_now k (omega arith)
+
+  one : (k : ℕ) (was : NetNode) → slice_get nodes k ≡ Some was → ((q : ℕ) → q < k → Drops q) → Drops k
+  one k was e drops =
+      let is = now_at k was e in
+      let behind = before conditions was.parent in
+      let d = (forgot_at k was is.0 e is.1).drops s (sets behind) forgotten (standing.stand k was e) (given k was e drops) in
+      subst (λ (cs : List Condition). AreOld (cleaned (sets cs) forgotten) old (dropped_at dropped k)) (sym (standing.shaped.own k was e))
+      (subst (λ (set : Row → Bool). AreOld (cleaned set forgotten) old (dropped_at dropped k)) (sym (made.more behind (condition_of was.node))) d)
+
+  all_below : (b k : ℕ) (some : NetNode) → k < b → k < length nodes → Drops k
+  all_below zero k some h l = absurd (omega arith)
+  all_below (suc b) k some h l = let was = has_at nodes k l in one k was.0 was.1 (λ q lt. all_below b q some (omega arith) (omega arith))
+
+  pub drops_at : (k : ℕ) (was : NetNode) → slice_get nodes k ≡ Some was → Drops k
+  drops_at k was e = all_below (suc k) k was (omega arith) (slice_get_within nodes k was e)
+
+  pub was_at : (k : ℕ) (is : NetNode) → slice_get nodes_now k ≡ Some is → (was : NetNode) × (slice_get nodes k ≡ Some was)
+  was_at k is f = let within : k < length nodes_now = slice_get_within nodes_now k is f in has_at nodes k (omega arith)
+
+  pub condition_same : (k : ℕ) (was is : NetNode) → slice_get nodes k ≡ Some was → slice_get nodes_now k ≡ Some is → condition_of is.node ≡ condition_of was.node
+  condition_same k was is e f = (forgot_at k was is e f).condition
+
+  pub forgets : AreStanding p s sets (either forgotten old) nodes_now conditions
+  forgets = record {
+    shaped = record {
+      parents = λ k parent is f at.
+          let was = was_at k is f in
+          standing.shaped.parents k parent was.0 was.1 (sym (forgot_at k was.0 is was.1 f).parent ∙ at);
+      own = λ k is f.
+          let was = was_at k is f in
+          let step = forgot_at k was.0 is was.1 f in
+          subst (λ (c : Condition). conditions k ≡ before conditions is.parent ++ c ∷ []) (sym step.condition)
+          (subst (λ (parent : Option ℕ). conditions k ≡ before conditions parent ++ condition_of was.0.node ∷ []) (sym step.parent) (standing.shaped.own k was.0 was.1));
+    };
+    windows = λ k is f.
+        let was = was_at k is f in
+        subst (λ (c : Condition). has_good_window p (pattern_of c) ≡ true) (sym (condition_same k was.0 is was.1 f)) (standing.windows k was.0 was.1);
+    stand = λ k is f.
+        let was = was_at k is f in
+        let step = forgot_at k was.0 is was.1 f in
+        subst (λ (parent : Option ℕ). NetNodeStands p is s (sets (before conditions parent)) (either forgotten old)) (sym step.parent)
+        (step.stands s (sets (before conditions was.0.parent)) forgotten (standing.stand k was.0 was.1) (given k was.0 was.1 (λ q lt. let w : k < length nodes = slice_get_within nodes k was.0 was.1 in all_below (suc q) q was.0 (omega arith) (omega arith))));
+  }
+
+  pub ends_keep : (ends : List ℕ) (place : ℕ) (rule : Rule) → EndsAt nodes conditions ends place rule → EndsAt nodes_now conditions ends place rule
+  ends_keep ends place rule at =
+      let is = now_at at.last at.node at.there in
+      record { last = at.last; node = is.0; found = at.found; there = is.1; all = at.all }
+
+-- ---- one node more
+
+pub forgot_more : (p : Program) (look : Look) (old : Named → Bool) (before now : List NetNode) (dropped : List (List Row)) (i : ℕ) (node new_node : NetNode) (rows gone : List Row) (lent_dropped dropped_now : List (List Row))
+    → length dropped ≡ i → ((k : ℕ) → i ≤ k → slice_get now k ≡ slice_get before k) → ForgotBelow p look old before now dropped i → slice_get now i ≡ Some node
+    → rows ≡ dropped_before lent_dropped node.parent → lent_dropped ≡ dropped → dropped_now ≡ dropped ++ gone ∷ [] → NodeForgets p look old node new_node rows gone
+    → ForgotBelow p look old before (set now i new_node) dropped_now (i + 1)
+forgot_more p look old before now dropped i node new_node rows gone lent_dropped dropped_now done rest below is left same more forgets =
+    subst (λ (all : List (List Row)). ForgotBelow p look old before (set now i new_node) all (i + 1)) (sym more)
+    (one_more (NodeForgets p look old) dropped_before [] before now dropped i node new_node gone done rest below is
+    (subst (λ (rs : List Row). NodeForgets p look old node new_node rs gone) (left ∙ ap (λ (all : List (List Row)). dropped_before all node.parent) same) forgets))
+
+-- the nodes of a network, out of those of a slice of it
+pub all_forget : (p : Program) (look : Look) (old : Named → Bool) (before given now rest : List NetNode) (n : ℕ) (dropped : List (List Row)) → given ≡ before → length now ≡ length given → n ≡ length before
+    → ForgotBelow p look old given now dropped (length given) → AllForget p look old before (take n (now ++ rest)) dropped
+all_forget p look old before given now rest n dropped e long count forgot =
+    subst (λ (after : List NetNode). AllForget p look old before after dropped) (sym (whole_again n now rest (long ∙ ap length e ∙ sym count)))
+    (record { nodes = long ∙ ap length e; forgot = subst (λ (nodes : List NetNode). ForgotBelow p look old nodes now dropped (length nodes)) e forgot })
+
+-- ---- a network
+
+gone_no_more : (a k c : Bool) → (a ≡ true → c ≡ true) → false ≡ ((a && k) && not c)
+gone_no_more true true c h = ap not (sym (h refl))
+gone_no_more true false c h = refl
+gone_no_more false k c h = refl
+
+names_nothing : (old : Named → Bool) (row : Row) → In row (empty_row ∷ []) → clean old row ≡ true
+names_nothing old row (inl e) = ap (clean old) e
+names_nothing old row (inr i) = absurd i
+
+-- before the first condition nothing is old
+none_old : (p : Program) (s : Snapshot) (forgotten old : Named → Bool) → AreOld (cleaned (rows_of p s []) forgotten) old []
+unfolding IsStrictlySortedBy
+none_old p s forgotten old = record {
+  in_order = tt;
+  exact = λ row.
+      subst (λ (rs : List Row). false ≡ ((has rs row && clean forgotten row) && not (clean old row))) (sym (first_row p s))
+      (gone_no_more (has (empty_row ∷ []) row) (clean forgotten row) (clean old row) (λ e. names_nothing old row (has_in row (empty_row ∷ []) e)));
+}
+
+module _ (p : Program) (look : Look) (s : Snapshot) (forgotten old : Named → Bool) (net new : Rete) (dropped : List (List Row)) (stands : NetStands p net s forgotten) (has_all : HasAllOf look s forgotten)
+    (ends : new.ends.items ≡ net.ends.items) (until : new.quiet_until ≡ net.quiet_until) (same : length new.nodes.items ≡ length net.nodes.items)
+    (forgot : ForgotBelow p look old net.nodes.items new.nodes.items dropped (length net.nodes.items)) where
+  abbrev was : Snapshot
+  was = at_clock s stands.seen
+
+  known : HasAllOf look was forgotten
+  known = at_hand_at look s stands.seen forgotten has_all
+
+  tags : HaveDistinctTags s.facts
+  tags = rising s.facts stands.kept.in_order
+
+  standing : AreStanding p was (rows_of p was) forgotten net.nodes.items stands.nodes.conditions
+  standing = record { shaped = stands.nodes.shaped; windows = stands.nodes.windows; stand = stands.nodes.nodes }
+
+  now : AreStanding p was (rows_of p was) (either forgotten old) new.nodes.items stands.nodes.conditions
+  now = forgets p look was (rows_of p was) forgotten old net.nodes.items new.nodes.items stands.nodes.conditions dropped tags known (rows_made p was tags) (none_old p was forgotten old) standing same forgot
+
+  node_was : (k : ℕ) (is : NetNode) → slice_get new.nodes.items k ≡ Some is → (n : NetNode) × (slice_get net.nodes.items k ≡ Some n) × (condition_of is.node ≡ condition_of n.node)
+  node_was k is f =
+      let n = was_at p look was (rows_of p was) forgotten old net.nodes.items new.nodes.items stands.nodes.conditions dropped tags known (rows_made p was tags) (none_old p was forgotten old) standing same forgot k is f in
+      (n.0, n.1, condition_same p look was (rows_of p was) forgotten old net.nodes.items new.nodes.items stands.nodes.conditions dropped tags known (rows_made p was tags) (none_old p was forgotten old) standing same forgot k n.0 is n.1 f)
+
+  -- what was the same is so where more is forgotten
+  still_same : (a b : Snapshot) → HaveSame p net.nodes.items stands.nodes.conditions forgotten a b → HaveSame p new.nodes.items stands.nodes.conditions (either forgotten old) a b
+  still_same a b is = record {
+    same_rows = λ k n f.
+        let o = node_was k n f in
+        cleaned_either (rows_of p a (stands.nodes.conditions k)) forgotten old ∙ ap (λ (set : Row → Bool). cleaned set old) (is.same_rows k o.0 o.1) ∙ sym (cleaned_either (rows_of p b (stands.nodes.conditions k)) forgotten old);
+    same_candidates = λ k n f who.
+        let o = node_was k n f in
+        subst (λ (c : Condition). candidates_of p (pattern_of c) a who ≡ candidates_of p (pattern_of c) b who) (sym o.2) (is.same_candidates k o.0 o.1 who);
+  }
+
+  abbrev nodes_now : NodesStand p new was (either forgotten old)
+  nodes_now = record {
+    conditions = stands.nodes.conditions;
+    shaped = now.shaped;
+    ends = λ place rule e.
+        subst (λ (places : List ℕ). EndsAt new.nodes.items stands.nodes.conditions places place rule) (sym ends)
+        (ends_keep p look was (rows_of p was) forgotten old net.nodes.items new.nodes.items stands.nodes.conditions dropped tags known (rows_made p was tags) (none_old p was forgotten old) standing same forgot
+        net.ends.items place rule (stands.nodes.ends place rule e));
+    fronts = λ k n f. let o = node_was k n f in stands.nodes.fronts k o.0 o.1;
+    windows = now.windows;
+    nodes = now.stand;
+  }
+
+  pub net_forgets : NetStands p new s (either forgotten old)
+  net_forgets = record {
+    seen = stands.seen;
+    begun = stands.begun;
+    later = stands.later;
+    kept = stands.kept;
+    nodes = nodes_now;
+    unchanged = still_same s was stands.unchanged;
+    quiet = λ clock later low before kept. still_same (at_clock s clock) was (stands.quiet clock later low (subst (λ (at : Option ℤ). IsBefore at clock) until before) kept);
+  }
+
+  -- the last node of a rule drops its rows that name an old fact
+  pub rule_drops : (place : ℕ) (rule : Rule) → slice_get p.rules place ≡ Some rule
+      → (end : ℕ) × (slice_get net.ends.items place ≡ Some end) × AreOld (cleaned (rows_of p s rule.conditions) forgotten) old (dropped_at dropped end)
+  rule_drops place rule e =
+      let end = stands.nodes.ends place rule e in
+      let d = drops_at p look was (rows_of p was) forgotten old net.nodes.items new.nodes.items stands.nodes.conditions dropped tags known (rows_made p was tags) (none_old p was forgotten old) standing same forgot end.last end.node end.there in (
+        end.last,
+        end.found,
+        subst (λ (cs : List Condition). AreOld (cleaned (rows_of p s cs) forgotten) old (dropped_at dropped end.last)) end.all
+            (subst (λ (set : Row → Bool). AreOld set old (dropped_at dropped end.last)) (sym (stands.unchanged.same_rows end.last end.node end.there)) d),
+      )
+
+  -- what the entries say where they have for each rule what its last node dropped
+  pub rules_drop : (answers : List RuleRows) (lent_dropped : List (List Row)) (lent_ends : List ℕ) → lent_dropped ≡ dropped → lent_ends ≡ net.ends.items
+      → ((place end : ℕ) → slice_get lent_ends place ≡ Some end → rows_for answers place ≡ dropped_at lent_dropped end) → AreDropped p s forgotten old answers
+  rules_drop answers lent_dropped lent_ends same_dropped same_ends told place rule e =
+      let drops = rule_drops place rule e in
+      subst (AreOld (cleaned (rows_of p s rule.conditions) forgotten) old)
+      (sym (told place drops.0 (ap (λ (places : List ℕ). slice_get places place) same_ends ∙ drops.1) ∙ ap (λ (all : List (List Row)). dropped_at all drops.0) same_dropped)) drops.2

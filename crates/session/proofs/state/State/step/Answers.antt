@@ -1,0 +1,12 @@
+use Rattle.std.proofs.Common.{SFits, to_z-of_z, w64}
+use Rattle.session.proofs.state.State.step.Goals as goal
+
+pub returns-in-Advance-clause-stands : goal.returns-in-Advance-clause-stands
+returns-in-Advance-clause-stands c =
+    let fits : SFits w64 c.in-Advance.by = search in
+    rw c.in-Advance.is (simp to_z-of_z at c.advance.ensures.stands)
+
+pub returns-in-At-clause-stands : goal.returns-in-At-clause-stands
+returns-in-At-clause-stands c =
+    let fits : SFits w64 c.in-At.moment = search in
+    rw c.in-At.is (simp to_z-of_z at c.go_to.ensures.stands)
