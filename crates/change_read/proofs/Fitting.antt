@@ -166,20 +166,20 @@ insert_fits p present (Some ty) (Some entry) members s is below e =
 
 -- the modification at each case of its sets
 modification_fits : (p : Program) (present : ℕ → Option Fact) (ty : ℕ × TypeInfo) (id : FactId) (sets : Option (List (ℕ × Value))) (f : Fact) (s : Step)
-    → slice_get p.types ty.0 ≡ Some ty.1 → present id.0 ≡ Some f → f.ty.0 ≡ ty.0
+    → slice_get p.types ty.0 ≡ Some ty.1 → present id.0 ≡ Some f → ty.1.event ≡ false → f.ty.0 ≡ ty.0
     → ((some : List (ℕ × Value)) → sets ≡ Some some → list_all (set_fits ty.1.fields) some ≡ true)
     → sets_step id sets ≡ Ok s → step_fits p present s ≡ true
 unfolding step_fits
-modification_fits p present ty id None f s is there of_type fits e = cc
-modification_fits p present ty id (Some sets) f s is there of_type fits e =
-    subst (λ (t : Step). step_fits p present t ≡ true) (ok_is e) (rw (there, of_type, is) (fits sets refl))
+modification_fits p present ty id None f s is there plain of_type fits e = cc
+modification_fits p present ty id (Some sets) f s is there plain of_type fits e =
+    subst (λ (t : Step). step_fits p present t ≡ true) (ok_is e) (rw (there, of_type, is, plain) (fits sets refl))
 
 -- at each case of the three tests
 modify_tested : (event of_type some : Truth) (front : Result Step Code) (s : Step) (p : Program) (present : ℕ → Option Fact)
-    → (of_type ≡ true → front ≡ Ok s → step_fits p present s ≡ true)
+    → (event ≡ false → of_type ≡ true → front ≡ Ok s → step_fits p present s ≡ true)
     → cond event (Err EventFixed) (cond of_type (cond some front (Err BadFields)) (Err Absent)) ≡ Ok s → step_fits p present s ≡ true
 modify_tested true of_type some front s p present fits e = cc
-modify_tested false true true front s p present fits e = fits refl e
+modify_tested false true true front s p present fits e = fits refl refl e
 modify_tested false true false front s p present fits e = cc
 modify_tested false false some front s p present fits e = cc
 
@@ -189,10 +189,10 @@ modify_fits : (p : Program) (present : ℕ → Option Fact) (ty : Option (ℕ ×
 modify_fits p present None id fact members s is there e = cc
 modify_fits p present (Some ty) id None members s is there e =
     modify_tested ty.1.event false (are_some_fields ty.1.fields members) (sets_step id (sets_given ty.1.fields members)) s p present
-    (λ of_type. cc) e
+    (λ plain of_type. cc) e
 modify_fits p present (Some ty) id (Some f) members s is there e =
     modify_tested ty.1.event (f.ty.0 == ty.0) (are_some_fields ty.1.fields members) (sets_step id (sets_given ty.1.fields members)) s p present
-    (λ of_type. modification_fits p present ty id (sets_given ty.1.fields members) f s (is ty refl) there
+    (λ plain of_type. modification_fits p present ty id (sets_given ty.1.fields members) f s (is ty refl) there plain
     ((Decides-eqb f.ty.0 ty.0).0 of_type) (sets_fit_fields ty.1.fields members)) e
 
 -- a retraction has no values

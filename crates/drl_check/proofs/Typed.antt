@@ -3,7 +3,7 @@ use Rattle.std.proofs.Common.{◌≡◌, ◌≤◌, ◌<◌, ◌++◌, ◌∷◌
 use Rattle.std.specs.List.{list_all, list_any}
 use Rattle.std.proofs.lemmas.Bool.Decides.{nat_tests}
 use Rattle.std.proofs.lemmas.List.{length-map}
-use Rattle.std.proofs.lemmas.Option.{slice_get_within}
+use Rattle.std.proofs.lemmas.Option.{slice_get-map, slice_get_within}
 use Rattle.drl_expr.specs.Tree.{Tree}
 use Rattle.drl_grammar.specs.declared.action.ActTree.{ActTree}
 use Rattle.drl_grammar.specs.declared.action.ActTree.TheVariants as act
@@ -15,7 +15,9 @@ use Rattle.drl_grammar.specs.declared.file.RuleTree.{RuleTree}
 use Rattle.drl_grammar.specs.declared.file.TypeTree.{TypeTree}
 use Rattle.rule_model.specs.Expressions.{Expression}
 use Rattle.rule_model.specs.declared.action.Action.TheVariants.{Modify}
-use Rattle.rule_world.specs.Typed.{bound_types, fields_in, bound_fields, expression_kind, args_fit, set_of_kind, action_fits, rule_fits, is_typed}
+use Rattle.rule_world.specs.Typed.{bound_types, fields_in, bound_fields, expression_kind, args_fit, set_of_kind, is_plain_type, is_plain_bound, action_fits, rule_fits, is_typed}
+use Rattle.std.specs.Option.{option_and_then}
+use Rattle.drl_sight.specs.Annotations.{is_event}
 use Rattle.drl_sight.specs.Names.{is_short, place_of}
 use Rattle.drl_sight.specs.Declarations.{types_of, rules_of, type_in, rule_in, type_names, type_named, field_names}
 use Rattle.drl_sight.specs.EntryPoints.{entry_names}
@@ -24,12 +26,13 @@ use Rattle.drl_sight.specs.Sight.{Meaning, of_fact, of_field, of_result, Sight, 
 use Rattle.drl_limits.specs.Limits.{is_name, has_few_entries, attr_within, condition_within, meta_within, actions_within, exceeds_limit_behind, type_within, rule_within}
 use Rattle.drl_program.specs.Observed.{observed_names}
 use Rattle.drl_program.specs.Programs.{type_place, type_info, conditions_of, expression_in, set_in, fact_meant, type_meant, action_of, rule_of, program_of}
-use Rattle.drl_check.specs.declared.fault.CheckCode.TheVariants.{LimitPassed, UnknownType, UnknownVariable, WrongKind}
-use Rattle.drl_check.specs.Checks.{lacks_type, lacks_variable, is_wrong_kind, AllPass, IsAcceptedFile}
+use Rattle.drl_check.specs.declared.fault.CheckCode.TheVariants.{LimitPassed, UnknownType, UnknownVariable, WrongKind, EventFixed}
+use Rattle.drl_check.specs.Checks.{lacks_type, lacks_variable, is_wrong_kind, fixes_event, AllPass, IsAcceptedFile}
 use Rattle.drl_uses.specs.Kinds.{taken_by, args_misfit, insert_misfits, modify_misfits, has_wrong_kind, action_misfits}
 use Rattle.drl_uses.specs.Uses.{any_condition, has_unknown_type, has_unknown_variable, inserts_unknown_type, action_unseen, target_unseen, leaf_unseen}
 use Rattle.drl_check.proofs.Fields.{HaveFieldsApart, kinds_taken, types_apart, apart_at}
-use Rattle.drl_check.proofs.Places.{taken_of, type_placed, few_bound, sight_stands}
+use Rattle.drl_check.specs.Events.{is_event_meant, modifies_event}
+use Rattle.drl_check.proofs.Places.{type_taken, taken_of, type_placed, few_bound, sight_stands}
 use Rattle.drl_check.proofs.Fitting.{HaveFewFields, InSight, fields_at, args_are_fit, sets_are_fit}
 use Rattle.drl_check.proofs.Sound.{and_left, and_right, not_and_right, both, or_left, or_right, within, few_types}
 
@@ -87,41 +90,56 @@ module _ (names : List (List ℕ)) (types : List TypeTree) (few : length types �
         (less place (length (map (type_info names) types)) (omega (arith, there, length-map types (type_info names))))
         (subst (λ fs. args_fit fields fs es ≡ true) (sym (fields_at names types place t at)) (args_are_fit names types taken sight small bound seen t.fields args fit))
 
-    modify_typed : (v : List ℕ) (sets : List (List ℕ × Tree)) (o : Option Meaning) → meaning_of sight v ≡ o → not (is_some o) ≡ false → modify_misfits o sight sets ≡ false
+    -- the type of a bound fact that no check finds to be an event
+    plain_bound : (fact : ℕ) (t : TypeTree) → type_taken types taken fact ≡ Some t → is_event t ≡ false → is_plain_bound (map (type_info names) types) taken (min fact 255) ≡ true
+    plain_bound fact t h plain =
+        let of = taken_of types taken fact t h in
+        let there = slice_get_within taken fact of.0 of.1 in
+        let same : min fact 255 ≡ fact = omega (arith, there, bound) in
+        ap (is_plain_bound (map (type_info names) types) taken) same
+        ∙ ap (λ o. is_plain_type (option_and_then (λ ty. slice_get (map (type_info names) types) ty) o)) of.1
+        ∙ ap is_plain_type (slice_get-map (type_info names) types of.0 ∙ ap (option_map (type_info names)) of.2)
+        ∙ ap not plain
+
+    modify_typed : (v : List ℕ) (sets : List (List ℕ × Tree)) (o : Option Meaning) → meaning_of sight v ≡ o → not (is_some o) ≡ false → modify_misfits o sight sets ≡ false → is_event_meant o ≡ false
         → action_fits (map (type_info names) types) taken (Modify (fact_meant o) (map (set_in (type_meant o) sight) sets)) ≡ true
-    modify_typed v sets None is e m = absurd cc
-    modify_typed v sets (Some (of_field fact field k)) is e m = absurd cc
-    modify_typed v sets (Some (of_result result)) is e m = absurd cc
-    modify_typed v sets (Some (of_fact fact t)) is e m =
+    modify_typed v sets None is e m plain = absurd cc
+    modify_typed v sets (Some (of_field fact field k)) is e m plain = absurd cc
+    modify_typed v sets (Some (of_result result)) is e m plain = absurd cc
+    modify_typed v sets (Some (of_fact fact t)) is e m plain =
         let h = seen v (of_fact fact t) is in
         let of = taken_of types taken fact t h in
         let there = slice_get_within taken fact of.0 of.1 in
         let fields = bound_fields (map (type_info names) types) taken in
+        let are = list_all (λ (set : ℕ × Expression). set_of_kind (slice_get (fields (min fact 255)) set.0) (expression_kind fields set.1)) (map (set_in t sight) sets) in
         both (nat_lt (min fact 255) (length taken))
-        (list_all (λ (set : ℕ × Expression). set_of_kind (slice_get (fields (min fact 255)) set.0) (expression_kind fields set.1)) (map (set_in t sight) sets))
+        (is_plain_bound (map (type_info names) types) taken (min fact 255) && are)
         (less (min fact 255) (length taken) (omega (arith, there, bound)))
-        (sets_are_fit names types taken sight small bound seen fact t sets h m)
+        (both (is_plain_bound (map (type_info names) types) taken (min fact 255)) are (plain_bound fact t h plain)
+        (sets_are_fit names types taken sight small bound seen fact t sets h m))
 
-    action_typed : (a : ActTree) → inserts_unknown_type types a ≡ false → action_unseen sight a ≡ false → action_misfits types sight a ≡ false
+    action_typed : (a : ActTree) → inserts_unknown_type types a ≡ false → action_unseen sight a ≡ false → action_misfits types sight a ≡ false → modifies_event sight a ≡ false
         → action_fits (map (type_info names) types) taken (action_of types sight a) ≡ true
-    action_typed (act.Insert ty args) t v m = insert_typed ty args (type_named types ty) refl t m
-    action_typed (act.Modify x sets) t v m =
-        modify_typed x sets (meaning_of sight x) refl (or_left (target_unseen sight (act.Modify x sets)) (any_leaf_of (leaf_unseen sight) (act.Modify x sets)) v) m
-    action_typed (act.Retract x) t v m = refl
+    action_typed (act.Insert ty args) t v m o = insert_typed ty args (type_named types ty) refl t m
+    action_typed (act.Modify x sets) t v m o =
+        modify_typed x sets (meaning_of sight x) refl (or_left (target_unseen sight (act.Modify x sets)) (any_leaf_of (leaf_unseen sight) (act.Modify x sets)) v) m o
+    action_typed (act.Retract x) t v m o = refl
 
     actions_typed : (actions : List ActTree) → list_any (inserts_unknown_type types) actions ≡ false → list_any (action_unseen sight) actions ≡ false → list_any (action_misfits types sight) actions ≡ false
-        → list_all (action_fits (map (type_info names) types) taken) (map (action_of types sight) actions) ≡ true
-    actions_typed [] t v m = refl
-    actions_typed (a ∷ actions) t v m =
+        → list_any (modifies_event sight) actions ≡ false → list_all (action_fits (map (type_info names) types) taken) (map (action_of types sight) actions) ≡ true
+    actions_typed [] t v m o = refl
+    actions_typed (a ∷ actions) t v m o =
         both (action_fits (map (type_info names) types) taken (action_of types sight a)) (list_all (action_fits (map (type_info names) types) taken) (map (action_of types sight) actions))
         (action_typed a
         (or_left (inserts_unknown_type types a) (list_any (inserts_unknown_type types) actions) t)
         (or_left (action_unseen sight a) (list_any (action_unseen sight) actions) v)
-        (or_left (action_misfits types sight a) (list_any (action_misfits types sight) actions) m))
+        (or_left (action_misfits types sight a) (list_any (action_misfits types sight) actions) m)
+        (or_left (modifies_event sight a) (list_any (modifies_event sight) actions) o))
         (actions_typed actions
         (or_right (inserts_unknown_type types a) (list_any (inserts_unknown_type types) actions) t)
         (or_right (action_unseen sight a) (list_any (action_unseen sight) actions) v)
-        (or_right (action_misfits types sight a) (list_any (action_misfits types sight) actions) m))
+        (or_right (action_misfits types sight a) (list_any (action_misfits types sight) actions) m)
+        (or_right (modifies_event sight a) (list_any (modifies_event sight) actions) o))
 
   -- ---- rules
 
@@ -132,35 +150,35 @@ module _ (names : List (List ℕ)) (types : List TypeTree) (few : length types �
       let before = nat_lt 0 (length r.name) && is_short 256 r.name && list_all attr_within r.attrs && nat_lt 0 n in
       within n 8 (and_right before (nat_le n 8) (and_left (before && nat_le n 8) tests (and_left (before && nat_le n 8 && tests) (actions_within r.actions) e)))
 
-  rule_typed : (r : RuleTree) → rule_within r ≡ true → lacks_type types (body.Rule r) ≡ false → lacks_variable types (body.Rule r) ≡ false → is_wrong_kind types (body.Rule r) ≡ false
+  rule_typed : (r : RuleTree) → rule_within r ≡ true → lacks_type types (body.Rule r) ≡ false → lacks_variable types (body.Rule r) ≡ false → is_wrong_kind types (body.Rule r) ≡ false → fixes_event types (body.Rule r) ≡ false
       → rule_fits (map (type_info names) types) (rule_of types entries r) ≡ true
-  rule_typed r e t v m =
+  rule_typed r e t v m o =
       let taken = bound_types (conditions_of types entries begin r.conditions) in
       let sight = sight_of_actions types r.conditions in
       let most : length taken ≤ 8 = omega (arith, few_bound types few entries begin r.conditions, few_conditions r e) in
       actions_typed taken sight most (sight_stands types few entries r.conditions) r.actions
       (or_right (has_unknown_type types r.conditions) (list_any (inserts_unknown_type types) r.actions) t)
       (or_right (any_condition has_unknown_variable types begin r.conditions) (list_any (action_unseen sight) r.actions) v)
-      (or_right (any_condition (has_wrong_kind types) types begin r.conditions) (list_any (action_misfits types sight) r.actions) m)
+      (or_right (any_condition (has_wrong_kind types) types begin r.conditions) (list_any (action_misfits types sight) r.actions) m) o
 
   body_typed : (n m : ℕ) (known : List (List ℕ)) (b : Body) (rest : List RuleTree) → exceeds_limit_behind n m known b ≡ false → lacks_type types b ≡ false → lacks_variable types b ≡ false
-      → is_wrong_kind types b ≡ false → list_all (rule_fits (map (type_info names) types)) (map (rule_of types entries) rest) ≡ true
+      → is_wrong_kind types b ≡ false → fixes_event types b ≡ false → list_all (rule_fits (map (type_info names) types)) (map (rule_of types entries) rest) ≡ true
       → list_all (rule_fits (map (type_info names) types)) (map (rule_of types entries) (rule_in b ++ rest)) ≡ true
-  body_typed n m known (body.Rule r) rest e t v k h =
+  body_typed n m known (body.Rule r) rest e t v k o h =
       let inside = not_and_right (nat_lt m 256 && has_few_entries known (body.Rule r)) (rule_within r) e in
-      both (rule_fits (map (type_info names) types) (rule_of types entries r)) (list_all (rule_fits (map (type_info names) types)) (map (rule_of types entries) rest)) (rule_typed r inside t v k) h
-  body_typed n m known (body.Declare d) rest e t v k h = h
-  body_typed n m known (body.Package p) rest e t v k h = h
-  body_typed n m known (body.Import p s) rest e t v k h = h
-  body_typed n m known (body.Dialect d) rest e t v k h = h
-  body_typed n m known (body.Entry a l) rest e t v k h = h
+      both (rule_fits (map (type_info names) types) (rule_of types entries r)) (list_all (rule_fits (map (type_info names) types)) (map (rule_of types entries) rest)) (rule_typed r inside t v k o) h
+  body_typed n m known (body.Declare d) rest e t v k o h = h
+  body_typed n m known (body.Package p) rest e t v k o h = h
+  body_typed n m known (body.Import p s) rest e t v k o h = h
+  body_typed n m known (body.Dialect d) rest e t v k o h = h
+  body_typed n m known (body.Entry a l) rest e t v k o h = h
 
 rules_typed : (names : List (List ℕ)) (all : List Item) (entries : List (List ℕ)) → length (types_of all) ≤ 128 → HaveFewFields (types_of all) → HaveFieldsApart (types_of all) → (before items : List Item) → AllPass all before items
     → list_all (rule_fits (map (type_info names) (types_of all))) (map (rule_of (types_of all) entries) (rules_of items)) ≡ true
 rules_typed names all entries few small apart before [] p = refl
 rules_typed names all entries few small apart before (item ∷ items) p =
     body_typed names (types_of all) few small apart entries (length (types_of before)) (length (rules_of before)) (entry_names before) item.body (rules_of items)
-    (p.0 LimitPassed) (p.0 UnknownType) (p.0 UnknownVariable) (p.0 WrongKind) (rules_typed names all entries few small apart (before ++ item ∷ []) items p.1)
+    (p.0 LimitPassed) (p.0 UnknownType) (p.0 UnknownVariable) (p.0 WrongKind) (p.0 EventFixed) (rules_typed names all entries few small apart (before ++ item ∷ []) items p.1)
 
 pub accepted_typed : (file : File) → IsAcceptedFile file → is_typed (program_of file) ≡ true
 unfolding is_typed
