@@ -1,6 +1,6 @@
 -- Which facts are kept, and that what a step makes names only what is kept (Walzer, Breddin, Groch 2008; Drools Fusion 5 User Guide,
 -- memory management for events).
-use Rattle.std.specs.Prelude.{◌≡◌, ℕ, ℤ, ◌+ℤ◌, ◌≤ℤ◌, true, false, List, take, length, Some, None, slice_get}
+use Rattle.std.specs.Prelude.{◌≡◌, ◌^◌, ℕ, ℤ, pos, ◌+ℤ◌, ◌≤ℤ◌, true, false, List, take, length, Some, None, slice_get}
 use Rattle.fx_base.specs.Lists.{In}
 use Rattle.fx_base.specs.declared.fact.Fact.{Fact}
 use Rattle.rule_model.specs.declared.condition.Condition.{Condition}
@@ -37,6 +37,15 @@ IsLifeOf p ty Infinite = IsLife p ty infinite
 pub record AreLives (p : Program) (table : LifeTable) : Type 0 where
   pub as_many : length table.lives ≡ length p.types
   pub each : (ty : ℕ) (life : Life) → slice_get table.lives ty ≡ Some life → IsLifeOf p ty life
+
+-- each finite life of the table is from 0 to 2^62 ms, so that its end behind an event has a number of 64 bits
+abbrev pub AreShort : LifeTable → Type 0
+AreShort table = (ty : ℕ) (n : ℤ) → slice_get table.lives ty ≡ Some (Finite n) → (pos 0 ≤ℤ n) × (n ≤ℤ pos (2 ^ 62))
+
+-- a table of lives that an engine of the program forgets by
+pub record IsLifeTable (p : Program) (table : LifeTable) : Type 0 where
+  pub lives : AreLives p table
+  pub short : AreShort table
 
 -- ---- what is kept
 

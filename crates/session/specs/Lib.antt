@@ -1,5 +1,6 @@
 pub mod Gives
 pub mod Standing
+pub mod Sessions
 pub mod Waiting
 pub mod Leading
 pub mod Following
