@@ -1,5 +1,5 @@
 -- The network of a program behind the facts of a session.
-use Rattle.std.specs.Prelude.{◌≡◌, ◌<◌, ℕ, ℤ, pos, ◌≤ℤ◌, List, Option, Some, None}
+use Rattle.std.specs.Prelude.{◌≡◌, ◌<◌, ℕ, ℤ, ◌≤ℤ◌, Bool, false, List, filter_map, Option, Some, None}
 use Rattle.fx_base.specs.Lists.{In, EachOnce}
 use Rattle.fx_base.specs.declared.fact.Fact.{Fact}
 use Rattle.due_queue.specs.Timers.{Timers}
@@ -7,11 +7,10 @@ use Rattle.fact_store.specs.Held.{HeldFacts, facts_of}
 use Rattle.rule_model.specs.declared.program.Program.{Program}
 use Rattle.session.specs.Refreshed.{over}
 use Rattle.pattern_gate.specs.Moves.{IsKept}
-use Rattle.pair_memory.specs.Standing.{no_names}
-use Rattle.rete_net.specs.declared.net.Rete.{Rete}
-use Rattle.rete_net.specs.Nets.{NetStands}
-use Rattle.rule_model.specs.declared.life.LifeTable.{LifeTable}
-use Rattle.session.specs.Standing.{Contents, StandsForSome, expiry_at, last_start_in}
+use Rattle.row_delta.specs.declared.row.Named.{Named}
+use Rattle.rule_model.specs.Tuples.{name_of}
+use Rattle.rete_net.specs.Forgetting.{AreNotNeeded}
+use Rattle.session.specs.Standing.{expiry_at}
 use Rattle.session.specs.Waiting.{left_at, HaveOwnTags}
 use Rattle.std.specs.FinMap as map
 
@@ -20,17 +19,6 @@ pub record IsReady (p : Program) (facts : HeldFacts) (expiries : Timers) (clock 
   pub own : HaveOwnTags facts
   pub waits : (tag : ℕ) → map.get expiries tag ≡ expiry_at p (map.get facts tag)
   pub kept : IsKept p (over (facts_of facts) clock)
-
--- The contents are ready for the network, and it stands for their facts at their clock; no event was inserted with a start below 0.
-pub record Follows (p : Program) (net : Rete) (k : Contents) : Type 0 where
-  pub ready : IsReady p k.facts k.expiries k.clock
-  pub starts : (entry : ℕ) → pos 0 ≤ℤ last_start_in k.last_starts entry
-  pub stands : NetStands p net (over (facts_of k.facts) k.clock) no_names
-
--- A session keeps what stands for some world, and its network follows.
-pub record Keeps (p : Program) (lives : LifeTable) (k : Contents) (net : Rete) : Type 0 where
-  pub some : StandsForSome p lives k
-  pub follows : Follows p net k
 
 -- ---- a step of the network
 
@@ -49,3 +37,14 @@ pub record Leads (p : Program) (before : HeldFacts) (from : ℤ) (behind : HeldF
   pub once : EachOnce gone
   pub held : (tag : ℕ) → In tag gone → (f : Fact) × (map.get before tag ≡ Some f)
   pub left : (tag : ℕ) → map.get behind tag ≡ left_at all gone tag
+
+-- the store has of all facts those that are not forgotten, and those that go
+pub record HasAtHand (all facts : HeldFacts) (gone : List ℕ) (forgotten : Named → Bool) : Type 0 where
+  pub known : (tag : ℕ) (f : Fact) → map.get all tag ≡ Some f → forgotten (name_of f) ≡ false → map.get facts tag ≡ Some f
+  pub gone : (tag : ℕ) → In tag gone → map.get facts tag ≡ map.get all tag
+
+-- the same where some facts are forgotten, and no rule needs one of them
+pub record LeadsOn (p : Program) (before : HeldFacts) (from : ℤ) (behind : HeldFacts) (to : ℤ) (all : HeldFacts) (gone : List ℕ) (come : Option Fact) (forgotten : Named → Bool) (facts : HeldFacts) : Type 0 where
+  pub leads : Leads p before from behind to all gone come
+  pub unneeded : AreNotNeeded p forgotten (over (facts_of before) from) (over (facts_of behind) to) (filter_map (map.get all) gone) come
+  pub at_hand : HasAtHand all facts gone forgotten

@@ -1,35 +1,73 @@
 -- Contents of a session that lead from a world to the next, and what is written on the way.
-use Rattle.std.specs.Prelude.{◌≡◌, ◌++◌, true, List, None, Result, Ok}
+use Rattle.std.specs.Prelude.{◌≡◌, ◌++◌, true, false, List, Some, None, Result, Ok}
 use Rattle.fx_base.specs.Lists.{In}
+use Rattle.fx_base.specs.declared.fact.Fact.{Fact}
 use Rattle.rule_model.specs.declared.program.Program.{Program}
 use Rattle.rule_model.specs.declared.step.Step.{Step}
+use Rattle.rule_model.specs.declared.step.Step.TheVariants.{Insert, Modify, Retract, Advance, At}
+use Rattle.rule_model.specs.Types.{is_event}
 use Rattle.rule_world.specs.declared.code.Code.{Code}
 use Rattle.rule_world.specs.Kinds.{step_fits}
-use Rattle.rule_world.specs.Worlds.{World, fact_of, kept, step_fault}
+use Rattle.rule_world.specs.Lawful.{IsLawful}
+use Rattle.rule_world.specs.Worlds.{World, fact_of, found, stepped, step_fault}
 use Rattle.engine.specs.declared.lines.OutLine.{OutLine}
-use Rattle.session.specs.Gives.{does, does_all}
-use Rattle.session.specs.Standing.{Contents, Mirrors, Standing}
+use Rattle.session.specs.Gives.{tries, does, does_all}
+use Rattle.session.specs.declared.memory.Memory.{Memory}
+use Rattle.session.specs.declared.setting.Setting.{Setting}
+use Rattle.session.specs.Standing.{Contents, Standing}
 
--- of each world for which the first contents stand, the second ones have what is kept of the next world
-abbrev pub MovesTo : Program → Contents → (World → World) → Contents → Type 0
-MovesTo p k next s = (w : World) → Standing p k w → Mirrors p s (kept p (next w))
+-- ---- steps that are done
 
--- in each world for which the contents stand, these lines are written behind those before
-abbrev pub Writes : Program → Contents → (World → List OutLine) → List OutLine → List OutLine → Type 0
-Writes p k lines before after = (w : World) → Standing p k w → after ≡ before ++ lines w
+-- of each world for which the first contents stand, the second ones stand for the world behind the step, where that has no fault
+abbrev pub Moves : Setting → Memory → Contents → Step → Memory → Contents → Type 0
+Moves s m k step n t =
+    (w : World) → Standing s m k w → step_fault s.program w step ≡ None → IsLawful s.program (stepped s.program w step) → Standing s n t (stepped s.program w step)
 
--- what is wanted has values of the declared kinds, where it is a step without a fault
+-- ---- steps that are tried
+
+-- what is modified is no event
+abbrev pub IsOfPlain : Program → World → Step → Type 0
+IsOfPlain p w (Insert ty entry fields) = Unit {0}
+IsOfPlain p w (Modify id sets) = (f : Fact) → found p w id.0 ≡ Some f → is_event p f.ty.0 ≡ false
+IsOfPlain p w (Retract ty id) = Unit {0}
+IsOfPlain p w (Advance by) = Unit {0}
+IsOfPlain p w (At moment) = Unit {0}
+
+-- a step that modifies no event, and has values of the declared kinds, where it has no fault
+pub record Suits (p : Program) (w : World) (step : Step) : Type 0 where
+  pub plain : IsOfPlain p w step
+  pub fits : step_fault p w step ≡ None → step_fits p (fact_of w.facts) step ≡ true
+
+-- of each world for which the first contents stand and that the step suits, the second ones stand for the next
+abbrev pub Tries : Setting → Memory → Contents → Step → Memory → Contents → Type 0
+Tries s m k step n t = (w : World) → Standing s m k w → Suits s.program w step → Standing s n t (tries s.program w step).1
+
+-- and its lines are written behind those before
+abbrev pub Writes : Setting → Memory → Contents → Step → List OutLine → List OutLine → Type 0
+Writes s m k step before after = (w : World) → Standing s m k w → Suits s.program w step → after ≡ before ++ (tries s.program w step).0
+
+-- ---- what is wanted
+
+-- what is wanted suits the world, where it is a step
 abbrev pub Fits : Program → World → Result Step Code → Type 0
-Fits p w wanted = (step : Step) → wanted ≡ Ok step → step_fault p w step ≡ None → step_fits p (fact_of w.facts) step ≡ true
+Fits p w wanted = (step : Step) → wanted ≡ Ok step → Suits p w step
 
--- the same of all that is planned, whatever their faults
+-- of each world for which the first contents stand, and which what is wanted fits, the second ones stand for the next
+abbrev pub StandsAfter : Setting → Memory → Contents → Result Step Code → Memory → Contents → Type 0
+StandsAfter s m k wanted n t = (w : World) → Standing s m k w → Fits s.program w wanted → Standing s n t (does s.program w wanted).1
+
+-- and its lines are written
+abbrev pub WritesFor : Setting → Memory → Contents → Result Step Code → List OutLine → List OutLine → Type 0
+WritesFor s m k wanted before after = (w : World) → Standing s m k w → Fits s.program w wanted → after ≡ before ++ (does s.program w wanted).0
+
+-- ---- a plan
+
+-- all that is planned has values of the declared kinds and modifies no event, whatever its fault
 abbrev pub AllFit : Program → World → List (Result Step Code) → Type 0
 AllFit p w plan = (step : Step) → In (Ok step) plan → step_fits p (fact_of w.facts) step ≡ true
 
--- of each world for which the first contents stand, and which what is wanted fits, the second ones stand for the next
-abbrev pub StandsAfter : Program → Contents → Result Step Code → Contents → Type 0
-StandsAfter p k wanted s = (w : World) → Standing p k w → Fits p w wanted → Standing p s (does p w wanted).1
+abbrev pub StandsAfterAll : Setting → Memory → Contents → List (Result Step Code) → Memory → Contents → Type 0
+StandsAfterAll s m k plan n t = (w : World) → Standing s m k w → AllFit s.program w plan → Standing s n t (does_all s.program w plan).1
 
--- the same of a plan
-abbrev pub StandsAfterAll : Program → Contents → List (Result Step Code) → Contents → Type 0
-StandsAfterAll p k plan s = (w : World) → Standing p k w → AllFit p w plan → Standing p s (does_all p w plan).1
+abbrev pub WritesAll : Setting → Memory → Contents → List (Result Step Code) → List OutLine → List OutLine → Type 0
+WritesAll s m k plan before after = (w : World) → Standing s m k w → AllFit s.program w plan → after ≡ before ++ (does_all s.program w plan).0

@@ -1,25 +1,24 @@
 ghost use Rattle.std.specs.Prelude.{◌≡◌, ◌+◌, ◌<◌, ◌≤◌, ◌^◌, ◌∷◌, ◌++◌, [], true, length, slice_get, option_map, Some, IfOk, OnOk, IfSome, List};
 ghost use Rattle.std.specs.List.{list_all};
-ghost use Rattle.rete_net.specs.declared.net.Rete.{Rete as ReteData};
 ghost use Rattle.rule_model.specs.declared.matched.Match.{Match as MatchData};
-ghost use Rattle.rule_model.specs.declared.program.Program.{Program as ProgramData};
 ghost use Rattle.rule_model.specs.Matches.{fire_cmp};
 ghost use Rattle.rule_model.specs.First.{first};
 ghost use Rattle.rule_world.specs.Programs.{has_few_actions, IsRunnable};
 ghost use Rattle.rule_world.specs.Worlds.{World, marked};
 ghost use Rattle.session.specs.Gives.{cells, conditions_of, fire_line, actions_of, does_all};
-ghost use Rattle.session.specs.Following.{Follows};
 ghost use Rattle.session.specs.Leading.{AllFit};
-ghost use Rattle.session.specs.Standing.{Standing};
+ghost use Rattle.session.specs.Standing.{Runs, Standing};
 ghost use Rattle.session.specs.Places.{planned_for, planned};
 
+use crate::memory::Memory;
+use crate::refreshing::add_names;
+use crate::setting::Setting;
 use crate::state::State;
 use crate::steps::Plan;
 use action_eval::{EvalFault, planned_step};
 use engine::{Cell, OutLine};
 use fact_store::FactStore;
 use fx_base::{NoMemory, Seq};
-use rete_net::Rete;
 use row_delta::Row;
 use rule_model::{Action, Condition, Match, Program, Rule, Step};
 use rule_world::Code;
@@ -135,38 +134,44 @@ impl State {
     pub(crate) fn fire(
         self,
         alloc: Global,
-        program: &Program,
-        net: &mut Rete,
+        setting: &Setting,
+        memory: &mut Memory,
         plan: Plan,
         lines: &mut Vec<OutLine>,
     ) -> Result<State, NoMemory>
-        requires runnable { IsRunnable program.now }
-        requires follows { Follows program.now net.old self }
+        requires runs { Runs setting.now }
         requires low { self.next_tag + length plan.items ≤ 2 ^ 63 }
         requires pending { 0 < length self.agenda.pending }
-        ensures stands { IfOk result (λ s. (w : World) (m : MatchData) → Standing program.now self w → Some m ≡ first (fire_cmp self.agenda.saliences) self.agenda.pending
-            → AllFit program.now w plan.items → Standing program.now s (does_all program.now (marked w m) plan.items).1) }
-        ensures lines { OnOk result ((w : World) (m : MatchData) → Standing program.now self w → Some m ≡ first (fire_cmp self.agenda.saliences) self.agenda.pending
-            → AllFit program.now w plan.items → lines.new.items ≡ lines.old.items ++ fire_line program.now m ∷ [] ++ (does_all program.now (marked w m) plan.items).0) }
-        ensures follows { IfOk result (Follows program.now net.new) }
+        ensures stands { IfOk result (λ s. (w : World) (m : MatchData) → Standing setting.now memory.old self w → Some m ≡ first (fire_cmp self.agenda.saliences) self.agenda.pending
+            → AllFit setting.now.program w plan.items → Standing setting.now memory.new s (does_all setting.now.program (marked w m) plan.items).1) }
+        ensures lines { OnOk result ((w : World) (m : MatchData) → Standing setting.now memory.old self w → Some m ≡ first (fire_cmp self.agenda.saliences) self.agenda.pending
+            → AllFit setting.now.program w plan.items → lines.new.items ≡ lines.old.items ++ fire_line setting.now.program m ∷ [] ++ (does_all setting.now.program (marked w m) plan.items).0) }
         ensures tags { IfOk result (λ s. s.next_tag ≤ self.next_tag + length plan.items) }
     {
-        let (state, fired) = self.mark(alloc)?;
-        lines.push(line_of(alloc, program, &fired)?)?;
-        state.apply_all(alloc, program, net, plan, lines)
+        let (state, fired) = self.mark(alloc, setting, memory)?;
+        lines.push(line_of(alloc, &setting.program, &fired)?)?;
+        state.apply_all(alloc, setting, memory, plan, lines)
     }
 
-    // Marks the match that fires first.
-    fn mark(self, alloc: Global) -> Result<(State, Match), NoMemory>
-        requires { 0 < length self.agenda.pending }
+    // Marks the match that fires first, and forgets what it alone had kept.
+    fn mark(
+        self,
+        alloc: Global,
+        setting: &Setting,
+        memory: &mut Memory,
+    ) -> Result<(State, Match), NoMemory>
+        requires runs { Runs setting.now }
+        requires pending { 0 < length self.agenda.pending }
         ensures top { IfOk result (λ r. Some r.1 ≡ first (fire_cmp self.agenda.saliences) self.agenda.pending) }
-        ensures stands { IfOk result (λ r. (program : ProgramData) (w : World) → Standing program self w → Standing program r.0 (marked w r.1)) }
-        ensures follows { IfOk result (λ r. (program : ProgramData) (net : ReteData) → Follows program net self → Follows program net r.0) }
+        ensures stands { IfOk result (λ r. (w : World) → Standing setting.now memory.old self w → Standing setting.now memory.new r.0 (marked w r.1)) }
         ensures tags { IfOk result (λ r. r.0.next_tag ≡ self.next_tag) }
     {
         let mut state = self;
         let (agenda, fired) = state.agenda.fire_top(alloc)?;
         state.agenda = agenda;
+        let mut left = Vec::new(alloc);
+        add_names(&mut left, fired.row.facts.as_slice())?;
+        let state = state.settled(alloc, setting, memory, left.as_slice())?;
         Ok((state, fired))
     }
 }

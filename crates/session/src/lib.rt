@@ -1,16 +1,21 @@
-//! The engine: it keeps the facts of a program, its clock and an agenda, and answers the lines of each change and firing.
-//! What it answers is the world's, whose rows are taken anew from the whole list of facts.
+//! The engine: it keeps the facts of a program that some rule can still need, its clock, the network of its rules and an agenda, and
+//! answers the lines of each change and firing. What it answers is the world's, which keeps every fact.
 #![tactic(auto)]
 
 mod firing;
 mod last_starts;
 pub mod laws;
+mod memory;
 mod moving;
 mod refreshing;
 mod session;
+mod setting;
+mod settling;
 mod state;
 mod steps;
 
 pub use engine::{Cell, Engine, Fired, Lines, OutLine};
 pub use rule_world::Code;
+pub use memory::Memory;
 pub use session::Session;
+pub use setting::Setting;

@@ -1,24 +1,29 @@
-ghost use Rattle.std.specs.Prelude.{◌≡◌, ◌+◌, ◌<◌, ◌^◌, ◌≤ℤ◌, ◌-ℤ◌, ℕ, pos, true, false, None, IfOk};
-ghost use Rattle.rule_world.specs.Events.{end_of_presence, most_millis};
-ghost use Rattle.rete_net.specs.declared.net.Rete.{Rete as ReteData};
+ghost use Rattle.std.specs.Prelude.{◌≡◌, ◌+◌, ◌<◌, ◌^◌, ◌≤ℤ◌, ◌+ℤ◌, ◌-ℤ◌, ◌==◌, ◌&&◌, not, ℕ, pos, true, false, None, Some, slice_get, cond, IfOk, OnOk};
+ghost use Rattle.rule_model.specs.declared.step.Step.TheVariants.{Insert, Modify, Retract, At};
 ghost use Rattle.rule_model.specs.Candidates.{is_present};
 ghost use Rattle.rule_model.specs.Types.{is_event};
+ghost use Rattle.rule_world.specs.Events.{end_of_presence, most_millis, times_of};
 ghost use Rattle.rule_world.specs.Programs.{IsRunnable};
-ghost use Rattle.rule_world.specs.Worlds.{World, settled, at_clock, with_new, with_revised, without_fact, with_values, is_of_type, modify_fault, revised as revised_fact};
-ghost use Rattle.session.specs.Following.{Follows};
-ghost use Rattle.session.specs.Leading.{MovesTo};
+ghost use Rattle.rule_world.specs.Worlds.{with_values, is_of_type, modify_fault, revised as revised_fact};
+ghost use Rattle.rule_lives.specs.Keeping.{AreShort};
+ghost use Rattle.retention.specs.Retentions.{lingers};
+ghost use Rattle.forgetting.specs.Sights.{ends_by};
+ghost use Rattle.session.specs.Leading.{Moves};
 ghost use Rattle.session.specs.Places.{IsNewestTag, newest};
+ghost use Rattle.session.specs.Standing.{Runs};
 ghost use Rattle.session.specs.Waiting.{with_timer, without_timer};
 ghost use Rattle.std.specs.FinMap as map;
 
 use crate::last_starts::last_starts_behind;
+use crate::memory::Memory;
 use crate::refreshing::{followed, without_all};
+use crate::setting::Setting;
 use crate::state::State;
 use due_queue::DueQueue;
 use fact_store::FactStore;
 use fx_base::{Copies, Fact, FactId, Facts, Millis, NoMemory, Seq, Tag, TypeId, Value};
-use rete_net::Rete;
-use rule_model::Program;
+use retention::Retention;
+use rule_model::{Life, LifeTable, Program};
 use rule_world::presence_end;
 use std::alloc::Global;
 
@@ -94,33 +99,61 @@ fn untimed(expiries: DueQueue, tag: Tag) -> DueQueue
     expiries
 }
 
-// What steps without a fault move.
+// The first moment at which an event is past its life, where that ends.
+#[tactic(auto, unfolding(rule_world::specs::Events::most_millis))]
+fn life_end(lives: &LifeTable, fact: &Fact) -> Option<Millis>
+    requires short { AreShort lives.now }
+    requires low { (pos 0 -ℤ most_millis) ≤ℤ fact.now.times.end }
+    requires high { fact.now.times.end ≤ℤ (most_millis +ℤ most_millis) }
+    ensures { result ≡ ends_by lives.now fact.now }
+{
+    match lives.lives.as_slice().get(fact.ty.0 as usize) {
+        Some(Life::Finite(life)) => Some(fact.times.end + life + 1),
+        _ => None,
+    }
+}
+
+// Holds a new event whose life ends until this moment.
+fn hold(retention: &mut Retention, tag: Tag, past_from: Option<Millis>) -> Result<(), NoMemory>
+    ensures due { OnOk result ((other : ℕ) → map.get retention.new.due other ≡ cond (other == tag.0 && is_some past_from) past_from (map.get retention.old.due other)) }
+    ensures lingering { OnOk result ((other : ℕ) → lingers retention.new other ≡ (lingers retention.old other && not (other == tag.0 && is_some past_from))) }
+{
+    match past_from {
+        Some(moment) => {
+            retention.release(tag);
+            retention.hold(tag, moment)
+        }
+        None => Ok(()),
+    }
+}
+
+// What steps without a fault move, and then what is old is forgotten.
 impl State {
     /// The state with one fact more, which has the next numbers. Of an event that is not present any more the numbers and the start
     /// stay alone.
     pub(crate) fn with_new(
         self,
         alloc: Global,
-        program: &Program,
-        net: &mut Rete,
+        setting: &Setting,
+        memory: &mut Memory,
         fact: Fact,
     ) -> Result<State, NoMemory>
-        requires runnable { IsRunnable program.now }
-        requires follows { Follows program.now net.old self }
+        requires runs { Runs setting.now }
         requires low { self.next_tag < 2 ^ 63 }
         requires id { fact.id.0 ≡ self.next_id }
         requires tag { fact.tag.0 ≡ self.next_tag }
+        requires times { fact.times ≡ times_of (slice_get setting.now.program.types fact.ty.0) self.clock fact.fields }
         requires start_low { (pos 0 -ℤ most_millis) ≤ℤ fact.times.start }
         requires start_high { fact.times.start ≤ℤ most_millis }
-        requires from_zero { is_event program.now fact.ty.0 ≡ true → pos 0 ≤ℤ fact.times.start }
-        ensures stands { IfOk result (MovesTo program.now self (λ w. settled program.now (with_new program.now w fact))) }
-        ensures follows { IfOk result (Follows program.now net.new) }
+        requires end_low { (pos 0 -ℤ most_millis) ≤ℤ fact.times.end }
+        requires end_high { fact.times.end ≤ℤ (most_millis +ℤ most_millis) }
+        ensures stands { IfOk result (λ s. Moves setting.now memory.old self (Insert fact.ty fact.entry fact.fields) memory.new s) }
         ensures tags { IfOk result (λ s. s.next_tag ≡ self.next_tag + 1) }
     {
-        if program.is_present(self.clock, &fact) {
-            self.with_present(alloc, program, net, fact)
+        if setting.program.is_present(self.clock, &fact) {
+            self.with_present(alloc, setting, memory, fact)
         } else {
-            self.with_numbers(program, &fact)
+            self.with_numbers(alloc, setting, memory, &fact)
         }
     }
 
@@ -128,76 +161,85 @@ impl State {
     fn with_present(
         self,
         alloc: Global,
-        program: &Program,
-        net: &mut Rete,
+        setting: &Setting,
+        memory: &mut Memory,
         fact: Fact,
     ) -> Result<State, NoMemory>
-        requires runnable { IsRunnable program.now }
-        requires follows { Follows program.now net.old self }
+        requires runs { Runs setting.now }
         requires low { self.next_tag < 2 ^ 63 }
         requires id { fact.id.0 ≡ self.next_id }
         requires tag { fact.tag.0 ≡ self.next_tag }
+        requires times { fact.times ≡ times_of (slice_get setting.now.program.types fact.ty.0) self.clock fact.fields }
         requires start_low { (pos 0 -ℤ most_millis) ≤ℤ fact.times.start }
         requires start_high { fact.times.start ≤ℤ most_millis }
-        requires from_zero { is_event program.now fact.ty.0 ≡ true → pos 0 ≤ℤ fact.times.start }
-        requires present { is_present program.now self.clock fact ≡ true }
-        ensures stands { IfOk result (MovesTo program.now self (λ w. settled program.now (with_new program.now w fact))) }
-        ensures follows { IfOk result (Follows program.now net.new) }
+        requires end_low { (pos 0 -ℤ most_millis) ≤ℤ fact.times.end }
+        requires end_high { fact.times.end ≤ℤ (most_millis +ℤ most_millis) }
+        requires present { is_present setting.now.program self.clock fact ≡ true }
+        ensures stands { IfOk result (λ s. Moves setting.now memory.old self (Insert fact.ty fact.entry fact.fields) memory.new s) }
         ensures tags { IfOk result (λ s. s.next_tag ≡ self.next_tag + 1) }
     {
         let mut state = self;
         let tag = fact.tag;
+        let program = &setting.program;
         state.last_starts = last_starts_behind(program, &fact, state.last_starts)?;
         state.expiries = timed(state.expiries, program, &fact)?;
+        hold(&mut memory.retention, tag, life_end(&setting.lives, &fact))?;
         state.facts = with_fact(state.facts, fact)?;
-        state.agenda = followed(
+        let (agenda, left) = followed(
             alloc,
             program,
-            net,
+            &mut memory.net,
             state.agenda,
             &state.facts,
             &[],
             state.facts.fact(tag),
             state.clock,
         )?;
+        state.agenda = agenda;
         state.next_id += 1;
         state.next_tag += 1;
-        Ok(state)
+        state.settled(alloc, setting, memory, left.as_slice())
     }
 
     // The same with an event that is not present any more.
-    fn with_numbers(self, program: &Program, fact: &Fact) -> Result<State, NoMemory>
+    fn with_numbers(
+        self,
+        alloc: Global,
+        setting: &Setting,
+        memory: &mut Memory,
+        fact: &Fact,
+    ) -> Result<State, NoMemory>
+        requires runs { Runs setting.now }
         requires low { self.next_tag < 2 ^ 63 }
-        requires from_zero { is_event program.now fact.now.ty.0 ≡ true → pos 0 ≤ℤ fact.now.times.start }
-        requires absent { is_present program.now self.clock fact.now ≡ false }
-        ensures stands { IfOk result (MovesTo program.now self (λ w. settled program.now (with_new program.now w fact.now))) }
-        ensures follows { IfOk result (λ s. (net : ReteData) → Follows program.now net self → Follows program.now net s) }
+        requires id { fact.now.id.0 ≡ self.next_id }
+        requires tag { fact.now.tag.0 ≡ self.next_tag }
+        requires times { fact.now.times ≡ times_of (slice_get setting.now.program.types fact.now.ty.0) self.clock fact.now.fields }
+        requires absent { is_present setting.now.program self.clock fact.now ≡ false }
+        ensures stands { IfOk result (λ s. Moves setting.now memory.old self (Insert fact.now.ty fact.now.entry fact.now.fields) memory.new s) }
         ensures tags { IfOk result (λ s. s.next_tag ≡ self.next_tag + 1) }
     {
         let mut state = self;
-        state.last_starts = last_starts_behind(program, fact, state.last_starts)?;
+        state.last_starts = last_starts_behind(&setting.program, fact, state.last_starts)?;
         state.next_id += 1;
         state.next_tag += 1;
-        Ok(state)
+        state.settled(alloc, setting, memory, &[])
     }
 
     /// The state with a modification of the plain fact of the id, which has this tag and is there.
     pub(crate) fn with_sets(
         self,
         alloc: Global,
-        program: &Program,
-        net: &mut Rete,
+        setting: &Setting,
+        memory: &mut Memory,
         id: FactId,
         tag: Tag,
         sets: Seq<(usize, Value)>,
     ) -> Result<State, NoMemory>
-        requires runnable { IsRunnable program.now }
-        requires follows { Follows program.now net.old self }
+        requires runs { Runs setting.now }
         requires low { self.next_tag < 2 ^ 63 }
         requires tag { IsNewestTag self.facts id.0 tag }
-        requires plain { modify_fault program.now (newest self id.0) ≡ None }
-        ensures stands { IfOk result (MovesTo program.now self (λ w. settled program.now (with_revised w id.0 sets))) }
-        ensures follows { IfOk result (Follows program.now net.new) }
+        requires plain { modify_fault setting.now.program (newest self id.0) ≡ None }
+        ensures stands { IfOk result (λ s. Moves setting.now memory.old self (Modify id sets) memory.new s) }
         ensures tags { IfOk result (λ s. s.next_tag ≡ self.next_tag + 1) }
     {
         let mut state = self;
@@ -205,91 +247,108 @@ impl State {
         let before = state.facts.fact(tag).unwrap();
         let after = revised(alloc, before, sets, next)?;
         state.facts = with_fact(state.facts, after)?;
-        state.agenda = followed(
+        let (agenda, left) = followed(
             alloc,
-            program,
-            net,
+            &setting.program,
+            &mut memory.net,
             state.agenda,
             &state.facts,
             &[tag.0],
             state.facts.fact(next),
             state.clock,
         )?;
+        state.agenda = agenda;
         state.facts.take(tag);
         state.next_tag += 1;
-        Ok(state)
+        state.settled(alloc, setting, memory, left.as_slice())
     }
 
     /// The state without the fact of the type and the id, which has this tag and is there.
     pub(crate) fn without(
         self,
         alloc: Global,
-        program: &Program,
-        net: &mut Rete,
+        setting: &Setting,
+        memory: &mut Memory,
         ty: TypeId,
         id: FactId,
         tag: Tag,
     ) -> Result<State, NoMemory>
-        requires runnable { IsRunnable program.now }
-        requires follows { Follows program.now net.old self }
+        requires runs { Runs setting.now }
         requires tag { IsNewestTag self.facts id.0 tag }
         requires of_type { is_of_type ty.0 (newest self id.0) ≡ true }
-        ensures stands { IfOk result (MovesTo program.now self (λ w. settled program.now (without_fact w ty.0 id.0))) }
-        ensures follows { IfOk result (Follows program.now net.new) }
+        ensures stands { IfOk result (λ s. Moves setting.now memory.old self (Retract ty id) memory.new s) }
         ensures tags { IfOk result (λ s. s.next_tag ≡ self.next_tag) }
     {
         let mut state = self;
-        state.agenda = followed(
+        let (agenda, left) = followed(
             alloc,
-            program,
-            net,
+            &setting.program,
+            &mut memory.net,
             state.agenda,
             &state.facts,
             &[tag.0],
             None,
             state.clock,
         )?;
+        state.agenda = agenda;
         state.facts.take(tag);
         state.expiries = untimed(state.expiries, tag);
-        Ok(state)
+        memory.retention.release(tag);
+        state.settled(alloc, setting, memory, left.as_slice())
+    }
+
+    /// The state without the event of the type and the id, which it does not have: none is there, or it is forgotten.
+    pub(crate) fn without_forgotten(
+        self,
+        alloc: Global,
+        setting: &Setting,
+        memory: &mut Memory,
+        ty: TypeId,
+        id: FactId,
+    ) -> Result<State, NoMemory>
+        requires runs { Runs setting.now }
+        requires absent { is_of_type ty.0 (newest self id.0) ≡ false }
+        ensures stands { IfOk result (λ s. Moves setting.now memory.old self (Retract ty id) memory.new s) }
+        ensures tags { IfOk result (λ s. s.next_tag ≡ self.next_tag) }
+    {
+        self.settled(alloc, setting, memory, &[])
     }
 
     /// The state at a later clock, without the events that are not present any more. Where nothing is due it costs a look at the
-    /// queue of expiries and one at the network's least moment.
+    /// queue of expiries, one at the network's least moment and one at the ends of lives.
     pub(crate) fn with_clock(
         self,
         alloc: Global,
-        program: &Program,
-        net: &mut Rete,
+        setting: &Setting,
+        memory: &mut Memory,
         clock: Millis,
     ) -> Result<State, NoMemory>
-        requires runnable { IsRunnable program.now }
-        requires follows { Follows program.now net.old self }
+        requires runs { Runs setting.now }
         requires low { pos 0 ≤ℤ clock }
         requires high { clock ≤ℤ most_millis }
         requires later { self.clock ≤ℤ clock }
-        ensures stands { IfOk result (MovesTo program.now self (λ w. settled program.now (at_clock w clock))) }
-        ensures follows { IfOk result (Follows program.now net.new) }
+        ensures stands { IfOk result (λ s. Moves setting.now memory.old self (At clock) memory.new s) }
         ensures tags { IfOk result (λ s. s.next_tag ≡ self.next_tag) }
     {
         let mut state = self;
         let due = state.expiries.take_due(clock)?;
-        if due.is_empty() && net.is_quiet(clock) {
+        if due.is_empty() && memory.net.is_quiet(clock) {
             state.clock = clock;
-            return Ok(state);
+            return state.settled(alloc, setting, memory, &[]);
         }
-        state.agenda = followed(
+        let (agenda, left) = followed(
             alloc,
-            program,
-            net,
+            &setting.program,
+            &mut memory.net,
             state.agenda,
             &state.facts,
             due.as_slice(),
             None,
             clock,
         )?;
+        state.agenda = agenda;
         state.facts = without_all(state.facts, due);
         state.clock = clock;
-        Ok(state)
+        state.settled(alloc, setting, memory, left.as_slice())
     }
 }

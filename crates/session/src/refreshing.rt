@@ -1,15 +1,18 @@
-ghost use Rattle.std.specs.Prelude.{◌≡◌, ℕ, ℤ, List, filter_map, option_map, IfOk, OnOk};
+ghost use Rattle.std.specs.Prelude.{◌≡◌, ◌==◌, ◌||◌, ℕ, ℤ, Bool, List, filter_map, option_map, IfOk, OnOk};
+ghost use Rattle.std.specs.List.{list_any};
 ghost use Rattle.fact_store.specs.Held.{HeldFacts, facts_of};
-ghost use Rattle.pair_memory.specs.Standing.{no_names};
-ghost use Rattle.rete_net.specs.Nets.{AreBetween, NetStands};
+ghost use Rattle.rete_net.specs.Nets.{AreBetween, NetStands, clean_rows};
+ghost use Rattle.retention.specs.Retentions.{is_among};
+ghost use Rattle.forgetting.specs.Steps.{HasLeft};
+ghost use Rattle.row_delta.specs.declared.row.Named.{Named as NamedData};
 ghost use Rattle.row_delta.specs.declared.row.Row.{Row as RowData};
 ghost use Rattle.rule_model.specs.declared.program.Program.{Program as ProgramData};
 ghost use Rattle.rule_model.specs.declared.program.Rule.{Rule as RuleData};
 ghost use Rattle.rule_model.specs.Lent.{lent};
 ghost use Rattle.session.specs.Refreshed.{over};
 ghost use Rattle.rule_world.specs.Programs.{IsRunnable};
-ghost use Rattle.session.specs.Following.{Leads};
-ghost use Rattle.session.specs.Refreshed.{rows_at, IsRefreshed};
+ghost use Rattle.session.specs.Following.{LeadsOn};
+ghost use Rattle.session.specs.Refreshed.{IsRefreshed};
 ghost use Rattle.session.specs.Waiting.{left_at};
 ghost use Rattle.std.specs.FinMap as map;
 
@@ -17,19 +20,48 @@ use agenda::Agenda;
 use fact_store::FactStore;
 use fx_base::{Fact, Facts, Millis, NoMemory, Tag};
 use rete_net::{Rete, RuleChange};
+use row_delta::{Named, Row};
 use rule_model::Program;
 use std::alloc::Global;
 
-/// The agenda after these changes of the rows of rules.
-pub(crate) fn refreshed(agenda: Agenda, changes: Vec<RuleChange>) -> Result<Agenda, NoMemory>
-    ensures { (p : ProgramData) (old new : RuleData → List RowData) → AreBetween p old new changes.items → IfOk result (IsRefreshed p.rules old new agenda) }
+/// Adds the tags of the facts that are named.
+pub(crate) fn add_names(tags: &mut Vec<Tag>, names: &[Named]) -> Result<(), NoMemory>
+    ensures { OnOk result ((tag : ℕ) → is_among tags.new.items tag ≡ (is_among tags.old.items tag || list_any (λ (n : NamedData). tag == n.tag.0) names.now)) }
+{
+    for name in names {
+        tags.push(name.tag)?;
+    }
+    Ok(())
+}
+
+// Adds the tags of the facts that rows name.
+fn add_rows(tags: &mut Vec<Tag>, rows: &[Row]) -> Result<(), NoMemory>
+    ensures { OnOk result ((tag : ℕ) → is_among tags.new.items tag ≡ (is_among tags.old.items tag || list_any (λ (row : RowData). list_any (λ (n : NamedData). tag == n.tag.0) row.facts) rows.now)) }
+{
+    for row in rows {
+        add_names(tags, row.facts.as_slice())?;
+    }
+    Ok(())
+}
+
+/// The agenda after these changes of the rows of rules, and the tags that the rows which go name: among them are those of the matches
+/// that have stopped pending.
+pub(crate) fn refreshed(
+    alloc: Global,
+    agenda: Agenda,
+    changes: Vec<RuleChange>,
+) -> Result<(Agenda, Vec<Tag>), NoMemory>
+    ensures agenda { (p : ProgramData) (old new : RuleData → List RowData) → AreBetween p old new changes.items → IfOk result (λ r. IsRefreshed p.rules old new agenda r.0) }
+    ensures left { IfOk result (λ r. HasLeft agenda r.0 (is_among r.1.items)) }
 {
     let mut agenda = agenda;
+    let mut left = Vec::new(alloc);
     for change in changes {
         let RuleChange { rule, delta } = change;
+        add_rows(&mut left, delta.gone.as_slice())?;
         agenda = agenda.change(rule, delta)?;
     }
-    Ok(agenda)
+    Ok((agenda, left))
 }
 
 // Those of the facts that have these tags, in the order of these.
@@ -49,8 +81,8 @@ fn facts_at<'s>(
     Ok(found)
 }
 
-/// The agenda after the network has taken the facts of these tags that go, the fact that comes, if one does, and the clock. The
-/// facts have those that go and the one that comes.
+/// The agenda after the network has taken the facts of these tags that go, the fact that comes, if one does, and the clock; and the
+/// tags that the rows which go name. The facts have those that go and the one that comes.
 pub(crate) fn followed(
     alloc: Global,
     program: &Program,
@@ -60,17 +92,18 @@ pub(crate) fn followed(
     gone: &[u64],
     come: Option<&Fact>,
     clock: Millis,
-) -> Result<Agenda, NoMemory>
+) -> Result<(Agenda, Vec<Tag>), NoMemory>
     requires { IsRunnable program.now }
-    ensures net { (before behind : HeldFacts) (from : ℤ) → Leads program.now before from behind clock facts.now gone.now (option_map (λ f. f.now) come.entry)
-        → NetStands program.now net.old (over (facts_of before) from) no_names → OnOk result (NetStands program.now net.new (over (facts_of behind) clock) no_names) }
-    ensures agenda { (before behind : HeldFacts) (from : ℤ) → Leads program.now before from behind clock facts.now gone.now (option_map (λ f. f.now) come.entry)
-        → NetStands program.now net.old (over (facts_of before) from) no_names
-        → IfOk result (IsRefreshed program.now.rules (rows_at program.now (facts_of before) from) (rows_at program.now (facts_of behind) clock) agenda) }
+    ensures net { (before behind all : HeldFacts) (from : ℤ) (forgotten : NamedData → Bool) → LeadsOn program.now before from behind clock all gone.now (option_map (λ f. f.now) come.entry) forgotten facts.now
+        → NetStands program.now net.old (over (facts_of before) from) forgotten → OnOk result (NetStands program.now net.new (over (facts_of behind) clock) forgotten) }
+    ensures agenda { (before behind all : HeldFacts) (from : ℤ) (forgotten : NamedData → Bool) → LeadsOn program.now before from behind clock all gone.now (option_map (λ f. f.now) come.entry) forgotten facts.now
+        → NetStands program.now net.old (over (facts_of before) from) forgotten
+        → IfOk result (λ r. IsRefreshed program.now.rules (clean_rows program.now (over (facts_of before) from) forgotten) (clean_rows program.now (over (facts_of behind) clock) forgotten) agenda r.0) }
+    ensures left { IfOk result (λ r. HasLeft agenda r.0 (is_among r.1.items)) }
 {
     let gone = facts_at(alloc, facts, gone)?;
     let changes = net.advance(alloc, program, gone.as_slice(), come, clock, facts)?;
-    refreshed(agenda, changes)
+    refreshed(alloc, agenda, changes)
 }
 
 /// The facts without those of these tags.

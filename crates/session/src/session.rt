@@ -1,17 +1,20 @@
 ghost use Rattle.std.specs.Prelude.{◌≡◌, ◌+◌, ◌≤◌, ◌^◌, true, IfOk, is_some};
 ghost use Rattle.rule_model.specs.Matches.{saliences};
+ghost use Rattle.session.specs.Standing.{StandsForSome};
 
+use crate::memory::Memory;
 use crate::refreshing::refreshed;
+use crate::setting::Setting;
 use crate::state::State;
 use agenda::Agenda;
 use change_read::asked_step;
 use engine::{Engine, Fired, Lines};
 use fx_base::{Millis, NoMemory, Seq};
 use rete_net::Rete;
+use retention::Retention;
 use rule_model::{LifeTable, Program, Rule};
 use script_read::Change;
 use std::alloc::Global;
-use std::marker::Model;
 
 fn saliences_of(alloc: Global, rules: &[Rule]) -> Result<Vec<i64>, NoMemory>
     ensures { IfOk result (λ v. v.items ≡ saliences rules.now) }
@@ -23,116 +26,110 @@ fn saliences_of(alloc: Global, rules: &[Rule]) -> Result<Vec<i64>, NoMemory>
     Ok(all)
 }
 
-/// An engine in some lawful world of its program. It keeps the facts that are present under their tags, the clock, the last starts of the entry
-/// points, an agenda, and the network of its rules.
+/// An engine in some lawful world of its program. It keeps, under their tags, the present facts that some rule can still need, the
+/// moments at which events expire, the clock, the last starts of the entry points, an agenda, the network of its rules, and the events
+/// whose lives end.
 #[derive(Drop)]
 pub struct Session {
-    program: Program,
-    lives: LifeTable,
+    setting: Setting,
     state: State,
-    net: Rete,
-}
-
-impl Model for Session {
-    ghost use Rattle.session.specs.Standing.{Shown};
-
-    ghost Value = { Shown };
-
-    ghost use Rattle.std.specs.Coded.{codes};
-    ghost use Rattle.rule_model.specs.ExpressionCode.{expression_code};
-    ghost use Rattle.session.specs.Codes.{held_code, timers_code};
-    ghost use Rattle.session.specs.Following.{Keeps};
-
-    ghost coded = { Prim.hlevel (codes, expression_code, held_code, timers_code) };
-
-    ghost view = { λ s. record { program = s.program; lives = s.lives; contents = s.state } };
-
-    ghost invariant = { λ s. Keeps s.program s.lives s.state s.net };
+    memory: Memory,
+    ghost some: { ∥ StandsForSome setting memory state ∥₁ },
 }
 
 impl Session {
-    ghost use Rattle.rule_model.specs.Lives.{IsTable};
+    ghost use Rattle.rule_lives.specs.Keeping.{IsLifeTable};
     ghost use Rattle.rule_world.specs.Programs.{IsRunnable};
     ghost use Rattle.rule_world.specs.Worlds.{World, empty_world};
     ghost use Rattle.engine.specs.Answers.{FiringAnswers};
     ghost use Rattle.engine.specs.Known.{are_known, is_known_firing};
     ghost use Rattle.session.specs.Gives.{gives, fires};
-    ghost use Rattle.session.specs.Standing.{Stands};
+    ghost use Rattle.session.specs.Sessions.{Stands};
 
     /// An engine in the empty world of a program, with the table of the lives of its types.
     pub fn new(alloc: Global, program: Program, lives: LifeTable) -> Result<Session, NoMemory>
         requires runnable { IsRunnable program }
-        requires table { IsTable program lives }
+        requires table { IsLifeTable program lives }
         ensures stands { IfOk result (λ s. Stands s empty_world) }
-        ensures program { IfOk result (λ s. s.program ≡ program) }
-        ensures table { IfOk result (λ s. s.lives ≡ lives) }
-        ensures next { IfOk result (λ s. s.contents.next_tag ≡ 1) }
+        ensures program { IfOk result (λ s. s.setting.program ≡ program) }
+        ensures table { IfOk result (λ s. s.setting.lives ≡ lives) }
+        ensures next { IfOk result (λ s. s.state.next_tag ≡ 1) }
     {
         let saliences = saliences_of(alloc, program.rules.as_slice())?;
         let (net, first) = Rete::build(alloc, &program)?;
-        let agenda = refreshed(Agenda::new(alloc, &saliences)?, first)?;
+        let (agenda, _left) = refreshed(alloc, Agenda::new(alloc, &saliences)?, first)?;
         let state = State::new(alloc, agenda);
+        let retention = Retention::new(alloc);
         Ok(Session {
-            program,
-            lives,
+            setting: Setting { program, lives },
             state,
-            net,
+            memory: Memory { net, retention },
         })
     }
 
     /// The lines of a change, or its fault, which leaves the world as it is.
     pub fn apply(self, alloc: Global, change: &Change) -> Result<(Session, Lines), NoMemory>
-        requires { self.contents.next_tag ≤ 2 ^ 62 }
-        ensures lines { IfOk result (λ r. (w : World) → Stands self w → r.1 ≡ (gives self.program w change.now).0) }
-        ensures next { IfOk result (λ r. (w : World) → Stands self w → Stands r.0 (gives self.program w change.now).1) }
-        ensures known { IfOk result (λ r. are_known self.program r.1 ≡ true) }
-        ensures program { IfOk result (λ r. r.0.program ≡ self.program) }
-        ensures table { IfOk result (λ r. r.0.lives ≡ self.lives) }
-        ensures tags { IfOk result (λ r. r.0.contents.next_tag ≤ self.contents.next_tag + 1) }
+        requires { self.state.next_tag ≤ 2 ^ 62 }
+        ensures lines { IfOk result (λ r. (w : World) → Stands self w → r.1 ≡ (gives self.setting.program w change.now).0) }
+        ensures next { IfOk result (λ r. (w : World) → Stands self w → Stands r.0 (gives self.setting.program w change.now).1) }
+        ensures known { IfOk result (λ r. are_known self.setting.program r.1 ≡ true) }
+        ensures program { IfOk result (λ r. r.0.setting.program ≡ self.setting.program) }
+        ensures table { IfOk result (λ r. r.0.setting.lives ≡ self.setting.lives) }
+        ensures tags { IfOk result (λ r. r.0.state.next_tag ≤ self.state.next_tag + 1) }
     {
-        let mut session = self;
+        let Session {
+            setting,
+            state,
+            mut memory,
+        } = self;
         let mut lines = Vec::new(alloc);
-        let asked = asked_step(alloc, &session.program, &session.state, change)?;
-        session.state = session.state.apply(
-            alloc,
-            &session.program,
-            &mut session.net,
-            asked,
-            &mut lines,
-        )?;
-        Ok((session, Seq::from_vec(lines)))
+        let asked = asked_step(alloc, &setting.program, &state, change)?;
+        let state = state.apply(alloc, &setting, &mut memory, asked, &mut lines)?;
+        Ok((
+            Session {
+                setting,
+                state,
+                memory,
+            },
+            Seq::from_vec(lines),
+        ))
     }
 
     /// The lines of one firing and of its actions, whose values are those of the world before it; `No` exactly where nothing is
     /// pending.
     pub fn fire_one(self, alloc: Global) -> Result<(Session, Fired), NoMemory>
-        requires { self.contents.next_tag ≤ 2 ^ 62 }
-        ensures answers { IfOk result (λ r. (w : World) → Stands self w → FiringAnswers (fires self.program w) r.1 w (Stands r.0)) }
-        ensures known { IfOk result (λ r. is_known_firing self.program r.1 ≡ true) }
-        ensures program { IfOk result (λ r. r.0.program ≡ self.program) }
-        ensures table { IfOk result (λ r. r.0.lives ≡ self.lives) }
-        ensures tags { IfOk result (λ r. r.0.contents.next_tag ≤ self.contents.next_tag + 16) }
+        requires { self.state.next_tag ≤ 2 ^ 62 }
+        ensures answers { IfOk result (λ r. (w : World) → Stands self w → FiringAnswers (fires self.setting.program w) r.1 w (Stands r.0)) }
+        ensures known { IfOk result (λ r. is_known_firing self.setting.program r.1 ≡ true) }
+        ensures program { IfOk result (λ r. r.0.setting.program ≡ self.setting.program) }
+        ensures table { IfOk result (λ r. r.0.setting.lives ≡ self.setting.lives) }
+        ensures tags { IfOk result (λ r. r.0.state.next_tag ≤ self.state.next_tag + 16) }
     {
-        let mut session = self;
-        match session.state.plan(alloc, &session.program)? {
+        match self.state.plan(alloc, &self.setting.program)? {
             Some(plan) => {
+                let Session {
+                    setting,
+                    state,
+                    mut memory,
+                } = self;
                 let mut lines = Vec::new(alloc);
-                session.state = session.state.fire(
-                    alloc,
-                    &session.program,
-                    &mut session.net,
-                    plan,
-                    &mut lines,
-                )?;
-                Ok((session, Fired::Yes(Seq::from_vec(lines))))
+                let state = state.fire(alloc, &setting, &mut memory, plan, &mut lines)?;
+                Ok((
+                    Session {
+                        setting,
+                        state,
+                        memory,
+                    },
+                    Fired::Yes(Seq::from_vec(lines)),
+                ))
             }
-            None => Ok((session, Fired::No)),
+            None => Ok((self, Fired::No)),
         }
     }
 
     /// Whether a match is pending. Takes no memory.
     pub fn due(&self) -> bool
-        ensures { (w : World) → Stands self.now w → result ≡ is_some (fires self.now.program w) }
+        ensures { (w : World) → Stands self.now w → result ≡ is_some (fires self.now.setting.program w) }
     {
         self.state.top().is_some()
     }
@@ -146,31 +143,31 @@ impl Session {
 
     /// The program that the session was made with. Takes no memory.
     pub fn program(&self) -> &Program
-        ensures { result.now ≡ self.now.program }
+        ensures { result.now ≡ self.now.setting.program }
     {
-        &self.program
+        &self.setting.program
     }
 
     /// The table of lives that the session was made with. Takes no memory.
     pub fn lives(&self) -> &LifeTable
-        ensures { result.now ≡ self.now.lives }
+        ensures { result.now ≡ self.now.setting.lives }
     {
-        &self.lives
+        &self.setting.lives
     }
 }
 
 impl Engine for Session {
     ghost use Rattle.std.specs.Prelude.{◌-◌};
     ghost use Rattle.session.specs.Gives.{gives as session_gives, fires as session_fires};
-    ghost use Rattle.session.specs.Standing.{Stands};
+    ghost use Rattle.session.specs.Sessions.{Stands};
 
     ghost stands = { Stands };
 
-    ghost made_with = { λ s. s.program };
+    ghost made_with = { λ s. s.setting.program };
 
-    ghost table = { λ s. s.lives };
+    ghost table = { λ s. s.setting.lives };
 
-    ghost tags = { λ s. s.contents.next_tag - 1 };
+    ghost tags = { λ s. s.state.next_tag - 1 };
 
     ghost gives = { session_gives };
 

@@ -1,20 +1,18 @@
-ghost use Rattle.std.specs.Prelude.{◌≡◌, ◌+◌, ◌<◌, ◌≤◌, ◌≤ℤ◌, ◌-ℤ◌, ◌&&◌, ◌^◌, pos, [], ◌∷◌, ◌++◌, length, None, Some, slice_get, IfOk, IfErr, OnOk};
+ghost use Rattle.std.specs.Prelude.{◌≡◌, ◌+◌, ◌<◌, ◌≤◌, ◌≤ℤ◌, ◌+ℤ◌, ◌-ℤ◌, ◌&&◌, ◌^◌, pos, [], ◌∷◌, ◌++◌, length, None, Some, slice_get, IfOk, IfErr, OnOk};
 ghost use Rattle.rule_model.specs.declared.step.Step.TheVariants.{Insert, Modify, Retract, Advance, At};
 ghost use Rattle.rule_model.specs.Types.{is_event, is_observed};
 ghost use Rattle.rule_world.specs.Events.{most_millis, new_fault, times_of};
 ghost use Rattle.rule_world.specs.Programs.{IsRunnable};
 ghost use Rattle.engine.specs.declared.lines.OutLine.TheVariants.{Fault};
-ghost use Rattle.session.specs.Gives.{tries, does, does_all};
-ghost use Rattle.session.specs.Following.{Follows};
-ghost use Rattle.session.specs.Leading.{AllFit, MovesTo, StandsAfter, StandsAfterAll, Writes};
-ghost use Rattle.rule_world.specs.Worlds.{World};
-ghost use Rattle.session.specs.Standing.{Standing};
+ghost use Rattle.session.specs.Leading.{StandsAfter, StandsAfterAll, Tries, Writes, WritesAll, WritesFor};
+ghost use Rattle.session.specs.Standing.{Runs};
 ghost use Rattle.session.specs.Places.{floor_in};
 
+use crate::memory::Memory;
+use crate::setting::Setting;
 use crate::state::State;
 use engine::OutLine;
 use fx_base::{EntryId, Fact, FactId, Millis, NoMemory, Seq, Tag, Times, TypeId, Value};
-use rete_net::Rete;
 use rule_model::{Program, Step};
 use rule_world::{Code, clock_after, clock_at, floor, new_times};
 use std::alloc::Global;
@@ -52,6 +50,8 @@ impl State {
         ensures times { IfOk result (λ times. times ≡ times_of (slice_get program.now.types ty.0) self.now.clock fields.now) }
         ensures low { IfOk result (λ times. (pos 0 -ℤ most_millis) ≤ℤ times.start) }
         ensures high { IfOk result (λ times. times.start ≤ℤ most_millis) }
+        ensures end_low { IfOk result (λ times. (pos 0 -ℤ most_millis) ≤ℤ times.end) }
+        ensures end_high { IfOk result (λ times. times.end ≤ℤ (most_millis +ℤ most_millis)) }
         ensures none { IfOk result (λ _. new_fault (slice_get program.now.types ty.0) (floor_in program.now self.now.last_starts self.now.clock entry.0) self.now.clock fields.now ≡ None) }
         ensures fault { IfErr result (λ code. new_fault (slice_get program.now.types ty.0) (floor_in program.now self.now.last_starts self.now.clock entry.0) self.now.clock fields.now ≡ Some code) }
     {
@@ -63,22 +63,20 @@ impl State {
     fn insert(
         self,
         alloc: Global,
-        program: &Program,
-        net: &mut Rete,
+        setting: &Setting,
+        memory: &mut Memory,
         ty: TypeId,
         entry: EntryId,
         fields: Seq<Value>,
         lines: &mut Vec<OutLine>,
     ) -> Result<State, NoMemory>
-        requires runnable { IsRunnable program.now }
-        requires follows { Follows program.now net.old self }
+        requires runs { Runs setting.now }
         requires low { self.next_tag < 2 ^ 63 }
-        ensures stands { IfOk result (MovesTo program.now self (λ w. (tries program.now w (Insert ty entry fields)).1)) }
-        ensures lines { OnOk result (Writes program.now self (λ w. (tries program.now w (Insert ty entry fields)).0) lines.old.items lines.new.items) }
-        ensures follows { IfOk result (Follows program.now net.new) }
+        ensures stands { IfOk result (λ s. Tries setting.now memory.old self (Insert ty entry fields) memory.new s) }
+        ensures lines { OnOk result (Writes setting.now memory.old self (Insert ty entry fields) lines.old.items lines.new.items) }
         ensures tags { IfOk result (λ s. s.next_tag ≤ self.next_tag + 1) }
     {
-        match self.times_for(program, ty, entry, fields.as_slice()) {
+        match self.times_for(&setting.program, ty, entry, fields.as_slice()) {
             Ok(times) => {
                 let id = FactId(self.next_id);
                 let tag = Tag(self.next_tag);
@@ -91,7 +89,7 @@ impl State {
                     tag,
                     times,
                 };
-                self.with_new(alloc, program, net, fact)
+                self.with_new(alloc, setting, memory, fact)
             }
             Err(code) => self.refuse(code, lines),
         }
@@ -101,22 +99,20 @@ impl State {
     fn modify(
         self,
         alloc: Global,
-        program: &Program,
-        net: &mut Rete,
+        setting: &Setting,
+        memory: &mut Memory,
         id: FactId,
         sets: Seq<(usize, Value)>,
         lines: &mut Vec<OutLine>,
     ) -> Result<State, NoMemory>
-        requires runnable { IsRunnable program.now }
-        requires follows { Follows program.now net.old self }
+        requires runs { Runs setting.now }
         requires low { self.next_tag < 2 ^ 63 }
-        ensures stands { IfOk result (MovesTo program.now self (λ w. (tries program.now w (Modify id sets)).1)) }
-        ensures lines { OnOk result (Writes program.now self (λ w. (tries program.now w (Modify id sets)).0) lines.old.items lines.new.items) }
-        ensures follows { IfOk result (Follows program.now net.new) }
+        ensures stands { IfOk result (λ s. Tries setting.now memory.old self (Modify id sets) memory.new s) }
+        ensures lines { OnOk result (Writes setting.now memory.old self (Modify id sets) lines.old.items lines.new.items) }
         ensures tags { IfOk result (λ s. s.next_tag ≤ self.next_tag + 1) }
     {
-        match self.modifiable(program, id) {
-            Ok(tag) => self.with_sets(alloc, program, net, id, tag, sets),
+        match self.modifiable(&setting.program, id) {
+            Ok(tag) => self.with_sets(alloc, setting, memory, id, tag, sets),
             Err(code) => self.refuse(code, lines),
         }
     }
@@ -125,25 +121,25 @@ impl State {
     fn retract(
         self,
         alloc: Global,
-        program: &Program,
-        net: &mut Rete,
+        setting: &Setting,
+        memory: &mut Memory,
         ty: TypeId,
         id: FactId,
         lines: &mut Vec<OutLine>,
     ) -> Result<State, NoMemory>
-        requires runnable { IsRunnable program.now }
-        requires follows { Follows program.now net.old self }
-        ensures stands { IfOk result (MovesTo program.now self (λ w. (tries program.now w (Retract ty id)).1)) }
-        ensures lines { OnOk result (Writes program.now self (λ w. (tries program.now w (Retract ty id)).0) lines.old.items lines.new.items) }
-        ensures follows { IfOk result (Follows program.now net.new) }
+        requires runs { Runs setting.now }
+        ensures stands { IfOk result (λ s. Tries setting.now memory.old self (Retract ty id) memory.new s) }
+        ensures lines { OnOk result (Writes setting.now memory.old self (Retract ty id) lines.old.items lines.new.items) }
         ensures tags { IfOk result (λ s. s.next_tag ≡ self.next_tag) }
     {
-        if are_observed(program, ty) {
+        if are_observed(&setting.program, ty) {
             return self.refuse(Code::EventObserved, lines);
         }
         match self.tag_of(ty, id) {
-            Some(tag) => self.without(alloc, program, net, ty, id, tag),
-            None if program.is_event(ty) => Ok(self),
+            Some(tag) => self.without(alloc, setting, memory, ty, id, tag),
+            None if setting.program.is_event(ty) => {
+                self.without_forgotten(alloc, setting, memory, ty, id)
+            }
             None => self.refuse(Code::Absent, lines),
         }
     }
@@ -152,20 +148,18 @@ impl State {
     fn advance(
         self,
         alloc: Global,
-        program: &Program,
-        net: &mut Rete,
+        setting: &Setting,
+        memory: &mut Memory,
         by: Millis,
         lines: &mut Vec<OutLine>,
     ) -> Result<State, NoMemory>
-        requires runnable { IsRunnable program.now }
-        requires follows { Follows program.now net.old self }
-        ensures stands { IfOk result (MovesTo program.now self (λ w. (tries program.now w (Advance by)).1)) }
-        ensures lines { OnOk result (Writes program.now self (λ w. (tries program.now w (Advance by)).0) lines.old.items lines.new.items) }
-        ensures follows { IfOk result (Follows program.now net.new) }
+        requires runs { Runs setting.now }
+        ensures stands { IfOk result (λ s. Tries setting.now memory.old self (Advance by) memory.new s) }
+        ensures lines { OnOk result (Writes setting.now memory.old self (Advance by) lines.old.items lines.new.items) }
         ensures tags { IfOk result (λ s. s.next_tag ≡ self.next_tag) }
     {
         match clock_after(self.clock, by) {
-            Ok(clock) => self.with_clock(alloc, program, net, clock),
+            Ok(clock) => self.with_clock(alloc, setting, memory, clock),
             Err(code) => self.refuse(code, lines),
         }
     }
@@ -174,20 +168,18 @@ impl State {
     fn go_to(
         self,
         alloc: Global,
-        program: &Program,
-        net: &mut Rete,
+        setting: &Setting,
+        memory: &mut Memory,
         moment: Millis,
         lines: &mut Vec<OutLine>,
     ) -> Result<State, NoMemory>
-        requires runnable { IsRunnable program.now }
-        requires follows { Follows program.now net.old self }
-        ensures stands { IfOk result (MovesTo program.now self (λ w. (tries program.now w (At moment)).1)) }
-        ensures lines { OnOk result (Writes program.now self (λ w. (tries program.now w (At moment)).0) lines.old.items lines.new.items) }
-        ensures follows { IfOk result (Follows program.now net.new) }
+        requires runs { Runs setting.now }
+        ensures stands { IfOk result (λ s. Tries setting.now memory.old self (At moment) memory.new s) }
+        ensures lines { OnOk result (Writes setting.now memory.old self (At moment) lines.old.items lines.new.items) }
         ensures tags { IfOk result (λ s. s.next_tag ≡ self.next_tag) }
     {
         match clock_at(self.clock, moment) {
-            Ok(clock) => self.with_clock(alloc, program, net, clock),
+            Ok(clock) => self.with_clock(alloc, setting, memory, clock),
             Err(code) => self.refuse(code, lines),
         }
     }
@@ -196,27 +188,25 @@ impl State {
     fn step(
         self,
         alloc: Global,
-        program: &Program,
-        net: &mut Rete,
+        setting: &Setting,
+        memory: &mut Memory,
         step: Step,
         lines: &mut Vec<OutLine>,
     ) -> Result<State, NoMemory>
-        requires runnable { IsRunnable program.now }
-        requires follows { Follows program.now net.old self }
+        requires runs { Runs setting.now }
         requires low { self.next_tag < 2 ^ 63 }
-        ensures stands { IfOk result (MovesTo program.now self (λ w. (tries program.now w step).1)) }
-        ensures lines { OnOk result (Writes program.now self (λ w. (tries program.now w step).0) lines.old.items lines.new.items) }
-        ensures follows { IfOk result (Follows program.now net.new) }
+        ensures stands { IfOk result (λ s. Tries setting.now memory.old self step memory.new s) }
+        ensures lines { OnOk result (Writes setting.now memory.old self step lines.old.items lines.new.items) }
         ensures tags { IfOk result (λ s. s.next_tag ≤ self.next_tag + 1) }
     {
         match step {
             Step::Insert { ty, entry, fields } => {
-                self.insert(alloc, program, net, ty, entry, fields, lines)
+                self.insert(alloc, setting, memory, ty, entry, fields, lines)
             }
-            Step::Modify { id, sets } => self.modify(alloc, program, net, id, sets, lines),
-            Step::Retract { ty, id } => self.retract(alloc, program, net, ty, id, lines),
-            Step::Advance(by) => self.advance(alloc, program, net, by, lines),
-            Step::At(moment) => self.go_to(alloc, program, net, moment, lines),
+            Step::Modify { id, sets } => self.modify(alloc, setting, memory, id, sets, lines),
+            Step::Retract { ty, id } => self.retract(alloc, setting, memory, ty, id, lines),
+            Step::Advance(by) => self.advance(alloc, setting, memory, by, lines),
+            Step::At(moment) => self.go_to(alloc, setting, memory, moment, lines),
         }
     }
 
@@ -224,21 +214,19 @@ impl State {
     pub(crate) fn apply(
         self,
         alloc: Global,
-        program: &Program,
-        net: &mut Rete,
+        setting: &Setting,
+        memory: &mut Memory,
         wanted: Result<Step, Code>,
         lines: &mut Vec<OutLine>,
     ) -> Result<State, NoMemory>
-        requires runnable { IsRunnable program.now }
-        requires follows { Follows program.now net.old self }
+        requires runs { Runs setting.now }
         requires low { self.next_tag < 2 ^ 63 }
-        ensures stands { IfOk result (StandsAfter program.now self wanted) }
-        ensures lines { OnOk result (Writes program.now self (λ w. (does program.now w wanted).0) lines.old.items lines.new.items) }
-        ensures follows { IfOk result (Follows program.now net.new) }
+        ensures stands { IfOk result (λ s. StandsAfter setting.now memory.old self wanted memory.new s) }
+        ensures lines { OnOk result (WritesFor setting.now memory.old self wanted lines.old.items lines.new.items) }
         ensures tags { IfOk result (λ s. s.next_tag ≤ self.next_tag + 1) }
     {
         match wanted {
-            Ok(step) => self.step(alloc, program, net, step, lines),
+            Ok(step) => self.step(alloc, setting, memory, step, lines),
             Err(code) => self.refuse(code, lines),
         }
     }
@@ -247,22 +235,20 @@ impl State {
     pub(crate) fn apply_all(
         self,
         alloc: Global,
-        program: &Program,
-        net: &mut Rete,
+        setting: &Setting,
+        memory: &mut Memory,
         plan: Plan,
         lines: &mut Vec<OutLine>,
     ) -> Result<State, NoMemory>
-        requires runnable { IsRunnable program.now }
-        requires follows { Follows program.now net.old self }
+        requires runs { Runs setting.now }
         requires low { self.next_tag + length plan.items ≤ 2 ^ 63 }
-        ensures stands { IfOk result (StandsAfterAll program.now self plan.items) }
-        ensures lines { OnOk result ((w : World) → Standing program.now self w → AllFit program.now w plan.items → lines.new.items ≡ lines.old.items ++ (does_all program.now w plan.items).0) }
-        ensures follows { IfOk result (Follows program.now net.new) }
+        ensures stands { IfOk result (λ s. StandsAfterAll setting.now memory.old self plan.items memory.new s) }
+        ensures lines { OnOk result (WritesAll setting.now memory.old self plan.items lines.old.items lines.new.items) }
         ensures tags { IfOk result (λ s. s.next_tag ≤ self.next_tag + length plan.items) }
     {
         let mut state = self;
         for wanted in plan {
-            state = state.apply(alloc, program, net, wanted, lines)?;
+            state = state.apply(alloc, setting, memory, wanted, lines)?;
         }
         Ok(state)
     }
