@@ -8,14 +8,14 @@ use Rattle.rule_world.specs.Lawful.{IsLawful}
 use Rattle.rule_world.specs.Worlds.{World, kept, settled, with_new, with_revised, without_fact, at_clock}
 use Rattle.rule_world.proofs.Kept.{kept_settled}
 use Rattle.rule_world.proofs.Keeping.{kept_lawful, kept_new, kept_numbers, kept_revised, kept_without, kept_later, with_numbers}
-use Rattle.session.specs.Standing.{Contents, Mirrors, Standing}
+use Rattle.session.specs.Standing.{Contents, Mirrors, Whole}
 
 -- the contents of a session are those of a lawful world
 pub record Exact (p : Program) (k : Contents) (w : World) : Type 0 where
   pub lawful : IsLawful p w
   pub mirrors : Mirrors p k w
 
-pub exact : (p : Program) (k : Contents) (w : World) → Standing p k w → Exact p k (kept p w)
+pub exact : (p : Program) (k : Contents) (w : World) → Whole p k w → Exact p k (kept p w)
 exact p k w st = record { lawful = kept_lawful p w st.lawful; mirrors = st.mirrors }
 
 -- ---- what is kept of the next world

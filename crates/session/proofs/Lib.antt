@@ -10,11 +10,13 @@ pub mod Exactly
 pub mod Newest
 pub mod Stands
 pub mod Faults
-pub mod Follow
-pub mod Doing
+pub pub mod Doing
 pub mod Tried
 pub mod Firings
 pub mod Acting
 pub mod Asking
 pub mod Sessions
 pub mod Knowing
+mod Phases
+mod Taken
+mod Needs

@@ -1,4 +1,4 @@
--- A session has the contents of the world after a step.
+-- The facts, the clock and the numbers of a session, of which none is forgotten, are those of the world after a step.
 use Rattle.std.specs.List.{filter}
 use Rattle.std.proofs.Common.{◌≡◌, ℕ, ℤ, ◌+◌, ◌<◌, if◌then◌else◌, ◌&&◌, ◌||◌, ◌==◌, not, Bool, true, false, List, [], ◌∷◌, ◌++◌, Option, Some, None, refl, sym, ◌∙◌, ap, subst, arith}
 use Rattle.fx_base.specs.Lists.{In}
@@ -9,15 +9,10 @@ use Rattle.fx_base.specs.declared.value.Value.{Value}
 use Rattle.fx_base.specs.declared.fact.Fact.{Fact}
 use Rattle.due_queue.specs.Timers.{Timers, TakesDue}
 use Rattle.fact_store.specs.Held.{HeldFacts, facts_of}
-use Rattle.row_delta.specs.declared.row.Row.{Row}
-use Rattle.rule_model.specs.declared.matched.Match.{Match}
 use Rattle.rule_model.specs.declared.program.Program.{Program}
-use Rattle.rule_model.specs.declared.program.Rule.{Rule}
 use Rattle.rule_model.specs.declared.step.Step.TheVariants.{Modify}
 use Rattle.rule_model.specs.Candidates.{is_present}
 use Rattle.rule_model.specs.Distinct.{HaveDistinctTags}
-use Rattle.rule_model.specs.Matches.{matches, has_match}
-use Rattle.rule_model.specs.Snapshots.{Snapshot}
 use Rattle.rule_model.specs.Types.{is_event}
 use Rattle.rule_model.proofs.Named.{AllOf, of_filter}
 use Rattle.rule_model.proofs.Order.{in_filter, passed}
@@ -27,76 +22,17 @@ use Rattle.rule_world.specs.declared.code.Code.TheVariants.{EventFixed}
 use Rattle.rule_world.specs.Events.{end_of_presence}
 use Rattle.rule_world.specs.Worlds.{World, at_clock, kept, modify_fault, is_of_type, last_start_with, moved, revised, revised_in, settled, snapshot, still_fired, with_new, with_revised, without, without_fact}
 use Rattle.rule_world.proofs.Fresh.{AllBelow, below_of, distinct_more, distinct_filtered}
-use Rattle.rule_world.proofs.Pending.{has_pending, has_still}
 use Rattle.rule_world.proofs.Keeping.{with_numbers}
 use Rattle.rule_world.proofs.Steps.{move_numbered, numbered, stays}
 use Rattle.agenda.specs.Agendas.{Marks}
 use Rattle.session.specs.Places.{IsNewestTag, newest}
-use Rattle.session.specs.Refreshed.{over, rows_at, matches_by, IsRefreshed}
 use Rattle.session.specs.Waiting.{with_timer, without_timer, left_at}
-use Rattle.session.specs.Standing.{AgendaStands, Contents, Mirrors, expiry_at, last_start_in}
-use Rattle.session.proofs.Alike.{same_matches}
+use Rattle.session.specs.Standing.{Contents, Mirrors, expiry_at, last_start_in}
 use Rattle.session.proofs.Exactly.{Exact}
 use Rattle.session.proofs.Members.{Holds, all_listed, held_distinct, holds_less, holds_new, holds_revised, listed, own_tags, swapped, versions}
 use Rattle.session.proofs.Newest.{holds, tagged_in, tagged_found, world_found}
-use Rattle.session.proofs.Rules.{unchanged, unchanged_mark}
 use Rattle.session.proofs.Timers.{timed_new, timed_less, timed_plain, timed_left, left_found, left_present}
 use Rattle.std.specs.FinMap as map
-
--- of one match: whether it was one before, is one now, and was fired
-kernel_pending : (was is fired : Bool) → (fired ≡ true → was ≡ true)
-    → (((was && not fired) && not (was && not is)) || (is && not was)) ≡ (is && not (fired && is))
-kernel_pending true true true ordered = refl
-kernel_pending true true false ordered = refl
-kernel_pending true false true ordered = refl
-kernel_pending true false false ordered = refl
-kernel_pending false is true ordered = let e : false ≡ true = ordered refl in cc
-kernel_pending false true false ordered = refl
-kernel_pending false false false ordered = refl
-
-kernel_fired : (was is fired : Bool) → (fired ≡ true → was ≡ true) → (fired && not (was && not is)) ≡ (fired && is)
-kernel_fired true true true ordered = refl
-kernel_fired true false true ordered = refl
-kernel_fired false is true ordered = let e : false ≡ true = ordered refl in cc
-kernel_fired was is false ordered = refl
-
--- the snapshots have the same matches
-abbrev SameMatches : Program → Snapshot → Snapshot → Type 0
-SameMatches p s o = (m : Match) → has_match (matches p s) m ≡ has_match (matches p o) m
-
--- these rows of the rules are the matches of a world
-abbrev HaveMatches : Program → (Rule → List Row) → World → Type 0
-HaveMatches p found w = (m : Match) → has_match (matches_by found p.rules) m ≡ has_match (matches p (snapshot w)) m
-
--- an agenda that was refreshed stands for the world that was moved and whose marks were judged anew
-module _ (p : Program) (a b : Marks) (w next : World) (old new : Rule → List Row) (ordered : IsOrdered p w) (s : AgendaStands p a w) (still : next.fired ≡ still_fired p (snapshot next) w.fired)
-    (before : HaveMatches p old w) (after : HaveMatches p new next) (r : IsRefreshed p.rules old new a b) where
-  refreshed_stands : AgendaStands p b next
-  refreshed_stands = record {
-    saliences = r.saliences ∙ s.saliences;
-    pending = λ m.
-        let was_old = has_match (matches_by old p.rules) m in
-        let is_new = has_match (matches_by new p.rules) m in
-        let was = has_match (matches p (snapshot w)) m in
-        let now = has_match (matches p (snapshot next)) m in
-        let fired = has_match w.fired m in
-        r.pending m
-        ∙ ap (λ z. (z && not (was_old && not is_new)) || (is_new && not was_old)) (s.pending m ∙ has_pending p w m)
-        ∙ ap (λ z. ((was && not fired) && not (z && not is_new)) || (is_new && not z)) (before m)
-        ∙ ap (λ z. ((was && not fired) && not (was && not z)) || (z && not was)) (after m)
-        ∙ kernel_pending was now fired (ordered.fired m)
-        ∙ sym (has_pending p next m ∙ ap (λ z. now && not z) (ap (λ ms. has_match ms m) still ∙ has_still p (snapshot next) w.fired m));
-    fired = λ m.
-        let is_new = has_match (matches_by new p.rules) m in
-        let was = has_match (matches p (snapshot w)) m in
-        let fired = has_match w.fired m in
-        r.fired m
-        ∙ ap (λ z. z && not (has_match (matches_by old p.rules) m && not is_new)) (s.fired m)
-        ∙ ap (λ z. fired && not (z && not is_new)) (before m)
-        ∙ ap (λ z. fired && not (was && not z)) (after m)
-        ∙ kernel_fired was (has_match (matches p (snapshot next)) m) fired (ordered.fired m)
-        ∙ sym (ap (λ ms. has_match ms m) still ∙ has_still p (snapshot next) w.fired m);
-  }
 
 abbrev pub contents : HeldFacts → Timers → ℤ → List ℤ → Marks → ℕ → ℕ → Contents
 contents facts expiries clock starts a id tag = record { facts = facts; expiries = expiries; clock = clock; last_starts = starts; agenda = a; next_id = id; next_tag = tag }
@@ -120,25 +56,6 @@ for_world p k w P s h =
     ap (λ z. world_of w z k.next_id k.next_tag) s.mirrors.clock ∙ ap (λ z. world_of w w.clock z k.next_tag) s.mirrors.next_id ∙ ap (λ z. world_of w w.clock w.next_id z) s.mirrors.next_tag in
     subst P e (h (subst (Exact p k) (sym e) s))
 
--- facts with the same members, at the clock of a world
-over_matches : (p : Program) (w : World) (facts : List Fact) (clock : ℤ) → clock ≡ w.clock → HaveDistinctTags facts → HaveDistinctTags w.facts → AllOf w.facts facts → AllOf facts w.facts
-    → SameMatches p (over facts clock) (snapshot w)
-over_matches p w facts clock e ds dt a b = same_matches p (over facts clock) (snapshot w) (sym e) ds dt a b p.rules
-
--- ---- a step of the network
-
--- a map with the facts of a world has its matches
-held_matches : (p : Program) (w : World) (held : HeldFacts) (clock : ℤ) → clock ≡ w.clock → HaveDistinctTags w.facts → Holds held w.facts → SameMatches p (over (facts_of held) clock) (snapshot w)
-held_matches p w held clock e tags h = over_matches p w (facts_of held) clock e (held_distinct held (own_tags held w.facts h)) tags (listed held w.facts h) (all_listed held w.facts h)
-
--- the agenda stands for the world whose facts and clock are those behind the step
-agenda_moves : (p : Program) (k : Contents) (b : Marks) (w next : World) → Exact p k w → next.fired ≡ still_fired p (snapshot next) w.fired → (facts : HeldFacts) (clock : ℤ) → clock ≡ next.clock
-    → HaveDistinctTags next.facts → Holds facts next.facts
-    → IsRefreshed p.rules (rows_at p (facts_of k.facts) k.clock) (rows_at p (facts_of facts) clock) k.agenda b → AgendaStands p b next
-agenda_moves p k b w next st still facts clock e tags h refreshed =
-    refreshed_stands p k.agenda b w next (rows_at p (facts_of k.facts) k.clock) (rows_at p (facts_of facts) clock) st.lawful.ordered st.mirrors.agenda still
-    (held_matches p w k.facts k.clock st.mirrors.clock st.lawful.ordered.tags (holds p k w st)) (held_matches p next facts clock e tags h) refreshed
-
 -- ---- one fact more
 
 -- no fact stands at the next tag
@@ -157,9 +74,8 @@ next_is_free p k w st tag e = by (map.get k.facts tag) refl
 pub new_moves : (p : Program) (k : Contents) (facts : HeldFacts) (expiries : Timers) (starts : List ℤ) (b : Marks) (f : Fact) (w : World) → Exact p k w → f.id.0 ≡ k.next_id → f.tag.0 ≡ k.next_tag
     → facts ≡ map.insert k.facts f.tag.0 f → expiries ≡ with_timer k.expiries f.tag.0 (end_of_presence p f.ty.0 f.times.start)
     → ((entry : ℕ) → last_start_in starts entry ≡ last_start_with p f (last_start_in k.last_starts) entry)
-    → IsRefreshed p.rules (rows_at p (facts_of k.facts) k.clock) (rows_at p (facts_of facts) k.clock) k.agenda b
     → Mirrors p (contents facts expiries k.clock starts b (k.next_id + 1) (k.next_tag + 1)) (settled p (with_new p w f))
-new_moves p k facts expiries starts b f w st id tag made timed last refreshed =
+new_moves p k facts expiries starts b f w st id tag made timed last =
     let m = st.mirrors in
     let o = st.lawful.ordered in
     let h : Holds k.facts w.facts = holds p k w st in
@@ -177,7 +93,6 @@ new_moves p k facts expiries starts b f w st id tag made timed last refreshed =
       last_starts = λ entry. last entry ∙ ap (λ z. last_start_with p f (λ _. z) entry) (m.last_starts entry);
       next_id = ap (λ n. n + 1) m.next_id;
       next_tag = ap (λ n. n + 1) m.next_tag;
-      agenda = agenda_moves p k b w (settled p (with_new p w f)) st refl facts k.clock m.clock tags there refreshed;
     }
 
 -- ---- a fact out, and its next version in
@@ -188,9 +103,8 @@ module _ (p : Program) (k : Contents) (b : Marks) (f : Fact) where
   rest = map.remove k.facts f.tag.0
 
   retract_out : (w : World) → Exact p k w → In f w.facts → (ty : TypeId) (id : FactId) (fewer : Timers) → ((tag : ℕ) → map.get fewer tag ≡ without_timer k.expiries f.tag.0 tag) → f.id.0 ≡ id.0 → (f.ty.0 == ty.0) ≡ true
-      → IsRefreshed p.rules (rows_at p (facts_of k.facts) k.clock) (rows_at p (facts_of rest) k.clock) k.agenda b
       → Mirrors p (contents rest fewer k.clock k.last_starts b k.next_id k.next_tag) (settled p (without_fact w ty.0 id.0))
-  retract_out w st i ty id fewer untimed same of_type refreshed =
+  retract_out w st i ty id fewer untimed same of_type =
       let m = st.mirrors in
       let o = st.lawful.ordered in
       let tags : HaveDistinctTags (without ty.0 id.0 w.facts) = distinct_filtered (stays ty.0 id.0) w.facts o.tags in
@@ -202,7 +116,6 @@ module _ (p : Program) (k : Contents) (b : Marks) (f : Fact) where
         last_starts = m.last_starts;
         next_id = m.next_id;
         next_tag = m.next_tag;
-        agenda = agenda_moves p k b w (settled p (without_fact w ty.0 id.0)) st refl rest k.clock m.clock tags left refreshed;
       }
 
   -- the next version
@@ -210,10 +123,9 @@ module _ (p : Program) (k : Contents) (b : Marks) (f : Fact) where
   next_of sets = revised k.next_tag sets f
 
   modify_own : (w : World) (id : FactId) (sets : List (ℕ × Value)) → Exact p k (own k w) → In f w.facts → f.id.0 ≡ id.0 → is_event p f.ty.0 ≡ false
-      → IsRefreshed p.rules (rows_at p (facts_of k.facts) k.clock) (rows_at p (facts_of (map.insert rest k.next_tag (next_of sets))) k.clock) k.agenda b
       → Mirrors p (contents (map.insert rest k.next_tag (next_of sets)) k.expiries k.clock k.last_starts b k.next_id (k.next_tag + 1)) (settled p (with_revised (own k w) id.0 sets))
   unfolding moved
-  modify_own w id sets s i same plain refreshed =
+  modify_own w id sets s i same plain =
       let v : World = own k w in
       let o = s.lawful.ordered in
       let g : Fact = next_of sets in
@@ -229,7 +141,6 @@ module _ (p : Program) (k : Contents) (b : Marks) (f : Fact) where
         last_starts = s.mirrors.last_starts;
         next_id = refl;
         next_tag = refl;
-        agenda = agenda_moves p k b v (settled p (with_revised v id.0 sets)) s refl (map.insert rest k.next_tag g) k.clock refl tags more refreshed;
       }
 
 -- ---- the same, for what a session took out
@@ -243,20 +154,17 @@ module _ (p : Program) (k : Contents) (b : Marks) (w : World) (st : Exact p k w)
   there = tagged_in p k w st id.0 tag is
 
   pub retract_moves : (others : HeldFacts) → others ≡ map.remove k.facts tag.0 → (ty : TypeId) (fewer : Timers) → ((other : ℕ) → map.get fewer other ≡ without_timer k.expiries tag.0 other) → is_of_type ty.0 (newest k id.0) ≡ true
-      → IsRefreshed p.rules (rows_at p (facts_of k.facts) k.clock) (rows_at p (facts_of others) k.clock) k.agenda b
       → Mirrors p (contents others fewer k.clock k.last_starts b k.next_id k.next_tag) (settled p (without_fact w ty.0 id.0))
-  retract_moves others left ty fewer untimed of_type refreshed =
+  retract_moves others left ty fewer untimed of_type =
       let own_type : (is.fact.ty.0 == ty.0) ≡ true = ap (is_of_type ty.0) (sym (tagged_found p k w st id.0 tag is)) ∙ ap (is_of_type ty.0) (sym (world_found p k w st id.0)) ∙ of_type in
       let others_are : others ≡ map.remove k.facts is.fact.tag.0 = left ∙ ap (λ (t : Tag). map.remove k.facts t.0) (sym is.tagged) in
       subst (λ o. Mirrors p (contents o fewer k.clock k.last_starts b k.next_id k.next_tag) (settled p (without_fact w ty.0 id.0))) (sym others_are)
-      (retract_out p k b is.fact w st there ty id fewer (λ other. untimed other ∙ ap (λ (t : Tag). without_timer k.expiries t.0 other) (sym is.tagged)) is.is_newest.own own_type
-      (subst (λ o. IsRefreshed p.rules (rows_at p (facts_of k.facts) k.clock) (rows_at p (facts_of o) k.clock) k.agenda b) others_are refreshed))
+      (retract_out p k b is.fact w st there ty id fewer (λ other. untimed other ∙ ap (λ (t : Tag). without_timer k.expiries t.0 other) (sym is.tagged)) is.is_newest.own own_type)
 
   pub modify_moves : (sets : List (ℕ × Value)) (before after : Fact) (all facts : HeldFacts) → Some before ≡ map.get k.facts tag.0 → modify_fault p (newest k id.0) ≡ None → after ≡ revised k.next_tag sets before
       → all ≡ map.insert k.facts after.tag.0 after → facts ≡ map.remove all tag.0
-      → IsRefreshed p.rules (rows_at p (facts_of k.facts) k.clock) (rows_at p (facts_of facts) k.clock) k.agenda b
       → Mirrors p (contents facts k.expiries k.clock k.last_starts b k.next_id (k.next_tag + 1)) (settled p (with_revised w id.0 sets))
-  modify_moves sets before after all facts taken none after_is made left refreshed =
+  modify_moves sets before after all facts taken none after_is made left =
       let rest : HeldFacts = map.remove k.facts is.fact.tag.0 in
       let g : Fact = revised k.next_tag sets is.fact in
       let before_is : before ≡ is.fact = (let s : Some before ≡ Some is.fact = taken ∙ ap (λ (t : Tag). map.get k.facts t.0) (sym is.tagged) ∙ is.is_newest.found in cc) in
@@ -268,17 +176,9 @@ module _ (p : Program) (k : Contents) (b : Marks) (w : World) (st : Exact p k w)
       left ∙ ap (λ (t : Tag). map.remove all t.0) (sym is.tagged) ∙ ap (λ o. map.remove o is.fact.tag.0) (made ∙ ap (λ (x : Fact). map.insert k.facts x.tag.0 x) s) ∙ swapped k.facts g is.fact.tag.0 apart in
       subst (λ o. Mirrors p (contents o k.expiries k.clock k.last_starts b k.next_id (k.next_tag + 1)) (settled p (with_revised w id.0 sets))) (sym m)
       (for_world p k w (λ v. Mirrors p (contents (map.insert rest k.next_tag g) k.expiries k.clock k.last_starts b k.next_id (k.next_tag + 1)) (settled p (with_revised v id.0 sets))) st
-      (λ v. modify_own p k b is.fact w id sets v there is.is_newest.own plain
-      (subst (λ o. IsRefreshed p.rules (rows_at p (facts_of k.facts) k.clock) (rows_at p (facts_of o) k.clock) k.agenda b) m refreshed)))
+      (λ v. modify_own p k b is.fact w id sets v there is.is_newest.own plain))
 
 -- ---- nothing but numbers
-
-nothing_changes : (rules : List Rule) (found : Rule → List Row) (a : Marks) → IsRefreshed rules found found a a
-nothing_changes rules found a = record {
-  saliences = refl;
-  pending = λ m. sym (unchanged (has_match a.pending m) (has_match (matches_by found rules) m));
-  fired = λ m. sym (unchanged_mark (has_match a.fired m) (has_match (matches_by found rules) m));
-}
 
 -- an event that is not present any more is inserted
 pub numbers_move : (p : Program) (k : Contents) (starts : List ℤ) (f : Fact) (w : World) → Exact p k w
@@ -286,8 +186,6 @@ pub numbers_move : (p : Program) (k : Contents) (starts : List ℤ) (f : Fact) (
     → Mirrors p (contents k.facts k.expiries k.clock starts k.agenda (k.next_id + 1) (k.next_tag + 1)) (settled p (with_numbers p w f))
 numbers_move p k starts f w st last =
     let m = st.mirrors in
-    let o = st.lawful.ordered in
-    let h : Holds k.facts w.facts = holds p k w st in
     record {
       facts = m.facts;
       waits = m.waits;
@@ -295,7 +193,6 @@ numbers_move p k starts f w st last =
       last_starts = λ entry. last entry ∙ ap (λ z. last_start_with p f (λ _. z) entry) (m.last_starts entry);
       next_id = ap (λ n. n + 1) m.next_id;
       next_tag = ap (λ n. n + 1) m.next_tag;
-      agenda = agenda_moves p k k.agenda w (settled p (with_numbers p w f)) st refl k.facts k.clock m.clock o.tags h (nothing_changes p.rules (rows_at p (facts_of k.facts) k.clock) k.agenda);
     }
 
 -- ---- a later clock
@@ -323,9 +220,8 @@ module _ (p : Program) (k : Contents) (w : World) (clock : ℤ) (st : Exact p k 
   distinct_after : HaveDistinctTags still_there
   distinct_after = distinct_filtered (is_present p clock) w.facts st.lawful.ordered.tags
 
-  pub clock_moves : (b : Marks) → IsRefreshed p.rules (rows_at p (facts_of k.facts) k.clock) (rows_at p (facts_of fewer) clock) k.agenda b
-      → Mirrors p (contents fewer later clock k.last_starts b k.next_id k.next_tag) (settled p (kept p (at_clock w clock)))
-  clock_moves b refreshed =
+  pub clock_moves : (b : Marks) → Mirrors p (contents fewer later clock k.last_starts b k.next_id k.next_tag) (settled p (kept p (at_clock w clock)))
+  clock_moves b =
       let m = st.mirrors in
       record {
         facts = versions fewer still_there after distinct_after;
@@ -334,5 +230,4 @@ module _ (p : Program) (k : Contents) (w : World) (clock : ℤ) (st : Exact p k 
         last_starts = m.last_starts;
         next_id = m.next_id;
         next_tag = m.next_tag;
-        agenda = agenda_moves p k b w (settled p (kept p (at_clock w clock))) st refl fewer clock refl distinct_after after refreshed;
       }
