@@ -10,13 +10,13 @@ pub mod Exactly
 pub mod Newest
 pub mod Stands
 pub mod Faults
-pub pub mod Doing
+pub mod Doing
 pub mod Tried
 pub mod Firings
 pub mod Acting
 pub mod Asking
 pub mod Sessions
 pub mod Knowing
-mod Phases
-mod Taken
-mod Needs
+pub mod Phases
+pub mod Taken
+pub mod Needs
