@@ -41,7 +41,7 @@ pub record Leads (p : Program) (before : HeldFacts) (from : ℤ) (behind : HeldF
 -- the store has of all facts those that are not forgotten, and those that go
 pub record HasAtHand (all facts : HeldFacts) (gone : List ℕ) (forgotten : Named → Bool) : Type 0 where
   pub known : (tag : ℕ) (f : Fact) → map.get all tag ≡ Some f → forgotten (name_of f) ≡ false → map.get facts tag ≡ Some f
-  pub gone : (tag : ℕ) → In tag gone → map.get facts tag ≡ map.get all tag
+  pub going : (tag : ℕ) → In tag gone → map.get facts tag ≡ map.get all tag
 
 -- the same where some facts are forgotten, and no rule needs one of them
 pub record LeadsOn (p : Program) (before : HeldFacts) (from : ℤ) (behind : HeldFacts) (to : ℤ) (all : HeldFacts) (gone : List ℕ) (come : Option Fact) (forgotten : Named → Bool) (facts : HeldFacts) : Type 0 where
