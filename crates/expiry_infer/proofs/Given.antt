@@ -102,7 +102,7 @@ first_network n xs h = record {
     at_most h k = omega arith
 
 first_lives : (p : Program) (n : ℕ) (xs : List Condition) → HaveLives p xs → HaveLives p (take n xs)
-first_lives p n xs h = record { network = first_network n xs h.network; tails = λ place c at. h.tails place c (front n place xs c at).0 }
+first_lives p n xs h = record { network = first_network n xs h.network; windows = λ place c at. h.windows place c (front n place xs c at).0; tails = λ place c at. h.tails place c (front n place xs c at).0 }
 
 -- a scope is all conditions or the first ones
 scoped : (P : List Condition → Type 0) (conditions : List Condition) (i : ℕ) (c : Condition) → P conditions → P (take (suc i) conditions) → P (scope conditions (placed i c))

@@ -26,7 +26,7 @@ use Rattle.rule_world.proofs.Fresh.{and_parts}
 use Rattle.rule_lives.specs.Lifetimes.{tail_by, tail}
 use Rattle.rule_lives.specs.Reach.{infinite}
 use Rattle.expiry_infer.specs.Tables.{RulesHaveNetworks}
-use Rattle.expiry_infer.specs.Tails.{IsSpan, IsShort, HaveLives}
+use Rattle.expiry_infer.specs.Tails.{IsSpan, IsShort, HasShortWindow, HaveLives}
 
 few : (rule : Rule) → has_conditions rule ≡ true → length rule.conditions ≤ 8
 few rule h = let e = (and_parts (nat_le 1 (length rule.conditions)) (nat_le (length rule.conditions) 8) h).1 in grind (arith, nat_tests)
@@ -96,6 +96,11 @@ tail_by_short (Time time) event (Some expiry) lateness w h k =
     longer time (int_max expiry lateness) (span (pos 1) time (omega (arith, ints)) (and_parts event _ w).1) (longer expiry lateness h k)
 tail_by_short (Length count) event expiry lateness w h k = tt
 
+window_short : (window : WindowTag) (event : Bool) → (is_whole window || event && is_window window) ≡ true → HasShortWindow window
+window_short Whole event w = tt
+window_short (Time time) event w = span (pos 1) time (omega (arith, ints)) (and_parts event _ w).1
+window_short (Length count) event w = tt
+
 tail_short : (p : Program) (c : Condition) → IsRunnable p → has_window p c ≡ true → IsShort (tail p (pattern_of c))
 unfolding tail
 tail_short p c runnable window = by (is_event p (pattern_of c).ty.0)
@@ -110,5 +115,6 @@ tail_short p c runnable window = by (is_event p (pattern_of c).ty.0)
 pub rule_has_lives : (p : Program) → IsRunnable p → (rule : Rule) → In rule p.rules → HaveLives p rule.conditions
 rule_has_lives p runnable rule stands = record {
   network = rules_have_networks p runnable rule stands;
+  windows = λ place c at. window_short (pattern_of c).window (is_event p (pattern_of c).ty.0) (all_of (has_window p) rule.conditions c (all_of (has_windows p) p.rules rule runnable.windows stands) (in_place rule.conditions place c at));
   tails = λ place c at. tail_short p c runnable (all_of (has_window p) rule.conditions c (all_of (has_windows p) p.rules rule runnable.windows stands) (in_place rule.conditions place c at));
 }

@@ -1,9 +1,15 @@
 -- Laws of the greatest of limits.
-use Rattle.std.proofs.Common.{◌≡◌, ◌⊎◌, inl, inr, ◌<◌, ◌≤◌, ◌+◌, ℕ, ℤ, ◌≤ℤ◌, List, length, Some, refl, sym, ◌∙◌, subst, arith}
+use Rattle.std.proofs.Common.{◌≡◌, ◌⊎◌, inl, inr, ◌<◌, ◌≤◌, ◌+◌, ℕ, ℤ, ◌≤ℤ◌, List, length, Some, refl, sym, ◌∙◌, subst, arith, pos, negsuc, to_z, of_z, to_z-of_z, w64, FitsSigned, ◌^◌}
 use Rattle.std.specs.Prelude.{slice_get}
 use Rattle.std.proofs.lemmas.Option.{slice_get_within}
 use Rattle.std.proofs.lemmas.Int.{ints}
-use Rattle.rule_lives.specs.Reach.{Limit, finite, infinite, Below}
+use Rattle.fx_base.specs.declared.bound.Bound.{Bound}
+use Rattle.fx_base.specs.declared.bound.Bound.TheVariants.{Finite, Infinite}
+use Rattle.temporal_net.specs.Networks.{IsWithinNetwork}
+use Rattle.rule_world.specs.Events.{most_millis}
+use Rattle.rule_lives.specs.Reach.{Limit, finite, infinite, plus, Below}
+use Rattle.expiry_infer.specs.Found.{limit_of}
+use Rattle.expiry_infer.specs.Tails.{IsShort, IsSmall, IsSpan}
 use Rattle.expiry_infer.specs.Tops.{Among, IsTop}
 use Rattle.expiry_infer.proofs.Places.{the_same}
 
@@ -89,3 +95,33 @@ anywhere xs gives end place x l all at g = record { place = place; before = insi
   where
     inside : place < length xs → place < end
     inside h = omega arith
+
+-- ---- small limits
+
+-- the greatest is small where all are
+pub top_small : (of : Limit → Type 0) (low top : Limit) → IsTop of low top → ((l : Limit) → of l → IsSmall l) → IsSmall low → IsSmall top
+top_small of low top h all small = by h.reached
+  where
+    by : (top ≡ low) ⊎ of top → IsSmall top
+    by (inl e) = subst IsSmall (sym e) small
+    by (inr g) = all top g
+
+-- a reach and a tail have a small sum
+pub sum_small : (reach : Bound) (tail : Limit) → IsWithinNetwork reach → IsShort tail → IsSmall (plus (limit_of reach) tail)
+unfolding most_millis
+sum_small (Finite reach) (finite tail) within short =
+    let (least, most) = within in
+    let (low, high) = short in omega (arith, ints)
+sum_small (Finite reach) infinite within short = tt
+sum_small Infinite tail within short = tt
+
+-- and so has a span
+pub span_small : (n : ℤ) → IsSpan n → IsSmall (finite n)
+unfolding most_millis
+span_small n (low, high) = omega (arith, ints)
+
+-- a span has 64 bits
+pub span_whole : (n : ℤ) → IsSpan n → to_z w64 (of_z w64 n) ≡ n
+unfolding most_millis
+span_whole (pos n) (low, high) = let less : n ≤ 2 ^ 53 = omega (arith, ints) in let fits : FitsSigned w64 (pos n) = omega (arith, ints) in to_z-of_z fits
+span_whole (negsuc n) (low, high) = absurd (omega (arith, ints))

@@ -1,7 +1,11 @@
 -- Conditions whose reaches and tails 64 bits can add.
-use Rattle.std.specs.Prelude.{◌≡◌, ◌≤ℤ◌, ℕ, ℤ, pos, List, Some, slice_get}
+use Rattle.std.specs.Prelude.{◌≡◌, ◌^◌, ◌≤ℤ◌, ℕ, ℤ, pos, List, Some, slice_get}
 use Rattle.rule_model.specs.declared.condition.Condition.{Condition}
+use Rattle.rule_model.specs.declared.condition.WindowTag.{WindowTag}
+use Rattle.rule_model.specs.declared.condition.WindowTag.TheVariants.{Whole, Time, Length}
 use Rattle.rule_model.specs.declared.program.Program.{Program}
+use Rattle.rule_model.specs.declared.life.Life.{Life}
+use Rattle.rule_model.specs.declared.life.Life.TheVariants.{Plain, Explicit, Finite, Infinite}
 use Rattle.rule_model.specs.Rows.{pattern_of}
 use Rattle.rule_world.specs.Events.{most_millis}
 use Rattle.rule_lives.specs.Lifetimes.{tail}
@@ -17,7 +21,26 @@ abbrev pub IsShort : Limit → Type 0
 IsShort (finite n) = IsSpan n
 IsShort infinite = Unit {0}
 
--- conditions for whose patterns lives are found: they have a network, and their tails are short
+-- a window of time is
+abbrev pub HasShortWindow : WindowTag → Type 0
+HasShortWindow Whole = Unit {0}
+HasShortWindow (Time span) = IsSpan span
+HasShortWindow (Length count) = Unit {0}
+
+-- conditions for whose patterns lives are found: they have a network, and their windows and tails are short
 pub record HaveLives (p : Program) (conditions : List Condition) : Type 0 where
   pub network : HaveNetwork conditions
+  pub windows : (place : ℕ) (c : Condition) → slice_get conditions place ≡ Some c → HasShortWindow (pattern_of c).window
   pub tails : (place : ℕ) (c : Condition) → slice_get conditions place ≡ Some c → IsShort (tail p (pattern_of c))
+
+-- at most 2^62 ms, where it is finite
+abbrev pub IsSmall : Limit → Type 0
+IsSmall (finite n) = n ≤ℤ pos (2 ^ 62)
+IsSmall infinite = Unit {0}
+
+-- from 0 to 2^62 ms, where it is finite
+abbrev pub IsShortLife : Life → Type 0
+IsShortLife Plain = Unit {0}
+IsShortLife (Explicit expiry) = Unit {0}
+IsShortLife (Finite n) = (pos 0 ≤ℤ n) × (n ≤ℤ pos (2 ^ 62))
+IsShortLife Infinite = Unit {0}

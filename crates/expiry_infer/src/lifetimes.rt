@@ -4,9 +4,9 @@ ghost use Rattle.rule_model.specs.Rows.{pattern_of};
 ghost use Rattle.rule_model.specs.Types.{is_event, expiry_of};
 ghost use Rattle.rule_lives.specs.Lifetimes.{Adds, AddsSome, IsLife, LivesFor, scope as scope_of};
 ghost use Rattle.expiry_infer.specs.Found.{limit_of};
-ghost use Rattle.expiry_infer.specs.Tails.{HaveLives};
+ghost use Rattle.expiry_infer.specs.Tails.{HaveLives, IsShortLife, IsSmall};
 ghost use Rattle.expiry_infer.specs.Tops.{Among, IsTop};
-ghost use Rattle.rule_lives.specs.Keeping.{AreLives, IsLifeOf};
+ghost use Rattle.rule_lives.specs.Keeping.{AreLives, AreShort, IsLifeOf};
 ghost use Rattle.rule_world.specs.Programs.{IsRunnable};
 ghost use Rattle.expiry_infer.specs.Tables.{lent, GivesAt, StandsIn};
 
@@ -35,7 +35,8 @@ fn with_added(
     requires conditions { HaveLives program.now conditions.now }
     requires i { StandsIn conditions.now (lent i.now) }
     requires j { StandsIn conditions.now (lent j.now) }
-    ensures { IfOk result (λ greatest. IsTop (Adds program.now conditions.now (lent i.now) (lent j.now)) (limit_of most) (limit_of greatest)) }
+    ensures top { IfOk result (λ greatest. IsTop (Adds program.now conditions.now (lent i.now) (lent j.now)) (limit_of most) (limit_of greatest)) }
+    ensures small { IfOk result (λ greatest. IsSmall (limit_of most) → IsSmall (limit_of greatest)) }
 {
     let pattern = j.condition.pattern();
     if !program.is_event(pattern.ty) {
@@ -57,7 +58,8 @@ fn with_all_added(
 ) -> Result<Bound, NoMemory>
     requires conditions { HaveLives program.now conditions.now }
     requires i { StandsIn conditions.now (lent i.now) }
-    ensures { IfOk result (λ greatest. IsTop (AddsSome program.now conditions.now (lent i.now)) (limit_of most) (limit_of greatest)) }
+    ensures top { IfOk result (λ greatest. IsTop (AddsSome program.now conditions.now (lent i.now)) (limit_of most) (limit_of greatest)) }
+    ensures small { IfOk result (λ greatest. IsSmall (limit_of most) → IsSmall (limit_of greatest)) }
 {
     let mut most = most;
     for (place, condition) in conditions.iter().enumerate() {
@@ -90,7 +92,8 @@ fn with_pattern(
 ) -> Result<Bound, NoMemory>
     requires conditions { HaveLives program.now conditions.now }
     requires i { StandsIn conditions.now (lent i.now) }
-    ensures { IfOk result (λ greatest. IsTop (LivesFor program.now conditions.now (lent i.now) (pattern_of i.now.condition.now).window) (limit_of most) (limit_of greatest)) }
+    ensures top { IfOk result (λ greatest. IsTop (LivesFor program.now conditions.now (lent i.now) (pattern_of i.now.condition.now).window) (limit_of most) (limit_of greatest)) }
+    ensures small { IfOk result (λ greatest. IsSmall (limit_of most) → IsSmall (limit_of greatest)) }
 {
     match i.condition.pattern().window {
         WindowTag::Whole => with_all_added(alloc, program, scope(conditions, i), i, most),
@@ -108,7 +111,8 @@ fn with_rule(
     most: Bound,
 ) -> Result<Bound, NoMemory>
     requires { HaveLives program.now conditions.now }
-    ensures { IfOk result (λ greatest. IsTop (Among conditions.now (GivesAt program.now conditions.now ty) (length conditions.now)) (limit_of most) (limit_of greatest)) }
+    ensures top { IfOk result (λ greatest. IsTop (Among conditions.now (GivesAt program.now conditions.now ty) (length conditions.now)) (limit_of most) (limit_of greatest)) }
+    ensures small { IfOk result (λ greatest. IsSmall (limit_of most) → IsSmall (limit_of greatest)) }
 {
     let mut most = most;
     for (place, condition) in conditions.iter().enumerate() {
@@ -125,7 +129,8 @@ fn inferred(alloc: Global, program: &Program, ty: usize) -> Result<Bound, NoMemo
     requires runnable { IsRunnable program.now }
     requires event { is_event program.now ty ≡ true }
     requires unexpired { expiry_of program.now ty ≡ None }
-    ensures { IfOk result (λ life. IsLife program.now ty (limit_of life)) }
+    ensures life { IfOk result (λ life. IsLife program.now ty (limit_of life)) }
+    ensures small { IfOk result (λ life. IsSmall (limit_of life)) }
 {
     let mut most = Bound::Finite(0);
     for rule in program.rules.as_slice() {
@@ -138,7 +143,8 @@ fn inferred(alloc: Global, program: &Program, ty: usize) -> Result<Bound, NoMemo
 fn life(alloc: Global, program: &Program, place: usize, ty: &TypeInfo) -> Result<Life, NoMemory>
     requires runnable { IsRunnable program.now }
     requires at { slice_get program.now.types place ≡ Some ty.now }
-    ensures { IfOk result (IsLifeOf program.now place) }
+    ensures life { IfOk result (IsLifeOf program.now place) }
+    ensures short { IfOk result IsShortLife }
 {
     if !ty.event {
         return Ok(Life::Plain);
@@ -155,7 +161,8 @@ fn life(alloc: Global, program: &Program, place: usize, ty: &TypeInfo) -> Result
 /// The lives of the types of a program, in milliseconds: how long behind its end an event of each can still matter.
 pub fn lives(alloc: Global, program: &Program) -> Result<LifeTable, NoMemory>
     requires { IsRunnable program.now }
-    ensures { IfOk result (AreLives program.now) }
+    ensures lives { IfOk result (AreLives program.now) }
+    ensures short { IfOk result AreShort }
 {
     let types = program.types.as_slice();
     let mut lives = Vec::with_capacity(alloc, types.len())?;

@@ -25,8 +25,11 @@ with_rule-requires c =
 pub loop-rule-preserved : goal.loop-rule-preserved
 loop-rule-preserved c =
     let at = there _ _ _ _ c.as_slice-rule-items.ensures c.loop-rule-test.true c.rule-item.is in
-    top_next _ _ _ _ _ _ _ at c.loop-rule.invariant
-    (subst (λ (cs : List Condition). IsTop (Among cs (GivesAt c.args.program.now cs c.args.ty) (length cs)) (limit_of c.loop-rule.most) (limit_of c.in_ok-most.most)) c.as_slice.ensures c.in_ok-most.ensures)
+    record {
+      top = top_next _ _ _ _ _ _ _ at c.loop-rule.invariant.top
+          (subst (λ (cs : List Condition). IsTop (Among cs (GivesAt c.args.program.now cs c.args.ty) (length cs)) (limit_of c.loop-rule.most) (limit_of c.in_ok-most.most)) c.as_slice.ensures c.in_ok-most.ensures.top);
+      small = c.in_ok-most.ensures.small c.loop-rule.invariant.small;
+    }
 
-pub returns : goal.returns
-returns c = is_life _ _ _ _ c.requires.event c.requires.unexpired (simp c.as_slice-rule-items.ensures at c.loop-rule-test.false) c.loop-rule.invariant
+pub returns-clause-life : goal.returns-clause-life
+returns-clause-life c = is_life _ _ _ _ c.requires.event c.requires.unexpired (simp c.as_slice-rule-items.ensures at c.loop-rule-test.false) c.loop-rule.invariant.top

@@ -2,10 +2,12 @@ use Rattle.std.proofs.Common.{◌≡◌, ℕ, Some, length}
 use Rattle.std.specs.Prelude.{slice_get}
 use Rattle.rule_model.specs.declared.life.Life.{Life}
 use Rattle.rule_lives.specs.Keeping.{IsLifeOf}
+use Rattle.expiry_infer.specs.Tails.{IsShortLife}
 use Rattle.expiry_infer.proofs.lifetimes.lives.Given as goal
 
 abbrev pub invariant-loop-place : goal.invariant-loop-place
 invariant-loop-place l = record {
   each : length l.lives.items ≡ l.place;
   lives : (ty : ℕ) (life : Life) → slice_get l.lives.items ty ≡ Some life → IsLifeOf l.program ty life;
+  short : (ty : ℕ) (life : Life) → slice_get l.lives.items ty ≡ Some life → IsShortLife life;
 }

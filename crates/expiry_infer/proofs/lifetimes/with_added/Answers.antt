@@ -7,9 +7,10 @@ use Rattle.rule_lives.specs.Lifetimes.{tail}
 use Rattle.rule_lives.specs.Reach.{plus}
 use Rattle.expiry_infer.specs.Found.{limit_of, IsFound}
 use Rattle.temporal_net.specs.Networks.{IsWithinNetwork}
-use Rattle.expiry_infer.specs.Tails.{IsShort}
+use Rattle.expiry_infer.specs.Tails.{IsShort, IsSmall}
 use Rattle.expiry_infer.specs.Tables.{lent}
 use Rattle.expiry_infer.proofs.Given.{added}
+use Rattle.expiry_infer.proofs.Tops.{top_small, sum_small}
 use Rattle.expiry_infer.proofs.lifetimes.with_added.Goals as goal
 
 pub sum-requires-clause-reach : goal.sum-requires-clause-reach
@@ -23,8 +24,8 @@ sum-requires-clause-tail c =
     let is = c.tail.ensures ∙ ap (tail c.args.program.now) c.pattern-pattern.ensures in
     subst IsShort (sym is) (c.requires.conditions.tails j.place j.condition c.requires.j)
 
-pub returns-in-Some : goal.returns-in-Some
-returns-in-Some c =
+pub returns-in-Some-clause-top : goal.returns-in-Some-clause-top
+returns-in-Some-clause-top c =
     let p = c.args.program.now in
     let conditions = c.args.conditions.now in
     let i = lent c.args.i.now in
@@ -35,3 +36,13 @@ returns-in-Some c =
     added p conditions i j (limit_of c.in-Some.distance) (limit_of c.sum.result) (limit_of c.args.most) (limit_of c.greater.result) event (subst (IsFound p conditions i j) c.in-Some.is found)
     (c.sum.ensures ∙ ap (plus (limit_of c.in-Some.distance)) (c.tail.ensures ∙ ap (tail p) pattern))
     c.greater.ensures
+
+pub returns-in-Some-clause-small : goal.returns-in-Some-clause-small
+returns-in-Some-clause-small c =
+    let size = subst (λ r. IfOk r (λ found. IfSome found IsWithinNetwork)) c.in_ok-distance.was c.reach.ensures.size in
+    let within = subst (λ found. IfSome found IsWithinNetwork) c.in-Some.is size in
+    let j = lent c.args.j.now in
+    let is = c.tail.ensures ∙ ap (tail c.args.program.now) c.pattern-pattern.ensures in
+    let short = subst IsShort (sym is) (c.requires.conditions.tails j.place j.condition c.requires.j) in
+    top_small (λ l. l ≡ limit_of c.sum.result) (limit_of c.args.most) (limit_of c.greater.result) c.greater.ensures
+    (λ l e. subst IsSmall (sym (e ∙ c.sum.ensures)) (sum_small c.in-Some.distance (limit_of c.tail.result) within short))

@@ -1,6 +1,10 @@
-use Rattle.std.proofs.Common.{subst, sym}
+use Rattle.rule_model.specs.declared.condition.Pattern.{Pattern}
+use Rattle.rule_lives.specs.Reach.{finite}
+use Rattle.expiry_infer.specs.Found.{limit_of}
+use Rattle.expiry_infer.proofs.Tops.{top_small, span_small, span_whole}
+use Rattle.std.proofs.Common.{◌≡◌, ap, subst, sym, ◌∙◌}
 use Rattle.expiry_infer.specs.Tables.{lent, StandsIn}
-use Rattle.expiry_infer.specs.Tails.{HaveLives}
+use Rattle.expiry_infer.specs.Tails.{HaveLives, HasShortWindow, IsSmall}
 use Rattle.expiry_infer.proofs.Given.{scope_lives, scope_at}
 use Rattle.expiry_infer.proofs.lifetimes.with_pattern.Goals as goal
 
@@ -13,3 +17,10 @@ pub with_all_added-requires-clause-i : goal.with_all_added-requires-clause-i
 with_all_added-requires-clause-i c =
     let i = lent c.args.i.now in
     subst (λ xs. StandsIn xs i) (sym c.scope.ensures) (scope_at c.args.conditions.now i c.requires.i)
+
+pub returns-in-Time-clause-small : goal.returns-in-Time-clause-small
+returns-in-Time-clause-small c =
+    let i = lent c.args.i.now in
+    let window = sym (ap (λ (q : Pattern). q.window) c.pattern.ensures) ∙ c.in-Time.is in
+    let span = subst HasShortWindow window (c.requires.conditions.windows i.place i.condition c.requires.i) in
+    top_small (λ l. l ≡ finite _) (limit_of c.args.most) (limit_of c.greater.result) c.greater.ensures (λ l e. subst IsSmall (sym e) (rw (span_whole c.in-Time.span span) (span_small c.in-Time.span span)))

@@ -15,7 +15,14 @@ loop-place-preserved c =
     let ty = ap (λ (q : Pattern). q.ty.0) c.pattern.ensures in
     elim c.if-pattern-ty.branch [
       | then-pattern-ty+in_ok-most w ↦
-          rw w.most-is (top_next _ _ _ _ _ _ _ here c.loop-place.invariant
-          (of_pattern c.args.program.now conditions c.args.ty place first _ _ (sym ty ∙ w.if-pattern-ty.true) w.in_ok-most.ensures))
-      | else-pattern-ty w ↦ rw w.most-is (top_skipped _ _ _ _ _ _ here c.loop-place.invariant (λ l gives. w.if-pattern-ty.false (ty ∙ gives.0)))
+          rw w.most-is (record {
+            top = top_next _ _ _ _ _ _ _ here c.loop-place.invariant.top
+                (of_pattern c.args.program.now conditions c.args.ty place first _ _ (sym ty ∙ w.if-pattern-ty.true) w.in_ok-most.ensures.top);
+            small = λ small. w.in_ok-most.ensures.small (c.loop-place.invariant.small small);
+          })
+      | else-pattern-ty w ↦
+          rw w.most-is (record {
+            top = top_skipped _ _ _ _ _ _ here c.loop-place.invariant.top (λ l gives. w.if-pattern-ty.false (ty ∙ gives.0));
+            small = c.loop-place.invariant.small;
+          })
     ]
