@@ -1,6 +1,7 @@
 ghost use Rattle.std.specs.Prelude.{◌≡◌, IfOk};
 
 use crate::programs::program;
+use expiry_infer::lives as inferred;
 use fx_base::{NoMemory, Seq, Text};
 use rule_model::LifeTable;
 use script_read::{Change, Given};
@@ -10,11 +11,11 @@ use std::test::Fail;
 
 /// A session over these rules, which are accepted.
 fn opened(alloc: Global, rules: &str) -> Result<Session, NoMemory>
-    ensures { IfOk result (λ s. s.contents.next_tag ≡ 1) }
+    ensures { IfOk result (λ s. s.state.next_tag ≡ 1) }
 {
     match program(alloc, rules) {
         Some(program) => {
-            let lives = LifeTable::without(alloc, &program)?;
+            let lives = inferred(alloc, &program)?;
             Session::new(alloc, program, lives)
         }
         None => Err(NoMemory),

@@ -12,9 +12,10 @@ use crate::obeying::take_turn;
 use crate::text::either;
 use crate::turn::{Ended, Turn};
 use engine::Engine;
+use expiry_infer::lives;
 use fx_base::limits::LINE_MAX;
 use fx_io::{LineReader, Sink, Source, write_all};
-use rule_model::{LifeTable, Program};
+use rule_model::Program;
 use std::alloc::Global;
 
 /// The most bytes that a script may have.
@@ -49,7 +50,7 @@ pub(crate) fn run<E: Engine, S: Source, K: Sink>(
     ensures out_counts { K.faults out.old ≤ K.faults out.new }
 {
     let mut reader = LineReader::new(alloc, LINE_MAX, SCRIPT_MAX)?;
-    let lives = LifeTable::without(alloc, &program)?;
+    let lives = lives(alloc, &program)?;
     let mut engine = E::new(alloc, program, lives)?;
     let mut text = Vec::new(alloc);
     let mut faulted = false;
