@@ -1,0 +1,1 @@
+use Rattle.session.proofs.Taken.{taken_awaits}
