@@ -1,1 +1,0 @@
-use Rattle.session.proofs.Taken.{taken_awaits}
