@@ -224,6 +224,7 @@ found_going all facts [] same = refl
 found_going all facts (tag ∷ tags) same =
     ap (λ o. cons_option o (filter_map (map.get facts) tags)) (same tag (inl refl)) ∙ ap (cons_option (map.get all tag)) (found_going all facts tags (λ t i. same t (inr i)))
 
+-- what holds anyway holds of a success
 pub on_ok : {T E P : Type 0} (r : Result T E) → P → OnOk r P
 on_ok (Ok x) p = p
 on_ok (Err e) p = tt

@@ -15,7 +15,6 @@ use Rattle.row_delta.specs.declared.row.Row.{Row}
 use Rattle.row_delta.specs.RowOrder.{row_exact}
 use Rattle.row_delta.specs.Rows.{row_cmp, has}
 use Rattle.rule_model.proofs.Firsts.{or_left, or_right, or_split}
-use Rattle.agenda.specs.Agendas.{names_tag}
 use Rattle.rule_model.specs.declared.matched.Match.{Match}
 use Rattle.rule_model.specs.declared.program.Program.{Program}
 use Rattle.rule_model.specs.declared.program.Rule.{Rule}
@@ -141,13 +140,6 @@ pub record AreMade (changes : List RuleChange) (a b : Marks) : Type 0 where
   pub pending : (m : Match) → has_match b.pending m ≡ ((has_match a.pending m && not (goes (change_of changes m.rule.0) m.row)) || comes (change_of changes m.rule.0) m.row)
   pub fired : (m : Match) → has_match b.fired m ≡ (has_match a.fired m && not (goes (change_of changes m.rule.0) m.row))
 
-none_made : (a : Marks) → AreMade [] a a
-none_made a = record {
-  saliences = refl;
-  pending = λ m. sym (or-false _ ∙ and-true (has_match a.pending m));
-  fired = λ m. sym (and-true (has_match a.fired m));
-}
-
 -- the first of two changes
 abbrev or_later : Option Delta → Option Delta → Option Delta
 or_later None later = later
@@ -227,9 +219,6 @@ pub record AreAhead (changes ahead : List RuleChange) (a b : Marks) : Type 0 whe
   pub parts : changes ≡ done ++ ahead
   pub made : AreMade done a b
 
-pub all_ahead : (changes ahead : List RuleChange) (a : Marks) → ahead ≡ changes → AreAhead changes ahead a a
-all_ahead changes ahead a e = record { done = []; parts = sym e; made = none_made a }
-
 pub change_turn : (changes ahead rest : List RuleChange) (c : RuleChange) (a b d : Marks) → IsStrictlySortedBy nat_cmp (map (λ (x : RuleChange). x.rule.0) changes)
     → AreAhead changes ahead a b → ahead ≡ c ∷ rest → IsChanged c.rule.0 c.delta b d → AreAhead changes rest a d
 change_turn changes ahead rest c a b d rise so_far items ch =
@@ -302,6 +291,7 @@ module _ (p : Program) (old new : Rule → List Row) (changes : List RuleChange)
 abbrev pub names_in : List Row → ℕ → Bool
 names_in rows tag = list_any (λ (row : Row). list_any (λ (n : Named). tag == n.tag.0) row.facts) rows
 
+-- one of these rows names what a row among them names
 row_names : (rows : List Row) (row : Row) (tag : ℕ) → has rows row ≡ true → list_any (λ (n : Named). tag == n.tag.0) row.facts ≡ true → names_in rows tag ≡ true
 row_names [] row tag is names = absurd (let n : false ≡ true = is in cc)
 row_names (other ∷ rows) row tag is names =
@@ -317,9 +307,6 @@ went_out true true c e = refl
 went_out true false c e = absurd (let n : true ≡ false = e in cc)
 went_out false g c e = absurd (let n : true ≡ false = e in cc)
 
-pub none_left : (a : Marks) (left : ℕ → Bool) → HasLeft a a left
-none_left a left m tag was free names = absurd (let n : true ≡ false = sym was ∙ free in cc)
-
 -- one change more, the tags of whose gone rows are added
 pub left_turn : (a b d : Marks) (rule : ℕ) (delta : Delta) (left more : ℕ → Bool) → HasLeft a b left → IsChanged rule delta b d
     → ((tag : ℕ) → more tag ≡ (left tag || names_in delta.gone tag)) → HasLeft a d more
@@ -332,6 +319,7 @@ left_turn a b d rule delta left more so_far ch added m tag was free names = adde
         let out = went_out t (has delta.gone m.row) (t && has delta.come m.row) (sym (ap (λ z. (z && not (t && has delta.gone m.row)) || (t && has delta.come m.row)) e) ∙ sym (ch.pending m) ∙ free) in
         or_right (left tag) (names_in delta.gone tag) (row_names delta.gone m.row tag out names)
 
+-- an iterator that is at its end has nothing ahead
 pub nothing_left : {A : Type 0} (xs : List A) (n : ℕ) → n ≡ length xs → n ≡ 0 → xs ≡ []
 nothing_left [] n e z = refl
 nothing_left (x ∷ xs) n e z = absurd (omega arith)

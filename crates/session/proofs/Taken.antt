@@ -1,5 +1,5 @@
 -- A step whose first phase is done awaits the second.
-use Rattle.std.proofs.Common.{◌≡◌, ◌∙◌, sym, ap, refl, subst, ℕ, ℤ, ◌&&◌, not, Bool, true, false, List, None}
+use Rattle.std.proofs.Common.{◌≡◌, ◌∙◌, sym, ap, refl, subst, ℕ, ◌&&◌, not, Bool, true, false, List, None}
 use Rattle.fact_store.specs.Held.{facts_of}
 use Rattle.row_delta.specs.declared.row.Row.{Row}
 use Rattle.rule_model.specs.declared.matched.Match.{Match}

@@ -11,5 +11,5 @@ use Rattle.session.proofs.refreshing.refreshed.Given as goal
 abbrev pub invariant-loop-change : goal.invariant-loop-change
 invariant-loop-change l = record {
   agenda : (p : Program) (old new : Rule → List Row) → AreBetween p old new l.fn.changes.items → AreAhead l.fn.changes.items l.change-iterator.rest.items l.fn.agenda l.agenda;
-  left : HasLeft l.fn.agenda l.agenda (is_among l.left.items)
+  left : HasLeft l.fn.agenda l.agenda (is_among l.left.items);
 }
