@@ -18,5 +18,6 @@ pub mod Asking
 pub mod Sessions
 pub mod Knowing
 pub mod Phases
+pub mod Clean
 pub mod Taken
 pub mod Needs
