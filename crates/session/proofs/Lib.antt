@@ -19,4 +19,5 @@ pub mod Sessions
 pub mod Knowing
 pub mod Phases
 pub mod Taken
+pub mod Needing
 pub mod Needs
