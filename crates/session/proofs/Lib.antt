@@ -20,4 +20,5 @@ pub mod Knowing
 pub mod Phases
 pub mod Clean
 pub mod Taken
+pub mod Needing
 pub mod Needs
