@@ -66,7 +66,7 @@ modified_is_plain p w id law none f i h = by (found p w id) refl none
         let one : g ≡ f = cc in
         ap (λ (x : Fact). is_event p x.ty.0) (sym one) ∙ modified_plain p (Some g) g k refl
 
-retracted_is_not_observed : (p : Program) (ty : ℕ) (there : Option Fact) → retract_fault p ty there ≡ None → is_event p ty ≡ true → is_observed p ty ≡ false
+pub retracted_is_not_observed : (p : Program) (ty : ℕ) (there : Option Fact) → retract_fault p ty there ≡ None → is_event p ty ≡ true → is_observed p ty ≡ false
 retracted_is_not_observed p ty there none event = by (is_event p ty) (is_observed p ty) event none
   where
     by : (a b : Bool) → a ≡ true → (if a then (if b then Some EventObserved else None) else if is_of_type ty there then None else Some Absent) ≡ None → b ≡ false
