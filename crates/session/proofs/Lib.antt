@@ -22,3 +22,4 @@ pub mod Clean
 pub mod Taken
 pub mod Needing
 pub mod Needs
+pub mod Retracting
