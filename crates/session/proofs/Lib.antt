@@ -9,6 +9,7 @@ pub mod Ready
 pub mod Exactly
 pub mod Newest
 pub mod Stands
+pub mod Looking
 pub mod Faults
 pub mod Doing
 pub mod Tried
