@@ -1,4 +1,4 @@
-use Rattle.std.proofs.Common.{◌≡◌, Some, None, refl, sym, ◌∙◌, ap, subst, to_z, of_z, to_z-of_z, w64}
+use Rattle.std.proofs.Common.{◌≡◌, Some, None, refl, ◌∙◌, ap, subst, to_z, of_z, to_z-of_z, w64}
 use Rattle.std.proofs.lemmas.Result.{IfOk-weaker}
 use Rattle.rule_model.specs.declared.step.Step.TheVariants.{At}
 use Rattle.rule_world.specs.Events.{clock_fault}

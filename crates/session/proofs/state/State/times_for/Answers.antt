@@ -6,7 +6,7 @@ use Rattle.fx_base.specs.declared.value.Value.{Value}
 use Rattle.rule_model.specs.declared.program.TypeInfo.{TypeInfo}
 use Rattle.rule_model.specs.Types.{is_event_type}
 use Rattle.rule_world.specs.declared.code.Code.{Code}
-use Rattle.rule_world.specs.Events.{most_millis, new_fault, no_times, times_of}
+use Rattle.rule_world.specs.Events.{most_millis, new_fault, times_of}
 use Rattle.rule_world.proofs.Faultless.{not_started, started}
 use Rattle.session.proofs.Faults.{zero_clock}
 use Rattle.session.proofs.state.State.times_for.Goals as goal
