@@ -1,4 +1,4 @@
-ghost use Rattle.std.specs.Prelude.{◌≡◌, ◌+◌, ◌<◌, ◌^◌, ◌≤ℤ◌, ◌+ℤ◌, ◌-ℤ◌, ◌==◌, ◌&&◌, not, ℕ, pos, true, false, None, Some, slice_get, cond, IfOk, OnOk};
+ghost use Rattle.std.specs.Prelude.{◌≡◌, ◌+◌, ◌<◌, ◌^◌, ◌≤ℤ◌, ◌+ℤ◌, ◌-ℤ◌, ◌==◌, ◌&&◌, not, ℕ, pos, true, false, None, Some, slice_get, is_some, cond, IfOk, OnOk};
 ghost use Rattle.rule_model.specs.declared.step.Step.TheVariants.{Insert, Modify, Retract, At};
 ghost use Rattle.rule_model.specs.Candidates.{is_present};
 ghost use Rattle.rule_model.specs.Types.{is_event};
