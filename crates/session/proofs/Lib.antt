@@ -21,3 +21,4 @@ pub mod Knowing
 pub mod Phases
 pub mod Taken
 pub mod Needs
+pub mod Inserting
