@@ -8,6 +8,7 @@ pub mod Leads
 pub mod Ready
 pub mod Exactly
 pub mod Newest
+pub mod Readied
 pub mod Stands
 pub mod Looking
 pub mod Faults
@@ -21,3 +22,4 @@ pub mod Knowing
 pub mod Phases
 pub mod Taken
 pub mod Needs
+pub mod Inserting
