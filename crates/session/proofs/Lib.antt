@@ -8,7 +8,9 @@ pub mod Leads
 pub mod Ready
 pub mod Exactly
 pub mod Newest
+pub mod Readied
 pub mod Stands
+pub mod Looking
 pub mod Faults
 pub mod Doing
 pub mod Tried
@@ -23,3 +25,4 @@ pub mod Taken
 pub mod Needing
 pub mod Needs
 pub mod Retracting
+pub mod Inserting
