@@ -20,3 +20,6 @@ pub mod Knowing
 pub mod Phases
 pub mod Taken
 pub mod Needs
+pub mod Olds
+pub mod Dropping
+pub mod Forgotten
