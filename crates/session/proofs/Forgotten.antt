@@ -1,10 +1,11 @@
 -- What a session forgets in the second phase of a step, and that it stands for the world then.
-use Rattle.std.proofs.Common.{◌≡◌, ◌∙◌, sym, ap, refl, subst, inl, inr, ℕ, ◌<◌, ◌==◌, ◌&&◌, ◌||◌, not, Bool, true, false, cond, List, [], ◌∷◌, map as list_map, filter_map, nat_eq, slice_get, Option, Some, None, if◌then◌else◌, arith}
+use Rattle.std.proofs.Common.{◌≡◌, ◌∙◌, sym, ap, refl, subst, inl, inr, ℕ, ℤ, ◌<◌, ◌==◌, ◌&&◌, ◌||◌, not, Bool, true, false, cond, List, [], ◌∷◌, length, map as list_map, filter_map, nat_eq, slice_get, Option, Some, None, if◌then◌else◌, arith}
 use Rattle.std.specs.List.{find, list_any}
 use Rattle.std.specs.Option.{is_some}
 use Rattle.fx_base.specs.Lists.{In}
 use Rattle.fx_base.specs.declared.fact.Fact.{Fact}
 use Rattle.fx_base.specs.declared.ids.Tag.{Tag}
+use Rattle.due_queue.specs.Timers.{Timers}
 use Rattle.fact_store.specs.Held.{HeldFacts, facts_of}
 use Rattle.row_delta.specs.declared.row.Named.{Named}
 use Rattle.row_delta.specs.declared.row.Row.{Row}
@@ -42,6 +43,7 @@ use Rattle.forgetting.proofs.Stepping.{drop_law}
 use Rattle.session.specs.declared.memory.Memory.{Memory}
 use Rattle.session.specs.declared.setting.Setting.{Setting}
 use Rattle.session.specs.Gives.{version_of}
+use Rattle.session.specs.Places.{IsSafe}
 use Rattle.session.specs.Refreshed.{over, rows_at}
 use Rattle.session.specs.Standing.{AreForgotten, Awaits, Contents, Mirrors, Seen, Standing, Whole, holding, with_facts}
 use Rattle.session.specs.Waiting.{HaveOwnTags, left_at}
@@ -82,6 +84,25 @@ both_hold true true true e h = refl
 both_hold true true false e h = refl
 both_hold true false x e h = absurd (let n : false ≡ true = h in cc)
 both_hold false b x e h = absurd (let n : false ≡ true = e in cc)
+
+-- no keys, where their count says so
+pub no_keys : (keys : List ℕ) → length keys ≡ 0 → keys ≡ []
+no_keys [] e = refl
+no_keys (key ∷ keys) e = absurd (omega (arith, e))
+
+-- parts with fewer facts keep to the same
+pub safe_fewer : (facts fewer : HeldFacts) (timers : Timers) (clock : ℤ) (id tag : ℕ) (gone : List ℕ) → IsSafe facts timers clock id tag → ((t : ℕ) → map.get fewer t ≡ left_at facts gone t) → IsSafe fewer timers clock id tag
+safe_fewer facts fewer timers clock id tag gone safe less = record {
+  fresh = λ t le. less t ∙ by (list_any (nat_eq t) gone) (map.get facts t) (safe.fresh t le);
+  untimed = safe.untimed;
+  ids = safe.ids;
+  clock_low = safe.clock_low;
+  clock_high = safe.clock_high;
+}
+  where
+    by : (b : Bool) (o : Option Fact) → o ≡ None → (if b then None else o) ≡ None
+    by true o e = refl
+    by false o e = e
 
 -- ---- what is seen of a world
 
@@ -169,7 +190,10 @@ module _ (p : Program) (net : Rete) (k : Contents) (w : World) (seen : Seen p ne
           at : f.tag.0 ≡ tag
           at = own_all tag f e
 
-          none : (c : Bool) → true ≡ not (is_some {A = Fact} (if c then None else None))
+          nothing : Option Fact
+          nothing = None
+
+          none : (c : Bool) → true ≡ not (is_some (if c then None else nothing))
           none true = refl
           none false = refl
 
