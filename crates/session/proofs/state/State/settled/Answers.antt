@@ -1,7 +1,6 @@
-use Rattle.std.proofs.Common.{◌≡◌, ◌∙◌, ◌<◌, ◌^◌, ap, sym, subst, filter_map, length, to_z, of_z, w64, rules, arith}
+use Rattle.std.proofs.Common.{◌≡◌, ◌∙◌, ◌<◌, ◌^◌, ap, sym, subst, filter_map, length, FitsSigned, to_z, of_z, to_z-of_z, w64, rules, arith}
 use Rattle.retention.specs.Retentions.{has_tag, is_among, is_named, Passes}
 use Rattle.session.specs.Standing.{Awaits, Contents}
-use Rattle.session.proofs.Faults.{clock_same}
 use Rattle.session.proofs.Forgotten.{no_keys, safe_fewer, stands_less, stands_same}
 use Rattle.session.proofs.Olds.{named_at}
 use Rattle.session.proofs.Stands.{contents}
@@ -13,7 +12,8 @@ invariant_of-state c =
 
 pub returns-then-is_empty-clause-stands : goal.returns-then-is_empty-clause-stands
 returns-then-is_empty-clause-stands c w a =
-    let same : to_z w64 (of_z w64 c.state.inside.clock) ≡ c.state.inside.clock = clock_same c.state.inside.clock c.state.invariant.clock_low c.state.invariant.clock_high in
+    let fits : FitsSigned w64 c.state.inside.clock = search rules in
+    let same : to_z w64 (of_z w64 c.state.inside.clock) ≡ c.state.inside.clock = to_z-of_z fits in
     let r = c.in_ok-retention.retention in
     let keys = c.in_ok-retention.old.keys in
     let k = (contents c.state.inside.facts c.state.inside.expiries c.state.inside.clock c.state.inside.last_starts.items c.state.inside.agenda c.state.inside.next_id c.state.inside.next_tag) in
@@ -23,7 +23,8 @@ returns-then-is_empty-clause-stands c w a =
 
 pub returns-clause-stands : goal.returns-clause-stands
 returns-clause-stands c w a =
-    let same : to_z w64 (of_z w64 c.state.inside.clock) ≡ c.state.inside.clock = clock_same c.state.inside.clock c.state.invariant.clock_low c.state.invariant.clock_high in
+    let fits : FitsSigned w64 c.state.inside.clock = search rules in
+    let same : to_z w64 (of_z w64 c.state.inside.clock) ≡ c.state.inside.clock = to_z-of_z fits in
     let s = c.args.setting.now in
     let m = c.args.memory.now in
     let left = is_among c.args.left.now in
