@@ -1,5 +1,5 @@
 -- What a session forgets in the second phase of a step, and that it stands for the world then.
-use Rattle.std.proofs.Common.{◌≡◌, ◌∙◌, sym, ap, refl, subst, inl, inr, ℕ, ℤ, ◌<◌, ◌==◌, ◌&&◌, ◌||◌, not, Bool, true, false, cond, List, [], ◌∷◌, length, map as list_map, filter_map, nat_eq, slice_get, Option, Some, None, if◌then◌else◌, arith}
+use Rattle.std.proofs.Common.{◌≡◌, ◌∙◌, sym, ap, refl, subst, inl, inr, ℕ, ℤ, ◌<◌, ◌==◌, ◌&&◌, ◌||◌, not, Bool, true, false, List, [], ◌∷◌, length, map as list_map, filter_map, nat_eq, slice_get, Option, Some, None, if◌then◌else◌, arith}
 use Rattle.std.specs.List.{find, list_any}
 use Rattle.std.specs.Option.{is_some}
 use Rattle.fx_base.specs.Lists.{In}
@@ -37,7 +37,6 @@ use Rattle.rete_net.specs.declared.net.Rete.{Rete}
 use Rattle.rete_net.specs.Dropped.{AreDropped, rows_for}
 use Rattle.rete_net.specs.Nets.{NetStands}
 use Rattle.forgetting.specs.Sights.{some_tag}
-use Rattle.forgetting.specs.Steps.{Forgets}
 use Rattle.forgetting.proofs.Naming.{not_true, some_in}
 use Rattle.forgetting.proofs.Stepping.{drop_law}
 use Rattle.session.specs.declared.memory.Memory.{Memory}
@@ -45,7 +44,7 @@ use Rattle.session.specs.declared.setting.Setting.{Setting}
 use Rattle.session.specs.Gives.{version_of}
 use Rattle.session.specs.Places.{IsSafe}
 use Rattle.session.specs.Refreshed.{over, rows_at}
-use Rattle.session.specs.Standing.{AreForgotten, Awaits, Contents, Mirrors, Seen, Standing, Whole, holding, with_facts}
+use Rattle.session.specs.Standing.{Awaits, Contents, Seen, Standing, holding, with_facts}
 use Rattle.session.specs.Waiting.{HaveOwnTags, left_at}
 use Rattle.session.proofs.Alike.{same_matches}
 use Rattle.session.proofs.Exactly.{Exact, exact}

@@ -91,7 +91,9 @@ impl State {
         }
         let old = tags_of(alloc, &old)?;
         let names = names_at(alloc, &state.facts, &old)?;
-        let dropped = memory.net.forget(alloc, &setting.program, &names, &state.facts)?;
+        let dropped = memory
+            .net
+            .forget(alloc, &setting.program, &names, &state.facts)?;
         state.agenda = without_fired(state.agenda, dropped);
         state.facts = without_all(state.facts, old);
         Ok(state)

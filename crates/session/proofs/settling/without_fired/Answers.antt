@@ -2,7 +2,6 @@ use Rattle.std.proofs.Common.{◌≡◌, ◌∙◌, ◌<◌, ◌&&◌, ◌==◌,
 use Rattle.row_delta.specs.declared.row.Row.{Row}
 use Rattle.row_delta.specs.Rows.{has}
 use Rattle.rule_model.specs.Matches.{has_match}
-use Rattle.rete_net.specs.declared.forgetting.RuleRows.{RuleRows}
 use Rattle.session.proofs.Dropping.{all_ahead, drop_turn, none_ahead, nothing_ahead, place_within}
 use Rattle.session.proofs.settling.without_fired.Goals as goal
 
