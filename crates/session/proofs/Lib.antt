@@ -26,3 +26,6 @@ pub mod Needing
 pub mod Needs
 pub mod Retracting
 pub mod Inserting
+pub mod Olds
+pub mod Dropping
+pub mod Forgotten
