@@ -29,3 +29,8 @@ pub mod Inserting
 pub mod Olds
 pub mod Dropping
 pub mod Forgotten
+pub mod Moving_on
+pub mod Removing
+pub mod Revising
+pub mod Passing
+pub mod Marking
