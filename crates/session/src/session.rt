@@ -4,6 +4,7 @@ ghost use Rattle.session.specs.Standing.{StandsForSome};
 
 use crate::memory::Memory;
 use crate::refreshing::refreshed;
+use crate::running::Running;
 use crate::setting::Setting;
 use crate::state::State;
 use agenda::Agenda;
@@ -31,7 +32,7 @@ fn saliences_of(alloc: Global, rules: &[Rule]) -> Result<Vec<i64>, NoMemory>
 /// whose lives end.
 #[derive(Drop)]
 pub struct Session {
-    setting: Setting,
+    setting: Running,
     state: State,
     memory: Memory,
     ghost some: { ∥ StandsForSome setting memory state ∥₁ },
@@ -61,7 +62,7 @@ impl Session {
         let state = State::new(alloc, agenda);
         let retention = Retention::new(alloc);
         Ok(Session {
-            setting: Setting { program, lives },
+            setting: Running::new(Setting { program, lives }),
             state,
             memory: Memory { net, retention },
         })
@@ -83,8 +84,9 @@ impl Session {
             mut memory,
         } = self;
         let mut lines = Vec::new(alloc);
-        let asked = asked_step(alloc, &setting.program, &state, change)?;
-        let state = state.apply(alloc, &setting, &mut memory, asked, &mut lines)?;
+        let inside = setting.setting();
+        let asked = asked_step(alloc, &inside.program, &state, change)?;
+        let state = state.apply(alloc, inside, &mut memory, asked, &mut lines)?;
         Ok((
             Session {
                 setting,
@@ -105,7 +107,7 @@ impl Session {
         ensures table { IfOk result (λ r. r.0.setting.lives ≡ self.setting.lives) }
         ensures tags { IfOk result (λ r. r.0.state.next_tag ≤ self.state.next_tag + 16) }
     {
-        match self.state.plan(alloc, &self.setting.program)? {
+        match self.state.plan(alloc, &self.setting.setting().program)? {
             Some(plan) => {
                 let Session {
                     setting,
@@ -113,7 +115,7 @@ impl Session {
                     mut memory,
                 } = self;
                 let mut lines = Vec::new(alloc);
-                let state = state.fire(alloc, &setting, &mut memory, plan, &mut lines)?;
+                let state = state.fire(alloc, setting.setting(), &mut memory, plan, &mut lines)?;
                 Ok((
                     Session {
                         setting,
@@ -145,14 +147,14 @@ impl Session {
     pub fn program(&self) -> &Program
         ensures { result.now ≡ self.now.setting.program }
     {
-        &self.setting.program
+        &self.setting.setting().program
     }
 
     /// The table of lives that the session was made with. Takes no memory.
     pub fn lives(&self) -> &LifeTable
         ensures { result.now ≡ self.now.setting.lives }
     {
-        &self.setting.lives
+        &self.setting.setting().lives
     }
 }
 
