@@ -55,11 +55,14 @@ no_member : (facts : List Fact) → ((f : Fact) → In f facts → ⊥) → fact
 no_member [] h = refl
 no_member (f ∷ facts) h = absurd (h f (inl refl))
 
-none_there : (tag : ℕ) (f : Fact) → map_of.get {c = nat_cmp} map_of.empty tag ≡ Some f → ⊥
+abbrev nothing : HeldFacts
+nothing = map_of.empty
+
+none_there : (tag : ℕ) (f : Fact) → map_of.get nothing tag ≡ Some f → ⊥
 none_there tag f e = let n : None ≡ Some f = sym (get-empty nat_cmp tag) ∙ e in cc
 
-none_held : facts_of map_of.empty ≡ []
-none_held = no_member (facts_of map_of.empty) (λ f i. let r = from_list map_of.empty f i in none_there r.0 f r.1)
+none_held : facts_of nothing ≡ []
+none_held = no_member (facts_of nothing) (λ f i. let r = from_list nothing f i in none_there r.0 f r.1)
 
 abbrev pub start : Marks → Contents
 start a = contents map_of.empty map_of.empty (pos 0) [] a 1 1
@@ -123,8 +126,8 @@ some_mapped f (Some x) = refl
 
 -- ---- answers
 
-module _ (s : Setting) (m : Memory) (k : Contents) (runs : Runs s) where
-  module _ (change : Change) (asked : Result Step Code) (is : asked ≡ change_step s.program (newest k) change) (w : World) (st : Standing s m k w) where
+module _ (s : Setting) (m : Memory) (k : Contents) where
+  module _ (runs : Runs s) (change : Change) (asked : Result Step Code) (is : asked ≡ change_step s.program (newest k) change) (w : World) (st : Standing s m k w) where
     asked_is : asked ≡ change_step s.program (found s.program w) change
     asked_is = is ∙ same_asked s m k w runs st change
 
@@ -148,7 +151,7 @@ module _ (s : Setting) (m : Memory) (k : Contents) (runs : Runs s) where
     unfolding fires
     fires_none none = no_fire s m k w st (top_of k.agenda) refl none
 
-    pub fires_some : (n : Memory) (t : Contents) (plan : List (Result Step Code)) (lines : List OutLine) → Some plan ≡ plan_of s.program k (top_of k.agenda)
+    pub fires_some : Runs s → (n : Memory) (t : Contents) (plan : List (Result Step Code)) (lines : List OutLine) → Some plan ≡ plan_of s.program k (top_of k.agenda)
         → FiresInto s m k plan n t → WritesFiring s m k plan lines → FiringAnswers (fires s.program w) (Yes lines) w (Standing s n t)
     unfolding fires
-    fires_some n t plan lines planned stands written = yes_fire s m k n t w plan lines (top_of k.agenda) runs st refl planned stands written
+    fires_some runs n t plan lines planned stands written = yes_fire s m k n t w plan lines (top_of k.agenda) runs st refl planned stands written
