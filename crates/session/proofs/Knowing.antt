@@ -3,6 +3,7 @@ use Rattle.std.proofs.Common.{◌≡◌, ◌<◌, ℕ, zero, suc, inl, inr, Bool
 use Rattle.std.specs.Prelude.{slice_get}
 use Rattle.std.proofs.lemmas.List.Folds.{list_all-append}
 use Rattle.std.proofs.Math.Logic.{∥∥₁_elim}
+use Rattle.std.proofs.lemmas.Grind.{merely}
 use mathlib.Core.Bool.{Bool-set}
 use Rattle.fx_base.specs.declared.ids.FactId.{FactId}
 use Rattle.fx_base.specs.declared.ids.TypeId.{TypeId}
@@ -27,7 +28,7 @@ use Rattle.rule_model.specs.Planned.{id_at, sets_of, type_or_first, step_of}
 use Rattle.rule_world.specs.Programs.{IsRunnable}
 use Rattle.fx_base.specs.Lists.{In}
 use Rattle.rule_world.specs.Typed.{bound_types, bound_fields, fields_in, args_fit, action_fits, rule_fits, is_typed}
-use Rattle.rule_world.specs.Worlds.{World, found, snapshot, step_fault, marked}
+use Rattle.rule_world.specs.Worlds.{World, empty_world, found, snapshot, step_fault, marked}
 use Rattle.rule_world.proofs.Acting.{all_of}
 use Rattle.rule_world.proofs.Fresh.{and_both, and_parts}
 use Rattle.rule_model.proofs.Listed.{of_map}
@@ -43,7 +44,7 @@ use Rattle.session.specs.Gives.{tries_with, does, does_all, actions_of, fire_lin
 use Rattle.engine.specs.Known.{is_known, are_known}
 use Rattle.session.specs.Leading.{StandsAfter, WritesFor}
 use Rattle.session.specs.Places.{newest, planned, planned_for, held_at}
-use Rattle.session.specs.Standing.{Contents, StandsForSome}
+use Rattle.session.specs.Standing.{Contents, Runs, Standing, StandsForSome}
 use Rattle.session.proofs.Acting.{asked_step}
 use Rattle.session.proofs.Firings.{FiresInto, WritesFiring, plan_fits, plan_of, top_of, top_pending}
 use Rattle.session.proofs.Sessions.{change_lines, change_stands}
@@ -205,7 +206,9 @@ module _ (s : Setting) (m : Memory) (k : Contents) (some : StandsForSome s m k) 
 
 -- ---- what a ghost field tells
 
--- the same where it is only known that there is a world
-module _ (s : Setting) (m : Memory) (k : Contents) (some : ∥ StandsForSome s m k ∥₁) where
-  pub merely_known : (lines : List OutLine) → (StandsForSome s m k → are_known s.program lines ≡ true) → are_known s.program lines ≡ true
-  merely_known lines h = ∥∥₁_elim some (Bool-set _ _) h
+-- the lines are known where it is only known that there is a world
+pub merely_known : (s : Setting) (m : Memory) (k : Contents) → ∥ StandsForSome s m k ∥₁ → (lines : List OutLine) → (StandsForSome s m k → are_known s.program lines ≡ true) → are_known s.program lines ≡ true
+merely_known s m k some lines h = ∥∥₁_elim some (Bool-set _ _) h
+
+pub some_at_start : (s x : Setting) (m : Memory) (k : Contents) → x ≡ s → Runs s → Standing x m k empty_world → ∥ StandsForSome x m k ∥₁
+some_at_start s x m k same runs stands = merely (record { runs = subst Runs (sym same) runs; world = empty_world; stands = stands })

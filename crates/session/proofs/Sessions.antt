@@ -105,12 +105,13 @@ module _ (s : Setting) (m : Memory) (b : Marks) (net : NetStands s.program m.net
         (λ q. r.fired q);
   }
 
-pub empty_stands : (s : Setting) (m : Memory) (k : Contents) (a b : Marks) → a ≡ blank s.program.rules → NetStands s.program m.net empty_snapshot no_names
+pub empty_stands : (s x : Setting) (m : Memory) (k : Contents) (a b : Marks) → x ≡ s → a ≡ blank s.program.rules → NetStands s.program m.net empty_snapshot no_names
     → IsRefreshed s.program.rules no_rows (rows_at s.program [] (pos 0)) a b → m.retention.due ≡ map_of.empty → ((tag : ℕ) → lingers m.retention tag ≡ false) → k ≡ start b
-    → Standing s m k empty_world
-empty_stands s m k a b is net r due lingering e =
-    subst (λ z. Standing s m z empty_world) (sym e)
-    (start_stands s m b net (subst (λ z. IsRefreshed s.program.rules no_rows (rows_at s.program [] (pos 0)) z b) is r) due lingering)
+    → Standing x m k empty_world
+empty_stands s x m k a b same is net r due lingering e =
+    subst (λ (z : Setting). Standing z m k empty_world) (sym same)
+    (subst (λ (z : Contents). Standing s m z empty_world) (sym e)
+    (start_stands s m b net (subst (λ (z : Marks). IsRefreshed s.program.rules no_rows (rows_at s.program [] (pos 0)) z b) is r) due lingering))
 
 pub from_parts : (k : Contents) (facts : HeldFacts) (expiries : Timers) (clock : ℤ) (starts : List ℤ) (a : Marks) (id tag : ℕ) → k.facts ≡ facts → k.expiries ≡ expiries → k.clock ≡ clock → k.last_starts ≡ starts → k.agenda ≡ a → k.next_id ≡ id → k.next_tag ≡ tag
     → k ≡ contents facts expiries clock starts a id tag

@@ -61,8 +61,9 @@ impl Session {
         let (agenda, _left) = refreshed(alloc, Agenda::new(alloc, &saliences)?, first)?;
         let state = State::new(alloc, agenda);
         let retention = Retention::new(alloc);
+        let setting = Running::new(Setting { program, lives });
         Ok(Session {
-            setting: Running::new(Setting { program, lives }),
+            setting,
             state,
             memory: Memory { net, retention },
         })
@@ -107,15 +108,16 @@ impl Session {
         ensures table { IfOk result (λ r. r.0.setting.lives ≡ self.setting.lives) }
         ensures tags { IfOk result (λ r. r.0.state.next_tag ≤ self.state.next_tag + 16) }
     {
-        match self.state.plan(alloc, &self.setting.setting().program)? {
+        let Session {
+            setting,
+            state,
+            mut memory,
+        } = self;
+        let inside = setting.setting();
+        match state.plan(alloc, &inside.program)? {
             Some(plan) => {
-                let Session {
-                    setting,
-                    state,
-                    mut memory,
-                } = self;
                 let mut lines = Vec::new(alloc);
-                let state = state.fire(alloc, setting.setting(), &mut memory, plan, &mut lines)?;
+                let state = state.fire(alloc, inside, &mut memory, plan, &mut lines)?;
                 Ok((
                     Session {
                         setting,
@@ -125,7 +127,14 @@ impl Session {
                     Fired::Yes(Seq::from_vec(lines)),
                 ))
             }
-            None => Ok((self, Fired::No)),
+            None => Ok((
+                Session {
+                    setting,
+                    state,
+                    memory,
+                },
+                Fired::No,
+            )),
         }
     }
 
