@@ -21,3 +21,8 @@ pub mod Knowing
 pub mod Phases
 pub mod Taken
 pub mod Needs
+pub mod Moving_on
+pub mod Removing
+pub mod Revising
+pub mod Passing
+pub mod Marking

@@ -1,18 +1,25 @@
-use Rattle.std.proofs.Common.{sym, subst}
-use Rattle.session.specs.Following.{Follows}
+use Rattle.std.proofs.Common.{◌≡◌, ◌∙◌, ◌==◌, ℕ, true, sym, subst, ap}
+use Rattle.std.specs.List.{list_any}
+use Rattle.row_delta.specs.declared.row.Named.{Named}
+use Rattle.rule_model.proofs.Firsts.{or_right}
+use Rattle.rule_world.specs.Worlds.{marked}
+use Rattle.agenda.specs.Agendas.{names_tag}
+use Rattle.retention.specs.Retentions.{is_among}
 use Rattle.session.specs.Standing.{Contents, Standing}
-use Rattle.session.proofs.Firings.{marked_stands}
-use Rattle.session.proofs.Follow.{marks_follow}
+use Rattle.session.proofs.Marking.{marked_awaits}
 use Rattle.session.proofs.Stands.{contents}
 use Rattle.session.proofs.state.State.mark.Goals as goal
 
 pub returns-clause-stands : goal.returns-clause-stands
-returns-clause-stands c p w s =
+returns-clause-stands c w st =
+    let s = c.args.setting.now in
+    let m = c.args.memory.now in
     let k = (contents c.state.inside.facts c.state.inside.expiries c.state.inside.clock c.state.inside.last_starts.items c.state.inside.agenda c.state.inside.next_id c.state.inside.next_tag) in
-    marked_stands p k c.in_ok-agenda.agenda w c.in_ok-agenda.fired
-    (subst (λ (k : Contents). Standing p k w) (sym c.state.view_is) s) c.in_ok-agenda.ensures.saliences c.in_ok-agenda.ensures.top c.in_ok-agenda.ensures.pending c.in_ok-agenda.ensures.fired
-
-pub returns-clause-follows : goal.returns-clause-follows
-returns-clause-follows c p net f =
-    let k = (contents c.state.inside.facts c.state.inside.expiries c.state.inside.clock c.state.inside.last_starts.items c.state.inside.agenda c.state.inside.next_id c.state.inside.next_tag) in
-    marks_follow p net k c.in_ok-agenda.agenda (subst (λ (k : Contents). Follows p net k) (sym c.state.view_is) f)
+    let here : Standing s m k w = subst (λ (k : Contents). Standing s m k w) (sym c.state.view_is) st in
+    let q = c.in_ok-agenda.fired in
+    let names : (tag : ℕ) → names_tag tag q ≡ true → is_among c.as_slice-2.result.now tag ≡ true = λ tag e.
+    ap (λ tags. is_among tags tag) c.as_slice-2.ensures.value ∙ c.in_ok-add_names.ensures tag
+    ∙ or_right _ _ (ap (λ ns. list_any (λ (n : Named). tag == n.tag.0) ns) c.as_slice.ensures ∙ e) in
+    c.in_ok-state.ensures.stands (marked w q)
+    (marked_awaits s m k w here q c.in_ok-agenda.ensures.top c.in_ok-agenda.agenda c.in_ok-agenda.ensures.saliences c.in_ok-agenda.ensures.pending c.in_ok-agenda.ensures.fired
+    (is_among c.as_slice-2.result.now) names)

@@ -1,18 +1,16 @@
-use Rattle.std.proofs.Common.{◌≡◌, ◌≤ℤ◌, sym, subst, to_z, of_z, w64}
+use Rattle.std.proofs.Common.{◌≡◌, ◌≤ℤ◌, ℤ, [], sym, subst, to_z, of_z, w64}
+use Rattle.std.proofs.lemmas.Result.{IfOk-weaker}
 use Rattle.fact_store.specs.Held.{facts_of}
-use Rattle.pair_memory.specs.Standing.{no_names}
-use Rattle.condition_rows.specs.Sets.{rows_of}
-use Rattle.rete_net.proofs.Cleaning.{same_whole}
-use Rattle.rule_world.specs.Worlds.{kept}
-use Rattle.session.specs.Following.{Follows}
-use Rattle.session.specs.Standing.{Contents, Mirrors, Standing}
-use Rattle.session.proofs.Exactly.{exact, after_clock}
+use Rattle.rule_model.specs.declared.step.Step.TheVariants.{At}
+use Rattle.rule_world.specs.Worlds.{stepped}
+use Rattle.retention.specs.Retentions.{is_among}
+use Rattle.forgetting.specs.Steps.{HasLeft}
+use Rattle.session.specs.Refreshed.{over}
+use Rattle.session.specs.Standing.{Awaits, Contents, Standing}
 use Rattle.session.proofs.Faults.{clock_same, safe_left}
-use Rattle.session.proofs.Follow.{later_follows, later_leads}
-use Rattle.session.specs.Refreshed.{over, rows_at}
 use Rattle.session.proofs.Leaving.{none_gone, no_tags}
-use Rattle.session.proofs.Rules.{not_refreshed}
-use Rattle.session.proofs.Stands.{clock_moves, contents}
+use Rattle.session.proofs.Passing.{later_awaits, later_leads, later_leads_on, none_left, quiet_refreshed, remaining, remaining_is}
+use Rattle.session.proofs.Stands.{contents}
 use Rattle.session.proofs.state.State.with_clock.Goals as goal
 
 -- where nothing is due
@@ -24,35 +22,27 @@ invariant_of-state c =
     c.state.invariant c.requires.low c.requires.high (simp same at c.in_ok-due.ensures.ok) left)
 
 pub returns-then-is_quiet-clause-stands : goal.returns-then-is_quiet-clause-stands
-returns-then-is_quiet-clause-stands c w s =
-    let p = c.args.program.now in
+returns-then-is_quiet-clause-stands c = IfOk-weaker c.settled.result _ _ (λ t settled w st none lawful.
+    let s = c.args.setting.now in
+    let m = c.args.memory.now in
     let k = (contents c.state.inside.facts c.state.inside.expiries c.state.inside.clock c.state.inside.last_starts.items c.state.inside.agenda c.state.inside.next_id c.state.inside.next_tag) in
-    let st : Standing p k w = subst (λ (k : Contents). Standing p k w) (sym c.state.view_is) s in
-    let f : Follows p c.args.net.now k = subst (λ (k : Contents). Follows p c.args.net.now k) (sym c.state.view_is) c.requires.follows in
+    let here : Standing s m k w = subst (λ (k : Contents). Standing s m k w) (sym c.state.view_is) st in
     let same : to_z w64 (of_z w64 c.args.clock) ≡ c.args.clock = clock_same c.args.clock c.requires.low c.requires.high in
     let moves : k.clock ≤ℤ c.args.clock = subst (λ (k : Contents). k.clock ≤ℤ c.args.clock) (sym c.state.view_is) c.requires.later in
+    let due = c.in_ok-due.due.items in
     let takes = simp same at c.in_ok-due.ensures.ok in
-    let left = none_gone k.facts c.in_ok-due.due.items (no_tags c.in_ok-due.due.len c.is_empty.result c.in_ok-due.due.items c.is_empty.ensures c.if-is_empty.true c.in_ok-due.due.ok.0) in
-    let leads = later_leads p c.args.net.now c.args.net.now k f c.state.invariant c.args.clock c.take_due.new.self c.in_ok-due.due.items takes k.facts left moves in
-    let later : w.clock ≤ℤ c.args.clock = subst (λ z. z ≤ℤ c.args.clock) s.mirrors.clock c.requires.later in
-    let clean = (simp same at c.is_quiet.ensures.rows) c.if-is_quiet.true p (over (facts_of k.facts) k.clock) no_names f.stands moves leads.kept_behind in
-    rw same (subst (Mirrors p _) (sym (after_clock p w c.args.clock later))
-    (clock_moves p k (kept p w) c.args.clock (exact p k w st) c.take_due.new.self c.in_ok-due.due.items takes k.facts left
-    k.agenda (not_refreshed p.rules (rows_at p (facts_of k.facts) k.clock) (rows_at p (facts_of k.facts) c.args.clock)
-    (λ place rule e row. same_whole (rows_of p (over (facts_of k.facts) c.args.clock) rule.conditions) (rows_of p (over (facts_of k.facts) k.clock) rule.conditions) row (clean place rule e row)) k.agenda)))
-
-pub returns-then-is_quiet-clause-follows : goal.returns-then-is_quiet-clause-follows
-returns-then-is_quiet-clause-follows c =
-    let p = c.args.program.now in
-    let k = (contents c.state.inside.facts c.state.inside.expiries c.state.inside.clock c.state.inside.last_starts.items c.state.inside.agenda c.state.inside.next_id c.state.inside.next_tag) in
-    let f : Follows p c.args.net.now k = subst (λ (k : Contents). Follows p c.args.net.now k) (sym c.state.view_is) c.requires.follows in
-    let same : to_z w64 (of_z w64 c.args.clock) ≡ c.args.clock = clock_same c.args.clock c.requires.low c.requires.high in
-    let moves : k.clock ≤ℤ c.args.clock = subst (λ (k : Contents). k.clock ≤ℤ c.args.clock) (sym c.state.view_is) c.requires.later in
-    let takes = simp same at c.in_ok-due.ensures.ok in
-    let left = none_gone k.facts c.in_ok-due.due.items (no_tags c.in_ok-due.due.len c.is_empty.result c.in_ok-due.due.items c.is_empty.ensures c.if-is_empty.true c.in_ok-due.due.ok.0) in
-    let leads = later_leads p c.args.net.now c.args.net.now k f c.state.invariant c.args.clock c.take_due.new.self c.in_ok-due.due.items takes k.facts left moves in
-    let stands = (simp same at c.is_quiet.ensures.stands) c.if-is_quiet.true p (over (facts_of k.facts) k.clock) no_names f.stands moves leads.kept_behind in
-    rw same (later_follows p c.args.net.now c.args.net.now k f c.state.invariant c.args.clock c.take_due.new.self c.in_ok-due.due.items takes k.facts left k.agenda stands)
+    let none_due = no_tags c.in_ok-due.due.len c.is_empty.result due c.is_empty.ensures c.if-is_empty.true c.in_ok-due.due.ok.0 in
+    let left = none_gone k.facts due none_due in
+    let out = none_gone here.seen.all due none_due in
+    let leads = later_leads s m k w here c.requires.runs c.args.clock moves none lawful c.take_due.new.self due takes k.facts left here.seen.all out k.agenda in
+    let before = over (facts_of here.seen.all) k.clock in
+    let stands = (simp same at c.is_quiet.ensures.stands) c.if-is_quiet.true s.program before here.seen.forgotten here.seen.stands moves leads.kept_behind in
+    let clean = (simp same at c.is_quiet.ensures.rows) c.if-is_quiet.true s.program before here.seen.forgotten here.seen.stands moves leads.kept_behind in
+    let next = stepped s.program w (At c.args.clock) in
+    settled next
+    (subst (λ (z : ℤ). Awaits s m (contents k.facts c.take_due.new.self z k.last_starts k.agenda k.next_id k.next_tag) (is_among []) next) (sym same)
+    (later_awaits s m k w here c.requires.runs c.args.clock moves none lawful c.take_due.new.self due takes k.facts left here.seen.all out k.agenda m.net (is_among []) stands
+    (quiet_refreshed s.program (facts_of here.seen.all) k.clock c.args.clock here.seen.forgotten clean k.agenda) (none_left k.agenda (is_among []))))) c.settled.ensures.stands
 
 -- where something is
 pub invariant_of-state-2 : goal.invariant_of-state-2
@@ -62,28 +52,24 @@ invariant_of-state-2 c =
     c.state.invariant c.requires.low c.requires.high (simp same at c.in_ok-due.ensures.ok) c.without_all.ensures)
 
 pub returns-clause-stands : goal.returns-clause-stands
-returns-clause-stands c w s =
-    let p = c.args.program.now in
+returns-clause-stands c = IfOk-weaker c.settled-2.result _ _ (λ t settled w st none lawful.
+    let s = c.args.setting.now in
+    let m = c.args.memory.now in
     let k = (contents c.state.inside.facts c.state.inside.expiries c.state.inside.clock c.state.inside.last_starts.items c.state.inside.agenda c.state.inside.next_id c.state.inside.next_tag) in
-    let st : Standing p k w = subst (λ (k : Contents). Standing p k w) (sym c.state.view_is) s in
-    let f : Follows p c.args.net.now k = subst (λ (k : Contents). Follows p c.args.net.now k) (sym c.state.view_is) c.requires.follows in
-    let same : to_z w64 (of_z w64 c.args.clock) ≡ c.args.clock = clock_same c.args.clock c.requires.low c.requires.high in
-    let later : w.clock ≤ℤ c.args.clock = subst (λ z. z ≤ℤ c.args.clock) s.mirrors.clock c.requires.later in
-    let moves : k.clock ≤ℤ c.args.clock = subst (λ (k : Contents). k.clock ≤ℤ c.args.clock) (sym c.state.view_is) c.requires.later in
-    let takes = simp same at c.in_ok-due.ensures.ok in
-    let leads = later_leads p c.args.net.now c.followed.new.net k f c.state.invariant c.args.clock c.take_due.new.self c.in_ok-due.due.items takes c.without_all.result c.without_all.ensures moves in
-    rw same (subst (Mirrors p _) (sym (after_clock p w c.args.clock later))
-    (clock_moves p k (kept p w) c.args.clock (exact p k w st) c.take_due.new.self c.in_ok-due.due.items takes c.without_all.result c.without_all.ensures
-    c.in_ok-state-inside.field-0 ((simp (same, c.as_slice.ensures.value) at c.in_ok-state-inside.ensures.agenda) k.facts c.without_all.result k.clock leads f.stands)))
-
-pub returns-clause-follows : goal.returns-clause-follows
-returns-clause-follows c =
-    let p = c.args.program.now in
-    let k = (contents c.state.inside.facts c.state.inside.expiries c.state.inside.clock c.state.inside.last_starts.items c.state.inside.agenda c.state.inside.next_id c.state.inside.next_tag) in
-    let f : Follows p c.args.net.now k = subst (λ (k : Contents). Follows p c.args.net.now k) (sym c.state.view_is) c.requires.follows in
+    let here : Standing s m k w = subst (λ (k : Contents). Standing s m k w) (sym c.state.view_is) st in
     let same : to_z w64 (of_z w64 c.args.clock) ≡ c.args.clock = clock_same c.args.clock c.requires.low c.requires.high in
     let moves : k.clock ≤ℤ c.args.clock = subst (λ (k : Contents). k.clock ≤ℤ c.args.clock) (sym c.state.view_is) c.requires.later in
+    let due = c.in_ok-due.due.items in
     let takes = simp same at c.in_ok-due.ensures.ok in
-    let leads = later_leads p c.args.net.now c.followed.new.net k f c.state.invariant c.args.clock c.take_due.new.self c.in_ok-due.due.items takes c.without_all.result c.without_all.ensures moves in
-    rw same (later_follows p c.args.net.now c.followed.new.net k f c.state.invariant c.args.clock c.take_due.new.self c.in_ok-due.due.items takes c.without_all.result c.without_all.ensures c.in_ok-state-inside.field-0
-    ((simp (same, c.as_slice.ensures.value) at c.in_ok-state-inside.ensures.net) k.facts c.without_all.result k.clock leads f.stands))
+    let b = c.in_ok-agenda.agenda in
+    let behind = remaining here.seen.all due in
+    let out = remaining_is here.seen.all due in
+    let leads = later_leads_on s m k w here c.requires.runs c.args.clock moves none lawful c.take_due.new.self due takes c.without_all.result c.without_all.ensures behind out b in
+    let has_left : HasLeft k.agenda b (is_among c.as_slice-2.result.now) = subst (λ tags. HasLeft k.agenda b (is_among tags)) (sym c.as_slice-2.ensures.value) c.in_ok-agenda.ensures.left in
+    let next = stepped s.program w (At c.args.clock) in
+    settled next
+    (subst (λ (z : ℤ). Awaits s (record { net = c.followed.new.net; retention = m.retention }) (contents c.without_all.result c.take_due.new.self z k.last_starts b k.next_id k.next_tag) (is_among c.as_slice-2.result.now) next) (sym same)
+    (later_awaits s m k w here c.requires.runs c.args.clock moves none lawful c.take_due.new.self due takes c.without_all.result c.without_all.ensures behind out b c.followed.new.net (is_among c.as_slice-2.result.now)
+    ((simp (same, c.as_slice.ensures.value) at c.in_ok-agenda.ensures.net) here.seen.all behind here.seen.all k.clock here.seen.forgotten leads here.seen.stands)
+    ((simp (same, c.as_slice.ensures.value) at c.in_ok-agenda.ensures.agenda) here.seen.all behind here.seen.all k.clock here.seen.forgotten leads here.seen.stands)
+    has_left))) c.settled-2.ensures.stands

@@ -1,14 +1,16 @@
 use Rattle.std.proofs.Common.{◌≡◌, ◌∙◌, ◌+◌, Some, None, option_map, sym, subst, ap, to_z, of_z, w64, arith}
+use Rattle.std.proofs.lemmas.Result.{IfOk-weaker}
 use Rattle.fx_base.specs.declared.fact.Fact.{Fact}
-use Rattle.rule_world.specs.Worlds.{kept, modify_fault}
-use Rattle.session.specs.Following.{Follows}
+use Rattle.rule_model.specs.declared.step.Step.TheVariants.{Modify}
+use Rattle.rule_world.specs.Worlds.{modify_fault, stepped}
+use Rattle.retention.specs.Retentions.{is_among}
+use Rattle.forgetting.specs.Steps.{HasLeft}
 use Rattle.session.specs.Places.{IsNewestTag, newest}
-use Rattle.session.specs.Standing.{Contents, Mirrors, Standing}
-use Rattle.session.proofs.Exactly.{exact, after_revised}
+use Rattle.session.specs.Standing.{Contents, Standing}
 use Rattle.session.proofs.Faults.{clock_same, fresh_less, safe_again}
-use Rattle.session.proofs.Follow.{revised_follows, revised_leads}
 use Rattle.session.proofs.Members.{got_new}
-use Rattle.session.proofs.Stands.{contents, modify_moves}
+use Rattle.session.proofs.Revising.{modify_awaits, modify_leads_on}
+use Rattle.session.proofs.Stands.{contents}
 use Rattle.std.specs.FinMap as map
 use Rattle.session.proofs.state.State.with_sets.Goals as goal
 
@@ -22,37 +24,29 @@ invariant_of-state c =
     fresh_less c.in_ok-state-inside.field-0 c.take.new.self c.state.inside.expiries c.state.inside.clock c.state.inside.next_id (c.state.inside.next_tag + 1) c.args.tag.0 more c.take.ensures.rest
 
 pub returns-clause-stands : goal.returns-clause-stands
-returns-clause-stands c w s =
-    let p = c.args.program.now in
+returns-clause-stands c = IfOk-weaker c.settled.result _ _ (λ t settled w st none lawful.
+    let s = c.args.setting.now in
+    let m = c.args.memory.now in
     let k = (contents c.state.inside.facts c.state.inside.expiries c.state.inside.clock c.state.inside.last_starts.items c.state.inside.agenda c.state.inside.next_id c.state.inside.next_tag) in
-    let f : Follows p c.args.net.now k = subst (λ (k : Contents). Follows p c.args.net.now k) (sym c.state.view_is) c.requires.follows in
+    let here : Standing s m k w = subst (λ (k : Contents). Standing s m k w) (sym c.state.view_is) st in
     let same : to_z w64 (of_z w64 c.state.inside.clock) ≡ c.state.inside.clock = clock_same c.state.inside.clock c.state.invariant.clock_low c.state.invariant.clock_high in
     let is : IsNewestTag c.state.inside.facts c.args.id.0 c.args.tag = subst (λ (k : Contents). IsNewestTag k.facts c.args.id.0 c.args.tag) (sym c.state.view_is) c.requires.tag in
+    let plain : modify_fault s.program (newest k c.args.id.0) ≡ None = subst (λ (k : Contents). modify_fault s.program (newest k c.args.id.0) ≡ None) (sym c.state.view_is) c.requires.plain in
     let taken : Some c.unwrap-before.result.now ≡ map.get c.state.inside.facts c.args.tag.0 = ap (option_map (λ f. f.now)) (sym c.unwrap-before.ensures) ∙ c.fact.ensures in
-    let plain : modify_fault p (newest k c.args.id.0) ≡ None = subst (λ (k : Contents). modify_fault p (newest k c.args.id.0) ≡ None) (sym c.state.view_is) c.requires.plain in
     let facts = c.in_ok-state-inside.field-0 in
-    let at : c.in_ok-after.after.tag.0 ≡ c.state.inside.next_tag = ap (λ (f : Fact). f.tag.0) c.in_ok-after.ensures in
-    let come : option_map (λ f. f.now) c.fact-2.result ≡ Some c.in_ok-after.after =
-    c.fact-2.ensures ∙ ap (map.get facts) (sym at) ∙ ap (λ m. map.get m c.in_ok-after.after.tag.0) c.in_ok-state-inside.ensures ∙ got_new c.state.inside.facts c.in_ok-after.after in
-    let leads = revised_leads p c.args.net.now c.followed.new.net k f c.state.invariant c.args.id c.args.tag is plain c.unwrap-before.result.now c.in_ok-after.after taken c.args.sets c.in_ok-after.ensures facts c.take.new.self c.in_ok-state-inside.ensures c.take.ensures.rest in
-    subst (Mirrors p _) (sym (after_revised p w c.args.id.0 c.args.sets))
-    (modify_moves p k c.in_ok-state-inside-2.field-0 (kept p w) (exact p k w (subst (λ (k : Contents). Standing p k w) (sym c.state.view_is) s)) c.args.id c.args.tag is c.args.sets c.unwrap-before.result.now c.in_ok-after.after facts
-    c.take.new.self taken plain c.in_ok-after.ensures c.in_ok-state-inside.ensures c.take.ensures.rest
-    ((simp (same, come) at c.in_ok-state-inside-2.ensures.agenda) k.facts c.take.new.self k.clock leads f.stands))
-
-pub returns-clause-follows : goal.returns-clause-follows
-returns-clause-follows c =
-    let p = c.args.program.now in
-    let k = (contents c.state.inside.facts c.state.inside.expiries c.state.inside.clock c.state.inside.last_starts.items c.state.inside.agenda c.state.inside.next_id c.state.inside.next_tag) in
-    let f : Follows p c.args.net.now k = subst (λ (k : Contents). Follows p c.args.net.now k) (sym c.state.view_is) c.requires.follows in
-    let same : to_z w64 (of_z w64 c.state.inside.clock) ≡ c.state.inside.clock = clock_same c.state.inside.clock c.state.invariant.clock_low c.state.invariant.clock_high in
-    let is : IsNewestTag c.state.inside.facts c.args.id.0 c.args.tag = subst (λ (k : Contents). IsNewestTag k.facts c.args.id.0 c.args.tag) (sym c.state.view_is) c.requires.tag in
-    let taken : Some c.unwrap-before.result.now ≡ map.get c.state.inside.facts c.args.tag.0 = ap (option_map (λ f. f.now)) (sym c.unwrap-before.ensures) ∙ c.fact.ensures in
-    let plain : modify_fault p (newest k c.args.id.0) ≡ None = subst (λ (k : Contents). modify_fault p (newest k c.args.id.0) ≡ None) (sym c.state.view_is) c.requires.plain in
-    let facts = c.in_ok-state-inside.field-0 in
-    let at : c.in_ok-after.after.tag.0 ≡ c.state.inside.next_tag = ap (λ (f : Fact). f.tag.0) c.in_ok-after.ensures in
-    let come : option_map (λ f. f.now) c.fact-2.result ≡ Some c.in_ok-after.after =
-    c.fact-2.ensures ∙ ap (map.get facts) (sym at) ∙ ap (λ m. map.get m c.in_ok-after.after.tag.0) c.in_ok-state-inside.ensures ∙ got_new c.state.inside.facts c.in_ok-after.after in
-    let leads = revised_leads p c.args.net.now c.followed.new.net k f c.state.invariant c.args.id c.args.tag is plain c.unwrap-before.result.now c.in_ok-after.after taken c.args.sets c.in_ok-after.ensures facts c.take.new.self c.in_ok-state-inside.ensures c.take.ensures.rest in
-    revised_follows p c.args.net.now c.followed.new.net k f c.state.invariant c.args.id c.args.tag is plain c.unwrap-before.result.now c.in_ok-after.after taken c.args.sets c.in_ok-after.ensures facts c.take.new.self c.in_ok-state-inside.ensures c.take.ensures.rest
-    c.in_ok-state-inside-2.field-0 (c.state.inside.next_tag + 1) ((simp (same, come) at c.in_ok-state-inside-2.ensures.net) k.facts c.take.new.self k.clock leads f.stands)
+    let after = c.in_ok-after.after in
+    let at : after.tag.0 ≡ c.state.inside.next_tag = ap (λ (f : Fact). f.tag.0) c.in_ok-after.ensures in
+    let come : option_map (λ f. f.now) c.fact-2.result ≡ Some after =
+    c.fact-2.ensures ∙ ap (map.get facts) (sym at) ∙ ap (λ m. map.get m after.tag.0) c.in_ok-state-inside.ensures ∙ got_new c.state.inside.facts after in
+    let b = c.in_ok-agenda.agenda in
+    let both = map.insert here.seen.all after.tag.0 after in
+    let behind = map.remove both c.args.tag.0 in
+    let leads = modify_leads_on s m k w here c.args.id c.args.tag is c.requires.runs c.args.sets plain none lawful c.unwrap-before.result.now after taken c.in_ok-after.ensures facts c.in_ok-state-inside.ensures
+    c.take.new.self c.take.ensures.rest b in
+    let has_left : HasLeft k.agenda b (is_among c.as_slice.result.now) = subst (λ tags. HasLeft k.agenda b (is_among tags)) (sym c.as_slice.ensures.value) c.in_ok-agenda.ensures.left in
+    settled (stepped s.program w (Modify c.args.id c.args.sets))
+    (modify_awaits s m k w here c.args.id c.args.tag is c.requires.runs c.args.sets plain none lawful c.unwrap-before.result.now after taken c.in_ok-after.ensures facts c.in_ok-state-inside.ensures
+    c.take.new.self c.take.ensures.rest b c.followed.new.net (is_among c.as_slice.result.now)
+    ((simp (same, come) at c.in_ok-agenda.ensures.net) here.seen.all behind both k.clock here.seen.forgotten leads here.seen.stands)
+    ((simp (same, come) at c.in_ok-agenda.ensures.agenda) here.seen.all behind both k.clock here.seen.forgotten leads here.seen.stands)
+    has_left)) c.settled.ensures.stands
