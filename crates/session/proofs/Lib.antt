@@ -18,6 +18,7 @@ pub mod Asking
 pub mod Sessions
 pub mod Knowing
 pub mod Phases
+pub mod Clean
 pub mod Taken
 pub mod Needs
 pub mod Moving_on
