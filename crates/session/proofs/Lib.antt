@@ -26,3 +26,6 @@ pub mod Removing
 pub mod Revising
 pub mod Passing
 pub mod Marking
+pub mod Olds
+pub mod Dropping
+pub mod Forgotten
