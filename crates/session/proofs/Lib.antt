@@ -20,6 +20,7 @@ pub mod Knowing
 pub mod Phases
 pub mod Clean
 pub mod Taken
+pub mod Needing
 pub mod Needs
 pub mod Moving_on
 pub mod Removing
