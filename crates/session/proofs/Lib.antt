@@ -30,3 +30,4 @@ pub mod Marking
 pub mod Olds
 pub mod Dropping
 pub mod Forgotten
+pub mod Retracting
