@@ -8,6 +8,7 @@ pub mod Leads
 pub mod Ready
 pub mod Exactly
 pub mod Newest
+pub mod Readied
 pub mod Stands
 pub mod Faults
 pub mod Doing
@@ -31,3 +32,4 @@ pub mod Olds
 pub mod Dropping
 pub mod Forgotten
 pub mod Retracting
+pub mod Inserting
