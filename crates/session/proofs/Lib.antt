@@ -10,6 +10,7 @@ pub mod Exactly
 pub mod Newest
 pub mod Readied
 pub mod Stands
+pub mod Looking
 pub mod Faults
 pub mod Doing
 pub mod Tried

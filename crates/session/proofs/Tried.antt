@@ -6,14 +6,17 @@ use Rattle.rule_world.specs.declared.code.Code.{Code}
 use Rattle.rule_model.specs.declared.program.Program.{Program}
 use Rattle.rule_model.specs.declared.step.Step.{Step}
 use Rattle.rule_world.specs.Lawful.{IsOrdered}
-use Rattle.rule_world.specs.Worlds.{World, kept, step_fault, stepped}
+use Rattle.rule_world.specs.Worlds.{World, step_fault, stepped}
+use Rattle.rule_world.proofs.Lawfuls.{step_lawful}
 use Rattle.rule_world.proofs.Staying.{Stays, same_stays, stays_on}
 use Rattle.engine.specs.declared.lines.OutLine.{OutLine}
 use Rattle.engine.specs.declared.lines.OutLine.TheVariants.{Fault}
+use Rattle.session.specs.declared.memory.Memory.{Memory}
+use Rattle.session.specs.declared.setting.Setting.{Setting}
 use Rattle.session.specs.Gives.{does, does_all, refused, step_lines, tries, tries_with}
-use Rattle.session.specs.Leading.{AllFit, MovesTo, StandsAfter, Writes}
-use Rattle.session.specs.Standing.{Contents, Mirrors, Standing}
-use Rattle.session.proofs.Doing.{does_lawful, does_stays, next_fits}
+use Rattle.session.specs.Leading.{AllFit, Moves, StandsAfter, Suits, Tries, Writes, WritesFor}
+use Rattle.session.specs.Standing.{Contents, Standing}
+use Rattle.session.proofs.Doing.{does_stays, next_fits}
 
 -- a step without a fault is done, and one with a fault is refused
 pub is_done : (p : Program) (w : World) (step : Step) → step_fault p w step ≡ None → tries p w step ≡ (step_lines w step, stepped p w step)
@@ -22,31 +25,50 @@ is_done p w step e = ap (tries_with p w step) e
 pub is_refused : (p : Program) (w : World) (step : Step) (code : Code) → step_fault p w step ≡ Some code → tries p w step ≡ refused w code
 is_refused p w step code e = ap (tries_with p w step) e
 
-module _ (p : Program) (w : World) (step : Step) where
-  pub done_moves : (s : Contents) (next : World) → step_fault p w step ≡ None → stepped p w step ≡ next → Mirrors p s (kept p next) → Mirrors p s (kept p (tries p w step).1)
-  done_moves s next none is m =
-      subst (λ (z : List OutLine × World). Mirrors p s (kept p z.1)) (sym (is_done p w step none)) (subst (λ (z : World). Mirrors p s (kept p z)) (sym is) m)
+module _ (s : Setting) (m : Memory) (k : Contents) (step : Step) where
+  -- in each world that the step suits it has no fault; in each it has this one
+  abbrev pub IsFaultless : Type 0
+  IsFaultless = (w : World) → Standing s m k w → Suits s.program w step → step_fault s.program w step ≡ None
 
-  pub done_lines : (before later lines : List OutLine) → step_fault p w step ≡ None → step_lines w step ≡ lines → later ≡ before ++ lines → later ≡ before ++ (tries p w step).0
-  done_lines before later lines none is e = e ∙ ap (λ z. before ++ z) (sym is) ∙ ap (λ (z : List OutLine × World). before ++ z.0) (sym (is_done p w step none))
+  abbrev pub HasFault : Code → Type 0
+  HasFault code = (w : World) → Standing s m k w → Suits s.program w step → step_fault s.program w step ≡ Some code
 
-  pub no_lines : (before : List OutLine) → step_fault p w step ≡ None → step_lines w step ≡ [] → before ≡ before ++ (tries p w step).0
-  no_lines before none is = done_lines before before [] none is (sym (append-nil before))
+  pub tried_done : (n : Memory) (t : Contents) → IsFaultless → Moves s m k step n t → Tries s m k step n t
+  tried_done n t faultless moves w st suits =
+      let none : step_fault s.program w step ≡ None = faultless w st suits in
+      subst (λ (z : List OutLine × World). Standing s n t z.1) (sym (is_done s.program w step none))
+      (moves w st none (step_lawful s.program w step st.seen.whole.lawful (suits.fits none) none))
 
-  module _ (code : Code) (fault : step_fault p w step ≡ Some code) where
-    pub refused_moves : (k s : Contents) → s ≡ k → Standing p k w → Mirrors p s (kept p (tries p w step).1)
-    refused_moves k s e st =
-        subst (λ (z : List OutLine × World). Mirrors p s (kept p z.1)) (sym (is_refused p w step code fault)) (subst (λ (z : Contents). Mirrors p z (kept p w)) (sym e) st.mirrors)
+  pub done_lines : (before after lines : List OutLine) → IsFaultless → ((w : World) → Standing s m k w → step_lines w step ≡ lines) → after ≡ before ++ lines → Writes s m k step before after
+  done_lines before after lines faultless is e w st suits =
+      e ∙ ap (λ z. before ++ z) (sym (is w st)) ∙ ap (λ (z : List OutLine × World). before ++ z.0) (sym (is_done s.program w step (faultless w st suits)))
 
-    pub refused_lines : (before later : List OutLine) → later ≡ before ++ Fault code ∷ [] → later ≡ before ++ (tries p w step).0
-    refused_lines before later e = e ∙ ap (λ (z : List OutLine × World). before ++ z.0) (sym (is_refused p w step code fault))
+  pub no_lines : (before : List OutLine) → IsFaultless → ((w : World) → step_lines w step ≡ []) → Writes s m k step before before
+  no_lines before faultless is = done_lines before before [] faultless (λ w st. is w) (sym (append-nil before))
 
--- a step that was tried keeps the session standing
-pub tried_stands : (p : Program) (k s : Contents) (step : Step) → MovesTo p k (λ w. (tries p w step).1) s → StandsAfter p k (Ok step) s
-tried_stands p k s step moves w st fits = record { lawful = does_lawful p w (Ok step) st.lawful fits; mirrors = moves w st }
+  module _ (code : Code) (fault : HasFault code) where
+    pub refused_tries : (t : Contents) → t ≡ k → Tries s m k step m t
+    refused_tries t e w st suits =
+        subst (λ (z : List OutLine × World). Standing s m t z.1) (sym (is_refused s.program w step code (fault w st suits))) (subst (λ (z : Contents). Standing s m z w) (sym e) st)
 
-pub refused_stands : (p : Program) (k s : Contents) (code : Code) → s ≡ k → StandsAfter p k (Err code) s
-refused_stands p k s code e w st fits = subst (λ (z : Contents). Standing p z w) (sym e) st
+    pub refused_lines : (before after : List OutLine) → after ≡ before ++ Fault code ∷ [] → Writes s m k step before after
+    refused_lines before after e w st suits = e ∙ ap (λ (z : List OutLine × World). before ++ z.0) (sym (is_refused s.program w step code (fault w st suits)))
+
+-- ---- what is wanted
+
+module _ (s : Setting) (m : Memory) (k : Contents) where
+  -- a step that was tried keeps the session standing
+  pub tried_stands : (step : Step) (n : Memory) (t : Contents) → Tries s m k step n t → StandsAfter s m k (Ok step) n t
+  tried_stands step n t tried w st fits = tried w st (fits step refl)
+
+  pub tried_writes : (step : Step) (before after : List OutLine) → Writes s m k step before after → WritesFor s m k (Ok step) before after
+  tried_writes step before after written w st fits = written w st (fits step refl)
+
+  pub refused_stands : (code : Code) (t : Contents) → t ≡ k → StandsAfter s m k (Err code) m t
+  refused_stands code t e w st fits = subst (λ (z : Contents). Standing s m z w) (sym e) st
+
+  pub refused_writes : (code : Code) (before after : List OutLine) → after ≡ before ++ Fault code ∷ [] → WritesFor s m k (Err code) before after
+  refused_writes code before after e w st fits = e
 
 pub on_ok_weaker : {T E P Q : Type 0} (r : Result T E) → (P → Q) → OnOk r P → OnOk r Q
 on_ok_weaker (Ok x) f p = f p
@@ -63,38 +85,39 @@ nothing_left (x ∷ xs) n e z = absurd (omega arith)
 -- ---- steps one after the other
 
 -- some were done, and the world that they lead to has the rest before it; the rest fits the first world, whose facts have kept their types
-pub record SoFar (p : Program) (w : World) (plan : List (Result Step Code)) (before lines : List OutLine) (s : Contents) (rest : List (Result Step Code)) : Type 0 where
+pub record SoFar (s : Setting) (w : World) (plan : List (Result Step Code)) (before lines : List OutLine) (m : Memory) (k : Contents) (rest : List (Result Step Code)) : Type 0 where
   pub world : World
-  pub stands : Standing p s world
+  pub stands : Standing s m k world
   pub stays : Stays w world
-  pub fit : AllFit p w rest
-  pub written : before ++ (does_all p w plan).0 ≡ lines ++ (does_all p world rest).0
-  pub left : (does_all p w plan).1 ≡ (does_all p world rest).1
+  pub fit : AllFit s.program w rest
+  pub written : before ++ (does_all s.program w plan).0 ≡ lines ++ (does_all s.program world rest).0
+  pub left : (does_all s.program w plan).1 ≡ (does_all s.program world rest).1
 
-pub none_done : (p : Program) (w : World) (plan : List (Result Step Code)) (before : List OutLine) (s : Contents) → Standing p s w → AllFit p w plan → SoFar p w plan before before s plan
-none_done p w plan before s st fit = record { world = w; stands = st; stays = same_stays w w refl refl; fit = fit; written = refl; left = refl }
+module _ (s : Setting) (w : World) (plan : List (Result Step Code)) (before : List OutLine) where
+  pub none_done : (m : Memory) (k : Contents) → Standing s m k w → AllFit s.program w plan → SoFar s w plan before before m k plan
+  none_done m k st fit = record { world = w; stands = st; stays = same_stays w w refl refl; fit = fit; written = refl; left = refl }
 
-pub one_done : (p : Program) (w : World) (plan : List (Result Step Code)) (before lines later : List OutLine) (s t : Contents) (wanted : Result Step Code) (rest : List (Result Step Code))
-    → IsOrdered p w → SoFar p w plan before lines s (wanted ∷ rest) → StandsAfter p s wanted t → Writes p s (λ v. (does p v wanted).0) lines later
-    → SoFar p w plan before later t rest
-unfolding does_all
-one_done p w plan before lines later s t wanted rest o f stands written =
-    let done = does p f.world wanted in
-    record {
-      world = done.1;
-      stands = stands f.world f.stands (next_fits p w o f.world wanted rest f.fit f.stays);
-      stays = stays_on w f.world done.1 f.stays (does_stays p f.world wanted f.stands.lawful.ordered);
-      fit = λ step i. f.fit step (inr i);
-      written = f.written ∙ sym (append_assoc lines done.0 (does_all p done.1 rest).0) ∙ ap (λ z. z ++ (does_all p done.1 rest).0) (sym (written f.world f.stands));
-      left = f.left;
-    }
+  pub one_done : (lines later : List OutLine) (m n : Memory) (k t : Contents) (wanted : Result Step Code) (rest : List (Result Step Code)) → IsOrdered s.program w
+      → SoFar s w plan before lines m k (wanted ∷ rest) → StandsAfter s m k wanted n t → WritesFor s m k wanted lines later → SoFar s w plan before later n t rest
+  unfolding does_all
+  one_done lines later m n k t wanted rest o f stands written =
+      let p = s.program in
+      let done = does p f.world wanted in
+      let ordered = f.stands.seen.whole.lawful.ordered in
+      let fits = next_fits p w o f.world wanted rest f.fit ordered f.stays in
+      record {
+        world = done.1;
+        stands = stands f.world f.stands fits;
+        stays = stays_on w f.world done.1 f.stays (does_stays p f.world wanted ordered);
+        fit = λ step i. f.fit step (inr i);
+        written = f.written ∙ sym (append_assoc lines done.0 (does_all p done.1 rest).0) ∙ ap (λ z. z ++ (does_all p done.1 rest).0) (sym (written f.world f.stands fits));
+        left = f.left;
+      }
 
-pub all_done_stands : (p : Program) (w : World) (plan : List (Result Step Code)) (before lines : List OutLine) (s : Contents) → SoFar p w plan before lines s []
-    → Standing p s (does_all p w plan).1
-unfolding does_all
-all_done_stands p w plan before lines s f = subst (Standing p s) (sym f.left) f.stands
+  pub all_done_stands : (lines : List OutLine) (m : Memory) (k : Contents) → SoFar s w plan before lines m k [] → Standing s m k (does_all s.program w plan).1
+  unfolding does_all
+  all_done_stands lines m k f = subst (Standing s m k) (sym f.left) f.stands
 
-pub all_done_lines : (p : Program) (w : World) (plan : List (Result Step Code)) (before lines : List OutLine) (s : Contents) → SoFar p w plan before lines s []
-    → lines ≡ before ++ (does_all p w plan).0
-unfolding does_all
-all_done_lines p w plan before lines s f = sym (append-nil lines) ∙ sym f.written
+  pub all_done_lines : (lines : List OutLine) (m : Memory) (k : Contents) → SoFar s w plan before lines m k [] → lines ≡ before ++ (does_all s.program w plan).0
+  unfolding does_all
+  all_done_lines lines m k f = sym (append-nil lines) ∙ sym f.written
