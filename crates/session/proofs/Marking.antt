@@ -1,5 +1,5 @@
 -- A session whose first match is marked as fired awaits the second phase of the firing.
-use Rattle.std.proofs.Common.{◌≡◌, ◌∙◌, ◌&&◌, ◌||◌, not, ℕ, Bool, true, false, inl, inr, Some, refl, sym, ap, subst}
+use Rattle.std.proofs.Common.{◌≡◌, ◌∙◌, ◌&&◌, ◌||◌, not, ℕ, Bool, true, inl, inr, Some, refl, sym, subst}
 use Rattle.std.specs.Ordering.{eq_by_cmp}
 use Rattle.std.proofs.lemmas.Map.Views.{tells_apart}
 use Rattle.rule_model.specs.declared.matched.Match.{Match}
@@ -16,7 +16,6 @@ use Rattle.rule_world.proofs.Pending.{by_fire, has_pending}
 use Rattle.agenda.specs.Agendas.{Marks, names_tag}
 use Rattle.pair_memory.specs.Standing.{clean}
 use Rattle.forgetting.specs.Sights.{Lives, Sight, each_tag, ends_by, is_kept}
-use Rattle.forgetting.specs.Firings.{Fires}
 use Rattle.forgetting.specs.WorldSights.{sight_of}
 use Rattle.forgetting.proofs.Before.{pending_kept}
 use Rattle.forgetting.proofs.Closing.{world_fire_kept}

@@ -1,9 +1,8 @@
 -- What a session has taken where facts go and one may come, and where the clock moves on: what the network is led to, and what awaits.
-use Rattle.std.proofs.Common.{◌≡◌, ◌∙◌, ◌+◌, ◌<◌, ◌≤◌, ◌≤ℤ◌, ◌==◌, ◌||◌, ◌⊎◌, inl, inr, not, ℕ, ℤ, Bool, true, false, cond, nat_eq, List, [], ◌∷◌, Option, Some, None, if◌then◌else◌, refl, sym, ap, subst, arith}
+use Rattle.std.proofs.Common.{◌≡◌, ◌∙◌, ◌+◌, ◌<◌, ◌≤◌, ◌≤ℤ◌, inl, inr, not, ℕ, ℤ, Bool, true, false, cond, nat_eq, List, Option, Some, None, if◌then◌else◌, refl, sym, ap, subst, arith}
 use Rattle.std.specs.Prelude.{is_some}
 use Rattle.std.specs.FinMap as map
 use Rattle.std.specs.List.{list_any}
-use Rattle.std.proofs.lemmas.Bool.Decides.{nat_tests}
 use Rattle.std.proofs.lemmas.Int.{ints}
 use Rattle.fx_base.specs.Lists.{In}
 use Rattle.fx_base.specs.declared.fact.Fact.{Fact}
@@ -16,7 +15,7 @@ use Rattle.rule_world.specs.Worlds.{World, kept, present, step_fault, stepped}
 use Rattle.rule_world.proofs.Fresh.{below_of}
 use Rattle.retention.specs.Watching.{Covers}
 use Rattle.forgetting.specs.Sights.{ends_by, ends_of, only}
-use Rattle.forgetting.specs.Steps.{brought, changed}
+use Rattle.forgetting.specs.Steps.{changed}
 use Rattle.forgetting.specs.WorldSights.{fact_at, sight_of}
 use Rattle.forgetting.proofs.Covering.{later_covers}
 use Rattle.session.specs.declared.memory.Memory.{Memory}

@@ -1,11 +1,10 @@
 -- What a session has taken where its clock moves on.
-use Rattle.std.proofs.Common.{◌≡◌, ◌∙◌, ◌+◌, ◌<◌, ◌≤◌, ◌≤ℤ◌, ◌==◌, ◌||◌, ◌⊎◌, inl, inr, not, ℕ, ℤ, Bool, true, false, cond, nat_eq, List, [], ◌∷◌, Option, Some, None, slice_get, if◌then◌else◌, refl, sym, ap, subst, arith}
+use Rattle.std.proofs.Common.{◌≡◌, ◌∙◌, ◌≤ℤ◌, ◌||◌, inl, not, ℕ, ℤ, Bool, true, false, cond, nat_eq, List, Some, None, slice_get, if◌then◌else◌, refl, sym, ap, subst, arith}
 use Rattle.std.specs.FinMap as map
 use Rattle.std.specs.FinMap.{get-retain_keys}
-use Rattle.std.specs.List.{list_any, filter}
+use Rattle.std.specs.List.{list_any}
 use Rattle.std.specs.Ordering.{is_eq}
 use Rattle.std.proofs.lemmas.Bool.Decides.{nat_tests}
-use Rattle.std.proofs.lemmas.Int.{ints}
 use Rattle.fx_base.specs.Lists.{In}
 use Rattle.fx_base.specs.declared.fact.Fact.{Fact}
 use Rattle.due_queue.specs.Timers.{Timers, TakesDue, has_come}
@@ -13,20 +12,17 @@ use Rattle.fact_store.specs.Held.{HeldFacts, facts_of}
 use Rattle.fact_store.proofs.Stored.{tied}
 use Rattle.row_delta.specs.declared.row.Named.{Named}
 use Rattle.row_delta.specs.declared.row.Row.{Row}
-use Rattle.row_delta.specs.Rows.{has}
-use Rattle.rule_model.specs.declared.matched.Match.{Match}
 use Rattle.rule_model.specs.declared.program.Program.{Program}
 use Rattle.rule_model.specs.declared.program.Rule.{Rule}
 use Rattle.rule_model.specs.declared.step.Step.{Step}
 use Rattle.rule_model.specs.declared.step.Step.TheVariants.{At}
 use Rattle.rule_model.specs.Candidates.{is_present}
-use Rattle.rule_model.specs.Matches.{has_match}
 use Rattle.rule_model.specs.Rows.{rows}
 use Rattle.rule_world.specs.Lawful.{IsLawful}
 use Rattle.rule_world.specs.Worlds.{World, at_clock, kept, moved, present, settled, step_fault, stepped}
-use Rattle.agenda.specs.Agendas.{Marks, names_tag}
+use Rattle.agenda.specs.Agendas.{Marks}
 use Rattle.condition_rows.specs.Sets.{rows_of}
-use Rattle.pair_memory.specs.Standing.{clean, cleaned}
+use Rattle.pair_memory.specs.Standing.{cleaned}
 use Rattle.rete_net.specs.Nets.{NetStands, clean_rows}
 use Rattle.rete_net.specs.declared.net.Rete.{Rete}
 use Rattle.rete_net.proofs.Cleaning.{has_clean}
@@ -40,12 +36,12 @@ use Rattle.forgetting.proofs.Naming.{some_in}
 use Rattle.forgetting.proofs.Seeing.{own_at}
 use Rattle.session.specs.declared.memory.Memory.{Memory}
 use Rattle.session.specs.declared.setting.Setting.{Setting}
-use Rattle.session.specs.Following.{HasAtHand, Leads, LeadsOn}
+use Rattle.session.specs.Following.{Leads, LeadsOn}
 use Rattle.session.specs.Refreshed.{over, IsRefreshed}
-use Rattle.session.specs.Standing.{AreForgotten, Awaits, Contents, Mirrors, Runs, Standing, expiry_at, holding, with_facts}
+use Rattle.session.specs.Standing.{Awaits, Contents, Mirrors, Runs, Standing, expiry_at, holding, with_facts}
 use Rattle.session.specs.Waiting.{left_at}
 use Rattle.session.proofs.Exactly.{after_clock}
-use Rattle.session.proofs.Moving_on.{covered_at, hand_of, leads_on, left_changed, less_forgotten, of_left, world_exact, world_holds, world_ready, store_seen}
+use Rattle.session.proofs.Moving_on.{covered_at, hand_of, leads_on, left_changed, less_forgotten, of_left, world_exact, world_holds, world_ready}
 use Rattle.session.proofs.Ready.{lead_later}
 use Rattle.session.proofs.Rules.{not_refreshed}
 use Rattle.session.proofs.Stands.{clock_moves, contents}

@@ -1,5 +1,5 @@
 -- The fact of an id in the store is the one that the world has; and what a session has taken in its retraction.
-use Rattle.std.proofs.Common.{◌≡◌, ◌∙◌, ◌<◌, ◌≤◌, ◌==◌, ◌||◌, ◌⊎◌, inl, inr, ◌&&◌, not, ℕ, ℤ, Bool, true, false, cond, nat_eq, List, [], ◌∷◌, Option, Some, None, refl, sym, ap, subst, arith}
+use Rattle.std.proofs.Common.{◌≡◌, ◌∙◌, ◌<◌, ◌==◌, inl, inr, ◌&&◌, not, ℕ, Bool, true, false, nat_eq, [], ◌∷◌, Some, None, refl, sym, ap, subst, arith}
 use Rattle.std.specs.FinMap as map
 use Rattle.std.specs.List.{list_any}
 use Rattle.std.proofs.Math.Bool.{or-false}
@@ -10,8 +10,7 @@ use Rattle.fx_base.specs.declared.ids.Tag.{Tag}
 use Rattle.fx_base.specs.declared.ids.TypeId.{TypeId}
 use Rattle.fx_base.specs.declared.fact.Fact.{Fact}
 use Rattle.due_queue.specs.Timers.{Timers}
-use Rattle.fact_store.specs.Held.{HeldFacts, IsNewest, facts_of}
-use Rattle.row_delta.specs.declared.row.Named.{Named}
+use Rattle.fact_store.specs.Held.{HeldFacts, facts_of}
 use Rattle.rule_model.specs.declared.program.Program.{Program}
 use Rattle.rule_model.specs.declared.step.Step.{Step}
 use Rattle.rule_model.specs.declared.step.Step.TheVariants.{Retract}
@@ -31,10 +30,10 @@ use Rattle.forgetting.proofs.Covering.{retract_covers}
 use Rattle.forgetting.proofs.WorldSteps.{retracts_one}
 use Rattle.session.specs.declared.memory.Memory.{Memory}
 use Rattle.session.specs.declared.setting.Setting.{Setting}
-use Rattle.session.specs.Following.{HasAtHand, Leads, LeadsOn}
+use Rattle.session.specs.Following.{Leads, LeadsOn}
 use Rattle.session.specs.Places.{IsNewestTag, newest}
 use Rattle.session.specs.Refreshed.{over, IsRefreshed}
-use Rattle.session.specs.Standing.{AreForgotten, Awaits, Contents, Mirrors, Runs, Standing, holding, with_facts}
+use Rattle.session.specs.Standing.{Awaits, Contents, Mirrors, Runs, Standing, holding, with_facts}
 use Rattle.session.specs.Waiting.{left_at, without_timer}
 use Rattle.session.proofs.Exactly.{after_without}
 use Rattle.session.proofs.Leaving.{one_gone}

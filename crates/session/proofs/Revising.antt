@@ -1,5 +1,5 @@
 -- What a session has taken in a modification.
-use Rattle.std.proofs.Common.{◌≡◌, ◌∙◌, ◌+◌, ◌<◌, ◌≤◌, ◌==◌, ◌||◌, ◌⊎◌, inl, inr, not, ℕ, ℤ, Bool, true, false, cond, nat_eq, List, [], ◌∷◌, Option, Some, None, option_map, if◌then◌else◌, refl, sym, ap, subst, arith}
+use Rattle.std.proofs.Common.{◌≡◌, ◌∙◌, ◌+◌, ◌<◌, ◌≤◌, ◌==◌, ◌⊎◌, inl, inr, ℕ, Bool, true, false, cond, nat_eq, List, [], ◌∷◌, Option, Some, None, option_map, if◌then◌else◌, refl, sym, ap, subst, arith}
 use Rattle.std.specs.FinMap as map
 use Rattle.std.specs.List.{list_any}
 use Rattle.std.proofs.Math.Bool.{or-false}
@@ -28,7 +28,7 @@ use Rattle.forgetting.proofs.Covering.{endless_covers}
 use Rattle.forgetting.proofs.Naming.{same_bool}
 use Rattle.session.specs.declared.memory.Memory.{Memory}
 use Rattle.session.specs.declared.setting.Setting.{Setting}
-use Rattle.session.specs.Following.{HasAtHand, Leads, LeadsOn}
+use Rattle.session.specs.Following.{Leads, LeadsOn}
 use Rattle.session.specs.Places.{IsNewestTag, newest}
 use Rattle.session.specs.Refreshed.{over, IsRefreshed}
 use Rattle.session.specs.Standing.{AreForgotten, Awaits, Contents, Mirrors, Runs, Standing, holding, with_facts}
@@ -38,7 +38,7 @@ use Rattle.session.proofs.Leaving.{one_gone}
 use Rattle.session.proofs.Members.{got_new, got_old, not_out, of_insert}
 use Rattle.session.proofs.Moving_on.{all_below, covered_at, hand_of, leads_on, left_changed, less_forgotten, more_forgotten, of_left, on_time, world_exact, world_holds, world_ready, store_seen}
 use Rattle.session.proofs.Ready.{lead_revised}
-use Rattle.session.proofs.Removing.{all_at_tag, all_newest, all_newest_is, at_tag, below_next, found_is, newest_is, only_one}
+use Rattle.session.proofs.Removing.{all_at_tag, all_newest, all_newest_is, at_tag, found_is, newest_is, only_one}
 use Rattle.session.proofs.Stands.{contents, modify_moves, plain_by}
 use Rattle.session.proofs.Taken.{taken_awaits}
 
