@@ -4,3 +4,4 @@ pub mod Versions
 pub mod Coming
 pub mod Staying
 pub mod Later
+pub mod Windows

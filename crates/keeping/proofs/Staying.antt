@@ -66,7 +66,7 @@ modified_is_plain p w id law none f i h = by (found p w id) refl none
         let one : g ≡ f = cc in
         ap (λ (x : Fact). is_event p x.ty.0) (sym one) ∙ modified_plain p (Some g) g k refl
 
-retracted_is_not_observed : (p : Program) (ty : ℕ) (there : Option Fact) → retract_fault p ty there ≡ None → is_event p ty ≡ true → is_observed p ty ≡ false
+pub retracted_is_not_observed : (p : Program) (ty : ℕ) (there : Option Fact) → retract_fault p ty there ≡ None → is_event p ty ≡ true → is_observed p ty ≡ false
 retracted_is_not_observed p ty there none event = by (is_event p ty) (is_observed p ty) event none
   where
     by : (a b : Bool) → a ≡ true → (if a then (if b then Some EventObserved else None) else if is_of_type ty there then None else Some Absent) ≡ None → b ≡ false
@@ -110,16 +110,16 @@ observed_of p rule flagged in_rules k c at_k side event =
 
 -- ---- a fact past its life, over two snapshots
 
-after_life : (a b : ℤ) → int_le a b ≡ false → b <ℤ a
+pub after_life : (a b : ℤ) → int_le a b ≡ false → b <ℤ a
 after_life a b e = grind (arith, ints)
 
-not_below : (a b : ℤ) → b ≤ℤ a → int_lt a b ≡ false
+pub not_below : (a b : ℤ) → b ≤ℤ a → int_lt a b ≡ false
 not_below a b h = grind (arith, ints)
 
-too_old : (clock start end n span : ℤ) → start ≤ℤ end → (end +ℤ n) <ℤ clock → span ≤ℤ n → span ≤ℤ (clock -ℤ start)
+pub too_old : (clock start end n span : ℤ) → start ≤ℤ end → (end +ℤ n) <ℤ clock → span ≤ℤ n → span ≤ℤ (clock -ℤ start)
 too_old clock start end n span order past longer = omega (arith, ints)
 
-later_too : (a b c : ℤ) → a <ℤ b → b ≤ℤ c → a <ℤ c
+pub later_too : (a b c : ℤ) → a <ℤ b → b ≤ℤ c → a <ℤ c
 later_too a b c h k = omega (arith, ints)
 
 or_true : (a : Bool) → (a || true) ≡ true
@@ -182,7 +182,7 @@ both_false true b e = e
 both_false false b e = refl
 
 module _ (p : Program) (table : LifeTable) (w : World) (are : AreLives p table) where
-  not_alive : (f : Fact) → is_kept p table w f ≡ false → is_alive p (slice_get table.lives f.ty.0) w.clock f ≡ false
+  pub not_alive : (f : Fact) → is_kept p table w f ≡ false → is_alive p (slice_get table.lives f.ty.0) w.clock f ≡ false
   unfolding is_kept
   not_alive f e = both_false (is_alive p (slice_get table.lives f.ty.0) w.clock f) (is_named p w f) e
 

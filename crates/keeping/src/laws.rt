@@ -1,18 +1,22 @@
 //! Laws of what is kept: each function's contract is the law, and its body is empty.
-ghost use Rattle.std.specs.Prelude.{◌≡◌, ◌↔◌, ◌&&◌, not, ℕ, true, false, take, Some, slice_get};
+ghost use Rattle.std.specs.Prelude.{◌≡◌, ◌≤ℤ◌, ◌↔◌, ◌&&◌, not, ℕ, ℤ, true, false, take, Some, slice_get};
 ghost use Rattle.fx_base.specs.Lists.{In};
 ghost use Rattle.fx_base.specs.declared.fact.Fact.{Fact};
 ghost use Rattle.row_delta.specs.declared.row.Named.{Named};
 ghost use Rattle.row_delta.specs.declared.row.Row.{Row};
 ghost use Rattle.rule_model.specs.declared.condition.Condition.{Condition};
+ghost use Rattle.rule_model.specs.declared.condition.WindowTag.TheVariants.{Time};
 ghost use Rattle.rule_model.specs.declared.life.LifeTable.{LifeTable};
 ghost use Rattle.rule_model.specs.declared.matched.Match.{Match};
 ghost use Rattle.rule_model.specs.declared.program.Program.{Program};
 ghost use Rattle.rule_model.specs.declared.program.Rule.{Rule};
 ghost use Rattle.rule_model.specs.declared.step.Step.{Step};
+ghost use Rattle.rule_model.specs.Candidates.{is_candidate};
 ghost use Rattle.rule_model.specs.Distinct.{HaveDistinctTags};
 ghost use Rattle.rule_model.specs.Rows.{pattern_of};
+ghost use Rattle.rule_model.specs.Snapshots.{Snapshot};
 ghost use Rattle.rule_model.specs.Tuples.{name_of};
+ghost use Rattle.rule_world.specs.Lawful.{IsLawful};
 ghost use Rattle.rule_world.specs.Worlds.{World, snapshot, stepped, marked};
 ghost use Rattle.rule_lives.specs.Keeping.{AreLives, IsKept};
 ghost use Rattle.rule_lives.specs.Networks.{binds};
@@ -83,4 +87,12 @@ pub fn what_is_forgotten_stays_forgotten()
         → is_forgotten p table (stepped p w step) (name_of f) ≡ true }
     ensures firing { (p : Program) (table : LifeTable) (w : World) (m : Match) (who : Named)
         → is_forgotten p table w who ≡ true → is_forgotten p table (marked w m) who ≡ true }
+{}
+
+/// A fact of a lawful world that is not kept is inside no window of time: from the world's clock on it is a candidate of no condition that
+/// has one.
+pub fn what_is_forgotten_is_in_no_window_of_time()
+    ensures { (p : Program) (table : LifeTable) (w : World) → AreLives p table → IsLawful p w → (f : Fact) → In f w.facts → is_kept p table w f ≡ false
+        → (rule : Rule) → In rule p.rules → (c : Condition) → In c rule.conditions → (span : ℤ) → (pattern_of c).window ≡ Time span
+        → (s : Snapshot) → w.clock ≤ℤ s.clock → is_candidate p (pattern_of c) s f ≡ false }
 {}

@@ -13,6 +13,6 @@ mod Forgets
 mod Dropping
 mod Listing
 mod Fewer
-mod Unmissed
+pub mod Unmissed
 mod Answering
 mod Skipping

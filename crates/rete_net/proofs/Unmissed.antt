@@ -1,7 +1,8 @@
 -- A network stands for a snapshot without a fact that no rule misses.
-use Rattle.std.proofs.Common.{◌≡◌, ◌∙◌, sym, ap, refl, subst, ℕ, ℤ, ◌==◌, ◌&&◌, ◌||◌, ◌-ℤ◌, ◌+ℤ◌, not, Bool, true, false, List, map, take, Some, slice_get}
+use Rattle.std.proofs.Common.{◌≡◌, ◌∙◌, sym, ap, refl, subst, ℕ, ℤ, ◌==◌, ◌&&◌, ◌||◌, ◌-ℤ◌, ◌+ℤ◌, not, Bool, true, false, List, map, take, length, Some, slice_get, arith}
 use mathlib.Core.Path.{fun_ext}
 use Rattle.std.proofs.Math.Bool.{or-true}
+use Rattle.std.proofs.lemmas.List.{take_all}
 use Rattle.std.proofs.lemmas.List.Kept.{IsStrictlySortedBy-filter}
 use Rattle.std.specs.List.{filter}
 use Rattle.std.specs.List.Sorted.{IsStrictlySortedBy}
@@ -11,16 +12,18 @@ use Rattle.fx_base.specs.Lists.{In}
 use Rattle.fx_base.specs.declared.fact.Fact.{Fact}
 use Rattle.row_delta.specs.declared.row.Named.{Named}
 use Rattle.row_delta.specs.declared.row.Row.{Row}
+use Rattle.row_delta.specs.Rows.{has}
 use Rattle.rule_model.specs.declared.condition.Condition.{Condition}
 use Rattle.rule_model.specs.declared.condition.Condition.TheVariants.{Negated, Existing, Folded}
 use Rattle.rule_model.specs.declared.condition.Pattern.{Pattern}
 use Rattle.rule_model.specs.declared.condition.WindowTag.{WindowTag}
 use Rattle.rule_model.specs.declared.condition.WindowTag.TheVariants.{Whole, Time, Length}
 use Rattle.rule_model.specs.declared.program.Program.{Program}
+use Rattle.rule_model.specs.declared.program.Rule.{Rule}
 use Rattle.rule_model.specs.Candidates.{fits, is_candidate, is_inside, is_within, is_present}
 use Rattle.rule_model.specs.Distinct.{HaveDistinctTags}
 use Rattle.rule_model.specs.Maturity.{told_to}
-use Rattle.rule_model.specs.Rows.{pattern_of}
+use Rattle.rule_model.specs.Rows.{pattern_of, rows}
 use Rattle.rule_model.specs.Simple.{is_length}
 use Rattle.rule_model.specs.Snapshots.{Snapshot}
 use Rattle.rule_model.specs.Tuples.{name_of}
@@ -30,6 +33,7 @@ use Rattle.rule_model.proofs.Named.{of_filter}
 use Rattle.rule_model.proofs.Once.{one_fact}
 use Rattle.rule_model.proofs.Order.{in_filter}
 use Rattle.rule_model.proofs.RuleOf.{in_place}
+use Rattle.rule_world.proofs.Fresh.{distinct_filtered}
 use Rattle.rule_world.proofs.Kept.{filter_swap}
 use Rattle.join_tests.specs.Joins.{Look, joins}
 use Rattle.pair_memory.specs.declared.memories.Memories.{Memories}
@@ -62,9 +66,10 @@ use Rattle.condition_node.proofs.Moved.{node_moves}
 use Rattle.rete_net.specs.declared.net.Rete.{Rete}
 use Rattle.rete_net.specs.declared.node.NetNode.{NetNode}
 use Rattle.rete_net.specs.Forgetting.{less_fact, IsUnmissed}
-use Rattle.rete_net.specs.Nets.{HaveSame, NetNodeStands, NodesStand, NetStands}
+use Rattle.rete_net.specs.Nets.{HaveSame, NetNodeStands, NodesStand, NetStands, clean_rows}
 use Rattle.rete_net.specs.Shapes.{before, IsFront}
 use Rattle.rete_net.proofs.Beside.{at_end}
+use Rattle.rete_net.proofs.Cleaning.{has_clean}
 use Rattle.rete_net.proofs.Fewer.{IsApart, Unobserved, of_other, of_binding, one_number, tag_of, unobserved_of, same_left, no_fit, candidates_apart, candidate_other, held_still, less_known, candidates_less, remembered_same, joins_named, front_same}
 
 -- ---- a snapshot without a fact
@@ -312,3 +317,15 @@ module _ (p : Program) (net : Rete) (s : Snapshot) (forgotten : Named → Bool) 
     unchanged = same_less s.clock stands.seen stands.unchanged;
     quiet = λ clock later low early is. same_less clock stands.seen (stands.quiet clock later low early (with_fact clock is));
   }
+
+-- ---- the rows of rules
+
+module _ (p : Program) (s : Snapshot) (forgotten : Named → Bool) (f : Fact) (tags : HaveDistinctTags s.facts) (unmissed : IsUnmissed p s forgotten f) (rule : Rule) (in_rules : In rule p.rules) where
+  all_same : cleaned (rows_of p (less_fact s f) rule.conditions) forgotten ≡ cleaned (rows_of p s rule.conditions) forgotten
+  all_same =
+      subst (λ (cs : List Condition). cleaned (rows_of p (less_fact s f) cs) forgotten ≡ cleaned (rows_of p s cs) forgotten) (take_all (length rule.conditions) rule.conditions (omega arith))
+      (front_same p s f forgotten tags (distinct_filtered (is_other f) s.facts tags) unmissed.there unmissed.known rule (unobserved_of p f unmissed.unobserved rule in_rules) (length rule.conditions))
+
+  pub clean_rows_less : (row : Row) → has (clean_rows p (less_fact s f) forgotten rule) row ≡ has (clean_rows p s forgotten rule) row
+  clean_rows_less row =
+      ap (λ (set : Row → Bool). set row) (has_clean (rows p (less_fact s f) rule.conditions) forgotten ∙ all_same ∙ sym (has_clean (rows p s rule.conditions) forgotten))

@@ -16,7 +16,6 @@ use Rattle.rule_world.specs.Worlds.{World, fact_of, step_fault}
 use Rattle.rule_world.proofs.Faultless.{event_by}
 use Rattle.rule_world.proofs.Fitting.{sets_of_type}
 use Rattle.rule_world.proofs.Found.{found_there}
-use Rattle.rule_world.proofs.Fresh.{and_parts}
 use Rattle.rule_world.proofs.Lawfuls.{step_lawful}
 use Rattle.rule_world.proofs.Staying.{Stays, fits_later, same_stays, stays_on, step_stays, type_stays}
 use Rattle.session.specs.Gives.{does, does_all, tries_with}

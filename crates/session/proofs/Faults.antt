@@ -1,5 +1,5 @@
 -- The faults of steps, by what a session has.
-use Rattle.std.proofs.Common.{◌≡◌, ◌≤◌, ◌^◌, ℕ, ℤ, pos, negsuc, ◌+◌, ◌+ℤ◌, ◌≤ℤ◌, ◌&&◌, not, cond, Bool, true, false, List, [], Option, Some, None, slice_get, Bor, FitsSigned, to_z, of_z, to_z-of_z, w64, refl, sym, ◌∙◌, ap, subst, arith}
+use Rattle.std.proofs.Common.{◌≡◌, ◌≤◌, ◌^◌, ℕ, ℤ, pos, negsuc, ◌+◌, ◌+ℤ◌, ◌≤ℤ◌, ◌&&◌, not, cond, Bool, true, false, List, [], ◌∷◌, Option, Some, None, slice_get, Bor, FitsSigned, to_z, of_z, to_z-of_z, w64, refl, sym, ◌∙◌, ap, subst, arith}
 use Rattle.std.specs.Prelude.{if◌then◌else◌, int_lt, nat_eq, IfNone, IfSome, option_map}
 use Rattle.std.specs.Cmp.{nat_cmp_total}
 use Rattle.std.specs.FinMap.{get-insert, get-retain_keys}
@@ -20,17 +20,20 @@ use Rattle.rule_world.specs.declared.code.Code.TheVariants.{EventObserved, Absen
 use Rattle.rule_model.specs.declared.program.Program.{Program}
 use Rattle.rule_model.specs.declared.step.Step.TheVariants.{Insert, Modify, Retract, Advance, At}
 use Rattle.rule_world.specs.Events.{clock_fault, most_millis, new_fault, times_of}
-use Rattle.rule_world.specs.Worlds.{World, at_clock, kept, is_of_type, modify_fault, moved, retract_fault, settled, step_fault, stepped, with_new, with_revised, without_fact}
+use Rattle.rule_world.specs.Lawful.{IsLawful}
+use Rattle.rule_world.specs.Worlds.{World, at_clock, kept, is_of_type, moved, retract_fault, settled, step_fault, stepped, with_new, with_revised, without_fact}
 use Rattle.rule_model.specs.Snapshots.{floor, floor_by}
 use Rattle.rule_model.specs.Types.{is_event, is_observed, lateness_of}
-use Rattle.rule_world.proofs.Faultless.{event_by, last_below_floor, started}
-use Rattle.rule_world.proofs.Vain.{vain_retraction}
+use Rattle.engine.specs.declared.lines.OutLine.TheVariants.{New}
+use Rattle.session.specs.declared.memory.Memory.{Memory}
+use Rattle.session.specs.declared.setting.Setting.{Setting}
+use Rattle.session.specs.Gives.{step_lines}
+use Rattle.session.specs.Leading.{Moves}
 use Rattle.session.specs.Places.{IsSafe, floor_in, newest}
-use Rattle.session.specs.Standing.{Contents, Standing, last_start_in}
+use Rattle.session.specs.Standing.{Contents, Mirrors, Standing, with_facts}
 use Rattle.session.specs.Waiting.{with_timer, without_timer, left_at}
-use Rattle.session.proofs.Exactly.{exact, after_without}
 use Rattle.session.proofs.Members.{got_old, none_left}
-use Rattle.session.proofs.Newest.{store_found, store_none, world_found}
+use Rattle.session.proofs.Newest.{store_found, store_none}
 use Rattle.session.proofs.Stands.{for_own, own}
 use Rattle.std.specs.FinMap as map
 
@@ -75,64 +78,58 @@ numbered k ty entry fields times = record {
   times = times;
 }
 
--- an event that has no fault does not start below 0, where none before it did
-pub event_from_zero : (p : Program) (k : Contents) (ty : TypeId) (entry : EntryId) (fields : List Value) (times : Times) → ((e : ℕ) → pos 0 ≤ℤ last_start_in k.last_starts e)
-    → new_fault (slice_get p.types ty.0) (floor_in p k.last_starts k.clock entry.0) k.clock fields ≡ None → times ≡ times_of (slice_get p.types ty.0) k.clock fields
-    → is_event p ty.0 ≡ true → pos 0 ≤ℤ times.start
-unfolding floor
-event_from_zero p k ty entry fields times starts none is event =
-    let s = started (slice_get p.types ty.0) (floor_in p k.last_starts k.clock entry.0) k.clock fields (sym (event_by p ty.0) ∙ event) none in
-    let low = last_below_floor p (record { facts = []; clock = k.clock; last_start = last_start_in k.last_starts }) entry.0 in
-    subst (λ (t : Times). pos 0 ≤ℤ t.start) (sym is)
-    (later (pos 0) (last_start_in k.last_starts entry.0) _ (starts entry.0) (later (last_start_in k.last_starts entry.0) (floor_in p k.last_starts k.clock entry.0) _ low s.from_floor))
+module _ (s : Setting) (m : Memory) (k : Contents) (w : World) (st : Standing s m k w) where
+  -- the numbers of a session are the world's, whatever is forgotten
+  whole : Mirrors s.program (with_facts k st.seen.all) (kept s.program w)
+  whole = st.seen.whole.mirrors
 
-module _ (p : Program) (k : Contents) (w : World) (st : Standing p k w) where
   module _ (ty : TypeId) (entry : EntryId) (fields : List Value) where
-    pub insert_fault : (o : Option Code) → new_fault (slice_get p.types ty.0) (floor_in p k.last_starts k.clock entry.0) k.clock fields ≡ o → step_fault p w (Insert ty entry fields) ≡ o
+    pub insert_fault : (o : Option Code) → new_fault (slice_get s.program.types ty.0) (floor_in s.program k.last_starts k.clock entry.0) k.clock fields ≡ o
+        → step_fault s.program w (Insert ty entry fields) ≡ o
     unfolding step_fault floor
     insert_fault o e =
-        ap (λ z. new_fault (slice_get p.types ty.0) (floor_by (lateness_of p entry.0) z w.clock) w.clock fields) (sym (st.mirrors.last_starts entry.0))
-        ∙ ap (λ z. new_fault (slice_get p.types ty.0) (floor_in p k.last_starts z entry.0) z fields) (sym st.mirrors.clock) ∙ e
+        let p = s.program in
+        ap (λ z. new_fault (slice_get p.types ty.0) (floor_by (lateness_of p entry.0) z w.clock) w.clock fields) (sym (whole.last_starts entry.0))
+        ∙ ap (λ z. new_fault (slice_get p.types ty.0) (floor_in p k.last_starts z entry.0) z fields) (sym whole.clock) ∙ e
 
-    pub insert_done : (times : Times) → times ≡ times_of (slice_get p.types ty.0) k.clock fields → stepped p w (Insert ty entry fields) ≡ settled p (with_new p w (numbered k ty entry fields times))
+    pub insert_done : (times : Times) → times ≡ times_of (slice_get s.program.types ty.0) k.clock fields
+        → stepped s.program w (Insert ty entry fields) ≡ settled s.program (with_new s.program w (numbered k ty entry fields times))
     unfolding stepped moved
     insert_done times e =
-        for_own k w (λ v. stepped p v (Insert ty entry fields) ≡ settled p (with_new p v (numbered k ty entry fields times))) st.mirrors.clock st.mirrors.next_id st.mirrors.next_tag
+        let p = s.program in
+        for_own k w (λ v. stepped p v (Insert ty entry fields) ≡ settled p (with_new p v (numbered k ty entry fields times))) whole.clock whole.next_id whole.next_tag
         (ap (λ t. settled p (with_new p (own k w) (numbered k ty entry fields t))) (sym e))
 
-  -- ---- modifications and retractions
-
-  pub modify_fault_is : (id : FactId) (sets : List (ℕ × Value)) (o : Option Code) → modify_fault p (newest k id.0) ≡ o → step_fault p w (Modify id sets) ≡ o
-  unfolding step_fault
-  modify_fault_is id sets o e = ap (modify_fault p) (sym (world_found p k (kept p w) (exact p k w st) id.0)) ∙ e
-
-  pub retract_fault_is : (ty : TypeId) (id : FactId) (o : Option Code) → retract_fault p ty.0 (newest k id.0) ≡ o → step_fault p w (Retract ty id) ≡ o
-  unfolding step_fault
-  retract_fault_is ty id o e = ap (retract_fault p ty.0) (sym (world_found p k (kept p w) (exact p k w st) id.0)) ∙ e
-
-  pub retract_vain : (ty : TypeId) (id : FactId) → is_of_type ty.0 (newest k id.0) ≡ false → kept p (stepped p w (Retract ty id)) ≡ kept p w
-  unfolding stepped moved
-  retract_vain ty id e =
-      after_without p w ty.0 id.0
-      ∙ vain_retraction p (kept p w) ty id (exact p k w st).lawful.ordered (ap (is_of_type ty.0) (sym (world_found p k (kept p w) (exact p k w st) id.0)) ∙ e)
+    -- the line of an insertion
+    pub insert_line : step_lines w (Insert ty entry fields) ≡ New (record { 0 = k.next_id }) ty ∷ []
+    insert_line = ap (λ n. New (record { 0 = n }) ty ∷ []) (sym whole.next_id)
 
   -- ---- moves of the clock
 
-  pub advance_fault : (by : ℤ) (o : Option Code) → clock_fault k.clock (k.clock +ℤ by) ≡ o → step_fault p w (Advance by) ≡ o
+  pub advance_fault : (by : ℤ) (o : Option Code) → clock_fault k.clock (k.clock +ℤ by) ≡ o → step_fault s.program w (Advance by) ≡ o
   unfolding step_fault
-  advance_fault by o e = ap (λ z. clock_fault z (z +ℤ by)) (sym st.mirrors.clock) ∙ e
+  advance_fault by o e = ap (λ z. clock_fault z (z +ℤ by)) (sym whole.clock) ∙ e
 
-  pub advance_done : (by clock : ℤ) → clock ≡ k.clock +ℤ by → stepped p w (Advance by) ≡ settled p (at_clock w clock)
+  pub at_fault : (moment : ℤ) (o : Option Code) → clock_fault k.clock moment ≡ o → step_fault s.program w (At moment) ≡ o
+  unfolding step_fault
+  at_fault moment o e = ap (λ z. clock_fault z moment) (sym whole.clock) ∙ e
+
+  -- a move by so much is one to that moment
+  pub advance_at : (by clock : ℤ) → clock ≡ k.clock +ℤ by → stepped s.program w (Advance by) ≡ stepped s.program w (At clock)
   unfolding stepped moved
-  advance_done by clock e = ap (λ z. settled p (at_clock w z)) (ap (λ z. z +ℤ by) (sym st.mirrors.clock) ∙ sym e)
+  advance_at by clock e = ap (λ z. settled s.program (at_clock w z)) (ap (λ z. z +ℤ by) (sym whole.clock) ∙ sym e)
 
-  pub at_fault : (moment : ℤ) (o : Option Code) → clock_fault k.clock moment ≡ o → step_fault p w (At moment) ≡ o
-  unfolding step_fault
-  at_fault moment o e = ap (λ z. clock_fault z moment) (sym st.mirrors.clock) ∙ e
+-- the fault of a move by so much, in the session's numbers
+fault_by_clock : (s : Setting) (m : Memory) (k : Contents) (w : World) (st : Standing s m k w) (by : ℤ) → step_fault s.program w (Advance by) ≡ None → clock_fault k.clock (k.clock +ℤ by) ≡ None
+unfolding step_fault
+fault_by_clock s m k w st by none = ap (λ z. clock_fault z (z +ℤ by)) (whole s m k w st).clock ∙ none
 
-pub at_done : (p : Program) (w : World) (moment clock : ℤ) → clock ≡ moment → stepped p w (At moment) ≡ settled p (at_clock w clock)
-unfolding stepped moved
-at_done p w moment clock e = ap (λ z. settled p (at_clock w z)) (sym e)
+-- what moves as the clock does moves so much later
+pub advance_moves : (s : Setting) (m : Memory) (k : Contents) (by clock : ℤ) (n : Memory) (t : Contents) → clock ≡ k.clock +ℤ by → Moves s m k (At clock) n t → Moves s m k (Advance by) n t
+advance_moves s m k by clock n t e moves w st none lawful =
+    let same : stepped s.program w (Advance by) ≡ stepped s.program w (At clock) = advance_at s m k w st by clock e in
+    subst (Standing s n t) (sym same)
+    (moves w st (at_fault s m k w st clock None (subst (λ z. clock_fault k.clock z ≡ None) (sym e) (fault_by_clock s m k w st by none))) (subst (IsLawful s.program) same lawful))
 
 pub modify_done : (p : Program) (w : World) (id : FactId) (sets : List (ℕ × Value)) → stepped p w (Modify id sets) ≡ settled p (with_revised w id.0 sets)
 unfolding stepped moved
@@ -141,6 +138,10 @@ modify_done p w id sets = refl
 pub retract_done : (p : Program) (w : World) (ty : TypeId) (id : FactId) → stepped p w (Retract ty id) ≡ settled p (without_fact w ty.0 id.0)
 unfolding stepped moved
 retract_done p w ty id = refl
+
+pub at_done : (p : Program) (w : World) (moment : ℤ) → stepped p w (At moment) ≡ settled p (at_clock w moment)
+unfolding stepped moved
+at_done p w moment = refl
 
 -- ---- the fault of a retraction
 

@@ -1,5 +1,6 @@
 -- What leads from the facts before a step of the network to those behind it is what the network asks for.
-use Rattle.std.proofs.Common.{◌≡◌, ◌∙◌, inl, inr, sym, ap, refl, subst, ℕ, ℤ, ◌<◌, ◌==◌, ◌||◌, not, List, [], ◌∷◌, ◌++◌, filter_map, nat_eq, Bool, true, false, Option, Some, None, if◌then◌else◌, arith}
+use Rattle.std.proofs.Common.{◌≡◌, ◌∙◌, inl, inr, sym, ap, refl, subst, ℕ, ℤ, ◌<◌, ◌==◌, ◌||◌, not, List, [], ◌∷◌, ◌++◌, filter_map, nat_eq, Bool, true, false, Option, Some, None, Result, Ok, Err, if◌then◌else◌, arith}
+use Rattle.std.specs.Prelude.{OnOk}
 use Rattle.std.specs.List.{cons_option, filter, find, list_any}
 use Rattle.std.specs.Option.{option_to_list}
 use Rattle.std.proofs.lemmas.Bool.Decides.{nat_tests}
@@ -14,11 +15,11 @@ use Rattle.rule_model.specs.Distinct.{HaveDistinctTags}
 use Rattle.rule_model.proofs.Listed.{in_left, in_right, of_append, of_map}
 use Rattle.rule_model.proofs.Named.{AllOf, of_filter}
 use Rattle.rule_model.proofs.Order.{in_filter, passed}
-use Rattle.pair_memory.specs.Standing.{no_names}
+use Rattle.row_delta.specs.declared.row.Named.{Named}
 use Rattle.condition_rows.specs.Looks.{HasAllOf}
 use Rattle.condition_rows.specs.Sets.{held}
 use Rattle.pattern_gate.specs.Moves.{Moves, shares_tag}
-use Rattle.session.specs.Following.{Comes, Leads}
+use Rattle.session.specs.Following.{Comes, HasAtHand, Leads}
 use Rattle.session.specs.Gives.{version_of}
 use Rattle.session.specs.Refreshed.{over}
 use Rattle.session.specs.Waiting.{HaveOwnTags}
@@ -203,15 +204,27 @@ module _ (p : Program) (before behind all : HeldFacts) (from to : ℤ) (gone : L
     facts = rising_same (facts_of behind) next (tags_rise behind own_behind) next_rises to_next from_next;
   }
 
-  -- all has the facts before and behind
-  pub has_before : HasAllOf (λ tag. map.get all tag.0) (over (facts_of before) from) no_names
-  unfolding held
-  has_before tag f e known =
-      let r = version_found (facts_of before) f tag (sym (same_version (facts_of before) tag) ∙ e) in
-      ap (map.get all) (sym r.1) ∙ in_all f.tag.0 f (at_own before own_before f r.0)
+  -- the store has at hand those before and behind that are not forgotten
+  module _ (forgotten : Named → Bool) (facts : HeldFacts) (at_hand : HasAtHand all facts gone forgotten) where
+    pub has_before : HasAllOf (λ tag. map.get facts tag.0) (over (facts_of before) from) forgotten
+    unfolding held
+    has_before tag f e known =
+        let r = version_found (facts_of before) f tag (sym (same_version (facts_of before) tag) ∙ e) in
+        ap (map.get facts) (sym r.1) ∙ at_hand.known f.tag.0 f (in_all f.tag.0 f (at_own before own_before f r.0)) known
 
-  pub has_behind : HasAllOf (λ tag. map.get all tag.0) (over (facts_of behind) to) no_names
-  unfolding held
-  has_behind tag f e known =
-      let r = version_found (facts_of behind) f tag (sym (same_version (facts_of behind) tag) ∙ e) in
-      ap (map.get all) (sym r.1) ∙ (left_in f.tag.0 f (at_own behind own_behind f r.0)).0
+    pub has_behind : HasAllOf (λ tag. map.get facts tag.0) (over (facts_of behind) to) forgotten
+    unfolding held
+    has_behind tag f e known =
+        let r = version_found (facts_of behind) f tag (sym (same_version (facts_of behind) tag) ∙ e) in
+        ap (map.get facts) (sym r.1) ∙ at_hand.known f.tag.0 f (left_in f.tag.0 f (at_own behind own_behind f r.0)).0 known
+
+-- what the store has of the facts that go are these facts
+pub found_going : (all facts : HeldFacts) (tags : List ℕ) → ((tag : ℕ) → In tag tags → map.get facts tag ≡ map.get all tag) → filter_map (map.get facts) tags ≡ filter_map (map.get all) tags
+found_going all facts [] same = refl
+found_going all facts (tag ∷ tags) same =
+    ap (λ o. cons_option o (filter_map (map.get facts) tags)) (same tag (inl refl)) ∙ ap (cons_option (map.get all tag)) (found_going all facts tags (λ t i. same t (inr i)))
+
+-- what holds anyway holds of a success
+pub on_ok : {T E P : Type 0} (r : Result T E) → P → OnOk r P
+on_ok (Ok x) p = p
+on_ok (Err e) p = tt

@@ -8,6 +8,7 @@ pub mod Leads
 pub mod Ready
 pub mod Exactly
 pub mod Newest
+pub mod Readied
 pub mod Stands
 pub mod Looking
 pub mod Faults
@@ -19,10 +20,17 @@ pub mod Asking
 pub mod Sessions
 pub mod Knowing
 pub mod Phases
+pub mod Clean
 pub mod Taken
+pub mod Needing
 pub mod Needs
 pub mod Moving_on
 pub mod Removing
 pub mod Revising
 pub mod Passing
 pub mod Marking
+pub mod Olds
+pub mod Dropping
+pub mod Forgotten
+pub mod Retracting
+pub mod Inserting

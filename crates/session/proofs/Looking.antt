@@ -14,7 +14,7 @@ use Rattle.rule_model.specs.declared.step.Step.TheVariants.{Modify, Retract}
 use Rattle.rule_model.specs.Types.{is_event, is_observed}
 use Rattle.rule_world.specs.declared.code.Code.{Code}
 use Rattle.rule_world.specs.declared.code.Code.TheVariants.{EventObserved, Absent}
-use Rattle.rule_world.specs.Worlds.{World, fact_of, found, is_of_type, kept, modify_fault, present, retract_fault, step_fault}
+use Rattle.rule_world.specs.Worlds.{World, found, is_of_type, kept, modify_fault, present, retract_fault, step_fault}
 use Rattle.rule_world.proofs.Found.{fact_in, found_in}
 use Rattle.rule_world.proofs.Fresh.{below_of}
 use Rattle.rule_world.proofs.Ids.{one_id}

@@ -30,7 +30,8 @@ pub record IsFit (p : Program) (clock : ℤ) (f : Fact) : Type 0 where
   pub low : is_event p f.ty.0 ≡ true → pos 0 ≤ℤ f.times.start
   pub high : is_event p f.ty.0 ≡ true → f.times.start ≤ℤ most_millis
 
-kept_of : (p : Program) (held : HeldFacts) (clock : ℤ) → HaveOwnTags held → ((tag : ℕ) (f : Fact) → map.get held tag ≡ Some f → IsFit p clock f) → IsKept p (over (facts_of held) clock)
+-- facts that are fit, each at its own tag
+pub kept_of : (p : Program) (held : HeldFacts) (clock : ℤ) → HaveOwnTags held → ((tag : ℕ) (f : Fact) → map.get held tag ≡ Some f → IsFit p clock f) → IsKept p (over (facts_of held) clock)
 kept_of p held clock own fit = record {
   in_order = tags_rise held own;
   present = λ f i. let r = from_list held f i in (fit r.0 f r.1).present;

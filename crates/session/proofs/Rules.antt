@@ -1,16 +1,20 @@
 -- Matches, rule by rule, and what the changes of rules do to an agenda.
-use Rattle.std.proofs.Common.{◌≡◌, ℕ, ◌+◌, ◌<◌, ◌≤◌, zero, suc, ◌==◌, ◌&&◌, ◌||◌, not, Bool, true, false, cond, List, [], ◌∷◌, ◌++◌, map, slice_get, Option, Some, None, refl, sym, ◌∙◌, ap, subst, append_assoc, arith}
+use Rattle.std.proofs.Common.{◌≡◌, inl, inr, ℕ, ◌+◌, ◌<◌, ◌≤◌, zero, suc, ◌==◌, ◌&&◌, ◌||◌, not, Bool, true, false, cond, List, [], ◌∷◌, ◌++◌, length, map, slice_get, Option, Some, None, refl, sym, ◌∙◌, ap, subst, append_assoc, arith}
 use Rattle.std.specs.declared.cmp.Ordering.TheVariants.{Less}
-use Rattle.std.specs.List.{AllByRecursion}
+use Rattle.std.specs.List.{AllByRecursion, list_any}
 use Rattle.std.specs.List.Sorted.{IsStrictlySortedBy}
 use Rattle.std.specs.Ordering.{eq_by_cmp, nat_cmp}
 use Rattle.std.proofs.Math.Bool.{and-true, and-not_self, or-false}
 use Rattle.std.proofs.lemmas.Bool.Decides.{nat_tests}
 use Rattle.std.proofs.lemmas.List.{append-nil}
 use Rattle.std.proofs.lemmas.List.Folds.{list_any-append}
+use Rattle.std.proofs.lemmas.Map.Views.{tells_apart}
 use Rattle.row_delta.specs.declared.delta.Delta.{Delta}
+use Rattle.row_delta.specs.declared.row.Named.{Named}
 use Rattle.row_delta.specs.declared.row.Row.{Row}
+use Rattle.row_delta.specs.RowOrder.{row_exact}
 use Rattle.row_delta.specs.Rows.{row_cmp, has}
+use Rattle.rule_model.proofs.Firsts.{or_left, or_right, or_split}
 use Rattle.rule_model.specs.declared.matched.Match.{Match}
 use Rattle.rule_model.specs.declared.program.Program.{Program}
 use Rattle.rule_model.specs.declared.program.Rule.{Rule}
@@ -19,6 +23,7 @@ use Rattle.rule_model.proofs.Exact.{match_parts}
 use Rattle.rete_net.specs.declared.changes.RuleChange.{RuleChange}
 use Rattle.rete_net.specs.Nets.{change_of, IsChange, AreBetween}
 use Rattle.agenda.specs.Agendas.{Marks, IsChanged}
+use Rattle.forgetting.specs.Steps.{HasLeft}
 use Rattle.session.specs.Refreshed.{matches_by, only_in, IsRefreshed}
 
 flip : (a b : ℕ) (t : Bool) → (a == b) ≡ t → (b == a) ≡ t
@@ -135,13 +140,6 @@ pub record AreMade (changes : List RuleChange) (a b : Marks) : Type 0 where
   pub pending : (m : Match) → has_match b.pending m ≡ ((has_match a.pending m && not (goes (change_of changes m.rule.0) m.row)) || comes (change_of changes m.rule.0) m.row)
   pub fired : (m : Match) → has_match b.fired m ≡ (has_match a.fired m && not (goes (change_of changes m.rule.0) m.row))
 
-none_made : (a : Marks) → AreMade [] a a
-none_made a = record {
-  saliences = refl;
-  pending = λ m. sym (or-false _ ∙ and-true (has_match a.pending m));
-  fired = λ m. sym (and-true (has_match a.fired m));
-}
-
 -- the first of two changes
 abbrev or_later : Option Delta → Option Delta → Option Delta
 or_later None later = later
@@ -221,9 +219,6 @@ pub record AreAhead (changes ahead : List RuleChange) (a b : Marks) : Type 0 whe
   pub parts : changes ≡ done ++ ahead
   pub made : AreMade done a b
 
-pub all_ahead : (changes ahead : List RuleChange) (a : Marks) → ahead ≡ changes → AreAhead changes ahead a a
-all_ahead changes ahead a e = record { done = []; parts = sym e; made = none_made a }
-
 pub change_turn : (changes ahead rest : List RuleChange) (c : RuleChange) (a b d : Marks) → IsStrictlySortedBy nat_cmp (map (λ (x : RuleChange). x.rule.0) changes)
     → AreAhead changes ahead a b → ahead ≡ c ∷ rest → IsChanged c.rule.0 c.delta b d → AreAhead changes rest a d
 change_turn changes ahead rest c a b d rise so_far items ch =
@@ -289,3 +284,42 @@ module _ (p : Program) (old new : Rule → List Row) (changes : List RuleChange)
         ∙ ap (λ z. (has_match a.pending m && not (only_in p.rules old new m)) || z) (come_is m);
     fired = λ m. made.fired m ∙ ap (λ z. has_match a.fired m && not z) (gone_is m);
   }
+
+-- ---- the matches that have stopped pending
+
+-- whether a row of these names the tag
+abbrev pub names_in : List Row → ℕ → Bool
+names_in rows tag = list_any (λ (row : Row). list_any (λ (n : Named). tag == n.tag.0) row.facts) rows
+
+-- one of these rows names what a row among them names
+row_names : (rows : List Row) (row : Row) (tag : ℕ) → has rows row ≡ true → list_any (λ (n : Named). tag == n.tag.0) row.facts ≡ true → names_in rows tag ≡ true
+row_names [] row tag is names = absurd (let n : false ≡ true = is in cc)
+row_names (other ∷ rows) row tag is names =
+    let here : Bool = list_any (λ (n : Named). tag == n.tag.0) other.facts in
+    elim (or_split (eq_by_cmp row_cmp row other) (has rows row) is) [
+      | inl e ↦ or_left here (names_in rows tag) (ap (λ (r : Row). list_any (λ (n : Named). tag == n.tag.0) r.facts) (sym (tells_apart row_exact row other e)) ∙ names)
+      | inr h ↦ or_right here (names_in rows tag) (row_names rows row tag h names)
+    ]
+
+-- what was pending and is not went out
+went_out : (t g c : Bool) → ((true && not (t && g)) || c) ≡ false → g ≡ true
+went_out true true c e = refl
+went_out true false c e = absurd (let n : true ≡ false = e in cc)
+went_out false g c e = absurd (let n : true ≡ false = e in cc)
+
+-- one change more, the tags of whose gone rows are added
+pub left_turn : (a b d : Marks) (rule : ℕ) (delta : Delta) (left more : ℕ → Bool) → HasLeft a b left → IsChanged rule delta b d
+    → ((tag : ℕ) → more tag ≡ (left tag || names_in delta.gone tag)) → HasLeft a d more
+left_turn a b d rule delta left more so_far ch added m tag was free names = added tag ∙ by (has_match b.pending m) refl
+  where
+    by : (t : Bool) → has_match b.pending m ≡ t → (left tag || names_in delta.gone tag) ≡ true
+    by false e = or_left (left tag) (names_in delta.gone tag) (so_far m tag was e names)
+    by true e =
+        let t = rule == m.rule.0 in
+        let out = went_out t (has delta.gone m.row) (t && has delta.come m.row) (sym (ap (λ z. (z && not (t && has delta.gone m.row)) || (t && has delta.come m.row)) e) ∙ sym (ch.pending m) ∙ free) in
+        or_right (left tag) (names_in delta.gone tag) (row_names delta.gone m.row tag out names)
+
+-- an iterator that is at its end has nothing ahead
+pub nothing_left : {A : Type 0} (xs : List A) (n : ℕ) → n ≡ length xs → n ≡ 0 → xs ≡ []
+nothing_left [] n e z = refl
+nothing_left (x ∷ xs) n e z = absurd (omega arith)

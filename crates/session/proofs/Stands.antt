@@ -59,7 +59,7 @@ for_world p k w P s h =
 -- ---- one fact more
 
 -- no fact stands at the next tag
-next_is_free : (p : Program) (k : Contents) (w : World) → Exact p k w → (tag : ℕ) → tag ≡ k.next_tag → map.get k.facts tag ≡ None
+pub next_is_free : (p : Program) (k : Contents) (w : World) → Exact p k w → (tag : ℕ) → tag ≡ k.next_tag → map.get k.facts tag ≡ None
 next_is_free p k w st tag e = by (map.get k.facts tag) refl
   where
     by : (o : Option Fact) → map.get k.facts tag ≡ o → map.get k.facts tag ≡ None

@@ -1,5 +1,5 @@
 -- What is asked of the facts that a session has at their tags, and what its parts keep to.
-use Rattle.std.specs.Prelude.{◌≡◌, ◌≤◌, ℕ, zero, suc, ℤ, pos, ◌≤ℤ◌, List, map as list_map, Option, None, Result, if◌then◌else◌}
+use Rattle.std.specs.Prelude.{◌≡◌, ◌≤◌, ◌^◌, ℕ, zero, suc, ℤ, pos, ◌≤ℤ◌, List, map as list_map, Option, None, Result, if◌then◌else◌}
 use Rattle.fx_base.specs.declared.ids.Tag.{Tag}
 use Rattle.fx_base.specs.declared.fact.Fact.{Fact}
 use Rattle.due_queue.specs.Timers.{Timers}
@@ -7,6 +7,8 @@ use Rattle.fact_store.specs.Held.{HeldFacts, IsNewest, is_id}
 use Rattle.row_delta.specs.declared.row.Row.{Row}
 use Rattle.rule_model.specs.declared.action.Action.{Action}
 use Rattle.rule_world.specs.declared.code.Code.{Code}
+use Rattle.rule_model.specs.declared.life.Life.{Life}
+use Rattle.rule_model.specs.declared.life.Life.TheVariants.{Plain, Explicit, Finite, Infinite}
 use Rattle.rule_model.specs.declared.program.Program.{Program}
 use Rattle.rule_model.specs.declared.step.Step.{Step}
 use Rattle.rule_world.specs.Events.{most_millis}
@@ -44,6 +46,13 @@ pub record IsSafe (facts : HeldFacts) (expiries : Timers) (clock : ℤ) (next_id
   pub clock_high : clock ≤ℤ most_millis
 
 -- ---- times
+
+-- a finite life is from 0 to 2^62 ms
+abbrev pub IsShort : Life → Type 0
+IsShort Plain = Unit {0}
+IsShort (Explicit expiry) = Unit {0}
+IsShort (Finite n) = (pos 0 ≤ℤ n) × (n ≤ℤ pos (2 ^ 62))
+IsShort Infinite = Unit {0}
 
 -- the floor of an entry point, by the last starts that are kept
 abbrev pub floor_in : Program → List ℤ → ℤ → ℕ → ℤ

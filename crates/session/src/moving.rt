@@ -1,4 +1,4 @@
-ghost use Rattle.std.specs.Prelude.{◌≡◌, ◌+◌, ◌<◌, ◌^◌, ◌≤ℤ◌, ◌+ℤ◌, ◌-ℤ◌, ◌==◌, ◌&&◌, not, ℕ, pos, true, false, None, Some, slice_get, cond, IfOk, OnOk};
+ghost use Rattle.std.specs.Prelude.{◌≡◌, ◌+◌, ◌<◌, ◌^◌, ◌≤ℤ◌, ◌+ℤ◌, ◌-ℤ◌, ◌==◌, ◌&&◌, not, ℕ, pos, true, false, None, Some, slice_get, is_some, cond, IfOk, OnOk};
 ghost use Rattle.rule_model.specs.declared.step.Step.TheVariants.{Insert, Modify, Retract, At};
 ghost use Rattle.rule_model.specs.Candidates.{is_present};
 ghost use Rattle.rule_model.specs.Types.{is_event};
@@ -7,9 +7,9 @@ ghost use Rattle.rule_world.specs.Programs.{IsRunnable};
 ghost use Rattle.rule_world.specs.Worlds.{with_values, is_of_type, modify_fault, revised as revised_fact};
 ghost use Rattle.rule_lives.specs.Keeping.{AreShort};
 ghost use Rattle.retention.specs.Retentions.{lingers};
-ghost use Rattle.forgetting.specs.Sights.{ends_by};
+ghost use Rattle.forgetting.specs.Sights.{end_of_life, ends_by};
 ghost use Rattle.session.specs.Leading.{Moves};
-ghost use Rattle.session.specs.Places.{IsNewestTag, newest};
+ghost use Rattle.session.specs.Places.{IsNewestTag, IsShort, newest};
 ghost use Rattle.session.specs.Standing.{Runs};
 ghost use Rattle.session.specs.Waiting.{with_timer, without_timer};
 ghost use Rattle.std.specs.FinMap as map;
@@ -99,8 +99,34 @@ fn untimed(expiries: DueQueue, tag: Tag) -> DueQueue
     expiries
 }
 
-// The first moment at which an event is past its life, where that ends.
+// The first moment at which an event of this end is past a finite life.
 #[tactic(auto, unfolding(rule_world::specs::Events::most_millis))]
+fn past_finite(end: Millis, life: Millis) -> Millis
+    requires low { (pos 0 -ℤ most_millis) ≤ℤ end }
+    requires high { end ≤ℤ (most_millis +ℤ most_millis) }
+    requires forward { pos 0 ≤ℤ life }
+    requires short { life ≤ℤ pos (2 ^ 62) }
+    ensures { result ≡ (end +ℤ life) +ℤ pos 1 }
+{
+    end + life + 1
+}
+
+// The first moment at which an event is past a life, where that ends.
+fn past_from(life: &Life, fact: &Fact) -> Option<Millis>
+    requires short { IsShort life.now }
+    requires low { (pos 0 -ℤ most_millis) ≤ℤ fact.now.times.end }
+    requires high { fact.now.times.end ≤ℤ (most_millis +ℤ most_millis) }
+    ensures { result ≡ end_of_life (Some life.now) fact.now }
+{
+    match life {
+        Life::Finite(life) => Some(past_finite(fact.times.end, *life)),
+        Life::Plain => None,
+        Life::Explicit(_) => None,
+        Life::Infinite => None,
+    }
+}
+
+// The first moment at which an event is past its life, where that ends.
 fn life_end(lives: &LifeTable, fact: &Fact) -> Option<Millis>
     requires short { AreShort lives.now }
     requires low { (pos 0 -ℤ most_millis) ≤ℤ fact.now.times.end }
@@ -108,8 +134,8 @@ fn life_end(lives: &LifeTable, fact: &Fact) -> Option<Millis>
     ensures { result ≡ ends_by lives.now fact.now }
 {
     match lives.lives.as_slice().get(fact.ty.0 as usize) {
-        Some(Life::Finite(life)) => Some(fact.times.end + life + 1),
-        _ => None,
+        Some(life) => past_from(life, fact),
+        None => None,
     }
 }
 

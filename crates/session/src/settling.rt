@@ -35,11 +35,7 @@ fn rule_in(place: usize) -> RuleId
 fn tags_of(alloc: Global, set: &BTreeSet<u64, Global>) -> Result<Vec<u64>, NoMemory>
     ensures { IfOk result (λ tags. (tag : ℕ) → list_any (nat_eq tag) tags.items ≡ has_tag set.now.keys tag) }
 {
-    let mut tags = Vec::with_capacity(alloc, set.len())?;
-    for tag in set {
-        tags.push(*tag)?;
-    }
-    Ok(tags)
+    Ok(set.iter().copied().collect(alloc)?)
 }
 
 // The names of the facts that have these tags.
@@ -95,7 +91,9 @@ impl State {
         }
         let old = tags_of(alloc, &old)?;
         let names = names_at(alloc, &state.facts, &old)?;
-        let dropped = memory.net.forget(alloc, &setting.program, &names, &state.facts)?;
+        let dropped = memory
+            .net
+            .forget(alloc, &setting.program, &names, &state.facts)?;
         state.agenda = without_fired(state.agenda, dropped);
         state.facts = without_all(state.facts, old);
         Ok(state)

@@ -1,14 +1,22 @@
-use Rattle.session.proofs.Rules.{all_made, change_turn, none_ahead}
-use Rattle.session.proofs.Tried.{nothing_left}
+use Rattle.std.proofs.Common.{◌∙◌, ◌||◌, List, ap}
+use Rattle.row_delta.specs.declared.row.Row.{Row}
+use Rattle.retention.specs.Retentions.{is_among}
+use Rattle.session.proofs.Rules.{all_made, change_turn, none_ahead, names_in, left_turn, nothing_left}
 use Rattle.session.proofs.refreshing.refreshed.Goals as goal
 
 pub loop-change-preserved : goal.loop-change-preserved
-loop-change-preserved c p old new between =
-    change_turn c.args.changes.items c.loop-change.change-iterator.rest.items c.next.new.self.rest.items c.in-Some.change c.args.agenda c.loop-change.agenda c.in_ok-agenda.agenda
-    between.in_order (c.loop-change.invariant p old new between) c.in-Some.ensures.steps.0 c.in_ok-agenda.ensures
+loop-change-preserved c = record {
+  agenda = λ p old new between.
+      change_turn c.args.changes.items c.loop-change.change-iterator.rest.items c.next.new.self.rest.items c.in-Some.change c.args.agenda c.loop-change.agenda c.in_ok-agenda.agenda
+      between.in_order (c.loop-change.invariant.agenda p old new between) c.in-Some.ensures.steps.0 c.in_ok-agenda.ensures;
+  left =
+      left_turn c.args.agenda c.loop-change.agenda c.in_ok-agenda.agenda c.in-Some.change.rule.0 c.in-Some.change.delta (is_among c.loop-change.left.items) (is_among c.add_rows.new.tags.items)
+      c.loop-change.invariant.left c.in_ok-agenda.ensures
+      (λ tag. c.in_ok-add_rows.ensures tag ∙ ap (λ (rows : List Row). is_among c.loop-change.left.items tag || names_in rows tag) c.as_slice.ensures);
+}
 
-pub returns : goal.returns
-returns c p old new between =
+pub returns-clause-agenda : goal.returns-clause-agenda
+returns-clause-agenda c p old new between =
     let rest = c.loop-change.change-iterator.rest in
     all_made p old new c.args.changes.items between c.args.agenda c.loop-change.agenda
-    (none_ahead c.args.changes.items rest.items c.args.agenda c.loop-change.agenda (nothing_left rest.items rest.len rest.ok.0 c.in-None.ensures.steps.0) (c.loop-change.invariant p old new between))
+    (none_ahead c.args.changes.items rest.items c.args.agenda c.loop-change.agenda (nothing_left rest.items rest.len rest.ok.0 c.in-None.ensures.steps.0) (c.loop-change.invariant.agenda p old new between))

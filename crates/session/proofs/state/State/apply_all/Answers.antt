@@ -9,10 +9,9 @@ loop-wanted-init c =
     let all : c.into_iter-wanted-iterator.result.rest.items ≡ c.args.plan.items = c.into_iter-wanted-iterator.ensures.into_iter_gives.0 in
     record {
       tags = omega (arith, ap length all);
-      follows = c.requires.follows;
-      done = λ w s fit.
-          subst (λ (rest : List (Result Step Code)). SoFar c.args.program.now w c.args.plan.items c.args.lines.now.items c.args.lines.now.items c.args.self rest) (sym all)
-          (none_done c.args.program.now w c.args.plan.items c.args.lines.now.items c.args.self s fit);
+      done = λ w st fit.
+          subst (λ (rest : List (Result Step Code)). SoFar c.args.setting.now w c.args.plan.items c.args.lines.now.items c.args.lines.now.items c.args.memory.now c.args.self rest) (sym all)
+          (none_done c.args.setting.now w c.args.plan.items c.args.lines.now.items c.args.memory.now c.args.self st fit);
     }
 
 pub loop-wanted-preserved : goal.loop-wanted-preserved
@@ -20,21 +19,21 @@ loop-wanted-preserved c =
     let step : c.loop-wanted.wanted-iterator.rest.items ≡ c.in-Some.wanted ∷ c.next.new.self.rest.items = c.in-Some.ensures.steps.0 in
     record {
       tags = omega (arith, ap length step, c.loop-wanted.invariant.tags, c.in_ok-state.ensures.tags);
-      follows = c.in_ok-state.ensures.follows;
-      done = λ w s fit.
-          one_done c.args.program.now w c.args.plan.items c.args.lines.now.items c.loop-wanted.lines.items c.apply.new.lines.items c.loop-wanted.state c.in_ok-state.state c.in-Some.wanted c.next.new.self.rest.items s.lawful.ordered
-          (subst (λ (rest : List (Result Step Code)). SoFar c.args.program.now w c.args.plan.items c.args.lines.now.items c.loop-wanted.lines.items c.loop-wanted.state rest) step (c.loop-wanted.invariant.done w s fit))
+      done = λ w st fit.
+          one_done c.args.setting.now w c.args.plan.items c.args.lines.now.items c.loop-wanted.lines.items c.apply.new.lines.items c.loop-wanted.memory c.apply.new.memory c.loop-wanted.state c.in_ok-state.state c.in-Some.wanted
+          c.next.new.self.rest.items st.seen.whole.lawful.ordered
+          (subst (λ (rest : List (Result Step Code)). SoFar c.args.setting.now w c.args.plan.items c.args.lines.now.items c.loop-wanted.lines.items c.loop-wanted.memory c.loop-wanted.state rest) step (c.loop-wanted.invariant.done w st fit))
           c.in_ok-state.ensures.stands c.in_ok-state.ensures.lines;
     }
 
 pub returns-clause-stands : goal.returns-clause-stands
-returns-clause-stands c w s fit =
+returns-clause-stands c w st fit =
     let none : c.loop-wanted.wanted-iterator.rest.items ≡ [] = nothing_left c.loop-wanted.wanted-iterator.rest.items c.loop-wanted.wanted-iterator.rest.len c.loop-wanted.wanted-iterator.rest.ok.0 c.in-None.ensures.steps.0 in
-    all_done_stands c.args.program.now w c.args.plan.items c.args.lines.now.items c.loop-wanted.lines.items c.loop-wanted.state
-    (subst (λ (rest : List (Result Step Code)). SoFar c.args.program.now w c.args.plan.items c.args.lines.now.items c.loop-wanted.lines.items c.loop-wanted.state rest) none (c.loop-wanted.invariant.done w s fit))
+    all_done_stands c.args.setting.now w c.args.plan.items c.args.lines.now.items c.loop-wanted.lines.items c.loop-wanted.memory c.loop-wanted.state
+    (subst (λ (rest : List (Result Step Code)). SoFar c.args.setting.now w c.args.plan.items c.args.lines.now.items c.loop-wanted.lines.items c.loop-wanted.memory c.loop-wanted.state rest) none (c.loop-wanted.invariant.done w st fit))
 
 pub returns-clause-lines : goal.returns-clause-lines
-returns-clause-lines c w s fit =
+returns-clause-lines c w st fit =
     let none : c.loop-wanted.wanted-iterator.rest.items ≡ [] = nothing_left c.loop-wanted.wanted-iterator.rest.items c.loop-wanted.wanted-iterator.rest.len c.loop-wanted.wanted-iterator.rest.ok.0 c.in-None.ensures.steps.0 in
-    all_done_lines c.args.program.now w c.args.plan.items c.args.lines.now.items c.loop-wanted.lines.items c.loop-wanted.state
-    (subst (λ (rest : List (Result Step Code)). SoFar c.args.program.now w c.args.plan.items c.args.lines.now.items c.loop-wanted.lines.items c.loop-wanted.state rest) none (c.loop-wanted.invariant.done w s fit))
+    all_done_lines c.args.setting.now w c.args.plan.items c.args.lines.now.items c.loop-wanted.lines.items c.loop-wanted.memory c.loop-wanted.state
+    (subst (λ (rest : List (Result Step Code)). SoFar c.args.setting.now w c.args.plan.items c.args.lines.now.items c.loop-wanted.lines.items c.loop-wanted.memory c.loop-wanted.state rest) none (c.loop-wanted.invariant.done w st fit))

@@ -1,6 +1,5 @@
 use Rattle.std.proofs.Common.{◌≤◌, ◌+◌, length}
 use Rattle.rule_world.specs.Worlds.{World}
-use Rattle.session.specs.Following.{Follows}
 use Rattle.session.specs.Leading.{AllFit}
 use Rattle.session.specs.Standing.{Standing}
 use Rattle.session.proofs.Tried.{SoFar}
@@ -9,6 +8,6 @@ use Rattle.session.proofs.state.State.apply_all.Given as goal
 abbrev pub invariant-loop-wanted : goal.invariant-loop-wanted
 invariant-loop-wanted l = record {
   tags : l.state.next_tag + length l.wanted-iterator.rest.items ≤ l.fn.self.next_tag + length l.fn.plan.items;
-  follows : Follows l.program l.net l.state;
-  done : (w : World) → Standing l.program l.fn.self w → AllFit l.program w l.fn.plan.items → SoFar l.program w l.fn.plan.items l.fn.lines.items l.lines.items l.state l.wanted-iterator.rest.items;
+  done : (w : World) → Standing l.setting l.fn.memory l.fn.self w → AllFit l.setting.program w l.fn.plan.items
+      → SoFar l.setting w l.fn.plan.items l.fn.lines.items l.lines.items l.memory l.state l.wanted-iterator.rest.items;
 }

@@ -1,48 +1,50 @@
-use Rattle.std.proofs.Common.{◌≡◌, Some, None, refl, sym, ◌∙◌, ap, subst, to_z, of_z, to_z-of_z, w64}
+use Rattle.std.proofs.Common.{◌≡◌, Some, None, refl, ◌∙◌, ap, subst, to_z, of_z, to_z-of_z, w64}
 use Rattle.std.proofs.lemmas.Result.{IfOk-weaker}
 use Rattle.rule_model.specs.declared.step.Step.TheVariants.{At}
 use Rattle.rule_world.specs.Events.{clock_fault}
-use Rattle.rule_world.specs.Worlds.{at_clock, kept, settled}
-use Rattle.session.specs.Standing.{Contents, Mirrors}
-use Rattle.session.proofs.Follow.{same_follows}
-use Rattle.session.proofs.Faults.{at_done, at_fault, clock_same}
-use Rattle.session.proofs.Tried.{done_moves, no_lines, on_ok, on_ok_weaker, refused_moves, refused_lines}
+use Rattle.session.specs.Leading.{Moves}
+use Rattle.session.specs.Standing.{Contents}
+use Rattle.session.proofs.Faults.{at_fault, clock_same}
+use Rattle.session.proofs.Tried.{no_lines, on_ok, on_ok_weaker, refused_lines, refused_tries, tried_done}
 use Rattle.session.proofs.state.State.go_to.Goals as goal
 
 pub returns-in-Ok-clause-stands : goal.returns-in-Ok-clause-stands
 returns-in-Ok-clause-stands c =
-    let p = c.args.program.now in
+    let s = c.args.setting.now in
+    let m = c.args.memory.now in
     let same : to_z w64 (of_z w64 c.self.inside.clock) ≡ c.self.inside.clock = clock_same c.self.inside.clock c.self.invariant.clock_low c.self.invariant.clock_high in
     let whole : to_z w64 (of_z w64 c.args.moment) ≡ c.args.moment = to_z-of_z c.ranges.moment in
     let none = subst (λ (k : Contents). clock_fault k.clock c.args.moment ≡ None) c.self.view_is (simp (same, whole) at c.in-Ok.ensures.none) in
-    let clock = simp whole at c.in-Ok.ensures.clock in
-    let next : to_z w64 (of_z w64 c.in-Ok.clock) ≡ c.in-Ok.clock = ap (λ z. to_z w64 (of_z w64 z)) clock ∙ whole ∙ sym clock in
-    IfOk-weaker c.with_clock.result _ _ (λ s h w st. done_moves p w (At c.args.moment) s (settled p (at_clock w c.in-Ok.clock)) (at_fault p c.args.self w st c.args.moment None none) (at_done p w c.args.moment c.in-Ok.clock clock)
-    (subst (λ z. Mirrors p s (kept p (settled p (at_clock w z)))) next (h w st))) c.with_clock.ensures.stands
+    let clock : c.in-Ok.clock ≡ c.args.moment = simp whole at c.in-Ok.ensures.clock in
+    let next : to_z w64 (of_z w64 c.in-Ok.clock) ≡ c.args.moment = ap (λ z. to_z w64 (of_z w64 z)) clock ∙ whole in
+    IfOk-weaker c.with_clock.result _ _ (λ t moves. tried_done s m c.args.self (At c.args.moment) c.with_clock.new.memory t
+    (λ w st suits. at_fault s m c.args.self w st c.args.moment None none)
+    (subst (λ z. Moves s m c.args.self (At z) c.with_clock.new.memory t) next moves)) c.with_clock.ensures.stands
 
 pub returns-in-Ok-clause-lines : goal.returns-in-Ok-clause-lines
 returns-in-Ok-clause-lines c =
-    let p = c.args.program.now in
+    let s = c.args.setting.now in
+    let m = c.args.memory.now in
     let same : to_z w64 (of_z w64 c.self.inside.clock) ≡ c.self.inside.clock = clock_same c.self.inside.clock c.self.invariant.clock_low c.self.invariant.clock_high in
     let whole : to_z w64 (of_z w64 c.args.moment) ≡ c.args.moment = to_z-of_z c.ranges.moment in
     let none = subst (λ (k : Contents). clock_fault k.clock c.args.moment ≡ None) c.self.view_is (simp (same, whole) at c.in-Ok.ensures.none) in
-    on_ok c.with_clock.result (λ w st. no_lines p w (At c.args.moment) c.args.lines.now.items (at_fault p c.args.self w st c.args.moment None none) refl)
+    on_ok c.with_clock.result (no_lines s m c.args.self (At c.args.moment) c.args.lines.now.items (λ w st suits. at_fault s m c.args.self w st c.args.moment None none) (λ w. refl))
 
 pub returns-in-Err-clause-stands : goal.returns-in-Err-clause-stands
 returns-in-Err-clause-stands c =
-    let p = c.args.program.now in
+    let s = c.args.setting.now in
+    let m = c.args.memory.now in
     let same : to_z w64 (of_z w64 c.self.inside.clock) ≡ c.self.inside.clock = clock_same c.self.inside.clock c.self.invariant.clock_low c.self.invariant.clock_high in
     let whole : to_z w64 (of_z w64 c.args.moment) ≡ c.args.moment = to_z-of_z c.ranges.moment in
     let fault = subst (λ (k : Contents). clock_fault k.clock c.args.moment ≡ Some c.in-Err.code) c.self.view_is (simp (same, whole) at c.in-Err.ensures.fault) in
-    IfOk-weaker c.refuse.result _ _ (λ s e w st. refused_moves p w (At c.args.moment) c.in-Err.code (at_fault p c.args.self w st c.args.moment (Some c.in-Err.code) fault) c.args.self s e st) c.refuse.ensures.state
+    IfOk-weaker c.refuse.result _ _ (refused_tries s m c.args.self (At c.args.moment) c.in-Err.code (λ w st suits. at_fault s m c.args.self w st c.args.moment (Some c.in-Err.code) fault)) c.refuse.ensures.state
 
 pub returns-in-Err-clause-lines : goal.returns-in-Err-clause-lines
 returns-in-Err-clause-lines c =
-    let p = c.args.program.now in
+    let s = c.args.setting.now in
+    let m = c.args.memory.now in
     let same : to_z w64 (of_z w64 c.self.inside.clock) ≡ c.self.inside.clock = clock_same c.self.inside.clock c.self.invariant.clock_low c.self.invariant.clock_high in
     let whole : to_z w64 (of_z w64 c.args.moment) ≡ c.args.moment = to_z-of_z c.ranges.moment in
     let fault = subst (λ (k : Contents). clock_fault k.clock c.args.moment ≡ Some c.in-Err.code) c.self.view_is (simp (same, whole) at c.in-Err.ensures.fault) in
-    on_ok_weaker c.refuse.result (λ e w st. refused_lines p w (At c.args.moment) c.in-Err.code (at_fault p c.args.self w st c.args.moment (Some c.in-Err.code) fault) c.args.lines.now.items c.refuse.new.lines.items e) c.refuse.ensures.lines
-
-pub returns-in-Err-clause-follows : goal.returns-in-Err-clause-follows
-returns-in-Err-clause-follows c = IfOk-weaker c.refuse.result _ _ (λ s e. same_follows c.args.program.now c.args.net.now c.args.self s e c.requires.follows) c.refuse.ensures.state
+    on_ok_weaker c.refuse.result (refused_lines s m c.args.self (At c.args.moment) c.in-Err.code (λ w st suits. at_fault s m c.args.self w st c.args.moment (Some c.in-Err.code) fault)
+    c.args.lines.now.items c.refuse.new.lines.items) c.refuse.ensures.lines

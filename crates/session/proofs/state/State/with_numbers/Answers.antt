@@ -1,25 +1,30 @@
-use Rattle.std.proofs.Common.{◌≡◌, ◌∙◌, ◌+◌, false, sym, subst, ap}
+use Rattle.std.proofs.Common.{◌≡◌, ◌∙◌, ◌+◌, false, sym, subst, ap, slice_get}
+use Rattle.std.proofs.lemmas.Result.{IfOk-weaker}
+use Rattle.rule_model.specs.declared.step.Step.TheVariants.{Insert}
 use Rattle.rule_model.specs.Candidates.{is_present}
-use Rattle.rule_world.specs.Worlds.{kept}
-use Rattle.session.specs.Following.{Follows}
-use Rattle.session.specs.Standing.{Contents, Mirrors, Standing}
-use Rattle.session.proofs.Exactly.{exact, after_numbers}
-use Rattle.session.proofs.Follow.{numbers_follow}
-use Rattle.session.proofs.Stands.{contents, numbers_move}
+use Rattle.rule_world.specs.Events.{times_of}
+use Rattle.rule_world.specs.Worlds.{stepped}
+use Rattle.session.specs.Leading.{Moves}
+use Rattle.session.specs.Standing.{Contents}
+use Rattle.session.proofs.Faults.{safe_numbers}
+use Rattle.session.proofs.Inserting.{numbers_await}
+use Rattle.session.proofs.Stands.{contents}
 use Rattle.session.proofs.state.State.with_numbers.Goals as goal
 
-pub returns-clause-stands : goal.returns-clause-stands
-returns-clause-stands c w s =
-    let p = c.args.program.now in
-    let k = (contents c.state.inside.facts c.state.inside.expiries c.state.inside.clock c.state.inside.last_starts.items c.state.inside.agenda c.state.inside.next_id c.state.inside.next_tag) in
-    let st : Standing p k w = subst (λ (k : Contents). Standing p k w) (sym c.state.view_is) s in
-    let gone : is_present p w.clock c.args.fact.now ≡ false = ap (λ z. is_present p z c.args.fact.now) (sym s.mirrors.clock) ∙ c.requires.absent in
-    subst (Mirrors p _) (sym (after_numbers p w c.args.fact.now gone))
-    (numbers_move p k c.in_ok-state-inside.field-0.items c.args.fact.now (kept p w) (exact p k w st) c.in_ok-state-inside.ensures)
+pub invariant_of-state : goal.invariant_of-state
+invariant_of-state c = safe_numbers c.state.inside.facts c.state.inside.expiries c.state.inside.clock c.state.inside.next_id c.state.inside.next_tag c.state.invariant
 
-pub returns-clause-follows : goal.returns-clause-follows
-returns-clause-follows c net f =
-    let p = c.args.program.now in
+pub returns-clause-stands : goal.returns-clause-stands
+returns-clause-stands c =
+    let p = c.args.setting.now.program in
+    let f = c.args.fact.now in
     let k = (contents c.state.inside.facts c.state.inside.expiries c.state.inside.clock c.state.inside.last_starts.items c.state.inside.agenda c.state.inside.next_id c.state.inside.next_tag) in
-    numbers_follow p net k (subst (λ (k : Contents). Follows p net k) (sym c.state.view_is) f) c.args.fact.now c.in_ok-state-inside.field-0.items (c.state.inside.next_id + 1) (c.state.inside.next_tag + 1)
-    c.requires.from_zero c.in_ok-state-inside.ensures
+    let id : f.id.0 ≡ c.state.inside.next_id = c.requires.id ∙ ap (λ (k : Contents). k.next_id) (sym c.state.view_is) in
+    let at : f.tag.0 ≡ c.state.inside.next_tag = c.requires.tag ∙ ap (λ (k : Contents). k.next_tag) (sym c.state.view_is) in
+    let times : f.times ≡ times_of (slice_get p.types f.ty.0) c.state.inside.clock f.fields = c.requires.times ∙ ap (λ (k : Contents). times_of (slice_get p.types f.ty.0) k.clock f.fields) (sym c.state.view_is) in
+    let gone : is_present p c.state.inside.clock f ≡ false = ap (λ (k : Contents). is_present p k.clock f) c.state.view_is ∙ c.requires.absent in
+    IfOk-weaker c.settled.result _ _
+    (λ s h. subst (λ (z : Contents). Moves c.args.setting.now c.args.memory.now z (Insert f.ty f.entry f.fields) c.settled.new.memory s) c.state.view_is
+      (λ w st none lawful. h (stepped p w (Insert f.ty f.entry f.fields))
+        (numbers_await c.args.setting.now c.args.memory.now k w st f id at times c.requires.runs none lawful gone c.in_ok-state-inside.field-0.items c.in_ok-state-inside.ensures _)))
+    c.settled.ensures.stands

@@ -1,0 +1,74 @@
+-- What is not kept is inside no window of time, then and later.
+use Rattle.std.proofs.Common.{◌≡◌, ◌∙◌, ◌&&◌, ◌==◌, ℕ, zero, suc, ℤ, ◌+ℤ◌, ◌-ℤ◌, ◌≤ℤ◌, ◌<ℤ◌, Bool, true, false, List, [], ◌∷◌, Option, Some, None, inl, inr, refl, sym, ap}
+use Rattle.std.specs.Prelude.{slice_get}
+use Rattle.fx_base.specs.Lists.{In}
+use Rattle.fx_base.specs.declared.fact.Fact.{Fact}
+use Rattle.rule_model.specs.declared.condition.Condition.{Condition}
+use Rattle.rule_model.specs.declared.condition.WindowTag.{WindowTag}
+use Rattle.rule_model.specs.declared.condition.WindowTag.TheVariants.{Time}
+use Rattle.rule_model.specs.declared.life.Life.{Life}
+use Rattle.rule_model.specs.declared.life.Life.TheVariants.{Plain, Explicit, Finite, Infinite}
+use Rattle.rule_model.specs.declared.life.LifeTable.{LifeTable}
+use Rattle.rule_model.specs.declared.program.Program.{Program}
+use Rattle.rule_model.specs.declared.program.Rule.{Rule}
+use Rattle.rule_model.specs.Candidates.{is_present, is_inside, is_candidate}
+use Rattle.rule_model.specs.Rows.{pattern_of}
+use Rattle.rule_model.specs.Snapshots.{Snapshot}
+use Rattle.rule_model.specs.Tests.{tests_hold}
+use Rattle.rule_model.specs.Tuples.{unbound}
+use Rattle.rule_world.specs.Lawful.{IsLawful}
+use Rattle.rule_world.specs.Worlds.{World}
+use Rattle.rule_world.proofs.Keeping.{was_present}
+use Rattle.rule_lives.specs.Keeping.{AreLives}
+use Rattle.rule_lives.specs.Lifetimes.{IsLife}
+use Rattle.rule_lives.specs.Reach.{finite}
+use Rattle.rule_lives.proofs.Basics.{not_true, same_number}
+use Rattle.rule_lives.proofs.Limits.{lives_below}
+use Rattle.keeping.specs.Kept.{is_alive, is_kept}
+use Rattle.keeping.proofs.Staying.{after_life, not_below, too_old, later_too, not_alive}
+
+-- a member of a list has a place in it
+place_of : {A : Type 0} (x : A) (xs : List A) → In x xs → (k : ℕ) × (slice_get xs k ≡ Some x)
+place_of x [] i = absurd i
+place_of x (y ∷ xs) (inl e) = (zero, ap Some (sym e))
+place_of x (y ∷ xs) (inr i) = let r = place_of x xs i in (suc r.0, r.1)
+
+-- no candidate, where the facts of the type are not inside
+none_by : (a t r c : Bool) → (t ≡ true → c ≡ false) → ((a && (t && r)) && c) ≡ false
+none_by false t r c h = refl
+none_by true false r c h = refl
+none_by true true false c h = refl
+none_by true true true c h = h refl
+
+module _ (p : Program) (table : LifeTable) (w : World) (are : AreLives p table) (law : IsLawful p w) (f : Fact) (inside : In f w.facts) (lost : is_kept p table w f ≡ false)
+    (rule : Rule) (in_rules : In rule p.rules) (c : Condition) (in_c : In c rule.conditions) (span : ℤ) (at : (pattern_of c).window ≡ Time span) (s : Snapshot) (from : w.clock ≤ℤ s.clock) where
+  abbrev alone : Bool
+  alone = f.entry.0 == (pattern_of c).entry.0 && tests_hold unbound f (pattern_of c).alone
+
+  abbrev within : Bool
+  within = is_inside p (pattern_of c) (pattern_of c).window s.clock s.facts f
+
+  gone : is_present p w.clock f ≡ false → is_candidate p (pattern_of c) s f ≡ false
+  gone absent =
+      let absent_too = not_true (is_present p s.clock f) (λ h. let n : true ≡ false = sym (was_present p f w.clock s.clock from h) ∙ absent in absurd cc) in
+      ap (λ b. (b && (f.ty.0 == (pattern_of c).ty.0 && alone)) && within) absent_too
+
+  past : (n : ℤ) → IsLife p f.ty.0 (finite n) → (f.times.end +ℤ n) <ℤ w.clock → is_candidate p (pattern_of c) s f ≡ false
+  past n life after =
+      let k = place_of c rule.conditions in_c in
+      let order = ((law.sound f inside).timed life.event).event.ordered in
+      none_by (is_present p s.clock f) (f.ty.0 == (pattern_of c).ty.0) alone within (λ t.
+      let longer : span ≤ℤ n =
+      lives_below p f.ty.0 n rule (record { place = k.0; condition = c }) life in_rules k.1 (sym (same_number f.ty.0 (pattern_of c).ty.0 t)) (Time span) (finite span) at refl in
+      ap (λ (v : WindowTag). is_inside p (pattern_of c) v s.clock s.facts f) at
+      ∙ not_below (s.clock -ℤ f.times.start) span (too_old s.clock f.times.start f.times.end n span order (later_too (f.times.end +ℤ n) w.clock s.clock after from) longer))
+
+  by_life : (life : Option Life) → slice_get table.lives f.ty.0 ≡ life → is_alive p life w.clock f ≡ false → is_candidate p (pattern_of c) s f ≡ false
+  by_life None is e = absurd (let n : true ≡ false = e in cc)
+  by_life (Some Plain) is e = absurd (let n : true ≡ false = e in cc)
+  by_life (Some (Explicit expiry)) is e = gone e
+  by_life (Some (Finite n)) is e = past n (are.each f.ty.0 (Finite n) is) (after_life w.clock (f.times.end +ℤ n) e)
+  by_life (Some Infinite) is e = absurd (let n : true ≡ false = e in cc)
+
+  pub in_no_window : is_candidate p (pattern_of c) s f ≡ false
+  in_no_window = by_life (slice_get table.lives f.ty.0) refl (not_alive p table w are f lost)

@@ -1,0 +1,9 @@
+use Rattle.std.proofs.Common.{◌≡◌, ◌∙◌, ap, nat_eq, rules}
+use Rattle.std.specs.List.{list_any}
+use Rattle.session.proofs.Olds.{same_tags}
+use Rattle.session.proofs.settling.tags_of.Goals as goal
+
+pub returns : goal.returns
+returns c tag =
+    let same : c.in_ok-collect.field-0.items ≡ c.args.set.now.keys = search rules in
+    ap (list_any (nat_eq tag)) same ∙ same_tags tag c.args.set.now.keys

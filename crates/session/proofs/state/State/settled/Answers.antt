@@ -1,0 +1,44 @@
+use Rattle.std.proofs.Common.{◌≡◌, ◌∙◌, ◌<◌, ◌^◌, ap, sym, subst, filter_map, length, FitsSigned, to_z, of_z, to_z-of_z, w64, rules, arith}
+use Rattle.retention.specs.Retentions.{has_tag, is_among, is_named, Passes}
+use Rattle.session.specs.Standing.{Awaits, Contents}
+use Rattle.session.proofs.Forgotten.{no_keys, safe_fewer, stands_less, stands_same}
+use Rattle.session.proofs.Olds.{named_at}
+use Rattle.session.proofs.Stands.{contents}
+use Rattle.session.proofs.state.State.settled.Goals as goal
+
+pub invariant_of-state : goal.invariant_of-state
+invariant_of-state c =
+    safe_fewer c.state.inside.facts c.without_all.result c.state.inside.expiries c.state.inside.clock c.state.inside.next_id c.state.inside.next_tag c.in_ok-old.old.items c.state.invariant c.without_all.ensures
+
+pub returns-then-is_empty-clause-stands : goal.returns-then-is_empty-clause-stands
+returns-then-is_empty-clause-stands c w a =
+    let fits : FitsSigned w64 c.state.inside.clock = search rules in
+    let same : to_z w64 (of_z w64 c.state.inside.clock) ≡ c.state.inside.clock = to_z-of_z fits in
+    let r = c.in_ok-retention.retention in
+    let keys = c.in_ok-retention.old.keys in
+    let k = (contents c.state.inside.facts c.state.inside.expiries c.state.inside.clock c.state.inside.last_starts.items c.state.inside.agenda c.state.inside.next_id c.state.inside.next_tag) in
+    let passes : Passes k.clock (is_among c.args.left.now) (is_named k.agenda) c.args.memory.now.retention r (has_tag keys) = simp (same, c.replace-retention.ensures.value) at c.in_ok-retention.ensures.passes in
+    stands_same c.args.setting.now c.args.memory.now c.args.self (is_among c.args.left.now) w a r keys (no_keys keys (c.if-is_empty.ensures.0 (search rules)))
+    (subst (λ (z : Contents). Passes z.clock (is_among c.args.left.now) (is_named z.agenda) c.args.memory.now.retention r (has_tag keys)) c.state.view_is passes)
+
+pub returns-clause-stands : goal.returns-clause-stands
+returns-clause-stands c w a =
+    let fits : FitsSigned w64 c.state.inside.clock = search rules in
+    let same : to_z w64 (of_z w64 c.state.inside.clock) ≡ c.state.inside.clock = to_z-of_z fits in
+    let s = c.args.setting.now in
+    let m = c.args.memory.now in
+    let left = is_among c.args.left.now in
+    let r = c.in_ok-retention.retention in
+    let old = c.in_ok-retention.old.keys in
+    let tags = c.in_ok-old.old.items in
+    let k = (contents c.state.inside.facts c.state.inside.expiries c.state.inside.clock c.state.inside.last_starts.items c.state.inside.agenda c.state.inside.next_id c.state.inside.next_tag) in
+    let awaits : Awaits s m k left w = subst (λ (z : Contents). Awaits s m z left w) (sym c.state.view_is) a in
+    let passes : Passes k.clock left (is_named k.agenda) m.retention r (has_tag old) = simp (same, c.replace-retention.ensures.value) at c.in_ok-retention.ensures.passes in
+    let names : c.in_ok-names.names.items ≡ filter_map (named_at k.facts) tags = c.in_ok-names.ensures ∙ ap (filter_map (named_at k.facts)) c.deref.ensures.value in
+    let count_of = length m.net.ends.items in
+    let count : count_of ≡ length s.program.rules = awaits.seen.stands.nodes.count in
+    let few : count_of < 2 ^ 16 = omega (arith, count, c.requires.runs.runnable.few_rules) in
+    let stands = simp c.deref-2.ensures.value at c.in_ok-dropped.ensures.stands in
+    let dropped = simp c.deref-2.ensures.value at c.in_ok-dropped.ensures.dropped in
+    stands_less s m k left w awaits c.forget.new.self r c.without_all.result c.without_fired.result old tags c.in_ok-names.names.items c.in_ok-dropped.dropped.items
+    passes c.in_ok-old.ensures names stands dropped c.without_all.ensures c.without_fired.ensures.saliences c.without_fired.ensures.pending (c.without_fired.ensures.fired count_of few c.in_ok-dropped.ensures.listed)

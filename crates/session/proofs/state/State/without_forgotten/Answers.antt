@@ -1,0 +1,11 @@
+use Rattle.std.proofs.lemmas.Result.{IfOk-weaker}
+use Rattle.rule_model.specs.declared.step.Step.TheVariants.{Retract}
+use Rattle.rule_world.specs.Worlds.{stepped}
+use Rattle.session.proofs.Retracting.{retracts_forgotten}
+use Rattle.session.proofs.state.State.without_forgotten.Goals as goal
+
+pub returns-clause-stands : goal.returns-clause-stands
+returns-clause-stands c =
+    IfOk-weaker c.settled.result _ _ (λ t settles w st none law.
+    settles (stepped c.args.setting.now.program w (Retract c.args.ty c.args.id))
+    (retracts_forgotten c.args.setting.now c.args.memory.now c.args.self w st c.requires.runs c.args.ty c.args.id none c.requires.absent law _)) c.settled.ensures.stands
