@@ -41,7 +41,7 @@ does_stays p w (Ok step) o = by (step_fault p w step)
 -- ---- what is modified is no event
 
 -- values fit a plain fact alone
-plain_fit : (p : Program) (f : Fact) (sets : List (ℕ × Value)) → sets_fit p (Some f) sets ≡ true → is_event p f.ty.0 ≡ false
+pub plain_fit : (p : Program) (f : Fact) (sets : List (ℕ × Value)) → sets_fit p (Some f) sets ≡ true → is_event p f.ty.0 ≡ false
 plain_fit p f sets fit = by (slice_get p.types f.ty.0) refl
   where
     none : (ty : TypeInfo) (b : Bool) → (not b && list_all (set_fits ty.fields) sets) ≡ true → b ≡ false

@@ -2,6 +2,9 @@
 use Rattle.std.proofs.Common.{◌≡◌, ◌<◌, ℕ, zero, suc, inl, inr, Bool, not, true, List, [], ◌∷◌, ◌++◌, length, nat_lt, Option, Some, None, option_map, Result, Ok, Err, refl, sym, ◌∙◌, ap, subst, lt-ltb, arith}
 use Rattle.std.specs.Prelude.{slice_get}
 use Rattle.std.proofs.lemmas.List.Folds.{list_all-append}
+use Rattle.std.proofs.Math.Logic.{∥∥₁_elim}
+use Rattle.std.proofs.lemmas.Grind.{merely}
+use mathlib.Core.Bool.{Bool-set}
 use Rattle.fx_base.specs.declared.ids.FactId.{FactId}
 use Rattle.fx_base.specs.declared.ids.TypeId.{TypeId}
 use Rattle.fx_base.specs.declared.value.Value.{Value}
@@ -11,7 +14,6 @@ use Rattle.row_delta.specs.declared.row.Named.{Named}
 use Rattle.row_delta.specs.declared.row.Row.{Row}
 use Rattle.rule_model.specs.declared.action.Action.{Action}
 use Rattle.rule_world.specs.declared.code.Code.{Code}
-use Rattle.rule_model.specs.declared.life.LifeTable.{LifeTable}
 use Rattle.rule_model.specs.declared.matched.Match.{Match}
 use Rattle.rule_model.specs.declared.program.Program.{Program}
 use Rattle.rule_model.specs.declared.program.Rule.{Rule}
@@ -20,14 +22,13 @@ use Rattle.rule_model.specs.declared.step.Step.{Step}
 use Rattle.rule_world.specs.Kinds.{values_fit, step_fits}
 use Rattle.rule_model.specs.Lent.{bound_in}
 use Rattle.rule_model.specs.Tuples.{Bindings}
-use Rattle.rule_model.specs.Lives.{IsTable}
 use Rattle.rule_model.specs.Matches.{matches, has_match}
 use Rattle.rule_model.specs.Numbers.{values_of}
 use Rattle.rule_model.specs.Planned.{id_at, sets_of, type_or_first, step_of}
 use Rattle.rule_world.specs.Programs.{IsRunnable}
 use Rattle.fx_base.specs.Lists.{In}
 use Rattle.rule_world.specs.Typed.{bound_types, bound_fields, fields_in, args_fit, action_fits, rule_fits, is_typed}
-use Rattle.rule_world.specs.Worlds.{World, empty_world, snapshot, step_fault, marked}
+use Rattle.rule_world.specs.Worlds.{World, empty_world, found, snapshot, step_fault, marked}
 use Rattle.rule_world.proofs.Acting.{all_of}
 use Rattle.rule_world.proofs.Fresh.{and_both, and_parts}
 use Rattle.rule_model.proofs.Listed.{of_map}
@@ -37,14 +38,16 @@ use Rattle.script_read.specs.declared.asked.Change.{Change}
 use Rattle.change_read.specs.Changes.{change_step}
 use Rattle.change_read.proofs.Fitting.{asked_fits}
 use Rattle.engine.specs.declared.lines.OutLine.{OutLine}
+use Rattle.session.specs.declared.memory.Memory.{Memory}
+use Rattle.session.specs.declared.setting.Setting.{Setting}
 use Rattle.session.specs.Gives.{tries_with, does, does_all, actions_of, fire_line, gives}
 use Rattle.engine.specs.Known.{is_known, are_known}
-use Rattle.session.specs.Leading.{AllFit, StandsAfter, Writes}
+use Rattle.session.specs.Leading.{StandsAfter, WritesFor}
 use Rattle.session.specs.Places.{newest, planned, planned_for, held_at}
-use Rattle.session.specs.Standing.{Contents, Shown, Standing, StandsForSome}
+use Rattle.session.specs.Standing.{Contents, Runs, Standing, StandsForSome}
 use Rattle.session.proofs.Acting.{asked_step}
-use Rattle.session.proofs.Firings.{plan_fits, plan_of, stands_pending, top_of}
-use Rattle.session.proofs.Sessions.{change_stands, shown}
+use Rattle.session.proofs.Firings.{FiresInto, WritesFiring, plan_fits, plan_of, top_of, top_pending}
+use Rattle.session.proofs.Sessions.{change_lines, change_stands}
 use Rattle.rule_model.specs.declared.action.Action.TheVariants as action
 use Rattle.rule_model.specs.declared.step.Step.TheVariants as step
 
@@ -102,6 +105,12 @@ all_known p w (one ∷ asked) known =
     ∙ and_both (are_known p (does p w one).0) (are_known p (does_all p (does p w one).1 asked).0)
     (does_known p w one (λ s e. known s (inl (sym e)))) (all_known p (does p w one).1 asked (λ s i. known s (inr i)))
 
+-- a change's lines
+given_known : (p : Program) (w : World) (change : Change) → IsRunnable p → are_known p (gives p w change).0 ≡ true
+unfolding gives
+given_known p w change runnable =
+    does_known p w (change_step p (found p w) change) (λ one own. fitting_known p (found p w) one (asked_fits p (found p w) change one runnable.some_entry own))
+
 -- ---- what actions are to do
 
 inserted_known : (p : Program) (ty : TypeId) (vs : Option (List Value)) (s : Step) → nat_lt ty.0 (length p.types) ≡ true
@@ -138,75 +147,68 @@ planned_known p facts row rule fits s i =
 
 -- ---- a session
 
--- what a firing does in a world for which a session stands
-abbrev pub FiresInto : Program → Contents → List (Result Step Code) → Contents → Type 0
-FiresInto p k plan t = (v : World) (m : Match) → Standing p k v → Some m ≡ top_of k.agenda → AllFit p v plan → Standing p t (does_all p (marked v m) plan).1
+module _ (s : Setting) (m : Memory) (k : Contents) (some : StandsForSome s m k) where
+  pub change_known : (change : Change) (asked : Result Step Code) → asked ≡ change_step s.program (newest k) change
+      → (lines : List OutLine) → WritesFor s m k asked [] lines → are_known s.program lines ≡ true
+  change_known change asked is lines given =
+      ap (are_known s.program) (change_lines s m k some.runs change asked is some.world some.stands lines given)
+      ∙ given_known s.program some.world change some.runs.runnable
 
-abbrev pub WritesFiring : Program → Contents → List (Result Step Code) → List OutLine → Type 0
-WritesFiring p k plan lines = (v : World) (m : Match) → Standing p k v → Some m ≡ top_of k.agenda → AllFit p v plan → lines ≡ fire_line p m ∷ [] ++ (does_all p (marked v m) plan).0
+  -- of a match that fires first
+  module _ (q : Match) (top : Some q ≡ top_of k.agenda) (plan : List (Result Step Code)) (planned_is : plan ≡ planned k.facts q.row (actions_of (slice_get s.program.rules q.rule.0))) where
+    of_rule : (rule : Rule) → slice_get s.program.rules q.rule.0 ≡ Some rule → are_known s.program (fire_line s.program q ∷ [] ++ (does_all s.program (marked some.world q) plan).0) ≡ true
+    unfolding is_typed
+    of_rule rule there =
+        let p = s.program in
+        let fits = all_of (rule_fits p.types) p.rules rule some.runs.runnable.typed (in_place p.rules q.rule.0 rule there) in
+        let is : plan ≡ planned k.facts q.row rule.actions = planned_is ∙ ap (λ found. planned k.facts q.row (actions_of found)) there in
+        and_both (nat_lt q.rule.0 (length p.rules)) (are_known p (does_all p (marked some.world q) plan).0)
+        (found_within p.rules q.rule.0 rule there)
+        (all_known p (marked some.world q) plan (λ one i. planned_known p k.facts q.row rule fits one (subst (In (Ok one)) is i)))
 
-module _ (p : Program) (lives : LifeTable) (k : Contents) (some : StandsForSome p lives k) where
-  module _ (s : Shown) (e : shown p lives k ≡ s) where
-    shown_known : (lines : List OutLine) → are_known p lines ≡ true → are_known s.program lines ≡ true
-    shown_known lines known = subst (λ (z : Shown). are_known z.program lines ≡ true) e known
+    first_known : are_known s.program (fire_line s.program q ∷ [] ++ (does_all s.program (marked some.world q) plan).0) ≡ true
+    first_known =
+        let p = s.program in
+        let is_match = (and_parts (has_match (matches p (snapshot some.world)) q) (not (has_match some.world.fired q))
+        (sym (has_pending p some.world q) ∙ top_pending s m k some.world some.stands q top)).0 in
+        let is = rule_of p (snapshot some.world) q is_match in
+        of_rule is.rule is.there
 
-    pub change_known : (change : Change) (asked : Result Step Code) → asked ≡ change_step p (newest k) change
-        → (lines : List OutLine) → Writes p k (λ v. (does p v asked).0) [] lines → are_known s.program lines ≡ true
-    change_known change asked is lines given =
-        shown_known lines
-        (ap (are_known p) (given some.world some.stands)
-        ∙ does_known p some.world asked
-        (λ s own. fitting_known p (newest k) s (asked_fits p (newest k) change s some.runnable.some_entry (sym is ∙ own))))
+  firing_known : (plan : List (Result Step Code)) (lines : List OutLine) (o : Option Match) → o ≡ top_of k.agenda → Some plan ≡ plan_of s.program k o → WritesFiring s m k plan lines → are_known s.program lines ≡ true
+  firing_known plan lines None top own written = absurd cc
+  firing_known plan lines (Some q) top own written =
+      let is : plan ≡ planned k.facts q.row (actions_of (slice_get s.program.rules q.rule.0)) = cc in
+      let fits = plan_fits s m k some.world some.stands plan q top (own ∙ ap (plan_of s.program k) top) some.runs in
+      ap (are_known s.program) (written some.world q some.stands top fits) ∙ first_known q top plan is
 
-    -- of a match that fires first
-    module _ (m : Match) (top : Some m ≡ top_of k.agenda) (plan : List (Result Step Code)) (planned_is : plan ≡ planned k.facts m.row (actions_of (slice_get p.rules m.rule.0))) where
-      of_rule : (rule : Rule) → slice_get p.rules m.rule.0 ≡ Some rule → are_known p (fire_line p m ∷ [] ++ (does_all p (marked some.world m) plan).0) ≡ true
-      unfolding is_typed
-      of_rule rule there =
-          let fits = all_of (rule_fits p.types) p.rules rule some.runnable.typed (in_place p.rules m.rule.0 rule there) in
-          let is : plan ≡ planned k.facts m.row rule.actions = planned_is ∙ ap (λ found. planned k.facts m.row (actions_of found)) there in
-          and_both (nat_lt m.rule.0 (length p.rules)) (are_known p (does_all p (marked some.world m) plan).0)
-          (found_within p.rules m.rule.0 rule there)
-          (all_known p (marked some.world m) plan (λ s i. planned_known p k.facts m.row rule fits s (subst (In (Ok s)) is i)))
-
-      first_known : are_known p (fire_line p m ∷ [] ++ (does_all p (marked some.world m) plan).0) ≡ true
-      first_known =
-          let is_match = (and_parts (has_match (matches p (snapshot some.world)) m) (not (has_match some.world.fired m))
-          (sym (has_pending p some.world m) ∙ stands_pending p k some.world m some.stands top)).0 in
-          let is = rule_of p (snapshot some.world) m is_match in
-          of_rule is.rule is.there
-
-    firing_known : (plan : List (Result Step Code)) (lines : List OutLine) (o : Option Match) → o ≡ top_of k.agenda → Some plan ≡ plan_of p k o → WritesFiring p k plan lines → are_known s.program lines ≡ true
-    firing_known plan lines None top own written = absurd cc
-    firing_known plan lines (Some m) top own written =
-        let is : plan ≡ planned k.facts m.row (actions_of (slice_get p.rules m.rule.0)) = cc in
-        let fits = plan_fits p k some.world plan m some.runnable some.stands top (own ∙ ap (plan_of p k) top) in
-        shown_known lines (ap (are_known p) (written some.world m some.stands top fits) ∙ first_known m top plan is)
-
-    pub fired_known : (plan : List (Result Step Code)) (lines : List OutLine) → Some plan ≡ plan_of p k (top_of k.agenda) → WritesFiring p k plan lines → are_known s.program lines ≡ true
-    fired_known plan lines own written = firing_known plan lines (top_of k.agenda) refl own written
+  pub fired_known : (plan : List (Result Step Code)) (lines : List OutLine) → Some plan ≡ plan_of s.program k (top_of k.agenda) → WritesFiring s m k plan lines → are_known s.program lines ≡ true
+  fired_known plan lines own written = firing_known plan lines (top_of k.agenda) refl own written
 
   -- ---- it stands for some world
 
-  pub some_changed : (t : Contents) (change : Change) (asked : Result Step Code) → asked ≡ change_step p (newest k) change → StandsAfter p k asked t → StandsForSome p lives t
-  some_changed t change asked is next = record {
-    runnable = some.runnable;
-    table = some.table;
-    world = (gives p some.world change).1;
-    stands = change_stands p lives k (shown p lives k) refl some.world some.stands change asked is t some.runnable next;
+  pub some_changed : (n : Memory) (t : Contents) (change : Change) (asked : Result Step Code) → asked ≡ change_step s.program (newest k) change → StandsAfter s m k asked n t → StandsForSome s n t
+  some_changed n t change asked is next = record {
+    runs = some.runs;
+    world = (gives s.program some.world change).1;
+    stands = change_stands s m k some.runs change asked is some.world some.stands n t next;
   }
 
-  some_fired_by : (t : Contents) (plan : List (Result Step Code)) (o : Option Match) → o ≡ top_of k.agenda → Some plan ≡ plan_of p k o → FiresInto p k plan t → StandsForSome p lives t
-  some_fired_by t plan None top own next = absurd cc
-  some_fired_by t plan (Some m) top own next = record {
-    runnable = some.runnable;
-    table = some.table;
-    world = (does_all p (marked some.world m) plan).1;
-    stands = next some.world m some.stands top (plan_fits p k some.world plan m some.runnable some.stands top (own ∙ ap (plan_of p k) top));
+  some_fired_by : (n : Memory) (t : Contents) (plan : List (Result Step Code)) (o : Option Match) → o ≡ top_of k.agenda → Some plan ≡ plan_of s.program k o → FiresInto s m k plan n t → StandsForSome s n t
+  some_fired_by n t plan None top own next = absurd cc
+  some_fired_by n t plan (Some q) top own next = record {
+    runs = some.runs;
+    world = (does_all s.program (marked some.world q) plan).1;
+    stands = next some.world q some.stands top (plan_fits s m k some.world some.stands plan q top (own ∙ ap (plan_of s.program k) top) some.runs);
   }
 
-  pub some_fired : (t : Contents) (plan : List (Result Step Code)) → Some plan ≡ plan_of p k (top_of k.agenda) → FiresInto p k plan t → StandsForSome p lives t
-  some_fired t plan own next = some_fired_by t plan (top_of k.agenda) refl own next
+  pub some_fired : (n : Memory) (t : Contents) (plan : List (Result Step Code)) → Some plan ≡ plan_of s.program k (top_of k.agenda) → FiresInto s m k plan n t → StandsForSome s n t
+  some_fired n t plan own next = some_fired_by n t plan (top_of k.agenda) refl own next
 
-pub some_at_start : (p : Program) (lives : LifeTable) (k : Contents) → IsRunnable p → IsTable p lives → Standing p k empty_world → StandsForSome p lives k
-some_at_start p lives k runnable table stands = record { runnable = runnable; table = table; world = empty_world; stands = stands }
+-- ---- what a ghost field tells
+
+-- the lines are known where it is only known that there is a world
+pub merely_known : (s : Setting) (m : Memory) (k : Contents) → ∥ StandsForSome s m k ∥₁ → (lines : List OutLine) → (StandsForSome s m k → are_known s.program lines ≡ true) → are_known s.program lines ≡ true
+merely_known s m k some lines h = ∥∥₁_elim some (Bool-set _ _) h
+
+pub some_at_start : (s x : Setting) (m : Memory) (k : Contents) → x ≡ s → Runs s → Standing x m k empty_world → ∥ StandsForSome x m k ∥₁
+some_at_start s x m k same runs stands = merely (record { runs = subst Runs (sym same) runs; world = empty_world; stands = stands })

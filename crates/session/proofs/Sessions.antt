@@ -1,42 +1,46 @@
--- What a session answers in the worlds for which it stands.
-use Rattle.std.proofs.Common.{◌≡◌, ℕ, ℤ, pos, ◌&&◌, not, false, slice_get, List, [], ◌∷◌, ◌++◌, Option, Some, None, is_some, option_map, Result, refl, sym, ◌∙◌, ap, subst}
+-- What a session answers in the worlds for which it stands, and the session that stands for the empty world.
+use Rattle.std.proofs.Common.{◌≡◌, ℕ, ℤ, pos, ◌&&◌, inl, refl, not, true, false, slice_get, List, [], ◌∷◌, ◌++◌, Option, Some, None, is_some, option_map, Result, sym, ◌∙◌, ap, subst}
 use Rattle.std.specs.FinMap.{get-empty}
 use Rattle.std.specs.Ordering.{nat_cmp}
-use mathlib.Core.Path.{fun_ext}
+use Rattle.fx_base.specs.Lists.{In}
+use Rattle.fx_base.specs.declared.fact.Fact.{Fact}
 use Rattle.due_queue.specs.Timers.{Timers}
-use Rattle.fact_store.specs.Held.{HeldFacts}
-use Rattle.rule_model.specs.declared.life.LifeTable.{LifeTable}
+use Rattle.fact_store.specs.Held.{HeldFacts, facts_of}
+use Rattle.fact_store.proofs.Members.{from_list}
 use Rattle.rule_model.specs.declared.matched.Match.{Match}
 use Rattle.rule_model.specs.declared.program.Program.{Program}
 use Rattle.rule_model.specs.declared.program.Rule.{Rule}
 use Rattle.rule_model.specs.declared.step.Step.{Step}
 use Rattle.rule_model.specs.Matches.{has_match, saliences}
 use Rattle.rule_world.specs.declared.code.Code.{Code}
-use Rattle.rule_world.specs.Programs.{IsRunnable}
-use Rattle.rule_world.specs.Worlds.{World, empty_world, kept, found, marked}
+use Rattle.rule_world.specs.Worlds.{World, empty_world, found}
 use Rattle.rule_world.proofs.Lawfuls.{empty_lawful}
 use Rattle.rule_world.proofs.Pending.{has_pending}
 use Rattle.agenda.specs.Agendas.{Marks}
+use Rattle.pair_memory.specs.Standing.{no_names}
+use Rattle.condition_rows.specs.Looks.{empty_snapshot}
+use Rattle.rete_net.specs.Nets.{NetStands}
+use Rattle.retention.specs.Retentions.{lingers}
+use Rattle.forgetting.specs.Sights.{ends_by}
+use Rattle.forgetting.specs.WorldSights.{sight_of}
+use Rattle.forgetting.proofs.Stepping.{start_law}
 use Rattle.script_read.specs.declared.asked.Change.{Change}
 use Rattle.change_read.specs.Changes.{change_step}
 use Rattle.engine.specs.declared.lines.OutLine.{OutLine}
 use Rattle.engine.specs.declared.lines.Fired.TheVariants.{No, Yes}
 use Rattle.engine.specs.Answers.{FiringAnswers}
-use Rattle.session.specs.Gives.{version_of, does, does_all, fire_line, fires, gives}
-use Rattle.session.specs.Leading.{AllFit, Fits, StandsAfter, Writes}
+use Rattle.session.specs.declared.memory.Memory.{Memory}
+use Rattle.session.specs.declared.setting.Setting.{Setting}
+use Rattle.session.specs.Gives.{version_of, does, fires, gives}
+use Rattle.session.specs.Leading.{Fits, StandsAfter, WritesFor}
 use Rattle.session.specs.Places.{newest}
-use Rattle.session.specs.Refreshed.{rows_at, no_rows, matches_by, IsRefreshed}
-use Rattle.session.specs.Standing.{AgendaStands, Contents, Shown, Standing, Stands, expiry_at}
-use Rattle.session.proofs.Asking.{change_fits}
-use Rattle.session.proofs.Firings.{plan_fits, top_of, plan_of, due_fires, no_fire, yes_fire, stands_first}
-use Rattle.session.proofs.Exactly.{exact}
-use Rattle.session.proofs.Newest.{world_found}
+use Rattle.session.specs.Refreshed.{rows_at, no_rows, matches_by, over, IsRefreshed}
+use Rattle.session.specs.Standing.{Contents, Runs, Standing, expiry_at, holding}
+use Rattle.session.proofs.Asking.{change_fits, same_asked}
+use Rattle.session.proofs.Firings.{FiresInto, WritesFiring, top_of, plan_of, due_fires, no_fire, yes_fire}
 use Rattle.session.proofs.Rules.{found_at, is_found}
 use Rattle.session.proofs.Stands.{contents}
 use Rattle.std.specs.FinMap as map_of
-
-abbrev pub shown : Program → LifeTable → Contents → Shown
-shown p lives k = record { program = p; lives = lives; contents = k }
 
 -- ---- over no facts
 
@@ -47,35 +51,67 @@ no_match rules m = is_found no_rows rules m ∙ by (slice_get rules m.rule.0)
     by None = refl
     by (Some rule) = refl
 
+no_member : (facts : List Fact) → ((f : Fact) → In f facts → ⊥) → facts ≡ []
+no_member [] h = refl
+no_member (f ∷ facts) h = absurd (h f (inl refl))
+
+abbrev nothing : HeldFacts
+nothing = map_of.empty
+
+none_there : (tag : ℕ) (f : Fact) → map_of.get nothing tag ≡ Some f → ⊥
+none_there tag f e = let n : None ≡ Some f = sym (get-empty nat_cmp tag) ∙ e in cc
+
+none_held : facts_of nothing ≡ []
+none_held = no_member (facts_of nothing) (λ f i. let r = from_list nothing f i in none_there r.0 f r.1)
+
 abbrev pub start : Marks → Contents
 start a = contents map_of.empty map_of.empty (pos 0) [] a 1 1
 
 abbrev pub blank : List Rule → Marks
 blank rules = record { saliences = saliences rules; pending = []; fired = [] }
 
-blank_stands : (p : Program) (b : Marks) → IsRefreshed p.rules no_rows (rows_at p [] (pos 0)) (blank p.rules) b → AgendaStands p b empty_world
-blank_stands p b r = record {
-  saliences = r.saliences;
-  pending = λ m.
-      r.pending m ∙ ap (λ z. has_match (matches_by (rows_at p [] (pos 0)) p.rules) m && not z) (no_match p.rules m)
-      ∙ sym (has_pending p empty_world m);
-  fired = λ m. r.fired m;
-}
+-- A session that has nothing, with the network of its program over no facts, stands for the empty world.
+module _ (s : Setting) (m : Memory) (b : Marks) (net : NetStands s.program m.net empty_snapshot no_names) (r : IsRefreshed s.program.rules no_rows (rows_at s.program [] (pos 0)) (blank s.program.rules) b)
+    (due : m.retention.due ≡ map_of.empty) (lingering : (tag : ℕ) → lingers m.retention tag ≡ false) where
+  start_stands : Standing s m (start b) empty_world
+  unfolding version_of
+  start_stands = record {
+    seen = record {
+      all = map_of.empty;
+      whole = record {
+        lawful = empty_lawful s.program;
+        mirrors = record {
+          facts = λ tag. get-empty nat_cmp tag;
+          waits = λ tag. get-empty nat_cmp tag ∙ sym (ap (expiry_at s.program) (get-empty nat_cmp tag));
+          clock = refl;
+          last_starts = λ entry. refl;
+          next_id = refl;
+          next_tag = refl;
+        };
+      };
+      forgotten = no_names;
+      are = record {
+        held = λ tag f e. e;
+        known = λ tag f e. absurd (none_there tag f e);
+        below = λ who e. absurd (let n : false ≡ true = e in cc);
+      };
+      stands = subst (λ facts. NetStands s.program m.net (over facts (pos 0)) no_names) (sym none_held) net;
+      saliences = r.saliences;
+    };
+    holds =
+        start_law (ends_by s.lives) (sight_of s.program empty_world) (holding (start b) m.retention) (λ tag. refl) (λ q. refl) (λ tag. get-empty nat_cmp tag) due lingering
+        (λ q. r.pending q ∙ ap (λ z. has_match (matches_by (rows_at s.program [] (pos 0)) s.program.rules) q && not z) (no_match s.program.rules q)
+        ∙ sym (has_pending s.program empty_world q))
+        (λ q. r.fired q);
+  }
 
-pub empty_stands : (p : Program) (k : Contents) (a b : Marks) → a ≡ blank p.rules → IsRefreshed p.rules no_rows (rows_at p [] (pos 0)) a b → k ≡ start b → Standing p k empty_world
-unfolding version_of
-empty_stands p k a b is r e = subst (λ z. Standing p z empty_world) (sym e) (record {
-  lawful = empty_lawful p;
-  mirrors = record {
-    facts = λ tag. get-empty nat_cmp tag;
-    waits = λ tag. get-empty nat_cmp tag ∙ sym (ap (expiry_at p) (get-empty nat_cmp tag));
-    clock = refl;
-    last_starts = λ entry. refl;
-    next_id = refl;
-    next_tag = refl;
-    agenda = blank_stands p b (subst (λ z. IsRefreshed p.rules no_rows (rows_at p [] (pos 0)) z b) is r);
-  };
-})
+pub empty_stands : (s x : Setting) (m : Memory) (k : Contents) (a b : Marks) → x ≡ s → a ≡ blank s.program.rules → NetStands s.program m.net empty_snapshot no_names
+    → IsRefreshed s.program.rules no_rows (rows_at s.program [] (pos 0)) a b → m.retention.due ≡ map_of.empty → ((tag : ℕ) → lingers m.retention tag ≡ false) → k ≡ start b
+    → Standing x m k empty_world
+empty_stands s x m k a b same is net r due lingering e =
+    subst (λ (z : Setting). Standing z m k empty_world) (sym same)
+    (subst (λ (z : Contents). Standing s m z empty_world) (sym e)
+    (start_stands s m b net (subst (λ (z : Marks). IsRefreshed s.program.rules no_rows (rows_at s.program [] (pos 0)) z b) is r) due lingering))
 
 pub from_parts : (k : Contents) (facts : HeldFacts) (expiries : Timers) (clock : ℤ) (starts : List ℤ) (a : Marks) (id tag : ℕ) → k.facts ≡ facts → k.expiries ≡ expiries → k.clock ≡ clock → k.last_starts ≡ starts → k.agenda ≡ a → k.next_id ≡ id → k.next_tag ≡ tag
     → k ≡ contents facts expiries clock starts a id tag
@@ -89,48 +125,34 @@ pub some_mapped : {A B : Type 0} (f : A → B) (o : Option A) → is_some o ≡ 
 some_mapped f None = refl
 some_mapped f (Some x) = refl
 
--- ---- changes
+-- ---- answers
 
-module _ (p : Program) (lives : LifeTable) (k : Contents) (s : Shown) (e : shown p lives k ≡ s) (w : World) (st : Stands s w) where
-  here : Standing p k w
-  here = subst (λ (z : Shown). Stands z w) (sym e) st
+module _ (s : Setting) (m : Memory) (k : Contents) where
+  module _ (runs : Runs s) (change : Change) (asked : Result Step Code) (is : asked ≡ change_step s.program (newest k) change) (w : World) (st : Standing s m k w) where
+    asked_is : asked ≡ change_step s.program (found s.program w) change
+    asked_is = is ∙ same_asked s m k w runs st change
 
-  pub shown_clock : k.clock ≡ w.clock
-  shown_clock = here.mirrors.clock
-
-  module _ (change : Change) (asked : Result Step Code) (is : asked ≡ change_step p (newest k) change) where
-    given : does p w asked ≡ gives s.program w change
+    given : does s.program w asked ≡ gives s.program w change
     unfolding gives
-    given =
-        ap (does p w) (is ∙ ap (λ present. change_step p present change) (fun_ext (world_found p k (kept p w) (exact p k w here))))
-        ∙ ap (λ (z : Shown). does z.program w (change_step z.program (found z.program w) change)) e
+    given = ap (does s.program w) asked_is
 
-    pub change_lines : (lines : List OutLine) → Writes p k (λ v. (does p v asked).0) [] lines → lines ≡ (gives s.program w change).0
-    change_lines lines h = h w here ∙ ap (λ z. z.0) given
+    pub change_lines : (lines : List OutLine) → WritesFor s m k asked [] lines → lines ≡ (gives s.program w change).0
+    change_lines lines h = h w st (subst (Fits s.program w) (sym asked_is) (change_fits s.program w change runs.runnable st.seen.whole.lawful.ordered)) ∙ ap (λ z. z.0) given
 
-    pub change_stands : (t : Contents) → IsRunnable p → StandsAfter p k asked t → Standing p t (gives s.program w change).1
-    change_stands t runnable h = subst (λ z. Standing p t z.1) given (h w here (asked_fits runnable))
-      where
-        asked_fits : IsRunnable p → Fits p w asked
-        asked_fits runnable =
-            subst (λ (z : Result Step Code). Fits p w z) (sym (is ∙ ap (λ present. change_step p present change) (fun_ext (world_found p k (kept p w) (exact p k w here))))) (change_fits p w change runnable here.lawful.ordered)
+    pub change_stands : (n : Memory) (t : Contents) → StandsAfter s m k asked n t → Standing s n t (gives s.program w change).1
+    change_stands n t h =
+        subst (λ z. Standing s n t z.1) given (h w st (subst (Fits s.program w) (sym asked_is) (change_fits s.program w change runs.runnable st.seen.whole.lawful.ordered)))
 
-  -- ---- firings
+  module _ (w : World) (st : Standing s m k w) where
+    pub is_due : is_some (top_of k.agenda) ≡ is_some (fires s.program w)
+    unfolding fires
+    is_due = due_fires s m k w st
 
-  pub shown_due : is_some (top_of k.agenda) ≡ is_some (fires s.program w)
-  unfolding fires
-  shown_due = due_fires p k w here ∙ ap (λ (z : Shown). is_some (fires z.program w)) e
+    pub fires_none : None ≡ plan_of s.program k (top_of k.agenda) → FiringAnswers (fires s.program w) No w (Standing s m k)
+    unfolding fires
+    fires_none none = no_fire s m k w st (top_of k.agenda) refl none
 
-  pub shown_none : None ≡ plan_of p k (top_of k.agenda) → FiringAnswers (fires s.program w) No w (Standing p k)
-  unfolding fires
-  shown_none none = subst (λ (z : Shown). FiringAnswers (fires z.program w) No w (Standing p k)) e (no_fire p k w (top_of k.agenda) none here (stands_first p k w here))
-
-  pub shown_fires : (t : Contents) (plan : List (Result Step Code)) (lines : List OutLine) → IsRunnable p → Some plan ≡ plan_of p k (top_of k.agenda)
-      → ((v : World) (m : Match) → Standing p k v → Some m ≡ top_of k.agenda → AllFit p v plan → Standing p t (does_all p (marked v m) plan).1)
-      → ((v : World) (m : Match) → Standing p k v → Some m ≡ top_of k.agenda → AllFit p v plan → lines ≡ fire_line p m ∷ [] ++ (does_all p (marked v m) plan).0)
-      → FiringAnswers (fires s.program w) (Yes lines) w (Standing p t)
-  unfolding fires
-  shown_fires t plan lines runnable planned stands written =
-      subst (λ (z : Shown). FiringAnswers (fires z.program w) (Yes lines) w (Standing p t)) e
-      (yes_fire p k t w plan lines (top_of k.agenda) planned here refl (λ m top. stands w m here top (plan_fits p k w plan m runnable here top planned))
-      (λ m top. written w m here top (plan_fits p k w plan m runnable here top planned)))
+    pub fires_some : Runs s → (n : Memory) (t : Contents) (plan : List (Result Step Code)) (lines : List OutLine) → Some plan ≡ plan_of s.program k (top_of k.agenda)
+        → FiresInto s m k plan n t → WritesFiring s m k plan lines → FiringAnswers (fires s.program w) (Yes lines) w (Standing s n t)
+    unfolding fires
+    fires_some runs n t plan lines planned stands written = yes_fire s m k n t w plan lines (top_of k.agenda) runs st refl planned stands written

@@ -8,6 +8,7 @@ pub mod laws;
 mod memory;
 mod moving;
 mod refreshing;
+mod running;
 mod session;
 mod setting;
 mod settling;

@@ -4,6 +4,7 @@ ghost use Rattle.session.specs.Standing.{StandsForSome};
 
 use crate::memory::Memory;
 use crate::refreshing::refreshed;
+use crate::running::Running;
 use crate::setting::Setting;
 use crate::state::State;
 use agenda::Agenda;
@@ -31,7 +32,7 @@ fn saliences_of(alloc: Global, rules: &[Rule]) -> Result<Vec<i64>, NoMemory>
 /// whose lives end.
 #[derive(Drop)]
 pub struct Session {
-    setting: Setting,
+    setting: Running,
     state: State,
     memory: Memory,
     ghost some: { ∥ StandsForSome setting memory state ∥₁ },
@@ -60,8 +61,9 @@ impl Session {
         let (agenda, _left) = refreshed(alloc, Agenda::new(alloc, &saliences)?, first)?;
         let state = State::new(alloc, agenda);
         let retention = Retention::new(alloc);
+        let setting = Running::new(Setting { program, lives });
         Ok(Session {
-            setting: Setting { program, lives },
+            setting,
             state,
             memory: Memory { net, retention },
         })
@@ -83,8 +85,9 @@ impl Session {
             mut memory,
         } = self;
         let mut lines = Vec::new(alloc);
-        let asked = asked_step(alloc, &setting.program, &state, change)?;
-        let state = state.apply(alloc, &setting, &mut memory, asked, &mut lines)?;
+        let inside = setting.setting();
+        let asked = asked_step(alloc, &inside.program, &state, change)?;
+        let state = state.apply(alloc, inside, &mut memory, asked, &mut lines)?;
         Ok((
             Session {
                 setting,
@@ -105,15 +108,16 @@ impl Session {
         ensures table { IfOk result (λ r. r.0.setting.lives ≡ self.setting.lives) }
         ensures tags { IfOk result (λ r. r.0.state.next_tag ≤ self.state.next_tag + 16) }
     {
-        match self.state.plan(alloc, &self.setting.program)? {
+        let Session {
+            setting,
+            state,
+            mut memory,
+        } = self;
+        let inside = setting.setting();
+        match state.plan(alloc, &inside.program)? {
             Some(plan) => {
-                let Session {
-                    setting,
-                    state,
-                    mut memory,
-                } = self;
                 let mut lines = Vec::new(alloc);
-                let state = state.fire(alloc, &setting, &mut memory, plan, &mut lines)?;
+                let state = state.fire(alloc, inside, &mut memory, plan, &mut lines)?;
                 Ok((
                     Session {
                         setting,
@@ -123,7 +127,14 @@ impl Session {
                     Fired::Yes(Seq::from_vec(lines)),
                 ))
             }
-            None => Ok((self, Fired::No)),
+            None => Ok((
+                Session {
+                    setting,
+                    state,
+                    memory,
+                },
+                Fired::No,
+            )),
         }
     }
 
@@ -145,14 +156,14 @@ impl Session {
     pub fn program(&self) -> &Program
         ensures { result.now ≡ self.now.setting.program }
     {
-        &self.setting.program
+        &self.setting.setting().program
     }
 
     /// The table of lives that the session was made with. Takes no memory.
     pub fn lives(&self) -> &LifeTable
         ensures { result.now ≡ self.now.setting.lives }
     {
-        &self.setting.lives
+        &self.setting.setting().lives
     }
 }
 

@@ -1,7 +1,6 @@
 use Rattle.std.proofs.Common.{[], pos, rules}
 use Rattle.pair_memory.specs.Standing.{no_names}
 use Rattle.session.specs.Refreshed.{no_rows, rows_at}
-use Rattle.session.proofs.Follow.{first_follows}
 use Rattle.session.proofs.Knowing.{some_at_start}
 use Rattle.session.proofs.Sessions.{empty_stands, from_parts}
 use Rattle.session.proofs.session.Session.new.Goals as goal
@@ -9,15 +8,21 @@ use Rattle.session.proofs.session.Session.new.Goals as goal
 pub returns-clause-stands : goal.returns-clause-stands
 returns-clause-stands c =
     let p = c.args.program in
-    empty_stands p c.new-state.result c.in_ok-new.field-0 c.in_ok-agenda.agenda (search rules) (c.in_ok-agenda.ensures p no_rows (rows_at p [] (pos 0)) (c.in_ok-net.ensures.first c.requires.runnable))
-    (from_parts c.new-state.result _ _ _ _ _ _ _ c.new-state.ensures.facts c.new-state.ensures.expiries c.new-state.ensures.clock c.new-state.ensures.last_starts c.new-state.ensures.agenda c.new-state.ensures.next_id c.new-state.ensures.next_tag)
+    let parts = from_parts c.new-state.result _ _ _ _ _ _ _ c.new-state.ensures.facts c.new-state.ensures.expiries c.new-state.ensures.clock c.new-state.ensures.last_starts c.new-state.ensures.agenda c.new-state.ensures.next_id c.new-state.ensures.next_tag in
+    empty_stands (record { program = p; lives = c.args.lives }) c.new-setting.result (record { net = c.in_ok-net.net; retention = c.new-retention.result }) c.new-state.result c.in_ok-new.field-0 c.in_ok-agenda.agenda
+    c.new-setting.ensures (search rules) (c.in_ok-net.ensures.stands c.requires.runnable no_names) (c.in_ok-agenda.ensures.agenda p no_rows (rows_at p [] (pos 0)) (c.in_ok-net.ensures.first c.requires.runnable))
+    c.new-retention.ensures.due c.new-retention.ensures.lingering parts
 
 pub invariant_of-result : goal.invariant_of-result
 invariant_of-result c =
     let p = c.args.program in
     let parts = from_parts c.new-state.result _ _ _ _ _ _ _ c.new-state.ensures.facts c.new-state.ensures.expiries c.new-state.ensures.clock c.new-state.ensures.last_starts c.new-state.ensures.agenda c.new-state.ensures.next_id c.new-state.ensures.next_tag in
+    let stands =
+    empty_stands (record { program = p; lives = c.args.lives }) c.new-setting.result (record { net = c.in_ok-net.net; retention = c.new-retention.result }) c.new-state.result c.in_ok-new.field-0 c.in_ok-agenda.agenda
+    c.new-setting.ensures (search rules) (c.in_ok-net.ensures.stands c.requires.runnable no_names) (c.in_ok-agenda.ensures.agenda p no_rows (rows_at p [] (pos 0)) (c.in_ok-net.ensures.first c.requires.runnable))
+    c.new-retention.ensures.due c.new-retention.ensures.lingering parts in
     record {
-      some = some_at_start p c.args.lives c.new-state.result c.requires.runnable c.requires.table
-          (empty_stands p c.new-state.result c.in_ok-new.field-0 c.in_ok-agenda.agenda (search rules) (c.in_ok-agenda.ensures p no_rows (rows_at p [] (pos 0)) (c.in_ok-net.ensures.first c.requires.runnable)) parts);
-      follows = first_follows p c.in_ok-net.net c.new-state.result c.in_ok-agenda.agenda parts (c.in_ok-net.ensures.stands c.requires.runnable no_names);
+      some =
+          some_at_start (record { program = p; lives = c.args.lives }) c.new-setting.result (record { net = c.in_ok-net.net; retention = c.new-retention.result }) c.new-state.result c.new-setting.ensures
+          (record { runnable = c.requires.runnable; table = c.requires.table }) stands;
     }
