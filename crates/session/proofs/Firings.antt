@@ -150,6 +150,7 @@ yes_fire s m k n t w plan lines (Some q) runs st top e stands written =
     let is_planned = e ∙ ap (plan_of s.program k) top in
     let fits = plan_fits s m k w st plan q top is_planned runs in
     let same = plan_wanted s m k w st plan q top is_planned in
-    subst (answers s w n t lines) (top ∙ first_is s m k w st)
-    (ap Yes (written w q st top fits ∙ ap (λ z. fire_line s.program q ∷ [] ++ (does_all s.program (marked w q) z).0) same),
-     subst (λ z. Standing s n t (does_all s.program (marked w q) z).1) same (stands w q st top fits))
+    subst (answers s w n t lines) (top ∙ first_is s m k w st) (
+      ap Yes (written w q st top fits ∙ ap (λ z. fire_line s.program q ∷ [] ++ (does_all s.program (marked w q) z).0) same),
+      subst (λ z. Standing s n t (does_all s.program (marked w q) z).1) same (stands w q st top fits),
+    )
