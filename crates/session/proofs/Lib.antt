@@ -34,3 +34,4 @@ pub mod Dropping
 pub mod Forgotten
 pub mod Retracting
 pub mod Inserting
+pub mod Counting_on
