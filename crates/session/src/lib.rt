@@ -17,7 +17,7 @@ mod state;
 mod steps;
 
 pub use engine::{Cell, Engine, Fired, Lines, OutLine};
-pub use rule_world::Code;
 pub use memory::Memory;
+pub use rule_world::Code;
 pub use session::Session;
 pub use setting::Setting;
