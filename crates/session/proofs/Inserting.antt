@@ -1,5 +1,5 @@
 -- A session that has taken a new fact, or its numbers alone, awaits the second phase of the step.
-use Rattle.std.proofs.Common.{◌≡◌, ◌+◌, ◌∙◌, ◌⊎◌, inl, inr, ℕ, ℤ, pos, ◌<◌, ◌≤◌, ◌≤ℤ◌, ◌==◌, ◌&&◌, not, Bool, true, false, cond, List, [], ◌∷◌, ◌++◌, filter_map, Option, Some, None, is_some, refl, sym, ap, subst, slice_get, arith}
+use Rattle.std.proofs.Common.{◌≡◌, ◌+◌, ◌∙◌, inl, inr, ℕ, ℤ, pos, ◌<◌, ◌≤◌, ◌≤ℤ◌, ◌==◌, ◌&&◌, not, Bool, true, false, cond, List, [], ◌∷◌, Option, Some, None, is_some, refl, sym, ap, subst, slice_get, arith}
 use Rattle.std.specs.Prelude.{option_and_then, OnOk, Result, Ok, Err}
 use Rattle.std.proofs.lemmas.Bool.Decides.{nat_tests}
 use Rattle.std.proofs.lemmas.Int.{ints}
@@ -7,18 +7,15 @@ use Rattle.std.specs.Cmp.{nat_cmp_total}
 use Rattle.std.specs.FinMap.{get-insert, get-remove}
 use Rattle.std.specs.Ordering.{nat_cmp, eq_by_cmp}
 use Rattle.fact_store.proofs.Stored.{tied, itself}
-use Rattle.fx_base.specs.Lists.{In}
 use Rattle.fx_base.specs.declared.fact.Fact.{Fact}
 use Rattle.fx_base.specs.declared.times.Times.{Times}
 use Rattle.due_queue.specs.Timers.{Timers, has_come}
 use Rattle.fact_store.specs.Held.{HeldFacts, facts_of}
 use Rattle.row_delta.specs.declared.row.Named.{Named}
-use Rattle.rule_model.specs.declared.matched.Match.{Match}
 use Rattle.rule_model.specs.declared.program.Program.{Program}
 use Rattle.rule_model.specs.declared.step.Step.{Step}
 use Rattle.rule_model.specs.declared.step.Step.TheVariants.{Insert}
 use Rattle.rule_model.specs.Candidates.{is_present}
-use Rattle.rule_model.specs.Matches.{has_match}
 use Rattle.rule_model.specs.Tuples.{name_of}
 use Rattle.rule_model.specs.Types.{is_event}
 use Rattle.rule_model.proofs.Listed.{in_right}
@@ -26,9 +23,7 @@ use Rattle.rule_world.specs.Events.{end_of_presence, most_millis, times_of}
 use Rattle.rule_world.specs.Lawful.{IsLawful}
 use Rattle.rule_world.specs.Worlds.{World, kept, last_start_with, moved, new_fact, present, settled, step_fault, stepped, with_new}
 use Rattle.rule_world.proofs.Fresh.{below_of}
-use Rattle.rule_world.proofs.Keeping.{with_numbers}
 use Rattle.agenda.specs.Agendas.{Marks}
-use Rattle.rete_net.specs.Forgetting.{AreNotNeeded}
 use Rattle.rete_net.specs.declared.net.Rete.{Rete}
 use Rattle.rete_net.specs.Nets.{NetStands, clean_rows}
 use Rattle.retention.specs.declared.retention.Retention.{Retention}
@@ -45,11 +40,10 @@ use Rattle.session.specs.Refreshed.{over, IsRefreshed}
 use Rattle.session.specs.Standing.{Contents, AreForgotten, Awaits, Mirrors, Runs, Standing, Whole, holding, last_start_in, with_facts}
 use Rattle.session.specs.Waiting.{with_timer}
 use Rattle.session.proofs.Exactly.{Exact, exact, after_new, after_numbers}
-use Rattle.session.proofs.Members.{Holds, got_new, got_old, of_insert}
+use Rattle.session.proofs.Members.{got_new, got_old, of_insert}
 use Rattle.session.proofs.Needs.{not_needed}
-use Rattle.session.proofs.Phases.{IsTaken}
 use Rattle.session.proofs.Readied.{whole_holds, whole_ready}
-use Rattle.session.proofs.Ready.{IsFit, lead_new}
+use Rattle.session.proofs.Ready.{lead_new}
 use Rattle.session.proofs.Rules.{not_refreshed}
 use Rattle.session.proofs.Stands.{contents, new_moves, next_is_free, numbers_move}
 use Rattle.session.proofs.Taken.{taken_awaits}
@@ -274,8 +268,8 @@ module _ (s : Setting) (m : Memory) (k : Contents) (w : World) (st : Standing s 
       ];
       known = λ u g e. elim (of_insert all f g u e) [
         | inl q ↦ (
-          ap (λ (z : Fact). forgotten (name_of z)) q.0 ∙ unknown
-          ∙ ap (λ o. not (is_some o)) (sym (ap (λ h. map.get h u) (is ∙ made) ∙ ap (map.get (map.insert k.facts f.tag.0 f)) q.1 ∙ got_new k.facts f)))
+            ap (λ (z : Fact). forgotten (name_of z)) q.0 ∙ unknown
+            ∙ ap (λ o. not (is_some o)) (sym (ap (λ h. map.get h u) (is ∙ made) ∙ ap (map.get (map.insert k.facts f.tag.0 f)) q.1 ∙ got_new k.facts f)))
         | inr h ↦ st.seen.are.known u g h ∙ ap (λ o. not (is_some o)) (sym (ap (λ h. map.get h u) (is ∙ made) ∙ got_old k.facts f u (apart u g h)))
       ];
       below = λ who e. subst (λ n. who.tag.0 < n) (sym next) (below_more who e);

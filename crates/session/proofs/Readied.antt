@@ -1,5 +1,5 @@
 -- The contents of a session with all present facts of its world are ready for its network.
-use Rattle.std.proofs.Common.{◌≡◌, ℕ, ℤ, ◌≤ℤ◌, Some, sym, subst, arith}
+use Rattle.std.proofs.Common.{ℤ, ◌≤ℤ◌, sym, subst, arith}
 use Rattle.std.proofs.lemmas.Int.{ints}
 use Rattle.fx_base.specs.Lists.{In}
 use Rattle.fx_base.specs.declared.fact.Fact.{Fact}

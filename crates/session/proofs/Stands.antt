@@ -1,6 +1,6 @@
 -- The facts, the clock and the numbers of a session, of which none is forgotten, are those of the world after a step.
 use Rattle.std.specs.List.{filter}
-use Rattle.std.proofs.Common.{◌≡◌, ℕ, ℤ, ◌+◌, ◌<◌, if◌then◌else◌, ◌&&◌, ◌||◌, ◌==◌, not, Bool, true, false, List, [], ◌∷◌, ◌++◌, Option, Some, None, refl, sym, ◌∙◌, ap, subst, arith}
+use Rattle.std.proofs.Common.{◌≡◌, ℕ, ℤ, ◌+◌, ◌<◌, if◌then◌else◌, ◌==◌, not, Bool, true, false, List, [], ◌∷◌, ◌++◌, Option, Some, None, refl, sym, ◌∙◌, ap, subst, arith}
 use Rattle.fx_base.specs.Lists.{In}
 use Rattle.fx_base.specs.declared.ids.FactId.{FactId}
 use Rattle.fx_base.specs.declared.ids.Tag.{Tag}
@@ -8,19 +8,18 @@ use Rattle.fx_base.specs.declared.ids.TypeId.{TypeId}
 use Rattle.fx_base.specs.declared.value.Value.{Value}
 use Rattle.fx_base.specs.declared.fact.Fact.{Fact}
 use Rattle.due_queue.specs.Timers.{Timers, TakesDue}
-use Rattle.fact_store.specs.Held.{HeldFacts, facts_of}
+use Rattle.fact_store.specs.Held.{HeldFacts}
 use Rattle.rule_model.specs.declared.program.Program.{Program}
 use Rattle.rule_model.specs.declared.step.Step.TheVariants.{Modify}
 use Rattle.rule_model.specs.Candidates.{is_present}
 use Rattle.rule_model.specs.Distinct.{HaveDistinctTags}
 use Rattle.rule_model.specs.Types.{is_event}
-use Rattle.rule_model.proofs.Named.{AllOf, of_filter}
+use Rattle.rule_model.proofs.Named.{of_filter}
 use Rattle.rule_model.proofs.Order.{in_filter, passed}
-use Rattle.rule_world.specs.Lawful.{IsOrdered}
 use Rattle.rule_world.specs.declared.code.Code.{Code}
 use Rattle.rule_world.specs.declared.code.Code.TheVariants.{EventFixed}
 use Rattle.rule_world.specs.Events.{end_of_presence}
-use Rattle.rule_world.specs.Worlds.{World, at_clock, kept, modify_fault, is_of_type, last_start_with, moved, revised, revised_in, settled, snapshot, still_fired, with_new, with_revised, without, without_fact}
+use Rattle.rule_world.specs.Worlds.{World, at_clock, kept, modify_fault, is_of_type, last_start_with, moved, revised, revised_in, settled, with_new, with_revised, without, without_fact}
 use Rattle.rule_world.proofs.Fresh.{AllBelow, below_of, distinct_more, distinct_filtered}
 use Rattle.rule_world.proofs.Keeping.{with_numbers}
 use Rattle.rule_world.proofs.Steps.{move_numbered, numbered, stays}
@@ -29,7 +28,7 @@ use Rattle.session.specs.Places.{IsNewestTag, newest}
 use Rattle.session.specs.Waiting.{with_timer, without_timer, left_at}
 use Rattle.session.specs.Standing.{Contents, Mirrors, expiry_at, last_start_in}
 use Rattle.session.proofs.Exactly.{Exact}
-use Rattle.session.proofs.Members.{Holds, all_listed, held_distinct, holds_less, holds_new, holds_revised, listed, own_tags, swapped, versions}
+use Rattle.session.proofs.Members.{Holds, holds_less, holds_new, holds_revised, swapped, versions}
 use Rattle.session.proofs.Newest.{holds, tagged_in, tagged_found, world_found}
 use Rattle.session.proofs.Timers.{timed_new, timed_less, timed_plain, timed_left, left_found, left_present}
 use Rattle.std.specs.FinMap as map

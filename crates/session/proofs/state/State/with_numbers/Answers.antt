@@ -1,4 +1,4 @@
-use Rattle.std.proofs.Common.{◌≡◌, ◌∙◌, ◌+◌, false, sym, subst, ap, slice_get}
+use Rattle.std.proofs.Common.{◌≡◌, ◌∙◌, false, sym, subst, ap, slice_get}
 use Rattle.std.proofs.lemmas.Result.{IfOk-weaker}
 use Rattle.rule_model.specs.declared.step.Step.TheVariants.{Insert}
 use Rattle.rule_model.specs.Candidates.{is_present}
@@ -25,6 +25,6 @@ returns-clause-stands c =
     let gone : is_present p c.state.inside.clock f ≡ false = ap (λ (k : Contents). is_present p k.clock f) c.state.view_is ∙ c.requires.absent in
     IfOk-weaker c.settled.result _ _
     (λ s h. subst (λ (z : Contents). Moves c.args.setting.now c.args.memory.now z (Insert f.ty f.entry f.fields) c.settled.new.memory s) c.state.view_is
-      (λ w st none lawful. h (stepped p w (Insert f.ty f.entry f.fields))
-        (numbers_await c.args.setting.now c.args.memory.now k w st f id at times c.requires.runs none lawful gone c.in_ok-state-inside.field-0.items c.in_ok-state-inside.ensures _)))
+    (λ w st none lawful. h (stepped p w (Insert f.ty f.entry f.fields))
+    (numbers_await c.args.setting.now c.args.memory.now k w st f id at times c.requires.runs none lawful gone c.in_ok-state-inside.field-0.items c.in_ok-state-inside.ensures _)))
     c.settled.ensures.stands

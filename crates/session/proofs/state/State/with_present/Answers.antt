@@ -1,7 +1,5 @@
-use Rattle.std.proofs.Common.{◌≡◌, ◌∙◌, ◌+◌, Some, option_map, true, sym, subst, ap, slice_get, to_z, of_z, w64}
+use Rattle.std.proofs.Common.{◌≡◌, ◌∙◌, Some, option_map, true, sym, subst, ap, slice_get, to_z, of_z, w64}
 use Rattle.std.proofs.lemmas.Result.{IfOk-weaker}
-use Rattle.fx_base.specs.declared.fact.Fact.{Fact}
-use Rattle.fx_base.specs.declared.times.Times.{Times}
 use Rattle.rule_model.specs.declared.step.Step.TheVariants.{Insert}
 use Rattle.rule_model.specs.Candidates.{is_present}
 use Rattle.rule_world.specs.Events.{end_of_presence, times_of}
@@ -9,7 +7,7 @@ use Rattle.rule_world.specs.Worlds.{stepped}
 use Rattle.retention.specs.Retentions.{is_among}
 use Rattle.session.specs.declared.memory.Memory.{Memory}
 use Rattle.session.specs.Leading.{Moves}
-use Rattle.session.specs.Standing.{Contents, Standing}
+use Rattle.session.specs.Standing.{Contents}
 use Rattle.session.proofs.Faults.{clock_same, safe_new}
 use Rattle.session.proofs.Inserting.{present_awaits}
 use Rattle.session.proofs.Members.{got_new}
@@ -36,10 +34,10 @@ returns-clause-stands c =
     let n : Memory = record { net = c.followed.new.net; retention = c.hold.new.retention } in
     IfOk-weaker c.settled.result _ _
     (λ s h. subst (λ (z : Contents). Moves c.args.setting.now c.args.memory.now z (Insert c.args.fact.ty c.args.fact.entry c.args.fact.fields) c.settled.new.memory s) c.state.view_is
-      (λ w st none lawful. h (stepped p w (Insert c.args.fact.ty c.args.fact.entry c.args.fact.fields))
-        (present_awaits c.args.setting.now c.args.memory.now k w st c.args.fact id at times c.requires.runs none lawful now c.requires.start_high n c.in_ok-state-inside-3.field-0
-          c.in_ok-state-inside-2.field-0 c.in_ok-state-inside.field-0.items c.in_ok-agenda.agenda c.in_ok-state-inside-3.ensures c.in_ok-state-inside-2.ensures c.in_ok-state-inside.ensures
-          c.life_end.result (is_among c.as_slice.result.now) c.life_end.ensures c.in_ok-hold.ensures.due c.in_ok-hold.ensures.lingering
-          (simp (same, come) at c.in_ok-agenda.ensures.net) (simp (same, come) at c.in_ok-agenda.ensures.agenda)
-          (simp (sym c.as_slice.ensures.value) at c.in_ok-agenda.ensures.left))))
+    (λ w st none lawful. h (stepped p w (Insert c.args.fact.ty c.args.fact.entry c.args.fact.fields))
+    (present_awaits c.args.setting.now c.args.memory.now k w st c.args.fact id at times c.requires.runs none lawful now c.requires.start_high n c.in_ok-state-inside-3.field-0
+    c.in_ok-state-inside-2.field-0 c.in_ok-state-inside.field-0.items c.in_ok-agenda.agenda c.in_ok-state-inside-3.ensures c.in_ok-state-inside-2.ensures c.in_ok-state-inside.ensures
+    c.life_end.result (is_among c.as_slice.result.now) c.life_end.ensures c.in_ok-hold.ensures.due c.in_ok-hold.ensures.lingering
+    (simp (same, come) at c.in_ok-agenda.ensures.net) (simp (same, come) at c.in_ok-agenda.ensures.agenda)
+    (simp (sym c.as_slice.ensures.value) at c.in_ok-agenda.ensures.left))))
     c.settled.ensures.stands
