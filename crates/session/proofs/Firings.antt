@@ -6,7 +6,6 @@ use mathlib.Core.Path.{fun_ext}
 use Rattle.fx_base.specs.declared.fact.Fact.{Fact}
 use Rattle.fx_base.specs.declared.ids.Tag.{Tag}
 use Rattle.row_delta.specs.declared.row.Named.{Named}
-use Rattle.row_delta.specs.declared.row.Row.{Row}
 use Rattle.rule_model.specs.declared.action.Action.{Action}
 use Rattle.rule_world.specs.declared.code.Code.{Code}
 use Rattle.rule_model.specs.declared.matched.Match.{Match}
@@ -17,7 +16,6 @@ use Rattle.rule_model.specs.Matches.{has_match, fire_cmp, saliences}
 use Rattle.rule_model.specs.MatchOrders.{fire_total}
 use Rattle.rule_model.specs.First.{first}
 use Rattle.rule_model.specs.Planned.{step_of}
-use Rattle.rule_model.specs.Tuples.{Bindings}
 use Rattle.rule_world.specs.Worlds.{World, present, pending, marked, first_pending}
 use Rattle.rule_model.proofs.Exact.{fire_exact}
 use Rattle.rule_model.proofs.Firsts.{first_alike, first_in}
@@ -27,7 +25,7 @@ use Rattle.rule_world.proofs.Pending.{by_fire}
 use Rattle.agenda.specs.Agendas.{Marks}
 use Rattle.engine.specs.declared.lines.OutLine.{OutLine}
 use Rattle.engine.specs.declared.lines.Fired.TheVariants.{No, Yes}
-use Rattle.forgetting.specs.Sights.{ends_by, is_kept, is_kept_fact, kept, only}
+use Rattle.forgetting.specs.Sights.{ends_by, is_kept, is_kept_fact, only}
 use Rattle.forgetting.specs.WorldSights.{fact_at, sight_of}
 use Rattle.forgetting.proofs.Before.{pending_kept}
 use Rattle.forgetting.proofs.Seeing.{sight_law}

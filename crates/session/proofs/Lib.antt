@@ -34,3 +34,4 @@ pub mod Removing
 pub mod Revising
 pub mod Passing
 pub mod Marking
+pub mod Counting_on

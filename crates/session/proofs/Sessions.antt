@@ -1,5 +1,5 @@
 -- What a session answers in the worlds for which it stands, and the session that stands for the empty world.
-use Rattle.std.proofs.Common.{◌≡◌, ℕ, ℤ, pos, ◌&&◌, inl, refl, not, true, false, slice_get, List, [], ◌∷◌, ◌++◌, Option, Some, None, is_some, option_map, Result, sym, ◌∙◌, ap, subst}
+use Rattle.std.proofs.Common.{◌≡◌, ℕ, ℤ, pos, ◌&&◌, inl, refl, not, true, false, slice_get, List, [], ◌∷◌, Option, Some, None, is_some, option_map, Result, sym, ◌∙◌, ap, subst}
 use Rattle.std.specs.FinMap.{get-empty}
 use Rattle.std.specs.Ordering.{nat_cmp}
 use Rattle.fx_base.specs.Lists.{In}
@@ -8,7 +8,6 @@ use Rattle.due_queue.specs.Timers.{Timers}
 use Rattle.fact_store.specs.Held.{HeldFacts, facts_of}
 use Rattle.fact_store.proofs.Members.{from_list}
 use Rattle.rule_model.specs.declared.matched.Match.{Match}
-use Rattle.rule_model.specs.declared.program.Program.{Program}
 use Rattle.rule_model.specs.declared.program.Rule.{Rule}
 use Rattle.rule_model.specs.declared.step.Step.{Step}
 use Rattle.rule_model.specs.Matches.{has_match, saliences}

@@ -7,3 +7,4 @@ pub mod Following
 pub mod Refreshed
 pub mod Places
 pub mod Codes
+pub mod Counts

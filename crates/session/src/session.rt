@@ -2,6 +2,7 @@ ghost use Rattle.std.specs.Prelude.{◌≡◌, ◌+◌, ◌≤◌, ◌^◌, true
 ghost use Rattle.rule_model.specs.Matches.{saliences};
 ghost use Rattle.session.specs.Standing.{StandsForSome};
 
+use crate::counting::{counts_of, event_types};
 use crate::memory::Memory;
 use crate::refreshing::refreshed;
 use crate::running::Running;
@@ -44,6 +45,7 @@ impl Session {
     ghost use Rattle.rule_world.specs.Worlds.{World, empty_world};
     ghost use Rattle.engine.specs.Answers.{FiringAnswers};
     ghost use Rattle.engine.specs.Known.{are_known, is_known_firing};
+    ghost use Rattle.session.specs.Counts.{AreCounts, event_types as types_of_events};
     ghost use Rattle.session.specs.Gives.{gives, fires};
     ghost use Rattle.session.specs.Sessions.{Stands};
 
@@ -150,6 +152,14 @@ impl Session {
         ensures { (w : World) → Stands self.now w → result ≡ w.clock }
     {
         self.state.clock()
+    }
+
+    /// For each event type of the program, in their order, how many of its events are kept, by their ids.
+    pub fn held(&self, alloc: Global) -> Result<Vec<u64>, NoMemory>
+        ensures { IfOk result (λ counts. AreCounts self.now.state.facts (types_of_events self.now.setting.program.types 0) counts.items) }
+    {
+        let types = event_types(alloc, self.setting.setting().program.types.as_slice())?;
+        counts_of(alloc, &self.state.facts, types.as_slice())
     }
 
     /// The program that the session was made with. Takes no memory.

@@ -1,10 +1,9 @@
 use Rattle.std.proofs.Common.{◌≡◌, Option, Some, sym, subst}
 use Rattle.std.proofs.lemmas.Result.{IfOk-weaker}
 use Rattle.rule_model.specs.declared.matched.Match.{Match}
-use Rattle.rule_world.specs.Worlds.{World, marked}
+use Rattle.rule_world.specs.Worlds.{marked}
 use Rattle.session.specs.Gives.{does_all}
-use Rattle.session.specs.Leading.{AllFit, StandsAfterAll}
-use Rattle.session.specs.Standing.{Contents, Standing}
+use Rattle.session.specs.Standing.{Standing}
 use Rattle.session.proofs.state.State.fire.Goals as goal
 
 -- what is in place is one match

@@ -1,0 +1,6 @@
+use Rattle.std.proofs.Common.{take}
+use Rattle.session.specs.Counts.{AreCounts}
+use Rattle.session.proofs.counting.counts_of.Given as goal
+
+abbrev pub invariant-loop-ty : goal.invariant-loop-ty
+invariant-loop-ty l = AreCounts l.facts (take l.ty-index l.types) l.counts.items
