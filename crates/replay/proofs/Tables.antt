@@ -89,6 +89,10 @@ one_table p a b h k = same_table a b (same_list a.lives b.lives (h.as_many ∙ s
     same_table : (a b : LifeTable) → a.lives ≡ b.lives → a ≡ b
     same_table a b e = ap table_of e
 
+-- what holds by one table of a program's lives holds by each
+pub by_table : (p : Program) (P : LifeTable → Type 0) (a b : LifeTable) → AreLives p a → AreLives p b → P a → P b
+by_table p P a b h k holds = subst P (one_table p a b h k) holds
+
 pub same_lives_text : (p : Program) (a b : LifeTable) → AreLives p a → AreLives p b → lives_text p.types a.lives ≡ lives_text p.types b.lives
 same_lives_text p a b h k = ap (λ (table : LifeTable). lives_text p.types table.lives) (one_table p a b h k)
 

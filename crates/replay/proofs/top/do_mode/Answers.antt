@@ -5,7 +5,7 @@ use Rattle.replay.proofs.top.do_mode.Goals as goal
 
 pub returns-in-Run-clause-exact : goal.returns-in-Run-clause-exact
 returns-in-Run-clause-exact g c bytes tells low =
-    of_mode _ _ c.args.mode Run c.args.limit c.args.program bytes _ _ _ c.in-Run.is (_, refl, c.run_program.ensures.exact bytes tells low)
+    of_mode _ _ c.args.mode Run c.args.limit c.args.program bytes _ _ _ c.in-Run.is (c.run_program.ensures.exact bytes tells low)
 
 pub returns-in-Check-clause-exact : goal.returns-in-Check-clause-exact
 returns-in-Check-clause-exact g c bytes tells low =
