@@ -48,6 +48,10 @@ pub of_mode : (gives : Gives) (fires : Fires) (counts : Counts) (m n : Mode) (li
     → (r : Report) × IsReport gives fires counts (wanted_of m limit p) script r × Reports before after status r
 of_mode gives fires counts m n limit p script before after status e h = rw e h
 
+pub report_of_mode : (gives : Gives) (fires : Fires) (counts : Counts) (m n : Mode) (limit : ℕ) (p : Program) (script : List ℕ) (r : Report) → m ≡ n
+    → IsReport gives fires counts (wanted_of m limit p) script r → IsReport gives fires counts (wanted_of n limit p) script r
+report_of_mode gives fires counts m n limit p script r e is = subst (λ (mode : Mode). IsReport gives fires counts (wanted_of mode limit p) script r) e is
+
 -- the front of one report is the front of each
 pub front_of : (gives : Gives) (fires : Fires) (counts : Counts) (w : Wanted) (script : List ℕ) (q : Report) (before after : Option (List ℕ)) → IsReport gives fires counts w script q → AppendsFront before after q.bytes
     → (r : Report) → IsReport gives fires counts w script r → AppendsFront before after r.bytes

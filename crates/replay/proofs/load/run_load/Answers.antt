@@ -22,13 +22,13 @@ pub returns-in-Ok-Refused-clause-exact : goal.returns-in-Ok-Refused-clause-exact
 returns-in-Ok-Refused-clause-exact g c bytes low =
     let is : reading rules_text ≡ Refused c.in-Ok-Refused.refusal =
     ap reading (sym (c.as_slice.ensures ∙ c.in-Ok.ensures.rules)) ∙ sym c.in-Ok-Refused.ensures.reading ∙ c.in-Ok-Refused.field-0-is in
-    refused _ _ _ bytes _ _ _ _ (a_load c.args.number c.args.limit (Refused c.in-Ok-Refused.refusal) is) (c.refuse.ensures.said low)
+    refused _ _ _ _ bytes _ _ _ _ (a_load c.args.number c.args.limit (Refused c.in-Ok-Refused.refusal) is) (c.refuse.ensures.said low)
 
 pub returns-in-Ok-Refused-clause-front : goal.returns-in-Ok-Refused-clause-front
 returns-in-Ok-Refused-clause-front g c bytes high =
     let is : reading rules_text ≡ Refused c.in-Ok-Refused.refusal =
     ap reading (sym (c.as_slice.ensures ∙ c.in-Ok.ensures.rules)) ∙ sym c.in-Ok-Refused.ensures.reading ∙ c.in-Ok-Refused.field-0-is in
-    refused_front _ _ _ bytes _ _ _ (a_load c.args.number c.args.limit (Refused c.in-Ok-Refused.refusal) is) (c.refuse.ensures.front high)
+    refused_front _ _ _ _ bytes _ _ _ (a_load c.args.number c.args.limit (Refused c.in-Ok-Refused.refusal) is) (c.refuse.ensures.front high)
 
 pub returns-in-Ok-Refused-clause-refusal : goal.returns-in-Ok-Refused-clause-refusal
 returns-in-Ok-Refused-clause-refusal g c three =
