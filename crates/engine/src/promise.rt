@@ -8,6 +8,7 @@ ghost use Rattle.script_read.specs.declared.asked.Change.{Change as ChangeData};
 ghost use Rattle.engine.specs.declared.lines.OutLine.{OutLine as OutLineData};
 ghost use Rattle.engine.specs.Known.{are_known, is_known_firing};
 ghost use Rattle.engine.specs.Answers.{FiringAnswers};
+ghost use Rattle.engine.specs.Counts.{HasEach};
 
 use crate::lines::{Fired, Lines};
 use fx_base::NoMemory;
@@ -34,6 +35,9 @@ pub trait Engine: Sized + Drop {
 
     // the lines of one firing, and the next world; nothing where nothing is pending
     ghost fires: { ProgramData → World → Option (List OutLineData × World) };
+
+    // how many events of each event type are kept in a world, with a table of the lives of the program's types
+    ghost counts: { ProgramData → LifeTableData → World → List ℕ };
 
     /// An engine in the empty world of a program, with the table of the lives of its types.
     fn new(alloc: Global, program: Program, lives: LifeTable) -> Result<Self, NoMemory>
@@ -66,6 +70,13 @@ pub trait Engine: Sized + Drop {
     /// Whether a match is pending. Takes no memory.
     fn due(&self) -> bool
         ensures { (w : World) → stands self.now w → result ≡ is_some (fires (made_with self.now) w) };
+
+    /// How many events of each event type are kept: a number for each, in the order of the program's types. The engine stays as it is.
+    /// It goes once over what is kept and once over the types, and takes memory for the numbers alone.
+    fn held(&self, alloc: Global) -> Result<Vec<u64>, NoMemory>
+        ensures counts { IfOk result (λ numbers. (w : World) → stands self.now w
+            → numbers.items ≡ counts (made_with self.now) (table self.now) w) }
+        ensures each { IfOk result (λ numbers. HasEach (made_with self.now) numbers.items) };
 
     /// The program that the engine was made with. Takes no memory.
     fn program(&self) -> &Program

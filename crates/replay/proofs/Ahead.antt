@@ -10,7 +10,7 @@ use Rattle.rule_world.specs.Worlds.{World}
 use Rattle.replay.specs.declared.turn.Turn.TheVariants.{Goes, Stops}
 use Rattle.replay.specs.declared.turn.Ended.{Ended}
 use Rattle.replay.specs.declared.turn.Ended.TheVariants.{Script, Limit}
-use Rattle.replay.specs.Firings.{Gives, Fires}
+use Rattle.replay.specs.Firings.{Gives, Fires, Numbers}
 use Rattle.replay.specs.Run.{Outcome, Done, Step, goes_on, stops, run, then_run, at_limit, line_step}
 use Rattle.replay.specs.Turns.{Does, Flushes}
 use Rattle.replay.specs.Report.{Long}
@@ -26,24 +26,24 @@ then_run-then_run : (a b : List ℕ) (o : Outcome) → then_run a (then_run b o)
 then_run-then_run a b o = ap (made o.ended) (sym (append_assoc a b o.bytes))
 
 -- no line
-pub run_ended : (gives : Gives) (fires : Fires) (limit : ℕ) (p : Program) (number left : ℕ) (w : World) (faulted : Bool)
-    → run gives fires limit p number left w faulted [] ≡ record { bytes = []; ended = Script faulted }
+pub run_ended : (gives : Gives) (fires : Fires) (numbers : Numbers) (limit : ℕ) (p : Program) (number left : ℕ) (w : World) (faulted : Bool)
+    → run gives fires numbers limit p number left w faulted [] ≡ record { bytes = []; ended = Script faulted }
 unfolding run
-run_ended gives fires limit p number left w faulted = refl
+run_ended gives fires numbers limit p number left w faulted = refl
 
 -- a line after which the run goes on
-run_goes : (gives : Gives) (fires : Fires) (limit : ℕ) (p : Program) (number left : ℕ) (w : World) (faulted : Bool) (line : List ℕ) (done : Done)
-    → line_step gives fires limit p number left w line ≡ goes_on done → (more : List (List ℕ))
-    → run gives fires limit p number left w faulted (line ∷ more) ≡ then_run done.text (run gives fires limit p (number + 1) done.left done.world (faulted || done.faulty) more)
+run_goes : (gives : Gives) (fires : Fires) (numbers : Numbers) (limit : ℕ) (p : Program) (number left : ℕ) (w : World) (faulted : Bool) (line : List ℕ) (done : Done)
+    → line_step gives fires numbers limit p number left w line ≡ goes_on done → (more : List (List ℕ))
+    → run gives fires numbers limit p number left w faulted (line ∷ more) ≡ then_run done.text (run gives fires numbers limit p (number + 1) done.left done.world (faulted || done.faulty) more)
 unfolding run
-run_goes gives fires limit p number left w faulted line done e more = rw e refl
+run_goes gives fires numbers limit p number left w faulted line done e more = rw e refl
 
 -- a line at which the run ends
-run_stops : (gives : Gives) (fires : Fires) (limit : ℕ) (p : Program) (number left : ℕ) (w : World) (faulted : Bool) (line text : List ℕ)
-    → line_step gives fires limit p number left w line ≡ stops text → (more : List (List ℕ))
-    → run gives fires limit p number left w faulted (line ∷ more) ≡ then_run text at_limit
+run_stops : (gives : Gives) (fires : Fires) (numbers : Numbers) (limit : ℕ) (p : Program) (number left : ℕ) (w : World) (faulted : Bool) (line text : List ℕ)
+    → line_step gives fires numbers limit p number left w line ≡ stops text → (more : List (List ℕ))
+    → run gives fires numbers limit p number left w faulted (line ∷ more) ≡ then_run text at_limit
 unfolding run
-run_stops gives fires limit p number left w faulted line text e more = rw e refl
+run_stops gives fires numbers limit p number left w faulted line text e more = rw e refl
 
 -- what is known of the run so far: the lines that were done, the front that was written, and behind it what is gathered
 pub record SoFar (all now : Rest) (script ahead : Option (List (List ℕ))) (first written : Option (List ℕ)) (gathered : List ℕ) : Type 0 where
@@ -90,31 +90,31 @@ stops_of stands (goes_on done) before after h = absurd (let e : Stops ≡ Goes d
 stops_of stands (stops text) before after h = (text, refl, h.0)
 
 -- the run goes on behind a line
-pub goes_further : (all : Rest) (gives : Gives) (fires : Fires) (limit : ℕ) (p : Program) (number left : ℕ) (w : World) (faulted bad faulted' : Bool) (more : ℕ)
+pub goes_further : (all : Rest) (gives : Gives) (fires : Fires) (numbers : Numbers) (limit : ℕ) (p : Program) (number left : ℕ) (w : World) (faulted bad faulted' : Bool) (more : ℕ)
     (script before after : Option (List (List ℕ))) (first written : Option (List ℕ)) (line gathered gathered' : List ℕ) (stands : World → Type 0)
-    → SoFar all (run gives fires limit p number left w faulted) script before first written gathered
-    → before ≡ with_line line after → Does stands (line_step gives fires limit p number left w line) gathered gathered' (Goes bad more) → faulted' ≡ (faulted || bad)
-    → (v : World) × stands v × SoFar all (run gives fires limit p (number + 1) more v faulted') script after first written gathered'
-goes_further all gives fires limit p number left w faulted bad faulted' more script before after first written line gathered gathered' stands h e d f =
-    let g = goes_of stands (line_step gives fires limit p number left w line) gathered gathered' bad more d in
-    let next : SoFar all (run gives fires limit p (number + 1) g.0.left g.0.world (faulted || g.0.faulty)) script after first written gathered' =
-    turned all _ _ script before after first written line g.0.text gathered gathered' h e g.2 (run_goes gives fires limit p number left w faulted line g.0 g.1) in
+    → SoFar all (run gives fires numbers limit p number left w faulted) script before first written gathered
+    → before ≡ with_line line after → Does stands (line_step gives fires numbers limit p number left w line) gathered gathered' (Goes bad more) → faulted' ≡ (faulted || bad)
+    → (v : World) × stands v × SoFar all (run gives fires numbers limit p (number + 1) more v faulted') script after first written gathered'
+goes_further all gives fires numbers limit p number left w faulted bad faulted' more script before after first written line gathered gathered' stands h e d f =
+    let g = goes_of stands (line_step gives fires numbers limit p number left w line) gathered gathered' bad more d in
+    let next : SoFar all (run gives fires numbers limit p (number + 1) g.0.left g.0.world (faulted || g.0.faulty)) script after first written gathered' =
+    turned all _ _ script before after first written line g.0.text gathered gathered' h e g.2 (run_goes gives fires numbers limit p number left w faulted line g.0 g.1) in
     let same : (faulted || g.0.faulty) ≡ faulted' = ap (λ (b : Bool). faulted || b) (sym g.4) ∙ sym f in (
       g.0.world,
       g.3,
-      subst (λ (b : Bool). SoFar all (run gives fires limit p (number + 1) more g.0.world b) script after first written gathered') same
-          (subst (λ (n : ℕ). SoFar all (run gives fires limit p (number + 1) n g.0.world (faulted || g.0.faulty)) script after first written gathered') (sym g.5) next),
+      subst (λ (b : Bool). SoFar all (run gives fires numbers limit p (number + 1) more g.0.world b) script after first written gathered') same
+          (subst (λ (n : ℕ). SoFar all (run gives fires numbers limit p (number + 1) n g.0.world (faulted || g.0.faulty)) script after first written gathered') (sym g.5) next),
     )
 
 -- the limit was met at a line: nothing more is done
-pub ends_there : (all : Rest) (gives : Gives) (fires : Fires) (limit : ℕ) (p : Program) (number left : ℕ) (w : World) (faulted : Bool)
+pub ends_there : (all : Rest) (gives : Gives) (fires : Fires) (numbers : Numbers) (limit : ℕ) (p : Program) (number left : ℕ) (w : World) (faulted : Bool)
     (script before after : Option (List (List ℕ))) (first written : Option (List ℕ)) (line gathered gathered' : List ℕ) (stands : World → Type 0)
-    → SoFar all (run gives fires limit p number left w faulted) script before first written gathered
-    → before ≡ with_line line after → Does stands (line_step gives fires limit p number left w line) gathered gathered' Stops
+    → SoFar all (run gives fires numbers limit p number left w faulted) script before first written gathered
+    → before ≡ with_line line after → Does stands (line_step gives fires numbers limit p number left w line) gathered gathered' Stops
     → SoFar all (λ more. at_limit) script after first written gathered'
-ends_there all gives fires limit p number left w faulted script before after first written line gathered gathered' stands h e d =
-    let g = stops_of stands (line_step gives fires limit p number left w line) gathered gathered' d in
-    turned all _ (λ more. at_limit) script before after first written line g.0 gathered gathered' h e g.2 (run_stops gives fires limit p number left w faulted line g.0 g.1)
+ends_there all gives fires numbers limit p number left w faulted script before after first written line gathered gathered' stands h e d =
+    let g = stops_of stands (line_step gives fires numbers limit p number left w line) gathered gathered' d in
+    turned all _ (λ more. at_limit) script before after first written line g.0 gathered gathered' h e g.2 (run_stops gives fires numbers limit p number left w faulted line g.0 g.1)
 
 -- a front of what is gathered was written
 pub flushed : (all now : Rest) (script ahead : Option (List (List ℕ))) (first written written' : Option (List ℕ)) (gathered gathered' : List ℕ)
@@ -158,10 +158,10 @@ all_done all now (Some bytes) ahead first written written' gathered ended h over
     )
 
 -- there was no line more
-pub no_line : (gives : Gives) (fires : Fires) (limit : ℕ) (p : Program) (number left : ℕ) (w : World) (faulted : Bool) (ahead : Option (List (List ℕ))) → IfSome ahead (λ lines. lines ≡ [])
-    → IfSome ahead (λ more. run gives fires limit p number left w faulted more ≡ record { bytes = []; ended = Script faulted })
-no_line gives fires limit p number left w faulted None h = tt
-no_line gives fires limit p number left w faulted (Some lines) h = ap (run gives fires limit p number left w faulted) h ∙ run_ended gives fires limit p number left w faulted
+pub no_line : (gives : Gives) (fires : Fires) (numbers : Numbers) (limit : ℕ) (p : Program) (number left : ℕ) (w : World) (faulted : Bool) (ahead : Option (List (List ℕ))) → IfSome ahead (λ lines. lines ≡ [])
+    → IfSome ahead (λ more. run gives fires numbers limit p number left w faulted more ≡ record { bytes = []; ended = Script faulted })
+no_line gives fires numbers limit p number left w faulted None h = tt
+no_line gives fires numbers limit p number left w faulted (Some lines) h = ap (run gives fires numbers limit p number left w faulted) h ∙ run_ended gives fires numbers limit p number left w faulted
 
 pub no_more : (ahead : Option (List (List ℕ))) → IfSome ahead (λ more. at_limit ≡ record { bytes = []; ended = Limit })
 no_more None = tt

@@ -8,3 +8,4 @@ pub mod Reports
 pub mod RuleFileLaws
 pub mod Tables
 pub mod LivesText
+pub mod HeldText

@@ -15,7 +15,7 @@ use Rattle.replay.specs.declared.refusal.RefusalCode.TheVariants.{Missing}
 use Rattle.replay.specs.declared.refusal.Refusal.{Refusal}
 use Rattle.replay.specs.declared.rule_file.Reading.{Reading}
 use Rattle.replay.specs.declared.rule_file.Reading.TheVariants.{Refused}
-use Rattle.replay.specs.Firings.{Gives, Fires}
+use Rattle.replay.specs.Firings.{Gives, Fires, Counts}
 use Rattle.replay.specs.Refusals.{reading, refusal_text, whole_file, IsRefused}
 use Rattle.replay.specs.Report.{Report, IsReport, Reports}
 use Rattle.replay.specs.Wanted.{Wanted, Files, usage_line, refuses, sums_up, wanted, wanted_by, wanted_of, wanted_by_name, wanted_by_number, wanted_by_file, wanted_by_reading}
@@ -43,30 +43,34 @@ unfolding wanted_by_number
 a_load number limit found e = ap (wanted_by_reading (sums_up number limit)) e
 
 -- the report of a mode that is known
-pub of_mode : (gives : Gives) (fires : Fires) (m n : Mode) (limit : ℕ) (p : Program) (script : List ℕ) (before after : Option (List ℕ)) (status : ℕ) → m ≡ n
-    → ((r : Report) × IsReport gives fires (wanted_of n limit p) script r × Reports before after status r)
-    → (r : Report) × IsReport gives fires (wanted_of m limit p) script r × Reports before after status r
-of_mode gives fires m n limit p script before after status e h = rw e h
+pub of_mode : (gives : Gives) (fires : Fires) (counts : Counts) (m n : Mode) (limit : ℕ) (p : Program) (script : List ℕ) (before after : Option (List ℕ)) (status : ℕ) → m ≡ n
+    → ((r : Report) × IsReport gives fires counts (wanted_of n limit p) script r × Reports before after status r)
+    → (r : Report) × IsReport gives fires counts (wanted_of m limit p) script r × Reports before after status r
+of_mode gives fires counts m n limit p script before after status e h = rw e h
+
+pub report_of_mode : (gives : Gives) (fires : Fires) (counts : Counts) (m n : Mode) (limit : ℕ) (p : Program) (script : List ℕ) (r : Report) → m ≡ n
+    → IsReport gives fires counts (wanted_of m limit p) script r → IsReport gives fires counts (wanted_of n limit p) script r
+report_of_mode gives fires counts m n limit p script r e is = subst (λ (mode : Mode). IsReport gives fires counts (wanted_of mode limit p) script r) e is
 
 -- the front of one report is the front of each
-pub front_of : (gives : Gives) (fires : Fires) (w : Wanted) (script : List ℕ) (q : Report) (before after : Option (List ℕ)) → IsReport gives fires w script q → AppendsFront before after q.bytes
-    → (r : Report) → IsReport gives fires w script r → AppendsFront before after r.bytes
-front_of gives fires w script q before after is front r also = rw (one_report gives fires w script r q also is) front
+pub front_of : (gives : Gives) (fires : Fires) (counts : Counts) (w : Wanted) (script : List ℕ) (q : Report) (before after : Option (List ℕ)) → IsReport gives fires counts w script q → AppendsFront before after q.bytes
+    → (r : Report) → IsReport gives fires counts w script r → AppendsFront before after r.bytes
+front_of gives fires counts w script q before after is front r also = rw (one_report gives fires counts w script r q also is) front
 
 abbrev refusal_report : Refusal → Report
 refusal_report refusal = record { bytes = refusal_text refusal; status = 3 }
 
-is_refusal : (gives : Gives) (fires : Fires) (w : Wanted) (script : List ℕ) (refusal : Refusal) → w ≡ refuses refusal → IsReport gives fires w script (refusal_report refusal)
-is_refusal gives fires w script refusal e = rw e refl
+is_refusal : (gives : Gives) (fires : Fires) (counts : Counts) (w : Wanted) (script : List ℕ) (refusal : Refusal) → w ≡ refuses refusal → IsReport gives fires counts w script (refusal_report refusal)
+is_refusal gives fires counts w script refusal e = rw e refl
 
 -- the refusal that was written is the report
-pub refused : (gives : Gives) (fires : Fires) (w : Wanted) (script : List ℕ) (refusal : Refusal) (before after : Option (List ℕ)) (status : ℕ) → w ≡ refuses refusal
-    → (after ≡ append before (refusal_text refusal)) × (status ≡ 3) → (r : Report) × IsReport gives fires w script r × Reports before after status r
-refused gives fires w script refusal before after status e said = (refusal_report refusal, is_refusal gives fires w script refusal e, said)
+pub refused : (gives : Gives) (fires : Fires) (counts : Counts) (w : Wanted) (script : List ℕ) (refusal : Refusal) (before after : Option (List ℕ)) (status : ℕ) → w ≡ refuses refusal
+    → (after ≡ append before (refusal_text refusal)) × (status ≡ 3) → (r : Report) × IsReport gives fires counts w script r × Reports before after status r
+refused gives fires counts w script refusal before after status e said = (refusal_report refusal, is_refusal gives fires counts w script refusal e, said)
 
-pub refused_front : (gives : Gives) (fires : Fires) (w : Wanted) (script : List ℕ) (refusal : Refusal) (before after : Option (List ℕ)) → w ≡ refuses refusal → AppendsFront before after (refusal_text refusal)
-    → (r : Report) → IsReport gives fires w script r → AppendsFront before after r.bytes
-refused_front gives fires w script refusal before after e front = front_of gives fires w script (refusal_report refusal) before after (is_refusal gives fires w script refusal e) front
+pub refused_front : (gives : Gives) (fires : Fires) (counts : Counts) (w : Wanted) (script : List ℕ) (refusal : Refusal) (before after : Option (List ℕ)) → w ≡ refuses refusal → AppendsFront before after (refusal_text refusal)
+    → (r : Report) → IsReport gives fires counts w script r → AppendsFront before after r.bytes
+refused_front gives fires counts w script refusal before after e front = front_of gives fires counts w script (refusal_report refusal) before after (is_refusal gives fires counts w script refusal e) front
 
 pub no_file : (of_program : Program → Wanted) (name : List ℕ) (told : Option Files) (files : Files) → told ≡ Some files → IsMissing told name → wanted_by_name of_program files name ≡ refuses (whole_file Missing)
 unfolding wanted_by_name

@@ -2,6 +2,8 @@
 use Rattle.std.proofs.Common.{◌≡◌, ◌⊎◌, inl, inr, ℕ, zero, suc, ℤ, pos, Bool, true, false, List, [], ◌∷◌, length, Option, Some, None, refl, sym, ap, subst, ◌∙◌, arith}
 use Rattle.std.specs.Prelude.{slice_get, ◌≤ℤ◌}
 use Rattle.std.proofs.lemmas.Int.{ints}
+use Rattle.fx_io.specs.Lines.{lines_of}
+use Rattle.gen_load.specs.Script.{script_text}
 use Rattle.rule_model.specs.declared.life.Life.{Life}
 use Rattle.rule_model.specs.declared.life.Life.TheVariants.{Plain, Explicit, Finite, Infinite}
 use Rattle.rule_model.specs.declared.life.LifeTable.{LifeTable}
@@ -10,8 +12,9 @@ use Rattle.rule_model.specs.Types.{is_event, expiry_of}
 use Rattle.rule_lives.specs.Keeping.{IsLifeOf, AreLives}
 use Rattle.rule_lives.specs.Lifetimes.{Gives as GivesLimit, IsLife}
 use Rattle.rule_lives.specs.Reach.{Limit, finite, infinite, Below}
-use Rattle.replay.specs.Firings.{Gives, Fires}
-use Rattle.replay.specs.Report.{Report, IsReport}
+use Rattle.replay.specs.Firings.{Gives, Fires, Counts}
+use Rattle.replay.specs.Report.{Report, IsReport, outcome_report, summary_report}
+use Rattle.replay.specs.Run.{whole_run}
 use Rattle.replay.specs.Texts.{lives_text}
 use Rattle.replay.specs.Wanted.{Wanted, usage_line, refuses, runs, accepts, tells_lives, sums_up}
 
@@ -86,17 +89,27 @@ one_table p a b h k = same_table a b (same_list a.lives b.lives (h.as_many ∙ s
     same_table : (a b : LifeTable) → a.lives ≡ b.lives → a ≡ b
     same_table a b e = ap table_of e
 
+-- what holds by one table of a program's lives holds by each
+pub by_table : (p : Program) (P : LifeTable → Type 0) (a b : LifeTable) → AreLives p a → AreLives p b → P a → P b
+by_table p P a b h k holds = subst P (one_table p a b h k) holds
+
 pub same_lives_text : (p : Program) (a b : LifeTable) → AreLives p a → AreLives p b → lives_text p.types a.lives ≡ lives_text p.types b.lives
 same_lives_text p a b h k = ap (λ (table : LifeTable). lives_text p.types table.lives) (one_table p a b h k)
 
 -- what is wanted has at most one report
-pub one_report : (gives : Gives) (fires : Fires) (w : Wanted) (script : List ℕ) (r q : Report) → IsReport gives fires w script r → IsReport gives fires w script q → r ≡ q
-one_report gives fires usage_line script r q h k = h ∙ sym k
-one_report gives fires (refuses refusal) script r q h k = h ∙ sym k
-one_report gives fires (runs limit program) script r q h k = h ∙ sym k
-one_report gives fires (accepts program) script r q h k = h ∙ sym k
-one_report gives fires (sums_up number limit program) script r q h k = h ∙ sym k
-one_report gives fires (tells_lives program) script r q h k =
+pub one_report : (gives : Gives) (fires : Fires) (counts : Counts) (w : Wanted) (script : List ℕ) (r q : Report) → IsReport gives fires counts w script r → IsReport gives fires counts w script q → r ≡ q
+one_report gives fires counts usage_line script r q h k = h ∙ sym k
+one_report gives fires counts (refuses refusal) script r q h k = h ∙ sym k
+one_report gives fires counts (runs limit program) script r q h k = h.2 ∙ ap run_report (one_table program h.0 k.0 h.1 k.1) ∙ sym k.2
+  where
+    run_report : LifeTable → Report
+    run_report table = outcome_report (whole_run gives fires (counts program table) limit program (lines_of script))
+one_report gives fires counts (accepts program) script r q h k = h ∙ sym k
+one_report gives fires counts (sums_up number limit program) script r q h k = h.2 ∙ ap load_report (one_table program h.0 k.0 h.1 k.1) ∙ sym k.2
+  where
+    load_report : LifeTable → Report
+    load_report table = summary_report number (whole_run gives fires (counts program table) limit program (lines_of (script_text number)))
+one_report gives fires counts (tells_lives program) script r q h k =
     h.2 ∙ ap lives_report (same_lives_text program h.0 k.0 h.1 k.1) ∙ sym k.2
   where
     lives_report : List ℕ → Report

@@ -1,5 +1,6 @@
 -- What a fire command does, for an engine of these meanings, when the run has so many firings left.
 use Rattle.std.specs.Prelude.{ℕ, zero, suc, pred, Bool, true, nat_lt, List, [], ◌++◌, Option, Some, None, option_map, if◌then◌else◌}
+use Rattle.rule_model.specs.declared.life.LifeTable.{LifeTable}
 use Rattle.rule_model.specs.declared.program.Program.{Program}
 use Rattle.rule_world.specs.Worlds.{World}
 use Rattle.script_read.specs.declared.asked.Change.{Change}
@@ -12,6 +13,14 @@ Gives = Program → World → Change → List OutLine × World
 -- the lines of one firing, and the next world; a match is pending exactly where this is something
 abbrev pub Fires : Type 0
 Fires = Program → World → Option (List OutLine × World)
+
+-- how many events of each event type are kept in a world, with a table of the lives of the program's types
+abbrev pub Counts : Type 0
+Counts = Program → LifeTable → World → List ℕ
+
+-- the same of a program with its table
+abbrev pub Numbers : Type 0
+Numbers = World → List ℕ
 
 -- what the firings come to: no match is pending any more or the command wants no more, with the world then and the firings
 -- left, or a match is pending and no firing is left

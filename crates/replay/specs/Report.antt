@@ -7,7 +7,7 @@ use Rattle.rule_lives.specs.Keeping.{AreLives}
 use Rattle.gen_load.specs.Script.{script_text}
 use Rattle.replay.specs.declared.turn.Ended.{Ended}
 use Rattle.replay.specs.declared.turn.Ended.TheVariants.{Script, Limit}
-use Rattle.replay.specs.Firings.{Gives, Fires}
+use Rattle.replay.specs.Firings.{Gives, Fires, Counts}
 use Rattle.replay.specs.Refusals.{refusal_text}
 use Rattle.replay.specs.Run.{Outcome, whole_run}
 use Rattle.replay.specs.Summary.{summary_text}
@@ -31,17 +31,20 @@ outcome_report outcome = record { bytes = outcome.bytes; status = run_status out
 abbrev pub summary_report : ℕ → Outcome → Report
 summary_report number outcome = record { bytes = summary_text number outcome.bytes; status = run_status outcome.ended }
 
--- What is written where this is wanted, and the status: the usage line; the refusal; the run of the script; the numbers of types and
--- rules of the program; the lives of its types, by the table that has them; the summary of the run of the script of a load.
-abbrev pub IsReport : Gives → Fires → Wanted → List ℕ → Report → Type 0
-IsReport gives fires usage_line script r = r ≡ record { bytes = usage; status = 2 }
-IsReport gives fires (refuses refusal) script r = r ≡ record { bytes = refusal_text refusal; status = 3 }
-IsReport gives fires (runs limit program) script r = r ≡ outcome_report (whole_run gives fires limit program (lines_of script))
-IsReport gives fires (accepts program) script r = r ≡ record { bytes = accepted_text program; status = 0 }
-IsReport gives fires (tells_lives program) script r =
+-- What is written where this is wanted, and the status: the usage line; the refusal; the run of the script, by the table of the lives of
+-- the program's types; the numbers of types and rules of the program; the lives of its types, by the table that has them; the summary of
+-- the run of the script of a load, by such a table.
+abbrev pub IsReport : Gives → Fires → Counts → Wanted → List ℕ → Report → Type 0
+IsReport gives fires counts usage_line script r = r ≡ record { bytes = usage; status = 2 }
+IsReport gives fires counts (refuses refusal) script r = r ≡ record { bytes = refusal_text refusal; status = 3 }
+IsReport gives fires counts (runs limit program) script r =
+    (table : LifeTable) × AreLives program table × (r ≡ outcome_report (whole_run gives fires (counts program table) limit program (lines_of script)))
+IsReport gives fires counts (accepts program) script r = r ≡ record { bytes = accepted_text program; status = 0 }
+IsReport gives fires counts (tells_lives program) script r =
     (table : LifeTable) × AreLives program table × (r ≡ record { bytes = lives_text program.types table.lives; status = 0 })
-IsReport gives fires (sums_up number limit program) script r =
-    r ≡ summary_report number (whole_run gives fires limit program (lines_of (script_text number)))
+IsReport gives fires counts (sums_up number limit program) script r =
+    (table : LifeTable) × AreLives program table
+    × (r ≡ summary_report number (whole_run gives fires (counts program table) limit program (lines_of (script_text number))))
 
 -- the written bytes and the status are those of a report
 abbrev pub Reports : Option (List ℕ) → Option (List ℕ) → ℕ → Report → Type 0
@@ -61,9 +64,10 @@ pub record Long (outcome : List (List ℕ) → Outcome) (script : List ℕ) : Ty
   pub not_met : (outcome lines).ended ≢ Limit
 
 -- a run is wanted, and its script is such a one
-abbrev pub IsLong : Gives → Fires → Wanted → List ℕ → Type 0
-IsLong gives fires (runs limit program) script = Long (whole_run gives fires limit program) script
-IsLong gives fires _ script = ⊥
+abbrev pub IsLong : Gives → Fires → Counts → Wanted → List ℕ → Type 0
+IsLong gives fires counts (runs limit program) script =
+    (table : LifeTable) × AreLives program table × Long (whole_run gives fires (counts program table) limit program) script
+IsLong gives fires counts _ script = ⊥
 
 -- how many bytes of the script are taken for this status: never more than one beyond 1 GiB
 pub record TakesFor (status n : ℕ) : Type 0 where

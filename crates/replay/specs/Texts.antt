@@ -7,6 +7,7 @@ use Rattle.rule_model.specs.declared.life.Life.TheVariants.{Plain, Explicit, Fin
 use Rattle.rule_model.specs.declared.program.Program.{Program}
 use Rattle.rule_model.specs.declared.program.TypeInfo.{TypeInfo}
 use Rattle.rule_model.specs.declared.program.Rule.{Rule}
+use Rattle.engine.specs.Counts.{event_types}
 use Rattle.engine.specs.declared.lines.OutLine.{OutLine}
 use Rattle.engine.specs.declared.lines.OutLine.TheVariants.{New, Fire, Fault}
 use Rattle.engine.specs.declared.lines.Cell.{Cell}
@@ -69,6 +70,14 @@ is_fault (Fault code) = true
 
 abbrev pub has_fault : List OutLine → Bool
 has_fault lines = list_any is_fault lines
+
+-- so many events of a type of this name are kept
+abbrev pub held_line : List ℕ → ℕ → List ℕ
+held_line name number = codes "held " ++ name ++ codes " " ++ decimal number ++ 10 ∷ []
+
+-- so many of each event type, in their order
+abbrev pub held_text : List TypeInfo → List ℕ → List ℕ
+held_text types numbers = flat_map (λ (row : TypeInfo × ℕ). held_line row.0.name row.1) (zip (event_types types) numbers)
 
 -- ---- what is written where no script is run
 

@@ -63,6 +63,7 @@ pub(crate) fn fire_all<E: Engine>(
         → Does (E.stands r.0) (fire_step limit (E.made_with engine) number (firings E.fires (E.made_with engine) most left w))
         text.old.items text.new.items r.1) }
     ensures program { IfOk result (λ r. E.made_with r.0 ≡ E.made_with engine) }
+    ensures table { IfOk result (λ r. E.table r.0 ≡ E.table engine) }
     ensures tags { IfOk result (λ r. Within (E.tags engine + 16 * left + 16) (E.tags r.0) r.1) }
 {
     let mut engine = engine;

@@ -4,7 +4,7 @@ ghost use Rattle.rule_model.specs.declared.program.Program.{Program};
 ghost use Rattle.rule_world.specs.Worlds.{World};
 ghost use Rattle.engine.specs.declared.lines.OutLine.{OutLine};
 ghost use Rattle.replay.specs.declared.rule_file.Reading.{Reading};
-ghost use Rattle.replay.specs.Firings.{Fires, Gives, all_fired, firings};
+ghost use Rattle.replay.specs.Firings.{Counts, Fires, Gives, all_fired, firings};
 ghost use Rattle.replay.specs.Refusals.{reading};
 ghost use Rattle.replay.specs.Report.{Report, IsReport};
 ghost use Rattle.replay.specs.RuleFiles.{IsReading};
@@ -28,6 +28,6 @@ pub fn a_rule_file_is_what_the_grammar_says(bytes: &[u8])
 
 /// What is wanted has at most one report.
 pub fn there_is_at_most_one_report()
-    ensures { (gives : Gives) (fires : Fires) (w : Wanted) (script : List ℕ) (r q : Report)
-        → IsReport gives fires w script r → IsReport gives fires w script q → r ≡ q }
+    ensures { (gives : Gives) (fires : Fires) (counts : Counts) (w : Wanted) (script : List ℕ) (r q : Report)
+        → IsReport gives fires counts w script r → IsReport gives fires counts w script q → r ≡ q }
 {}

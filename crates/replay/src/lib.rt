@@ -3,6 +3,7 @@
 //! It knows the outside by its traits alone, so that its answer is a matter of proof.
 #![tactic(auto)]
 
+mod counting;
 mod fault;
 mod firing;
 mod gathered;

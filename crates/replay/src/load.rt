@@ -4,9 +4,11 @@ ghost use Rattle.fx_io.specs.Outside.{Rose, append, AppendsFront};
 ghost use Rattle.fx_io.specs.Lines.{lines_of};
 ghost use Rattle.gen_load.specs.Rules.{rules_text};
 ghost use Rattle.gen_load.specs.Script.{script_text};
+ghost use Rattle.rule_lives.specs.Keeping.{AreLives, IsLifeTable};
+ghost use Rattle.rule_model.specs.declared.life.LifeTable.{LifeTable as TableOfLives};
 ghost use Rattle.rule_world.specs.Programs.{IsRunnable};
 ghost use Rattle.replay.specs.Refusals.{refusal_text, reading, IsRefused};
-ghost use Rattle.replay.specs.Report.{Report, IsReport, Reports, run_status};
+ghost use Rattle.replay.specs.Report.{Report, IsReport, Reports, run_status, summary_report};
 ghost use Rattle.replay.specs.Run.{whole_run};
 ghost use Rattle.replay.specs.Summary.{summary_text};
 ghost use Rattle.replay.specs.Wanted.{wanted_by_number, IfRefuses};
@@ -17,31 +19,34 @@ use crate::saying::{refuse, say};
 use crate::summing::push_summary;
 use crate::turn::Ended;
 use engine::Engine;
+use expiry_infer::lives;
 use fx_base::{NoMemory, Seq};
 use fx_io::{MemSink, PlainSource, Sink};
 use gen_load::{Generated, generate};
-use rule_model::Program;
+use rule_model::{LifeTable, Program};
 use std::alloc::Global;
 
 /// Room for what a run over a load prints: for 1,000,000 firings of at most 28 bytes, 20,000 insertions and 60,000 faults, in bytes.
 const PRINTED_MAX: usize = 33_554_432;
 
-// Runs a program over a script in memory, with what it prints. The source has less than 1 GiB and does not fail, and the sink has room
+// Runs a program with its table of lives over a script in memory, with what it prints. The source has less than 1 GiB and does not fail, and the sink has room
 // enough: what stops a run is want of memory.
 fn run_in_memory<E: Engine>(
     alloc: Global,
     program: Program,
+    lives: LifeTable,
     limit: u64,
     script: Seq<u8>,
 ) -> Result<(Ended, MemSink), NoMemory>
     requires runnable { IsRunnable program }
+    requires table { IsLifeTable program lives }
     requires low { limit ≤ 1000000 }
-    ensures ended { IfOk result (λ r. r.0 ≡ (whole_run E.gives E.fires limit program (lines_of script)).ended) }
-    ensures printed { IfOk result (λ r. r.1.written ≡ (whole_run E.gives E.fires limit program (lines_of script)).bytes) }
+    ensures ended { IfOk result (λ r. r.0 ≡ (whole_run E.gives E.fires (E.counts program lives) limit program (lines_of script)).ended) }
+    ensures printed { IfOk result (λ r. r.1.written ≡ (whole_run E.gives E.fires (E.counts program lives) limit program (lines_of script)).bytes) }
 {
     let mut source = PlainSource::new(script.into_vec());
     let mut printed = MemSink::new(alloc, PRINTED_MAX, Vec::new(alloc))?;
-    match run::<E, PlainSource, MemSink>(alloc, program, limit, &mut source, &mut printed) {
+    match run::<E, PlainSource, MemSink>(alloc, program, lives, limit, &mut source, &mut printed) {
         Ok(ended) => Ok((ended, printed)),
         Err(_) => Err(NoMemory),
     }
@@ -61,6 +66,32 @@ fn sum_up<K: Sink>(alloc: Global, number: u32, ended: Ended, printed: &[u8], out
     }
 }
 
+// Runs the program with its table of lives over the script of the load of this number, and writes the summary.
+fn run_with_lives<E: Engine, K: Sink>(
+    alloc: Global,
+    number: u32,
+    limit: u64,
+    program: Program,
+    lives: LifeTable,
+    script: Seq<u8>,
+    out: &mut K,
+) -> u8
+    requires runnable { IsRunnable program }
+    requires table { IsLifeTable program lives }
+    requires low { limit ≤ 1000000 }
+    ensures exact { let outcome = whole_run E.gives E.fires (E.counts program lives) limit program (lines_of script) in
+        result ≤ 4 → (K.written out.new ≡ append (K.written out.old) (summary_text number outcome.bytes)) × (result ≡ run_status outcome.ended) }
+    ensures front { 5 ≤ result → AppendsFront (K.written out.old) (K.written out.new)
+        (summary_text number (whole_run E.gives E.fires (E.counts program lives) limit program (lines_of script)).bytes) }
+    ensures answers { (result ≤ 1) ⊎ (result ≡ 4) ⊎ ((6 ≤ result) × (result ≤ 7)) }
+    ensures cause { result ≡ 6 → Rose (K.faults out.old) (K.faults out.new) }
+{
+    match run_in_memory::<E>(alloc, program, lives, limit, script) {
+        Ok((ended, printed)) => sum_up(alloc, number, ended, printed.written(), out),
+        Err(_) => 7,
+    }
+}
+
 // Runs the program over the script of the load of this number, and writes the summary.
 fn run_and_sum_up<E: Engine, K: Sink>(
     alloc: Global,
@@ -72,15 +103,15 @@ fn run_and_sum_up<E: Engine, K: Sink>(
 ) -> u8
     requires runnable { IsRunnable program }
     requires low { limit ≤ 1000000 }
-    ensures exact { let outcome = whole_run E.gives E.fires limit program (lines_of script) in
-        result ≤ 4 → (K.written out.new ≡ append (K.written out.old) (summary_text number outcome.bytes)) × (result ≡ run_status outcome.ended) }
-    ensures front { 5 ≤ result → AppendsFront (K.written out.old) (K.written out.new)
-        (summary_text number (whole_run E.gives E.fires limit program (lines_of script)).bytes) }
+    ensures exact { result ≤ 4 → (table : TableOfLives) × AreLives program table
+        × Reports (K.written out.old) (K.written out.new) result (summary_report number (whole_run E.gives E.fires (E.counts program table) limit program (lines_of script))) }
+    ensures front { (table : TableOfLives) → AreLives program table → 5 ≤ result
+        → AppendsFront (K.written out.old) (K.written out.new) (summary_text number (whole_run E.gives E.fires (E.counts program table) limit program (lines_of script)).bytes) }
     ensures answers { (result ≤ 1) ⊎ (result ≡ 4) ⊎ ((6 ≤ result) × (result ≤ 7)) }
     ensures cause { result ≡ 6 → Rose (K.faults out.old) (K.faults out.new) }
 {
-    match run_in_memory::<E>(alloc, program, limit, script) {
-        Ok((ended, printed)) => sum_up(alloc, number, ended, printed.written(), out),
+    match lives(alloc, &program) {
+        Ok(lives) => run_with_lives::<E, K>(alloc, number, limit, program, lives, script, out),
         Err(_) => 7,
     }
 }
@@ -95,9 +126,9 @@ pub(crate) fn run_load<E: Engine, K: Sink>(
     requires numbered { number < 2 ^ 31 }
     requires low { limit ≤ 1000000 }
     ensures exact { (bytes : List ℕ) → result ≤ 4
-        → (r : Report) × IsReport E.gives E.fires (wanted_by_number number limit) bytes r × Reports (K.written out.old) (K.written out.new) result r }
+        → (r : Report) × IsReport E.gives E.fires E.counts (wanted_by_number number limit) bytes r × Reports (K.written out.old) (K.written out.new) result r }
     ensures front { (bytes : List ℕ) → 5 ≤ result
-        → (r : Report) → IsReport E.gives E.fires (wanted_by_number number limit) bytes r → AppendsFront (K.written out.old) (K.written out.new) r.bytes }
+        → (r : Report) → IsReport E.gives E.fires E.counts (wanted_by_number number limit) bytes r → AppendsFront (K.written out.old) (K.written out.new) r.bytes }
     ensures refusal { result ≡ 3
         → IfRefuses (wanted_by_number number limit) (λ refusal. K.written out.new ≡ append (K.written out.old) (refusal_text refusal)) }
     ensures answers { (result ≤ 1) ⊎ ((3 ≤ result) × (result ≤ 4)) ⊎ ((6 ≤ result) × (result ≤ 7)) }

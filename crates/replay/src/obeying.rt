@@ -4,6 +4,7 @@ ghost use Rattle.rule_world.specs.Worlds.{World};
 ghost use Rattle.replay.specs.Run.{printed, command_step, line_step};
 ghost use Rattle.replay.specs.Turns.{Does, Turns, Within, AllWithin, EndsAt, Smaller};
 
+use crate::counting::push_kept;
 use crate::fault::LineCode;
 use crate::firing::fire_all;
 use crate::text::{push_fault, push_lines};
@@ -29,6 +30,7 @@ fn change<E: Engine>(
         → Does (E.stands r.0) (printed (E.made_with engine) number left (E.gives (E.made_with engine) w wanted.now).0 (E.gives (E.made_with engine) w wanted.now).1)
         text.old.items text.new.items r.1) }
     ensures program { IfOk result (λ r. E.made_with r.0 ≡ E.made_with engine) }
+    ensures table { IfOk result (λ r. E.table r.0 ≡ E.table engine) }
     ensures tags { IfOk result (λ r. Within (E.tags engine + 16 * left + 16) (E.tags r.0) r.1) }
 {
     let (next, lines) = engine.apply(alloc, wanted)?;
@@ -48,14 +50,19 @@ fn obey<E: Engine>(
 ) -> Result<(E, Turn), NoMemory>
     requires { E.tags engine + 16 * left < 2 ^ 62 }
     ensures done { IfOk result (λ r. (w : World) → E.stands engine w
-        → Does (E.stands r.0) (command_step E.gives E.fires limit (E.made_with engine) number left w wanted.now)
+        → Does (E.stands r.0) (command_step E.gives E.fires (E.counts (E.made_with engine) (E.table engine)) limit (E.made_with engine) number left w wanted.now)
         text.old.items text.new.items r.1) }
     ensures program { IfOk result (λ r. E.made_with r.0 ≡ E.made_with engine) }
+    ensures table { IfOk result (λ r. E.table r.0 ≡ E.table engine) }
     ensures tags { IfOk result (λ r. Within (E.tags engine + 16 * left + 16) (E.tags r.0) r.1) }
 {
     match wanted {
         Command::Change(wanted) => change(alloc, engine, number, left, wanted, text),
         Command::Fire(most) => fire_all(alloc, engine, number, limit, *most, left, text),
+        Command::Held => {
+            push_kept(alloc, &engine, text)?;
+            Ok((engine, Turn::Goes(false, left)))
+        }
     }
 }
 
@@ -73,9 +80,10 @@ fn obey_line<E: Engine>(
     requires few { E.tags engine + 16 * left < 2 ^ 62 }
     requires short { length line.now ≤ 65536 }
     ensures done { IfOk result (λ r. (w : World) → E.stands engine w
-        → Does (E.stands r.0) (line_step E.gives E.fires limit (E.made_with engine) number left w line.now)
+        → Does (E.stands r.0) (line_step E.gives E.fires (E.counts (E.made_with engine) (E.table engine)) limit (E.made_with engine) number left w line.now)
         text.old.items text.new.items r.1) }
     ensures program { IfOk result (λ r. E.made_with r.0 ≡ E.made_with engine) }
+    ensures table { IfOk result (λ r. E.table r.0 ≡ E.table engine) }
     ensures tags { IfOk result (λ r. Within (E.tags engine + 16 * left + 16) (E.tags r.0) r.1) }
 {
     if is_blank(line) {
@@ -107,9 +115,10 @@ pub(crate) fn take_turn<E: Engine>(
 ) -> Result<(E, Option<Turn>), NoMemory>
     requires { E.tags engine + 16 * left < 2 ^ 62 }
     ensures turn { IfOk result (λ r. (w : World) (ahead behind : Option (List (List ℕ))) → E.stands engine w → Answers 65536 line ahead behind
-        → Turns (E.stands r.0) (line_step E.gives E.fires limit (E.made_with engine) number left w)
+        → Turns (E.stands r.0) (line_step E.gives E.fires (E.counts (E.made_with engine) (E.table engine)) limit (E.made_with engine) number left w)
         text.old.items text.new.items ahead behind r.1) }
     ensures program { IfOk result (λ r. E.made_with r.0 ≡ E.made_with engine) }
+    ensures table { IfOk result (λ r. E.table r.0 ≡ E.table engine) }
     ensures tags { IfOk result (λ r. AllWithin (E.tags engine + 16 * left + 16) (E.tags r.0) r.1) }
     ensures ends { IfOk result (λ r. EndsAt line r.1) }
     ensures smaller { IfOk result (λ r. (before after : ℕ) → GoesOn line before after → Smaller r.1 before after) }

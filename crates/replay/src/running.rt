@@ -1,6 +1,7 @@
 ghost use Rattle.std.specs.Prelude.{◌≡◌, ◌+◌, ◌*◌, ◌<◌, ◌≤◌, ◌^◌, [], length, List, ℕ, IfOk, IfSome, OnErr, IsErrOf};
 ghost use Rattle.fx_io.specs.Outside.{Rose, append, AppendsFront, count_after};
 ghost use Rattle.fx_io.specs.Lines.{lines_of};
+ghost use Rattle.rule_lives.specs.Keeping.{IsLifeTable};
 ghost use Rattle.rule_world.specs.Programs.{IsRunnable};
 ghost use Rattle.replay.specs.Run.{whole_run};
 ghost use Rattle.replay.specs.Turns.{Takes, AtEnd};
@@ -12,10 +13,9 @@ use crate::obeying::take_turn;
 use crate::text::either;
 use crate::turn::{Ended, Turn};
 use engine::Engine;
-use expiry_infer::lives;
 use fx_base::limits::LINE_MAX;
 use fx_io::{LineReader, Sink, Source, write_all};
-use rule_model::Program;
+use rule_model::{LifeTable, Program};
 use std::alloc::Global;
 
 /// The most bytes that a script may have.
@@ -24,33 +24,34 @@ const SCRIPT_MAX: u64 = 1_073_741_824;
 /// So many gathered bytes are written though the next line is at hand.
 const PIECE: usize = 65_536;
 
-/// Runs a script to its end or to the limit of firings. What lines print is gathered, and written before the next read
+/// Runs a script to its end or to the limit of firings, by a table of the lives of the program's types. What lines print is gathered, and written before the next read
 /// of the script.
 pub(crate) fn run<E: Engine, S: Source, K: Sink>(
     alloc: Global,
     program: Program,
+    lives: LifeTable,
     limit: u64,
     script: &mut S,
     out: &mut K,
 ) -> Result<Ended, RunFault>
     requires runnable { IsRunnable program }
+    requires table { IsLifeTable program lives }
     requires low { limit ≤ 1000000 }
     ensures done { IfSome (S.left script.old) (λ bytes. IfOk result (λ ended.
-        (ended ≡ (whole_run E.gives E.fires limit program (lines_of bytes)).ended)
-        × (K.written out.new ≡ append (K.written out.old) (whole_run E.gives E.fires limit program (lines_of bytes)).bytes))) }
+        (ended ≡ (whole_run E.gives E.fires (E.counts program lives) limit program (lines_of bytes)).ended)
+        × (K.written out.new ≡ append (K.written out.old) (whole_run E.gives E.fires (E.counts program lives) limit program (lines_of bytes)).bytes))) }
     ensures front { IfSome (S.left script.old) (λ bytes. OnErr result
-        (AppendsFront (K.written out.old) (K.written out.new) (whole_run E.gives E.fires limit program (lines_of bytes)).bytes)) }
+        (AppendsFront (K.written out.old) (K.written out.new) (whole_run E.gives E.fires (E.counts program lives) limit program (lines_of bytes)).bytes)) }
     ensures taken { (n : ℕ) × (S.given script.new ≡ count_after (S.given script.old) n) × Takes result n × (n ≤ 2 ^ 30 + 1) }
     ensures read { IsErrOf result RunFault.ReadFault → Rose (S.faults script.old) (S.faults script.new) }
     ensures write { IsErrOf result RunFault.WriteFault → Rose (K.faults out.old) (K.faults out.new) }
-    ensures long { IsErrOf result RunFault.ScriptLong → IfSome (S.left script.old) (Long (whole_run E.gives E.fires limit program)) }
+    ensures long { IsErrOf result RunFault.ScriptLong → IfSome (S.left script.old) (Long (whole_run E.gives E.fires (E.counts program lives) limit program)) }
     ensures over { IsErrOf result RunFault.ScriptLong → IfSome (S.left script.old) (λ bytes. 2 ^ 30 < length bytes) }
     ensures nothing_left { IfOk result (λ ended. AtEnd ended (IfSome (S.left script.new) (λ bytes. bytes ≡ []))) }
     ensures script_counts { S.faults script.old ≤ S.faults script.new }
     ensures out_counts { K.faults out.old ≤ K.faults out.new }
 {
     let mut reader = LineReader::new(alloc, LINE_MAX, SCRIPT_MAX)?;
-    let lives = lives(alloc, &program)?;
     let mut engine = E::new(alloc, program, lives)?;
     let mut text = Vec::new(alloc);
     let mut faulted = false;

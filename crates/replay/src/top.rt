@@ -4,9 +4,10 @@ ghost use Rattle.fx_io.specs.Outside.{Rose, append, AppendsFront, count_after, f
 ghost use Rattle.command_words.specs.declared.asking.Asked.TheVariants.{RuleFile};
 ghost use Rattle.command_words.specs.declared.asking.Mode.{Mode as ModeAsked};
 ghost use Rattle.command_words.specs.Asked.{asked_by};
+ghost use Rattle.rule_lives.specs.Keeping.{IsLifeTable};
 ghost use Rattle.rule_world.specs.Programs.{IsRunnable};
 ghost use Rattle.replay.specs.Refusals.{refusal_text, reading, IsRefused};
-ghost use Rattle.replay.specs.Report.{Report, IsReport, outcome_report, Reports, TakesFor, IsLong};
+ghost use Rattle.replay.specs.Report.{Report, IsReport, outcome_report, Reports, TakesFor, Long, IsLong};
 ghost use Rattle.replay.specs.Run.{whole_run};
 ghost use Rattle.replay.specs.Texts.{usage};
 ghost use Rattle.replay.specs.Wanted.{Files, runs, wanted, wanted_of, wanted_by_name, IfRefuses, ReadsFile, RunsScript, IsUnfit};
@@ -21,8 +22,9 @@ use crate::saying::{refuse, say};
 use crate::turn::Ended;
 use command_words::{Asked, Mode, asked};
 use engine::Engine;
+use expiry_infer::lives;
 use fx_io::{Shelf, Sink, Source};
-use rule_model::Program;
+use rule_model::{LifeTable, Program};
 use std::alloc::Global;
 
 /// The most bytes that a rule file may have.
@@ -32,7 +34,43 @@ const FILE_MAX: usize = 1_048_576;
 const USAGE: &[u8] =
     b"usage: replay [--mode run|check|lives] [--limit N] RULES | replay [--limit N] --gen N\n";
 
-// Runs a program over a script.
+// Runs a program with its table of lives over a script.
+fn run_with_lives<E: Engine, S: Source, K: Sink>(
+    alloc: Global,
+    program: Program,
+    lives: LifeTable,
+    limit: u64,
+    script: &mut S,
+    out: &mut K,
+) -> u8
+    requires runnable { IsRunnable program }
+    requires table { IsLifeTable program lives }
+    requires low { limit ≤ 1000000 }
+    ensures exact { (bytes : List ℕ) → S.left script.old ≡ Some bytes → result ≤ 4
+        → Reports (K.written out.old) (K.written out.new) result (outcome_report (whole_run E.gives E.fires (E.counts program lives) limit program (lines_of bytes))) }
+    ensures front { (bytes : List ℕ) → S.left script.old ≡ Some bytes → 5 ≤ result
+        → AppendsFront (K.written out.old) (K.written out.new) (whole_run E.gives E.fires (E.counts program lives) limit program (lines_of bytes)).bytes }
+    ensures answers { (result ≤ 1) ⊎ ((4 ≤ result) × (result ≤ 8)) }
+    ensures taken { (n : ℕ) × (S.given script.new ≡ count_after (S.given script.old) n) × TakesFor result n }
+    ensures read { result ≡ 5 → Rose (S.faults script.old) (S.faults script.new) }
+    ensures write { result ≡ 6 → Rose (K.faults out.old) (K.faults out.new) }
+    ensures long { (bytes : List ℕ) → S.left script.old ≡ Some bytes → result ≡ 8
+        → Long (whole_run E.gives E.fires (E.counts program lives) limit program) bytes }
+    ensures over { result ≡ 8 → IfSome (S.left script.old) (λ bytes. 2 ^ 30 < length bytes) }
+    ensures nothing_left { result ≤ 1 → IfSome (S.left script.new) (λ bytes. bytes ≡ []) }
+{
+    match run::<E, S, K>(alloc, program, lives, limit, script, out) {
+        Ok(Ended::Script(false)) => 0,
+        Ok(Ended::Script(true)) => 1,
+        Ok(Ended::Limit) => 4,
+        Err(RunFault::ReadFault) => 5,
+        Err(RunFault::WriteFault) => 6,
+        Err(RunFault::NoMemory) => 7,
+        Err(RunFault::ScriptLong) => 8,
+    }
+}
+
+// Runs a program over a script, by the lives that are inferred of its types.
 fn run_program<E: Engine, S: Source, K: Sink>(
     alloc: Global,
     program: Program,
@@ -43,26 +81,21 @@ fn run_program<E: Engine, S: Source, K: Sink>(
     requires runnable { IsRunnable program }
     requires low { limit ≤ 1000000 }
     ensures exact { (bytes : List ℕ) → S.left script.old ≡ Some bytes → result ≤ 4
-        → Reports (K.written out.old) (K.written out.new) result (outcome_report (whole_run E.gives E.fires limit program (lines_of bytes))) }
+        → (r : Report) × IsReport E.gives E.fires E.counts (runs limit program) bytes r × Reports (K.written out.old) (K.written out.new) result r }
     ensures front { (bytes : List ℕ) → S.left script.old ≡ Some bytes → 5 ≤ result
-        → AppendsFront (K.written out.old) (K.written out.new) (whole_run E.gives E.fires limit program (lines_of bytes)).bytes }
+        → (r : Report) → IsReport E.gives E.fires E.counts (runs limit program) bytes r → AppendsFront (K.written out.old) (K.written out.new) r.bytes }
     ensures answers { (result ≤ 1) ⊎ ((4 ≤ result) × (result ≤ 8)) }
     ensures taken { (n : ℕ) × (S.given script.new ≡ count_after (S.given script.old) n) × TakesFor result n }
     ensures read { result ≡ 5 → Rose (S.faults script.old) (S.faults script.new) }
     ensures write { result ≡ 6 → Rose (K.faults out.old) (K.faults out.new) }
     ensures long { (bytes : List ℕ) → S.left script.old ≡ Some bytes → result ≡ 8
-        → IsLong E.gives E.fires (runs limit program) bytes }
+        → IsLong E.gives E.fires E.counts (runs limit program) bytes }
     ensures over { result ≡ 8 → IfSome (S.left script.old) (λ bytes. 2 ^ 30 < length bytes) }
     ensures nothing_left { result ≤ 1 → IfSome (S.left script.new) (λ bytes. bytes ≡ []) }
 {
-    match run::<E, S, K>(alloc, program, limit, script, out) {
-        Ok(Ended::Script(false)) => 0,
-        Ok(Ended::Script(true)) => 1,
-        Ok(Ended::Limit) => 4,
-        Err(RunFault::ReadFault) => 5,
-        Err(RunFault::WriteFault) => 6,
-        Err(RunFault::NoMemory) => 7,
-        Err(RunFault::ScriptLong) => 8,
+    match lives(alloc, &program) {
+        Ok(lives) => run_with_lives::<E, S, K>(alloc, program, lives, limit, script, out),
+        Err(_) => 7,
     }
 }
 
@@ -78,15 +111,15 @@ fn do_mode<E: Engine, S: Source, K: Sink>(
     requires runnable { IsRunnable program }
     requires low { limit ≤ 1000000 }
     ensures exact { (bytes : List ℕ) → S.left script.old ≡ Some bytes → result ≤ 4
-        → (r : Report) × IsReport E.gives E.fires (wanted_of mode limit program) bytes r × Reports (K.written out.old) (K.written out.new) result r }
+        → (r : Report) × IsReport E.gives E.fires E.counts (wanted_of mode limit program) bytes r × Reports (K.written out.old) (K.written out.new) result r }
     ensures front { (bytes : List ℕ) → S.left script.old ≡ Some bytes → 5 ≤ result
-        → (r : Report) → IsReport E.gives E.fires (wanted_of mode limit program) bytes r → AppendsFront (K.written out.old) (K.written out.new) r.bytes }
+        → (r : Report) → IsReport E.gives E.fires E.counts (wanted_of mode limit program) bytes r → AppendsFront (K.written out.old) (K.written out.new) r.bytes }
     ensures answers { (result ≤ 1) ⊎ ((4 ≤ result) × (result ≤ 8)) }
     ensures taken { (n : ℕ) × (S.given script.new ≡ count_after (S.given script.old) n) × TakesFor result n }
     ensures read { result ≡ 5 → (mode ≡ Mode.Run) × Rose (S.faults script.old) (S.faults script.new) }
     ensures write { result ≡ 6 → Rose (K.faults out.old) (K.faults out.new) }
     ensures long { (bytes : List ℕ) → S.left script.old ≡ Some bytes → result ≡ 8
-        → IsLong E.gives E.fires (wanted_of mode limit program) bytes }
+        → IsLong E.gives E.fires E.counts (wanted_of mode limit program) bytes }
     ensures over { result ≡ 8 → IfSome (S.left script.old) (λ bytes. 2 ^ 30 < length bytes) }
     ensures no_run { mode ≢ Mode.Run → script.new ≡ script.old }
     ensures nothing_left { mode ≡ Mode.Run → result ≤ 1 → IfSome (S.left script.new) (λ bytes. bytes ≡ []) }
@@ -110,11 +143,11 @@ fn answer<E: Engine, F: Shelf, S: Source, K: Sink>(
 ) -> u8
     requires { limit ≤ 1000000 }
     ensures exact { (files : Files) (bytes : List ℕ) → F.files shelf.old ≡ Some files → S.left script.old ≡ Some bytes → result ≤ 4
-        → (r : Report) × IsReport E.gives E.fires (wanted_by_name (wanted_of mode limit) files name.now) bytes r × Reports (K.written out.old) (K.written out.new) result r }
+        → (r : Report) × IsReport E.gives E.fires E.counts (wanted_by_name (wanted_of mode limit) files name.now) bytes r × Reports (K.written out.old) (K.written out.new) result r }
     ensures front { (files : Files) (bytes : List ℕ) → F.files shelf.old ≡ Some files → S.left script.old ≡ Some bytes → 5 ≤ result
-        → (r : Report) → IsReport E.gives E.fires (wanted_by_name (wanted_of mode limit) files name.now) bytes r → AppendsFront (K.written out.old) (K.written out.new) r.bytes }
+        → (r : Report) → IsReport E.gives E.fires E.counts (wanted_by_name (wanted_of mode limit) files name.now) bytes r → AppendsFront (K.written out.old) (K.written out.new) r.bytes }
     ensures long { (files : Files) (bytes : List ℕ) → F.files shelf.old ≡ Some files → S.left script.old ≡ Some bytes → result ≡ 8
-        → IsLong E.gives E.fires (wanted_by_name (wanted_of mode limit) files name.now) bytes }
+        → IsLong E.gives E.fires E.counts (wanted_by_name (wanted_of mode limit) files name.now) bytes }
     ensures refusal { (files : Files) → F.files shelf.old ≡ Some files → result ≡ 3
         → IfRefuses (wanted_by_name (wanted_of mode limit) files name.now) (λ refusal. K.written out.new ≡ append (K.written out.old) (refusal_text refusal)) }
     ensures completes { (bytes : List ℕ) → S.left script.old ≡ Some bytes → length bytes ≤ 2 ^ 30
@@ -164,11 +197,11 @@ pub fn run_rules<E: Engine, F: Shelf, S: Source, K: Sink>(
 
     // Where the shelf and the script tell their bytes: with a status up to 4 exactly the report, else a front of it.
     ensures exact { (files : Files) (bytes : List ℕ) → F.files shelf.old ≡ Some files → S.left script.old ≡ Some bytes → result ≤ 4
-        → (r : Report) × IsReport E.gives E.fires (wanted_by_name (runs limit) files name.now) bytes r × Reports (K.written out.old) (K.written out.new) result r }
+        → (r : Report) × IsReport E.gives E.fires E.counts (wanted_by_name (runs limit) files name.now) bytes r × Reports (K.written out.old) (K.written out.new) result r }
     ensures front { (files : Files) (bytes : List ℕ) → F.files shelf.old ≡ Some files → S.left script.old ≡ Some bytes → 5 ≤ result
-        → (r : Report) → IsReport E.gives E.fires (wanted_by_name (runs limit) files name.now) bytes r → AppendsFront (K.written out.old) (K.written out.new) r.bytes }
+        → (r : Report) → IsReport E.gives E.fires E.counts (wanted_by_name (runs limit) files name.now) bytes r → AppendsFront (K.written out.old) (K.written out.new) r.bytes }
     ensures long { (files : Files) (bytes : List ℕ) → F.files shelf.old ≡ Some files → S.left script.old ≡ Some bytes
-        → result ≡ 8 → IsLong E.gives E.fires (wanted_by_name (runs limit) files name.now) bytes }
+        → result ≡ 8 → IsLong E.gives E.fires E.counts (wanted_by_name (runs limit) files name.now) bytes }
 
     // Where the shelf tells its files, and the script may tell nothing: a refusal is the one that is wanted.
     ensures refusal { (files : Files) → F.files shelf.old ≡ Some files → result ≡ 3
@@ -216,11 +249,11 @@ pub fn replay<E: Engine, F: Shelf, S: Source, K: Sink>(
 ) -> u8
     // Where the shelf and the script tell their bytes: with a status up to 4 exactly the report, else a front of it.
     ensures exact { (files : Files) (bytes : List ℕ) → F.files shelf.old ≡ Some files → S.left script.old ≡ Some bytes → result ≤ 4
-        → (r : Report) × IsReport E.gives E.fires (wanted words.now files) bytes r × Reports (K.written out.old) (K.written out.new) result r }
+        → (r : Report) × IsReport E.gives E.fires E.counts (wanted words.now files) bytes r × Reports (K.written out.old) (K.written out.new) result r }
     ensures front { (files : Files) (bytes : List ℕ) → F.files shelf.old ≡ Some files → S.left script.old ≡ Some bytes → 5 ≤ result
-        → (r : Report) → IsReport E.gives E.fires (wanted words.now files) bytes r → AppendsFront (K.written out.old) (K.written out.new) r.bytes }
+        → (r : Report) → IsReport E.gives E.fires E.counts (wanted words.now files) bytes r → AppendsFront (K.written out.old) (K.written out.new) r.bytes }
     ensures long { (files : Files) (bytes : List ℕ) → F.files shelf.old ≡ Some files → S.left script.old ≡ Some bytes
-        → result ≡ 8 → IsLong E.gives E.fires (wanted words.now files) bytes }
+        → result ≡ 8 → IsLong E.gives E.fires E.counts (wanted words.now files) bytes }
 
     // Whatever the script tells: the usage line, and, where the shelf tells its files, the refusal that is wanted.
     ensures usage { result ≡ 2 → K.written out.new ≡ append (K.written out.old) usage }

@@ -6,15 +6,16 @@ use Rattle.std.proofs.lemmas.Slice.Eq.{bytes_eq-Decides}
 use Rattle.std.proofs.lemmas.Bool.Decides.{Decides-eqb}
 use Rattle.serde_json.specs.Data.{Data, Members}
 use Rattle.script_read.specs.Members.{text_member, object_member, whole_member, id_member, count_member, count}
-use Rattle.script_read.specs.Form.{IsForm, fire, fire_most, insert, insert_into, modify, retract, advance, at, fire_of, insert_of, modify_of, retract_of, advance_of, at_of, has_count, fire_parts, insert_parts, insert_into_parts, modify_parts, retract_parts, advance_parts, at_parts, command_by_word, command_of}
+use Rattle.script_read.specs.Form.{IsForm, fire, fire_most, held, insert, insert_into, modify, retract, advance, at, fire_of, held_of, insert_of, modify_of, retract_of, advance_of, at_of, has_count, fire_parts, insert_parts, insert_into_parts, modify_parts, retract_parts, advance_parts, at_parts, command_by_word, command_of}
 use Rattle.script_read.specs.declared.asked.Command.{Command}
-use Rattle.script_read.specs.declared.asked.Command.TheVariants.{Fire}
+use Rattle.script_read.specs.declared.asked.Command.TheVariants.{Fire, Held}
 
 -- every command with the form of a value is the one that is found
 pub form_again : {d : Data} {c : Command} → IsForm d c → command_of d ≡ Some c
-unfolding command_of fire_of insert_of modify_of retract_of advance_of at_of
+unfolding command_of fire_of held_of insert_of modify_of retract_of advance_of at_of
 form_again (fire word members) = rw (word, members) refl
 form_again (fire_most word most members) = rw (word, members, most) refl
+form_again (held word members) = rw (word, members) refl
 form_again (insert word ty fields members) = rw (word, members, ty, fields) refl
 form_again (insert_into word ty entry fields members) = rw (word, members, ty, entry, fields) refl
 form_again (modify word ty id fields members) = rw (word, members, ty, id, fields) refl
@@ -58,6 +59,17 @@ fire_sound : (d : Data) (c : Command) → text_member (codes "do") d ≡ Some (c
 unfolding fire_of
 fire_sound d c word found =
     fire_counted (has_count 1 (count d)) (has_count 2 (count d)) (count_member (codes "max") d) d c refl refl refl word found
+
+-- at each case of the count
+held_counted : (alone : Bool) (d : Data) (c : Command) → has_count 1 (count d) ≡ alone → text_member (codes "do") d ≡ Some (codes "held")
+    → Some c ≡ (if alone then Some Held else None) → IsForm d c
+held_counted true d c members word found = subst (IsForm d) (some_injective (sym found)) (held word (counted 1 (count d) members))
+held_counted false d c members word found = cc
+
+-- a request for the kept events that is found has its form
+held_sound : (d : Data) (c : Command) → text_member (codes "do") d ≡ Some (codes "held") → Some c ≡ held_of d → IsForm d c
+unfolding held_of
+held_sound d c word found = held_counted (has_count 1 (count d)) d c refl word found
 
 -- at each case of the two counts and of the three members
 insert_counted : (plain into : Bool) (ty entry : Option (List ℕ)) (fields : Option Members) (d : Data) (c : Command)
@@ -168,7 +180,8 @@ by_word (Some word) d stands =
     (by_test (bytes_eq word (codes "retract")) _ _ (IsForm d) (λ same c. retract_sound d c (word_is (codes "retract") word d stands same))
     (by_test (bytes_eq word (codes "advance")) _ _ (IsForm d) (λ same c. advance_sound d c (word_is (codes "advance") word d stands same))
     (by_test (bytes_eq word (codes "at")) _ _ (IsForm d) (λ same c. at_sound d c (word_is (codes "at") word d stands same))
-    (λ c found. cc))))))
+    (by_test (bytes_eq word (codes "held")) _ _ (IsForm d) (λ same c. held_sound d c (word_is (codes "held") word d stands same))
+    (λ c found. cc)))))))
 
 -- a value has the form of the command that is found in it
 pub form_sound : (d : Data) (c : Command) → Some c ≡ command_of d → IsForm d c

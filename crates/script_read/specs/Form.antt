@@ -5,7 +5,7 @@ use Rattle.serde_json.specs.Data.{Data, Members}
 use Rattle.script_read.specs.Given.{givens}
 use Rattle.script_read.specs.Members.{text_member, object_member, whole_member, id_member, count_member, count}
 use Rattle.script_read.specs.declared.asked.Command.{Command}
-use Rattle.script_read.specs.declared.asked.Command.TheVariants.{Change, Fire}
+use Rattle.script_read.specs.declared.asked.Command.TheVariants.{Change, Fire, Held}
 use Rattle.script_read.specs.declared.asked.Change.TheVariants.{Insert, Modify, Retract, Advance, At}
 
 -- The forms, one for each kind of line: an object with exactly the members that are named. Since each name stands once,
@@ -20,6 +20,10 @@ pub data IsForm : Data → Command → Type 0 where
       → count_member (codes "max") d ≡ Some n
       → count d ≡ Some 2
       → IsForm d (Fire (Some n))
+  -- {"do":"held"}
+  held : {d : Data} → text_member (codes "do") d ≡ Some (codes "held")
+      → count d ≡ Some 1
+      → IsForm d Held
   -- {"do":"insert","type":T,"fields":{..}}
   insert : {d : Data} {ty : List ℕ} {fields : Members} → text_member (codes "do") d ≡ Some (codes "insert")
       → text_member (codes "type") d ≡ Some ty → object_member (codes "fields") d ≡ Some fields
@@ -62,6 +66,9 @@ fire_parts (Some n) = Some (Fire (Some n))
 unfoldable pub fire_of : Data → Option Command
 fire_of d = if has_count 1 (count d) then Some (Fire None)
     else (if has_count 2 (count d) then fire_parts (count_member (codes "max") d) else None)
+
+unfoldable pub held_of : Data → Option Command
+held_of d = if has_count 1 (count d) then Some Held else None
 
 abbrev pub insert_parts : Option (List ℕ) → Option Members → Option Command
 insert_parts None fields = None
@@ -113,7 +120,8 @@ command_by_word d (Some word) = if bytes_eq word (codes "fire") then fire_of d
     else (if bytes_eq word (codes "modify") then modify_of d
     else (if bytes_eq word (codes "retract") then retract_of d
     else (if bytes_eq word (codes "advance") then advance_of d
-    else (if bytes_eq word (codes "at") then at_of d else None)))))
+    else (if bytes_eq word (codes "at") then at_of d
+    else (if bytes_eq word (codes "held") then held_of d else None))))))
 
 -- the command whose form a value has
 unfoldable pub command_of : Data → Option Command

@@ -7,6 +7,8 @@ pub enum Command {
     Change(Change),
     /// To fire until nothing is pending, or until this many firings, from 0 to 2^53.
     Fire(Option<u64>),
+    /// How many events of each type are kept.
+    Held,
 }
 
 /// A change of the world. The fields stand in the byte order of their names.

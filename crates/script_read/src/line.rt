@@ -2,7 +2,7 @@ ghost use Rattle.std.specs.Prelude.{◌≡◌, IfOk, IsErrOf, option_map, codes}
 ghost use Rattle.serde_json.specs.Data.{Data};
 ghost use Rattle.serde_json.specs.View.{view};
 ghost use Rattle.script_read.specs.Members.{text_member as text_under, object_member as object_under};
-ghost use Rattle.script_read.specs.Form.{IsForm, fire_of, insert_parts, insert_into_parts, insert_of, modify_of, retract_of, advance_of, at_of, command_of};
+ghost use Rattle.script_read.specs.Form.{IsForm, fire_of, held_of, insert_parts, insert_into_parts, insert_of, modify_of, retract_of, advance_of, at_of, command_of};
 ghost use Rattle.script_read.specs.Asked.{IsReading, reading, asked, Answers};
 
 use crate::asked::{Change, Command};
@@ -32,6 +32,16 @@ fn fire(value: &Value) -> Option<Command>
     match count(value)? {
         1 => Some(Command::Fire(None)),
         2 => Some(Command::Fire(Some(count_member(value, "max")?))),
+        _ => None,
+    }
+}
+
+#[tactic(auto, unfolding(crate::specs::Form::held_of))]
+fn held(value: &Value) -> Option<Command>
+    ensures { result ≡ held_of (view value.now) }
+{
+    match count(value)? {
+        1 => Some(Command::Held),
         _ => None,
     }
 }
@@ -154,6 +164,7 @@ fn form(alloc: Global, value: &Value) -> Result<Option<Command>, NoMemory>
         "retract" => retract(alloc, value),
         "advance" => Ok(advance(value)),
         "at" => Ok(at(value)),
+        "held" => Ok(held(value)),
         _ => Ok(None),
     }
 }

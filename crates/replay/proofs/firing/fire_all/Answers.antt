@@ -24,6 +24,7 @@ loop-left-preserved g c =
     let wants = sym c.is_wanting.ensures ∙ c.if-not-is_wanting.false in
     record {
       same = c.in_ok-next.ensures.program ∙ c.loop-left.invariant.same;
+      table = c.in_ok-next.ensures.table ∙ c.loop-left.invariant.table;
       few = omega (arith, c.in_ok-next.ensures.tags, c.loop-left.invariant.few, c.loop-left-test.true);
       remains = λ w st.
           let inv = c.loop-left.invariant.remains w st in

@@ -13,6 +13,7 @@ invariant-loop-left g l =
     let tags = g.E.Engine.tags in
     record {
       same : program l.engine ≡ program l.fn.engine;
+      table : g.E.Engine.table l.engine ≡ g.E.Engine.table l.fn.engine;
       few : tags l.engine + 16 * l.left ≤ tags l.fn.engine + 16 * l.fn.left;
       remains : (w : World) → stands l.fn.engine w → (v : World) × stands l.engine v × Remains fires (program l.fn.engine) l.number (firings fires (program l.fn.engine) l.fn.most l.fn.left w) l.most l.left v l.fn.text.items l.text.items l.faulty;
     }

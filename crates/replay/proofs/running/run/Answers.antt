@@ -14,13 +14,13 @@ use Rattle.replay.proofs.running.run.Goals as goal
 pub returns-in_err-flush-clause-front : goal.returns-in_err-flush-clause-front
 returns-in_err-flush-clause-front g c =
     let so = c.loop-text.invariant.so_far in
-    told_err (g.S.Source.left c.args.script.now) c.from_residual-in_err-flush.result (λ bytes. AppendsFront (g.K.Sink.written c.args.out.now) (g.K.Sink.written c.flush.new.out) (whole_run g.E.Engine.gives g.E.Engine.fires c.args.limit c.args.program (lines_of bytes)).bytes)
-    (stopped_in (whole_run g.E.Engine.gives g.E.Engine.fires c.args.limit c.args.program) (run g.E.Engine.gives g.E.Engine.fires c.args.limit c.args.program c.loop-text.number c.loop-text.left so.0 c.loop-text.faulted) (g.S.Source.left c.args.script.now) (lines_ahead c.loop-text.reader.kept (g.S.Source.left c.loop-text.script)) (g.K.Sink.written c.args.out.now) (g.K.Sink.written c.loop-text.out) (g.K.Sink.written c.flush.new.out) c.loop-text.text.items so.2 c.in_err-flush.ensures.err)
+    told_err (g.S.Source.left c.args.script.now) c.from_residual-in_err-flush.result (λ bytes. AppendsFront (g.K.Sink.written c.args.out.now) (g.K.Sink.written c.flush.new.out) (whole_run g.E.Engine.gives g.E.Engine.fires (g.E.Engine.counts c.args.program c.args.lives) c.args.limit c.args.program (lines_of bytes)).bytes)
+    (stopped_in (whole_run g.E.Engine.gives g.E.Engine.fires (g.E.Engine.counts c.args.program c.args.lives) c.args.limit c.args.program) (run g.E.Engine.gives g.E.Engine.fires (g.E.Engine.counts c.args.program c.args.lives) c.args.limit c.args.program c.loop-text.number c.loop-text.left so.0 c.loop-text.faulted) (g.S.Source.left c.args.script.now) (lines_ahead c.loop-text.reader.kept (g.S.Source.left c.loop-text.script)) (g.K.Sink.written c.args.out.now) (g.K.Sink.written c.loop-text.out) (g.K.Sink.written c.flush.new.out) c.loop-text.text.items so.2 c.in_err-flush.ensures.err)
 
 pub returns-in-Err-clause-front : goal.returns-in-Err-clause-front
 returns-in-Err-clause-front g c =
     let so = c.loop-text.invariant.so_far in
-    stopped (whole_run g.E.Engine.gives g.E.Engine.fires c.args.limit c.args.program) (run g.E.Engine.gives g.E.Engine.fires c.args.limit c.args.program c.loop-text.number c.loop-text.left so.0 c.loop-text.faulted) (g.S.Source.left c.args.script.now) (lines_ahead c.loop-text.reader.kept (g.S.Source.left c.loop-text.script)) (g.K.Sink.written c.args.out.now) (g.K.Sink.written c.flush.new.out) c.flush.new.text.items (flushed (whole_run g.E.Engine.gives g.E.Engine.fires c.args.limit c.args.program) (run g.E.Engine.gives g.E.Engine.fires c.args.limit c.args.program c.loop-text.number c.loop-text.left so.0 c.loop-text.faulted) (lines_ahead [] (g.S.Source.left c.args.script.now)) (lines_ahead c.loop-text.reader.kept (g.S.Source.left c.loop-text.script)) (g.K.Sink.written c.args.out.now) (g.K.Sink.written c.loop-text.out) (g.K.Sink.written c.flush.new.out) c.loop-text.text.items c.flush.new.text.items so.2 c.in_ok-flush.ensures.ok)
+    stopped (whole_run g.E.Engine.gives g.E.Engine.fires (g.E.Engine.counts c.args.program c.args.lives) c.args.limit c.args.program) (run g.E.Engine.gives g.E.Engine.fires (g.E.Engine.counts c.args.program c.args.lives) c.args.limit c.args.program c.loop-text.number c.loop-text.left so.0 c.loop-text.faulted) (g.S.Source.left c.args.script.now) (lines_ahead c.loop-text.reader.kept (g.S.Source.left c.loop-text.script)) (g.K.Sink.written c.args.out.now) (g.K.Sink.written c.flush.new.out) c.flush.new.text.items (flushed (whole_run g.E.Engine.gives g.E.Engine.fires (g.E.Engine.counts c.args.program c.args.lives) c.args.limit c.args.program) (run g.E.Engine.gives g.E.Engine.fires (g.E.Engine.counts c.args.program c.args.lives) c.args.limit c.args.program c.loop-text.number c.loop-text.left so.0 c.loop-text.faulted) (lines_ahead [] (g.S.Source.left c.args.script.now)) (lines_ahead c.loop-text.reader.kept (g.S.Source.left c.loop-text.script)) (g.K.Sink.written c.args.out.now) (g.K.Sink.written c.loop-text.out) (g.K.Sink.written c.flush.new.out) c.loop-text.text.items c.flush.new.text.items so.2 c.in_ok-flush.ensures.ok)
 
 pub returns-in-Err-clause-taken : goal.returns-in-Err-clause-taken
 returns-in-Err-clause-taken g c =
@@ -40,15 +40,15 @@ returns-in-Err-clause-long g c is =
     let stops = rw inv.total_max at gives.2 in
     let taken = long_taken c.in-Err.fault c.of_line_fault.result _ c.next_line.new.self.taken (2 ^ 30) c.of_line_fault.ensures is stops in
     let stop = long_stop c.in-Err.fault c.of_line_fault.result _ _ c.of_line_fault.ensures is (c.in-Err.ensures.stops inv.fault) in
-    long_run (whole_run g.E.Engine.gives g.E.Engine.fires c.args.limit c.args.program) (run g.E.Engine.gives g.E.Engine.fires c.args.limit c.args.program c.loop-text.number c.loop-text.left so.0 c.loop-text.faulted) (g.S.Source.left c.args.script.now) (g.S.Source.left c.loop-text.script) (g.S.Source.left c.next_line.new.source) c.loop-text.reader.kept (g.K.Sink.written c.args.out.now) (g.K.Sink.written c.flush.new.out) c.flush.new.text.items c.loop-text.faulted c.next_line.new.self.taken
-    (flushed (whole_run g.E.Engine.gives g.E.Engine.fires c.args.limit c.args.program) (run g.E.Engine.gives g.E.Engine.fires c.args.limit c.args.program c.loop-text.number c.loop-text.left so.0 c.loop-text.faulted) (lines_ahead [] (g.S.Source.left c.args.script.now)) (lines_ahead c.loop-text.reader.kept (g.S.Source.left c.loop-text.script)) (g.K.Sink.written c.args.out.now) (g.K.Sink.written c.loop-text.out) (g.K.Sink.written c.flush.new.out) c.loop-text.text.items c.flush.new.text.items so.2 c.in_ok-flush.ensures.ok)
-    (run_ended g.E.Engine.gives g.E.Engine.fires c.args.limit c.args.program c.loop-text.number c.loop-text.left so.0 c.loop-text.faulted) stop (inv.total ∙ c.next_line.ensures.total) taken
+    long_run (whole_run g.E.Engine.gives g.E.Engine.fires (g.E.Engine.counts c.args.program c.args.lives) c.args.limit c.args.program) (run g.E.Engine.gives g.E.Engine.fires (g.E.Engine.counts c.args.program c.args.lives) c.args.limit c.args.program c.loop-text.number c.loop-text.left so.0 c.loop-text.faulted) (g.S.Source.left c.args.script.now) (g.S.Source.left c.loop-text.script) (g.S.Source.left c.next_line.new.source) c.loop-text.reader.kept (g.K.Sink.written c.args.out.now) (g.K.Sink.written c.flush.new.out) c.flush.new.text.items c.loop-text.faulted c.next_line.new.self.taken
+    (flushed (whole_run g.E.Engine.gives g.E.Engine.fires (g.E.Engine.counts c.args.program c.args.lives) c.args.limit c.args.program) (run g.E.Engine.gives g.E.Engine.fires (g.E.Engine.counts c.args.program c.args.lives) c.args.limit c.args.program c.loop-text.number c.loop-text.left so.0 c.loop-text.faulted) (lines_ahead [] (g.S.Source.left c.args.script.now)) (lines_ahead c.loop-text.reader.kept (g.S.Source.left c.loop-text.script)) (g.K.Sink.written c.args.out.now) (g.K.Sink.written c.loop-text.out) (g.K.Sink.written c.flush.new.out) c.loop-text.text.items c.flush.new.text.items so.2 c.in_ok-flush.ensures.ok)
+    (run_ended g.E.Engine.gives g.E.Engine.fires (g.E.Engine.counts c.args.program c.args.lives) c.args.limit c.args.program c.loop-text.number c.loop-text.left so.0 c.loop-text.faulted) stop (inv.total ∙ c.next_line.ensures.total) taken
 
 pub returns-in_err-next-clause-front : goal.returns-in_err-next-clause-front
 returns-in_err-next-clause-front g c =
     let so = c.loop-text.invariant.so_far in
-    told_err (g.S.Source.left c.args.script.now) c.from_residual-in_err-next.result (λ bytes. AppendsFront (g.K.Sink.written c.args.out.now) (g.K.Sink.written c.flush.new.out) (whole_run g.E.Engine.gives g.E.Engine.fires c.args.limit c.args.program (lines_of bytes)).bytes)
-    (stopped (whole_run g.E.Engine.gives g.E.Engine.fires c.args.limit c.args.program) (run g.E.Engine.gives g.E.Engine.fires c.args.limit c.args.program c.loop-text.number c.loop-text.left so.0 c.loop-text.faulted) (g.S.Source.left c.args.script.now) (lines_ahead c.loop-text.reader.kept (g.S.Source.left c.loop-text.script)) (g.K.Sink.written c.args.out.now) (g.K.Sink.written c.flush.new.out) c.flush.new.text.items (flushed (whole_run g.E.Engine.gives g.E.Engine.fires c.args.limit c.args.program) (run g.E.Engine.gives g.E.Engine.fires c.args.limit c.args.program c.loop-text.number c.loop-text.left so.0 c.loop-text.faulted) (lines_ahead [] (g.S.Source.left c.args.script.now)) (lines_ahead c.loop-text.reader.kept (g.S.Source.left c.loop-text.script)) (g.K.Sink.written c.args.out.now) (g.K.Sink.written c.loop-text.out) (g.K.Sink.written c.flush.new.out) c.loop-text.text.items c.flush.new.text.items so.2 c.in_ok-flush.ensures.ok))
+    told_err (g.S.Source.left c.args.script.now) c.from_residual-in_err-next.result (λ bytes. AppendsFront (g.K.Sink.written c.args.out.now) (g.K.Sink.written c.flush.new.out) (whole_run g.E.Engine.gives g.E.Engine.fires (g.E.Engine.counts c.args.program c.args.lives) c.args.limit c.args.program (lines_of bytes)).bytes)
+    (stopped (whole_run g.E.Engine.gives g.E.Engine.fires (g.E.Engine.counts c.args.program c.args.lives) c.args.limit c.args.program) (run g.E.Engine.gives g.E.Engine.fires (g.E.Engine.counts c.args.program c.args.lives) c.args.limit c.args.program c.loop-text.number c.loop-text.left so.0 c.loop-text.faulted) (g.S.Source.left c.args.script.now) (lines_ahead c.loop-text.reader.kept (g.S.Source.left c.loop-text.script)) (g.K.Sink.written c.args.out.now) (g.K.Sink.written c.flush.new.out) c.flush.new.text.items (flushed (whole_run g.E.Engine.gives g.E.Engine.fires (g.E.Engine.counts c.args.program c.args.lives) c.args.limit c.args.program) (run g.E.Engine.gives g.E.Engine.fires (g.E.Engine.counts c.args.program c.args.lives) c.args.limit c.args.program c.loop-text.number c.loop-text.left so.0 c.loop-text.faulted) (lines_ahead [] (g.S.Source.left c.args.script.now)) (lines_ahead c.loop-text.reader.kept (g.S.Source.left c.loop-text.script)) (g.K.Sink.written c.args.out.now) (g.K.Sink.written c.loop-text.out) (g.K.Sink.written c.flush.new.out) c.loop-text.text.items c.flush.new.text.items so.2 c.in_ok-flush.ensures.ok))
 
 pub returns-in_err-next-clause-taken : goal.returns-in_err-next-clause-taken
 returns-in_err-next-clause-taken g c =
@@ -66,8 +66,8 @@ returns-in_err-write_all-in-None-clause-front g c =
     let ended = rw c.in-None.is at (c.in_ok-next.ensures.turn so.0 _ _ so.1 answers) in
     let part : AppendsFront (g.K.Sink.written c.flush.new.out) (g.K.Sink.written c.write_all.new.sink) c.flush.new.text.items =
     rw (sym ended.1, sym c.deref.ensures.value) c.in_err-write_all-in-None.ensures.err in
-    told_err (g.S.Source.left c.args.script.now) c.from_residual-in_err-write_all-in-None.result (λ bytes. AppendsFront (g.K.Sink.written c.args.out.now) (g.K.Sink.written c.write_all.new.sink) (whole_run g.E.Engine.gives g.E.Engine.fires c.args.limit c.args.program (lines_of bytes)).bytes)
-    (stopped_in (whole_run g.E.Engine.gives g.E.Engine.fires c.args.limit c.args.program) (run g.E.Engine.gives g.E.Engine.fires c.args.limit c.args.program c.loop-text.number c.loop-text.left so.0 c.loop-text.faulted) (g.S.Source.left c.args.script.now) (lines_ahead c.loop-text.reader.kept (g.S.Source.left c.loop-text.script)) (g.K.Sink.written c.args.out.now) (g.K.Sink.written c.flush.new.out) (g.K.Sink.written c.write_all.new.sink) c.flush.new.text.items (flushed (whole_run g.E.Engine.gives g.E.Engine.fires c.args.limit c.args.program) (run g.E.Engine.gives g.E.Engine.fires c.args.limit c.args.program c.loop-text.number c.loop-text.left so.0 c.loop-text.faulted) (lines_ahead [] (g.S.Source.left c.args.script.now)) (lines_ahead c.loop-text.reader.kept (g.S.Source.left c.loop-text.script)) (g.K.Sink.written c.args.out.now) (g.K.Sink.written c.loop-text.out) (g.K.Sink.written c.flush.new.out) c.loop-text.text.items c.flush.new.text.items so.2 c.in_ok-flush.ensures.ok) part)
+    told_err (g.S.Source.left c.args.script.now) c.from_residual-in_err-write_all-in-None.result (λ bytes. AppendsFront (g.K.Sink.written c.args.out.now) (g.K.Sink.written c.write_all.new.sink) (whole_run g.E.Engine.gives g.E.Engine.fires (g.E.Engine.counts c.args.program c.args.lives) c.args.limit c.args.program (lines_of bytes)).bytes)
+    (stopped_in (whole_run g.E.Engine.gives g.E.Engine.fires (g.E.Engine.counts c.args.program c.args.lives) c.args.limit c.args.program) (run g.E.Engine.gives g.E.Engine.fires (g.E.Engine.counts c.args.program c.args.lives) c.args.limit c.args.program c.loop-text.number c.loop-text.left so.0 c.loop-text.faulted) (g.S.Source.left c.args.script.now) (lines_ahead c.loop-text.reader.kept (g.S.Source.left c.loop-text.script)) (g.K.Sink.written c.args.out.now) (g.K.Sink.written c.flush.new.out) (g.K.Sink.written c.write_all.new.sink) c.flush.new.text.items (flushed (whole_run g.E.Engine.gives g.E.Engine.fires (g.E.Engine.counts c.args.program c.args.lives) c.args.limit c.args.program) (run g.E.Engine.gives g.E.Engine.fires (g.E.Engine.counts c.args.program c.args.lives) c.args.limit c.args.program c.loop-text.number c.loop-text.left so.0 c.loop-text.faulted) (lines_ahead [] (g.S.Source.left c.args.script.now)) (lines_ahead c.loop-text.reader.kept (g.S.Source.left c.loop-text.script)) (g.K.Sink.written c.args.out.now) (g.K.Sink.written c.loop-text.out) (g.K.Sink.written c.flush.new.out) c.loop-text.text.items c.flush.new.text.items so.2 c.in_ok-flush.ensures.ok) part)
 
 pub returns-in_err-write_all-in-None-clause-taken : goal.returns-in_err-write_all-in-None-clause-taken
 returns-in_err-write_all-in-None-clause-taken g c =
@@ -84,9 +84,9 @@ returns-in-None-clause-done g c =
     let answers = rw inv.line_max at c.in-Ok.ensures.line in
     let ended = rw c.in-None.is at (c.in_ok-next.ensures.turn so.0 _ _ so.1 answers) in
     let all : g.K.Sink.written c.write_all.new.sink ≡ append (g.K.Sink.written c.flush.new.out) c.flush.new.text.items = c.in_ok-write_all-in-None.ensures.ok ∙ ap (append (g.K.Sink.written c.flush.new.out)) (c.deref.ensures.value ∙ ended.1) in
-    all_done (whole_run g.E.Engine.gives g.E.Engine.fires c.args.limit c.args.program) (run g.E.Engine.gives g.E.Engine.fires c.args.limit c.args.program c.loop-text.number c.loop-text.left so.0 c.loop-text.faulted) (g.S.Source.left c.args.script.now) (lines_ahead c.loop-text.reader.kept (g.S.Source.left c.loop-text.script)) (g.K.Sink.written c.args.out.now) (g.K.Sink.written c.flush.new.out) (g.K.Sink.written c.write_all.new.sink) c.flush.new.text.items (Script c.loop-text.faulted)
-    (flushed (whole_run g.E.Engine.gives g.E.Engine.fires c.args.limit c.args.program) (run g.E.Engine.gives g.E.Engine.fires c.args.limit c.args.program c.loop-text.number c.loop-text.left so.0 c.loop-text.faulted) (lines_ahead [] (g.S.Source.left c.args.script.now)) (lines_ahead c.loop-text.reader.kept (g.S.Source.left c.loop-text.script)) (g.K.Sink.written c.args.out.now) (g.K.Sink.written c.loop-text.out) (g.K.Sink.written c.flush.new.out) c.loop-text.text.items c.flush.new.text.items so.2 c.in_ok-flush.ensures.ok)
-    (no_line g.E.Engine.gives g.E.Engine.fires c.args.limit c.args.program c.loop-text.number c.loop-text.left so.0 c.loop-text.faulted (lines_ahead c.loop-text.reader.kept (g.S.Source.left c.loop-text.script)) ended.0) all
+    all_done (whole_run g.E.Engine.gives g.E.Engine.fires (g.E.Engine.counts c.args.program c.args.lives) c.args.limit c.args.program) (run g.E.Engine.gives g.E.Engine.fires (g.E.Engine.counts c.args.program c.args.lives) c.args.limit c.args.program c.loop-text.number c.loop-text.left so.0 c.loop-text.faulted) (g.S.Source.left c.args.script.now) (lines_ahead c.loop-text.reader.kept (g.S.Source.left c.loop-text.script)) (g.K.Sink.written c.args.out.now) (g.K.Sink.written c.flush.new.out) (g.K.Sink.written c.write_all.new.sink) c.flush.new.text.items (Script c.loop-text.faulted)
+    (flushed (whole_run g.E.Engine.gives g.E.Engine.fires (g.E.Engine.counts c.args.program c.args.lives) c.args.limit c.args.program) (run g.E.Engine.gives g.E.Engine.fires (g.E.Engine.counts c.args.program c.args.lives) c.args.limit c.args.program c.loop-text.number c.loop-text.left so.0 c.loop-text.faulted) (lines_ahead [] (g.S.Source.left c.args.script.now)) (lines_ahead c.loop-text.reader.kept (g.S.Source.left c.loop-text.script)) (g.K.Sink.written c.args.out.now) (g.K.Sink.written c.loop-text.out) (g.K.Sink.written c.flush.new.out) c.loop-text.text.items c.flush.new.text.items so.2 c.in_ok-flush.ensures.ok)
+    (no_line g.E.Engine.gives g.E.Engine.fires (g.E.Engine.counts c.args.program c.args.lives) c.args.limit c.args.program c.loop-text.number c.loop-text.left so.0 c.loop-text.faulted (lines_ahead c.loop-text.reader.kept (g.S.Source.left c.loop-text.script)) ended.0) all
 
 pub returns-in-None-clause-taken : goal.returns-in-None-clause-taken
 returns-in-None-clause-taken g c =
@@ -113,12 +113,12 @@ returns-in_err-write_all-in-Some-Stops-clause-front g c =
     let so = inv.so_far in
     let answers = rw inv.line_max at c.in-Ok.ensures.line in
     let is : c.in-Some-Stops.field-0 ≡ Stops = rw c.in-Some-Stops.is at c.in-Some-Stops.field-0-is in
-    let turn = rw (c.in-Some-Stops.is, is, inv.program) at (c.in_ok-next.ensures.turn so.0 _ _ so.1 answers) in
-    let there = ends_there (whole_run g.E.Engine.gives g.E.Engine.fires c.args.limit c.args.program) g.E.Engine.gives g.E.Engine.fires c.args.limit c.args.program c.loop-text.number c.loop-text.left so.0 c.loop-text.faulted (lines_ahead [] (g.S.Source.left c.args.script.now)) (lines_ahead c.loop-text.reader.kept (g.S.Source.left c.loop-text.script)) (lines_ahead c.next_line.new.self.kept (g.S.Source.left c.next_line.new.source)) (g.K.Sink.written c.args.out.now) (g.K.Sink.written c.flush.new.out) turn.0 c.flush.new.text.items c.take_turn.new.text.items (g.E.Engine.stands c.in_ok-next.next)
-    (flushed (whole_run g.E.Engine.gives g.E.Engine.fires c.args.limit c.args.program) (run g.E.Engine.gives g.E.Engine.fires c.args.limit c.args.program c.loop-text.number c.loop-text.left so.0 c.loop-text.faulted) (lines_ahead [] (g.S.Source.left c.args.script.now)) (lines_ahead c.loop-text.reader.kept (g.S.Source.left c.loop-text.script)) (g.K.Sink.written c.args.out.now) (g.K.Sink.written c.loop-text.out) (g.K.Sink.written c.flush.new.out) c.loop-text.text.items c.flush.new.text.items so.2 c.in_ok-flush.ensures.ok) turn.1 turn.2 in
+    let turn = rw (c.in-Some-Stops.is, is, inv.program, inv.table) at (c.in_ok-next.ensures.turn so.0 _ _ so.1 answers) in
+    let there = ends_there (whole_run g.E.Engine.gives g.E.Engine.fires (g.E.Engine.counts c.args.program c.args.lives) c.args.limit c.args.program) g.E.Engine.gives g.E.Engine.fires (g.E.Engine.counts c.args.program c.args.lives) c.args.limit c.args.program c.loop-text.number c.loop-text.left so.0 c.loop-text.faulted (lines_ahead [] (g.S.Source.left c.args.script.now)) (lines_ahead c.loop-text.reader.kept (g.S.Source.left c.loop-text.script)) (lines_ahead c.next_line.new.self.kept (g.S.Source.left c.next_line.new.source)) (g.K.Sink.written c.args.out.now) (g.K.Sink.written c.flush.new.out) turn.0 c.flush.new.text.items c.take_turn.new.text.items (g.E.Engine.stands c.in_ok-next.next)
+    (flushed (whole_run g.E.Engine.gives g.E.Engine.fires (g.E.Engine.counts c.args.program c.args.lives) c.args.limit c.args.program) (run g.E.Engine.gives g.E.Engine.fires (g.E.Engine.counts c.args.program c.args.lives) c.args.limit c.args.program c.loop-text.number c.loop-text.left so.0 c.loop-text.faulted) (lines_ahead [] (g.S.Source.left c.args.script.now)) (lines_ahead c.loop-text.reader.kept (g.S.Source.left c.loop-text.script)) (g.K.Sink.written c.args.out.now) (g.K.Sink.written c.loop-text.out) (g.K.Sink.written c.flush.new.out) c.loop-text.text.items c.flush.new.text.items so.2 c.in_ok-flush.ensures.ok) turn.1 turn.2 in
     let part : AppendsFront (g.K.Sink.written c.flush.new.out) (g.K.Sink.written c.write_all-in-Some-Stops.new.sink) c.take_turn.new.text.items = rw (sym c.deref-in-Some-Stops.ensures.value) c.in_err-write_all-in-Some-Stops.ensures.err in
-    told_err (g.S.Source.left c.args.script.now) c.from_residual-in_err-write_all-in-Some-Stops.result (λ bytes. AppendsFront (g.K.Sink.written c.args.out.now) (g.K.Sink.written c.write_all-in-Some-Stops.new.sink) (whole_run g.E.Engine.gives g.E.Engine.fires c.args.limit c.args.program (lines_of bytes)).bytes)
-    (stopped_in (whole_run g.E.Engine.gives g.E.Engine.fires c.args.limit c.args.program) (λ more. at_limit) (g.S.Source.left c.args.script.now) (lines_ahead c.next_line.new.self.kept (g.S.Source.left c.next_line.new.source)) (g.K.Sink.written c.args.out.now) (g.K.Sink.written c.flush.new.out) (g.K.Sink.written c.write_all-in-Some-Stops.new.sink) c.take_turn.new.text.items there part)
+    told_err (g.S.Source.left c.args.script.now) c.from_residual-in_err-write_all-in-Some-Stops.result (λ bytes. AppendsFront (g.K.Sink.written c.args.out.now) (g.K.Sink.written c.write_all-in-Some-Stops.new.sink) (whole_run g.E.Engine.gives g.E.Engine.fires (g.E.Engine.counts c.args.program c.args.lives) c.args.limit c.args.program (lines_of bytes)).bytes)
+    (stopped_in (whole_run g.E.Engine.gives g.E.Engine.fires (g.E.Engine.counts c.args.program c.args.lives) c.args.limit c.args.program) (λ more. at_limit) (g.S.Source.left c.args.script.now) (lines_ahead c.next_line.new.self.kept (g.S.Source.left c.next_line.new.source)) (g.K.Sink.written c.args.out.now) (g.K.Sink.written c.flush.new.out) (g.K.Sink.written c.write_all-in-Some-Stops.new.sink) c.take_turn.new.text.items there part)
 
 pub returns-in_err-write_all-in-Some-Stops-clause-taken : goal.returns-in_err-write_all-in-Some-Stops-clause-taken
 returns-in_err-write_all-in-Some-Stops-clause-taken g c =
@@ -134,11 +134,11 @@ returns-in-Some-Stops-clause-done g c =
     let so = inv.so_far in
     let answers = rw inv.line_max at c.in-Ok.ensures.line in
     let is : c.in-Some-Stops.field-0 ≡ Stops = rw c.in-Some-Stops.is at c.in-Some-Stops.field-0-is in
-    let turn = rw (c.in-Some-Stops.is, is, inv.program) at (c.in_ok-next.ensures.turn so.0 _ _ so.1 answers) in
-    let there = ends_there (whole_run g.E.Engine.gives g.E.Engine.fires c.args.limit c.args.program) g.E.Engine.gives g.E.Engine.fires c.args.limit c.args.program c.loop-text.number c.loop-text.left so.0 c.loop-text.faulted (lines_ahead [] (g.S.Source.left c.args.script.now)) (lines_ahead c.loop-text.reader.kept (g.S.Source.left c.loop-text.script)) (lines_ahead c.next_line.new.self.kept (g.S.Source.left c.next_line.new.source)) (g.K.Sink.written c.args.out.now) (g.K.Sink.written c.flush.new.out) turn.0 c.flush.new.text.items c.take_turn.new.text.items (g.E.Engine.stands c.in_ok-next.next)
-    (flushed (whole_run g.E.Engine.gives g.E.Engine.fires c.args.limit c.args.program) (run g.E.Engine.gives g.E.Engine.fires c.args.limit c.args.program c.loop-text.number c.loop-text.left so.0 c.loop-text.faulted) (lines_ahead [] (g.S.Source.left c.args.script.now)) (lines_ahead c.loop-text.reader.kept (g.S.Source.left c.loop-text.script)) (g.K.Sink.written c.args.out.now) (g.K.Sink.written c.loop-text.out) (g.K.Sink.written c.flush.new.out) c.loop-text.text.items c.flush.new.text.items so.2 c.in_ok-flush.ensures.ok) turn.1 turn.2 in
+    let turn = rw (c.in-Some-Stops.is, is, inv.program, inv.table) at (c.in_ok-next.ensures.turn so.0 _ _ so.1 answers) in
+    let there = ends_there (whole_run g.E.Engine.gives g.E.Engine.fires (g.E.Engine.counts c.args.program c.args.lives) c.args.limit c.args.program) g.E.Engine.gives g.E.Engine.fires (g.E.Engine.counts c.args.program c.args.lives) c.args.limit c.args.program c.loop-text.number c.loop-text.left so.0 c.loop-text.faulted (lines_ahead [] (g.S.Source.left c.args.script.now)) (lines_ahead c.loop-text.reader.kept (g.S.Source.left c.loop-text.script)) (lines_ahead c.next_line.new.self.kept (g.S.Source.left c.next_line.new.source)) (g.K.Sink.written c.args.out.now) (g.K.Sink.written c.flush.new.out) turn.0 c.flush.new.text.items c.take_turn.new.text.items (g.E.Engine.stands c.in_ok-next.next)
+    (flushed (whole_run g.E.Engine.gives g.E.Engine.fires (g.E.Engine.counts c.args.program c.args.lives) c.args.limit c.args.program) (run g.E.Engine.gives g.E.Engine.fires (g.E.Engine.counts c.args.program c.args.lives) c.args.limit c.args.program c.loop-text.number c.loop-text.left so.0 c.loop-text.faulted) (lines_ahead [] (g.S.Source.left c.args.script.now)) (lines_ahead c.loop-text.reader.kept (g.S.Source.left c.loop-text.script)) (g.K.Sink.written c.args.out.now) (g.K.Sink.written c.loop-text.out) (g.K.Sink.written c.flush.new.out) c.loop-text.text.items c.flush.new.text.items so.2 c.in_ok-flush.ensures.ok) turn.1 turn.2 in
     let all : g.K.Sink.written c.write_all-in-Some-Stops.new.sink ≡ append (g.K.Sink.written c.flush.new.out) c.take_turn.new.text.items = c.in_ok-write_all-in-Some-Stops.ensures.ok ∙ ap (append (g.K.Sink.written c.flush.new.out)) c.deref-in-Some-Stops.ensures.value in
-    all_done (whole_run g.E.Engine.gives g.E.Engine.fires c.args.limit c.args.program) (λ more. at_limit) (g.S.Source.left c.args.script.now) (lines_ahead c.next_line.new.self.kept (g.S.Source.left c.next_line.new.source)) (g.K.Sink.written c.args.out.now) (g.K.Sink.written c.flush.new.out) (g.K.Sink.written c.write_all-in-Some-Stops.new.sink) c.take_turn.new.text.items Limit there (no_more (lines_ahead c.next_line.new.self.kept (g.S.Source.left c.next_line.new.source))) all
+    all_done (whole_run g.E.Engine.gives g.E.Engine.fires (g.E.Engine.counts c.args.program c.args.lives) c.args.limit c.args.program) (λ more. at_limit) (g.S.Source.left c.args.script.now) (lines_ahead c.next_line.new.self.kept (g.S.Source.left c.next_line.new.source)) (g.K.Sink.written c.args.out.now) (g.K.Sink.written c.flush.new.out) (g.K.Sink.written c.write_all-in-Some-Stops.new.sink) c.take_turn.new.text.items Limit there (no_more (lines_ahead c.next_line.new.self.kept (g.S.Source.left c.next_line.new.source))) all
 
 pub returns-in-Some-Stops-clause-taken : goal.returns-in-Some-Stops-clause-taken
 returns-in-Some-Stops-clause-taken g c =
@@ -154,8 +154,9 @@ loop-text-init g c =
     let kept : c.in_ok-reader.reader.kept ≡ [] = ap (λ (r : Reader). r.kept) reader in
     let taken : c.in_ok-reader.reader.taken ≡ 0 = ap (λ (r : Reader). r.taken) reader in
     record {
-      so_far = (empty_world, c.in_ok-engine.ensures.stands, at_start (whole_run g.E.Engine.gives g.E.Engine.fires c.args.limit c.args.program) (g.S.Source.left c.args.script.now) c.in_ok-reader.reader.kept c.new-text.result.items (g.K.Sink.written c.args.out.now) kept c.new-text.ensures.items);
+      so_far = (empty_world, c.in_ok-engine.ensures.stands, at_start (whole_run g.E.Engine.gives g.E.Engine.fires (g.E.Engine.counts c.args.program c.args.lives) c.args.limit c.args.program) (g.S.Source.left c.args.script.now) c.in_ok-reader.reader.kept c.new-text.result.items (g.K.Sink.written c.args.out.now) kept c.new-text.ensures.items);
       program = c.in_ok-engine.ensures.program;
+      table = c.in_ok-engine.ensures.table;
       tags = omega (arith, c.in_ok-engine.ensures.tags);
       total = rw taken refl;
       given = rw taken (none_given (g.S.Source.given c.args.script.now));
@@ -173,15 +174,16 @@ loop-text-preserved g c =
     let so = inv.so_far in
     let answers = rw inv.line_max at c.in-Ok.ensures.line in
     let is : c.in-Some-Goes.field-0 ≡ Goes c.in-Some-Goes.bad c.in-Some-Goes.more = rw c.in-Some-Goes.is at c.in-Some-Goes.field-0-is in
-    let turn = rw (c.in-Some-Goes.is, is, inv.program) at (c.in_ok-next.ensures.turn so.0 _ _ so.1 answers) in
+    let turn = rw (c.in-Some-Goes.is, is, inv.program, inv.table) at (c.in_ok-next.ensures.turn so.0 _ _ so.1 answers) in
     let tags = rw (c.in-Some-Goes.is, is) at c.in_ok-next.ensures.tags in
     let goes_on = rw inv.total_max at c.in-Ok.ensures.goes_on in
     let less = rw c.in-Some-Goes.is at (c.in_ok-next.ensures.smaller _ _ goes_on) in
     let given = c.next_line.ensures.together ∙ ap (λ n. count_after n (c.next_line.new.self.taken - c.loop-text.reader.taken)) inv.given in
     record {
-      so_far = goes_further (whole_run g.E.Engine.gives g.E.Engine.fires c.args.limit c.args.program) g.E.Engine.gives g.E.Engine.fires c.args.limit c.args.program c.loop-text.number c.loop-text.left so.0 c.loop-text.faulted c.in-Some-Goes.bad c.either-faulted.result c.in-Some-Goes.more (lines_ahead [] (g.S.Source.left c.args.script.now)) (lines_ahead c.loop-text.reader.kept (g.S.Source.left c.loop-text.script)) (lines_ahead c.next_line.new.self.kept (g.S.Source.left c.next_line.new.source)) (g.K.Sink.written c.args.out.now) (g.K.Sink.written c.flush.new.out) turn.0 c.flush.new.text.items c.take_turn.new.text.items (g.E.Engine.stands c.in_ok-next.next)
-          (flushed (whole_run g.E.Engine.gives g.E.Engine.fires c.args.limit c.args.program) (run g.E.Engine.gives g.E.Engine.fires c.args.limit c.args.program c.loop-text.number c.loop-text.left so.0 c.loop-text.faulted) (lines_ahead [] (g.S.Source.left c.args.script.now)) (lines_ahead c.loop-text.reader.kept (g.S.Source.left c.loop-text.script)) (g.K.Sink.written c.args.out.now) (g.K.Sink.written c.loop-text.out) (g.K.Sink.written c.flush.new.out) c.loop-text.text.items c.flush.new.text.items so.2 c.in_ok-flush.ensures.ok) turn.1 turn.2 c.either-faulted.ensures;
+      so_far = goes_further (whole_run g.E.Engine.gives g.E.Engine.fires (g.E.Engine.counts c.args.program c.args.lives) c.args.limit c.args.program) g.E.Engine.gives g.E.Engine.fires (g.E.Engine.counts c.args.program c.args.lives) c.args.limit c.args.program c.loop-text.number c.loop-text.left so.0 c.loop-text.faulted c.in-Some-Goes.bad c.either-faulted.result c.in-Some-Goes.more (lines_ahead [] (g.S.Source.left c.args.script.now)) (lines_ahead c.loop-text.reader.kept (g.S.Source.left c.loop-text.script)) (lines_ahead c.next_line.new.self.kept (g.S.Source.left c.next_line.new.source)) (g.K.Sink.written c.args.out.now) (g.K.Sink.written c.flush.new.out) turn.0 c.flush.new.text.items c.take_turn.new.text.items (g.E.Engine.stands c.in_ok-next.next)
+          (flushed (whole_run g.E.Engine.gives g.E.Engine.fires (g.E.Engine.counts c.args.program c.args.lives) c.args.limit c.args.program) (run g.E.Engine.gives g.E.Engine.fires (g.E.Engine.counts c.args.program c.args.lives) c.args.limit c.args.program c.loop-text.number c.loop-text.left so.0 c.loop-text.faulted) (lines_ahead [] (g.S.Source.left c.args.script.now)) (lines_ahead c.loop-text.reader.kept (g.S.Source.left c.loop-text.script)) (g.K.Sink.written c.args.out.now) (g.K.Sink.written c.loop-text.out) (g.K.Sink.written c.flush.new.out) c.loop-text.text.items c.flush.new.text.items so.2 c.in_ok-flush.ensures.ok) turn.1 turn.2 c.either-faulted.ensures;
       program = c.in_ok-next.ensures.program ∙ inv.program;
+      table = c.in_ok-next.ensures.table ∙ inv.table;
       tags = omega (arith, tags, inv.tags);
       total = inv.total ∙ c.next_line.ensures.total;
       given = count_more (g.S.Source.given c.args.script.now) c.loop-text.reader.taken c.next_line.new.self.taken _ c.next_line.ensures.taken given;

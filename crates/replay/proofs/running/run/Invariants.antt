@@ -13,9 +13,11 @@ invariant-loop-text g l =
     let written = g.K.Sink.written in
     let gives = g.E.Engine.gives in
     let fires = g.E.Engine.fires in
+    let numbers = g.E.Engine.counts l.fn.program l.fn.lives in
     record {
-      so_far : (w : World) × g.E.Engine.stands l.engine w × SoFar (whole_run gives fires l.fn.limit l.fn.program) (run gives fires l.fn.limit l.fn.program l.number l.left w l.faulted) (lines_ahead [] (left l.fn.script)) (lines_ahead l.reader.kept (left l.script)) (written l.fn.out) (written l.out) l.text.items;
+      so_far : (w : World) × g.E.Engine.stands l.engine w × SoFar (whole_run gives fires numbers l.fn.limit l.fn.program) (run gives fires numbers l.fn.limit l.fn.program l.number l.left w l.faulted) (lines_ahead [] (left l.fn.script)) (lines_ahead l.reader.kept (left l.script)) (written l.fn.out) (written l.out) l.text.items;
       program : g.E.Engine.made_with l.engine ≡ l.fn.program;
+      table : g.E.Engine.table l.engine ≡ l.fn.lives;
       tags : g.E.Engine.tags l.engine + 16 * l.left ≤ 16 * l.fn.limit + 16 * l.number;
       total : total_told 0 (left l.fn.script) ≡ total_told l.reader.taken (left l.script);
       given : g.S.Source.given l.script ≡ count_after (g.S.Source.given l.fn.script) l.reader.taken;

@@ -10,13 +10,13 @@ pub returns-in-Err-Missing-clause-exact : goal.returns-in-Err-Missing-clause-exa
 returns-in-Err-Missing-clause-exact g c files bytes told tells low =
     let gone = c.in-Err-Missing.ensures.missing (ap Err c.in-Err-Missing.field-0-is) in
     let said = rw c.whole_file.ensures at (c.refuse.ensures.said low) in
-    refused _ _ _ bytes _ _ _ _ (no_file (wanted_of c.args.mode c.args.limit) c.args.name.now _ files told gone) said
+    refused _ _ _ _ bytes _ _ _ _ (no_file (wanted_of c.args.mode c.args.limit) c.args.name.now _ files told gone) said
 
 pub returns-in-Err-Missing-clause-front : goal.returns-in-Err-Missing-clause-front
 returns-in-Err-Missing-clause-front g c files bytes told tells high =
     let gone = c.in-Err-Missing.ensures.missing (ap Err c.in-Err-Missing.field-0-is) in
     let front = rw c.whole_file.ensures at (c.refuse.ensures.front high) in
-    refused_front _ _ _ bytes _ _ _ (no_file (wanted_of c.args.mode c.args.limit) c.args.name.now _ files told gone) front
+    refused_front _ _ _ _ bytes _ _ _ (no_file (wanted_of c.args.mode c.args.limit) c.args.name.now _ files told gone) front
 
 pub returns-in-Err-Missing-clause-refusal : goal.returns-in-Err-Missing-clause-refusal
 returns-in-Err-Missing-clause-refusal g c files told three =
@@ -46,14 +46,14 @@ pub returns-in-Ok-Refused-clause-exact : goal.returns-in-Ok-Refused-clause-exact
 unfolding file_limit
 returns-in-Ok-Refused-clause-exact g c files bytes told tells low =
     let is : reading c.in-Ok.file.items ≡ Refused c.in-Ok-Refused.refusal = ap reading (sym c.deref.ensures.value) ∙ sym c.in-Ok-Refused.ensures.reading ∙ c.in-Ok-Refused.field-0-is in
-    refused _ _ _ bytes _ _ _ _ (a_file (wanted_of c.args.mode c.args.limit) c.args.name.now _ files c.in-Ok.file.items (Refused c.in-Ok-Refused.refusal) told c.in-Ok.ensures.found c.in-Ok.ensures.bytes is)
+    refused _ _ _ _ bytes _ _ _ _ (a_file (wanted_of c.args.mode c.args.limit) c.args.name.now _ files c.in-Ok.file.items (Refused c.in-Ok-Refused.refusal) told c.in-Ok.ensures.found c.in-Ok.ensures.bytes is)
     (c.refuse-in-Ok-Refused.ensures.said low)
 
 pub returns-in-Ok-Refused-clause-front : goal.returns-in-Ok-Refused-clause-front
 unfolding file_limit
 returns-in-Ok-Refused-clause-front g c files bytes told tells high =
     let is : reading c.in-Ok.file.items ≡ Refused c.in-Ok-Refused.refusal = ap reading (sym c.deref.ensures.value) ∙ sym c.in-Ok-Refused.ensures.reading ∙ c.in-Ok-Refused.field-0-is in
-    refused_front _ _ _ bytes _ _ _ (a_file (wanted_of c.args.mode c.args.limit) c.args.name.now _ files c.in-Ok.file.items (Refused c.in-Ok-Refused.refusal) told c.in-Ok.ensures.found c.in-Ok.ensures.bytes is)
+    refused_front _ _ _ _ bytes _ _ _ (a_file (wanted_of c.args.mode c.args.limit) c.args.name.now _ files c.in-Ok.file.items (Refused c.in-Ok-Refused.refusal) told c.in-Ok.ensures.found c.in-Ok.ensures.bytes is)
     (c.refuse-in-Ok-Refused.ensures.front high)
 
 pub returns-in-Ok-Refused-clause-refusal : goal.returns-in-Ok-Refused-clause-refusal
