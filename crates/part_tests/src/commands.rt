@@ -8,6 +8,7 @@ const LINES: &[(&[u8], &str)] = &[
     (b"{\"do\":\"fly\"}", "Err(BadCommand)"),
     (b"{\"do\":\"fire\"}", "Ok(Fire(None))"),
     (b"{\"max\":2,\"do\":\"fire\"}", "Ok(Fire(Some(2)))"),
+    (b"{\"do\":\"held\"}", "Ok(Held)"),
     (
         b"{\"do\":\"at\",\"ms\":9223372036854775807}",
         "Ok(Change(At(9223372036854775807)))",
