@@ -101,7 +101,7 @@ def summary(counts: Counter) -> str:
 def main() -> int:
     parser = argparse.ArgumentParser(description="Holds the program against the reference on random files and scripts.")
     parser.add_argument("--seeds", type=int, nargs=2, required=True, metavar=("A", "B"), help="from A up to B - 1")
-    parser.add_argument("--stage", type=int, default=13, help="the stage that the program has reached (default 13)")
+    parser.add_argument("--stage", type=int, default=14, help="the stage that the program has reached (default 14)")
     parser.add_argument("--replay", default=shlex.quote(PROGRAM), help="the program, a command")
     parser.add_argument("--folder", default="reference-failures", help="where the files of failing seeds are left")
     parser.add_argument("--seconds", type=float, default=60.0, help="the time that the program may take for a seed")

@@ -102,7 +102,7 @@ def write_case(case: Case, folder: str) -> None:
 def main() -> None:
     parser = argparse.ArgumentParser(description="Writes the rule file and the script of a seed.")
     parser.add_argument("seed", type=int)
-    parser.add_argument("--stage", type=int, default=13)
+    parser.add_argument("--stage", type=int, default=14)
     parser.add_argument("--folder", default="case")
     asked = parser.parse_args()
     write_case(case_of(asked.seed, asked.stage), asked.folder)

@@ -4,7 +4,7 @@
     python3 replay.py [--stage N] WORDS < SCRIPT
 
 Only as the two first words `--stage N` are this tool's own; without them the stage is that of the environment variable
-REFERENCE_STAGE, or 13. All other words are the program's. Everything that was taken into memory is assumed to fit.
+REFERENCE_STAGE, or 14. All other words are the program's. Everything that was taken into memory is assumed to fit.
 """
 
 from __future__ import annotations
@@ -163,7 +163,7 @@ def replay(words: list[str], stage: int) -> int:
 
 def main() -> int:
     words = sys.argv[1:]
-    stage = int(os.environ.get("REFERENCE_STAGE", "13"))
+    stage = int(os.environ.get("REFERENCE_STAGE", "14"))
     if len(words) >= 2 and words[0] == "--stage":
         stage, words = int(words[1]), words[2:]
     if not FIRST_STAGE <= stage <= LAST_STAGE:

@@ -31,7 +31,7 @@ def write(path: str, data: bytes) -> None:
 def main() -> int:
     parser = argparse.ArgumentParser(description="Holds the unproved program against the reference.")
     parser.add_argument("--seeds", type=int, nargs=2, required=True, metavar=("A", "B"), help="from A up to B - 1")
-    parser.add_argument("--stage", type=int, default=13)
+    parser.add_argument("--stage", type=int, default=14)
     parser.add_argument("--folder", default="reference-cases")
     asked = parser.parse_args()
     folder, rules = os.path.abspath(asked.folder), os.path.abspath(asked.folder) + "-rules"
