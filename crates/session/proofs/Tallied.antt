@@ -88,9 +88,11 @@ module _ (held : HeldFacts) (facts : List Fact) (h : Holds held facts) (low next
   of_type ty = record {
     once = once_each (facts_of_type ty facts) low next (ids_filtered (λ (f : Fact). f.ty.0 == ty) facts low next rise);
     some = λ id e.
-        let f = one_has id (facts_of_type ty facts) e in
-        (f.0.tag.0, ap (is_of ty id) (h.from f.0 (of_filter (λ (g : Fact). g.ty.0 == ty) f.0 facts f.1))
-        ∙ ap (λ b. b && nat_eq f.0.id.0 id) (passed (λ (g : Fact). g.ty.0 == ty) f.0 facts f.1) ∙ ap (λ n. nat_eq n id) f.2 ∙ eq_self id);
+        let f = one_has id (facts_of_type ty facts) e in (
+          f.0.tag.0,
+          ap (is_of ty id) (h.from f.0 (of_filter (λ (g : Fact). g.ty.0 == ty) f.0 facts f.1))
+              ∙ ap (λ b. b && nat_eq f.0.id.0 id) (passed (λ (g : Fact). g.ty.0 == ty) f.0 facts f.1) ∙ ap (λ n. nat_eq n id) f.2 ∙ eq_self id,
+        );
     all = λ id tag e. there id tag (map_of.get held tag) refl e;
   }
     where
