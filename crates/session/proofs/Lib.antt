@@ -35,3 +35,4 @@ pub mod Revising
 pub mod Passing
 pub mod Marking
 pub mod Counting_on
+pub mod Tallied

@@ -1,13 +1,31 @@
--- How many ids of the event types of a program have a fact that is kept.
-use Rattle.std.specs.Prelude.{◌+◌, ℕ, List, [], ◌∷◌, if◌then◌else◌}
+-- How many events of each event type of a program are kept: of a store by the ids of its facts, of a world by the facts that are kept of it.
+use Rattle.std.specs.Prelude.{◌+◌, ◌==◌, ℕ, List, [], ◌∷◌, map, length, if◌then◌else◌}
+use Rattle.std.specs.List.{filter}
+use Rattle.fx_base.specs.declared.fact.Fact.{Fact}
 use Rattle.fx_base.specs.declared.ids.TypeId.{TypeId}
 use Rattle.fact_store.specs.Held.{HeldFacts, CountsType}
+use Rattle.rule_model.specs.declared.life.LifeTable.{LifeTable}
+use Rattle.rule_model.specs.declared.program.Program.{Program}
 use Rattle.rule_model.specs.declared.program.TypeInfo.{TypeInfo}
+use Rattle.rule_world.specs.Worlds.{World}
+use Rattle.keeping.specs.Kept.{kept_facts}
 
 -- the event types among these, by their places, of which this is the first
 abbrev pub event_types : List TypeInfo → ℕ → List TypeId
 event_types [] place = []
 event_types (ty ∷ types) place = if ty.event then (record { 0 = place }) ∷ event_types types (place + 1) else event_types types (place + 1)
+
+-- ---- of a world
+
+-- the facts of a type among these
+abbrev pub facts_of_type : ℕ → List Fact → List Fact
+facts_of_type ty facts = filter (λ (f : Fact). f.ty.0 == ty) facts
+
+-- for each event type of a program, in their order, how many of the facts that are kept of a world with these lives are of it
+unfoldable pub held_counts : Program → LifeTable → World → List ℕ
+held_counts p table w = map (λ (ty : TypeId). length (facts_of_type ty.0 (kept_facts p table w))) (event_types p.types 0)
+
+-- ---- of a store
 
 -- each is the count of the type in its place
 abbrev pub AreCounts : HeldFacts → List TypeId → List ℕ → Type 0

@@ -45,7 +45,8 @@ impl Session {
     ghost use Rattle.rule_world.specs.Worlds.{World, empty_world};
     ghost use Rattle.engine.specs.Answers.{FiringAnswers};
     ghost use Rattle.engine.specs.Known.{are_known, is_known_firing};
-    ghost use Rattle.session.specs.Counts.{AreCounts, event_types as types_of_events};
+    ghost use Rattle.engine.specs.Counts.{HasEach};
+    ghost use Rattle.session.specs.Counts.{held_counts};
     ghost use Rattle.session.specs.Gives.{gives, fires};
     ghost use Rattle.session.specs.Sessions.{Stands};
 
@@ -154,11 +155,15 @@ impl Session {
         self.state.clock()
     }
 
-    /// For each event type of the program, in their order, how many of its events are kept, by their ids.
+    /// For each event type of the program, in their order, how many of its events are kept. It goes once over the types, and takes
+    /// memory for their places and their numbers alone.
     pub fn held(&self, alloc: Global) -> Result<Vec<u64>, NoMemory>
-        ensures { IfOk result (λ counts. AreCounts self.now.state.facts (types_of_events self.now.setting.program.types 0) counts.items) }
+        ensures counts { IfOk result (λ numbers. (w : World) → Stands self.now w
+            → numbers.items ≡ held_counts self.now.setting.program self.now.setting.lives w) }
+        ensures each { IfOk result (λ numbers. HasEach self.now.setting.program numbers.items) }
     {
-        let types = event_types(alloc, self.setting.setting().program.types.as_slice())?;
+        let inside = self.setting.setting();
+        let types = event_types(alloc, inside.program.types.as_slice())?;
         counts_of(alloc, &self.state.facts, types.as_slice())
     }
 
@@ -179,6 +184,7 @@ impl Session {
 
 impl Engine for Session {
     ghost use Rattle.std.specs.Prelude.{◌-◌};
+    ghost use Rattle.session.specs.Counts.{held_counts};
     ghost use Rattle.session.specs.Gives.{gives as session_gives, fires as session_fires};
     ghost use Rattle.session.specs.Sessions.{Stands};
 
@@ -194,6 +200,8 @@ impl Engine for Session {
 
     ghost fires = { session_fires };
 
+    ghost counts = { held_counts };
+
     fn new(alloc: Global, program: Program, lives: LifeTable) -> Result<Session, NoMemory> {
         Session::new(alloc, program, lives)
     }
@@ -208,6 +216,10 @@ impl Engine for Session {
 
     fn due(&self) -> bool {
         Session::due(self)
+    }
+
+    fn held(&self, alloc: Global) -> Result<Vec<u64>, NoMemory> {
+        Session::held(self, alloc)
     }
 
     fn program(&self) -> &Program {

@@ -11,6 +11,7 @@ ghost use Rattle.replay.specs.Refusals.{refusal_text};
 ghost use Rattle.replay.specs.Report.{Report, IsReport, Reports, TakesFor, IsLong};
 ghost use Rattle.replay.specs.Texts.{usage};
 ghost use Rattle.replay.specs.Wanted.{Files, wanted, IfRefuses, ReadsFile, RunsScript, IsUnfit};
+ghost use Rattle.session.specs.Counts.{held_counts};
 ghost use Rattle.session.specs.Gives.{gives, fires};
 
 use fx_io::{Shelf, Sink, Source};
@@ -24,7 +25,9 @@ use std::alloc::Global;
 /// script alone, and the limit means nothing to them. Where the words ask for the load of a number, it runs the load's script over the
 /// load's rule file, with the limit of the words, prints nothing of that, and writes how many lines it would print, and how many of these
 /// say what fires and what is faulty: the shelf and the script are left alone. The report of a run is that of an engine which keeps
-/// everything that was inserted and takes every match anew after each change (`gives` and `fires` of `session/specs/Gives.antt`).
+/// everything that was inserted and takes every match anew after each change (`gives` and `fires` of `session/specs/Gives.antt`). The
+/// numbers of its `held` lines alone are those of what is kept of that: for each event type how many of its events are kept
+/// (`held_counts` of `session/specs/Counts.antt`).
 ///
 /// The status is 0 where the script was read to its end, or the rule file of another mode is accepted, 1 where a line of the script
 /// was a fault, 2 where the words are refused, 3 where the rule file is missing or refused, 4 where a match was pending when no firing
@@ -39,11 +42,11 @@ pub fn run<F: Shelf, S: Source, K: Sink>(
 ) -> u8
     // Where the shelf and the script tell their bytes: with a status up to 4 exactly the report, else a front of it.
     ensures exact { (files : Files) (bytes : List ℕ) → F.files shelf.old ≡ Some files → S.left script.old ≡ Some bytes → result ≤ 4
-        → (r : Report) × IsReport gives fires (wanted words.now files) bytes r × Reports (K.written out.old) (K.written out.new) result r }
+        → (r : Report) × IsReport gives fires held_counts (wanted words.now files) bytes r × Reports (K.written out.old) (K.written out.new) result r }
     ensures front { (files : Files) (bytes : List ℕ) → F.files shelf.old ≡ Some files → S.left script.old ≡ Some bytes → 5 ≤ result
-        → (r : Report) → IsReport gives fires (wanted words.now files) bytes r → AppendsFront (K.written out.old) (K.written out.new) r.bytes }
+        → (r : Report) → IsReport gives fires held_counts (wanted words.now files) bytes r → AppendsFront (K.written out.old) (K.written out.new) r.bytes }
     ensures long { (files : Files) (bytes : List ℕ) → F.files shelf.old ≡ Some files → S.left script.old ≡ Some bytes
-        → result ≡ 8 → IsLong gives fires (wanted words.now files) bytes }
+        → result ≡ 8 → IsLong gives fires held_counts (wanted words.now files) bytes }
 
     // Whatever the script tells: the usage line, and, where the shelf tells its files, the refusal that is wanted.
     ensures usage { result ≡ 2 → K.written out.new ≡ append (K.written out.old) usage }
