@@ -72,7 +72,7 @@ pub trait Engine: Sized + Drop {
         ensures { (w : World) → stands self.now w → result ≡ is_some (fires (made_with self.now) w) };
 
     /// How many events of each event type are kept: a number for each, in the order of the program's types. The engine stays as it is.
-    /// It goes once over what is kept and once over the types, and takes memory for the numbers alone.
+    /// It goes at most once over what is kept and once over the types, and takes memory for numbers of the event types alone.
     fn held(&self, alloc: Global) -> Result<Vec<u64>, NoMemory>
         ensures counts { IfOk result (λ numbers. (w : World) → stands self.now w
             → numbers.items ≡ counts (made_with self.now) (table self.now) w) }

@@ -15,7 +15,6 @@ use Rattle.session.proofs.Exactly.{exact}
 use Rattle.session.proofs.Members.{Holds, own_tags}
 use Rattle.session.proofs.Newest.{holds}
 use Rattle.session.proofs.Ready.{IsFit, kept_of}
-use Rattle.std.specs.FinMap as map
 
 between : (a b c : ℤ) → a ≤ℤ b → b ≤ℤ c → a ≤ℤ c
 between a b c ab bc = omega (arith, ints)
