@@ -1,9 +1,9 @@
 #!/usr/bin/env python3
 """Holds the built program against the reference, on random rule files and scripts.
 
-    python3 tools/reference/compare.py --seeds A B [--stage N] [--replay PROGRAM] [--folder FOLDER] [--keep-going]
+    python3 tools/reference/compare.py --seeds A B [--stage N] [--replay PROGRAM] [--folder FOLDER] [--keep-going] [--lives]
 
-For each seed from A up to B - 1 the program runs on the seed's file and script, and its bytes and status are compared with those
+With --lives the files are over events of finite lives, which end within the scripts. For each seed from A up to B - 1 the program runs on the seed's file and script, and its bytes and status are compared with those
 of the reference. The first difference is printed with its seed, and the files of that seed, with both outputs, are left in the
 folder. The last lines say how many seeds agreed and what was seen. The status is 0 where all agreed, 1 where one did not.
 """
@@ -20,7 +20,7 @@ import tempfile
 from collections import Counter
 from typing import Optional
 
-from generate import Case, case_of, write_case
+from generate import Case, case_of, lives_case_of, write_case
 from run import report
 
 TOP = os.path.dirname(os.path.dirname(os.path.dirname(os.path.abspath(__file__))))
@@ -106,6 +106,7 @@ def main() -> int:
     parser.add_argument("--folder", default="reference-failures", help="where the files of failing seeds are left")
     parser.add_argument("--seconds", type=float, default=60.0, help="the time that the program may take for a seed")
     parser.add_argument("--keep-going", action="store_true", help="do not stop at the first difference")
+    parser.add_argument("--lives", action="store_true", help="files over events of finite lives")
     asked = parser.parse_args()
     command = absolute(asked.replay)
     if shutil.which(command[0]) is None:
@@ -113,7 +114,7 @@ def main() -> int:
     counts: Counter = Counter()
     agreed = differed = 0
     for seed in range(*asked.seeds):
-        case = case_of(seed, asked.stage)
+        case = lives_case_of(seed) if asked.lives else case_of(seed, asked.stage)
         wanted = report(case.rules, case.script, asked.stage, case.limit or 100_000)
         count_lines(counts, wanted[0])
         got = program_answer(command, case, asked.seconds)

@@ -17,6 +17,7 @@ from typing import Optional
 
 from checks import check
 from plants import planted
+from random_lives import lives_case
 from random_rules import FileMaker
 from random_script import ScriptMaker
 from reader import Refused, read_file
@@ -57,6 +58,11 @@ def case_of(seed: int, stage: int) -> Case:
     if seed % 3 == 2:
         return Case(planted(rng, stage), b"{\"do\":\"fire\"}\n", None)
     return accepted_case(rng, stage)
+
+
+def lives_case_of(seed: int) -> Case:
+    """The case of a seed among those of finite lives."""
+    return Case(*lives_case(Random(f"lives/{seed}")), 200)
 
 
 # ---- the large run of `--gen N`
