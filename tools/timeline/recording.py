@@ -19,12 +19,12 @@ from meaning import (EMPTY_ROW, Insertion, Modification, Retraction, Row, Step, 
                      fact_with, folded, is_mature, passes, planned, quoted, step_fault, times_of)
 from program import DEFAULT, Program  # noqa: E402
 from run import Fault as LineFault, asked_step, program_or_refusal  # noqa: E402
-from script import BadCommand, BadJson, Command, FireLine, command_of, is_blank, lines_of  # noqa: E402
+from script import BadCommand, BadJson, Command, FireLine, HeldLine, command_of, is_blank, lines_of  # noqa: E402
 from temporal import INFINITE, NEVER, greatest_start  # noqa: E402
 from trees import Condition, Existing, Negated, Plain, Rule, Value  # noqa: E402
 
 # How much of the language tools/reference is to take: as much as the program runs.
-LANGUAGE = 8
+LANGUAGE = 14
 
 FIRE_LINE = re.compile(r'fire ("(?:[^"\\]|\\.)*")((?: #[0-9]+| =-?[0-9]+)*)')
 CELL = re.compile(r"([#=])(-?[0-9]+)")
@@ -226,10 +226,21 @@ class Recorder:
         if isinstance(command, FireLine):
             self.fire(number, command.most)
             return
+        if isinstance(command, HeldLine):
+            self.held(number)
+            return
         step = asked_step(command, self.world)
         if code := step_fault(step, self.world):
             raise LineFault(code)
         self.step(step, number, None)
+
+    def held(self, line: int) -> None:
+        """A line for each type of events. How many are kept is taken as it is printed."""
+        for info in self.program.types.values():
+            if info.event:
+                if not re.fullmatch(f"held {info.name} [0-9]+", self.next_output):
+                    self.unfit(f"line {line} of the script asks how many events of {info.name} are kept")
+                self.take(line)
 
     def fault(self, line: int, code: str, text: str, firing: Optional[Firing]) -> None:
         self.expect(f"fault {line} {code}", line)

@@ -73,6 +73,14 @@ class Pages(unittest.TestCase):
             with self.assertRaises(Unfit):
                 recording_of(rules, script, output)
 
+    def test_held_lines(self):
+        rules = b"declare Call @role( event ) end declare Note end declare Ring @role( event ) end"
+        script = b'{"do":"insert","type":"Call","fields":{}}\n{"do":"held"}\n'
+        recording = recording_of(rules, script, b"new #1 Call\nheld Call 0\nheld Ring 0\n")
+        self.assertEqual([(printed.line, printed.text) for printed in recording.printed[1:]], [(2, "held Call 0"), (2, "held Ring 0")])
+        with self.assertRaises(Unfit):
+            recording_of(rules, script, b"new #1 Call\nheld Call 0\n")
+
     def test_nothing_happens(self):
         self.assertIn("0 firings", page("none", recording := recording_of(HOSTILE, b"", b""), picture_of(recording)))
 
