@@ -3,9 +3,10 @@
 
     python3 tools/reference/compare.py --seeds A B [--stage N] [--replay PROGRAM] [--folder FOLDER] [--keep-going] [--lives]
 
-With --lives the files are over events of finite lives, which end within the scripts. For each seed from A up to B - 1 the program runs on the seed's file and script, and its bytes and status are compared with those
-of the reference. The first difference is printed with its seed, and the files of that seed, with both outputs, are left in the
-folder. The last lines say how many seeds agreed and what was seen. The status is 0 where all agreed, 1 where one did not.
+With --lives the files are over events of finite lives, which end within the scripts. For each seed from A up to B - 1 the program
+runs on the seed's file and script, and its bytes and status are compared with those of the reference. The first difference is printed
+with its seed, and the files of that seed, with both outputs, are left in the folder. The last lines say how many seeds agreed and
+what was seen. The status is 0 where all agreed, 1 where one did not.
 """
 
 from __future__ import annotations
@@ -21,7 +22,8 @@ from collections import Counter
 from typing import Optional
 
 from generate import Case, case_of, lives_case_of, write_case
-from run import report
+from meaning import has_forgotten
+from run import outcome, report_of
 
 TOP = os.path.dirname(os.path.dirname(os.path.dirname(os.path.abspath(__file__))))
 PROGRAM = os.path.join(TOP, "crates/replay_main/out/replay_main")
@@ -30,7 +32,7 @@ PROGRAM = os.path.join(TOP, "crates/replay_main/out/replay_main")
 # In the place of the status of a program that did not end in time.
 NO_END = -1000
 
-LINES = {"new": "inserts", "fire": "firings", "limit": "limits", "held": "held lines"}
+LINES = {"new": "inserts", "fire": "firings", "limit": "limits", "held": "held lines", "forgetting": "files with events forgotten at their end"}
 LINES_OF_CODES = {"fault": "faults", "refused": "refusals"}
 
 
@@ -115,8 +117,10 @@ def main() -> int:
     agreed = differed = 0
     for seed in range(*asked.seeds):
         case = lives_case_of(seed) if asked.lives else case_of(seed, asked.stage)
-        wanted = report(case.rules, case.script, asked.stage, case.limit or 100_000)
+        found = outcome(case.rules, case.script, asked.stage, case.limit or 100_000)
+        wanted = report_of(found)
         count_lines(counts, wanted[0])
+        counts["forgetting"] += not isinstance(found, str) and has_forgotten(found.world)
         got = program_answer(command, case, asked.seconds)
         difference = first_difference(wanted[0], got[0])
         if difference is None and wanted[1] != got[1]:

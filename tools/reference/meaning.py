@@ -8,6 +8,7 @@ whole-number results of accumulates are this project's own.
 
 from __future__ import annotations
 
+from collections import Counter
 from dataclasses import dataclass, field, replace
 from functools import cached_property
 from typing import Callable, Optional, Union
@@ -449,9 +450,18 @@ def is_kept(f: Fact, w: World, lives: dict[str, Union[int, float]], named: set[i
     return is_present(f, w) if life == INFINITE else w.clock <= f.end + life
 
 
+def kept_events(w: World) -> list[Fact]:
+    lives = {t.name: life_of_type(w.program, t.name) for t in w.program.types.values() if t.event and t.expires is None}
+    named = {f.id for m in pending(w) for f in m.row.facts}
+    return [f for f in w.facts if w.program.types[f.type].event and is_kept(f, w, lives, named)]
+
+
 def held_lines(w: World) -> list[str]:
     """For each event type in file order how many of its events are kept."""
-    events = [t for t in w.program.types.values() if t.event]
-    lives = {t.name: life_of_type(w.program, t.name) for t in events if t.expires is None}
-    named = {f.id for m in pending(w) for f in m.row.facts}
-    return [f"held {t.name} {sum(f.type == t.name and is_kept(f, w, lives, named) for f in w.facts)}" for t in events]
+    kept = Counter(f.type for f in kept_events(w))
+    return [f"held {t.name} {kept[t.name]}" for t in w.program.types.values() if t.event]
+
+
+def has_forgotten(w: World) -> bool:
+    """Whether some present event is not kept."""
+    return sum(w.program.types[f.type].event and is_present(f, w) for f in w.facts) > len(kept_events(w))

@@ -156,9 +156,9 @@ def replay(words: list[str], stage: int) -> int:
         return 5
     if len(script) > SCRIPT_END:
         return 8
-    lines, status = run(program, script, limit)
-    put("".join(line + "\n" for line in lines))
-    return status
+    state = run(program, script, limit)
+    put("".join(line + "\n" for line in state.lines))
+    return state.status
 
 
 def main() -> int:

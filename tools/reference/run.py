@@ -138,14 +138,21 @@ class Run:
             self.left, done = self.left - 1, done + 1
 
 
-def run(program: Program, script: bytes, limit: int) -> tuple[list[str], int]:
-    """The lines that a run prints, and its status."""
+    @property
+    def status(self) -> int:
+        if self.ended:
+            return 4
+        return 1 if any(line.startswith("fault ") for line in self.lines) else 0
+
+
+def run(program: Program, script: bytes, limit: int) -> Run:
+    """A run over the whole script, or up to the limit of firings."""
     state = Run(World(program), limit, limit, [])
     for number, line in enumerate(lines_of(script), start=1):
         state.line(number, line)
         if state.ended:
-            return state.lines, 4
-    return state.lines, 1 if any(line.startswith("fault ") for line in state.lines) else 0
+            break
+    return state
 
 
 def program_or_refusal(rules: bytes, stage: int) -> Union[Program, str]:
@@ -158,6 +165,16 @@ def program_or_refusal(rules: bytes, stage: int) -> Union[Program, str]:
 
 def report(rules: bytes, script: bytes, stage: int, limit: int = 100_000) -> tuple[bytes, int]:
     """The bytes and the status of a run over a rule file and a script."""
+    return report_of(outcome(rules, script, stage, limit))
+
+
+def outcome(rules: bytes, script: bytes, stage: int, limit: int = 100_000) -> Union[Run, str]:
+    """The run over a rule file and a script, or the line of the file's refusal."""
     program = program_or_refusal(rules, stage)
-    lines, status = ([program], 3) if isinstance(program, str) else run(program, script, limit)
+    return program if isinstance(program, str) else run(program, script, limit)
+
+
+def report_of(found: Union[Run, str]) -> tuple[bytes, int]:
+    """The bytes and the status of a run or a refusal."""
+    lines, status = ([found], 3) if isinstance(found, str) else (found.lines, found.status)
     return "".join(line + "\n" for line in lines).encode("utf-8"), status
