@@ -90,7 +90,8 @@ impl<K: Ord + Drop, S: Drop> Bucket<K, S> {
     }
 }
 
-/// Puts a key in where there is one key. A map is made of the new key first, so that this one stays if it is refused.
+/// Puts a key in where there is one key. If it is another, the new one goes into a map first, so that the old one is at
+/// hand where memory is refused.
 fn put_to_one<K: Ord + Drop, S: Drop>(
     alloc: Global,
     there: K,
@@ -124,7 +125,7 @@ fn map_of<K: Ord + Drop, S: Drop>(
     Ok(bucket)
 }
 
-/// Puts the one key of a bucket into the map of a second one. Where memory is refused, it stays the only key.
+/// Puts the key that was alone into the map of a second one. Where memory is refused, it is alone again.
 fn with_first<K: Ord + Drop, S: Drop>(
     mut bucket: BTreeMap<K, S>,
     there: K,
