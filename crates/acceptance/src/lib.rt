@@ -1,6 +1,6 @@
 //! Tests that cross the crates: rule files as texts through the parser and the checks, the network beside what is found anew, sessions,
 //! and runs of the program in memory.
-//! It has no function of its own, so that the crates below are proved once, without their tests. What a rule file and a script print is
+//! It has tests and their helpers alone, so that the crates below are proved once, without their tests. What a rule file and a script print is
 //! shown by the crate `cases`, whose cases are data.
 #![tactic(auto)]
 

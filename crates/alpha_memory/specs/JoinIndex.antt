@@ -2,14 +2,15 @@
 use Rattle.std.specs.Prelude.{Bool, List, Option}
 use Rattle.std.specs.Option.{option_map, option_and_then}
 use Rattle.std.specs.declared.cmp.Ordering.{Ordering}
-use Rattle.std.specs.BTreeMap.{BTreeMap, is_at}
+use Rattle.std.specs.BTreeMap.{is_at}
 use Rattle.std.specs.Map.{lookup}
 use Rattle.indexmap.specs.IndexMap.{get}
+use Rattle.alpha_memory.specs.Bucket.{entries}
 use Rattle.alpha_memory.specs.declared.join_index.JoinIndex.{JoinIndex}
 
 -- the keys of a join value in their order, each with what is kept beside it
 abbrev pub bucket_at : {J K S : Type 0} → (J → J → Bool) → JoinIndex J K S → J → Option (List (K × S))
-bucket_at {K = K} {S = S} same index j = option_map (λ (bucket : BTreeMap K S). bucket.entries) (get same index.buckets j)
+bucket_at same index j = option_map entries (get same index.buckets j)
 
 -- what is kept under a join value and a key
 abbrev pub at : {J K S : Type 0} → (J → J → Bool) → (K → K → Ordering) → JoinIndex J K S → J → K → Option S

@@ -1,3 +1,4 @@
+pub mod Bucket
 pub mod JoinIndex
 pub mod Candidates
 pub mod Places

@@ -1,21 +1,22 @@
 ghost use Rattle.std.specs.Prelude.{◌≡◌, ◌≢◌, ◌&&◌, [], true, false, None, Some, cond, is_some, option_map, IfOk, IfErr, IfSome, OnOk, OnErr};
-ghost use Rattle.std.specs.BTreeMap as tree;
 ghost use Rattle.std.specs.BTreeMap.{is_at};
+ghost use Rattle.alpha_memory.specs.Bucket.{entries, found};
 ghost use Rattle.alpha_memory.specs.JoinIndex.{at, bucket_at};
 
+use crate::bucket::Bucket;
 use fx_base::NoMemory;
 use indexmap::IndexMap;
 use std::alloc::Global;
-use std::collections::BTreeMap;
 use std::hash::Hash;
 use std::mem::replace;
 
 /// Under each join value the keys that have it, in order, each with what is kept beside it: a hash index whose buckets
-/// are ordered. A call costs a hash and the logarithm of the bucket. A bucket goes with its last key.
+/// are ordered. A call costs a hash and the logarithm of the bucket. The first key of a join value stands in the hash
+/// index itself and takes no further memory. A bucket goes with its last key.
 #[derive(Drop)]
 pub struct JoinIndex<J: Eq + Hash, K: Ord, S> {
     alloc: Global,
-    buckets: IndexMap<J, BTreeMap<K, S>>,
+    buckets: IndexMap<J, Bucket<K, S>>,
 }
 
 impl<J: Eq + Hash + Drop, K: Ord + Drop, S: Drop> JoinIndex<J, K, S> {
@@ -32,8 +33,8 @@ impl<J: Eq + Hash + Drop, K: Ord + Drop, S: Drop> JoinIndex<J, K, S> {
 
     /// The keys with this join value, in order, each with what is kept beside it; `None` where there is no such key.
     /// Lends them, and takes no memory.
-    pub fn bucket(&self, join: &J) -> Option<&BTreeMap<K, S>>
-        ensures { option_map (λ bucket. bucket.now.entries) result ≡ bucket_at J.eq self.now join.now }
+    pub fn bucket(&self, join: &J) -> Option<&Bucket<K, S>>
+        ensures { option_map (λ bucket. entries bucket.now) result ≡ bucket_at J.eq self.now join.now }
     {
         self.buckets.get(join)
     }
@@ -58,11 +59,9 @@ impl<J: Eq + Hash + Drop, K: Ord + Drop, S: Drop> JoinIndex<J, K, S> {
         ensures err { OnErr result ((j : J) → bucket_at J.eq self.new j ≡ bucket_at J.eq self.old j) }
     {
         match self.buckets.get_mut(&join) {
-            Some(bucket) => Ok(bucket.insert(key, kept)?),
+            Some(bucket) => put_in(self.alloc, bucket, key, kept),
             None => {
-                let mut bucket = BTreeMap::new(self.alloc);
-                bucket.insert(key, kept)?;
-                self.buckets.insert(join, bucket)?;
+                self.buckets.insert(join, Bucket::One(key, kept))?;
                 Ok(None)
             }
         }
@@ -96,7 +95,7 @@ impl<J: Eq + Hash + Drop, K: Ord + Drop, S: Drop> JoinIndex<J, K, S> {
         ensures err { OnErr result ((j : J) → bucket_at J.eq self.new j ≡ bucket_at J.eq self.old j) }
     {
         match self.buckets.get_mut(join) {
-            Some(bucket) => exchange_in(bucket, key, kept),
+            Some(bucket) => bucket.exchange(key, kept),
             None => Err(kept),
         }
     }
@@ -111,38 +110,44 @@ impl<J: Eq + Hash + Drop, K: Ord + Drop, S: Drop> JoinIndex<J, K, S> {
         ensures filled { result.1 ≡ false → IfSome (bucket_at J.eq self.new join.now) (λ entries. entries ≢ []) }
     {
         match self.buckets.get_mut(join) {
-            Some(bucket) => take_from(bucket, key),
+            Some(bucket) => take_from(self.alloc, bucket, key),
             None => (None, false),
         }
     }
 }
 
-/// Takes a key out of a bucket, and answers what was kept beside it, and whether the bucket is empty now.
-fn take_from<K: Ord + Drop, S: Drop>(bucket: &mut BTreeMap<K, S>, key: &K) -> (Option<S>, bool)
-    ensures taken { result.0 ≡ tree.get K.cmp bucket.old key.now }
-    ensures kept { (k : K) → tree.get K.cmp bucket.new k ≡ cond (is_at (K.cmp key.now) k) None (tree.get K.cmp bucket.old k) }
-    ensures emptied { result.1 ≡ true → bucket.new.entries ≡ [] }
-    ensures filled { result.1 ≡ false → bucket.new.entries ≢ [] }
+/// Puts a key into a bucket, with what is kept beside it, and answers what was kept before. Where memory is refused, the
+/// keys stay as they are.
+fn put_in<K: Ord + Drop, S: Drop>(
+    alloc: Global,
+    bucket: &mut Bucket<K, S>,
+    key: K,
+    kept: S,
+) -> Result<Option<S>, NoMemory>
+    ensures before { IfOk result (λ before. before ≡ found K.cmp bucket.old key) }
+    ensures kept { OnOk result ((k : K) → found K.cmp bucket.new k ≡ cond (is_at (K.cmp key) k) (Some kept) (found K.cmp bucket.old k)) }
+    ensures err { OnErr result (entries bucket.new ≡ entries bucket.old) }
 {
-    let taken = bucket.remove(key);
-    let emptied = bucket.is_empty();
-    (taken, emptied)
+    let was = replace(bucket, Bucket::empty(alloc));
+    let (now, answer) = was.put(alloc, key, kept);
+    *bucket = now;
+    answer
 }
 
-/// Keeps this beside a key of a bucket, and answers what was kept there; where the key is not there, gives this back.
-fn exchange_in<K: Ord + Drop, S: Drop>(
-    bucket: &mut BTreeMap<K, S>,
+/// Takes a key out of a bucket, and answers what was kept beside it, and whether the bucket is empty now.
+fn take_from<K: Ord + Drop, S: Drop>(
+    alloc: Global,
+    bucket: &mut Bucket<K, S>,
     key: &K,
-    kept: S,
-) -> Result<S, S>
-    ensures before { IfOk result (λ before. tree.get K.cmp bucket.old key.now ≡ Some before) }
-    ensures kept { OnOk result ((k : K) → tree.get K.cmp bucket.new k ≡ cond (is_at (K.cmp key.now) k) (Some kept) (tree.get K.cmp bucket.old k)) }
-    ensures absent { OnErr result (tree.get K.cmp bucket.old key.now ≡ None) }
-    ensures back { IfErr result (λ given. given ≡ kept) }
-    ensures err { OnErr result (bucket.new.entries ≡ bucket.old.entries) }
+) -> (Option<S>, bool)
+    ensures taken { result.0 ≡ found K.cmp bucket.old key.now }
+    ensures kept { (k : K) → found K.cmp bucket.new k ≡ cond (is_at (K.cmp key.now) k) None (found K.cmp bucket.old k) }
+    ensures emptied { result.1 ≡ true → entries bucket.new ≡ [] }
+    ensures filled { result.1 ≡ false → entries bucket.new ≢ [] }
 {
-    match bucket.get_mut(key) {
-        Some(place) => Ok(replace(place, kept)),
-        None => Err(kept),
-    }
+    let was = replace(bucket, Bucket::empty(alloc));
+    let (now, taken) = was.without(alloc, key);
+    let emptied = now.is_empty();
+    *bucket = now;
+    (taken, emptied)
 }

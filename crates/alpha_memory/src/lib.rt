@@ -3,8 +3,10 @@
 //! It stands on `fx_base`, `row_delta` and `indexmap`, and assumes nothing of the outside.
 #![tactic(auto)]
 
+mod bucket;
 mod join_index;
 mod memory;
 
+pub use bucket::Bucket;
 pub use join_index::JoinIndex;
 pub use memory::AlphaMemory;

@@ -5,10 +5,12 @@ ghost use Rattle.std.specs.List.Sorted.{IsStrictlySortedBy};
 ghost use Rattle.std.specs.Map.{keys_of, values_of};
 ghost use Rattle.std.specs.Ordering.{nat_cmp};
 ghost use Rattle.fx_base.specs.Values.{same_value};
+ghost use Rattle.alpha_memory.specs.Bucket.{entries};
 ghost use Rattle.alpha_memory.specs.JoinIndex.{at};
 ghost use Rattle.alpha_memory.specs.Candidates.{has_tag, without_tag, with_join, names_of};
 ghost use Rattle.alpha_memory.specs.Places.{name_entry};
 
+use crate::bucket::Bucket;
 use crate::join_index::JoinIndex;
 use fx_base::{Copies, FactId, NoMemory, Tag, Value};
 use row_delta::Named;
@@ -112,7 +114,7 @@ impl AlphaMemory {
         ensures { IfOk result (λ found. found.items ≡ names_of (with_join self.now join.now)) }
     {
         match self.by_join.bucket(join) {
-            Some(bucket) => names_in(self.alloc, bucket),
+            Some(bucket) => names_under(self.alloc, bucket),
             None => Ok(Vec::new(self.alloc)),
         }
     }
@@ -132,6 +134,17 @@ fn leave(by_join: &mut JoinIndex<Value, u64, Named>, place: Place)
         ≡ cond (same_value place.join join && is_at (nat_cmp place.number) number) None (at same_value nat_cmp by_join.old join number) }
 {
     by_join.take(&place.join, &place.number);
+}
+
+/// The names of a bucket, in its order.
+fn names_under(alloc: Global, bucket: &Bucket<u64, Named>) -> Result<Vec<Named>, NoMemory>
+    ensures sorted { IsStrictlySortedBy nat_cmp (keys_of (entries bucket.now)) }
+    ensures names { IfOk result (λ names. names.items ≡ values_of (entries bucket.now)) }
+{
+    match bucket {
+        Bucket::One(_, who) => Ok(vec![in alloc; *who]?),
+        Bucket::Many(by_number) => names_in(alloc, by_number),
+    }
 }
 
 /// The names of a map, in its order.

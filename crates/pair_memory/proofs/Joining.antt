@@ -1,17 +1,20 @@
 -- Rows that are made by one fact more.
-use Rattle.std.proofs.Common.{◌≡◌, ◌∙◌, sym, ap, refl, subst, List, [], ◌∷◌, ◌++◌, Bool, true, false, ◌&&◌, ◌||◌, Option, Some, None}
-use Rattle.std.specs.Option.{option_map}
+use Rattle.std.proofs.Common.{◌≡◌, ◌∙◌, sym, ap, refl, subst, List, [], ◌∷◌, Bool, true, false, ◌&&◌, ◌||◌, Option, Some, None}
+use Rattle.std.specs.Option.{is_some, option_map}
 use Rattle.std.specs.Bool.{Decides}
+use Rattle.std.specs.BTreeMap.{is_at}
 use Rattle.std.specs.declared.cmp.Ordering.{Ordering}
 use Rattle.std.specs.declared.cmp.Ordering.TheVariants.{Less, Equal, Greater}
 use Rattle.std.specs.Ordering.{eq_by_cmp, is_eq}
 use Rattle.std.proofs.lemmas.Bool.Decides.{same_from_decides}
-use Rattle.std.proofs.lemmas.List.Folds.{list_any-append}
+use Rattle.std.proofs.lemmas.Map.Made.{is_some-lookup}
 use Rattle.row_delta.specs.declared.row.Named.{Named}
 use Rattle.row_delta.specs.declared.row.Row.{Row}
 use Rattle.row_delta.specs.Rows.{row_cmp, has}
 use Rattle.row_delta.specs.RowOrder.{same_equiv, row_exact}
 use Rattle.row_delta.specs.NameOrder.{name_cmp, name_equiv, name_exact}
+use Rattle.alpha_memory.specs.Bucket.{found}
+use Rattle.alpha_memory.specs.declared.bucket.Bucket.TheVariants.{One}
 use Rattle.pair_memory.specs.Joined.{with_name, split_last, front_of, unjoined, splits, joined, has_name}
 use Rattle.pair_memory.proofs.Lasts.{split_snoc, is_snoc}
 
@@ -95,14 +98,14 @@ under true true q v h = h refl refl
 under true false q v h = refl
 under false y q v h = refl
 
-taken : (f a n : Bool) → ((f || (a || false)) || n) ≡ (f || ((a && true) || n))
-taken true a n = refl
-taken false true n = refl
-taken false false n = refl
+or_assoc : (a b c : Bool) → ((a || b) || c) ≡ (a || (b || c))
+or_assoc true b c = refl
+or_assoc false b c = refl
 
-passed : (f a n : Bool) → (f || n) ≡ (f || ((a && false) || n))
-passed f true n = refl
-passed f false n = refl
+-- what one turn makes is among what is found, and no longer to come
+pub one_more : (one was now after all total : Bool) → all ≡ (one || after) → (was || all) ≡ total → now ≡ (was || one) → (now || after) ≡ total
+one_more one was now after all total more so_far is =
+    ap (λ b. b || after) is ∙ or_assoc was one after ∙ ap (λ b. was || b) (sym more) ∙ so_far
 
 module _ (pass : Row → Named → Bool) where
   pair_passes : (l : Row) (who : Named) (o : Option (Row × Named))
@@ -134,21 +137,6 @@ module _ (pass : Row → Named → Bool) where
       splits_alike _ _ (λ m c. or_and_right (eq_by_cmp row_cmp l m) (eq_by_cmp name_cmp c who) (has_name next c) (pass m c)) (unjoined r)
       ∙ splits_or _ _ (unjoined r)
       ∙ ap (λ b. b || splits (λ m c. eq_by_cmp row_cmp l m && (has_name next c && pass m c)) (unjoined r)) (pair_passes_right l who (unjoined r) ∙ ap (λ b. b && pass l who) (sym (is_with r l who)))
-
-  module _ (l : Row) (who : Named) (found : List Row) (r : Row) (after all total : Bool) (more : all ≡ ((eq_by_cmp row_cmp r (with_name l who) && pass l who) || after)) (so_far : (has found r || all) ≡ total) where
-    pub one_taken : (found_now : List Row) → found_now ≡ found ++ with_name l who ∷ [] → pass l who ≡ true → (has found_now r || after) ≡ total
-    one_taken found_now is e =
-        ap (λ (rows : List Row). has rows r || after) is
-        ∙ ap (λ b. b || after) (list_any-append (eq_by_cmp row_cmp r) found (with_name l who ∷ []))
-        ∙ taken (has found r) (eq_by_cmp row_cmp r (with_name l who)) after
-        ∙ ap (λ b. has found r || ((eq_by_cmp row_cmp r (with_name l who) && b) || after)) (sym e)
-        ∙ ap (λ b. has found r || b) (sym more) ∙ so_far
-
-    pub one_passed : pass l who ≡ false → (has found r || after) ≡ total
-    one_passed e =
-        passed (has found r) (eq_by_cmp row_cmp r (with_name l who)) after
-        ∙ ap (λ b. has found r || ((eq_by_cmp row_cmp r (with_name l who) && b) || after)) (sym e)
-        ∙ ap (λ b. has found r || b) (sym more) ∙ so_far
 
 -- ---- the ends of such a loop
 
@@ -201,6 +189,23 @@ module _ (pass : Row → Named → Bool) (found : List Row) (r : Row) where
   names_end rest left total none so_far =
       sym (or_nothing (has found r)) ∙ ap (λ b. has found r || b) (sym (no_right pass left r))
       ∙ ap (λ (names : List Named). has found r || joined pass left (has_name names) r) (sym none) ∙ so_far
+
+-- ---- a bucket of one row, or of one candidate
+
+module _ (pass : Row → Named → Bool) {S : Type 0} (l : Row) (who : Named) (kept : S) (r : Row) where
+  pub one_row : (eq_by_cmp row_cmp r (with_name l who) && pass l who) ≡ joined pass (λ q. is_some (found row_cmp (One l kept) q)) (eq_by_cmp name_cmp who) r
+  one_row =
+      sym (or_nothing (eq_by_cmp row_cmp r (with_name l who) && pass l who))
+      ∙ ap (λ b. (eq_by_cmp row_cmp r (with_name l who) && pass l who) || b) (sym (no_left pass (eq_by_cmp name_cmp who) r))
+      ∙ sym (more_rows pass l [] who r)
+      ∙ joined_alike pass (has (l ∷ [])) (λ q. is_some (found row_cmp (One l kept) q)) (eq_by_cmp name_cmp who) (eq_by_cmp name_cmp who) (λ q. sym (is_some-lookup (is_at (row_cmp q)) ((l, kept) ∷ []))) (λ c. refl) r
+
+  pub one_name : (eq_by_cmp row_cmp r (with_name l who) && pass l who) ≡ joined pass (eq_by_cmp row_cmp l) (λ q. is_some (found name_cmp (One who kept) q)) r
+  one_name =
+      sym (or_nothing (eq_by_cmp row_cmp r (with_name l who) && pass l who))
+      ∙ ap (λ b. (eq_by_cmp row_cmp r (with_name l who) && pass l who) || b) (sym (no_right pass (eq_by_cmp row_cmp l) r))
+      ∙ sym (more_names pass l who [] r)
+      ∙ joined_alike pass (eq_by_cmp row_cmp l) (eq_by_cmp row_cmp l) (has_name (who ∷ [])) (λ q. is_some (found name_cmp (One who kept) q)) (λ q. refl) (λ q. sym (is_some-lookup (is_at (name_cmp q)) ((who, kept) ∷ []))) r
 
 -- from no rows, or with no candidates, nothing is made
 pub none_left : (pass : Row → Named → Bool) (left : Row → Bool) (right : Named → Bool) → ((l : Row) → left l ≡ false) → (r : Row) → joined pass left right r ≡ false

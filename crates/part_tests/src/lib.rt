@@ -1,5 +1,5 @@
 //! Tests of the lower crates, by their public calls.
-//! It has no function of its own, so that those crates are proved once, without their tests.
+//! It has tests and their helpers alone, so that those crates are proved once, without their tests.
 #![tactic(auto)]
 
 #[cfg(test)]

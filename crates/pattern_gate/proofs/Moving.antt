@@ -34,7 +34,7 @@ use Rattle.window_gate.specs.declared.gate.Kept.TheVariants as kept
 use Rattle.window_gate.proofs.Insides.{inside_whole}
 use Rattle.pattern_gate.specs.declared.gate.PatternGate.{PatternGate}
 use Rattle.pattern_gate.specs.Gates.{arrival_of, arrivals, kind_of, has_good_window, GateStands}
-use Rattle.pattern_gate.specs.Moves.{IsKept, Moves, at_clock}
+use Rattle.pattern_gate.specs.Moves.{IsOrderly, Moves, at_clock}
 use Rattle.pattern_gate.specs.Turns.{is_meant, is_one_meant, less_facts, more_fact, LetsAllGo, LetsCome, TakesStep}
 use Rattle.pattern_gate.proofs.Arriving.{filter_among, rising, left, meant, less_all, lets_all, more_one, lets_come, none_meant}
 use Rattle.pattern_gate.proofs.Inside.{inside_are, rows_named}
@@ -66,7 +66,7 @@ same_type p f q e is =
     ap (is_event p) ((Decides-eqb f.ty.0 q.ty.0).0 (both_of (f.ty.0 == q.ty.0) (f.entry.0 == q.entry.0 && tests_hold unbound f q.alone) e).0) ∙ is
 
 -- and the events of a snapshot start where it lets them
-pub may_start : (p : Program) (q : Pattern) → has_good_window p q ≡ true → (s : Snapshot) → IsKept p s → (f : Fact) → In f s.facts → is_meant q f ≡ true → MayStart (kind_of q.window) f.times.start
+pub may_start : (p : Program) (q : Pattern) → has_good_window p q ≡ true → (s : Snapshot) → IsOrderly p s → (f : Fact) → In f s.facts → is_meant q f ≡ true → MayStart (kind_of q.window) f.times.start
 may_start p q good s is f i e = by q.window good
   where
     by : (w : WindowTag) → (is_whole w || (is_event p q.ty.0 && is_window w)) ≡ true → MayStart (kind_of w) f.times.start
@@ -79,11 +79,11 @@ may_start p q good s is f i e = by q.window good
 -- ---- one snapshot
 
 -- its arrivals are the facts that are meant
-arrivals_meant : (p : Program) (q : Pattern) (s : Snapshot) → IsKept p s → arrivals p q s ≡ meant q s.facts
+arrivals_meant : (p : Program) (q : Pattern) (s : Snapshot) → IsOrderly p s → arrivals p q s ≡ meant q s.facts
 arrivals_meant p q s is = ap (map arrival_of) (filter_among (fits p q s.clock) (is_meant q) s.facts (λ f i. ap (λ b. b && is_meant q f) (is.present f i)))
 
 -- a difference of the rows inside is one of the candidates
-pub names_differ : (p : Program) (q : Pattern) (s next : Snapshot) → IsKept p s → IsKept p next → (delta : Delta)
+pub names_differ : (p : Program) (q : Pattern) (s next : Snapshot) → IsOrderly p s → IsOrderly p next → (delta : Delta)
     → IsDifference (has (rows_inside (kind_of q.window) s.clock (arrivals p q s))) (has (rows_inside (kind_of q.window) next.clock (arrivals p q next))) delta
     → IsNameDifference (candidates_of p q s) (candidates_of p q next) delta
 names_differ p q s next is also delta differs =
@@ -193,7 +193,7 @@ nothing_differs names names_now same delta nothing = record {
 
 -- ---- the clock alone
 
-module _ (p : Program) (q : Pattern) (s : Snapshot) (clock : ℤ) (was : IsKept p s) (is : IsKept p (at_clock s clock)) where
+module _ (p : Program) (q : Pattern) (s : Snapshot) (clock : ℤ) (was : IsOrderly p s) (is : IsOrderly p (at_clock s clock)) where
   arrivals_still : arrivals p q s ≡ arrivals p q (at_clock s clock)
   arrivals_still = arrivals_meant p q s was ∙ sym (arrivals_meant p q (at_clock s clock) is)
 
@@ -212,7 +212,7 @@ module _ (p : Program) (q : Pattern) (s : Snapshot) (clock : ℤ) (was : IsKept 
         ∙ rows_named p q s was.in_order who
 
 -- an arrival that leaves is that of a candidate
-pub candidate_leaves : (p : Program) (q : Pattern) (s : Snapshot) → IsKept p s → (gate : PatternGate) → GateStands p q gate s → (first : Option ℤ)
+pub candidate_leaves : (p : Program) (q : Pattern) (s : Snapshot) → IsOrderly p s → (gate : PatternGate) → GateStands p q gate s → (first : Option ℤ)
     → IfSome first (λ at. (arrival : Arrival) × In arrival (inside (window_of gate.gate) s.clock (arrivals p q s)) × LeavesAt (window_of gate.gate) arrival at)
     → IfSome first (λ at. (f : Fact) × In f (candidates p q s) × LeavesAt (kind_of q.window) (arrival_of f) at)
 candidate_leaves p q s is gate stands None leaves = tt

@@ -13,7 +13,7 @@ use Rattle.rule_model.specs.Types.{is_event}
 use Rattle.rule_world.specs.Events.{most_millis}
 
 -- the facts stand in the order of their tags, all of them are present, and the events start from 0 to 2^53
-pub record IsKept (p : Program) (s : Snapshot) : Type 0 where
+pub record IsOrderly (p : Program) (s : Snapshot) : Type 0 where
   pub in_order : IsStrictlySortedBy nat_cmp (map (λ (f : Fact). f.tag.0) s.facts)
   pub present : (f : Fact) → In f s.facts → is_present p s.clock f ≡ true
   pub low : (f : Fact) → In f s.facts → is_event p f.ty.0 ≡ true → pos 0 ≤ℤ f.times.start
@@ -25,8 +25,8 @@ shares_tag facts f = list_any (λ (g : Fact). g.tag.0 == f.tag.0) facts
 
 -- The clock moves on or stands, some facts go, and one may come, which is the latest.
 pub record Moves (p : Program) (s next : Snapshot) (gone : List Fact) (come : Option Fact) : Type 0 where
-  pub before : IsKept p s
-  pub after : IsKept p next
+  pub before : IsOrderly p s
+  pub after : IsOrderly p next
   pub clock : s.clock ≤ℤ next.clock
   pub held : (f : Fact) → In f gone → In f s.facts
   pub once : HaveDistinctTags gone

@@ -19,7 +19,7 @@ ghost use Rattle.condition_rows.specs.Looks.{empty_snapshot};
 ghost use Rattle.window_gate.specs.declared.change.WindowKind.{WindowKind};
 ghost use Rattle.window_gate.specs.Windows.{Arrival, after, rows_inside};
 ghost use Rattle.window_gate.specs.Standing.{LeavesAt, Stands, Takes, window_of};
-ghost use Rattle.pattern_gate.specs.Moves.{IsKept, Moves, at_clock};
+ghost use Rattle.pattern_gate.specs.Moves.{IsOrderly, Moves, at_clock};
 ghost use Rattle.pattern_gate.specs.Gates.{GateStands, arrival_of, has_good_window, kind_of};
 ghost use Rattle.pattern_gate.specs.Turns.{is_meant, is_given_meant, is_one_meant, less_fact, less_facts, more_fact, LetsGo, LetsAllGo, LetsCome, TakesStep, Reaches};
 
@@ -51,11 +51,11 @@ impl PatternGate {
     /// The moment of the clock from which a candidate leaves the window: until then a move of the clock alone changes nothing.
     /// `None` where none ever does. Takes no memory.
     pub fn quiet_until(&self) -> Option<Millis>
-        ensures stands { (p : Program) (pattern : Pattern) (s : Snapshot) (clock : ℤ) → GateStands p pattern self.now s → IsKept p s → IsKept p (at_clock s clock)
+        ensures stands { (p : Program) (pattern : Pattern) (s : Snapshot) (clock : ℤ) → GateStands p pattern self.now s → IsOrderly p s → IsOrderly p (at_clock s clock)
             → s.clock ≤ℤ clock → IfSome result (λ at. clock <ℤ at) → GateStands p pattern self.now (at_clock s clock) }
-        ensures candidates { (p : Program) (pattern : Pattern) (s : Snapshot) (clock : ℤ) → GateStands p pattern self.now s → IsKept p s → IsKept p (at_clock s clock)
+        ensures candidates { (p : Program) (pattern : Pattern) (s : Snapshot) (clock : ℤ) → GateStands p pattern self.now s → IsOrderly p s → IsOrderly p (at_clock s clock)
             → s.clock ≤ℤ clock → IfSome result (λ at. clock <ℤ at) → (who : Named) → candidates_of p pattern (at_clock s clock) who ≡ candidates_of p pattern s who }
-        ensures leaves { (p : Program) (pattern : Pattern) (s : Snapshot) → GateStands p pattern self.now s → IsKept p s
+        ensures leaves { (p : Program) (pattern : Pattern) (s : Snapshot) → GateStands p pattern self.now s → IsOrderly p s
             → IfSome result (λ at. (f : Fact) × In f (candidates p pattern s) × LeavesAt (kind_of pattern.window) (arrival_of f) at) }
     {
         self.gate.quiet_until()

@@ -14,7 +14,7 @@ use Rattle.pair_memory.specs.Standing.{cleaned}
 use Rattle.condition_rows.specs.Lines.{line}
 use Rattle.condition_rows.specs.Sets.{held, candidates_of, rows_of}
 use Rattle.pattern_gate.specs.Gates.{GateStands}
-use Rattle.pattern_gate.specs.Moves.{IsKept, at_clock}
+use Rattle.pattern_gate.specs.Moves.{IsOrderly, at_clock}
 use Rattle.condition_node.specs.Nodes.{condition_of}
 use Rattle.condition_node.specs.Quiet.{IsBefore, IsQuiet}
 use Rattle.rete_net.specs.declared.net.Rete.{Rete}
@@ -32,7 +32,7 @@ use Rattle.rete_net.proofs.Turns.{below_or_at}
 
 -- until this moment the clock alone changes no candidates of a gate
 abbrev pub IsGateQuiet : Program → NetNode → Option ℤ → Type 0
-IsGateQuiet p n until = (pattern : Pattern) (s : Snapshot) (clock : ℤ) → GateStands p pattern n.gate s → IsKept p s → IsKept p (at_clock s clock)
+IsGateQuiet p n until = (pattern : Pattern) (s : Snapshot) (clock : ℤ) → GateStands p pattern n.gate s → IsOrderly p s → IsOrderly p (at_clock s clock)
     → s.clock ≤ℤ clock → IfSome until (λ at. clock <ℤ at) → (who : Named) → candidates_of p pattern (at_clock s clock) who ≡ candidates_of p pattern s who
 
 if_before : (until : Option ℤ) (clock : ℤ) → IsBefore until clock → IfSome until (λ at. clock <ℤ at)
@@ -70,8 +70,8 @@ quiet_more p nodes least moment now i node below found quiet both k n h e = elim
 
 -- ---- all nodes
 
-module _ (p : Program) (net : Rete) (s : Snapshot) (forgotten : Named → Bool) (nodes : NodesStand p net s forgotten) (kept : IsKept p s) (begun : pos 0 ≤ℤ s.clock) (quiet : AreQuiet p net.nodes.items net.quiet_until) where
-  module _ (clock : ℤ) (later : s.clock ≤ℤ clock) (low : clock <ℤ pos (2 ^ 63)) (before_due : IsBefore net.quiet_until clock) (kept_now : IsKept p (at_clock s clock)) where
+module _ (p : Program) (net : Rete) (s : Snapshot) (forgotten : Named → Bool) (nodes : NodesStand p net s forgotten) (kept : IsOrderly p s) (begun : pos 0 ≤ℤ s.clock) (quiet : AreQuiet p net.nodes.items net.quiet_until) where
+  module _ (clock : ℤ) (later : s.clock ≤ℤ clock) (low : clock <ℤ pos (2 ^ 63)) (before_due : IsBefore net.quiet_until clock) (kept_now : IsOrderly p (at_clock s clock)) where
     abbrev next : Snapshot
     next = at_clock s clock
 

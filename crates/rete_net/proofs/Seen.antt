@@ -16,7 +16,7 @@ use Rattle.pair_memory.specs.Standing.{cleaned, no_names}
 use Rattle.condition_rows.specs.Looks.{HasAllOf}
 use Rattle.condition_rows.specs.Sets.{held, rows_of}
 use Rattle.rule_world.specs.Programs.{IsRunnable}
-use Rattle.pattern_gate.specs.Moves.{IsKept, Moves, at_clock}
+use Rattle.pattern_gate.specs.Moves.{IsOrderly, Moves, at_clock}
 use Rattle.condition_node.specs.Nodes.{condition_of}
 use Rattle.condition_node.specs.Quiet.{IsBefore}
 use Rattle.rete_net.specs.declared.changes.RuleChange.{RuleChange}
@@ -133,7 +133,7 @@ module _ (p : Program) (look : Look) (s next : Snapshot) (gone : List Fact) (com
 -- ---- the clock moves alone, before something is due
 
 module _ (p : Program) (net : Rete) (s : Snapshot) (forgotten : Named → Bool) (clock : ℤ) (stands : NetStands p net s forgotten) (later : s.clock ≤ℤ clock) (low : clock <ℤ pos (2 ^ 63))
-    (before_due : IsBefore net.quiet_until clock) (kept : IsKept p (at_clock s clock)) where
+    (before_due : IsBefore net.quiet_until clock) (kept : IsOrderly p (at_clock s clock)) where
   pub quiet_stands : NetStands p net (at_clock s clock) forgotten
   quiet_stands = record {
     seen = stands.seen;

@@ -27,7 +27,7 @@ use Rattle.condition_rows.specs.Lines.{empty_row, line, gives}
 use Rattle.condition_rows.specs.Looks.{empty_snapshot, HasAllOf}
 use Rattle.condition_rows.proofs.Ends.{has_in}
 use Rattle.condition_rows.proofs.Naming.{rows_named}
-use Rattle.pattern_gate.specs.Moves.{IsKept}
+use Rattle.pattern_gate.specs.Moves.{IsOrderly}
 use Rattle.condition_node.specs.Nodes.{condition_of}
 use Rattle.rule_world.specs.Programs.{IsRunnable}
 use Rattle.rete_net.specs.declared.changes.RuleChange.{RuleChange}
@@ -72,7 +72,7 @@ nothing_made p s = record { more = λ front c. fun_ext (none_made p s c); named 
 
 -- ---- from no facts to no facts
 
-kept : (p : Program) → IsKept p empty_snapshot
+kept : (p : Program) → IsOrderly p empty_snapshot
 unfolding IsStrictlySortedBy
 kept p = record { in_order = tt; present = λ f i. absurd i; low = λ f i. absurd i; high = λ f i. absurd i }
 

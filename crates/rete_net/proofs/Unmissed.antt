@@ -55,7 +55,7 @@ use Rattle.window_gate.specs.Windows.{Arrival, has_tag, inside, named_of}
 use Rattle.window_gate.proofs.Insides.{differ_after}
 use Rattle.pattern_gate.specs.declared.gate.PatternGate.{PatternGate}
 use Rattle.pattern_gate.specs.Gates.{GateStands, arrival_of, arrivals, kind_of}
-use Rattle.pattern_gate.specs.Moves.{IsKept, at_clock}
+use Rattle.pattern_gate.specs.Moves.{IsOrderly, at_clock}
 use Rattle.pattern_gate.proofs.Arriving.{filter_made, is_other, number, rising}
 use Rattle.pattern_gate.proofs.Inside.{inside_are}
 use Rattle.condition_node.specs.declared.node.Node.{Node}
@@ -82,7 +82,7 @@ module _ (s : Snapshot) (f : Fact) where
   less_in : (g : Fact) → In g (less_fact s f).facts → In g s.facts
   less_in g i = of_filter (is_other f) g s.facts i
 
-  less_kept : (p : Program) → IsKept p s → IsKept p (less_fact s f)
+  less_kept : (p : Program) → IsOrderly p s → IsOrderly p (less_fact s f)
   less_kept p is = record {
     in_order = less_in_order is.in_order;
     present = λ g i. is.present g (less_in g i);
@@ -90,7 +90,7 @@ module _ (s : Snapshot) (f : Fact) where
     high = λ g i. is.high g (less_in g i);
   }
 
-module _ (p : Program) (s : Snapshot) (f : Fact) (forgotten : Named → Bool) (kept_s : IsKept p s) (there : In f s.facts) (known : forgotten (name_of f) ≡ true) where
+module _ (p : Program) (s : Snapshot) (f : Fact) (forgotten : Named → Bool) (kept_s : IsOrderly p s) (there : In f s.facts) (known : forgotten (name_of f) ≡ true) where
   abbrev less : Snapshot
   less = less_fact s f
 
@@ -295,7 +295,7 @@ module _ (p : Program) (net : Rete) (s : Snapshot) (forgotten : Named → Bool) 
   unfolding is_present
   always clock = ap (λ expiry. not (is_event p f.ty.0) || is_within expiry (clock -ℤ f.times.start)) unmissed.lasting ∙ or-true (not (is_event p f.ty.0))
 
-  with_fact : (clock : ℤ) → IsKept p (at_clock (less_fact s f) clock) → IsKept p (at_clock s clock)
+  with_fact : (clock : ℤ) → IsOrderly p (at_clock (less_fact s f) clock) → IsOrderly p (at_clock s clock)
   with_fact clock is = record {
     in_order = stands.kept.in_order;
     present = λ g i. by g i (f.tag.0 == g.tag.0) refl;

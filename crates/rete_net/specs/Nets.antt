@@ -18,7 +18,7 @@ use Rattle.pair_memory.specs.Standing.{clean, cleaned, no_rows}
 use Rattle.condition_rows.specs.Looks.{empty_snapshot}
 use Rattle.condition_rows.specs.Sets.{held, candidates_of, rows_of}
 use Rattle.pattern_gate.specs.Gates.{GateStands, has_good_window}
-use Rattle.pattern_gate.specs.Moves.{IsKept, at_clock}
+use Rattle.pattern_gate.specs.Moves.{IsOrderly, at_clock}
 use Rattle.condition_node.specs.Nodes.{condition_of, NodeStands}
 use Rattle.condition_node.specs.Quiet.{IsBefore}
 use Rattle.rete_net.specs.declared.changes.RuleChange.{RuleChange}
@@ -60,10 +60,10 @@ pub record NetStands (p : Program) (net : Rete) (s : Snapshot) (forgotten : Name
   pub seen : ℤ
   pub begun : pos 0 ≤ℤ seen
   pub later : seen ≤ℤ s.clock
-  pub kept : IsKept p (at_clock s seen)
+  pub kept : IsOrderly p (at_clock s seen)
   pub nodes : NodesStand p net (at_clock s seen) forgotten
   pub unchanged : HaveSame p net.nodes.items nodes.conditions forgotten s (at_clock s seen)
-  pub quiet : (clock : ℤ) → s.clock ≤ℤ clock → clock <ℤ pos (2 ^ 63) → IsBefore net.quiet_until clock → IsKept p (at_clock s clock)
+  pub quiet : (clock : ℤ) → s.clock ≤ℤ clock → clock <ℤ pos (2 ^ 63) → IsBefore net.quiet_until clock → IsOrderly p (at_clock s clock)
       → HaveSame p net.nodes.items nodes.conditions forgotten (at_clock s clock) (at_clock s seen)
 
 -- the rows of a rule in a snapshot that name no forgotten fact

@@ -9,7 +9,7 @@ use Rattle.pair_memory.specs.Standing.{cleaned}
 use Rattle.condition_rows.specs.Lines.{line}
 use Rattle.condition_rows.specs.Looks.{NameHeld}
 use Rattle.condition_rows.specs.Sets.{candidates_of}
-use Rattle.pattern_gate.specs.Moves.{IsKept, at_clock}
+use Rattle.pattern_gate.specs.Moves.{IsOrderly, at_clock}
 use Rattle.condition_node.specs.Nodes.{condition_of}
 use Rattle.condition_node.specs.Quiet.{IsBefore}
 use Rattle.rete_net.specs.declared.node.NetNode.{NetNode}
@@ -22,7 +22,7 @@ pub record StaysAt (p : Program) (n : NetNode) (s : Snapshot) (rows : Row → Bo
 
 -- so it is until this moment
 abbrev pub IsNodeQuiet : Program → NetNode → Option ℤ → Type 0
-IsNodeQuiet p n until = (s : Snapshot) (rows : Row → Bool) (forgotten : Named → Bool) (clock : ℤ) → NetNodeStands p n s rows forgotten → NameHeld s rows → IsKept p s → IsKept p (at_clock s clock)
+IsNodeQuiet p n until = (s : Snapshot) (rows : Row → Bool) (forgotten : Named → Bool) (clock : ℤ) → NetNodeStands p n s rows forgotten → NameHeld s rows → IsOrderly p s → IsOrderly p (at_clock s clock)
     → pos 0 ≤ℤ s.clock → s.clock ≤ℤ clock → clock <ℤ pos (2 ^ 63) → IsBefore until clock
     → StaysAt p n s rows forgotten clock
 

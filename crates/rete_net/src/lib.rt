@@ -1,5 +1,6 @@
-//! The network of a program: a node for each condition of its rules, which answers for a change of the facts and a move of the clock
-//! what changes in the rows of which rules. It stands on the nodes of conditions and their gates, and assumes nothing of the outside.
+//! The network of a program: a node for each distinct front of its rules' conditions. It answers for a change of the facts and a move of
+//! the clock what changes in the rows of which rules. It stands on the nodes of conditions and their gates, and assumes nothing of the
+//! outside.
 #![tactic(auto)]
 
 mod build;

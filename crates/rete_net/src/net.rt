@@ -12,7 +12,7 @@ ghost use Rattle.pair_memory.specs.Joined.{has_name};
 ghost use Rattle.pair_memory.specs.Standing.{cleaned, either};
 ghost use Rattle.condition_rows.specs.Looks.{empty_snapshot, HasAllOf};
 ghost use Rattle.condition_rows.specs.Sets.{rows_of};
-ghost use Rattle.pattern_gate.specs.Moves.{IsKept, Moves, at_clock};
+ghost use Rattle.pattern_gate.specs.Moves.{IsOrderly, Moves, at_clock};
 ghost use Rattle.condition_node.specs.Quiet.{IsBefore};
 ghost use Rattle.rete_net.specs.Dropped.{AllForget, AreDropped, AreListed};
 ghost use Rattle.rete_net.specs.Forgetting.{AreNotNeeded};
@@ -98,9 +98,9 @@ impl Rete {
     /// Whether a move of the clock to this moment, in milliseconds, changes nothing where no fact goes or comes. Takes no memory.
     pub fn is_quiet(&self, clock: Millis) -> bool
         ensures exact { IsTrue result ↔ IsBefore self.now.quiet_until clock }
-        ensures stands { IsTrue result → (p : ProgramData) (s : Snapshot) (forgotten : NamedData → Bool) → NetStands p self.now s forgotten → s.clock ≤ℤ clock → IsKept p (at_clock s clock)
+        ensures stands { IsTrue result → (p : ProgramData) (s : Snapshot) (forgotten : NamedData → Bool) → NetStands p self.now s forgotten → s.clock ≤ℤ clock → IsOrderly p (at_clock s clock)
             → NetStands p self.now (at_clock s clock) forgotten }
-        ensures rows { IsTrue result → (p : ProgramData) (s : Snapshot) (forgotten : NamedData → Bool) → NetStands p self.now s forgotten → s.clock ≤ℤ clock → IsKept p (at_clock s clock)
+        ensures rows { IsTrue result → (p : ProgramData) (s : Snapshot) (forgotten : NamedData → Bool) → NetStands p self.now s forgotten → s.clock ≤ℤ clock → IsOrderly p (at_clock s clock)
             → (place : ℕ) (rule : Rule) → slice_get p.rules place ≡ Some rule
             → (row : RowData) → cleaned (rows_of p (at_clock s clock) rule.conditions) forgotten row ≡ cleaned (rows_of p s rule.conditions) forgotten row }
     {

@@ -6,7 +6,7 @@ use Rattle.due_queue.specs.Timers.{Timers}
 use Rattle.fact_store.specs.Held.{HeldFacts, facts_of}
 use Rattle.rule_model.specs.declared.program.Program.{Program}
 use Rattle.session.specs.Refreshed.{over}
-use Rattle.pattern_gate.specs.Moves.{IsKept}
+use Rattle.pattern_gate.specs.Moves.{IsOrderly}
 use Rattle.row_delta.specs.declared.row.Named.{Named}
 use Rattle.rule_model.specs.Tuples.{name_of}
 use Rattle.rete_net.specs.Forgetting.{AreNotNeeded}
@@ -18,7 +18,7 @@ use Rattle.std.specs.FinMap as map
 pub record IsReady (p : Program) (facts : HeldFacts) (expiries : Timers) (clock : ℤ) : Type 0 where
   pub own : HaveOwnTags facts
   pub waits : (tag : ℕ) → map.get expiries tag ≡ expiry_at p (map.get facts tag)
-  pub kept : IsKept p (over (facts_of facts) clock)
+  pub kept : IsOrderly p (over (facts_of facts) clock)
 
 -- ---- a step of the network
 
@@ -30,8 +30,8 @@ Comes before all (Some f) = (all ≡ map.insert before f.tag.0 f) × ((tag : ℕ
 -- Some facts go, by their tags, one may come, and the clock moves on or stands. `all` has the facts before and the one that comes.
 pub record Leads (p : Program) (before : HeldFacts) (from : ℤ) (behind : HeldFacts) (to : ℤ) (all : HeldFacts) (gone : List ℕ) (come : Option Fact) : Type 0 where
   pub later : from ≤ℤ to
-  pub kept_before : IsKept p (over (facts_of before) from)
-  pub kept_behind : IsKept p (over (facts_of behind) to)
+  pub kept_before : IsOrderly p (over (facts_of before) from)
+  pub kept_behind : IsOrderly p (over (facts_of behind) to)
   pub own : HaveOwnTags all
   pub comes : Comes before all come
   pub once : EachOnce gone

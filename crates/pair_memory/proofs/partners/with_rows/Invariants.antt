@@ -1,7 +1,7 @@
 use Rattle.std.proofs.Common.{◌≡◌, ◌||◌}
 use Rattle.std.specs.Option.{is_some}
 use Rattle.std.specs.Ordering.{eq_by_cmp}
-use Rattle.std.specs.BTreeMap.{get}
+use Rattle.alpha_memory.specs.Bucket.{found}
 use Rattle.row_delta.specs.declared.row.Row.{Row}
 use Rattle.row_delta.specs.Rows.{has, row_cmp}
 use Rattle.row_delta.specs.NameOrder.{name_cmp}
@@ -11,5 +11,5 @@ use Rattle.pair_memory.proofs.partners.with_rows.Given as goal
 
 -- with what the rows to come make, all is found
 abbrev pub invariant-loop-row : goal.invariant-loop-row
-invariant-loop-row g l = (r : Row) → (has l.found.items r || joined (joins l.pattern (g.F.Facts.map l.facts)) (has l.row-iterator) (eq_by_cmp name_cmp l.who) r)
-    ≡ joined (joins l.pattern (g.F.Facts.map l.facts)) (λ q. is_some (get row_cmp l.bucket q)) (eq_by_cmp name_cmp l.who) r
+invariant-loop-row g l = (r : Row) → (has l.rows.items r || joined (joins l.pattern (g.F.Facts.map l.facts)) (has l.row-iterator) (eq_by_cmp name_cmp l.who) r)
+    ≡ joined (joins l.pattern (g.F.Facts.map l.facts)) (λ q. is_some (found row_cmp l.bucket q)) (eq_by_cmp name_cmp l.who) r

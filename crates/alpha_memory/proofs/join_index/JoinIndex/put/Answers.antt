@@ -1,14 +1,31 @@
-use Rattle.std.proofs.Common.{sym, ap}
+use Rattle.std.proofs.Common.{sym, ap, cond, Some, None}
 use Rattle.std.specs.Option.{is_some}
-use Rattle.std.proofs.lemmas.Result.{err_from_is_err_and}
-use Rattle.alpha_memory.proofs.Buckets.{same_buckets}
+use Rattle.std.proofs.lemmas.Cmp.{eq_by_cmp_equiv}
+use Rattle.std.proofs.lemmas.Result.{on_ok_weaker, on_err_weaker}
+use Rattle.alpha_memory.specs.declared.bucket.Bucket.TheVariants.{One}
+use Rattle.alpha_memory.proofs.Buckets.{one_kept, same_buckets}
 use Rattle.alpha_memory.proofs.join_index.JoinIndex.put.Goals as goal
 
-pub returns-in_err-insert-in-Some-clause-err : goal.returns-in_err-insert-in-Some-clause-err
-returns-in_err-insert-in-Some-clause-err g c =
-    let refused = err_from_is_err_and c.from_residual.result c.from_residual.ensures.1 in
+pub returns-in-Some-clause-kept : goal.returns-in-Some-clause-kept
+returns-in-Some-clause-kept g c =
     let here = sym c.in-Some.ensures.value in
-    let written = ((c.get_mut.follows.holds c.insert.new.self).3 (ap is_some here)).0 in
-    rw refused.1
-    (same_buckets g.met.J.Eq.laws c.args.self.now (record c.args.self.now { buckets = c.get_mut.follows.lender c.insert.new.self }) c.args.join c.in-Some.bucket.now c.insert.new.self
-    here written c.in_err-insert-in-Some.ensures.err)
+    let written = ((c.get_mut.follows.holds c.put_in.new.bucket).3 (ap is_some here)).0 in
+    on_ok_weaker c.put_in.result
+    (one_kept g.met.J.Eq.laws c.args.self.now (record c.args.self.now { buckets = c.get_mut.follows.lender c.put_in.new.bucket }) c.args.join (Some c.in-Some.bucket.now) c.put_in.new.bucket
+    here written g.K.Ord.cmp c.args.key (Some c.args.kept))
+    c.put_in.ensures.kept
+
+pub returns-in-Some-clause-err : goal.returns-in-Some-clause-err
+returns-in-Some-clause-err g c =
+    let here = sym c.in-Some.ensures.value in
+    let written = ((c.get_mut.follows.holds c.put_in.new.bucket).3 (ap is_some here)).0 in
+    on_err_weaker c.put_in.result
+    (λ same. same_buckets g.met.J.Eq.laws c.args.self.now (record c.args.self.now { buckets = c.get_mut.follows.lender c.put_in.new.bucket }) c.args.join (Some c.in-Some.bucket.now) c.put_in.new.bucket
+    here written (ap Some same))
+    c.put_in.ensures.err
+
+pub returns-in_ok-insert-in-None-clause-kept : goal.returns-in_ok-insert-in-None-clause-kept
+returns-in_ok-insert-in-None-clause-kept g c =
+    one_kept g.met.J.Eq.laws c.args.self.now (record c.args.self.now { buckets = c.insert.new.self }) c.args.join None (One c.args.key c.args.kept)
+    (sym c.in-None.ensures.value) (rw c.get_mut.follows.holds-at-none at c.in_ok-insert-in-None.ensures.updates.0) g.K.Ord.cmp c.args.key (Some c.args.kept)
+    (λ k. ap (λ b. cond b (Some c.args.kept) None) ((eq_by_cmp_equiv g.met.K.Ord.total).symm k c.args.key))

@@ -2,15 +2,16 @@ use Rattle.std.proofs.Common.{◌≡◌, ◌∙◌, ap, subst, List}
 use Rattle.std.specs.Prelude.{IfOk}
 use Rattle.row_delta.specs.declared.row.Named.{Named}
 use Rattle.alpha_memory.specs.Candidates.{names_of, with_join}
+use Rattle.alpha_memory.specs.Bucket.{entries}
 use Rattle.alpha_memory.proofs.Answering.{bucket_names, no_bucket}
 use Rattle.alpha_memory.proofs.memory.AlphaMemory.equal_to.Goals as goal
 
 pub returns-in-Some : goal.returns-in-Some
 returns-in-Some c =
-    subst (λ (all : List Named). IfOk c.names_in.result (λ found. found.items ≡ all))
-    (bucket_names c.self.inside.by_tag.entries c.self.inside.next c.self.inside.by_join c.self.invariant c.args.join.now c.in-Some.bucket.now.entries c.in-Some.ensures c.names_in.ensures.sorted
+    subst (λ (all : List Named). IfOk c.names_under.result (λ found. found.items ≡ all))
+    (bucket_names c.self.inside.by_tag.entries c.self.inside.next c.self.inside.by_join c.self.invariant c.args.join.now (entries c.in-Some.bucket.now) c.in-Some.ensures c.names_under.ensures.sorted
     ∙ ap (λ list. names_of (with_join list c.args.join.now)) c.self.view_is)
-    c.names_in.ensures.names
+    c.names_under.ensures.names
 
 pub returns-in-None : goal.returns-in-None
 returns-in-None c =

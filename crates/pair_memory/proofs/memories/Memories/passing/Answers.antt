@@ -2,6 +2,7 @@ use Rattle.std.proofs.Common.{◌∙◌, ap, List, None, Some}
 use Rattle.std.proofs.lemmas.Result.{IfOk-weaker}
 use Rattle.row_delta.specs.declared.row.Named.{Named}
 use Rattle.row_delta.specs.NameOrder.{name_cmp}
+use Rattle.alpha_memory.specs.Bucket.{entries}
 use Rattle.pair_memory.specs.Joined.{has_name}
 use Rattle.pair_memory.proofs.Found.{passing_in_bucket, nothing_sorted}
 use Rattle.pair_memory.proofs.memories.Memories.passing.Goals as goal
@@ -11,7 +12,7 @@ returns-in-Some-clause-names g c =
     IfOk-weaker c.names_passed.result _ _
     (λ found h n.
     h n
-    ∙ passing_in_bucket c.args.self.now (g.F.Facts.map c.args.facts.now) c.args.row.now c.value.result.now (c.value.ensures ∙ c.row_value-value.ensures) (Some c.in-Some.bucket.now.entries) c.in-Some.ensures n)
+    ∙ passing_in_bucket c.args.self.now (g.F.Facts.map c.args.facts.now) c.args.row.now c.value.result.now (c.value.ensures ∙ c.row_value-value.ensures) (Some (entries c.in-Some.bucket.now)) c.in-Some.ensures n)
     c.names_passed.ensures.names
 
 pub returns-clause-names : goal.returns-clause-names

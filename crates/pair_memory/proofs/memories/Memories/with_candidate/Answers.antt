@@ -5,6 +5,7 @@ use Rattle.row_delta.specs.declared.row.Row.{Row}
 use Rattle.row_delta.specs.Rows.{has}
 use Rattle.row_delta.specs.NameOrder.{name_cmp}
 use Rattle.join_tests.specs.Joins.{joins}
+use Rattle.alpha_memory.specs.Bucket.{entries}
 use Rattle.pair_memory.proofs.Joining.{none_left}
 use Rattle.pair_memory.proofs.Found.{rows_in_bucket}
 use Rattle.pair_memory.proofs.memories.Memories.with_candidate.Goals as goal
@@ -14,7 +15,7 @@ returns-in-Some g c =
     IfOk-weaker c.with_rows.result _ _
     (λ found h r.
     h r
-    ∙ rows_in_bucket c.args.self.now (g.F.Facts.map c.args.facts.now) c.args.who c.value.result.now (c.value.ensures ∙ c.candidate_value-value.ensures) (Some c.in-Some.bucket.now.entries) c.in-Some.ensures r)
+    ∙ rows_in_bucket c.args.self.now (g.F.Facts.map c.args.facts.now) c.args.who c.value.result.now (c.value.ensures ∙ c.candidate_value-value.ensures) (Some (entries c.in-Some.bucket.now)) c.in-Some.ensures r)
     c.with_rows.ensures
 
 pub returns : goal.returns

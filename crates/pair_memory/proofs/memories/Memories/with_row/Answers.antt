@@ -4,6 +4,7 @@ use Rattle.std.proofs.lemmas.Result.{IfOk-weaker}
 use Rattle.row_delta.specs.declared.row.Row.{Row}
 use Rattle.row_delta.specs.Rows.{row_cmp, has}
 use Rattle.join_tests.specs.Joins.{joins}
+use Rattle.alpha_memory.specs.Bucket.{entries}
 use Rattle.pair_memory.proofs.Joining.{none_right}
 use Rattle.pair_memory.proofs.Found.{names_in_bucket}
 use Rattle.pair_memory.proofs.memories.Memories.with_row.Goals as goal
@@ -13,7 +14,7 @@ returns-in-Some g c =
     IfOk-weaker c.with_names.result _ _
     (λ found h r.
     h r
-    ∙ names_in_bucket c.args.self.now (g.F.Facts.map c.args.facts.now) c.args.row.now c.value.result.now (c.value.ensures ∙ c.row_value-value.ensures) (Some c.in-Some.bucket.now.entries) c.in-Some.ensures r)
+    ∙ names_in_bucket c.args.self.now (g.F.Facts.map c.args.facts.now) c.args.row.now c.value.result.now (c.value.ensures ∙ c.row_value-value.ensures) (Some (entries c.in-Some.bucket.now)) c.in-Some.ensures r)
     c.with_names.ensures
 
 pub returns : goal.returns
