@@ -49,21 +49,3 @@ fn what_is_kept_stands_under_its_join_value(rt: HostRuntime) -> Result<(), Fail>
     assert!(rt; index.bucket(&Value::Int(7)).is_none());
     Ok(())
 }
-
-/// Puts a key under the join value 7, with its tenfold beside it, and answers what was there before.
-fn put_ten(index: &mut JoinIndex<Value, u64, u64>, key: u64) -> Result<Option<u64>, NoMemory> {
-    index.put(Value::Int(7), key, key * 10)
-}
-
-#[test]
-fn a_second_key_of_a_join_value_comes_and_goes(rt: HostRuntime) -> Result<(), Fail> {
-    let mut index = JoinIndex::new(rt.alloc());
-    for key in [5, 3] {
-        assert_eq!(rt; put_ten(&mut index, key)?, None);
-    }
-    for key in [3, 5] {
-        assert_eq!(rt; index.take(&Value::Int(7), &key), Some(key * 10));
-    }
-    assert!(rt; index.bucket(&Value::Int(7)).is_none());
-    Ok(())
-}
