@@ -5,7 +5,7 @@ use Rattle.std.specs.List.{list_any, sum_by}
 use Rattle.std.specs.declared.cmp.Ordering.{Ordering}
 use Rattle.std.specs.declared.cmp.Ordering.TheVariants.{Less, Equal, Greater}
 use Rattle.std.specs.Ordering.{eq_by_cmp, is_eq, match_ordering}
-use Rattle.std.specs.BTreeMap.{BTreeMap, is_at}
+use Rattle.std.specs.BTreeMap.{is_at}
 use Rattle.std.specs.BTreeSet.{insert_key}
 use Rattle.std.specs.Set.{remove_key}
 use Rattle.std.proofs.lemmas.List.Sums.{sum_by-cons}
@@ -32,13 +32,13 @@ inserted f (x ∷ ks) k e =
     let parts = or_parts (is_eq (rank_cmp k x)) (list_any (is_at (rank_cmp k)) ks) e in
     placed_sum f (rank_cmp k x) k x ks (insert_key rank_cmp ks k) parts.0 (inserted f ks k parts.1)
 
-pub put_counts : (old now : BTreeMap ℕ ℕ) (ks : List Ranked) (k : Ranked) → list_any (is_at (rank_cmp k)) ks ≡ false
+pub put_counts : (old now : List (ℕ × ℕ)) (ks : List Ranked) (k : Ranked) → list_any (is_at (rank_cmp k)) ks ≡ false
     → ((tag : ℕ) → times now tag ≡ times old tag + times_in tag k.matched.row.facts) → CountsNamings old ks → CountsNamings now (insert_key rank_cmp ks k)
 put_counts old now ks k e more counts = record {
   each = λ tag. let a = inserted (λ (m : Ranked). times_in tag m.matched.row.facts) ks k e in let b = counts.each tag in let c = more tag in omega (arith, a, b, c);
 }
 
-pub take_counts : (old now : BTreeMap ℕ ℕ) (ks : List Ranked) (k gone : Ranked) → Some gone ≡ find (is_at (rank_cmp k)) ks
+pub take_counts : (old now : List (ℕ × ℕ)) (ks : List Ranked) (k gone : Ranked) → Some gone ≡ find (is_at (rank_cmp k)) ks
     → ((tag : ℕ) → times now tag ≡ times old tag - times_in tag gone.matched.row.facts) → CountsNamings old ks → CountsNamings now (remove_key (is_at (rank_cmp k)) ks)
 take_counts old now ks k gone found less counts = record {
   each = λ tag.
@@ -47,7 +47,7 @@ take_counts old now ks k gone found less counts = record {
       let b = counts.each tag in let c = less tag in omega (arith, a, p, b, c);
 }
 
-pub pop_counts : (old now : BTreeMap ℕ ℕ) (ks ls : List Ranked) (k : Ranked) → ks ≡ k ∷ ls
+pub pop_counts : (old now : List (ℕ × ℕ)) (ks ls : List Ranked) (k : Ranked) → ks ≡ k ∷ ls
     → ((tag : ℕ) → times now tag ≡ times old tag - times_in tag k.matched.row.facts) → CountsNamings old ks → CountsNamings now ls
 pop_counts old now ks ls k e less counts = record {
   each = λ tag.

@@ -1,9 +1,7 @@
 -- How often the pending matches name each tag.
-use Rattle.std.specs.Prelude.{◌≡◌, ℕ, ◌==◌, ℤ, List, count_by}
+use Rattle.std.specs.Prelude.{◌≡◌, ℕ, ◌==◌, ℤ, List, count_by, nat_eq}
 use Rattle.std.specs.List.{sum_by}
-use Rattle.std.specs.Map.{count_at}
-use Rattle.std.specs.BTreeMap.{BTreeMap, get}
-use Rattle.std.specs.Ordering.{nat_cmp}
+use Rattle.std.specs.Map.{count_at, lookup}
 use Rattle.row_delta.specs.declared.row.Named.{Named}
 use Rattle.agenda.specs.Agendas.{AllWell}
 use Rattle.agenda.specs.declared.ranked.Ranked.{Ranked}
@@ -16,15 +14,15 @@ times_in tag facts = count_by (λ (n : Named). tag == n.tag.0) facts
 abbrev pub namings : List Ranked → ℕ → ℕ
 namings ks tag = sum_by (λ (k : Ranked). times_in tag k.matched.row.facts) ks
 
--- what a map of counts has for the tag; 0 where it has nothing
-abbrev pub times : BTreeMap ℕ ℕ → ℕ → ℕ
-times named tag = count_at (get nat_cmp named) tag
+-- what counts by tags have for the tag; 0 where they have nothing
+abbrev pub times : List (ℕ × ℕ) → ℕ → ℕ
+times named tag = count_at (λ t. lookup (nat_eq t) named) tag
 
--- the map has for each tag how often the matches name it
-pub record CountsNamings (named : BTreeMap ℕ ℕ) (ks : List Ranked) : Type 0 where
+-- they have for each tag how often the matches name it
+pub record CountsNamings (named : List (ℕ × ℕ)) (ks : List Ranked) : Type 0 where
   pub each : (tag : ℕ) → times named tag ≡ namings ks tag
 
 -- ranked matches have the keys of their matches, and what they name is counted
-pub record IsSound (saliences : List ℤ) (ks : List Ranked) (named : BTreeMap ℕ ℕ) : Type 0 where
+pub record IsSound (saliences : List ℤ) (ks : List Ranked) (named : List (ℕ × ℕ)) : Type 0 where
   pub well : AllWell saliences ks
   pub counts : CountsNamings named ks

@@ -14,7 +14,7 @@ use fx_base::{Copies, FactId, NoMemory, RuleId, Seq, Tag};
 use row_delta::{Delta, Row};
 use rule_model::Match;
 use std::alloc::Global;
-use std::collections::{BTreeMap, BTreeSet};
+use std::collections::{BTreeSet, HashMap};
 use std::marker::Model;
 
 /// The pending matches, in the order in which they fire, and those that were fired.
@@ -24,7 +24,7 @@ pub struct Agenda {
     pending: BTreeSet<Ranked, Global>,
     fired: BTreeSet<Match, Global>,
     /// How often the pending matches name each tag.
-    named: BTreeMap<u64, u64>,
+    named: HashMap<u64, u64>,
 }
 
 impl Model for Agenda {
@@ -35,7 +35,7 @@ impl Model for Agenda {
 
     ghost view = { λ a. record { saliences = a.saliences; pending = matches a.pending.keys; fired = a.fired.keys } };
 
-    ghost invariant = { λ a. IsSound a.saliences a.pending.keys a.named };
+    ghost invariant = { λ a. IsSound a.saliences a.pending.keys a.named.entries };
 }
 
 impl Agenda {
@@ -49,7 +49,7 @@ impl Agenda {
             saliences: Seq::from_vec(kept),
             pending: BTreeSet::new(alloc),
             fired: BTreeSet::new(alloc),
-            named: BTreeMap::new(alloc),
+            named: HashMap::new(alloc),
         })
     }
 
@@ -118,7 +118,7 @@ impl Agenda {
     }
 
     /// Takes the rows that went out of both, and adds those that came to the pending ones. It costs the logarithm of the matches for
-    /// each row, and that of the named tags for each fact of a pending one. `NoMemory` is also told where a tag's count is full.
+    /// each row, and a hash for each fact of a pending one. `NoMemory` is also told where a tag's count is full.
     pub fn change(self, rule: RuleId, delta: Delta) -> Result<Agenda, NoMemory>
         ensures { IfOk result (IsChanged rule.0 delta self) }
     {
@@ -180,7 +180,7 @@ impl Agenda {
         agenda
     }
 
-    /// Whether a pending match names this version of a fact. It costs the logarithm of the named tags. Takes no memory.
+    /// Whether a pending match names this version of a fact. It costs a hash. Takes no memory.
     pub fn names_tag(&self, tag: Tag) -> bool
         ensures { result ≡ list_any (names_tag tag.0) self.now.pending }
     {

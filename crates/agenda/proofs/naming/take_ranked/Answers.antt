@@ -8,4 +8,4 @@ returns-in-Some-clause-well c saliences all = rw c.in-Some.ensures.keys (well_re
 pub returns-in-Some-clause-named : goal.returns-in-Some-clause-named
 returns-in-Some-clause-named c counts =
     rw c.in-Some.ensures.keys
-    (take_counts c.args.named.now c.lower_all.new.named c.args.pending.now.keys c.args.ranked.now c.in-Some.gone c.in-Some.ensures.key (simp c.as_slice.ensures at c.lower_all.ensures) counts)
+    (take_counts c.args.named.now.entries c.lower_all.new.named.entries c.args.pending.now.keys c.args.ranked.now c.in-Some.gone c.in-Some.ensures.key (simp c.as_slice.ensures at c.lower_all.ensures) counts)

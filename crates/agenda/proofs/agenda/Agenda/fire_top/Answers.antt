@@ -36,5 +36,5 @@ returns-in_ok-insert-in-Some-clause-fired c m =
 pub invariant_of-result : goal.invariant_of-result
 invariant_of-result c = record {
   well = (well_parts c.self.inside.saliences c.self.inside.pending.keys c.pop_first.new.self.keys c.in-Some.ranked c.self.invariant.well c.in-Some.ensures.removal).1;
-  counts = pop_counts c.self.inside.named c.lower_all.new.named c.self.inside.pending.keys c.pop_first.new.self.keys c.in-Some.ranked c.in-Some.ensures.removal (simp c.as_slice.ensures at c.lower_all.ensures) c.self.invariant.counts;
+  counts = pop_counts c.self.inside.named.entries c.lower_all.new.named.entries c.self.inside.pending.keys c.pop_first.new.self.keys c.in-Some.ranked c.in-Some.ensures.removal (simp c.as_slice.ensures at c.lower_all.ensures) c.self.invariant.counts;
 }
