@@ -1,9 +1,11 @@
-use Rattle.std.proofs.Common.{◌≡◌, Option, Some, sym, subst}
+use Rattle.std.proofs.Common.{◌≡◌, ◌∙◌, ◌++◌, [], ◌∷◌, List, Option, Some, sym, ap, subst, rules}
 use Rattle.std.proofs.lemmas.Result.{IfOk-weaker}
 use Rattle.rule_model.specs.declared.matched.Match.{Match}
+use Rattle.engine.specs.declared.lines.OutLine.{OutLine}
 use Rattle.rule_world.specs.Worlds.{marked}
-use Rattle.session.specs.Gives.{does_all}
+use Rattle.session.specs.Gives.{does_all, fire_line}
 use Rattle.session.specs.Standing.{Standing}
+use Rattle.session.proofs.Tried.{on_ok_weaker}
 use Rattle.session.proofs.state.State.fire.Goals as goal
 
 -- what is in place is one match
@@ -18,3 +20,17 @@ returns-clause-stands c =
     (λ t h w q st top fit.
     subst (λ (x : Match). Standing s after t (does_all s.program (marked w x) c.args.plan.items).1) (sym (one_match q c.in_ok-state.fired _ top c.in_ok-state.ensures.top))
     (h (marked w c.in_ok-state.fired) (c.in_ok-state.ensures.stands w st) fit)) c.apply_all.ensures.stands
+
+pub returns-clause-lines : goal.returns-clause-lines
+returns-clause-lines c =
+    let p = c.args.setting.now.program in
+    let old = c.args.lines.now.items in
+    let fired = c.in_ok-state.fired in
+    let written : c.push.new.self.items ≡ old ++ fire_line p fired ∷ [] = c.in_ok-push.ensures.items ∙ ap (λ line. old ++ line ∷ []) c.in_ok-line_of.ensures in
+    let joined : (more : List OutLine) → (old ++ fire_line p fired ∷ []) ++ more ≡ old ++ fire_line p fired ∷ [] ++ more = λ more. search rules in
+    on_ok_weaker c.apply_all.result
+    (λ h w m st top fit.
+    subst (λ (x : Match). c.apply_all.new.lines.items ≡ old ++ fire_line p x ∷ [] ++ (does_all p (marked w x) c.args.plan.items).0) (sym (one_match m fired _ top c.in_ok-state.ensures.top))
+    (h (marked w fired) (c.in_ok-state.ensures.stands w st) fit ∙ ap (λ before. before ++ (does_all p (marked w fired) c.args.plan.items).0) written
+    ∙ joined (does_all p (marked w fired) c.args.plan.items).0))
+    c.apply_all.ensures.lines

@@ -10,3 +10,13 @@ pub returns-in-At-clause-stands : goal.returns-in-At-clause-stands
 returns-in-At-clause-stands c =
     let fits : SFits w64 c.in-At.moment = search in
     rw c.in-At.is (simp to_z-of_z at c.go_to.ensures.stands)
+
+pub returns-in-Advance-clause-lines : goal.returns-in-Advance-clause-lines
+returns-in-Advance-clause-lines c =
+    let fits : SFits w64 c.in-Advance.by = search in
+    rw c.in-Advance.is (simp to_z-of_z at c.advance.ensures.lines)
+
+pub returns-in-At-clause-lines : goal.returns-in-At-clause-lines
+returns-in-At-clause-lines c =
+    let fits : SFits w64 c.in-At.moment = search in
+    rw c.in-At.is (simp to_z-of_z at c.go_to.ensures.lines)

@@ -1,4 +1,4 @@
-use Rattle.std.proofs.Common.{◌≡◌, ◌∙◌, Some, option_map, true, sym, subst, ap, slice_get, to_z, of_z, w64}
+use Rattle.std.proofs.Common.{◌≡◌, ◌∙◌, ◌+◌, Some, option_map, true, sym, subst, ap, slice_get, to_z, of_z, w64}
 use Rattle.std.proofs.lemmas.Result.{IfOk-weaker}
 use Rattle.rule_model.specs.declared.step.Step.TheVariants.{Insert}
 use Rattle.rule_model.specs.Candidates.{is_present}
@@ -41,3 +41,6 @@ returns-clause-stands c =
     (simp (same, come) at c.in_ok-agenda.ensures.net) (simp (same, come) at c.in_ok-agenda.ensures.agenda)
     (simp (sym c.as_slice.ensures.value) at c.in_ok-agenda.ensures.left))))
     c.settled.ensures.stands
+
+pub returns-clause-tags : goal.returns-clause-tags
+returns-clause-tags c = IfOk-weaker c.settled.result _ _ (λ s h. h ∙ ap (λ (k : Contents). k.next_tag + 1) c.state.view_is) c.settled.ensures.tags
