@@ -5,8 +5,8 @@ use Rattle.rule_model.specs.Lent.{lent}
 use Rattle.pattern_gate.specs.Moves.{Moves}
 use Rattle.rete_net.specs.Forgetting.{AreNotNeeded}
 use Rattle.rete_net.specs.Nets.{clean_rows}
-use Rattle.session.specs.Refreshed.{over}
-use Rattle.session.proofs.Leads.{found_going, has_before, has_behind, leads_move, on_ok}
+use Rattle.session_laws.specs.Refreshed.{over}
+use Rattle.session_laws.proofs.Leads.{found_going, has_before, has_behind, leads_move, on_ok}
 use Rattle.session.proofs.refreshing.followed.Goals as goal
 use Rattle.std.specs.FinMap as map
 

@@ -1,7 +1,7 @@
 use Rattle.std.proofs.Common.{◌∙◌, ◌||◌, List, ap}
 use Rattle.row_delta.specs.declared.row.Row.{Row}
 use Rattle.retention.specs.Retentions.{is_among}
-use Rattle.session.proofs.Rules.{all_made, change_turn, none_ahead, names_in, left_turn, nothing_left}
+use Rattle.session_laws.proofs.Rules.{all_made, change_turn, none_ahead, names_in, left_turn, nothing_left}
 use Rattle.session.proofs.refreshing.refreshed.Goals as goal
 
 pub loop-change-preserved : goal.loop-change-preserved

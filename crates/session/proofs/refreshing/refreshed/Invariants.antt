@@ -5,7 +5,7 @@ use Rattle.rule_model.specs.declared.program.Rule.{Rule}
 use Rattle.rete_net.specs.Nets.{AreBetween}
 use Rattle.retention.specs.Retentions.{is_among}
 use Rattle.forgetting.specs.Steps.{HasLeft}
-use Rattle.session.proofs.Rules.{AreAhead}
+use Rattle.session_laws.proofs.Rules.{AreAhead}
 use Rattle.session.proofs.refreshing.refreshed.Given as goal
 
 abbrev pub invariant-loop-change : goal.invariant-loop-change

@@ -2,10 +2,10 @@ use Rattle.std.proofs.Common.{◌≡◌, ◌+ℤ◌, Some, None, refl, sym, ◌�
 use Rattle.std.proofs.lemmas.Result.{IfOk-weaker}
 use Rattle.rule_model.specs.declared.step.Step.TheVariants.{Advance, At}
 use Rattle.rule_world.specs.Events.{clock_fault}
-use Rattle.session.specs.Leading.{Moves}
-use Rattle.session.specs.Standing.{Contents}
-use Rattle.session.proofs.Faults.{advance_fault, advance_moves, clock_same, moved_same}
-use Rattle.session.proofs.Tried.{no_lines, on_ok, on_ok_weaker, refused_lines, refused_tries, tried_done}
+use Rattle.session_laws.specs.Leading.{Moves}
+use Rattle.session_laws.specs.Standing.{Contents}
+use Rattle.session_laws.proofs.Faults.{advance_fault, advance_moves, clock_same, moved_same}
+use Rattle.session_laws.proofs.Tried.{no_lines, on_ok, on_ok_weaker, refused_lines, refused_tries, tried_done}
 use Rattle.session.proofs.state.State.advance.Goals as goal
 
 pub returns-in-Ok-clause-stands : goal.returns-in-Ok-clause-stands

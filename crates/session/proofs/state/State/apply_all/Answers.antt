@@ -1,7 +1,7 @@
 use Rattle.std.proofs.Common.{◌≡◌, [], ◌∷◌, List, Result, ap, length, sym, subst, arith}
 use Rattle.rule_model.specs.declared.step.Step.{Step}
 use Rattle.rule_world.specs.declared.code.Code.{Code}
-use Rattle.session.proofs.Tried.{SoFar, none_done, one_done, all_done_stands, all_done_lines, nothing_left}
+use Rattle.session_laws.proofs.Tried.{SoFar, none_done, one_done, all_done_stands, all_done_lines, nothing_left}
 use Rattle.session.proofs.state.State.apply_all.Goals as goal
 
 pub loop-wanted-init : goal.loop-wanted-init

@@ -1,8 +1,8 @@
 use Rattle.std.proofs.Common.{◌≤◌, ◌+◌, length}
 use Rattle.rule_world.specs.Worlds.{World}
-use Rattle.session.specs.Leading.{AllFit}
-use Rattle.session.specs.Standing.{Standing}
-use Rattle.session.proofs.Tried.{SoFar}
+use Rattle.session_laws.specs.Leading.{AllFit}
+use Rattle.session_laws.specs.Standing.{Standing}
+use Rattle.session_laws.proofs.Tried.{SoFar}
 use Rattle.session.proofs.state.State.apply_all.Given as goal
 
 abbrev pub invariant-loop-wanted : goal.invariant-loop-wanted

@@ -3,9 +3,9 @@ use Rattle.std.proofs.lemmas.Result.{IfOk-weaker}
 use Rattle.rule_model.specs.declared.matched.Match.{Match}
 use Rattle.engine.specs.declared.lines.OutLine.{OutLine}
 use Rattle.rule_world.specs.Worlds.{marked}
-use Rattle.session.specs.Gives.{does_all, fire_line}
-use Rattle.session.specs.Standing.{Standing}
-use Rattle.session.proofs.Tried.{on_ok_weaker}
+use Rattle.session_laws.specs.Gives.{does_all, fire_line}
+use Rattle.session_laws.specs.Standing.{Standing}
+use Rattle.session_laws.proofs.Tried.{on_ok_weaker}
 use Rattle.session.proofs.state.State.fire.Goals as goal
 
 -- what is in place is one match

@@ -2,9 +2,9 @@ use Rattle.std.proofs.Common.{◌≡◌, Some, None, [], ◌∷◌, ◌++◌, su
 use Rattle.std.proofs.lemmas.Result.{IfOk-weaker}
 use Rattle.rule_model.specs.declared.step.Step.TheVariants.{Insert}
 use Rattle.engine.specs.declared.lines.OutLine.TheVariants.{New}
-use Rattle.session.specs.Standing.{Contents}
-use Rattle.session.proofs.Faults.{insert_fault, insert_line}
-use Rattle.session.proofs.Tried.{done_lines, on_ok, on_ok_weaker, refused_lines, refused_tries, tried_done}
+use Rattle.session_laws.specs.Standing.{Contents}
+use Rattle.session_laws.proofs.Faults.{insert_fault, insert_line}
+use Rattle.session_laws.proofs.Tried.{done_lines, on_ok, on_ok_weaker, refused_lines, refused_tries, tried_done}
 use Rattle.session.proofs.state.State.insert.Goals as goal
 
 pub returns-in_ok-push-in-Ok-clause-stands : goal.returns-in_ok-push-in-Ok-clause-stands

@@ -5,9 +5,9 @@ use Rattle.rule_model.proofs.Firsts.{or_right}
 use Rattle.rule_world.specs.Worlds.{marked}
 use Rattle.agenda.specs.Agendas.{names_tag}
 use Rattle.retention.specs.Retentions.{is_among}
-use Rattle.session.specs.Standing.{Contents, Standing}
-use Rattle.session.proofs.Marking.{marked_awaits}
-use Rattle.session.proofs.Stands.{contents}
+use Rattle.session_laws.specs.Standing.{Contents, Standing}
+use Rattle.session_laws.proofs.Marking.{marked_awaits}
+use Rattle.session_laws.proofs.Stands.{contents}
 use Rattle.session.proofs.state.State.mark.Goals as goal
 
 pub returns-clause-stands : goal.returns-clause-stands

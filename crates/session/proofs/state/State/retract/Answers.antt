@@ -3,10 +3,10 @@ use Rattle.std.proofs.lemmas.Result.{IfOk-weaker}
 use Rattle.rule_world.specs.declared.code.Code.TheVariants.{Absent, EventObserved}
 use Rattle.rule_model.specs.declared.step.Step.TheVariants.{Retract}
 use Rattle.rule_model.specs.Types.{is_event}
-use Rattle.session.specs.Places.{newest}
-use Rattle.session.proofs.Faults.{retract_absent, retract_event, retract_found, retract_observed}
-use Rattle.session.proofs.Looking.{retract_fault_is}
-use Rattle.session.proofs.Tried.{no_lines, on_ok, on_ok_weaker, refused_lines, refused_tries, tried_done}
+use Rattle.session_laws.specs.Places.{newest}
+use Rattle.session_laws.proofs.Faults.{retract_absent, retract_event, retract_found, retract_observed}
+use Rattle.session_laws.proofs.Looking.{retract_fault_is}
+use Rattle.session_laws.proofs.Tried.{no_lines, on_ok, on_ok_weaker, refused_lines, refused_tries, tried_done}
 use Rattle.session.proofs.state.State.retract.Goals as goal
 
 pub returns-in-Some-clause-stands : goal.returns-in-Some-clause-stands

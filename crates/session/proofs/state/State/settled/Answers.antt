@@ -1,9 +1,9 @@
 use Rattle.std.proofs.Common.{◌≡◌, ◌∙◌, ◌<◌, ◌^◌, ap, sym, subst, filter_map, length, FitsSigned, to_z, of_z, to_z-of_z, w64, rules, arith}
 use Rattle.retention.specs.Retentions.{has_tag, is_among, is_named, Passes}
-use Rattle.session.specs.Standing.{Awaits, Contents}
-use Rattle.session.proofs.Forgotten.{no_keys, safe_fewer, stands_less, stands_same}
-use Rattle.session.proofs.Olds.{named_at}
-use Rattle.session.proofs.Stands.{contents}
+use Rattle.session_laws.specs.Standing.{Awaits, Contents}
+use Rattle.session_laws.proofs.Forgotten.{no_keys, safe_fewer, stands_less, stands_same}
+use Rattle.session_laws.proofs.Olds.{named_at}
+use Rattle.session_laws.proofs.Stands.{contents}
 use Rattle.session.proofs.state.State.settled.Goals as goal
 
 pub invariant_of-state : goal.invariant_of-state

@@ -5,12 +5,12 @@ use Rattle.rule_model.specs.declared.step.Step.TheVariants.{At}
 use Rattle.rule_world.specs.Worlds.{stepped}
 use Rattle.retention.specs.Retentions.{is_among}
 use Rattle.forgetting.specs.Steps.{HasLeft}
-use Rattle.session.specs.Refreshed.{over}
-use Rattle.session.specs.Standing.{Awaits, Contents, Standing}
-use Rattle.session.proofs.Faults.{clock_same, safe_left}
-use Rattle.session.proofs.Leaving.{none_gone, no_tags}
-use Rattle.session.proofs.Passing.{later_awaits, later_leads, later_leads_on, none_left, quiet_refreshed, remaining, remaining_is}
-use Rattle.session.proofs.Stands.{contents}
+use Rattle.session_laws.specs.Refreshed.{over}
+use Rattle.session_laws.specs.Standing.{Awaits, Contents, Standing}
+use Rattle.session_laws.proofs.Faults.{clock_same, safe_left}
+use Rattle.session_laws.proofs.Leaving.{none_gone, no_tags}
+use Rattle.session_laws.proofs.Passing.{later_awaits, later_leads, later_leads_on, none_left, quiet_refreshed, remaining, remaining_is}
+use Rattle.session_laws.proofs.Stands.{contents}
 use Rattle.session.proofs.state.State.with_clock.Goals as goal
 
 -- where nothing is due

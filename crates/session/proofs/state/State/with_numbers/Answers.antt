@@ -4,11 +4,11 @@ use Rattle.rule_model.specs.declared.step.Step.TheVariants.{Insert}
 use Rattle.rule_model.specs.Candidates.{is_present}
 use Rattle.rule_world.specs.Events.{times_of}
 use Rattle.rule_world.specs.Worlds.{stepped}
-use Rattle.session.specs.Leading.{Moves}
-use Rattle.session.specs.Standing.{Contents}
-use Rattle.session.proofs.Faults.{safe_numbers}
-use Rattle.session.proofs.Inserting.{numbers_await}
-use Rattle.session.proofs.Stands.{contents}
+use Rattle.session_laws.specs.Leading.{Moves}
+use Rattle.session_laws.specs.Standing.{Contents}
+use Rattle.session_laws.proofs.Faults.{safe_numbers}
+use Rattle.session_laws.proofs.Inserting.{numbers_await}
+use Rattle.session_laws.proofs.Stands.{contents}
 use Rattle.session.proofs.state.State.with_numbers.Goals as goal
 
 pub invariant_of-state : goal.invariant_of-state

@@ -5,13 +5,13 @@ use Rattle.rule_model.specs.Candidates.{is_present}
 use Rattle.rule_world.specs.Events.{end_of_presence, times_of}
 use Rattle.rule_world.specs.Worlds.{stepped}
 use Rattle.retention.specs.Retentions.{is_among}
-use Rattle.session.specs.declared.memory.Memory.{Memory}
-use Rattle.session.specs.Leading.{Moves}
-use Rattle.session.specs.Standing.{Contents}
-use Rattle.session.proofs.Faults.{clock_same, safe_new}
-use Rattle.session.proofs.Inserting.{present_awaits}
-use Rattle.session.proofs.Members.{got_new}
-use Rattle.session.proofs.Stands.{contents}
+use Rattle.session_laws.specs.declared.memory.Memory.{Memory}
+use Rattle.session_laws.specs.Leading.{Moves}
+use Rattle.session_laws.specs.Standing.{Contents}
+use Rattle.session_laws.proofs.Faults.{clock_same, safe_new}
+use Rattle.session_laws.proofs.Inserting.{present_awaits}
+use Rattle.session_laws.proofs.Members.{got_new}
+use Rattle.session_laws.proofs.Stands.{contents}
 use Rattle.std.specs.FinMap as map
 use Rattle.session.proofs.state.State.with_present.Goals as goal
 

@@ -5,12 +5,12 @@ use Rattle.rule_model.specs.declared.step.Step.TheVariants.{Modify}
 use Rattle.rule_world.specs.Worlds.{modify_fault, stepped}
 use Rattle.retention.specs.Retentions.{is_among}
 use Rattle.forgetting.specs.Steps.{HasLeft}
-use Rattle.session.specs.Places.{IsNewestTag, newest}
-use Rattle.session.specs.Standing.{Contents, Standing}
-use Rattle.session.proofs.Faults.{clock_same, fresh_less, safe_again}
-use Rattle.session.proofs.Members.{got_new}
-use Rattle.session.proofs.Revising.{modify_awaits, modify_leads_on}
-use Rattle.session.proofs.Stands.{contents}
+use Rattle.session_laws.specs.Places.{IsNewestTag, newest}
+use Rattle.session_laws.specs.Standing.{Contents, Standing}
+use Rattle.session_laws.proofs.Faults.{clock_same, fresh_less, safe_again}
+use Rattle.session_laws.proofs.Members.{got_new}
+use Rattle.session_laws.proofs.Revising.{modify_awaits, modify_leads_on}
+use Rattle.session_laws.proofs.Stands.{contents}
 use Rattle.std.specs.FinMap as map
 use Rattle.session.proofs.state.State.with_sets.Goals as goal
 

@@ -4,11 +4,11 @@ use Rattle.rule_model.specs.declared.step.Step.TheVariants.{Retract}
 use Rattle.rule_world.specs.Worlds.{is_of_type, stepped}
 use Rattle.retention.specs.Retentions.{is_among}
 use Rattle.forgetting.specs.Steps.{HasLeft}
-use Rattle.session.specs.Places.{IsNewestTag, newest}
-use Rattle.session.specs.Standing.{Contents, Standing}
-use Rattle.session.proofs.Faults.{clock_same, safe_less}
-use Rattle.session.proofs.Removing.{retract_awaits, retract_leads_on}
-use Rattle.session.proofs.Stands.{contents}
+use Rattle.session_laws.specs.Places.{IsNewestTag, newest}
+use Rattle.session_laws.specs.Standing.{Contents, Standing}
+use Rattle.session_laws.proofs.Faults.{clock_same, safe_less}
+use Rattle.session_laws.proofs.Removing.{retract_awaits, retract_leads_on}
+use Rattle.session_laws.proofs.Stands.{contents}
 use Rattle.std.specs.FinMap as map
 use Rattle.session.proofs.state.State.without.Goals as goal
 
