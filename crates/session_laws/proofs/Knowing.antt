@@ -1,9 +1,8 @@
 -- The lines of changes and firings name types and rules of the program alone.
-use Rattle.std.proofs.Common.{◌≡◌, ◌<◌, ℕ, zero, suc, inl, inr, Bool, not, true, List, [], ◌∷◌, ◌++◌, length, nat_lt, Option, Some, None, option_map, Result, Ok, Err, refl, sym, ◌∙◌, ap, subst, lt-ltb, arith}
+use Rattle.std.proofs.Common.{◌^◌, ◌≡◌, ◌<◌, ℕ, zero, suc, not, true, List, [], ◌∷◌, ◌++◌, length, nat_lt, Option, Some, None, option_map, Result, Ok, refl, sym, ◌∙◌, subst, lt-ltb, arith}
 use Rattle.std.specs.Prelude.{slice_get}
 use Rattle.std.proofs.lemmas.List.Folds.{list_all-append}
 use Rattle.std.proofs.Math.Logic.{∥∥₁_elim}
-use Rattle.std.proofs.lemmas.Grind.{merely}
 use mathlib.Core.Bool.{Bool-set}
 use Rattle.fx_base.specs.declared.ids.FactId.{FactId}
 use Rattle.fx_base.specs.declared.ids.TypeId.{TypeId}
@@ -28,7 +27,7 @@ use Rattle.rule_model.specs.Planned.{id_at, sets_of, type_or_first, step_of}
 use Rattle.rule_world.specs.Programs.{IsRunnable}
 use Rattle.fx_base.specs.Lists.{In}
 use Rattle.rule_world.specs.Typed.{bound_types, bound_fields, fields_in, args_fit, action_fits, rule_fits, is_typed}
-use Rattle.rule_world.specs.Worlds.{World, empty_world, found, snapshot, step_fault, marked}
+use Rattle.rule_world.specs.Worlds.{World, snapshot}
 use Rattle.rule_world.proofs.Acting.{all_of}
 use Rattle.rule_world.proofs.Fresh.{and_both, and_parts}
 use Rattle.rule_model.proofs.Listed.{of_map}
@@ -43,8 +42,9 @@ use Rattle.session_laws.specs.declared.setting.Setting.{Setting}
 use Rattle.session_laws.specs.Gives.{actions_of, fire_line}
 use Rattle.engine.specs.Known.{is_known, are_known}
 use Rattle.session_laws.specs.Leading.{AllWantKnown, has_known_type, StayKnown, WantsKnown}
-use Rattle.session_laws.specs.Places.{newest, planned, planned_for, held_at}
-use Rattle.session_laws.specs.Standing.{Contents, IsSound, Standing}
+use Rattle.session_laws.specs.Places.{planned, planned_for, held_at}
+use Rattle.rete_net.specs.Shapes.{IsNetOf}
+use Rattle.session_laws.specs.Standing.{AreOfRules, Contents, IsSound, Runs, Standing}
 use Rattle.session_laws.proofs.Acting.{asked_step}
 use Rattle.session_laws.proofs.Firings.{plan_of, top_held, top_of}
 use Rattle.rule_model.specs.declared.action.Action.TheVariants as action
@@ -116,10 +116,10 @@ planned_known p facts row rule fits s i =
 
 -- what is planned for the row of a match
 plan_known : (p : Program) (facts : HeldFacts) (q : Match) → IsRunnable p → AllWantKnown p (planned facts q.row (actions_of (slice_get p.rules q.rule.0)))
+unfolding is_typed
 plan_known p facts q runnable = by (slice_get p.rules q.rule.0) refl
   where
     by : (o : Option Rule) → slice_get p.rules q.rule.0 ≡ o → AllWantKnown p (planned facts q.row (actions_of o))
-    unfolding is_typed
     by None e = λ s i. absurd i
     by (Some rule) e = planned_known p facts q.row rule (all_of (rule_fits p.types) p.rules rule runnable.typed (in_place p.rules q.rule.0 rule e))
 
@@ -151,6 +151,21 @@ standing_sound s m k w st = record {
       let is_match = (and_parts (has_match (matches p (snapshot w)) q) (not (has_match w.fired q)) (sym (has_pending p w q) ∙ sym (st.holds.pending q) ∙ e)).0 in
       let is = rule_of p (snapshot w) q is_match in
       within p.rules q.rule.0 is.rule is.there;
+}
+
+-- ---- what steps keep
+
+-- a network that is followed stays that of its program, and what becomes pending is of its rules
+pub followed_sound : (s : Setting) (m n : Memory) (k t : Contents) → Runs s → IsSound s.program m k
+    → (IsNetOf s.program m.net.nodes.items m.net.ends.items → IsNetOf s.program n.net.nodes.items n.net.ends.items)
+    → (length m.net.ends.items < 2 ^ 16 → AreOfRules (length m.net.ends.items) k.agenda.pending → AreOfRules (length m.net.ends.items) t.agenda.pending) → IsSound s.program n t
+followed_sound s m n k t runs sound shape rules = record {
+  net = shape sound.net;
+  pending =
+      let count : length m.net.ends.items ≡ length s.program.rules = sound.net.count in
+      let few = runs.runnable.few_rules in
+      subst (λ (many : ℕ). AreOfRules many t.agenda.pending) count
+      (rules (omega (arith, count, few)) (subst (λ (many : ℕ). AreOfRules many k.agenda.pending) (sym count) sound.pending));
 }
 
 -- ---- what a ghost field tells

@@ -1,5 +1,5 @@
 -- Matches, rule by rule, and what the changes of rules do to an agenda.
-use Rattle.std.proofs.Common.{◌≡◌, inl, inr, ℕ, ◌+◌, ◌<◌, ◌≤◌, zero, suc, ◌==◌, ◌&&◌, ◌||◌, not, Bool, true, false, cond, List, [], ◌∷◌, ◌++◌, length, map, slice_get, Option, Some, None, refl, sym, ◌∙◌, ap, subst, append_assoc, arith}
+use Rattle.std.proofs.Common.{◌≡◌, ◌⊎◌, inl, inr, ℕ, ◌+◌, ◌<◌, ◌≤◌, zero, suc, ◌==◌, ◌&&◌, ◌||◌, not, Bool, true, false, cond, List, [], ◌∷◌, ◌++◌, length, map, slice_get, Option, Some, None, refl, sym, ◌∙◌, ap, subst, append_assoc, arith}
 use Rattle.std.specs.declared.cmp.Ordering.TheVariants.{Less}
 use Rattle.std.specs.List.{AllByRecursion, list_any}
 use Rattle.std.specs.List.Sorted.{IsStrictlySortedBy}
@@ -9,6 +9,7 @@ use Rattle.std.proofs.lemmas.Bool.Decides.{nat_tests}
 use Rattle.std.proofs.lemmas.List.{append-nil}
 use Rattle.std.proofs.lemmas.List.Folds.{list_any-append}
 use Rattle.std.proofs.lemmas.Map.Views.{tells_apart}
+use Rattle.fx_base.specs.Lists.{In}
 use Rattle.row_delta.specs.declared.delta.Delta.{Delta}
 use Rattle.row_delta.specs.declared.row.Named.{Named}
 use Rattle.row_delta.specs.declared.row.Row.{Row}
@@ -25,6 +26,7 @@ use Rattle.rete_net.specs.Nets.{change_of, IsChange, AreBetween}
 use Rattle.agenda.specs.Agendas.{Marks, IsChanged}
 use Rattle.forgetting.specs.Steps.{HasLeft}
 use Rattle.session_laws.specs.Refreshed.{matches_by, only_in, IsRefreshed}
+use Rattle.session_laws.specs.Standing.{AreOfRules}
 
 flip : (a b : ℕ) (t : Bool) → (a == b) ≡ t → (b == a) ≡ t
 flip a b t e = grind (arith, nat_tests)
@@ -213,6 +215,18 @@ first_of_rule (x ∷ done) c rest rise =
     below [] less = less.0
     below (y ∷ front) less = below front less.1
 
+-- no change was made
+pub none_made : (a : Marks) → AreMade [] a a
+none_made a = record { saliences = refl; pending = λ m. as_was (has_match a.pending m); fired = λ m. as_it_was (has_match a.fired m) }
+  where
+    as_was : (b : Bool) → b ≡ ((b && not false) || false)
+    as_was true = refl
+    as_was false = refl
+
+    as_it_was : (b : Bool) → b ≡ (b && not false)
+    as_it_was true = refl
+    as_it_was false = refl
+
 -- these changes were made, and those are still ahead
 pub record AreAhead (changes ahead : List RuleChange) (a b : Marks) : Type 0 where
   pub done : List RuleChange
@@ -232,6 +246,27 @@ change_turn changes ahead rest c a b d rise so_far items ch =
 pub none_ahead : (changes ahead : List RuleChange) (a b : Marks) → ahead ≡ [] → AreAhead changes ahead a b → AreMade changes a b
 none_ahead changes ahead a b none so_far =
     subst (λ (xs : List RuleChange). AreMade xs a b) (sym (so_far.parts ∙ ap (λ xs. so_far.done ++ xs) none ∙ append-nil so_far.done)) so_far.made
+
+-- one of two: what was there, or what comes
+was_or_comes : (a x k y : Bool) → ((a && x) || (k && y)) ≡ true → (a ≡ true) ⊎ (k ≡ true)
+was_or_comes true x k y e = inl refl
+was_or_comes false x true y e = inr refl
+was_or_comes false x false y e = absurd (let no : false ≡ true = e in cc)
+
+same_number : (m n : ℕ) → (m == n) ≡ true → m ≡ n
+same_number m n e = grind (arith, nat_tests)
+
+-- where the changes ahead are of so many rules, and the pending matches are, it is so behind the first of them
+pub rules_turn : (ahead rest : List RuleChange) (c : RuleChange) (b d : Marks) (rules : ℕ) → ahead ≡ c ∷ rest → IsChanged c.rule.0 c.delta b d
+    → ((x : RuleChange) → In x ahead → x.rule.0 < rules) → AreOfRules rules b.pending → ((x : RuleChange) → In x rest → x.rule.0 < rules) × AreOfRules rules d.pending
+rules_turn ahead rest c b d rules parts ch within pending = (λ x i. within x (subst (In x) (sym parts) (inr i)), later)
+  where
+    later : AreOfRules rules d.pending
+    later q e =
+        elim (was_or_comes (has_match b.pending q) (not (c.rule.0 == q.rule.0 && has c.delta.gone q.row)) (c.rule.0 == q.rule.0) (has c.delta.come q.row) (sym (ch.pending q) ∙ e)) [
+          | inl was ↦ pending q was
+          | inr comes ↦ subst (λ (n : ℕ). n < rules) (same_number c.rule.0 q.rule.0 comes) (within c (subst (In c) (sym parts) (inl refl)))
+        ]
 
 -- ---- the changes between the rows of rules
 

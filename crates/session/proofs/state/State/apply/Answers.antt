@@ -17,3 +17,6 @@ returns-in-Err-clause-stands c =
 pub returns-in-Err-clause-lines : goal.returns-in-Err-clause-lines
 returns-in-Err-clause-lines c =
     rw c.in-Err.is (on_ok_weaker c.refuse.result (refused_writes c.args.setting.now c.args.memory.now c.args.self c.in-Err.code c.args.lines.now.items c.refuse.new.lines.items) c.refuse.ensures.lines)
+
+pub returns-in-Err-clause-known : goal.returns-in-Err-clause-known
+returns-in-Err-clause-known c = λ known. c.refuse.ensures.known c.args.setting.now.program

@@ -32,3 +32,6 @@ returns-in-Err-clause-lines c =
     let m = c.args.memory.now in
     on_ok_weaker c.refuse.result (refused_lines s m c.args.self (Modify c.args.id c.args.sets) c.in-Err.code
     (λ w st suits. modify_fault_is s m c.args.self w c.requires.runs st c.args.id c.args.sets (Some c.in-Err.code) suits.plain c.in-Err.ensures.fault) c.args.lines.now.items c.refuse.new.lines.items) c.refuse.ensures.lines
+
+pub returns-in-Err-clause-known : goal.returns-in-Err-clause-known
+returns-in-Err-clause-known c = λ known. c.refuse.ensures.known c.args.setting.now.program

@@ -76,3 +76,9 @@ returns-then-are_observed-clause-lines c =
     on_ok_weaker c.refuse.result (refused_lines s m c.args.self (Retract c.args.ty c.args.id) EventObserved
     (λ w st suits. retract_fault_is s m c.args.self w c.requires.runs st c.args.ty c.args.id (Some EventObserved)
     (retract_observed s.program c.args.ty.0 (newest c.args.self c.args.id.0) (sym c.if-are_observed.ensures))) c.args.lines.now.items c.refuse.new.lines.items) c.refuse.ensures.lines
+
+pub returns-then-are_observed-clause-known : goal.returns-then-are_observed-clause-known
+returns-then-are_observed-clause-known c = λ known. c.refuse.ensures.known c.args.setting.now.program
+
+pub returns-in-None-2-clause-known : goal.returns-in-None-2-clause-known
+returns-in-None-2-clause-known c = λ known. c.refuse-in-None-2.ensures.known c.args.setting.now.program
