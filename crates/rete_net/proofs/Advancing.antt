@@ -25,11 +25,12 @@ use Rattle.rete_net.specs.declared.net.Rete.{Rete}
 use Rattle.rete_net.specs.declared.node.NetNode.{NetNode}
 use Rattle.condition_node.specs.Nodes.{condition_of}
 use Rattle.rete_net.specs.Nets.{NodesStand, clean_rows, change_of, IsChange, AreBetween}
-use Rattle.rete_net.specs.Shapes.{before, IsShaped, EndsAt, IsFront}
+use Rattle.rete_net.specs.Shapes.{before, IsNetOf}
 use Rattle.rete_net.specs.Steps.{no_change, delta_at, changes_from, NetStep}
 use Rattle.rete_net.proofs.Answering.{is_change, found_change, past_change, in_order}
-use Rattle.rete_net.proofs.Chaining.{AreMade, IsGiven, AreStanding, StaysBeside, old_at, standing_now, ends_now, answer_at}
+use Rattle.rete_net.proofs.Chaining.{AreMade, IsGiven, AreStanding, StaysBeside, standing_now, answer_at}
 use Rattle.rete_net.proofs.Cleaning.{has_clean}
+use Rattle.rete_net.proofs.Frames.{net_again, stepped_nodes}
 use Rattle.rete_net.proofs.Growing.{has_at}
 use Rattle.rete_net.proofs.Turning.{rising}
 
@@ -55,44 +56,32 @@ first_stays p s next forgotten =
     (record { goes = λ row. unmoved (cleaned (rows_of p s []) forgotten row); comes = λ row. unmoved (cleaned (rows_of p s []) forgotten row) })
 
 module _ (p : Program) (look : Look) (s next : Snapshot) (gone : List Fact) (come : Option Fact) (clock : ℤ) (forgotten : Named → Bool) (first : Delta) (was : List Condition → Row → Bool) (lists : Rule → List Row)
-    (old new : Rete) (conditions : ℕ → List Condition) (answers : List RuleChange)
+    (old new : Rete) (shape : IsNetOf p old.nodes.items old.ends.items) (answers : List RuleChange)
     (given : IsGiven p look s next gone come clock forgotten) (made : AreMade p s was) (leads : Leads (cleaned (was []) forgotten) (cleaned (rows_of p next []) forgotten) first.gone first.come)
-    (standing : AreStanding p s was forgotten old.nodes.items conditions)
-    (beside : (k : ℕ) (n : NetNode) → slice_get old.nodes.items k ≡ Some n → StaysBeside p given.world s next (condition_of n.node) (was (before conditions n.parent)) (rows_of p next (before conditions n.parent)) forgotten)
-    (ends : (place : ℕ) (rule : Rule) → slice_get p.rules place ≡ Some rule → EndsAt old.nodes.items conditions old.ends.items place rule)
-    (count : length old.ends.items ≡ length p.rules) (fronts : (k : ℕ) (n : NetNode) → slice_get old.nodes.items k ≡ Some n → IsFront p (conditions k)) (same : new.ends.items ≡ old.ends.items) (step : NetStep p look gone come clock first old.nodes.items new.nodes.items old.ends.items answers)
+    (standing : AreStanding p s was forgotten old.nodes.items shape.conditions)
+    (beside : (k : ℕ) (n : NetNode) → slice_get old.nodes.items k ≡ Some n → StaysBeside p given.world s next (condition_of n.node) (was (before shape.conditions n.parent)) (rows_of p next (before shape.conditions n.parent)) forgotten)
+    (same : new.ends.items ≡ old.ends.items) (step : NetStep p look gone come clock first old.nodes.items new.nodes.items old.ends.items answers)
     (listed : (place : ℕ) (rule : Rule) → slice_get p.rules place ≡ Some rule → cleaned (was rule.conditions) forgotten ≡ has (lists rule)) where
   distinct_now : HaveDistinctTags next.facts
   distinct_now = rising next.facts given.moves.after.in_order
 
-  pub shaped_now : IsShaped new.nodes.items conditions
-  shaped_now =
-      (standing_now p look s next gone come clock forgotten first was (rows_of p next) old.nodes.items new.nodes.items conditions step.deltas given made (rows_made p next distinct_now) leads standing beside step.nodes step.stepped).shaped
+  pub shape_now : IsNetOf p new.nodes.items new.ends.items
+  shape_now = net_again p old.nodes.items new.nodes.items old.ends.items new.ends.items same (stepped_nodes p look gone come clock first old.nodes.items new.nodes.items old.ends.items answers step) shape
 
   pub stands_now : NodesStand p new next forgotten
-  stands_now =
-      let now = standing_now p look s next gone come clock forgotten first was (rows_of p next) old.nodes.items new.nodes.items conditions step.deltas given made (rows_made p next distinct_now) leads standing beside step.nodes step.stepped in
-      record {
-        conditions = conditions;
-        shaped = now.shaped;
-        ends = λ place rule e.
-            subst (λ (places : List ℕ). EndsAt new.nodes.items conditions places place rule) (sym same)
-            (ends_now p look s next gone come clock forgotten first was (rows_of p next) old.nodes.items new.nodes.items conditions step.deltas given made (rows_made p next distinct_now) leads standing beside step.nodes step.stepped old.ends.items place rule (ends place rule e));
-        count = ap length same ∙ count;
-        fronts = λ k n f.
-            let old_node = old_at p look s next gone come clock forgotten first was (rows_of p next) old.nodes.items new.nodes.items conditions step.deltas given made (rows_made p next distinct_now) leads standing beside step.nodes step.stepped k n f in
-            fronts k old_node.0 old_node.1;
-        windows = now.windows;
-        nodes = now.stand;
-      }
+  stands_now = record {
+    shape = net_again p old.nodes.items new.nodes.items old.ends.items new.ends.items same (stepped_nodes p look gone come clock first old.nodes.items new.nodes.items old.ends.items answers step) shape;
+    nodes =
+        (standing_now p look s next gone come clock forgotten first was (rows_of p next) old.nodes.items new.nodes.items shape.conditions step.deltas given made (rows_made p next distinct_now) leads standing beside step.nodes step.stepped).stand;
+  }
 
   pub between_now : length old.ends.items < 2 ^ 16 → AreBetween p lists (clean_rows p next forgotten) answers
   between_now few = subst (AreBetween p lists (clean_rows p next forgotten)) (sym (step.answers few)) (record {
     in_order = in_order first step.deltas 0 old.ends.items;
     placed = λ place delta e. placed place delta e (slice_get old.ends.items place) refl;
     each = λ place rule e.
-        let end = ends place rule e in
-        let is = answer_at p look s next gone come clock forgotten first was (rows_of p next) old.nodes.items new.nodes.items conditions step.deltas given made (rows_made p next distinct_now) leads standing beside step.nodes step.stepped old.ends.items place rule end in
+        let end = shape.lasts place rule e in
+        let is = answer_at p look s next gone come clock forgotten first was (rows_of p next) old.nodes.items new.nodes.items shape.conditions step.deltas given made (rows_made p next distinct_now) leads standing beside step.nodes step.stepped old.ends.items place rule end in
         subst (λ (change : Option Delta). IsChange change (lists rule) (clean_rows p next forgotten rule)) (sym (ap (change_of (changes_from first step.deltas 0 old.ends.items)) (sym (zero-add place)) ∙ found_change first step.deltas 0 place old.ends.items end.last end.found))
         (is_change (lists rule) (clean_rows p next forgotten rule) (delta_at first step.deltas end.last)
         (subst (λ (set : Row → Bool). IsDifference set (has (clean_rows p next forgotten rule)) (delta_at first step.deltas end.last)) (listed place rule e)
@@ -103,4 +92,5 @@ module _ (p : Program) (look : Look) (s next : Snapshot) (gone : List Fact) (com
       placed place delta e None none = let no : None ≡ Some delta = sym (past_change first step.deltas 0 place old.ends.items none) ∙ ap (change_of (changes_from first step.deltas 0 old.ends.items)) (zero-add place) ∙ e in absurd (cc)
       placed place delta e (Some end) there =
           let within : place < length old.ends.items = slice_get_within old.ends.items place end there in
+          let count = shape.count in
           has_at p.rules place (omega (arith, count))

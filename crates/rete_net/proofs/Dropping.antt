@@ -34,6 +34,7 @@ use Rattle.rete_net.proofs.Advancing.{first_row, rows_made}
 use Rattle.rete_net.proofs.Along.{one_more}
 use Rattle.rete_net.proofs.Chaining.{AreMade, AreStanding}
 use Rattle.rete_net.proofs.Cleaning.{cleaned_either}
+use Rattle.rete_net.proofs.Frames.{forgetting_nodes, net_again}
 use Rattle.rete_net.proofs.Growing.{has_at}
 use Rattle.rete_net.proofs.Seen.{at_hand_at}
 use Rattle.rete_net.proofs.Turning.{rising}
@@ -161,23 +162,23 @@ module _ (p : Program) (look : Look) (s : Snapshot) (forgotten old : Named → B
   tags : HaveDistinctTags s.facts
   tags = rising s.facts stands.kept.in_order
 
-  standing : AreStanding p was (rows_of p was) forgotten net.nodes.items stands.nodes.conditions
-  standing = record { shaped = stands.nodes.shaped; windows = stands.nodes.windows; stand = stands.nodes.nodes }
+  standing : AreStanding p was (rows_of p was) forgotten net.nodes.items stands.nodes.shape.conditions
+  standing = record { shaped = stands.nodes.shape.shaped; windows = stands.nodes.shape.windows; stand = stands.nodes.nodes }
 
-  now : AreStanding p was (rows_of p was) (either forgotten old) new.nodes.items stands.nodes.conditions
-  now = forgets p look was (rows_of p was) forgotten old net.nodes.items new.nodes.items stands.nodes.conditions dropped tags known (rows_made p was tags) (none_old p was forgotten old) standing same forgot
+  now : AreStanding p was (rows_of p was) (either forgotten old) new.nodes.items stands.nodes.shape.conditions
+  now = forgets p look was (rows_of p was) forgotten old net.nodes.items new.nodes.items stands.nodes.shape.conditions dropped tags known (rows_made p was tags) (none_old p was forgotten old) standing same forgot
 
   node_was : (k : ℕ) (is : NetNode) → slice_get new.nodes.items k ≡ Some is → (n : NetNode) × (slice_get net.nodes.items k ≡ Some n) × (condition_of is.node ≡ condition_of n.node)
   node_was k is f =
-      let n = was_at p look was (rows_of p was) forgotten old net.nodes.items new.nodes.items stands.nodes.conditions dropped tags known (rows_made p was tags) (none_old p was forgotten old) standing same forgot k is f in
-      (n.0, n.1, condition_same p look was (rows_of p was) forgotten old net.nodes.items new.nodes.items stands.nodes.conditions dropped tags known (rows_made p was tags) (none_old p was forgotten old) standing same forgot k n.0 is n.1 f)
+      let n = was_at p look was (rows_of p was) forgotten old net.nodes.items new.nodes.items stands.nodes.shape.conditions dropped tags known (rows_made p was tags) (none_old p was forgotten old) standing same forgot k is f in
+      (n.0, n.1, condition_same p look was (rows_of p was) forgotten old net.nodes.items new.nodes.items stands.nodes.shape.conditions dropped tags known (rows_made p was tags) (none_old p was forgotten old) standing same forgot k n.0 is n.1 f)
 
   -- what was the same is so where more is forgotten
-  still_same : (a b : Snapshot) → HaveSame p net.nodes.items stands.nodes.conditions forgotten a b → HaveSame p new.nodes.items stands.nodes.conditions (either forgotten old) a b
+  still_same : (a b : Snapshot) → HaveSame p net.nodes.items stands.nodes.shape.conditions forgotten a b → HaveSame p new.nodes.items stands.nodes.shape.conditions (either forgotten old) a b
   still_same a b is = record {
     same_rows = λ k n f.
         let o = node_was k n f in
-        cleaned_either (rows_of p a (stands.nodes.conditions k)) forgotten old ∙ ap (λ (set : Row → Bool). cleaned set old) (is.same_rows k o.0 o.1) ∙ sym (cleaned_either (rows_of p b (stands.nodes.conditions k)) forgotten old);
+        cleaned_either (rows_of p a (stands.nodes.shape.conditions k)) forgotten old ∙ ap (λ (set : Row → Bool). cleaned set old) (is.same_rows k o.0 o.1) ∙ sym (cleaned_either (rows_of p b (stands.nodes.shape.conditions k)) forgotten old);
     same_candidates = λ k n f who.
         let o = node_was k n f in
         subst (λ (c : Condition). candidates_of p (pattern_of c) a who ≡ candidates_of p (pattern_of c) b who) (sym o.2) (is.same_candidates k o.0 o.1 who);
@@ -185,15 +186,7 @@ module _ (p : Program) (look : Look) (s : Snapshot) (forgotten old : Named → B
 
   abbrev nodes_now : NodesStand p new was (either forgotten old)
   nodes_now = record {
-    conditions = stands.nodes.conditions;
-    shaped = now.shaped;
-    ends = λ place rule e.
-        subst (λ (places : List ℕ). EndsAt new.nodes.items stands.nodes.conditions places place rule) (sym ends)
-        (ends_keep p look was (rows_of p was) forgotten old net.nodes.items new.nodes.items stands.nodes.conditions dropped tags known (rows_made p was tags) (none_old p was forgotten old) standing same forgot
-        net.ends.items place rule (stands.nodes.ends place rule e));
-    count = ap length ends ∙ stands.nodes.count;
-    fronts = λ k n f. let o = node_was k n f in stands.nodes.fronts k o.0 o.1;
-    windows = now.windows;
+    shape = net_again p net.nodes.items new.nodes.items net.ends.items new.ends.items ends (forgetting_nodes p look old net.nodes.items new.nodes.items dropped (record { nodes = same; forgot = forgot })) stands.nodes.shape;
     nodes = now.stand;
   }
 
@@ -212,8 +205,8 @@ module _ (p : Program) (look : Look) (s : Snapshot) (forgotten old : Named → B
   pub rule_drops : (place : ℕ) (rule : Rule) → slice_get p.rules place ≡ Some rule
       → (end : ℕ) × (slice_get net.ends.items place ≡ Some end) × AreOld (cleaned (rows_of p s rule.conditions) forgotten) old (dropped_at dropped end)
   rule_drops place rule e =
-      let end = stands.nodes.ends place rule e in
-      let d = drops_at p look was (rows_of p was) forgotten old net.nodes.items new.nodes.items stands.nodes.conditions dropped tags known (rows_made p was tags) (none_old p was forgotten old) standing same forgot end.last end.node end.there in (
+      let end = stands.nodes.shape.lasts place rule e in
+      let d = drops_at p look was (rows_of p was) forgotten old net.nodes.items new.nodes.items stands.nodes.shape.conditions dropped tags known (rows_made p was tags) (none_old p was forgotten old) standing same forgot end.last end.node end.there in (
         end.last,
         end.found,
         subst (λ (cs : List Condition). AreOld (cleaned (rows_of p s cs) forgotten) old (dropped_at dropped end.last)) end.all

@@ -5,6 +5,8 @@ pub mod Cleaning
 mod Chaining
 mod Beside
 mod Growing
+mod Frames
+mod Counted
 mod Advancing
 mod Quieting
 mod Seen

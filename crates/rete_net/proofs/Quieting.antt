@@ -85,20 +85,20 @@ module _ (p : Program) (net : Rete) (s : Snapshot) (forgotten : Named → Bool) 
     abbrev Stay : List Condition → Type 0
     Stay cs = cleaned (rows_of p next cs) forgotten ≡ cleaned (rows_of p s cs) forgotten
 
-    stays_at : (k : ℕ) (n : NetNode) → slice_get net.nodes.items k ≡ Some n → StaysAt p n s (rows_of p s (before nodes.conditions n.parent)) forgotten clock
+    stays_at : (k : ℕ) (n : NetNode) → slice_get net.nodes.items k ≡ Some n → StaysAt p n s (rows_of p s (before nodes.shape.conditions n.parent)) forgotten clock
     stays_at k n e =
-        let behind = before nodes.conditions n.parent in
+        let behind = before nodes.shape.conditions n.parent in
         quiet k n e s (rows_of p s behind) forgotten clock (nodes.nodes k n e) (made.named behind) kept kept_now begun later low before_due
 
-    from_parent : (k : ℕ) (n : NetNode) → slice_get net.nodes.items k ≡ Some n → ((q : ℕ) → q < k → Stay (nodes.conditions q)) → (parent : Option ℕ) → n.parent ≡ parent → Stay (before nodes.conditions parent)
+    from_parent : (k : ℕ) (n : NetNode) → slice_get net.nodes.items k ≡ Some n → ((q : ℕ) → q < k → Stay (nodes.shape.conditions q)) → (parent : Option ℕ) → n.parent ≡ parent → Stay (before nodes.shape.conditions parent)
     from_parent k n e rest None at = ap (λ (set : Row → Bool). cleaned set forgotten) (same_first p next s)
-    from_parent k n e rest (Some q) at = rest q (nodes.shaped.parents k q n e at)
+    from_parent k n e rest (Some q) at = rest q (nodes.shape.shaped.parents k q n e at)
 
-    one : (k : ℕ) (n : NetNode) → slice_get net.nodes.items k ≡ Some n → ((q : ℕ) → q < k → Stay (nodes.conditions q)) → Stay (nodes.conditions k)
+    one : (k : ℕ) (n : NetNode) → slice_get net.nodes.items k ≡ Some n → ((q : ℕ) → q < k → Stay (nodes.shape.conditions q)) → Stay (nodes.shape.conditions k)
     one k n e rest =
-        let behind = before nodes.conditions n.parent in
+        let behind = before nodes.shape.conditions n.parent in
         let c = condition_of n.node in
-        subst Stay (sym (nodes.shaped.own k n e))
+        subst Stay (sym (nodes.shape.shaped.own k n e))
         (ap (λ (set : Row → Bool). cleaned set forgotten) (made_now.more behind c)
         ∙ sym (line_cleaned p next forgotten (rows_of p next behind) c)
         ∙ ap (λ (set : Row → Bool). cleaned (line p next c set) forgotten) (from_parent k n e rest n.parent refl)
@@ -106,11 +106,11 @@ module _ (p : Program) (net : Rete) (s : Snapshot) (forgotten : Named → Bool) 
         ∙ fun_ext (stays_at k n e).same_line
         ∙ ap (λ (set : Row → Bool). cleaned set forgotten) (sym (made.more behind c)))
 
-    all_below : (b k : ℕ) (some : NetNode) → k < b → k < length net.nodes.items → Stay (nodes.conditions k)
+    all_below : (b k : ℕ) (some : NetNode) → k < b → k < length net.nodes.items → Stay (nodes.shape.conditions k)
     all_below zero k some h l = absurd (omega arith)
     all_below (suc b) k some h l = one k (get_or net.nodes.items k some) (slice_get-get_or net.nodes.items k some l) (λ q lt. all_below b q some (omega arith) (omega arith))
 
-    stay : HaveSame p net.nodes.items nodes.conditions forgotten next s
+    stay : HaveSame p net.nodes.items nodes.shape.conditions forgotten next s
     stay = record {
       same_rows = λ k n e. all_below (suc k) k n (omega arith) (slice_get_within net.nodes.items k n e);
       same_candidates = λ k n e. (stays_at k n e).same_candidates;

@@ -50,10 +50,10 @@ unfolding held
 at_hand_at look s clock forgotten has tag f e known = has tag f e known
 
 -- a rule has the rows of its last node
-rule_rows : (p : Program) (net : Rete) (at s other : Snapshot) (forgotten : Named → Bool) (nodes : NodesStand p net at forgotten) → HaveSame p net.nodes.items nodes.conditions forgotten s other
+rule_rows : (p : Program) (net : Rete) (at s other : Snapshot) (forgotten : Named → Bool) (nodes : NodesStand p net at forgotten) → HaveSame p net.nodes.items nodes.shape.conditions forgotten s other
     → (place : ℕ) (rule : Rule) → slice_get p.rules place ≡ Some rule → cleaned (rows_of p s rule.conditions) forgotten ≡ cleaned (rows_of p other rule.conditions) forgotten
 rule_rows p net at s other forgotten nodes same place rule e =
-    let end = nodes.ends place rule e in
+    let end = nodes.shape.lasts place rule e in
     subst (λ (cs : List Condition). cleaned (rows_of p s cs) forgotten ≡ cleaned (rows_of p other cs) forgotten) end.all (same.same_rows end.last end.node end.there)
 
 -- ---- a step
@@ -95,23 +95,23 @@ module _ (p : Program) (look : Look) (s next : Snapshot) (gone : List Fact) (com
   made_now : AreMade p next (rows_of p next)
   made_now = rows_made p next (rising next.facts moves.after.in_order)
 
-  standing : AreStanding p was (rows_of p was) forgotten old.nodes.items stands.nodes.conditions
-  standing = record { shaped = stands.nodes.shaped; windows = stands.nodes.windows; stand = stands.nodes.nodes }
+  standing : AreStanding p was (rows_of p was) forgotten old.nodes.items stands.nodes.shape.conditions
+  standing = record { shaped = stands.nodes.shape.shaped; windows = stands.nodes.shape.windows; stand = stands.nodes.nodes }
 
   same_before : (k : ℕ) (n : NetNode) → slice_get old.nodes.items k ≡ Some n → (parent : Option ℕ) → n.parent ≡ parent
-      → cleaned (rows_of p s (before stands.nodes.conditions parent)) forgotten ≡ cleaned (rows_of p was (before stands.nodes.conditions parent)) forgotten
+      → cleaned (rows_of p s (before stands.nodes.shape.conditions parent)) forgotten ≡ cleaned (rows_of p was (before stands.nodes.shape.conditions parent)) forgotten
   same_before k n e None at = ap (λ (set : Row → Bool). cleaned set forgotten) (same_first p s was)
   same_before k n e (Some q) at =
-      let lt : q < k = stands.nodes.shaped.parents k q n e at in
+      let lt : q < k = stands.nodes.shape.shaped.parents k q n e at in
       let within : k < length old.nodes.items = slice_get_within old.nodes.items k n e in
       let node = has_at old.nodes.items q (omega arith) in
       stands.unchanged.same_rows q node.0 node.1
 
   beside : (k : ℕ) (n : NetNode) → slice_get old.nodes.items k ≡ Some n
-      → StaysBeside p from_seen.world was next (condition_of n.node) (rows_of p was (before stands.nodes.conditions n.parent)) (rows_of p next (before stands.nodes.conditions n.parent)) forgotten
+      → StaysBeside p from_seen.world was next (condition_of n.node) (rows_of p was (before stands.nodes.shape.conditions n.parent)) (rows_of p next (before stands.nodes.shape.conditions n.parent)) forgotten
   beside k n e =
-      let behind = before stands.nodes.conditions n.parent in
-      stays_beside p world was s next gone come forgotten apart known_now behind (condition_of n.node) (subst (IsFront p) (stands.nodes.shaped.own k n e) (stands.nodes.fronts k n e))
+      let behind = before stands.nodes.shape.conditions n.parent in
+      stays_beside p world was s next gone come forgotten apart known_now behind (condition_of n.node) (subst (IsFront p) (stands.nodes.shape.shaped.own k n e) (stands.nodes.shape.fronts k n e))
       (made_now.named behind) (same_before k n e n.parent refl) (stands.unchanged.same_candidates k n e)
 
   listed : (place : ℕ) (rule : Rule) → slice_get p.rules place ≡ Some rule → cleaned (rows_of p was rule.conditions) forgotten ≡ has (clean_rows p s forgotten rule)
@@ -120,15 +120,15 @@ module _ (p : Program) (look : Look) (s next : Snapshot) (gone : List Fact) (com
   pub net_stands : AreQuiet p new.nodes.items new.quiet_until → NetStands p new next forgotten
   net_stands quiet =
       seen_now p new next forgotten
-      (stands_now p look was next gone come clock forgotten no_change (rows_of p was) (clean_rows p s forgotten) old new stands.nodes.conditions answers from_seen made (first_stays p was next forgotten) standing beside
-      stands.nodes.ends stands.nodes.count stands.nodes.fronts same step listed)
+      (stands_now p look was next gone come clock forgotten no_change (rows_of p was) (clean_rows p s forgotten) old new stands.nodes.shape answers from_seen made (first_stays p was next forgotten) standing beside
+      same step listed)
       moves.after (onward (pos 0) stands.seen next.clock stands.begun from_seen.moves.clock) quiet
 
   pub net_between : IsRunnable p → AreBetween p (clean_rows p s forgotten) (clean_rows p next forgotten) answers
   net_between runnable =
-      between_now p look was next gone come clock forgotten no_change (rows_of p was) (clean_rows p s forgotten) old new stands.nodes.conditions answers from_seen made (first_stays p was next forgotten) standing beside
-      stands.nodes.ends stands.nodes.count stands.nodes.fronts same step listed
-      (few_ends p old.ends.items stands.nodes.count runnable)
+      between_now p look was next gone come clock forgotten no_change (rows_of p was) (clean_rows p s forgotten) old new stands.nodes.shape answers from_seen made (first_stays p was next forgotten) standing beside
+      same step listed
+      (few_ends p old.ends.items stands.nodes.shape.count runnable)
 
 -- ---- the clock moves alone, before something is due
 

@@ -36,10 +36,10 @@ use Rattle.rete_net.specs.declared.node.NetNode.{NetNode}
 use Rattle.rete_net.specs.Nets.{NodesStand, NetStands, AreBetween}
 use Rattle.rete_net.specs.Forgetting.{CountsNone}
 use Rattle.rete_net.specs.Quiet.{AreQuiet}
-use Rattle.rete_net.specs.Shapes.{before, EndsAt, IsFront, AreShared}
+use Rattle.rete_net.specs.Shapes.{before, EndsAt, IsFront, IsNetOf, StandOnce}
 use Rattle.rete_net.specs.Steps.{empty_row_comes, NetStep}
 use Rattle.rete_net.specs.Building.{IsParent, AreBuilt, HaveEnds, AreFronts, AreDistinct}
-use Rattle.rete_net.proofs.Advancing.{first_row, shaped_now, stands_now, between_now}
+use Rattle.rete_net.proofs.Advancing.{first_row, shape_now, stands_now, between_now}
 use Rattle.rete_net.proofs.Answering.{few_ends}
 use Rattle.rete_net.proofs.Beside.{stay_of}
 use Rattle.rete_net.proofs.Chaining.{AreMade, IsGiven, AreStanding, StaysBeside}
@@ -182,22 +182,22 @@ module _ (p : Program) (net new : Rete) (all : List (List Condition)) (answers :
   fronts : (k : ℕ) (n : NetNode) → slice_get net.nodes.items k ≡ Some n → IsFront p (conditions k)
   fronts k n e = fronts_are k (conditions k) (listed k (slice_get_within net.nodes.items k n e))
 
+  -- the conditions of two nodes are not the same
+  once : StandOnce net.nodes.items conditions
+  once j k a b e f equal = distinct j k (conditions j) (listed j (slice_get_within net.nodes.items j a e)) (listed k (slice_get_within net.nodes.items k b f) ∙ ap Some (sym equal))
+
+  abbrev shape : IsNetOf p net.nodes.items net.ends.items
+  shape = record { conditions = conditions; shaped = record { parents = earlier; own = own }; once = once; lasts = end_at; count = count; fronts = fronts; windows = built.windows }
+
   nodes_now : (forgotten : Named → Bool) → NodesStand p new empty_snapshot forgotten
   nodes_now forgotten =
-      stands_now p no_facts empty_snapshot empty_snapshot [] None (pos 0) forgotten empty_row_comes nothing (λ rule. []) net new conditions answers (starts p forgotten) (nothing_made p empty_snapshot) (first_comes p forgotten)
-      (standing forgotten) (λ k n e. beside p forgotten (condition_of n.node) (before conditions n.parent)) end_at count fronts same step (λ place rule e. refl)
+      stands_now p no_facts empty_snapshot empty_snapshot [] None (pos 0) forgotten empty_row_comes nothing (λ rule. []) net new shape answers (starts p forgotten) (nothing_made p empty_snapshot) (first_comes p forgotten)
+      (standing forgotten) (λ k n e. beside p forgotten (condition_of n.node) (before conditions n.parent)) same step (λ place rule e. refl)
 
-  pub built_shared : AreShared new.nodes.items
-  built_shared = record {
-    conditions = conditions;
-    shaped = shaped_now p no_facts empty_snapshot empty_snapshot [] None (pos 0) no_names empty_row_comes nothing (λ rule. []) net new conditions answers (starts p no_names) (nothing_made p empty_snapshot) (first_comes p no_names)
-        (standing no_names) (λ k n e. beside p no_names (condition_of n.node) (before conditions n.parent)) end_at count fronts same step (λ place rule e. refl);
-    once = λ j k a b e f equal.
-        let many = step.nodes in
-        let low : j < length new.nodes.items = slice_get_within new.nodes.items j a e in
-        let high : k < length new.nodes.items = slice_get_within new.nodes.items k b f in
-        distinct j k (conditions j) (listed j (omega arith)) (listed k (omega arith) ∙ ap Some (sym equal));
-  }
+  pub built_net : IsNetOf p new.nodes.items new.ends.items
+  built_net =
+      shape_now p no_facts empty_snapshot empty_snapshot [] None (pos 0) no_names empty_row_comes nothing (λ rule. []) net new shape answers (starts p no_names) (nothing_made p empty_snapshot) (first_comes p no_names)
+      (standing no_names) (λ k n e. beside p no_names (condition_of n.node) (before conditions n.parent)) same step (λ place rule e. refl)
 
   pub built_stands : AreQuiet p new.nodes.items new.quiet_until → (forgotten : Named → Bool) → NetStands p new empty_snapshot forgotten
   built_stands quiet forgotten =
@@ -206,6 +206,6 @@ module _ (p : Program) (net new : Rete) (all : List (List Condition)) (answers :
   pub built_between : IsRunnable p → AreBetween p (λ rule. []) (λ rule. rows p empty_snapshot rule.conditions) answers
   built_between runnable =
       subst (λ (lists : Rule → List Row). AreBetween p (λ rule. []) lists answers) (fun_ext (λ rule. all_clean (rows p empty_snapshot rule.conditions)))
-      (between_now p no_facts empty_snapshot empty_snapshot [] None (pos 0) no_names empty_row_comes nothing (λ rule. []) net new conditions answers (starts p no_names) (nothing_made p empty_snapshot) (first_comes p no_names)
-      (standing no_names) (λ k n e. beside p no_names (condition_of n.node) (before conditions n.parent)) end_at count fronts same step (λ place rule e. refl)
+      (between_now p no_facts empty_snapshot empty_snapshot [] None (pos 0) no_names empty_row_comes nothing (λ rule. []) net new shape answers (starts p no_names) (nothing_made p empty_snapshot) (first_comes p no_names)
+      (standing no_names) (λ k n e. beside p no_names (condition_of n.node) (before conditions n.parent)) same step (λ place rule e. refl)
       (few_ends p net.ends.items count runnable))

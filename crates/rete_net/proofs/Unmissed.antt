@@ -231,11 +231,11 @@ module _ (p : Program) (net : Rete) (s : Snapshot) (forgotten : Named → Bool) 
 
   -- the rule of a node, and the place of the node's condition in it
   module _ (k : ℕ) (n : NetNode) (e : slice_get net.nodes.items k ≡ Some n) where
-    abbrev front : IsFront p (stands.nodes.conditions k)
-    front = stands.nodes.fronts k n e
+    abbrev front : IsFront p (stands.nodes.shape.conditions k)
+    front = stands.nodes.shape.fronts k n e
 
-    abbrev place : (i : ℕ) × (slice_get front.0.conditions i ≡ Some (condition_of n.node)) × (before stands.nodes.conditions n.parent ≡ take i front.0.conditions)
-    place = at_end front.0.conditions (before stands.nodes.conditions n.parent) (condition_of n.node) front.2 (sym (stands.nodes.shaped.own k n e) ∙ front.3)
+    abbrev place : (i : ℕ) × (slice_get front.0.conditions i ≡ Some (condition_of n.node)) × (before stands.nodes.shape.conditions n.parent ≡ take i front.0.conditions)
+    place = at_end front.0.conditions (before stands.nodes.shape.conditions n.parent) (condition_of n.node) front.2 (sym (stands.nodes.shape.shaped.own k n e) ∙ front.3)
 
     in_rule : In (condition_of n.node) front.0.conditions
     in_rule = in_place front.0.conditions place.0 (condition_of n.node) place.1
@@ -243,12 +243,12 @@ module _ (p : Program) (net : Rete) (s : Snapshot) (forgotten : Named → Bool) 
     unseen : (c : Condition) → In c front.0.conditions → Unobserved f c
     unseen c i = unobserved_of p f unmissed.unobserved front.0 front.1 c i
 
-    rows_less : (t : ℤ) → cleaned (rows_of p (at_clock (less_fact s f) t) (stands.nodes.conditions k)) forgotten ≡ cleaned (rows_of p (at_clock s t) (stands.nodes.conditions k)) forgotten
+    rows_less : (t : ℤ) → cleaned (rows_of p (at_clock (less_fact s f) t) (stands.nodes.shape.conditions k)) forgotten ≡ cleaned (rows_of p (at_clock s t) (stands.nodes.shape.conditions k)) forgotten
     rows_less t =
         subst (λ (cs : List Condition). cleaned (rows_of p (at_clock (less_fact s f) t) cs) forgotten ≡ cleaned (rows_of p (at_clock s t) cs) forgotten) (sym front.3)
         (front_same p (at_clock s t) f forgotten apart apart_less unmissed.there unmissed.known front.0 unseen front.2)
 
-    rows_before : cleaned (rows_of p (at_clock (less_fact s f) stands.seen) (before stands.nodes.conditions n.parent)) forgotten ≡ cleaned (rows_of p was (before stands.nodes.conditions n.parent)) forgotten
+    rows_before : cleaned (rows_of p (at_clock (less_fact s f) stands.seen) (before stands.nodes.shape.conditions n.parent)) forgotten ≡ cleaned (rows_of p was (before stands.nodes.shape.conditions n.parent)) forgotten
     rows_before =
         subst (λ (cs : List Condition). cleaned (rows_of p (at_clock (less_fact s f) stands.seen) cs) forgotten ≡ cleaned (rows_of p was cs) forgotten) (sym place.2)
         (front_same p was f forgotten apart apart_less unmissed.there unmissed.known front.0 unseen place.0)
@@ -262,9 +262,9 @@ module _ (p : Program) (net : Rete) (s : Snapshot) (forgotten : Named → Bool) 
         ∙ sym (stands.unchanged.same_candidates k n e (name_of f))
         ∙ unmissed.outside front.0 front.1 (condition_of n.node) in_rule span at
 
-    node_now : NetNodeStands p n (at_clock (less_fact s f) stands.seen) (rows_of p (at_clock (less_fact s f) stands.seen) (before stands.nodes.conditions n.parent)) forgotten
+    node_now : NetNodeStands p n (at_clock (less_fact s f) stands.seen) (rows_of p (at_clock (less_fact s f) stands.seen) (before stands.nodes.shape.conditions n.parent)) forgotten
     node_now =
-        let behind = before stands.nodes.conditions n.parent in
+        let behind = before stands.nodes.shape.conditions n.parent in
         let at = stands.nodes.nodes k n e in
         let u = unseen (condition_of n.node) in_rule in
         record {
@@ -274,17 +274,12 @@ module _ (p : Program) (net : Rete) (s : Snapshot) (forgotten : Named → Bool) 
 
   abbrev nodes_less : NodesStand p net (at_clock (less_fact s f) stands.seen) forgotten
   nodes_less = record {
-    conditions = stands.nodes.conditions;
-    shaped = stands.nodes.shaped;
-    ends = stands.nodes.ends;
-    count = stands.nodes.count;
-    fronts = stands.nodes.fronts;
-    windows = stands.nodes.windows;
+    shape = stands.nodes.shape;
     nodes = node_now;
   }
 
-  same_less : (a b : ℤ) → HaveSame p net.nodes.items stands.nodes.conditions forgotten (at_clock s a) (at_clock s b)
-      → HaveSame p net.nodes.items stands.nodes.conditions forgotten (at_clock (less_fact s f) a) (at_clock (less_fact s f) b)
+  same_less : (a b : ℤ) → HaveSame p net.nodes.items stands.nodes.shape.conditions forgotten (at_clock s a) (at_clock s b)
+      → HaveSame p net.nodes.items stands.nodes.shape.conditions forgotten (at_clock (less_fact s f) a) (at_clock (less_fact s f) b)
   same_less a b same = record {
     same_rows = λ k n e. rows_less k n e a ∙ same.same_rows k n e ∙ sym (rows_less k n e b);
     same_candidates = λ k n e who. candidates_at k n e a who ∙ ap (λ c. c && not (f.tag.0 == who.tag.0)) (same.same_candidates k n e who) ∙ sym (candidates_at k n e b who);

@@ -1,5 +1,5 @@
 -- For which snapshot a network stands, where some facts have been forgotten, and what it answers.
-use Rattle.std.specs.Prelude.{◌≡◌, ◌==◌, ◌≤ℤ◌, ◌<ℤ◌, ◌^◌, pos, ℕ, ℤ, Bool, true, false, cond, List, [], ◌∷◌, length, map, Option, Some, None, slice_get}
+use Rattle.std.specs.Prelude.{◌≡◌, ◌==◌, ◌≤ℤ◌, ◌<ℤ◌, ◌^◌, pos, ℕ, ℤ, Bool, false, cond, List, [], ◌∷◌, map, Option, Some, None, slice_get}
 use Rattle.std.specs.List.{filter}
 use Rattle.std.specs.List.Sorted.{IsStrictlySortedBy}
 use Rattle.std.specs.Ordering.{nat_cmp}
@@ -17,14 +17,14 @@ use Rattle.rule_model.specs.Snapshots.{Snapshot}
 use Rattle.pair_memory.specs.Standing.{clean, cleaned, no_rows}
 use Rattle.condition_rows.specs.Looks.{empty_snapshot}
 use Rattle.condition_rows.specs.Sets.{held, candidates_of, rows_of}
-use Rattle.pattern_gate.specs.Gates.{GateStands, has_good_window}
+use Rattle.pattern_gate.specs.Gates.{GateStands}
 use Rattle.pattern_gate.specs.Moves.{IsOrderly, at_clock}
 use Rattle.condition_node.specs.Nodes.{condition_of, NodeStands}
 use Rattle.condition_node.specs.Quiet.{IsBefore}
 use Rattle.rete_net.specs.declared.changes.RuleChange.{RuleChange}
 use Rattle.rete_net.specs.declared.node.NetNode.{NetNode}
 use Rattle.rete_net.specs.declared.net.Rete.{Rete}
-use Rattle.rete_net.specs.Shapes.{before, IsShaped, EndsAt, IsFront}
+use Rattle.rete_net.specs.Shapes.{before, IsNetOf}
 
 -- A node and its gate stand for the rows of the conditions before it, in a snapshot. The node has dropped what was forgotten; the gate
 -- stands for the whole snapshot, since a gate without a window keeps nothing.
@@ -36,16 +36,10 @@ pub record NetNodeStands (p : Program) (n : NetNode) (s : Snapshot) (rows : Row 
 abbrev pub IsFresh : Program → NetNode → Type 0
 IsFresh p n = (forgotten : Named → Bool) → NetNodeStands p n empty_snapshot no_rows forgotten
 
--- The nodes of a program's network stand for a snapshot: each for the rows of the conditions before it. They have windows of accepted
--- files and the first conditions of rules, and each rule has a last node.
+-- The nodes of a program's network stand for a snapshot: each for the rows of the conditions before it.
 pub record NodesStand (p : Program) (net : Rete) (s : Snapshot) (forgotten : Named → Bool) : Type 0 where
-  pub conditions : ℕ → List Condition
-  pub shaped : IsShaped net.nodes.items conditions
-  pub ends : (place : ℕ) (rule : Rule) → slice_get p.rules place ≡ Some rule → EndsAt net.nodes.items conditions net.ends.items place rule
-  pub count : length net.ends.items ≡ length p.rules
-  pub fronts : (k : ℕ) (n : NetNode) → slice_get net.nodes.items k ≡ Some n → IsFront p (conditions k)
-  pub windows : (k : ℕ) (n : NetNode) → slice_get net.nodes.items k ≡ Some n → has_good_window p (pattern_of (condition_of n.node)) ≡ true
-  pub nodes : (k : ℕ) (n : NetNode) → slice_get net.nodes.items k ≡ Some n → NetNodeStands p n s (rows_of p s (before conditions n.parent)) forgotten
+  pub shape : IsNetOf p net.nodes.items net.ends.items
+  pub nodes : (k : ℕ) (n : NetNode) → slice_get net.nodes.items k ≡ Some n → NetNodeStands p n s (rows_of p s (before shape.conditions n.parent)) forgotten
 
 -- The nodes have the same before them in both snapshots: the conditions of each have the same rows that name no forgotten fact, and its
 -- pattern has the same candidates.
@@ -62,9 +56,9 @@ pub record NetStands (p : Program) (net : Rete) (s : Snapshot) (forgotten : Name
   pub later : seen ≤ℤ s.clock
   pub kept : IsOrderly p (at_clock s seen)
   pub nodes : NodesStand p net (at_clock s seen) forgotten
-  pub unchanged : HaveSame p net.nodes.items nodes.conditions forgotten s (at_clock s seen)
+  pub unchanged : HaveSame p net.nodes.items nodes.shape.conditions forgotten s (at_clock s seen)
   pub quiet : (clock : ℤ) → s.clock ≤ℤ clock → clock <ℤ pos (2 ^ 63) → IsBefore net.quiet_until clock → IsOrderly p (at_clock s clock)
-      → HaveSame p net.nodes.items nodes.conditions forgotten (at_clock s clock) (at_clock s seen)
+      → HaveSame p net.nodes.items nodes.shape.conditions forgotten (at_clock s clock) (at_clock s seen)
 
 -- the rows of a rule in a snapshot that name no forgotten fact
 abbrev pub clean_rows : Program → Snapshot → (Named → Bool) → Rule → List Row

@@ -1,9 +1,11 @@
 -- Of which conditions the nodes of a network are.
-use Rattle.std.specs.Prelude.{◌≡◌, ◌<◌, ◌∷◌, ◌++◌, ℕ, List, [], take, Option, Some, None, slice_get}
+use Rattle.std.specs.Prelude.{◌≡◌, ◌<◌, ◌∷◌, ◌++◌, ℕ, true, List, [], length, take, Option, Some, None, slice_get}
 use Rattle.fx_base.specs.Lists.{In}
 use Rattle.rule_model.specs.declared.condition.Condition.{Condition}
 use Rattle.rule_model.specs.declared.program.Program.{Program}
 use Rattle.rule_model.specs.declared.program.Rule.{Rule}
+use Rattle.rule_model.specs.Rows.{pattern_of}
+use Rattle.pattern_gate.specs.Gates.{has_good_window}
 use Rattle.condition_node.specs.Nodes.{condition_of}
 use Rattle.rete_net.specs.declared.node.NetNode.{NetNode}
 
@@ -29,8 +31,25 @@ pub record EndsAt (nodes : List NetNode) (conditions : ℕ → List Condition) (
 abbrev pub IsFront : Program → List Condition → Type 0
 IsFront p conditions = (rule : Rule) × In rule p.rules × (q : ℕ) × (conditions ≡ take q rule.conditions)
 
--- no two nodes have the same conditions, their parents' included
-pub record AreShared (nodes : List NetNode) : Type 0 where
+-- no two nodes have the same conditions
+abbrev pub StandOnce : List NetNode → (ℕ → List Condition) → Type 0
+StandOnce nodes conditions = (j k : ℕ) (a b : NetNode) → slice_get nodes j ≡ Some a → slice_get nodes k ≡ Some b → conditions j ≡ conditions k → j ≡ k
+
+-- These nodes and these last nodes of rules are those of a program's network, whatever they stand for: the nodes have windows of accepted
+-- files and the first conditions of rules, there is one for each distinct front, and each rule has a last node.
+pub record IsNetOf (p : Program) (nodes : List NetNode) (ends : List ℕ) : Type 0 where
   pub conditions : ℕ → List Condition
   pub shaped : IsShaped nodes conditions
-  pub once : (j k : ℕ) (a b : NetNode) → slice_get nodes j ≡ Some a → slice_get nodes k ≡ Some b → conditions j ≡ conditions k → j ≡ k
+  pub once : StandOnce nodes conditions
+  pub lasts : (place : ℕ) (rule : Rule) → slice_get p.rules place ≡ Some rule → EndsAt nodes conditions ends place rule
+  pub count : length ends ≡ length p.rules
+  pub fronts : (k : ℕ) (n : NetNode) → slice_get nodes k ≡ Some n → IsFront p (conditions k)
+  pub windows : (k : ℕ) (n : NetNode) → slice_get nodes k ≡ Some n → has_good_window p (pattern_of (condition_of n.node)) ≡ true
+
+-- So many distinct lists are the first conditions, one or more, of some rule of the program: `each` lists them.
+pub record CountsFronts (p : Program) (many : ℕ) : Type 0 where
+  pub each : List (List Condition)
+  pub number : length each ≡ many
+  pub distinct : (j k : ℕ) (conditions : List Condition) → slice_get each j ≡ Some conditions → slice_get each k ≡ Some conditions → j ≡ k
+  pub are_fronts : (conditions : List Condition) → In conditions each → IsFront p conditions × (conditions ≡ [] → ⊥)
+  pub all : (conditions : List Condition) → IsFront p conditions → (conditions ≡ [] → ⊥) → In conditions each

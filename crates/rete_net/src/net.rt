@@ -1,4 +1,5 @@
-ghost use Rattle.std.specs.Prelude.{◌≡◌, ◌↔◌, ◌≤ℤ◌, ℕ, Bool, List, [], length, Some, slice_get, option_map, IfOk, OnOk, IsTrue};
+ghost use Rattle.std.specs.Prelude.{◌≡◌, ◌↔◌, ◌<◌, ◌≤ℤ◌, ◌^◌, ℕ, Bool, List, [], length, Some, slice_get, option_map, IfOk, OnOk, IsTrue};
+ghost use Rattle.fx_base.specs.Lists.{In};
 ghost use Rattle.rule_model.specs.declared.condition.Condition.{Condition};
 ghost use Rattle.rule_model.specs.declared.program.Program.{Program as ProgramData};
 ghost use Rattle.rule_model.specs.declared.program.Rule.{Rule};
@@ -14,12 +15,13 @@ ghost use Rattle.condition_rows.specs.Looks.{empty_snapshot, HasAllOf};
 ghost use Rattle.condition_rows.specs.Sets.{rows_of};
 ghost use Rattle.pattern_gate.specs.Moves.{IsOrderly, Moves, at_clock};
 ghost use Rattle.condition_node.specs.Quiet.{IsBefore};
+ghost use Rattle.rete_net.specs.declared.changes.RuleChange.{RuleChange as RuleChangeData};
 ghost use Rattle.rete_net.specs.Dropped.{AllForget, AreDropped, AreListed};
 ghost use Rattle.rete_net.specs.Forgetting.{AreNotNeeded};
 ghost use Rattle.rete_net.specs.Nets.{NetStands, clean_rows, AreBetween};
 ghost use Rattle.rete_net.specs.Building.{AreBuilt, AreDistinct, AreFronts, HaveEnds};
 ghost use Rattle.rete_net.specs.Quiet.{AreQuiet};
-ghost use Rattle.rete_net.specs.Shapes.{AreShared};
+ghost use Rattle.rete_net.specs.Shapes.{CountsFronts, IsNetOf};
 ghost use Rattle.rete_net.specs.Steps.{NetStep};
 
 use crate::build::{Builder, NoFacts, empty_row_comes, no_change};
@@ -49,7 +51,7 @@ impl Rete {
     /// conditions, and for each of them it looks at the nodes that are there.
     pub fn build(alloc: Global, program: &Program) -> Result<(Rete, Vec<RuleChange>), NoMemory>
         ensures stands { IsRunnable program.now → IfOk result (λ built. (forgotten : NamedData → Bool) → NetStands program.now built.0 empty_snapshot forgotten) }
-        ensures shared { IsRunnable program.now → IfOk result (λ built. AreShared built.0.nodes.items) }
+        ensures net { IsRunnable program.now → IfOk result (λ built. IsNetOf program.now built.0.nodes.items built.0.ends.items) }
         ensures first { IsRunnable program.now → IfOk result (λ built. AreBetween program.now (λ rule. []) (λ rule. rows program.now empty_snapshot rule.conditions) built.1.items) }
     {
         let mut net = Rete::of_rules(alloc, program)?;
@@ -82,15 +84,19 @@ impl Rete {
             → AreNotNeeded program.now forgotten s next (lent gone.now) (option_map (λ f. f.now) come.entry)
             → HasAllOf (F.map facts.now) s forgotten → HasAllOf (F.map facts.now) next forgotten
             → AreBetween program.now (clean_rows program.now s forgotten) (clean_rows program.now next forgotten) changes.items) }
+        // Whatever the network stands for: it stays that of its program, and the rules that are answered are the program's.
+        ensures net { (p : ProgramData) → IsNetOf p self.old.nodes.items self.old.ends.items → OnOk result (IsNetOf p self.new.nodes.items self.new.ends.items) }
+        ensures rules { length self.old.ends.items < 2 ^ 16 → IfOk result (λ changes. (c : RuleChangeData) → In c changes.items → c.rule.0 < length self.old.ends.items) }
     {
         let none = no_change(alloc);
         let changes = self.step(alloc, program, &none, gone, come, clock, facts)?;
         Ok(changes)
     }
 
-    /// How many nodes there are. Takes no memory.
+    /// How many nodes there are: one for each distinct front of the rules' conditions. Takes no memory.
     pub fn nodes(&self) -> usize
-        ensures { result ≡ length self.now.nodes.items }
+        ensures number { result ≡ length self.now.nodes.items }
+        ensures fronts { (p : ProgramData) → IsNetOf p self.now.nodes.items self.now.ends.items → CountsFronts p result }
     {
         self.nodes.len()
     }
@@ -123,6 +129,7 @@ impl Rete {
         ensures dropped { IfOk result (λ answers. (s : Snapshot) (forgotten : NamedData → Bool) → NetStands program.now self.old s forgotten → HasAllOf (F.map facts.now) s forgotten
             → AreDropped program.now s forgotten (has_name old.now) answers.items) }
         ensures listed { IfOk result (λ answers. AreListed answers.items (length self.old.ends.items)) }
+        ensures net { (p : ProgramData) → IsNetOf p self.old.nodes.items self.old.ends.items → OnOk result (IsNetOf p self.new.nodes.items self.new.ends.items) }
     {
         let dropped = self.forget_nodes(alloc, program, old, facts)?;
         let answers = rows_of_rules(alloc, &dropped, &self.ends)?;

@@ -1,10 +1,2 @@
-pub mod Gives
-pub mod Standing
 pub mod Sessions
-pub mod Waiting
-pub mod Leading
-pub mod Following
-pub mod Refreshed
-pub mod Places
 pub mod Codes
-pub mod Counts

@@ -1,7 +1,7 @@
 -- The worlds for which a session stands.
 use Rattle.rule_world.specs.Worlds.{World}
 use Rattle.session.specs.declared.session.Session.{Session}
-use Rattle.session.specs.Standing.{Standing}
+use Rattle.session_laws.specs.Standing.{Standing}
 
 abbrev pub Stands : Session → World → Type 0
 Stands s w = Standing s.setting s.memory s.state w

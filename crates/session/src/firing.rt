@@ -5,14 +5,12 @@ ghost use Rattle.rule_model.specs.Matches.{fire_cmp};
 ghost use Rattle.rule_model.specs.First.{first};
 ghost use Rattle.rule_world.specs.Programs.{has_few_actions, IsRunnable};
 ghost use Rattle.rule_world.specs.Worlds.{World, marked};
-ghost use Rattle.session.specs.Gives.{cells, conditions_of, fire_line, actions_of, does_all};
-ghost use Rattle.session.specs.Leading.{AllFit};
-ghost use Rattle.session.specs.Standing.{Runs, Standing};
-ghost use Rattle.session.specs.Places.{planned_for, planned};
+ghost use Rattle.session_laws.specs.Gives.{cells, conditions_of, fire_line, actions_of, does_all};
+ghost use Rattle.session_laws.specs.Leading.{AllFit, AllWantKnown, StayKnown};
+ghost use Rattle.session_laws.specs.Standing.{IsSound, Runs, Standing, StaysSound};
+ghost use Rattle.session_laws.specs.Places.{planned_for, planned};
 
-use crate::memory::Memory;
 use crate::refreshing::add_names;
-use crate::setting::Setting;
 use crate::state::State;
 use crate::steps::Plan;
 use action_eval::{EvalFault, planned_step};
@@ -22,6 +20,7 @@ use fx_base::{NoMemory, Seq};
 use row_delta::Row;
 use rule_model::{Action, Condition, Match, Program, Rule, Step};
 use rule_world::Code;
+use session_laws::{Memory, Setting};
 use std::alloc::Global;
 
 // What an action is to do for a row.
@@ -147,6 +146,8 @@ impl State {
         ensures lines { OnOk result ((w : World) (m : MatchData) → Standing setting.now memory.old self w → Some m ≡ first (fire_cmp self.agenda.saliences) self.agenda.pending
             → AllFit setting.now.program w plan.items → lines.new.items ≡ lines.old.items ++ fire_line setting.now.program m ∷ [] ++ (does_all setting.now.program (marked w m) plan.items).0) }
         ensures tags { IfOk result (λ s. s.next_tag ≤ self.next_tag + length plan.items) }
+        ensures sound { IfOk result (λ s. StaysSound setting.now.program memory.old self memory.new s) }
+        ensures known { IsSound setting.now.program memory.old self → AllWantKnown setting.now.program plan.items → OnOk result (StayKnown setting.now.program lines.old.items lines.new.items) }
     {
         let (state, fired) = self.mark(alloc, setting, memory)?;
         lines.push(line_of(alloc, &setting.program, &fired)?)?;
@@ -165,6 +166,7 @@ impl State {
         ensures top { IfOk result (λ r. Some r.1 ≡ first (fire_cmp self.agenda.saliences) self.agenda.pending) }
         ensures stands { IfOk result (λ r. (w : World) → Standing setting.now memory.old self w → Standing setting.now memory.new r.0 (marked w r.1)) }
         ensures tags { IfOk result (λ r. r.0.next_tag ≡ self.next_tag) }
+        ensures sound { IfOk result (λ r. StaysSound setting.now.program memory.old self memory.new r.0) }
     {
         let mut state = self;
         let (agenda, fired) = state.agenda.fire_top(alloc)?;

@@ -1,6 +1,6 @@
 ghost use Rattle.std.specs.Prelude.{◌≡◌, ◌<◌, ◌^◌, ℕ, pos, length, slice_index_or, IfOk, OnOk};
 ghost use Rattle.rule_world.specs.Worlds.{last_start_with};
-ghost use Rattle.session.specs.Standing.{last_start_in};
+ghost use Rattle.session_laws.specs.Standing.{last_start_in};
 
 use fx_base::{Fact, Millis, NoMemory};
 use rule_model::Program;

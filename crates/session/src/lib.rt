@@ -5,19 +5,15 @@
 mod counting;
 mod firing;
 mod last_starts;
-pub mod laws;
-mod memory;
 mod moving;
 mod refreshing;
 mod running;
 mod session;
-mod setting;
 mod settling;
 mod state;
 mod steps;
 
 pub use engine::{Cell, Engine, Fired, Lines, OutLine};
-pub use memory::Memory;
 pub use rule_world::Code;
 pub use session::Session;
-pub use setting::Setting;
+pub use session_laws::{Memory, Setting};

@@ -8,16 +8,14 @@ ghost use Rattle.rule_world.specs.Worlds.{with_values, is_of_type, modify_fault,
 ghost use Rattle.rule_lives.specs.Keeping.{AreShort};
 ghost use Rattle.retention.specs.Retentions.{lingers};
 ghost use Rattle.forgetting.specs.Sights.{end_of_life, ends_by};
-ghost use Rattle.session.specs.Leading.{Moves};
-ghost use Rattle.session.specs.Places.{IsNewestTag, IsShort, newest};
-ghost use Rattle.session.specs.Standing.{Runs};
-ghost use Rattle.session.specs.Waiting.{with_timer, without_timer};
+ghost use Rattle.session_laws.specs.Leading.{Moves};
+ghost use Rattle.session_laws.specs.Places.{IsNewestTag, IsShort, newest};
+ghost use Rattle.session_laws.specs.Standing.{Runs, StaysSound};
+ghost use Rattle.session_laws.specs.Waiting.{with_timer, without_timer};
 ghost use Rattle.std.specs.FinMap as map;
 
 use crate::last_starts::last_starts_behind;
-use crate::memory::Memory;
 use crate::refreshing::{followed, without_all};
-use crate::setting::Setting;
 use crate::state::State;
 use due_queue::DueQueue;
 use fact_store::FactStore;
@@ -25,6 +23,7 @@ use fx_base::{Copies, Fact, FactId, Facts, Millis, NoMemory, Seq, Tag, TypeId, V
 use retention::Retention;
 use rule_model::{Life, LifeTable, Program};
 use rule_world::presence_end;
+use session_laws::{Memory, Setting};
 use std::alloc::Global;
 
 // The fields with these values in these places.
@@ -175,6 +174,7 @@ impl State {
         requires end_high { fact.times.end ≤ℤ (most_millis +ℤ most_millis) }
         ensures stands { IfOk result (λ s. Moves setting.now memory.old self (Insert fact.ty fact.entry fact.fields) memory.new s) }
         ensures tags { IfOk result (λ s. s.next_tag ≡ self.next_tag + 1) }
+        ensures sound { IfOk result (λ s. StaysSound setting.now.program memory.old self memory.new s) }
     {
         if setting.program.is_present(self.clock, &fact) {
             self.with_present(alloc, setting, memory, fact)
@@ -203,6 +203,7 @@ impl State {
         requires present { is_present setting.now.program self.clock fact ≡ true }
         ensures stands { IfOk result (λ s. Moves setting.now memory.old self (Insert fact.ty fact.entry fact.fields) memory.new s) }
         ensures tags { IfOk result (λ s. s.next_tag ≡ self.next_tag + 1) }
+        ensures sound { IfOk result (λ s. StaysSound setting.now.program memory.old self memory.new s) }
     {
         let mut state = self;
         let tag = fact.tag;
@@ -243,6 +244,7 @@ impl State {
         requires absent { is_present setting.now.program self.clock fact.now ≡ false }
         ensures stands { IfOk result (λ s. Moves setting.now memory.old self (Insert fact.now.ty fact.now.entry fact.now.fields) memory.new s) }
         ensures tags { IfOk result (λ s. s.next_tag ≡ self.next_tag + 1) }
+        ensures sound { IfOk result (λ s. StaysSound setting.now.program memory.old self memory.new s) }
     {
         let mut state = self;
         state.last_starts = last_starts_behind(&setting.program, fact, state.last_starts)?;
@@ -267,6 +269,7 @@ impl State {
         requires plain { modify_fault setting.now.program (newest self id.0) ≡ None }
         ensures stands { IfOk result (λ s. Moves setting.now memory.old self (Modify id sets) memory.new s) }
         ensures tags { IfOk result (λ s. s.next_tag ≡ self.next_tag + 1) }
+        ensures sound { IfOk result (λ s. StaysSound setting.now.program memory.old self memory.new s) }
     {
         let mut state = self;
         let next = Tag(state.next_tag);
@@ -304,6 +307,7 @@ impl State {
         requires of_type { is_of_type ty.0 (newest self id.0) ≡ true }
         ensures stands { IfOk result (λ s. Moves setting.now memory.old self (Retract ty id) memory.new s) }
         ensures tags { IfOk result (λ s. s.next_tag ≡ self.next_tag) }
+        ensures sound { IfOk result (λ s. StaysSound setting.now.program memory.old self memory.new s) }
     {
         let mut state = self;
         let (agenda, left) = followed(
@@ -336,6 +340,7 @@ impl State {
         requires absent { is_of_type ty.0 (newest self id.0) ≡ false }
         ensures stands { IfOk result (λ s. Moves setting.now memory.old self (Retract ty id) memory.new s) }
         ensures tags { IfOk result (λ s. s.next_tag ≡ self.next_tag) }
+        ensures sound { IfOk result (λ s. StaysSound setting.now.program memory.old self memory.new s) }
     {
         self.settled(alloc, setting, memory, &[])
     }
@@ -355,6 +360,7 @@ impl State {
         requires later { self.clock ≤ℤ clock }
         ensures stands { IfOk result (λ s. Moves setting.now memory.old self (At clock) memory.new s) }
         ensures tags { IfOk result (λ s. s.next_tag ≡ self.next_tag) }
+        ensures sound { IfOk result (λ s. StaysSound setting.now.program memory.old self memory.new s) }
     {
         let mut state = self;
         let due = state.expiries.take_due(clock)?;

@@ -1,7 +1,11 @@
-ghost use Rattle.std.specs.Prelude.{◌≡◌, ◌==◌, ◌||◌, ℕ, ℤ, Bool, List, filter_map, option_map, IfOk, OnOk};
+ghost use Rattle.std.specs.Prelude.{◌≡◌, ◌<◌, ◌^◌, ◌==◌, ◌||◌, length, ℕ, ℤ, Bool, List, filter_map, option_map, IfOk, OnOk};
 ghost use Rattle.std.specs.List.{list_any};
 ghost use Rattle.fact_store.specs.Held.{HeldFacts, facts_of};
+ghost use Rattle.fx_base.specs.Lists.{In};
+ghost use Rattle.rete_net.specs.declared.changes.RuleChange.{RuleChange as RuleChangeData};
 ghost use Rattle.rete_net.specs.Nets.{AreBetween, NetStands, clean_rows};
+ghost use Rattle.rete_net.specs.Shapes.{IsNetOf};
+ghost use Rattle.session_laws.specs.Standing.{AreOfRules};
 ghost use Rattle.retention.specs.Retentions.{is_among};
 ghost use Rattle.forgetting.specs.Steps.{HasLeft};
 ghost use Rattle.row_delta.specs.declared.row.Named.{Named as NamedData};
@@ -9,11 +13,11 @@ ghost use Rattle.row_delta.specs.declared.row.Row.{Row as RowData};
 ghost use Rattle.rule_model.specs.declared.program.Program.{Program as ProgramData};
 ghost use Rattle.rule_model.specs.declared.program.Rule.{Rule as RuleData};
 ghost use Rattle.rule_model.specs.Lent.{lent};
-ghost use Rattle.session.specs.Refreshed.{over};
+ghost use Rattle.session_laws.specs.Refreshed.{over};
 ghost use Rattle.rule_world.specs.Programs.{IsRunnable};
-ghost use Rattle.session.specs.Following.{LeadsOn};
-ghost use Rattle.session.specs.Refreshed.{IsRefreshed};
-ghost use Rattle.session.specs.Waiting.{left_at};
+ghost use Rattle.session_laws.specs.Following.{LeadsOn};
+ghost use Rattle.session_laws.specs.Refreshed.{IsRefreshed};
+ghost use Rattle.session_laws.specs.Waiting.{left_at};
 ghost use Rattle.std.specs.FinMap as map;
 
 use agenda::Agenda;
@@ -53,6 +57,7 @@ pub(crate) fn refreshed(
 ) -> Result<(Agenda, Vec<Tag>), NoMemory>
     ensures agenda { (p : ProgramData) (old new : RuleData → List RowData) → AreBetween p old new changes.items → IfOk result (λ r. IsRefreshed p.rules old new agenda r.0) }
     ensures left { IfOk result (λ r. HasLeft agenda r.0 (is_among r.1.items)) }
+    ensures rules { (rules : ℕ) → ((c : RuleChangeData) → In c changes.items → c.rule.0 < rules) → AreOfRules rules agenda.pending → IfOk result (λ r. AreOfRules rules r.0.pending) }
 {
     let mut agenda = agenda;
     let mut left = Vec::new(alloc);
@@ -100,6 +105,8 @@ pub(crate) fn followed(
         → NetStands program.now net.old (over (facts_of before) from) forgotten
         → IfOk result (λ r. IsRefreshed program.now.rules (clean_rows program.now (over (facts_of before) from) forgotten) (clean_rows program.now (over (facts_of behind) clock) forgotten) agenda r.0) }
     ensures left { IfOk result (λ r. HasLeft agenda r.0 (is_among r.1.items)) }
+    ensures shape { (p : ProgramData) → IsNetOf p net.old.nodes.items net.old.ends.items → OnOk result (IsNetOf p net.new.nodes.items net.new.ends.items) }
+    ensures rules { length net.old.ends.items < 2 ^ 16 → AreOfRules (length net.old.ends.items) agenda.pending → IfOk result (λ r. AreOfRules (length net.old.ends.items) r.0.pending) }
 {
     let gone = facts_at(alloc, facts, gone)?;
     let changes = net.advance(alloc, program, gone.as_slice(), come, clock, facts)?;

@@ -1,4 +1,4 @@
-use crate::setting::Setting;
+use session_laws::Setting;
 use std::marker::Model;
 
 /// A setting that sessions run: a program that engines run, and the table of its lives.
@@ -10,8 +10,8 @@ pub(crate) struct Running {
 impl Model for Running {
     ghost use Rattle.std.specs.Coded.{codes};
     ghost use Rattle.rule_model.specs.ExpressionCode.{expression_code};
-    ghost use Rattle.session.specs.declared.setting.Setting.{Setting as SettingData};
-    ghost use Rattle.session.specs.Standing.{Runs};
+    ghost use Rattle.session_laws.specs.declared.setting.Setting.{Setting as SettingData};
+    ghost use Rattle.session_laws.specs.Standing.{Runs};
 
     ghost Value = { SettingData };
 
@@ -24,7 +24,7 @@ impl Model for Running {
 
 impl Running {
     ghost use Rattle.std.specs.Prelude.{◌≡◌};
-    ghost use Rattle.session.specs.Standing.{Runs};
+    ghost use Rattle.session_laws.specs.Standing.{Runs};
 
     pub(crate) fn new(setting: Setting) -> Running
         requires { Runs setting }

@@ -1,12 +1,10 @@
 ghost use Rattle.std.specs.Prelude.{◌≡◌, ◌+◌, ◌≤◌, ◌^◌, true, IfOk, is_some};
 ghost use Rattle.rule_model.specs.Matches.{saliences};
-ghost use Rattle.session.specs.Standing.{StandsForSome};
+ghost use Rattle.session_laws.specs.Standing.{IsSound};
 
 use crate::counting::{counts_of, event_types};
-use crate::memory::Memory;
 use crate::refreshing::refreshed;
 use crate::running::Running;
-use crate::setting::Setting;
 use crate::state::State;
 use agenda::Agenda;
 use change_read::asked_step;
@@ -16,6 +14,7 @@ use rete_net::Rete;
 use retention::Retention;
 use rule_model::{LifeTable, Program, Rule};
 use script_read::Change;
+use session_laws::{Memory, Setting};
 use std::alloc::Global;
 
 fn saliences_of(alloc: Global, rules: &[Rule]) -> Result<Vec<i64>, NoMemory>
@@ -28,7 +27,7 @@ fn saliences_of(alloc: Global, rules: &[Rule]) -> Result<Vec<i64>, NoMemory>
     Ok(all)
 }
 
-/// An engine in some lawful world of its program. It keeps, under their tags, the present facts that some rule can still need, the
+/// An engine of a program. It keeps, under their tags, the present facts that some rule can still need, the
 /// moments at which events expire, the clock, the last starts of the entry points, an agenda, the network of its rules, and the events
 /// whose lives end.
 #[derive(Drop)]
@@ -36,7 +35,7 @@ pub struct Session {
     setting: Running,
     state: State,
     memory: Memory,
-    ghost some: { ∥ StandsForSome setting memory state ∥₁ },
+    ghost sound: { ∥ IsSound setting.program memory state ∥₁ },
 }
 
 impl Session {
@@ -46,8 +45,8 @@ impl Session {
     ghost use Rattle.engine.specs.Answers.{FiringAnswers};
     ghost use Rattle.engine.specs.Known.{are_known, is_known_firing};
     ghost use Rattle.engine.specs.Counts.{HasEach};
-    ghost use Rattle.session.specs.Counts.{held_counts};
-    ghost use Rattle.session.specs.Gives.{gives, fires};
+    ghost use Rattle.session_laws.specs.Counts.{held_counts};
+    ghost use Rattle.session_laws.specs.Gives.{gives, fires};
     ghost use Rattle.session.specs.Sessions.{Stands};
 
     /// An engine in the empty world of a program, with the table of the lives of its types.
@@ -184,8 +183,8 @@ impl Session {
 
 impl Engine for Session {
     ghost use Rattle.std.specs.Prelude.{◌-◌};
-    ghost use Rattle.session.specs.Counts.{held_counts};
-    ghost use Rattle.session.specs.Gives.{gives as session_gives, fires as session_fires};
+    ghost use Rattle.session_laws.specs.Counts.{held_counts};
+    ghost use Rattle.session_laws.specs.Gives.{gives as session_gives, fires as session_fires};
     ghost use Rattle.session.specs.Sessions.{Stands};
 
     ghost stands = { Stands };

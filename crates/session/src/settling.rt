@@ -8,11 +8,9 @@ ghost use Rattle.rule_model.specs.Tuples.{name_of};
 ghost use Rattle.rule_world.specs.Worlds.{World};
 ghost use Rattle.retention.specs.Retentions.{has_tag, is_among};
 ghost use Rattle.rete_net.specs.Dropped.{AreListed, rows_for};
-ghost use Rattle.session.specs.Standing.{Awaits, Runs, Standing};
+ghost use Rattle.session_laws.specs.Standing.{Awaits, Runs, Standing, StaysSound};
 
-use crate::memory::Memory;
 use crate::refreshing::without_all;
-use crate::setting::Setting;
 use crate::state::State;
 use agenda::Agenda;
 use fact_store::FactStore;
@@ -20,6 +18,7 @@ use fx_base::{Facts, NoMemory, RuleId, Tag};
 use rete_net::RuleRows;
 use retention::Retention;
 use row_delta::Named;
+use session_laws::{Memory, Setting};
 use std::alloc::Global;
 use std::collections::BTreeSet;
 use std::mem;
@@ -81,6 +80,7 @@ impl State {
         requires runs { Runs setting.now }
         ensures stands { IfOk result (λ s. (w : World) → Awaits setting.now memory.old self (is_among left.now) w → Standing setting.now memory.new s w) }
         ensures tags { IfOk result (λ s. s.next_tag ≡ self.next_tag) }
+        ensures sound { IfOk result (λ s. StaysSound setting.now.program memory.old self memory.new s) }
     {
         let mut state = self;
         let retention = mem::replace(&mut memory.retention, Retention::new(alloc));

@@ -2,8 +2,8 @@ ghost use Rattle.std.specs.Prelude.{◌≡◌, [], pos, IfOk, option_map, false,
 ghost use Rattle.rule_model.specs.Matches.{fire_cmp};
 ghost use Rattle.rule_model.specs.First.{first};
 ghost use Rattle.rule_world.specs.Worlds.{modify_fault, is_of_type};
-ghost use Rattle.session.specs.Places.{IsNewestTag, newest};
-ghost use Rattle.session.specs.Standing.{last_start_in};
+ghost use Rattle.session_laws.specs.Places.{IsNewestTag, newest};
+ghost use Rattle.session_laws.specs.Standing.{last_start_in};
 ghost use Rattle.std.specs.FinMap as map;
 
 use agenda::Agenda;
@@ -35,8 +35,8 @@ pub(crate) struct State {
 impl Model for State {
     ghost use Rattle.std.specs.Coded.{codes};
     ghost use Rattle.session.specs.Codes.{held_code, timers_code};
-    ghost use Rattle.session.specs.Places.{IsSafe};
-    ghost use Rattle.session.specs.Standing.{Contents};
+    ghost use Rattle.session_laws.specs.Places.{IsSafe};
+    ghost use Rattle.session_laws.specs.Standing.{Contents};
 
     ghost Value = { Contents };
 
@@ -121,7 +121,7 @@ impl State {
 }
 
 impl Present for State {
-    ghost use Rattle.session.specs.Places.{newest};
+    ghost use Rattle.session_laws.specs.Places.{newest};
 
     ghost present = { newest };
 

@@ -1,20 +1,20 @@
-ghost use Rattle.std.specs.Prelude.{◌≡◌, ◌+◌, ◌<◌, ◌≤◌, ◌≤ℤ◌, ◌+ℤ◌, ◌-ℤ◌, ◌&&◌, ◌^◌, pos, [], ◌∷◌, ◌++◌, length, None, Some, slice_get, IfOk, IfErr, OnOk};
+ghost use Rattle.std.specs.Prelude.{◌≡◌, ◌+◌, ◌<◌, ◌≤◌, ◌≤ℤ◌, ◌+ℤ◌, ◌-ℤ◌, ◌&&◌, ◌^◌, pos, true, [], ◌∷◌, ◌++◌, length, None, Some, slice_get, IfOk, IfErr, OnOk};
+ghost use Rattle.rule_model.specs.declared.program.Program.{Program as ProgramData};
 ghost use Rattle.rule_model.specs.declared.step.Step.TheVariants.{Insert, Modify, Retract, Advance, At};
 ghost use Rattle.rule_model.specs.Types.{is_event, is_observed};
 ghost use Rattle.rule_world.specs.Events.{most_millis, new_fault, times_of};
 ghost use Rattle.rule_world.specs.Programs.{IsRunnable};
 ghost use Rattle.engine.specs.declared.lines.OutLine.TheVariants.{Fault};
-ghost use Rattle.session.specs.Leading.{StandsAfter, StandsAfterAll, Tries, Writes, WritesAll, WritesFor};
-ghost use Rattle.session.specs.Standing.{Runs};
-ghost use Rattle.session.specs.Places.{floor_in};
+ghost use Rattle.session_laws.specs.Leading.{AllWantKnown, has_known_type, StandsAfter, StandsAfterAll, StayKnown, Tries, WantsKnown, Writes, WritesAll, WritesFor};
+ghost use Rattle.session_laws.specs.Standing.{Runs, StaysSound};
+ghost use Rattle.session_laws.specs.Places.{floor_in};
 
-use crate::memory::Memory;
-use crate::setting::Setting;
 use crate::state::State;
 use engine::OutLine;
 use fx_base::{EntryId, Fact, FactId, Millis, NoMemory, Seq, Tag, Times, TypeId, Value};
 use rule_model::{Program, Step};
 use rule_world::{Code, clock_after, clock_at, floor, new_times};
+use session_laws::{Memory, Setting};
 use std::alloc::Global;
 
 /// What the actions of a firing are to do, in their order: a step, or the fault for which an action is refused.
@@ -33,6 +33,7 @@ impl State {
     fn refuse(self, code: Code, lines: &mut Vec<OutLine>) -> Result<State, NoMemory>
         ensures state { IfOk result (λ s. s ≡ self) }
         ensures lines { OnOk result (lines.new.items ≡ lines.old.items ++ Fault code ∷ []) }
+        ensures known { (p : ProgramData) → OnOk result (StayKnown p lines.old.items lines.new.items) }
     {
         lines.push(OutLine::Fault(code))?;
         Ok(self)
@@ -75,6 +76,8 @@ impl State {
         ensures stands { IfOk result (λ s. Tries setting.now memory.old self (Insert ty entry fields) memory.new s) }
         ensures lines { OnOk result (Writes setting.now memory.old self (Insert ty entry fields) lines.old.items lines.new.items) }
         ensures tags { IfOk result (λ s. s.next_tag ≤ self.next_tag + 1) }
+        ensures sound { IfOk result (λ s. StaysSound setting.now.program memory.old self memory.new s) }
+        ensures known { has_known_type setting.now.program (Insert ty entry fields) ≡ true → OnOk result (StayKnown setting.now.program lines.old.items lines.new.items) }
     {
         match self.times_for(&setting.program, ty, entry, fields.as_slice()) {
             Ok(times) => {
@@ -110,6 +113,8 @@ impl State {
         ensures stands { IfOk result (λ s. Tries setting.now memory.old self (Modify id sets) memory.new s) }
         ensures lines { OnOk result (Writes setting.now memory.old self (Modify id sets) lines.old.items lines.new.items) }
         ensures tags { IfOk result (λ s. s.next_tag ≤ self.next_tag + 1) }
+        ensures sound { IfOk result (λ s. StaysSound setting.now.program memory.old self memory.new s) }
+        ensures known { has_known_type setting.now.program (Modify id sets) ≡ true → OnOk result (StayKnown setting.now.program lines.old.items lines.new.items) }
     {
         match self.modifiable(&setting.program, id) {
             Ok(tag) => self.with_sets(alloc, setting, memory, id, tag, sets),
@@ -131,6 +136,8 @@ impl State {
         ensures stands { IfOk result (λ s. Tries setting.now memory.old self (Retract ty id) memory.new s) }
         ensures lines { OnOk result (Writes setting.now memory.old self (Retract ty id) lines.old.items lines.new.items) }
         ensures tags { IfOk result (λ s. s.next_tag ≡ self.next_tag) }
+        ensures sound { IfOk result (λ s. StaysSound setting.now.program memory.old self memory.new s) }
+        ensures known { has_known_type setting.now.program (Retract ty id) ≡ true → OnOk result (StayKnown setting.now.program lines.old.items lines.new.items) }
     {
         if are_observed(&setting.program, ty) {
             return self.refuse(Code::EventObserved, lines);
@@ -157,6 +164,8 @@ impl State {
         ensures stands { IfOk result (λ s. Tries setting.now memory.old self (Advance by) memory.new s) }
         ensures lines { OnOk result (Writes setting.now memory.old self (Advance by) lines.old.items lines.new.items) }
         ensures tags { IfOk result (λ s. s.next_tag ≡ self.next_tag) }
+        ensures sound { IfOk result (λ s. StaysSound setting.now.program memory.old self memory.new s) }
+        ensures known { has_known_type setting.now.program (Advance by) ≡ true → OnOk result (StayKnown setting.now.program lines.old.items lines.new.items) }
     {
         match clock_after(self.clock, by) {
             Ok(clock) => self.with_clock(alloc, setting, memory, clock),
@@ -177,6 +186,8 @@ impl State {
         ensures stands { IfOk result (λ s. Tries setting.now memory.old self (At moment) memory.new s) }
         ensures lines { OnOk result (Writes setting.now memory.old self (At moment) lines.old.items lines.new.items) }
         ensures tags { IfOk result (λ s. s.next_tag ≡ self.next_tag) }
+        ensures sound { IfOk result (λ s. StaysSound setting.now.program memory.old self memory.new s) }
+        ensures known { has_known_type setting.now.program (At moment) ≡ true → OnOk result (StayKnown setting.now.program lines.old.items lines.new.items) }
     {
         match clock_at(self.clock, moment) {
             Ok(clock) => self.with_clock(alloc, setting, memory, clock),
@@ -198,6 +209,8 @@ impl State {
         ensures stands { IfOk result (λ s. Tries setting.now memory.old self step memory.new s) }
         ensures lines { OnOk result (Writes setting.now memory.old self step lines.old.items lines.new.items) }
         ensures tags { IfOk result (λ s. s.next_tag ≤ self.next_tag + 1) }
+        ensures sound { IfOk result (λ s. StaysSound setting.now.program memory.old self memory.new s) }
+        ensures known { has_known_type setting.now.program step ≡ true → OnOk result (StayKnown setting.now.program lines.old.items lines.new.items) }
     {
         match step {
             Step::Insert { ty, entry, fields } => {
@@ -224,6 +237,8 @@ impl State {
         ensures stands { IfOk result (λ s. StandsAfter setting.now memory.old self wanted memory.new s) }
         ensures lines { OnOk result (WritesFor setting.now memory.old self wanted lines.old.items lines.new.items) }
         ensures tags { IfOk result (λ s. s.next_tag ≤ self.next_tag + 1) }
+        ensures sound { IfOk result (λ s. StaysSound setting.now.program memory.old self memory.new s) }
+        ensures known { WantsKnown setting.now.program wanted → OnOk result (StayKnown setting.now.program lines.old.items lines.new.items) }
     {
         match wanted {
             Ok(step) => self.step(alloc, setting, memory, step, lines),
@@ -245,6 +260,8 @@ impl State {
         ensures stands { IfOk result (λ s. StandsAfterAll setting.now memory.old self plan.items memory.new s) }
         ensures lines { OnOk result (WritesAll setting.now memory.old self plan.items lines.old.items lines.new.items) }
         ensures tags { IfOk result (λ s. s.next_tag ≤ self.next_tag + length plan.items) }
+        ensures sound { IfOk result (λ s. StaysSound setting.now.program memory.old self memory.new s) }
+        ensures known { AllWantKnown setting.now.program plan.items → OnOk result (StayKnown setting.now.program lines.old.items lines.new.items) }
     {
         let mut state = self;
         for wanted in plan {

@@ -11,8 +11,8 @@ ghost use Rattle.replay.specs.Refusals.{refusal_text};
 ghost use Rattle.replay.specs.Report.{Report, IsReport, Reports, TakesFor, IsLong};
 ghost use Rattle.replay.specs.Texts.{usage};
 ghost use Rattle.replay.specs.Wanted.{Files, wanted, IfRefuses, ReadsFile, RunsScript, IsUnfit};
-ghost use Rattle.session.specs.Counts.{held_counts};
-ghost use Rattle.session.specs.Gives.{gives, fires};
+ghost use Rattle.session_laws.specs.Counts.{held_counts};
+ghost use Rattle.session_laws.specs.Gives.{gives, fires};
 
 use fx_io::{Shelf, Sink, Source};
 use replay::replay;

@@ -1,7 +1,7 @@
 use Rattle.std.proofs.Common.{◌<◌, length}
 use Rattle.std.proofs.lemmas.List.{take_more}
 use Rattle.fx_base.specs.declared.ids.TypeId.{TypeId}
-use Rattle.session.proofs.Counting_on.{one_more_count}
+use Rattle.session_laws.proofs.Counting_on.{one_more_count}
 use Rattle.session.proofs.counting.counts_of.Goals as goal
 
 pub loop-ty-preserved : goal.loop-ty-preserved

@@ -1,5 +1,5 @@
 use Rattle.std.proofs.Common.{◌≡◌, ◌++◌, drop}
-use Rattle.session.specs.Gives.{cells}
+use Rattle.session_laws.specs.Gives.{cells}
 use Rattle.session.proofs.firing.cells_of.Given as goal
 
 abbrev pub invariant-loop-condition : goal.invariant-loop-condition

@@ -1,5 +1,5 @@
 use Rattle.std.proofs.Common.{◌≡◌, ◌++◌, drop}
-use Rattle.session.specs.Places.{planned}
+use Rattle.session_laws.specs.Places.{planned}
 use Rattle.session.proofs.firing.plan_actions.Given as goal
 
 abbrev pub invariant-loop-action : goal.invariant-loop-action

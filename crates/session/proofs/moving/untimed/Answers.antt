@@ -1,4 +1,4 @@
-use Rattle.session.proofs.Timers.{cancelled}
+use Rattle.session_laws.proofs.Timers.{cancelled}
 use Rattle.session.proofs.moving.untimed.Goals as goal
 
 pub returns : goal.returns

@@ -1,12 +1,12 @@
-use Rattle.std.proofs.Common.{◌≡◌, ◌∙◌, List, filter_map, option_map, refl, sym, subst, to_z, of_z, to_z-of_z, w64}
+use Rattle.std.proofs.Common.{◌≡◌, ◌∙◌, List, filter_map, option_map, refl, sym, subst, to_z, of_z, to_z-of_z, w64, length}
 use Rattle.fx_base.specs.declared.fact.Fact.{Fact}
 use Rattle.fact_store.specs.Held.{facts_of}
 use Rattle.rule_model.specs.Lent.{lent}
 use Rattle.pattern_gate.specs.Moves.{Moves}
 use Rattle.rete_net.specs.Forgetting.{AreNotNeeded}
 use Rattle.rete_net.specs.Nets.{clean_rows}
-use Rattle.session.specs.Refreshed.{over}
-use Rattle.session.proofs.Leads.{found_going, has_before, has_behind, leads_move, on_ok}
+use Rattle.session_laws.specs.Refreshed.{over}
+use Rattle.session_laws.proofs.Leads.{found_going, has_before, has_behind, leads_move, on_ok}
 use Rattle.session.proofs.refreshing.followed.Goals as goal
 use Rattle.std.specs.FinMap as map
 
@@ -36,3 +36,6 @@ returns-clause-agenda c before behind all from forgotten l st =
     c.refreshed.ensures.agenda p (clean_rows p (over (facts_of before) from) forgotten) (clean_rows p (over (facts_of behind) to) forgotten)
     (differences (over (facts_of before) from) (over (facts_of behind) to) forgotten c.requires st moves refl unneeded
     (has_before p before behind all from to c.args.gone.now come l.leads forgotten c.args.facts.now l.at_hand) (has_behind p before behind all from to c.args.gone.now come l.leads forgotten c.args.facts.now l.at_hand))
+
+pub returns-clause-rules : goal.returns-clause-rules
+returns-clause-rules c = λ few pending. c.refreshed.ensures.rules (length c.args.net.now.ends.items) (c.in_ok-changes.ensures.rules few) pending

@@ -1,8 +1,19 @@
-use Rattle.std.proofs.Common.{◌∙◌, ◌||◌, List, ap}
+use Rattle.std.proofs.Common.{◌≡◌, ◌∙◌, ◌||◌, List, [], ap, sym, subst}
+use Rattle.fx_base.specs.Lists.{In}
 use Rattle.row_delta.specs.declared.row.Row.{Row}
 use Rattle.retention.specs.Retentions.{is_among}
-use Rattle.session.proofs.Rules.{all_made, change_turn, none_ahead, names_in, left_turn, nothing_left}
+use Rattle.session_laws.proofs.Passing.{none_left}
+use Rattle.session_laws.proofs.Rules.{all_made, change_turn, none_ahead, names_in, left_turn, none_made, nothing_left, rules_turn}
 use Rattle.session.proofs.refreshing.refreshed.Goals as goal
+
+pub loop-change-init : goal.loop-change-init
+loop-change-init c =
+    let all : c.into_iter-change-iterator.result.rest.items ≡ c.args.changes.items = c.into_iter-change-iterator.ensures.into_iter_gives.0 in
+    record {
+      agenda = λ p old new between. record { done = []; parts = sym all; made = none_made c.args.agenda };
+      left = none_left c.args.agenda _;
+      rules = λ rules within pending. (λ x i. within x (subst (In x) all i), pending);
+    }
 
 pub loop-change-preserved : goal.loop-change-preserved
 loop-change-preserved c = record {
@@ -13,6 +24,9 @@ loop-change-preserved c = record {
       left_turn c.args.agenda c.loop-change.agenda c.in_ok-agenda.agenda c.in-Some.change.rule.0 c.in-Some.change.delta (is_among c.loop-change.left.items) (is_among c.add_rows.new.tags.items)
       c.loop-change.invariant.left c.in_ok-agenda.ensures
       (λ tag. c.in_ok-add_rows.ensures tag ∙ ap (λ (rows : List Row). is_among c.loop-change.left.items tag || names_in rows tag) c.as_slice.ensures);
+  rules = λ rules within pending.
+      let was = c.loop-change.invariant.rules rules within pending in
+      rules_turn c.loop-change.change-iterator.rest.items c.next.new.self.rest.items c.in-Some.change c.loop-change.agenda c.in_ok-agenda.agenda rules c.in-Some.ensures.steps.0 c.in_ok-agenda.ensures was.0 was.1;
 }
 
 pub returns-clause-agenda : goal.returns-clause-agenda
@@ -20,3 +34,6 @@ returns-clause-agenda c p old new between =
     let rest = c.loop-change.change-iterator.rest in
     all_made p old new c.args.changes.items between c.args.agenda c.loop-change.agenda
     (none_ahead c.args.changes.items rest.items c.args.agenda c.loop-change.agenda (nothing_left rest.items rest.len rest.ok.0 c.in-None.ensures.steps.0) (c.loop-change.invariant.agenda p old new between))
+
+pub returns-clause-rules : goal.returns-clause-rules
+returns-clause-rules c rules within pending = (c.loop-change.invariant.rules rules within pending).1

@@ -1,4 +1,4 @@
-use Rattle.session.proofs.Leaving.{turn_gone}
+use Rattle.session_laws.proofs.Leaving.{turn_gone}
 use Rattle.session.proofs.refreshing.without_all.Goals as goal
 
 pub loop-tag-preserved-in-Some : goal.loop-tag-preserved-in-Some

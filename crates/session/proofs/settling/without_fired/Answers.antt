@@ -2,7 +2,7 @@ use Rattle.std.proofs.Common.{◌≡◌, ◌∙◌, ◌<◌, ◌&&◌, ◌==◌,
 use Rattle.row_delta.specs.declared.row.Row.{Row}
 use Rattle.row_delta.specs.Rows.{has}
 use Rattle.rule_model.specs.Matches.{has_match}
-use Rattle.session.proofs.Dropping.{all_ahead, drop_turn, none_ahead, nothing_ahead, place_within}
+use Rattle.session_laws.proofs.Dropping.{all_ahead, drop_turn, none_ahead, nothing_ahead, place_within}
 use Rattle.session.proofs.settling.without_fired.Goals as goal
 
 pub loop-answer-init : goal.loop-answer-init

@@ -1,6 +1,6 @@
 use Rattle.std.proofs.Common.{[], None, refl, pos}
 use Rattle.rete_net.specs.Steps.{empty_row_comes, NetStep}
-use Rattle.rete_net.proofs.Starting.{no_facts, built_stands, built_shared, built_between}
+use Rattle.rete_net.proofs.Starting.{no_facts, built_stands, built_net, built_between}
 use Rattle.rete_net.proofs.Turns.{settled}
 use Rattle.rete_net.proofs.net.Rete.build.Goals as goal
 
@@ -21,7 +21,7 @@ returns-clause-first c runnable =
     let built = c.in_ok-net.ensures runnable in
     built_between c.args.program.now c.in_ok-net.net c.step.new.self built.0 c.in_ok-changes.changes.items built.1 built.2 built.3 built.4 built.5 c.in_ok-changes.ensures.ends (step c) runnable
 
-pub returns-clause-shared : goal.returns-clause-shared
-returns-clause-shared c runnable =
+pub returns-clause-net : goal.returns-clause-net
+returns-clause-net c runnable =
     let built = c.in_ok-net.ensures runnable in
-    built_shared c.args.program.now c.in_ok-net.net c.step.new.self built.0 c.in_ok-changes.changes.items built.1 built.2 built.3 built.4 built.5 c.in_ok-changes.ensures.ends (step c)
+    built_net c.args.program.now c.in_ok-net.net c.step.new.self built.0 c.in_ok-changes.changes.items built.1 built.2 built.3 built.4 built.5 c.in_ok-changes.ensures.ends (step c)

@@ -2,6 +2,7 @@ use Rattle.std.proofs.Common.{◌∙◌, subst, ℕ, List, length}
 use Rattle.pair_memory.specs.Joined.{has_name}
 use Rattle.rete_net.specs.Dropped.{AreListed}
 use Rattle.rete_net.proofs.Dropping.{net_forgets, rules_drop}
+use Rattle.rete_net.proofs.Frames.{forgetting_nodes, net_again}
 use Rattle.rete_net.proofs.net.Rete.forget.Goals as goal
 
 pub returns-clause-stands : goal.returns-clause-stands
@@ -20,3 +21,9 @@ returns-clause-dropped g c s forgotten stands has_all =
 pub returns-clause-listed : goal.returns-clause-listed
 returns-clause-listed g c =
     subst (λ (ends : List ℕ). AreListed c.in_ok-answers.answers.items (length ends)) (c.deref-2.ensures.value ∙ c.in_ok-dropped.ensures.ends) c.in_ok-answers.ensures.listed
+
+pub returns-clause-net : goal.returns-clause-net
+returns-clause-net g c p net =
+    let told = c.in_ok-dropped.ensures in
+    net_again p c.args.self.now.nodes.items c.forget_nodes.new.self.nodes.items c.args.self.now.ends.items c.forget_nodes.new.self.ends.items told.ends
+    (forgetting_nodes c.args.program.now (g.F.Facts.map c.args.facts.now) (has_name c.args.old.now) c.args.self.now.nodes.items c.forget_nodes.new.self.nodes.items c.in_ok-dropped.dropped.items told.forgot) net

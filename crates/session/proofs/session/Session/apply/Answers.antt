@@ -1,11 +1,12 @@
 use Rattle.std.proofs.Common.{◌≡◌, ◌∙◌, true, sym, ap, subst}
 use Rattle.std.proofs.Math.Logic.{∥∥₁_map}
 use Rattle.engine.specs.Known.{are_known}
-use Rattle.session.specs.declared.setting.Setting.{Setting}
-use Rattle.session.specs.Gives.{gives}
-use Rattle.session.specs.Standing.{Standing, StandsForSome}
-use Rattle.session.proofs.Knowing.{change_known, merely_known, some_changed}
-use Rattle.session.proofs.Sessions.{change_lines, change_stands}
+use Rattle.session_laws.specs.declared.setting.Setting.{Setting}
+use Rattle.session_laws.specs.Gives.{gives}
+use Rattle.session_laws.specs.Places.{newest}
+use Rattle.session_laws.specs.Standing.{IsSound, Standing}
+use Rattle.session_laws.proofs.Knowing.{asked_known}
+use Rattle.session_laws.proofs.Sessions.{change_lines, change_stands}
 use Rattle.session.proofs.session.Session.apply.Goals as goal
 
 pub returns-clause-lines : goal.returns-clause-lines
@@ -30,25 +31,19 @@ returns-clause-next c w s =
 
 pub returns-clause-known : goal.returns-clause-known
 returns-clause-known c =
-    let m = c.args.self.memory in
-    let k = c.args.self.state in
     let z = c.setting-inside.result.now in
-    let same = c.setting-inside.ensures.same in
-    let taken = simp c.new-lines.ensures.items at c.in_ok-state.ensures.lines in
+    let known = asked_known z.program (newest c.args.self.state) c.args.change.now c.in_ok-asked.asked c.setting-inside.ensures.runs.runnable c.in_ok-asked.ensures in
     rw c.from_vec.ensures
-    (subst (λ (x : Setting). are_known x.program c.apply.new.lines.items ≡ true) same
-    (merely_known z m k (subst (λ (x : Setting). ∥ StandsForSome x m k ∥₁) (sym same) c.args.self.some) c.apply.new.lines.items
-    (λ some. change_known z m k some c.args.change.now c.in_ok-asked.asked c.in_ok-asked.ensures c.apply.new.lines.items taken)))
+    (subst (λ (x : Setting). are_known x.program c.apply.new.lines.items ≡ true) c.setting-inside.ensures.same
+    (c.in_ok-state.ensures.known known (ap (are_known z.program) c.new-lines.ensures.items)))
 
 pub invariant_of-result : goal.invariant_of-result
 invariant_of-result c =
     let m = c.args.self.memory in
     let k = c.args.self.state in
-    let z = c.setting-inside.result.now in
     let same = c.setting-inside.ensures.same in
     record {
-      some =
-          subst (λ (x : Setting). ∥ StandsForSome x c.apply.new.memory c.in_ok-state.state ∥₁) same
-          (∥∥₁_map (subst (λ (x : Setting). ∥ StandsForSome x m k ∥₁) (sym same) c.args.self.some)
-          (λ some. some_changed z m k some c.apply.new.memory c.in_ok-state.state c.args.change.now c.in_ok-asked.asked c.in_ok-asked.ensures c.in_ok-state.ensures.stands));
+      sound =
+          subst (λ (x : Setting). ∥ IsSound x.program c.apply.new.memory c.in_ok-state.state ∥₁) same
+          (∥∥₁_map (subst (λ (x : Setting). ∥ IsSound x.program m k ∥₁) (sym same) c.args.self.sound) c.in_ok-state.ensures.sound);
     }

@@ -1,13 +1,13 @@
-use Rattle.std.proofs.Common.{◌≡◌, true, sym, subst}
+use Rattle.std.proofs.Common.{◌≡◌, true, sym, ap, subst}
 use Rattle.std.proofs.Math.Logic.{∥∥₁_map}
 use Rattle.engine.specs.Answers.{FiringAnswers}
 use Rattle.engine.specs.Known.{are_known}
 use Rattle.engine.specs.declared.lines.Fired.TheVariants.{No, Yes}
-use Rattle.session.specs.declared.setting.Setting.{Setting}
-use Rattle.session.specs.Gives.{fires}
-use Rattle.session.specs.Standing.{Standing, StandsForSome}
-use Rattle.session.proofs.Knowing.{fired_known, merely_known, some_fired}
-use Rattle.session.proofs.Sessions.{fires_none, fires_some}
+use Rattle.session_laws.specs.declared.setting.Setting.{Setting}
+use Rattle.session_laws.specs.Gives.{fires}
+use Rattle.session_laws.specs.Standing.{IsSound, Standing}
+use Rattle.session_laws.proofs.Knowing.{merely_known, top_known}
+use Rattle.session_laws.proofs.Sessions.{fires_none, fires_some}
 use Rattle.session.proofs.session.Session.fire_one.Goals as goal
 
 pub returns-in-None-clause-answers : goal.returns-in-None-clause-answers
@@ -42,24 +42,18 @@ returns-in_ok-state-in-Some-clause-known c =
     let same = c.setting-inside.ensures.same in
     let lines = c.fire.new.lines.items in
     let planned = simp c.in-Some.is at c.in_ok-plan.ensures.plan in
-    let written = simp c.new-lines.ensures.items at c.in_ok-state-in-Some.ensures.lines in
     rw c.from_vec.ensures
     (subst (λ (x : Setting). are_known x.program lines ≡ true) same
-    (merely_known z m k (subst (λ (x : Setting). ∥ StandsForSome x m k ∥₁) (sym same) c.args.self.some) lines
-    (λ some. fired_known z m k some c.in-Some.plan.items lines planned written)))
+    (merely_known z.program m k (subst (λ (x : Setting). ∥ IsSound x.program m k ∥₁) (sym same) c.args.self.sound) lines
+    (λ sound. c.in_ok-state-in-Some.ensures.known sound (top_known z.program k c.in-Some.plan.items c.setting-inside.ensures.runs.runnable planned) (ap (are_known z.program) c.new-lines.ensures.items))))
 
 pub invariant_of-result : goal.invariant_of-result
 invariant_of-result c =
     let m = c.args.self.memory in
     let k = c.args.self.state in
-    let n = c.fire.new.memory in
-    let t = c.in_ok-state-in-Some.state in
-    let z = c.setting-inside.result.now in
     let same = c.setting-inside.ensures.same in
-    let planned = simp c.in-Some.is at c.in_ok-plan.ensures.plan in
     record {
-      some =
-          subst (λ (x : Setting). ∥ StandsForSome x n t ∥₁) same
-          (∥∥₁_map (subst (λ (x : Setting). ∥ StandsForSome x m k ∥₁) (sym same) c.args.self.some)
-          (λ some. some_fired z m k some n t c.in-Some.plan.items planned c.in_ok-state-in-Some.ensures.stands));
+      sound =
+          subst (λ (x : Setting). ∥ IsSound x.program c.fire.new.memory c.in_ok-state-in-Some.state ∥₁) same
+          (∥∥₁_map (subst (λ (x : Setting). ∥ IsSound x.program m k ∥₁) (sym same) c.args.self.sound) c.in_ok-state-in-Some.ensures.sound);
     }

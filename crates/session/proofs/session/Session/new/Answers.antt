@@ -1,8 +1,10 @@
 use Rattle.std.proofs.Common.{[], pos, rules}
+use Rattle.std.proofs.lemmas.Grind.{merely}
 use Rattle.pair_memory.specs.Standing.{no_names}
-use Rattle.session.specs.Refreshed.{no_rows, rows_at}
-use Rattle.session.proofs.Knowing.{some_at_start}
-use Rattle.session.proofs.Sessions.{empty_stands, from_parts}
+use Rattle.session_laws.specs.Refreshed.{no_rows, rows_at}
+use Rattle.rule_world.specs.Worlds.{empty_world}
+use Rattle.session_laws.proofs.Knowing.{standing_sound}
+use Rattle.session_laws.proofs.Sessions.{empty_stands, from_parts}
 use Rattle.session.proofs.session.Session.new.Goals as goal
 
 pub returns-clause-stands : goal.returns-clause-stands
@@ -22,7 +24,5 @@ invariant_of-result c =
     c.new-setting.ensures (search rules) (c.in_ok-net.ensures.stands c.requires.runnable no_names) (c.in_ok-agenda.ensures.agenda p no_rows (rows_at p [] (pos 0)) (c.in_ok-net.ensures.first c.requires.runnable))
     c.new-retention.ensures.due c.new-retention.ensures.lingering parts in
     record {
-      some =
-          some_at_start (record { program = p; lives = c.args.lives }) c.new-setting.result (record { net = c.in_ok-net.net; retention = c.new-retention.result }) c.new-state.result c.new-setting.ensures
-          (record { runnable = c.requires.runnable; table = c.requires.table }) stands;
+      sound = merely (standing_sound c.new-setting.result (record { net = c.in_ok-net.net; retention = c.new-retention.result }) c.new-state.result empty_world stands);
     }

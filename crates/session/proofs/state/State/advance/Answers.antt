@@ -2,10 +2,10 @@ use Rattle.std.proofs.Common.{◌≡◌, ◌+ℤ◌, Some, None, refl, sym, ◌�
 use Rattle.std.proofs.lemmas.Result.{IfOk-weaker}
 use Rattle.rule_model.specs.declared.step.Step.TheVariants.{Advance, At}
 use Rattle.rule_world.specs.Events.{clock_fault}
-use Rattle.session.specs.Leading.{Moves}
-use Rattle.session.specs.Standing.{Contents}
-use Rattle.session.proofs.Faults.{advance_fault, advance_moves, clock_same, moved_same}
-use Rattle.session.proofs.Tried.{no_lines, on_ok, on_ok_weaker, refused_lines, refused_tries, tried_done}
+use Rattle.session_laws.specs.Leading.{Moves}
+use Rattle.session_laws.specs.Standing.{Contents}
+use Rattle.session_laws.proofs.Faults.{advance_fault, advance_moves, clock_same, moved_same}
+use Rattle.session_laws.proofs.Tried.{no_lines, on_ok, on_ok_weaker, refused_lines, refused_tries, tried_done}
 use Rattle.session.proofs.state.State.advance.Goals as goal
 
 pub returns-in-Ok-clause-stands : goal.returns-in-Ok-clause-stands
@@ -50,3 +50,9 @@ returns-in-Err-clause-lines c =
     let fault = subst (λ (k : Contents). clock_fault k.clock (k.clock +ℤ c.args.by) ≡ Some c.in-Err.code) c.self.view_is (simp (same, whole) at c.in-Err.ensures.fault) in
     on_ok_weaker c.refuse.result (refused_lines s m c.args.self (Advance c.args.by) c.in-Err.code (λ w st suits. advance_fault s m c.args.self w st c.args.by (Some c.in-Err.code) fault)
     c.args.lines.now.items c.refuse.new.lines.items) c.refuse.ensures.lines
+
+pub returns-in-Ok-clause-known : goal.returns-in-Ok-clause-known
+returns-in-Ok-clause-known c = λ known. on_ok c.with_clock.result (λ before. before)
+
+pub returns-in-Err-clause-known : goal.returns-in-Err-clause-known
+returns-in-Err-clause-known c = λ known. c.refuse.ensures.known c.args.setting.now.program

@@ -1,5 +1,5 @@
 use Rattle.std.proofs.lemmas.Result.{IfOk-weaker}
-use Rattle.session.proofs.Tried.{on_ok_weaker, refused_stands, refused_writes, tried_stands, tried_writes}
+use Rattle.session_laws.proofs.Tried.{on_ok_weaker, refused_stands, refused_writes, tried_stands, tried_writes}
 use Rattle.session.proofs.state.State.apply.Goals as goal
 
 pub returns-in-Ok-clause-stands : goal.returns-in-Ok-clause-stands
@@ -17,3 +17,6 @@ returns-in-Err-clause-stands c =
 pub returns-in-Err-clause-lines : goal.returns-in-Err-clause-lines
 returns-in-Err-clause-lines c =
     rw c.in-Err.is (on_ok_weaker c.refuse.result (refused_writes c.args.setting.now c.args.memory.now c.args.self c.in-Err.code c.args.lines.now.items c.refuse.new.lines.items) c.refuse.ensures.lines)
+
+pub returns-in-Err-clause-known : goal.returns-in-Err-clause-known
+returns-in-Err-clause-known c = λ known. c.refuse.ensures.known c.args.setting.now.program

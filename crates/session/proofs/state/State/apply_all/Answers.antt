@@ -1,7 +1,9 @@
-use Rattle.std.proofs.Common.{◌≡◌, [], ◌∷◌, List, Result, ap, length, sym, subst, arith}
+use Rattle.std.proofs.Common.{◌≡◌, [], ◌∷◌, inl, inr, List, Result, Ok, ap, length, sym, subst, arith}
+use Rattle.fx_base.specs.Lists.{In}
+use Rattle.session_laws.specs.Leading.{AllWantKnown}
 use Rattle.rule_model.specs.declared.step.Step.{Step}
 use Rattle.rule_world.specs.declared.code.Code.{Code}
-use Rattle.session.proofs.Tried.{SoFar, none_done, one_done, all_done_stands, all_done_lines, nothing_left}
+use Rattle.session_laws.proofs.Tried.{SoFar, none_done, one_done, all_done_stands, all_done_lines, nothing_left}
 use Rattle.session.proofs.state.State.apply_all.Goals as goal
 
 pub loop-wanted-init : goal.loop-wanted-init
@@ -9,6 +11,8 @@ loop-wanted-init c =
     let all : c.into_iter-wanted-iterator.result.rest.items ≡ c.args.plan.items = c.into_iter-wanted-iterator.ensures.into_iter_gives.0 in
     record {
       tags = omega (arith, ap length all);
+      sound = λ sound. sound;
+      known = λ plan. (subst (AllWantKnown c.args.setting.now.program) (sym all) plan, λ before. before);
       done = λ w st fit.
           subst (λ (rest : List (Result Step Code)). SoFar c.args.setting.now w c.args.plan.items c.args.lines.now.items c.args.lines.now.items c.args.memory.now c.args.self rest) (sym all)
           (none_done c.args.setting.now w c.args.plan.items c.args.lines.now.items c.args.memory.now c.args.self st fit);
@@ -19,6 +23,12 @@ loop-wanted-preserved c =
     let step : c.loop-wanted.wanted-iterator.rest.items ≡ c.in-Some.wanted ∷ c.next.new.self.rest.items = c.in-Some.ensures.steps.0 in
     record {
       tags = omega (arith, ap length step, c.loop-wanted.invariant.tags, c.in_ok-state.ensures.tags);
+      sound = λ sound. c.in_ok-state.ensures.sound (c.loop-wanted.invariant.sound sound);
+      known = λ plan.
+          let was = c.loop-wanted.invariant.known plan in (
+            λ s i. was.0 s (subst (In (Ok s)) (sym step) (inr i)),
+            λ before. c.in_ok-state.ensures.known (λ s e. was.0 s (subst (In (Ok s)) (sym step) (inl (sym e)))) (was.1 before),
+          );
       done = λ w st fit.
           one_done c.args.setting.now w c.args.plan.items c.args.lines.now.items c.loop-wanted.lines.items c.apply.new.lines.items c.loop-wanted.memory c.apply.new.memory c.loop-wanted.state c.in_ok-state.state c.in-Some.wanted
           c.next.new.self.rest.items st.seen.whole.lawful.ordered
@@ -37,3 +47,9 @@ returns-clause-lines c w st fit =
     let none : c.loop-wanted.wanted-iterator.rest.items ≡ [] = nothing_left c.loop-wanted.wanted-iterator.rest.items c.loop-wanted.wanted-iterator.rest.len c.loop-wanted.wanted-iterator.rest.ok.0 c.in-None.ensures.steps.0 in
     all_done_lines c.args.setting.now w c.args.plan.items c.args.lines.now.items c.loop-wanted.lines.items c.loop-wanted.memory c.loop-wanted.state
     (subst (λ (rest : List (Result Step Code)). SoFar c.args.setting.now w c.args.plan.items c.args.lines.now.items c.loop-wanted.lines.items c.loop-wanted.memory c.loop-wanted.state rest) none (c.loop-wanted.invariant.done w st fit))
+
+pub returns-clause-sound : goal.returns-clause-sound
+returns-clause-sound c = c.loop-wanted.invariant.sound
+
+pub returns-clause-known : goal.returns-clause-known
+returns-clause-known c plan = (c.loop-wanted.invariant.known plan).1

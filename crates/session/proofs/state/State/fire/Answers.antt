@@ -3,9 +3,11 @@ use Rattle.std.proofs.lemmas.Result.{IfOk-weaker}
 use Rattle.rule_model.specs.declared.matched.Match.{Match}
 use Rattle.engine.specs.declared.lines.OutLine.{OutLine}
 use Rattle.rule_world.specs.Worlds.{marked}
-use Rattle.session.specs.Gives.{does_all, fire_line}
-use Rattle.session.specs.Standing.{Standing}
-use Rattle.session.proofs.Tried.{on_ok_weaker}
+use Rattle.session_laws.specs.Gives.{does_all, fire_line}
+use Rattle.session_laws.specs.Standing.{Standing}
+use Rattle.session_laws.proofs.Tried.{on_ok_weaker}
+use Rattle.session_laws.specs.Leading.{StayKnown}
+use Rattle.session_laws.proofs.Knowing.{fire_line_known, one_more_known}
 use Rattle.session.proofs.state.State.fire.Goals as goal
 
 -- what is in place is one match
@@ -34,3 +36,16 @@ returns-clause-lines c =
     (h (marked w fired) (c.in_ok-state.ensures.stands w st) fit ∙ ap (λ before. before ++ (does_all p (marked w fired) c.args.plan.items).0) written
     ∙ joined (does_all p (marked w fired) c.args.plan.items).0))
     c.apply_all.ensures.lines
+
+pub returns-clause-sound : goal.returns-clause-sound
+returns-clause-sound c = IfOk-weaker c.apply_all.result _ _ (λ t stays sound. stays (c.in_ok-state.ensures.sound sound)) c.apply_all.ensures.sound
+
+pub returns-clause-known : goal.returns-clause-known
+returns-clause-known c sound plan =
+    let p = c.args.setting.now.program in
+    let old = c.args.lines.now.items in
+    let fired = c.in_ok-state.fired in
+    let written : c.push.new.self.items ≡ old ++ fire_line p fired ∷ [] = c.in_ok-push.ensures.items ∙ ap (λ line. old ++ line ∷ []) c.in_ok-line_of.ensures in
+    let first : StayKnown p old c.push.new.self.items =
+    subst (StayKnown p old) (sym written) (one_more_known p old (fire_line p fired) (fire_line_known p c.args.memory.now c.args.self fired sound c.in_ok-state.ensures.top)) in
+    on_ok_weaker c.apply_all.result (λ more before. more (first before)) (c.apply_all.ensures.known plan)

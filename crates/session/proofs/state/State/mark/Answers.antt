@@ -1,13 +1,16 @@
-use Rattle.std.proofs.Common.{◌≡◌, ◌∙◌, ◌==◌, ℕ, true, sym, subst, ap}
+use Rattle.std.proofs.Common.{◌≡◌, ◌∙◌, ◌==◌, ℕ, true, sym, subst, ap, not}
 use Rattle.std.specs.List.{list_any}
 use Rattle.row_delta.specs.declared.row.Named.{Named}
 use Rattle.rule_model.proofs.Firsts.{or_right}
 use Rattle.rule_world.specs.Worlds.{marked}
 use Rattle.agenda.specs.Agendas.{names_tag}
 use Rattle.retention.specs.Retentions.{is_among}
-use Rattle.session.specs.Standing.{Contents, Standing}
-use Rattle.session.proofs.Marking.{marked_awaits}
-use Rattle.session.proofs.Stands.{contents}
+use Rattle.session_laws.specs.Standing.{Contents, Standing, IsSound}
+use Rattle.session_laws.proofs.Marking.{marked_awaits}
+use Rattle.session_laws.proofs.Stands.{contents}
+use Rattle.std.specs.Ordering.{eq_by_cmp}
+use Rattle.rule_model.specs.Matches.{has_match, match_cmp}
+use Rattle.rule_world.proofs.Fresh.{and_parts}
 use Rattle.session.proofs.state.State.mark.Goals as goal
 
 pub returns-clause-stands : goal.returns-clause-stands
@@ -23,3 +26,9 @@ returns-clause-stands c w st =
     c.in_ok-state.ensures.stands (marked w q)
     (marked_awaits s m k w here q c.in_ok-agenda.ensures.top c.in_ok-agenda.agenda c.in_ok-agenda.ensures.saliences c.in_ok-agenda.ensures.pending c.in_ok-agenda.ensures.fired
     (is_among c.as_slice-2.result.now) names)
+
+pub returns-clause-sound : goal.returns-clause-sound
+returns-clause-sound c sound =
+    let here = subst (IsSound c.args.setting.now.program c.args.memory.now) (sym c.state.view_is) sound in
+    c.in_ok-state.ensures.sound
+    (record { net = here.net; pending = λ q e. here.pending q (and_parts (has_match c.state.inside.agenda.pending q) (not (eq_by_cmp match_cmp c.in_ok-agenda.fired q)) (sym (c.in_ok-agenda.ensures.pending q) ∙ e)).0 })

@@ -2,10 +2,10 @@ use Rattle.std.proofs.Common.{◌≡◌, Some, None, sym, ◌∙◌, ap}
 use Rattle.std.specs.Prelude.{if◌then◌else◌}
 use Rattle.rule_world.specs.declared.code.Code.TheVariants.{EventFixed}
 use Rattle.rule_world.specs.Worlds.{modify_fault}
-use Rattle.session.specs.Places.{newest}
-use Rattle.session.specs.Standing.{Contents}
-use Rattle.session.proofs.Newest.{store_found, store_none}
-use Rattle.session.proofs.Stands.{contents}
+use Rattle.session_laws.specs.Places.{newest}
+use Rattle.session_laws.specs.Standing.{Contents}
+use Rattle.session_laws.proofs.Newest.{store_found, store_none}
+use Rattle.session_laws.proofs.Stands.{contents}
 use Rattle.session.proofs.state.State.modifiable.Goals as goal
 
 pub returns-in-Some-clause-fault : goal.returns-in-Some-clause-fault

@@ -1,8 +1,8 @@
 use Rattle.std.proofs.Common.{Some, None, refl}
 use Rattle.std.proofs.lemmas.Result.{IfOk-weaker}
 use Rattle.rule_model.specs.declared.step.Step.TheVariants.{Modify}
-use Rattle.session.proofs.Looking.{modify_fault_is}
-use Rattle.session.proofs.Tried.{no_lines, on_ok, on_ok_weaker, refused_lines, refused_tries, tried_done}
+use Rattle.session_laws.proofs.Looking.{modify_fault_is}
+use Rattle.session_laws.proofs.Tried.{no_lines, on_ok, on_ok_weaker, refused_lines, refused_tries, tried_done}
 use Rattle.session.proofs.state.State.modify.Goals as goal
 
 pub returns-in-Ok-clause-stands : goal.returns-in-Ok-clause-stands
@@ -32,3 +32,6 @@ returns-in-Err-clause-lines c =
     let m = c.args.memory.now in
     on_ok_weaker c.refuse.result (refused_lines s m c.args.self (Modify c.args.id c.args.sets) c.in-Err.code
     (λ w st suits. modify_fault_is s m c.args.self w c.requires.runs st c.args.id c.args.sets (Some c.in-Err.code) suits.plain c.in-Err.ensures.fault) c.args.lines.now.items c.refuse.new.lines.items) c.refuse.ensures.lines
+
+pub returns-in-Err-clause-known : goal.returns-in-Err-clause-known
+returns-in-Err-clause-known c = λ known. c.refuse.ensures.known c.args.setting.now.program

@@ -1,7 +1,7 @@
 use Rattle.std.proofs.Common.{◌∙◌, ap, arith}
 use Rattle.std.specs.FinMap.{get-empty}
 use Rattle.std.specs.Ordering.{nat_cmp}
-use Rattle.session.proofs.Faults.{zero_clock}
+use Rattle.session_laws.proofs.Faults.{zero_clock}
 use Rattle.std.specs.FinMap as map
 use Rattle.session.proofs.state.State.new.Goals as goal
 

@@ -3,10 +3,10 @@ use Rattle.std.proofs.lemmas.Result.{IfOk-weaker}
 use Rattle.rule_world.specs.declared.code.Code.TheVariants.{Absent, EventObserved}
 use Rattle.rule_model.specs.declared.step.Step.TheVariants.{Retract}
 use Rattle.rule_model.specs.Types.{is_event}
-use Rattle.session.specs.Places.{newest}
-use Rattle.session.proofs.Faults.{retract_absent, retract_event, retract_found, retract_observed}
-use Rattle.session.proofs.Looking.{retract_fault_is}
-use Rattle.session.proofs.Tried.{no_lines, on_ok, on_ok_weaker, refused_lines, refused_tries, tried_done}
+use Rattle.session_laws.specs.Places.{newest}
+use Rattle.session_laws.proofs.Faults.{retract_absent, retract_event, retract_found, retract_observed}
+use Rattle.session_laws.proofs.Looking.{retract_fault_is}
+use Rattle.session_laws.proofs.Tried.{no_lines, on_ok, on_ok_weaker, refused_lines, refused_tries, tried_done}
 use Rattle.session.proofs.state.State.retract.Goals as goal
 
 pub returns-in-Some-clause-stands : goal.returns-in-Some-clause-stands
@@ -76,3 +76,9 @@ returns-then-are_observed-clause-lines c =
     on_ok_weaker c.refuse.result (refused_lines s m c.args.self (Retract c.args.ty c.args.id) EventObserved
     (λ w st suits. retract_fault_is s m c.args.self w c.requires.runs st c.args.ty c.args.id (Some EventObserved)
     (retract_observed s.program c.args.ty.0 (newest c.args.self c.args.id.0) (sym c.if-are_observed.ensures))) c.args.lines.now.items c.refuse.new.lines.items) c.refuse.ensures.lines
+
+pub returns-then-are_observed-clause-known : goal.returns-then-are_observed-clause-known
+returns-then-are_observed-clause-known c = λ known. c.refuse.ensures.known c.args.setting.now.program
+
+pub returns-in-None-2-clause-known : goal.returns-in-None-2-clause-known
+returns-in-None-2-clause-known c = λ known. c.refuse-in-None-2.ensures.known c.args.setting.now.program

@@ -1,9 +1,11 @@
-use Rattle.std.proofs.Common.{◌≡◌, ◌∙◌, ◌<◌, ◌^◌, ap, sym, subst, filter_map, length, FitsSigned, to_z, of_z, to_z-of_z, w64, rules, arith}
+use Rattle.std.proofs.Common.{◌≡◌, ◌∙◌, ◌<◌, ◌^◌, true, List, ap, sym, subst, filter_map, length, FitsSigned, to_z, of_z, to_z-of_z, w64, rules, arith}
+use Rattle.rule_model.specs.declared.matched.Match.{Match}
+use Rattle.rule_model.specs.Matches.{has_match}
 use Rattle.retention.specs.Retentions.{has_tag, is_among, is_named, Passes}
-use Rattle.session.specs.Standing.{Awaits, Contents}
-use Rattle.session.proofs.Forgotten.{no_keys, safe_fewer, stands_less, stands_same}
-use Rattle.session.proofs.Olds.{named_at}
-use Rattle.session.proofs.Stands.{contents}
+use Rattle.session_laws.specs.Standing.{Awaits, Contents}
+use Rattle.session_laws.proofs.Forgotten.{no_keys, safe_fewer, stands_less, stands_same}
+use Rattle.session_laws.proofs.Olds.{named_at}
+use Rattle.session_laws.proofs.Stands.{contents}
 use Rattle.session.proofs.state.State.settled.Goals as goal
 
 pub invariant_of-state : goal.invariant_of-state
@@ -36,9 +38,18 @@ returns-clause-stands c w a =
     let passes : Passes k.clock left (is_named k.agenda) m.retention r (has_tag old) = simp (same, c.replace-retention.ensures.value) at c.in_ok-retention.ensures.passes in
     let names : c.in_ok-names.names.items ≡ filter_map (named_at k.facts) tags = c.in_ok-names.ensures ∙ ap (filter_map (named_at k.facts)) c.deref.ensures.value in
     let count_of = length m.net.ends.items in
-    let count : count_of ≡ length s.program.rules = awaits.seen.stands.nodes.count in
+    let count : count_of ≡ length s.program.rules = awaits.seen.stands.nodes.shape.count in
     let few : count_of < 2 ^ 16 = omega (arith, count, c.requires.runs.runnable.few_rules) in
     let stands = simp c.deref-2.ensures.value at c.in_ok-dropped.ensures.stands in
     let dropped = simp c.deref-2.ensures.value at c.in_ok-dropped.ensures.dropped in
     stands_less s m k left w awaits c.forget.new.self r c.without_all.result c.without_fired.result old tags c.in_ok-names.names.items c.in_ok-dropped.dropped.items
     passes c.in_ok-old.ensures names stands dropped c.without_all.ensures c.without_fired.ensures.saliences c.without_fired.ensures.pending (c.without_fired.ensures.fired count_of few c.in_ok-dropped.ensures.listed)
+
+pub returns-clause-sound : goal.returns-clause-sound
+returns-clause-sound c sound =
+    record {
+      net = c.in_ok-dropped.ensures.net c.args.setting.now.program sound.net;
+      pending = λ q e.
+          sound.pending q
+          (subst (λ (found : List Match). has_match found q ≡ true) (c.without_fired.ensures.pending ∙ ap (λ (z : Contents). z.agenda.pending) c.state.view_is) e);
+    }

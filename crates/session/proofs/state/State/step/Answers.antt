@@ -20,3 +20,9 @@ pub returns-in-At-clause-lines : goal.returns-in-At-clause-lines
 returns-in-At-clause-lines c =
     let fits : SFits w64 c.in-At.moment = search in
     rw c.in-At.is (simp to_z-of_z at c.go_to.ensures.lines)
+
+pub returns-in-Modify-clause-lines : goal.returns-in-Modify-clause-lines
+returns-in-Modify-clause-lines c = rw c.in-Modify.is c.modify.ensures.lines
+
+pub returns-in-Retract-clause-lines : goal.returns-in-Retract-clause-lines
+returns-in-Retract-clause-lines c = rw c.in-Retract.is c.retract.ensures.lines

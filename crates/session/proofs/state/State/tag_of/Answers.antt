@@ -1,9 +1,9 @@
 use Rattle.std.proofs.Common.{sym, ◌∙◌, ap}
 use Rattle.rule_world.specs.Worlds.{is_of_type}
-use Rattle.session.specs.Places.{newest}
-use Rattle.session.specs.Standing.{Contents}
-use Rattle.session.proofs.Newest.{store_found, store_none}
-use Rattle.session.proofs.Stands.{contents}
+use Rattle.session_laws.specs.Places.{newest}
+use Rattle.session_laws.specs.Standing.{Contents}
+use Rattle.session_laws.proofs.Newest.{store_found, store_none}
+use Rattle.session_laws.proofs.Stands.{contents}
 use Rattle.session.proofs.state.State.tag_of.Goals as goal
 
 pub returns-in-Some-clause-some : goal.returns-in-Some-clause-some

@@ -8,7 +8,7 @@ use Rattle.rule_model.specs.Types.{is_event_type}
 use Rattle.rule_world.specs.declared.code.Code.{Code}
 use Rattle.rule_world.specs.Events.{most_millis, new_fault, times_of}
 use Rattle.rule_world.proofs.Faultless.{not_started, started}
-use Rattle.session.proofs.Faults.{zero_clock}
+use Rattle.session_laws.proofs.Faults.{zero_clock}
 use Rattle.session.proofs.state.State.times_for.Goals as goal
 
 event_low : (m a b : ℤ) → (pos 0 -ℤ m) ≤ℤ a → a ≤ℤ b → (pos 0 -ℤ m) ≤ℤ b

@@ -5,12 +5,13 @@ use Rattle.rule_model.specs.declared.step.Step.TheVariants.{At}
 use Rattle.rule_world.specs.Worlds.{stepped}
 use Rattle.retention.specs.Retentions.{is_among}
 use Rattle.forgetting.specs.Steps.{HasLeft}
-use Rattle.session.specs.Refreshed.{over}
-use Rattle.session.specs.Standing.{Awaits, Contents, Standing}
-use Rattle.session.proofs.Faults.{clock_same, safe_left}
-use Rattle.session.proofs.Leaving.{none_gone, no_tags}
-use Rattle.session.proofs.Passing.{later_awaits, later_leads, later_leads_on, none_left, quiet_refreshed, remaining, remaining_is}
-use Rattle.session.proofs.Stands.{contents}
+use Rattle.session_laws.specs.Refreshed.{over}
+use Rattle.session_laws.specs.Standing.{Awaits, Contents, Standing, IsSound}
+use Rattle.session_laws.proofs.Faults.{clock_same, safe_left}
+use Rattle.session_laws.proofs.Leaving.{none_gone, no_tags}
+use Rattle.session_laws.proofs.Passing.{later_awaits, later_leads, later_leads_on, none_left, quiet_refreshed, remaining, remaining_is}
+use Rattle.session_laws.proofs.Stands.{contents}
+use Rattle.session_laws.proofs.Knowing.{followed_sound}
 use Rattle.session.proofs.state.State.with_clock.Goals as goal
 
 -- where nothing is due
@@ -73,3 +74,14 @@ returns-clause-stands c = IfOk-weaker c.settled-2.result _ _ (λ t settled w st 
     ((simp (same, c.as_slice.ensures.value) at c.in_ok-agenda.ensures.net) here.seen.all behind here.seen.all k.clock here.seen.forgotten leads here.seen.stands)
     ((simp (same, c.as_slice.ensures.value) at c.in_ok-agenda.ensures.agenda) here.seen.all behind here.seen.all k.clock here.seen.forgotten leads here.seen.stands)
     has_left))) c.settled-2.ensures.stands
+
+pub returns-clause-sound : goal.returns-clause-sound
+returns-clause-sound c = IfOk-weaker c.settled-2.result _ _
+    (λ s stays sound. stays (followed_sound c.args.setting.now c.args.memory.now _ (contents c.state.inside.facts c.state.inside.expiries c.state.inside.clock c.state.inside.last_starts.items c.state.inside.agenda c.state.inside.next_id c.state.inside.next_tag) _ c.requires.runs
+    (subst (IsSound c.args.setting.now.program c.args.memory.now) (sym c.state.view_is) sound) (c.in_ok-agenda.ensures.shape c.args.setting.now.program) c.in_ok-agenda.ensures.rules))
+    c.settled-2.ensures.sound
+
+pub returns-then-is_quiet-clause-sound : goal.returns-then-is_quiet-clause-sound
+returns-then-is_quiet-clause-sound c = IfOk-weaker c.settled.result _ _
+    (λ s stays sound. let here = subst (IsSound c.args.setting.now.program c.args.memory.now) (sym c.state.view_is) sound in stays (record { net = here.net; pending = here.pending }))
+    c.settled.ensures.sound

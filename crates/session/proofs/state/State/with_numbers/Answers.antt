@@ -4,11 +4,11 @@ use Rattle.rule_model.specs.declared.step.Step.TheVariants.{Insert}
 use Rattle.rule_model.specs.Candidates.{is_present}
 use Rattle.rule_world.specs.Events.{times_of}
 use Rattle.rule_world.specs.Worlds.{stepped}
-use Rattle.session.specs.Leading.{Moves}
-use Rattle.session.specs.Standing.{Contents}
-use Rattle.session.proofs.Faults.{safe_numbers}
-use Rattle.session.proofs.Inserting.{numbers_await}
-use Rattle.session.proofs.Stands.{contents}
+use Rattle.session_laws.specs.Leading.{Moves}
+use Rattle.session_laws.specs.Standing.{Contents, IsSound}
+use Rattle.session_laws.proofs.Faults.{safe_numbers}
+use Rattle.session_laws.proofs.Inserting.{numbers_await}
+use Rattle.session_laws.proofs.Stands.{contents}
 use Rattle.session.proofs.state.State.with_numbers.Goals as goal
 
 pub invariant_of-state : goal.invariant_of-state
@@ -28,3 +28,8 @@ returns-clause-stands c =
     (λ w st none lawful. h (stepped p w (Insert f.ty f.entry f.fields))
     (numbers_await c.args.setting.now c.args.memory.now k w st f id at times c.requires.runs none lawful gone c.in_ok-state-inside.field-0.items c.in_ok-state-inside.ensures _)))
     c.settled.ensures.stands
+
+pub returns-clause-sound : goal.returns-clause-sound
+returns-clause-sound c = IfOk-weaker c.settled.result _ _
+    (λ s stays sound. let here = subst (IsSound c.args.setting.now.program c.args.memory.now) (sym c.state.view_is) sound in stays (record { net = here.net; pending = here.pending }))
+    c.settled.ensures.sound

@@ -5,14 +5,15 @@ use Rattle.rule_model.specs.Candidates.{is_present}
 use Rattle.rule_world.specs.Events.{end_of_presence, times_of}
 use Rattle.rule_world.specs.Worlds.{stepped}
 use Rattle.retention.specs.Retentions.{is_among}
-use Rattle.session.specs.declared.memory.Memory.{Memory}
-use Rattle.session.specs.Leading.{Moves}
-use Rattle.session.specs.Standing.{Contents}
-use Rattle.session.proofs.Faults.{clock_same, safe_new}
-use Rattle.session.proofs.Inserting.{present_awaits}
-use Rattle.session.proofs.Members.{got_new}
-use Rattle.session.proofs.Stands.{contents}
+use Rattle.session_laws.specs.declared.memory.Memory.{Memory}
+use Rattle.session_laws.specs.Leading.{Moves}
+use Rattle.session_laws.specs.Standing.{Contents, IsSound}
+use Rattle.session_laws.proofs.Faults.{clock_same, safe_new}
+use Rattle.session_laws.proofs.Inserting.{present_awaits}
+use Rattle.session_laws.proofs.Members.{got_new}
+use Rattle.session_laws.proofs.Stands.{contents}
 use Rattle.std.specs.FinMap as map
+use Rattle.session_laws.proofs.Knowing.{followed_sound}
 use Rattle.session.proofs.state.State.with_present.Goals as goal
 
 pub invariant_of-state : goal.invariant_of-state
@@ -44,3 +45,9 @@ returns-clause-stands c =
 
 pub returns-clause-tags : goal.returns-clause-tags
 returns-clause-tags c = IfOk-weaker c.settled.result _ _ (λ s h. h ∙ ap (λ (k : Contents). k.next_tag + 1) c.state.view_is) c.settled.ensures.tags
+
+pub returns-clause-sound : goal.returns-clause-sound
+returns-clause-sound c = IfOk-weaker c.settled.result _ _
+    (λ s stays sound. stays (followed_sound c.args.setting.now c.args.memory.now _ (contents c.state.inside.facts c.state.inside.expiries c.state.inside.clock c.state.inside.last_starts.items c.state.inside.agenda c.state.inside.next_id c.state.inside.next_tag) _ c.requires.runs
+    (subst (IsSound c.args.setting.now.program c.args.memory.now) (sym c.state.view_is) sound) (c.in_ok-agenda.ensures.shape c.args.setting.now.program) c.in_ok-agenda.ensures.rules))
+    c.settled.ensures.sound

@@ -5,13 +5,14 @@ use Rattle.rule_model.specs.declared.step.Step.TheVariants.{Modify}
 use Rattle.rule_world.specs.Worlds.{modify_fault, stepped}
 use Rattle.retention.specs.Retentions.{is_among}
 use Rattle.forgetting.specs.Steps.{HasLeft}
-use Rattle.session.specs.Places.{IsNewestTag, newest}
-use Rattle.session.specs.Standing.{Contents, Standing}
-use Rattle.session.proofs.Faults.{clock_same, fresh_less, safe_again}
-use Rattle.session.proofs.Members.{got_new}
-use Rattle.session.proofs.Revising.{modify_awaits, modify_leads_on}
-use Rattle.session.proofs.Stands.{contents}
+use Rattle.session_laws.specs.Places.{IsNewestTag, newest}
+use Rattle.session_laws.specs.Standing.{Contents, Standing, IsSound}
+use Rattle.session_laws.proofs.Faults.{clock_same, fresh_less, safe_again}
+use Rattle.session_laws.proofs.Members.{got_new}
+use Rattle.session_laws.proofs.Revising.{modify_awaits, modify_leads_on}
+use Rattle.session_laws.proofs.Stands.{contents}
 use Rattle.std.specs.FinMap as map
+use Rattle.session_laws.proofs.Knowing.{followed_sound}
 use Rattle.session.proofs.state.State.with_sets.Goals as goal
 
 pub with_fact-requires : goal.with_fact-requires
@@ -50,3 +51,12 @@ returns-clause-stands c = IfOk-weaker c.settled.result _ _ (λ t settled w st no
     ((simp (same, come) at c.in_ok-agenda.ensures.net) here.seen.all behind both k.clock here.seen.forgotten leads here.seen.stands)
     ((simp (same, come) at c.in_ok-agenda.ensures.agenda) here.seen.all behind both k.clock here.seen.forgotten leads here.seen.stands)
     has_left)) c.settled.ensures.stands
+
+pub returns-clause-sound : goal.returns-clause-sound
+returns-clause-sound c = IfOk-weaker c.settled.result _ _
+    (λ s stays sound. stays (followed_sound c.args.setting.now c.args.memory.now _ (contents c.state.inside.facts c.state.inside.expiries c.state.inside.clock c.state.inside.last_starts.items c.state.inside.agenda c.state.inside.next_id c.state.inside.next_tag) _ c.requires.runs
+    (subst (IsSound c.args.setting.now.program c.args.memory.now) (sym c.state.view_is) sound) (c.in_ok-agenda.ensures.shape c.args.setting.now.program) c.in_ok-agenda.ensures.rules))
+    c.settled.ensures.sound
+
+pub returns-clause-tags : goal.returns-clause-tags
+returns-clause-tags c = IfOk-weaker c.settled.result _ _ (λ s h. h ∙ ap (λ (k : Contents). k.next_tag + 1) c.state.view_is) c.settled.ensures.tags

@@ -4,12 +4,13 @@ use Rattle.rule_model.specs.declared.step.Step.TheVariants.{Retract}
 use Rattle.rule_world.specs.Worlds.{is_of_type, stepped}
 use Rattle.retention.specs.Retentions.{is_among}
 use Rattle.forgetting.specs.Steps.{HasLeft}
-use Rattle.session.specs.Places.{IsNewestTag, newest}
-use Rattle.session.specs.Standing.{Contents, Standing}
-use Rattle.session.proofs.Faults.{clock_same, safe_less}
-use Rattle.session.proofs.Removing.{retract_awaits, retract_leads_on}
-use Rattle.session.proofs.Stands.{contents}
+use Rattle.session_laws.specs.Places.{IsNewestTag, newest}
+use Rattle.session_laws.specs.Standing.{Contents, Standing, IsSound}
+use Rattle.session_laws.proofs.Faults.{clock_same, safe_less}
+use Rattle.session_laws.proofs.Removing.{retract_awaits, retract_leads_on}
+use Rattle.session_laws.proofs.Stands.{contents}
 use Rattle.std.specs.FinMap as map
+use Rattle.session_laws.proofs.Knowing.{followed_sound}
 use Rattle.session.proofs.state.State.without.Goals as goal
 
 pub invariant_of-state : goal.invariant_of-state
@@ -35,3 +36,9 @@ returns-clause-stands c = IfOk-weaker c.settled.result _ _ (λ t settled w st no
     ((simp same at c.in_ok-agenda.ensures.net) here.seen.all behind here.seen.all k.clock here.seen.forgotten leads here.seen.stands)
     ((simp same at c.in_ok-agenda.ensures.agenda) here.seen.all behind here.seen.all k.clock here.seen.forgotten leads here.seen.stands)
     has_left c.release.ensures.due c.release.ensures.lingering)) c.settled.ensures.stands
+
+pub returns-clause-sound : goal.returns-clause-sound
+returns-clause-sound c = IfOk-weaker c.settled.result _ _
+    (λ s stays sound. stays (followed_sound c.args.setting.now c.args.memory.now _ (contents c.state.inside.facts c.state.inside.expiries c.state.inside.clock c.state.inside.last_starts.items c.state.inside.agenda c.state.inside.next_id c.state.inside.next_tag) _ c.requires.runs
+    (subst (IsSound c.args.setting.now.program c.args.memory.now) (sym c.state.view_is) sound) (c.in_ok-agenda.ensures.shape c.args.setting.now.program) c.in_ok-agenda.ensures.rules))
+    c.settled.ensures.sound

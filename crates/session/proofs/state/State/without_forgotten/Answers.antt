@@ -1,7 +1,7 @@
 use Rattle.std.proofs.lemmas.Result.{IfOk-weaker}
 use Rattle.rule_model.specs.declared.step.Step.TheVariants.{Retract}
 use Rattle.rule_world.specs.Worlds.{stepped}
-use Rattle.session.proofs.Retracting.{retracts_forgotten}
+use Rattle.session_laws.proofs.Retracting.{retracts_forgotten}
 use Rattle.session.proofs.state.State.without_forgotten.Goals as goal
 
 pub returns-clause-stands : goal.returns-clause-stands

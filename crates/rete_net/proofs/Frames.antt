@@ -1,0 +1,80 @@
+-- The shape of a network, which each step of its nodes keeps.
+use Rattle.std.proofs.Common.{◌≡◌, ◌∙◌, sym, ap, subst, ℕ, ℤ, ◌<◌, arith, Bool, true, List, ◌∷◌, ◌++◌, [], length, Option, Some, slice_get}
+use Rattle.std.proofs.lemmas.Option.{slice_get_within}
+use Rattle.fx_base.specs.declared.fact.Fact.{Fact}
+use Rattle.row_delta.specs.declared.delta.Delta.{Delta}
+use Rattle.row_delta.specs.declared.row.Named.{Named}
+use Rattle.row_delta.specs.declared.row.Row.{Row}
+use Rattle.rule_model.specs.declared.condition.Condition.{Condition}
+use Rattle.rule_model.specs.declared.program.Program.{Program}
+use Rattle.rule_model.specs.Rows.{pattern_of}
+use Rattle.join_tests.specs.Joins.{Look}
+use Rattle.pattern_gate.specs.Gates.{has_good_window}
+use Rattle.condition_node.specs.Nodes.{condition_of}
+use Rattle.rete_net.specs.declared.changes.RuleChange.{RuleChange}
+use Rattle.rete_net.specs.declared.node.NetNode.{NetNode}
+use Rattle.rete_net.specs.Dropped.{AllForget}
+use Rattle.rete_net.specs.Shapes.{before, EndsAt, IsNetOf}
+use Rattle.rete_net.specs.Steps.{NetStep}
+use Rattle.rete_net.proofs.Growing.{has_at}
+
+-- nodes in the places of others: as many, each with the parent and the condition of the one that was there
+pub record IsReplaced (old new : List NetNode) : Type 0 where
+  pub many : length new ≡ length old
+  pub parent : (k : ℕ) (a b : NetNode) → slice_get old k ≡ Some a → slice_get new k ≡ Some b → b.parent ≡ a.parent
+  pub condition : (k : ℕ) (a b : NetNode) → slice_get old k ≡ Some a → slice_get new k ≡ Some b → condition_of b.node ≡ condition_of a.node
+
+pub stepped_nodes : (p : Program) (look : Look) (gone : List Fact) (come : Option Fact) (clock : ℤ) (first : Delta) (old new : List NetNode) (ends : List ℕ) (answers : List RuleChange)
+    → NetStep p look gone come clock first old new ends answers → IsReplaced old new
+stepped_nodes p look gone come clock first old new ends answers step = record {
+  many = step.nodes;
+  parent = λ k a b e f. (step.stepped k (slice_get_within old k a e) a b e f).parent;
+  condition = λ k a b e f. (step.stepped k (slice_get_within old k a e) a b e f).condition;
+}
+
+pub forgetting_nodes : (p : Program) (look : Look) (names : Named → Bool) (old new : List NetNode) (dropped : List (List Row)) → AllForget p look names old new dropped → IsReplaced old new
+forgetting_nodes p look names old new dropped forgets = record {
+  many = forgets.nodes;
+  parent = λ k a b e f. (forgets.forgot k (slice_get_within old k a e) a b e f).parent;
+  condition = λ k a b e f. (forgets.forgot k (slice_get_within old k a e) a b e f).condition;
+}
+
+module _ (p : Program) (old new : List NetNode) (ends ends_now : List ℕ) (same : ends_now ≡ ends) (replaced : IsReplaced old new) (net : IsNetOf p old ends) where
+  pub was : (k : ℕ) (n : NetNode) → slice_get new k ≡ Some n → (o : NetNode) × (slice_get old k ≡ Some o)
+  was k n e =
+      let many = replaced.many in
+      let within : k < length new = slice_get_within new k n e in
+      has_at old k (omega arith)
+
+  pub is : (k : ℕ) (o : NetNode) → slice_get old k ≡ Some o → (n : NetNode) × (slice_get new k ≡ Some n)
+  is k o e =
+      let many = replaced.many in
+      let within : k < length old = slice_get_within old k o e in
+      has_at new k (omega arith)
+
+  pub own : (k : ℕ) (n : NetNode) → slice_get new k ≡ Some n → net.conditions k ≡ before net.conditions n.parent ++ condition_of n.node ∷ []
+  own k n e =
+      let o = was k n e in
+      subst (λ (c : Condition). net.conditions k ≡ before net.conditions n.parent ++ c ∷ []) (sym (replaced.condition k o.0 n o.1 e))
+      (subst (λ (parent : Option ℕ). net.conditions k ≡ before net.conditions parent ++ condition_of o.0.node ∷ []) (sym (replaced.parent k o.0 n o.1 e)) (net.shaped.own k o.0 o.1))
+
+  -- the network is the program's still
+  abbrev pub net_again : IsNetOf p new ends_now
+  net_again = record {
+    conditions = net.conditions;
+    shaped = record {
+      parents = λ k parent n e at. let o = was k n e in net.shaped.parents k parent o.0 o.1 (sym (replaced.parent k o.0 n o.1 e) ∙ at);
+      own = own;
+    };
+    once = λ j k a b e f. net.once j k (was j a e).0 (was k b f).0 (was j a e).1 (was k b f).1;
+    lasts = λ place rule e.
+        let end = net.lasts place rule e in
+        let n = is end.last end.node end.there in
+        subst (λ (places : List ℕ). EndsAt new net.conditions places place rule) (sym same)
+        (record { last = end.last; node = n.0; found = end.found; there = n.1; all = end.all });
+    count = ap length same ∙ net.count;
+    fronts = λ k n e. net.fronts k (was k n e).0 (was k n e).1;
+    windows = λ k n e.
+        let o = was k n e in
+        subst (λ (c : Condition). has_good_window p (pattern_of c) ≡ true) (sym (replaced.condition k o.0 n o.1 e)) (net.windows k o.0 o.1);
+  }

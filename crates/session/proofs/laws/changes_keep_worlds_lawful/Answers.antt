@@ -1,5 +1,0 @@
-use Rattle.session.proofs.Asking.{gives_lawful}
-use Rattle.session.proofs.laws.changes_keep_worlds_lawful.Goals as goal
-
-pub returns : goal.returns
-returns c p w change runnable l = gives_lawful p w change runnable l

@@ -1,5 +1,0 @@
-use Rattle.session.proofs.Acting.{fires_lawful}
-use Rattle.session.proofs.laws.firings_keep_worlds_lawful.Goals as goal
-
-pub returns : goal.returns
-returns c p w lines next runnable l e = fires_lawful p w lines next runnable l e

@@ -1,8 +1,0 @@
-use rule_model::{LifeTable, Program};
-
-/// What a session runs: a program, and how long its events can still matter.
-#[derive(Drop)]
-pub struct Setting {
-    pub(crate) program: Program,
-    pub(crate) lives: LifeTable,
-}

@@ -1,0 +1,47 @@
+-- Snapshots with the same members at the same clock have the same matches.
+use Rattle.std.proofs.Common.{◌≡◌, inl, inr, Bool, true, false, List, [], ◌∷◌, refl, sym, subst}
+use Rattle.std.specs.Ordering.{eq_by_cmp}
+use Rattle.std.proofs.lemmas.Map.Views.{tells_apart}
+use Rattle.fx_base.specs.Lists.{In}
+use Rattle.row_delta.specs.declared.row.Row.{Row}
+use Rattle.row_delta.specs.Rows.{has, row_cmp}
+use Rattle.row_delta.specs.RowOrder.{row_exact, same_equiv}
+use Rattle.rule_model.proofs.Firsts.{or_left, or_right, or_split}
+use Rattle.rule_model.specs.declared.condition.Condition.{Condition}
+use Rattle.rule_model.specs.declared.matched.Match.{Match}
+use Rattle.rule_model.specs.declared.program.Program.{Program}
+use Rattle.rule_model.specs.declared.program.Rule.{Rule}
+use Rattle.rule_model.specs.Matches.{matches_of, has_match}
+use Rattle.rule_model.specs.Rows.{rows}
+use Rattle.rule_model.specs.Distinct.{HaveDistinctTags}
+use Rattle.rule_model.specs.Snapshots.{Snapshot}
+use Rattle.rule_model.proofs.Named.{AllOf}
+use Rattle.rule_model.proofs.Order.{rows_over}
+use Rattle.session_laws.proofs.Rules.{same_found}
+
+in_has : (row : Row) (rs : List Row) → In row rs → has rs row ≡ true
+in_has row [] i = absurd i
+in_has row (other ∷ rs) (inl e) = or_left (eq_by_cmp row_cmp row other) (has rs row) (subst (λ (z : Row). eq_by_cmp row_cmp row z ≡ true) e (same_equiv.refl row))
+in_has row (other ∷ rs) (inr i) = or_right (eq_by_cmp row_cmp row other) (has rs row) (in_has row rs i)
+
+has_in : (row : Row) (rs : List Row) → has rs row ≡ true → In row rs
+has_in row [] e = absurd (let n : false ≡ true = e in cc)
+has_in row (other ∷ rs) e = elim (or_split (eq_by_cmp row_cmp row other) (has rs row) e) [ inl h ↦ inl (tells_apart row_exact row other h) | inr h ↦ inr (has_in row rs h) ]
+
+same_bool : (a b : Bool) → (a ≡ true → b ≡ true) → (b ≡ true → a ≡ true) → a ≡ b
+same_bool true b f g = sym (f refl)
+same_bool false true f g = g refl
+same_bool false false f g = refl
+
+module _ (p : Program) (s o : Snapshot) (clock : o.clock ≡ s.clock) (ds : HaveDistinctTags s.facts) (dt : HaveDistinctTags o.facts) (a : AllOf o.facts s.facts) (b : AllOf s.facts o.facts) where
+  same_row : (cs : List Condition) (row : Row) → has (rows p s cs) row ≡ has (rows p o cs) row
+  same_row cs row =
+      same_bool _ _ (λ e. in_has row (rows p o cs) (rows_over p s o clock ds dt (λ f. (a f, b f)) cs row (has_in row (rows p s cs) e)))
+      (λ e. in_has row (rows p s cs) (rows_over p o s (sym clock) dt ds (λ f. (b f, a f)) cs row (has_in row (rows p o cs) e)))
+
+  -- the rules have the same rows
+  pub same_rows : (rule : Rule) (row : Row) → has (rows p s rule.conditions) row ≡ has (rows p o rule.conditions) row
+  same_rows rule row = same_row rule.conditions row
+
+  pub same_matches : (rules : List Rule) (m : Match) → has_match (matches_of p s rules) m ≡ has_match (matches_of p o rules) m
+  same_matches rules m = same_found (λ (rule : Rule). rows p s rule.conditions) (λ (rule : Rule). rows p o rule.conditions) same_rows rules m

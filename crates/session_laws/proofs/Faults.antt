@@ -1,0 +1,283 @@
+-- The faults of steps, by what a session has.
+use Rattle.std.proofs.Common.{◌≡◌, ◌≤◌, ◌^◌, ℕ, ℤ, pos, negsuc, ◌+◌, ◌+ℤ◌, ◌≤ℤ◌, ◌&&◌, not, cond, Bool, true, false, List, [], ◌∷◌, Option, Some, None, slice_get, Bor, FitsSigned, to_z, of_z, to_z-of_z, w64, refl, sym, ◌∙◌, ap, subst, arith}
+use Rattle.std.specs.Prelude.{if◌then◌else◌, int_lt, nat_eq, IfNone, IfSome, option_map}
+use Rattle.std.specs.Cmp.{nat_cmp_total}
+use Rattle.std.specs.FinMap.{get-insert, get-retain_keys}
+use Rattle.std.specs.List.{list_any}
+use Rattle.std.specs.Ordering.{nat_cmp, eq_by_cmp, is_eq}
+use Rattle.std.proofs.lemmas.Int.{ints}
+use Rattle.fx_base.specs.declared.ids.EntryId.{EntryId}
+use Rattle.fx_base.specs.declared.ids.FactId.{FactId}
+use Rattle.fx_base.specs.declared.ids.TypeId.{TypeId}
+use Rattle.fx_base.specs.declared.times.Times.{Times}
+use Rattle.fx_base.specs.declared.value.Value.{Value}
+use Rattle.fx_base.specs.declared.fact.Fact.{Fact}
+use Rattle.due_queue.specs.Timers.{Timers, TakesDue, is_due}
+use Rattle.fact_store.specs.Held.{HeldFacts, HoldsNone, IsNewest}
+use Rattle.fact_store.proofs.Stored.{tied}
+use Rattle.rule_world.specs.declared.code.Code.{Code}
+use Rattle.rule_world.specs.declared.code.Code.TheVariants.{EventObserved, Absent, ClockBack, ClockEnd}
+use Rattle.rule_model.specs.declared.program.Program.{Program}
+use Rattle.rule_model.specs.declared.step.Step.TheVariants.{Insert, Modify, Retract, Advance, At}
+use Rattle.rule_world.specs.Events.{clock_fault, most_millis, new_fault, times_of}
+use Rattle.rule_world.specs.Lawful.{IsLawful}
+use Rattle.rule_world.specs.Worlds.{World, at_clock, kept, is_of_type, moved, retract_fault, settled, step_fault, stepped, with_new, with_revised, without_fact}
+use Rattle.rule_model.specs.Snapshots.{floor, floor_by}
+use Rattle.rule_model.specs.Types.{is_event, is_observed, lateness_of}
+use Rattle.engine.specs.declared.lines.OutLine.TheVariants.{New}
+use Rattle.session_laws.specs.declared.memory.Memory.{Memory}
+use Rattle.session_laws.specs.declared.setting.Setting.{Setting}
+use Rattle.session_laws.specs.Gives.{step_lines}
+use Rattle.session_laws.specs.Leading.{Moves}
+use Rattle.session_laws.specs.Places.{IsSafe, floor_in, newest}
+use Rattle.session_laws.specs.Standing.{Contents, Mirrors, Standing, with_facts}
+use Rattle.session_laws.specs.Waiting.{with_timer, without_timer, left_at}
+use Rattle.session_laws.proofs.Members.{got_old, none_left}
+use Rattle.session_laws.proofs.Newest.{store_found, store_none}
+use Rattle.session_laws.proofs.Stands.{for_own, own}
+use Rattle.std.specs.FinMap as map
+
+-- ---- numbers
+
+-- a clock fits
+pub clock_same : (clock : ℤ) → pos 0 ≤ℤ clock → clock ≤ℤ most_millis → to_z w64 (of_z w64 clock) ≡ clock
+unfolding most_millis
+clock_same (pos n) low high = let less : n ≤ 2 ^ 53 = omega (arith, ints) in let fits : FitsSigned w64 (pos n) = omega (arith, ints) in to_z-of_z fits
+clock_same (negsuc n) low high = absurd (omega (arith, ints))
+
+pub moved_by : (a b : Bool) → ◌≡◌ {A = Option Code} (if a then Some ClockBack else if b then Some ClockEnd else None) None → (a ≡ false) × (b ≡ false)
+moved_by true b e = absurd (let n : Some ClockBack ≡ None = e in cc)
+moved_by false true e = absurd (let n : Some ClockEnd ≡ None = e in cc)
+moved_by false false e = (refl, refl)
+
+pub not_before : (x y : ℤ) → int_lt x y ≡ false → y ≤ℤ x
+not_before x y e = grind (arith, ints)
+
+later : (x y z : ℤ) → x ≤ℤ y → y ≤ℤ z → x ≤ℤ z
+later x y z a b = omega (arith, ints)
+
+-- and so does the one to which it moves
+pub moved_same : (now next : ℤ) → pos 0 ≤ℤ now → clock_fault now next ≡ None → to_z w64 (of_z w64 next) ≡ next
+moved_same now next low e =
+    let r = moved_by (int_lt next now) (int_lt most_millis next) e in
+    clock_same next (later (pos 0) now next low (not_before next now r.0)) (not_before most_millis next r.1)
+
+pub zero_clock : (pos 0 ≤ℤ pos 0) × (pos 0 ≤ℤ most_millis)
+unfolding most_millis
+zero_clock = (omega (arith, ints), omega (arith, ints))
+
+-- ---- insertions
+
+abbrev pub numbered : Contents → TypeId → EntryId → List Value → Times → Fact
+numbered k ty entry fields times = record {
+  id = record { 0 = k.next_id };
+  ty = ty;
+  entry = entry;
+  fields = fields;
+  tag = record { 0 = k.next_tag };
+  times = times;
+}
+
+module _ (s : Setting) (m : Memory) (k : Contents) (w : World) (st : Standing s m k w) where
+  -- the numbers of a session are the world's, whatever is forgotten
+  whole : Mirrors s.program (with_facts k st.seen.all) (kept s.program w)
+  whole = st.seen.whole.mirrors
+
+  module _ (ty : TypeId) (entry : EntryId) (fields : List Value) where
+    pub insert_fault : (o : Option Code) → new_fault (slice_get s.program.types ty.0) (floor_in s.program k.last_starts k.clock entry.0) k.clock fields ≡ o
+        → step_fault s.program w (Insert ty entry fields) ≡ o
+    unfolding step_fault floor
+    insert_fault o e =
+        let p = s.program in
+        ap (λ z. new_fault (slice_get p.types ty.0) (floor_by (lateness_of p entry.0) z w.clock) w.clock fields) (sym (whole.last_starts entry.0))
+        ∙ ap (λ z. new_fault (slice_get p.types ty.0) (floor_in p k.last_starts z entry.0) z fields) (sym whole.clock) ∙ e
+
+    pub insert_done : (times : Times) → times ≡ times_of (slice_get s.program.types ty.0) k.clock fields
+        → stepped s.program w (Insert ty entry fields) ≡ settled s.program (with_new s.program w (numbered k ty entry fields times))
+    unfolding stepped moved
+    insert_done times e =
+        let p = s.program in
+        for_own k w (λ v. stepped p v (Insert ty entry fields) ≡ settled p (with_new p v (numbered k ty entry fields times))) whole.clock whole.next_id whole.next_tag
+        (ap (λ t. settled p (with_new p (own k w) (numbered k ty entry fields t))) (sym e))
+
+    -- the line of an insertion
+    pub insert_line : step_lines w (Insert ty entry fields) ≡ New (record { 0 = k.next_id }) ty ∷ []
+    insert_line = ap (λ n. New (record { 0 = n }) ty ∷ []) (sym whole.next_id)
+
+  -- ---- moves of the clock
+
+  pub advance_fault : (by : ℤ) (o : Option Code) → clock_fault k.clock (k.clock +ℤ by) ≡ o → step_fault s.program w (Advance by) ≡ o
+  unfolding step_fault
+  advance_fault by o e = ap (λ z. clock_fault z (z +ℤ by)) (sym whole.clock) ∙ e
+
+  pub at_fault : (moment : ℤ) (o : Option Code) → clock_fault k.clock moment ≡ o → step_fault s.program w (At moment) ≡ o
+  unfolding step_fault
+  at_fault moment o e = ap (λ z. clock_fault z moment) (sym whole.clock) ∙ e
+
+  -- a move by so much is one to that moment
+  pub advance_at : (by clock : ℤ) → clock ≡ k.clock +ℤ by → stepped s.program w (Advance by) ≡ stepped s.program w (At clock)
+  unfolding stepped moved
+  advance_at by clock e = ap (λ z. settled s.program (at_clock w z)) (ap (λ z. z +ℤ by) (sym whole.clock) ∙ sym e)
+
+-- the fault of a move by so much, in the session's numbers
+fault_by_clock : (s : Setting) (m : Memory) (k : Contents) (w : World) (st : Standing s m k w) (by : ℤ) → step_fault s.program w (Advance by) ≡ None → clock_fault k.clock (k.clock +ℤ by) ≡ None
+unfolding step_fault
+fault_by_clock s m k w st by none = ap (λ z. clock_fault z (z +ℤ by)) (whole s m k w st).clock ∙ none
+
+-- what moves as the clock does moves so much later
+pub advance_moves : (s : Setting) (m : Memory) (k : Contents) (by clock : ℤ) (n : Memory) (t : Contents) → clock ≡ k.clock +ℤ by → Moves s m k (At clock) n t → Moves s m k (Advance by) n t
+advance_moves s m k by clock n t e moves w st none lawful =
+    let same : stepped s.program w (Advance by) ≡ stepped s.program w (At clock) = advance_at s m k w st by clock e in
+    subst (Standing s n t) (sym same)
+    (moves w st (at_fault s m k w st clock None (subst (λ z. clock_fault k.clock z ≡ None) (sym e) (fault_by_clock s m k w st by none))) (subst (IsLawful s.program) same lawful))
+
+pub modify_done : (p : Program) (w : World) (id : FactId) (sets : List (ℕ × Value)) → stepped p w (Modify id sets) ≡ settled p (with_revised w id.0 sets)
+unfolding stepped moved
+modify_done p w id sets = refl
+
+pub retract_done : (p : Program) (w : World) (ty : TypeId) (id : FactId) → stepped p w (Retract ty id) ≡ settled p (without_fact w ty.0 id.0)
+unfolding stepped moved
+retract_done p w ty id = refl
+
+pub at_done : (p : Program) (w : World) (moment : ℤ) → stepped p w (At moment) ≡ settled p (at_clock w moment)
+unfolding stepped moved
+at_done p w moment = refl
+
+-- ---- the fault of a retraction
+
+fault_by : (event observed there : Bool) → Option Code
+fault_by event observed there = if event then if observed then Some EventObserved else None else if there then None else Some Absent
+
+found_by : (event observed : Bool) → (event && observed) ≡ false → fault_by event observed true ≡ None
+unfolding fault_by
+found_by true true e = absurd (let n : true ≡ false = e in cc)
+found_by true false e = refl
+found_by false observed e = refl
+
+vain_by : (event observed there : Bool) → event ≡ true → (event && observed) ≡ false → fault_by event observed there ≡ None
+unfolding fault_by
+vain_by true true there e h = absurd (let n : true ≡ false = h in cc)
+vain_by true false there e h = refl
+vain_by false observed there e h = absurd (let n : false ≡ true = e in cc)
+
+observed_by : (event observed there : Bool) → (event && observed) ≡ true → fault_by event observed there ≡ Some EventObserved
+unfolding fault_by
+observed_by true true there e = refl
+observed_by true false there e = absurd (let n : false ≡ true = e in cc)
+observed_by false observed there e = absurd (let n : false ≡ true = e in cc)
+
+absent_by : (event observed there : Bool) → event ≡ false → there ≡ false → fault_by event observed there ≡ Some Absent
+unfolding fault_by
+absent_by true observed there e h = absurd (let n : true ≡ false = e in cc)
+absent_by false observed true e h = absurd (let n : true ≡ false = h in cc)
+absent_by false observed false e h = refl
+
+pub retract_found : (p : Program) (ty : ℕ) (o : Option Fact) → (is_event p ty && is_observed p ty) ≡ false → is_of_type ty o ≡ true → retract_fault p ty o ≡ None
+unfolding fault_by
+retract_found p ty o e h = ap (fault_by (is_event p ty) (is_observed p ty)) h ∙ found_by (is_event p ty) (is_observed p ty) e
+
+pub retract_event : (p : Program) (ty : ℕ) (o : Option Fact) → (is_event p ty && is_observed p ty) ≡ false → is_event p ty ≡ true → retract_fault p ty o ≡ None
+unfolding fault_by
+retract_event p ty o e h = vain_by (is_event p ty) (is_observed p ty) (is_of_type ty o) h e
+
+pub retract_observed : (p : Program) (ty : ℕ) (o : Option Fact) → (is_event p ty && is_observed p ty) ≡ true → retract_fault p ty o ≡ Some EventObserved
+unfolding fault_by
+retract_observed p ty o e = observed_by (is_event p ty) (is_observed p ty) (is_of_type ty o) e
+
+pub retract_absent : (p : Program) (ty : ℕ) (o : Option Fact) → is_event p ty ≡ false → is_of_type ty o ≡ false → retract_fault p ty o ≡ Some Absent
+unfolding fault_by
+retract_absent p ty o e h = absent_by (is_event p ty) (is_observed p ty) (is_of_type ty o) e h
+
+-- ---- what the store finds
+
+pub presented : (k : Contents) → IsSafe k.facts k.expiries k.clock k.next_id k.next_tag → (id : ℕ) (o : Option (Bor Fact)) → IfSome o (λ f. IsNewest k.facts id f.now) → IfNone o (HoldsNone k.facts id)
+    → option_map (λ (f : Bor Fact). f.now) o ≡ newest k id
+presented k safe id None some none = sym (store_none k id none)
+presented k safe id (Some f) some none = sym (store_found k safe id f.now some)
+
+-- ---- what the parts of a session keep to
+
+timer_apart : (timers : Timers) (tag t : ℕ) (moment : Option ℤ) → (t ≡ tag → ⊥) → map.get (with_timer timers tag moment) t ≡ map.get timers t
+timer_apart timers tag t None apart = refl
+timer_apart timers tag t (Some at) apart = get-insert nat_cmp_total timers tag at t ∙ by (eq_by_cmp nat_cmp t tag) refl
+  where
+    by : (b : Bool) → eq_by_cmp nat_cmp t tag ≡ b → cond b (Some at) (map.get timers t) ≡ map.get timers t
+    by true e = absurd (apart (tied t tag e))
+    by false e = refl
+
+pub safe_new : (facts more : HeldFacts) (timers later : Timers) (clock : ℤ) (id tag : ℕ) (f : Fact) (moment : Option ℤ) → IsSafe facts timers clock id tag → f.tag.0 ≡ tag → more ≡ map.insert facts f.tag.0 f
+    → later ≡ with_timer timers f.tag.0 moment → IsSafe more later clock (id + 1) (tag + 1)
+safe_new facts more timers later clock id tag f moment safe at made timed = record {
+  fresh = λ t le.
+      let apart : t ≡ f.tag.0 → ⊥ = λ (e : t ≡ f.tag.0). absurd (omega (arith, e, at, le)) in
+      ap (λ m. map.get m t) made ∙ got_old facts f t apart ∙ safe.fresh t (omega (arith, le));
+  untimed = λ t le.
+      let apart : t ≡ f.tag.0 → ⊥ = λ (e : t ≡ f.tag.0). absurd (omega (arith, e, at, le)) in
+      ap (λ m. map.get m t) timed ∙ timer_apart timers f.tag.0 t moment apart ∙ safe.untimed t (omega (arith, le));
+  ids = let le : id ≤ tag = safe.ids in omega arith;
+  clock_low = safe.clock_low;
+  clock_high = safe.clock_high;
+}
+
+pub safe_numbers : (facts : HeldFacts) (timers : Timers) (clock : ℤ) (id tag : ℕ) → IsSafe facts timers clock id tag → IsSafe facts timers clock (id + 1) (tag + 1)
+safe_numbers facts timers clock id tag safe = record {
+  fresh = λ t le. safe.fresh t (omega (arith, le));
+  untimed = λ t le. safe.untimed t (omega (arith, le));
+  ids = let le : id ≤ tag = safe.ids in omega arith;
+  clock_low = safe.clock_low;
+  clock_high = safe.clock_high;
+}
+
+-- a fact less
+pub fresh_less : (facts less : HeldFacts) (timers : Timers) (clock : ℤ) (id tag out : ℕ) → IsSafe facts timers clock id tag → less ≡ map.remove facts out → IsSafe less timers clock id tag
+fresh_less facts less timers clock id tag out safe made = record {
+  fresh = λ t le. ap (λ m. map.get m t) made ∙ none_left facts out t (safe.fresh t le);
+  untimed = safe.untimed;
+  ids = safe.ids;
+  clock_low = safe.clock_low;
+  clock_high = safe.clock_high;
+}
+
+fewer_none : (b : Bool) (o : Option ℤ) → o ≡ None → (if b then None else o) ≡ None
+fewer_none true o e = refl
+fewer_none false o e = e
+
+-- and its timer
+pub safe_less : (facts less : HeldFacts) (timers fewer : Timers) (clock : ℤ) (id tag out : ℕ) → IsSafe facts timers clock id tag → less ≡ map.remove facts out
+    → ((t : ℕ) → map.get fewer t ≡ without_timer timers out t) → IsSafe less fewer clock id tag
+safe_less facts less timers fewer clock id tag out safe made untimed =
+    let s = fresh_less facts less timers clock id tag out safe made in
+    record {
+      fresh = s.fresh;
+      untimed = λ t le. untimed t ∙ fewer_none (nat_eq out t) (map.get timers t) (safe.untimed t le);
+      ids = s.ids;
+      clock_low = s.clock_low;
+      clock_high = s.clock_high;
+    }
+
+pub safe_again : (less more : HeldFacts) (timers : Timers) (clock : ℤ) (id tag : ℕ) (f : Fact) → IsSafe less timers clock id tag → f.tag.0 ≡ tag → more ≡ map.insert less f.tag.0 f → IsSafe more timers clock id (tag + 1)
+safe_again less more timers clock id tag f safe at made =
+    let s = safe_new less more timers timers clock id tag f None safe at made refl in
+    record { fresh = s.fresh; untimed = s.untimed; ids = (let le : id ≤ tag = safe.ids in omega arith); clock_low = s.clock_low; clock_high = s.clock_high }
+
+left_fresh : (b : Bool) (o : Option Fact) → o ≡ None → (if b then None else o) ≡ None
+left_fresh true o e = refl
+left_fresh false o e = e
+
+none_kept : (b : Bool) (o : Option ℤ) → o ≡ None → cond b o None ≡ None
+none_kept true o e = e
+none_kept false o e = refl
+
+-- those that are due out, at another clock
+pub safe_left : (facts fewer : HeldFacts) (timers later : Timers) (clock next : ℤ) (id tag : ℕ) (gone : List ℕ) → IsSafe facts timers clock id tag → pos 0 ≤ℤ next → next ≤ℤ most_millis
+    → TakesDue next timers later gone → ((t : ℕ) → map.get fewer t ≡ left_at facts gone t) → IsSafe fewer later next id tag
+safe_left facts fewer timers later clock next id tag gone safe low high takes left = record {
+  fresh = λ t le. left t ∙ left_fresh (list_any (nat_eq t) gone) (map.get facts t) (safe.fresh t le);
+  untimed = λ t le.
+      ap (λ m. map.get m t) takes.rest
+      ∙ get-retain_keys timers (λ key. not (is_due next timers key)) t (λ x e. ap (λ key. not (is_due next timers key)) (sym (tied t x (ap is_eq e))))
+      ∙ none_kept (not (is_due next timers t)) (map.get timers t) (safe.untimed t le);
+  ids = safe.ids;
+  clock_low = low;
+  clock_high = high;
+}

@@ -1,0 +1,381 @@
+-- A session that has taken a new fact, or its numbers alone, awaits the second phase of the step.
+use Rattle.std.proofs.Common.{◌≡◌, ◌+◌, ◌∙◌, inl, inr, ℕ, ℤ, pos, ◌<◌, ◌≤◌, ◌≤ℤ◌, ◌==◌, ◌&&◌, not, Bool, true, false, cond, List, [], ◌∷◌, Option, Some, None, is_some, refl, sym, ap, subst, slice_get, arith}
+use Rattle.std.specs.Prelude.{option_and_then, OnOk, Result, Ok, Err}
+use Rattle.std.proofs.lemmas.Bool.Decides.{nat_tests}
+use Rattle.std.proofs.lemmas.Int.{ints}
+use Rattle.std.specs.Cmp.{nat_cmp_total}
+use Rattle.std.specs.FinMap.{get-insert, get-remove}
+use Rattle.std.specs.Ordering.{nat_cmp, eq_by_cmp}
+use Rattle.fact_store.proofs.Stored.{tied, itself}
+use Rattle.fx_base.specs.declared.fact.Fact.{Fact}
+use Rattle.fx_base.specs.declared.times.Times.{Times}
+use Rattle.due_queue.specs.Timers.{Timers, has_come}
+use Rattle.fact_store.specs.Held.{HeldFacts, facts_of}
+use Rattle.row_delta.specs.declared.row.Named.{Named}
+use Rattle.rule_model.specs.declared.program.Program.{Program}
+use Rattle.rule_model.specs.declared.step.Step.{Step}
+use Rattle.rule_model.specs.declared.step.Step.TheVariants.{Insert}
+use Rattle.rule_model.specs.Candidates.{is_present}
+use Rattle.rule_model.specs.Tuples.{name_of}
+use Rattle.rule_model.specs.Types.{is_event}
+use Rattle.rule_model.proofs.Listed.{in_right}
+use Rattle.rule_world.specs.Events.{end_of_presence, most_millis, times_of}
+use Rattle.rule_world.specs.Lawful.{IsLawful}
+use Rattle.rule_world.specs.Worlds.{World, kept, last_start_with, moved, new_fact, present, settled, step_fault, stepped, with_new}
+use Rattle.rule_world.proofs.Fresh.{below_of}
+use Rattle.agenda.specs.Agendas.{Marks}
+use Rattle.rete_net.specs.declared.net.Rete.{Rete}
+use Rattle.rete_net.specs.Nets.{NetStands, clean_rows}
+use Rattle.retention.specs.declared.retention.Retention.{Retention}
+use Rattle.retention.specs.Retentions.{lingers}
+use Rattle.retention.specs.Watching.{Covers, Ends}
+use Rattle.forgetting.specs.Sights.{ends_by, ends_of, only}
+use Rattle.forgetting.specs.Steps.{HasLeft, brought, changed}
+use Rattle.forgetting.specs.WorldSights.{comes, goes, sight_of}
+use Rattle.forgetting.proofs.Covering.{later_covers}
+use Rattle.session_laws.specs.declared.memory.Memory.{Memory}
+use Rattle.session_laws.specs.declared.setting.Setting.{Setting}
+use Rattle.session_laws.specs.Following.{HasAtHand, Leads, LeadsOn}
+use Rattle.session_laws.specs.Refreshed.{over, IsRefreshed}
+use Rattle.session_laws.specs.Standing.{Contents, AreForgotten, Awaits, Mirrors, Runs, Standing, Whole, holding, last_start_in, with_facts}
+use Rattle.session_laws.specs.Waiting.{with_timer}
+use Rattle.session_laws.proofs.Exactly.{Exact, exact, after_new, after_numbers}
+use Rattle.session_laws.proofs.Members.{got_new, got_old, of_insert}
+use Rattle.session_laws.proofs.Needs.{not_needed}
+use Rattle.session_laws.proofs.Readied.{whole_holds, whole_ready}
+use Rattle.session_laws.proofs.Ready.{lead_new}
+use Rattle.session_laws.proofs.Rules.{not_refreshed}
+use Rattle.session_laws.proofs.Stands.{contents, new_moves, next_is_free, numbers_move}
+use Rattle.session_laws.proofs.Taken.{taken_awaits}
+use Rattle.std.specs.FinMap as map
+
+same_number : (a b : ℕ) → (a == b) ≡ true → a ≡ b
+same_number a b e = grind (arith, nat_tests)
+
+is_same : (a b : ℕ) → a ≡ b → (a == b) ≡ true
+is_same a b e = grind (arith, nat_tests)
+
+turned : (a b : ℕ) → (a == b) ≡ (b == a)
+turned a b = grind (arith, nat_tests)
+
+other_number : (a b : ℕ) → (a == b) ≡ false → a ≡ b → ⊥
+other_number a b e h = grind (arith, nat_tests)
+
+same_clock : (clock : ℤ) → clock ≤ℤ clock
+same_clock clock = grind (arith, ints)
+
+-- ---- the retention
+
+same_test : (a b : ℕ) → eq_by_cmp nat_cmp a b ≡ (a == b)
+same_test a b = by (a == b) refl
+  where
+    by : (t : Bool) → (a == b) ≡ t → eq_by_cmp nat_cmp a b ≡ (a == b)
+    by true e = ap (λ z. eq_by_cmp nat_cmp a z) (sym (same_number a b e)) ∙ itself a ∙ sym e
+    by false e = apart (eq_by_cmp nat_cmp a b) refl ∙ sym e
+      where
+        apart : (t : Bool) → eq_by_cmp nat_cmp a b ≡ t → eq_by_cmp nat_cmp a b ≡ false
+        apart true h = absurd (other_number a b e (tied a b h))
+        apart false h = h
+
+-- a tag that was released is free
+pub released_free : (due left : Timers) (tag : ℕ) → left ≡ map.remove due tag → map.get left tag ≡ None
+released_free due left tag is = ap (λ m. map.get m tag) is ∙ get-remove nat_cmp_total due tag tag ∙ ap (λ b. cond b None (map.get due tag)) (itself tag)
+
+-- a tag that was released and is held again waits for its moment, and the others as before
+pub held_again : (due left after : Timers) (tag : ℕ) (until : Option ℤ) (at : ℤ) → until ≡ Some at → left ≡ map.remove due tag → after ≡ map.insert left tag at
+    → (other : ℕ) → map.get after other ≡ cond (other == tag && is_some until) until (map.get due other)
+held_again due left after tag until at some released held other =
+    ap (λ m. map.get m other) held ∙ get-insert nat_cmp_total left tag at other ∙ ap (λ m. cond (eq_by_cmp nat_cmp other tag) (Some at) (map.get m other)) released
+    ∙ ap (λ o. cond (eq_by_cmp nat_cmp other tag) (Some at) o) (get-remove nat_cmp_total due tag other)
+    ∙ ap (λ b. cond b (Some at) (cond b None (map.get due other))) (same_test other tag)
+    ∙ by (other == tag)
+    ∙ ap (λ o. cond (other == tag && is_some o) o (map.get due other)) (sym some)
+  where
+    by : (b : Bool) → cond b (Some at) (cond b None (map.get due other)) ≡ cond (b && true) (Some at) (map.get due other)
+    by true = refl
+    by false = refl
+
+and_not : (b t : Bool) → (b && not t) ≡ true → b ≡ true
+and_not true t e = refl
+and_not false t e = e
+
+-- a new fact is held until its moment, if it has one
+pub held_covers : (ends also : Ends) (now : ℤ) (new : ℕ) (until : Option ℤ) (before after : Retention) → Covers ends now before → ends new ≡ None
+    → ((tag : ℕ) → also tag ≡ cond (tag == new) until (ends tag))
+    → ((tag : ℕ) → map.get after.due tag ≡ cond (tag == new && is_some until) until (map.get before.due tag))
+    → ((tag : ℕ) → lingers after tag ≡ (lingers before tag && not (tag == new && is_some until)))
+    → Covers also now after
+held_covers ends also now new until before after covers free is due lingering = record {
+  due = λ tag. due tag ∙ due_by (tag == new) until (lingers before tag) (map.get before.due tag) (ends tag) (covers.due tag) (λ e. ap ends (same_number tag new e) ∙ free) ∙ sym (both tag);
+  past = λ tag e.
+      ap (has_come now) (is tag)
+      ∙ past_by (tag == new) until (lingers before tag) (ends tag) (covers.past tag) (λ h. ap ends (same_number tag new h) ∙ free) (sym (lingering tag) ∙ e);
+}
+  where
+    both : (tag : ℕ) → cond (lingers after tag) None (also tag) ≡ cond (lingers before tag && not (tag == new && is_some until)) None (cond (tag == new) until (ends tag))
+    both tag = ap (λ b. cond b None (also tag)) (lingering tag) ∙ ap (λ o. cond (lingers before tag && not (tag == new && is_some until)) None o) (is tag)
+
+    due_by : (t : Bool) (until : Option ℤ) (b : Bool) (was end : Option ℤ) → was ≡ cond b None end → (t ≡ true → end ≡ None)
+        → cond (t && is_some until) until was ≡ cond (b && not (t && is_some until)) None (cond t until end)
+    due_by true (Some at) true was end e h = refl
+    due_by true (Some at) false was end e h = refl
+    due_by true None true was end e h = e
+    due_by true None false was end e h = e ∙ h refl
+    due_by false until true was end e h = e
+    due_by false until false was end e h = e
+
+    past_by : (t : Bool) (until : Option ℤ) (b : Bool) (end : Option ℤ) → (b ≡ true → has_come now end ≡ true) → (t ≡ true → end ≡ None)
+        → (b && not (t && is_some until)) ≡ true → has_come now (cond t until end) ≡ true
+    past_by true (Some at) true end p h e = absurd (let n : false ≡ true = e in cc)
+    past_by true None true end p h e = ap (has_come now) (sym (h refl)) ∙ p refl
+    past_by true until false end p h e = absurd (let n : false ≡ true = e in cc)
+    past_by false until b end p h e = p (and_not b false e)
+
+-- ---- what the network and the agenda have followed
+
+-- the network stands for the facts behind whatever leads on to them, if it did so before
+abbrev pub NetFollows : Program → Rete → Rete → ℤ → HeldFacts → List ℕ → Option Fact → Type 0
+NetFollows p net next clock facts gone come =
+    (before behind all : HeldFacts) (from : ℤ) (forgotten : Named → Bool) → LeadsOn p before from behind clock all gone come forgotten facts
+    → NetStands p net (over (facts_of before) from) forgotten → NetStands p next (over (facts_of behind) clock) forgotten
+
+-- and the agenda is refreshed by their rows
+abbrev pub AgendaFollows : Program → Rete → ℤ → HeldFacts → List ℕ → Option Fact → Marks → Marks → Type 0
+AgendaFollows p net clock facts gone come a b =
+    (before behind all : HeldFacts) (from : ℤ) (forgotten : Named → Bool) → LeadsOn p before from behind clock all gone come forgotten facts
+    → NetStands p net (over (facts_of before) from) forgotten
+    → IsRefreshed p.rules (clean_rows p (over (facts_of before) from) forgotten) (clean_rows p (over (facts_of behind) clock) forgotten) a b
+
+-- ---- the store
+
+-- nothing goes out
+none_out : (o : Option Fact) → changed None (λ g. false) o ≡ o
+none_out None = refl
+none_out (Some g) = refl
+
+-- what is not forgotten is at hand
+pub none_going : (k : Contents) (all : HeldFacts) (forgotten : Named → Bool) → AreForgotten k all forgotten → HasAtHand all k.facts [] forgotten
+none_going k all forgotten are = record { known = λ tag f is e. by tag f is e (map.get k.facts tag) refl; going = λ tag i. absurd i }
+  where
+    by : (tag : ℕ) (f : Fact) → map.get all tag ≡ Some f → forgotten (name_of f) ≡ false → (o : Option Fact) → map.get k.facts tag ≡ o → map.get k.facts tag ≡ Some f
+    by tag f is e None h = absurd (let n : false ≡ true = sym e ∙ are.known tag f is ∙ ap (λ o. not (is_some o)) h in cc)
+    by tag f is e (Some g) h = let n : Some g ≡ Some f = sym (are.held tag g h) ∙ is in h ∙ n
+
+-- ---- the world behind the step
+
+module _ (s : Setting) (m : Memory) (k : Contents) (w : World) (st : Standing s m k w) (f : Fact) (id : f.id.0 ≡ k.next_id) (tag : f.tag.0 ≡ k.next_tag)
+    (times : f.times ≡ times_of (slice_get s.program.types f.ty.0) k.clock f.fields) where
+  abbrev p : Program
+  p = s.program
+
+  abbrev step : Step
+  step = Insert f.ty f.entry f.fields
+
+  -- all present facts before the step, and which of them are forgotten
+  abbrev all : HeldFacts
+  all = st.seen.all
+
+  abbrev forgotten : Named → Bool
+  forgotten = st.seen.forgotten
+
+  abbrev fact_with : ℕ → ℕ → Times → Fact
+  fact_with i t z = record { id = record { 0 = i }; ty = f.ty; entry = f.entry; fields = f.fields; tag = record { 0 = t }; times = z }
+
+  -- it is the fact that the world makes
+  new_is : new_fact p w f.ty.0 f.entry.0 f.fields ≡ f
+  new_is =
+      ap (λ i. fact_with i w.next_tag (times_of (slice_get p.types f.ty.0) w.clock f.fields)) (sym (id ∙ st.seen.whole.mirrors.next_id))
+      ∙ ap (λ t. fact_with f.id.0 t (times_of (slice_get p.types f.ty.0) w.clock f.fields)) (sym (tag ∙ st.seen.whole.mirrors.next_tag))
+      ∙ ap (λ c. fact_with f.id.0 f.tag.0 (times_of (slice_get p.types f.ty.0) c f.fields)) (sym st.seen.whole.mirrors.clock)
+      ∙ ap (λ z. fact_with f.id.0 f.tag.0 z) (sym times)
+
+  done : stepped p w step ≡ settled p (with_new p w f)
+  unfolding stepped moved
+  done = ap (λ g. settled p (with_new p w g)) new_is
+
+  before : Exact p (with_facts k all) (kept p w)
+  before = exact p (with_facts k all) w st.seen.whole
+
+  -- no fact was at its tag or behind it
+  free : map.get all f.tag.0 ≡ None
+  free = next_is_free p (with_facts k all) (kept p w) before f.tag.0 tag
+
+  above : (t : ℕ) (g : Fact) → map.get all t ≡ Some g → t < f.tag.0
+  above t g e =
+      let r = (whole_holds p (with_facts k all) w st.seen.whole).to t g e in
+      let low : g.tag.0 < w.next_tag = below_of w.next_tag (present p w) before.lawful.ordered.fresh g r.0 in
+      let here : g.tag.0 ≡ t = r.1 in
+      let next : f.tag.0 ≡ w.next_tag = tag ∙ st.seen.whole.mirrors.next_tag in
+      omega arith
+
+  unknown : forgotten (name_of f) ≡ false
+  unknown = by (forgotten (name_of f)) refl
+    where
+      by : (b : Bool) → forgotten (name_of f) ≡ b → b ≡ false
+      by true e = let low : f.tag.0 < k.next_tag = st.seen.are.below (name_of f) e in absurd (omega arith)
+      by false e = refl
+
+  -- the retention covers the store before the step
+  covered_before : Covers (ends_of (ends_by s.lives) (map.get k.facts)) k.clock m.retention
+  covered_before =
+      subst (λ z. Covers (ends_of (ends_by s.lives) (map.get k.facts)) z m.retention) (sym st.seen.whole.mirrors.clock)
+      (later_covers (ends_by s.lives) (sight_of p w) w.clock (holding k m.retention) st.holds (same_clock w.clock))
+
+  -- ---- what a new fact changes
+
+  apart : (u : ℕ) (g : Fact) → map.get all u ≡ Some g → u ≡ f.tag.0 → ⊥
+  apart u g is e = let lt : u < f.tag.0 = above u g is in absurd (omega arith)
+
+  -- the store has no fact at its tag
+  store_free : map.get k.facts f.tag.0 ≡ None
+  store_free = by (map.get k.facts f.tag.0) refl
+    where
+      by : (o : Option Fact) → map.get k.facts f.tag.0 ≡ o → map.get k.facts f.tag.0 ≡ None
+      by None e = e
+      by (Some g) e = absurd (apart f.tag.0 g (st.seen.are.held f.tag.0 g e) refl)
+
+  below_more : (who : Named) → forgotten who ≡ true → who.tag.0 < k.next_tag + 1
+  below_more who e = let low : who.tag.0 < k.next_tag = st.seen.are.below who e in omega arith
+
+  module _ (facts : HeldFacts) (made : facts ≡ map.insert k.facts f.tag.0 f) where
+    -- the fact at a tag, with the new one
+    got : (held : HeldFacts) (u : ℕ) (b : Bool) → (f.tag.0 == u) ≡ b → map.get (map.insert held f.tag.0 f) u ≡ cond b (Some f) (map.get held u)
+    got held u true e = ap (map.get (map.insert held f.tag.0 f)) (sym (same_number f.tag.0 u e)) ∙ got_new held f
+    got held u false e = got_old held f u (λ h. other_number f.tag.0 u e (sym h))
+
+    ends_are : (until : Option ℤ) → until ≡ ends_by s.lives f → (u : ℕ) → ends_of (ends_by s.lives) (map.get facts) u ≡ cond (u == f.tag.0) until (ends_of (ends_by s.lives) (map.get k.facts) u)
+    ends_are until is u =
+        ap (λ h. option_and_then (ends_by s.lives) (map.get h u)) made ∙ ap (option_and_then (ends_by s.lives)) (got k.facts u (f.tag.0 == u) refl)
+        ∙ by (f.tag.0 == u) ∙ ap (λ b. cond b until (ends_of (ends_by s.lives) (map.get k.facts) u)) (turned f.tag.0 u)
+      where
+        by : (b : Bool) → option_and_then (ends_by s.lives) (cond b (Some f) (map.get k.facts u)) ≡ cond b until (option_and_then (ends_by s.lives) (map.get k.facts u))
+        by true = sym is
+        by false = refl
+
+    store_new : comes p w step ≡ Some f → (u : ℕ) → map.get facts u ≡ changed (brought (comes p w step) u) (goes p w step) (map.get k.facts u)
+    store_new is u =
+        ap (λ h. map.get h u) made ∙ got k.facts u (f.tag.0 == u) refl ∙ by (f.tag.0 == u) ∙ ap (λ o. changed (brought o u) (λ g. false) (map.get k.facts u)) (sym is)
+      where
+        by : (b : Bool) → cond b (Some f) (map.get k.facts u) ≡ changed (cond b (Some f) None) (λ g. false) (map.get k.facts u)
+        by true = refl
+        by false = sym (none_out (map.get k.facts u))
+
+    forgotten_new : (t : Contents) → t.facts ≡ facts → t.next_tag ≡ k.next_tag + 1 → AreForgotten t (map.insert all f.tag.0 f) forgotten
+    forgotten_new t is next = record {
+      held = λ u g e. elim (of_insert k.facts f g u (ap (λ h. map.get h u) (sym (is ∙ made)) ∙ e)) [
+        | inl q ↦ ap (map.get (map.insert all f.tag.0 f)) q.1 ∙ got_new all f ∙ ap Some (sym q.0)
+        | inr h ↦ (let old = st.seen.are.held u g h in got_old all f u (apart u g old) ∙ old)
+      ];
+      known = λ u g e. elim (of_insert all f g u e) [
+        | inl q ↦ (
+            ap (λ (z : Fact). forgotten (name_of z)) q.0 ∙ unknown
+            ∙ ap (λ o. not (is_some o)) (sym (ap (λ h. map.get h u) (is ∙ made) ∙ ap (map.get (map.insert k.facts f.tag.0 f)) q.1 ∙ got_new k.facts f)))
+        | inr h ↦ st.seen.are.known u g h ∙ ap (λ o. not (is_some o)) (sym (ap (λ h. map.get h u) (is ∙ made) ∙ got_old k.facts f u (apart u g h)))
+      ];
+      below = λ who e. subst (λ n. who.tag.0 < n) (sym next) (below_more who e);
+    }
+
+  -- ---- both phases
+
+  module _ (runs : Runs s) (none : step_fault p w step ≡ None) (lawful : IsLawful p (stepped p w step)) where
+    from_zero : is_event p f.ty.0 ≡ true → pos 0 ≤ℤ f.times.start
+    from_zero e =
+        let after : IsLawful p (settled p (with_new p w f)) = subst (IsLawful p) done lawful in
+        ((after.sound f (in_right f w.facts (f ∷ []) (inl refl))).timed e).from_zero
+
+    -- a fact that is present
+    module _ (here : is_present p k.clock f ≡ true) (high : f.times.start ≤ℤ most_millis) (n : Memory) (facts : HeldFacts) (expiries : Timers) (starts : List ℤ) (b : Marks)
+        (made : facts ≡ map.insert k.facts f.tag.0 f) (timed : expiries ≡ with_timer k.expiries f.tag.0 (end_of_presence p f.ty.0 f.times.start))
+        (last : (entry : ℕ) → last_start_in starts entry ≡ last_start_with p f (last_start_in k.last_starts) entry) where
+      abbrev t : Contents
+      t = contents facts expiries k.clock starts b (k.next_id + 1) (k.next_tag + 1)
+
+      abbrev more : HeldFacts
+      more = map.insert all f.tag.0 f
+
+      in_world : is_present p w.clock f ≡ true
+      in_world = ap (λ z. is_present p z f) (sym st.seen.whole.mirrors.clock) ∙ here
+
+      whole_new : Whole p (with_facts t more) (stepped p w step)
+      whole_new = record {
+        lawful = lawful;
+        mirrors =
+            subst (Mirrors p (with_facts t more)) (sym (ap (kept p) done ∙ after_new p w f in_world))
+            (new_moves p (with_facts k all) more expiries starts b f (kept p w) before id tag refl timed last);
+      }
+
+      leads : Leads p all k.clock more k.clock more [] (Some f)
+      leads =
+          lead_new p all k.expiries k.clock (whole_ready p (with_facts k all) w st.seen.whole) f (record { present = here; low = from_zero; high = λ e. high }) more refl above
+
+      new_tag : (g : Fact) → Some f ≡ Some g → k.next_tag ≤ g.tag.0
+      new_tag g e = let same : f ≡ g = cc in subst (λ (z : Fact). k.next_tag ≤ z.tag.0) same (omega (arith, tag))
+
+      leads_on : LeadsOn p all k.clock more k.clock more [] (Some f) forgotten facts
+      leads_on = record {
+        leads = leads;
+        unneeded = not_needed s m k w st step runs none more k.clock more [] (Some f) leads whole_new.mirrors.facts whole_new.mirrors.clock (λ u i. absurd i) new_tag;
+        at_hand = none_going t more forgotten (forgotten_new facts made t refl refl);
+      }
+
+      comes_is : comes p w step ≡ Some f
+      comes_is = ap (λ g. only (is_present p w.clock) (Some g)) new_is ∙ ap (λ c. cond c (Some f) None) in_world
+
+      pub present_awaits : (until : Option ℤ) (left : ℕ → Bool) → until ≡ ends_by s.lives f
+          → ((u : ℕ) → map.get n.retention.due u ≡ cond (u == f.tag.0 && is_some until) until (map.get m.retention.due u))
+          → ((u : ℕ) → lingers n.retention u ≡ (lingers m.retention u && not (u == f.tag.0 && is_some until)))
+          → NetFollows p m.net n.net k.clock facts [] (Some f) → AgendaFollows p m.net k.clock facts [] (Some f) k.agenda b → HasLeft k.agenda b left
+          → Awaits s n t left (stepped p w step)
+      present_awaits until left is due lingering net agenda has_left = taken_awaits s m k w st step n t left runs none (record {
+        all = more;
+        whole = whole_new;
+        are = forgotten_new facts made t refl refl;
+        later = λ u g e. elim (of_insert all f g u e) [ inl q ↦ inr (omega (arith, q.1, tag)) | inr h ↦ inl h ];
+        stands = net all more more k.clock forgotten leads_on st.seen.stands;
+        refreshed = agenda all more more k.clock forgotten leads_on st.seen.stands;
+        has_left = has_left;
+        store = store_new facts made comes_is;
+        covered =
+            held_covers (ends_of (ends_by s.lives) (map.get k.facts)) (ends_of (ends_by s.lives) (map.get facts)) k.clock f.tag.0 until m.retention n.retention covered_before
+            (ap (option_and_then (ends_by s.lives)) store_free) (ends_are facts made until is) due lingering;
+        lingering = λ u e. and_not (lingers m.retention u) (u == f.tag.0 && is_some until) (sym (lingering u) ∙ e);
+      })
+
+    -- an event that is not present any more leaves its numbers and its start alone
+    module _ (gone : is_present p k.clock f ≡ false) (starts : List ℤ) (last : (entry : ℕ) → last_start_in starts entry ≡ last_start_with p f (last_start_in k.last_starts) entry) where
+      abbrev with_its_numbers : Contents
+      with_its_numbers = contents k.facts k.expiries k.clock starts k.agenda (k.next_id + 1) (k.next_tag + 1)
+
+      not_in_world : is_present p w.clock f ≡ false
+      not_in_world = ap (λ z. is_present p z f) (sym st.seen.whole.mirrors.clock) ∙ gone
+
+      whole_numbers : Whole p (with_facts with_its_numbers all) (stepped p w step)
+      whole_numbers = record {
+        lawful = lawful;
+        mirrors =
+            subst (Mirrors p (with_facts with_its_numbers all)) (sym (ap (kept p) done ∙ after_numbers p w f not_in_world))
+            (numbers_move p (with_facts k all) starts f (kept p w) before last);
+      }
+
+      comes_none : comes p w step ≡ None
+      comes_none = ap (λ g. only (is_present p w.clock) (Some g)) new_is ∙ ap (λ c. cond c (Some f) None) not_in_world
+
+      pub numbers_await : (left : ℕ → Bool) → Awaits s m with_its_numbers left (stepped p w step)
+      numbers_await left = taken_awaits s m k w st step m with_its_numbers left runs none (record {
+        all = all;
+        whole = whole_numbers;
+        are = record { held = st.seen.are.held; known = st.seen.are.known; below = below_more };
+        later = λ u g e. inl e;
+        stands = st.seen.stands;
+        refreshed = not_refreshed p.rules (clean_rows p (over (facts_of all) k.clock) forgotten) (clean_rows p (over (facts_of all) k.clock) forgotten) (λ place rule e row. refl) k.agenda;
+        has_left = λ q u was is names. absurd (let n : true ≡ false = sym was ∙ is in cc);
+        store = λ u. sym (none_out (map.get k.facts u)) ∙ ap (λ o. changed (brought o u) (λ g. false) (map.get k.facts u)) (sym comes_none);
+        covered = covered_before;
+        lingering = λ u e. e;
+      })
+
+-- ---- what is returned
+
+pub on_ok_weaker : {T E P Q : Type 0} (r : Result T E) → (P → Q) → OnOk r P → OnOk r Q
+on_ok_weaker (Ok x) f p = f p
+on_ok_weaker (Err e) f p = tt

@@ -1,0 +1,175 @@
+-- The lines of changes and firings name types and rules of the program alone.
+use Rattle.std.proofs.Common.{◌^◌, ◌≡◌, ◌<◌, ℕ, zero, suc, not, true, List, [], ◌∷◌, ◌++◌, length, nat_lt, Option, Some, None, option_map, Result, Ok, refl, sym, ◌∙◌, subst, lt-ltb, arith}
+use Rattle.std.specs.Prelude.{slice_get}
+use Rattle.std.proofs.lemmas.List.Folds.{list_all-append}
+use Rattle.std.proofs.Math.Logic.{∥∥₁_elim}
+use mathlib.Core.Bool.{Bool-set}
+use Rattle.fx_base.specs.declared.ids.FactId.{FactId}
+use Rattle.fx_base.specs.declared.ids.TypeId.{TypeId}
+use Rattle.fx_base.specs.declared.value.Value.{Value}
+use Rattle.fx_base.specs.declared.fact.Fact.{Fact}
+use Rattle.fact_store.specs.Held.{HeldFacts}
+use Rattle.row_delta.specs.declared.row.Named.{Named}
+use Rattle.row_delta.specs.declared.row.Row.{Row}
+use Rattle.rule_model.specs.declared.action.Action.{Action}
+use Rattle.rule_world.specs.declared.code.Code.{Code}
+use Rattle.rule_model.specs.declared.matched.Match.{Match}
+use Rattle.rule_model.specs.declared.program.Program.{Program}
+use Rattle.rule_model.specs.declared.program.Rule.{Rule}
+use Rattle.rule_model.specs.declared.program.TypeInfo.{TypeInfo}
+use Rattle.rule_model.specs.declared.step.Step.{Step}
+use Rattle.rule_world.specs.Kinds.{values_fit, step_fits}
+use Rattle.rule_model.specs.Lent.{bound_in}
+use Rattle.rule_model.specs.Tuples.{Bindings}
+use Rattle.rule_model.specs.Matches.{matches, has_match}
+use Rattle.rule_model.specs.Numbers.{values_of}
+use Rattle.rule_model.specs.Planned.{id_at, sets_of, type_or_first, step_of}
+use Rattle.rule_world.specs.Programs.{IsRunnable}
+use Rattle.fx_base.specs.Lists.{In}
+use Rattle.rule_world.specs.Typed.{bound_types, bound_fields, fields_in, args_fit, action_fits, rule_fits, is_typed}
+use Rattle.rule_world.specs.Worlds.{World, snapshot}
+use Rattle.rule_world.proofs.Acting.{all_of}
+use Rattle.rule_world.proofs.Fresh.{and_both, and_parts}
+use Rattle.rule_model.proofs.Listed.{of_map}
+use Rattle.rule_world.proofs.Pending.{has_pending}
+use Rattle.rule_model.proofs.RuleOf.{rule_of, in_place}
+use Rattle.script_read.specs.declared.asked.Change.{Change}
+use Rattle.change_read.specs.Changes.{change_step}
+use Rattle.change_read.proofs.Fitting.{asked_fits}
+use Rattle.engine.specs.declared.lines.OutLine.{OutLine}
+use Rattle.session_laws.specs.declared.memory.Memory.{Memory}
+use Rattle.session_laws.specs.declared.setting.Setting.{Setting}
+use Rattle.session_laws.specs.Gives.{actions_of, fire_line}
+use Rattle.engine.specs.Known.{is_known, are_known}
+use Rattle.session_laws.specs.Leading.{AllWantKnown, has_known_type, StayKnown, WantsKnown}
+use Rattle.session_laws.specs.Places.{planned, planned_for, held_at}
+use Rattle.rete_net.specs.Shapes.{IsNetOf}
+use Rattle.session_laws.specs.Standing.{AreOfRules, Contents, IsSound, Runs, Standing}
+use Rattle.session_laws.proofs.Acting.{asked_step}
+use Rattle.session_laws.proofs.Firings.{plan_of, top_held, top_of}
+use Rattle.rule_model.specs.declared.action.Action.TheVariants as action
+use Rattle.rule_model.specs.declared.step.Step.TheVariants as step
+
+-- ---- places
+
+within : {A : Type 0} (xs : List A) (place : ℕ) (x : A) → slice_get xs place ≡ Some x → place < length xs
+within [] place x e = absurd cc
+within (y ∷ ys) zero x e = omega arith
+within (y ∷ ys) (suc place) x e = let below = within ys place x e in omega arith
+
+found_within : {A : Type 0} (xs : List A) (place : ℕ) (x : A) → slice_get xs place ≡ Some x → nat_lt place (length xs) ≡ true
+found_within xs place x e = lt-ltb place (length xs) (within xs place x e)
+
+-- ---- steps
+
+-- values fit a type that is there
+type_of_values : (p : Program) (ty : ℕ) (vs : List Value) (info : Option TypeInfo) → slice_get p.types ty ≡ info → values_fit info vs ≡ true → nat_lt ty (length p.types) ≡ true
+type_of_values p ty vs None e fits = absurd cc
+type_of_values p ty vs (Some info) e fits = found_within p.types ty info e
+
+fitting_known : (p : Program) (present : ℕ → Option Fact) (s : Step) → step_fits p present s ≡ true → has_known_type p s ≡ true
+unfolding step_fits
+fitting_known p present (step.Insert ty entry fields) fits =
+    type_of_values p ty.0 fields (slice_get p.types ty.0) refl (and_parts (values_fit (slice_get p.types ty.0) fields) (nat_lt entry.0 (length p.entries)) fits).0
+fitting_known p present (step.Modify id sets) fits = refl
+fitting_known p present (step.Retract ty id) fits = refl
+fitting_known p present (step.Advance by) fits = refl
+fitting_known p present (step.At moment) fits = refl
+
+-- what a change of the script asks for
+pub asked_known : (p : Program) (present : ℕ → Option Fact) (change : Change) (asked : Result Step Code) → IsRunnable p → asked ≡ change_step p present change → WantsKnown p asked
+asked_known p present change asked runnable is one own = fitting_known p present one (asked_fits p present change one runnable.some_entry (sym is ∙ own))
+
+-- ---- what actions are to do
+
+inserted_known : (p : Program) (ty : TypeId) (vs : Option (List Value)) (s : Step) → nat_lt ty.0 (length p.types) ≡ true
+    → option_map (λ vs. step.Insert ty (record { 0 = 0 }) vs) vs ≡ Some s → has_known_type p s ≡ true
+inserted_known p ty None s known e = absurd cc
+inserted_known p ty (Some vs) s known e =
+    let is : step.Insert ty (record { 0 = 0 }) vs ≡ s = cc in
+    subst (λ (s : Step). has_known_type p s ≡ true) is known
+
+modified_known : (p : Program) (id : FactId) (vs : Option (List (ℕ × Value))) (s : Step) → option_map (λ vs. step.Modify id vs) vs ≡ Some s → has_known_type p s ≡ true
+modified_known p id None s e = absurd cc
+modified_known p id (Some vs) s e =
+    let is : step.Modify id vs ≡ s = cc in
+    subst (λ (s : Step). has_known_type p s ≡ true) is refl
+
+acted_known : (p : Program) (taken : List ℕ) (look : Bindings) (names : List Named) (a : Action) (s : Step) → action_fits p.types taken a ≡ true → step_of look names a ≡ Some s
+    → has_known_type p s ≡ true
+unfolding step_of
+acted_known p taken look names (action.Insert ty args) s fits e =
+    inserted_known p ty (values_of look args) s
+    (and_parts (nat_lt ty.0 (length p.types)) (args_fit (bound_fields p.types taken) (fields_in (slice_get p.types ty.0)) args) fits).0 e
+acted_known p taken look names (action.Modify fact sets) s fits e = modified_known p (id_at names fact) (sets_of look sets) s e
+acted_known p taken look names (action.Retract fact) s fits e =
+    let is : step.Retract (type_or_first (look.fact fact)) (id_at names fact) ≡ s = cc in
+    subst (λ (s : Step). has_known_type p s ≡ true) is refl
+
+planned_known : (p : Program) (facts : HeldFacts) (row : Row) (rule : Rule) → rule_fits p.types rule ≡ true
+    → (s : Step) → In (Ok s) (planned facts row rule.actions) → has_known_type p s ≡ true
+planned_known p facts row rule fits s i =
+    let q = of_map (planned_for facts row) (Ok s) rule.actions i in
+    acted_known p (bound_types rule.conditions) (bound_in (held_at facts) row) row.facts q.0 s
+    (all_of (action_fits p.types (bound_types rule.conditions)) rule.actions q.0 fits q.1)
+    (asked_step (step_of (bound_in (held_at facts) row) row.facts q.0) s q.2)
+
+-- what is planned for the row of a match
+plan_known : (p : Program) (facts : HeldFacts) (q : Match) → IsRunnable p → AllWantKnown p (planned facts q.row (actions_of (slice_get p.rules q.rule.0)))
+unfolding is_typed
+plan_known p facts q runnable = by (slice_get p.rules q.rule.0) refl
+  where
+    by : (o : Option Rule) → slice_get p.rules q.rule.0 ≡ o → AllWantKnown p (planned facts q.row (actions_of o))
+    by None e = λ s i. absurd i
+    by (Some rule) e = planned_known p facts q.row rule (all_of (rule_fits p.types) p.rules rule runnable.typed (in_place p.rules q.rule.0 rule e))
+
+pub top_known : (p : Program) (k : Contents) (plan : List (Result Step Code)) → IsRunnable p → Some plan ≡ plan_of p k (top_of k.agenda) → AllWantKnown p plan
+top_known p k plan runnable own = by (top_of k.agenda) own
+  where
+    by : (o : Option Match) → Some plan ≡ plan_of p k o → AllWantKnown p plan
+    by None e = absurd cc
+    by (Some q) e =
+        let is : plan ≡ planned k.facts q.row (actions_of (slice_get p.rules q.rule.0)) = cc in
+        subst (AllWantKnown p) (sym is) (plan_known p k.facts q runnable)
+
+-- ---- lines
+
+pub one_more_known : (p : Program) (lines : List OutLine) (line : OutLine) → is_known p line ≡ true → StayKnown p lines (lines ++ line ∷ [])
+one_more_known p lines line known before = list_all-append (is_known p) lines (line ∷ []) ∙ and_both (are_known p lines) (are_known p (line ∷ [])) before (and_both (is_known p line) true known refl)
+
+-- the line of a match that is pending
+pub fire_line_known : (p : Program) (m : Memory) (k : Contents) (q : Match) → IsSound p m k → Some q ≡ top_of k.agenda → is_known p (fire_line p q) ≡ true
+fire_line_known p m k q sound top = lt-ltb q.rule.0 (length p.rules) (sound.pending q (top_held k.agenda q top))
+
+-- ---- a session that stands for a world is sound
+
+pub standing_sound : (s : Setting) (m : Memory) (k : Contents) (w : World) → Standing s m k w → IsSound s.program m k
+standing_sound s m k w st = record {
+  net = st.seen.stands.nodes.shape;
+  pending = λ q e.
+      let p = s.program in
+      let is_match = (and_parts (has_match (matches p (snapshot w)) q) (not (has_match w.fired q)) (sym (has_pending p w q) ∙ sym (st.holds.pending q) ∙ e)).0 in
+      let is = rule_of p (snapshot w) q is_match in
+      within p.rules q.rule.0 is.rule is.there;
+}
+
+-- ---- what steps keep
+
+-- a network that is followed stays that of its program, and what becomes pending is of its rules
+pub followed_sound : (s : Setting) (m n : Memory) (k t : Contents) → Runs s → IsSound s.program m k
+    → (IsNetOf s.program m.net.nodes.items m.net.ends.items → IsNetOf s.program n.net.nodes.items n.net.ends.items)
+    → (length m.net.ends.items < 2 ^ 16 → AreOfRules (length m.net.ends.items) k.agenda.pending → AreOfRules (length m.net.ends.items) t.agenda.pending) → IsSound s.program n t
+followed_sound s m n k t runs sound shape rules = record {
+  net = shape sound.net;
+  pending =
+      let count : length m.net.ends.items ≡ length s.program.rules = sound.net.count in
+      let few = runs.runnable.few_rules in
+      subst (λ (many : ℕ). AreOfRules many t.agenda.pending) count
+      (rules (omega (arith, count, few)) (subst (λ (many : ℕ). AreOfRules many k.agenda.pending) (sym count) sound.pending));
+}
+
+-- ---- what a ghost field tells
+
+-- lines are known where it is only known that a session is sound
+pub merely_known : (p : Program) (m : Memory) (k : Contents) → ∥ IsSound p m k ∥₁ → (lines : List OutLine) → (IsSound p m k → are_known p lines ≡ true) → are_known p lines ≡ true
+merely_known p m k sound lines h = ∥∥₁_elim sound (Bool-set _ _) h

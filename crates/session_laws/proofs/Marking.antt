@@ -1,0 +1,100 @@
+-- A session whose first match is marked as fired awaits the second phase of the firing.
+use Rattle.std.proofs.Common.{◌≡◌, ◌∙◌, ◌&&◌, ◌||◌, not, ℕ, Bool, true, inl, inr, Some, refl, sym, subst}
+use Rattle.std.specs.Ordering.{eq_by_cmp}
+use Rattle.std.proofs.lemmas.Map.Views.{tells_apart}
+use Rattle.rule_model.specs.declared.matched.Match.{Match}
+use Rattle.rule_model.specs.declared.program.Program.{Program}
+use Rattle.rule_model.specs.First.{first}
+use Rattle.rule_model.specs.MatchOrders.{fire_total}
+use Rattle.rule_model.specs.Matches.{matches, has_match, match_cmp, fire_cmp}
+use Rattle.rule_model.proofs.Exact.{fire_exact, match_exact}
+use Rattle.rule_model.proofs.Firsts.{first_in, or_split}
+use Rattle.rule_world.specs.Worlds.{World, marked, pending, snapshot}
+use Rattle.rule_world.proofs.Fresh.{and_parts}
+use Rattle.rule_world.proofs.Lawfuls.{firing_lawful}
+use Rattle.rule_world.proofs.Pending.{by_fire, has_pending}
+use Rattle.agenda.specs.Agendas.{Marks, names_tag}
+use Rattle.pair_memory.specs.Standing.{clean}
+use Rattle.forgetting.specs.Sights.{Lives, Sight, each_tag, ends_by, is_kept}
+use Rattle.forgetting.specs.WorldSights.{sight_of}
+use Rattle.forgetting.proofs.Before.{pending_kept}
+use Rattle.forgetting.proofs.Closing.{world_fire_kept}
+use Rattle.forgetting.proofs.Seeing.{sight_law}
+use Rattle.session_laws.specs.declared.memory.Memory.{Memory}
+use Rattle.session_laws.specs.declared.setting.Setting.{Setting}
+use Rattle.session_laws.specs.Standing.{Awaits, Contents, Seen, Standing, holding}
+use Rattle.session_laws.proofs.Clean.{clean_kept, clean_was}
+use Rattle.session_laws.proofs.Stands.{contents}
+
+module _ (s : Setting) (m : Memory) (k : Contents) (w : World) (st : Standing s m k w) (q : Match) (top : Some q ≡ first (fire_cmp k.agenda.saliences) k.agenda.pending) where
+  abbrev p : Program
+  p = s.program
+
+  abbrev lives : Lives
+  lives = ends_by s.lives
+
+  abbrev sight : Sight
+  sight = sight_of p w
+
+  -- the first of the agenda is pending in the world
+  agenda_pending : has_match k.agenda.pending q ≡ true
+  agenda_pending =
+      sym (by_fire k.agenda.saliences q k.agenda.pending) ∙ first_in (fire_cmp k.agenda.saliences) (fire_total k.agenda.saliences) (fire_exact k.agenda.saliences) k.agenda.pending q (sym top)
+
+  pub top_pending : has_match (pending p w) q ≡ true
+  top_pending = sym (st.holds.pending q) ∙ agenda_pending
+
+  -- a match that names kept facts alone names nothing forgotten
+  clean_of : (x : Match) → has_match (matches p (snapshot w)) x ≡ true → each_tag (is_kept lives sight) x ≡ true → clean st.seen.forgotten x.row ≡ true
+  clean_of x is each = sym (clean_was s m k w st x is) ∙ clean_kept s m k w st x is ∙ each
+
+  module _ (b : Marks) (sal : b.saliences ≡ k.agenda.saliences) (pend : (x : Match) → has_match b.pending x ≡ (has_match k.agenda.pending x && not (eq_by_cmp match_cmp q x)))
+      (fired : (x : Match) → has_match b.fired x ≡ (has_match k.agenda.fired x || eq_by_cmp match_cmp q x)) where
+    abbrev t : Contents
+    t = contents k.facts k.expiries k.clock k.last_starts b k.next_id k.next_tag
+
+    marked_seen : Seen p m.net t (marked w q)
+    marked_seen =
+        let mirrors = st.seen.whole.mirrors in
+        let are = st.seen.are in
+        record {
+          all = st.seen.all;
+          whole = record {
+            lawful = firing_lawful p w q st.seen.whole.lawful top_pending;
+            mirrors = record {
+              facts = mirrors.facts;
+              waits = mirrors.waits;
+              clock = mirrors.clock;
+              last_starts = mirrors.last_starts;
+              next_id = mirrors.next_id;
+              next_tag = mirrors.next_tag;
+            };
+          };
+          forgotten = st.seen.forgotten;
+          are = record { held = are.held; known = are.known; below = are.below };
+          stands = st.seen.stands;
+          saliences = sal ∙ st.seen.saliences;
+        }
+
+    -- a fired match is one of the world and names nothing forgotten
+    marked_clean : (x : Match) → has_match b.fired x ≡ true → (has_match (matches p (snapshot w)) x ≡ true) × (clean st.seen.forgotten x.row ≡ true)
+    marked_clean x e = elim (or_split (has_match k.agenda.fired x) (eq_by_cmp match_cmp q x) (sym (fired x) ∙ e)) [
+      | inl was ↦ (
+          let parts = and_parts (has_match w.fired x) (each_tag (is_kept lives sight) x) (sym (st.holds.fired x) ∙ was) in
+          let is = st.seen.whole.lawful.ordered.fired x parts.0 in
+          (is, clean_of x is parts.1))
+      | inr same ↦ (
+          let is = (and_parts (has_match (matches p (snapshot w)) q) (not (has_match w.fired q)) (sym (has_pending p w q) ∙ top_pending)).0 in
+          let each = pending_kept lives sight (sight_law p w st.seen.whole.lawful.ordered) q top_pending in
+          subst (λ (z : Match). (has_match (matches p (snapshot w)) z ≡ true) × (clean st.seen.forgotten z.row ≡ true)) (tells_apart match_exact q x same) (is, clean_of q is each))
+    ]
+
+    pub marked_awaits : (left : ℕ → Bool) → ((tag : ℕ) → names_tag tag q ≡ true → left tag ≡ true) → Awaits s m t left (marked w q)
+    unfolding marked_seen
+    marked_awaits left names = record {
+      seen = marked_seen;
+      fired = marked_clean;
+      finishes = λ after old forgets.
+          world_fire_kept p s.lives w q (holding k m.retention) (holding t m.retention) after left old st.seen.whole.lawful.ordered top_pending st.holds
+          (record { store = λ tag. refl; retention = refl; pending = pend; fired = fired }) names forgets;
+    }

@@ -1,0 +1,110 @@
+-- The facts of a map that are the present ones of a world make the rows and have the candidates of the world.
+use Rattle.std.proofs.Common.{◌≡◌, ◌∙◌, ◌==◌, ◌&&◌, ℕ, ℤ, true, nat_lt, List, length, refl, sym, ap, subst}
+use Rattle.std.specs.FinMap as map
+use Rattle.fx_base.specs.Lists.{In}
+use Rattle.fx_base.specs.declared.fact.Fact.{Fact}
+use Rattle.row_delta.specs.declared.row.Named.{Named}
+use Rattle.row_delta.specs.declared.row.Row.{Row}
+use Rattle.row_delta.specs.Rows.{has}
+use Rattle.fact_store.specs.Held.{HeldFacts, facts_of, tag_of}
+use Rattle.rule_model.specs.declared.condition.Condition.{Condition}
+use Rattle.rule_model.specs.declared.condition.Pattern.{Pattern}
+use Rattle.rule_model.specs.declared.condition.WindowTag.{WindowTag}
+use Rattle.rule_model.specs.declared.condition.WindowTag.TheVariants.{Whole, Time, Length}
+use Rattle.rule_model.specs.declared.program.Program.{Program}
+use Rattle.rule_model.specs.Candidates.{is_present, fits, is_behind, count_behind, is_inside, is_candidate, candidates}
+use Rattle.rule_model.specs.Distinct.{HaveDistinctTags}
+use Rattle.rule_model.specs.Rows.{rows}
+use Rattle.rule_model.specs.Snapshots.{Snapshot}
+use Rattle.rule_model.specs.Tests.{tests_hold}
+use Rattle.rule_model.specs.Tuples.{name_of, unbound}
+use Rattle.rule_model.proofs.Listed.{both_of}
+use Rattle.rule_model.proofs.Named.{of_filter}
+use Rattle.rule_model.proofs.Order.{Same, passed, rows_over, same_candidates as same_in_order}
+use Rattle.rule_world.specs.Worlds.{World, snapshot, present, kept}
+use Rattle.rule_world.proofs.Fresh.{distinct_filtered}
+use Rattle.rule_world.proofs.Kept.{filter_within, filter_same, kept_rows}
+use Rattle.condition_rows.specs.Sets.{rows_of, candidates_of}
+use Rattle.condition_rows.proofs.Ends.{in_has, has_in, same_truth}
+use Rattle.condition_rows.proofs.Joined.{candidate_named, candidate_of}
+use Rattle.session_laws.specs.Gives.{version_of}
+use Rattle.session_laws.specs.Refreshed.{over}
+use Rattle.session_laws.proofs.Members.{Holds, of_versions, held_distinct, own_tags, listed, all_listed}
+
+-- ---- what is not present is no candidate, and is in no window
+
+module _ (p : Program) (w : World) (q : Pattern) where
+  fits_present : (f : Fact) → fits p q w.clock f ≡ true → is_present p w.clock f ≡ true
+  fits_present f e = (both_of (is_present p w.clock f) (f.ty.0 == q.ty.0 && (f.entry.0 == q.entry.0 && tests_hold unbound f q.alone)) e).0
+
+  same_behind : (f : Fact) → count_behind p q w.clock f (present p w) ≡ count_behind p q w.clock f w.facts
+  same_behind f =
+      ap length (filter_within (is_behind p q w.clock f) (is_present p w.clock) w.facts
+      (λ g e. fits_present g (both_of (nat_lt f.tag.0 g.tag.0) (fits p q w.clock g) e).1))
+
+  same_inside : (window : WindowTag) (f : Fact) → is_inside p q window w.clock (present p w) f ≡ is_inside p q window w.clock w.facts f
+  same_inside Whole f = refl
+  same_inside (Time span) f = refl
+  same_inside (Length count) f = ap (λ n. nat_lt n count) (same_behind f)
+
+  kept_candidates : candidates p q (snapshot (kept p w)) ≡ candidates p q (snapshot w)
+  kept_candidates =
+      filter_same (is_candidate p q (snapshot (kept p w))) (is_candidate p q (snapshot w)) (present p w) (λ f. ap (λ b. fits p q w.clock f && b) (same_inside q.window f))
+      ∙ filter_within (is_candidate p q (snapshot w)) (is_present p w.clock) w.facts
+      (λ f e. fits_present f (both_of (fits p q w.clock f) (is_inside p q q.window w.clock w.facts f) e).0)
+
+-- a candidate is one by its name
+named_candidate : (p : Program) (s : Snapshot) → HaveDistinctTags s.facts → (q : Pattern) (f : Fact) → In f (candidates p q s) → candidates_of p q s (name_of f) ≡ true
+named_candidate p s d q f i = candidate_named p s d q f (of_filter (is_candidate p q s) f s.facts i) ∙ passed (is_candidate p q s) f s.facts i
+
+-- ---- a map of the present facts
+
+module _ (p : Program) (w : World) (d : HaveDistinctTags w.facts) (stored : HeldFacts) (clock : ℤ) (now : clock ≡ w.clock)
+    (at : (tag : ℕ) → map.get stored tag ≡ version_of (present p w) (tag_of tag)) where
+  abbrev here : Snapshot
+  here = over (facts_of stored) clock
+
+  abbrev there : Snapshot
+  there = snapshot (kept p w)
+
+  distinct_there : HaveDistinctTags (present p w)
+  distinct_there = distinct_filtered (is_present p w.clock) w.facts d
+
+  pub stored_present : Holds stored (present p w)
+  stored_present = of_versions stored (present p w) distinct_there at
+
+  pub distinct_here : HaveDistinctTags (facts_of stored)
+  distinct_here = held_distinct stored (own_tags stored (present p w) stored_present)
+
+  -- each of them is a fact of the world
+  pub of_world : (f : Fact) → In f (facts_of stored) → In f w.facts
+  of_world f i = of_filter (is_present p w.clock) f w.facts (listed stored (present p w) stored_present f i)
+
+  alike : Same (facts_of stored) (present p w)
+  alike f = (listed stored (present p w) stored_present f, all_listed stored (present p w) stored_present f)
+
+  back : Same (present p w) (facts_of stored)
+  back f = (all_listed stored (present p w) stored_present f, listed stored (present p w) stored_present f)
+
+  pub world_rows : (cs : List Condition) (row : Row) → rows_of p here cs row ≡ rows_of p (snapshot w) cs row
+  world_rows cs row =
+      same_truth (rows_of p here cs row) (rows_of p there cs row)
+      (λ e. in_has row (rows p there cs) (rows_over p here there (sym now) distinct_here distinct_there alike cs row (has_in row (rows p here cs) e)))
+      (λ e. in_has row (rows p here cs) (rows_over p there here now distinct_there distinct_here back cs row (has_in row (rows p there cs) e)))
+      ∙ ap (λ rs. has rs row) (kept_rows p w cs)
+
+  module _ (q : Pattern) (who : Named) where
+    to_world : candidates_of p q here who ≡ true → candidates_of p q (snapshot w) who ≡ true
+    to_world e =
+        let f = candidate_of p here distinct_here q who e in
+        let among = (same_in_order p here there (sym now) distinct_here distinct_there alike q f.0).0 f.1 in
+        ap (candidates_of p q (snapshot w)) (sym f.2) ∙ named_candidate p (snapshot w) d q f.0 (subst (In f.0) (kept_candidates p w q) among)
+
+    from_world : candidates_of p q (snapshot w) who ≡ true → candidates_of p q here who ≡ true
+    from_world e =
+        let f = candidate_of p (snapshot w) d q who e in
+        let among = (same_in_order p there here now distinct_there distinct_here back q f.0).0 (subst (In f.0) (sym (kept_candidates p w q)) f.1) in
+        ap (candidates_of p q here) (sym f.2) ∙ named_candidate p here distinct_here q f.0 among
+
+    pub world_candidates : candidates_of p q here who ≡ candidates_of p q (snapshot w) who
+    world_candidates = same_truth (candidates_of p q here who) (candidates_of p q (snapshot w) who) to_world from_world

@@ -1,0 +1,44 @@
+-- The contents of a session with all present facts of its world are ready for its network.
+use Rattle.std.proofs.Common.{ℤ, ◌≤ℤ◌, sym, subst, arith}
+use Rattle.std.proofs.lemmas.Int.{ints}
+use Rattle.fx_base.specs.Lists.{In}
+use Rattle.fx_base.specs.declared.fact.Fact.{Fact}
+use Rattle.rule_model.specs.declared.program.Program.{Program}
+use Rattle.rule_model.specs.Candidates.{is_present}
+use Rattle.rule_model.proofs.Named.{of_filter}
+use Rattle.rule_model.proofs.Order.{passed}
+use Rattle.rule_world.specs.Lawful.{IsLawful}
+use Rattle.rule_world.specs.Worlds.{World, present, kept}
+use Rattle.session_laws.specs.Following.{IsReady}
+use Rattle.session_laws.specs.Standing.{Contents, Whole}
+use Rattle.session_laws.proofs.Exactly.{exact}
+use Rattle.session_laws.proofs.Members.{Holds, own_tags}
+use Rattle.session_laws.proofs.Newest.{holds}
+use Rattle.session_laws.proofs.Ready.{IsFit, kept_of}
+
+between : (a b c : ℤ) → a ≤ℤ b → b ≤ℤ c → a ≤ℤ c
+between a b c ab bc = omega (arith, ints)
+
+-- a present fact of a lawful world is as the network wants it
+pub fit_present : (p : Program) (w : World) → IsLawful p w → (f : Fact) → In f (present p w) → IsFit p w.clock f
+fit_present p w lawful f i =
+    let sound = lawful.sound f (of_filter (is_present p w.clock) f w.facts i) in
+    record {
+      present = passed (is_present p w.clock) f w.facts i;
+      low = λ e. (sound.timed e).from_zero;
+      high = λ e. between _ _ _ (sound.timed e).to_clock lawful.clock_high;
+    }
+
+module _ (p : Program) (k : Contents) (w : World) (whole : Whole p k w) where
+  -- the facts are the present ones of the world
+  pub whole_holds : Holds k.facts (present p w)
+  whole_holds = holds p k (kept p w) (exact p k w whole)
+
+  pub whole_ready : IsReady p k.facts k.expiries k.clock
+  whole_ready = record {
+    own = own_tags k.facts (present p w) whole_holds;
+    waits = whole.mirrors.waits;
+    kept =
+        kept_of p k.facts k.clock (own_tags k.facts (present p w) whole_holds)
+        (λ tag f e. subst (λ z. IsFit p z f) (sym whole.mirrors.clock) (fit_present p w whole.lawful f (whole_holds.to tag f e).0));
+  }

@@ -1,0 +1,219 @@
+-- A session stays ready for its network, and its steps are those that the network takes.
+use Rattle.std.proofs.Common.{◌≡◌, ◌∙◌, ◌⊎◌, inl, inr, ℕ, ℤ, pos, ◌<◌, ◌≤◌, ◌≤ℤ◌, ◌-ℤ◌, ◌||◌, not, Bool, true, false, nat_eq, nat_lt, List, [], ◌∷◌, Option, Some, None, refl, sym, ap, subst, arith}
+use Rattle.std.specs.FinMap.{get-empty}
+use Rattle.std.specs.List.{list_any}
+use Rattle.std.specs.Ordering.{nat_cmp}
+use Rattle.std.proofs.lemmas.Bool.Decides.{nat_tests}
+use Rattle.std.proofs.lemmas.Int.{ints}
+use Rattle.fx_base.specs.Lists.{In}
+use Rattle.fx_base.specs.declared.fact.Fact.{Fact}
+use Rattle.due_queue.specs.Timers.{Timers, TakesDue, has_come, is_due}
+use Rattle.fact_store.specs.Held.{HeldFacts, facts_of}
+use Rattle.fact_store.proofs.Members.{from_list, from_map, tags_rise}
+use Rattle.rule_model.specs.declared.program.Program.{Program}
+use Rattle.rule_model.specs.Candidates.{is_present, is_within}
+use Rattle.rule_model.specs.Types.{is_event, expiry_of}
+use Rattle.rule_world.specs.Events.{end_of_presence, most_millis}
+use Rattle.pattern_gate.specs.Moves.{IsOrderly}
+use Rattle.session_laws.specs.Following.{IsReady, Leads}
+use Rattle.session_laws.specs.Refreshed.{over}
+use Rattle.session_laws.specs.Standing.{expiry_at}
+use Rattle.session_laws.specs.Waiting.{with_timer, without_timer, left_at, HaveOwnTags}
+use Rattle.session_laws.proofs.Leaving.{due_once, one_gone}
+use Rattle.session_laws.proofs.Members.{of_insert, of_remove, swapped}
+use Rattle.session_laws.proofs.Timers.{left_found, timed_left, timed_less, timed_new, timed_plain}
+use Rattle.std.specs.FinMap as map
+
+-- a fact as the network wants it
+pub record IsFit (p : Program) (clock : ℤ) (f : Fact) : Type 0 where
+  pub present : is_present p clock f ≡ true
+  pub low : is_event p f.ty.0 ≡ true → pos 0 ≤ℤ f.times.start
+  pub high : is_event p f.ty.0 ≡ true → f.times.start ≤ℤ most_millis
+
+-- facts that are fit, each at its own tag
+pub kept_of : (p : Program) (held : HeldFacts) (clock : ℤ) → HaveOwnTags held → ((tag : ℕ) (f : Fact) → map.get held tag ≡ Some f → IsFit p clock f) → IsOrderly p (over (facts_of held) clock)
+kept_of p held clock own fit = record {
+  in_order = tags_rise held own;
+  present = λ f i. let r = from_list held f i in (fit r.0 f r.1).present;
+  low = λ f i. let r = from_list held f i in (fit r.0 f r.1).low;
+  high = λ f i. let r = from_list held f i in (fit r.0 f r.1).high;
+}
+
+-- a plain fact
+fit_plain : (p : Program) (clock : ℤ) (f : Fact) → is_event p f.ty.0 ≡ false → IsFit p clock f
+unfolding is_present
+fit_plain p clock f plain = record {
+  present = ap (λ b. not b || is_within (expiry_of p f.ty.0) (clock -ℤ f.times.start)) plain;
+  low = λ e. absurd (let n : false ≡ true = sym plain ∙ e in cc);
+  high = λ e. absurd (let n : false ≡ true = sym plain ∙ e in cc);
+}
+
+same_clock : (clock : ℤ) → clock ≤ℤ clock
+same_clock clock = grind (arith, ints)
+
+its_own : (n : ℕ) → nat_eq n n ≡ true
+its_own n = grind (arith, nat_tests)
+
+or_true : (a b : Bool) → b ≡ true → (a || b) ≡ true
+or_true true b e = refl
+or_true false b e = e
+
+in_any : (n : ℕ) (tags : List ℕ) → In n tags → list_any (nat_eq n) tags ≡ true
+in_any n [] i = absurd i
+in_any n (tag ∷ tags) (inl e) = ap (λ m. nat_eq n m || list_any (nat_eq n) tags) (sym e) ∙ ap (λ b. b || list_any (nat_eq n) tags) (its_own n)
+in_any n (tag ∷ tags) (inr i) = or_true (nat_eq n tag) (list_any (nat_eq n) tags) (in_any n tags i)
+
+-- no facts
+pub ready_empty : (p : Program) → IsReady p map.empty map.empty (pos 0)
+ready_empty p = record {
+  own = own_none;
+  waits = λ tag. get-empty nat_cmp tag ∙ sym (ap (expiry_at p) (get-empty nat_cmp tag));
+  kept = kept_of p map.empty (pos 0) own_none (λ tag f e. absurd (let n : None ≡ Some f = sym (get-empty nat_cmp tag) ∙ e in cc));
+}
+  where
+    own_none : HaveOwnTags map.empty
+    own_none tag f e = absurd (let n : None ≡ Some f = sym (get-empty nat_cmp tag) ∙ e in cc)
+
+-- what stands in a map whose tags from one on are free is below it
+pub below_free : (facts : HeldFacts) (next : ℕ) → ((tag : ℕ) → next ≤ tag → map.get facts tag ≡ None) → (tag : ℕ) (g : Fact) → map.get facts tag ≡ Some g → tag < next
+below_free facts next free tag g is = by (nat_lt tag next) refl
+  where
+    by : (b : Bool) → nat_lt tag next ≡ b → tag < next
+    by true e = grind (arith, nat_tests)
+    by false e =
+        let le : next ≤ tag = grind (arith, nat_tests) in
+        absurd (let n : None ≡ Some g = sym (free tag le) ∙ is in cc)
+
+module _ (p : Program) (facts : HeldFacts) (timers : Timers) (clock : ℤ) (r : IsReady p facts timers clock) where
+  fit_of : (tag : ℕ) (f : Fact) → map.get facts tag ≡ Some f → IsFit p clock f
+  fit_of tag f e =
+      let i = from_map facts f tag e in
+      record { present = r.kept.present f i; low = r.kept.low f i; high = r.kept.high f i }
+
+  -- ---- one fact more
+
+  module _ (f : Fact) (fit : IsFit p clock f) (more : HeldFacts) (made : more ≡ map.insert facts f.tag.0 f) where
+    of_more : (tag : ℕ) (g : Fact) → map.get more tag ≡ Some g → ((g ≡ f) × (tag ≡ f.tag.0)) ⊎ (map.get facts tag ≡ Some g)
+    of_more tag g e = of_insert facts f g tag (ap (λ m. map.get m tag) (sym made) ∙ e)
+
+    own_more : HaveOwnTags more
+    own_more tag g e = elim (of_more tag g e) [ inl q ↦ ap (λ (z : Fact). z.tag.0) q.0 ∙ sym q.1 | inr h ↦ r.own tag g h ]
+
+    fit_more : (tag : ℕ) (g : Fact) → map.get more tag ≡ Some g → IsFit p clock g
+    fit_more tag g e = elim (of_more tag g e) [ inl q ↦ subst (IsFit p clock) (sym q.0) fit | inr h ↦ fit_of tag g h ]
+
+    pub ready_new : (later : Timers) → map.get facts f.tag.0 ≡ None → later ≡ with_timer timers f.tag.0 (end_of_presence p f.ty.0 f.times.start) → IsReady p more later clock
+    ready_new later free timed = record {
+      own = own_more;
+      waits = λ t. ap (λ m. map.get m t) timed ∙ timed_new p facts timers r.waits f free t ∙ ap (λ held. expiry_at p (map.get held t)) (sym made);
+      kept = kept_of p more clock own_more fit_more;
+    }
+
+    pub lead_new : ((tag : ℕ) (g : Fact) → map.get facts tag ≡ Some g → tag < f.tag.0) → Leads p facts clock more clock more [] (Some f)
+    lead_new above = record {
+      later = same_clock clock;
+      kept_before = r.kept;
+      kept_behind = kept_of p more clock own_more fit_more;
+      own = own_more;
+      comes = (made, above);
+      once = tt;
+      held = λ tag i. absurd i;
+      left = λ tag. refl;
+    }
+
+  -- ---- one fact less
+
+  module _ (less : HeldFacts) (out : ℕ) (made : less ≡ map.remove facts out) where
+    was : (tag : ℕ) (g : Fact) → map.get less tag ≡ Some g → map.get facts tag ≡ Some g
+    was tag g e = of_remove facts g out tag (ap (λ m. map.get m tag) (sym made) ∙ e)
+
+    pub ready_less : (fewer : Timers) → ((tag : ℕ) → map.get fewer tag ≡ without_timer timers out tag) → IsReady p less fewer clock
+    ready_less fewer untimed = record {
+      own = λ tag g e. r.own tag g (was tag g e);
+      waits = λ t. timed_less p facts timers r.waits out fewer untimed t ∙ ap (λ held. expiry_at p (map.get held t)) (sym made);
+      kept = kept_of p less clock (λ tag g e. r.own tag g (was tag g e)) (λ tag g e. fit_of tag g (was tag g e));
+    }
+
+    pub lead_less : (f : Fact) → map.get facts out ≡ Some f → Leads p facts clock less clock facts (out ∷ []) None
+    lead_less f there = record {
+      later = same_clock clock;
+      kept_before = r.kept;
+      kept_behind = kept_of p less clock (λ tag g e. r.own tag g (was tag g e)) (λ tag g e. fit_of tag g (was tag g e));
+      own = r.own;
+      comes = refl;
+      once = (λ i. i, tt);
+      held = λ tag i. elim i [ inl e ↦ (f, ap (map.get facts) e ∙ there) | inr k ↦ absurd k ];
+      left = one_gone facts facts less [] out (λ t. refl) made;
+    }
+
+  -- ---- a plain fact revised
+
+  module _ (out : ℕ) (f g : Fact) (all behind : HeldFacts) (there : map.get facts out ≡ Some f) (plain : is_event p g.ty.0 ≡ false) (made : all ≡ map.insert facts g.tag.0 g)
+      (left : behind ≡ map.remove all out) where
+    of_behind : (tag : ℕ) (x : Fact) → map.get behind tag ≡ Some x → map.get all tag ≡ Some x
+    of_behind tag x e = of_remove all x out tag (ap (λ m. map.get m tag) (sym left) ∙ e)
+
+    own_all : HaveOwnTags all
+    own_all = own_more g (fit_plain p clock g plain) all made
+
+    kept_revised : IsOrderly p (over (facts_of behind) clock)
+    kept_revised = kept_of p behind clock (λ tag x e. own_all tag x (of_behind tag x e)) (λ tag x e. fit_more g (fit_plain p clock g plain) all made tag x (of_behind tag x e))
+
+    pub ready_revised : map.get facts g.tag.0 ≡ None → is_event p f.ty.0 ≡ false → IsReady p behind timers clock
+    ready_revised free also =
+        let apart : g.tag.0 ≡ out → ⊥ = λ (e : g.tag.0 ≡ out). absurd (let n : None ≡ Some f = sym free ∙ ap (map.get facts) e ∙ there in cc) in
+        let is : behind ≡ map.insert (map.remove facts out) g.tag.0 g = left ∙ ap (λ m. map.remove m out) made ∙ swapped facts g out apart in
+        record {
+          own = λ tag x e. own_all tag x (of_behind tag x e);
+          waits = λ t. timed_plain p facts timers r.waits out f g there free also plain t ∙ ap (λ held. expiry_at p (map.get held t)) (sym is);
+          kept = kept_revised;
+        }
+
+    pub lead_revised : ((tag : ℕ) (x : Fact) → map.get facts tag ≡ Some x → tag < g.tag.0) → Leads p facts clock behind clock all (out ∷ []) (Some g)
+    lead_revised above = record {
+      later = same_clock clock;
+      kept_before = r.kept;
+      kept_behind = kept_revised;
+      own = own_all;
+      comes = (made, above);
+      once = (λ i. i, tt);
+      held = λ tag i. elim i [ inl e ↦ (f, ap (map.get facts) e ∙ there) | inr k ↦ absurd k ];
+      left = one_gone all all behind [] out (λ t. refl) left;
+    }
+
+  -- ---- a later clock
+
+  module _ (next : ℤ) (later : Timers) (gone : List ℕ) (takes : TakesDue next timers later gone) (fewer : HeldFacts) (left : (tag : ℕ) → map.get fewer tag ≡ left_at facts gone tag) where
+    stays : (tag : ℕ) (g : Fact) → map.get fewer tag ≡ Some g → (map.get facts tag ≡ Some g) × (is_present p next g ≡ true)
+    stays tag g e = left_found p facts timers r.waits next later gone takes tag g (sym (left tag) ∙ e)
+
+    own_left : HaveOwnTags fewer
+    own_left tag g e = r.own tag g (stays tag g e).0
+
+    kept_left : IsOrderly p (over (facts_of fewer) next)
+    kept_left = kept_of p fewer next own_left (λ tag g e. let s = stays tag g e in let fit = fit_of tag g s.0 in record { present = s.1; low = fit.low; high = fit.high })
+
+    pub ready_later : IsReady p fewer later next
+    ready_later = record { own = own_left; waits = timed_left p facts timers r.waits next later gone takes fewer left; kept = kept_left }
+
+    due_there : (tag : ℕ) → In tag gone → (f : Fact) × (map.get facts tag ≡ Some f)
+    due_there tag i = by (map.get facts tag) refl
+      where
+        due : is_due next timers tag ≡ true
+        due = sym (takes.due tag) ∙ in_any tag gone i
+
+        by : (o : Option Fact) → map.get facts tag ≡ o → (f : Fact) × (map.get facts tag ≡ Some f)
+        by None e = absurd (let n : false ≡ true = sym (ap (has_come next) (r.waits tag ∙ ap (expiry_at p) e)) ∙ due in cc)
+        by (Some f) e = (f, e)
+
+    pub lead_later : clock ≤ℤ next → Leads p facts clock fewer next facts gone None
+    lead_later le = record {
+      later = le;
+      kept_before = r.kept;
+      kept_behind = kept_left;
+      own = r.own;
+      comes = refl;
+      once = due_once timers gone takes.in_order;
+      held = due_there;
+      left = left;
+    }

@@ -1,0 +1,157 @@
+-- What a session answers in the worlds for which it stands, and the session that stands for the empty world.
+use Rattle.std.proofs.Common.{◌≡◌, ℕ, ℤ, pos, ◌&&◌, inl, refl, not, true, false, slice_get, List, [], ◌∷◌, Option, Some, None, is_some, option_map, Result, sym, ◌∙◌, ap, subst}
+use Rattle.std.specs.FinMap.{get-empty}
+use Rattle.std.specs.Ordering.{nat_cmp}
+use Rattle.fx_base.specs.Lists.{In}
+use Rattle.fx_base.specs.declared.fact.Fact.{Fact}
+use Rattle.due_queue.specs.Timers.{Timers}
+use Rattle.fact_store.specs.Held.{HeldFacts, facts_of}
+use Rattle.fact_store.proofs.Members.{from_list}
+use Rattle.rule_model.specs.declared.matched.Match.{Match}
+use Rattle.rule_model.specs.declared.program.Rule.{Rule}
+use Rattle.rule_model.specs.declared.step.Step.{Step}
+use Rattle.rule_model.specs.Matches.{has_match, saliences}
+use Rattle.rule_world.specs.declared.code.Code.{Code}
+use Rattle.rule_world.specs.Worlds.{World, empty_world, found}
+use Rattle.rule_world.proofs.Lawfuls.{empty_lawful}
+use Rattle.rule_world.proofs.Pending.{has_pending}
+use Rattle.agenda.specs.Agendas.{Marks}
+use Rattle.pair_memory.specs.Standing.{no_names}
+use Rattle.condition_rows.specs.Looks.{empty_snapshot}
+use Rattle.rete_net.specs.Nets.{NetStands}
+use Rattle.retention.specs.Retentions.{lingers}
+use Rattle.forgetting.specs.Sights.{ends_by}
+use Rattle.forgetting.specs.WorldSights.{sight_of}
+use Rattle.forgetting.proofs.Stepping.{start_law}
+use Rattle.script_read.specs.declared.asked.Change.{Change}
+use Rattle.change_read.specs.Changes.{change_step}
+use Rattle.engine.specs.declared.lines.OutLine.{OutLine}
+use Rattle.engine.specs.declared.lines.Fired.TheVariants.{No, Yes}
+use Rattle.engine.specs.Answers.{FiringAnswers}
+use Rattle.session_laws.specs.declared.memory.Memory.{Memory}
+use Rattle.session_laws.specs.declared.setting.Setting.{Setting}
+use Rattle.session_laws.specs.Gives.{version_of, does, fires, gives}
+use Rattle.session_laws.specs.Leading.{Fits, StandsAfter, WritesFor}
+use Rattle.session_laws.specs.Places.{newest}
+use Rattle.session_laws.specs.Refreshed.{rows_at, no_rows, matches_by, over, IsRefreshed}
+use Rattle.session_laws.specs.Standing.{Contents, Runs, Standing, expiry_at, holding}
+use Rattle.session_laws.proofs.Asking.{change_fits, same_asked}
+use Rattle.session_laws.proofs.Firings.{FiresInto, WritesFiring, top_of, plan_of, due_fires, no_fire, yes_fire}
+use Rattle.session_laws.proofs.Rules.{found_at, is_found}
+use Rattle.session_laws.proofs.Stands.{contents}
+use Rattle.std.specs.FinMap as map_of
+
+-- ---- over no facts
+
+no_match : (rules : List Rule) (m : Match) → has_match (matches_by no_rows rules) m ≡ false
+no_match rules m = is_found no_rows rules m ∙ by (slice_get rules m.rule.0)
+  where
+    by : (o : Option Rule) → found_at no_rows o m.row ≡ false
+    by None = refl
+    by (Some rule) = refl
+
+no_member : (facts : List Fact) → ((f : Fact) → In f facts → ⊥) → facts ≡ []
+no_member [] h = refl
+no_member (f ∷ facts) h = absurd (h f (inl refl))
+
+abbrev nothing : HeldFacts
+nothing = map_of.empty
+
+none_there : (tag : ℕ) (f : Fact) → map_of.get nothing tag ≡ Some f → ⊥
+none_there tag f e = let n : None ≡ Some f = sym (get-empty nat_cmp tag) ∙ e in cc
+
+none_held : facts_of nothing ≡ []
+none_held = no_member (facts_of nothing) (λ f i. let r = from_list nothing f i in none_there r.0 f r.1)
+
+abbrev pub start : Marks → Contents
+start a = contents map_of.empty map_of.empty (pos 0) [] a 1 1
+
+abbrev pub blank : List Rule → Marks
+blank rules = record { saliences = saliences rules; pending = []; fired = [] }
+
+-- A session that has nothing, with the network of its program over no facts, stands for the empty world.
+module _ (s : Setting) (m : Memory) (b : Marks) (net : NetStands s.program m.net empty_snapshot no_names) (r : IsRefreshed s.program.rules no_rows (rows_at s.program [] (pos 0)) (blank s.program.rules) b)
+    (due : m.retention.due ≡ map_of.empty) (lingering : (tag : ℕ) → lingers m.retention tag ≡ false) where
+  start_stands : Standing s m (start b) empty_world
+  unfolding version_of
+  start_stands = record {
+    seen = record {
+      all = map_of.empty;
+      whole = record {
+        lawful = empty_lawful s.program;
+        mirrors = record {
+          facts = λ tag. get-empty nat_cmp tag;
+          waits = λ tag. get-empty nat_cmp tag ∙ sym (ap (expiry_at s.program) (get-empty nat_cmp tag));
+          clock = refl;
+          last_starts = λ entry. refl;
+          next_id = refl;
+          next_tag = refl;
+        };
+      };
+      forgotten = no_names;
+      are = record {
+        held = λ tag f e. e;
+        known = λ tag f e. absurd (none_there tag f e);
+        below = λ who e. absurd (let n : false ≡ true = e in cc);
+      };
+      stands = subst (λ facts. NetStands s.program m.net (over facts (pos 0)) no_names) (sym none_held) net;
+      saliences = r.saliences;
+    };
+    holds =
+        start_law (ends_by s.lives) (sight_of s.program empty_world) (holding (start b) m.retention) (λ tag. refl) (λ q. refl) (λ tag. get-empty nat_cmp tag) due lingering
+        (λ q. r.pending q ∙ ap (λ z. has_match (matches_by (rows_at s.program [] (pos 0)) s.program.rules) q && not z) (no_match s.program.rules q)
+        ∙ sym (has_pending s.program empty_world q))
+        (λ q. r.fired q);
+  }
+
+pub empty_stands : (s x : Setting) (m : Memory) (k : Contents) (a b : Marks) → x ≡ s → a ≡ blank s.program.rules → NetStands s.program m.net empty_snapshot no_names
+    → IsRefreshed s.program.rules no_rows (rows_at s.program [] (pos 0)) a b → m.retention.due ≡ map_of.empty → ((tag : ℕ) → lingers m.retention tag ≡ false) → k ≡ start b
+    → Standing x m k empty_world
+empty_stands s x m k a b same is net r due lingering e =
+    subst (λ (z : Setting). Standing z m k empty_world) (sym same)
+    (subst (λ (z : Contents). Standing s m z empty_world) (sym e)
+    (start_stands s m b net (subst (λ (z : Marks). IsRefreshed s.program.rules no_rows (rows_at s.program [] (pos 0)) z b) is r) due lingering))
+
+pub from_parts : (k : Contents) (facts : HeldFacts) (expiries : Timers) (clock : ℤ) (starts : List ℤ) (a : Marks) (id tag : ℕ) → k.facts ≡ facts → k.expiries ≡ expiries → k.clock ≡ clock → k.last_starts ≡ starts → k.agenda ≡ a → k.next_id ≡ id → k.next_tag ≡ tag
+    → k ≡ contents facts expiries clock starts a id tag
+from_parts k facts expiries clock starts a id tag f e c s h i t =
+    ap (λ z. contents z k.expiries k.clock k.last_starts k.agenda k.next_id k.next_tag) f ∙ ap (λ z. contents facts z k.clock k.last_starts k.agenda k.next_id k.next_tag) e
+    ∙ ap (λ z. contents facts expiries z k.last_starts k.agenda k.next_id k.next_tag) c
+    ∙ ap (λ z. contents facts expiries clock z k.agenda k.next_id k.next_tag) s ∙ ap (λ z. contents facts expiries clock starts z k.next_id k.next_tag) h
+    ∙ ap (λ z. contents facts expiries clock starts a z k.next_tag) i ∙ ap (contents facts expiries clock starts a id) t
+
+pub some_mapped : {A B : Type 0} (f : A → B) (o : Option A) → is_some o ≡ is_some (option_map f o)
+some_mapped f None = refl
+some_mapped f (Some x) = refl
+
+-- ---- answers
+
+module _ (s : Setting) (m : Memory) (k : Contents) where
+  module _ (runs : Runs s) (change : Change) (asked : Result Step Code) (is : asked ≡ change_step s.program (newest k) change) (w : World) (st : Standing s m k w) where
+    asked_is : asked ≡ change_step s.program (found s.program w) change
+    asked_is = is ∙ same_asked s m k w runs st change
+
+    given : does s.program w asked ≡ gives s.program w change
+    unfolding gives
+    given = ap (does s.program w) asked_is
+
+    pub change_lines : (lines : List OutLine) → WritesFor s m k asked [] lines → lines ≡ (gives s.program w change).0
+    change_lines lines h = h w st (subst (Fits s.program w) (sym asked_is) (change_fits s.program w change runs.runnable st.seen.whole.lawful.ordered)) ∙ ap (λ z. z.0) given
+
+    pub change_stands : (n : Memory) (t : Contents) → StandsAfter s m k asked n t → Standing s n t (gives s.program w change).1
+    change_stands n t h =
+        subst (λ z. Standing s n t z.1) given (h w st (subst (Fits s.program w) (sym asked_is) (change_fits s.program w change runs.runnable st.seen.whole.lawful.ordered)))
+
+  module _ (w : World) (st : Standing s m k w) where
+    pub is_due : is_some (top_of k.agenda) ≡ is_some (fires s.program w)
+    unfolding fires
+    is_due = due_fires s m k w st
+
+    pub fires_none : None ≡ plan_of s.program k (top_of k.agenda) → FiringAnswers (fires s.program w) No w (Standing s m k)
+    unfolding fires
+    fires_none none = no_fire s m k w st (top_of k.agenda) refl none
+
+    pub fires_some : Runs s → (n : Memory) (t : Contents) (plan : List (Result Step Code)) (lines : List OutLine) → Some plan ≡ plan_of s.program k (top_of k.agenda)
+        → FiresInto s m k plan n t → WritesFiring s m k plan lines → FiringAnswers (fires s.program w) (Yes lines) w (Standing s n t)
+    unfolding fires
+    fires_some runs n t plan lines planned stands written = yes_fire s m k n t w plan lines (top_of k.agenda) runs st refl planned stands written

@@ -1,0 +1,106 @@
+-- A step whose first phase is done awaits the second.
+use Rattle.std.proofs.Common.{◌≡◌, ◌∙◌, sym, ap, refl, subst, ℕ, ◌&&◌, not, Bool, true, false, List, None}
+use Rattle.fact_store.specs.Held.{facts_of}
+use Rattle.row_delta.specs.declared.row.Row.{Row}
+use Rattle.rule_model.specs.declared.matched.Match.{Match}
+use Rattle.rule_model.specs.declared.program.Rule.{Rule}
+use Rattle.rule_model.specs.declared.step.Step.{Step}
+use Rattle.rule_model.specs.Matches.{matches, has_match}
+use Rattle.rule_world.specs.Worlds.{World, snapshot, stepped, step_fault}
+use Rattle.rule_world.proofs.Fresh.{and_both, and_parts}
+use Rattle.rete_net.specs.Nets.{clean_rows}
+use Rattle.retention.specs.Watching.{Covers}
+use Rattle.pair_memory.specs.Standing.{clean}
+use Rattle.keeping.specs.Steps.{IsLawfulStep}
+use Rattle.forgetting.specs.Sights.{Lives, Sight, ends_by, ends_of, each_tag, is_kept, is_clean}
+use Rattle.forgetting.specs.Steps.{Takes}
+use Rattle.forgetting.specs.WorldSights.{sight_of, comes, goes}
+use Rattle.forgetting.proofs.Closing.{world_step_kept}
+use Rattle.session_laws.specs.declared.memory.Memory.{Memory}
+use Rattle.session_laws.specs.declared.setting.Setting.{Setting}
+use Rattle.session_laws.specs.Refreshed.{over, matches_by, only_in}
+use Rattle.session_laws.specs.Standing.{Contents, Runs, Seen, Standing, holding, with_facts}
+use Rattle.session_laws.proofs.Clean.{clean_matches, clean_kept, clean_next, clean_was, whole_matches}
+use Rattle.session_laws.proofs.Phases.{IsTaken, TakenAwaits}
+use Rattle.std.specs.FinMap as map
+
+same_if : (a b c : Bool) → (a ≡ true → b ≡ c) → (a && b) ≡ (a && c)
+same_if true b c h = h refl
+same_if false b c h = refl
+
+stays : (a b : Bool) → a ≡ true → not (a && not b) ≡ true → b ≡ true
+stays true true e h = refl
+stays true false e h = h
+stays false b e h = absurd (let n : false ≡ true = e in cc)
+
+module _ (s : Setting) (m : Memory) (k : Contents) (w : World) (st : Standing s m k w) (step : Step) (n : Memory) (t : Contents) (left : ℕ → Bool)
+    (runs : Runs s) (none : step_fault s.program w step ≡ None) (taken : IsTaken s m k w st step n t left) where
+  abbrev next : World
+  next = stepped s.program w step
+
+  abbrev lives : Lives
+  lives = ends_by s.lives
+
+  abbrev sight : Sight
+  sight = sight_of s.program w
+
+  -- the rows by which the agenda went on
+  abbrev old : Rule → List Row
+  old = clean_rows s.program (over (facts_of st.seen.all) k.clock) st.seen.forgotten
+
+  abbrev new : Rule → List Row
+  new = clean_rows s.program (over (facts_of taken.all) t.clock) st.seen.forgotten
+
+  lawful_step : IsLawfulStep s.program s.lives w step
+  lawful_step = record { flagged = runs.runnable.observed; operators = runs.runnable.operators; lives = runs.table.lives; lawful = st.seen.whole.lawful; faultless = none }
+
+  -- their matches are those of the worlds that name nothing forgotten
+  was_match : (q : Match) → has_match (matches_by old s.program.rules) q ≡ (has_match (matches s.program (snapshot w)) q && is_clean lives sight q)
+  was_match q =
+      clean_matches s.program (over (facts_of st.seen.all) k.clock) st.seen.forgotten q
+      ∙ ap (λ b. b && clean st.seen.forgotten q.row) (whole_matches s.program (with_facts k st.seen.all) w st.seen.whole q)
+      ∙ same_if (has_match (matches s.program (snapshot w)) q) (clean st.seen.forgotten q.row) (is_clean lives sight q) (λ is. sym (clean_was s m k w st q is))
+
+  next_match : (q : Match) → has_match (matches_by new s.program.rules) q ≡ (has_match (matches s.program (snapshot next)) q && is_clean lives sight q)
+  next_match q =
+      clean_matches s.program (over (facts_of taken.all) t.clock) st.seen.forgotten q
+      ∙ ap (λ b. b && clean st.seen.forgotten q.row) (whole_matches s.program (with_facts t taken.all) next taken.whole q)
+      ∙ same_if (has_match (matches s.program (snapshot next)) q) (clean st.seen.forgotten q.row) (is_clean lives sight q)
+      (λ is. sym (clean_next s m k w st next (with_facts t taken.all) taken.whole taken.later q is))
+
+  takes : Takes lives (comes s.program w step) (goes s.program w step) sight (sight_of s.program next) (holding k m.retention) (holding t n.retention) (only_in s.program.rules old new)
+      (only_in s.program.rules new old)
+  takes = record {
+    store = taken.store;
+    covered = subst (λ clock. Covers (ends_of lives (map.get t.facts)) clock n.retention) taken.whole.mirrors.clock taken.covered;
+    lingering = taken.lingering;
+    goes = λ q. ap (λ b. b && not (has_match (matches_by new s.program.rules) q)) (was_match q) ∙ ap (λ b. (has_match (matches s.program (snapshot w)) q && is_clean lives sight q) && not b) (next_match q);
+    comes = λ q. ap (λ b. b && not (has_match (matches_by old s.program.rules) q)) (next_match q) ∙ ap (λ b. (has_match (matches s.program (snapshot next)) q && is_clean lives sight q) && not b) (was_match q);
+    pending = taken.refreshed.pending;
+    fired = taken.refreshed.fired;
+  }
+
+  -- a fired match is one of the next world, and names nothing forgotten
+  still_fired : (q : Match) → has_match t.agenda.fired q ≡ true → (has_match (matches s.program (snapshot next)) q ≡ true) × (clean st.seen.forgotten q.row ≡ true)
+  still_fired q e =
+      let stood = and_parts (has_match k.agenda.fired q) (not (only_in s.program.rules old new q)) (sym (taken.refreshed.fired q) ∙ e) in
+      let marked = and_parts (has_match w.fired q) (each_tag (is_kept lives sight) q) (sym (st.holds.fired q) ∙ stood.0) in
+      let matched = st.seen.whole.lawful.ordered.fired q marked.0 in
+      let pure = clean_kept s m k w st q matched ∙ marked.1 in
+      let was = was_match q ∙ and_both (has_match (matches s.program (snapshot w)) q) (is_clean lives sight q) matched pure in
+      let is = stays (has_match (matches_by old s.program.rules) q) (has_match (matches_by new s.program.rules) q) was stood.1 in
+      ((and_parts (has_match (matches s.program (snapshot next)) q) (is_clean lives sight q) (sym (next_match q) ∙ is)).0, sym (clean_was s m k w st q matched) ∙ pure)
+
+  abbrev sees : Seen s.program n.net t next
+  sees = record { all = taken.all; whole = taken.whole; forgotten = st.seen.forgotten; are = taken.are; stands = taken.stands; saliences = taken.refreshed.saliences ∙ st.seen.saliences }
+
+pub taken_awaits : TakenAwaits
+taken_awaits s m k w st step n t left runs none taken = record {
+  seen = sees s m k w st step n t left runs none taken;
+  fired = still_fired s m k w st step n t left runs none taken;
+  finishes = λ after old forgets.
+      world_step_kept s.program s.lives w step (holding k m.retention) (holding t n.retention) after
+      (only_in s.program.rules (clean_rows s.program (over (facts_of st.seen.all) k.clock) st.seen.forgotten) (clean_rows s.program (over (facts_of taken.all) t.clock) st.seen.forgotten))
+      (only_in s.program.rules (clean_rows s.program (over (facts_of taken.all) t.clock) st.seen.forgotten) (clean_rows s.program (over (facts_of st.seen.all) k.clock) st.seen.forgotten)) left old
+      (lawful_step s m k w st step n t left runs none taken) st.holds (takes s m k w st step n t left runs none taken) taken.has_left forgets;
+}

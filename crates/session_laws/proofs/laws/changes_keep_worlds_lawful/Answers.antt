@@ -1,0 +1,5 @@
+use Rattle.session_laws.proofs.Asking.{gives_lawful}
+use Rattle.session_laws.proofs.laws.changes_keep_worlds_lawful.Goals as goal
+
+pub returns : goal.returns
+returns c p w change runnable l = gives_lawful p w change runnable l

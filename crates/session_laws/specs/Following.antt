@@ -1,0 +1,50 @@
+-- The network of a program behind the facts of a session.
+use Rattle.std.specs.Prelude.{◌≡◌, ◌<◌, ℕ, ℤ, ◌≤ℤ◌, Bool, false, List, filter_map, Option, Some, None}
+use Rattle.fx_base.specs.Lists.{In, EachOnce}
+use Rattle.fx_base.specs.declared.fact.Fact.{Fact}
+use Rattle.due_queue.specs.Timers.{Timers}
+use Rattle.fact_store.specs.Held.{HeldFacts, facts_of}
+use Rattle.rule_model.specs.declared.program.Program.{Program}
+use Rattle.session_laws.specs.Refreshed.{over}
+use Rattle.pattern_gate.specs.Moves.{IsOrderly}
+use Rattle.row_delta.specs.declared.row.Named.{Named}
+use Rattle.rule_model.specs.Tuples.{name_of}
+use Rattle.rete_net.specs.Forgetting.{AreNotNeeded}
+use Rattle.session_laws.specs.Standing.{expiry_at}
+use Rattle.session_laws.specs.Waiting.{left_at, HaveOwnTags}
+use Rattle.std.specs.FinMap as map
+
+-- Each fact stands at its own tag and waits for the moment from which it is not present, and all of them are present at the clock.
+pub record IsReady (p : Program) (facts : HeldFacts) (expiries : Timers) (clock : ℤ) : Type 0 where
+  pub own : HaveOwnTags facts
+  pub waits : (tag : ℕ) → map.get expiries tag ≡ expiry_at p (map.get facts tag)
+  pub kept : IsOrderly p (over (facts_of facts) clock)
+
+-- ---- a step of the network
+
+-- the one that comes, if one does, has the greatest tag
+abbrev pub Comes : HeldFacts → HeldFacts → Option Fact → Type 0
+Comes before all None = all ≡ before
+Comes before all (Some f) = (all ≡ map.insert before f.tag.0 f) × ((tag : ℕ) (g : Fact) → map.get before tag ≡ Some g → tag < f.tag.0)
+
+-- Some facts go, by their tags, one may come, and the clock moves on or stands. `all` has the facts before and the one that comes.
+pub record Leads (p : Program) (before : HeldFacts) (from : ℤ) (behind : HeldFacts) (to : ℤ) (all : HeldFacts) (gone : List ℕ) (come : Option Fact) : Type 0 where
+  pub later : from ≤ℤ to
+  pub kept_before : IsOrderly p (over (facts_of before) from)
+  pub kept_behind : IsOrderly p (over (facts_of behind) to)
+  pub own : HaveOwnTags all
+  pub comes : Comes before all come
+  pub once : EachOnce gone
+  pub held : (tag : ℕ) → In tag gone → (f : Fact) × (map.get before tag ≡ Some f)
+  pub left : (tag : ℕ) → map.get behind tag ≡ left_at all gone tag
+
+-- the store has of all facts those that are not forgotten, and those that go
+pub record HasAtHand (all facts : HeldFacts) (gone : List ℕ) (forgotten : Named → Bool) : Type 0 where
+  pub known : (tag : ℕ) (f : Fact) → map.get all tag ≡ Some f → forgotten (name_of f) ≡ false → map.get facts tag ≡ Some f
+  pub going : (tag : ℕ) → In tag gone → map.get facts tag ≡ map.get all tag
+
+-- the same where some facts are forgotten, and no rule needs one of them
+pub record LeadsOn (p : Program) (before : HeldFacts) (from : ℤ) (behind : HeldFacts) (to : ℤ) (all : HeldFacts) (gone : List ℕ) (come : Option Fact) (forgotten : Named → Bool) (facts : HeldFacts) : Type 0 where
+  pub leads : Leads p before from behind to all gone come
+  pub unneeded : AreNotNeeded p forgotten (over (facts_of before) from) (over (facts_of behind) to) (filter_map (map.get all) gone) come
+  pub at_hand : HasAtHand all facts gone forgotten

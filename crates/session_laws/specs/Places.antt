@@ -1,0 +1,70 @@
+-- What is asked of the facts that a session has at their tags, and what its parts keep to.
+use Rattle.std.specs.Prelude.{◌≡◌, ◌≤◌, ◌^◌, ℕ, zero, suc, ℤ, pos, ◌≤ℤ◌, List, map as list_map, Option, None, Result, if◌then◌else◌}
+use Rattle.fx_base.specs.declared.ids.Tag.{Tag}
+use Rattle.fx_base.specs.declared.fact.Fact.{Fact}
+use Rattle.due_queue.specs.Timers.{Timers}
+use Rattle.fact_store.specs.Held.{HeldFacts, IsNewest, is_id}
+use Rattle.row_delta.specs.declared.row.Row.{Row}
+use Rattle.rule_model.specs.declared.action.Action.{Action}
+use Rattle.rule_world.specs.declared.code.Code.{Code}
+use Rattle.rule_model.specs.declared.life.Life.{Life}
+use Rattle.rule_model.specs.declared.life.Life.TheVariants.{Plain, Explicit, Finite, Infinite}
+use Rattle.rule_model.specs.declared.program.Program.{Program}
+use Rattle.rule_model.specs.declared.step.Step.{Step}
+use Rattle.rule_world.specs.Events.{most_millis}
+use Rattle.rule_model.specs.Lent.{bound_in}
+use Rattle.rule_model.specs.Planned.{step_of}
+use Rattle.rule_model.specs.Snapshots.{floor_by}
+use Rattle.rule_model.specs.Types.{lateness_of}
+use Rattle.session_laws.specs.Gives.{step_or_overflow}
+use Rattle.session_laws.specs.Standing.{Contents, last_start_in}
+use Rattle.std.specs.FinMap as map
+
+-- ---- the facts
+
+-- of the facts with an id that stand below a tag, the one that stands at the greatest
+unfoldable pub newest_below : HeldFacts → ℕ → ℕ → Option Fact
+newest_below held id zero = None
+newest_below held id (suc tag) = if is_id id (map.get held tag) then map.get held tag else newest_below held id tag
+
+-- the fact of an id
+abbrev pub newest : Contents → ℕ → Option Fact
+newest k id = newest_below k.facts id k.next_tag
+
+-- the newest version of the id has this tag
+pub record IsNewestTag (held : HeldFacts) (id : ℕ) (tag : Tag) : Type 0 where
+  pub fact : Fact
+  pub is_newest : IsNewest held id fact
+  pub tagged : fact.tag ≡ tag
+
+-- no fact stands at the next tag or behind it and none waits there, no id is ahead of the tags, and the clock is from 0 to 2^53
+pub record IsSafe (facts : HeldFacts) (expiries : Timers) (clock : ℤ) (next_id next_tag : ℕ) : Type 0 where
+  pub fresh : (tag : ℕ) → next_tag ≤ tag → map.get facts tag ≡ None
+  pub untimed : (tag : ℕ) → next_tag ≤ tag → map.get expiries tag ≡ None
+  pub ids : next_id ≤ next_tag
+  pub clock_low : pos 0 ≤ℤ clock
+  pub clock_high : clock ≤ℤ most_millis
+
+-- ---- times
+
+-- a finite life is from 0 to 2^62 ms
+abbrev pub IsShort : Life → Type 0
+IsShort Plain = Unit {0}
+IsShort (Explicit expiry) = Unit {0}
+IsShort (Finite n) = (pos 0 ≤ℤ n) × (n ≤ℤ pos (2 ^ 62))
+IsShort Infinite = Unit {0}
+
+-- the floor of an entry point, by the last starts that are kept
+abbrev pub floor_in : Program → List ℤ → ℤ → ℕ → ℤ
+floor_in p starts clock entry = floor_by (lateness_of p entry) (last_start_in starts entry) clock
+
+-- ---- what actions are to do
+
+abbrev pub held_at : HeldFacts → Tag → Option Fact
+held_at held tag = map.get held tag.0
+
+abbrev pub planned_for : HeldFacts → Row → Action → Result Step Code
+planned_for held row a = step_or_overflow (step_of (bound_in (held_at held) row) row.facts a)
+
+abbrev pub planned : HeldFacts → Row → List Action → List (Result Step Code)
+planned held row actions = list_map (planned_for held row) actions
