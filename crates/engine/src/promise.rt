@@ -1,7 +1,7 @@
 ghost use Rattle.std.specs.Prelude.{◌≡◌, ◌+◌, ◌≤◌, ◌<◌, ◌^◌, ℕ, true, List, Option, IfOk, is_some};
 ghost use Rattle.rule_model.specs.declared.life.LifeTable.{LifeTable as LifeTableData};
 ghost use Rattle.rule_model.specs.declared.program.Program.{Program as ProgramData};
-ghost use Rattle.rule_lives.specs.Keeping.{IsLifeTable};
+ghost use Rattle.rule_lives.specs.Keeping.{IsSafeTable};
 ghost use Rattle.rule_world.specs.Programs.{IsRunnable};
 ghost use Rattle.rule_world.specs.Worlds.{World, empty_world};
 ghost use Rattle.script_read.specs.declared.asked.Change.{Change as ChangeData};
@@ -36,13 +36,14 @@ pub trait Engine: Sized + Drop {
     // the lines of one firing, and the next world; nothing where nothing is pending
     ghost fires: { ProgramData → World → Option (List OutLineData × World) };
 
-    // how many events of each event type are kept in a world, with a table of the lives of the program's types
+    // how many events of each event type are kept in a world, with a safe table of lives
     ghost counts: { ProgramData → LifeTableData → World → List ℕ };
 
-    /// An engine in the empty world of a program, with the table of the lives of its types.
+    /// An engine in the empty world of a program, with a table of lives that is safe to forget by: that of the lives of its types
+    /// (`expiry_infer::lives`), the one without finite lives (`LifeTable::without`), or any between them.
     fn new(alloc: Global, program: Program, lives: LifeTable) -> Result<Self, NoMemory>
         requires runnable { IsRunnable program }
-        requires table { IsLifeTable program lives }
+        requires table { IsSafeTable program lives }
         ensures stands { IfOk result (λ e. stands e empty_world) }
         ensures program { IfOk result (λ e. made_with e ≡ program) }
         ensures table { IfOk result (λ e. table e ≡ lives) }

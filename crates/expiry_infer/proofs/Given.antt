@@ -16,7 +16,7 @@ use Rattle.rule_model.specs.Types.{is_event_type, expiry_in, is_event, expiry_of
 use Rattle.rule_model.proofs.RuleOf.{in_place}
 use Rattle.rule_lives.specs.Networks.{Occurrence, bindings}
 use Rattle.rule_lives.specs.Reach.{Limit, finite, infinite, plus, Placed, SolvesWith, IsReach}
-use Rattle.rule_lives.specs.Lifetimes.{tail, Adds, of_fact, of_event, AddsSome, LivesFor, scope, Gives, IsLife}
+use Rattle.rule_lives.specs.Lifetimes.{tail, Adds, of_fact, of_event, AddsSome, LivesFor, scope, PatternLife, IsLife}
 use Rattle.expiry_infer.specs.Edges.{HaveNetwork}
 use Rattle.expiry_infer.specs.Tables.{placed, AddsAt, GivesAt, GivesIn, StandsIn}
 use Rattle.expiry_infer.specs.Tails.{HaveLives}
@@ -125,7 +125,7 @@ pub of_pattern : (p : Program) (conditions : List Condition) (ty place : ℕ) (c
 of_pattern p conditions ty place c low top is h =
     top_like (LivesFor p conditions (placed place c) (pattern_of c).window) (GivesAt p conditions ty place c) low top (λ l lives. (is, lives)) (λ l gives. gives.1) h
 
-given : (p : Program) (ty end : ℕ) (l : Limit) → Among p.rules (GivesIn p ty) end l → Gives p ty l
+given : (p : Program) (ty end : ℕ) (l : Limit) → Among p.rules (GivesIn p ty) end l → PatternLife p ty l
 given p ty end l h =
     let gives = h.limit in record {
       rule = h.x;
@@ -141,7 +141,7 @@ rule_at [] rule h = absurd h
 rule_at (r ∷ rules) rule (inl e) = (0, ap Some (sym e))
 rule_at (r ∷ rules) rule (inr h) = let k = rule_at rules rule h in (suc k.0, k.1)
 
-gives_among : (p : Program) (ty end : ℕ) (l : Limit) → length p.rules ≤ end → Gives p ty l → Among p.rules (GivesIn p ty) end l
+gives_among : (p : Program) (ty end : ℕ) (l : Limit) → length p.rules ≤ end → PatternLife p ty l → Among p.rules (GivesIn p ty) end l
 gives_among p ty end l all h =
     let at = rule_at p.rules h.rule h.stands in
     let conditions = h.rule.conditions in
@@ -152,7 +152,7 @@ gives_among p ty end l all h =
 pub is_life : (p : Program) (ty end : ℕ) (l : Limit) → is_event p ty ≡ true → expiry_of p ty ≡ None → length p.rules ≤ end
     → IsTop (Among p.rules (GivesIn p ty) end) (finite (pos 0)) l → IsLife p ty l
 is_life p ty end l event unexpired all h =
-    let top = top_like (Among p.rules (GivesIn p ty) end) (Gives p ty) (finite (pos 0)) l (given p ty end) (λ m g. gives_among p ty end m all g) h in record {
+    let top = top_like (Among p.rules (GivesIn p ty) end) (PatternLife p ty) (finite (pos 0)) l (given p ty end) (λ m g. gives_among p ty end m all g) h in record {
       event = event;
       unexpired = unexpired;
       above_zero = top.above_least;

@@ -4,8 +4,6 @@ use Rattle.rule_model.specs.declared.condition.Condition.{Condition}
 use Rattle.rule_model.specs.declared.condition.WindowTag.{WindowTag}
 use Rattle.rule_model.specs.declared.condition.WindowTag.TheVariants.{Whole, Time, Length}
 use Rattle.rule_model.specs.declared.program.Program.{Program}
-use Rattle.rule_model.specs.declared.life.Life.{Life}
-use Rattle.rule_model.specs.declared.life.Life.TheVariants.{Plain, Explicit, Finite, Infinite}
 use Rattle.rule_model.specs.Rows.{pattern_of}
 use Rattle.rule_world.specs.Events.{most_millis}
 use Rattle.rule_lives.specs.Lifetimes.{tail}
@@ -37,10 +35,3 @@ pub record HaveLives (p : Program) (conditions : List Condition) : Type 0 where
 abbrev pub IsSmall : Limit → Type 0
 IsSmall (finite n) = n ≤ℤ pos (2 ^ 62)
 IsSmall infinite = Unit {0}
-
--- from 0 to 2^62 ms, where it is finite
-abbrev pub IsShortLife : Life → Type 0
-IsShortLife Plain = Unit {0}
-IsShortLife (Explicit expiry) = Unit {0}
-IsShortLife (Finite n) = (pos 0 ≤ℤ n) × (n ≤ℤ pos (2 ^ 62))
-IsShortLife Infinite = Unit {0}

@@ -1,12 +1,13 @@
 //! The lives of patterns and types (Walzer, Breddin, Groch 2008).
 ghost use Rattle.std.specs.Prelude.{◌≡◌, ◌<◌, ◌≤◌, length, slice_get, true, None, Some, pos, IfOk};
+ghost use Rattle.rule_model.specs.Lives.{AreShort, IsShortLife};
 ghost use Rattle.rule_model.specs.Rows.{pattern_of};
 ghost use Rattle.rule_model.specs.Types.{is_event, expiry_of};
 ghost use Rattle.rule_lives.specs.Lifetimes.{Adds, AddsSome, IsLife, LivesFor, scope as scope_of};
 ghost use Rattle.expiry_infer.specs.Found.{limit_of};
-ghost use Rattle.expiry_infer.specs.Tails.{HaveLives, IsShortLife, IsSmall};
+ghost use Rattle.expiry_infer.specs.Tails.{HaveLives, IsSmall};
 ghost use Rattle.expiry_infer.specs.Tops.{Among, IsTop};
-ghost use Rattle.rule_lives.specs.Keeping.{AreLives, AreShort, IsLifeOf};
+ghost use Rattle.rule_lives.specs.Keeping.{AreLives, IsLifeOf, IsSafeTable};
 ghost use Rattle.rule_world.specs.Programs.{IsRunnable};
 ghost use Rattle.expiry_infer.specs.Tables.{lent, GivesAt, StandsIn};
 
@@ -158,11 +159,12 @@ fn life(alloc: Global, program: &Program, place: usize, ty: &TypeInfo) -> Result
     }
 }
 
-/// The lives of the types of a program, in milliseconds: how long behind its end an event of each can still matter.
+/// The lives of the types of a program, in milliseconds: how long behind its end an event of each can still matter. The table is one that
+/// engines of the program forget by.
 pub fn lives(alloc: Global, program: &Program) -> Result<LifeTable, NoMemory>
     requires { IsRunnable program.now }
     ensures lives { IfOk result (AreLives program.now) }
-    ensures short { IfOk result AreShort }
+    ensures safe { IfOk result (IsSafeTable program.now) }
 {
     let types = program.types.as_slice();
     let mut lives = Vec::with_capacity(alloc, types.len())?;

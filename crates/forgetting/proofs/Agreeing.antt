@@ -1,5 +1,5 @@
 -- What the sight of a world keeps by a table of lives.
-use Rattle.std.proofs.Common.{◌≡◌, ℕ, ℤ, zero, suc, ◌==◌, ◌&&◌, ◌||◌, ◌+ℤ◌, ◌-ℤ◌, Bool, true, false, cond, not, inl, inr, List, [], ◌∷◌, length, refl, sym, ◌∙◌, ap, subst, arith, Option, Some, None}
+use Rattle.std.proofs.Common.{◌≡◌, ℕ, ℤ, ◌==◌, ◌&&◌, ◌||◌, ◌+ℤ◌, Bool, true, false, cond, not, inl, inr, List, [], ◌∷◌, refl, sym, ◌∙◌, ap, subst, arith, Option, Some, None}
 use Rattle.std.specs.Prelude.{is_some, option_map, slice_get, int_le, pos}
 use Rattle.std.specs.List.{list_any}
 use Rattle.std.proofs.lemmas.Int.{ints}
@@ -11,22 +11,22 @@ use Rattle.rule_model.specs.declared.life.Life.TheVariants.{Plain, Explicit, Fin
 use Rattle.rule_model.specs.declared.life.LifeTable.{LifeTable}
 use Rattle.rule_model.specs.declared.matched.Match.{Match}
 use Rattle.rule_model.specs.declared.program.Program.{Program}
-use Rattle.rule_model.specs.Candidates.{is_within, is_present}
+use Rattle.rule_model.specs.Candidates.{is_present}
 use Rattle.rule_model.specs.Matches.{matches, has_match}
 use Rattle.rule_model.specs.Tuples.{name_of}
-use Rattle.rule_model.specs.Types.{is_event, is_event_type, expiry_of}
-use Rattle.rule_model.proofs.Firsts.{or_right}
 use Rattle.rule_model.proofs.Named.{of_filter}
 use Rattle.rule_model.proofs.Once.{one_fact}
 use Rattle.rule_model.proofs.RuleOf.{has_in}
 use Rattle.rule_world.specs.Lawful.{IsOrdered}
 use Rattle.rule_world.specs.Worlds.{World, snapshot, present, found, pending, step_fault, revised, has_id}
-use Rattle.rule_world.proofs.Faultless.{event_by, modified_plain}
-use Rattle.rule_world.proofs.Found.{fact_with}
+use Rattle.rule_world.proofs.Faultless.{modified_plain}
+use Rattle.rule_world.proofs.Found.{fact_with, plain_present}
 use Rattle.rule_world.proofs.Fresh.{and_parts}
 use Rattle.rule_world.proofs.Keeping.{kept_ordered}
 use Rattle.rule_world.proofs.Pending.{has_pending}
-use Rattle.rule_lives.specs.Keeping.{AreLives}
+use Rattle.rule_lives.specs.Keeping.{AreSafe}
+use Rattle.rule_lives.proofs.Safe.{plain_unlisted}
+use Rattle.rule_lives.proofs.Still.{always_present}
 use Rattle.due_queue.specs.Timers.{has_come}
 use Rattle.pair_memory.specs.Joined.{has_name}
 use Rattle.condition_rows.proofs.Ends.{in_name, name_in}
@@ -42,15 +42,7 @@ use Rattle.forgetting.proofs.Forgotten.{two_tests}
 use Rattle.forgetting.proofs.Naming.{same_bool, some_in, one_in, holds_of}
 use Rattle.forgetting.proofs.Seeing.{tag_of, same_tag, is_same, fact_in, own_at, at_filter, named_present, sight_law}
 
--- ---- what is present
-
-plain_present : (p : Program) (clock : ℤ) (f : Fact) → is_event p f.ty.0 ≡ false → is_present p clock f ≡ true
-unfolding is_present
-plain_present p clock f e = ap (λ b. not b || is_within (expiry_of p f.ty.0) (clock -ℤ f.times.start)) e
-
-unexpired_present : (p : Program) (clock : ℤ) (f : Fact) → expiry_of p f.ty.0 ≡ None → is_present p clock f ≡ true
-unfolding is_present
-unexpired_present p clock f e = ap (λ x. not (is_event p f.ty.0) || is_within x (clock -ℤ f.times.start)) e ∙ or_right (not (is_event p f.ty.0)) true refl
+-- ---- lives that do not end
 
 pub plain_endless : PlainEndless
 plain_endless p table f are plain = by (slice_get table.lives f.ty.0) refl
@@ -59,7 +51,7 @@ plain_endless p table f are plain = by (slice_get table.lives f.ty.0) refl
     by None at = refl
     by (Some Plain) at = refl
     by (Some (Explicit expiry)) at = refl
-    by (Some (Finite n)) at = absurd (let e : true ≡ false = sym (are.each f.ty.0 (Finite n) at).event ∙ plain in cc)
+    by (Some (Finite n)) at = absurd (let e : true ≡ false = sym (are.each f.ty.0 (Finite n) at).1.event ∙ plain in cc)
     by (Some Infinite) at = refl
 
 pub expired_endless : ExpiredEndless
@@ -69,7 +61,7 @@ expired_endless p table clock f are gone = by (slice_get table.lives f.ty.0) ref
     by None at = refl
     by (Some Plain) at = refl
     by (Some (Explicit expiry)) at = refl
-    by (Some (Finite n)) at = absurd (let e : true ≡ false = sym (unexpired_present p clock f (are.each f.ty.0 (Finite n) at).unexpired) ∙ gone in cc)
+    by (Some (Finite n)) at = absurd (let e : true ≡ false = sym (always_present p clock f (are.each f.ty.0 (Finite n) at).1.unexpired) ∙ gone in cc)
     by (Some Infinite) at = refl
 
 pub modify_endless : ModifyEndless
@@ -78,7 +70,7 @@ modify_endless p table w id sets are o none = (λ f. by (found p w id.0) refl f,
   where
     here : (f : Fact) → In f (present p w) → has_id id.0 f ≡ true → ends_by table f ≡ None
     here f i named =
-        plain_endless p table f are (modified_plain p (found p w id.0) f none (fact_with (present p w) 1 w.next_id id.0 f (kept_ordered p w o).ids i named))
+        plain_endless p table f are (modified_plain p (found p w id.0) f none (fact_with (present p w) id.0 f (kept_ordered p w o).ids i named))
 
     by : (x : Option Fact) → found p w id.0 ≡ x → (f : Fact) → option_map (revised w.next_tag sets) x ≡ Some f → ends_by table f ≡ None
     by None e f is = absurd (let n : None ≡ Some f = is in cc)
@@ -88,13 +80,6 @@ modify_endless p table w id sets are o none = (λ f. by (found p w id.0) refl f,
 
 -- ---- one fact of a world
 
-none_too : {A B : Type 0} (xs : List A) (ys : List B) (k : ℕ) → length xs ≡ length ys → slice_get xs k ≡ None → slice_get ys k ≡ None
-none_too [] [] k e h = refl
-none_too [] (y ∷ ys) k e h = absurd cc
-none_too (x ∷ xs) [] k e h = absurd cc
-none_too (x ∷ xs) (y ∷ ys) zero e h = absurd cc
-none_too (x ∷ xs) (y ∷ ys) (suc k) e h = none_too xs ys k (let s : length xs ≡ length ys = cc in s) h
-
 any_same : (a b : Named → Bool) (ns : List Named) → ((n : Named) → In n ns → a n ≡ b n) → list_any a ns ≡ list_any b ns
 any_same a b [] h = refl
 any_same a b (n ∷ ns) h = ap (λ t. t || list_any a ns) (h n (inl refl)) ∙ ap (λ t. b n || t) (any_same a b ns (λ k i. h k (inr i)))
@@ -102,7 +87,7 @@ any_same a b (n ∷ ns) h = ap (λ t. t || list_any a ns) (h n (inl refl)) ∙ a
 within_same : (last clock : ℤ) → not (int_le (last +ℤ pos 1) clock) ≡ int_le clock last
 within_same last clock = grind (arith, ints)
 
-module _ (p : Program) (table : LifeTable) (w : World) (are : AreLives p table) (o : IsOrdered p w) where
+module _ (p : Program) (table : LifeTable) (w : World) (are : AreSafe p table) (o : IsOrdered p w) where
   abbrev lives : Fact → Option ℤ
   lives = ends_by table
 
@@ -143,7 +128,7 @@ module _ (p : Program) (table : LifeTable) (w : World) (are : AreLives p table) 
 
     same_life : (life : Option Life) → slice_get table.lives f.ty.0 ≡ life → (needed : Bool) → (needed ≡ true → is_present p w.clock f ≡ true)
         → (is_present p w.clock f && (not (has_come w.clock (end_of_life life f)) || needed)) ≡ (is_alive p life w.clock f || needed)
-    same_life None at needed seen = ap (λ t. t && true) (plain_present p w.clock f (event_by p f.ty.0 ∙ ap is_event_type (none_too table.lives p.types f.ty.0 are.as_many at)))
+    same_life None at needed seen = ap (λ t. t && true) (plain_present p w.clock f (plain_unlisted p table f.ty.0 are at))
     same_life (Some Plain) at needed seen = ap (λ t. t && true) (plain_present p w.clock f (are.each f.ty.0 Plain at))
     same_life (Some (Explicit expiry)) at needed seen = by (is_present p w.clock f) needed seen
       where
@@ -152,9 +137,9 @@ module _ (p : Program) (table : LifeTable) (w : World) (are : AreLives p table) 
         by false true h = h refl
         by false false h = refl
     same_life (Some (Finite n)) at needed seen =
-        ap (λ t. t && (not (has_come w.clock (end_of_life (Some (Finite n)) f)) || needed)) (unexpired_present p w.clock f (are.each f.ty.0 (Finite n) at).unexpired)
+        ap (λ t. t && (not (has_come w.clock (end_of_life (Some (Finite n)) f)) || needed)) (always_present p w.clock f (are.each f.ty.0 (Finite n) at).1.unexpired)
         ∙ ap (λ t. t || needed) (within_same (f.times.end +ℤ n) w.clock)
-    same_life (Some Infinite) at needed seen = ap (λ t. t && true) (unexpired_present p w.clock f (are.each f.ty.0 Infinite at).unexpired)
+    same_life (Some Infinite) at needed seen = ap (λ t. t && true) (always_present p w.clock f (are.each f.ty.0 Infinite at).1)
 
     one_kept : fact_at w.facts f.tag.0 ≡ Some f → (is_present p w.clock f && (not (has_come w.clock (lives f)) || is_needed (sight_of p w) f.tag.0)) ≡ is_kept_in p table w f
     unfolding is_kept_in

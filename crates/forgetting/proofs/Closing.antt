@@ -52,8 +52,8 @@ module _ (p : Program) (table : LifeTable) (w : World) (step : Step) (given : Is
   kept_own : (f : Fact) → In f w.facts → In (name_of f) m.row.facts → is_kept_in p table w f ≡ true
   unfolding stepped
   kept_own f inside own =
-      is_tested p table w given.lives f
-      (match_names_kept p table w step given.flagged given.operators given.lives given.lawful given.faultless m is was_not f own inside)
+      is_tested p table w given.safe f
+      (match_names_kept p table w step given.flagged given.operators given.safe given.lawful given.faultless m is was_not f own inside)
 
   there_is : (o : Option Fact) → is_some (only (is_present p w.clock) o) ≡ true → (f : Fact) × (o ≡ Some f)
   there_is None e = absurd (let n : false ≡ true = e in cc)
@@ -62,11 +62,11 @@ module _ (p : Program) (table : LifeTable) (w : World) (step : Step) (given : Is
   none_forgotten : (n : Named) → In n m.row.facts → is_forgotten (ends_by table) (sight_of p w) n.tag.0 ≡ true → ⊥
   none_forgotten n i e =
       let both = and_parts (is_some (fact_at (present p w) n.tag.0)) (not (is_kept (ends_by table) (sight_of p w) n.tag.0)) e in
-      let f = there_is (fact_at w.facts n.tag.0) (ap is_some (sym (present_at p table w given.lives given.lawful.ordered n.tag.0)) ∙ both.0) in
+      let f = there_is (fact_at w.facts n.tag.0) (ap is_some (sym (present_at p table w given.safe given.lawful.ordered n.tag.0)) ∙ both.0) in
       let own = fact_in w.facts n.tag.0 f.0 f.1 in
       let keeps = kept_own f.0 own.0 (subst (λ (k : Named). In k m.row.facts) (named_own n i f.0 own.0 own.1) i) in
       let here : is_kept (ends_by table) (sight_of p w) n.tag.0 ≡ true =
-      ap is_some (same_kept p table w given.lives given.lawful.ordered n.tag.0 ∙ ap (only (is_kept_in p table w)) f.1) ∙ ap (λ t. is_some (cond t (Some f.0) None)) keeps in
+      ap is_some (same_kept p table w given.safe given.lawful.ordered n.tag.0 ∙ ap (only (is_kept_in p table w)) f.1) ∙ ap (λ t. is_some (cond t (Some f.0) None)) keeps in
       let n : true ≡ false = sym here ∙ not_true _ both.1 in
       cc
 
@@ -91,7 +91,7 @@ pub next_clean : NextClean
 next_clean p table w step given m is = by (has_match (matches p (snapshot w)) m) refl
   where
     by : (t : Bool) → has_match (matches p (snapshot w)) m ≡ t → is_clean (ends_by table) (sight_of p w) m ≡ clean (is_forgotten_in p table w) m.row
-    by true was = same_clean p table w given.lives given.lawful.ordered m was
+    by true was = same_clean p table w given.safe given.lawful.ordered m was
     by false was_not =
         step_comes_clean p table w step given m is was_not
         ∙ sym (none_of p table w step given m is was_not (is_forgotten_in p table w) (none_lost p table w step given m is was_not))

@@ -20,7 +20,7 @@ use Rattle.rule_model.proofs.Listed.{in_map}
 use Rattle.rule_model.proofs.Named.{named_of}
 use Rattle.rule_model.proofs.Once.{one_fact}
 use Rattle.rule_model.proofs.RuleOf.{rule_of}
-use Rattle.rule_world.specs.Worlds.{World, snapshot, present, kept, fact_of, has_id, revised, revised_in}
+use Rattle.rule_world.specs.Worlds.{World, snapshot, present, only_present, fact_of, has_id, revised, revised_in}
 use Rattle.rule_world.proofs.Fresh.{AllBelow}
 use Rattle.rule_world.proofs.Kept.{kept_matches}
 use Rattle.rule_world.proofs.Pending.{has_pending}
@@ -163,8 +163,8 @@ module _ (id next : ℕ) (sets : List (ℕ × Value)) where
 -- a match of a world names present facts
 pub named_present : (p : Program) (w : World) (m : Match) → has_match (matches p (snapshot w)) m ≡ true → (n : Named) → In n m.row.facts → (g : Fact) × In g (present p w) × (name_of g ≡ n)
 named_present p w m e n i =
-    let of = rule_of p (snapshot (kept p w)) m (ap (λ ms. has_match ms m) (kept_matches p w) ∙ e) in
-    named_of p (snapshot (kept p w)) of.rule.conditions m.row of.row n i
+    let of = rule_of p (snapshot (only_present p w)) m (ap (λ ms. has_match ms m) (kept_matches p w) ∙ e) in
+    named_of p (snapshot (only_present p w)) of.rule.conditions m.row of.row n i
 
 pub sight_law : SightLaw
 sight_law p w ordered = record {

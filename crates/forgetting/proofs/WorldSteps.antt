@@ -11,12 +11,12 @@ use Rattle.rule_model.specs.Distinct.{HaveDistinctTags}
 use Rattle.rule_model.specs.Matches.{matches, has_match}
 use Rattle.rule_model.proofs.Once.{one_fact}
 use Rattle.rule_world.specs.Lawful.{IsOrdered}
-use Rattle.rule_world.specs.Worlds.{World, snapshot, present, kept, found, moved, settled, stepped, step_fault, modify_fault, new_fact, with_new, with_revised, without_fact, at_clock, revised, has_id}
+use Rattle.rule_world.specs.Worlds.{World, snapshot, present, only_present, found, moved, settled, stepped, step_fault, modify_fault, new_fact, with_new, with_revised, with_retracted, at_clock, revised, has_id}
 use Rattle.rule_world.proofs.Faultless.{moved_forward}
 use Rattle.rule_world.proofs.Found.{found_in}
 use Rattle.rule_world.proofs.Fresh.{AllBelow, below_of, and_both, and_parts, has_number}
 use Rattle.rule_world.proofs.Ids.{one_id}
-use Rattle.rule_world.proofs.Keeping.{kept_ordered, kept_new, kept_numbers, kept_revised, kept_without, kept_later}
+use Rattle.rule_world.proofs.Keeping.{others, kept_ordered, kept_new, kept_numbers, kept_revised, kept_without, kept_later}
 use Rattle.rule_world.proofs.Pending.{has_still}
 use Rattle.forgetting.specs.Sights.{only}
 use Rattle.forgetting.specs.Steps.{brought, changed, IsStep}
@@ -86,13 +86,13 @@ module _ (p : Program) (w : World) (o : IsOrdered p w) where
       ∙ ap (λ x. changed (brought (option_map (revised w.next_tag sets) x) tag) (has_id id) (fact_at there tag)) (sym e)
     where
       by : (t : Bool) → (w.next_tag == tag) ≡ t
-          → fact_at (with_revised (kept p w) id sets).facts tag ≡ changed (cond t (Some (revised w.next_tag sets g)) None) (has_id id) (fact_at there tag)
-      by true s = ap (fact_at (with_revised (kept p w) id sets).facts) (sym (same_tag w.next_tag tag s)) ∙ at_next id w.next_tag sets there g below e
+          → fact_at (with_revised (only_present p w) id sets).facts tag ≡ changed (cond t (Some (revised w.next_tag sets g)) None) (has_id id) (fact_at there tag)
+      by true s = ap (fact_at (with_revised (only_present p w) id sets).facts) (sym (same_tag w.next_tag tag s)) ∙ at_next id w.next_tag sets there g below e
       by false s = at_revised id w.next_tag sets there tag distinct s
 
-  fewer_facts : (ty id tag : ℕ) → fact_at (present p (without_fact w ty id)) tag ≡ changed None (λ f. f.ty.0 == ty && has_id id f) (fact_at there tag)
+  fewer_facts : (ty id tag : ℕ) → fact_at (present p (with_retracted p w ty id)) tag ≡ changed None (λ f. f.ty.0 == ty && has_id id f) (fact_at there tag)
   fewer_facts ty id tag =
-      ap (λ (v : World). fact_at v.facts tag) (kept_without p w ty id) ∙ at_filter (λ f. not (f.ty.0 == ty && has_id id f)) there tag distinct
+      ap (λ (v : World). fact_at v.facts tag) (kept_without p w ty id) ∙ at_filter (others ty id) there tag distinct
 
   later_facts : (clock : ℤ) (tag : ℕ) → w.clock ≤ℤ clock → fact_at (present p (at_clock w clock)) tag ≡ changed None (λ f. not (is_present p clock f)) (fact_at there tag)
   later_facts clock tag le =
@@ -117,7 +117,7 @@ world_step_law p w (Insert ty entry fields) o none =
     is_step p w o (with_new p w f) (Insert ty entry fields) (λ tag. new_facts p w o f tag refl) (stands w.clock w.clock refl) refl
 world_step_law p w (Modify id sets) o none =
     is_step p w o (with_revised w id.0 sets) (Modify id sets) (λ tag. revised_facts p w o id.0 sets tag (found p w id.0) refl none) (stands w.clock w.clock refl) refl
-world_step_law p w (Retract ty id) o none = is_step p w o (without_fact w ty.0 id.0) (Retract ty id) (fewer_facts p w o ty.0 id.0) (stands w.clock w.clock refl) refl
+world_step_law p w (Retract ty id) o none = is_step p w o (with_retracted p w ty.0 id.0) (Retract ty id) (fewer_facts p w o ty.0 id.0) (stands w.clock w.clock refl) refl
 world_step_law p w (Advance by) o none =
     let le = (moved_forward w.clock (w.clock +ℤ by) none).0 in
     is_step p w o (at_clock w (w.clock +ℤ by)) (Advance by) (λ tag. later_facts p w o (w.clock +ℤ by) tag le) le refl
@@ -132,7 +132,7 @@ retracts_one p w ty id g o found_one typed tag f at =
     same_bool (f.ty.0 == ty.0 && has_id id.0 f) (tag == g.tag.0)
     (λ e.
     let named = has_number id.0 f (and_parts (f.ty.0 == ty.0) (has_id id.0 f) e).1 in
-    let same = one_id (present p w) 1 w.next_id f g (kept_ordered p w o).ids own.0 there_g.0 (named ∙ sym there_g.1) in
+    let same = one_id (present p w) f g (kept_ordered p w o).ids own.0 there_g.0 (named ∙ sym there_g.1) in
     is_same tag g.tag.0 (sym own.1 ∙ ap (λ (x : Fact). x.tag.0) same))
     (λ e.
     let same = one_fact (present p w) (distinct p w o) f g own.0 there_g.0 (ap tag_of (own.1 ∙ same_tag tag g.tag.0 e)) in

@@ -1,5 +1,5 @@
--- With the lives of a program's types the sight of a lawful world keeps what is kept of the world, so a session that forgets needs no
--- premise but those of the world.
+-- With a safe table of lives the sight of a lawful world keeps what is kept of the world, so a session that forgets needs no premise but
+-- those of the world.
 use Rattle.std.specs.Prelude.{◌≡◌, ℕ, ℤ, Bool, true, false, List, Some, None}
 use Rattle.fx_base.specs.declared.fact.Fact.{Fact}
 use Rattle.fx_base.specs.declared.ids.FactId.{FactId}
@@ -14,7 +14,7 @@ use Rattle.rule_model.specs.Matches.{matches, has_match}
 use Rattle.rule_model.specs.Types.{is_event}
 use Rattle.rule_world.specs.Lawful.{IsOrdered}
 use Rattle.rule_world.specs.Worlds.{World, snapshot, pending, stepped, step_fault, marked}
-use Rattle.rule_lives.specs.Keeping.{AreLives}
+use Rattle.rule_lives.specs.Keeping.{AreSafe}
 use Rattle.agenda.specs.Agendas.{names_tag}
 use Rattle.pair_memory.specs.Standing.{clean}
 use Rattle.keeping.specs.Kept.{is_kept, is_forgotten}
@@ -28,23 +28,23 @@ use Rattle.forgetting.specs.WorldSights.{fact_at, sight_of, comes, goes}
 
 -- under each tag the sight keeps the fact of the world where that is kept
 abbrev pub SameKept : Type 0
-SameKept = (p : Program) (table : LifeTable) (w : World) → AreLives p table → IsOrdered p w → (tag : ℕ) → kept (ends_by table) (sight_of p w) tag ≡ only (is_kept p table w) (fact_at w.facts tag)
+SameKept = (p : Program) (table : LifeTable) (w : World) → AreSafe p table → IsOrdered p w → (tag : ℕ) → kept (ends_by table) (sight_of p w) tag ≡ only (is_kept p table w) (fact_at w.facts tag)
 
 -- a match of the world names nothing forgotten where its row is clean of the versions that are forgotten
 abbrev pub SameClean : Type 0
-SameClean = (p : Program) (table : LifeTable) (w : World) → AreLives p table → IsOrdered p w → (m : Match) → has_match (matches p (snapshot w)) m ≡ true
+SameClean = (p : Program) (table : LifeTable) (w : World) → AreSafe p table → IsOrdered p w → (m : Match) → has_match (matches p (snapshot w)) m ≡ true
     → is_clean (ends_by table) (sight_of p w) m ≡ clean (is_forgotten p table w) m.row
 
 -- the life of a plain fact does not end, and neither does that of an event with an explicit expiry, which is not present any more
 abbrev pub PlainEndless : Type 0
-PlainEndless = (p : Program) (table : LifeTable) (f : Fact) → AreLives p table → is_event p f.ty.0 ≡ false → ends_by table f ≡ None
+PlainEndless = (p : Program) (table : LifeTable) (f : Fact) → AreSafe p table → is_event p f.ty.0 ≡ false → ends_by table f ≡ None
 
 abbrev pub ExpiredEndless : Type 0
-ExpiredEndless = (p : Program) (table : LifeTable) (clock : ℤ) (f : Fact) → AreLives p table → is_present p clock f ≡ false → ends_by table f ≡ None
+ExpiredEndless = (p : Program) (table : LifeTable) (clock : ℤ) (f : Fact) → AreSafe p table → is_present p clock f ≡ false → ends_by table f ≡ None
 
 -- nor those of the versions that come and go out in a modification
 abbrev pub ModifyEndless : Type 0
-ModifyEndless = (p : Program) (table : LifeTable) (w : World) (id : FactId) (sets : List (ℕ × Value)) → AreLives p table → IsOrdered p w → step_fault p w (Modify id sets) ≡ None
+ModifyEndless = (p : Program) (table : LifeTable) (w : World) (id : FactId) (sets : List (ℕ × Value)) → AreSafe p table → IsOrdered p w → step_fault p w (Modify id sets) ≡ None
     → ((f : Fact) → comes p w (Modify id sets) ≡ Some f → ends_by table f ≡ None)
     × ((tag : ℕ) (f : Fact) → (sight_of p w).facts tag ≡ Some f → goes p w (Modify id sets) f ≡ true → ends_by table f ≡ None)
 

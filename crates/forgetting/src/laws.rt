@@ -55,7 +55,7 @@ pub fn worlds_are_seen_by_tags()
     ensures firing { WorldFireLaw }
 {}
 
-/// With the lives of a program's types the sight of a world keeps what is kept of the world, and the lives of plain facts and of what is
+/// With a safe table of lives the sight of a world keeps what is kept of the world, and the lives of plain facts and of what is
 /// not present any more do not end.
 pub fn what_is_kept_is_that_of_the_world()
     ensures kept { SameKept }

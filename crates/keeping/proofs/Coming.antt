@@ -1,5 +1,5 @@
 -- What comes in a step names what is kept, and meets what is kept.
-use Rattle.std.proofs.Common.{◌≡◌, ◌∙◌, ◌&&◌, not, ℕ, zero, suc, true, false, inl, inr, List, [], ◌∷◌, Some, refl, sym, subst, ap}
+use Rattle.std.proofs.Common.{◌≡◌, ◌∙◌, ◌&&◌, not, ℕ, zero, suc, true, false, List, [], ◌∷◌, Some, refl, sym, subst, ap}
 use Rattle.std.specs.Prelude.{slice_get, take}
 use Rattle.fx_base.specs.Lists.{In}
 use Rattle.fx_base.specs.declared.fact.Fact.{Fact}
@@ -18,12 +18,12 @@ use Rattle.rule_model.specs.Tuples.{Tuple, empty_tuple, name_of, row_of}
 use Rattle.rule_model.proofs.Listed.{both_of, of_map, makes_listed, listed_makes}
 use Rattle.rule_model.proofs.Named.{of_filter}
 use Rattle.rule_model.proofs.Order.{in_filter}
-use Rattle.rule_world.specs.Programs.{UseOperators}
 use Rattle.rule_world.specs.Worlds.{World, snapshot}
 use Rattle.rule_lives.specs.Keeping.{IsKept, Comes}
 use Rattle.rule_lives.specs.Networks.{binds}
 use Rattle.rule_lives.proofs.Basics.{not_true}
 use Rattle.rule_lives.proofs.Keeps.{here, tuple_names_kept, tuple_meets_kept}
+use Rattle.rule_lives.proofs.Matched.{operators_of, same_fact}
 use Rattle.join_tests.specs.Joins.{Look, joins}
 use Rattle.pair_memory.specs.Standing.{clean, no_names}
 use Rattle.condition_rows.specs.Looks.{HasAllOf}
@@ -35,12 +35,7 @@ use Rattle.keeping.specs.Kept.{is_kept, is_forgotten}
 use Rattle.keeping.specs.Steps.{IsLawfulStep, behind, RowComes}
 use Rattle.keeping.proofs.Decided.{is_tested}
 use Rattle.keeping.proofs.Members.{none_passes}
-use Rattle.keeping.proofs.Versions.{IsLost, lost, tags_behind, same_fact}
-
-operators_of : (rules : List Rule) (rule : Rule) → UseOperators rules → In rule rules → HaveOperators rule.conditions
-operators_of [] rule ops i = absurd i
-operators_of (r ∷ rules) rule ops (inl e) = subst (λ (v : Rule). HaveOperators v.conditions) (sym e) ops.0
-operators_of (r ∷ rules) rule ops (inr i) = operators_of rules rule ops.1 i
+use Rattle.keeping.proofs.Versions.{IsLost, lost, tags_behind}
 
 first_operators : (cs : List Condition) (q : ℕ) → HaveOperators cs → HaveOperators (take q cs)
 first_operators cs zero ops = tt
@@ -86,7 +81,7 @@ module _ (p : Program) (table : LifeTable) (w : World) (step : Step) (given : Is
   not_kept : (who : Named) (g : IsLost p table w who) (f : Fact) → In f next.facts → name_of f ≡ who → (In f w.facts → IsKept p table w f) → ⊥
   not_kept who g f there named kept =
       let same : f ≡ g.fact = same_fact p w step given.lawful.ordered g.fact f g.inside there (named ∙ sym g.named) in
-      let tested : is_kept p table w f ≡ true = is_tested p table w given.lives f (kept (subst (λ (x : Fact). In x w.facts) (sym same) g.inside)) in
+      let tested : is_kept p table w f ≡ true = is_tested p table w given.safe f (kept (subst (λ (x : Fact). In x w.facts) (sym same) g.inside)) in
       let n : true ≡ false = sym tested ∙ ap (is_kept p table w) same ∙ g.not_kept in
       absurd cc
 
@@ -102,7 +97,7 @@ module _ (p : Program) (table : LifeTable) (w : World) (step : Step) (given : Is
         let facts = held_too look next all t.tuple.facts (made_facts p next d (take q rule.conditions) t.tuple t.listed) in
         let passes_too = sym (joins_of_tuple look (pattern_of c) t.tuple f.0 facts (all f.0.tag f.0 (held_fact next d f.0 there) refl)) ∙ joining in
         not_kept who g f.0 there f.2
-        (tuple_meets_kept p table w step given.flagged given.lives given.lawful given.faultless rule in_rules q c at_q side t.tuple t.comes f.0
+        (tuple_meets_kept p table w step given.flagged given.safe given.lawful given.faultless rule in_rules q c at_q side t.tuple t.comes f.0
         (in_filter (passes (pattern_of c) t.tuple) f.0 (candidates p (pattern_of c) next) passes_too f.1))
 
     pub row_meets_kept : (row : Row) → RowComes p w step (take q rule.conditions) row
@@ -117,4 +112,4 @@ module _ (p : Program) (table : LifeTable) (w : World) (step : Step) (given : Is
       ap not (none_passes (is_forgotten p table w) row.facts (λ who own. not_true (is_forgotten p table w who) (λ forgotten.
       let f = of_map name_of who t.tuple.facts (subst (λ (r : Row). In who r.facts) (sym t.named) own) in
       not_kept who (lost p table w who forgotten) f.0 (here p next t.tuple rule.conditions t.comes.0 f.0 f.1).0 f.2
-      (tuple_names_kept p table w step given.flagged given.lives given.lawful given.faultless rule in_rules t.tuple t.comes f.0 f.1))))
+      (tuple_names_kept p table w step given.flagged given.safe given.lawful given.faultless rule in_rules t.tuple t.comes f.0 f.1))))

@@ -1,5 +1,5 @@
 -- The test of what is kept is true exactly of what is kept.
-use Rattle.std.proofs.Common.{◌≡◌, ◌↔◌, ◌∙◌, ℕ, zero, suc, ℤ, ◌+ℤ◌, ◌≤ℤ◌, true, false, List, [], ◌∷◌, length, Option, Some, None, inl, inr, refl, sym, ap, arith}
+use Rattle.std.proofs.Common.{◌≡◌, ◌↔◌, ◌∙◌, ℤ, ◌+ℤ◌, ◌≤ℤ◌, true, false, Option, Some, None, inl, inr, refl, sym, ap, arith}
 use Rattle.std.specs.Prelude.{slice_get, int_le}
 use Rattle.std.proofs.lemmas.Int.{ints}
 use Rattle.fx_base.specs.Lists.{In}
@@ -10,14 +10,14 @@ use Rattle.rule_model.specs.declared.life.LifeTable.{LifeTable}
 use Rattle.rule_model.specs.declared.matched.Match.{Match}
 use Rattle.rule_model.specs.declared.program.Program.{Program}
 use Rattle.rule_model.specs.Tuples.{name_of}
-use Rattle.rule_model.specs.Types.{is_event, is_event_type, expiry_of}
+use Rattle.rule_model.specs.Types.{is_event, expiry_of}
 use Rattle.rule_model.proofs.Firsts.{or_left, or_right, or_split}
 use Rattle.rule_model.proofs.Named.{of_filter}
 use Rattle.rule_model.proofs.Order.{in_filter, passed}
 use Rattle.rule_model.proofs.RuleOf.{in_has, has_in}
 use Rattle.rule_world.specs.Worlds.{World, pending}
-use Rattle.rule_world.proofs.Faultless.{event_by}
-use Rattle.rule_lives.specs.Keeping.{AreLives, IsKept, plain, unexpired, endless, living, named}
+use Rattle.rule_lives.specs.Keeping.{AreSafe, IsKept, plain, unexpired, endless, living, named}
+use Rattle.rule_lives.proofs.Safe.{plain_unlisted}
 use Rattle.pair_memory.specs.Joined.{has_name}
 use Rattle.condition_rows.proofs.Ends.{in_name, name_in}
 use Rattle.keeping.specs.Kept.{is_alive, is_named, is_kept, kept_facts}
@@ -29,13 +29,6 @@ at_most a b e = grind (arith, ints)
 is_at_most : (a b : ℤ) → a ≤ℤ b → int_le a b ≡ true
 is_at_most a b h = grind (arith, ints)
 
-none_too : {A B : Type 0} (xs : List A) (ys : List B) (k : ℕ) → length xs ≡ length ys → slice_get xs k ≡ None → slice_get ys k ≡ None
-none_too [] [] k e h = refl
-none_too [] (y ∷ ys) k e h = absurd cc
-none_too (x ∷ xs) [] k e h = absurd cc
-none_too (x ∷ xs) (y ∷ ys) zero e h = absurd cc
-none_too (x ∷ xs) (y ∷ ys) (suc k) e h = none_too xs ys k (let s : length xs ≡ length ys = cc in s) h
-
 -- what is kept is a fact of the world
 pub kept_inside : (p : Program) (table : LifeTable) (w : World) (f : Fact) → IsKept p table w f → In f w.facts
 kept_inside p table w f (plain i e) = i
@@ -44,11 +37,11 @@ kept_inside p table w f (endless i e) = i
 kept_inside p table w f (living n i e le) = i
 kept_inside p table w f (named m i is own) = i
 
-module _ (p : Program) (table : LifeTable) (w : World) (are : AreLives p table) (f : Fact) where
+module _ (p : Program) (table : LifeTable) (w : World) (are : AreSafe p table) (f : Fact) where
   -- ---- what passes the test is kept
 
   by_life : In f w.facts → (life : Option Life) → slice_get table.lives f.ty.0 ≡ life → is_alive p life w.clock f ≡ true → IsKept p table w f
-  by_life i None e h = plain i (event_by p f.ty.0 ∙ ap is_event_type (none_too table.lives p.types f.ty.0 are.as_many e))
+  by_life i None e h = plain i (plain_unlisted p table f.ty.0 are e)
   by_life i (Some Plain) e h = plain i (are.each f.ty.0 Plain e)
   by_life i (Some (Explicit expiry)) e h = let is = are.each f.ty.0 (Explicit expiry) e in unexpired expiry i is.0 is.1 h
   by_life i (Some (Finite n)) e h = living n i e (at_most w.clock (f.times.end +ℤ n) h)
@@ -75,14 +68,14 @@ module _ (p : Program) (table : LifeTable) (w : World) (are : AreLives p table) 
   of_plain e None at = refl
   of_plain e (Some Plain) at = refl
   of_plain e (Some (Explicit expiry)) at = let n : true ≡ false = sym (are.each f.ty.0 (Explicit expiry) at).0 ∙ e in absurd cc
-  of_plain e (Some (Finite n)) at = let n : true ≡ false = sym (are.each f.ty.0 (Finite n) at).event ∙ e in absurd cc
+  of_plain e (Some (Finite n)) at = let n : true ≡ false = sym (are.each f.ty.0 (Finite n) at).1.event ∙ e in absurd cc
   of_plain e (Some Infinite) at = refl
 
   of_expiring : (expiry : ℤ) → expiry_of p f.ty.0 ≡ Some expiry → Alive (Some (Explicit expiry)) → (life : Option Life) → slice_get table.lives f.ty.0 ≡ life → Alive life
   of_expiring expiry e h None at = refl
   of_expiring expiry e h (Some Plain) at = refl
   of_expiring expiry e h (Some (Explicit other)) at = h
-  of_expiring expiry e h (Some (Finite n)) at = let n : None ≡ Some expiry = sym (are.each f.ty.0 (Finite n) at).unexpired ∙ e in absurd cc
+  of_expiring expiry e h (Some (Finite n)) at = let n : None ≡ Some expiry = sym (are.each f.ty.0 (Finite n) at).1.unexpired ∙ e in absurd cc
   of_expiring expiry e h (Some Infinite) at = refl
 
   alive : Alive (slice_get table.lives f.ty.0) → is_kept p table w f ≡ true

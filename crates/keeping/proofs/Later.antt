@@ -26,7 +26,8 @@ use Rattle.keeping.specs.Kept.{is_alive, is_named, is_kept, is_lost, is_forgotte
 use Rattle.keeping.specs.Steps.{IsLawfulStep}
 use Rattle.keeping.proofs.Decided.{is_so, is_tested}
 use Rattle.keeping.proofs.Members.{some_passes, passing_one}
-use Rattle.keeping.proofs.Versions.{lost, forgotten_fact, same_fact}
+use Rattle.rule_lives.proofs.Matched.{same_fact}
+use Rattle.keeping.proofs.Versions.{lost, forgotten_fact}
 
 -- what is not kept is forgotten, of a world in order
 not_kept_is_forgotten : (p : Program) (table : LifeTable) (w : World) → IsOrdered p w → (f : Fact) → In f w.facts → is_kept p table w f ≡ false → is_forgotten p table w (name_of f) ≡ true
@@ -36,7 +37,7 @@ not_kept_is_forgotten p table w o f i e = forgotten_fact p table w o.tags f i �
 
 module _ (p : Program) (table : LifeTable) (w : World) (step : Step) (given : IsLawfulStep p table w step) where
   pub was_kept : (f : Fact) → In f w.facts → In f (stepped p w step).facts → is_kept p table (stepped p w step) f ≡ true → is_kept p table w f ≡ true
-  was_kept f i j e = is_tested p table w given.lives f (kept_before p table w step given.flagged given.operators given.lives given.lawful given.faultless f (is_so p table (stepped p w step) given.lives f j e) i)
+  was_kept f i j e = is_tested p table w given.safe f (kept_before p table w step given.flagged given.operators given.safe given.lawful given.faultless f (is_so p table (stepped p w step) given.safe f j e) i)
 
   same_behind : (f g : Fact) → In g w.facts → In f (stepped p w step).facts → name_of f ≡ name_of g → f ≡ g
   unfolding stepped

@@ -1,14 +1,12 @@
 -- What is forgotten stays a candidate, or stays none.
 use Rattle.std.proofs.Common.{◌≡◌, ◌∙◌, ◌&&◌, ◌||◌, ◌==◌, not, ℕ, ℤ, ◌+ℤ◌, ◌-ℤ◌, ◌≤ℤ◌, ◌<ℤ◌, Bool, true, false, if◌then◌else◌, List, [], ◌∷◌, Option, Some, None, refl, sym, subst, ap, arith}
 use Rattle.std.specs.Prelude.{slice_get, int_le, int_lt}
-use Rattle.std.specs.List.{list_any}
 use Rattle.std.proofs.lemmas.Int.{ints}
 use Rattle.fx_base.specs.Lists.{In}
 use Rattle.fx_base.specs.declared.fact.Fact.{Fact}
 use Rattle.fx_base.specs.declared.value.Value.{Value}
 use Rattle.row_delta.specs.declared.row.Named.{Named}
 use Rattle.rule_model.specs.declared.condition.Condition.{Condition}
-use Rattle.rule_model.specs.declared.condition.Condition.TheVariants as kinds
 use Rattle.rule_model.specs.declared.condition.WindowTag.{WindowTag}
 use Rattle.rule_model.specs.declared.condition.WindowTag.TheVariants.{Whole, Time, Length}
 use Rattle.rule_model.specs.declared.life.Life.{Life}
@@ -20,29 +18,23 @@ use Rattle.rule_model.specs.declared.step.Step.{Step}
 use Rattle.rule_model.specs.declared.step.Step.TheVariants.{Insert, Modify, Retract, Advance, At}
 use Rattle.rule_model.specs.Candidates.{is_within, is_present, is_inside, is_candidate}
 use Rattle.rule_model.specs.Rows.{pattern_of}
-use Rattle.rule_model.specs.Simple.{observes, observes_type}
 use Rattle.rule_model.specs.Snapshots.{Snapshot}
 use Rattle.rule_model.specs.Tests.{tests_hold}
 use Rattle.rule_model.specs.Tuples.{unbound, name_of}
 use Rattle.rule_model.specs.Types.{is_event, is_observed, expiry_of}
-use Rattle.rule_model.proofs.Listed.{both, both_of, in_map, in_left}
+use Rattle.rule_model.proofs.Listed.{both_of, in_map, in_left}
 use Rattle.rule_model.proofs.Named.{of_filter}
 use Rattle.rule_model.proofs.Order.{in_filter}
-use Rattle.rule_model.proofs.RuleOf.{in_place}
-use Rattle.rule_world.specs.declared.code.Code.TheVariants.{EventObserved, Absent}
 use Rattle.rule_world.specs.Lawful.{IsLawful}
-use Rattle.rule_world.specs.Worlds.{World, snapshot, moved, step_fault, modify_fault, retract_fault, is_of_type, found, new_fact, has_id, revised, revised_in}
-use Rattle.rule_world.proofs.Faultless.{modified_plain}
-use Rattle.rule_world.proofs.Found.{fact_with, found_there}
+use Rattle.rule_world.specs.Worlds.{World, snapshot, moved, step_fault, found, new_fact, has_id, revised, revised_in}
 use Rattle.rule_world.proofs.Fresh.{revise}
 use Rattle.rule_world.proofs.Keeping.{was_present}
 use Rattle.rule_world.proofs.Steps.{stays}
-use Rattle.rule_lives.specs.Keeping.{AreLives}
-use Rattle.rule_lives.specs.Law.{ObservedAreFlagged}
+use Rattle.rule_lives.specs.Keeping.{AreSafe}
 use Rattle.rule_lives.specs.Lifetimes.{IsLife}
 use Rattle.rule_lives.specs.Networks.{binds}
 use Rattle.rule_lives.specs.Reach.{finite, infinite}
-use Rattle.rule_lives.proofs.Basics.{not_true, number_same, same_number}
+use Rattle.rule_lives.proofs.Basics.{not_true, same_number}
 use Rattle.rule_lives.proofs.Keeps.{clock_on}
 use Rattle.rule_lives.proofs.Limits.{lives_below}
 use Rattle.condition_rows.specs.Sets.{candidates_of}
@@ -50,30 +42,14 @@ use Rattle.condition_rows.proofs.Ends.{same_truth}
 use Rattle.condition_rows.proofs.Joined.{candidate_named, candidate_of}
 use Rattle.keeping.specs.Kept.{is_alive, is_named, is_kept, is_forgotten}
 use Rattle.keeping.specs.Steps.{IsLawfulStep, behind}
-use Rattle.keeping.proofs.Members.{some_passes}
-use Rattle.keeping.proofs.Versions.{lost, tags_behind, same_fact}
+use Rattle.rule_lives.proofs.Laws.{observed_of}
+use Rattle.rule_lives.proofs.Matched.{same_fact}
+use Rattle.rule_lives.proofs.Moves.{plain_there, retracted_is_not_observed}
+use Rattle.keeping.proofs.Versions.{lost, tags_behind}
 
 -- ---- no step takes away an observed event
 
 -- what has the id of a modification is a plain fact
-modified_is_plain : (p : Program) (w : World) (id : ℕ) → IsLawful p w → modify_fault p (found p w id) ≡ None → (f : Fact) → In f w.facts → has_id id f ≡ true → is_event p f.ty.0 ≡ false
-modified_is_plain p w id law none f i h = by (found p w id) refl none
-  where
-    by : (there : Option Fact) → found p w id ≡ there → modify_fault p there ≡ None → is_event p f.ty.0 ≡ false
-    by None e k = absurd cc
-    by (Some g) e k =
-        let there : Some g ≡ Some f = sym (found_there p w id g law.ordered e) ∙ fact_with w.facts 1 w.next_id id f law.ordered.ids i h in
-        let one : g ≡ f = cc in
-        ap (λ (x : Fact). is_event p x.ty.0) (sym one) ∙ modified_plain p (Some g) g k refl
-
-pub retracted_is_not_observed : (p : Program) (ty : ℕ) (there : Option Fact) → retract_fault p ty there ≡ None → is_event p ty ≡ true → is_observed p ty ≡ false
-retracted_is_not_observed p ty there none event = by (is_event p ty) (is_observed p ty) event none
-  where
-    by : (a b : Bool) → a ≡ true → (if a then (if b then Some EventObserved else None) else if is_of_type ty there then None else Some Absent) ≡ None → b ≡ false
-    by true true e k = absurd cc
-    by true false e k = refl
-    by false b e k = absurd cc
-
 unrevised : (id tag : ℕ) (sets : List (ℕ × Value)) (f : Fact) → has_id id f ≡ false → revise id tag sets f ≡ f
 unrevised id tag sets f e = ap (λ b. if b then revised tag sets f else f) e
 
@@ -82,36 +58,25 @@ pub observed_stays : (p : Program) (w : World) (step : Step) → IsLawful p w �
 unfolding moved step_fault
 observed_stays p w (Insert ty entry fields) law none f i event observed = in_left f w.facts (new_fact p w ty.0 entry.0 fields ∷ []) i
 observed_stays p w (Modify id sets) law none f i event observed =
-    let other = not_true (has_id id.0 f) (λ h. let n : true ≡ false = sym event ∙ modified_is_plain p w id.0 law none f i h in absurd cc) in
+    let other = not_true (has_id id.0 f) (λ h. let n : true ≡ false = sym event ∙ plain_there p w id.0 law none f i h in absurd cc) in
     subst (λ (g : Fact). In g (revised_in id.0 w.next_tag sets w.facts)) (unrevised id.0 w.next_tag sets f other) (in_map (revise id.0 w.next_tag sets) f w.facts i)
 observed_stays p w (Retract ty id) law none f i event observed =
-    in_filter (stays ty.0 id.0) f w.facts (ap not (not_true (f.ty.0 == ty.0 && has_id id.0 f) (λ h.
-    let same = same_number f.ty.0 ty.0 (both_of (f.ty.0 == ty.0) (has_id id.0 f) h).0 in
+    in_filter (stays p w.clock ty.0 id.0) f w.facts (ap not (not_true (is_present p w.clock f && (f.ty.0 == ty.0 && has_id id.0 f)) (λ h.
+    let same = same_number f.ty.0 ty.0 (both_of (f.ty.0 == ty.0) (has_id id.0 f) (both_of (is_present p w.clock f) (f.ty.0 == ty.0 && has_id id.0 f) h).1).0 in
     let unseen = retracted_is_not_observed p ty.0 (found p w id.0) none (ap (is_event p) (sym same) ∙ event) in
     let n : true ≡ false = sym observed ∙ ap (is_observed p) same ∙ unseen in
     absurd cc))) i
 observed_stays p w (Advance by) law none f i event observed = i
 observed_stays p w (At moment) law none f i event observed = i
 
-side_observes : (c : Condition) → binds c ≡ false → observes c ≡ true
-side_observes (kinds.Plain q) e = absurd cc
-side_observes (kinds.Negated q) e = refl
-side_observes (kinds.Existing q) e = refl
-side_observes (kinds.Folded a) e = refl
-
-observed_of : (p : Program) (rule : Rule) → ObservedAreFlagged p → In rule p.rules → (k : ℕ) (c : Condition) → slice_get rule.conditions k ≡ Some c → binds c ≡ false
-    → is_event p (pattern_of c).ty.0 ≡ true → is_observed p (pattern_of c).ty.0 ≡ true
-observed_of p rule flagged in_rules k c at_k side event =
-    let ty = (pattern_of c).ty.0 in
-    flagged ty ∙ both (is_event p ty) _ event
-    (some_passes (λ (r : Rule). list_any (observes_type ty) r.conditions) rule p.rules in_rules
-    (some_passes (observes_type ty) c rule.conditions (in_place rule.conditions k c at_k)
-    (both (observes c) (ty == ty) (side_observes c side) (number_same ty ty refl))))
-
 -- ---- a fact past its life, over two snapshots
 
 pub after_life : (a b : ℤ) → int_le a b ≡ false → b <ℤ a
 after_life a b e = grind (arith, ints)
+
+-- what is past a life is past a shorter one
+pub after_less : (end m n clock : ℤ) → m ≤ℤ n → (end +ℤ n) <ℤ clock → (end +ℤ m) <ℤ clock
+after_less end m n clock h k = omega (arith, ints)
 
 pub not_below : (a b : ℤ) → b ≤ℤ a → int_lt a b ≡ false
 not_below a b h = grind (arith, ints)
@@ -181,7 +146,7 @@ both_false : (a b : Bool) → (a || b) ≡ false → a ≡ false
 both_false true b e = e
 both_false false b e = refl
 
-module _ (p : Program) (table : LifeTable) (w : World) (are : AreLives p table) where
+module _ (p : Program) (table : LifeTable) (w : World) (are : AreSafe p table) where
   pub not_alive : (f : Fact) → is_kept p table w f ≡ false → is_alive p (slice_get table.lives f.ty.0) w.clock f ≡ false
   unfolding is_kept
   not_alive f e = both_false (is_alive p (slice_get table.lives f.ty.0) w.clock f) (is_named p w f) e
@@ -191,7 +156,7 @@ module _ (p : Program) (table : LifeTable) (w : World) (are : AreLives p table) 
   event_by f None at e = absurd (let n : true ≡ false = e in cc)
   event_by f (Some Plain) at e = absurd (let n : true ≡ false = e in cc)
   event_by f (Some (Explicit expiry)) at e = (are.each f.ty.0 (Explicit expiry) at).0
-  event_by f (Some (Finite n)) at e = (are.each f.ty.0 (Finite n) at).event
+  event_by f (Some (Finite n)) at e = (are.each f.ty.0 (Finite n) at).1.event
   event_by f (Some Infinite) at e = absurd (let n : true ≡ false = e in cc)
 
   pub lost_event : (f : Fact) → is_kept p table w f ≡ false → is_event p f.ty.0 ≡ true
@@ -205,7 +170,8 @@ module _ (p : Program) (table : LifeTable) (w : World) (are : AreLives p table) 
     same_by (Some (Explicit expiry)) at e = gone_same p (snapshot w) o from rule in_rules k c at_k f e
     same_by (Some (Finite n)) at e =
         let life = are.each f.ty.0 (Finite n) at in
-        past_same p (snapshot w) o from rule in_rules k c at_k f n life (((law.sound f inside).timed life.event).event.ordered) (after_life w.clock (f.times.end +ℤ n) e)
+        let order = ((law.sound f inside).timed life.1.event).event.ordered in
+        past_same p (snapshot w) o from rule in_rules k c at_k f life.0 life.1 order (after_less f.times.end life.0 n w.clock life.2 (after_life w.clock (f.times.end +ℤ n) e))
     same_by (Some Infinite) at e = absurd (let n : true ≡ false = e in cc)
 
     pub lost_same : is_kept p table w f ≡ false → is_candidate p (pattern_of c) o f ≡ is_candidate p (pattern_of c) (snapshot w) f
@@ -220,7 +186,7 @@ module _ (p : Program) (table : LifeTable) (w : World) (step : Step) (given : Is
   fact_same : (f : Fact) → In f w.facts → is_kept p table w f ≡ false → In f next.facts → candidates_of p (pattern_of c) next (name_of f) ≡ candidates_of p (pattern_of c) (snapshot w) (name_of f)
   fact_same f i e there =
       candidate_named p next (tags_behind p w step given.lawful.ordered) (pattern_of c) f there
-      ∙ lost_same p table w given.lives given.lawful next (clock_on p w step given.lawful given.faultless) rule in_rules k c at_k f i e
+      ∙ lost_same p table w given.safe given.lawful next (clock_on p w step given.lawful given.faultless) rule in_rules k c at_k f i e
       ∙ sym (candidate_named p (snapshot w) given.lawful.ordered.tags (pattern_of c) f i)
 
   -- what is still there
@@ -247,7 +213,7 @@ module _ (p : Program) (table : LifeTable) (w : World) (step : Step) (given : Is
         let q = pattern_of c in
         let tested = sym (candidate_named p (snapshot w) given.lawful.ordered.tags q g.fact g.inside) ∙ ap (candidates_of p q (snapshot w)) g.named ∙ e in
         let ty = of_type (snapshot w) g.fact tested in
-        let event = lost_event p table w given.lives g.fact g.not_kept in
+        let event = lost_event p table w given.safe g.fact g.not_kept in
         let observed = ap (is_observed p) ty ∙ observed_of p rule given.flagged in_rules k c at_k side (ap (is_event p) (sym ty) ∙ event) in
         let there = observed_stays p w step given.lawful given.faultless g.fact g.inside event observed in
         ap (candidates_of p q next) (sym g.named) ∙ fact_same g.fact g.inside g.not_kept there ∙ ap (candidates_of p q (snapshot w)) g.named ∙ e

@@ -1,20 +1,16 @@
 -- Versions of the facts of a world, before a step and behind it.
-use Rattle.std.proofs.Common.{◌≡◌, ◌<◌, not, Bool, true, false, inl, inr, Option, Some, None, refl, sym, ap, arith}
+use Rattle.std.proofs.Common.{◌≡◌, not, Bool, true, false, Option, Some, None, refl, sym, ap}
 use Rattle.fx_base.specs.Lists.{In}
 use Rattle.fx_base.specs.declared.fact.Fact.{Fact}
-use Rattle.fx_base.specs.declared.ids.Tag.{Tag}
 use Rattle.row_delta.specs.declared.row.Named.{Named}
 use Rattle.rule_model.specs.declared.life.LifeTable.{LifeTable}
 use Rattle.rule_model.specs.declared.program.Program.{Program}
 use Rattle.rule_model.specs.declared.step.Step.{Step}
 use Rattle.rule_model.specs.Distinct.{HaveDistinctTags}
 use Rattle.rule_model.specs.Tuples.{name_of}
-use Rattle.rule_model.proofs.Once.{one_fact}
 use Rattle.rule_world.specs.Lawful.{IsOrdered}
-use Rattle.rule_world.specs.Worlds.{World, snapshot, moved, stepped}
-use Rattle.rule_world.proofs.Fresh.{below_of}
+use Rattle.rule_world.specs.Worlds.{World, snapshot, moved}
 use Rattle.rule_world.proofs.Steps.{numbered, move_numbered}
-use Rattle.rule_world.proofs.Vain.{next_tag}
 use Rattle.join_tests.specs.Joins.{version_at}
 use Rattle.condition_rows.specs.Sets.{held}
 use Rattle.condition_rows.proofs.Holding.{version_of, held_fact, version_in}
@@ -51,16 +47,3 @@ module _ (p : Program) (table : LifeTable) (w : World) where
 module _ (p : Program) (w : World) (step : Step) (law : IsOrdered p w) where
   pub tags_behind : HaveDistinctTags (moved p w step).facts
   tags_behind = (move_numbered p w step (numbered p w law)).tags
-
-  -- what has behind a step the name of a fact from before it is that fact
-  pub same_fact : (f g : Fact) → In f w.facts → In g (moved p w step).facts → name_of g ≡ name_of f → g ≡ f
-  unfolding stepped
-  same_fact f g i j e =
-      let tags : g.tag ≡ f.tag = ap (λ (n : Named). n.tag) e in
-      elim (next_tag p w step g j) [
-        | inl k ↦ one_fact w.facts law.tags g f k i tags
-        | inr new ↦
-            let below : f.tag.0 < w.next_tag = below_of w.next_tag w.facts law.fresh f i in
-            let same : g.tag.0 ≡ f.tag.0 = ap (λ (t : Tag). t.0) tags in
-            absurd (omega (arith, new))
-      ]

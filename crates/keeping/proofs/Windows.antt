@@ -19,13 +19,13 @@ use Rattle.rule_model.specs.Tuples.{unbound}
 use Rattle.rule_world.specs.Lawful.{IsLawful}
 use Rattle.rule_world.specs.Worlds.{World}
 use Rattle.rule_world.proofs.Keeping.{was_present}
-use Rattle.rule_lives.specs.Keeping.{AreLives}
+use Rattle.rule_lives.specs.Keeping.{AreSafe}
 use Rattle.rule_lives.specs.Lifetimes.{IsLife}
 use Rattle.rule_lives.specs.Reach.{finite}
 use Rattle.rule_lives.proofs.Basics.{not_true, same_number}
 use Rattle.rule_lives.proofs.Limits.{lives_below}
 use Rattle.keeping.specs.Kept.{is_alive, is_kept}
-use Rattle.keeping.proofs.Staying.{after_life, not_below, too_old, later_too, not_alive}
+use Rattle.keeping.proofs.Staying.{after_life, after_less, not_below, too_old, later_too, not_alive}
 
 -- a member of a list has a place in it
 place_of : {A : Type 0} (x : A) (xs : List A) → In x xs → (k : ℕ) × (slice_get xs k ≡ Some x)
@@ -40,7 +40,7 @@ none_by true false r c h = refl
 none_by true true false c h = refl
 none_by true true true c h = h refl
 
-module _ (p : Program) (table : LifeTable) (w : World) (are : AreLives p table) (law : IsLawful p w) (f : Fact) (inside : In f w.facts) (lost : is_kept p table w f ≡ false)
+module _ (p : Program) (table : LifeTable) (w : World) (are : AreSafe p table) (law : IsLawful p w) (f : Fact) (inside : In f w.facts) (lost : is_kept p table w f ≡ false)
     (rule : Rule) (in_rules : In rule p.rules) (c : Condition) (in_c : In c rule.conditions) (span : ℤ) (at : (pattern_of c).window ≡ Time span) (s : Snapshot) (from : w.clock ≤ℤ s.clock) where
   abbrev alone : Bool
   alone = f.entry.0 == (pattern_of c).entry.0 && tests_hold unbound f (pattern_of c).alone
@@ -67,7 +67,9 @@ module _ (p : Program) (table : LifeTable) (w : World) (are : AreLives p table) 
   by_life None is e = absurd (let n : true ≡ false = e in cc)
   by_life (Some Plain) is e = absurd (let n : true ≡ false = e in cc)
   by_life (Some (Explicit expiry)) is e = gone e
-  by_life (Some (Finite n)) is e = past n (are.each f.ty.0 (Finite n) is) (after_life w.clock (f.times.end +ℤ n) e)
+  by_life (Some (Finite n)) is e =
+      let life = are.each f.ty.0 (Finite n) is in
+      past life.0 life.1 (after_less f.times.end life.0 n w.clock life.2 (after_life w.clock (f.times.end +ℤ n) e))
   by_life (Some Infinite) is e = absurd (let n : true ≡ false = e in cc)
 
   pub in_no_window : is_candidate p (pattern_of c) s f ≡ false

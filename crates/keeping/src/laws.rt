@@ -18,7 +18,7 @@ ghost use Rattle.rule_model.specs.Snapshots.{Snapshot};
 ghost use Rattle.rule_model.specs.Tuples.{name_of};
 ghost use Rattle.rule_world.specs.Lawful.{IsLawful};
 ghost use Rattle.rule_world.specs.Worlds.{World, snapshot, stepped, marked};
-ghost use Rattle.rule_lives.specs.Keeping.{AreLives, IsKept};
+ghost use Rattle.rule_lives.specs.Keeping.{AreSafe, IsKept};
 ghost use Rattle.rule_lives.specs.Networks.{binds};
 ghost use Rattle.join_tests.specs.Joins.{Look, joins};
 ghost use Rattle.pair_memory.specs.Standing.{clean, no_names};
@@ -27,12 +27,12 @@ ghost use Rattle.condition_rows.specs.Sets.{candidates_of};
 ghost use Rattle.keeping.specs.Kept.{is_kept, kept_facts, is_forgotten};
 ghost use Rattle.keeping.specs.Steps.{IsLawfulStep, behind, RowComes};
 
-/// With a table of the program's lives the test is true of a fact of a world exactly where it is kept, and the list has exactly what is
+/// With a safe table of lives the test is true of a fact of a world exactly where it is kept, and the list has exactly what is
 /// kept.
 pub fn kept_is_decided()
-    ensures fact { (p : Program) (table : LifeTable) (w : World) → AreLives p table → (f : Fact) → In f w.facts
+    ensures fact { (p : Program) (table : LifeTable) (w : World) → AreSafe p table → (f : Fact) → In f w.facts
         → (is_kept p table w f ≡ true) ↔ IsKept p table w f }
-    ensures facts { (p : Program) (table : LifeTable) (w : World) → AreLives p table → (f : Fact)
+    ensures facts { (p : Program) (table : LifeTable) (w : World) → AreSafe p table → (f : Fact)
         → In f (kept_facts p table w) ↔ IsKept p table w f }
 {}
 
@@ -92,7 +92,7 @@ pub fn what_is_forgotten_stays_forgotten()
 /// A fact of a lawful world that is not kept is inside no window of time: from the world's clock on it is a candidate of no condition that
 /// has one.
 pub fn what_is_forgotten_is_in_no_window_of_time()
-    ensures { (p : Program) (table : LifeTable) (w : World) → AreLives p table → IsLawful p w → (f : Fact) → In f w.facts → is_kept p table w f ≡ false
+    ensures { (p : Program) (table : LifeTable) (w : World) → AreSafe p table → IsLawful p w → (f : Fact) → In f w.facts → is_kept p table w f ≡ false
         → (rule : Rule) → In rule p.rules → (c : Condition) → In c rule.conditions → (span : ℤ) → (pattern_of c).window ≡ Time span
         → (s : Snapshot) → w.clock ≤ℤ s.clock → is_candidate p (pattern_of c) s f ≡ false }
 {}

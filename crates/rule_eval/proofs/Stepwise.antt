@@ -7,7 +7,7 @@ use Rattle.rule_model.specs.declared.condition.Condition.{Condition}
 use Rattle.rule_model.specs.declared.condition.Condition.TheVariants.{Plain, Negated, Existing, Folded}
 use Rattle.rule_model.specs.declared.program.Program.{Program}
 use Rattle.rule_model.specs.Candidates.{candidates, passes, passing}
-use Rattle.rule_model.specs.Maturity.{told_to}
+use Rattle.rule_model.specs.Maturity.{watermark}
 use Rattle.rule_model.specs.Rows.{extended, tuples, pattern_of, HaveOperators}
 use Rattle.rule_model.specs.Snapshots.{Snapshot}
 use Rattle.rule_model.specs.Tuples.{Tuple, empty_tuple}
@@ -25,7 +25,7 @@ flat_map_twice f g (x ∷ xs) = flat_map-append g (f x) (flat_map f xs) ∙ ap (
 
 -- what a condition makes, by the candidates that pass
 pub made_is : (p : Program) (s : Snapshot) (c : Condition) (t : Tuple) → made_by p s.clock c t (passing p (pattern_of c) s t) ≡ extended p s c t
-unfolding told_to
+unfolding watermark
 made_is p s (Plain q) t = refl
 made_is p s (Negated q) t = refl
 made_is p s (Existing q) t = refl

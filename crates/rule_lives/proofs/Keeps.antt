@@ -1,6 +1,7 @@
 -- What comes in a step names only what is kept.
-use Rattle.std.proofs.Common.{◌≡◌, ◌==◌, ◌&&◌, ◌⊎◌, not, ℕ, zero, suc, ℤ, ◌+ℤ◌, ◌≤ℤ◌, Bool, true, false, List, [], ◌∷◌, length, Option, Some, None, refl, sym, ap, subst, inl, inr}
+use Rattle.std.proofs.Common.{◌≡◌, ◌==◌, ◌&&◌, ◌⊎◌, not, ℤ, ◌+ℤ◌, ◌≤ℤ◌, Bool, true, false, List, [], ◌∷◌, Option, Some, None, refl, sym, ap, subst, arith, inl, inr}
 use Rattle.std.specs.Prelude.{slice_get, take}
+use Rattle.std.proofs.lemmas.Int.{ints}
 use Rattle.fx_base.specs.Lists.{In}
 use Rattle.fx_base.specs.declared.fact.Fact.{Fact}
 use Rattle.rule_model.specs.declared.condition.Condition.{Condition}
@@ -16,17 +17,18 @@ use Rattle.rule_model.specs.Candidates.{is_present}
 use Rattle.rule_model.specs.Rows.{Makes, pattern_of}
 use Rattle.rule_model.specs.Snapshots.{Snapshot}
 use Rattle.rule_model.specs.Tuples.{Tuple, empty_tuple}
-use Rattle.rule_model.specs.Types.{is_event, is_event_type}
 use Rattle.rule_model.proofs.Listed.{both, of_append}
 use Rattle.rule_model.proofs.Order.{passed}
 use Rattle.rule_world.specs.Lawful.{IsLawful}
 use Rattle.rule_world.specs.Worlds.{World, snapshot, moved, step_fault, has_id}
 use Rattle.rule_world.proofs.Keeping.{was_present}
+use Rattle.rule_world.proofs.Steps.{stays}
 use Rattle.rule_lives.specs.Reach.{finite}
 use Rattle.rule_lives.specs.Lifetimes.{IsLife}
 use Rattle.rule_lives.specs.Law.{Made, KeepsTuple}
-use Rattle.rule_lives.specs.Keeping.{AreLives, IsKept, plain, unexpired, endless, living, TupleNamesKept, TupleMeetsKept}
+use Rattle.rule_lives.specs.Keeping.{AreSafe, IsKept, plain, unexpired, endless, living, TupleNamesKept, TupleMeetsKept}
 use Rattle.rule_lives.proofs.Basics.{number_same}
+use Rattle.rule_lives.proofs.Safe.{plain_unlisted}
 use Rattle.rule_lives.proofs.Shifts.{of_counted}
 use Rattle.rule_lives.proofs.Moves.{turns_of}
 use Rattle.rule_lives.proofs.Laws.{of_rule, of_prefix}
@@ -85,36 +87,29 @@ unfolding moved
 keeps_next p w (Insert ty entry fields) cs tuple h = tt
 keeps_next p w (Modify id sets) cs tuple h = tt
 keeps_next p w (Retract ty id) cs tuple h = λ f own of_type of_id.
-    let there = (here p (snapshot (moved p w (Retract ty id))) tuple cs h f own).0 in
-    kept_not (f.ty.0 == ty.0 && has_id id.0 f) (passed (λ (g : Fact). not (g.ty.0 == ty.0 && has_id id.0 g)) f w.facts there)
-    (both _ _ (number_same f.ty.0 ty.0 of_type) (number_same f.id.0 id.0 of_id))
+    let there = here p (snapshot (moved p w (Retract ty id))) tuple cs h f own in
+    kept_not (is_present p w.clock f && (f.ty.0 == ty.0 && has_id id.0 f)) (passed (stays p w.clock ty.0 id.0) f w.facts there.0)
+    (both _ _ there.1 (both _ _ (number_same f.ty.0 ty.0 of_type) (number_same f.id.0 id.0 of_id)))
 keeps_next p w (Advance by) cs tuple h = tt
 keeps_next p w (At moment) cs tuple h = tt
 
 -- ---- what the table says of a fact
 
-none_too : {A B : Type 0} (xs : List A) (ys : List B) (k : ℕ) → length xs ≡ length ys → slice_get xs k ≡ None → slice_get ys k ≡ None
-none_too [] [] k e h = refl
-none_too [] (y ∷ ys) k e h = absurd cc
-none_too (x ∷ xs) [] k e h = absurd cc
-none_too (x ∷ xs) (y ∷ ys) zero e h = absurd cc
-none_too (x ∷ xs) (y ∷ ys) (suc k) e h = none_too xs ys k (let s : length xs ≡ length ys = cc in s) h
+longer : (clock end m n : ℤ) → clock ≤ℤ (end +ℤ m) → m ≤ℤ n → clock ≤ℤ (end +ℤ n)
+longer clock end m n h k = omega (arith, ints)
 
--- what is no type of the program is plain
-untyped : (p : Program) (ty : ℕ) → slice_get p.types ty ≡ None → is_event p ty ≡ false
-unfolding is_event
-untyped p ty e = ap is_event_type e
-
-module _ (p : Program) (table : LifeTable) (w : World) (are : AreLives p table) (f : Fact) (inside : In f w.facts) where
+module _ (p : Program) (table : LifeTable) (w : World) (are : AreSafe p table) (f : Fact) (inside : In f w.facts) where
   -- a present fact is kept where it is so once it is past a finite life
   pub by_life : is_present p w.clock f ≡ true → ((n : ℤ) → IsLife p f.ty.0 (finite n) → (w.clock ≤ℤ (f.times.end +ℤ n)) ⊎ IsKept p table w f) → IsKept p table w f
   by_life present late = by (slice_get table.lives f.ty.0) refl
     where
       by : (life : Option Life) → slice_get table.lives f.ty.0 ≡ life → IsKept p table w f
-      by None e = plain inside (untyped p f.ty.0 (none_too table.lives p.types f.ty.0 are.as_many e))
+      by None e = plain inside (plain_unlisted p table f.ty.0 are e)
       by (Some lives.Plain) e = plain inside (are.each f.ty.0 lives.Plain e)
       by (Some (Explicit expiry)) e = let is = are.each f.ty.0 (Explicit expiry) e in unexpired expiry inside is.0 is.1 present
-      by (Some (Finite n)) e = elim (late n (are.each f.ty.0 (Finite n) e)) [ inl le ↦ living n inside e le | inr kept ↦ kept ]
+      by (Some (Finite n)) e =
+          let life = are.each f.ty.0 (Finite n) e in
+          elim (late life.0 life.1) [ inl le ↦ living n inside e (longer w.clock f.times.end life.0 n le life.2) | inr kept ↦ kept ]
       by (Some Infinite) e = endless inside e
 
 -- ---- tuples that come

@@ -58,7 +58,7 @@ side_observes (Existing q) e = refl
 side_observes (Folded a) e = refl
 
 -- an event type that a condition of a rule observes is one that the program calls observed
-observed_of : (p : Program) (rule : Rule) → ObservedAreFlagged p → In rule p.rules → (k : ℕ) (d : Condition) → slice_get rule.conditions k ≡ Some d → binds d ≡ false
+pub observed_of : (p : Program) (rule : Rule) → ObservedAreFlagged p → In rule p.rules → (k : ℕ) (d : Condition) → slice_get rule.conditions k ≡ Some d → binds d ≡ false
     → is_event p (pattern_of d).ty.0 ≡ true → is_observed p (pattern_of d).ty.0 ≡ true
 observed_of p rule flagged in_rules k d at_k side_k event =
     flagged (pattern_of d).ty.0 ∙ both _ _ event

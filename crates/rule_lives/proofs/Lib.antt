@@ -10,3 +10,4 @@ pub mod Laws
 pub mod Keeps
 pub mod Matched
 pub mod Remains
+pub mod Safe

@@ -15,7 +15,7 @@ use Rattle.rule_model.specs.Tuples.{Tuple, name_of, row_of}
 use Rattle.rule_model.proofs.Listed.{in_map, of_map, in_left, in_right, row_listed, listed_row}
 use Rattle.rule_model.proofs.Once.{one_fact}
 use Rattle.rule_model.proofs.RuleOf.{has_in, rule_of, in_place}
-use Rattle.rule_world.specs.Lawful.{IsLawful}
+use Rattle.rule_world.specs.Lawful.{IsOrdered, IsLawful}
 use Rattle.rule_world.specs.Programs.{UseOperators}
 use Rattle.rule_world.specs.Worlds.{World, snapshot, moved, stepped}
 use Rattle.rule_world.proofs.Fresh.{below_of}
@@ -23,7 +23,7 @@ use Rattle.rule_world.proofs.Vain.{next_tag}
 use Rattle.rule_lives.specs.Law.{Made}
 use Rattle.rule_lives.proofs.Keeps.{here}
 
-operators_of : (rules : List Rule) (rule : Rule) → UseOperators rules → In rule rules → HaveOperators rule.conditions
+pub operators_of : (rules : List Rule) (rule : Rule) → UseOperators rules → In rule rules → HaveOperators rule.conditions
 operators_of [] rule ops i = absurd i
 operators_of (r ∷ rules) rule ops (inl e) = subst (λ (v : Rule). HaveOperators v.conditions) (sym e) ops.0
 operators_of (r ∷ rules) rule ops (inr i) = operators_of rules rule ops.1 i
@@ -79,14 +79,14 @@ is_match p s o m ops n h =
 -- ---- a fact by its name
 
 -- what has behind the step the name of a fact from before it is that fact
-same_fact : (p : Program) (w : World) (step : Step) (f g : Fact) → IsLawful p w → In f w.facts → In g (moved p w step).facts → name_of g ≡ name_of f → g ≡ f
+pub same_fact : (p : Program) (w : World) (step : Step) → IsOrdered p w → (f g : Fact) → In f w.facts → In g (moved p w step).facts → name_of g ≡ name_of f → g ≡ f
 unfolding stepped
-same_fact p w step f g law i j e =
+same_fact p w step law f g i j e =
     let tags : g.tag ≡ f.tag = ap (λ n. n.tag) e in
     elim (next_tag p w step g j) [
-      | inl k ↦ one_fact w.facts law.ordered.tags g f k i tags
+      | inl k ↦ one_fact w.facts law.tags g f k i tags
       | inr new ↦
-          let below : f.tag.0 < w.next_tag = below_of w.next_tag w.facts law.ordered.fresh f i in
+          let below : f.tag.0 < w.next_tag = below_of w.next_tag w.facts law.fresh f i in
           let same : g.tag.0 ≡ f.tag.0 = ap (λ (t : Tag). t.0) tags in
           absurd (omega (arith, new))
     ]
@@ -97,4 +97,4 @@ pub own_fact : (p : Program) (w : World) (step : Step) (m : Match) (n : Names p 
 own_fact p w step m n f law own inside =
     let q = of_map name_of (name_of f) n.tuple.facts (subst (λ (v : Match). In (name_of f) v.row.facts) (sym n.is) own) in
     let there = (here p (snapshot (moved p w step)) n.tuple n.rule.conditions n.made q.0 q.1).0 in
-    subst (λ (g : Fact). In g n.tuple.facts) (same_fact p w step f q.0 law inside there q.2) q.1
+    subst (λ (g : Fact). In g n.tuple.facts) (same_fact p w step law.ordered f q.0 inside there q.2) q.1

@@ -9,6 +9,7 @@ use Rattle.fx_base.specs.declared.value.Value.{Value}
 use Rattle.rule_model.specs.declared.program.Program.{Program}
 use Rattle.rule_model.specs.declared.step.Step.{Step}
 use Rattle.rule_model.specs.declared.step.Step.TheVariants.{Insert, Modify, Retract, Advance, At}
+use Rattle.rule_model.specs.Candidates.{is_present}
 use Rattle.rule_model.specs.Snapshots.{Snapshot, floor}
 use Rattle.rule_model.specs.Tuples.{Tuple}
 use Rattle.rule_model.specs.Types.{is_event, is_observed, lateness_of}
@@ -19,6 +20,7 @@ use Rattle.rule_world.specs.Lawful.{IsLawful}
 use Rattle.rule_world.specs.Worlds.{World, snapshot, moved, step_fault, modify_fault, retract_fault, is_of_type, found, new_fact, has_id, revised, revised_in}
 use Rattle.rule_world.proofs.Faultless.{event_by, point_by, started, modified_plain, moved_forward}
 use Rattle.rule_world.proofs.Found.{fact_with, found_there}
+use Rattle.rule_world.proofs.Steps.{stays}
 use Rattle.rule_lives.specs.Law.{KeepsTuple}
 use Rattle.rule_lives.proofs.Basics.{same_number}
 use Rattle.rule_lives.proofs.Shifts.{Loose, a_fact, gone, fresh, Timed, Shift, at_end, same, less, more}
@@ -94,18 +96,19 @@ module _ (p : Program) (w : World) (ty entry : ℕ) (fields : List Value) (none 
           (started (slice_get p.types ty) (floor p (snapshot w) entry) w.clock fields (sym (event_by p ty) ∙ e) none).from_floor)
 
 -- what has the id of a modification is a plain fact, present or not
-plain_there : (p : Program) (w : World) (id : ℕ) → IsLawful p w → modify_fault p (found p w id) ≡ None → (f : Fact) → In f w.facts → has_id id f ≡ true → is_event p f.ty.0 ≡ false
+pub plain_there : (p : Program) (w : World) (id : ℕ) → IsLawful p w → modify_fault p (found p w id) ≡ None → (f : Fact) → In f w.facts → has_id id f ≡ true → is_event p f.ty.0 ≡ false
 plain_there p w id law none f i h = by (found p w id) refl none
   where
     by : (there : Option Fact) → found p w id ≡ there → modify_fault p there ≡ None → is_event p f.ty.0 ≡ false
     by None e k = absurd cc
     by (Some g) e k =
-        let there : Some g ≡ Some f = sym (found_there p w id g law.ordered e) ∙ fact_with w.facts 1 w.next_id id f law.ordered.ids i h in
+        let there : Some g ≡ Some f = sym (found_there p w id g law.ordered e) ∙ fact_with w.facts id f law.ordered.ids i h in
         let one : g ≡ f = cc in
         ap (λ (x : Fact). is_event p x.ty.0) (sym one) ∙ modified_plain p (Some g) g k refl
 
-unobserved : (p : Program) (ty : ℕ) (there : Option Fact) → retract_fault p ty there ≡ None → is_event p ty ≡ true → is_observed p ty ≡ false
-unobserved p ty there none event = by (is_event p ty) (is_observed p ty) event none
+-- an event that is retracted is of a type that is not observed
+pub retracted_is_not_observed : (p : Program) (ty : ℕ) (there : Option Fact) → retract_fault p ty there ≡ None → is_event p ty ≡ true → is_observed p ty ≡ false
+retracted_is_not_observed p ty there none event = by (is_event p ty) (is_observed p ty) event none
   where
     by : (a b : Bool) → a ≡ true → (if a then (if b then Some EventObserved else None) else if is_of_type ty there then None else Some Absent) ≡ None → b ≡ false
     by true true e k = absurd cc
@@ -118,18 +121,18 @@ not_false false e = absurd cc
 
 -- what a retraction takes away is a plain fact, or an event of a type that is not observed
 retracted_loose : (p : Program) (c : ℤ) (tuple : Tuple) (ty id : ℕ) (there : Option Fact) → retract_fault p ty there ≡ None
-    → ((f : Fact) → In f tuple.facts → f.ty.0 ≡ ty → f.id.0 ≡ id → ⊥) → (f : Fact) → not (f.ty.0 == ty && has_id id f) ≡ false → Loose p c tuple f
+    → ((f : Fact) → In f tuple.facts → f.ty.0 ≡ ty → f.id.0 ≡ id → ⊥) → (f : Fact) → stays p c ty id f ≡ false → Loose p c tuple f
 retracted_loose p c tuple ty id there none keeps f out = by (is_event p f.ty.0) refl
   where
     parts : ((f.ty.0 == ty) ≡ true) × (has_id id f ≡ true)
-    parts = both_of (f.ty.0 == ty) (has_id id f) (not_false _ out)
+    parts = both_of (f.ty.0 == ty) (has_id id f) (both_of (is_present p c f) (f.ty.0 == ty && has_id id f) (not_false _ out)).1
 
     of_type : f.ty.0 ≡ ty
     of_type = same_number f.ty.0 ty parts.0
 
     by : (b : Bool) → is_event p f.ty.0 ≡ b → Loose p c tuple f
     by false e = a_fact e
-    by true e = gone (ap (is_observed p) of_type ∙ unobserved p ty there none (ap (is_event p) (sym of_type) ∙ e)) (λ own. keeps f own of_type (same_number f.id.0 id parts.1))
+    by true e = gone (ap (is_observed p) of_type ∙ retracted_is_not_observed p ty there none (ap (is_event p) (sym of_type) ∙ e)) (λ own. keeps f own of_type (same_number f.id.0 id parts.1))
 
 pub turns_of : (p : Program) (w : World) (step : Step) (tuple : Tuple) → IsLawful p w → step_fault p w step ≡ None → KeepsTuple step tuple
     → Turns p w.clock tuple (snapshot w) (snapshot (moved p w step))
@@ -145,7 +148,7 @@ turns_of p w (Modify id sets) tuple law none keeps = record {
   to = same_clock w.clock;
 }
 turns_of p w (Retract ty id) tuple law none keeps = record {
-  shift = removed p w.clock tuple (λ (f : Fact). not (f.ty.0 == ty.0 && has_id id.0 f)) w.facts (lawful_timed p w law)
+  shift = removed p w.clock tuple (stays p w.clock ty.0 id.0) w.facts (lawful_timed p w law)
       (λ f i out. retracted_loose p w.clock tuple ty.0 id.0 (found p w id.0) none keeps f out);
   from = same_clock w.clock;
   to = same_clock w.clock;

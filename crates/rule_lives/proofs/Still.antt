@@ -126,7 +126,7 @@ present_parts : (p : Program) (now : ℤ) (f : Fact) → is_present p now f ≡ 
 unfolding is_present
 present_parts p now f h = h
 
-always_present : (p : Program) (now : ℤ) (f : Fact) → expiry_of p f.ty.0 ≡ None → is_present p now f ≡ true
+pub always_present : (p : Program) (now : ℤ) (f : Fact) → expiry_of p f.ty.0 ≡ None → is_present p now f ≡ true
 unfolding is_present
 always_present p now f e = ap (λ (x : Option ℤ). not (is_event p f.ty.0) || is_within x (now -ℤ f.times.start)) e ∙ or_true (not (is_event p f.ty.0))
 

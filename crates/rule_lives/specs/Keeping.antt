@@ -1,6 +1,6 @@
--- Which facts are kept, and that what a step makes names only what is kept (Walzer, Breddin, Groch 2008; Drools Fusion 5 User Guide,
+-- Tables of lives, which facts are kept by them, and that what a step makes names only what is kept (Walzer, Breddin, Groch 2008; Drools Fusion 5 User Guide,
 -- memory management for events).
-use Rattle.std.specs.Prelude.{◌≡◌, ◌^◌, ℕ, ℤ, pos, ◌+ℤ◌, ◌≤ℤ◌, true, false, List, take, length, Some, None, slice_get}
+use Rattle.std.specs.Prelude.{◌≡◌, ℕ, ℤ, ◌+ℤ◌, ◌≤ℤ◌, true, false, List, take, length, Some, None, slice_get}
 use Rattle.fx_base.specs.Lists.{In}
 use Rattle.fx_base.specs.declared.fact.Fact.{Fact}
 use Rattle.rule_model.specs.declared.condition.Condition.{Condition}
@@ -12,6 +12,7 @@ use Rattle.rule_model.specs.declared.program.Program.{Program}
 use Rattle.rule_model.specs.declared.program.Rule.{Rule}
 use Rattle.rule_model.specs.declared.step.Step.{Step}
 use Rattle.rule_model.specs.Candidates.{is_present, passing}
+use Rattle.rule_model.specs.Lives.{AreShort, endless_lives}
 use Rattle.rule_model.specs.Matches.{matches, has_match}
 use Rattle.rule_model.specs.Rows.{pattern_of}
 use Rattle.rule_model.specs.Tuples.{Tuple, name_of}
@@ -38,18 +39,36 @@ pub record AreLives (p : Program) (table : LifeTable) : Type 0 where
   pub as_many : length table.lives ≡ length p.types
   pub each : (ty : ℕ) (life : Life) → slice_get table.lives ty ≡ Some life → IsLifeOf p ty life
 
--- each finite life of the table is from 0 to 2^62 ms, so that its end behind an event has a number of 64 bits
-abbrev pub AreShort : LifeTable → Type 0
-AreShort table = (ty : ℕ) (n : ℤ) → slice_get table.lives ty ≡ Some (Finite n) → (pos 0 ≤ℤ n) × (n ≤ℤ pos (2 ^ 62))
+-- ---- tables that are safe to forget by
 
--- a table of lives that an engine of the program forgets by
-pub record IsLifeTable (p : Program) (table : LifeTable) : Type 0 where
-  pub lives : AreLives p table
+-- A life by which no event of the type is forgotten too early: a finite one is at least as long as the life of the type, and one for ever
+-- is safe for each event type without an explicit expiry. Plain types and explicit expiries are called what they are.
+abbrev pub IsSafeLife : Program → ℕ → Life → Type 0
+IsSafeLife p ty Plain = is_event p ty ≡ false
+IsSafeLife p ty (Explicit expiry) = (is_event p ty ≡ true) × (expiry_of p ty ≡ Some expiry)
+IsSafeLife p ty (Finite n) = (m : ℤ) × IsLife p ty (finite m) × (m ≤ℤ n)
+IsSafeLife p ty Infinite = (is_event p ty ≡ true) × (expiry_of p ty ≡ None)
+
+-- the table has a safe life for each type of the program, at the type's place
+pub record AreSafe (p : Program) (table : LifeTable) : Type 0 where
+  pub as_many : length table.lives ≡ length p.types
+  pub each : (ty : ℕ) (life : Life) → slice_get table.lives ty ≡ Some life → IsSafeLife p ty life
+
+-- a table that an engine of the program may be made with
+pub record IsSafeTable (p : Program) (table : LifeTable) : Type 0 where
+  pub safe : AreSafe p table
   pub short : AreShort table
+
+-- the table of the program's lives is one, and so is the table without finite lives
+abbrev pub LivesAreSafe : Type 0
+LivesAreSafe = (p : Program) (table : LifeTable) → AreLives p table → AreShort table → IsSafeTable p table
+
+abbrev pub EndlessAreSafe : Type 0
+EndlessAreSafe = (p : Program) → IsSafeTable p (endless_lives p)
 
 -- ---- what is kept
 
--- The facts of a world that are kept: the plain ones; the events of types with an explicit expiry, while they are present; the events
+-- The facts of a world that are kept by a table of lives: the plain ones; the events of types with an explicit expiry, while they are present; the events
 -- that live for ever, and those that are within their lives; what a pending match names.
 pub data IsKept (p : Program) (table : LifeTable) (w : World) (f : Fact) : Type 0 where
   plain : In f w.facts → is_event p f.ty.0 ≡ false → IsKept p table w f
@@ -64,16 +83,16 @@ pub data IsKept (p : Program) (table : LifeTable) (w : World) (f : Fact) : Type 
 abbrev pub Comes : Program → World → Step → List Condition → Tuple → Type 0
 Comes p w step conditions tuple = Made p (snapshot (moved p w step)) conditions tuple × (Made p (snapshot w) conditions tuple → ⊥)
 
--- A fact of the world that a tuple of a whole rule names which comes is kept in the world.
+-- By a safe table: a fact of the world that a tuple of a whole rule names which comes is kept in the world.
 abbrev pub TupleNamesKept : Type 0
-TupleNamesKept = (p : Program) (table : LifeTable) (w : World) (step : Step) → ObservedAreFlagged p → AreLives p table → IsLawful p w
+TupleNamesKept = (p : Program) (table : LifeTable) (w : World) (step : Step) → ObservedAreFlagged p → AreSafe p table → IsLawful p w
     → step_fault p w step ≡ None
     → (rule : Rule) → In rule p.rules → (tuple : Tuple) → Comes p w step rule.conditions tuple
     → (f : Fact) → In f tuple.facts → In f w.facts → IsKept p table w f
 
 -- The same of a match that comes.
 abbrev pub MatchNamesKept : Type 0
-MatchNamesKept = (p : Program) (table : LifeTable) (w : World) (step : Step) → ObservedAreFlagged p → UseOperators p.rules → AreLives p table
+MatchNamesKept = (p : Program) (table : LifeTable) (w : World) (step : Step) → ObservedAreFlagged p → UseOperators p.rules → AreSafe p table
     → IsLawful p w → step_fault p w step ≡ None
     → (m : Match) → has_match (matches p (snapshot (moved p w step))) m ≡ true → has_match (matches p (snapshot w)) m ≡ false
     → (f : Fact) → In (name_of f) m.row.facts → In f w.facts → IsKept p table w f
@@ -81,7 +100,7 @@ MatchNamesKept = (p : Program) (table : LifeTable) (w : World) (step : Step) →
 -- A fact of the world that passes, behind the step, for a `not`, `exists` or `accumulate` with a tuple of the conditions before that one
 -- which comes is kept in the world.
 abbrev pub TupleMeetsKept : Type 0
-TupleMeetsKept = (p : Program) (table : LifeTable) (w : World) (step : Step) → ObservedAreFlagged p → AreLives p table → IsLawful p w
+TupleMeetsKept = (p : Program) (table : LifeTable) (w : World) (step : Step) → ObservedAreFlagged p → AreSafe p table → IsLawful p w
     → step_fault p w step ≡ None
     → (rule : Rule) → In rule p.rules → (q : ℕ) (c : Condition) → slice_get rule.conditions q ≡ Some c → binds c ≡ false
     → (tuple : Tuple) → Comes p w step (take q rule.conditions) tuple
@@ -89,6 +108,6 @@ TupleMeetsKept = (p : Program) (table : LifeTable) (w : World) (step : Step) →
 
 -- What is kept behind the step and was a fact before it was kept before it.
 abbrev pub KeptBefore : Type 0
-KeptBefore = (p : Program) (table : LifeTable) (w : World) (step : Step) → ObservedAreFlagged p → UseOperators p.rules → AreLives p table
+KeptBefore = (p : Program) (table : LifeTable) (w : World) (step : Step) → ObservedAreFlagged p → UseOperators p.rules → AreSafe p table
     → IsLawful p w → step_fault p w step ≡ None
     → (f : Fact) → IsKept p table (stepped p w step) f → In f w.facts → IsKept p table w f

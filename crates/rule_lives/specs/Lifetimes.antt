@@ -1,5 +1,7 @@
 -- How long behind its end an event of a type can still matter (Walzer, Breddin, Groch 2008; Drools Fusion 5 User Guide, memory
--- management for events, inferred expiration offset).
+-- management for events, inferred expiration offset). In the rule `$s : Smoke() $h : Heat( this after[0s,10s] $s ) Bell( this after[0s,20s] $h )`
+-- a smoke matters 30000 ms: a heat starts at most 10 s behind its end, a bell at most 30 s, and i itself is one of the j, at 0. A heat
+-- matters 20000 ms, for its bell, and a bell 0.
 use Rattle.std.specs.Prelude.{◌≡◌, ℕ, suc, ℤ, pos, true, false, List, take, Option, Some, None, slice_get, ◌⊎◌, if◌then◌else◌}
 use Rattle.std.specs.Int.{int_max}
 use Rattle.fx_base.specs.Lists.{In}
@@ -65,8 +67,8 @@ LivesFor p rule i (Length count) l = l ≡ infinite
 
 -- ---- the life of a type
 
--- some pattern on the type gives the limit
-pub record Gives (p : Program) (ty : ℕ) (l : Limit) : Type 0 where
+-- the limit is one of those of the life of some pattern on the type
+pub record PatternLife (p : Program) (ty : ℕ) (l : Limit) : Type 0 where
   pub rule : Rule
   pub stands : In rule p.rules
   pub i : Placed
@@ -79,5 +81,5 @@ pub record IsLife (p : Program) (ty : ℕ) (l : Limit) : Type 0 where
   pub event : is_event p ty ≡ true
   pub unexpired : expiry_of p ty ≡ None
   pub above_zero : Below (finite (pos 0)) l
-  pub above_all : (m : Limit) → Gives p ty m → Below m l
-  pub reached : (l ≡ finite (pos 0)) ⊎ Gives p ty l
+  pub above_all : (m : Limit) → PatternLife p ty m → Below m l
+  pub reached : (l ≡ finite (pos 0)) ⊎ PatternLife p ty l

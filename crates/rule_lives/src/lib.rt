@@ -5,7 +5,7 @@
 #![tactic(auto)]
 
 ghost use Rattle.rule_lives.specs.Law.{OfRule, OfPrefix};
-ghost use Rattle.rule_lives.specs.Keeping.{TupleNamesKept, MatchNamesKept, TupleMeetsKept, KeptBefore};
+ghost use Rattle.rule_lives.specs.Keeping.{LivesAreSafe, EndlessAreSafe, TupleNamesKept, MatchNamesKept, TupleMeetsKept, KeptBefore};
 
 /// The events of what comes or goes in a step are within their lives: those of a tuple of a whole rule, and those that pass for a
 /// condition which binds no fact, where a tuple of the conditions before it comes or goes.
@@ -14,7 +14,14 @@ pub fn change_law()
     ensures of_prefix { OfPrefix }
 {}
 
-/// What comes in a step names only what is kept: a tuple of a whole rule, a match, and what passes for a condition which binds no fact,
+/// The table of a program's lives is safe to forget by, and so is the table in which every event lives for ever, unless its type has an
+/// explicit expiry (`LifeTable::without`).
+pub fn tables_are_safe()
+    ensures lives { LivesAreSafe }
+    ensures endless { EndlessAreSafe }
+{}
+
+/// What comes in a step names only what a safe table keeps: a tuple of a whole rule, a match, and what passes for a condition which binds no fact,
 /// where a tuple of the conditions before it comes. What is kept behind a step and was a fact before it was kept before it.
 pub fn what_comes_is_kept()
     ensures tuples { TupleNamesKept }

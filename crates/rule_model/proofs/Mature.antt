@@ -22,7 +22,7 @@ use Rattle.rule_model.specs.Tests.{time_holds_with, times_hold}
 use Rattle.rule_model.specs.Tuples.{Bindings}
 use Rattle.rule_model.specs.Types.{is_event, is_point}
 
-abbrev Bounds : Type 0
+abbrev pub Bounds : Type 0
 Bounds = List (List OpEdge × Times)
 
 -- what the tests say of times, by the bounds that they give
@@ -75,7 +75,7 @@ joins_all : (edges : List OpEdge) → All IsOpEdge edges → All Joins edges
 joins_all [] h = All-nil Joins
 joins_all (e ∷ edges) h = All-cons Joins e edges (All-head IsOpEdge e edges h).joins (joins_all edges (All-tail IsOpEdge e edges h))
 
-abbrev AllJoin : Bounds → Type 0
+abbrev pub AllJoin : Bounds → Type 0
 AllJoin bounds = All (λ (b : List OpEdge × Times). All Joins b.0) bounds
 
 one_join : (test : TimeTest) (o : Option Fact) (rest : Option Bounds) (bounds : Bounds) → All Joins test.op → ((bs : Bounds) → rest ≡ Some bs → AllJoin bs)
@@ -86,12 +86,19 @@ one_join test (Some f) (Some bs) bounds op h e =
     let same : (test.op, f.times) ∷ bs ≡ bounds = cc in
     subst AllJoin same (All-cons (λ (b : List OpEdge × Times). All Joins b.0) (test.op, f.times) bs op (h bs refl))
 
-bounds_join : (bound : Bindings) (tests : List TimeTest) (bounds : Bounds) → AreOperators tests → bounds_of bound tests ≡ Some bounds → AllJoin bounds
+pub bounds_join : (bound : Bindings) (tests : List TimeTest) (bounds : Bounds) → AreOperators tests → bounds_of bound tests ≡ Some bounds → AllJoin bounds
 bounds_join bound [] bounds ops e =
     let same : [] ≡ bounds = cc in
     subst AllJoin same (All-nil (λ (b : List OpEdge × Times). All Joins b.0))
 bounds_join bound (test ∷ tests) bounds ops e =
     one_join test (bound.fact test.fact) (bounds_of bound tests) bounds (joins_all test.op ops.0.each) (λ bs e. bounds_join bound tests bs ops.1 e) e
+
+-- what a loop over the tests tells of the bounds that it gathers
+pub none_told : {V W : Type 0} (f : V → W) {o : Option V} {r : Option W} → option_map f o ≡ r → o ≡ None → r ≡ None
+none_told {V} {W} f {o} {r} h e = sym h ∙ ap (option_map f) e
+
+pub some_told : {V W : Type 0} (f : V → W) {o : Option V} {r : Option W} {v : V} → option_map f o ≡ r → o ≡ Some v → r ≡ Some (f v)
+some_told {V} {W} f {o} {r} {v} h e = sym h ∙ ap (option_map f) e
 
 window_is : (p : Program) (q : Pattern) (bound : Bindings) → AreOperators q.times → AreStarts (IsPossible p q bound) (window_at p q bound)
 window_is p q bound ops = by_bounds (bounds_of bound q.times) refl

@@ -1,10 +1,23 @@
--- The table of lives of an engine that forgets no event but by explicit expiry.
-use Rattle.std.specs.Prelude.{◌≡◌, Bool, true, false, ℤ, map, Option, Some, None}
+-- Tables of lives: the bound on finite lives, and the table that has none.
+use Rattle.std.specs.Prelude.{◌≡◌, ◌^◌, ◌≤ℤ◌, Bool, true, false, ℕ, ℤ, pos, map, Option, Some, None, slice_get}
 use Rattle.rule_model.specs.declared.life.Life.{Life}
-use Rattle.rule_model.specs.declared.life.Life.TheVariants.{Plain, Explicit, Infinite}
+use Rattle.rule_model.specs.declared.life.Life.TheVariants.{Plain, Explicit, Finite, Infinite}
 use Rattle.rule_model.specs.declared.life.LifeTable.{LifeTable}
 use Rattle.rule_model.specs.declared.program.Program.{Program}
 use Rattle.rule_model.specs.declared.program.TypeInfo.{TypeInfo}
+
+-- a finite life is from 0 to 2^62 ms, so that its end behind an event has a number of 64 bits
+abbrev pub IsShortLife : Life → Type 0
+IsShortLife Plain = Unit {0}
+IsShortLife (Explicit expiry) = Unit {0}
+IsShortLife (Finite n) = (pos 0 ≤ℤ n) × (n ≤ℤ pos (2 ^ 62))
+IsShortLife Infinite = Unit {0}
+
+-- each life of the table is
+abbrev pub AreShort : LifeTable → Type 0
+AreShort table = (ty : ℕ) (life : Life) → slice_get table.lives ty ≡ Some life → IsShortLife life
+
+-- ---- the table of an engine that forgets no event but by explicit expiry
 
 abbrev pub life_by : Bool → Option ℤ → Life
 life_by false expires = Plain
@@ -17,7 +30,3 @@ endless_life ty = life_by ty.event ty.expires
 
 abbrev pub endless_lives : Program → LifeTable
 endless_lives p = record { lives = map endless_life p.types }
-
--- a table that an engine of the program may be made with
-abbrev pub IsTable : Program → LifeTable → Type 0
-IsTable p table = table ≡ endless_lives p

@@ -22,9 +22,11 @@ pub record IsPossible (p : Program) (pattern : Pattern) (bound : Bindings) (y : 
   pub event : IsEvent (is_point p pattern.ty.0) y
   pub tests : times_hold bound y pattern.times ≡ true
 
--- before this moment no event of an entry point can start any more: the clock less its lateness
-unfoldable pub told_to : Program → Snapshot → ℕ → ℤ
-told_to p s entry = s.clock -ℤ lateness_of p entry
+-- The watermark of an entry point: the clock less its lateness. No event that comes from now on starts before it. A `not` waits by it and not
+-- by the floor, which is the last start of the entry point where that is later, and by which a new event is late: so what is mature changes
+-- with the clock alone, and no event that comes in ends the waiting of another rule.
+unfoldable pub watermark : Program → Snapshot → ℕ → ℤ
+watermark p s entry = s.clock -ℤ lateness_of p entry
 
 -- What was bound is mature for a negative pattern, where all events that start before a moment are known: the pattern is one of plain
 -- facts; no event is possible; there is none that starts last; or the one that starts last starts before the moment.

@@ -1,6 +1,6 @@
--- Conditions by what makes their rows come and go.
+-- Which conditions observe the facts of their pattern.
 use Rattle.std.specs.Prelude.{ℕ, ◌==◌, ◌&&◌, Bool, true, false, List}
-use Rattle.std.specs.List.{list_all, list_any}
+use Rattle.std.specs.List.{list_any}
 use Rattle.rule_model.specs.declared.condition.Condition.{Condition}
 use Rattle.rule_model.specs.declared.condition.Condition.TheVariants.{Plain, Negated, Existing, Folded}
 use Rattle.rule_model.specs.declared.condition.WindowTag.{WindowTag}
@@ -13,22 +13,13 @@ is_whole Whole = true
 is_whole (Time span) = false
 is_whole (Length count) = false
 
--- a pattern without a window: it asks for nothing but a fact that is there
-abbrev pub is_simple : Condition → Bool
-is_simple (Plain pattern) = is_whole pattern.window
-is_simple (Negated pattern) = false
-is_simple (Existing pattern) = false
-is_simple (Folded a) = false
-
-abbrev pub are_simple : List Condition → Bool
-are_simple conditions = list_all is_simple conditions
-
 abbrev pub is_length : WindowTag → Bool
 is_length Whole = false
 is_length (Time span) = false
 is_length (Length count) = true
 
--- whether a row of the condition can come where a fact of its pattern goes
+-- Whether the condition asks more of the facts of its pattern than that one is there: that none is there (`not`), that any one is (`exists`),
+-- a result over them, or which are the latest (a window of length).
 abbrev pub observes : Condition → Bool
 observes (Plain pattern) = is_length pattern.window
 observes (Negated pattern) = true

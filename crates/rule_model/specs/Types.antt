@@ -1,6 +1,7 @@
 -- What a program says of a type or of an entry point, by its place. What is no type of the program is a plain one of points that never
 -- expires, and what is no entry point of it has no lateness.
-use Rattle.std.specs.Prelude.{ℕ, ℤ, pos, Bool, true, false, Option, Some, None, slice_get}
+use Rattle.std.specs.Prelude.{ℕ, ◌+◌, ℤ, pos, Bool, true, false, List, [], ◌∷◌, Option, Some, None, slice_get, if◌then◌else◌}
+use Rattle.fx_base.specs.declared.ids.TypeId.{TypeId}
 use Rattle.rule_model.specs.declared.program.EntryInfo.{EntryInfo}
 use Rattle.rule_model.specs.declared.program.Program.{Program}
 use Rattle.rule_model.specs.declared.program.TypeInfo.{TypeInfo}
@@ -38,7 +39,7 @@ is_event p ty = is_event_type (slice_get p.types ty)
 unfoldable pub is_point : Program → ℕ → Bool
 is_point p ty = is_point_type (slice_get p.types ty)
 
--- whether the events of a type are not retracted, since some rule asks for their absence, counts them or gathers them
+-- whether the events of a type are not retracted, since some rule has a `not`, an `exists`, an `accumulate` or a window of length over them
 unfoldable pub is_observed : Program → ℕ → Bool
 is_observed p ty = is_observed_type (slice_get p.types ty)
 
@@ -49,3 +50,10 @@ expiry_of p ty = expiry_in (slice_get p.types ty)
 -- how far behind the clock an event may start in an entry point, in milliseconds
 unfoldable pub lateness_of : Program → ℕ → ℤ
 lateness_of p entry = lateness_in (slice_get p.entries entry)
+
+-- ---- the types of events
+
+-- those of these types whose facts are events, by their places, of which this is the first
+abbrev pub event_types : List TypeInfo → ℕ → List TypeId
+event_types [] place = []
+event_types (ty ∷ types) place = if ty.event then (record { 0 = place }) ∷ event_types types (place + 1) else event_types types (place + 1)

@@ -1,4 +1,4 @@
--- What is not present makes no row: a world has the matches, the faults and the next worlds of what is kept of it.
+-- What is not present makes no row: a world has the matches, the faults and the next worlds of the world with its present facts only.
 use Rattle.std.proofs.Common.{◌≡◌, ◌&&◌, ◌==◌, not, ℕ, Bool, true, false, cond, nat_lt, List, [], ◌∷◌, ◌++◌, map, length, if◌then◌else◌, refl, sym, ◌∙◌, ap}
 use Rattle.std.specs.List.{filter, flat_map}
 use mathlib.Core.Path.{fun_ext}
@@ -14,12 +14,12 @@ use Rattle.rule_model.specs.declared.program.Rule.{Rule}
 use Rattle.rule_model.specs.Candidates.{is_present, fits, is_behind, count_behind, is_inside, is_candidate, candidates, passes, passing}
 use Rattle.rule_model.specs.First.{first}
 use Rattle.rule_model.specs.Matches.{matches, matches_from, has_match, fire_cmp, saliences}
-use Rattle.rule_model.specs.Maturity.{is_mature, told_to}
+use Rattle.rule_model.specs.Maturity.{is_mature, watermark}
 use Rattle.rule_model.specs.Rows.{result_of, with_result, extended, tuples, rows}
 use Rattle.rule_model.specs.Snapshots.{Snapshot}
 use Rattle.rule_model.specs.Tests.{tests_hold}
 use Rattle.rule_model.specs.Tuples.{Tuple, empty_tuple, with_fact, row_of, bound_by, unbound}
-use Rattle.rule_world.specs.Worlds.{World, snapshot, present, kept, found, fact_of, pending, settled, first_pending}
+use Rattle.rule_world.specs.Worlds.{World, snapshot, present, only_present, found, fact_of, pending, settled, first_pending}
 use Rattle.rule_world.proofs.Fresh.{and_parts}
 
 -- ---- filters
@@ -34,6 +34,16 @@ within_by test keep x xs h rest false true ek et = absurd (let n : false ≡ tru
 pub filter_within : {A : Type 0} (test keep : A → Bool) (xs : List A) → ((x : A) → test x ≡ true → keep x ≡ true) → filter test (filter keep xs) ≡ filter test xs
 filter_within test keep [] h = refl
 filter_within test keep (x ∷ xs) h = within_by test keep x xs (h x) (filter_within test keep xs h) (keep x) (test x) refl refl
+
+-- two tests that agree on what another one lets pass
+pub filter_alike : {A : Type 0} (test other keep : A → Bool) (xs : List A) → ((x : A) → keep x ≡ true → test x ≡ other x) → filter test (filter keep xs) ≡ filter other (filter keep xs)
+filter_alike test other keep [] h = refl
+filter_alike {A} test other keep (x ∷ xs) h = by (keep x) refl (filter_alike test other keep xs h)
+  where
+    by : (k : Bool) → keep x ≡ k → filter test (filter keep xs) ≡ filter other (filter keep xs)
+        → filter test (cond k (x ∷ filter keep xs) (filter keep xs)) ≡ filter other (cond k (x ∷ filter keep xs) (filter keep xs))
+    by true e rest = ap (λ b. cond b (x ∷ filter test (filter keep xs)) (filter test (filter keep xs))) (h x e) ∙ ap (λ ys. cond (other x) (x ∷ ys) ys) rest
+    by false e rest = rest
 
 pub filter_same : {A : Type 0} (test other : A → Bool) (xs : List A) → ((x : A) → test x ≡ other x) → filter test xs ≡ filter other xs
 filter_same test other xs h = ap (λ t. filter t xs) (fun_ext h)
@@ -76,7 +86,7 @@ module _ (p : Program) (w : World) where
   s = snapshot w
 
   abbrev o : Snapshot
-  o = snapshot (kept p w)
+  o = snapshot (only_present p w)
 
   fits_present : (q : Pattern) (f : Fact) → fits p q w.clock f ≡ true → is_present p w.clock f ≡ true
   fits_present q f e = (and_parts (is_present p w.clock f) (f.ty.0 == q.ty.0 && (f.entry.0 == q.entry.0 && tests_hold unbound f q.alone)) e).0
@@ -100,15 +110,15 @@ module _ (p : Program) (w : World) where
   same_passing : (q : Pattern) (t : Tuple) → passing p q o t ≡ passing p q s t
   same_passing q t = ap (filter (passes q t)) (same_candidates q)
 
-  same_told : (entry : ℕ) → told_to p o entry ≡ told_to p s entry
-  unfolding told_to
-  same_told entry = refl
+  same_watermark : (entry : ℕ) → watermark p o entry ≡ watermark p s entry
+  unfolding watermark
+  same_watermark entry = refl
 
   same_extended : (c : Condition) (t : Tuple) → extended p o c t ≡ extended p s c t
   same_extended (Plain q) t = ap (map (with_fact t)) (same_passing q t)
   same_extended (Negated q) t =
-      ap (λ fs. if length fs == 0 && is_mature p q (bound_by t) (told_to p o q.entry.0) then t ∷ [] else []) (same_passing q t)
-      ∙ ap (λ m. if length (passing p q s t) == 0 && is_mature p q (bound_by t) m then t ∷ [] else []) (same_told q.entry.0)
+      ap (λ fs. if length fs == 0 && is_mature p q (bound_by t) (watermark p o q.entry.0) then t ∷ [] else []) (same_passing q t)
+      ∙ ap (λ m. if length (passing p q s t) == 0 && is_mature p q (bound_by t) m then t ∷ [] else []) (same_watermark q.entry.0)
   same_extended (Existing q) t = ap (λ (fs : List Fact). if length fs == 0 then [] else (t ∷ [])) (same_passing q t)
   same_extended (Folded a) t = ap (λ fs. with_result a t (result_of a fs)) (same_passing a.pattern t)
 
@@ -123,18 +133,17 @@ module _ (p : Program) (w : World) where
   pub kept_matches : matches p o ≡ matches p s
   kept_matches = ap (λ (found : Rule → List Row). matches_from 0 (map found p.rules)) (fun_ext (λ (rule : Rule). kept_rows rule.conditions))
 
-  pub kept_pending : pending p (kept p w) ≡ pending p w
+  pub kept_pending : pending p (only_present p w) ≡ pending p w
   kept_pending = ap (filter (λ m. not (has_match w.fired m))) kept_matches
 
-  pub kept_first : first_pending p (kept p w) ≡ first_pending p w
+  pub kept_first : first_pending p (only_present p w) ≡ first_pending p w
   kept_first = ap (first (fire_cmp (saliences p.rules))) kept_pending
 
-  -- what is kept is present
-  pub kept_present : present p (kept p w) ≡ present p w
+  pub kept_present : present p (only_present p w) ≡ present p w
   kept_present = filter_within (is_present p w.clock) (is_present p w.clock) w.facts (λ f e. e)
 
-  pub kept_found : (id : ℕ) → found p (kept p w) id ≡ found p w id
+  pub kept_found : (id : ℕ) → found p (only_present p w) id ≡ found p w id
   kept_found id = ap (λ facts. fact_of facts id) kept_present
 
-  pub kept_settled : kept p (settled p w) ≡ settled p (kept p w)
+  pub kept_settled : only_present p (settled p w) ≡ settled p (only_present p w)
   kept_settled = ap (λ ms. record w { facts = present p w; fired = filter (has_match ms) w.fired }) (sym kept_matches)

@@ -8,7 +8,6 @@ ghost use Rattle.fx_base.specs.declared.ids.Tag.{Tag};
 ghost use Rattle.fx_base.specs.declared.ids.TypeId.{TypeId};
 ghost use Rattle.row_delta.specs.declared.row.Row.{Row};
 ghost use Rattle.rule_model.specs.declared.action.Action.{Action};
-ghost use Rattle.rule_model.specs.declared.condition.Condition.{Condition};
 ghost use Rattle.rule_model.specs.declared.matched.Match.{Match};
 ghost use Rattle.rule_model.specs.declared.program.Program.{Program};
 ghost use Rattle.rule_model.specs.declared.program.Rule.{Rule};
@@ -23,7 +22,7 @@ ghost use Rattle.rule_model.specs.Types.{is_event};
 ghost use Rattle.rule_world.specs.Kinds.{step_fits};
 ghost use Rattle.rule_world.specs.Lawful.{IsOrdered, IsLawful};
 ghost use Rattle.rule_world.specs.Typed.{is_typed};
-ghost use Rattle.rule_world.specs.Worlds.{World, snapshot, empty_world, stepped, step_fault, fact_of, present, found, without_fact, is_of_type, pending, first_pending, marked};
+ghost use Rattle.rule_world.specs.Worlds.{World, snapshot, empty_world, stepped, step_fault, fact_of, found, is_of_type, pending, first_pending, marked};
 
 /// The first pending match is pending, and no pending match fires before it; there is none only where nothing is
 /// pending.
@@ -55,9 +54,9 @@ pub fn new_versions_have_the_next_tag()
     ensures { (p : Program) (w : World) (step : Step) (f : Fact) → In f (stepped p w step).facts → In f w.facts ⊎ (f.tag.0 ≡ w.next_tag) }
 {}
 
-/// The retraction of what is not there, and a move of the clock to where it stands, change nothing.
+/// The retraction of what is not present, and a move of the clock to where it stands, change nothing.
 pub fn vain_steps_change_nothing()
-    ensures retraction { (p : Program) (w : World) (ty : TypeId) (id : FactId) → IsOrdered p w → is_of_type ty.0 (fact_of w.facts id.0) ≡ false
+    ensures retraction { (p : Program) (w : World) (ty : TypeId) (id : FactId) → IsOrdered p w → is_of_type ty.0 (found p w id.0) ≡ false
         → stepped p w (Retract ty id) ≡ w }
     ensures advance { (p : Program) (w : World) → IsOrdered p w → stepped p w (Advance (pos 0)) ≡ w }
     ensures at { (p : Program) (w : World) → IsOrdered p w → stepped p w (At w.clock) ≡ w }
@@ -95,13 +94,4 @@ pub fn what_is_found_is_there()
 /// A fact that is not present at a clock is not present at any later one.
 pub fn absence_stays()
     ensures { (p : Program) (c : ℤ) (d : ℤ) (f : Fact) → is_present p c f ≡ false → c ≤ℤ d → is_present p d f ≡ false }
-{}
-
-/// Where no present fact has the type and the id, to take the fact of the type and the id away changes neither which facts are
-/// present nor the rows of any conditions.
-pub fn retracting_what_is_not_present()
-    ensures present { (p : Program) (w : World) (ty : ℕ) (id : ℕ) → IsOrdered p w → is_of_type ty (found p w id) ≡ false
-        → present p (without_fact w ty id) ≡ present p w }
-    ensures rows { (p : Program) (w : World) (ty : ℕ) (id : ℕ) (conditions : List Condition) → IsOrdered p w → is_of_type ty (found p w id) ≡ false
-        → rows p (snapshot (without_fact w ty id)) conditions ≡ rows p (snapshot w) conditions }
 {}

@@ -1,8 +1,17 @@
-use Rattle.std.proofs.Common.{List, ap, sym, ◌∙◌}
+use Rattle.std.proofs.Common.{◌≡◌, ℕ, List, length, Some, sym, ◌∙◌, ap, arith}
 use Rattle.std.specs.Prelude.{slice_get}
 use Rattle.rule_model.specs.declared.life.Life.{Life}
-use Rattle.rule_model.specs.declared.life.Life.TheVariants.{Finite}
+use Rattle.rule_model.specs.declared.program.TypeInfo.{TypeInfo}
+use Rattle.rule_lives.proofs.Safe.{lives_are_safe}
 use Rattle.expiry_infer.proofs.lifetimes.lives.Goals as goal
 
-pub returns-clause-short : goal.returns-clause-short
-returns-clause-short c ty n at = c.loop-place.invariant.short ty (Finite n) (ap (λ (lives : List Life). slice_get lives ty) (sym c.from_vec.ensures) ∙ at)
+pub returns-clause-safe : goal.returns-clause-safe
+returns-clause-safe c =
+    let at_end : c.loop-place.place ≡ length c.as_slice-types.result.now = omega (arith, c.loop-place-test.false, c.loop-place.auto.place-end) in
+    let many : length c.from_vec.result ≡ length c.args.program.now.types =
+    ap (λ (lives : List Life). length lives) c.from_vec.ensures ∙ c.loop-place.invariant.each ∙ at_end ∙ ap (λ (types : List TypeInfo). length types) c.as_slice-types.ensures in
+    let listed : (ty : ℕ) (life : Life) → slice_get c.from_vec.result ty ≡ Some life → slice_get c.loop-place.lives.items ty ≡ Some life =
+    λ ty life at. ap (λ (lives : List Life). slice_get lives ty) (sym c.from_vec.ensures) ∙ at in
+    lives_are_safe c.args.program.now (record { lives = c.from_vec.result })
+    (record { as_many = many; each = λ ty life at. c.loop-place.invariant.lives ty life (listed ty life at) })
+    (λ ty life at. c.loop-place.invariant.short ty life (listed ty life at))

@@ -2,7 +2,7 @@ use Rattle.std.proofs.Common.{◌≡◌, ℕ, Some, length}
 use Rattle.std.specs.Prelude.{slice_get}
 use Rattle.rule_model.specs.declared.life.Life.{Life}
 use Rattle.rule_lives.specs.Keeping.{IsLifeOf}
-use Rattle.expiry_infer.specs.Tails.{IsShortLife}
+use Rattle.rule_model.specs.Lives.{IsShortLife}
 use Rattle.expiry_infer.proofs.lifetimes.lives.Given as goal
 
 abbrev pub invariant-loop-place : goal.invariant-loop-place

@@ -4,7 +4,8 @@ use Rattle.std.proofs.lemmas.Int.{ints}
 use Rattle.rule_model.specs.Maturity.{bounds_of, is_past as is_past_of}
 use Rattle.rule_model.specs.Tuples.{bound_by}
 use Rattle.rule_model.specs.Types.{is_event, is_point, lateness_of}
-use Rattle.rule_eval.proofs.Ripe.{none_told, some_told, plain_mature, unbound_mature, event_mature}
+use Rattle.rule_model.proofs.Mature.{none_told, some_told}
+use Rattle.rule_eval.proofs.Ripe.{plain_mature, unbound_mature, event_mature}
 use Rattle.rule_eval.proofs.moment.Moment.is_mature.Goals as goal
 
 pub returns-then-not-is_event : goal.returns-then-not-is_event
