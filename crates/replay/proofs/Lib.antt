@@ -1,11 +1,7 @@
-pub mod Fired
-pub mod Steps
-pub mod Ahead
 pub mod Counted
-pub mod Stops
 pub mod Files
 pub mod Reports
 pub mod RuleFileLaws
 pub mod Tables
 pub mod LivesText
-pub mod HeldText
+pub mod Calls

@@ -3,7 +3,7 @@ use Rattle.std.proofs.Common.{◌≡◌, ◌⊎◌, inl, inr, ◌<◌, ◌++◌,
 use Rattle.std.proofs.lemmas.List.{append_assoc, append-nil, length-append}
 use Rattle.rule_model.specs.declared.life.Life.{Life}
 use Rattle.rule_model.specs.declared.program.TypeInfo.{TypeInfo}
-use Rattle.replay.specs.Texts.{life_text, lives_text}
+use Rattle.replay.specs.Notices.{life_text, lives_text}
 
 -- the first of the rest
 from_place : {A : Type 0} (xs : List A) (n : ℕ) (x : A) → n < length xs → ((d : A) → x ≡ get_or xs n d) → drop n xs ≡ x ∷ drop (suc n) xs

@@ -1,13 +1,9 @@
 -- What is wanted, by what was found.
-use Rattle.std.proofs.Common.{◌≡◌, ◌≢◌, ◌≤◌, ◌+◌, ℕ, Bool, true, false, List, length, take, nat_lt, Option, Some, None, refl, sym, ap, subst, ◌∙◌, arith, String, Global}
+use Rattle.std.proofs.Common.{◌≡◌, ◌≢◌, ◌≤◌, ◌+◌, ℕ, Bool, true, false, List, length, take, nat_lt, Option, Some, None, refl, sym, ap, subst, ◌∙◌, arith}
 use Rattle.std.specs.Prelude.{IfSome}
 use Rattle.std.proofs.lemmas.Bool.Decides.{nat_tests}
 use Rattle.std.proofs.lemmas.List.{take_all, length-take}
-use Rattle.fx_io.specs.Outside.{IsMissing, IsFound, file_told, append, AppendsFront}
-use Rattle.command_words.specs.declared.asking.Asked.{Asked}
-use Rattle.command_words.specs.declared.asking.Asked.TheVariants.{RuleFile, Load}
-use Rattle.command_words.specs.declared.asking.Mode.{Mode}
-use Rattle.command_words.specs.Asked.{asked_by}
+use Rattle.fx_io.specs.Outside.{IsMissing, IsFound, file_told, AppendsFront}
 use Rattle.gen_load.specs.Rules.{rules_text}
 use Rattle.drl_parse.specs.Parsed.{file_limit, parsed, parsed_by}
 use Rattle.rule_model.specs.declared.program.Program.{Program}
@@ -15,62 +11,21 @@ use Rattle.replay.specs.declared.refusal.RefusalCode.TheVariants.{Missing}
 use Rattle.replay.specs.declared.refusal.Refusal.{Refusal}
 use Rattle.replay.specs.declared.rule_file.Reading.{Reading}
 use Rattle.replay.specs.declared.rule_file.Reading.TheVariants.{Refused}
-use Rattle.replay.specs.Firings.{Gives, Fires, Counts}
-use Rattle.replay.specs.Refusals.{reading, refusal_text, whole_file, IsRefused}
-use Rattle.replay.specs.Report.{Report, IsReport, Reports}
-use Rattle.replay.specs.Wanted.{Wanted, Files, usage_line, refuses, sums_up, wanted, wanted_by, wanted_of, wanted_by_name, wanted_by_number, wanted_by_file, wanted_by_reading}
+use Rattle.script_run.specs.Firings.{Gives, Fires, Counts}
+use Rattle.replay.specs.Refusals.{reading, whole_file, IsRefused}
+use Rattle.replay.specs.Report.{Report, IsReport}
+use Rattle.replay.specs.Wanted.{Wanted, Files, refuses, sums_up, wanted_by_name, wanted_by_number, wanted_by_file, wanted_by_reading, IsRefusedFile, HasRefused}
 use Rattle.replay.proofs.Tables.{one_report}
-
--- what words want that are refused
-pub no_words : (words : List (String Global)) (files : Files) → asked_by words ≡ None → wanted words files ≡ usage_line
-unfolding wanted
-no_words words files e = ap (λ (asked : Option Asked). wanted_by asked files) e
-
--- what words want that name a rule file
-pub by_name : (words : List (String Global)) (name : List ℕ) (mode : Mode) (limit : ℕ) (files : Files) → asked_by words ≡ Some (RuleFile name mode limit)
-    → wanted words files ≡ wanted_by_name (wanted_of mode limit) files name
-unfolding wanted
-by_name words name mode limit files e = ap (λ (asked : Option Asked). wanted_by asked files) e
-
--- what words want that give the number of a load
-pub by_number : (words : List (String Global)) (number limit : ℕ) (files : Files) → asked_by words ≡ Some (Load number limit) → wanted words files ≡ wanted_by_number number limit
-unfolding wanted
-by_number words number limit files e = ap (λ (asked : Option Asked). wanted_by asked files) e
 
 -- what is wanted of a load, by what its rule file is
 pub a_load : (number limit : ℕ) (found : Reading) → reading rules_text ≡ found → wanted_by_number number limit ≡ wanted_by_reading (sums_up number limit) found
 unfolding wanted_by_number
 a_load number limit found e = ap (wanted_by_reading (sums_up number limit)) e
 
--- the report of a mode that is known
-pub of_mode : (gives : Gives) (fires : Fires) (counts : Counts) (m n : Mode) (limit : ℕ) (p : Program) (script : List ℕ) (before after : Option (List ℕ)) (status : ℕ) → m ≡ n
-    → ((r : Report) × IsReport gives fires counts (wanted_of n limit p) script r × Reports before after status r)
-    → (r : Report) × IsReport gives fires counts (wanted_of m limit p) script r × Reports before after status r
-of_mode gives fires counts m n limit p script before after status e h = rw e h
-
-pub report_of_mode : (gives : Gives) (fires : Fires) (counts : Counts) (m n : Mode) (limit : ℕ) (p : Program) (script : List ℕ) (r : Report) → m ≡ n
-    → IsReport gives fires counts (wanted_of m limit p) script r → IsReport gives fires counts (wanted_of n limit p) script r
-report_of_mode gives fires counts m n limit p script r e is = subst (λ (mode : Mode). IsReport gives fires counts (wanted_of mode limit p) script r) e is
-
 -- the front of one report is the front of each
 pub front_of : (gives : Gives) (fires : Fires) (counts : Counts) (w : Wanted) (script : List ℕ) (q : Report) (before after : Option (List ℕ)) → IsReport gives fires counts w script q → AppendsFront before after q.bytes
     → (r : Report) → IsReport gives fires counts w script r → AppendsFront before after r.bytes
 front_of gives fires counts w script q before after is front r also = rw (one_report gives fires counts w script r q also is) front
-
-abbrev refusal_report : Refusal → Report
-refusal_report refusal = record { bytes = refusal_text refusal; status = 3 }
-
-is_refusal : (gives : Gives) (fires : Fires) (counts : Counts) (w : Wanted) (script : List ℕ) (refusal : Refusal) → w ≡ refuses refusal → IsReport gives fires counts w script (refusal_report refusal)
-is_refusal gives fires counts w script refusal e = rw e refl
-
--- the refusal that was written is the report
-pub refused : (gives : Gives) (fires : Fires) (counts : Counts) (w : Wanted) (script : List ℕ) (refusal : Refusal) (before after : Option (List ℕ)) (status : ℕ) → w ≡ refuses refusal
-    → (after ≡ append before (refusal_text refusal)) × (status ≡ 3) → (r : Report) × IsReport gives fires counts w script r × Reports before after status r
-refused gives fires counts w script refusal before after status e said = (refusal_report refusal, is_refusal gives fires counts w script refusal e, said)
-
-pub refused_front : (gives : Gives) (fires : Fires) (counts : Counts) (w : Wanted) (script : List ℕ) (refusal : Refusal) (before after : Option (List ℕ)) → w ≡ refuses refusal → AppendsFront before after (refusal_text refusal)
-    → (r : Report) → IsReport gives fires counts w script r → AppendsFront before after r.bytes
-refused_front gives fires counts w script refusal before after e front = front_of gives fires counts w script (refusal_report refusal) before after (is_refusal gives fires counts w script refusal e) front
 
 pub no_file : (of_program : Program → Wanted) (name : List ℕ) (told : Option Files) (files : Files) → told ≡ Some files → IsMissing told name → wanted_by_name of_program files name ≡ refuses (whole_file Missing)
 unfolding wanted_by_name
@@ -105,8 +60,14 @@ a_file of_program name told files read found e there h is =
     let r = found_reading (files name) read is_found whole in
     ap (wanted_by_file of_program) r.1 ∙ ap (wanted_by_reading of_program) (r.2 ∙ is)
 
-pub refused_file : (o : Option (List ℕ)) (read : List ℕ) (refusal : Refusal) → IfSome o (λ file. read ≡ take (file_limit + 1) file) → reading read ≡ Refused refusal → IfSome o (λ file. IsRefused (reading file))
-refused_file None read refusal h e = tt
-refused_file (Some file) read refusal h e =
-    let is : reading file ≡ Refused refusal = sym (within_taken file) ∙ ap reading (sym h) ∙ e in
-    subst IsRefused (sym is) tt
+-- the file that was read is refused
+pub refused_file : (name : List ℕ) (told : Option Files) (read : List ℕ) (refusal : Refusal) → IsFound told name → IfSome (file_told told name) (λ file. read ≡ take (file_limit + 1) file)
+    → reading read ≡ Refused refusal → HasRefused told name
+refused_file name None read refusal there h e = tt
+refused_file name (Some files) read refusal there h e = here (files name) there h
+  where
+    here : (o : Option (List ℕ)) → (o ≢ None) → IfSome o (λ file. read ≡ take (file_limit + 1) file) → IsRefusedFile o
+    here None there h = absurd (there refl)
+    here (Some file) there h =
+        let is : reading file ≡ Refused refusal = sym (within_taken file) ∙ ap reading (sym h) ∙ e in
+        subst IsRefused (sym is) tt

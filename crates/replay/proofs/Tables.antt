@@ -12,10 +12,10 @@ use Rattle.rule_model.specs.Types.{is_event, expiry_of}
 use Rattle.rule_lives.specs.Keeping.{IsLifeOf, AreLives}
 use Rattle.rule_lives.specs.Lifetimes.{Gives as GivesLimit, IsLife}
 use Rattle.rule_lives.specs.Reach.{Limit, finite, infinite, Below}
-use Rattle.replay.specs.Firings.{Gives, Fires, Counts}
+use Rattle.script_run.specs.Firings.{Gives, Fires, Counts}
 use Rattle.replay.specs.Report.{Report, IsReport, outcome_report, summary_report}
-use Rattle.replay.specs.Run.{whole_run}
-use Rattle.replay.specs.Texts.{lives_text}
+use Rattle.script_run.specs.Run.{setting_of, whole_run}
+use Rattle.replay.specs.Notices.{lives_text}
 use Rattle.replay.specs.Wanted.{Wanted, usage_line, refuses, runs, accepts, tells_lives, sums_up}
 
 int_same : (a b : ℤ) → a ≤ℤ b → b ≤ℤ a → a ≡ b
@@ -103,12 +103,12 @@ one_report gives fires counts (refuses refusal) script r q h k = h ∙ sym k
 one_report gives fires counts (runs limit program) script r q h k = h.2 ∙ ap run_report (one_table program h.0 k.0 h.1 k.1) ∙ sym k.2
   where
     run_report : LifeTable → Report
-    run_report table = outcome_report (whole_run gives fires (counts program table) limit program (lines_of script))
+    run_report table = outcome_report (whole_run (setting_of gives fires counts limit program table) (lines_of script))
 one_report gives fires counts (accepts program) script r q h k = h ∙ sym k
 one_report gives fires counts (sums_up number limit program) script r q h k = h.2 ∙ ap load_report (one_table program h.0 k.0 h.1 k.1) ∙ sym k.2
   where
     load_report : LifeTable → Report
-    load_report table = summary_report number (whole_run gives fires (counts program table) limit program (lines_of (script_text number)))
+    load_report table = summary_report number (whole_run (setting_of gives fires counts limit program table) (lines_of (script_text number)))
 one_report gives fires counts (tells_lives program) script r q h k =
     h.2 ∙ ap lives_report (same_lives_text program h.0 k.0 h.1 k.1) ∙ sym k.2
   where

@@ -1,10 +1,7 @@
-pub mod Texts
-pub mod Firings
-pub mod Run
+pub mod Notices
 pub mod Summary
-pub mod Faults
-pub mod Turns
 pub mod Refusals
 pub mod RuleFiles
 pub mod Wanted
 pub mod Report
+pub mod Calls

@@ -31,7 +31,8 @@ of_parsed (outside item line) = Refused (record { item = item; line = line; code
 of_parsed too_long = Refused (whole_file code.TooLong)
 of_parsed (lexical reason line) = Refused (record { item = 0; line = line; code = code.Lexical reason })
 
--- what the bytes of a rule file are
+-- What the bytes of a rule file are. The same as a relation of five cases: `IsReading` in `RuleFiles.antt`, law
+-- `replay::laws::a_rule_file_is_what_the_grammar_says`.
 abbrev pub reading : List ℕ → Reading
 reading bytes = of_parsed (parsed bytes)
 

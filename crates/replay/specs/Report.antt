@@ -1,17 +1,20 @@
 -- What the program writes, and its status, with an engine of these meanings.
-use Rattle.std.specs.Prelude.{◌≡◌, ◌≢◌, ◌<◌, ◌≤◌, ◌+◌, ◌^◌, ◌++◌, ℕ, true, false, List, length, Option}
-use Rattle.fx_io.specs.Outside.{append}
-use Rattle.fx_io.specs.Lines.{lines_of, HasNoEnd}
+use Rattle.std.specs.Prelude.{◌≡◌, ◌<◌, ◌≤◌, ◌+◌, ◌^◌, ℕ, true, false, List, Option}
+use Rattle.fx_io.specs.Outside.{append, AppendsFront}
+use Rattle.fx_io.specs.Lines.{lines_of}
 use Rattle.rule_model.specs.declared.life.LifeTable.{LifeTable}
 use Rattle.rule_lives.specs.Keeping.{AreLives}
 use Rattle.gen_load.specs.Script.{script_text}
-use Rattle.replay.specs.declared.turn.Ended.{Ended}
-use Rattle.replay.specs.declared.turn.Ended.TheVariants.{Script, Limit}
-use Rattle.replay.specs.Firings.{Gives, Fires, Counts}
+use Rattle.script_run.specs.declared.fault.RunFault.{RunFault}
+use Rattle.script_run.specs.declared.fault.RunFault.TheVariants.{ReadFault, WriteFault, NoMemory, ScriptLong}
+use Rattle.script_run.specs.declared.turn.Ended.{Ended}
+use Rattle.script_run.specs.declared.turn.Ended.TheVariants.{Script, Limit}
+use Rattle.script_run.specs.Firings.{Gives, Fires, Counts}
 use Rattle.replay.specs.Refusals.{refusal_text}
-use Rattle.replay.specs.Run.{Outcome, whole_run}
+use Rattle.script_run.specs.Run.{Outcome, setting_of, whole_run}
+use Rattle.script_run.specs.Unfinished.{Long, StoppedAtRead}
 use Rattle.replay.specs.Summary.{summary_text}
-use Rattle.replay.specs.Texts.{usage, accepted_text, lives_text}
+use Rattle.replay.specs.Notices.{usage, accepted_text, lives_text}
 use Rattle.replay.specs.Wanted.{Wanted, usage_line, refuses, runs, accepts, tells_lives, sums_up}
 
 -- what is written, and the status
@@ -23,6 +26,12 @@ abbrev pub run_status : Ended → ℕ
 run_status (Script false) = 0
 run_status (Script true) = 1
 run_status Limit = 4
+
+abbrev pub fault_status : RunFault → ℕ
+fault_status ReadFault = 5
+fault_status WriteFault = 6
+fault_status NoMemory = 7
+fault_status ScriptLong = 8
 
 abbrev pub outcome_report : Outcome → Report
 outcome_report outcome = record { bytes = outcome.bytes; status = run_status outcome.ended }
@@ -38,36 +47,37 @@ abbrev pub IsReport : Gives → Fires → Counts → Wanted → List ℕ → Rep
 IsReport gives fires counts usage_line script r = r ≡ record { bytes = usage; status = 2 }
 IsReport gives fires counts (refuses refusal) script r = r ≡ record { bytes = refusal_text refusal; status = 3 }
 IsReport gives fires counts (runs limit program) script r =
-    (table : LifeTable) × AreLives program table × (r ≡ outcome_report (whole_run gives fires (counts program table) limit program (lines_of script)))
+    (table : LifeTable) × AreLives program table × (r ≡ outcome_report (whole_run (setting_of gives fires counts limit program table) (lines_of script)))
 IsReport gives fires counts (accepts program) script r = r ≡ record { bytes = accepted_text program; status = 0 }
 IsReport gives fires counts (tells_lives program) script r =
     (table : LifeTable) × AreLives program table × (r ≡ record { bytes = lives_text program.types table.lives; status = 0 })
 IsReport gives fires counts (sums_up number limit program) script r =
     (table : LifeTable) × AreLives program table
-    × (r ≡ summary_report number (whole_run gives fires (counts program table) limit program (lines_of (script_text number))))
+    × (r ≡ summary_report number (whole_run (setting_of gives fires counts limit program table) (lines_of (script_text number))))
 
--- the written bytes and the status are those of a report
+-- the written bytes and the status are those of the report
 abbrev pub Reports : Option (List ℕ) → Option (List ℕ) → ℕ → Report → Type 0
 Reports before after status r = (after ≡ append before r.bytes) × (status ≡ r.status)
 
--- ---- scripts that are too long
+-- what is written with a status where this is wanted: with one up to 4 exactly a report, else a front of each
+pub record IsWritten (gives : Gives) (fires : Fires) (counts : Counts) (wanted : Wanted) (script : List ℕ) (before after : Option (List ℕ)) (status : ℕ) : Type 0 where
+  pub exact : status ≤ 4 → (r : Report) × IsReport gives fires counts wanted script r × Reports before after status r
+  pub front : 5 ≤ status → (r : Report) → IsReport gives fires counts wanted script r → AppendsFront before after r.bytes
 
--- the run of a script of more than 1 GiB that did not meet the limit of firings in the lines taken with their ends: behind
--- these a piece without a line end was taken, with which they are more than 1 GiB, and the rest was left
-pub record Long (outcome : List (List ℕ) → Outcome) (script : List ℕ) : Type 0 where
-  pub lines : List (List ℕ)
-  pub piece : List ℕ
-  pub rest : List ℕ
-  pub parts : lines_of script ≡ lines ++ lines_of (piece ++ rest)
-  pub no_end : HasNoEnd piece
-  pub many : length rest + 2 ^ 30 < length script
-  pub not_met : (outcome lines).ended ≢ Limit
+-- ---- runs that stop before the end of the script
 
--- a run is wanted, and its script is such a one
+-- a run is wanted, and its script is one of more than 1 GiB that did not meet the limit before
 abbrev pub IsLong : Gives → Fires → Counts → Wanted → List ℕ → Type 0
 IsLong gives fires counts (runs limit program) script =
-    (table : LifeTable) × AreLives program table × Long (whole_run gives fires (counts program table) limit program) script
+    (table : LifeTable) × AreLives program table × Long (whole_run (setting_of gives fires counts limit program table)) script
 IsLong gives fires counts _ script = ⊥
+
+-- a read failed, or the script is too long: of a run, what was written is what the lines print that were taken with their ends, or all lines
+-- of the script; of all else nothing was written
+abbrev pub IsStopped : Gives → Fires → Counts → Wanted → List ℕ → Option (List ℕ) → Option (List ℕ) → Option (List ℕ) → Type 0
+IsStopped gives fires counts (runs limit program) script left before after =
+    (table : LifeTable) → AreLives program table → StoppedAtRead (whole_run (setting_of gives fires counts limit program table)) script left before after
+IsStopped gives fires counts _ script left before after = after ≡ before
 
 -- how many bytes of the script are taken for this status: never more than one beyond 1 GiB
 pub record TakesFor (status n : ℕ) : Type 0 where

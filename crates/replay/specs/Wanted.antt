@@ -1,7 +1,7 @@
 -- What the words and the rule file ask for.
-use Rattle.std.specs.Prelude.{ℕ, ◌≡◌, ◌⊎◌, List, Option, Some, None, IfSome}
+use Rattle.std.specs.Prelude.{ℕ, ◌≡◌, ◌⊎◌, List, Option, Some, None}
 use Rattle.std.proofs.Common.{String, Global}
-use Rattle.fx_io.specs.Outside.{Rose, file_told}
+use Rattle.fx_io.specs.Outside.{Rose}
 use Rattle.command_words.specs.declared.asking.Asked.{Asked}
 use Rattle.command_words.specs.declared.asking.Asked.TheVariants.{RuleFile, Load}
 use Rattle.command_words.specs.declared.asking.Mode.{Mode}
@@ -82,7 +82,17 @@ abbrev pub RunsScript : Asked → Type 0
 RunsScript (RuleFile name mode limit) = mode ≡ Run
 RunsScript (Load number limit) = ⊥
 
+-- the bytes of the file of this name are refused, where the shelf has it
+abbrev pub IsRefusedFile : Option (List ℕ) → Type 0
+IsRefusedFile None = ⊥
+IsRefusedFile (Some file) = IsRefused (reading file)
+
+-- the same where the shelf tells its files; of another nothing is said
+abbrev pub HasRefused : Option Files → List ℕ → Type 0
+HasRefused None name = Unit {0}
+HasRefused (Some files) name = IsRefusedFile (files name)
+
 -- the rule file that is asked for is missing, as the shelf's counts of misses before and after say, or its bytes are refused, where they are told
 abbrev pub IsUnfit : Option Files → (List ℕ → ℕ) → (List ℕ → ℕ) → Asked → Type 0
-IsUnfit told before after (RuleFile name mode limit) = Rose (before name) (after name) ⊎ IfSome (file_told told name) (λ file. IsRefused (reading file))
+IsUnfit told before after (RuleFile name mode limit) = Rose (before name) (after name) ⊎ HasRefused told name
 IsUnfit told before after (Load number limit) = IsRefused (reading rules_text)

@@ -4,7 +4,7 @@ ghost use Rattle.rule_model.specs.declared.program.Program.{Program};
 ghost use Rattle.rule_world.specs.Worlds.{World};
 ghost use Rattle.engine.specs.declared.lines.OutLine.{OutLine};
 ghost use Rattle.replay.specs.declared.rule_file.Reading.{Reading};
-ghost use Rattle.replay.specs.Firings.{Counts, Fires, Gives, all_fired, firings};
+ghost use Rattle.script_run.specs.Firings.{Counts, Fires, Gives, all_fired, firings};
 ghost use Rattle.replay.specs.Refusals.{reading};
 ghost use Rattle.replay.specs.Report.{Report, IsReport};
 ghost use Rattle.replay.specs.RuleFiles.{IsReading};

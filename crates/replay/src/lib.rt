@@ -3,21 +3,14 @@
 //! It knows the outside by its traits alone, so that its answer is a matter of proof.
 #![tactic(auto)]
 
-mod counting;
-mod fault;
-mod firing;
-mod gathered;
 pub mod laws;
 mod load;
 mod modes;
-mod obeying;
 mod refusal;
 mod rule_file;
-mod running;
 mod saying;
+mod status;
 mod summing;
-mod text;
 mod top;
-mod turn;
 
 pub use top::{replay, run_rules};

@@ -1,29 +1,28 @@
 //! The run over a generated load, of which a summary is written.
-ghost use Rattle.std.specs.Prelude.{◌≡◌, ◌⊎◌, ◌<◌, ◌≤◌, ◌^◌, List, ℕ, IfOk};
+ghost use Rattle.std.specs.Prelude.{◌≡◌, ◌⊎◌, ◌<◌, ◌≤◌, ◌^◌, List, Option, Some, ℕ, IfOk};
 ghost use Rattle.fx_io.specs.Outside.{Rose, append, AppendsFront};
 ghost use Rattle.fx_io.specs.Lines.{lines_of};
-ghost use Rattle.gen_load.specs.Rules.{rules_text};
-ghost use Rattle.gen_load.specs.Script.{script_text};
+ghost use Rattle.command_words.specs.declared.asking.Asked.TheVariants.{Load};
 ghost use Rattle.rule_lives.specs.Keeping.{AreLives, IsLifeTable};
 ghost use Rattle.rule_model.specs.declared.life.LifeTable.{LifeTable as TableOfLives};
 ghost use Rattle.rule_world.specs.Programs.{IsRunnable};
-ghost use Rattle.replay.specs.Refusals.{refusal_text, reading, IsRefused};
-ghost use Rattle.replay.specs.Report.{Report, IsReport, Reports, run_status, summary_report};
-ghost use Rattle.replay.specs.Run.{whole_run};
+ghost use Rattle.script_run.specs.Run.{setting_of, whole_run};
+ghost use Rattle.replay.specs.Calls.{ShelfSeen, seen, RunOf};
+ghost use Rattle.replay.specs.Report.{Reports, run_status, summary_report};
 ghost use Rattle.replay.specs.Summary.{summary_text};
-ghost use Rattle.replay.specs.Wanted.{wanted_by_number, IfRefuses};
+ghost use Rattle.replay.specs.Wanted.{wanted_by_number};
 
 use crate::rule_file::{Reading, reading_of};
-use crate::running::run;
 use crate::saying::{refuse, say};
+use crate::status::status_of;
 use crate::summing::push_summary;
-use crate::turn::Ended;
 use engine::Engine;
 use expiry_infer::lives;
 use fx_base::{NoMemory, Seq};
 use fx_io::{MemSink, PlainSource, Sink};
 use gen_load::{Generated, generate};
 use rule_model::{LifeTable, Program};
+use script_run::{Ended, run};
 use std::alloc::Global;
 
 /// Room for what a run over a load prints: for 1,000,000 firings of at most 28 bytes, 20,000 insertions and 60,000 faults, in bytes.
@@ -41,8 +40,8 @@ fn run_in_memory<E: Engine>(
     requires runnable { IsRunnable program }
     requires table { IsLifeTable program lives }
     requires low { limit ≤ 1000000 }
-    ensures ended { IfOk result (λ r. r.0 ≡ (whole_run E.gives E.fires (E.counts program lives) limit program (lines_of script)).ended) }
-    ensures printed { IfOk result (λ r. r.1.written ≡ (whole_run E.gives E.fires (E.counts program lives) limit program (lines_of script)).bytes) }
+    ensures ended { IfOk result (λ r. r.0 ≡ (whole_run (setting_of E.gives E.fires E.counts limit program lives) (lines_of script)).ended) }
+    ensures printed { IfOk result (λ r. r.1.written ≡ (whole_run (setting_of E.gives E.fires E.counts limit program lives) (lines_of script)).bytes) }
 {
     let mut source = PlainSource::new(script.into_vec());
     let mut printed = MemSink::new(alloc, PRINTED_MAX, Vec::new(alloc))?;
@@ -61,7 +60,7 @@ fn sum_up<K: Sink>(alloc: Global, number: u32, ended: Ended, printed: &[u8], out
 {
     let mut text = Vec::new(alloc);
     match push_summary(&mut text, alloc, number, printed) {
-        Ok(()) => say(out, text.as_slice(), ended.status()),
+        Ok(()) => say(out, text.as_slice(), status_of(ended)),
         Err(_) => 7,
     }
 }
@@ -79,10 +78,10 @@ fn run_with_lives<E: Engine, K: Sink>(
     requires runnable { IsRunnable program }
     requires table { IsLifeTable program lives }
     requires low { limit ≤ 1000000 }
-    ensures exact { let outcome = whole_run E.gives E.fires (E.counts program lives) limit program (lines_of script) in
+    ensures exact { let outcome = whole_run (setting_of E.gives E.fires E.counts limit program lives) (lines_of script) in
         result ≤ 4 → (K.written out.new ≡ append (K.written out.old) (summary_text number outcome.bytes)) × (result ≡ run_status outcome.ended) }
     ensures front { 5 ≤ result → AppendsFront (K.written out.old) (K.written out.new)
-        (summary_text number (whole_run E.gives E.fires (E.counts program lives) limit program (lines_of script)).bytes) }
+        (summary_text number (whole_run (setting_of E.gives E.fires E.counts limit program lives) (lines_of script)).bytes) }
     ensures answers { (result ≤ 1) ⊎ (result ≡ 4) ⊎ ((6 ≤ result) × (result ≤ 7)) }
     ensures cause { result ≡ 6 → Rose (K.faults out.old) (K.faults out.new) }
 {
@@ -104,9 +103,9 @@ fn run_and_sum_up<E: Engine, K: Sink>(
     requires runnable { IsRunnable program }
     requires low { limit ≤ 1000000 }
     ensures exact { result ≤ 4 → (table : TableOfLives) × AreLives program table
-        × Reports (K.written out.old) (K.written out.new) result (summary_report number (whole_run E.gives E.fires (E.counts program table) limit program (lines_of script))) }
+        × Reports (K.written out.old) (K.written out.new) result (summary_report number (whole_run (setting_of E.gives E.fires E.counts limit program table) (lines_of script))) }
     ensures front { (table : TableOfLives) → AreLives program table → 5 ≤ result
-        → AppendsFront (K.written out.old) (K.written out.new) (summary_text number (whole_run E.gives E.fires (E.counts program table) limit program (lines_of script)).bytes) }
+        → AppendsFront (K.written out.old) (K.written out.new) (summary_text number (whole_run (setting_of E.gives E.fires E.counts limit program table) (lines_of script)).bytes) }
     ensures answers { (result ≤ 1) ⊎ (result ≡ 4) ⊎ ((6 ≤ result) × (result ≤ 7)) }
     ensures cause { result ≡ 6 → Rose (K.faults out.old) (K.faults out.new) }
 {
@@ -125,15 +124,8 @@ pub(crate) fn run_load<E: Engine, K: Sink>(
 ) -> u8
     requires numbered { number < 2 ^ 31 }
     requires low { limit ≤ 1000000 }
-    ensures exact { (bytes : List ℕ) → result ≤ 4
-        → (r : Report) × IsReport E.gives E.fires E.counts (wanted_by_number number limit) bytes r × Reports (K.written out.old) (K.written out.new) result r }
-    ensures front { (bytes : List ℕ) → 5 ≤ result
-        → (r : Report) → IsReport E.gives E.fires E.counts (wanted_by_number number limit) bytes r → AppendsFront (K.written out.old) (K.written out.new) r.bytes }
-    ensures refusal { result ≡ 3
-        → IfRefuses (wanted_by_number number limit) (λ refusal. K.written out.new ≡ append (K.written out.old) (refusal_text refusal)) }
-    ensures answers { (result ≤ 1) ⊎ ((3 ≤ result) × (result ≤ 4)) ⊎ ((6 ≤ result) × (result ≤ 7)) }
-    ensures file { result ≡ 3 → IsRefused (reading rules_text) }
-    ensures write { result ≡ 6 → Rose (K.faults out.old) (K.faults out.new) }
+    ensures { (first last : ShelfSeen) (left : Option (List ℕ)) (given faults : ℕ) → RunOf E.gives E.fires E.counts (Some (Load number limit)) (Some (wanted_by_number number limit))
+        (seen first left given faults (K.written out.old) (K.faults out.old)) (seen last left given faults (K.written out.new) (K.faults out.new)) result }
 {
     let Generated { rules, script } = match generate(alloc, number) {
         Ok(load) => load,

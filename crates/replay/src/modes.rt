@@ -4,14 +4,14 @@ ghost use Rattle.fx_io.specs.Outside.{Rose, append, AppendsFront};
 ghost use Rattle.rule_lives.specs.Keeping.{AreLives};
 ghost use Rattle.rule_model.specs.declared.life.LifeTable.{LifeTable as TableOfLives};
 ghost use Rattle.rule_world.specs.Programs.{IsRunnable};
-ghost use Rattle.replay.specs.Texts.{accepted_text, life_text, lives_text};
+ghost use Rattle.replay.specs.Notices.{accepted_text, life_text, lives_text};
 
 use crate::saying::say;
-use crate::text::{push_number, push_signed};
 use expiry_infer::lives;
 use fx_base::NoMemory;
 use fx_io::Sink;
 use rule_model::{Life, LifeTable, Program, TypeInfo};
+use script_run::{push_number, push_signed};
 use std::alloc::Global;
 
 // Appends the line of an accepted file.

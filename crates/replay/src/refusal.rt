@@ -1,10 +1,10 @@
 ghost use Rattle.std.specs.Prelude.{◌≡◌, ◌++◌, OnOk};
 ghost use Rattle.replay.specs.Refusals.{refusal_code_text, refusal_text, whole_file as whole_file_of};
 
-use crate::text::push_number;
 use drl_check::CheckCode;
 use drl_parse::LexCode;
 use fx_base::NoMemory;
+use script_run::push_number;
 use std::alloc::Global;
 
 /// Why a rule file is refused.

@@ -4,9 +4,9 @@ ghost use Rattle.std.specs.List.{starts_with};
 ghost use Rattle.fx_io.specs.Lines.{lines_of};
 ghost use Rattle.replay.specs.Summary.{lines_with, summary_text};
 
-use crate::text::push_number;
 use fx_base::NoMemory;
 use memchr::memchr;
+use script_run::push_number;
 use std::alloc::Global;
 
 // The first line of a text that is not empty, and the text behind it.

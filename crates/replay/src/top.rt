@@ -1,30 +1,29 @@
+//! The calls of the program: what is done with a program, with a rule file, and with what the words ask for.
 ghost use Rattle.std.specs.Prelude.{◌≡◌, ◌≢◌, ◌⊎◌, ◌<◌, ◌≤◌, ◌^◌, [], List, Option, ℕ, length, Some, None, IfSome};
-ghost use Rattle.fx_io.specs.Lines.{lines_of};
-ghost use Rattle.fx_io.specs.Outside.{Rose, append, AppendsFront, count_after, file_told};
+ghost use Rattle.fx_io.specs.Outside.{Rose, append, AppendsFront, count_after};
 ghost use Rattle.command_words.specs.declared.asking.Asked.TheVariants.{RuleFile};
 ghost use Rattle.command_words.specs.declared.asking.Mode.{Mode as ModeAsked};
-ghost use Rattle.command_words.specs.Asked.{asked_by};
+ghost use Rattle.command_words.specs.Asked.{asked_by, IsWithinBounds};
 ghost use Rattle.rule_lives.specs.Keeping.{IsLifeTable};
 ghost use Rattle.rule_world.specs.Programs.{IsRunnable};
-ghost use Rattle.replay.specs.Refusals.{refusal_text, reading, IsRefused};
-ghost use Rattle.replay.specs.Report.{Report, IsReport, outcome_report, Reports, TakesFor, Long, IsLong};
-ghost use Rattle.replay.specs.Run.{whole_run};
-ghost use Rattle.replay.specs.Texts.{usage};
-ghost use Rattle.replay.specs.Wanted.{Files, runs, wanted, wanted_of, wanted_by_name, IfRefuses, ReadsFile, RunsScript, IsUnfit};
+ghost use Rattle.replay.specs.Calls.{ShelfSeen, seen_of_shelf, seen, wanted_told, RunOf};
+ghost use Rattle.replay.specs.Notices.{usage};
+ghost use Rattle.replay.specs.Refusals.{refusal_text};
+ghost use Rattle.replay.specs.Report.{Report, IsReport, Reports, IsWritten, IsStopped, TakesFor, IsLong};
+ghost use Rattle.replay.specs.Wanted.{Files, runs, wanted, wanted_of, wanted_by_name, IfRefuses, ReadsFile, RunsScript, HasRefused, IsUnfit};
 
-use crate::fault::RunFault;
 use crate::load::run_load;
 use crate::modes::{accept, tell_lives};
 use crate::refusal::{RefusalCode, whole_file};
 use crate::rule_file::{FileFault, Reading, read_whole, reading_of};
-use crate::running::run;
 use crate::saying::{refuse, say};
-use crate::turn::Ended;
+use crate::status::{status_of, status_of_fault};
 use command_words::{Asked, Mode, asked};
 use engine::Engine;
 use expiry_infer::lives;
 use fx_io::{Shelf, Sink, Source};
 use rule_model::{LifeTable, Program};
+use script_run::run;
 use std::alloc::Global;
 
 /// The most bytes that a rule file may have.
@@ -34,7 +33,7 @@ const FILE_MAX: usize = 1_048_576;
 const USAGE: &[u8] =
     b"usage: replay [--mode run|check|lives] [--limit N] RULES | replay [--limit N] --gen N\n";
 
-// Runs a program with its table of lives over a script.
+// Runs a program with the table of its lives over a script.
 fn run_with_lives<E: Engine, S: Source, K: Sink>(
     alloc: Global,
     program: Program,
@@ -46,27 +45,13 @@ fn run_with_lives<E: Engine, S: Source, K: Sink>(
     requires runnable { IsRunnable program }
     requires table { IsLifeTable program lives }
     requires low { limit ≤ 1000000 }
-    ensures exact { (bytes : List ℕ) → S.left script.old ≡ Some bytes → result ≤ 4
-        → Reports (K.written out.old) (K.written out.new) result (outcome_report (whole_run E.gives E.fires (E.counts program lives) limit program (lines_of bytes))) }
-    ensures front { (bytes : List ℕ) → S.left script.old ≡ Some bytes → 5 ≤ result
-        → AppendsFront (K.written out.old) (K.written out.new) (whole_run E.gives E.fires (E.counts program lives) limit program (lines_of bytes)).bytes }
-    ensures answers { (result ≤ 1) ⊎ ((4 ≤ result) × (result ≤ 8)) }
-    ensures taken { (n : ℕ) × (S.given script.new ≡ count_after (S.given script.old) n) × TakesFor result n }
-    ensures read { result ≡ 5 → Rose (S.faults script.old) (S.faults script.new) }
-    ensures write { result ≡ 6 → Rose (K.faults out.old) (K.faults out.new) }
-    ensures long { (bytes : List ℕ) → S.left script.old ≡ Some bytes → result ≡ 8
-        → Long (whole_run E.gives E.fires (E.counts program lives) limit program) bytes }
-    ensures over { result ≡ 8 → IfSome (S.left script.old) (λ bytes. 2 ^ 30 < length bytes) }
-    ensures nothing_left { result ≤ 1 → IfSome (S.left script.new) (λ bytes. bytes ≡ []) }
+    ensures { (name : List ℕ) (first last : ShelfSeen) → RunOf E.gives E.fires E.counts (Some (RuleFile name Mode.Run limit)) (Some (runs limit program))
+        (seen first (S.left script.old) (S.given script.old) (S.faults script.old) (K.written out.old) (K.faults out.old))
+        (seen last (S.left script.new) (S.given script.new) (S.faults script.new) (K.written out.new) (K.faults out.new)) result }
 {
     match run::<E, S, K>(alloc, program, lives, limit, script, out) {
-        Ok(Ended::Script(false)) => 0,
-        Ok(Ended::Script(true)) => 1,
-        Ok(Ended::Limit) => 4,
-        Err(RunFault::ReadFault) => 5,
-        Err(RunFault::WriteFault) => 6,
-        Err(RunFault::NoMemory) => 7,
-        Err(RunFault::ScriptLong) => 8,
+        Ok(ended) => status_of(ended),
+        Err(fault) => status_of_fault(fault),
     }
 }
 
@@ -80,18 +65,9 @@ fn run_program<E: Engine, S: Source, K: Sink>(
 ) -> u8
     requires runnable { IsRunnable program }
     requires low { limit ≤ 1000000 }
-    ensures exact { (bytes : List ℕ) → S.left script.old ≡ Some bytes → result ≤ 4
-        → (r : Report) × IsReport E.gives E.fires E.counts (runs limit program) bytes r × Reports (K.written out.old) (K.written out.new) result r }
-    ensures front { (bytes : List ℕ) → S.left script.old ≡ Some bytes → 5 ≤ result
-        → (r : Report) → IsReport E.gives E.fires E.counts (runs limit program) bytes r → AppendsFront (K.written out.old) (K.written out.new) r.bytes }
-    ensures answers { (result ≤ 1) ⊎ ((4 ≤ result) × (result ≤ 8)) }
-    ensures taken { (n : ℕ) × (S.given script.new ≡ count_after (S.given script.old) n) × TakesFor result n }
-    ensures read { result ≡ 5 → Rose (S.faults script.old) (S.faults script.new) }
-    ensures write { result ≡ 6 → Rose (K.faults out.old) (K.faults out.new) }
-    ensures long { (bytes : List ℕ) → S.left script.old ≡ Some bytes → result ≡ 8
-        → IsLong E.gives E.fires E.counts (runs limit program) bytes }
-    ensures over { result ≡ 8 → IfSome (S.left script.old) (λ bytes. 2 ^ 30 < length bytes) }
-    ensures nothing_left { result ≤ 1 → IfSome (S.left script.new) (λ bytes. bytes ≡ []) }
+    ensures { (name : List ℕ) (first last : ShelfSeen) → RunOf E.gives E.fires E.counts (Some (RuleFile name Mode.Run limit)) (Some (runs limit program))
+        (seen first (S.left script.old) (S.given script.old) (S.faults script.old) (K.written out.old) (K.faults out.old))
+        (seen last (S.left script.new) (S.given script.new) (S.faults script.new) (K.written out.new) (K.faults out.new)) result }
 {
     match lives(alloc, &program) {
         Ok(lives) => run_with_lives::<E, S, K>(alloc, program, lives, limit, script, out),
@@ -110,19 +86,10 @@ fn do_mode<E: Engine, S: Source, K: Sink>(
 ) -> u8
     requires runnable { IsRunnable program }
     requires low { limit ≤ 1000000 }
-    ensures exact { (bytes : List ℕ) → S.left script.old ≡ Some bytes → result ≤ 4
-        → (r : Report) × IsReport E.gives E.fires E.counts (wanted_of mode limit program) bytes r × Reports (K.written out.old) (K.written out.new) result r }
-    ensures front { (bytes : List ℕ) → S.left script.old ≡ Some bytes → 5 ≤ result
-        → (r : Report) → IsReport E.gives E.fires E.counts (wanted_of mode limit program) bytes r → AppendsFront (K.written out.old) (K.written out.new) r.bytes }
-    ensures answers { (result ≤ 1) ⊎ ((4 ≤ result) × (result ≤ 8)) }
-    ensures taken { (n : ℕ) × (S.given script.new ≡ count_after (S.given script.old) n) × TakesFor result n }
-    ensures read { result ≡ 5 → (mode ≡ Mode.Run) × Rose (S.faults script.old) (S.faults script.new) }
-    ensures write { result ≡ 6 → Rose (K.faults out.old) (K.faults out.new) }
-    ensures long { (bytes : List ℕ) → S.left script.old ≡ Some bytes → result ≡ 8
-        → IsLong E.gives E.fires E.counts (wanted_of mode limit program) bytes }
-    ensures over { result ≡ 8 → IfSome (S.left script.old) (λ bytes. 2 ^ 30 < length bytes) }
+    ensures run { (name : List ℕ) (first last : ShelfSeen) → RunOf E.gives E.fires E.counts (Some (RuleFile name mode limit)) (Some (wanted_of mode limit program))
+        (seen first (S.left script.old) (S.given script.old) (S.faults script.old) (K.written out.old) (K.faults out.old))
+        (seen last (S.left script.new) (S.given script.new) (S.faults script.new) (K.written out.new) (K.faults out.new)) result }
     ensures no_run { mode ≢ Mode.Run → script.new ≡ script.old }
-    ensures nothing_left { mode ≡ Mode.Run → result ≤ 1 → IfSome (S.left script.new) (λ bytes. bytes ≡ []) }
 {
     match mode {
         Mode::Run => run_program::<E, S, K>(alloc, program, limit, script, out),
@@ -142,28 +109,11 @@ fn answer<E: Engine, F: Shelf, S: Source, K: Sink>(
     out: &mut K,
 ) -> u8
     requires { limit ≤ 1000000 }
-    ensures exact { (files : Files) (bytes : List ℕ) → F.files shelf.old ≡ Some files → S.left script.old ≡ Some bytes → result ≤ 4
-        → (r : Report) × IsReport E.gives E.fires E.counts (wanted_by_name (wanted_of mode limit) files name.now) bytes r × Reports (K.written out.old) (K.written out.new) result r }
-    ensures front { (files : Files) (bytes : List ℕ) → F.files shelf.old ≡ Some files → S.left script.old ≡ Some bytes → 5 ≤ result
-        → (r : Report) → IsReport E.gives E.fires E.counts (wanted_by_name (wanted_of mode limit) files name.now) bytes r → AppendsFront (K.written out.old) (K.written out.new) r.bytes }
-    ensures long { (files : Files) (bytes : List ℕ) → F.files shelf.old ≡ Some files → S.left script.old ≡ Some bytes → result ≡ 8
-        → IsLong E.gives E.fires E.counts (wanted_by_name (wanted_of mode limit) files name.now) bytes }
-    ensures refusal { (files : Files) → F.files shelf.old ≡ Some files → result ≡ 3
-        → IfRefuses (wanted_by_name (wanted_of mode limit) files name.now) (λ refusal. K.written out.new ≡ append (K.written out.old) (refusal_text refusal)) }
-    ensures completes { (bytes : List ℕ) → S.left script.old ≡ Some bytes → length bytes ≤ 2 ^ 30
-        → (Rose (F.faults shelf.old name.now) (F.faults shelf.new name.now) → ⊥)
-        → (Rose (S.faults script.old) (S.faults script.new) → ⊥) → (Rose (K.faults out.old) (K.faults out.new) → ⊥)
-        → (result ≤ 4) ⊎ (result ≡ 7) }
-    ensures answers { (result ≤ 1) ⊎ ((3 ≤ result) × (result ≤ 8)) }
-    ensures file { result ≡ 3 → Rose (F.misses shelf.old name.now) (F.misses shelf.new name.now)
-        ⊎ IfSome (file_told (F.files shelf.old) name.now) (λ file. IsRefused (reading file)) }
-    ensures read { result ≡ 5 → Rose (F.faults shelf.old name.now) (F.faults shelf.new name.now)
-        ⊎ ((mode ≡ Mode.Run) × Rose (S.faults script.old) (S.faults script.new)) }
-    ensures write { result ≡ 6 → Rose (K.faults out.old) (K.faults out.new) }
-    ensures taken { (n : ℕ) × (S.given script.new ≡ count_after (S.given script.old) n) × TakesFor result n }
+    ensures run { RunOf E.gives E.fires E.counts (Some (RuleFile name.now mode limit)) (wanted_told (Some (RuleFile name.now mode limit)) (F.files shelf.old))
+        (seen (seen_of_shelf (F.files shelf.old) (F.faults shelf.old) (F.misses shelf.old)) (S.left script.old) (S.given script.old) (S.faults script.old) (K.written out.old) (K.faults out.old))
+        (seen (seen_of_shelf (F.files shelf.new) (F.faults shelf.new) (F.misses shelf.new)) (S.left script.new) (S.given script.new) (S.faults script.new) (K.written out.new) (K.faults out.new)) result }
     ensures untouched { result ≡ 3 → script.new ≡ script.old }
     ensures no_run { mode ≢ Mode.Run → script.new ≡ script.old }
-    ensures nothing_left { mode ≡ Mode.Run → result ≤ 1 → IfSome (S.left script.new) (λ bytes. bytes ≡ []) }
 {
     let file = match read_whole(alloc, shelf, name, FILE_MAX + 1) {
         Ok(file) => file,
@@ -177,6 +127,31 @@ fn answer<E: Engine, F: Shelf, S: Source, K: Sink>(
         }
         Ok(Reading::Refused(refusal)) => refuse(alloc, out, refusal),
         Err(_) => 7,
+    }
+}
+
+// Does what the words ask for.
+fn do_asked<E: Engine, F: Shelf, S: Source, K: Sink>(
+    alloc: Global,
+    asked: Option<Asked>,
+    shelf: &mut F,
+    script: &mut S,
+    out: &mut K,
+) -> u8
+    requires { IfSome asked IsWithinBounds }
+    ensures run { RunOf E.gives E.fires E.counts asked (wanted_told asked (F.files shelf.old))
+        (seen (seen_of_shelf (F.files shelf.old) (F.faults shelf.old) (F.misses shelf.old)) (S.left script.old) (S.given script.old) (S.faults script.old) (K.written out.old) (K.faults out.old))
+        (seen (seen_of_shelf (F.files shelf.new) (F.faults shelf.new) (F.misses shelf.new)) (S.left script.new) (S.given script.new) (S.faults script.new) (K.written out.new) (K.faults out.new)) result }
+    ensures untouched { (result ≡ 2) ⊎ (result ≡ 3) → script.new ≡ script.old }
+    ensures no_run { IfSome asked (λ it. ¬ RunsScript it) → script.new ≡ script.old }
+    ensures no_file { IfSome asked (λ it. ¬ ReadsFile it) → shelf.new ≡ shelf.old }
+{
+    match asked {
+        Some(Asked::RuleFile { name, mode, limit }) => {
+            answer::<E, F, S, K>(alloc, mode, limit, name.as_str(), shelf, script, out)
+        }
+        Some(Asked::Load { number, limit }) => run_load::<E, K>(alloc, number, limit, out),
+        None => say(out, USAGE, 2),
     }
 }
 
@@ -203,6 +178,10 @@ pub fn run_rules<E: Engine, F: Shelf, S: Source, K: Sink>(
     ensures long { (files : Files) (bytes : List ℕ) → F.files shelf.old ≡ Some files → S.left script.old ≡ Some bytes
         → result ≡ 8 → IsLong E.gives E.fires E.counts (wanted_by_name (runs limit) files name.now) bytes }
 
+    // There too, where a read failed or the script is too long: what the lines print that were taken with their ends.
+    ensures stopped { (files : Files) (bytes : List ℕ) → F.files shelf.old ≡ Some files → S.left script.old ≡ Some bytes → (result ≡ 5) ⊎ (result ≡ 8)
+        → IsStopped E.gives E.fires E.counts (wanted_by_name (runs limit) files name.now) bytes (S.left script.new) (K.written out.old) (K.written out.new) }
+
     // Where the shelf tells its files, and the script may tell nothing: a refusal is the one that is wanted.
     ensures refusal { (files : Files) → F.files shelf.old ≡ Some files → result ≡ 3
         → IfRefuses (wanted_by_name (runs limit) files name.now) (λ refusal. K.written out.new ≡ append (K.written out.old) (refusal_text refusal)) }
@@ -215,8 +194,7 @@ pub fn run_rules<E: Engine, F: Shelf, S: Source, K: Sink>(
     ensures answers { (result ≤ 1) ⊎ ((3 ≤ result) × (result ≤ 8)) }
 
     // The causes of the answers, of whatever shelf, script and sink.
-    ensures file { result ≡ 3 → Rose (F.misses shelf.old name.now) (F.misses shelf.new name.now)
-        ⊎ IfSome (file_told (F.files shelf.old) name.now) (λ file. IsRefused (reading file)) }
+    ensures file { result ≡ 3 → Rose (F.misses shelf.old name.now) (F.misses shelf.new name.now) ⊎ HasRefused (F.files shelf.old) name.now }
     ensures read { result ≡ 5 → Rose (F.faults shelf.old name.now) (F.faults shelf.new name.now) ⊎ Rose (S.faults script.old) (S.faults script.new) }
     ensures write { result ≡ 6 → Rose (K.faults out.old) (K.faults out.new) }
     ensures taken { (n : ℕ) × (S.given script.new ≡ count_after (S.given script.old) n) × TakesFor result n }
@@ -255,6 +233,17 @@ pub fn replay<E: Engine, F: Shelf, S: Source, K: Sink>(
     ensures long { (files : Files) (bytes : List ℕ) → F.files shelf.old ≡ Some files → S.left script.old ≡ Some bytes
         → result ≡ 8 → IsLong E.gives E.fires E.counts (wanted words.now files) bytes }
 
+    // There too, where a read failed or the script is too long: what the lines print that were taken with their ends.
+    ensures stopped { (files : Files) (bytes : List ℕ) → F.files shelf.old ≡ Some files → S.left script.old ≡ Some bytes → (result ≡ 5) ⊎ (result ≡ 8)
+        → IsStopped E.gives E.fires E.counts (wanted words.now files) bytes (S.left script.new) (K.written out.old) (K.written out.new) }
+
+    // Where no script is to be run, whatever the script tells, and where no rule file is to be read, as of a load, whatever shelf and script
+    // tell: exactly the report, or a front of it.
+    ensures no_script { (files : Files) (bytes : List ℕ) → F.files shelf.old ≡ Some files → IfSome (asked_by words.now) (λ asked. ¬ RunsScript asked)
+        → IsWritten E.gives E.fires E.counts (wanted words.now files) bytes (K.written out.old) (K.written out.new) result }
+    ensures load { (files : Files) (bytes : List ℕ) → IfSome (asked_by words.now) (λ asked. ¬ ReadsFile asked)
+        → IsWritten E.gives E.fires E.counts (wanted words.now files) bytes (K.written out.old) (K.written out.new) result }
+
     // Whatever the script tells: the usage line, and, where the shelf tells its files, the refusal that is wanted.
     ensures usage { result ≡ 2 → K.written out.new ≡ append (K.written out.old) usage }
     ensures refusal { (files : Files) → F.files shelf.old ≡ Some files → result ≡ 3
@@ -264,6 +253,11 @@ pub fn replay<E: Engine, F: Shelf, S: Source, K: Sink>(
     ensures completes { (bytes : List ℕ) → S.left script.old ≡ Some bytes → length bytes ≤ 2 ^ 30
         → ((name : List ℕ) → Rose (F.faults shelf.old name) (F.faults shelf.new name) → ⊥)
         → (Rose (S.faults script.old) (S.faults script.new) → ⊥) → (Rose (K.faults out.old) (K.faults out.new) → ⊥)
+        → (result ≤ 4) ⊎ (result ≡ 7) }
+    ensures no_script_completes { IfSome (asked_by words.now) (λ asked. ¬ RunsScript asked)
+        → ((name : List ℕ) → Rose (F.faults shelf.old name) (F.faults shelf.new name) → ⊥) → (Rose (K.faults out.old) (K.faults out.new) → ⊥)
+        → (result ≤ 4) ⊎ (result ≡ 7) }
+    ensures load_completes { IfSome (asked_by words.now) (λ asked. ¬ ReadsFile asked) → (Rose (K.faults out.old) (K.faults out.new) → ⊥)
         → (result ≤ 4) ⊎ (result ≡ 7) }
     ensures answers { result ≤ 8 }
 
@@ -285,11 +279,7 @@ pub fn replay<E: Engine, F: Shelf, S: Source, K: Sink>(
     ensures no_file { IfSome (asked_by words.now) (λ asked. ¬ ReadsFile asked) → shelf.new ≡ shelf.old }
 {
     match asked(alloc, words) {
-        Ok(Some(Asked::RuleFile { name, mode, limit })) => {
-            answer::<E, F, S, K>(alloc, mode, limit, name.as_str(), shelf, script, out)
-        }
-        Ok(Some(Asked::Load { number, limit })) => run_load::<E, K>(alloc, number, limit, out),
-        Ok(None) => say(out, USAGE, 2),
+        Ok(asked) => do_asked::<E, F, S, K>(alloc, asked, shelf, script, out),
         Err(_) => 7,
     }
 }

@@ -8,8 +8,8 @@ ghost use Rattle.command_words.specs.declared.asking.Mode.{Mode};
 ghost use Rattle.command_words.specs.declared.asking.Mode.TheVariants.{Run};
 ghost use Rattle.command_words.specs.Asked.{asked_by};
 ghost use Rattle.replay.specs.Refusals.{refusal_text};
-ghost use Rattle.replay.specs.Report.{Report, IsReport, Reports, TakesFor, IsLong};
-ghost use Rattle.replay.specs.Texts.{usage};
+ghost use Rattle.replay.specs.Report.{Report, IsReport, Reports, IsWritten, IsStopped, TakesFor, IsLong};
+ghost use Rattle.replay.specs.Notices.{usage};
 ghost use Rattle.replay.specs.Wanted.{Files, wanted, IfRefuses, ReadsFile, RunsScript, IsUnfit};
 ghost use Rattle.session_laws.specs.Counts.{held_counts};
 ghost use Rattle.session_laws.specs.Gives.{gives, fires};
@@ -48,6 +48,17 @@ pub fn run<F: Shelf, S: Source, K: Sink>(
     ensures long { (files : Files) (bytes : List ℕ) → F.files shelf.old ≡ Some files → S.left script.old ≡ Some bytes
         → result ≡ 8 → IsLong gives fires held_counts (wanted words.now files) bytes }
 
+    // There too, where a read failed or the script is too long: what the lines print that were taken with their ends.
+    ensures stopped { (files : Files) (bytes : List ℕ) → F.files shelf.old ≡ Some files → S.left script.old ≡ Some bytes → (result ≡ 5) ⊎ (result ≡ 8)
+        → IsStopped gives fires held_counts (wanted words.now files) bytes (S.left script.new) (K.written out.old) (K.written out.new) }
+
+    // Where no script is to be run, whatever the script tells, and where no rule file is to be read, as of a load, whatever shelf and script
+    // tell: exactly the report, or a front of it.
+    ensures no_script { (files : Files) (bytes : List ℕ) → F.files shelf.old ≡ Some files → IfSome (asked_by words.now) (λ asked. ¬ RunsScript asked)
+        → IsWritten gives fires held_counts (wanted words.now files) bytes (K.written out.old) (K.written out.new) result }
+    ensures load { (files : Files) (bytes : List ℕ) → IfSome (asked_by words.now) (λ asked. ¬ ReadsFile asked)
+        → IsWritten gives fires held_counts (wanted words.now files) bytes (K.written out.old) (K.written out.new) result }
+
     // Whatever the script tells: the usage line, and, where the shelf tells its files, the refusal that is wanted.
     ensures usage { result ≡ 2 → K.written out.new ≡ append (K.written out.old) usage }
     ensures refusal { (files : Files) → F.files shelf.old ≡ Some files → result ≡ 3
@@ -57,6 +68,11 @@ pub fn run<F: Shelf, S: Source, K: Sink>(
     ensures completes { (bytes : List ℕ) → S.left script.old ≡ Some bytes → length bytes ≤ 2 ^ 30
         → ((name : List ℕ) → Rose (F.faults shelf.old name) (F.faults shelf.new name) → ⊥)
         → (Rose (S.faults script.old) (S.faults script.new) → ⊥) → (Rose (K.faults out.old) (K.faults out.new) → ⊥)
+        → (result ≤ 4) ⊎ (result ≡ 7) }
+    ensures no_script_completes { IfSome (asked_by words.now) (λ asked. ¬ RunsScript asked)
+        → ((name : List ℕ) → Rose (F.faults shelf.old name) (F.faults shelf.new name) → ⊥) → (Rose (K.faults out.old) (K.faults out.new) → ⊥)
+        → (result ≤ 4) ⊎ (result ≡ 7) }
+    ensures load_completes { IfSome (asked_by words.now) (λ asked. ¬ ReadsFile asked) → (Rose (K.faults out.old) (K.faults out.new) → ⊥)
         → (result ≤ 4) ⊎ (result ≡ 7) }
     ensures answers { result ≤ 8 }
 

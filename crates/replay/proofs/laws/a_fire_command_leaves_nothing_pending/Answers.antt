@@ -1,4 +1,4 @@
-use Rattle.replay.proofs.Fired.{settled}
+use Rattle.script_run.proofs.Fired.{settled}
 use Rattle.replay.proofs.laws.a_fire_command_leaves_nothing_pending.Goals as goal
 
 pub returns : goal.returns

@@ -1,7 +1,7 @@
 use Rattle.fx_io.specs.Outside.{AppendsFront}
 use Rattle.fx_io.specs.Lines.{lines_of}
 use Rattle.rule_model.specs.declared.life.LifeTable.{LifeTable}
-use Rattle.replay.specs.Run.{whole_run}
+use Rattle.script_run.specs.Run.{setting_of, whole_run}
 use Rattle.replay.specs.Summary.{summary_text}
 use Rattle.replay.proofs.Tables.{by_table}
 use Rattle.replay.proofs.load.run_and_sum_up.Goals as goal
@@ -9,5 +9,5 @@ use Rattle.replay.proofs.load.run_and_sum_up.Goals as goal
 pub returns-in-Ok-clause-front : goal.returns-in-Ok-clause-front
 returns-in-Ok-clause-front g c table are high =
     by_table c.args.program (λ (t : LifeTable). AppendsFront (g.K.Sink.written c.args.out.now) (g.K.Sink.written c.run_with_lives.new.out)
-    (summary_text c.args.number (whole_run g.E.Engine.gives g.E.Engine.fires (g.E.Engine.counts c.args.program t) c.args.limit c.args.program (lines_of c.args.script)).bytes))
+    (summary_text c.args.number (whole_run (setting_of g.E.Engine.gives g.E.Engine.fires g.E.Engine.counts c.args.limit c.args.program t) (lines_of c.args.script)).bytes))
     c.in-Ok.lives table c.in-Ok.ensures.lives are (c.run_with_lives.ensures.front high)

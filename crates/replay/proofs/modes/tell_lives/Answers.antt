@@ -1,5 +1,5 @@
 use Rattle.std.proofs.Common.{◌≡◌, ◌∙◌}
-use Rattle.replay.specs.Texts.{lives_text}
+use Rattle.replay.specs.Notices.{lives_text}
 use Rattle.replay.proofs.Tables.{same_lives_text}
 use Rattle.replay.proofs.modes.tell_lives.Goals as goal
 

@@ -1,22 +1,24 @@
-use Rattle.std.proofs.Common.{refl}
+use Rattle.std.proofs.Common.{◌≡◌, refl}
 use Rattle.command_words.specs.declared.asking.Mode.TheVariants.{Run, Check, Lives}
-use Rattle.replay.proofs.Reports.{of_mode, report_of_mode}
+use Rattle.replay.specs.Notices.{accepted_text}
+use Rattle.replay.specs.Wanted.{accepts, tells_lives}
+use Rattle.replay.proofs.Calls.{mode_done, written_as}
 use Rattle.replay.proofs.top.do_mode.Goals as goal
 
-pub returns-in-Run-clause-exact : goal.returns-in-Run-clause-exact
-returns-in-Run-clause-exact g c bytes tells low =
-    of_mode _ _ _ c.args.mode Run c.args.limit c.args.program bytes _ _ _ c.in-Run.is (c.run_program.ensures.exact bytes tells low)
+pub returns-in-Run-clause-run : goal.returns-in-Run-clause-run
+returns-in-Run-clause-run g c name first last = rw c.in-Run.is (c.run_program.ensures name first last)
 
-pub returns-in-Run-clause-front : goal.returns-in-Run-clause-front
-returns-in-Run-clause-front g c bytes tells high r is =
-    c.run_program.ensures.front bytes tells high r
-    (report_of_mode g.E.Engine.gives g.E.Engine.fires g.E.Engine.counts c.args.mode Run c.args.limit c.args.program bytes r c.in-Run.is is)
+pub returns-in-Check-clause-run : goal.returns-in-Check-clause-run
+returns-in-Check-clause-run g c name first last =
+    rw c.in-Check.is (mode_done g.E.Engine.gives g.E.Engine.fires g.E.Engine.counts name Check c.args.limit (accepts c.args.program) first last _ _ _ _ _ _ _ _ (λ e. let k : Check ≡ Run = e in cc)
+    (λ script. written_as (record { bytes = accepted_text c.args.program; status = 0 }) refl c.accept.ensures.said c.accept.ensures.front)
+    c.accept.ensures.answers c.accept.ensures.cause)
 
-pub returns-in-Check-clause-exact : goal.returns-in-Check-clause-exact
-returns-in-Check-clause-exact g c bytes tells low =
-    of_mode _ _ _ c.args.mode Check c.args.limit c.args.program bytes _ _ _ c.in-Check.is (_, refl, c.accept.ensures.said low)
-
-pub returns-in-Lives-clause-exact : goal.returns-in-Lives-clause-exact
-returns-in-Lives-clause-exact g c bytes tells low =
-    let said = c.tell_lives.ensures.said low in
-    of_mode _ _ _ c.args.mode Lives c.args.limit c.args.program bytes _ _ _ c.in-Lives.is (_, (said.0, said.1, refl), (said.2, said.3))
+pub returns-in-Lives-clause-run : goal.returns-in-Lives-clause-run
+returns-in-Lives-clause-run g c name first last =
+    rw c.in-Lives.is (mode_done g.E.Engine.gives g.E.Engine.fires g.E.Engine.counts name Lives c.args.limit (tells_lives c.args.program) first last _ _ _ _ _ _ _ _ (λ e. let k : Lives ≡ Run = e in cc)
+    (λ script. record {
+      exact = λ low. let said = c.tell_lives.ensures.said low in (_, (said.0, said.1, refl), (said.2, said.3));
+      front = λ high r is. rw is.2 (c.tell_lives.ensures.front is.0 is.1 high);
+    })
+    c.tell_lives.ensures.answers c.tell_lives.ensures.cause)

@@ -1,50 +1,82 @@
-use Rattle.std.proofs.Common.{◌≡◌, Some, None, rules, refl}
-use Rattle.command_words.specs.declared.asking.Asked.TheVariants.{RuleFile, Load}
-use Rattle.command_words.specs.Asked.{asked_by}
-use Rattle.replay.proofs.Reports.{no_words, by_name, by_number}
+use Rattle.replay.proofs.Calls.{wanted_is, written_told, long_told, stopped_told, refusal_told, written_no_script, written_no_file, completes, completes_unread, completes_load}
 use Rattle.replay.proofs.top.replay.Goals as goal
 
-pub returns-in-Ok-Some-RuleFile-clause-exact : goal.returns-in-Ok-Some-RuleFile-clause-exact
-returns-in-Ok-Some-RuleFile-clause-exact g c files bytes told tells low =
-    let asks : asked_by c.args.words.now ≡ Some (RuleFile c.in-Ok-Some-RuleFile.name c.in-Ok-Some-RuleFile.mode c.in-Ok-Some-RuleFile.limit) = search rules in
-    rw (by_name c.args.words.now _ _ _ files asks) (rw c.as_str.ensures at (c.answer.ensures.exact files bytes told tells low))
+pub returns-in-Ok-clause-exact : goal.returns-in-Ok-clause-exact
+returns-in-Ok-clause-exact g c files bytes told tells low =
+    let run = rw c.in-Ok.ensures.asks at c.do_asked.ensures.run in
+    rw (wanted_is c.args.words.now files) ((written_told run files bytes told tells).exact low)
 
-pub returns-in-Ok-Some-RuleFile-clause-front : goal.returns-in-Ok-Some-RuleFile-clause-front
-returns-in-Ok-Some-RuleFile-clause-front g c files bytes told tells high =
-    let asks : asked_by c.args.words.now ≡ Some (RuleFile c.in-Ok-Some-RuleFile.name c.in-Ok-Some-RuleFile.mode c.in-Ok-Some-RuleFile.limit) = search rules in
-    rw (by_name c.args.words.now _ _ _ files asks) (rw c.as_str.ensures at (c.answer.ensures.front files bytes told tells high))
+pub returns-in-Ok-clause-front : goal.returns-in-Ok-clause-front
+returns-in-Ok-clause-front g c files bytes told tells high =
+    let run = rw c.in-Ok.ensures.asks at c.do_asked.ensures.run in
+    rw (wanted_is c.args.words.now files) ((written_told run files bytes told tells).front high)
 
-pub returns-in-Ok-Some-RuleFile-clause-long : goal.returns-in-Ok-Some-RuleFile-clause-long
-returns-in-Ok-Some-RuleFile-clause-long g c files bytes told tells eight =
-    let asks : asked_by c.args.words.now ≡ Some (RuleFile c.in-Ok-Some-RuleFile.name c.in-Ok-Some-RuleFile.mode c.in-Ok-Some-RuleFile.limit) = search rules in
-    rw (by_name c.args.words.now _ _ _ files asks) (rw c.as_str.ensures at (c.answer.ensures.long files bytes told tells eight))
+pub returns-in-Ok-clause-long : goal.returns-in-Ok-clause-long
+returns-in-Ok-clause-long g c files bytes told tells eight =
+    let run = rw c.in-Ok.ensures.asks at c.do_asked.ensures.run in
+    rw (wanted_is c.args.words.now files) (long_told run files bytes told tells eight)
 
-pub returns-in-Ok-Some-RuleFile-clause-refusal : goal.returns-in-Ok-Some-RuleFile-clause-refusal
-returns-in-Ok-Some-RuleFile-clause-refusal g c files told three =
-    let asks : asked_by c.args.words.now ≡ Some (RuleFile c.in-Ok-Some-RuleFile.name c.in-Ok-Some-RuleFile.mode c.in-Ok-Some-RuleFile.limit) = search rules in
-    rw (by_name c.args.words.now _ _ _ files asks) (rw c.as_str.ensures at (c.answer.ensures.refusal files told three))
+pub returns-in-Ok-clause-stopped : goal.returns-in-Ok-clause-stopped
+returns-in-Ok-clause-stopped g c files bytes told tells stop =
+    let run = rw c.in-Ok.ensures.asks at c.do_asked.ensures.run in
+    rw (wanted_is c.args.words.now files) (stopped_told run files bytes told tells stop)
 
-pub returns-in-Ok-Some-Load-clause-exact : goal.returns-in-Ok-Some-Load-clause-exact
-returns-in-Ok-Some-Load-clause-exact g c files bytes told tells low =
-    let asks : asked_by c.args.words.now ≡ Some (Load c.in-Ok-Some-Load.number c.in-Ok-Some-Load.limit) = search rules in
-    rw (by_number c.args.words.now _ _ files asks) (c.run_load.ensures.exact bytes low)
+pub returns-in-Ok-clause-no_script : goal.returns-in-Ok-clause-no_script
+returns-in-Ok-clause-no_script g c files bytes told none =
+    let run = rw c.in-Ok.ensures.asks at c.do_asked.ensures.run in
+    rw (wanted_is c.args.words.now files) (written_no_script run files bytes told none)
 
-pub returns-in-Ok-Some-Load-clause-front : goal.returns-in-Ok-Some-Load-clause-front
-returns-in-Ok-Some-Load-clause-front g c files bytes told tells high =
-    let asks : asked_by c.args.words.now ≡ Some (Load c.in-Ok-Some-Load.number c.in-Ok-Some-Load.limit) = search rules in
-    rw (by_number c.args.words.now _ _ files asks) (c.run_load.ensures.front bytes high)
+pub returns-in-Ok-clause-load : goal.returns-in-Ok-clause-load
+returns-in-Ok-clause-load g c files bytes none =
+    let run = rw c.in-Ok.ensures.asks at c.do_asked.ensures.run in
+    rw (wanted_is c.args.words.now files) (written_no_file run files bytes none)
 
-pub returns-in-Ok-Some-Load-clause-refusal : goal.returns-in-Ok-Some-Load-clause-refusal
-returns-in-Ok-Some-Load-clause-refusal g c files told three =
-    let asks : asked_by c.args.words.now ≡ Some (Load c.in-Ok-Some-Load.number c.in-Ok-Some-Load.limit) = search rules in
-    rw (by_number c.args.words.now _ _ files asks) (c.run_load.ensures.refusal three)
+pub returns-in-Ok-clause-usage : goal.returns-in-Ok-clause-usage
+returns-in-Ok-clause-usage g c =
+    let run = rw c.in-Ok.ensures.asks at c.do_asked.ensures.run in
+    run.said_usage
 
-pub returns-in-Ok-None-clause-exact : goal.returns-in-Ok-None-clause-exact
-returns-in-Ok-None-clause-exact g c files bytes told tells low =
-    let refused : asked_by c.args.words.now ≡ None = search rules in
-    rw (no_words c.args.words.now files refused) (_, refl, c.say.ensures.said low)
+pub returns-in-Ok-clause-refusal : goal.returns-in-Ok-clause-refusal
+returns-in-Ok-clause-refusal g c files told three =
+    let run = rw c.in-Ok.ensures.asks at c.do_asked.ensures.run in
+    rw (wanted_is c.args.words.now files) (refusal_told run files told three)
 
-pub returns-in-Ok-None-clause-front : goal.returns-in-Ok-None-clause-front
-returns-in-Ok-None-clause-front g c files bytes told tells high =
-    let refused : asked_by c.args.words.now ≡ None = search rules in
-    rw (no_words c.args.words.now files refused) (λ r is. rw is (c.say.ensures.front high))
+pub returns-in-Ok-clause-completes : goal.returns-in-Ok-clause-completes
+returns-in-Ok-clause-completes g c bytes tells short shelf read write =
+    let run = rw c.in-Ok.ensures.asks at c.do_asked.ensures.run in
+    completes run bytes tells short shelf read write
+
+pub returns-in-Ok-clause-no_script_completes : goal.returns-in-Ok-clause-no_script_completes
+returns-in-Ok-clause-no_script_completes g c none shelf write =
+    let run = rw c.in-Ok.ensures.asks at c.do_asked.ensures.run in
+    completes_unread run none shelf write
+
+pub returns-in-Ok-clause-load_completes : goal.returns-in-Ok-clause-load_completes
+returns-in-Ok-clause-load_completes g c none write =
+    let run = rw c.in-Ok.ensures.asks at c.do_asked.ensures.run in
+    completes_load run none write
+
+pub returns-in-Ok-clause-file : goal.returns-in-Ok-clause-file
+returns-in-Ok-clause-file g c =
+    let run = rw c.in-Ok.ensures.asks at c.do_asked.ensures.run in
+    run.file
+
+pub returns-in-Ok-clause-read : goal.returns-in-Ok-clause-read
+returns-in-Ok-clause-read g c =
+    let run = rw c.in-Ok.ensures.asks at c.do_asked.ensures.run in
+    run.read
+
+pub returns-in-Ok-clause-write : goal.returns-in-Ok-clause-write
+returns-in-Ok-clause-write g c =
+    let run = rw c.in-Ok.ensures.asks at c.do_asked.ensures.run in
+    run.write
+
+pub returns-in-Ok-clause-taken : goal.returns-in-Ok-clause-taken
+returns-in-Ok-clause-taken g c =
+    let run = rw c.in-Ok.ensures.asks at c.do_asked.ensures.run in
+    run.taken
+
+pub returns-in-Ok-clause-nothing_left : goal.returns-in-Ok-clause-nothing_left
+returns-in-Ok-clause-nothing_left g c =
+    let run = rw c.in-Ok.ensures.asks at c.do_asked.ensures.run in
+    run.nothing_left

@@ -1,7 +1,0 @@
-use Rattle.std.proofs.Common.{◌≡◌, ◌++◌, drop}
-use Rattle.replay.specs.Texts.{held_text}
-use Rattle.replay.proofs.counting.push_numbers.Given as goal
-
--- the lines so far, and those of the types and numbers that are left
-abbrev pub invariant-loop-ty : goal.invariant-loop-ty
-invariant-loop-ty l = l.text.items ++ held_text (drop l.ty-index l.types) l.rest ≡ l.fn.text.items ++ held_text l.types l.numbers

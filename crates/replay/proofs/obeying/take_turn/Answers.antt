@@ -1,7 +1,0 @@
-use Rattle.replay.proofs.Steps.{long_step}
-use Rattle.replay.proofs.obeying.take_turn.Goals as goal
-
-pub returns-in_ok-push_fault-in-Long-clause-turn : goal.returns-in_ok-push_fault-in-Long-clause-turn
-returns-in_ok-push_fault-in-Long-clause-turn g c w ahead behind st answers =
-    let long = rw c.in-Long.is at answers in
-    (long.0, long.2, long_step g.E.Engine.gives g.E.Engine.fires (g.E.Engine.counts (g.E.Engine.made_with c.args.engine) (g.E.Engine.table c.args.engine)) c.args.limit (g.E.Engine.made_with c.args.engine) c.args.number c.args.left w long.0 long.1 c.args.text.now.items c.push_fault.new.text.items (g.E.Engine.stands c.args.engine) c.in_ok-push_fault-in-Long.ensures st)

@@ -1,0 +1,11 @@
+use Rattle.replay.proofs.Calls.{usage_done}
+use Rattle.replay.proofs.top.do_asked.Goals as goal
+
+pub returns-in-Some-RuleFile-clause-run : goal.returns-in-Some-RuleFile-clause-run
+returns-in-Some-RuleFile-clause-run g c = rw (c.in-Some-RuleFile.is, c.in-Some-RuleFile.field-0-is) (rw c.as_str.ensures at c.answer.ensures.run)
+
+pub returns-in-Some-Load-clause-run : goal.returns-in-Some-Load-clause-run
+returns-in-Some-Load-clause-run g c = rw (c.in-Some-Load.is, c.in-Some-Load.field-0-is) (c.run_load.ensures _ _ _ _ _)
+
+pub returns-in-None-clause-run : goal.returns-in-None-clause-run
+returns-in-None-clause-run g c = rw c.in-None.is (usage_done g.E.Engine.gives g.E.Engine.fires g.E.Engine.counts _ _ _ _ _ _ _ _ _ _ c.say.ensures.said c.say.ensures.front c.say.ensures.either c.say.ensures.cause)

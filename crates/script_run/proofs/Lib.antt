@@ -1,0 +1,5 @@
+pub mod Fired
+pub mod Steps
+pub mod Ahead
+pub mod Stops
+pub mod HeldText

@@ -1,0 +1,23 @@
+-- The step of a line, by what the line is.
+use Rattle.std.proofs.Common.{◌≡◌, ℕ, ◌<◌, ◌++◌, true, List, length, nat_lt, refl, sym, subst, arith}
+use Rattle.std.proofs.lemmas.Bool.Decides.{nat_tests}
+use Rattle.rule_world.specs.Worlds.{World}
+use Rattle.script_run.specs.declared.fault.LineCode.TheVariants.{LineLong}
+use Rattle.script_run.specs.declared.turn.Turn.TheVariants.{Goes}
+use Rattle.script_run.specs.Texts.{fault_text}
+use Rattle.script_run.specs.Run.{RunSetting, LineEffect, line_step, fault_step}
+use Rattle.script_run.specs.Turns.{Does}
+
+over : (n m : ℕ) → n < m → nat_lt n m ≡ true
+over n m h = grind (arith, nat_tests)
+
+too_long : (setting : RunSetting) (number left : ℕ) (w : World) (line : List ℕ) → 65536 < length line → line_step setting number left w line ≡ fault_step number left w LineLong
+unfolding line_step
+too_long setting number left w line h = rw (over 65536 (length line) h) refl
+
+-- a line that is too long is a fault
+pub long_step : (setting : RunSetting) (number left : ℕ) (w : World) (line : List ℕ) → 65536 < length line → (before after : List ℕ) (stands : World → Type 0)
+    → after ≡ before ++ fault_text number LineLong → stands w → Does stands (line_step setting number left w line) before after (Goes true left)
+long_step setting number left w line h before after stands text st =
+    let d : Does stands (fault_step number left w LineLong) before after (Goes true left) = (text, st, refl) in
+    subst (λ (step : LineEffect). Does stands step before after (Goes true left)) (sym (too_long setting number left w line h)) d

@@ -1,0 +1,86 @@
+-- Why a run stops, and how many bytes it took.
+use Rattle.std.proofs.Common.{◌≡◌, ◌≢◌, ◌==◌, ◌++◌, false, ◌<◌, ◌≤◌, ◌-◌, ◌^◌, ℕ, List, Option, Result, Ok, Err, sym, ap, ◌∙◌, arith}
+use Rattle.std.specs.Prelude.{IsErr, IsErrAnd}
+use Rattle.std.proofs.lemmas.Bool.{or_parts}
+use Rattle.std.proofs.lemmas.List.Folds.{list_any-append}
+use Rattle.fx_io.specs.Outside.{prepend, count_after, IsExhausted}
+use Rattle.fx_io.specs.Lines.{has_end, HasNoEnd}
+use Rattle.fx_io.specs.Answers.{Answers, Stops, LeavesNoEnd, Gives}
+use Rattle.fx_io.specs.declared.line.Line.{Line}
+use Rattle.fx_io.specs.declared.line.Line.TheVariants.{Whole, Long, End}
+use Rattle.fx_io.specs.declared.line.LineFault.{LineFault}
+use Rattle.fx_io.specs.declared.line.LineFault.TheVariants.{ReadFault, ScriptLong, NoMemory}
+use Rattle.script_run.specs.Faults.{run_fault}
+use Rattle.script_run.specs.declared.fault.RunFault.{RunFault}
+use Rattle.script_run.specs.declared.fault.RunFault.TheVariants.{ScriptLong as TooLong, ReadFault as RunReadFault, NoMemory as RunNoMemory}
+use Rattle.script_run.specs.declared.turn.Ended.{Ended}
+use Rattle.script_run.specs.Turns.{Takes, HasAtMost}
+
+-- how a run answers a fault
+abbrev pub the_err : RunFault → Result Ended RunFault
+the_err fault = Err fault
+
+-- the only error
+pub err_of : {T E : Type 0} (r : Result T E) (x : E) → IsErr r → IsErrAnd r (λ e. e ≡ x) → r ≡ Err x
+err_of (Ok y) x h k = absurd k
+err_of (Err e) x h k = ap Err k
+
+count_more : (a m n : ℕ) → m ≤ n → count_after (count_after a m) (n - m) ≡ count_after a n
+count_more a m n le = grind arith
+
+-- a count after a call more
+pub given_since : (a m n given now : ℕ) → m ≤ n → given ≡ count_after a m → now ≡ count_after given (n - m) → now ≡ count_after a n
+given_since a m n given now le before e = e ∙ ap (λ (k : ℕ). count_after k (n - m)) before ∙ count_more a m n le
+
+pub none_given : (a : ℕ) → a ≡ count_after a 0
+none_given a = grind arith
+
+-- the reader stops where the run does
+pub takes_stop : (fault : LineFault) (bytes : List ℕ) (taken : ℕ) → Stops fault bytes taken (2 ^ 30) → Takes (Err (run_fault fault)) taken
+takes_stop ReadFault bytes taken h = h.1
+takes_stop ScriptLong bytes taken h = h.1
+takes_stop NoMemory bytes taken h = tt
+
+-- at the end of the script nothing is left
+pub exhausted : (most total : ℕ) (line : Line) (bytes kept : List ℕ) (taken : ℕ) (left : Option (List ℕ)) → line ≡ End → Gives most total (Ok line) bytes kept taken left → (taken ≤ total) × IsExhausted left
+exhausted most total line bytes kept taken left e h = let k : Gives most total (Ok End) bytes kept taken left = rw e at h in k.2
+
+-- the run says that the script is too long where the reader does
+pub long_taken : (fault : LineFault) (found : RunFault) (bytes : List ℕ) (taken most : ℕ) → found ≡ run_fault fault → (the_err found) ≡ the_err TooLong → Stops fault bytes taken most → most < taken
+long_taken ReadFault found bytes taken most e is h = absurd (let k : the_err RunReadFault ≡ the_err TooLong = ap the_err (sym e) ∙ is in cc)
+long_taken ScriptLong found bytes taken most e is h = h.1
+long_taken NoMemory found bytes taken most e is h = absurd (let k : the_err RunNoMemory ≡ the_err TooLong = ap the_err (sym e) ∙ is in cc)
+
+pub long_stop : (fault : LineFault) (found : RunFault) (before after : Option (List ℕ)) → found ≡ run_fault fault → the_err found ≡ the_err TooLong → LeavesNoEnd fault before after
+    → (front : List ℕ) × HasNoEnd front × (before ≡ prepend front after)
+long_stop ReadFault found before after e is h = h
+long_stop ScriptLong found before after e is h = h
+long_stop NoMemory found before after e is h = absurd (let k : the_err RunNoMemory ≡ the_err TooLong = ap the_err (sym e) ∙ is in cc)
+
+pub read_stop : (fault : LineFault) (found : RunFault) (before after : Option (List ℕ)) → found ≡ run_fault fault → the_err found ≡ the_err RunReadFault → LeavesNoEnd fault before after
+    → (front : List ℕ) × HasNoEnd front × (before ≡ prepend front after)
+read_stop ReadFault found before after e is h = h
+read_stop ScriptLong found before after e is h = absurd (let k : the_err TooLong ≡ the_err RunReadFault = ap the_err (sym e) ∙ is in cc)
+read_stop NoMemory found before after e is h = absurd (let k : the_err RunNoMemory ≡ the_err RunReadFault = ap the_err (sym e) ∙ is in cc)
+
+-- what is answered as a whole line has not too many bytes
+pub has_at_most : (most : ℕ) (line : Line) (before after : Option (List (List ℕ))) → Answers most line before after → HasAtMost most line
+has_at_most most (Whole bytes) before after h = h.0
+has_at_most most Long before after h = tt
+has_at_most most End before after h = tt
+
+-- a fault of the script comes in the middle of a line
+pub stops_mid_line : (fault : LineFault) (found : RunFault) (bytes : List ℕ) (taken most : ℕ) → found ≡ run_fault fault → found ≢ RunNoMemory → Stops fault bytes taken most → HasNoEnd bytes
+stops_mid_line ReadFault found bytes taken most e is h = h.0
+stops_mid_line ScriptLong found bytes taken most e is h = h.0
+stops_mid_line NoMemory found bytes taken most e is h = absurd (is e)
+
+pub no_memory_at_read : (found : RunFault) → the_err found ≡ the_err RunReadFault → found ≢ RunNoMemory
+no_memory_at_read found is e = let k : the_err RunNoMemory ≡ the_err RunReadFault = ap the_err (sym e) ∙ is in cc
+
+pub no_memory_at_length : (found : RunFault) → the_err found ≡ the_err TooLong → found ≢ RunNoMemory
+no_memory_at_length found is e = let k : the_err RunNoMemory ≡ the_err TooLong = ap the_err (sym e) ∙ is in cc
+
+-- no line ends in the bytes that were kept
+pub none_kept : (kept read : List ℕ) → HasNoEnd (kept ++ read) → has_end kept ≡ false
+none_kept kept read h = (or_parts (has_end kept) (has_end read) (sym (list_any-append (λ (b : ℕ). b == 10) kept read) ∙ h)).0

@@ -1,0 +1,78 @@
+-- The lines that a run prints, each ended by a line end.
+use Rattle.std.specs.Prelude.{ℕ, ◌++◌, ◌==◌, Bool, true, false, List, [], ◌∷◌, zip, slice_get, Option, Some, None, if◌then◌else◌, codes}
+use Rattle.std.specs.Fmt.{decimal, signed_decimal}
+use Rattle.std.specs.List.{flat_map, list_any}
+use Rattle.rule_model.specs.declared.program.Program.{Program}
+use Rattle.rule_model.specs.declared.program.TypeInfo.{TypeInfo}
+use Rattle.rule_model.specs.declared.program.Rule.{Rule}
+use Rattle.engine.specs.Counts.{event_types}
+use Rattle.engine.specs.declared.lines.OutLine.{OutLine}
+use Rattle.engine.specs.declared.lines.OutLine.TheVariants.{New, Fire, Fault}
+use Rattle.engine.specs.declared.lines.Cell.{Cell}
+use Rattle.rule_world.specs.CodeNames.{code_name}
+use Rattle.script_run.specs.declared.fault.LineCode.{LineCode}
+use Rattle.engine.specs.declared.lines.Cell.TheVariants as cell
+use Rattle.script_run.specs.declared.fault.LineCode.TheVariants as fault
+
+abbrev pub type_name : Option TypeInfo → List ℕ
+type_name None = []
+type_name (Some ty) = ty.name
+
+abbrev pub rule_name : Option Rule → List ℕ
+rule_name None = []
+rule_name (Some rule) = rule.name
+
+-- a byte of a text in quotes: `\`, `"`, newline, tab and carriage return by their escapes
+abbrev pub quoted_byte : ℕ → List ℕ
+quoted_byte b =
+    if b == 92 then 92 ∷ 92 ∷ []
+    else (if b == 34 then 92 ∷ 34 ∷ []
+    else (if b == 10 then 92 ∷ 110 ∷ []
+    else (if b == 9 then 92 ∷ 116 ∷ []
+    else (if b == 13 then 92 ∷ 114 ∷ [] else b ∷ []))))
+
+-- what a condition bound
+abbrev pub cell_text : Cell → List ℕ
+cell_text (cell.Fact id) = codes " #" ++ decimal id.0
+cell_text (cell.Value number) = codes " =" ++ signed_decimal number
+
+-- the code of a faulty line
+abbrev pub code_text : LineCode → List ℕ
+code_text fault.LineLong = codes "LineLong"
+code_text fault.BadJson = codes "BadJson"
+code_text fault.BadCommand = codes "BadCommand"
+code_text (fault.Refused code) = code_name code
+
+-- a line of the script with this number had a fault
+abbrev pub fault_text : ℕ → LineCode → List ℕ
+fault_text number code = codes "fault " ++ decimal number ++ codes " " ++ code_text code ++ 10 ∷ []
+
+-- a match was pending after so many firings, and the run ends
+abbrev pub limit_text : ℕ → List ℕ
+limit_text limit = codes "limit " ++ decimal limit ++ 10 ∷ []
+
+-- a line that a line of the script with this number gives
+unfoldable pub line_text : Program → ℕ → OutLine → List ℕ
+line_text p number (New id ty) = codes "new #" ++ decimal id.0 ++ codes " " ++ type_name (slice_get p.types ty.0) ++ 10 ∷ []
+line_text p number (Fire rule cells) =
+    codes "fire \"" ++ flat_map quoted_byte (rule_name (slice_get p.rules rule.0)) ++ codes "\"" ++ flat_map cell_text cells ++ 10 ∷ []
+line_text p number (Fault code) = fault_text number (fault.Refused code)
+
+abbrev pub lines_text : Program → ℕ → List OutLine → List ℕ
+lines_text p number lines = flat_map (line_text p number) lines
+
+abbrev pub is_fault : OutLine → Bool
+is_fault (New id ty) = false
+is_fault (Fire rule cells) = false
+is_fault (Fault code) = true
+
+abbrev pub has_fault : List OutLine → Bool
+has_fault lines = list_any is_fault lines
+
+-- so many events of a type of this name are kept
+abbrev pub held_line : List ℕ → ℕ → List ℕ
+held_line name number = codes "held " ++ name ++ codes " " ++ decimal number ++ 10 ∷ []
+
+-- so many of each event type, in their order
+abbrev pub held_text : List TypeInfo → List ℕ → List ℕ
+held_text types numbers = flat_map (λ (row : TypeInfo × ℕ). held_line row.0.name row.1) (zip (event_types types) numbers)

@@ -1,0 +1,17 @@
+//! The run of a script over an engine: what each line does, the firings of a fire command up to the limit, and what is printed. It knows the
+//! engine by its trait alone, and the outside by a source of the script and a sink.
+#![tactic(auto)]
+
+mod counting;
+mod fault;
+mod firing;
+mod gathered;
+mod obeying;
+mod running;
+mod text;
+mod turn;
+
+pub use fault::RunFault;
+pub use running::run;
+pub use text::{push_number, push_signed};
+pub use turn::Ended;

@@ -1,0 +1,170 @@
+ghost use Rattle.std.specs.Prelude.{◌≡◌, ◌++◌, ◌||◌, IfOk, OnOk, slice_get};
+ghost use Rattle.std.specs.Fmt.{decimal, signed_decimal};
+ghost use Rattle.std.specs.List.{flat_map};
+ghost use Rattle.script_run.specs.Texts.{type_name, rule_name, quoted_byte, cell_text, fault_text, limit_text, line_text, lines_text, is_fault, has_fault};
+
+use crate::fault::LineCode;
+use engine::{Cell, OutLine};
+use fx_base::NoMemory;
+use rule_model::{Program, Rule, TypeInfo};
+use std::alloc::Global;
+
+fn name_of_type(types: &[TypeInfo], place: usize) -> &str
+    ensures { result.now ≡ type_name (slice_get types.now place) }
+{
+    match types.get(place) {
+        Some(ty) => ty.name.as_str(),
+        None => "",
+    }
+}
+
+fn name_of_rule(rules: &[Rule], place: usize) -> &str
+    ensures { result.now ≡ rule_name (slice_get rules.now place) }
+{
+    match rules.get(place) {
+        Some(rule) => rule.name.as_str(),
+        None => "",
+    }
+}
+
+fn push_quoted(text: &mut Vec<u8>, name: &[u8]) -> Result<(), NoMemory>
+    ensures { OnOk result (text.new.items ≡ text.old.items ++ flat_map quoted_byte name.now) }
+{
+    for b in name {
+        match *b {
+            b'\\' => text.extend_from_slice(b"\\\\")?,
+            b'"' => text.extend_from_slice(b"\\\"")?,
+            b'\n' => text.extend_from_slice(b"\\n")?,
+            b'\t' => text.extend_from_slice(b"\\t")?,
+            b'\r' => text.extend_from_slice(b"\\r")?,
+            other => text.push(other)?,
+        }
+    }
+    Ok(())
+}
+
+/// Appends a number in decimal digits.
+pub fn push_number(text: &mut Vec<u8>, alloc: Global, number: u64) -> Result<(), NoMemory>
+    ensures { OnOk result (text.new.items ≡ text.old.items ++ decimal number) }
+{
+    let digits = number.to_string(alloc)?;
+    text.extend_from_slice(digits.as_bytes())?;
+    Ok(())
+}
+
+/// Appends a signed number in decimal digits.
+pub fn push_signed(text: &mut Vec<u8>, alloc: Global, number: i64) -> Result<(), NoMemory>
+    ensures { OnOk result (text.new.items ≡ text.old.items ++ signed_decimal number) }
+{
+    let digits = number.to_string(alloc)?;
+    text.extend_from_slice(digits.as_bytes())?;
+    Ok(())
+}
+
+fn push_cell(text: &mut Vec<u8>, alloc: Global, cell: Cell) -> Result<(), NoMemory>
+    ensures { OnOk result (text.new.items ≡ text.old.items ++ cell_text cell) }
+{
+    match cell {
+        Cell::Fact(id) => {
+            text.extend_from_slice(b" #")?;
+            push_number(text, alloc, id.0)
+        }
+        Cell::Value(number) => {
+            text.extend_from_slice(b" =")?;
+            push_signed(text, alloc, number)
+        }
+    }
+}
+
+fn push_cells(text: &mut Vec<u8>, alloc: Global, cells: &[Cell]) -> Result<(), NoMemory>
+    ensures { OnOk result (text.new.items ≡ text.old.items ++ flat_map cell_text cells.now) }
+{
+    for cell in cells {
+        push_cell(text, alloc, *cell)?;
+    }
+    Ok(())
+}
+
+/// Appends the line of a faulty line of the script.
+pub(crate) fn push_fault(
+    text: &mut Vec<u8>,
+    alloc: Global,
+    number: u64,
+    code: LineCode,
+) -> Result<(), NoMemory>
+    ensures { OnOk result (text.new.items ≡ text.old.items ++ fault_text number code) }
+{
+    text.extend_from_slice(b"fault ")?;
+    push_number(text, alloc, number)?;
+    text.extend_from_slice(b" ")?;
+    text.extend_from_slice(code.name().as_bytes())?;
+    text.push(b'\n')?;
+    Ok(())
+}
+
+/// Appends the line of the limit of firings.
+pub(crate) fn push_limit(text: &mut Vec<u8>, alloc: Global, limit: u64) -> Result<(), NoMemory>
+    ensures { OnOk result (text.new.items ≡ text.old.items ++ limit_text limit) }
+{
+    text.extend_from_slice(b"limit ")?;
+    push_number(text, alloc, limit)?;
+    text.push(b'\n')?;
+    Ok(())
+}
+
+// Appends a line, and answers whether it is a fault.
+#[tactic(auto, unfolding(crate::specs::Texts::line_text))]
+fn push_line(
+    text: &mut Vec<u8>,
+    alloc: Global,
+    program: &Program,
+    number: u64,
+    line: &OutLine,
+) -> Result<bool, NoMemory>
+    ensures text { OnOk result (text.new.items ≡ text.old.items ++ line_text program.now number line.now) }
+    ensures fault { IfOk result (λ faulty. faulty ≡ is_fault line.now) }
+{
+    match line {
+        OutLine::New { id, ty } => {
+            text.extend_from_slice(b"new #")?;
+            push_number(text, alloc, id.0)?;
+            text.extend_from_slice(b" ")?;
+            let name = name_of_type(program.types.as_slice(), ty.0 as usize);
+            text.extend_from_slice(name.as_bytes())?;
+            text.push(b'\n')?;
+            Ok(false)
+        }
+        OutLine::Fire { rule, cells } => {
+            text.extend_from_slice(b"fire \"")?;
+            let name = name_of_rule(program.rules.as_slice(), rule.0 as usize);
+            push_quoted(text, name.as_bytes())?;
+            text.extend_from_slice(b"\"")?;
+            push_cells(text, alloc, cells.as_slice())?;
+            text.push(b'\n')?;
+            Ok(false)
+        }
+        OutLine::Fault(code) => {
+            push_fault(text, alloc, number, LineCode::Refused(*code))?;
+            Ok(true)
+        }
+    }
+}
+
+/// Appends lines, and answers whether one of them is a fault.
+pub(crate) fn push_lines(
+    text: &mut Vec<u8>,
+    alloc: Global,
+    program: &Program,
+    number: u64,
+    lines: &[OutLine],
+) -> Result<bool, NoMemory>
+    ensures text { OnOk result (text.new.items ≡ text.old.items ++ lines_text program.now number lines.now) }
+    ensures fault { IfOk result (λ faulty. faulty ≡ has_fault lines.now) }
+{
+    let mut faulty = false;
+    for line in lines {
+        let bad = push_line(text, alloc, program, number, line)?;
+        faulty = faulty || bad;
+    }
+    Ok(faulty)
+}
