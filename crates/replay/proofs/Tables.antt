@@ -10,7 +10,7 @@ use Rattle.rule_model.specs.declared.life.LifeTable.{LifeTable}
 use Rattle.rule_model.specs.declared.program.Program.{Program}
 use Rattle.rule_model.specs.Types.{is_event, expiry_of}
 use Rattle.rule_lives.specs.Keeping.{IsLifeOf, AreLives}
-use Rattle.rule_lives.specs.Lifetimes.{Gives as GivesLimit, IsLife}
+use Rattle.rule_lives.specs.Lifetimes.{IsLife, PatternLife}
 use Rattle.rule_lives.specs.Reach.{Limit, finite, infinite, Below}
 use Rattle.script_run.specs.Firings.{Gives, Fires, Counts}
 use Rattle.replay.specs.Report.{Report, IsReport, outcome_report, summary_report}
@@ -31,7 +31,7 @@ same_limit infinite infinite h k = refl
 below_other : (p : Program) (ty : ℕ) (l m : Limit) → IsLife p ty l → IsLife p ty m → Below l m
 below_other p ty l m h k = here h.reached
   where
-    here : (l ≡ finite (pos 0)) ⊎ GivesLimit p ty l → Below l m
+    here : (l ≡ finite (pos 0)) ⊎ PatternLife p ty l → Below l m
     here (inl e) = subst (λ (z : Limit). Below z m) (sym e) k.above_zero
     here (inr gives) = k.above_all l gives
 

@@ -3,7 +3,7 @@ ghost use Rattle.std.specs.Prelude.{◌≡◌, ◌⊎◌, ◌<◌, ◌≤◌, �
 ghost use Rattle.fx_io.specs.Outside.{Rose, append, AppendsFront};
 ghost use Rattle.fx_io.specs.Lines.{lines_of};
 ghost use Rattle.command_words.specs.declared.asking.Asked.TheVariants.{Load};
-ghost use Rattle.rule_lives.specs.Keeping.{AreLives, IsLifeTable};
+ghost use Rattle.rule_lives.specs.Keeping.{AreLives, IsSafeTable};
 ghost use Rattle.rule_model.specs.declared.life.LifeTable.{LifeTable as TableOfLives};
 ghost use Rattle.rule_world.specs.Programs.{IsRunnable};
 ghost use Rattle.script_run.specs.Run.{setting_of, whole_run};
@@ -38,7 +38,7 @@ fn run_in_memory<E: Engine>(
     script: Seq<u8>,
 ) -> Result<(Ended, MemSink), NoMemory>
     requires runnable { IsRunnable program }
-    requires table { IsLifeTable program lives }
+    requires table { IsSafeTable program lives }
     requires low { limit ≤ 1000000 }
     ensures ended { IfOk result (λ r. r.0 ≡ (whole_run (setting_of E.gives E.fires E.counts limit program lives) (lines_of script)).ended) }
     ensures printed { IfOk result (λ r. r.1.written ≡ (whole_run (setting_of E.gives E.fires E.counts limit program lives) (lines_of script)).bytes) }
@@ -76,7 +76,7 @@ fn run_with_lives<E: Engine, K: Sink>(
     out: &mut K,
 ) -> u8
     requires runnable { IsRunnable program }
-    requires table { IsLifeTable program lives }
+    requires table { IsSafeTable program lives }
     requires low { limit ≤ 1000000 }
     ensures exact { let outcome = whole_run (setting_of E.gives E.fires E.counts limit program lives) (lines_of script) in
         result ≤ 4 → (K.written out.new ≡ append (K.written out.old) (summary_text number outcome.bytes)) × (result ≡ run_status outcome.ended) }

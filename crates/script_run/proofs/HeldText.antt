@@ -2,15 +2,11 @@
 use Rattle.std.proofs.Common.{◌≡◌, ◌++◌, ℕ, List, [], ◌∷◌, length, refl, sym, ap, ◌∙◌, arith}
 use Rattle.std.specs.List.{flat_map, zip}
 use Rattle.rule_model.specs.declared.program.TypeInfo.{TypeInfo}
-use Rattle.engine.specs.Counts.{event_types}
 use Rattle.script_run.specs.Texts.{held_line, held_text}
 
-no_pairs : (types : List TypeInfo) → zip {K = TypeInfo} {X = ℕ} types [] ≡ []
-no_pairs [] = refl
-no_pairs (ty ∷ types) = refl
-
 no_numbers : (types : List TypeInfo) → held_text types [] ≡ []
-no_numbers types = ap (flat_map (λ (row : TypeInfo × ℕ). held_line row.0.name row.1)) (no_pairs (event_types types))
+no_numbers [] = refl
+no_numbers (ty ∷ types) = refl
 
 -- where no number is left there is no line
 pub none_next : (before : List ℕ) (ty : TypeInfo) (types : List TypeInfo) (numbers : List ℕ) → length numbers ≡ 0

@@ -1,5 +1,6 @@
 ghost use Rattle.std.specs.Prelude.{◌≡◌, ◌≤◌, ◌^◌, length, IfOk};
-ghost use Rattle.session_laws.specs.Counts.{AreCounts, event_types as types_of_events};
+ghost use Rattle.rule_model.specs.Types.{event_types as types_of_events};
+ghost use Rattle.session_laws.specs.Counts.{AreCounts};
 
 use fact_store::FactStore;
 use fx_base::{NoMemory, TypeId};

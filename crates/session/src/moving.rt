@@ -1,15 +1,15 @@
 ghost use Rattle.std.specs.Prelude.{◌≡◌, ◌+◌, ◌<◌, ◌^◌, ◌≤ℤ◌, ◌+ℤ◌, ◌-ℤ◌, ◌==◌, ◌&&◌, not, ℕ, pos, true, false, None, Some, slice_get, is_some, cond, IfOk, OnOk};
+ghost use Rattle.rule_model.specs.Lives.{AreShort, IsShortLife};
 ghost use Rattle.rule_model.specs.declared.step.Step.TheVariants.{Insert, Modify, Retract, At};
 ghost use Rattle.rule_model.specs.Candidates.{is_present};
 ghost use Rattle.rule_model.specs.Types.{is_event};
 ghost use Rattle.rule_world.specs.Events.{end_of_presence, most_millis, times_of};
 ghost use Rattle.rule_world.specs.Programs.{IsRunnable};
 ghost use Rattle.rule_world.specs.Worlds.{with_values, is_of_type, modify_fault, revised as revised_fact};
-ghost use Rattle.rule_lives.specs.Keeping.{AreShort};
 ghost use Rattle.retention.specs.Retentions.{lingers};
 ghost use Rattle.forgetting.specs.Sights.{end_of_life, ends_by};
 ghost use Rattle.session_laws.specs.Leading.{Moves};
-ghost use Rattle.session_laws.specs.Places.{IsNewestTag, IsShort, newest};
+ghost use Rattle.session_laws.specs.Places.{IsNewestTag, newest};
 ghost use Rattle.session_laws.specs.Standing.{Runs, StaysSound};
 ghost use Rattle.session_laws.specs.Waiting.{with_timer, without_timer};
 ghost use Rattle.std.specs.FinMap as map;
@@ -112,7 +112,7 @@ fn past_finite(end: Millis, life: Millis) -> Millis
 
 // The first moment at which an event is past a life, where that ends.
 fn past_from(life: &Life, fact: &Fact) -> Option<Millis>
-    requires short { IsShort life.now }
+    requires short { IsShortLife life.now }
     requires low { (pos 0 -ℤ most_millis) ≤ℤ fact.now.times.end }
     requires high { fact.now.times.end ≤ℤ (most_millis +ℤ most_millis) }
     ensures { result ≡ end_of_life (Some life.now) fact.now }

@@ -1,7 +1,7 @@
 use session_laws::Setting;
 use std::marker::Model;
 
-/// A setting that sessions run: a program that engines run, and the table of its lives.
+/// A setting that sessions run: a program that engines run, and a safe table of lives.
 #[derive(Drop)]
 pub(crate) struct Running {
     inside: Setting,

@@ -39,7 +39,7 @@ pub struct Session {
 }
 
 impl Session {
-    ghost use Rattle.rule_lives.specs.Keeping.{IsLifeTable};
+    ghost use Rattle.rule_lives.specs.Keeping.{IsSafeTable};
     ghost use Rattle.rule_world.specs.Programs.{IsRunnable};
     ghost use Rattle.rule_world.specs.Worlds.{World, empty_world};
     ghost use Rattle.engine.specs.Answers.{FiringAnswers};
@@ -49,10 +49,10 @@ impl Session {
     ghost use Rattle.session_laws.specs.Gives.{gives, fires};
     ghost use Rattle.session.specs.Sessions.{Stands};
 
-    /// An engine in the empty world of a program, with the table of the lives of its types.
+    /// An engine in the empty world of a program, with a safe table of lives.
     pub fn new(alloc: Global, program: Program, lives: LifeTable) -> Result<Session, NoMemory>
         requires runnable { IsRunnable program }
-        requires table { IsLifeTable program lives }
+        requires table { IsSafeTable program lives }
         ensures stands { IfOk result (λ s. Stands s empty_world) }
         ensures program { IfOk result (λ s. s.setting.program ≡ program) }
         ensures table { IfOk result (λ s. s.setting.lives ≡ lives) }

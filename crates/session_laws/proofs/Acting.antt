@@ -16,7 +16,7 @@ use Rattle.rule_model.specs.Planned.{step_of}
 use Rattle.rule_world.specs.Programs.{IsRunnable}
 use Rattle.fx_base.specs.Lists.{In}
 use Rattle.rule_model.specs.Rows.{rows}
-use Rattle.rule_world.specs.Worlds.{World, kept, present, snapshot, pending, first_pending, marked}
+use Rattle.rule_world.specs.Worlds.{World, only_present, present, snapshot, pending, first_pending, marked}
 use Rattle.rule_world.proofs.Acting.{steps_fit}
 use Rattle.rule_world.proofs.Found.{found_fits}
 use Rattle.rule_world.proofs.Fresh.{and_parts}
@@ -52,7 +52,7 @@ asked_step (Some other) step e = cc
 wanted_of : (p : Program) (w : World) (m : Match) → IsRunnable p → IsLawful p w → IsMatchOf p (snapshot w) m → AllFit p w (wanted (present p w) m.row (actions_of (slice_get p.rules m.rule.0)))
 wanted_of p w m runnable l is step i =
     let facts : List Fact = present p w in
-    let v : World = kept p w in
+    let v : World = only_present p w in
     let lawful : IsLawful p v = kept_lawful p w l in
     let j : In (Ok step) (wanted facts m.row is.rule.actions) =
     subst (λ (found : Option Rule). In (Ok step) (wanted facts m.row (actions_of found))) is.there i in

@@ -16,7 +16,7 @@ use Rattle.rule_model.specs.Snapshots.{Snapshot}
 use Rattle.rule_model.specs.Tuples.{name_of}
 use Rattle.rule_model.proofs.Named.{of_filter}
 use Rattle.rule_model.specs.Candidates.{is_present}
-use Rattle.rule_world.specs.Worlds.{World, kept, present, snapshot}
+use Rattle.rule_world.specs.Worlds.{World, only_present, present, snapshot}
 use Rattle.rule_world.proofs.Fresh.{below_of}
 use Rattle.rule_world.proofs.Kept.{kept_matches}
 use Rattle.pair_memory.specs.Standing.{clean}
@@ -53,13 +53,13 @@ clean_matches p s forgotten q =
 -- contents with all present facts have these, and the matches of the world
 module _ (p : Program) (k : Contents) (w : World) (whole : Whole p k w) where
   pub whole_holds : Holds k.facts (present p w)
-  whole_holds = holds p k (kept p w) (exact p k w whole)
+  whole_holds = holds p k (only_present p w) (exact p k w whole)
 
   pub whole_matches : (q : Match) → has_match (matches p (over (facts_of k.facts) k.clock)) q ≡ has_match (matches p (snapshot w)) q
   whole_matches q =
-      let x : Exact p k (kept p w) = exact p k w whole in
+      let x : Exact p k (only_present p w) = exact p k w whole in
       let h : Holds k.facts (present p w) = whole_holds in
-      same_matches p (over (facts_of k.facts) k.clock) (snapshot (kept p w)) (sym x.mirrors.clock) (held_distinct k.facts (own_tags k.facts (present p w) h)) x.lawful.ordered.tags
+      same_matches p (over (facts_of k.facts) k.clock) (snapshot (only_present p w)) (sym x.mirrors.clock) (held_distinct k.facts (own_tags k.facts (present p w) h)) x.lawful.ordered.tags
       (listed k.facts (present p w) h) (all_listed k.facts (present p w) h) p.rules q
       ∙ ap (λ ms. has_match ms q) (kept_matches p w)
 

@@ -5,9 +5,9 @@ use Rattle.fx_base.specs.declared.value.Value.{Value}
 use Rattle.rule_model.specs.declared.program.Program.{Program}
 use Rattle.rule_model.specs.Candidates.{is_present}
 use Rattle.rule_world.specs.Lawful.{IsLawful}
-use Rattle.rule_world.specs.Worlds.{World, kept, settled, with_new, with_revised, without_fact, at_clock}
+use Rattle.rule_world.specs.Worlds.{World, only_present, settled, with_new, with_revised, at_clock, with_retracted}
 use Rattle.rule_world.proofs.Kept.{kept_settled}
-use Rattle.rule_world.proofs.Keeping.{kept_lawful, kept_new, kept_numbers, kept_revised, kept_without, kept_later, with_numbers}
+use Rattle.rule_world.proofs.Keeping.{kept_lawful, kept_new, kept_numbers, kept_revised, kept_without, kept_later, with_numbers, without_fact}
 use Rattle.session_laws.specs.Standing.{Contents, Mirrors, Whole}
 
 -- the contents of a session are those of a lawful world
@@ -15,22 +15,22 @@ pub record Exact (p : Program) (k : Contents) (w : World) : Type 0 where
   pub lawful : IsLawful p w
   pub mirrors : Mirrors p k w
 
-pub exact : (p : Program) (k : Contents) (w : World) → Whole p k w → Exact p k (kept p w)
+pub exact : (p : Program) (k : Contents) (w : World) → Whole p k w → Exact p k (only_present p w)
 exact p k w st = record { lawful = kept_lawful p w st.lawful; mirrors = st.mirrors }
 
 -- ---- what is kept of the next world
 
-pub after_new : (p : Program) (w : World) (f : Fact) → is_present p w.clock f ≡ true → kept p (settled p (with_new p w f)) ≡ settled p (with_new p (kept p w) f)
+pub after_new : (p : Program) (w : World) (f : Fact) → is_present p w.clock f ≡ true → only_present p (settled p (with_new p w f)) ≡ settled p (with_new p (only_present p w) f)
 after_new p w f e = kept_settled p (with_new p w f) ∙ ap (settled p) (kept_new p w f e)
 
-pub after_numbers : (p : Program) (w : World) (f : Fact) → is_present p w.clock f ≡ false → kept p (settled p (with_new p w f)) ≡ settled p (with_numbers p (kept p w) f)
+pub after_numbers : (p : Program) (w : World) (f : Fact) → is_present p w.clock f ≡ false → only_present p (settled p (with_new p w f)) ≡ settled p (with_numbers p (only_present p w) f)
 after_numbers p w f e = kept_settled p (with_new p w f) ∙ ap (settled p) (kept_numbers p w f e)
 
-pub after_revised : (p : Program) (w : World) (id : ℕ) (sets : List (ℕ × Value)) → kept p (settled p (with_revised w id sets)) ≡ settled p (with_revised (kept p w) id sets)
+pub after_revised : (p : Program) (w : World) (id : ℕ) (sets : List (ℕ × Value)) → only_present p (settled p (with_revised w id sets)) ≡ settled p (with_revised (only_present p w) id sets)
 after_revised p w id sets = kept_settled p (with_revised w id sets) ∙ ap (settled p) (kept_revised p w id sets)
 
-pub after_without : (p : Program) (w : World) (ty id : ℕ) → kept p (settled p (without_fact w ty id)) ≡ settled p (without_fact (kept p w) ty id)
-after_without p w ty id = kept_settled p (without_fact w ty id) ∙ ap (settled p) (kept_without p w ty id)
+pub after_without : (p : Program) (w : World) (ty id : ℕ) → only_present p (settled p (with_retracted p w ty id)) ≡ settled p (without_fact (only_present p w) ty id)
+after_without p w ty id = kept_settled p (with_retracted p w ty id) ∙ ap (settled p) (kept_without p w ty id)
 
-pub after_clock : (p : Program) (w : World) (clock : ℤ) → w.clock ≤ℤ clock → kept p (settled p (at_clock w clock)) ≡ settled p (kept p (at_clock (kept p w) clock))
+pub after_clock : (p : Program) (w : World) (clock : ℤ) → w.clock ≤ℤ clock → only_present p (settled p (at_clock w clock)) ≡ settled p (only_present p (at_clock (only_present p w) clock))
 after_clock p w clock le = kept_settled p (at_clock w clock) ∙ ap (settled p) (kept_later p w clock le)

@@ -21,7 +21,7 @@ use Rattle.rule_model.specs.declared.program.Program.{Program}
 use Rattle.rule_model.specs.declared.step.Step.TheVariants.{Insert, Modify, Retract, Advance, At}
 use Rattle.rule_world.specs.Events.{clock_fault, most_millis, new_fault, times_of}
 use Rattle.rule_world.specs.Lawful.{IsLawful}
-use Rattle.rule_world.specs.Worlds.{World, at_clock, kept, is_of_type, moved, retract_fault, settled, step_fault, stepped, with_new, with_revised, without_fact}
+use Rattle.rule_world.specs.Worlds.{World, at_clock, only_present, is_of_type, moved, retract_fault, settled, step_fault, stepped, with_new, with_revised, with_retracted}
 use Rattle.rule_model.specs.Snapshots.{floor, floor_by}
 use Rattle.rule_model.specs.Types.{is_event, is_observed, lateness_of}
 use Rattle.engine.specs.declared.lines.OutLine.TheVariants.{New}
@@ -80,7 +80,7 @@ numbered k ty entry fields times = record {
 
 module _ (s : Setting) (m : Memory) (k : Contents) (w : World) (st : Standing s m k w) where
   -- the numbers of a session are the world's, whatever is forgotten
-  whole : Mirrors s.program (with_facts k st.seen.all) (kept s.program w)
+  whole : Mirrors s.program (with_facts k st.seen.all) (only_present s.program w)
   whole = st.seen.whole.mirrors
 
   module _ (ty : TypeId) (entry : EntryId) (fields : List Value) where
@@ -135,7 +135,7 @@ pub modify_done : (p : Program) (w : World) (id : FactId) (sets : List (ℕ × V
 unfolding stepped moved
 modify_done p w id sets = refl
 
-pub retract_done : (p : Program) (w : World) (ty : TypeId) (id : FactId) → stepped p w (Retract ty id) ≡ settled p (without_fact w ty.0 id.0)
+pub retract_done : (p : Program) (w : World) (ty : TypeId) (id : FactId) → stepped p w (Retract ty id) ≡ settled p (with_retracted p w ty.0 id.0)
 unfolding stepped moved
 retract_done p w ty id = refl
 

@@ -19,7 +19,7 @@ use Rattle.rule_model.specs.Matches.{matches, has_match}
 use Rattle.rule_model.specs.Snapshots.{Snapshot}
 use Rattle.rule_model.specs.Tuples.{name_of}
 use Rattle.rule_model.proofs.Firsts.{or_left, or_split}
-use Rattle.rule_world.specs.Worlds.{World, snapshot, kept}
+use Rattle.rule_world.specs.Worlds.{World, snapshot, only_present}
 use Rattle.rule_world.proofs.Fresh.{below_of}
 use Rattle.rule_world.proofs.Kept.{kept_matches}
 use Rattle.join_tests.specs.Joins.{Look}
@@ -109,14 +109,14 @@ module _ (p : Program) (net : Rete) (k : Contents) (w : World) (seen : Seen p ne
   abbrev s : Snapshot
   s = over (facts_of seen.all) k.clock
 
-  all_exact : Exact p (with_facts k seen.all) (kept p w)
+  all_exact : Exact p (with_facts k seen.all) (only_present p w)
   all_exact = exact p (with_facts k seen.all) w seen.whole
 
-  all_holds : Holds seen.all (kept p w).facts
-  all_holds = holds p (with_facts k seen.all) (kept p w) all_exact
+  all_holds : Holds seen.all (only_present p w).facts
+  all_holds = holds p (with_facts k seen.all) (only_present p w) all_exact
 
   own_all : HaveOwnTags seen.all
-  own_all = own_tags seen.all (kept p w).facts all_holds
+  own_all = own_tags seen.all (only_present p w).facts all_holds
 
   own_store : HaveOwnTags k.facts
   own_store tag f e = own_all tag f (seen.are.held tag f e)
@@ -141,7 +141,7 @@ module _ (p : Program) (net : Rete) (k : Contents) (w : World) (seen : Seen p ne
   -- the snapshot has the matches of the world
   world_matches : (q : Match) → has_match (matches p s) q ≡ has_match (matches p (snapshot w)) q
   world_matches q =
-      same_matches p s (snapshot (kept p w)) (sym seen.whole.mirrors.clock) distinct all_exact.lawful.ordered.tags (listed seen.all (kept p w).facts all_holds) (all_listed seen.all (kept p w).facts all_holds) p.rules q
+      same_matches p s (snapshot (only_present p w)) (sym seen.whole.mirrors.clock) distinct all_exact.lawful.ordered.tags (listed seen.all (only_present p w).facts all_holds) (all_listed seen.all (only_present p w).facts all_holds) p.rules q
       ∙ ap (λ ms. has_match ms q) (kept_matches p w)
 
   -- a row that names nothing forgotten names facts of the store
@@ -217,7 +217,7 @@ module _ (p : Program) (net : Rete) (k : Contents) (w : World) (seen : Seen p ne
         | inr h ↦ (
             let f = old_held k.facts own_store who tags h in
             let i = all_holds.to f.0.tag.0 f.0 (seen.are.held f.0.tag.0 f.0 f.1) in
-            let low : f.0.tag.0 < w.next_tag = below_of w.next_tag (kept p w).facts all_exact.lawful.ordered.fresh f.0 i.0 in
+            let low : f.0.tag.0 < w.next_tag = below_of w.next_tag (only_present p w).facts all_exact.lawful.ordered.fresh f.0 i.0 in
             let same : f.0.tag.0 ≡ who.tag.0 = ap (λ (n : Named). n.tag.0) f.2 in
             let next : k.next_tag ≡ w.next_tag = seen.whole.mirrors.next_tag in
             omega (arith, low, same, next))

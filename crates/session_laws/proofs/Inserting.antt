@@ -21,7 +21,7 @@ use Rattle.rule_model.specs.Types.{is_event}
 use Rattle.rule_model.proofs.Listed.{in_right}
 use Rattle.rule_world.specs.Events.{end_of_presence, most_millis, times_of}
 use Rattle.rule_world.specs.Lawful.{IsLawful}
-use Rattle.rule_world.specs.Worlds.{World, kept, last_start_with, moved, new_fact, present, settled, step_fault, stepped, with_new}
+use Rattle.rule_world.specs.Worlds.{World, only_present, last_start_with, moved, new_fact, present, settled, step_fault, stepped, with_new}
 use Rattle.rule_world.proofs.Fresh.{below_of}
 use Rattle.agenda.specs.Agendas.{Marks}
 use Rattle.rete_net.specs.declared.net.Rete.{Rete}
@@ -193,12 +193,12 @@ module _ (s : Setting) (m : Memory) (k : Contents) (w : World) (st : Standing s 
   unfolding stepped moved
   done = ap (λ g. settled p (with_new p w g)) new_is
 
-  before : Exact p (with_facts k all) (kept p w)
+  before : Exact p (with_facts k all) (only_present p w)
   before = exact p (with_facts k all) w st.seen.whole
 
   -- no fact was at its tag or behind it
   free : map.get all f.tag.0 ≡ None
-  free = next_is_free p (with_facts k all) (kept p w) before f.tag.0 tag
+  free = next_is_free p (with_facts k all) (only_present p w) before f.tag.0 tag
 
   above : (t : ℕ) (g : Fact) → map.get all t ≡ Some g → t < f.tag.0
   above t g e =
@@ -300,8 +300,8 @@ module _ (s : Setting) (m : Memory) (k : Contents) (w : World) (st : Standing s 
       whole_new = record {
         lawful = lawful;
         mirrors =
-            subst (Mirrors p (with_facts t more)) (sym (ap (kept p) done ∙ after_new p w f in_world))
-            (new_moves p (with_facts k all) more expiries starts b f (kept p w) before id tag refl timed last);
+            subst (Mirrors p (with_facts t more)) (sym (ap (only_present p) done ∙ after_new p w f in_world))
+            (new_moves p (with_facts k all) more expiries starts b f (only_present p w) before id tag refl timed last);
       }
 
       leads : Leads p all k.clock more k.clock more [] (Some f)
@@ -353,8 +353,8 @@ module _ (s : Setting) (m : Memory) (k : Contents) (w : World) (st : Standing s 
       whole_numbers = record {
         lawful = lawful;
         mirrors =
-            subst (Mirrors p (with_facts with_its_numbers all)) (sym (ap (kept p) done ∙ after_numbers p w f not_in_world))
-            (numbers_move p (with_facts k all) starts f (kept p w) before last);
+            subst (Mirrors p (with_facts with_its_numbers all)) (sym (ap (only_present p) done ∙ after_numbers p w f not_in_world))
+            (numbers_move p (with_facts k all) starts f (only_present p w) before last);
       }
 
       comes_none : comes p w step ≡ None

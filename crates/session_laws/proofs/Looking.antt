@@ -14,7 +14,7 @@ use Rattle.rule_model.specs.declared.step.Step.TheVariants.{Modify, Retract}
 use Rattle.rule_model.specs.Types.{is_event, is_observed}
 use Rattle.rule_world.specs.declared.code.Code.{Code}
 use Rattle.rule_world.specs.declared.code.Code.TheVariants.{EventObserved, Absent}
-use Rattle.rule_world.specs.Worlds.{World, found, is_of_type, kept, modify_fault, present, retract_fault, step_fault}
+use Rattle.rule_world.specs.Worlds.{World, found, is_of_type, only_present, modify_fault, present, retract_fault, step_fault}
 use Rattle.rule_world.proofs.Found.{fact_in, found_in}
 use Rattle.rule_world.proofs.Fresh.{below_of}
 use Rattle.rule_world.proofs.Ids.{one_id}
@@ -42,16 +42,16 @@ pub record HasForgotten (p : Program) (k : Contents) (w : World) (id : ℕ) : Ty
   pub event : is_event p fact.ty.0 ≡ true
 
 module _ (s : Setting) (m : Memory) (k : Contents) (w : World) (runs : Runs s) (st : Standing s m k w) where
-  whole : Exact s.program (with_facts k st.seen.all) (kept s.program w)
+  whole : Exact s.program (with_facts k st.seen.all) (only_present s.program w)
   whole = exact s.program (with_facts k st.seen.all) w st.seen.whole
 
   all_hold : Holds st.seen.all (present s.program w)
-  all_hold = holds s.program (with_facts k st.seen.all) (kept s.program w) whole
+  all_hold = holds s.program (with_facts k st.seen.all) (only_present s.program w) whole
 
   -- a plain fact is always kept
   plain_kept : (f : Fact) → In f (present s.program w) → is_event s.program f.ty.0 ≡ false → map.get k.facts f.tag.0 ≡ Some f
   plain_kept f i plain =
-      let endless : ends_by s.lives f ≡ None = plain_endless s.program s.lives f runs.table.lives plain in
+      let endless : ends_by s.lives f ≡ None = plain_endless s.program s.lives f runs.table.safe plain in
       st.holds.store f.tag.0
       ∙ ap (only (is_kept_fact (ends_by s.lives) (sight_of s.program w) f.tag.0)) (own_at (present s.program w) whole.lawful.ordered.tags f i)
       ∙ ap (λ (o : Option ℤ). cond (not (has_come w.clock o) || is_needed (sight_of s.program w) f.tag.0) (Some f) None) endless
@@ -60,7 +60,7 @@ module _ (s : Setting) (m : Memory) (k : Contents) (w : World) (runs : Runs s) (
   held_same : (f : Fact) → In f (present s.program w) → (tag : ℕ) (g : Fact) → map.get k.facts tag ≡ Some g → g.id.0 ≡ f.id.0 → (g ≡ f) × (g.tag.0 ≡ tag)
   held_same f i tag g is own =
       let j = all_hold.to tag g (st.seen.are.held tag g is) in
-      (one_id (present s.program w) 1 w.next_id g f whole.lawful.ordered.ids j.0 i own, j.1)
+      (one_id (present s.program w) g f whole.lawful.ordered.ids j.0 i own, j.1)
 
   module _ (id : ℕ) where
     held_newest : (f : Fact) → In f (present s.program w) → f.id.0 ≡ id → map.get k.facts f.tag.0 ≡ Some f → IsNewest k.facts id f
@@ -104,7 +104,7 @@ module _ (s : Setting) (m : Memory) (k : Contents) (w : World) (runs : Runs s) (
         by None e =
             inl (newest_none k.facts id (λ tag g is own.
             let j = all_hold.to tag g (st.seen.are.held tag g is) in
-            let there : found s.program w id ≡ Some g = subst (λ n. found s.program w n ≡ Some g) own (fact_in (present s.program w) 1 w.next_id g whole.lawful.ordered.ids j.0) in
+            let there : found s.program w id ≡ Some g = subst (λ n. found s.program w n ≡ Some g) own (fact_in (present s.program w) g whole.lawful.ordered.ids j.0) in
             absurd (let n : None ≡ Some g = sym e ∙ there in cc)) k.next_tag ∙ sym e)
 
 -- ---- the faults of modifications and retractions

@@ -1,5 +1,6 @@
 -- The facts of a map and those of a list: where both have the same, each at its tag.
 use Rattle.std.proofs.Common.{◌≡◌, ℕ, ◌<◌, ◌==◌, ◌⊎◌, inl, inr, not, ◌&&◌, Bool, true, false, cond, List, [], ◌∷◌, ◌++◌, Option, Some, None, refl, sym, ◌∙◌, ap, subst, arith}
+use Rattle.rule_world.proofs.Keeping.{without, others}
 use Rattle.std.specs.Prelude.{if◌then◌else◌}
 use Rattle.std.specs.FinMap.{get-insert, get-remove, same_map, nat_cmp-IsAntisymmetric}
 use Rattle.std.specs.Cmp.{nat_cmp_total}
@@ -12,16 +13,14 @@ use Rattle.fact_store.specs.Held.{HeldFacts, facts_of, tag_of}
 use Rattle.fact_store.proofs.Members.{from_list, from_map, tags_rise}
 use Rattle.fact_store.proofs.Stored.{tied, itself}
 use Rattle.fx_base.specs.Lists.{In}
-use Rattle.rule_model.specs.Distinct.{HaveDistinctTags}
-use Rattle.rule_world.specs.Lawful.{IdsRise}
-use Rattle.rule_world.specs.Worlds.{has_id, revised, revised_in, without}
+use Rattle.rule_model.specs.Distinct.{HaveDistinctTags, HaveDistinctIds}
+use Rattle.rule_world.specs.Worlds.{has_id, revised, revised_in}
 use Rattle.rule_world.proofs.Fresh.{AllBelow, revise, has_number}
 use Rattle.rule_world.proofs.Ids.{one_id}
 use Rattle.rule_model.proofs.Listed.{in_left, in_right, in_map, of_append, of_map}
 use Rattle.rule_model.proofs.Named.{AllOf, of_filter}
 use Rattle.rule_model.proofs.Once.{one_fact}
 use Rattle.rule_model.proofs.Order.{in_filter, passed}
-use Rattle.rule_world.proofs.Steps.{stays}
 use Rattle.session_laws.specs.Gives.{version_of}
 use Rattle.session_laws.specs.Waiting.{HaveOwnTags}
 use Rattle.session_laws.proofs.Rising.{rising_distinct}
@@ -188,9 +187,9 @@ module _ (held : HeldFacts) (facts : List Fact) (h : Holds held facts) where
     ];
   }
 
-  module _ (low next_id : ℕ) (rise : IdsRise low facts next_id) (d : HaveDistinctTags facts) (f : Fact) (i : In f facts) (id : ℕ) (own : f.id.0 ≡ id) where
+  module _ (ids : HaveDistinctIds facts) (d : HaveDistinctTags facts) (f : Fact) (i : In f facts) (id : ℕ) (own : f.id.0 ≡ id) where
     same : (g : Fact) → In g facts → has_id id g ≡ true → g ≡ f
-    same g j e = one_id facts low next_id g f rise j i (has_number id g e ∙ sym own)
+    same g j e = one_id facts g f ids j i (has_number id g e ∙ sym own)
 
     apart : (g : Fact) → In g facts → has_id id g ≡ false → g.tag.0 ≡ f.tag.0 → ⊥
     apart g j e n = let s : g ≡ f = one_fact facts d g f j i (ap tag_of n) in other_number f.id.0 id own (ap (has_id id) (sym s) ∙ e)
@@ -206,10 +205,10 @@ module _ (held : HeldFacts) (facts : List Fact) (h : Holds held facts) where
     holds_less ty of_type = record {
       to = λ tag g is.
           let j = h.to tag g (of_remove held g f.tag.0 tag is) in
-          (in_filter (stays ty id) g facts (left g tag is (has_id id g) refl) j.0, j.1);
+          (in_filter (others ty id) g facts (left g tag is (has_id id g) refl) j.0, j.1);
       from = λ g j.
-          let k = of_filter (stays ty id) g facts j in
-          not_out held f.tag.0 g.tag.0 (λ n. gone g k n (passed (stays ty id) g facts j)) ∙ h.from g k;
+          let k = of_filter (others ty id) g facts j in
+          not_out held f.tag.0 g.tag.0 (λ n. gone g k n (passed (others ty id) g facts j)) ∙ h.from g k;
     }
       where
         and_no : (a : Bool) → not (a && false) ≡ true
@@ -228,10 +227,10 @@ module _ (held : HeldFacts) (facts : List Fact) (h : Holds held facts) where
         is_id : (m n : ℕ) → m ≡ n → (m == n) ≡ true
         is_id m n e = grind (arith, nat_tests)
 
-        gone : (g : Fact) → In g facts → g.tag.0 ≡ f.tag.0 → stays ty id g ≡ true → ⊥
+        gone : (g : Fact) → In g facts → g.tag.0 ≡ f.tag.0 → others ty id g ≡ true → ⊥
         gone g k n e =
             let s : g ≡ f = one_fact facts d g f k i (ap tag_of n) in
-            two_ways (stays ty id f) (ap (stays ty id) (sym s) ∙ e) (both (f.ty.0 == ty) (has_id id f) of_type (is_id f.id.0 id own))
+            two_ways (others ty id f) (ap (others ty id) (sym s) ∙ e) (both (f.ty.0 == ty) (has_id id f) of_type (is_id f.id.0 id own))
 
     -- its next version is in, with a greater tag
     pub holds_revised : (tag : ℕ) (sets : List (ℕ × Value)) → AllBelow tag facts → Holds (map.insert (map.remove held f.tag.0) tag (revised tag sets f)) (revised_in id tag sets facts)

@@ -11,7 +11,7 @@ use Rattle.row_delta.specs.declared.row.Named.{Named}
 use Rattle.rule_model.specs.declared.program.Program.{Program}
 use Rattle.rule_model.specs.declared.step.Step.{Step}
 use Rattle.rule_model.specs.Tuples.{name_of}
-use Rattle.rule_world.specs.Worlds.{World, kept, present, step_fault, stepped}
+use Rattle.rule_world.specs.Worlds.{World, only_present, present, step_fault, stepped}
 use Rattle.rule_world.proofs.Fresh.{below_of}
 use Rattle.retention.specs.Watching.{Covers}
 use Rattle.forgetting.specs.Sights.{ends_by, ends_of, only}
@@ -120,11 +120,11 @@ module _ (s : Setting) (m : Memory) (k : Contents) (w : World) (st : Standing s 
   abbrev forgotten : Named → Bool
   forgotten = st.seen.forgotten
 
-  pub world_exact : Exact p (with_facts k all) (kept p w)
+  pub world_exact : Exact p (with_facts k all) (only_present p w)
   world_exact = exact p (with_facts k all) w st.seen.whole
 
   pub world_holds : Holds all (present p w)
-  world_holds = holds p (with_facts k all) (kept p w) world_exact
+  world_holds = holds p (with_facts k all) (only_present p w) world_exact
 
   pub world_ready : IsReady p all k.expiries k.clock
   world_ready = whole_ready p (with_facts k all) w st.seen.whole
@@ -151,7 +151,7 @@ module _ (s : Setting) (m : Memory) (k : Contents) (w : World) (st : Standing s 
 
   -- what the network is led to where no rule needs a forgotten fact
   pub leads_on : (step : Step) → Runs s → step_fault p w step ≡ None → (t : Contents) (behind both : HeldFacts) (gone : List ℕ) (come : Option Fact) (more : HeldFacts)
-      → Leads p all k.clock behind t.clock both gone come → Mirrors p (with_facts t behind) (kept p (stepped p w step)) → ((tag : ℕ) → In tag gone → (f : Fact) × (map.get k.facts tag ≡ Some f))
+      → Leads p all k.clock behind t.clock both gone come → Mirrors p (with_facts t behind) (only_present p (stepped p w step)) → ((tag : ℕ) → In tag gone → (f : Fact) × (map.get k.facts tag ≡ Some f))
       → ((f : Fact) → come ≡ Some f → k.next_tag ≤ f.tag.0) → HasAtHand both more gone forgotten → LeadsOn p all k.clock behind t.clock both gone come forgotten more
   leads_on step runs none t behind both gone come more leads mirrors held new hand = record {
     leads = leads;

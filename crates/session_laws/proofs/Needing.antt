@@ -21,7 +21,7 @@ use Rattle.rule_model.specs.Tuples.{name_of, unbound}
 use Rattle.rule_model.proofs.Listed.{both_of}
 use Rattle.rule_model.proofs.Named.{of_filter}
 use Rattle.rule_model.proofs.Order.{Same, passed, rows_over, same_candidates as same_in_order}
-use Rattle.rule_world.specs.Worlds.{World, snapshot, present, kept}
+use Rattle.rule_world.specs.Worlds.{World, snapshot, present, only_present}
 use Rattle.rule_world.proofs.Fresh.{distinct_filtered}
 use Rattle.rule_world.proofs.Kept.{filter_within, filter_same, kept_rows}
 use Rattle.condition_rows.specs.Sets.{rows_of, candidates_of}
@@ -47,9 +47,9 @@ module _ (p : Program) (w : World) (q : Pattern) where
   same_inside (Time span) f = refl
   same_inside (Length count) f = ap (λ n. nat_lt n count) (same_behind f)
 
-  kept_candidates : candidates p q (snapshot (kept p w)) ≡ candidates p q (snapshot w)
+  kept_candidates : candidates p q (snapshot (only_present p w)) ≡ candidates p q (snapshot w)
   kept_candidates =
-      filter_same (is_candidate p q (snapshot (kept p w))) (is_candidate p q (snapshot w)) (present p w) (λ f. ap (λ b. fits p q w.clock f && b) (same_inside q.window f))
+      filter_same (is_candidate p q (snapshot (only_present p w))) (is_candidate p q (snapshot w)) (present p w) (λ f. ap (λ b. fits p q w.clock f && b) (same_inside q.window f))
       ∙ filter_within (is_candidate p q (snapshot w)) (is_present p w.clock) w.facts
       (λ f e. fits_present f (both_of (fits p q w.clock f) (is_inside p q q.window w.clock w.facts f) e).0)
 
@@ -65,7 +65,7 @@ module _ (p : Program) (w : World) (d : HaveDistinctTags w.facts) (stored : Held
   here = over (facts_of stored) clock
 
   abbrev there : Snapshot
-  there = snapshot (kept p w)
+  there = snapshot (only_present p w)
 
   distinct_there : HaveDistinctTags (present p w)
   distinct_there = distinct_filtered (is_present p w.clock) w.facts d

@@ -121,7 +121,7 @@ module _ (s : Setting) (m : Memory) (k : Contents) (w : World) (st : Standing s 
   lost_in_world f i =
       let inside = in_world f i in
       let stored : map.get k.facts f.tag.0 ≡ cond (is_kept s.program s.lives w f) (Some f) None =
-      st.holds.store f.tag.0 ∙ same_kept s.program s.lives w runs.table.lives ordered f.tag.0 ∙ ap (only (is_kept s.program s.lives w)) (own_at w.facts ordered.tags f inside) in
+      st.holds.store f.tag.0 ∙ same_kept s.program s.lives w runs.table.safe ordered f.tag.0 ∙ ap (only (is_kept s.program s.lives w)) (own_at w.facts ordered.tags f inside) in
       not_stored f i
       ∙ ap (λ o. not (is_some o)) stored
       ∙ ap not (chosen (is_kept s.program s.lives w f) f)
@@ -149,7 +149,7 @@ module _ (s : Setting) (m : Memory) (k : Contents) (w : World) (st : Standing s 
     moves = leads_move s.program all behind both k.clock to gone come leads
 
     lawful_step : IsLawfulStep s.program s.lives w step
-    lawful_step = record { flagged = runs.runnable.observed; operators = runs.runnable.operators; lives = runs.table.lives; lawful = st.seen.whole.lawful; faultless = none }
+    lawful_step = record { flagged = runs.runnable.observed; operators = runs.runnable.operators; safe = runs.table.safe; lawful = st.seen.whole.lawful; faultless = none }
 
     next_distinct : HaveDistinctTags next.facts
     next_distinct = tags_behind s.program w step ordered

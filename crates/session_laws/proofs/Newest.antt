@@ -98,7 +98,7 @@ module _ (p : Program) (k : Contents) (w : World) (st : Exact p k w) where
     own = own;
     greatest = λ tag g e h.
         let j = holds.to tag g e in
-        let s : g ≡ f = one_id w.facts 1 w.next_id g f st.lawful.ordered.ids j.0 i (h ∙ sym own) in
+        let s : g ≡ f = one_id w.facts g f st.lawful.ordered.ids j.0 i (h ∙ sym own) in
         let t : tag ≡ f.tag.0 = sym j.1 ∙ ap (λ (z : Fact). z.tag.0) s in
         omega arith;
   }
@@ -114,7 +114,7 @@ module _ (p : Program) (k : Contents) (w : World) (st : Exact p k w) where
       by None e =
           newest_none k.facts id (λ tag g is own.
           let j = holds.to tag g is in
-          let s : fact_of w.facts id ≡ Some g = subst (λ n. fact_of w.facts n ≡ Some g) own (fact_in w.facts 1 w.next_id g st.lawful.ordered.ids j.0) in
+          let s : fact_of w.facts id ≡ Some g = subst (λ n. fact_of w.facts n ≡ Some g) own (fact_in w.facts g st.lawful.ordered.ids j.0) in
           let n : None ≡ Some g = sym e ∙ s in absurd (cc)) k.next_tag ∙ sym e
 
   -- the fact with the newest tag of an id
@@ -123,4 +123,4 @@ module _ (p : Program) (k : Contents) (w : World) (st : Exact p k w) where
     tagged_in = (holds.to is.fact.tag.0 is.fact is.is_newest.found).0
 
     pub tagged_found : fact_of w.facts id ≡ Some is.fact
-    tagged_found = subst (λ n. fact_of w.facts n ≡ Some is.fact) is.is_newest.own (fact_in w.facts 1 w.next_id is.fact st.lawful.ordered.ids tagged_in)
+    tagged_found = subst (λ n. fact_of w.facts n ≡ Some is.fact) is.is_newest.own (fact_in w.facts is.fact st.lawful.ordered.ids tagged_in)

@@ -19,7 +19,7 @@ use Rattle.rule_model.specs.declared.step.Step.TheVariants.{At}
 use Rattle.rule_model.specs.Candidates.{is_present}
 use Rattle.rule_model.specs.Rows.{rows}
 use Rattle.rule_world.specs.Lawful.{IsLawful}
-use Rattle.rule_world.specs.Worlds.{World, at_clock, kept, moved, present, settled, step_fault, stepped}
+use Rattle.rule_world.specs.Worlds.{World, at_clock, only_present, moved, present, settled, step_fault, stepped}
 use Rattle.agenda.specs.Agendas.{Marks}
 use Rattle.condition_rows.specs.Sets.{rows_of}
 use Rattle.pair_memory.specs.Standing.{cleaned}
@@ -93,12 +93,12 @@ module _ (s : Setting) (m : Memory) (k : Contents) (w : World) (st : Standing s 
   passes : w.clock ≤ℤ clock
   passes = subst (λ z. z ≤ℤ clock) st.seen.whole.mirrors.clock le
 
-  kept_is : kept p (stepped p w step) ≡ settled p (kept p (at_clock (kept p w) clock))
+  kept_is : only_present p (stepped p w step) ≡ settled p (only_present p (at_clock (only_present p w) clock))
   unfolding stepped moved
   kept_is = after_clock p w clock passes
 
-  later_mirrors : Mirrors p (with_facts t behind) (kept p (stepped p w step))
-  later_mirrors = subst (Mirrors p (with_facts t behind)) (sym kept_is) (clock_moves p (with_facts k all) (kept p w) clock (world_exact s m k w st) later due takes behind out b)
+  later_mirrors : Mirrors p (with_facts t behind) (only_present p (stepped p w step))
+  later_mirrors = subst (Mirrors p (with_facts t behind)) (sym kept_is) (clock_moves p (with_facts k all) (only_present p w) clock (world_exact s m k w st) later due takes behind out b)
 
   pub later_leads : Leads p all k.clock behind clock all due None
   later_leads = lead_later p all k.expiries k.clock (world_ready s m k w st) clock later due takes behind out le
@@ -113,7 +113,7 @@ module _ (s : Setting) (m : Memory) (k : Contents) (w : World) (st : Standing s 
       let there = later_leads.held tag i in
       let f = there.0 in
       let absent : is_present p clock f ≡ false = absent_by (list_any (nat_eq tag) due) (is_present p clock f) (due_is tag f there.1) (some_in (nat_eq tag) tag due i (its_own tag)) in
-      let endless = expired_endless p s.lives clock f runs.table.lives absent in
+      let endless = expired_endless p s.lives clock f runs.table.safe absent in
       let r = (world_holds s m k w st).to tag f there.1 in
       let seen : fact_at (present p w) tag ≡ Some f = ap (fact_at (present p w)) (sym r.1) ∙ own_at (present p w) (world_exact s m k w st).lawful.ordered.tags f r.0 in
       let held : is_kept_fact (ends_by s.lives) (sight_of p w) tag f ≡ true = ap (λ o. not (has_come w.clock o) || is_needed (sight_of p w) tag) endless in
@@ -131,7 +131,7 @@ module _ (s : Setting) (m : Memory) (k : Contents) (w : World) (st : Standing s 
   later_covered =
       endless_covers (ends_by s.lives) None (goes p w step) clock (holding k m.retention) (holding t m.retention) (covered_at s m k w st clock passes)
       (λ tag f e. absurd (let n : None ≡ Some f = e in cc))
-      (λ tag f e h. expired_endless p s.lives clock f runs.table.lives (not_there (is_present p clock f) h)) later_store refl
+      (λ tag f e h. expired_endless p s.lives clock f runs.table.safe (not_there (is_present p clock f) h)) later_store refl
 
   pub later_awaits : (net : Rete) (gone : ℕ → Bool) → NetStands p net (over (facts_of behind) clock) st.seen.forgotten
       → IsRefreshed p.rules (clean_rows p (over (facts_of all) k.clock) st.seen.forgotten) (clean_rows p (over (facts_of behind) clock) st.seen.forgotten) k.agenda b

@@ -8,7 +8,7 @@ use Rattle.rule_model.specs.Candidates.{is_present}
 use Rattle.rule_model.proofs.Named.{of_filter}
 use Rattle.rule_model.proofs.Order.{passed}
 use Rattle.rule_world.specs.Lawful.{IsLawful}
-use Rattle.rule_world.specs.Worlds.{World, present, kept}
+use Rattle.rule_world.specs.Worlds.{World, present, only_present}
 use Rattle.session_laws.specs.Following.{IsReady}
 use Rattle.session_laws.specs.Standing.{Contents, Whole}
 use Rattle.session_laws.proofs.Exactly.{exact}
@@ -32,7 +32,7 @@ fit_present p w lawful f i =
 module _ (p : Program) (k : Contents) (w : World) (whole : Whole p k w) where
   -- the facts are the present ones of the world
   pub whole_holds : Holds k.facts (present p w)
-  whole_holds = holds p k (kept p w) (exact p k w whole)
+  whole_holds = holds p k (only_present p w) (exact p k w whole)
 
   pub whole_ready : IsReady p k.facts k.expiries k.clock
   whole_ready = record {

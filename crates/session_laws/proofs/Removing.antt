@@ -1,5 +1,6 @@
 -- The fact of an id in the store is the one that the world has; and what a session has taken in its retraction.
 use Rattle.std.proofs.Common.{◌≡◌, ◌∙◌, ◌<◌, ◌==◌, inl, inr, ◌&&◌, not, ℕ, Bool, true, false, nat_eq, [], ◌∷◌, Some, None, refl, sym, ap, subst, arith}
+use Rattle.rule_world.proofs.Keeping.{without_fact}
 use Rattle.std.specs.FinMap as map
 use Rattle.std.specs.List.{list_any}
 use Rattle.std.proofs.Math.Bool.{or-false}
@@ -15,7 +16,7 @@ use Rattle.rule_model.specs.declared.program.Program.{Program}
 use Rattle.rule_model.specs.declared.step.Step.{Step}
 use Rattle.rule_model.specs.declared.step.Step.TheVariants.{Retract}
 use Rattle.rule_world.specs.Lawful.{IsLawful}
-use Rattle.rule_world.specs.Worlds.{World, found, is_of_type, kept, moved, present, settled, step_fault, stepped, without_fact}
+use Rattle.rule_world.specs.Worlds.{World, found, is_of_type, only_present, moved, present, settled, step_fault, stepped}
 use Rattle.rule_world.proofs.Fresh.{below_of}
 use Rattle.rule_world.proofs.Ids.{one_id}
 use Rattle.agenda.specs.Agendas.{Marks}
@@ -69,7 +70,7 @@ module _ (s : Setting) (m : Memory) (k : Contents) (w : World) (st : Standing s 
   -- no other fact has its id
   pub only_one : (t : ℕ) (g : Fact) → map.get all t ≡ Some g → g.id.0 ≡ id.0 → g ≡ f
   only_one t g e own =
-      one_id (present p w) 1 w.next_id g f (world_exact s m k w st).lawful.ordered.ids ((world_holds s m k w st).to t g e).0 in_world (own ∙ sym is.is_newest.own)
+      one_id (present p w) g f (world_exact s m k w st).lawful.ordered.ids ((world_holds s m k w st).to t g e).0 in_world (own ∙ sym is.is_newest.own)
 
   pub all_newest : IsNewestTag all id.0 tag
   all_newest = record {
@@ -98,7 +99,7 @@ module _ (s : Setting) (m : Memory) (k : Contents) (w : World) (st : Standing s 
 
   pub found_is : found p w id.0 ≡ Some f
   unfolding all_newest
-  found_is = tagged_found p (with_facts k all) (kept p w) (world_exact s m k w st) id.0 tag all_newest
+  found_is = tagged_found p (with_facts k all) (only_present p w) (world_exact s m k w st) id.0 tag all_newest
 
   pub at_tag : map.get k.facts tag.0 ≡ Some f
   at_tag = ap (λ (t : Tag). map.get k.facts t.0) (sym is.tagged) ∙ is.is_newest.found
@@ -125,14 +126,14 @@ module _ (s : Setting) (m : Memory) (k : Contents) (w : World) (st : Standing s 
     typed : f.ty.0 ≡ ty.0
     typed = same_number f.ty.0 ty.0 (ap (is_of_type ty.0) (sym newest_is) ∙ of_type)
 
-    kept_is : kept p (stepped p w step) ≡ settled p (without_fact (kept p w) ty.0 id.0)
+    kept_is : only_present p (stepped p w step) ≡ settled p (without_fact (only_present p w) ty.0 id.0)
     unfolding stepped moved
     kept_is = after_without p w ty.0 id.0
 
-    retract_mirrors : Mirrors p (with_facts t behind) (kept p (stepped p w step))
+    retract_mirrors : Mirrors p (with_facts t behind) (only_present p (stepped p w step))
     retract_mirrors =
         subst (Mirrors p (with_facts t behind)) (sym kept_is)
-        (retract_moves p (with_facts k all) b (kept p w) (world_exact s m k w st) id tag all_newest behind refl ty fewer untimed (ap (is_of_type ty.0) all_newest_is ∙ of_type))
+        (retract_moves p (with_facts k all) b (only_present p w) (world_exact s m k w st) id tag all_newest behind refl ty fewer untimed (ap (is_of_type ty.0) all_newest_is ∙ of_type))
 
     retract_leads : Leads p all k.clock behind k.clock all (tag.0 ∷ []) None
     retract_leads = lead_less p all k.expiries k.clock (world_ready s m k w st) behind tag.0 refl f all_at_tag

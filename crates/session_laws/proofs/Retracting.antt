@@ -1,5 +1,6 @@
 -- A retraction of an event that a session does not have: the world has none that is present, or it is forgotten.
 use Rattle.std.proofs.Common.{◌≡◌, ◌∙◌, ◌<◌, ◌==◌, ◌&&◌, ◌≤ℤ◌, not, ℕ, ℤ, Bool, true, false, cond, nat_eq, List, Option, Some, None, inl, refl, sym, ap, subst, arith}
+use Rattle.rule_lives.proofs.Moves.{retracted_is_not_observed}
 use Rattle.std.specs.Prelude.{is_some, slice_get}
 use Rattle.std.specs.List.{filter}
 use Rattle.std.specs.FinMap as map
@@ -20,7 +21,7 @@ use Rattle.rule_model.specs.declared.program.Rule.{Rule}
 use Rattle.rule_model.specs.declared.step.Step.{Step}
 use Rattle.rule_model.specs.declared.step.Step.TheVariants.{Retract}
 use Rattle.rule_model.specs.Candidates.{is_present}
-use Rattle.rule_model.specs.Distinct.{HaveDistinctTags}
+use Rattle.rule_model.specs.Distinct.{HaveDistinctTags, HaveDistinctIds}
 use Rattle.rule_model.specs.Matches.{has_match}
 use Rattle.rule_model.specs.Rows.{pattern_of}
 use Rattle.rule_model.specs.Simple.{is_observed_in}
@@ -31,8 +32,8 @@ use Rattle.rule_model.proofs.Named.{AllOf, of_filter}
 use Rattle.rule_model.proofs.Order.{in_filter, passed}
 use Rattle.rule_model.proofs.RuleOf.{in_place}
 use Rattle.rule_world.specs.Events.{end_by}
-use Rattle.rule_world.specs.Lawful.{IsLawful, IdsRise}
-use Rattle.rule_world.specs.Worlds.{World, found, has_id, is_of_type, kept, present, retract_fault, step_fault, stepped, moved}
+use Rattle.rule_world.specs.Lawful.{IsLawful}
+use Rattle.rule_world.specs.Worlds.{World, found, has_id, is_of_type, only_present, present, retract_fault, step_fault, stepped, moved}
 use Rattle.rule_world.proofs.Found.{found_in}
 use Rattle.rule_world.proofs.Fresh.{and_parts, and_both, below_of, has_number}
 use Rattle.rule_world.proofs.Ids.{one_id}
@@ -41,7 +42,7 @@ use Rattle.rule_lives.proofs.Basics.{not_true, same_number, number_same}
 use Rattle.condition_rows.proofs.Joined.{candidate_named}
 use Rattle.pattern_gate.proofs.Arriving.{is_other}
 use Rattle.keeping.specs.Kept.{is_alive, is_kept}
-use Rattle.keeping.proofs.Staying.{lost_event, not_alive, retracted_is_not_observed}
+use Rattle.keeping.proofs.Staying.{lost_event, not_alive}
 use Rattle.keeping.proofs.Windows.{in_no_window}
 use Rattle.retention.specs.Watching.{Covers}
 use Rattle.rete_net.specs.Forgetting.{IsUnmissed, less_fact}
@@ -68,14 +69,14 @@ use Rattle.session_laws.proofs.Stands.{retract_moves}
 use Rattle.session_laws.proofs.Taken.{taken_awaits}
 
 -- a fact of a map is the newest of its id where the ids of the map's facts differ
-newest_in : (held : HeldFacts) (facts : List Fact) (low next : ℕ) → IdsRise low facts next → ((tag : ℕ) (g : Fact) → map.get held tag ≡ Some g → In g facts × (g.tag.0 ≡ tag))
+newest_in : (held : HeldFacts) (facts : List Fact) → HaveDistinctIds facts → ((tag : ℕ) (g : Fact) → map.get held tag ≡ Some g → In g facts × (g.tag.0 ≡ tag))
     → (id : ℕ) (f : Fact) → In f facts → f.id.0 ≡ id → map.get held f.tag.0 ≡ Some f → IsNewest held id f
-newest_in held facts low next rise inside id f i own at = record {
+newest_in held facts ids inside id f i own at = record {
   found = at;
   own = own;
   greatest = λ tag g e h.
       let j = inside tag g e in
-      let s : g ≡ f = one_id facts low next g f rise j.0 i (h ∙ sym own) in
+      let s : g ≡ f = one_id facts g f ids j.0 i (h ∙ sym own) in
       let t : tag ≡ f.tag.0 = sym j.1 ∙ ap (λ (z : Fact). z.tag.0) s in
       omega arith;
 }
@@ -116,11 +117,11 @@ module _ (s : Setting) (m : Memory) (k : Contents) (w : World) (st : Standing s 
   abbrev Next : Type 0
   Next = Awaits s m k left (stepped p w step)
 
-  whole : Exact p (with_facts k all) (kept p w)
+  whole : Exact p (with_facts k all) (only_present p w)
   whole = exact p (with_facts k all) w st.seen.whole
 
   there : Holds all (present p w)
-  there = holds p (with_facts k all) (kept p w) whole
+  there = holds p (with_facts k all) (only_present p w) whole
 
   held_there : (tag : ℕ) (g : Fact) → map.get k.facts tag ≡ Some g → In g (present p w) × (g.tag.0 ≡ tag)
   held_there tag g e = there.to tag g (st.seen.are.held tag g e)
@@ -135,7 +136,7 @@ module _ (s : Setting) (m : Memory) (k : Contents) (w : World) (st : Standing s 
       let parts = and_parts (g.ty.0 == ty.0) (has_id id.0 g) h in
       let i = held_there tag g e in
       let is : IsNewest k.facts id.0 g =
-      newest_in k.facts (present p w) 1 w.next_id whole.lawful.ordered.ids held_there id.0 g i.0 (has_number id.0 g parts.1) (ap (map.get k.facts) i.1 ∙ e) in
+      newest_in k.facts (present p w) whole.lawful.ordered.ids held_there id.0 g i.0 (has_number id.0 g parts.1) (ap (map.get k.facts) i.1 ∙ e) in
       let low : g.tag.0 < w.next_tag = below_of w.next_tag (present p w) whole.lawful.ordered.fresh g i.0 in
       let is_found : newest k id.0 ≡ Some g = newest_found k.facts id.0 g is k.next_tag (subst (λ n. g.tag.0 < n) (sym whole.mirrors.next_tag) low) in
       let n : true ≡ false = sym parts.0 ∙ ap (is_of_type ty.0) (sym is_found) ∙ absent in
@@ -152,7 +153,7 @@ module _ (s : Setting) (m : Memory) (k : Contents) (w : World) (st : Standing s 
   covered = later_covers (ends_by s.lives) (sight_of p w) k.clock (holding k m.retention) st.holds on_time
 
   -- so its parts are those behind the first phase, where these are the present facts of the next world
-  awaits : (next : HeldFacts) → Mirrors p (with_facts k next) (kept p (stepped p w step)) → AreForgotten k next st.seen.forgotten
+  awaits : (next : HeldFacts) → Mirrors p (with_facts k next) (only_present p (stepped p w step)) → AreForgotten k next st.seen.forgotten
       → ((tag : ℕ) (f : Fact) → map.get next tag ≡ Some f → map.get all tag ≡ Some f) → NetStands p m.net (over (facts_of next) k.clock) st.seen.forgotten
       → ((place : ℕ) (rule : Rule) → slice_get p.rules place ≡ Some rule → (row : Row)
       → has (clean_rows p (over (facts_of next) k.clock) st.seen.forgotten rule) row ≡ has (clean_rows p (over (facts_of all) k.clock) st.seen.forgotten rule) row)
@@ -172,9 +173,8 @@ module _ (s : Setting) (m : Memory) (k : Contents) (w : World) (st : Standing s 
 
   -- ---- the world has no such fact that is present
 
-  same_kept_world : is_of_type ty.0 (found p w id.0) ≡ false → kept p (stepped p w step) ≡ kept p w
-  unfolding stepped moved
-  same_kept_world e = after_without p w ty.0 id.0 ∙ vain_retraction p (kept p w) ty id whole.lawful.ordered e
+  same_kept_world : is_of_type ty.0 (found p w id.0) ≡ false → only_present p (stepped p w step) ≡ only_present p w
+  same_kept_world e = ap (only_present p) (vain_retraction p w ty id st.seen.whole.lawful.ordered e)
 
   in_vain : is_of_type ty.0 (found p w id.0) ≡ false → Next
   in_vain e = awaits all (subst (Mirrors p (with_facts k all)) (sym (same_kept_world e)) whole.mirrors) st.seen.are (λ tag f h. h) st.seen.stands (λ place rule at row. refl)
@@ -211,21 +211,21 @@ module _ (s : Setting) (m : Memory) (k : Contents) (w : World) (st : Standing s 
 
     not_kept : is_kept p s.lives w f ≡ false
     not_kept = not_chosen (is_kept p s.lives w f) f
-        (sym free ∙ st.holds.store f.tag.0 ∙ same_kept p s.lives w runs.table.lives st.seen.whole.lawful.ordered f.tag.0
+        (sym free ∙ st.holds.store f.tag.0 ∙ same_kept p s.lives w runs.table.safe st.seen.whole.lawful.ordered f.tag.0
         ∙ ap (only (is_kept p s.lives w)) (own_at w.facts st.seen.whole.lawful.ordered.tags f inside))
 
     event : is_event p f.ty.0 ≡ true
-    event = lost_event p s.lives w runs.table.lives f not_kept
+    event = lost_event p s.lives w runs.table.safe f not_kept
 
     -- it has no explicit expiry, since it is present
     lasting : expiry_of p f.ty.0 ≡ None
-    lasting = by (slice_get s.lives.lives f.ty.0) refl (not_alive p s.lives w runs.table.lives f not_kept)
+    lasting = by (slice_get s.lives.lives f.ty.0) refl (not_alive p s.lives w runs.table.safe f not_kept)
       where
         by : (life : Option Life) → slice_get s.lives.lives f.ty.0 ≡ life → is_alive p life w.clock f ≡ false → expiry_of p f.ty.0 ≡ None
         by None at e = absurd (let n : true ≡ false = e in cc)
         by (Some Plain) at e = absurd (let n : true ≡ false = e in cc)
         by (Some (Explicit expiry)) at e = two_ways (is_present p w.clock f) (passed (is_present p w.clock) f w.facts here.0) e
-        by (Some (Finite n)) at e = (runs.table.lives.each f.ty.0 (Finite n) at).unexpired
+        by (Some (Finite n)) at e = (runs.table.safe.each f.ty.0 (Finite n) at).1.unexpired
         by (Some Infinite) at e = absurd (let n : true ≡ false = e in cc)
 
     no_fault : retract_fault p ty.0 (found p w id.0) ≡ None
@@ -255,7 +255,7 @@ module _ (s : Setting) (m : Memory) (k : Contents) (w : World) (st : Standing s 
       unobserved = unobserved;
       outside = λ rule in_rules c in_c span at.
           candidate_named p was distinct (pattern_of c) f listed
-          ∙ in_no_window p s.lives w runs.table.lives st.seen.whole.lawful f inside not_kept rule in_rules c in_c span at was on_time;
+          ∙ in_no_window p s.lives w runs.table.safe st.seen.whole.lawful f inside not_kept rule in_rules c in_c span at was on_time;
       lasting = lasting;
     }
 
@@ -302,16 +302,16 @@ module _ (s : Setting) (m : Memory) (k : Contents) (w : World) (st : Standing s 
         by false e = refl
 
     abbrev is_newest : IsNewestTag all id.0 f.tag
-    is_newest = record { fact = f; is_newest = newest_in all (present p w) 1 w.next_id whole.lawful.ordered.ids there.to id.0 f here.0 here.1 at_tag; tagged = refl }
+    is_newest = record { fact = f; is_newest = newest_in all (present p w) whole.lawful.ordered.ids there.to id.0 f here.0 here.1 at_tag; tagged = refl }
 
     is_of : is_of_type ty.0 (newest (with_facts k all) id.0) ≡ true
-    is_of = ap (is_of_type ty.0) (world_found p (with_facts k all) (kept p w) whole id.0 ∙ is) ∙ typed
+    is_of = ap (is_of_type ty.0) (world_found p (with_facts k all) (only_present p w) whole id.0 ∙ is) ∙ typed
 
-    mirrors_next : Mirrors p (with_facts k next) (kept p (stepped p w step))
+    mirrors_next : Mirrors p (with_facts k next) (only_present p (stepped p w step))
     unfolding stepped moved
     mirrors_next =
         subst (Mirrors p (with_facts k next)) (sym (after_without p w ty.0 id.0))
-        (retract_moves p (with_facts k all) k.agenda (kept p w) whole id f.tag is_newest next refl ty k.expiries same_timers is_of)
+        (retract_moves p (with_facts k all) k.agenda (only_present p w) whole id f.tag is_newest next refl ty k.expiries same_timers is_of)
 
     are_next : AreForgotten k next st.seen.forgotten
     are_next = record {

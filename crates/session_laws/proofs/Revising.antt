@@ -15,7 +15,7 @@ use Rattle.rule_model.specs.declared.step.Step.{Step}
 use Rattle.rule_model.specs.declared.step.Step.TheVariants.{Modify}
 use Rattle.rule_model.specs.Types.{is_event}
 use Rattle.rule_world.specs.Lawful.{IsLawful}
-use Rattle.rule_world.specs.Worlds.{World, has_id, kept, modify_fault, moved, revised, settled, step_fault, stepped, with_revised}
+use Rattle.rule_world.specs.Worlds.{World, has_id, only_present, modify_fault, moved, revised, settled, step_fault, stepped, with_revised}
 use Rattle.agenda.specs.Agendas.{Marks}
 use Rattle.rete_net.specs.Nets.{NetStands, clean_rows}
 use Rattle.rete_net.specs.declared.net.Rete.{Rete}
@@ -110,14 +110,14 @@ module _ (s : Setting) (m : Memory) (k : Contents) (w : World) (st : Standing s 
     out_below : tag.0 < after.tag.0
     out_below = above tag.0 before before_there
 
-    kept_is : kept p (stepped p w step) ≡ settled p (with_revised (kept p w) id.0 sets)
+    kept_is : only_present p (stepped p w step) ≡ settled p (with_revised (only_present p w) id.0 sets)
     unfolding stepped moved
     kept_is = after_revised p w id.0 sets
 
-    modify_mirrors : Mirrors p (with_facts (t others) behind) (kept p (stepped p w step))
+    modify_mirrors : Mirrors p (with_facts (t others) behind) (only_present p (stepped p w step))
     modify_mirrors =
         subst (Mirrors p (with_facts (t others) behind)) (sym kept_is)
-        (modify_moves p (with_facts k all) b (kept p w) (world_exact s m k w st) id tag (all_newest s m k w st id tag is) sets before after both behind (sym before_there)
+        (modify_moves p (with_facts k all) b (only_present p w) (world_exact s m k w st) id tag (all_newest s m k w st id tag is) sets before after both behind (sym before_there)
         (ap (modify_fault p) (all_newest_is s m k w st id tag is) ∙ plain) after_is refl refl)
 
     modify_leads : Leads p all k.clock behind k.clock both (tag.0 ∷ []) (Some after)
@@ -175,7 +175,7 @@ module _ (s : Setting) (m : Memory) (k : Contents) (w : World) (st : Standing s 
 
     modify_covered : Covers (ends_of (ends_by s.lives) (map.get others)) k.clock m.retention
     modify_covered =
-        let endless = modify_endless p s.lives w id sets runs.table.lives st.seen.whole.lawful.ordered none in
+        let endless = modify_endless p s.lives w id sets runs.table.safe st.seen.whole.lawful.ordered none in
         endless_covers (ends_by s.lives) (comes p w step) (goes p w step) k.clock (holding k m.retention) (holding (t others) m.retention) (covered_at s m k w st k.clock (on_time s m k w st))
         (λ u g e. fresh u g endless.0 (after.tag.0 == u) refl (ap (λ o. brought o u) (sym comes_is) ∙ e))
         (λ u g e h. endless.1 u g (store_seen s m k w st u g e) h) modify_store refl

@@ -19,10 +19,10 @@ use Rattle.rule_model.proofs.Order.{in_filter, passed}
 use Rattle.rule_world.specs.declared.code.Code.{Code}
 use Rattle.rule_world.specs.declared.code.Code.TheVariants.{EventFixed}
 use Rattle.rule_world.specs.Events.{end_of_presence}
-use Rattle.rule_world.specs.Worlds.{World, at_clock, kept, modify_fault, is_of_type, last_start_with, moved, revised, revised_in, settled, with_new, with_revised, without, without_fact}
+use Rattle.rule_world.specs.Worlds.{World, at_clock, only_present, modify_fault, is_of_type, last_start_with, moved, revised, revised_in, settled, with_new, with_revised}
 use Rattle.rule_world.proofs.Fresh.{AllBelow, below_of, distinct_more, distinct_filtered}
-use Rattle.rule_world.proofs.Keeping.{with_numbers}
-use Rattle.rule_world.proofs.Steps.{move_numbered, numbered, stays}
+use Rattle.rule_world.proofs.Keeping.{with_numbers, without, without_fact, others}
+use Rattle.rule_world.proofs.Steps.{move_numbered, numbered}
 use Rattle.agenda.specs.Agendas.{Marks}
 use Rattle.session_laws.specs.Places.{IsNewestTag, newest}
 use Rattle.session_laws.specs.Waiting.{with_timer, without_timer, left_at}
@@ -106,8 +106,8 @@ module _ (p : Program) (k : Contents) (b : Marks) (f : Fact) where
   retract_out w st i ty id fewer untimed same of_type =
       let m = st.mirrors in
       let o = st.lawful.ordered in
-      let tags : HaveDistinctTags (without ty.0 id.0 w.facts) = distinct_filtered (stays ty.0 id.0) w.facts o.tags in
-      let left : Holds rest (without ty.0 id.0 w.facts) = holds_less k.facts w.facts (holds p k w st) 1 w.next_id o.ids o.tags f i id.0 same ty.0 of_type in
+      let tags : HaveDistinctTags (without ty.0 id.0 w.facts) = distinct_filtered (others ty.0 id.0) w.facts o.tags in
+      let left : Holds rest (without ty.0 id.0 w.facts) = holds_less k.facts w.facts (holds p k w st) o.ids o.tags f i id.0 same ty.0 of_type in
       record {
         facts = versions rest (without ty.0 id.0 w.facts) left tags;
         waits = timed_less p k.facts k.expiries m.waits f.tag.0 fewer untimed;
@@ -131,7 +131,7 @@ module _ (p : Program) (k : Contents) (b : Marks) (f : Fact) where
       let h : Holds k.facts w.facts = holds p k v s in
       let facts : List Fact = revised_in id.0 k.next_tag sets w.facts in
       let below : AllBelow k.next_tag w.facts = below_of k.next_tag w.facts o.fresh in
-      let more : Holds (map.insert rest k.next_tag g) facts = holds_revised k.facts w.facts h 1 k.next_id o.ids o.tags f i id.0 same k.next_tag sets below in
+      let more : Holds (map.insert rest k.next_tag g) facts = holds_revised k.facts w.facts h o.ids o.tags f i id.0 same k.next_tag sets below in
       let tags : HaveDistinctTags facts = (move_numbered p v (Modify id sets) (numbered p v o)).tags in
       record {
         facts = versions (map.insert rest k.next_tag g) facts more tags;
@@ -219,7 +219,7 @@ module _ (p : Program) (k : Contents) (w : World) (clock : ℤ) (st : Exact p k 
   distinct_after : HaveDistinctTags still_there
   distinct_after = distinct_filtered (is_present p clock) w.facts st.lawful.ordered.tags
 
-  pub clock_moves : (b : Marks) → Mirrors p (contents fewer later clock k.last_starts b k.next_id k.next_tag) (settled p (kept p (at_clock w clock)))
+  pub clock_moves : (b : Marks) → Mirrors p (contents fewer later clock k.last_starts b k.next_id k.next_tag) (settled p (only_present p (at_clock w clock)))
   clock_moves b =
       let m = st.mirrors in
       record {

@@ -52,7 +52,7 @@ module _ (s : Setting) (m : Memory) (k : Contents) (w : World) (st : Standing s 
   new = clean_rows s.program (over (facts_of taken.all) t.clock) st.seen.forgotten
 
   lawful_step : IsLawfulStep s.program s.lives w step
-  lawful_step = record { flagged = runs.runnable.observed; operators = runs.runnable.operators; lives = runs.table.lives; lawful = st.seen.whole.lawful; faultless = none }
+  lawful_step = record { flagged = runs.runnable.observed; operators = runs.runnable.operators; safe = runs.table.safe; lawful = st.seen.whole.lawful; faultless = none }
 
   -- their matches are those of the worlds that name nothing forgotten
   was_match : (q : Match) → has_match (matches_by old s.program.rules) q ≡ (has_match (matches s.program (snapshot w)) q && is_clean lives sight q)

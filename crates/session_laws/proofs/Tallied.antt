@@ -1,5 +1,9 @@
 -- What a store counts by types is what is kept of each world for which the session stands.
-use Rattle.std.proofs.Common.{◌≡◌, ◌∙◌, sym, ap, refl, ℕ, ◌+◌, ◌<◌, ◌≤◌, ◌==◌, ◌&&◌, ◌||◌, inl, inr, List, [], ◌∷◌, map, length, Bool, true, false, cond, Option, Some, None, arith}
+use Rattle.std.proofs.Common.{◌≡◌, ◌∙◌, sym, ap, refl, ℕ, ◌+◌, ◌<◌, ◌≤◌, ◌==◌, ◌&&◌, ◌||◌, inl, inr, List, [], ◌∷◌, map, length, Bool, true, false, cond, Option, Some, None, arith, subst}
+use Rattle.rule_model.specs.Types.{event_types}
+use Rattle.rule_model.specs.Distinct.{HaveDistinctIds}
+use Rattle.rule_model.proofs.Listed.{in_map}
+use Rattle.fx_base.specs.declared.ids.FactId.{FactId}
 use Rattle.std.specs.Prelude.{nat_eq}
 use Rattle.std.specs.List.{list_any, IsDistinct, AllByRecursion, filter}
 use Rattle.std.specs.FinMap as map_of
@@ -17,18 +21,17 @@ use Rattle.rule_model.specs.declared.program.Program.{Program}
 use Rattle.rule_model.specs.declared.program.TypeInfo.{TypeInfo}
 use Rattle.rule_model.proofs.Named.{of_filter}
 use Rattle.rule_model.proofs.Order.{in_filter, passed}
-use Rattle.rule_world.specs.Lawful.{IdsRise}
 use Rattle.rule_world.specs.Worlds.{World}
-use Rattle.rule_world.proofs.Ids.{id_from, ids_filtered}
+use Rattle.rule_world.proofs.Ids.{ids_filtered, id_of, numbered}
 use Rattle.keeping.specs.Kept.{is_kept, kept_facts}
 use Rattle.forgetting.specs.Sights.{only}
 use Rattle.forgetting.specs.WorldSights.{fact_at}
 use Rattle.forgetting.proofs.Agreeing.{same_kept}
 use Rattle.forgetting.proofs.Seeing.{at_filter, fact_in, own_at}
-use Rattle.engine.specs.Counts.{HasEach, event_types as types_of_events}
+use Rattle.engine.specs.Counts.{HasEach}
 use Rattle.session_laws.specs.declared.memory.Memory.{Memory}
 use Rattle.session_laws.specs.declared.setting.Setting.{Setting}
-use Rattle.session_laws.specs.Counts.{AreCounts, event_types, facts_of_type, held_counts}
+use Rattle.session_laws.specs.Counts.{AreCounts, facts_of_type, held_counts}
 use Rattle.session_laws.specs.Standing.{Contents, Runs, Standing}
 use Rattle.session_laws.proofs.Members.{Holds}
 
@@ -37,21 +40,21 @@ use Rattle.session_laws.proofs.Members.{Holds}
 abbrev ids_of : List Fact → List ℕ
 ids_of facts = map (λ (f : Fact). f.id.0) facts
 
-not_less : (m n : ℕ) → m < n → nat_eq m n ≡ false
-not_less m n lt = grind (arith, nat_tests)
+differ : (m n : ℕ) → (m ≡ n → ⊥) → nat_eq m n ≡ false
+differ m n other = grind (arith, nat_tests)
 
--- an id below those of all facts is apart from them
-apart_from : (id : ℕ) (facts : List Fact) → ((f : Fact) → In f facts → id < f.id.0) → AllByRecursion (λ y. nat_eq id y ≡ false) (ids_of facts)
-apart_from id [] below = tt
-apart_from id (f ∷ facts) below = (not_less id f.id.0 (below f (inl refl)), apart_from id facts (λ g i. below g (inr i)))
+-- an id that no fact has is apart from theirs
+apart_from : (id : ℕ) (facts : List Fact) → ((f : Fact) → In f facts → id ≡ f.id.0 → ⊥) → AllByRecursion (λ y. nat_eq id y ≡ false) (ids_of facts)
+apart_from id [] other = tt
+apart_from id (f ∷ facts) other = (differ id f.id.0 (other f (inl refl)), apart_from id facts (λ g i. other g (inr i)))
 
--- ids that rise stand once
-once_each : (facts : List Fact) (low next : ℕ) → IdsRise low facts next → IsDistinct nat_eq (ids_of facts)
+-- ids that are distinct stand once
+once_each : (facts : List Fact) → HaveDistinctIds facts → IsDistinct nat_eq (ids_of facts)
 unfolding IsDistinct
-once_each [] low next r = tt
-once_each (f ∷ facts) low next r = (
-  apart_from f.id.0 facts (λ g i. let k : f.id.0 + 1 ≤ g.id.0 = id_from facts (f.id.0 + 1) next g r.1 i in omega arith),
-  once_each facts (f.id.0 + 1) next r.1,
+once_each [] d = tt
+once_each (f ∷ facts) d = (
+  apart_from f.id.0 facts (λ g i e. d.0 (subst (λ (id : FactId). In id (map id_of facts)) (ap numbered (sym e)) (in_map id_of g facts i))),
+  once_each facts d.1,
 )
 
 -- an id among those of facts is that of one of them
@@ -83,10 +86,10 @@ same_length held xs ys are_x are_y =
     length-from_same_keys nat_equiv xs ys are_x.once are_y.once
     (λ q. alike (list_any (nat_eq q) xs) (list_any (nat_eq q) ys) (λ e. let t = are_x.some q e in are_y.all q t.0 t.1) (λ e. let t = are_y.some q e in are_x.all q t.0 t.1))
 
-module _ (held : HeldFacts) (facts : List Fact) (h : Holds held facts) (low next : ℕ) (rise : IdsRise low facts next) where
+module _ (held : HeldFacts) (facts : List Fact) (h : Holds held facts) (ids : HaveDistinctIds facts) where
   of_type : (ty : ℕ) → AreIds (λ id tag. is_of ty id (map_of.get held tag)) (ids_of (facts_of_type ty facts))
   of_type ty = record {
-    once = once_each (facts_of_type ty facts) low next (ids_filtered (λ (f : Fact). f.ty.0 == ty) facts low next rise);
+    once = once_each (facts_of_type ty facts) (ids_filtered (λ (f : Fact). f.ty.0 == ty) facts ids);
     some = λ id e.
         let f = one_has id (facts_of_type ty facts) e in (
           f.0.tag.0,
@@ -128,12 +131,12 @@ module _ (s : Setting) (m : Memory) (k : Contents) (runs : Runs s) (w : World) (
   }
     where
       at : (tag : ℕ) → map_of.get k.facts tag ≡ only test (fact_at w.facts tag)
-      at tag = st.holds.store tag ∙ same_kept s.program s.lives w runs.table.lives st.seen.whole.lawful.ordered tag
+      at tag = st.holds.store tag ∙ same_kept s.program s.lives w runs.table.safe st.seen.whole.lawful.ordered tag
 
   pub kept_counted : (counts : List ℕ) → AreCounts k.facts (event_types s.program.types 0) counts → counts ≡ held_counts s.program s.lives w
   unfolding held_counts
   kept_counted counts are =
-      all_counted k.facts (kept_facts s.program s.lives w) holds_kept 1 w.next_id (ids_filtered test w.facts 1 w.next_id st.seen.whole.lawful.ordered.ids) (event_types s.program.types 0) counts are
+      all_counted k.facts (kept_facts s.program s.lives w) holds_kept (ids_filtered test w.facts st.seen.whole.lawful.ordered.ids) (event_types s.program.types 0) counts are
 
 -- ---- the number of counts
 
@@ -143,15 +146,5 @@ as_many held [] (count ∷ counts) are = absurd are
 as_many held (ty ∷ types) [] are = absurd are
 as_many held (ty ∷ types) (count ∷ counts) are = let e = as_many held types counts are.1 in omega (arith, e)
 
-by_places : (types : List TypeInfo) (place : ℕ) → length (event_types types place) ≡ length (types_of_events types)
-by_places [] place = refl
-by_places (ty ∷ types) place = by ty.event (by_places types (place + 1))
-  where
-    by : (b : Bool) → length (event_types types (place + 1)) ≡ length (types_of_events types)
-        → length (cond b (record { 0 = place } ∷ event_types types (place + 1)) (event_types types (place + 1))) ≡ length (cond b (ty ∷ types_of_events types) (types_of_events types))
-    by true e = omega (arith, e)
-    by false e = e
-
--- there is one for each event type
 pub each_counted : (p : Program) (held : HeldFacts) (counts : List ℕ) → AreCounts held (event_types p.types 0) counts → HasEach p counts
-each_counted p held counts are = as_many held (event_types p.types 0) counts are ∙ by_places p.types 0
+each_counted p held counts are = as_many held (event_types p.types 0) counts are

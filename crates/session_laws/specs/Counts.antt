@@ -1,19 +1,14 @@
 -- How many events of each event type of a program are kept: of a store by the ids of its facts, of a world by the facts that are kept of it.
 use Rattle.std.specs.Prelude.{◌+◌, ◌==◌, ℕ, List, [], ◌∷◌, map, length, if◌then◌else◌}
+use Rattle.rule_model.specs.Types.{event_types}
 use Rattle.std.specs.List.{filter}
 use Rattle.fx_base.specs.declared.fact.Fact.{Fact}
 use Rattle.fx_base.specs.declared.ids.TypeId.{TypeId}
 use Rattle.fact_store.specs.Held.{HeldFacts, CountsType}
 use Rattle.rule_model.specs.declared.life.LifeTable.{LifeTable}
 use Rattle.rule_model.specs.declared.program.Program.{Program}
-use Rattle.rule_model.specs.declared.program.TypeInfo.{TypeInfo}
 use Rattle.rule_world.specs.Worlds.{World}
 use Rattle.keeping.specs.Kept.{kept_facts}
-
--- the event types among these, by their places, of which this is the first
-abbrev pub event_types : List TypeInfo → ℕ → List TypeId
-event_types [] place = []
-event_types (ty ∷ types) place = if ty.event then (record { 0 = place }) ∷ event_types types (place + 1) else event_types types (place + 1)
 
 -- ---- of a world
 

@@ -47,13 +47,6 @@ pub record IsSafe (facts : HeldFacts) (expiries : Timers) (clock : ℤ) (next_id
 
 -- ---- times
 
--- a finite life is from 0 to 2^62 ms
-abbrev pub IsShort : Life → Type 0
-IsShort Plain = Unit {0}
-IsShort (Explicit expiry) = Unit {0}
-IsShort (Finite n) = (pos 0 ≤ℤ n) × (n ≤ℤ pos (2 ^ 62))
-IsShort Infinite = Unit {0}
-
 -- the floor of an entry point, by the last starts that are kept
 abbrev pub floor_in : Program → List ℤ → ℤ → ℕ → ℤ
 floor_in p starts clock entry = floor_by (lateness_of p entry) (last_start_in starts entry) clock

@@ -12,8 +12,8 @@ use Rattle.rule_model.specs.Tuples.{name_of}
 use Rattle.rule_world.specs.Lawful.{IsLawful}
 use Rattle.rule_world.specs.Programs.{IsRunnable}
 use Rattle.rule_world.specs.Events.{end_of_presence}
-use Rattle.rule_world.specs.Worlds.{World, snapshot, kept}
-use Rattle.rule_lives.specs.Keeping.{IsLifeTable}
+use Rattle.rule_world.specs.Worlds.{World, snapshot, only_present}
+use Rattle.rule_lives.specs.Keeping.{IsSafeTable}
 use Rattle.agenda.specs.Agendas.{Marks}
 use Rattle.pair_memory.specs.Standing.{clean}
 use Rattle.rete_net.specs.declared.net.Rete.{Rete}
@@ -65,7 +65,7 @@ pub record Mirrors (p : Program) (k : Contents) (w : World) : Type 0 where
 -- the contents are those of a lawful world with all of its present facts, also those that are forgotten
 pub record Whole (p : Program) (k : Contents) (w : World) : Type 0 where
   pub lawful : IsLawful p w
-  pub mirrors : Mirrors p k (kept p w)
+  pub mirrors : Mirrors p k (only_present p w)
 
 -- contents with these facts in the place of their own
 abbrev pub with_facts : Contents → HeldFacts → Contents
@@ -105,10 +105,10 @@ pub record Awaits (s : Setting) (m : Memory) (k : Contents) (left : ℕ → Bool
   pub fired : (q : Match) → has_match k.agenda.fired q ≡ true → (has_match (matches s.program (snapshot w)) q ≡ true) × (clean seen.forgotten q.row ≡ true)
   pub finishes : (after : Holding) (old : ℕ → Bool) → Forgets w.clock left (holding k m.retention) after old → HoldsKept (ends_by s.lives) (sight_of s.program w) after
 
--- what a session runs: a program that engines run, and the table of its lives
+-- what a session runs: a program that engines run, and a safe table of lives
 pub record Runs (s : Setting) : Type 0 where
   pub runnable : IsRunnable s.program
-  pub table : IsLifeTable s.program s.lives
+  pub table : IsSafeTable s.program s.lives
 
 -- each of these matches is of one of so many rules
 abbrev pub AreOfRules : ℕ → List Match → Type 0

@@ -1,5 +1,5 @@
 use Rattle.std.proofs.Common.{◌≡◌, ◌++◌, drop}
-use Rattle.session_laws.specs.Counts.{event_types}
+use Rattle.rule_model.specs.Types.{event_types}
 use Rattle.session.proofs.counting.event_types.Given as goal
 
 abbrev pub invariant-loop-place : goal.invariant-loop-place
