@@ -5,7 +5,6 @@ use Rattle.std.specs.List.{flat_map, list_any}
 use Rattle.rule_model.specs.declared.program.Program.{Program}
 use Rattle.rule_model.specs.declared.program.TypeInfo.{TypeInfo}
 use Rattle.rule_model.specs.declared.program.Rule.{Rule}
-use Rattle.engine.specs.Counts.{event_types}
 use Rattle.engine.specs.declared.lines.OutLine.{OutLine}
 use Rattle.engine.specs.declared.lines.OutLine.TheVariants.{New, Fire, Fault}
 use Rattle.engine.specs.declared.lines.Cell.{Cell}
@@ -73,6 +72,9 @@ has_fault lines = list_any is_fault lines
 abbrev pub held_line : List ℕ → ℕ → List ℕ
 held_line name number = codes "held " ++ name ++ codes " " ++ decimal number ++ 10 ∷ []
 
--- so many of each event type, in their order
+-- so many of each event type, in their order: each takes the next number
 abbrev pub held_text : List TypeInfo → List ℕ → List ℕ
-held_text types numbers = flat_map (λ (row : TypeInfo × ℕ). held_line row.0.name row.1) (zip (event_types types) numbers)
+held_text [] numbers = []
+held_text (ty ∷ types) [] = []
+held_text (ty ∷ types) (number ∷ numbers) = if ty.event then held_line ty.name number ++ held_text types numbers else held_text types (number ∷ numbers)
+

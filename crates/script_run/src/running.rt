@@ -1,7 +1,7 @@
 ghost use Rattle.std.specs.Prelude.{◌≡◌, ◌+◌, ◌*◌, ◌<◌, ◌≤◌, ◌^◌, [], length, List, ℕ, IfOk, IfSome, OnErr, IsErrOf};
 ghost use Rattle.fx_io.specs.Outside.{Rose, append, AppendsFront, count_after};
 ghost use Rattle.fx_io.specs.Lines.{lines_of};
-ghost use Rattle.rule_lives.specs.Keeping.{IsLifeTable};
+ghost use Rattle.rule_lives.specs.Keeping.{IsSafeTable};
 ghost use Rattle.rule_world.specs.Programs.{IsRunnable};
 ghost use Rattle.script_run.specs.Run.{setting_of, whole_run};
 ghost use Rattle.script_run.specs.Turns.{Takes, AtEnd};
@@ -34,7 +34,7 @@ pub fn run<E: Engine, S: Source, K: Sink>(
     out: &mut K,
 ) -> Result<Ended, RunFault>
     requires runnable { IsRunnable program }
-    requires table { IsLifeTable program lives }
+    requires table { IsSafeTable program lives }
     requires low { limit ≤ 1000000 }
     ensures done { IfSome (S.left script.old) (λ bytes. IfOk result (λ ended.
         (ended ≡ (whole_run (setting_of E.gives E.fires E.counts limit program lives) (lines_of bytes)).ended)
