@@ -5,6 +5,7 @@
 mod counting;
 mod firing;
 mod last_starts;
+pub mod laws;
 mod moving;
 mod refreshing;
 mod running;

@@ -36,3 +36,4 @@ pub mod Passing
 pub mod Marking
 pub mod Counting_on
 pub mod Tallied
+pub mod Holding

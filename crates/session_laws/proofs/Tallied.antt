@@ -124,7 +124,7 @@ module _ (s : Setting) (m : Memory) (k : Contents) (runs : Runs s) (w : World) (
   test = is_kept s.program s.lives w
 
   -- the store has exactly what is kept of the world
-  holds_kept : Holds k.facts (kept_facts s.program s.lives w)
+  pub holds_kept : Holds k.facts (kept_facts s.program s.lives w)
   holds_kept = record {
     to = λ tag g e. fact_in (filter test w.facts) tag g (at_filter test w.facts tag st.seen.whole.lawful.ordered.tags ∙ sym (at tag) ∙ e);
     from = λ g i. at g.tag.0 ∙ ap (only test) (own_at w.facts st.seen.whole.lawful.ordered.tags g (of_filter test g w.facts i)) ∙ ap (λ b. cond b (Some g) None) (passed test g w.facts i);

@@ -1,0 +1,25 @@
+-- What a session holds, in the words of the definition of what is kept.
+use Rattle.std.specs.Prelude.{◌≡◌, ◌↔◌, ◌+ℤ◌, ◌<ℤ◌, ℤ, true, Some, slice_get}
+use Rattle.std.specs.FinMap as map
+use Rattle.fx_base.specs.Lists.{In}
+use Rattle.fx_base.specs.declared.fact.Fact.{Fact}
+use Rattle.rule_model.specs.declared.life.Life.TheVariants.{Finite}
+use Rattle.rule_model.specs.declared.matched.Match.{Match}
+use Rattle.rule_model.specs.Matches.{has_match}
+use Rattle.rule_model.specs.Tuples.{name_of}
+use Rattle.rule_world.specs.Worlds.{World, pending}
+use Rattle.rule_lives.specs.Keeping.{IsKept}
+use Rattle.session_laws.specs.Standing.{Runs}
+use Rattle.session.specs.declared.session.Session.{Session}
+use Rattle.session.specs.Sessions.{Stands}
+
+-- Of each world for which a session stands its store has exactly what is kept, by the table that it was made with.
+abbrev pub HoldsWhatIsKept : Type 0
+HoldsWhatIsKept = (s : Session) (w : World) → Runs s.setting → Stands s w → (f : Fact)
+    → (map.get s.state.facts f.tag.0 ≡ Some f) ↔ IsKept s.setting.program s.setting.lives w f
+
+-- An event whose type has a finite life and which is past it is held only while a match names it that is still to fire.
+abbrev pub OldEventsAreNamed : Type 0
+OldEventsAreNamed = (s : Session) (w : World) → Runs s.setting → Stands s w → (f : Fact)
+    → (n : ℤ) → slice_get s.setting.lives.lives f.ty.0 ≡ Some (Finite n) → (f.times.end +ℤ n) <ℤ w.clock
+    → map.get s.state.facts f.tag.0 ≡ Some f → (m : Match) × (has_match (pending s.setting.program w) m ≡ true) × In (name_of f) m.row.facts
