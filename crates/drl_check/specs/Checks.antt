@@ -93,7 +93,9 @@ has_bad_params (body.Package path) = false
 has_bad_params (body.Import path star) = false
 has_bad_params (body.Dialect text) = false
 
--- whether an item fails the check of this code, given all the items of the file and those before it
+-- whether an item fails the check of this code, given all the items of the file and those before it; that `NeverMatches` fails exactly where
+-- the temporal tests of a rule have no solution (`IsSolvable` of `rule_lives/specs/Networks.antt`) is the law
+-- `drl_check::laws::rules_that_never_match_are_found`, of what has passed the checks before it
 abbrev pub fails : CheckCode → List Item → List Item → Body → Bool
 fails TwiceDeclared all before b = is_twice before b
 fails LimitPassed all before b = exceeds_limit before b
