@@ -22,7 +22,7 @@ use Rattle.rule_model.specs.declared.program.TypeInfo.{TypeInfo}
 use Rattle.rule_model.proofs.Named.{of_filter}
 use Rattle.rule_model.proofs.Order.{in_filter, passed}
 use Rattle.rule_world.specs.Worlds.{World}
-use Rattle.rule_world.proofs.Ids.{ids_filtered, id_of, numbered}
+use Rattle.rule_world.proofs.Ids.{ids_filtered, id_of}
 use Rattle.keeping.specs.Kept.{is_kept, kept_facts}
 use Rattle.forgetting.specs.Sights.{only}
 use Rattle.forgetting.specs.WorldSights.{fact_at}
@@ -47,6 +47,9 @@ differ m n other = grind (arith, nat_tests)
 apart_from : (id : ℕ) (facts : List Fact) → ((f : Fact) → In f facts → id ≡ f.id.0 → ⊥) → AllByRecursion (λ y. nat_eq id y ≡ false) (ids_of facts)
 apart_from id [] other = tt
 apart_from id (f ∷ facts) other = (differ id f.id.0 (other f (inl refl)), apart_from id facts (λ g i. other g (inr i)))
+
+abbrev numbered : ℕ → FactId
+numbered id = record { 0 = id }
 
 -- ids that are distinct stand once
 once_each : (facts : List Fact) → HaveDistinctIds facts → IsDistinct nat_eq (ids_of facts)
