@@ -11,7 +11,7 @@ use Rattle.row_delta.specs.Rows.{has, InOrder}
 use Rattle.rule_model.specs.declared.condition.Accumulate.{Accumulate}
 use Rattle.rule_model.specs.declared.condition.Pattern.{Pattern}
 use Rattle.rule_model.specs.declared.program.Program.{Program}
-use Rattle.rule_model.specs.Maturity.{told_to}
+use Rattle.rule_model.specs.Maturity.{watermark}
 use Rattle.rule_model.specs.Snapshots.{Snapshot}
 use Rattle.rule_model.proofs.Listed.{both_of}
 use Rattle.join_tests.specs.Joins.{Look, joins}
@@ -116,7 +116,7 @@ module _ (p : Program) (look : Look) (old : Named → Bool) (dropped gone : List
       stands = λ s left forgotten is. record {
         counts = counts_on counts_blockers m.tally.memories n.tally.memories kept alone s left forgotten is.rows is.stands.counts;
         in_step = in_step is.stands.in_step;
-        floor = floor ∙ is.stands.floor ∙ ap (λ (q : Pattern). told_to p s q.entry.0) (sym kept.pattern);
+        floor = floor ∙ is.stands.floor ∙ ap (λ (q : Pattern). watermark p s q.entry.0) (sym kept.pattern);
       };
       drops = λ s left forgotten is row e.
           not_drops p m n look left (candidates_of p m.tally.memories.pattern s) forgotten old dropped gone is.stands.counts.stands is.rows kept.pattern floor alone (told is.stands.in_step) row

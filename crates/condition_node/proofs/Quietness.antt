@@ -3,7 +3,7 @@ use Rattle.std.proofs.Common.{◌≡◌, ◌∙◌, sym, ap, refl, subst, ℕ, �
 use Rattle.std.proofs.lemmas.Int.{ints}
 use Rattle.row_delta.specs.declared.row.Row.{Row}
 use Rattle.rule_model.specs.declared.program.Program.{Program}
-use Rattle.rule_model.specs.Maturity.{told_to}
+use Rattle.rule_model.specs.Maturity.{watermark}
 use Rattle.rule_model.specs.Snapshots.{Snapshot}
 use Rattle.rule_model.specs.Types.{lateness_of}
 use Rattle.rule_model.proofs.Listed.{both_of}
@@ -37,13 +37,13 @@ own_moment : (at : ℤ) (o : Option ℤ) → is_moment o at ≡ true → o ≡ S
 own_moment at None e = absurd (let n : false ≡ true = e in cc)
 own_moment at (Some x) e = ap Some (int_same x at e)
 
-told_later : (p : Program) (s : Snapshot) (clock : ℤ) (entry : ℕ) → s.clock ≤ℤ clock → told_to p s entry ≤ℤ told_to p (at_clock s clock) entry
-unfolding told_to
-told_later p s clock entry h = less_later s.clock clock (lateness_of p entry) h
+watermark_later : (p : Program) (s : Snapshot) (clock : ℤ) (entry : ℕ) → s.clock ≤ℤ clock → watermark p s entry ≤ℤ watermark p (at_clock s clock) entry
+unfolding watermark
+watermark_later p s clock entry h = less_later s.clock clock (lateness_of p entry) h
 
-told_is : (p : Program) (s : Snapshot) (entry : ℕ) → told_to p s entry ≡ s.clock -ℤ lateness_of p entry
-unfolding told_to
-told_is p s entry = refl
+watermark_is : (p : Program) (s : Snapshot) (entry : ℕ) → watermark p s entry ≡ s.clock -ℤ lateness_of p entry
+unfolding watermark
+watermark_is p s entry = refl
 
 pub join_quiet : (p : Program) (join : BetaJoin) (until : Option ℤ) → IsQuiet p (node.Join join) until
 join_quiet p join until look s rows forgotten clock tags known named stands begun later low before same = join_stays p look s rows forgotten clock tags known named join same stands
@@ -59,7 +59,7 @@ module _ (p : Program) (waiting : NotNode) where
   none_due none look s rows forgotten clock tags known named stands begun later low before same =
       let entry = waiting.tally.memories.pattern.entry.0 in
       not_stays p look s rows forgotten clock tags known named waiting same stands
-      (subst (λ (floor : ℤ). floor ≤ℤ told_to p (at_clock s clock) entry) (sym stands.floor) (told_later p s clock entry later)) (λ at row e. absurd (none at row e))
+      (subst (λ (floor : ℤ). floor ≤ℤ watermark p (at_clock s clock) entry) (sym stands.floor) (watermark_later p s clock entry later)) (λ at row e. absurd (none at row e))
 
   pub due_at : (until : Option ℤ) (least : ℤ) (first : Row) → waits waiting.ripening.waiting.keys least first ≡ true → ((at : ℤ) (row : Row) → waits waiting.ripening.waiting.keys at row ≡ true → int_lt at least ≡ false)
       → ((clock : ℤ) → pos 0 ≤ℤ (least +ℤ lateness_of p waiting.tally.memories.pattern.entry.0) → clock <ℤ pos (2 ^ 63) → IsBefore until clock → (clock -ℤ lateness_of p waiting.tally.memories.pattern.entry.0) ≤ℤ least)
@@ -70,10 +70,10 @@ module _ (p : Program) (waiting : NotNode) where
       let late = lateness_of p entry in
       let x = unblocked m look first && is_moment (moment_at p m.pattern look first) least in
       let due : int_lt least waiting.ripening.floor ≡ false = not_of (int_lt least waiting.ripening.floor) (both_of x (not (int_lt least waiting.ripening.floor)) (sym (stands.in_step least first) ∙ there)).1 in
-      let reached = reaches clock (least_low least s.clock late (ap (int_lt least) (sym (stands.floor ∙ told_is p s entry)) ∙ due) begun) low before in
+      let reached = reaches clock (least_low least s.clock late (ap (int_lt least) (sym (stands.floor ∙ watermark_is p s entry)) ∙ due) begun) low before in
       not_stays p look s rows forgotten clock tags known named waiting same stands
-      (subst (λ (floor : ℤ). floor ≤ℤ told_to p (at_clock s clock) entry) (sym stands.floor) (told_later p s clock entry later))
-      (λ at row e. not_below at least (told_to p (at_clock s clock) entry) (over at row e) (subst (λ (floor : ℤ). floor ≤ℤ least) (sym (told_is p (at_clock s clock) entry)) reached))
+      (subst (λ (floor : ℤ). floor ≤ℤ watermark p (at_clock s clock) entry) (sym stands.floor) (watermark_later p s clock entry later))
+      (λ at row e. not_below at least (watermark p (at_clock s clock) entry) (over at row e) (subst (λ (floor : ℤ). floor ≤ℤ least) (sym (watermark_is p (at_clock s clock) entry)) reached))
 
   -- from the least moment on a row that waits for it is there
   pub comes_then : (moment least : ℤ) (first : Row) → waits waiting.ripening.waiting.keys least first ≡ true → moment ≡ (least +ℤ lateness_of p waiting.tally.memories.pattern.entry.0) +ℤ pos 1
@@ -83,14 +83,14 @@ module _ (p : Program) (waiting : NotNode) where
       let entry = m.pattern.entry.0 in
       let free = unblocked m look first in
       let own = is_moment (moment_at p m.pattern look first) least in
-      let floor = told_to p (at_clock s moment) entry in
+      let floor = watermark p (at_clock s moment) entry in
       let waits = both_of (free && own) (not (int_lt least waiting.ripening.floor)) (sym (stands.in_step least first) ∙ there) in
       let meant = both_of free own waits.0 in
       let meant_at = own_moment least (moment_at p m.pattern look first) meant.1 in
       let made =
       not_ripens p look s rows forgotten moment tags known named waiting same stands first meant.0
       (ap (mature waiting.ripening.floor) meant_at ∙ not_of (int_lt least waiting.ripening.floor) waits.1)
-      (ap (mature floor) meant_at ∙ ap (int_lt least) (told_is p (at_clock s moment) entry) ∙ past moment least (lateness_of p entry) is) in
+      (ap (mature floor) meant_at ∙ ap (int_lt least) (watermark_is p (at_clock s moment) entry) ∙ past moment least (lateness_of p entry) is) in
       (first, made.0, made.1)
 
   pub if_due : (least : ℤ) (first : Row) → waits waiting.ripening.waiting.keys least first ≡ true → (until : Option ℤ)

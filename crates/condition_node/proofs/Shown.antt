@@ -10,7 +10,7 @@ use Rattle.rule_model.specs.declared.condition.Pattern.{Pattern}
 use Rattle.rule_model.specs.declared.program.Program.{Program}
 use Rattle.rule_model.specs.Distinct.{HaveDistinctTags}
 use Rattle.rule_model.specs.Lent.{bound_in}
-use Rattle.rule_model.specs.Maturity.{told_to, is_mature}
+use Rattle.rule_model.specs.Maturity.{watermark, is_mature}
 use Rattle.rule_model.specs.Snapshots.{Snapshot}
 use Rattle.join_tests.specs.Joins.{Look, joins}
 use Rattle.pair_memory.specs.declared.memories.Memories.{Memories}
@@ -65,7 +65,7 @@ module _ (p : Program) (look : Look) (s : Snapshot) (rows : Row → Bool) (forgo
         ∙ asked_first (rows row) (clean forgotten row) (list_any (pass row) names) (list_any (pass row) names) (λ e. refl)
 
     -- a row that names no forgotten fact is mature by the store where it is by the snapshot
-    ripe_alike : (q : Pattern) (floor : ℤ) → floor ≡ told_to p s q.entry.0 → (row : Row) → cleaned rows forgotten row ≡ true → is_mature p q (bound_in look row) floor ≡ is_ripe p q s row
+    ripe_alike : (q : Pattern) (floor : ℤ) → floor ≡ watermark p s q.entry.0 → (row : Row) → cleaned rows forgotten row ≡ true → is_mature p q (bound_in look row) floor ≡ is_ripe p q s row
     unfolding is_ripe
     ripe_alike q floor is row e =
         sym (row_mature p q look row floor)
@@ -73,7 +73,7 @@ module _ (p : Program) (look : Look) (s : Snapshot) (rows : Row → Bool) (forgo
         ∙ row_mature p q (held s) row floor
         ∙ ap (is_mature p q (bound_in (held s) row)) is
 
-    pub not_shown_at : (waiting : NotNode) → Counts counts_blockers p waiting.tally.memories look s rows forgotten → waiting.ripening.floor ≡ told_to p s waiting.tally.memories.pattern.entry.0
+    pub not_shown_at : (waiting : NotNode) → Counts counts_blockers p waiting.tally.memories look s rows forgotten → waiting.ripening.floor ≡ watermark p s waiting.tally.memories.pattern.entry.0
         → (row : Row) → not_rows p look waiting row ≡ cleaned (line p s (Negated waiting.tally.memories.pattern) rows) forgotten row
     unfolding has_partner
     not_shown_at waiting counts told row =

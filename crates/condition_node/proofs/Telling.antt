@@ -9,7 +9,7 @@ use Rattle.rule_model.specs.declared.condition.Accumulate.{Accumulate}
 use Rattle.rule_model.specs.declared.condition.Condition.TheVariants.{Plain, Negated, Existing, Folded}
 use Rattle.rule_model.specs.declared.condition.Pattern.{Pattern}
 use Rattle.rule_model.specs.declared.program.Program.{Program}
-use Rattle.rule_model.specs.Maturity.{told_to}
+use Rattle.rule_model.specs.Maturity.{watermark}
 use Rattle.rule_model.specs.Snapshots.{Snapshot}
 use Rattle.rule_model.specs.Types.{lateness_of}
 use Rattle.join_tests.specs.Joins.{Look}
@@ -50,9 +50,9 @@ Tells p clock look old left right delta = (world : Look) (s next : Snapshot) (ro
     → NodeStands p old look s rows forgotten → next.clock ≡ clock → IsTurn p (condition_of old) look world s next rows rows_now forgotten left right
     → IsDifference (cleaned (line p s (condition_of old) rows) forgotten) (cleaned (line p next (condition_of old) rows_now) forgotten) delta
 
-pub told_by : (p : Program) (next : Snapshot) (entry : ℕ) (clock floor : ℤ) → next.clock ≡ clock → floor ≡ clock -ℤ lateness_of p entry → floor ≡ told_to p next entry
-unfolding told_to
-told_by p next entry clock floor at is = is ∙ ap (λ c. c -ℤ lateness_of p entry) (sym at)
+pub watermark_by : (p : Program) (next : Snapshot) (entry : ℕ) (clock floor : ℤ) → next.clock ≡ clock → floor ≡ clock -ℤ lateness_of p entry → floor ≡ watermark p next entry
+unfolding watermark
+watermark_by p next entry clock floor at is = is ∙ ap (λ c. c -ℤ lateness_of p entry) (sym at)
 
 module _ (p : Program) (clock : ℤ) (look : Look) (left right : Delta) where
   module _ (m n : BetaJoin) (stepped : IsStepped m.memories n.memories look left right) where
@@ -88,9 +88,9 @@ module _ (p : Program) (clock : ℤ) (look : Look) (left right : Delta) where
           counts = counts_next p m.tally.memories n.tally.memories look world s next rows rows_now forgotten left right (Negated m.tally.memories.pattern) turn stepped refl counts_blockers blockers_ask turn.stay waits.counts step;
           in_step = in_step waits.in_step;
           floor = risen ∙ ap (λ a. later a floor) waits.floor
-              ∙ ap (later (told_to p s entry)) (told_by p next entry clock floor at floor_is)
+              ∙ ap (later (watermark p s entry)) (watermark_by p next entry clock floor at floor_is)
               ∙ later_floor p s next entry turn.clock
-              ∙ ap (λ (q : Pattern). told_to p next q.entry.0) (sym stepped.pattern);
+              ∙ ap (λ (q : Pattern). watermark p next q.entry.0) (sym stepped.pattern);
         }
 
     pub not_tells : (delta : Delta) → (IsInStep p look m → IsDifference (not_rows p look m) (not_rows p look n) delta) → Tells p clock look (node.Not m) left right delta

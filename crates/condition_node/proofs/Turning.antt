@@ -9,7 +9,7 @@ use Rattle.rule_model.specs.declared.condition.Condition.TheVariants.{Plain, Neg
 use Rattle.rule_model.specs.declared.condition.Pattern.{Pattern}
 use Rattle.rule_model.specs.declared.program.Program.{Program}
 use Rattle.rule_model.specs.Snapshots.{Snapshot}
-use Rattle.rule_model.specs.Maturity.{told_to}
+use Rattle.rule_model.specs.Maturity.{watermark}
 use Rattle.rule_model.specs.Rows.{pattern_of}
 use Rattle.rule_model.specs.Types.{lateness_of}
 use Rattle.join_tests.specs.Joins.{Look, joins}
@@ -69,6 +69,6 @@ later_is : (a b l : ℤ) → a ≤ℤ b → later (a -ℤ l) (b -ℤ l) ≡ b -�
 later_is a b l h = grind (arith, ints)
 
 -- of two floors of an entry point that of the later clock is the later one
-pub later_floor : (p : Program) (s next : Snapshot) (entry : ℕ) → s.clock ≤ℤ next.clock → later (told_to p s entry) (told_to p next entry) ≡ told_to p next entry
-unfolding told_to
+pub later_floor : (p : Program) (s next : Snapshot) (entry : ℕ) → s.clock ≤ℤ next.clock → later (watermark p s entry) (watermark p next entry) ≡ watermark p next entry
+unfolding watermark
 later_floor p s next entry h = later_is s.clock next.clock (lateness_of p entry) h

@@ -44,7 +44,7 @@ pub enum Node {
 }
 
 /// The moment before which no event of an entry point can start any more, at this clock.
-fn told_to(program: &Program, entry: EntryId, clock: Millis) -> i128
+fn watermark(program: &Program, entry: EntryId, clock: Millis) -> i128
     ensures { result ≡ clock -ℤ lateness_of program.now entry.0 }
 {
     i128::from(clock) - i128::from(program.lateness(entry))
@@ -71,7 +71,7 @@ impl Node {
             }
             Condition::Negated(pattern) => {
                 let pattern = pattern.copied(alloc)?;
-                let floor = told_to(program, pattern.entry, 0);
+                let floor = watermark(program, pattern.entry, 0);
                 Ok(Node::Not(NotNode::new(alloc, pattern, floor)))
             }
             Condition::Existing(pattern) => {
@@ -127,7 +127,7 @@ impl Node {
                 Ok(delta)
             }
             Node::Not(waiting) => {
-                let floor = told_to(program, waiting.pattern().entry, clock);
+                let floor = watermark(program, waiting.pattern().entry, clock);
                 let delta = waiting.advance(alloc, program, left, right, floor, facts)?;
                 Ok(delta)
             }

@@ -1,15 +1,9 @@
 -- The moment for which a row waits, by the window of possible starts, and when the row is mature.
-use Rattle.std.proofs.Common.{◌≡◌, ◌∙◌, ◌||◌, not, cond, ℕ, ℤ, zero, suc, Bool, true, false, List, [], ◌∷◌, Option, Some, None, option_map, slice_get, refl, sym, ap, subst}
+use Rattle.std.proofs.Common.{◌≡◌, ◌∙◌, ◌||◌, not, cond, ℕ, ℤ, zero, suc, Bool, true, false, List, [], ◌∷◌, Option, Some, None, slice_get, refl, sym, ap}
 use mathlib.Core.Path.{fun_ext}
-use Rattle.std.specs.List.{All}
-use Rattle.std.specs.Option.{option_and_then}
-use Rattle.std.proofs.lemmas.List.Elements.{All-nil, All-cons, All-head, All-tail}
 use Rattle.fx_base.specs.declared.fact.Fact.{Fact}
-use Rattle.fx_base.specs.declared.times.Times.{Times}
-use Rattle.temporal_ops.specs.declared.edge.OpEdge.{OpEdge}
 use Rattle.temporal_ops.specs.declared.window.Window.{Window}
 use Rattle.temporal_ops.specs.declared.window.Window.TheVariants.{Never, UpTo, Unbounded}
-use Rattle.temporal_ops.specs.Edges.{IsOpEdge, Joins}
 use Rattle.temporal_ops.specs.Possible.{IsPossible, IsWindow}
 use Rattle.temporal_ops.specs.Starts.{window_of}
 use Rattle.temporal_ops.proofs.WindowOfEdges.{window_is_of_edges}
@@ -18,49 +12,17 @@ use Rattle.row_delta.specs.declared.row.Named.{Named}
 use Rattle.row_delta.specs.declared.row.Row.{Row}
 use Rattle.rule_model.specs.declared.condition.Pattern.{Pattern}
 use Rattle.rule_model.specs.declared.program.Program.{Program}
-use Rattle.rule_model.specs.declared.test.TimeTest.{TimeTest}
 use Rattle.rule_model.specs.Lent.{named_at, bound_in}
 use Rattle.rule_model.specs.Maturity.{bounds_of, window_by, window_at, is_past, is_mature, AreOperators}
 use Rattle.rule_model.specs.Tuples.{Bindings, row_of}
 use Rattle.rule_model.specs.Types.{is_event, is_point}
+use Rattle.rule_model.proofs.Mature.{Bounds, bounds_join}
 use Rattle.rule_model.proofs.Naming.{bound_named}
 use Rattle.join_tests.specs.Joins.{Look}
 use Rattle.pair_memory.specs.Standing.{AlikeOn}
 use Rattle.not_node.specs.Laws.{MaturityLaw}
 use Rattle.not_node.specs.Moments.{latest_of, latest_start, moment_at}
 use Rattle.not_node.specs.Waiting.{mature}
-
--- ---- operators join the two events
-abbrev Bounds : Type 0
-Bounds = List (List OpEdge × Times)
-
-joins_all : (edges : List OpEdge) → All IsOpEdge edges → All Joins edges
-joins_all [] h = All-nil Joins
-joins_all (e ∷ edges) h = All-cons Joins e edges (All-head IsOpEdge e edges h).joins (joins_all edges (All-tail IsOpEdge e edges h))
-
-abbrev AllJoin : Bounds → Type 0
-AllJoin bounds = All (λ (b : List OpEdge × Times). All Joins b.0) bounds
-
-one_join : (test : TimeTest) (o : Option Fact) (rest : Option Bounds) (bounds : Bounds) → All Joins test.op → ((bs : Bounds) → rest ≡ Some bs → AllJoin bs)
-    → option_and_then (λ b. option_map (λ bs. b ∷ bs) rest) (option_map (λ (f : Fact). (test.op, f.times)) o) ≡ Some bounds → AllJoin bounds
-one_join test None rest bounds op h e = absurd (let n : None ≡ Some bounds = e in cc)
-one_join test (Some f) None bounds op h e = absurd (let n : None ≡ Some bounds = e in cc)
-one_join test (Some f) (Some bs) bounds op h e =
-    let same : (test.op, f.times) ∷ bs ≡ bounds = cc in
-    subst AllJoin same (All-cons (λ (b : List OpEdge × Times). All Joins b.0) (test.op, f.times) bs op (h bs refl))
-
-bounds_join : (bound : Bindings) (tests : List TimeTest) (bounds : Bounds) → AreOperators tests → bounds_of bound tests ≡ Some bounds → AllJoin bounds
-bounds_join bound [] bounds ops e =
-    let same : [] ≡ bounds = cc in
-    subst AllJoin same (All-nil (λ (b : List OpEdge × Times). All Joins b.0))
-bounds_join bound (test ∷ tests) bounds ops e =
-    one_join test (bound.fact test.fact) (bounds_of bound tests) bounds (joins_all test.op ops.0.each) (λ bs e. bounds_join bound tests bs ops.1 e) e
-
-pub none_told : {V W : Type 0} (f : V → W) {o : Option V} {r : Option W} → option_map f o ≡ r → o ≡ None → r ≡ None
-none_told {V} {W} f {o} {r} h e = sym h ∙ ap (option_map f) e
-
-pub some_told : {V W : Type 0} (f : V → W) {o : Option V} {r : Option W} {v : V} → option_map f o ≡ r → o ≡ Some v → r ≡ Some (f v)
-some_told {V} {W} f {o} {r} {v} h e = sym h ∙ ap (option_map f) e
 
 -- ---- the moment
 module _ (p : Program) (q : Pattern) (look : Look) (row : Row) where

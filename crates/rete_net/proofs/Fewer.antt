@@ -24,7 +24,7 @@ use Rattle.rule_model.specs.declared.program.Rule.{Rule}
 use Rattle.rule_model.specs.Candidates.{fits, is_behind, is_present, is_candidate, is_inside, candidates}
 use Rattle.rule_model.specs.Distinct.{HaveDistinctTags}
 use Rattle.rule_model.specs.Lent.{bound_in}
-use Rattle.rule_model.specs.Maturity.{is_mature, told_to}
+use Rattle.rule_model.specs.Maturity.{is_mature, watermark}
 use Rattle.rule_model.specs.Rows.{pattern_of, result_of}
 use Rattle.rule_model.specs.Simple.{is_length, observes, is_observed_in}
 use Rattle.rule_model.specs.Snapshots.{Snapshot}
@@ -290,8 +290,8 @@ module _ (p : Program) (s : Snapshot) (f : Fact) (forgotten : Named → Bool) (d
           ∙ filter_among (λ (g : Fact). joins q (held less) row (name_of g)) (λ (g : Fact). joins q (held s) row (name_of g)) (candidates p q s) joins_same
 
       ripe_same : is_ripe p q less row ≡ is_ripe p q s row
-      unfolding is_ripe told_to
-      ripe_same = ap (λ (bound : Bindings). is_mature p q bound (told_to p s q.entry.0)) (bound_same row e)
+      unfolding is_ripe watermark
+      ripe_same = ap (λ (bound : Bindings). is_mature p q bound (watermark p s q.entry.0)) (bound_same row e)
 
     gives_same : (a : Accumulate) → IsApart a.pattern f → (row : Row) → cleaned rows forgotten row ≡ true → (v : ℤ) → gives p a less row v ≡ gives p a s row v
     unfolding gives

@@ -68,8 +68,8 @@ EndlessAreSafe = (p : Program) → IsSafeTable p (endless_lives p)
 
 -- ---- what is kept
 
--- The facts of a world that are kept by a table of lives: the plain ones; the events of types with an explicit expiry, while they are present; the events
--- that live for ever, and those that are within their lives; what a pending match names.
+-- The facts of a world that are kept by a table of lives: the plain ones; the events of types with an explicit expiry, while they are
+-- present; the events that live for ever, and those that are within their lives; what a pending match names.
 pub data IsKept (p : Program) (table : LifeTable) (w : World) (f : Fact) : Type 0 where
   plain : In f w.facts → is_event p f.ty.0 ≡ false → IsKept p table w f
   unexpired : (expiry : ℤ) → In f w.facts → is_event p f.ty.0 ≡ true → expiry_of p f.ty.0 ≡ Some expiry → is_present p w.clock f ≡ true → IsKept p table w f

@@ -1,7 +1,7 @@
 -- How long behind its end an event of a type can still matter (Walzer, Breddin, Groch 2008; Drools Fusion 5 User Guide, memory
--- management for events, inferred expiration offset). In the rule `$s : Smoke() $h : Heat( this after[0s,10s] $s ) Bell( this after[0s,20s] $h )`
--- a smoke matters 30000 ms: a heat starts at most 10 s behind its end, a bell at most 30 s, and i itself is one of the j, at 0. A heat
--- matters 20000 ms, for its bell, and a bell 0.
+-- management for events, inferred expiration offset). An example: in `$s : Smoke() $h : Heat( this after[0s,10s] $s )
+-- Bell( this after[0s,20s] $h )` a smoke matters 30000 ms, since a heat starts at most 10 s behind its end and a bell at most 30 s (i itself
+-- is one of the j, at 0); a heat 20000 ms, for its bell; and a bell 0.
 use Rattle.std.specs.Prelude.{◌≡◌, ℕ, suc, ℤ, pos, true, false, List, take, Option, Some, None, slice_get, ◌⊎◌, if◌then◌else◌}
 use Rattle.std.specs.Int.{int_max}
 use Rattle.fx_base.specs.Lists.{In}

@@ -18,8 +18,8 @@ is_length Whole = false
 is_length (Time span) = false
 is_length (Length count) = true
 
--- Whether the condition asks more of the facts of its pattern than that one is there: that none is there (`not`), that any one is (`exists`),
--- a result over them, or which are the latest (a window of length).
+-- Whether the condition looks at the facts of its pattern together, and not at each by itself: a `not`, an `exists`, an `accumulate`, or a
+-- window of length. To take one of them away could then make or end rows that do not name it.
 abbrev pub observes : Condition → Bool
 observes (Plain pattern) = is_length pattern.window
 observes (Negated pattern) = true

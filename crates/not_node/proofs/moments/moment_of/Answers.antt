@@ -2,7 +2,8 @@ use Rattle.std.proofs.Common.{◌≡◌, ◌∙◌, sym, ap, subst, true, false,
 use Rattle.rule_model.specs.Lent.{bound_in}
 use Rattle.rule_model.specs.Maturity.{bounds_of, AreOperators}
 use Rattle.rule_model.specs.Types.{is_event}
-use Rattle.not_node.proofs.Maturing.{none_told, some_told, plain_moment, unbound_moment, event_moment}
+use Rattle.rule_model.proofs.Mature.{none_told, some_told}
+use Rattle.not_node.proofs.Maturing.{plain_moment, unbound_moment, event_moment}
 use Rattle.not_node.proofs.moments.moment_of.Goals as goal
 
 pub returns-then-not-is_event : goal.returns-then-not-is_event

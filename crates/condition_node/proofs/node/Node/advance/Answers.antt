@@ -32,11 +32,11 @@ returns-in_ok-delta-in-Not-clause-stands g c =
     let new = c.advance-in-Not.new.self in
     let told = c.in_ok-delta-in-Not.ensures in
     let range : SFits w64 c.args.clock = c.ranges.clock in
-    let floor_is = (simp to_z-of_z at c.told_to-floor.ensures) ∙ ap (λ (q : Pattern). c.args.clock -ℤ lateness_of p q.entry.0) c.pattern.ensures in
-    let fits : SFits w128 c.told_to-floor.result = search in
+    let floor_is = (simp to_z-of_z at c.watermark-floor.ensures) ∙ ap (λ (q : Pattern). c.args.clock -ℤ lateness_of p q.entry.0) c.pattern.ensures in
+    let fits : SFits w128 c.watermark-floor.result = search in
     let risen = simp to_z-of_z at told.floor in
     subst (λ (old : Node). TurnsTo p c.args.clock look old (node.Not new) c.args.left.now c.args.right.now) (sym c.in-Not.is)
-    (not_turns p c.args.clock look c.args.left.now c.args.right.now c.in-Not.waiting new c.told_to-floor.result told.kept told.tallies floor_is risen told.in_step)
+    (not_turns p c.args.clock look c.args.left.now c.args.right.now c.in-Not.waiting new c.watermark-floor.result told.kept told.tallies floor_is risen told.in_step)
 
 pub returns-in_ok-delta-in-Not-clause-difference : goal.returns-in_ok-delta-in-Not-clause-difference
 returns-in_ok-delta-in-Not-clause-difference g c =
@@ -45,11 +45,11 @@ returns-in_ok-delta-in-Not-clause-difference g c =
     let delta = c.in_ok-delta-in-Not.delta in
     let told = c.in_ok-delta-in-Not.ensures in
     let range : SFits w64 c.args.clock = c.ranges.clock in
-    let floor_is = (simp to_z-of_z at c.told_to-floor.ensures) ∙ ap (λ (q : Pattern). c.args.clock -ℤ lateness_of p q.entry.0) c.pattern.ensures in
-    let fits : SFits w128 c.told_to-floor.result = search in
+    let floor_is = (simp to_z-of_z at c.watermark-floor.ensures) ∙ ap (λ (q : Pattern). c.args.clock -ℤ lateness_of p q.entry.0) c.pattern.ensures in
+    let fits : SFits w128 c.watermark-floor.result = search in
     let risen = simp to_z-of_z at told.floor in
     subst (λ (old : Node). Tells p c.args.clock look old c.args.left.now c.args.right.now delta) (sym c.in-Not.is)
-    (not_tells p c.args.clock look c.args.left.now c.args.right.now c.in-Not.waiting c.advance-in-Not.new.self c.told_to-floor.result told.kept told.tallies floor_is risen told.in_step delta told.difference)
+    (not_tells p c.args.clock look c.args.left.now c.args.right.now c.in-Not.waiting c.advance-in-Not.new.self c.watermark-floor.result told.kept told.tallies floor_is risen told.in_step delta told.difference)
 
 pub returns-in_ok-delta-in-Exists-clause-stands : goal.returns-in_ok-delta-in-Exists-clause-stands
 returns-in_ok-delta-in-Exists-clause-stands g c =

@@ -2,12 +2,12 @@ use Rattle.std.proofs.Common.{◌∙◌, sym, ap, refl, pos, SFits, to_z-of_z}
 use Rattle.std.specs.Int.{w128}
 use Rattle.rule_model.specs.declared.condition.Accumulate.{Accumulate}
 use Rattle.rule_model.specs.declared.condition.Pattern.{Pattern}
-use Rattle.rule_model.specs.Maturity.{told_to}
+use Rattle.rule_model.specs.Maturity.{watermark}
 use Rattle.tally_node.specs.Counts.{counts_blockers, counts_witnesses}
 use Rattle.tally_node.specs.Gathers.{gathers}
 use Rattle.condition_rows.specs.Looks.{empty_snapshot}
 use Rattle.condition_node.proofs.Moved.{stands_empty, counts_empty}
-use Rattle.condition_node.proofs.Telling.{told_by}
+use Rattle.condition_node.proofs.Telling.{watermark_by}
 use Rattle.condition_node.proofs.node.Node.new.Goals as goal
 
 pub returns-in_ok-pattern-in-Plain-clause-stands : goal.returns-in_ok-pattern-in-Plain-clause-stands
@@ -17,13 +17,13 @@ pub returns-in_ok-pattern-in-Negated-clause-stands : goal.returns-in_ok-pattern-
 returns-in_ok-pattern-in-Negated-clause-stands c look forgotten =
     let p = c.args.program.now in
     let new = c.new-in-Negated in
-    let fits : SFits w128 c.told_to-floor.result = search in
+    let fits : SFits w128 c.watermark-floor.result = search in
     let floor_is = simp to_z-of_z at new.ensures.floor in
     record {
       counts = counts_empty counts_blockers p new.result.tally.memories look forgotten (new.ensures.nothing look forgotten);
       in_step = new.ensures.in_step p look;
-      floor = floor_is ∙ told_by p empty_snapshot c.in_ok-pattern-in-Negated.pattern.entry.0 (pos 0) c.told_to-floor.result refl c.told_to-floor.ensures
-          ∙ ap (λ (q : Pattern). told_to p empty_snapshot q.entry.0) (sym new.ensures.pattern);
+      floor = floor_is ∙ watermark_by p empty_snapshot c.in_ok-pattern-in-Negated.pattern.entry.0 (pos 0) c.watermark-floor.result refl c.watermark-floor.ensures
+          ∙ ap (λ (q : Pattern). watermark p empty_snapshot q.entry.0) (sym new.ensures.pattern);
     }
 
 pub returns-in_ok-pattern-in-Existing-clause-stands : goal.returns-in_ok-pattern-in-Existing-clause-stands
