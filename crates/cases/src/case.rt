@@ -67,7 +67,11 @@ impl Case {
         };
         let has_return = self.settings.has_returns;
         self.script.extend_from_slice(line)?;
-        push_blanks(&mut self.script, line.len() + usize::from(has_return), wanted)?;
+        push_blanks(
+            &mut self.script,
+            line.len() + usize::from(has_return),
+            wanted,
+        )?;
         if has_return {
             self.script.push(b'\r')?;
         }

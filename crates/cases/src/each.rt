@@ -67,8 +67,9 @@ pub(crate) fn try_each<K: Sink>(
         }
         if !is_as_wanted(object, &whole, &taken, &ran) {
             let status = ran.status;
-            let line =
-                format!(in alloc; "=== each {name}: call {call} of {calls}: status {status}\n")?;
+            let line = format!(in alloc;
+                "=== each {name}: call {call} of {calls}: status {status}\n"
+            )?;
             write_all(out, line.as_bytes())?;
             write_all(out, &ran.printed)?;
             return Ok(());

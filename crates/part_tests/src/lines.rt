@@ -1,8 +1,8 @@
 ghost use Rattle.std.specs.Prelude.{◌≤◌};
 
 use fx_io::{
-    ChunkSink, ChunkSource, Failed, FileShelf, Line, LineFault, LineReader, MemSink, MemSource, Shelf,
-    ShelfFault, Sink, Source, StdSink, StdSource,
+    ChunkSink, ChunkSource, Failed, FileShelf, Line, LineFault, LineReader, MemSink, MemSource,
+    Shelf, ShelfFault, Sink, Source, StdSink, StdSource,
 };
 use std::alloc::Global;
 use std::test::Fail;
@@ -93,8 +93,14 @@ fn pieces(alloc: Global, bytes: &[u8], most: usize) -> Result<Vec<u8>, Fail>
 
 #[test]
 fn a_source_gives_so_many_bytes_a_call(rt: HostRuntime) -> Result<(), Fail> {
-    assert_eq!(rt; pieces(rt.alloc(), b"abcde", 2)?.as_slice(), b"ab.cd.e..".as_slice());
-    assert_eq!(rt; pieces(rt.alloc(), b"abcde", 9)?.as_slice(), b"abc.de...".as_slice());
+    assert_eq!(rt;
+        pieces(rt.alloc(), b"abcde", 2)?.as_slice(),
+        b"ab.cd.e..".as_slice()
+    );
+    assert_eq!(rt;
+        pieces(rt.alloc(), b"abcde", 9)?.as_slice(),
+        b"abc.de...".as_slice()
+    );
     Ok(())
 }
 
