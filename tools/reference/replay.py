@@ -16,6 +16,7 @@ from typing import Optional
 
 import generate
 from lives import life_lines
+from program import Program
 from reader import FILE_END
 from run import program_or_refusal, report, run
 
@@ -105,15 +106,14 @@ def read_all(fd: int, most: int) -> bytes:
     return bytes(data)
 
 
-def generated_run(n: int, limit: int, stage: int) -> int:
-    """The run over the generated file and script, as one line. This evaluator is far too slow for it."""
+def generated_run(n: int, limit: int, stage: int) -> tuple[str, int]:
+    """The line and the status of the run over the generated file and script. This evaluator is far too slow for it."""
     rules, script = generate.large_run(n)
     output, status = report(rules, script, stage, limit)
     lines = output.decode("utf-8").splitlines()
     fires = sum(line.startswith("fire ") for line in lines)
     faults = sum(line.startswith("fault ") for line in lines)
-    put(f"gen {n} lines {len(lines)} fires {fires} faults {faults}\n")
-    return status
+    return f"gen {n} lines {len(lines)} fires {fires} faults {faults}\n", status
 
 
 def rule_file(name: str) -> bytes:
@@ -124,6 +124,13 @@ def rule_file(name: str) -> bytes:
         os.close(fd)
 
 
+def mode_text(program: Program, mode: str) -> str:
+    """What the modes other than `run` print of an accepted rule file."""
+    if mode == "check":
+        return f"accepted {len(program.types)} types {len(program.rules)} rules\n"
+    return "".join(line + "\n" for line in life_lines(program))
+
+
 def replay(words: list[str], stage: int) -> int:
     """Does all that the program does, and answers the status."""
     try:
@@ -132,7 +139,9 @@ def replay(words: list[str], stage: int) -> int:
         put(usage(stage) + "\n")
         return 2
     if gen is not None:
-        return generated_run(gen, limit, stage)
+        text, status = generated_run(gen, limit, stage)
+        put(text)
+        return status
     try:
         rules = rule_file(name)
     except FileNotFoundError:
@@ -144,11 +153,8 @@ def replay(words: list[str], stage: int) -> int:
     if isinstance(program, str):
         put(program + "\n")
         return 3
-    if mode == "check":
-        put(f"accepted {len(program.types)} types {len(program.rules)} rules\n")
-        return 0
-    if mode == "lives":
-        put("".join(line + "\n" for line in life_lines(program)))
+    if mode != "run":
+        put(mode_text(program, mode))
         return 0
     try:
         script = read_all(0, SCRIPT_END + 1)

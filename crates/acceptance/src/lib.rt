@@ -1,7 +1,7 @@
-//! Tests that cross the crates: rule files as texts through the parser and the checks, the network beside what is found anew, sessions,
-//! and runs of the program in memory.
-//! It has tests and their helpers alone, so that the crates below are proved once, without their tests. What a rule file and a script print is
-//! shown by the crate `cases`, whose cases are data.
+//! Tests that cross the crates: rule files as texts through the parser and the checks, the network beside what is found anew, its nodes,
+//! sessions, and one run with an engine of a type.
+//! It has tests and their helpers alone, so that the crates below are proved once, without their tests. What a rule file and a script print,
+//! with whichever words and failing calls, is shown by the crate `cases`, whose cases are data.
 #![tactic(auto)]
 
 #[cfg(test)]
@@ -13,7 +13,7 @@ mod every_kind;
 #[cfg(test)]
 mod files;
 #[cfg(test)]
-mod lives;
+mod networks;
 #[cfg(test)]
 mod programs;
 #[cfg(test)]

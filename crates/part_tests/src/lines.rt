@@ -1,6 +1,8 @@
+ghost use Rattle.std.specs.Prelude.{◌≤◌};
+
 use fx_io::{
-    FileShelf, Line, LineFault, LineReader, MemSink, MemSource, Shelf, ShelfFault, Sink, Source,
-    StdSink, StdSource,
+    ChunkSink, ChunkSource, Failed, FileShelf, Line, LineFault, LineReader, MemSink, MemSource,
+    Shelf, ShelfFault, Sink, Source, StdSink, StdSource,
 };
 use std::alloc::Global;
 use std::test::Fail;
@@ -70,5 +72,46 @@ fn a_sink_of_three_bytes(rt: HostRuntime) -> Result<(), Fail> {
     assert_eq!(rt; sink.write(b"abcd"), Ok(3));
     assert!(rt; sink.write(b"d").is_err());
     assert_eq!(rt; sink.written(), b"abc".as_slice());
+    Ok(())
+}
+
+/// What a source that gives at most so many bytes a call gives in four calls of at most three bytes, with a dot behind each.
+fn pieces(alloc: Global, bytes: &[u8], most: usize) -> Result<Vec<u8>, Fail>
+    requires { 1 ≤ most }
+{
+    let mut source = ChunkSource::new(bytes.to_vec(alloc)?, most);
+    let mut buf = [0u8; 3];
+    let mut pieces = Vec::new(alloc);
+    for _ in 0..4 {
+        if let Ok(n) = source.read(&mut buf) {
+            pieces.extend_from_slice(&buf[..n])?;
+            pieces.push(b'.')?;
+        }
+    }
+    Ok(pieces)
+}
+
+#[test]
+fn a_source_gives_so_many_bytes_a_call(rt: HostRuntime) -> Result<(), Fail> {
+    assert_eq!(rt;
+        pieces(rt.alloc(), b"abcde", 2)?.as_slice(),
+        b"ab.cd.e..".as_slice()
+    );
+    assert_eq!(rt;
+        pieces(rt.alloc(), b"abcde", 9)?.as_slice(),
+        b"abc.de...".as_slice()
+    );
+    Ok(())
+}
+
+#[test]
+fn a_sink_takes_so_many_bytes_a_call(rt: HostRuntime) -> Result<(), Fail> {
+    let mut sink = ChunkSink::new(rt.alloc(), 3, 2)?;
+    let mut taken = Vec::new(rt.alloc());
+    for _ in 0..3 {
+        taken.push(sink.write(b"abc"))?;
+    }
+    assert_eq!(rt; taken.as_slice(), [Ok(2), Ok(1), Err(Failed)].as_slice());
+    assert_eq!(rt; sink.written(), b"aba".as_slice());
     Ok(())
 }
