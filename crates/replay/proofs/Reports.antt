@@ -7,11 +7,11 @@ use Rattle.fx_io.specs.Outside.{IsMissing, IsFound, file_told, AppendsFront}
 use Rattle.gen_load.specs.Rules.{rules_text}
 use Rattle.drl_parse.specs.Parsed.{file_limit, parsed, parsed_by}
 use Rattle.rule_model.specs.declared.program.Program.{Program}
+use Rattle.script_run.specs.Firings.{Gives, Fires, Counts}
 use Rattle.replay.specs.declared.refusal.RefusalCode.TheVariants.{Missing}
 use Rattle.replay.specs.declared.refusal.Refusal.{Refusal}
 use Rattle.replay.specs.declared.rule_file.Reading.{Reading}
 use Rattle.replay.specs.declared.rule_file.Reading.TheVariants.{Refused}
-use Rattle.script_run.specs.Firings.{Gives, Fires, Counts}
 use Rattle.replay.specs.Refusals.{reading, whole_file, IsRefused}
 use Rattle.replay.specs.Report.{Report, IsReport}
 use Rattle.replay.specs.Wanted.{Wanted, Files, refuses, sums_up, wanted_by_name, wanted_by_number, wanted_by_file, wanted_by_reading, IsRefusedFile, HasRefused}

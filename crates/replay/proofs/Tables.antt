@@ -13,8 +13,8 @@ use Rattle.rule_lives.specs.Keeping.{IsLifeOf, AreLives}
 use Rattle.rule_lives.specs.Lifetimes.{IsLife, PatternLife}
 use Rattle.rule_lives.specs.Reach.{Limit, finite, infinite, Below}
 use Rattle.script_run.specs.Firings.{Gives, Fires, Counts}
-use Rattle.replay.specs.Report.{Report, IsReport, outcome_report, summary_report}
 use Rattle.script_run.specs.Run.{setting_of, whole_run}
+use Rattle.replay.specs.Report.{Report, IsReport, outcome_report, summary_report}
 use Rattle.replay.specs.Notices.{lives_text}
 use Rattle.replay.specs.Wanted.{Wanted, usage_line, refuses, runs, accepts, tells_lives, sums_up}
 

@@ -10,9 +10,9 @@ use Rattle.script_run.specs.declared.fault.RunFault.TheVariants.{ReadFault, Writ
 use Rattle.script_run.specs.declared.turn.Ended.{Ended}
 use Rattle.script_run.specs.declared.turn.Ended.TheVariants.{Script, Limit}
 use Rattle.script_run.specs.Firings.{Gives, Fires, Counts}
-use Rattle.replay.specs.Refusals.{refusal_text}
 use Rattle.script_run.specs.Run.{Outcome, setting_of, whole_run}
 use Rattle.script_run.specs.Unfinished.{Long, StoppedAtRead}
+use Rattle.replay.specs.Refusals.{refusal_text}
 use Rattle.replay.specs.Summary.{summary_text}
 use Rattle.replay.specs.Notices.{usage, accepted_text, lives_text}
 use Rattle.replay.specs.Wanted.{Wanted, usage_line, refuses, runs, accepts, tells_lives, sums_up}

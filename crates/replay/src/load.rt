@@ -28,8 +28,8 @@ use std::alloc::Global;
 /// Room for what a run over a load prints: for 1,000,000 firings of at most 28 bytes, 20,000 insertions and 60,000 faults, in bytes.
 const PRINTED_MAX: usize = 33_554_432;
 
-// Runs a program with its table of lives over a script in memory, with what it prints. The source has less than 1 GiB and does not fail, and the sink has room
-// enough: what stops a run is want of memory.
+// Runs a program with its table of lives over a script in memory, with what it prints. The source has less than 1 GiB and does not fail, and the sink is meant to
+// have room enough; whatever stops the run counts as want of memory.
 fn run_in_memory<E: Engine>(
     alloc: Global,
     program: Program,
