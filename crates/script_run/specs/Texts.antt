@@ -77,4 +77,3 @@ abbrev pub held_text : List TypeInfo → List ℕ → List ℕ
 held_text [] numbers = []
 held_text (ty ∷ types) [] = []
 held_text (ty ∷ types) (number ∷ numbers) = if ty.event then held_line ty.name number ++ held_text types numbers else held_text types (number ∷ numbers)
-
