@@ -1,0 +1,11 @@
+"""A client of the program `replay`, to import: docs/LIVE.md says how it is used.
+
+    sys.path.insert(0, "tools")
+    from client import Session
+"""
+
+from .answers import ClientError, Ended, Fact, Fault, Firing, NoProgram, NotKnown
+from .ordering import Ordered
+from .session import Answer, Session, program_words
+
+__all__ = ["Answer", "ClientError", "Ended", "Fact", "Fault", "Firing", "NoProgram", "NotKnown", "Ordered", "Session", "program_words"]
