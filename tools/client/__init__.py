@@ -5,7 +5,9 @@
 """
 
 from .answers import ClientError, Ended, Fact, Fault, Firing, NoProgram, NotKnown
+from .lines import Script
 from .ordering import Ordered
 from .session import Answer, Session, program_words
 
-__all__ = ["Answer", "ClientError", "Ended", "Fact", "Fault", "Firing", "NoProgram", "NotKnown", "Ordered", "Session", "program_words"]
+__all__ = ["Answer", "ClientError", "Ended", "Fact", "Fault", "Firing", "NoProgram", "NotKnown", "Ordered", "Script",
+           "Session", "program_words"]

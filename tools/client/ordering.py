@@ -19,7 +19,8 @@ class Ordered:
 
     def __init__(self, session: Session, lateness: Optional[int] = None):
         if session.rules is None:
-            raise ClientError("the rule file is missing or refused")
+            session.close()
+            raise ClientError("tools/reference refuses the rule file")
         self.session, self.lateness = session, lateness
         self.clock = 0
         self.held: list[tuple[int, int, tuple]] = []

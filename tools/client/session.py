@@ -21,6 +21,7 @@ from pathlib import Path
 from typing import Any, Callable, Optional, Union
 
 from .answers import CELL, FAULT, FIRE, HELD, NEW, Ended, Fact, Fault, Firing, NoProgram, NotKnown, text_of
+from .lines import Lines, line_of
 from .values import Actions, Book, rules_of
 
 TOP = Path(__file__).resolve().parent.parent.parent
@@ -85,7 +86,7 @@ class Answer:
         return self.wait().told_held
 
 
-class Session:
+class Session(Lines[Answer]):
     """A program that runs over a rule file. `on_answer` is called in the reading thread with each answer that has come, in the order
     of the lines; it must not wait for another. `faults` has all faults so far. Where an answer of `at`, `advance`, `modify` or
     `retract` is asked for, a line behind it is written that the program is known to answer."""
@@ -111,43 +112,14 @@ class Session:
     @staticmethod
     def started(words: list[str]) -> subprocess.Popen:
         try:
+            if words[0] == sys.executable and words[1].endswith(".py"):
+                os.stat(words[1])
             return subprocess.Popen(words, stdin=subprocess.PIPE, stdout=subprocess.PIPE)
         except OSError as error:
-            raise NoProgram(f"there is no program {words[0]} to run ({error.strerror}): build it (README.md, command 3), "
-                            "or take tools/reference/live.py") from None
+            raise NoProgram(f"there is no program {error.filename or words[0]} to run ({error.strerror}): build it (README.md, "
+                            "command 3), or take tools/reference/live.py") from None
 
     # ---- lines
-
-    def insert(self, type_name: str, fields: dict[str, Any], entry: Optional[str] = None) -> Answer:
-        where = {} if entry is None else {"entry": entry}
-        return self.send({"do": "insert", "type": type_name, **where, "fields": fields})
-
-    def modify(self, type_name: str, number: int, fields: dict[str, Any]) -> Answer:
-        return self.send({"do": "modify", "type": type_name, "id": number, "fields": fields})
-
-    def retract(self, type_name: str, number: int) -> Answer:
-        return self.send({"do": "retract", "type": type_name, "id": number})
-
-    def at(self, moment: int) -> Answer:
-        return self.send({"do": "at", "ms": moment})
-
-    def advance(self, by: int) -> Answer:
-        return self.send({"do": "advance", "by": by})
-
-    def fire(self, most: Optional[int] = None) -> Answer:
-        return self.send({"do": "fire"} if most is None else {"do": "fire", "max": most})
-
-    def held(self) -> Answer:
-        return self.send({"do": "held"})
-
-    def promise(self, start: int, entry: Optional[str] = None) -> Answer:
-        """No event that starts earlier comes in by this entry point any more."""
-        where = {} if entry is None else {"entry": entry}
-        return self.send_known({"do": "promise", **where, "from": start})
-
-    def begin(self) -> Answer:
-        """The facts that events are held against are in; events follow."""
-        return self.send_known({"do": "begin"})
 
     def send_known(self, command: dict[str, Any]) -> Answer:
         """Sends a line that not every program knows; NotKnown where this one does not."""
@@ -159,7 +131,7 @@ class Session:
         return answer
 
     def send(self, command: dict[str, Any]) -> Answer:
-        return self.write(json.dumps(command, ensure_ascii=False), command)
+        return self.write(line_of(command), command)
 
     def send_line(self, text: str) -> Answer:
         """Sends a line of a script as it stands, without its newline."""

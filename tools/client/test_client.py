@@ -217,5 +217,37 @@ class Command(Case):
         self.assertEqual((ran.stdout, ran.stderr.count(b"\n"), ran.returncode), (b"", 1, 70))
 
 
+class Example(Case):
+    """The caller and the converter of examples/live."""
+    RULES = EXAMPLES / "live" / "withdrawals.drl"
+    ROW = "2026-03-02 10:00:00.200,2026-03-02 10:00:00.000,4417,harbour"
+
+    def run_example(self, name: str, table: str, *words: object) -> subprocess.CompletedProcess:
+        return subprocess.run([sys.executable, str(EXAMPLES / "live" / name), *map(str, words)], input=table, text=True, capture_output=True)
+
+    def test_the_alerts(self):
+        ran = self.run_example("caller.py", (EXAMPLES / "live" / "withdrawals.csv").read_text(), LIVE, self.RULES)
+        self.assertEqual(ran.stdout.splitlines(), [
+            "two places: card 4417, 120.00 at harbour 10:00:00; card 4417, 80.00 at station 10:00:20",
+            "  the rule made #5 Told {'card': '4417'}", "silent: card 5082, 1500.00 at station 10:00:09"])
+        self.assertEqual((ran.stderr.count("Late"), ran.returncode), (1, 1))
+
+    def test_one_line_for_what_is_wrong(self):
+        table = f"arrived,at,card,place,amount\n{self.ROW}\n"
+        for name, rows, words, wrong in (("caller.py", table, (LIVE, self.RULES), "line 2 of the table: no amount"),
+                                         ("convert.py", table, (), "line 2 of the table: no amount"),
+                                         ("convert.py", f"{table.rstrip()},1.x\n", (), "line 2 of the table: no amount in cents: 1.x"),
+                                         ("caller.py", table, ("/no/such/program", self.RULES), "there is no program /no/such/program"),
+                                         ("caller.py", table, ("/no/such/program.py", self.RULES), "there is no program /no/such/program.py"),
+                                         ("caller.py", table, (LIVE, "/no/such/rules"), "refused item 0 line 0 Missing")):
+            ran = self.run_example(name, rows, *words)
+            self.assertIn(wrong, ran.stderr.splitlines()[0])
+            self.assertNotIn("Traceback", ran.stderr)
+
+    def test_the_script_of_the_table(self):
+        ran = self.run_example("convert.py", (EXAMPLES / "live" / "withdrawals.csv").read_text())
+        self.assertEqual((ran.stdout.count('"insert"'), ran.stdout.count('"fire"'), ran.returncode), (7, 8, 0))
+
+
 if __name__ == "__main__":
     unittest.main()
