@@ -45,7 +45,8 @@ class Change:
 
 @dataclass
 class Life:
-    """A fact from its insertion on. An event lies from `start` to `end`; a plain fact starts at the clock of its insertion."""
+    """A fact from its insertion on. An event lies from `start` to `end`; a plain fact starts at the clock of its insertion. `first`
+    names the first field that holds neither the start nor the duration."""
     number: int
     type: str
     entry: str
@@ -56,6 +57,7 @@ class Life:
     told: int
     line: int
     maker: Optional[int]
+    first: Optional[str] = None
     changes: list[Change] = field(default_factory=list)
     gone: Optional[int] = None
     retracted: bool = False
@@ -265,7 +267,8 @@ class Recorder:
         fact, clock = self.world.facts[-1], self.world.clock
         info = self.program.types[fact.type]
         start, end = times_of(fact) if info.event else (clock, clock)
-        life = Life(fact.id, fact.type, fact.entry, info.event, fact.values, start, end, clock, line, maker and maker.number)
+        first = next((name for name in info.fields if name not in (info.timestamp, info.duration)), None)
+        life = Life(fact.id, fact.type, fact.entry, info.event, fact.values, start, end, clock, line, maker and maker.number, first)
         if info.expires is not None:
             life.gone = start + info.expires
         if maker:
