@@ -35,6 +35,19 @@ rule "many" when accumulate( Reading( $x : value ) over window:time( 1m ) from e
 """
 
 
+# A program that knows `promise`, answers each insert, and has the marks faulty.
+NEWER = """import sys
+for number, line in enumerate(sys.stdin, 1):
+    answer = "new #%d Mark" % number if "insert" in line else "fault %d BadJson" % number if line == "x\\n" else None
+    if answer: print(answer, flush=True)
+"""
+LIMITED = """import sys
+sys.stdin.readline(), print("new #1 A", flush=True), sys.stdin.readline()
+print('fire "tick" #1\\nfire "tick" #1\\nfire "tick" #1\\nlimit 3', flush=True)
+sys.exit(4)
+"""
+
+
 class Case(unittest.TestCase):
     def setUp(self):
         folder = tempfile.TemporaryDirectory()
@@ -90,7 +103,8 @@ class Values(Case):
 
 class Lines(Case):
     def test_many_lines_before_an_answer_is_read(self):
-        session = self.session("declare Mark end")
+        """The program stands still when nobody reads what it answers: here the thread does."""
+        session = self.session("declare Mark end", [sys.executable, "-c", NEWER])
         answers = [session.insert("Mark", {}) for _ in range(20_000)]
         self.assertEqual([answer.fact.id for answer in answers[::1000]], list(range(1, 20_001, 1000)))
         self.assertEqual(session.close(), 0)
@@ -125,10 +139,9 @@ class Lines(Case):
             session.promise(10, "plant")
         with self.assertRaises(NotKnown):
             session.begin()
-        newer = f"import sys; sys.path.insert(0, {str(LIVE.parent)!r}); import live; live.STAGE = 16; sys.exit(live.main())"
-        other = self.session(READINGS, [sys.executable, "-c", newer])
-        self.assertIsNone(other.promise(10, "plant").fault)
-        self.assertEqual(other.insert("Reading", {"at": 0, "value": 1}, "plant").fault.code, "Late")
+        other = self.session(READINGS, [sys.executable, "-c", NEWER])
+        self.assertEqual((other.promise(10, "plant").text, other.begin().fault),
+                         ('{"do": "promise", "entry": "plant", "from": 10}', None))
 
 
 class Ends(Case):
@@ -145,8 +158,7 @@ class Ends(Case):
 
     def test_the_limit(self):
         loop = 'declare A n : long end rule "tick" when $a : A() then modify( $a ) { n = $a.n + 1 } end'
-        limited = f"import sys; sys.path.insert(0, {str(LIVE.parent)!r}); import live; live.LIMIT = 3; sys.exit(live.main())"
-        session = self.session(loop, [sys.executable, "-c", limited])
+        session = self.session(loop, [sys.executable, "-c", LIMITED])
         session.insert("A", {"n": 0})
         answer = session.fire()
         with self.assertRaisesRegex(Ended, "limit 3, status 4"):

@@ -134,6 +134,8 @@ def life_mark(life: Life, lane: int, end: int, clock: Clock) -> Mark:
 def firing_text(firing: Firing, clock: Clock) -> str:
     waiting, made, at = firing.waiting, firing.made, clock.text(firing.clock)
     parts = [f'firing {firing.number} of line {firing.line}, at {at}: "{firing.rule}" {cells_text(firing.cells)}'.rstrip()]
+    if firing.variables:
+        parts.append(", ".join(f"${name} {shown(value)}" for name, value in firing.variables.items()))
     if waiting:
         parts.append(f"waited from {clock.text(waiting.since)} to {clock.text(waiting.until)} for {waiting.type}")
     if made:

@@ -1,0 +1,158 @@
+"""The child process of the desk: reads one request as JSON, and prints what it finds as JSON lines, the quickest first.
+
+What was printed when the time is over is shown all the same.
+"""
+
+from __future__ import annotations
+
+import json
+import os
+import subprocess
+import sys
+from pathlib import Path
+from typing import Any, Iterator, Union
+
+from findings import LANGUAGE, TOP, fault_words, life_reasons, refusals, why_not  # it finds the other tools, too
+
+from clock import clock_of
+from marks import fields_text, picture_of, shown
+from meaning import World
+from page import page
+from program import Program
+from recording import Firing, Recording, Unfit, recording_of
+from run import Run, program_or_refusal
+from script import lines_of
+
+BUILT = TOP / "crates" / "replay_main" / "out" / "replay_main"
+FIRINGS = 2_000
+OUTPUT = 1 << 20
+MEMORY = 2 << 30
+
+
+def say(**members: Any) -> None:
+    sys.stdout.write(json.dumps(members) + "\n")
+    sys.stdout.flush()
+
+
+def bound(seconds: int) -> None:
+    """Bounds the time of the processor and the memory of this process and its own, where the machine can."""
+    try:
+        import resource
+        resource.setrlimit(resource.RLIMIT_CPU, (seconds, seconds + 1))
+        resource.setrlimit(resource.RLIMIT_AS, (MEMORY, MEMORY))
+    except (ImportError, ValueError, OSError):
+        pass
+
+
+# ---- the run: the lines of the output as they come
+
+
+def evaluated(program: Program, script: bytes) -> Iterator[str]:
+    state = Run(World(program), FIRINGS, FIRINGS, [])
+    for number, line in enumerate(lines_of(script), start=1):
+        state.line(number, line)
+        yield from state.lines
+        state.lines.clear()
+        if state.ended:
+            return
+
+
+def has_built_program() -> bool:
+    return os.access(BUILT, os.X_OK) and hasattr(os, "memfd_create")
+
+
+def built(rules: bytes, script: bytes) -> Iterator[str]:
+    """The program reads its rule file from memory, so no file is written."""
+    memory = [os.memfd_create(name) for name in ("rules", "script")]
+    for fd, data in zip(memory, (rules, script)):
+        os.write(fd, data)
+        os.lseek(fd, 0, os.SEEK_SET)
+    words = [str(BUILT), "--limit", str(FIRINGS), f"/proc/self/fd/{memory[0]}"]
+    process = subprocess.Popen(words, stdin=memory[1], stdout=subprocess.PIPE, pass_fds=[memory[0]])
+    for line in process.stdout:
+        yield line.decode("utf-8", "replace").rstrip("\n")
+
+
+def printed(program: Program, rules: bytes, script: bytes) -> list[str]:
+    """Says the output in pieces, and returns it, cut where it is too long."""
+    lines, size, piece = [], 0, []
+    for line in built(rules, script) if has_built_program() else evaluated(program, script):
+        lines.append(line)
+        piece.append(line)
+        size += len(line) + 1
+        if len(piece) == 200 or size > OUTPUT or not has_built_program():
+            say(kind="output", lines=piece)
+            piece = []
+        if size > OUTPUT:
+            say(kind="note", text=f"the output is cut behind {len(lines)} lines")
+            break
+    say(kind="output", lines=piece)
+    return lines
+
+
+# ---- what the output means
+
+
+def fact_shown(number: int, type_name: str, values: dict) -> dict:
+    """Values are texts already: a page's numbers do not have 64 bits."""
+    return {"id": number, "type": type_name, "text": fields_text(values)}
+
+
+def firing_shown(firing: Firing, recording: Recording) -> dict:
+    lives, waiting = recording.lives, firing.waiting
+    results = " ".join(f"={number}" for sign, number in firing.cells if sign == "=")
+    variables = ", ".join(f"${name} {shown(value)}" for name, value in firing.variables.items())
+    return {"line": firing.line, "clock": firing.clock, "rule": firing.rule, "values": f"{results} {variables}".strip(),
+            "waiting": waiting and f"waited from {waiting.since} to {waiting.until} for {waiting.type}",
+            "facts": [fact_shown(number, lives[number].type, firing.values[number]) for number in firing.facts],
+            "made": [fact_shown(number, lives[number].type, lives[number].values) for number in firing.made]}
+
+
+def tell_recording(asked: dict, rules: bytes, script: bytes, output: list[str]) -> None:
+    try:
+        recording = recording_of(rules, script, "".join(line + "\n" for line in output).encode("utf-8"))
+    except Unfit as unfit:
+        say(kind="note", text=f"no time line: {unfit}")
+        return
+    say(kind="run", end=recording.end, dates=clock_of(recording).dates, facts=len(recording.lives),
+        firings=[firing_shown(firing, recording) for firing in recording.firings],
+        faults=[{"line": fault.line, "code": fault.code, "clock": fault.clock, "sent": fault.text, "words": fault_words(fault.code)}
+                for fault in recording.faults],
+        printed=[{"clock": it.clock, "line": it.line, "text": it.text} for it in recording.printed])
+    say(kind="timeline", html=page(asked["title"], recording, picture_of(recording)))
+
+
+def run(asked: dict, rules: bytes, script: bytes, program: Program) -> None:
+    say(kind="accepted", types=len(program.types), rules=[rule.name for rule in program.rules], program=program_said())
+    say(kind="lives", lives=life_reasons(program))
+    tell_recording(asked, rules, script, printed(program, rules, script))
+
+
+def program_said() -> str:
+    return "the proved program" if has_built_program() else "the second evaluator, tools/reference"
+
+
+def why(asked: dict, rules: bytes, script: bytes, program: Program) -> None:
+    """The world before a line of the script, by the second evaluator, and the rule in it."""
+    state = Run(World(program), FIRINGS, FIRINGS, [])
+    for number, line in enumerate(lines_of(script)[:max(0, asked["line"] - 1)], start=1):
+        state.line(number, line)
+    rule = next((rule for rule in program.rules if rule.name == asked["rule"]), None)
+    say(kind="why", lines=why_not(rule, state.world) if rule else [f"there is no rule {asked['rule']}"])
+
+
+def main() -> int:
+    asked = json.load(sys.stdin)
+    bound(asked["seconds"])
+    rules, script = asked["rules"].encode("utf-8"), asked["script"].encode("utf-8")
+    program: Union[Program, str] = program_or_refusal(rules, LANGUAGE)
+    if isinstance(program, str):
+        say(kind="refused", text=program, refusals=refusals(rules))
+    else:
+        {"run": run, "why": why}[asked["do"]](asked, rules, script, program)
+    say(kind="done")
+    return 0
+
+
+if __name__ == "__main__":
+    sys.exit(main())
