@@ -6,14 +6,13 @@ clock is moved to its start, and behind it all that is pending is fired. The las
 """
 
 import csv
-import datetime
 import decimal
 import sys
 from pathlib import Path
 
 sys.path.insert(0, str(Path(__file__).resolve().parent.parent.parent / "tools"))
 
-from client import Script  # noqa: E402
+from client import Script, milliseconds  # noqa: E402
 
 WAIT = 63_000  # milliseconds behind the last event: a minute of the rule, two seconds of lateness, and more
 COLUMNS = ("arrived", "at", "card", "place", "amount")
@@ -21,12 +20,6 @@ COLUMNS = ("arrived", "at", "card", "place", "amount")
 
 class BadRow(Exception):
     """A row of the table is none of a withdrawal."""
-
-
-def milliseconds(text):
-    """A moment of UTC as whole milliseconds since 1970."""
-    moment = datetime.datetime.fromisoformat(text).replace(tzinfo=datetime.timezone.utc)
-    return round(moment.timestamp() * 1000)
 
 
 def cents(text):

@@ -8,6 +8,7 @@ from .answers import ClientError, Ended, Fact, Fault, Firing, NoProgram, NotKnow
 from .lines import Script
 from .ordering import Ordered
 from .session import Answer, Session, program_words
+from .times import date_of, milliseconds
 
-__all__ = ["Answer", "ClientError", "Ended", "Fact", "Fault", "Firing", "NoProgram", "NotKnown", "Ordered", "Script",
-           "Session", "program_words"]
+__all__ = ["Answer", "ClientError", "Ended", "Fact", "Fault", "Firing", "NoProgram", "NotKnown", "Ordered", "Script", "Session", "date_of",
+           "milliseconds", "program_words"]

@@ -5,7 +5,10 @@ from __future__ import annotations
 import json
 import re
 from dataclasses import dataclass, field
+from datetime import datetime
 from typing import Any, Optional, Union
+
+from .times import date_of
 
 Value = Union[int, bool, str]
 
@@ -65,6 +68,11 @@ class Firing:
     modified: list[Fact] = field(default_factory=list)
     retracted: list[Fact] = field(default_factory=list)
     faults: list[Fault] = field(default_factory=list)
+
+    @property
+    def date(self) -> datetime:
+        """The clock where it counts from 1970."""
+        return date_of(self.clock)
 
     def __str__(self) -> str:
         return " ".join([f'fire "{self.rule}"'] + [f"#{fact.id}" for fact in self.facts] + [f"={result}" for result in self.results])

@@ -15,13 +15,15 @@ class Ordered:
     `Late`: it is inserted when the lateness behind its start is over, with the clock there. Others, and plain facts, go in as they
     come. Behind each event stands a `fire`.
 
-    `lateness` is taken for each entry point, where it is None that of the rule file."""
+    `lateness` is taken for each entry point, where it is None that of the rule file. With a `step` the clock goes no further at once
+    than so many milliseconds, and behind each step stands a `fire`: what ends between two arrivals fires at its moment, and not at the
+    later one."""
 
-    def __init__(self, session: Session, lateness: Optional[int] = None):
+    def __init__(self, session: Session, lateness: Optional[int] = None, step: Optional[int] = None):
         if session.rules is None:
             session.close()
             raise ClientError("tools/reference refuses the rule file")
-        self.session, self.lateness = session, lateness
+        self.session, self.lateness, self.step = session, lateness, step
         self.clock = 0
         self.held: list[tuple[int, int, tuple]] = []
         self.order = count()
@@ -44,15 +46,21 @@ class Ordered:
         answers = []
         while self.held and self.held[0][0] <= moment:
             due, _, line = heapq.heappop(self.held)
-            self.move(due)
+            answers += self.move(due)
             answers += [self.session.insert(*line), self.session.fire()]
-        self.move(moment)
-        return answers + [self.session.fire()]
+        return answers + self.move(moment) + [self.session.fire()]
 
-    def move(self, moment: int) -> None:
+    def move(self, moment: int) -> list[Answer]:
+        """Moves the clock, never back, and answers the fires of the steps between; the first move is one step."""
+        fires = []
+        while self.step and self.clock and self.clock + self.step < moment:
+            self.clock += self.step
+            self.session.at(self.clock)
+            fires.append(self.session.fire())
         if moment > self.clock:
             self.clock = moment
             self.session.at(moment)
+        return fires
 
     def rest(self) -> list[Answer]:
         """Inserts all that is held back still."""

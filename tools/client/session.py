@@ -18,7 +18,7 @@ import sys
 import threading
 from collections import deque
 from pathlib import Path
-from typing import Any, Callable, Optional, Union
+from typing import Any, BinaryIO, Callable, Optional, Union
 
 from .answers import CELL, FAULT, FIRE, HELD, NEW, Ended, Fact, Fault, Firing, NoProgram, NotKnown, text_of
 from .lines import Lines, line_of
@@ -88,15 +88,16 @@ class Answer:
 
 class Session(Lines[Answer]):
     """A program that runs over a rule file. `on_answer` is called in the reading thread with each answer that has come, in the order
-    of the lines; it must not wait for another. `faults` has all faults so far. Where an answer of `at`, `advance`, `modify` or
-    `retract` is asked for, a line behind it is written that the program is known to answer."""
+    of the lines; it must not wait for another. `record` takes each line of the caller's: a script that gives the same run again.
+    `faults` has all faults so far. Where an answer of `at`, `advance`, `modify` or `retract` is asked for, a line behind it is written
+    that the program is known to answer."""
 
     def __init__(self, rules: Union[str, Path], program: Union[None, str, Path, list[str]] = None, limit: Optional[int] = None,
-                 on_answer: Optional[Callable[[Answer], None]] = None):
-        self.started_with = (rules, program, limit, on_answer)
+                 on_answer: Optional[Callable[[Answer], None]] = None, record: Optional[BinaryIO] = None):
+        self.started_with = (rules, program, limit, on_answer, record)
         self.rules = rules_of(Path(rules))
         self.book = Book(self.rules)
-        self.on_answer = on_answer
+        self.on_answer, self.record = on_answer, record
         self.faults: list[Fault] = []
         self.pending: deque[Optional[Answer]] = deque()
         self.actions: Optional[Actions] = None
@@ -152,7 +153,10 @@ class Session(Lines[Answer]):
                 self.enter(answer, answer.word == "insert")
                 if marked:
                     self.enter(None, True)
-            self.put(text.encode("utf-8", "surrogatepass") + b"\n" + (MARK if marked else b""))
+            line = text.encode("utf-8", "surrogatepass") + b"\n"
+            if self.record:
+                self.record.write(line)
+            self.put(line + (MARK if marked else b""))
         return answer
 
     def enter(self, answer: Optional[Answer], answers: bool) -> None:

@@ -1,5 +1,6 @@
 """The client over tools/reference/live.py, and over small programs that stand for others. Run: python3 -m unittest discover tools/client"""
 
+import io
 import json
 import subprocess
 import sys
@@ -10,7 +11,7 @@ from pathlib import Path
 TOOLS = Path(__file__).resolve().parent.parent
 sys.path.insert(0, str(TOOLS))
 
-from client import Ended, Fact, NoProgram, NotKnown, Ordered, Session  # noqa: E402
+from client import Ended, Fact, NoProgram, NotKnown, Ordered, Session, date_of, milliseconds  # noqa: E402
 
 LIVE = TOOLS / "reference" / "live.py"
 EXAMPLES = TOOLS.parent / "examples"
@@ -204,6 +205,29 @@ class InOrder(Case):
                          [(1000, 3000), (1200, 3200), (2400, 4400), (3200, 5200), (9000, 11000)])
         self.assertEqual([it.facts[1]["value"] for answer in fired for it in answer.firings if it.rule == "rise"], [7, 3])
         self.assertEqual(session.close(), 0)
+
+    def test_small_steps(self):
+        """Silence is told at the first step behind 13000: 10 s behind the reading, and the lateness of 2 s."""
+        silent = """declare Beat @role( event ) @timestamp( at ) at : long end
+declare entry-point "plant" @lateness( 2s ) end
+rule "silent" when $a : Beat() from entry-point "plant" not( Beat( this after[1ms,10s] $a ) from entry-point "plant" ) then end"""
+        for step, fired in ((None, [100_000]), (1000, [14_000])):
+            ordered = Ordered(self.session(silent), step=step)
+            ordered.until(1000)
+            ordered.insert("Beat", {"at": 1000}, "plant")
+            self.assertEqual([it.clock for answer in ordered.until(100_000) for it in answer.firings], fired)
+
+    def test_dates(self):
+        self.assertEqual(milliseconds("2026-03-02 10:00:00.200"), 1772445600200)
+        self.assertEqual(milliseconds("2026-03-02 11:00:00.200+01:00"), 1772445600200)
+        self.assertEqual(milliseconds(date_of(1772445600200)), 1772445600200)
+
+    def test_a_recorded_script(self):
+        record = io.BytesIO()
+        session = self.session(READINGS, record=record)
+        session.at(5)
+        session.fire().wait()
+        self.assertEqual(record.getvalue(), b'{"do": "at", "ms": 5}\n{"do": "fire"}\n')
 
 
 class Command(Case):
