@@ -192,7 +192,7 @@ function showOutput(run) {
 
 function showLives(lives) {
   $("lives").replaceChildren(table(["type of events", "life, ms", "where it comes from"], lives.map(life => element("tr", {},
-    element("td", {}, life.type), number(life.life), element("td", {}, life.why)))),
+    element("td", {}, life.type), number(life.life), element("td", { class: "lines" }, life.why)))),
   element("p", { class: "quiet" }, "How long an event matters behind its end. An infinite one is kept for ever: docs/RULES.md, How long an event matters."));
 }
 
@@ -215,10 +215,16 @@ function shortOf(texts) {
   return { kind: made ? "new" : "", short: made ? texts[0].split(" ")[1] : texts[0].split(" ")[0] };
 }
 
-function showRun(run) {
+// Why a line is faulty, where that is told, else what its code means. Faults of actions are told in their order.
+function faultsOf(run, told) {
+  const reasons = new Map(told.map(message => [message.line, [...message.reasons]]));
+  return run.faults.map(fault => ({ line: fault.line, code: fault.code, text: (reasons.get(fault.line) || []).shift() || fault.words }));
+}
+
+function showRun(run, told) {
   dates = run.dates;
   script.answers = answersOf(run);
-  script.show(run.faults.map(fault => ({ line: fault.line, code: fault.code, text: fault.words })));
+  script.show(faultsOf(run, told));
   showFirings(run);
   showOutput(run);
   const faulty = run.faults.length ? `, ${run.faults.length} faults` : "";
@@ -233,26 +239,57 @@ function showTimeline() {
     { src: `timeline/${timeline}`, title: "The time line of the run", sandbox: "allow-scripts" })]);
 }
 
-function showRules(names) {
+function showRules(names, types) {
   const chosen = $("why-rule").value;
-  $("why-rule").replaceChildren(...names.map(name => element("option", {}, name)));
-  if (names.includes(chosen)) $("why-rule").value = chosen;
+  $("why-rule").replaceChildren(element("option", { value: "" }, "(none: what is pending)"), ...names.map(name => element("option", { value: name }, name)));
+  $("why-rule").value = names.includes(chosen) ? chosen : names[0] || "";
+  const lines = [...types.map(type => [`insert ${type.type}`, type.line, type.timestamp]), ["at", { do: "at", ms: 0 }, "ms"],
+    ["advance", { do: "advance", by: 1000 }], ["fire", { do: "fire" }], ["held", { do: "held" }]];
+  $("add").replaceChildren(element("option", {}, "add a line .."), ...lines.map(([name]) => element("option", {}, name)));
+  $("add").onchange = () => {
+    const [, line, moment] = lines[$("add").selectedIndex - 1];
+    addLine(line, moment);
+    $("add").selectedIndex = 0;
+  };
+}
+
+// The clock that the lines above the cursor lead to, as far as they can be read.
+function clockAbove(lines) {
+  let clock = 0;
+  for (const line of lines) {
+    try {
+      const { do: word, ms, by } = JSON.parse(line);
+      clock = word === "at" ? ms : word === "advance" ? clock + by : clock;
+    } catch { /* a faulty line moves nothing */ }
+  }
+  return clock;
+}
+
+// Adds a line below that of the cursor, with the clock of that place as its moment.
+function addLine(line, moment) {
+  const cursor = script.area.selectionStart, end = script.text.indexOf("\n", cursor), at = end < 0 ? script.text.length : end;
+  const clock = clockAbove(script.text.slice(0, at).split("\n")), fields = line.fields && { ...line.fields };
+  if (moment) (fields || line)[moment] = clock;
+  const text = JSON.stringify(fields ? { ...line, fields } : line), empty = /(^|\n)\s*$/.test(script.text.slice(0, at));
+  script.area.focus();
+  script.area.setSelectionRange(at, at);
+  document.execCommand("insertText", false, empty ? text : `\n${text}`);
 }
 
 function show(said) {
   const of = kind => said.find(message => message.kind === kind), all = kind => said.filter(message => message.kind === kind);
   const [refused, accepted, run, lives, drawn] = ["refused", "accepted", "run", "lives", "timeline"].map(of);
   const advice = all("advice").flatMap(message => message.findings).map(found => ({ ...found, advice: true }));
-  rules.show([...(refused ? refused.refusals : []), ...advice]);
+  rules.show([...(refused ? refused.findings : []), ...advice]);
   if (refused) {
     tell(refused.text, true);
     script.show([]);
     return;
   }
   outdated(false);
-  if (accepted) showRules(accepted.rules);
+  if (accepted) showRules(accepted.rules, accepted.types);
   if (lives) showLives(lives.lives);
-  if (run) showRun({ ...run, by: accepted.program });
+  if (run) showRun({ ...run, by: accepted.program }, all("fault"));
   else showCut(all("output").flatMap(message => message.lines));
   timeline = drawn ? drawn.run : null;
   showTimeline();
@@ -295,7 +332,8 @@ async function why(event) {
   event.preventDefault();
   $("why-answer").textContent = "..";
   try {
-    const { said } = await ask("why", { rules: rules.text, script: script.text, rule: $("why-rule").value, line: Number($("why-line").value) });
+    const facts = ($("why-facts").value.match(/\d+/g) || []).map(Number);
+    const { said } = await ask("why", { rules: rules.text, script: script.text, rule: $("why-rule").value, line: Number($("why-line").value), facts });
     const found = said.find(message => message.kind === "why");
     $("why-answer").textContent = found ? found.lines.join("\n") : said.map(message => message.text || "").join("\n");
   } catch (error) { $("why-answer").textContent = error.message; }

@@ -96,7 +96,7 @@ class Desk:
         if request["script"].count("\n") > LINES_MOST:
             raise Refused(413, f"the script has more than {LINES_MOST} lines: run it by ./try")
         if word == "why":
-            request.update(rule=text_in(asked, "rule", 4096), line=number_in(asked, "line"))
+            request.update(rule=text_in(asked, "rule", 4096), line=max(1, number_in(asked.get("line"))), facts=numbers_in(asked, "facts"))
         if not self.running.acquire(blocking=False):
             raise Refused(409, "another run is going on")
         try:
@@ -133,11 +133,17 @@ def text_in(asked: dict, name: str, most: int) -> str:
     raise Refused(413 if isinstance(text, str) else 400, f"{name} is no text of at most {most} bytes")
 
 
-def number_in(asked: dict, name: str) -> int:
-    number = asked.get(name)
+def number_in(number: Any) -> int:
     if type(number) is int and 0 <= number <= 2**31:
         return number
-    raise Refused(400, f"{name} is no line")
+    raise Refused(400, f"{number!r:.40} is no number of a line or a fact")
+
+
+def numbers_in(asked: dict, name: str) -> list[int]:
+    numbers = asked.get(name, [])
+    if isinstance(numbers, list) and len(numbers) <= 20:
+        return [number_in(number) for number in numbers]
+    raise Refused(400, f"{name} is no list of at most 20 numbers")
 
 
 class Handler(BaseHTTPRequestHandler):

@@ -12,6 +12,7 @@ HERE = Path(__file__).resolve().parent
 sys.path.insert(0, str(HERE))
 
 from child import answer  # noqa: E402
+import findings  # noqa: E402
 from findings import fault_words, life_reasons, read_refusals, refusal_words  # noqa: E402
 from server import BODY_MOST, Desk, DeskServer  # noqa: E402
 from run import program_or_refusal  # noqa: E402
@@ -57,11 +58,30 @@ class Findings(unittest.TestCase):
         self.assertIn("Declare it", refusal_words("UnknownType"))
         self.assertEqual(fault_words("NoSuchCode"), "")
 
-    def test_reasons_of_lives(self):
+    def test_lives(self):
         program = program_or_refusal(RULES.encode() + b"declare Old @role( event ) @expires( 1s ) end declare P end rule p when P() Old() Fire() then end", 14)
-        self.assertEqual([(it["type"], it["life"], it["why"]) for it in life_reasons(program)], [
-            ("Fire", "infinite", 'rule "p", condition 3: condition 1 asks for the plain type P'),
-            ("Water", "0", 'rule "no water", condition 2'), ("Old", "explicit 1000", "its @expires, from the start of the event")])
+        self.assertEqual([(it["type"], it["life"]) for it in life_reasons(program)],
+                         [("Fire", "infinite"), ("Water", "0"), ("Old", "explicit 1000")])
+
+
+class OtherTools(unittest.TestCase):
+    @unittest.skipUnless(findings.where, "tools/rulefile is not there")
+    def test_refusals_and_advice(self):
+        found = findings.refusals(b'declare A n : long end\nrule a when A( n = 1 ) A( m == 1 ) then end\n')
+        self.assertEqual([(it["line"], it["column"], it["code"]) for it in found], [(2, 18, "Syntax"), (2, 27, "UnknownField")])
+        found = findings.advice(b'declare A @role( event ) end rule a when A() from entry-point x then end')
+        self.assertIn("undeclared-entry", [it["code"] for it in found])
+
+    @unittest.skipUnless(findings.kept, "tools/rulefile is not there")
+    def test_reasons_of_lives(self):
+        program = program_or_refusal(b"declare A @role( event ) end declare P end rule p when P() A() then end", 14)
+        self.assertIn('rule "p", condition 2: condition 1 is of the plain type `P`', life_reasons(program)[0]["why"])
+
+    @unittest.skipUnless(findings.faults and findings.why, "tools/running is not there")
+    def test_reasons_of_lines(self):
+        self.assertEqual([it["reasons"] for it in work() if it["kind"] == "fault"], [["the clock is 10001, and would go to 1"]])
+        said = of_kind(work(do="why", rule="no water", line=3, facts=[1]), "why")["lines"]
+        self.assertIn("waits until the clock is 10001", "\n".join(said))
 
 
 class Work(unittest.TestCase):
@@ -76,17 +96,11 @@ class Work(unittest.TestCase):
 
     def test_a_refused_file(self):
         said = work(rules="rule")
-        self.assertEqual((of_kind(said, "refused")["text"], of_kind(said, "refused")["refusals"][0]["line"]), ("refused item 1 line 1 Syntax", 1))
+        self.assertEqual((of_kind(said, "refused")["text"], of_kind(said, "refused")["findings"][0]["line"]), ("refused item 1 line 1 Syntax", 1))
 
-    def test_why_not(self):
-        def why(rule, line):
-            return of_kind(work(do="why", rule=rule, line=line), "why")["lines"]
-
-        self.assertEqual(why("no water", 3)[-1].strip(), "with #1: it waits until the clock is 10001, and it is 10000")
-        self.assertEqual(why("dear room", 3)[-1].strip(), "#1 Fire: `room > 9007199254740993` does not hold")
-        self.assertEqual(why("no water", 5)[-1].strip(), "with #1: pending")
-        self.assertIn("all have fired", why("no water", 6)[-1])
-        self.assertEqual(why("none", 6), ["there is no rule none"])
+    def test_lines_to_add(self):
+        types = of_kind(work(), "accepted")["types"]
+        self.assertEqual(types[0], {"type": "Fire", "timestamp": None, "line": {"do": "insert", "type": "Fire", "fields": {"room": 0}}})
 
     def test_a_run_that_takes_too_long(self):
         rules = 'declare A n : long end rule "tick" when $a : A() $b : A() $c : A( n != $a.n ) then modify( $a ) { n = $a.n + 1 } end'
@@ -160,7 +174,8 @@ class Server(unittest.TestCase):
                                       ({"rules": "", "script": "\n" * 5001}, 413, {}), ({}, 415, {"Content_Type": "text/plain"}),
                                       (b"", 411, {"Content_Length": None}), ({"rules": "\ud800", "script": ""}, 413, {})):
             self.assertEqual(self.ask("run", body, **changed)[0], status, (body if len(str(body)) < 99 else "..", status))
-        self.assertEqual(self.ask("why", {"rules": "", "script": "", "rule": "a", "line": "1"})[0], 400)
+        for wrong in ({"line": "1"}, {"line": 1, "facts": [True]}, {"line": 1, "facts": [1] * 21}):
+            self.assertEqual(self.ask("why", {"rules": "", "script": "", "rule": "a", **wrong})[0], 400)
 
     def test_a_run_and_its_time_line(self):
         said = self.ask("run", {"rules": RULES, "script": SCRIPT})[1]["said"]

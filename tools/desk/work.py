@@ -12,7 +12,8 @@ import sys
 from pathlib import Path
 from typing import Any, Iterator, Union
 
-from findings import LANGUAGE, TOP, fault_words, life_reasons, refusals, why_not  # it finds the other tools, too
+from findings import (LANGUAGE, TOP, advice, fault_reason, fault_words, life_reasons, reasons_at,  # it finds the other tools, too
+                      refusals)
 
 from clock import clock_of
 from marks import fields_text, picture_of, shown
@@ -25,6 +26,7 @@ from script import lines_of
 
 BUILT = TOP / "crates" / "replay_main" / "out" / "replay_main"
 FIRINGS = 2_000
+EXPLAINED = 20
 OUTPUT = 1 << 20
 MEMORY = 2 << 30
 
@@ -108,12 +110,7 @@ def firing_shown(firing: Firing, recording: Recording) -> dict:
             "made": [fact_shown(number, lives[number].type, lives[number].values) for number in firing.made]}
 
 
-def tell_recording(asked: dict, rules: bytes, script: bytes, output: list[str]) -> None:
-    try:
-        recording = recording_of(rules, script, "".join(line + "\n" for line in output).encode("utf-8"))
-    except Unfit as unfit:
-        say(kind="note", text=f"no time line: {unfit}")
-        return
+def tell_recording(asked: dict, recording: Recording) -> None:
     say(kind="run", end=recording.end, dates=clock_of(recording).dates, facts=len(recording.lives),
         firings=[firing_shown(firing, recording) for firing in recording.firings],
         faults=[{"line": fault.line, "code": fault.code, "clock": fault.clock, "sent": fault.text, "words": fault_words(fault.code)}
@@ -122,10 +119,36 @@ def tell_recording(asked: dict, rules: bytes, script: bytes, output: list[str]) 
     say(kind="timeline", html=page(asked["title"], recording, picture_of(recording)))
 
 
+def tell_faults(program: Program, script: bytes, recording: Recording) -> None:
+    """Why lines are faulty, as far as the time goes: for each the run up to there is done anew."""
+    for line in list(dict.fromkeys(fault.line for fault in recording.faults))[:EXPLAINED]:
+        say(kind="fault", line=line, reasons=fault_reason(program, script, line))
+
+
+def types_shown(program: Program) -> list[dict]:
+    """For each type a line of the script that inserts one, with an empty value in each field."""
+    empty = {"Int": 0, "Bool": False, "Text": ""}
+    entries = {condition.source.type: condition.source.entry for rule in program.rules for condition in rule.conditions}
+    lines = []
+    for info in program.types.values():
+        where = {"entry": entries[info.name]} if entries.get(info.name) else {}
+        fields = {name: empty[kind] for name, kind in info.fields.items()}
+        lines.append({"type": info.name, "timestamp": info.timestamp, "line": {"do": "insert", "type": info.name, **where, "fields": fields}})
+    return lines
+
+
 def run(asked: dict, rules: bytes, script: bytes, program: Program) -> None:
-    say(kind="accepted", types=len(program.types), rules=[rule.name for rule in program.rules], program=program_said())
+    say(kind="accepted", types=types_shown(program), rules=[rule.name for rule in program.rules], program=program_said())
     say(kind="lives", lives=life_reasons(program))
-    tell_recording(asked, rules, script, printed(program, rules, script))
+    say(kind="advice", findings=advice(rules))
+    output = "".join(line + "\n" for line in printed(program, rules, script)).encode("utf-8")
+    try:
+        recording = recording_of(rules, script, output)
+    except Unfit as unfit:
+        say(kind="note", text=f"no time line: {unfit}")
+        return
+    tell_recording(asked, recording)
+    tell_faults(program, script, recording)
 
 
 def program_said() -> str:
@@ -133,12 +156,7 @@ def program_said() -> str:
 
 
 def why(asked: dict, rules: bytes, script: bytes, program: Program) -> None:
-    """The world before a line of the script, by the second evaluator, and the rule in it."""
-    state = Run(World(program), FIRINGS, FIRINGS, [])
-    for number, line in enumerate(lines_of(script)[:max(0, asked["line"] - 1)], start=1):
-        state.line(number, line)
-    rule = next((rule for rule in program.rules if rule.name == asked["rule"]), None)
-    say(kind="why", lines=why_not(rule, state.world) if rule else [f"there is no rule {asked['rule']}"])
+    say(kind="why", lines=reasons_at(rules, script, asked["line"], asked["rule"] or None, asked["facts"]))
 
 
 def main() -> int:
@@ -147,7 +165,7 @@ def main() -> int:
     rules, script = asked["rules"].encode("utf-8"), asked["script"].encode("utf-8")
     program: Union[Program, str] = program_or_refusal(rules, LANGUAGE)
     if isinstance(program, str):
-        say(kind="refused", text=program, refusals=refusals(rules))
+        say(kind="refused", text=program, findings=refusals(rules))
     else:
         {"run": run, "why": why}[asked["do"]](asked, rules, script, program)
     say(kind="done")
