@@ -9,7 +9,7 @@ Sent = TypeVar("Sent")
 
 
 def line_of(command: dict[str, Any]) -> str:
-    return json.dumps(command, ensure_ascii=False)
+    return json.dumps(command, ensure_ascii=False, separators=(",", ":"))
 
 
 class Lines(Generic[Sent]):

@@ -142,7 +142,7 @@ class Lines(Case):
             session.begin()
         other = self.session(READINGS, [sys.executable, "-c", NEWER])
         self.assertEqual((other.promise(10, "plant").text, other.begin().fault),
-                         ('{"do": "promise", "entry": "plant", "from": 10}', None))
+                         ('{"do":"promise","entry":"plant","from":10}', None))
 
 
 class Ends(Case):
@@ -227,7 +227,7 @@ rule "silent" when $a : Beat() from entry-point "plant" not( Beat( this after[1m
         session = self.session(READINGS, record=record)
         session.at(5)
         session.fire().wait()
-        self.assertEqual(record.getvalue(), b'{"do": "at", "ms": 5}\n{"do": "fire"}\n')
+        self.assertEqual(record.getvalue(), b'{"do":"at","ms":5}\n{"do":"fire"}\n')
 
 
 class Command(Case):

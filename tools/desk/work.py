@@ -15,7 +15,7 @@ from typing import Any, Iterator, Union
 from findings import (LANGUAGE, TOP, advice, fault_reason, fault_words, life_reasons, reasons_at,  # it finds the other tools, too
                       refusals)
 
-from clock import clock_of
+from clock import Clock, clock_of
 from marks import fields_text, picture_of, shown
 from meaning import World
 from page import page
@@ -100,19 +100,20 @@ def fact_shown(number: int, type_name: str, values: dict) -> dict:
     return {"id": number, "type": type_name, "text": fields_text(values)}
 
 
-def firing_shown(firing: Firing, recording: Recording) -> dict:
+def firing_shown(firing: Firing, recording: Recording, clock: Clock) -> dict:
     lives, waiting = recording.lives, firing.waiting
     results = " ".join(f"={number}" for sign, number in firing.cells if sign == "=")
     variables = ", ".join(f"${name} {shown(value)}" for name, value in firing.variables.items())
     return {"line": firing.line, "clock": firing.clock, "rule": firing.rule, "values": f"{results} {variables}".strip(),
-            "waiting": waiting and f"waited from {waiting.since} to {waiting.until} for {waiting.type}",
+            "waiting": waiting and f"waited from {clock.text(waiting.since)} to {clock.text(waiting.until)} for {waiting.type}",
             "facts": [fact_shown(number, lives[number].type, firing.values[number]) for number in firing.facts],
             "made": [fact_shown(number, lives[number].type, lives[number].values) for number in firing.made]}
 
 
 def tell_recording(asked: dict, recording: Recording) -> None:
-    say(kind="run", end=recording.end, dates=clock_of(recording).dates, facts=len(recording.lives),
-        firings=[firing_shown(firing, recording) for firing in recording.firings],
+    clock = clock_of(recording)
+    say(kind="run", end=recording.end, dates=clock.dates, facts=len(recording.lives),
+        firings=[firing_shown(firing, recording, clock) for firing in recording.firings],
         faults=[{"line": fault.line, "code": fault.code, "clock": fault.clock, "sent": fault.text, "words": fault_words(fault.code)}
                 for fault in recording.faults],
         printed=[{"clock": it.clock, "line": it.line, "text": it.text} for it in recording.printed])
