@@ -82,14 +82,15 @@ class Editor {
     const unsaved = this.text !== this.saved;
     this.changed.hidden = !unsaved;
     this.save.disabled = !unsaved;
-    const lines = this.text.split("\n"), marked = new Map(this.marks.map(mark => [mark.line, mark]));
-    this.gutter.replaceChildren(...lines.map((line, k) => this.number(k + 1, marked)));
-    this.behind.replaceChildren(...lines.flatMap((line, k) => [...this.line(line, marked.get(k + 1)), "\n"]));
+    const lines = this.text.split("\n"), marked = new Map(this.marks.map(mark => [mark.line, []]));
+    for (const mark of this.marks) marked.get(mark.line).push(mark);
+    this.gutter.replaceChildren(...lines.map((line, k) => this.number(k + 1, marked.get(k + 1) || [])));
+    this.behind.replaceChildren(...lines.flatMap((line, k) => [...this.line(line, marked.get(k + 1) || []), "\n"]));
     this.scrolled();
   }
 
   number(line, marked) {
-    const answer = this.answers.get(line), row = element("div", marked.has(line) ? { class: "at" } : {});
+    const answer = this.answers.get(line), row = element("div", marked.some(mark => !mark.advice) ? { class: "at" } : {});
     if (answer) {
       row.append(element("span", { class: answer.kind }, answer.short), " ");
       row.title = answer.long;
@@ -98,10 +99,16 @@ class Editor {
     return row;
   }
 
-  line(line, mark) {
-    if (!mark) return [line];
-    const from = Math.min(mark.column - 1, line.length), to = from + mark.length;
-    return [line.slice(0, from), element("mark", {}, line.slice(from, to) || " "), line.slice(to)];
+  // A line of the sheet behind the text, with what is marked in it.
+  line(line, marked) {
+    const pieces = [];
+    let done = 0;
+    for (const mark of [...marked].sort((a, b) => a.column - b.column)) {
+      const from = Math.max(done, Math.min(mark.column - 1, line.length)), to = Math.max(from, mark.column - 1 + mark.length);
+      pieces.push(line.slice(done, from), element("mark", mark.advice ? { class: "advice" } : {}, line.slice(from, to) || " "));
+      done = to;
+    }
+    return [...pieces, line.slice(done)];
   }
 
   scrolled() {
@@ -139,7 +146,7 @@ function openPanel(name) {
     tab.setAttribute("aria-selected", tab.dataset.panel === name);
     $(tab.dataset.panel).hidden = tab.dataset.panel !== name;
   }
-  location.hash = name;
+  history.replaceState(null, "", `#${name}`);
   showTimeline();
 }
 
