@@ -48,7 +48,9 @@ class Editor {
 
   load(file) {
     this.title.textContent = file.name;
-    this.area.value = this.saved = file.text;
+    this.area.value = file.text;
+    this.saved = this.area.value;
+    this.ending = file.text.includes("\r\n") ? "\r\n" : "\n";
     this.draw();
   }
 
@@ -62,7 +64,7 @@ class Editor {
 
   // Tab writes two blanks; Escape leaves the editor, so that the keyboard is not caught in it.
   key(event) {
-    if (event.key === "Escape") this.save.focus();
+    if (event.key === "Escape") $("run").focus();
     if (event.key !== "Tab" || event.shiftKey || event.ctrlKey || event.altKey) return;
     event.preventDefault();
     document.execCommand("insertText", false, "  ");
@@ -71,7 +73,7 @@ class Editor {
   async write() {
     const text = this.text;
     try {
-      await ask("save", { file: this.name, text });
+      await ask("save", { file: this.name, text: text.replaceAll("\n", this.ending) });
       this.saved = text;
       tell(`${this.title.textContent} is saved`);
     } catch (error) { tell(error.message, true); }

@@ -2,17 +2,20 @@
 
 import http.client
 import json
+import os
 import sys
 import tempfile
 import threading
 import unittest
 from pathlib import Path
+from unittest import mock
 
 HERE = Path(__file__).resolve().parent
 sys.path.insert(0, str(HERE))
 
 from child import answer  # noqa: E402
 import findings  # noqa: E402
+import work as work_module  # noqa: E402
 from findings import fault_words, life_reasons, read_refusals, refusal_words  # noqa: E402
 from server import BODY_MOST, Desk, DeskServer  # noqa: E402
 from run import program_or_refusal  # noqa: E402
@@ -97,6 +100,17 @@ class Work(unittest.TestCase):
     def test_a_refused_file(self):
         said = work(rules="rule")
         self.assertEqual((of_kind(said, "refused")["text"], of_kind(said, "refused")["findings"][0]["line"]), ("refused item 1 line 1 Syntax", 1))
+
+    @unittest.skipUnless(hasattr(os, "memfd_create"), "the program would be given a file in memory")
+    def test_the_built_program(self):
+        """Here a program that stands for it: it reads both files from memory."""
+        with tempfile.TemporaryDirectory() as folder:
+            program = Path(folder) / "replay_main"
+            program.write_text('#!/bin/sh\necho "$1 $2"\ncat "$3" -\n')
+            program.chmod(0o755)
+            with mock.patch.object(work_module, "BUILT", program):
+                self.assertEqual(list(work_module.built(b"declare A end\n", b'{"do":"fire"}\n')),
+                                 ["--limit 2000", "declare A end", '{"do":"fire"}'])
 
     def test_lines_to_add(self):
         types = of_kind(work(), "accepted")["types"]

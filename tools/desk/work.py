@@ -28,6 +28,7 @@ BUILT = TOP / "crates" / "replay_main" / "out" / "replay_main"
 FIRINGS = 2_000
 EXPLAINED = 20
 OUTPUT = 1 << 20
+ENDS = (0, 1, 3, 4)
 MEMORY = 2 << 30
 
 
@@ -70,9 +71,13 @@ def built(rules: bytes, script: bytes) -> Iterator[str]:
         os.write(fd, data)
         os.lseek(fd, 0, os.SEEK_SET)
     words = [str(BUILT), "--limit", str(FIRINGS), f"/proc/self/fd/{memory[0]}"]
-    process = subprocess.Popen(words, stdin=memory[1], stdout=subprocess.PIPE, pass_fds=[memory[0]])
-    for line in process.stdout:
-        yield line.decode("utf-8", "replace").rstrip("\n")
+    with subprocess.Popen(words, stdin=memory[1], stdout=subprocess.PIPE, pass_fds=[memory[0]]) as process:
+        for fd in memory:
+            os.close(fd)
+        for line in process.stdout:
+            yield line.decode("utf-8", "replace").rstrip("\n")
+    if process.returncode not in ENDS:
+        say(kind="note", text=f"the program ended with the status {process.returncode}")
 
 
 def printed(program: Program, rules: bytes, script: bytes) -> list[str]:
