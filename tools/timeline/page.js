@@ -346,4 +346,7 @@ drawAll();
 width = Math.max(roomForAll(), moments.length * 16);
 drawAll();
 const asked = location.hash.replace("#mark-", "");
-if (marks.has(asked)) goTo(document.getElementById(asked));
+if (marks.has(asked)) {
+  goTo(document.getElementById(asked));
+  choose(asked);
+}
