@@ -94,7 +94,7 @@ class Values(Case):
     def test_events_are_forgotten(self):
         """`rise` asks for 10 s, and the lateness is 2 s; the window of `many` is longer."""
         session = self.session(READINGS)
-        self.assertEqual(session.rules.lives, {"Reading": 60_000})
+        self.assertEqual(session.rules.life("Reading"), 60_000)
         session.insert("Reading", {"at": 0, "value": 1}, "plant")
         session.at(60_000)
         self.assertEqual((session.fire().firings, list(session.book.facts)), ([], [1]))

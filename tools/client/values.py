@@ -24,15 +24,21 @@ class Rules:
     def __init__(self, data: bytes):
         """ValueError where the file is refused."""
         found = modules("meaning", "run", "lives", "trees", "temporal", "replay")
-        self.meaning, self.trees = found["meaning"], found["trees"]
+        self.meaning, self.trees, self.lives, self.infinite = found["meaning"], found["trees"], found["lives"], found["temporal"].INFINITE
         program = found["run"].program_or_refusal(data, found["replay"].LAST_STAGE)
         if isinstance(program, str):
             raise ValueError(program)
         self.types, self.latenesses = program.types, program.latenesses
         self.world = self.meaning.World(program)
         self.rules = {rule.name: rule for rule in program.rules}
-        lives = {name: found["lives"].life_of_type(program, name) for name, info in self.types.items() if info.event}
-        self.lives = {name: life for name, life in lives.items() if life != found["temporal"].INFINITE}
+        self.known_lives: dict[str, Optional[int]] = {}
+
+    def life(self, type_name: str) -> Optional[int]:
+        """How long an event of this type matters behind its end, None where it does for ever."""
+        if type_name not in self.known_lives:
+            life = self.lives.life_of_type(self.world.program, type_name)
+            self.known_lives[type_name] = None if life == self.infinite else life
+        return self.known_lives[type_name]
 
     def names(self, rule: str, facts: list[Fact], results: list[int]) -> Names:
         """What the variables of a rule stand for, by the facts and results of its firing."""
@@ -86,8 +92,8 @@ class Book:
         if info.expires is not None:
             heapq.heappush(self.expiring, (start + info.expires, fact.id))
             self.forget(self.expiring, self.clock)
-        elif fact.type in self.rules.lives:
-            heapq.heappush(self.fading, (end + self.rules.lives[fact.type] + 1, fact.id))
+        elif (life := self.rules.life(fact.type)) is not None:
+            heapq.heappush(self.fading, (end + life + 1, fact.id))
 
     def modify(self, number: int, values: dict[str, Value]) -> Optional[Fact]:
         """The fact with other values, None where it is not there."""
