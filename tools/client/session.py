@@ -120,6 +120,11 @@ class Session(Lines[Answer]):
             raise NoProgram(f"there is no program {error.filename or words[0]} to run ({error.strerror}): build it (README.md, "
                             "command 3), or take tools/reference/live.py") from None
 
+    @property
+    def facts(self) -> list[Fact]:
+        """The facts that an answer may still name, at the place of the script up to which answers have come."""
+        return list(self.book.facts.values())
+
     # ---- lines
 
     def send_known(self, command: dict[str, Any]) -> Answer:

@@ -236,8 +236,9 @@ function showRun(run, told) {
   script.show(faultsOf(run, told));
   showFirings(run);
   showOutput(run);
-  const faulty = run.faults.length ? `, ${run.faults.length} faults` : "";
-  tell(`${run.facts} facts and events, ${run.firings.length} firings${faulty}; the clock ends at ${clockText(run.end)}. By ${run.by}.`);
+  const faulty = run.faults.length ? `, ${run.faults.length} faults` : "", last = run.printed[run.printed.length - 1];
+  if (last && last.text.startsWith("limit ")) tell(`ended at line ${last.line}, at the limit of ${run.firings.length} firings: one more was pending`, true);
+  else tell(`${run.facts} facts and events, ${run.firings.length} firings${faulty}; the clock ends at ${clockText(run.end)}. By ${run.by}.`);
 }
 
 // The picture is loaded when it is looked at.
