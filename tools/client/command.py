@@ -17,7 +17,7 @@ from typing import Any
 from .answers import Ended, Fault, Firing, NoProgram
 from .session import Answer, Session
 
-NOT_STARTED, NOT_WRITTEN = 70, 6
+NOT_STARTED, NOT_WRITTEN, INTERRUPTED = 70, 6, 130
 
 
 def say(**members: Any) -> None:
@@ -74,6 +74,9 @@ def main(words: list[str]) -> int:
         for line in sys.stdin.buffer:
             session.send_line(line.removesuffix(b"\n").decode("utf-8", "surrogateescape"))
         return session.close()
+    except KeyboardInterrupt:
+        session.kill()
+        return INTERRUPTED
     except Ended as ended:
         say(line=session.lines, at=session.book.clock, ended=ended.said, status=ended.status)
         return ended.status if ended.status >= 0 else NOT_STARTED

@@ -88,9 +88,9 @@ class Answer:
 
 class Session(Lines[Answer]):
     """A program that runs over a rule file. `on_answer` is called in the reading thread with each answer that has come, in the order
-    of the lines; it must not wait for another. `record` takes each line of the caller's: a script that gives the same run again.
-    `faults` has all faults so far. Where an answer of `at`, `advance`, `modify` or `retract` is asked for, a line behind it is written
-    that the program is known to answer."""
+    of the lines; it must neither ask for another nor send a line. `record` takes each line of the caller's: a script that gives the
+    same run again. `faults` has all faults so far. Where an answer of `at`, `advance`, `modify` or `retract` is asked for, a line
+    behind it is written that the program is known to answer."""
 
     def __init__(self, rules: Union[str, Path], program: Union[None, str, Path, list[str]] = None, limit: Optional[int] = None,
                  on_answer: Optional[Callable[[Answer], None]] = None, record: Optional[BinaryIO] = None):

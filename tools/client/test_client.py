@@ -259,7 +259,8 @@ class Example(Case):
     ROW = "2026-03-02 10:00:00.200,2026-03-02 10:00:00.000,4417,harbour"
 
     def run_example(self, name: str, table: str, *words: object) -> subprocess.CompletedProcess:
-        return subprocess.run([sys.executable, str(EXAMPLES / "live" / name), *map(str, words)], input=table, text=True, capture_output=True)
+        program = [sys.executable, str(EXAMPLES / "live" / name)]
+        return subprocess.run(program + [str(word) for word in words], input=table, text=True, capture_output=True)
 
     def test_the_alerts(self):
         ran = self.run_example("caller.py", (EXAMPLES / "live" / "withdrawals.csv").read_text(), LIVE, self.RULES)
@@ -270,11 +271,11 @@ class Example(Case):
 
     def test_one_line_for_what_is_wrong(self):
         table = f"arrived,at,card,place,amount\n{self.ROW}\n"
-        for name, rows, words, wrong in (("caller.py", table, (LIVE, self.RULES), "line 2 of the table: no amount"),
-                                         ("convert.py", table, (), "line 2 of the table: no amount"),
-                                         ("convert.py", f"{table.rstrip()},1.x\n", (), "line 2 of the table: no amount in cents: 1.x"),
-                                         ("caller.py", table, ("/no/such/program", self.RULES), "there is no program /no/such/program"),
-                                         ("caller.py", table, ("/no/such/program.py", self.RULES), "there is no program /no/such/program.py"),
+        missing, odd = "line 2 of the table: no amount", f"{table.rstrip()},1.x\n"
+        for name, rows, words, wrong in (("caller.py", table, (LIVE, self.RULES), missing), ("convert.py", table, (), missing),
+                                         ("convert.py", odd, (), f"{missing} in cents: 1.x"),
+                                         ("caller.py", table, ("/no/such", self.RULES), "there is no program /no/such "),
+                                         ("caller.py", table, ("/no/such.py", self.RULES), "there is no program /no/such.py "),
                                          ("caller.py", table, (LIVE, "/no/such/rules"), "refused item 0 line 0 Missing")):
             ran = self.run_example(name, rows, *words)
             self.assertIn(wrong, ran.stderr.splitlines()[0])

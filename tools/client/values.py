@@ -1,7 +1,7 @@
 """What the facts hold: the values that lines gave, and those that the actions of rules give, which no answer of a program tells.
 
-Actions are evaluated by tools/reference. A fact is forgotten when no answer can name it any more: when it is retracted or has expired, or when
-its life is over and nothing is pending.
+Actions are evaluated by tools/reference. A fact is forgotten when no answer can name it any more: when it is retracted or has
+expired, or when its life is over and nothing is pending.
 """
 
 from __future__ import annotations

@@ -62,7 +62,8 @@ class Findings(unittest.TestCase):
         self.assertEqual(fault_words("NoSuchCode"), "")
 
     def test_lives(self):
-        program = program_or_refusal(RULES.encode() + b"declare Old @role( event ) @expires( 1s ) end declare P end rule p when P() Old() Fire() then end", 14)
+        more = b"declare Old @role( event ) @expires( 1s ) end declare P end rule p when P() Old() Fire() then end"
+        program = program_or_refusal(RULES.encode() + more, 14)
         self.assertEqual([(it["type"], it["life"]) for it in life_reasons(program)],
                          [("Fire", "infinite"), ("Water", "0"), ("Old", "explicit 1000")])
 
@@ -98,8 +99,8 @@ class Work(unittest.TestCase):
         self.assertEqual([it["life"] for it in of_kind(said, "lives")["lives"]], ["10000", "0"])
 
     def test_a_refused_file(self):
-        said = work(rules="rule")
-        self.assertEqual((of_kind(said, "refused")["text"], of_kind(said, "refused")["findings"][0]["line"]), ("refused item 1 line 1 Syntax", 1))
+        refused = of_kind(work(rules="rule"), "refused")
+        self.assertEqual((refused["text"], refused["findings"][0]["line"]), ("refused item 1 line 1 Syntax", 1))
 
     @unittest.skipUnless(hasattr(os, "memfd_create"), "the program would be given a file in memory")
     def test_the_built_program(self):

@@ -139,7 +139,8 @@ def types_shown(program: Program) -> list[dict]:
     for info in program.types.values():
         where = {"entry": entries[info.name]} if entries.get(info.name) else {}
         fields = {name: empty[kind] for name, kind in info.fields.items()}
-        lines.append({"type": info.name, "timestamp": info.timestamp, "line": {"do": "insert", "type": info.name, **where, "fields": fields}})
+        line = {"do": "insert", "type": info.name, **where, "fields": fields}
+        lines.append({"type": info.name, "timestamp": info.timestamp, "line": line})
     return lines
 
 
