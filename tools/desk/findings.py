@@ -66,9 +66,9 @@ TOKEN = re.compile(rb"[\w$]+|==|!=|<=|>=|&&|\|\||.|$", re.DOTALL)
 
 
 def finding(data: bytes, at: int, code: str, text: str) -> Finding:
-    """What is said of the token at an offset; a column counts letters."""
-    begin = data.rfind(b"\n", 0, at) + 1
-    return {"line": data.count(b"\n", 0, at) + 1, "column": len(data[begin:at].decode("utf-8", "replace")) + 1,
+    """What is said of the token at an offset; a column counts as the text of a page does, in units of UTF-16."""
+    before = data[data.rfind(b"\n", 0, at) + 1:at].decode("utf-8", "replace")
+    return {"line": data.count(b"\n", 0, at) + 1, "column": len(before.encode("utf-16-le")) // 2 + 1,
             "length": max(1, TOKEN.match(data, at).end() - at), "code": code, "text": text}
 
 

@@ -20,7 +20,7 @@ from child import answer
 HERE = Path(__file__).resolve().parent
 RULES_MOST, SCRIPT_MOST, LINES_MOST = 1 << 20, 1 << 20, 5_000
 BODY_MOST = 8 << 20
-READ_SECONDS = 15
+READ_SECONDS, WAIT_SECONDS = 15, 2
 KEPT = 4
 
 TYPES = {"": ("page.html", "text/html; charset=utf-8"), "page.css": ("page.css", "text/css; charset=utf-8"),
@@ -97,7 +97,7 @@ class Desk:
             raise Refused(413, f"the script has more than {LINES_MOST} lines: run it by ./try")
         if word == "why":
             request.update(rule=text_in(asked, "rule", 4096), line=max(1, number_in(asked.get("line"))), facts=numbers_in(asked, "facts"))
-        if not self.running.acquire(blocking=False):
+        if not self.running.acquire(timeout=WAIT_SECONDS):
             raise Refused(409, "another run is going on")
         try:
             return self.kept(answer(request, self.seconds))

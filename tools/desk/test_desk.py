@@ -53,7 +53,8 @@ class Findings(unittest.TestCase):
 
     def test_other_refusals(self):
         for data, found in ((b'declare A end\n"', (2, 1, "OpenText")), (b"rule a when B() then end", (1, 1, "UnknownType")),
-                            ('// ä\nrule "ä" when A( ! ) then end'.encode(), (2, 18, "BadChar")), (b"rule a when", (1, 8, "Syntax"))):
+                            ('// ä\nrule "ä" when A( ! ) then end'.encode(), (2, 18, "BadChar")), (b"rule a when", (1, 8, "Syntax")),
+                            ('rule "\U0001f525" when A( ! ) then end'.encode(), (1, 19, "BadChar"))):
             self.assertEqual([(it["line"], it["column"], it["code"]) for it in read_refusals(data)], [found])
 
     def test_words_are_those_of_the_documents(self):
