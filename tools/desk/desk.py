@@ -23,8 +23,11 @@ def asked() -> argparse.Namespace:
     parser.add_argument("rules", type=Path, help="the rule file; it may be new")
     parser.add_argument("script", type=Path, help="the script; it may be new")
     parser.add_argument("--port", type=int, default=0, help="without it any that is free")
-    parser.add_argument("--seconds", type=int, default=20, choices=range(1, 601), metavar="N", help="how long a run may take (20)")
-    return parser.parse_args()
+    parser.add_argument("--seconds", type=int, default=20, metavar="N", help="how long a run may take, from 1 to 600 (20)")
+    options = parser.parse_args()
+    if not 1 <= options.seconds <= 600:
+        parser.error("a run takes from 1 to 600 seconds")
+    return options
 
 
 def main() -> int:
