@@ -6,35 +6,59 @@ clock is moved to its start, and behind it all that is pending is fired. The las
 """
 
 import csv
-import datetime
-import json
+import decimal
 import sys
+from pathlib import Path
+
+sys.path.insert(0, str(Path(__file__).resolve().parent.parent.parent / "tools"))
+
+from client import Script, milliseconds  # noqa: E402
 
 WAIT = 63_000  # milliseconds behind the last event: a minute of the rule, two seconds of lateness, and more
+COLUMNS = ("arrived", "at", "card", "place", "amount")
 
 
-def milliseconds(text):
-    """A moment of UTC as whole milliseconds since 1970."""
-    moment = datetime.datetime.fromisoformat(text).replace(tzinfo=datetime.timezone.utc)
-    return round(moment.timestamp() * 1000)
+class BadRow(Exception):
+    """A row of the table is none of a withdrawal."""
 
 
-def withdrawal(row):
-    """The fields of an event; a number of the script is whole, so an amount is in cents."""
-    whole, _, part = row["amount"].partition(".")
-    return {"at": milliseconds(row["at"]), "card": row["card"], "place": row["place"],
-            "cents": int(whole) * 100 + int(part.ljust(2, "0"))}
+def cents(text):
+    """An amount as a whole number, since numbers of a script are whole."""
+    try:
+        found = decimal.Decimal(text) * 100
+        if found == int(found):
+            return int(found)
+    except (ArithmeticError, ValueError):
+        pass
+    raise ValueError(f"no amount in cents: {text}")
+
+
+def withdrawal(row, number):
+    """The moment of arrival and the fields of the event, or BadRow."""
+    missing = [name for name in COLUMNS if row.get(name) is None]
+    if missing:
+        raise BadRow(f"line {number} of the table: no {', '.join(missing)}")
+    try:
+        fields = {"at": milliseconds(row["at"]), "card": row["card"], "place": row["place"], "cents": cents(row["amount"])}
+        return milliseconds(row["arrived"]), fields
+    except ValueError as error:
+        raise BadRow(f"line {number} of the table: {error}") from None
 
 
 def main():
-    events = sorted(map(withdrawal, csv.DictReader(sys.stdin)), key=lambda fields: fields["at"])
+    table = csv.DictReader(sys.stdin)
+    try:
+        events = sorted((withdrawal(row, table.line_num)[1] for row in table), key=lambda fields: fields["at"])
+    except BadRow as bad:
+        sys.exit(f"convert.py: {bad}")
+    script = Script(sys.stdout)
     for fields in events:
-        print(json.dumps({"do": "at", "ms": fields["at"]}))
-        print(json.dumps({"do": "insert", "type": "Withdrawal", "entry": "ATM", "fields": fields}))
-        print(json.dumps({"do": "fire"}))
+        script.at(fields["at"])
+        script.insert("Withdrawal", fields, "ATM")
+        script.fire()
     if events:
-        print(json.dumps({"do": "at", "ms": events[-1]["at"] + WAIT}))
-        print(json.dumps({"do": "fire"}))
+        script.at(events[-1]["at"] + WAIT)
+        script.fire()
 
 
 if __name__ == "__main__":

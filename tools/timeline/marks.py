@@ -5,10 +5,11 @@ from __future__ import annotations
 from dataclasses import asdict, dataclass
 from typing import Iterable, Optional
 
+from clock import Clock, clock_of
 from recording import Cell, Change, Fault, Firing, Life, Recording, Value
 
 FAULTS, EVENTS, FACTS, FIRINGS = "faults", "events", "facts", "firings"
-TEXT_SHOWN = 240
+TEXT_SHOWN, LABEL_SHOWN = 240, 16
 
 
 @dataclass(frozen=True)
@@ -44,6 +45,7 @@ class Picture:
     lanes: list[Lane]
     marks: list[Mark]
     end: int
+    clock: Clock
 
     def data(self) -> dict:
         """The picture for the page's script, without what a mark does not have."""
@@ -51,7 +53,7 @@ class Picture:
             return value is not None and value is not False and value != ()
 
         marks = [{name: value for name, value in asdict(mark).items() if has(value)} for mark in self.marks]
-        return {"lanes": [asdict(lane) for lane in self.lanes], "marks": marks, "end": self.end}
+        return {"lanes": [asdict(lane) for lane in self.lanes], "marks": marks, "end": self.end, "dates": self.clock.dates}
 
 
 def shown(value: object) -> str:
@@ -61,8 +63,8 @@ def shown(value: object) -> str:
     return f'"{cut(value)}"' if isinstance(value, str) else str(value)
 
 
-def cut(text: str) -> str:
-    return text if len(text) <= TEXT_SHOWN else text[:TEXT_SHOWN] + " …"
+def cut(text: str, most: int = TEXT_SHOWN) -> str:
+    return text if len(text) <= most else text[:most] + " …"
 
 
 def numbered(numbers: Iterable[int]) -> str:
@@ -76,72 +78,83 @@ def cells_text(cells: tuple[Cell, ...]) -> str:
 # ---- facts and events
 
 
-def origin_text(life: Life) -> str:
+def origin_text(life: Life, clock: Clock) -> str:
     """Who inserted a fact, and when."""
     by = f"line {life.line}" if life.maker is None else f"firing {life.maker}"
-    return f"inserted at {life.told} by {by}"
+    return f"inserted at {clock.text(life.told)} by {by}"
 
 
-def times_text(life: Life) -> str:
+def times_text(life: Life, clock: Clock) -> str:
     if not life.event:
         return ""
-    return f"at {life.start}" if life.start == life.end else f"from {life.start} to {life.end}"
+    start, end = clock.text(life.start), clock.text(life.end)
+    return f"at {start}" if start == end else f"from {start} to {end}"
 
 
-def end_text(life: Life) -> str:
+def end_text(life: Life, clock: Clock) -> str:
     if life.gone is None:
         return ""
-    return f"retracted at {life.gone}" if life.retracted else f"expires at {life.gone}"
+    return f"{'retracted' if life.retracted else 'expires'} at {clock.text(life.gone)}"
 
 
 def fields_text(values: dict[str, Value]) -> str:
     return ", ".join(f"{name} {shown(value)}" for name, value in values.items())
 
 
-def change_text(change: Change) -> str:
-    return f"modified at {change.clock} ({fields_text(change.values)})"
+def change_text(change: Change, clock: Clock) -> str:
+    return f"modified at {clock.text(change.clock)} ({fields_text(change.values)})"
 
 
-def life_text(life: Life) -> str:
-    origin = f"{origin_text(life)} ({fields_text(life.values)})"
-    parts = [times_text(life), origin, *map(change_text, life.changes), end_text(life)]
+def life_text(life: Life, clock: Clock) -> str:
+    origin = f"{origin_text(life, clock)} ({fields_text(life.values)})"
+    parts = [times_text(life, clock), origin, *(change_text(change, clock) for change in life.changes), end_text(life, clock)]
     return f"#{life.number} {life.type} in {life.entry}: " + "; ".join(part for part in parts if part)
 
 
-def life_mark(life: Life, lane: int, end: int) -> Mark:
-    text = life_text(life)
+def life_label(life: Life) -> str:
+    """The number, and the first field that is no time."""
+    if life.first is None:
+        return f"#{life.number}"
+    value = life.values[life.first]
+    return f"#{life.number} {life.first} {cut(value, LABEL_SHOWN) if isinstance(value, str) else shown(value)}"
+
+
+def life_mark(life: Life, lane: int, end: int, clock: Clock) -> Mark:
+    label, text = life_label(life), life_text(life, clock)
     gone = life.gone if life.gone is not None and life.gone <= end else None
     if life.event:
-        return Mark(f"f{life.number}", EVENTS, lane, life.start, life.end, f"#{life.number}", text, gone=gone)
-    return Mark(f"f{life.number}", FACTS, lane, life.start, end if gone is None else gone, f"#{life.number}", text,
+        return Mark(f"f{life.number}", EVENTS, lane, life.start, life.end, label, text, gone=gone)
+    return Mark(f"f{life.number}", FACTS, lane, life.start, end if gone is None else gone, label, text,
                 changes=tuple(change.clock for change in life.changes), lasts=gone is None)
 
 
 # ---- firings and faults
 
 
-def firing_text(firing: Firing) -> str:
-    waiting, made = firing.waiting, firing.made
-    parts = [f'firing {firing.number} of line {firing.line}, at {firing.clock}: "{firing.rule}" {cells_text(firing.cells)}'.rstrip()]
+def firing_text(firing: Firing, clock: Clock) -> str:
+    waiting, made, at = firing.waiting, firing.made, clock.text(firing.clock)
+    parts = [f'firing {firing.number} of line {firing.line}, at {at}: "{firing.rule}" {cells_text(firing.cells)}'.rstrip()]
+    if firing.variables:
+        parts.append(", ".join(f"${name} {shown(value)}" for name, value in firing.variables.items()))
     if waiting:
-        parts.append(f"waited from {waiting.since} to {waiting.until} for {waiting.type}")
+        parts.append(f"waited from {clock.text(waiting.since)} to {clock.text(waiting.until)} for {waiting.type}")
     if made:
         parts.append(f"inserted {numbered(made)}")
     return "; ".join(parts)
 
 
-def firing_mark(firing: Firing, lane: int) -> Mark:
+def firing_mark(firing: Firing, lane: int, clock: Clock) -> Mark:
     waiting = firing.waiting
-    return Mark(f"r{firing.number}", FIRINGS, lane, firing.clock, firing.clock, cells_text(firing.cells), firing_text(firing),
+    return Mark(f"r{firing.number}", FIRINGS, lane, firing.clock, firing.clock, cells_text(firing.cells), firing_text(firing, clock),
                 names=tuple(f"f{number}" for number in dict.fromkeys(firing.facts)),
                 makes=tuple(f"f{number}" for number in firing.made),
                 since=waiting and waiting.since, until=waiting and waiting.until)
 
 
-def fault_mark(fault: Fault, lane: int) -> Mark:
+def fault_mark(fault: Fault, lane: int, clock: Clock) -> Mark:
     names = () if fault.firing is None else (f"r{fault.firing}",)
     return Mark(f"x{fault.number}", FAULTS, lane, fault.clock, fault.clock, f"{fault.code}, line {fault.line}",
-                f"fault {fault.line} {fault.code}, at {fault.clock}: {cut(fault.text)}", names=names)
+                f"fault {fault.line} {fault.code}, at {clock.text(fault.clock)}: {cut(fault.text)}", names=names)
 
 
 # ---- the picture
@@ -165,9 +178,9 @@ def lanes_of(recording: Recording) -> list[Lane]:
 
 
 def picture_of(recording: Recording) -> Picture:
-    lanes = lanes_of(recording)
+    lanes, clock = lanes_of(recording), clock_of(recording)
     place = {lane: k for k, lane in enumerate(lanes)}
-    marks = [fault_mark(fault, 0) for fault in recording.faults]
-    marks += [life_mark(life, place[lane_of_life(life)], recording.end) for life in recording.lives.values()]
-    marks += [firing_mark(firing, place[lane_of_rule(firing.rule)]) for firing in recording.firings]
-    return Picture(lanes, marks, recording.end)
+    marks = [fault_mark(fault, 0, clock) for fault in recording.faults]
+    marks += [life_mark(life, place[lane_of_life(life)], recording.end, clock) for life in recording.lives.values()]
+    marks += [firing_mark(firing, place[lane_of_rule(firing.rule)], clock) for firing in recording.firings]
+    return Picture(lanes, marks, recording.end, clock)

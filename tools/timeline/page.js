@@ -5,7 +5,7 @@ const picture = JSON.parse(document.getElementById("data").textContent);
 const [view, axis, plot, names, told] = ["view", "axis", "plot", "names", "told"].map(id => document.getElementById(id));
 const hint = told.textContent;
 
-const ROW = 18, PAD = 5, LEFT = 14, RIGHT = 150, HALF = 6, AXIS = 26;
+const ROW = 18, PAD = 5, LEFT = 14, HALF = 6, AXIS = picture.dates ? 40 : 26;
 const WIDEST = 400000;
 
 const marks = new Map(picture.marks.map(mark => [mark.key, mark]));
@@ -16,25 +16,54 @@ for (const mark of picture.marks) {
 
 // ---- the clock: the place of each moment, from 0 to 1
 
-const moments = [...new Set([0, picture.end, ...picture.marks.flatMap(momentsOf)])].sort((a, b) => a - b);
+const moments = [...new Set([picture.end, ...picture.marks.flatMap(momentsOf)])].sort((a, b) => a - b);
 
 function momentsOf(mark) {
   return [mark.start, mark.end, mark.gone, mark.since, mark.until, ...(mark.changes || [])].filter(t => t !== undefined);
 }
 
-function places(widthOf) {
+const gaps = moments.slice(1).map((t, k) => t - moments[k]);
+
+// A gap that is so many times as long as the middle one is cut: it is drawn as if it were no longer. So is the one from 0 to the first date.
+const LONGEST = 40;
+const cap = LONGEST * ([...gaps].sort((a, b) => a - b)[gaps.length >> 1] || 1);
+const isLead = k => picture.dates && moments[k] === 0;
+const rest = () => gaps.filter((gap, k) => !isLead(k));
+
+function places(widthOf, lead, isCut) {
   const sums = [0];
-  for (let k = 1; k < moments.length; k++) sums.push(sums[k - 1] + widthOf(moments[k] - moments[k - 1]));
+  gaps.forEach((gap, k) => sums.push(sums[k] + (isLead(k) ? lead : widthOf(gap))));
   const whole = sums[sums.length - 1] || 1;
-  return new Map(moments.map((t, k) => [t, sums[k] / whole]));
+  return { at: new Map(moments.map((t, k) => [t, sums[k] / whole])), cuts: gaps.map((gap, k) => k).filter(k => isLead(k) || isCut(gaps[k])) };
 }
 
 // A squeezed clock gives short gaps room beside long ones: a gap a thousand times as long is eight times as wide.
-const squeezed = places(gap => gap ** 0.3), toScale = places(gap => gap);
+const squeeze = gap => Math.min(gap, cap) ** 0.3;
+const squeezed = places(squeeze, squeeze(cap) / 4, gap => gap > cap);
+const toScale = places(gap => gap, rest().reduce((sum, gap) => sum + gap, 0) / 20 || 1, () => false);
 
-let place = squeezed, width = 0, chosen = null, floating = [];
-const x = t => LEFT + place.get(t) * width;
-const roomForAll = () => Math.max(200, view.clientWidth - names.offsetWidth - LEFT - RIGHT);
+let place = squeezed, width = 0, chosen = null, floating = [], right = 0;
+const x = t => LEFT + place.at.get(t) * width;
+const roomForAll = () => Math.max(200, view.clientWidth - names.offsetWidth - LEFT - right);
+
+// ---- moments as they are read
+
+function dateAndTime(t) {
+  const [day, time] = new Date(t).toISOString().split("T");
+  return [time.replace("Z", "").replace(".000", ""), day];
+}
+
+// What stands at a moment on the axis: a number, or the time with its day below.
+const read = t => picture.dates && t !== 0 ? dateAndTime(t) : [String(t)];
+
+function spanText(span) {
+  const parts = [[86400000, "d"], [3600000, "h"], [60000, "m"], [1000, "s"], [1, "ms"]];
+  const first = parts.findIndex(([unit]) => span >= unit);
+  return parts.slice(first, first + 2).map(([unit, name], k) => {
+    const count = Math.floor(k === 0 ? span / unit : span % parts[first][0] / unit);
+    return count ? `${count}${name}` : "";
+  }).join(" ").trim();
+}
 
 // ---- shapes
 
@@ -118,33 +147,53 @@ function drawMark(item, top, first) {
 
 function drawLane(lane, k, top) {
   const items = picture.marks.filter(mark => mark.lane === k).map(extent);
-  const height = stack(items) * ROW + 2 * PAD;
-  if (k % 2 === 0) shape(plot, "rect", { class: "band", x: 0, y: top, width: LEFT + width + RIGHT, height });
-  nameLane(lane, height);
+  const height = nameLane(lane, stack(items) * ROW + 2 * PAD);
+  if (k % 2 === 0) shape(plot, "rect", { class: "band", x: 0, y: top, width: LEFT + width + right, height });
   return { items, top, height };
 }
 
 function nameLane(lane, height) {
   const box = document.createElement("div"), name = document.createElement("span"), under = document.createElement("small");
-  box.style.height = `${height}px`;
   box.title = `${lane.name} (${lane.under})`;
   name.textContent = lane.name;
   under.textContent = lane.under;
   name.append(" ", under);
   box.append(name);
   names.append(box);
+  const tall = Math.max(height, name.offsetHeight + 8);
+  box.style.height = `${tall}px`;
+  return tall;
 }
+
+// The end, the beginning, then firings, then the others are written as long as they have room.
+const firedAt = picture.marks.filter(mark => mark.kind === "firings").map(mark => mark.start);
+const inOrder = [...new Set([picture.end, moments[0], ...firedAt, ...moments])];
 
 function drawMoments(height) {
   const taken = [];
-  for (const t of [picture.end, ...moments]) {
-    const half = lengthOf(String(t)) / 2 + 5, middle = Math.max(x(t), half);
-    if (taken.some(([left, right]) => middle - half < right && left < middle + half)) continue;
-    taken.push([middle - half, middle + half]);
-    shape(axis, "text", { x: middle, y: 17, "text-anchor": "middle" }, t);
+  for (const t of inOrder) {
+    const lines = read(t), half = Math.max(...lines.map(lengthOf)) / 2 + 5, middle = Math.max(x(t), half);
+    if (taken.some(other => middle - half < other.to && other.from < middle + half)) continue;
+    taken.push({ t, middle, lines, from: middle - half, to: middle + half });
+  }
+  let day = null;
+  for (const { t, middle, lines } of taken.sort((a, b) => a.t - b.t)) {
+    shape(axis, "text", { x: middle, y: 17, "text-anchor": "middle" }, lines[0]);
+    if (lines[1] && lines[1] !== day) shape(axis, "text", { x: middle, y: 32, "text-anchor": "middle" }, day = lines[1]);
     shape(plot, "line", { class: "moment", x1: x(t), x2: x(t), y1: 0, y2: height });
   }
   shape(plot, "line", { class: "ending", x1: x(picture.end), x2: x(picture.end), y1: 0, y2: height });
+}
+
+// Where time is left out: a torn line, with how much it is where that has room.
+function drawCuts(height) {
+  for (const k of place.cuts) {
+    const from = x(moments[k]), to = x(moments[k + 1]), middle = (from + to) / 2, text = spanText(gaps[k]);
+    path(plot, "cut", `M${middle - 2} 0${"l4 4l-4 4".repeat(Math.ceil(height / 8))}`);
+    path(axis, "cut", `M${middle - 2} ${AXIS - 8}l4 4l-4 4`);
+    if (isLead(k) || lengthOf(text) + 8 > to - from) continue;
+    shape(plot, "text", { class: "left-out", x: middle, y: 12, "text-anchor": "middle" }, text);
+  }
 }
 
 function drawAll() {
@@ -152,6 +201,7 @@ function drawAll() {
   if (focused) document.activeElement.blur();
   for (const part of [axis, plot, names]) part.replaceChildren();
   floating = [];
+  right = Math.max(60, ...picture.marks.map(mark => lengthOf(mark.label) + 30));
   let height = 0;
   const lanes = picture.lanes.map((lane, k) => {
     const drawn = drawLane(lane, k, height);
@@ -159,10 +209,11 @@ function drawAll() {
     return drawn;
   });
   for (const [part, tall] of [[axis, AXIS], [plot, height]]) {
-    part.setAttribute("width", LEFT + width + RIGHT);
+    part.setAttribute("width", LEFT + width + right);
     part.setAttribute("height", tall);
   }
   drawMoments(height);
+  drawCuts(height);
   shape(plot, "g", { id: "joins" });
   for (const lane of lanes) lane.items.forEach((item, k) => drawMark(item, lane.top, k === 0));
   if (focused) document.getElementById(focused).focus({ preventScroll: true });
@@ -271,12 +322,31 @@ document.getElementById("true-scale").addEventListener("change", event => {
   place = event.target.checked ? toScale : squeezed;
   zoom(1);
 });
-window.addEventListener("resize", () => zoom(1));
+window.addEventListener("resize", () => {
+  makeRoomForTexts();
+  zoom(1);
+});
+
+// ---- the text above: as high as the longest one, so that none is cut and the picture stands still
+
+function makeRoomForTexts() {
+  const shown = told.textContent;
+  told.style.height = "auto";
+  const lengths = picture.marks.map(mark => mark.text).sort((a, b) => b.length - a.length);
+  told.textContent = lengths.length && lengths[0].length > hint.length ? lengths[0] : hint;
+  const height = told.offsetHeight;
+  told.textContent = shown;
+  told.style.height = `${height}px`;
+}
 
 // ---- the first sight: a mark that the address names, as in page.html#mark-r3, is chosen
 
+makeRoomForTexts();
 drawAll();
 width = Math.max(roomForAll(), moments.length * 16);
 drawAll();
 const asked = location.hash.replace("#mark-", "");
-if (marks.has(asked)) goTo(document.getElementById(asked));
+if (marks.has(asked)) {
+  goTo(document.getElementById(asked));
+  choose(asked);
+}

@@ -15,8 +15,8 @@ from typing import NoReturn, Optional
 
 sys.path.insert(0, str(Path(__file__).resolve().parent.parent / "reference"))
 
-from meaning import (EMPTY_ROW, Insertion, Modification, Retraction, Row, Step, World, bound_by, candidates, changed,  # noqa: E402
-                     fact_with, folded, is_mature, passes, planned, quoted, step_fault, times_of)
+from meaning import (EMPTY_ROW, Fact, Insertion, Modification, Retraction, Row, Step, World, bound_by, candidates,  # noqa: E402
+                     changed, fact_with, folded, is_mature, passes, planned, quoted, step_fault, times_of)
 from program import DEFAULT, Program  # noqa: E402
 from run import Fault as LineFault, asked_step, program_or_refusal  # noqa: E402
 from script import BadCommand, BadJson, Command, FireLine, HeldLine, command_of, is_blank, lines_of  # noqa: E402
@@ -45,7 +45,8 @@ class Change:
 
 @dataclass
 class Life:
-    """A fact from its insertion on. An event lies from `start` to `end`; a plain fact starts at the clock of its insertion."""
+    """A fact from its insertion on. An event lies from `start` to `end`; a plain fact starts at the clock of its insertion. `first`
+    names the first field that holds neither the start nor the duration."""
     number: int
     type: str
     entry: str
@@ -56,6 +57,7 @@ class Life:
     told: int
     line: int
     maker: Optional[int]
+    first: Optional[str] = None
     changes: list[Change] = field(default_factory=list)
     gone: Optional[int] = None
     retracted: bool = False
@@ -71,13 +73,16 @@ class Waiting:
 
 @dataclass
 class Firing:
-    """A firing with the numbers of the facts that it names, and of those that its actions inserted."""
+    """A firing with the numbers of the facts that it names, their values then, what its variables stand for that name no fact, and
+    the numbers of the facts that its actions inserted."""
     number: int
     rule: str
     cells: tuple[Cell, ...]
     clock: int
     line: int
     waiting: Optional[Waiting]
+    values: dict[int, dict[str, Value]]
+    variables: dict[str, Value]
     made: list[int] = field(default_factory=list)
 
     @property
@@ -265,7 +270,8 @@ class Recorder:
         fact, clock = self.world.facts[-1], self.world.clock
         info = self.program.types[fact.type]
         start, end = times_of(fact) if info.event else (clock, clock)
-        life = Life(fact.id, fact.type, fact.entry, info.event, fact.values, start, end, clock, line, maker and maker.number)
+        first = next((name for name in info.fields if name not in (info.timestamp, info.duration)), None)
+        life = Life(fact.id, fact.type, fact.entry, info.event, fact.values, start, end, clock, line, maker and maker.number, first)
         if info.expires is not None:
             life.gone = start + info.expires
         if maker:
@@ -297,7 +303,9 @@ class Recorder:
         self.take(line)
         self.fired[rule.name, row.tags, row.values] = len(self.worlds) - 1
         waiting = longest_waiting(rule, row, self.recording.lives, self.program)
-        firing = Firing(len(self.recording.firings) + 1, rule.name, cells, self.world.clock, line, waiting)
+        values = {fact.id: fact.values for fact in row.facts}
+        variables = {name: value for name, value in row.names.items() if not isinstance(value, Fact)}
+        firing = Firing(len(self.recording.firings) + 1, rule.name, cells, self.world.clock, line, waiting, values, variables)
         self.recording.firings.append(firing)
         for step in [planned(action, row, self.world) for action in rule.actions]:
             code = "Overflow" if step is None else step_fault(step, self.world)

@@ -5,8 +5,11 @@ import re
 import unittest
 from collections import Counter
 
+from pathlib import Path
+
+from clock import Clock
 from marks import EVENTS, FACTS, FAULTS, FIRINGS, picture_of
-from page import HERE, page
+from page import HERE, page, title_of
 from recording import Change, Recording, Unfit, recording_of
 
 EXAMPLES = HERE.parent.parent / "examples"
@@ -51,7 +54,38 @@ class Desks(unittest.TestCase):
         self.assertEqual((marks["r9"].makes, marks["f13"].start), (("f13",), 425001))
 
 
+DATED = b"""declare Limit most : long end
+declare Buy @role( event ) @timestamp( at ) at : long card : String end
+rule "bought" when Buy() then end
+"""
+
+
+class Dates(unittest.TestCase):
+    SCRIPT = (b'{"do":"insert","type":"Limit","fields":{"most":5}}\n{"do":"at","ms":1772445600000}\n'
+              b'{"do":"insert","type":"Buy","fields":{"at":1772445600000,"card":"a card of many letters"}}\n{"do":"fire"}\n')
+
+    def test_a_clock_since_1970(self):
+        picture = picture_of(recording := recording_of(DATED, self.SCRIPT, b'new #1 Limit\nnew #2 Buy\nfire "bought" #2\n'))
+        self.assertTrue(picture.data()["dates"])
+        self.assertIn("at 2026-03-02 10:00:00; inserted at 2026-03-02 10:00:00 by line 3", picture.marks[1].text)
+        self.assertIn("inserted at 0 by line 1", picture.marks[0].text)
+        self.assertIn("the clock ends at 2026-03-02 10:00:00 UTC", page("dated", recording, picture))
+
+    def test_other_clocks(self):
+        self.assertFalse(picture_of(desk("fraud")).clock.dates)
+        self.assertFalse(picture_of(recording_of(DATED, b"", b"")).clock.dates)
+        self.assertEqual((Clock(True).text(1772445600001), Clock(False).text(5)), ("2026-03-02 10:00:00.001", "5"))
+
+    def test_labels_have_a_field_that_is_no_time(self):
+        marks = picture_of(recording_of(DATED, self.SCRIPT, b'new #1 Limit\nnew #2 Buy\nfire "bought" #2\n')).marks
+        self.assertEqual([mark.label for mark in marks], ["#1 most 5", "#2 card a card of many l …", "#2"])
+
+
 class Pages(unittest.TestCase):
+    def test_titles(self):
+        self.assertEqual(title_of(EXAMPLES / "fraud.drl"), "fraud")
+        self.assertEqual(title_of(Path("/desks/card testing/rules.drl")), "card testing")
+
     def test_the_pictures_are_of_today(self):
         for name in ("fraud", "alarm", "plant"):
             text = page(name, recording := desk(name), picture_of(recording))

@@ -11,7 +11,7 @@ import sys
 from pathlib import Path
 
 from marks import picture_of
-from page import page
+from page import page, title_of
 from recording import Unfit, recording_of
 
 
@@ -25,7 +25,7 @@ def main() -> int:
     except (OSError, UnicodeDecodeError, Unfit) as error:
         print(f"timeline.py: {error}", file=sys.stderr)
         return 1
-    sys.stdout.buffer.write(page(asked.script.stem, recording, picture_of(recording)).encode("utf-8"))
+    sys.stdout.buffer.write(page(title_of(asked.rules), recording, picture_of(recording)).encode("utf-8"))
     return 0
 
 

@@ -1,0 +1,170 @@
+"""What the facts hold: the values that lines gave, and those that the actions of rules give, which no answer of a program tells.
+
+Actions are evaluated by tools/reference. A fact is forgotten when no answer can name it any more: when it is retracted or has
+expired, or when its life is over and nothing is pending.
+"""
+
+from __future__ import annotations
+
+import heapq
+from collections import deque
+from dataclasses import replace
+from pathlib import Path
+from typing import Any, Optional, Union
+
+from .answers import Fact, Fault, Firing, Value
+from .reference import modules
+
+Names = dict[str, Union[Fact, Value]]
+
+
+class Rules:
+    """A rule file by tools/reference: its types, and what the actions of its rules are to do."""
+
+    def __init__(self, data: bytes):
+        """ValueError where the file is refused."""
+        found = modules("meaning", "run", "lives", "trees", "temporal", "replay")
+        self.meaning, self.trees, self.lives, self.infinite = found["meaning"], found["trees"], found["lives"], found["temporal"].INFINITE
+        program = found["run"].program_or_refusal(data, found["replay"].LAST_STAGE)
+        if isinstance(program, str):
+            raise ValueError(program)
+        self.types, self.latenesses = program.types, program.latenesses
+        self.world = self.meaning.World(program)
+        self.rules = {rule.name: rule for rule in program.rules}
+        self.known_lives: dict[str, Optional[int]] = {}
+
+    def life(self, type_name: str) -> Optional[int]:
+        """How long an event of this type matters behind its end, None where it does for ever."""
+        if type_name not in self.known_lives:
+            life = self.lives.life_of_type(self.world.program, type_name)
+            self.known_lives[type_name] = None if life == self.infinite else life
+        return self.known_lives[type_name]
+
+    def names(self, rule: str, facts: list[Fact], results: list[int]) -> Names:
+        """What the variables of a rule stand for, by the facts and results of its firing."""
+        facts, results, names = list(facts), list(results), {}
+        for condition in self.rules[rule].conditions:
+            if isinstance(condition, self.trees.Plain):
+                names.update(self.meaning.bound_by(condition.source, facts.pop(0)))
+            elif isinstance(condition, self.trees.Folded):
+                result = results.pop(0)
+                names.update({} if condition.result is None else {condition.result: result})
+        return names
+
+    def steps(self, rule: str, names: Names) -> list:
+        """The step of each action, None where an expression of it overflows."""
+        row = self.meaning.Row((), names)
+        return [self.meaning.planned(action, row, self.world) for action in self.rules[rule].actions]
+
+    def span(self, fact: Fact, clock: int) -> tuple[int, int]:
+        """The start and the end of an event that is inserted at this clock."""
+        info = self.types[fact.type]
+        start = clock if info.timestamp is None else fact[info.timestamp]
+        return start, start + (0 if info.duration is None else fact[info.duration])
+
+
+def rules_of(path: Path) -> Optional[Rules]:
+    """The rules of a file, None where it is not there or refused: then the program says so itself."""
+    try:
+        return Rules(path.read_bytes())
+    except (OSError, ValueError):
+        return None
+
+
+class Book:
+    """The facts that an answer may name, by their numbers, at the place of the script up to which answers have come."""
+
+    def __init__(self, rules: Optional[Rules]):
+        self.rules = rules
+        self.facts: dict[int, Fact] = {}
+        self.clock = 0
+        self.expiring: list[tuple[int, int]] = []
+        self.fading: list[tuple[int, int]] = []
+
+    # ---- what lines do
+
+    def insert(self, fact: Fact) -> None:
+        self.facts[fact.id] = fact
+        info = self.rules and self.rules.types.get(fact.type)
+        if not info or not info.event or fact.values is None:
+            return
+        start, end = self.rules.span(fact, self.clock)
+        if info.expires is not None:
+            heapq.heappush(self.expiring, (start + info.expires, fact.id))
+            self.forget(self.expiring, self.clock)
+        elif (life := self.rules.life(fact.type)) is not None:
+            heapq.heappush(self.fading, (end + life + 1, fact.id))
+
+    def modify(self, number: int, values: dict[str, Value]) -> Optional[Fact]:
+        """The fact with other values, None where it is not there."""
+        fact = self.facts.get(number)
+        if fact is None:
+            return None
+        self.facts[number] = replace(fact, values=None if fact.values is None else {**fact.values, **values})
+        return self.facts[number]
+
+    def retract(self, number: int) -> Optional[Fact]:
+        return self.facts.pop(number, None)
+
+    def move(self, clock: int) -> None:
+        self.clock = clock
+        self.forget(self.expiring, clock)
+
+    def nothing_pending(self) -> None:
+        """Events past their lives are in no match that is still to come."""
+        self.forget(self.fading, self.clock)
+
+    def forget(self, ends: list[tuple[int, int]], clock: int) -> None:
+        while ends and ends[0][0] <= clock:
+            self.facts.pop(heapq.heappop(ends)[1], None)
+
+    # ---- what firings do
+
+    def firing(self, rule: str, line: int, numbers: list[int], results: list[int]) -> tuple[Firing, "Actions"]:
+        """A firing, and what its actions are still to do."""
+        facts = [self.facts.get(number, Fact(number, "?")) for number in numbers]
+        firing = Firing(rule, line, self.clock, facts, results)
+        known = self.rules is not None and rule in self.rules.rules and all(fact.values is not None for fact in facts)
+        if not known:
+            return firing, Actions(self, firing, [])
+        firing.names = self.rules.names(rule, facts, results)
+        return firing, Actions(self, firing, self.rules.steps(rule, firing.names))
+
+
+class Actions:
+    """The actions of a firing, which are done in their order: an insertion answers one line, the others one where they are faulty."""
+
+    def __init__(self, book: Book, firing: Firing, steps: list):
+        self.book, self.firing, self.steps = book, firing, deque(steps)
+        self.quiet()
+
+    def quiet(self) -> None:
+        """Does the actions that answer nothing, up to the next that answers."""
+        while self.steps and not self.answers(self.steps[0]):
+            step = self.steps.popleft()
+            if isinstance(step, self.book.rules.meaning.Modification):
+                self.firing.modified.append(self.book.modify(step.id, step.values))
+            elif gone := self.book.retract(step.id):
+                self.firing.retracted.append(gone)
+
+    def answers(self, step: Any) -> bool:
+        """Whether it is an insertion, or faulty: an overflow, or a plain fact that is not there."""
+        if step is None or isinstance(step, self.book.rules.meaning.Insertion):
+            return True
+        return not self.book.rules.types[step.type].event and step.id not in self.book.facts
+
+    def answered(self) -> Any:
+        """The step whose answer has come, None where it is not known."""
+        return self.steps.popleft() if self.steps else None
+
+    def new(self, number: int, type_name: str) -> None:
+        step = self.answered()
+        fact = Fact(number, type_name, step and step.values, rule=self.firing.rule)
+        self.book.insert(fact)
+        self.firing.made.append(fact)
+        self.quiet()
+
+    def fault(self, fault: Fault) -> None:
+        self.answered()
+        self.firing.faults.append(fault)
+        self.quiet()

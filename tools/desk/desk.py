@@ -1,0 +1,53 @@
+#!/usr/bin/env python3
+"""A page for one rule file and one script, on this machine alone:
+
+    python3 tools/desk/desk.py RULES SCRIPT [--port N] [--seconds N]
+
+It prints the address to open in a browser, and serves it until Ctrl+C. docs/TOOLS.md says what the page shows.
+"""
+
+from __future__ import annotations
+
+import argparse
+import sys
+from pathlib import Path
+
+sys.path.insert(0, str(Path(__file__).resolve().parent.parent / "timeline"))
+
+from page import title_of  # noqa: E402
+from server import Desk, DeskServer, Refused  # noqa: E402
+
+
+def asked() -> argparse.Namespace:
+    parser = argparse.ArgumentParser(description="Serves a page for a rule file and a script on 127.0.0.1.")
+    parser.add_argument("rules", type=Path, help="the rule file; it may be new")
+    parser.add_argument("script", type=Path, help="the script; it may be new")
+    parser.add_argument("--port", type=int, default=0, help="without it any that is free")
+    parser.add_argument("--seconds", type=int, default=20, metavar="N", help="how long a run may take, from 1 to 600 (20)")
+    options = parser.parse_args()
+    if not 1 <= options.seconds <= 600:
+        parser.error("a run takes from 1 to 600 seconds")
+    return options
+
+
+def main() -> int:
+    options = asked()
+    desk = Desk(options.rules, options.script, title_of(options.rules), options.seconds)
+    try:
+        desk.texts()
+        server = DeskServer(desk, options.port)
+    except (Refused, OSError, OverflowError) as error:
+        print(f"desk.py: {error}", file=sys.stderr)
+        return 1
+    print(server.address, flush=True)
+    try:
+        server.serve_forever()
+    except KeyboardInterrupt:
+        return 0
+    finally:
+        server.server_close()
+    return 0
+
+
+if __name__ == "__main__":
+    sys.exit(main())
