@@ -16,7 +16,7 @@ from dataclasses import dataclass
 from pathlib import Path
 from typing import Iterator, Optional
 
-from where import STAGE, read_tolerantly, report, shown  # first: it finds tools/reference
+from where import TODAY, read_tolerantly, report, shown  # first: it finds tools/reference
 
 import kept
 import temporal
@@ -374,7 +374,7 @@ LINTS = [undeclared_entries, missing_from, unseen_entries, same_moment, bare_num
 def desk_of(data: bytes) -> Desk:
     """An accepted rule file."""
     items, _ = read_tolerantly(data)
-    return Desk(items, check([Item(0, item.body) for item in items], STAGE))
+    return Desk(items, check([Item(0, item.body) for item in items], TODAY))
 
 
 def warnings_of(data: bytes) -> list[Complaint]:
