@@ -286,11 +286,20 @@ def how_it_goes(desk: Desk, rule: Rule, forbidden: Source) -> Optional[str]:
     return None if by is None else f'is retracted, by "{by}"'
 
 
+def stays(desk: Desk, condition: Condition) -> bool:
+    """Whether a `not` or an `exists` that holds of old events holds of them for ever: none can come any more, or none goes."""
+    source = condition.source
+    tests = [(t.operator, t.parameters, (0, 0)) for t in source.temporal_tests]
+    if isinstance(condition, Negated):
+        return desk.is_event(source) and temporal.greatest_start(tests, True) not in (INFINITE, temporal.NEVER)
+    return desk.is_event(source) and source.window is None and desk.program.types[source.type].expires is None
+
+
 def old_events(desk: Desk) -> Iterator[Complaint]:
     """A rule that fires once for what it inserts and forbids: when that goes, it fires again for the same old events."""
     for item, rule in desk.rules:
         old = next((c for c in rule.conditions if is_kept_event(desk, c)), None)
-        forbidding = [c.source for c in rule.conditions if isinstance(c, (Negated, Existing))]
+        forbidding = [c.source for c in rule.conditions if isinstance(c, (Negated, Existing)) and not stays(desk, c)]
         inserts = [a for a in rule.actions if isinstance(a, Insert) and [a.type] == [source.type for source in forbidding]]
         if old is None or len(inserts) < len(rule.actions) or not inserts:
             continue

@@ -53,6 +53,10 @@ RULES = [
     ('rule r when not( Block( $c : card ) ) then end', ["unseen-binding"]),
     ('rule r when Long( $c : card ) Card( number == $c ) then end', ["for-ever"]),
     ('rule r when Long( $c : card ) Card( number == $c ) not( Told( card == $c ) ) then insert( new Told( $c ) ); end', ["for-ever", "old-events"]),
+    ('rule r when $l : Long( $c : card ) not( Call( card == $c, this after[0s,9s] $l ) ) not( Told( card == $c ) ) then insert( new Told( $c ) ); end',
+     ["for-ever", "old-events"]),
+    ('rule r when $l : Long( $c : card ) not( Call( card == $c, this after $l ) ) not( Told( card == $c ) ) then insert( new Told( $c ) ); end',
+     ["for-ever"]),
 ]
 
 # The lines of the examples that have a warning; each is so, and some are there to be shown.
