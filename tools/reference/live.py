@@ -53,6 +53,8 @@ def main() -> int:
         return live(sys.argv[1:])
     except WriteFailed:
         return 6
+    except OSError:
+        return 5
 
 
 if __name__ == "__main__":

@@ -39,7 +39,7 @@ class FileRead:
 def file_of(items: list[ReadItem]) -> FileRead:
     bodies = [Item(k, item.body) for k, item in enumerate(items) if item.body is not None]
     types = types_by_name(bodies)
-    half = {str(item.tokens[1].value) for item in items if len(item.tokens) > 1 and (item.body is None or item.complaints)}
+    half = {str(item.tokens[1].value) for item in items if len(item.tokens) > 1 and (item.body is None or item.unclear)}
     return FileRead(items, bodies, types, observed_types([b.body for b in bodies if isinstance(b.body, Rule)], types), half)
 
 
@@ -375,7 +375,8 @@ def misfits_of_expression(file: FileRead, item: ReadItem, expr: Expr, kind: str,
     if isinstance(expr, (Negate, Binary)):
         leaf = next(leaf for leaf in checks.parts_of_expr(expr) if not isinstance(leaf, (Negate, Binary)))
         if kind != INT:
-            yield said("WrongKind", item.tokens_of(leaf)[0], f"a sum is a whole number, and {field} is {KIND_NAMES[kind]}")
+            yield said("WrongKind", item.tokens_of(leaf)[0], f"a sum is a whole number, and {field} is {KIND_NAMES[kind]}",
+                       "`+`, `-` and `*` are between whole numbers: texts are not joined")
             return
         for inner in [expr.inner] if isinstance(expr, Negate) else [expr.left, expr.right]:
             yield from misfits_of_expression(file, item, inner, INT, sight, "a part of a sum")

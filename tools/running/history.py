@@ -84,7 +84,9 @@ def followed(program: Program, script: bytes, last: Optional[int]) -> History:
 
 def note_facts(history: History, number: int) -> None:
     """The facts that came and went with a line; of a modified one the newest version."""
-    if history.before.facts is history.behind.facts:
+    before, behind = history.before.facts, history.behind.facts
+    if behind[:len(before)] == before:
+        history.facts.update((f.id, Told(f, number)) for f in behind[len(before):])
         return
     known = {f.id for f in history.before.facts}
     there = {f.id for f in history.behind.facts}

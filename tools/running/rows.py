@@ -79,7 +79,8 @@ def meant(test: object, f: Fact, row: Row) -> str:
         (start, end), other = times_of(f), row.names[test.other]
         times = f"{start}" if start == end else f"{start} to {end}"
         of_other = f"{other.start}" if other.start == other.end else f"{other.start} to {other.end}"
-        return f"it is at {times}, and ${test.other}, #{other.id}, at {of_other}"
+        others = [op for op in temporal.OPERATORS if temporal.holds(op, (), times_of(f), times_of(other))]
+        return f"it is at {times}, and ${test.other}, #{other.id}, at {of_other}, so that {' and '.join(f'`{op}`' for op in others) or 'none'} holds"
     told = []
     for c in (c for group in test.groups for c in group if not comparison_holds(c, f, row.names)):
         others = [shown_value(value_of(o, row.names, f)) for o in operands_of(c) if not isinstance(o, Literal)]
@@ -151,7 +152,8 @@ class Inspection:
             return self.tally(source, row)
         passing = [f for f in candidates(source, self.world) if passes(source, f, row)]
         if isinstance(condition, Negated):
-            return self.waiting(source, row) if not passing else f"{', '.join(f'#{f.id}' for f in passing[:MOST_SHOWN])} passes, which it forbids"
+            passed = ", ".join(f"#{f.id}" for f in passing[:MOST_SHOWN]) + (", .." if len(passing) > MOST_SHOWN else "")
+            return f"{passed} {'passes' if len(passing) == 1 else 'pass'}, which it forbids" if passing else self.waiting(source, row)
         return self.no_result(condition, passing, row)
 
     def no_result(self, condition: Folded, passing: list[Fact], row: Row) -> str:

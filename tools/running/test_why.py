@@ -116,6 +116,11 @@ class Why(unittest.TestCase):
         self.assertIn("left the window at 3604000", lines(25, "silent", [3], SCRIPT.replace(b'{"do":"fire"}', b"")))
         self.assertIn("was retracted at line 20", lines(21, "gone", [2]))
 
+    def test_the_operator_that_holds(self):
+        rules = b"declare A @role( event ) end rule r when $a : A() A( this after $a ) then end"
+        text = "\n".join(told(argparse.Namespace(line=None, rule="r", fact=[1]), rules, b'{"do":"insert","type":"A","fields":{}}'))
+        self.assertIn("fails `this after $a`: it is at 0, and $a, #1, at 0, so that `coincides` and `meets` and `metby` holds", text)
+
     def test_what_has_fired(self):
         self.assertIn("#2 =5000: pending", lines(20, "gone"))
         rules = RULES.replace(b"modify( $c ) { open = false }", b"")

@@ -247,6 +247,9 @@ def main() -> int:
         return ended.status
     except WriteFailed:
         return 6
+    except OSError as error:
+        tell(f"a read failed: {error.strerror}")
+        return 5
     except KeyboardInterrupt:
         return 130
 
