@@ -12,6 +12,9 @@ KINDS = {"int": INT, "long": INT, "Integer": INT, "Long": INT, "boolean": BOOL, 
 
 DEFAULT = "DEFAULT"
 
+# The stage of the project that the program has reached (tools/reference/README.md).
+TODAY = 14
+
 
 def type_declarations(items: list[Item]) -> list[TypeDeclaration]:
     return [item.body for item in items if isinstance(item.body, TypeDeclaration)]

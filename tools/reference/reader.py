@@ -165,11 +165,15 @@ class Reader:
             annotations.append(self.annotation())
         fields = []
         while not self.at_word("end"):
-            field = self.ident()
-            self.mark(":")
-            fields.append((field, self.ident()))
+            fields.append(self.field())
         self.word("end")
         return TypeDeclaration(name, tuple(annotations), tuple(fields))
+
+    def field(self) -> tuple[str, str]:
+        """Ident ':' Ident"""
+        name = self.ident()
+        self.mark(":")
+        return name, self.ident()
 
     def annotation(self) -> Annotation:
         """'@' 'role' '(' ('event' | 'fact') ')' | '@' ('timestamp' | 'duration') '(' Ident ')' | '@' 'expires' '(' span ')'"""
