@@ -28,7 +28,7 @@ from typing import NamedTuple, Optional
 TOP = Path(__file__).resolve().parent.parent
 sys.path.insert(0, str(TOP / "tools/reference"))
 
-from cases import cases_of  # noqa: E402
+from gate_cases import cases_of  # noqa: E402
 
 BANK = b"each call fails in turn: a bank's entry points, faults among its lines"
 DESKS = ("fraud", "alarm", "plant")

@@ -110,14 +110,15 @@ class Caller(unittest.TestCase):
         return done.stdout, done.stderr, done.returncode
 
     def test_no_program(self):
-        self.assertEqual(self.called("nothere", "")[1:], (
-            "the program nothere does not start (No such file or directory): build it as README.md says, or take tools/reference/live.py\n", 1))
+        _, said, status = self.called("nothere", "")
+        self.assertEqual((said.count("\n"), status), (1, 1))
+        self.assertIn("there is no program nothere to run", said)
 
     def test_a_row_that_lacks_a_column(self):
         rows = (TOP / "examples" / "live" / "withdrawals.csv").read_text().splitlines()
         output, said, status = self.called("tools/reference/live.py", "\n".join(rows[:3] + ["2026-03-02 10:00:10"] + rows[3:]) + "\n")
         self.assertEqual((len(output.splitlines()), status), (3, 1))
-        self.assertIn('a row of other columns {"arrived": "2026-03-02 10:00:10", "at": null', said)
+        self.assertIn("line 4 of the table: no at, card, place, amount", said)
 
 
 class Cases(unittest.TestCase):

@@ -1,8 +1,8 @@
 #!/usr/bin/env python3
 """Holds the cases of crates/cases against the reference.
 
-    python3 tools/reference/cases.py            # the titles of the cases whose lines in crates/cases/stdout are not the reference's
-    python3 tools/reference/cases.py --print    # what the reference says that all cases print
+    python3 tools/reference/gate_cases.py            # the titles of the cases whose lines in crates/cases/stdout are not the reference's
+    python3 tools/reference/gate_cases.py --print    # what the reference says that all cases print
 
 How a case is written is said in docs/CHANGING.md (*A case*). The calls that a run makes of its rule file, its script and its output
 are those that docs/PROVED.md and the contracts leave open, as the program makes them: the rule file in pieces of 4,096 bytes to its
