@@ -20,7 +20,7 @@ use Rattle.drl_phrase.specs.Exact.{binds, Exact}
 use Rattle.drl_phrase.specs.Reading.{closed, after, separated_at, listed_at}
 use Rattle.drl_phrase.proofs.ShapeLaws.{then, if_some_then, guarded, same_bytes, itself, closed_then, separated_exact, listed_exact}
 use Rattle.drl_condition.specs.Words.{fold_word, result_word}
-use Rattle.drl_condition.specs.Reading.{operand_at, window_at, place_at, binding_at, source_at, value_test_at, result_test_at, result_tests_at, call_at, number_call_at, number_source_at, number_tests_at, number_at, accumulate_call_at, accumulate_at}
+use Rattle.drl_condition.specs.Reading.{operand_at, window_at, place_at, binding_at, source_at, value_test_at, result_test_at, result_tests_at, call_at, last_call_at, number_call_at, number_source_at, number_tests_at, number_at, result_at, accumulate_call_at, accumulate_at}
 use Rattle.drl_condition.proofs.WordLaws.{fold_sound, fold_again, result_sound, result_again, both}
 use Rattle.drl_condition.proofs.ValueLaws.{operand_exact}
 use Rattle.drl_condition.proofs.PatternLaws.{binding_sound, binding_again, binding_shorter, source_again, source_exact}
@@ -98,13 +98,21 @@ call_again k arg rest = rw (fold_again k) refl
 
 -- ---- Number(..) from accumulate(..)
 
+abbrev IsLastCall : Phrase (FoldWord × List ℕ)
+IsLastCall call ts rest = ts ≡ Mark Comma ∷ Word (fold_text call.0) ∷ Mark OpenParenthesis ∷ Var call.1 ∷ Mark CloseParenthesis ∷ Mark CloseParenthesis ∷ rest
+
+last_call_sound : (ts : List TokenKind) → Found IsLastCall ts (last_call_at ts)
+unfolding last_call_at
+last_call_sound (Mark Comma ∷ ts) = then IsCall ts (call_at ts) _ IsLastCall _ (call_sound ts) (λ call e.
+    closed_then p.CloseParenthesis IsCall call.0 ts call.0 call.1 IsLastCall _ e (λ rest hr. rw hr refl))
+last_call_sound ts = tt
+
 number_call_sound : (v : Option (List ℕ)) (tests : List (Rel × Operand)) (s : SourceTree) (whole inner source_tokens ts : List TokenKind)
     → IsBinding v whole (Word (codes "Number") ∷ Mark OpenParenthesis ∷ inner) → Listed IsValueTest tests inner (Word (codes "from") ∷ Word (codes "accumulate") ∷ Mark OpenParenthesis ∷ source_tokens)
     → IsSource s source_tokens ts → Found IsFolded whole (number_call_at v tests s ts)
 unfolding number_call_at
-number_call_sound v tests s whole inner source_tokens (Mark Comma ∷ ts) hv ht hs = then IsCall ts (call_at ts) _ IsFolded _ (call_sound ts) (λ call e.
-    closed_then p.CloseParenthesis IsCall call.0 ts _ call.1 IsFolded _ e (λ rest hr. g.number_form hv ht (subst (λ (behind : List TokenKind). IsSource s source_tokens (Mark Comma ∷ behind)) hr hs)))
-number_call_sound v tests s whole inner source_tokens ts hv ht hs = tt
+number_call_sound v tests s whole inner source_tokens ts hv ht hs = then IsLastCall ts (last_call_at ts) _ IsFolded _ (last_call_sound ts) (λ call e.
+    g.number_form hv ht (subst (IsSource s source_tokens) e hs))
 
 number_source_sound : (v : Option (List ℕ)) (tests : List (Rel × Operand)) (whole inner ts : List TokenKind)
     → IsBinding v whole (Word (codes "Number") ∷ Mark OpenParenthesis ∷ inner) → Listed IsValueTest tests inner ts → Found IsFolded whole (number_source_at v tests ts)
@@ -132,7 +140,7 @@ pub number_again : (v : Option (List ℕ)) (s : SourceTree) (k : FoldWord) (arg 
     → Listed IsValueTest tests inner (Word (codes "from") ∷ Word (codes "accumulate") ∷ Mark OpenParenthesis ∷ source_tokens)
     → IsSource s source_tokens (Mark Comma ∷ Word (fold_text k) ∷ Mark OpenParenthesis ∷ Var arg ∷ Mark CloseParenthesis ∷ Mark CloseParenthesis ∷ rest)
     → number_at ts ≡ Some (condition.Folded v s k arg tests, rest)
-unfolding number_at number_tests_at number_source_at number_call_at window_at place_at closed after
+unfolding number_at number_tests_at number_source_at number_call_at last_call_at window_at place_at closed after
 number_again v s k arg tests ts inner source_tokens rest hv ht hs =
     rw (
       binding_again v ts (codes "Number") (Mark OpenParenthesis ∷ inner) hv,
@@ -143,12 +151,19 @@ number_again v s k arg tests ts inner source_tokens rest hv ht hs =
 
 -- ---- accumulate(..)
 
+abbrev IsResult : Phrase (List ℕ × (FoldWord × List ℕ) × List (Rel × Operand))
+IsResult r ts rest = (behind : List TokenKind)
+    × (ts ≡ Mark Semicolon ∷ Var r.0 ∷ Mark Colon ∷ Word (fold_text r.1.0) ∷ Mark OpenParenthesis ∷ Var r.1.1 ∷ Mark CloseParenthesis ∷ behind) × AreResultTests r.0 r.2 behind rest
+
+result_found : (ts : List TokenKind) → Found IsResult ts (result_at ts)
+unfolding result_at
+result_found (Mark Semicolon ∷ Var v ∷ Mark Colon ∷ ts) = then IsCall ts (call_at ts) _ IsResult _ (call_sound ts) (λ call e.
+    then (AreResultTests v) call.1 (result_tests_at v call.1) _ IsResult _ ((result_tests_exact v).sound call.1) (λ tests ht. (call.1, rw e refl, ht)))
+result_found ts = tt
+
 accumulate_call_sound : (s : SourceTree) (source_tokens ts : List TokenKind) → IsSource s source_tokens ts → Found IsFolded (Word (codes "accumulate") ∷ Mark OpenParenthesis ∷ source_tokens) (accumulate_call_at s ts)
 unfolding accumulate_call_at
-accumulate_call_sound s source_tokens (Mark Semicolon ∷ Var v ∷ Mark Colon ∷ ts) hs = then IsCall ts (call_at ts) _ IsFolded _ (call_sound ts) (λ call e.
-    then (AreResultTests v) call.1 (result_tests_at v call.1) _ IsFolded _ ((result_tests_exact v).sound call.1) (λ tests ht.
-    g.accumulate_form (subst (λ (behind : List TokenKind). IsSource s source_tokens (Mark Semicolon ∷ Var v ∷ Mark Colon ∷ behind)) e hs) ht))
-accumulate_call_sound s source_tokens ts hs = tt
+accumulate_call_sound s source_tokens ts hs = then IsResult ts (result_at ts) _ IsFolded _ (result_found ts) (λ r h. g.accumulate_form (subst (IsSource s source_tokens) h.1 hs) h.2)
 
 pub accumulate_sound : (ts : List TokenKind) → Found IsFolded (Word (codes "accumulate") ∷ ts) (accumulate_at ts)
 unfolding accumulate_at
@@ -158,7 +173,7 @@ accumulate_sound ts = tt
 pub accumulate_again : (v : List ℕ) (s : SourceTree) (k : FoldWord) (arg : List ℕ) (tests : List (Rel × Operand)) (ts behind rest : List TokenKind)
     → IsSource s ts (Mark Semicolon ∷ Var v ∷ Mark Colon ∷ Word (fold_text k) ∷ Mark OpenParenthesis ∷ Var arg ∷ Mark CloseParenthesis ∷ behind)
     → AreResultTests v tests behind rest → accumulate_at (Mark OpenParenthesis ∷ ts) ≡ Some (condition.Folded (Some v) s k arg tests, rest)
-unfolding accumulate_at accumulate_call_at window_at place_at
+unfolding accumulate_at accumulate_call_at result_at window_at place_at
 accumulate_again v s k arg tests ts behind rest hs ht =
     rw (
       source_again s ts (Mark Semicolon ∷ Var v ∷ Mark Colon ∷ Word (fold_text k) ∷ Mark OpenParenthesis ∷ Var arg ∷ Mark CloseParenthesis ∷ behind) hs refl refl,

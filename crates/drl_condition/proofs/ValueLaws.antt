@@ -19,7 +19,7 @@ use Rattle.drl_phrase.specs.declared.phrase.Punctuation.TheVariants as p
 use Rattle.drl_phrase.specs.Exact.{binds, Exact}
 use Rattle.drl_phrase.specs.Reading.{◌>>=◌, closed, after, separated_at}
 use Rattle.drl_phrase.proofs.ShapeLaws.{then, guarded, ident_then, ident_is, same_bytes, closed_then, separated_exact}
-use Rattle.drl_condition.specs.Reading.{literal_at, as_operand, operand_at, cmp_at, conj_at, disj_at}
+use Rattle.drl_condition.specs.Reading.{literal_at, as_operand, operand_at, compared_at, one_of_at, cmp_at, conj_at, disj_at}
 
 words_sound : (w : List ℕ) (rest : List TokenKind) (t f : Bool) → bytes_eq w (codes "true") ≡ t → bytes_eq w (codes "false") ≡ f
     → Found IsLiteral (Word w ∷ rest) (cond t (Some (lit.Bool true, rest)) (cond f (Some (lit.Bool false, rest)) None))
@@ -94,7 +94,7 @@ operands_exact : Exact (Separated (Mark Comma) IsOperand) (separated_at operand_
 operands_exact = separated_exact p.Comma (omega arith) operand_exact
 
 pub cmp_exact : Exact IsCmp cmp_at 1
-unfolding cmp_at closed after
+unfolding cmp_at compared_at one_of_at closed after
 cmp_exact = record { sound = sound; again = again; shorter = shorter }
   where
     sound : (ts : List TokenKind) → Found IsCmp ts (cmp_at ts)

@@ -51,10 +51,17 @@ operand_at ts = literal_at ts >>= as_operand
 
 -- ---- what stands in the parentheses of a pattern
 
+-- a field against an operand, behind the sign between them
+unfoldable pub compared_at : List ℕ → Rel → List TokenKind → Read Cmp
+compared_at f r ts = operand_at ts >>= λ o. Some (cmp.Rel f r o.0, o.1)
+
+-- a field among operands, behind the opening parenthesis
+unfoldable pub one_of_at : List ℕ → List TokenKind → Read Cmp
+one_of_at f ts = separated_at operand_at p.Comma ts >>= λ os. closed p.CloseParenthesis (cmp.OneOf f os.0) os.1
+
 unfoldable pub cmp_at : List TokenKind → Read Cmp
-cmp_at (Word f ∷ Mark (Comparison r) ∷ ts) = ident f (operand_at ts >>= λ o. Some (cmp.Rel f r o.0, o.1))
-cmp_at (Word f ∷ Word w ∷ Mark OpenParenthesis ∷ ts) =
-    ident f (if bytes_eq w (codes "in") then (separated_at operand_at p.Comma ts >>= λ os. closed p.CloseParenthesis (cmp.OneOf f os.0) os.1) else None)
+cmp_at (Word f ∷ Mark (Comparison r) ∷ ts) = ident f (compared_at f r ts)
+cmp_at (Word f ∷ Word w ∷ Mark OpenParenthesis ∷ ts) = ident f (if bytes_eq w (codes "in") then one_of_at f ts else None)
 cmp_at ts = None
 
 abbrev pub conj_at : List TokenKind → Read (List Cmp)
@@ -142,10 +149,14 @@ unfoldable pub call_at : List TokenKind → Read (FoldWord × List ℕ)
 call_at (Word w ∷ Mark OpenParenthesis ∷ Var arg ∷ Mark CloseParenthesis ∷ rest) = fold_word w >>= λ word. Some ((word, arg), rest)
 call_at ts = None
 
+-- ',' function '(' Var ')' ')'
+unfoldable pub last_call_at : List TokenKind → Read (FoldWord × List ℕ)
+last_call_at (Mark Comma ∷ ts) = call_at ts >>= λ call. closed p.CloseParenthesis call.0 call.1
+last_call_at ts = None
+
 -- what stands behind the pattern of `Number(..) from accumulate(..)`
 unfoldable pub number_call_at : Option (List ℕ) → List (Rel × Operand) → SourceTree → List TokenKind → Read CondTree
-number_call_at v tests s (Mark Comma ∷ ts) = call_at ts >>= λ call. closed p.CloseParenthesis (condition.Folded v s call.0.0 call.0.1 tests) call.1
-number_call_at v tests s ts = None
+number_call_at v tests s ts = last_call_at ts >>= λ call. Some (condition.Folded v s call.0.0 call.0.1 tests, call.1)
 
 -- what stands behind `Number(..)`
 unfoldable pub number_source_at : Option (List ℕ) → List (Rel × Operand) → List TokenKind → Read CondTree
@@ -162,11 +173,14 @@ number_tests_at v ts = None
 unfoldable pub number_at : List TokenKind → Read CondTree
 number_at ts = number_tests_at (binding_at ts).0 (binding_at ts).1
 
+-- ';' Var ':' function '(' Var ')' and the tests of the result: its variable, the function with its argument, the tests
+unfoldable pub result_at : List TokenKind → Read (List ℕ × (FoldWord × List ℕ) × List (Rel × Operand))
+result_at (Mark Semicolon ∷ Var result ∷ Mark Colon ∷ ts) = call_at ts >>= λ call. result_tests_at result call.1 >>= λ tests. Some ((result, call.0, tests.0), tests.1)
+result_at ts = None
+
 -- what stands behind the pattern of `accumulate(..)`
 unfoldable pub accumulate_call_at : SourceTree → List TokenKind → Read CondTree
-accumulate_call_at s (Mark Semicolon ∷ Var result ∷ Mark Colon ∷ ts) =
-    call_at ts >>= λ call. result_tests_at result call.1 >>= λ tests. Some (condition.Folded (Some result) s call.0.0 call.0.1 tests.0, tests.1)
-accumulate_call_at s ts = None
+accumulate_call_at s ts = result_at ts >>= λ r. Some (condition.Folded (Some r.0.0) s r.0.1.0 r.0.1.1 r.0.2, r.1)
 
 -- what stands behind the word `accumulate`
 unfoldable pub accumulate_at : List TokenKind → Read CondTree

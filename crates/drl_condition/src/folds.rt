@@ -1,7 +1,7 @@
 ghost use Rattle.std.specs.Prelude.{◌≡◌, option_map, Option, IfOk};
 ghost use Rattle.drl_phrase.specs.Reading.{separated_at};
 ghost use Rattle.drl_phrase.specs.declared.phrase.Punctuation.TheVariants.{Comma};
-ghost use Rattle.drl_condition.specs.Reading.{result_test_at, result_tests_at, call_at, number_call_at, number_source_at, number_tests_at, number_at, accumulate_call_at, accumulate_at};
+ghost use Rattle.drl_condition.specs.Reading.{result_test_at, result_tests_at, call_at, last_call_at, number_call_at, number_source_at, number_tests_at, number_at, result_at, accumulate_call_at, accumulate_at};
 
 use crate::patterns::{SourcePhrase, binding};
 use crate::values::OperandPhrase;
@@ -97,7 +97,7 @@ fn result_test_list<'a>(
 }
 
 /// The tests of the result, maybe none, and the closing parenthesis.
-#[tactic(auto, unfolding(crate::specs::Reading::result_tests_at, drl_phrase::specs::Reading::closed, drl_phrase::specs::Reading::after))]
+#[tactic(auto, unfolding(crate::specs::Reading::result_tests_at, drl_phrase::specs::Reading::closed))]
 fn result_tests<'a>(
     alloc: Global,
     result_var: &str,
@@ -110,11 +110,13 @@ fn result_tests<'a>(
             Ok(Some((Seq::from_vec(Vec::new(alloc)), rest)))
         }
         [TokenKind::Mark(Mark::Semicolon), rest @ ..] => {
-            match result_test_list(alloc, result_var, rest)? {
-                Some((tests, [TokenKind::Mark(Mark::CloseParenthesis), rest @ ..])) => {
-                    Ok(Some((tests, rest)))
-                }
-                _ => Ok(None),
+            let (tests, rest) = match result_test_list(alloc, result_var, rest)? {
+                None => return Ok(None),
+                Some(found) => found,
+            };
+            match behind(Punctuation::CloseParenthesis, rest) {
+                None => Ok(None),
+                Some(rest) => Ok(Some((tests, rest))),
             }
         }
         _ => Ok(None),
@@ -141,8 +143,28 @@ fn call(tokens: &[TokenKind]) -> Result<Option<((FoldWord, Text), &[TokenKind])>
     }
 }
 
+/// `',' function '(' Var ')' ')'`
+#[tactic(auto, unfolding(crate::specs::Reading::last_call_at, drl_phrase::specs::Reading::closed))]
+fn last_call(tokens: &[TokenKind]) -> Result<Option<((FoldWord, Text), &[TokenKind])>, NoMemory>
+    ensures { IfOk result (λ found. option_map (λ f. (f.0, f.1.now)) found ≡ last_call_at tokens.now) }
+{
+    match tokens {
+        [TokenKind::Mark(Mark::Comma), rest @ ..] => {
+            let (function, rest) = match call(rest)? {
+                None => return Ok(None),
+                Some(found) => found,
+            };
+            match behind(Punctuation::CloseParenthesis, rest) {
+                None => Ok(None),
+                Some(rest) => Ok(Some((function, rest))),
+            }
+        }
+        _ => Ok(None),
+    }
+}
+
 /// What stands behind the pattern of `Number(..) from accumulate(..)`.
-#[tactic(auto, unfolding(crate::specs::Reading::number_call_at, drl_phrase::specs::Reading::closed, drl_phrase::specs::Reading::after))]
+#[tactic(auto, unfolding(crate::specs::Reading::number_call_at))]
 fn number_call(
     result_var: Option<Text>,
     tests: Seq<(Rel, Operand)>,
@@ -151,23 +173,18 @@ fn number_call(
 ) -> Result<Option<(CondTree, &[TokenKind])>, NoMemory>
     ensures { IfOk result (λ found. option_map (λ f. (f.0, f.1.now)) found ≡ number_call_at result_var tests source tokens.now) }
 {
-    match tokens {
-        [TokenKind::Mark(Mark::Comma), rest @ ..] => match call(rest)? {
-            Some(((kind, arg), [TokenKind::Mark(Mark::CloseParenthesis), rest @ ..])) => {
-                Ok(Some((
-                    CondTree::Folded {
-                        result: result_var,
-                        source,
-                        kind,
-                        arg,
-                        tests,
-                    },
-                    rest,
-                )))
-            }
-            _ => Ok(None),
-        },
-        _ => Ok(None),
+    match last_call(tokens)? {
+        None => Ok(None),
+        Some(((kind, arg), rest)) => Ok(Some((
+            CondTree::Folded {
+                result: result_var,
+                source,
+                kind,
+                arg,
+                tests,
+            },
+            rest,
+        ))),
     }
 }
 
@@ -231,14 +248,13 @@ pub(crate) fn number(
     number_tests(alloc, result_var, rest)
 }
 
-/// What stands behind the pattern of `accumulate(..)`.
-#[tactic(auto, unfolding(crate::specs::Reading::accumulate_call_at))]
-fn accumulate_call(
-    alloc: Global,
-    source: SourceTree,
-    tokens: &[TokenKind],
-) -> Result<Option<(CondTree, &[TokenKind])>, NoMemory>
-    ensures { IfOk result (λ found. option_map (λ f. (f.0, f.1.now)) found ≡ accumulate_call_at source tokens.now) }
+/// The variable of a result, the function with its argument, and the tests of the result.
+type Folding = (Text, (FoldWord, Text), Seq<(Rel, Operand)>);
+
+/// `';' Var ':' function '(' Var ')'`, and the tests of the result.
+#[tactic(auto, unfolding(crate::specs::Reading::result_at))]
+fn folding(alloc: Global, tokens: &[TokenKind]) -> Result<Option<(Folding, &[TokenKind])>, NoMemory>
+    ensures { IfOk result (λ found. option_map (λ f. (f.0, f.1.now)) found ≡ result_at tokens.now) }
 {
     match tokens {
         [
@@ -248,21 +264,36 @@ fn accumulate_call(
             rest @ ..,
         ] => match call(rest)? {
             None => Ok(None),
-            Some(((kind, arg), rest)) => match result_tests(alloc, var.as_str(), rest)? {
+            Some((function, rest)) => match result_tests(alloc, var.as_str(), rest)? {
                 None => Ok(None),
-                Some((tests, rest)) => Ok(Some((
-                    CondTree::Folded {
-                        result: Some(var.clone()?),
-                        source,
-                        kind,
-                        arg,
-                        tests,
-                    },
-                    rest,
-                ))),
+                Some((tests, rest)) => Ok(Some(((var.clone()?, function, tests), rest))),
             },
         },
         _ => Ok(None),
+    }
+}
+
+/// What stands behind the pattern of `accumulate(..)`.
+#[tactic(auto, unfolding(crate::specs::Reading::accumulate_call_at))]
+fn accumulate_call(
+    alloc: Global,
+    source: SourceTree,
+    tokens: &[TokenKind],
+) -> Result<Option<(CondTree, &[TokenKind])>, NoMemory>
+    ensures { IfOk result (λ found. option_map (λ f. (f.0, f.1.now)) found ≡ accumulate_call_at source tokens.now) }
+{
+    match folding(alloc, tokens)? {
+        None => Ok(None),
+        Some(((result, (kind, arg), tests), rest)) => Ok(Some((
+            CondTree::Folded {
+                result: Some(result),
+                source,
+                kind,
+                arg,
+                tests,
+            },
+            rest,
+        ))),
     }
 }
 

@@ -6,23 +6,25 @@ use crate::words::op_word;
 use drl_expr::is_ident_word;
 use drl_grammar::Part;
 use drl_lex::{Mark, TokenKind};
-use drl_phrase::{Phrase, Punctuation, Span, separated};
+use drl_phrase::{Phrase, Punctuation, Span, behind, separated};
 use fx_base::{NoMemory, Seq};
 use std::alloc::Global;
 use temporal_ops::OpWord;
 
 /// The parameters of a temporal test, in milliseconds; none where no bracket opens.
-#[tactic(auto, unfolding(crate::specs::Reading::params_at, drl_phrase::specs::Reading::closed, drl_phrase::specs::Reading::after))]
+#[tactic(auto, unfolding(crate::specs::Reading::params_at, drl_phrase::specs::Reading::closed))]
 fn params(alloc: Global, tokens: &[TokenKind]) -> Result<Option<(Seq<i64>, &[TokenKind])>, NoMemory>
     ensures { IfOk result (λ found. option_map (λ f. (f.0, f.1.now)) found ≡ params_at tokens.now) }
 {
     match tokens {
         [TokenKind::Mark(Mark::OpenBracket), rest @ ..] => {
-            match separated::<Span>(alloc, Punctuation::Comma, rest)? {
-                Some((spans, [TokenKind::Mark(Mark::CloseBracket), rest @ ..])) => {
-                    Ok(Some((spans, rest)))
-                }
-                _ => Ok(None),
+            let (spans, rest) = match separated::<Span>(alloc, Punctuation::Comma, rest)? {
+                None => return Ok(None),
+                Some(found) => found,
+            };
+            match behind(Punctuation::CloseBracket, rest) {
+                None => Ok(None),
+                Some(rest) => Ok(Some((spans, rest))),
             }
         }
         _ => Ok(Some((Seq::from_vec(Vec::new(alloc)), tokens))),

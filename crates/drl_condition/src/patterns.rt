@@ -6,12 +6,12 @@ use crate::words::{WindowWord, window_word};
 use drl_expr::is_ident_word;
 use drl_grammar::{SourceTree, WindowTree};
 use drl_lex::{Mark, TokenKind};
-use drl_phrase::{Name, Phrase, Span, listed, maybe};
+use drl_phrase::{Name, Phrase, Punctuation, Span, behind, listed, maybe};
 use fx_base::{NoMemory, Text};
 use std::alloc::Global;
 
 /// What stands in the parentheses of a window, and the closing one.
-#[tactic(auto, unfolding(crate::specs::Reading::extent_at, drl_phrase::specs::Reading::closed, drl_phrase::specs::Reading::after))]
+#[tactic(auto, unfolding(crate::specs::Reading::extent_at, drl_phrase::specs::Reading::closed))]
 fn extent(
     alloc: Global,
     word: WindowWord,
@@ -20,12 +20,16 @@ fn extent(
     ensures { IfOk result (λ found. option_map (λ f. (f.0, f.1.now)) found ≡ extent_at word tokens.now) }
 {
     match word {
-        WindowWord::TimeWord => match Span::read(alloc, tokens)? {
-            Some((span, [TokenKind::Mark(Mark::CloseParenthesis), rest @ ..])) => {
-                Ok(Some((WindowTree::Time(span), rest)))
+        WindowWord::TimeWord => {
+            let (span, rest) = match Span::read(alloc, tokens)? {
+                None => return Ok(None),
+                Some(found) => found,
+            };
+            match behind(Punctuation::CloseParenthesis, rest) {
+                None => Ok(None),
+                Some(rest) => Ok(Some((WindowTree::Time(span), rest))),
             }
-            _ => Ok(None),
-        },
+        }
         WindowWord::LengthWord => match tokens {
             [
                 TokenKind::Number(number),
@@ -168,7 +172,7 @@ impl Phrase for SourcePhrase {
 }
 
 /// A pattern, maybe in parentheses.
-#[tactic(auto, unfolding(crate::specs::Reading::group_at, drl_phrase::specs::Reading::closed, drl_phrase::specs::Reading::after))]
+#[tactic(auto, unfolding(crate::specs::Reading::group_at, drl_phrase::specs::Reading::closed))]
 pub(crate) fn group(
     alloc: Global,
     tokens: &[TokenKind],
@@ -177,11 +181,13 @@ pub(crate) fn group(
 {
     match tokens {
         [TokenKind::Mark(Mark::OpenParenthesis), rest @ ..] => {
-            match SourcePhrase::read(alloc, rest)? {
-                Some((source, [TokenKind::Mark(Mark::CloseParenthesis), rest @ ..])) => {
-                    Ok(Some((source, rest)))
-                }
-                _ => Ok(None),
+            let (source, rest) = match SourcePhrase::read(alloc, rest)? {
+                None => return Ok(None),
+                Some(found) => found,
+            };
+            match behind(Punctuation::CloseParenthesis, rest) {
+                None => Ok(None),
+                Some(rest) => Ok(Some((source, rest))),
             }
         }
         _ => SourcePhrase::read(alloc, tokens),

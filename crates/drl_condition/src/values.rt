@@ -32,12 +32,11 @@ impl Phrase for LiteralPhrase {
                 rest @ ..,
             ] => Ok(Some((LitTree::Int(-number.value()), rest))),
             [TokenKind::Text(text), rest @ ..] => Ok(Some((LitTree::Text(text.clone()?), rest))),
-            [TokenKind::Word(word), rest @ ..] if word.as_str() == "true" => {
-                Ok(Some((LitTree::Bool(true), rest)))
-            }
-            [TokenKind::Word(word), rest @ ..] if word.as_str() == "false" => {
-                Ok(Some((LitTree::Bool(false), rest)))
-            }
+            [TokenKind::Word(word), rest @ ..] => match word.as_str() {
+                "true" => Ok(Some((LitTree::Bool(true), rest))),
+                "false" => Ok(Some((LitTree::Bool(false), rest))),
+                _ => Ok(None),
+            },
             _ => Ok(None),
         }
     }
@@ -59,16 +58,17 @@ impl Phrase for OperandPhrase {
         tokens: &[TokenKind],
     ) -> Result<Option<(Operand, &[TokenKind])>, NoMemory> {
         match tokens {
-            [
-                TokenKind::Var(var),
-                TokenKind::Mark(Mark::Dot),
-                TokenKind::Word(field),
-                rest @ ..,
-            ] if is_ident_word(field.as_str()) => {
-                Ok(Some((Operand::VarField(var.clone()?, field.clone()?), rest)))
-            }
-            [TokenKind::Var(_), TokenKind::Mark(Mark::Dot), ..] => Ok(None),
-            [TokenKind::Var(var), rest @ ..] => Ok(Some((Operand::Var(var.clone()?), rest))),
+            [TokenKind::Var(var), rest @ ..] => match rest {
+                [
+                    TokenKind::Mark(Mark::Dot),
+                    TokenKind::Word(field),
+                    rest @ ..,
+                ] if is_ident_word(field.as_str()) => {
+                    Ok(Some((Operand::VarField(var.clone()?, field.clone()?), rest)))
+                }
+                [TokenKind::Mark(Mark::Dot), ..] => Ok(None),
+                _ => Ok(Some((Operand::Var(var.clone()?), rest))),
+            },
             [TokenKind::Word(word), rest @ ..] if is_ident_word(word.as_str()) => {
                 Ok(Some((Operand::Own(word.clone()?), rest)))
             }

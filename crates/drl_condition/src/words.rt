@@ -9,46 +9,22 @@ use temporal_ops::OpWord;
 pub(crate) fn op_word(word: &str) -> Option<OpWord>
     ensures { result ≡ words.op_word word.now }
 {
-    if word == "after" {
-        return Some(OpWord::After);
+    match word {
+        "after" => Some(OpWord::After),
+        "before" => Some(OpWord::Before),
+        "coincides" => Some(OpWord::Coincides),
+        "during" => Some(OpWord::During),
+        "includes" => Some(OpWord::Includes),
+        "finishes" => Some(OpWord::Finishes),
+        "finishedby" => Some(OpWord::FinishedBy),
+        "starts" => Some(OpWord::Starts),
+        "startedby" => Some(OpWord::StartedBy),
+        "meets" => Some(OpWord::Meets),
+        "metby" => Some(OpWord::MetBy),
+        "overlaps" => Some(OpWord::Overlaps),
+        "overlappedby" => Some(OpWord::OverlappedBy),
+        _ => None,
     }
-    if word == "before" {
-        return Some(OpWord::Before);
-    }
-    if word == "coincides" {
-        return Some(OpWord::Coincides);
-    }
-    if word == "during" {
-        return Some(OpWord::During);
-    }
-    if word == "includes" {
-        return Some(OpWord::Includes);
-    }
-    if word == "finishes" {
-        return Some(OpWord::Finishes);
-    }
-    if word == "finishedby" {
-        return Some(OpWord::FinishedBy);
-    }
-    if word == "starts" {
-        return Some(OpWord::Starts);
-    }
-    if word == "startedby" {
-        return Some(OpWord::StartedBy);
-    }
-    if word == "meets" {
-        return Some(OpWord::Meets);
-    }
-    if word == "metby" {
-        return Some(OpWord::MetBy);
-    }
-    if word == "overlaps" {
-        return Some(OpWord::Overlaps);
-    }
-    if word == "overlappedby" {
-        return Some(OpWord::OverlappedBy);
-    }
-    None
 }
 
 /// The function of this word.
@@ -56,22 +32,14 @@ pub(crate) fn op_word(word: &str) -> Option<OpWord>
 pub(crate) fn fold_word(word: &str) -> Option<FoldWord>
     ensures { result ≡ words.fold_word word.now }
 {
-    if word == "count" {
-        return Some(FoldWord::Count);
+    match word {
+        "count" => Some(FoldWord::Count),
+        "sum" => Some(FoldWord::Sum),
+        "min" => Some(FoldWord::Min),
+        "max" => Some(FoldWord::Max),
+        "average" => Some(FoldWord::Average),
+        _ => None,
     }
-    if word == "sum" {
-        return Some(FoldWord::Sum);
-    }
-    if word == "min" {
-        return Some(FoldWord::Min);
-    }
-    if word == "max" {
-        return Some(FoldWord::Max);
-    }
-    if word == "average" {
-        return Some(FoldWord::Average);
-    }
-    None
 }
 
 /// The word by which a test of `Number(..)` speaks of the result.
@@ -79,13 +47,11 @@ pub(crate) fn fold_word(word: &str) -> Option<FoldWord>
 pub(crate) fn result_word(word: &str) -> Option<ResultWord>
     ensures { result ≡ words.result_word word.now }
 {
-    if word == "longValue" {
-        return Some(ResultWord::LongValue);
+    match word {
+        "longValue" => Some(ResultWord::LongValue),
+        "intValue" => Some(ResultWord::IntValue),
+        _ => None,
     }
-    if word == "intValue" {
-        return Some(ResultWord::IntValue);
-    }
-    None
 }
 
 /// What the extent of a window is given in.
@@ -99,13 +65,11 @@ pub(crate) enum WindowWord {
 pub(crate) fn window_word(word: &str) -> Option<WindowWord>
     ensures { result ≡ words.window_word word.now }
 {
-    if word == "time" {
-        return Some(WindowWord::TimeWord);
+    match word {
+        "time" => Some(WindowWord::TimeWord),
+        "length" => Some(WindowWord::LengthWord),
+        _ => None,
     }
-    if word == "length" {
-        return Some(WindowWord::LengthWord);
-    }
-    None
 }
 
 /// The form of a condition.
@@ -123,17 +87,11 @@ pub(crate) enum Form {
 pub(crate) fn word_form(word: &str) -> Form
     ensures { result ≡ words.word_form word.now }
 {
-    if word == "not" {
-        return Form::Negation;
+    match word {
+        "not" => Form::Negation,
+        "exists" => Form::Existence,
+        "accumulate" => Form::Accumulate,
+        "Number" => Form::Number,
+        _ => Form::Pattern,
     }
-    if word == "exists" {
-        return Form::Existence;
-    }
-    if word == "accumulate" {
-        return Form::Accumulate;
-    }
-    if word == "Number" {
-        return Form::Number;
-    }
-    Form::Pattern
 }

@@ -8,7 +8,7 @@ use crate::numbers::{entry_number, small, type_number};
 use crate::tests_of::{constant_tests, joined_tests, result_tests, time_tests};
 use crate::undeclared::fieldless;
 use drl_grammar::{CondTree, FoldWord, Part, SourceTree, WindowTree};
-use drl_sight::{Declared, DeclaredType, Place, Places};
+use drl_sight::{Declared, DeclaredType, Place, Places, source_of};
 use fold_fn::FoldKind;
 use fx_base::{EntryId, NoMemory, Seq, Text, TypeId};
 use rule_model::{Accumulate, Condition, Pattern, WindowTag};
@@ -145,16 +145,11 @@ fn condition(
 ) -> Result<Condition, NoMemory>
     ensures { IfOk result (λ condition. condition ≡ condition_of types.now entries.now place.now tree.now) }
 {
+    let pattern = pattern(alloc, types, entries, place, source_of(tree))?;
     match tree {
-        CondTree::Plain(source) => {
-            Ok(Condition::Plain(pattern(alloc, types, entries, place, source)?))
-        }
-        CondTree::Negated(source) => {
-            Ok(Condition::Negated(pattern(alloc, types, entries, place, source)?))
-        }
-        CondTree::Existing(source) => {
-            Ok(Condition::Existing(pattern(alloc, types, entries, place, source)?))
-        }
+        CondTree::Plain(_) => Ok(Condition::Plain(pattern)),
+        CondTree::Negated(_) => Ok(Condition::Negated(pattern)),
+        CondTree::Existing(_) => Ok(Condition::Existing(pattern)),
         CondTree::Folded {
             source,
             kind: word,
@@ -162,7 +157,7 @@ fn condition(
             tests,
             ..
         } => Ok(Condition::Folded(Accumulate {
-            pattern: pattern(alloc, types, entries, place, source)?,
+            pattern,
             kind: kind(*word),
             arg: argument(types, source, arg),
             tests: result_tests(alloc, place, tests.as_slice())?,

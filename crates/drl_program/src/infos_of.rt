@@ -54,12 +54,25 @@ fn info_of_type(alloc: Global, observed: &Places, tree: &TypeTree) -> Result<Typ
     ensures { IfOk result (λ info. info ≡ type_info observed.now tree.now) }
 {
     let ty = DeclaredType::of(alloc, tree)?;
+    info_with(alloc, observed, &ty, tree)
+}
+
+// The same, where the type of the tree is given.
+fn info_with(
+    alloc: Global,
+    observed: &Places,
+    ty: &DeclaredType,
+    tree: &TypeTree,
+) -> Result<TypeInfo, NoMemory>
+    requires { ty.now ≡ tree.now }
+    ensures { IfOk result (λ info. info ≡ type_info observed.now tree.now) }
+{
     Ok(TypeInfo {
         name: tree.name.copy(alloc)?,
         event: is_event_tree(tree),
         fields: infos_of_fields(alloc, tree.fields.as_slice())?,
-        timestamp: field_named(&ty, timestamp_field(tree)),
-        duration: field_named(&ty, duration_field(tree)),
+        timestamp: field_named(ty, timestamp_field(tree)),
+        duration: field_named(ty, duration_field(tree)),
         expires: expiry_offset(tree),
         observed: is_observed(observed, tree),
     })

@@ -1,6 +1,7 @@
 ghost use Rattle.std.specs.Prelude.{◌≡◌, map, IfOk};
-ghost use Rattle.drl_sight.specs.Declarations.{rules_of};
-ghost use Rattle.drl_program.specs.Programs.{action_of, salience_of, rule_of, program_with};
+ghost use Rattle.drl_sight.specs.Declarations.{rules_of, types_of};
+ghost use Rattle.drl_program.specs.Observed.{observed_names};
+ghost use Rattle.drl_program.specs.Programs.{action_of, salience_of, rule_of, type_info, program_with};
 
 use crate::actions_of::action;
 use crate::conditions_of::conditions;
@@ -9,7 +10,7 @@ use crate::observed::names_observed;
 use drl_grammar::{ActTree, Attr, Body, Item, RuleTree};
 use drl_sight::{Declared, Place, Places};
 use fx_base::{Copies, NoMemory, Seq};
-use rule_model::{Action, Program, Rule};
+use rule_model::{Action, Program, Rule, TypeInfo};
 use std::alloc::Global;
 
 // ---- rules
@@ -80,6 +81,14 @@ fn rules(
     Ok(Seq::from_vec(rules))
 }
 
+// What is known of the types that the items declare.
+fn declared_types(alloc: Global, items: &[Item]) -> Result<Seq<TypeInfo>, NoMemory>
+    ensures { IfOk result (λ infos. infos ≡ map (type_info (observed_names (rules_of items.now))) (types_of items.now)) }
+{
+    let observed = names_observed(alloc, items)?;
+    infos_of_types(alloc, &observed, items)
+}
+
 /// The program of the items of a file, whose types and entry points these are.
 pub fn program(
     alloc: Global,
@@ -89,9 +98,8 @@ pub fn program(
 ) -> Result<Program, NoMemory>
     ensures { IfOk result (λ program. program ≡ program_with types.now entries.now items.now) }
 {
-    let observed = names_observed(alloc, items)?;
     Ok(Program {
-        types: infos_of_types(alloc, &observed, items)?,
+        types: declared_types(alloc, items)?,
         entries: infos_of_entries(alloc, entries.names(), items)?,
         rules: rules(alloc, types, entries, items)?,
     })
