@@ -1,20 +1,17 @@
 -- What a session holds of a world for which it stands: exactly what is kept, so that of the events past their lives it holds those alone
 -- which a pending match names.
-use Rattle.std.proofs.Common.{◌≡◌, ◌∙◌, ◌+ℤ◌, ◌≤ℤ◌, ◌<ℤ◌, ℤ, Bool, true, false, slice_get, Option, Some, None, sym, arith}
+use Rattle.std.proofs.Common.{◌≡◌, ◌∙◌, ◌+ℤ◌, ◌<ℤ◌, ℤ, true, false, slice_get, Some, None, sym, arith}
 use Rattle.std.specs.Prelude.{◌↔◌}
 use Rattle.std.specs.FinMap as map_of
 use Rattle.std.proofs.lemmas.Int.{ints}
 use Rattle.fx_base.specs.Lists.{In}
 use Rattle.fx_base.specs.declared.fact.Fact.{Fact}
-use Rattle.rule_model.specs.declared.life.Life.{Life}
 use Rattle.rule_model.specs.declared.life.Life.TheVariants.{Finite, Infinite}
 use Rattle.rule_model.specs.declared.matched.Match.{Match}
 use Rattle.rule_model.specs.Matches.{has_match}
 use Rattle.rule_model.specs.Tuples.{name_of}
-use Rattle.rule_model.specs.Types.{is_event, expiry_of}
 use Rattle.rule_world.specs.Worlds.{World, pending}
 use Rattle.rule_lives.specs.Keeping.{IsKept}
-use Rattle.keeping.specs.Kept.{kept_facts}
 use Rattle.keeping.proofs.Decided.{kept_listed}
 use Rattle.session_laws.specs.declared.memory.Memory.{Memory}
 use Rattle.session_laws.specs.declared.setting.Setting.{Setting}

@@ -1,5 +1,5 @@
 -- What a store counts by types is what is kept of each world for which the session stands.
-use Rattle.std.proofs.Common.{◌≡◌, ◌∙◌, sym, ap, refl, ℕ, ◌+◌, ◌<◌, ◌≤◌, ◌==◌, ◌&&◌, ◌||◌, inl, inr, List, [], ◌∷◌, map, length, Bool, true, false, cond, Option, Some, None, arith, subst}
+use Rattle.std.proofs.Common.{◌≡◌, ◌∙◌, sym, ap, refl, ℕ, ◌==◌, ◌&&◌, ◌||◌, inl, inr, List, [], ◌∷◌, map, length, Bool, true, false, cond, Option, Some, None, arith, subst}
 use Rattle.rule_model.specs.Types.{event_types}
 use Rattle.rule_model.specs.Distinct.{HaveDistinctIds}
 use Rattle.rule_model.proofs.Listed.{in_map}
@@ -18,7 +18,6 @@ use Rattle.fact_store.specs.Held.{HeldFacts, CountsType, is_of}
 use Rattle.fact_store.specs.Ids.{AreIds}
 use Rattle.fact_store.proofs.Counting.{torn, eq_self, both_true, or_true, nat_equiv}
 use Rattle.rule_model.specs.declared.program.Program.{Program}
-use Rattle.rule_model.specs.declared.program.TypeInfo.{TypeInfo}
 use Rattle.rule_model.proofs.Named.{of_filter}
 use Rattle.rule_model.proofs.Order.{in_filter, passed}
 use Rattle.rule_world.specs.Worlds.{World}

@@ -1,5 +1,5 @@
 -- How many events of each event type of a program are kept: of a store by the ids of its facts, of a world by the facts that are kept of it.
-use Rattle.std.specs.Prelude.{◌+◌, ◌==◌, ℕ, List, [], ◌∷◌, map, length, if◌then◌else◌}
+use Rattle.std.specs.Prelude.{◌==◌, ℕ, List, [], ◌∷◌, map, length}
 use Rattle.rule_model.specs.Types.{event_types}
 use Rattle.std.specs.List.{filter}
 use Rattle.fx_base.specs.declared.fact.Fact.{Fact}

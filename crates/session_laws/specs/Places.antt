@@ -1,5 +1,5 @@
 -- What is asked of the facts that a session has at their tags, and what its parts keep to.
-use Rattle.std.specs.Prelude.{◌≡◌, ◌≤◌, ◌^◌, ℕ, zero, suc, ℤ, pos, ◌≤ℤ◌, List, map as list_map, Option, None, Result, if◌then◌else◌}
+use Rattle.std.specs.Prelude.{◌≡◌, ◌≤◌, ℕ, zero, suc, ℤ, pos, ◌≤ℤ◌, List, map as list_map, Option, None, Result, if◌then◌else◌}
 use Rattle.fx_base.specs.declared.ids.Tag.{Tag}
 use Rattle.fx_base.specs.declared.fact.Fact.{Fact}
 use Rattle.due_queue.specs.Timers.{Timers}
@@ -7,8 +7,6 @@ use Rattle.fact_store.specs.Held.{HeldFacts, IsNewest, is_id}
 use Rattle.row_delta.specs.declared.row.Row.{Row}
 use Rattle.rule_model.specs.declared.action.Action.{Action}
 use Rattle.rule_world.specs.declared.code.Code.{Code}
-use Rattle.rule_model.specs.declared.life.Life.{Life}
-use Rattle.rule_model.specs.declared.life.Life.TheVariants.{Plain, Explicit, Finite, Infinite}
 use Rattle.rule_model.specs.declared.program.Program.{Program}
 use Rattle.rule_model.specs.declared.step.Step.{Step}
 use Rattle.rule_world.specs.Events.{most_millis}
