@@ -95,11 +95,9 @@ def rows() -> list[Row]:
 
 
 def is_as_wanted(ended: Ended, whole: Ended) -> bool:
-    return (
-        ended == whole
-        or (ended.status == 7 and whole.printed.startswith(ended.printed))
-        or ended == Ended(10, b"")
-    )
+    if ended.status == 7:
+        return whole.printed.startswith(ended.printed)
+    return ended.status is not None and ended in (whole, Ended(10, b""))
 
 
 class Built:
@@ -151,11 +149,15 @@ def checked_runs(folder: Path, call: Optional[int]) -> list[Ended]:
         words += ["--data", f"{row.name}.drl={rules}"]
     done = subprocess.run(words, cwd=TOP / "crates/replay_main", capture_output=True)
     statuses = dict(re.findall(rb"^case=(\S+) run=ended status=(\d+) ", done.stderr, re.M))
-    printed = dict(re.findall(rb"^== (\w+)\n((?:(?!== ).*\n?)*)", done.stdout, re.M))
-    found = []
-    for name in (row.name.encode() for row in rows()):
-        found.append(Ended(int(statuses[name]) if name in statuses else None, printed.get(name, b"")))
-    return found
+    names = [row.name.encode() for row in rows()]
+    printed: dict[bytes, bytes] = {}
+    name = b""
+    for line in done.stdout.splitlines(keepends=True):
+        if line.startswith(b"== ") and line[3:-1] in names:
+            name = line[3:-1]
+        else:
+            printed[name] = printed.get(name, b"") + line
+    return [Ended(int(statuses[name]) if name in statuses else None, printed.get(name, b"")) for name in names]
 
 
 def try_checked(low: int, high: int) -> bool:

@@ -4,11 +4,10 @@
     python3 tools/reference/gate_cases.py            # the titles of the cases whose lines in crates/cases/stdout are not the reference's
     python3 tools/reference/gate_cases.py --print    # what the reference says that all cases print
 
-How a case is written is said in docs/CHANGING.md (*A case*). The calls that a run makes of its rule file, its script and its output
-are those that docs/PROVED.md and the contracts leave open, as the program makes them: the rule file in pieces of 4,096 bytes to its
-end, the script in pieces of 65,536, or what `=== chunks` allows, once more behind a last line without an end, and what lines print before the
-next piece is read. A load of `--gen`
-without a limit is far too slow here, and left out.
+How a case is written is said in docs/CHANGING.md (*A case*). How many calls a run makes of its rule file, its script and its output is said
+by no contract; here they are counted as the program makes them: the rule file in pieces of 4,096 bytes up to its end, the script in pieces of
+65,536 or of what `=== chunks` allows, once more behind a last line without an end, and what lines print before the next piece is read.
+A load of `--gen` without a limit is far too slow here, and left out.
 """
 
 from __future__ import annotations
