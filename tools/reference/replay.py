@@ -16,7 +16,7 @@ from typing import Optional
 
 import generate
 from lives import life_lines
-from program import Program, TODAY
+from program import Program
 from reader import FILE_END
 from run import program_or_refusal, report, run
 
@@ -169,7 +169,7 @@ def replay(words: list[str], stage: int) -> int:
 
 def main() -> int:
     words = sys.argv[1:]
-    stage = int(os.environ.get("REFERENCE_STAGE", TODAY))
+    stage = int(os.environ.get("REFERENCE_STAGE", "14"))
     if len(words) >= 2 and words[0] == "--stage":
         stage, words = int(words[1]), words[2:]
     if not FIRST_STAGE <= stage <= LAST_STAGE:

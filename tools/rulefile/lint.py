@@ -154,6 +154,22 @@ def windows_beyond_expiry(desk: Desk) -> Iterator[Complaint]:
                               f"{kept.span(source.window.length)} leaves nothing out", "a shorter window, or none")
 
 
+def too_late(desk: Desk) -> Iterator[Complaint]:
+    """A window or an expiry that is over when an event comes as late as its entry point allows: no rule sees it."""
+    for item, rule in desk.rules:
+        for condition in rule.conditions:
+            source = condition.source
+            lateness, expires = desk.program.latenesses[entry_of(source)], desk.program.types[source.type].expires
+            if not desk.is_event(source) or lateness == 0:
+                continue
+            if isinstance(source.window, TimeWindow) and source.window.length <= lateness:
+                yield warning("too-late", window_tokens(item, source)[0], f"`{entry_of(source)}` is up to {kept.span(lateness)} late: an event that is "
+                              f"{kept.span(source.window.length)} late is not in the window when it comes", "a longer window")
+            elif expires is not None and expires <= lateness:
+                yield warning("too-late", item.tokens_of(source)[0], f"`{entry_of(source)}` is up to {kept.span(lateness)} late: a `{source.type}` that is "
+                              f"{kept.span(expires)} late has expired when it comes", "a longer @expires")
+
+
 def impossible_tests(desk: Desk) -> Iterator[Complaint]:
     """A `not`, an `exists` or an accumulate whose temporal tests no event can meet."""
     does = {Negated: "forbids nothing", Existing: "never holds", Folded: "takes nothing in"}
@@ -376,7 +392,7 @@ def kept_for_ever(desk: Desk) -> Iterator[Complaint]:
                           "a window of time here, a bound, or an @expires for the type")
 
 
-LINTS = [undeclared_entries, missing_from, unseen_entries, same_moment, bare_numbers, windows_beyond_expiry, impossible_tests, again,
+LINTS = [undeclared_entries, missing_from, unseen_entries, same_moment, bare_numbers, windows_beyond_expiry, too_late, impossible_tests, again,
          old_events, pairs_itself, unused_bindings, kept_for_ever]
 
 

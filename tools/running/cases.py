@@ -22,7 +22,7 @@ import programs  # noqa: F401  (first: it finds tools/reference)
 
 import where
 from program import TODAY
-from replay import BadWords, asked
+from replay import BadWords, number, options_and_rules
 from run import report
 
 OTHERS = {".args", ".stdout", ".status", ".drl", ".md", ".csv", ".out"}
@@ -57,16 +57,23 @@ def rules_named(name: str, folder: Path, rules: Optional[Path], data: dict[str, 
     raise Unfit(f"no rule file {name}: give it by --data {name}=FILE, or behind the folder")
 
 
+def limit_and_rules(words_file: Path) -> tuple[int, str]:
+    """What the words of a case ask for, one a line: the limit of firings, and the name of the rule file."""
+    try:
+        options, names = options_and_rules([word for word in words_file.read_text().split("\n") if word], TODAY)
+        limit = number(options.pop("limit", "100000"), 7, 1, 1_000_000)
+    except BadWords:
+        raise Unfit(f"the words of {words_file.name} are refused") from None
+    if options.get("mode", "run") != "run" or len(names) != 1 or "gen" in options:
+        raise Unfit(f"{words_file.name} is to name one rule file, and no mode but run")
+    return limit, names[0]
+
+
 def case_of(script: Path, rules: Optional[Path], data: dict[str, Path]) -> Case:
     words_file, wanted = Path(f"{script}.args"), Path(f"{script}.stdout")
     limit, path = 100_000, rules
     if words_file.is_file():
-        try:
-            mode, limit, name, gen = asked(words_file.read_text().split("\n")[:-1] or words_file.read_text().split(), TODAY)
-        except BadWords:
-            raise Unfit(f"the words of {words_file.name} are refused") from None
-        if mode != "run" or gen is not None or name is None:
-            raise Unfit(f"{words_file.name} asks for another mode than run")
+        limit, name = limit_and_rules(words_file)
         path = rules_named(name, script.parent, rules, data)
     if path is None:
         raise Unfit(f"no rule file: there is no {words_file.name}, and none behind the folder")

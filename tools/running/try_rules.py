@@ -24,11 +24,14 @@ import lint
 import where
 import why
 from program import TODAY, Program
-from replay import MODES, BadWords, WriteFailed, options_and_rules, rule_file
+from reader import FILE_END
+from replay import BadWords, WriteFailed, options_and_rules
 from run import program_or_refusal
 
 # As long as the second evaluator takes some seconds, where rules join events: docs/TOOLS.md.
 MOST_LINES = 10_000
+
+MODES = ("run", "check", "lives")
 
 USAGE = """usage: ./try [--mode run|check|lives] [--limit N] [--by proved|evaluator|checked] RULES [SCRIPT]
        ./try --gen N                     a load that the program makes itself (docs/COMMANDS.md)
@@ -130,7 +133,8 @@ def rules_in(path: Path) -> bytes:
     if path.is_dir():
         raise Ended(5, f"{path} is a directory, and no rule file")
     try:
-        return rule_file(str(path))
+        with path.open("rb") as file:
+            return file.read(FILE_END + 1)
     except FileNotFoundError:
         put("refused item 0 line 0 Missing\n")
         raise Ended(3, f"there is no rule file {path}{neighbour(path)}") from None
