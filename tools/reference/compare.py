@@ -116,7 +116,7 @@ def main() -> int:
     counts: Counter = Counter()
     agreed = differed = 0
     for seed in range(*asked.seeds):
-        case = lives_case_of(seed) if asked.lives else case_of(seed, asked.stage)
+        case = lives_case_of(seed, asked.stage) if asked.lives else case_of(seed, asked.stage)
         found = outcome(case.rules, case.script, asked.stage, case.limit or 100_000)
         wanted = report_of(found)
         count_lines(counts, wanted[0])

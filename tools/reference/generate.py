@@ -60,9 +60,9 @@ def case_of(seed: int, stage: int) -> Case:
     return accepted_case(rng, stage)
 
 
-def lives_case_of(seed: int) -> Case:
+def lives_case_of(seed: int, stage: int) -> Case:
     """The case of a seed among those of finite lives."""
-    return Case(*lives_case(Random(f"lives/{seed}")), 200)
+    return Case(*lives_case(Random(f"lives/{seed}" if stage < 16 else f"lives/{stage}/{seed}"), stage), 200)
 
 
 # ---- the large run of `--gen N`

@@ -11,10 +11,10 @@ from __future__ import annotations
 import sys
 
 from meaning import World
-from replay import put, rule_file
+from replay import put, rule_file, stage_asked
 from run import Run, program_or_refusal
 
-LIMIT, STAGE = 100_000, 13
+LIMIT = 100_000
 
 
 def main() -> int:
@@ -22,7 +22,7 @@ def main() -> int:
         put("usage: replay RULES\n")
         return 2
     try:
-        program = program_or_refusal(rule_file(sys.argv[1]), STAGE)
+        program = program_or_refusal(rule_file(sys.argv[1]), stage_asked())
     except FileNotFoundError:
         program = "refused item 0 line 0 Missing"
     if isinstance(program, str):

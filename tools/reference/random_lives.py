@@ -2,7 +2,7 @@
 
 Each rule binds one or two events by a temporal operator with both bounds, and may ask for the absence, the presence or a count of
 others; entry points may have a lateness. Keys are few, so that events meet. The script moves the clock by up to some lives, fires,
-retracts and asks what is held.
+retracts and asks what is held; from stage 16 on it also promises that an entry point gets no earlier start any more.
 """
 
 from __future__ import annotations
@@ -44,22 +44,30 @@ def rule(rng: Random, k: int, entries: dict[str, int]) -> str:
     return f'rule "r{k}" salience {rng.randrange(-2, 3)} when {" ".join(conditions)} then {actions} end\n'
 
 
-def lives_case(rng: Random) -> tuple[bytes, bytes]:
+def promise(entry: str, start: int) -> dict:
+    return {"do": "promise", "from": start} | ({} if entry == "DEFAULT" else {"entry": entry})
+
+
+def lives_case(rng: Random, stage: int = 14) -> tuple[bytes, bytes]:
     """A rule file, which may be refused, and a script."""
     entries = {"DEFAULT": 0} | ({"late": rng.choice([5, 60])} if rng.random() < 0.4 else {})
     text = "".join(f"declare {t} @role( event ){' @expires( 120ms )' if rng.random() < 0.1 else ''} k : long end\n" for t in TYPES)
     text += "".join(f'declare entry-point "{e}" @lateness( {ms}ms ) end\n' for e, ms in entries.items() if e != "DEFAULT")
     text += "".join(rule(rng, k, entries) for k in range(rng.randrange(1, 4)))
-    lines, inserted = [], []
+    lines, inserted, clock = [], [], 0
     for _ in range(rng.randrange(8, 30)):
         x = rng.random()
-        if x < 0.5:
+        if stage >= 16 and rng.random() < 0.06:
+            lines.append(promise(rng.choice(list(entries)), clock + rng.choice([-20, 0, 0, 1, 1, 21, 101])))
+        elif x < 0.5:
             entry = rng.choice(list(entries))
             ty = rng.choice(TYPES)
             inserted.append(ty)
             lines.append({"do": "insert", "type": ty, "fields": {"k": rng.randrange(2)}} | ({} if entry == "DEFAULT" else {"entry": entry}))
         elif x < 0.78:
-            lines.append({"do": "advance", "by": rng.choice([0, 1, 1, 10, 20, 50, 99, 150, 500, 2000])})
+            by = rng.choice([0, 1, 1, 10, 20, 50, 99, 150, 500, 2000])
+            clock += by
+            lines.append({"do": "advance", "by": by})
         elif x < 0.88:
             lines.append({"do": "fire"} | ({"max": rng.randrange(1, 3)} if rng.random() < 0.3 else {}))
         elif x < 0.94 and inserted:

@@ -20,7 +20,7 @@ from reader import FILE_END
 from run import program_or_refusal, report, run
 
 SCRIPT_END = 1 << 30
-FIRST_STAGE, LAST_STAGE = 2, 16
+FIRST_STAGE, LAST_STAGE, DEFAULT_STAGE = 2, 16, 14
 MODES = ("run", "check", "lives")
 
 
@@ -161,9 +161,14 @@ def replay(words: list[str], stage: int) -> int:
     return state.status
 
 
+def stage_asked() -> int:
+    """The stage that the environment names, or that of today's program."""
+    return int(os.environ.get("REFERENCE_STAGE", DEFAULT_STAGE))
+
+
 def main() -> int:
     words = sys.argv[1:]
-    stage = int(os.environ.get("REFERENCE_STAGE", "14"))
+    stage = stage_asked()
     if len(words) >= 2 and words[0] == "--stage":
         stage, words = int(words[1]), words[2:]
     if not FIRST_STAGE <= stage <= LAST_STAGE:
