@@ -1,6 +1,7 @@
 """What an accepted rule file means: worlds, rows, matches, the order of firing, steps and firings.
 
-A world keeps every fact that was inserted and not retracted; rows and matches are taken from the whole list anew in each world.
+A world keeps every fact that was inserted and not retracted; rows and matches are taken from the whole list in each world, by
+looking candidates up (lookup.py) and taking over what came of the same facts before.
 The conditions, the stream mode with its windows, its explicit expiry and its negative patterns that wait are those of the Drools
 Fusion 5 User Guide; the bounds of expiry, the moment of maturity, the order of firing behind salience, lateness and the
 whole-number results of accumulates are this project's own.
@@ -15,9 +16,10 @@ from typing import Callable, Optional, Union
 
 import temporal
 from lives import life_of_type
+from lookup import Groups, Memory, Wanted, equalities
 from program import DEFAULT, Program, salience_of
 from temporal import INFINITE, NEVER
-from trees import (AnyOf, Action, Binary, Comparison, Compare, Existing, Expr, Folded, Insert, Literal, LengthWindow,
+from trees import (AnyOf, Action, Binary, Comparison, Compare, Condition, Existing, Expr, Folded, Insert, Literal, LengthWindow,
                    Modify, Negate, Negated, Operand, Own, Plain, Rule, Source, TimeWindow, Value, Variable)
 
 INT_LOW, INT_HIGH = -(2**63), 2**63 - 1
@@ -27,7 +29,7 @@ TIME_END = 2**53
 # ---- worlds
 
 
-@dataclass(frozen=True)
+@dataclass(frozen=True, eq=False)
 class Fact:
     """A fact in one version: a modification keeps id and entry point and takes a new tag. Times are 0 for plain facts."""
     id: int
@@ -51,10 +53,27 @@ class World:
     next_id: int = 1
     next_tag: int = 1
     fired: frozenset = frozenset()
+    memory: Memory = field(default_factory=Memory)
 
     @cached_property
     def matches(self) -> list["Match"]:
         return matches_of(self)
+
+    @cached_property
+    def streams(self) -> dict[tuple[str, str], list[Fact]]:
+        """The present facts by type and entry point, in order of insertion."""
+        self.memory.places.hold(self.facts)
+        groups = {place: facts for place, (facts, _) in self.memory.places.groups.items()}
+        return {place: [f for f in facts if is_present(f, self)] if self.program.types[place[0]].expires else list(facts)
+                for place, facts in groups.items()}
+
+    def with_fired(self, fired: frozenset) -> "World":
+        """The same with other marks; its matches are the same."""
+        marked = replace(self, fired=fired)
+        for name in ("matches", "streams"):
+            if name in self.__dict__:
+                marked.__dict__[name] = self.__dict__[name]
+        return marked
 
 
 def floor_of(w: World, entry: str) -> int:
@@ -75,12 +94,23 @@ def present(w: World) -> list[Fact]:
 # ---- rows
 
 
-@dataclass(frozen=True)
+@dataclass(eq=False)
+class Taken:
+    """What a row was for a condition: what it asks of facts, which facts were tested, which of them passed, and the rows that
+    came of it. With the same facts the same comes of it."""
+    wanted: Wanted
+    near: list[Fact] = field(default_factory=list)
+    passing: list[Fact] = field(default_factory=list)
+    longer: Optional[list["Row"]] = None
+
+
+@dataclass(frozen=True, eq=False)
 class Row:
-    """What the conditions so far bound: in their order a fact for each pattern and a number for each accumulate; and what
-    the variables stand for."""
+    """What the conditions so far bound: in their order a fact for each pattern and a number for each accumulate; what the
+    variables stand for; and, by the condition, what was taken for it."""
     cells: tuple[Union[Fact, int], ...]
     names: dict[str, Union[Fact, Value]]
+    taken: dict[int, Taken] = field(default_factory=dict)
 
     @cached_property
     def facts(self) -> list[Fact]:
@@ -132,15 +162,25 @@ def test_holds(test: AnyOf, f: Fact, names: dict) -> bool:
 
 def stream_of(source: Source, w: World) -> list[Fact]:
     """The present facts of the pattern's type and entry point that pass its constant tests, in order of insertion."""
-    return [f for f in present(w) if f.type == source.type and f.entry == (source.entry or DEFAULT)
-            and all(test_holds(t, f, {}) for t in source.constant_tests)]
+    stream = w.streams.get((source.type, source.entry or DEFAULT), [])
+    if not source.constant_tests:
+        return stream
+    return w.memory.filtered(source, stream, lambda f: all(test_holds(t, f, {}) for t in source.constant_tests))
+
+
+def in_time_window(stream: list[Fact], length: int, clock: int) -> list[Fact]:
+    """The facts while `now - start < length`. A stream is in the order of the starts, so these are its last ones."""
+    first = len(stream)
+    while first and clock - stream[first - 1].start < length:
+        first -= 1
+    return stream[first:]
 
 
 def candidates(source: Source, w: World) -> list[Fact]:
-    """Those of the stream that lie in the pattern's window: while `now - start < t`, or the last n of them."""
+    """Those of the stream that lie in the pattern's window: of the last so many milliseconds, or the last n of them."""
     stream, window = stream_of(source, w), source.window
     if isinstance(window, TimeWindow):
-        return [f for f in stream if w.clock - f.start < window.length]
+        return in_time_window(stream, window.length, w.clock)
     if isinstance(window, LengthWindow):
         return stream[-window.count:]
     return stream
@@ -157,18 +197,28 @@ def times_of(f: Fact) -> tuple[int, int]:
     return (f.start, f.end)
 
 
-def is_mature(source: Source, row: Row, w: World) -> bool:
-    """No event that the negative pattern waits for can come any more, or there is no end to the waiting.
+def times_named(source: Source, row: Row) -> tuple[temporal.Timed, ...]:
+    """The temporal tests of a source, each with the times of the event that it names."""
+    return tuple((t.operator, t.parameters, times_of(row.names[t.other])) for t in source.temporal_tests)
 
-    Up to stage 15 the greatest possible start is compared with the clock less the lateness, from 16 on with the floor."""
-    info, entry = w.program.types[source.type], source.entry or DEFAULT
-    if not info.event:
+
+def is_point(source: Source, w: World) -> bool:
+    return w.program.types[source.type].duration is None
+
+
+def horizon(source: Source, w: World) -> int:
+    """An event of the pattern's entry point starts here or later, as far as a negative pattern goes by it: up to stage 15 the
+    clock less the lateness, from 16 on the floor."""
+    entry = source.entry or DEFAULT
+    return floor_of(w, entry) if w.program.stage >= 16 else w.clock - w.program.latenesses[entry]
+
+
+def is_mature(source: Source, row: Row, w: World) -> bool:
+    """No event that the negative pattern waits for can come any more, or there is no end to the waiting."""
+    if not w.program.types[source.type].event:
         return True
-    tests = [(t.operator, t.parameters, times_of(row.names[t.other])) for t in source.temporal_tests]
-    u = temporal.greatest_start(tests, info.duration is None)
-    if u == NEVER or u == INFINITE:
-        return True
-    return u < (floor_of(w, entry) if w.program.stage >= 16 else w.clock - w.program.latenesses[entry])
+    last = temporal.greatest_start(times_named(source, row), is_point(source, w))
+    return last == NEVER or last == INFINITE or last < horizon(source, w)
 
 
 def fold(function: str, values: list[int]) -> Optional[int]:
@@ -192,44 +242,96 @@ def folded(condition: Folded, passing: list[Fact], row: Row) -> list[Row]:
     return [Row(row.cells + (result,), {**row.names, **names})]
 
 
+def longer_rows(condition: Condition, passing: list[Fact], row: Row) -> list[Row]:
+    """What a condition makes of a row, of the facts that pass; the waiting of a negative pattern aside."""
+    if isinstance(condition, Plain):
+        return [Row(row.cells + (f,), {**row.names, **bound_by(condition.source, f)}) for f in passing]
+    if isinstance(condition, Negated):
+        return [] if passing else [row]
+    if isinstance(condition, Existing):
+        return [row] if passing else []
+    return folded(condition, passing, row)
+
+
+def wanted(source: Source, row: Row, w: World) -> Wanted:
+    """What the equalities and the temporal tests ask of a fact, for this row."""
+    values = tuple(value_of(o, row.names, None) for _, o in equalities(source))
+    if not source.temporal_tests:
+        return Wanted(values)
+    bounds = temporal.start_bounds(times_named(source, row), is_point(source, w))
+    return Wanted(values, INFINITE, -INFINITE) if bounds is None else Wanted(values, *bounds)
+
+
+def taken_again(condition: Condition, row: Row, near: list[Fact], taken: Taken) -> list[Row]:
+    """The longer rows where other facts are to be tested than before: those that were tested keep their outcome and their rows."""
+    source, tested = condition.source, taken.near
+    if taken.longer is not None and near[:len(tested)] == tested:
+        passing = taken.passing + [f for f in near[len(tested):] if passes(source, f, row)]
+    else:
+        passing = [f for f in near if passes(source, f, row)]
+    if isinstance(condition, Plain) and taken.longer:
+        known = {longer.cells[-1]: longer for longer in taken.longer}
+        longer = [known.get(f) or longer_rows(condition, [f], row)[0] for f in passing]
+    else:
+        longer = longer_rows(condition, passing, row)
+    taken.near, taken.passing, taken.longer = near, passing, longer
+    return longer
+
+
+def extended(condition: Condition, row: Row, among: Groups, w: World) -> list[Row]:
+    """What a condition makes of a row, of the candidates."""
+    source = condition.source
+    taken = row.taken.get(id(condition))
+    if taken is None:
+        taken = row.taken[id(condition)] = Taken(wanted(source, row, w))
+    near = among.near(taken.wanted)
+    longer = taken.longer if near == taken.near and taken.longer is not None else taken_again(condition, row, near, taken)
+    return longer if not longer or not isinstance(condition, Negated) or is_mature(source, row, w) else []
+
+
+def looked_at(rule: Rule, w: World) -> list:
+    """All of the world that the rows of a rule depend on: the candidates of its conditions, and how far a `not` may have waited."""
+    return [candidates(c.source, w) for c in rule.conditions] + [
+        horizon(c.source, w) for c in rule.conditions if isinstance(c, Negated) and c.source.temporal_tests]
+
+
 def rows(rule: Rule, w: World) -> list[Row]:
-    """The rows of a rule, condition by condition over the whole list."""
-    found = [EMPTY_ROW]
-    for condition in rule.conditions:
-        source = condition.source
-        among = candidates(source, w)
-        longer: list[Row] = []
-        for row in found:
-            passing = [f for f in among if passes(source, f, row)]
-            if isinstance(condition, Plain):
-                longer += [Row(row.cells + (f,), {**row.names, **bound_by(source, f)}) for f in passing]
-            elif isinstance(condition, Negated):
-                longer += [row] if not passing and is_mature(source, row, w) else []
-            elif isinstance(condition, Existing):
-                longer += [row] if passing else []
-            else:
-                longer += folded(condition, passing, row)
-        found = longer
-    return found
+    """The rows of a rule, condition by condition over all candidates; those of before, where it looks at nothing else."""
+    last, looked = w.memory.last_rows(rule, Row((), {})), looked_at(rule, w)
+    if last.looked_at != looked:
+        found = [last.root]
+        for condition, facts in zip(rule.conditions, looked):
+            among = w.memory.index(condition.source, facts)
+            found = [longer for row in found for longer in extended(condition, row, among, w)]
+        last.looked_at, last.rows = looked, found
+    return last.rows
 
 
 # ---- matches
 
 
-@dataclass(frozen=True)
+@dataclass(frozen=True, eq=False)
 class Match:
     """A rule, by its place in the file, with a row."""
     rule: int
     row: Row
 
-    @property
+    @cached_property
     def key(self) -> tuple:
         """What makes two matches one: the rule, the tags and the values."""
         return (self.rule, self.row.tags, self.row.values)
 
 
+def matches_of_rule(k: int, rule: Rule, w: World) -> list[Match]:
+    """A row that was one before is the same match."""
+    found, last = rows(rule, w), w.memory.last_rows(rule, None)
+    if list(last.matches) != found:
+        last.matches = {row: last.matches.get(row) or Match(k, row) for row in found}
+    return list(last.matches.values())
+
+
 def matches_of(w: World) -> list[Match]:
-    return [Match(k, row) for k, rule in enumerate(w.program.rules) for row in rows(rule, w)]
+    return [m for k, rule in enumerate(w.program.rules) for m in matches_of_rule(k, rule, w)]
 
 
 def pending(w: World) -> list[Match]:
@@ -293,7 +395,7 @@ def start_and_duration(step: Insertion, w: World) -> tuple[int, int]:
 
 def fact_with(type_name: str, number: int, w: World) -> Optional[Fact]:
     """The present fact of this type with this id."""
-    return next((f for f in present(w) if f.id == number and f.type == type_name), None)
+    return next((f for f in w.facts if f.id == number and f.type == type_name and is_present(f, w)), None)
 
 
 def insertion_fault(step: Insertion, w: World) -> Optional[str]:
@@ -364,7 +466,7 @@ def with_inserted(step: Insertion, w: World) -> World:
 def after_step(step: Step, w: World) -> World:
     """The world behind a step without a fault: of the fired matches those stay marked that are matches still."""
     next_world = changed(step, w)
-    return replace(next_world, fired=w.fired & {m.key for m in next_world.matches})
+    return next_world.with_fired(w.fired & {m.key for m in next_world.matches})
 
 
 def step_lines(step: Step, w: World) -> list[str]:
@@ -428,7 +530,7 @@ def firing(m: Match, w: World, line: int) -> tuple[list[str], World]:
     fire command and changes nothing."""
     lines = [fire_line(m, w)]
     steps = [planned(action, m.row, w) for action in w.program.rules[m.rule].actions]
-    w = replace(w, fired=w.fired | {m.key})
+    w = w.with_fired(w.fired | {m.key})
     for step in steps:
         fault = "Overflow" if step is None else step_fault(step, w)
         if fault is None:

@@ -8,6 +8,7 @@ of Dechter, Meiri and Pearl, "Temporal constraint networks" (1991).
 
 from __future__ import annotations
 
+from functools import lru_cache
 from typing import Hashable, Iterable
 
 Edge = tuple[Hashable, Hashable, int]
@@ -74,6 +75,7 @@ def overlaps(p: tuple[int, ...]) -> list[Edge]:
     return row
 
 
+@lru_cache(maxsize=None)
 def edges(operator: str, p: tuple[int, ...]) -> list[Edge]:
     """The edges of an operator with accepted parameters."""
     if operator in CONVERSES:
@@ -147,9 +149,14 @@ def event_edges(start: Hashable, end: Hashable, point: bool) -> list[Edge]:
 NEVER = "never"
 
 
-def greatest_start(tests: list[tuple[str, tuple[int, ...], tuple[int, int]]], point: bool):
-    """The greatest start of a possible event that satisfies all tests, each an operator, its parameters and the other
-    event's times: a number, INFINITE where there is none greatest, NEVER where no event is possible."""
+# An operator, its parameters, and the times of the event that it names.
+Timed = tuple[str, tuple[int, ...], tuple[int, int]]
+
+
+@lru_cache(maxsize=100_000)
+def start_bounds(tests: tuple[Timed, ...], point: bool):
+    """The least and the greatest start of a possible event that satisfies all tests: numbers, -INFINITE and INFINITE where there is
+    none least or greatest; None where no event is possible."""
     zero = "0"
     bounds: list[Edge] = event_edges(A_START, A_END, point)
     for operator, parameters, (start, end) in tests:
@@ -159,4 +166,11 @@ def greatest_start(tests: list[tuple[str, tuple[int, ...], tuple[int, int]]], po
             shift = given.get(y, 0) - given.get(x, 0)
             bounds.append((zero if x in given else x, zero if y in given else y, most + shift))
     network = Network([zero, A_START, A_END], bounds)
-    return network.bound(A_START, zero) if network.solvable else NEVER
+    return (-network.bound(zero, A_START), network.bound(A_START, zero)) if network.solvable else None
+
+
+def greatest_start(tests: Iterable[Timed], point: bool):
+    """The greatest start of a possible event that satisfies all tests: a number, INFINITE where there is none greatest, NEVER
+    where no event is possible."""
+    bounds = start_bounds(tuple(tests), point)
+    return NEVER if bounds is None else bounds[1]

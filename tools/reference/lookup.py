@@ -1,0 +1,113 @@
+"""Which facts a row has to be tested with: those that its equalities and its temporal tests leave, looked up and not searched for.
+
+What is left out here fails a test of the pattern, so no row is lost; what is left is tested as the meaning says. What was found
+of the same facts is not found again: tests, rows and matches depend on nothing but what is compared here before they are taken over.
+"""
+
+from __future__ import annotations
+
+from bisect import bisect_left, bisect_right
+from dataclasses import dataclass, field
+from typing import Any, Callable, Hashable, Sequence
+
+from temporal import INFINITE
+from trees import Compare, FieldOf, Operand, Rule, Source, Variable
+
+
+def equalities(source: Source) -> list[tuple[str, Operand]]:
+    """The fields of the pattern that are to be equal to what an earlier condition bound; those behind `||` are none."""
+    alone = [test.groups[0] for test in source.joined_tests if len(test.groups) == 1]
+    return [(c.field, c.operand) for group in alone for c in group
+            if isinstance(c, Compare) and c.relation == "==" and isinstance(c.operand, (Variable, FieldOf))]
+
+
+@dataclass(frozen=True)
+class Wanted:
+    """What a row asks of the facts that go on with it: the values of its equalities, in their order, and the least and the
+    greatest start that its temporal tests let through."""
+    values: tuple
+    low: float = -INFINITE
+    high: float = INFINITE
+
+
+class Filter:
+    """The facts of a list that pass a test of the fact alone. Those at its front that were tested are not tested again."""
+
+    def __init__(self, test: Callable[[Any], bool]):
+        self.test, self.facts, self.passing = test, [], []
+
+    def of(self, facts: list) -> list:
+        held = len(self.facts)
+        if facts[:held] != self.facts:
+            held, self.passing = 0, []
+        self.passing = self.passing + [f for f in facts[held:] if self.test(f)]
+        self.facts = facts
+        return self.passing
+
+
+class Groups:
+    """Facts by a key. Where a list begins with the one that is held, only the others are put into their groups."""
+
+    def __init__(self, key_of: Callable[[Any], Hashable]):
+        self.key_of, self.facts = key_of, []
+        self.groups: dict[Hashable, tuple[list, list[int]]] = {}
+
+    def hold(self, facts: Sequence) -> None:
+        held = len(self.facts)
+        if facts[:held] != self.facts:
+            held, self.groups = 0, {}
+        for fact in facts[held:]:
+            group, starts = self.groups.setdefault(self.key_of(fact), ([], []))
+            group.append(fact)
+            starts.append(fact.start)
+        self.facts = facts
+
+    def near(self, wanted: Wanted) -> list:
+        """The facts with the wanted key that start where it is wanted. They are in the order of their starts, as one entry point
+        takes them in."""
+        group, starts = self.groups.get(wanted.values, ([], []))
+        first = 0 if wanted.low == -INFINITE else bisect_left(starts, wanted.low)
+        behind = len(starts) if wanted.high == INFINITE else bisect_right(starts, wanted.high)
+        return group[first:behind]
+
+
+def by_equalities(source: Source) -> Groups:
+    fields = [name for name, _ in equalities(source)]
+    return Groups(lambda fact: tuple([fact.values[name] for name in fields]))
+
+
+@dataclass(eq=False)
+class LastRows:
+    """The empty row of a rule; and the rows and the matches that were taken last, with all that they depend on."""
+    rule: Rule
+    root: Any
+    looked_at: list = field(default_factory=list)
+    rows: list = field(default_factory=list)
+    matches: dict = field(default_factory=dict)
+
+
+class Memory:
+    """What the worlds of a run share, none of it part of their meaning: the facts by place, of each source those that pass its
+    constant tests and the groups of its candidates, of each rule the last rows. All are of the world that asked last."""
+
+    def __init__(self) -> None:
+        self.places = Groups(lambda fact: (fact.type, fact.entry))
+        self.filters: dict[int, tuple[Source, Filter]] = {}
+        self.indexes: dict[int, tuple[Source, Groups]] = {}
+        self.rules: dict[int, LastRows] = {}
+
+    def filtered(self, source: Source, facts: list, test: Callable[[Any], bool]) -> list:
+        if id(source) not in self.filters:
+            self.filters[id(source)] = source, Filter(test)
+        return self.filters[id(source)][1].of(facts)
+
+    def index(self, source: Source, candidates: list) -> Groups:
+        """The candidates of a source, looked up by its equalities."""
+        if id(source) not in self.indexes:
+            self.indexes[id(source)] = source, by_equalities(source)
+        index = self.indexes[id(source)][1]
+        index.hold(candidates)
+        return index
+
+    def last_rows(self, rule: Rule, empty_row: Any) -> LastRows:
+        return self.rules.setdefault(id(rule), LastRows(rule, empty_row))
