@@ -352,13 +352,13 @@ def is_wrong_kind(file: File, before: list[Item], body) -> bool:
             or any(action_misfits(file, a, sight_of_actions(body, file.types)) for a in body.actions))
 
 
-# ---- NotAnEvent, BadTimestamp, EventFixed, EventObserved, BadParams, NeverMatches
+# ---- NotAnEvent, BadTimestamp, BadReference, EventFixed, EventObserved, ReferenceFixed, BadParams, NeverMatches
 
 
 def needs_event(file: File, before: list[Item], body) -> bool:
     """A plain type has times or expiry, stands under a window, or takes part in a temporal test."""
     if isinstance(body, TypeDeclaration):
-        return not type_info(body).event and any(not isinstance(a, Role) for a in body.annotations)
+        return not type_info(body).event and any(isinstance(a, (Timestamp, Duration, Expires)) for a in body.annotations)
     if not isinstance(body, Rule):
         return False
     for condition, sight in sights(body, file.types):
@@ -379,6 +379,11 @@ def has_bad_timestamp(file: File, before: list[Item], body) -> bool:
     return any(fields[a.field] != INT for a in body.annotations if isinstance(a, (Timestamp, Duration)))
 
 
+def marks_event(file: File, before: list[Item], body) -> bool:
+    """An event type is one of reference facts."""
+    return isinstance(body, TypeDeclaration) and type_info(body).event and type_info(body).reference
+
+
 def types_of_actions(file: File, rule: Rule, sort) -> list[str]:
     sight = sight_of_actions(rule, file.types)
     return [sight[a.variable].type for a in rule.actions if isinstance(a, sort)]
@@ -391,6 +396,14 @@ def modifies_event(file: File, before: list[Item], body) -> bool:
 def retracts_observed(file: File, before: list[Item], body) -> bool:
     """From stage 6: an action retracts an event of a type that a negative pattern or an accumulate observes."""
     return file.stage >= 6 and isinstance(body, Rule) and any(t in file.observed for t in types_of_actions(file, body, Retract))
+
+
+def fixes_reference(file: File, before: list[Item], body) -> bool:
+    """An action inserts, modifies or retracts a reference fact."""
+    if not isinstance(body, Rule):
+        return False
+    named = [a.type for a in body.actions if isinstance(a, Insert)] + types_of_actions(file, body, (Modify, Retract))
+    return any(file.types[name].reference for name in named)
 
 
 def window_is_bad(source: Source) -> bool:
@@ -427,8 +440,10 @@ CODES: list[tuple[str, Check]] = [
     ("WrongKind", is_wrong_kind),
     ("NotAnEvent", needs_event),
     ("BadTimestamp", has_bad_timestamp),
+    ("BadReference", marks_event),
     ("EventFixed", modifies_event),
     ("EventObserved", retracts_observed),
+    ("ReferenceFixed", fixes_reference),
     ("BadParams", has_bad_params),
     ("NeverMatches", never_matches),
 ]

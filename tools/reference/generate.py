@@ -21,6 +21,7 @@ from random_lives import lives_case
 from random_rules import FileMaker
 from random_script import ScriptMaker
 from reader import Refused, read_file
+from stages import DEFAULT_STAGE
 from writer import Writer
 
 BUDGET = 150
@@ -41,7 +42,7 @@ def accepted_case(rng: Random, stage: int) -> Case:
         writer = Writer(rng)
         rules = writer.text_of([writer.item(b) for b in maker.bodies()]).encode("utf-8")
         try:
-            program = check(read_file(rules), stage)
+            program = check(read_file(rules, stage), stage)
         except Refused as refused:
             # A network that never matches, or a modification that happens to set a field twice: a file of the other sort.
             if refused.code in ("Syntax", "LimitPassed", "UnknownType"):
@@ -60,7 +61,7 @@ def case_of(seed: int, stage: int) -> Case:
     return accepted_case(rng, stage)
 
 
-def lives_case_of(seed: int, stage: int) -> Case:
+def lives_case_of(seed: int, stage: int = DEFAULT_STAGE) -> Case:
     """The case of a seed among those of finite lives."""
     return Case(*lives_case(Random(f"lives/{seed}" if stage < 16 else f"lives/{stage}/{seed}"), stage), 200)
 
@@ -108,7 +109,7 @@ def write_case(case: Case, folder: str) -> None:
 def main() -> None:
     parser = argparse.ArgumentParser(description="Writes the rule file and the script of a seed.")
     parser.add_argument("seed", type=int)
-    parser.add_argument("--stage", type=int, default=14)
+    parser.add_argument("--stage", type=int, default=DEFAULT_STAGE)
     parser.add_argument("--folder", default="case")
     asked = parser.parse_args()
     write_case(case_of(asked.seed, asked.stage), asked.folder)

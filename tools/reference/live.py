@@ -11,8 +11,9 @@ from __future__ import annotations
 import sys
 
 from meaning import World
-from replay import put, rule_file, stage_asked
+from replay import put, rule_file
 from run import Run, program_or_refusal
+from stages import stage_asked
 
 LIMIT = 100_000
 

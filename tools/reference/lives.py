@@ -63,6 +63,13 @@ def tail(condition: Condition, program: Program):
     return max(program.latenesses[source.entry or "DEFAULT"], window, info.expires or 0)
 
 
+def places_run_over(rule: Rule, types: dict[str, TypeInfo], i: int) -> list[int]:
+    """The conditions whose facts may still meet an event of i: all of them for a positive pattern, else i and those before it.
+    Reference facts are there before any event, and so are none of these."""
+    end = len(rule.conditions) if isinstance(rule.conditions[i], Plain) else i + 1
+    return [j for j in range(end) if not types[rule.conditions[j].source.type].reference]
+
+
 def life_of_pattern(rule: Rule, program: Program, i: int):
     """The life of an event pattern whose type has no explicit expiry."""
     window = rule.conditions[i].source.window
@@ -70,7 +77,7 @@ def life_of_pattern(rule: Rule, program: Program, i: int):
         return window.length
     if isinstance(window, LengthWindow):
         return INFINITE
-    others = range(len(rule.conditions)) if isinstance(rule.conditions[i], Plain) else range(i + 1)
+    others = places_run_over(rule, program.types, i)
     if any(not is_event(rule.conditions[j], program.types) for j in others):
         return INFINITE
     reaches = [(reach(rule, program.types, i, j), tail(rule.conditions[j], program)) for j in others]

@@ -44,7 +44,7 @@ class Fact:
 @dataclass(frozen=True, eq=False)
 class World:
     """The list of facts in order of insertion, the clock, the last start and the promise of each entry point (0 where none is
-    kept), the next numbers, and the matches that are marked as fired."""
+    kept), the next numbers, the matches that are marked as fired, and whether it has begun: by its first event, or by a line."""
     program: Program
     facts: tuple[Fact, ...] = ()
     clock: int = 0
@@ -53,6 +53,7 @@ class World:
     next_id: int = 1
     next_tag: int = 1
     fired: frozenset = frozenset()
+    begun: bool = False
     memory: Memory = field(default_factory=Memory)
 
     @cached_property
@@ -383,7 +384,12 @@ class Promise:
     start: int
 
 
-Step = Union[Insertion, Modification, Retraction, ClockMove, Promise]
+@dataclass(frozen=True)
+class Begin:
+    """No reference fact comes any more."""
+
+
+Step = Union[Insertion, Modification, Retraction, ClockMove, Promise, Begin]
 
 
 def start_and_duration(step: Insertion, w: World) -> tuple[int, int]:
@@ -434,6 +440,8 @@ def step_fault(step: Step, w: World) -> Optional[str]:
         return clock_fault(step, w)
     if isinstance(step, Promise):
         return promise_fault(step, w)
+    if isinstance(step, Begin):
+        return None
     return absence_fault(step, w)
 
 
@@ -450,17 +458,20 @@ def changed(step: Step, w: World) -> World:
         return replace(w, facts=tuple(f for f in w.facts if f is not gone))
     if isinstance(step, ClockMove):
         return replace(w, clock=step.to)
+    if isinstance(step, Begin):
+        return replace(w, begun=True)
     return replace(w, promises={**w.promises, step.entry: step.start})
 
 
 def with_inserted(step: Insertion, w: World) -> World:
-    """The next id and the next tag; an event's start becomes the last start of its entry point."""
-    start, end, last_starts = 0, 0, w.last_starts
-    if w.program.types[step.type].event:
+    """The next id and the next tag; an event's start becomes the last start of its entry point, and the world has begun."""
+    start, end, last_starts, event = 0, 0, w.last_starts, w.program.types[step.type].event
+    if event:
         start, duration = start_and_duration(step, w)
         end, last_starts = start + duration, {**w.last_starts, step.entry: start}
     new = Fact(w.next_id, w.next_tag, step.type, step.entry, step.values, start, end)
-    return replace(w, facts=w.facts + (new,), last_starts=last_starts, next_id=w.next_id + 1, next_tag=w.next_tag + 1)
+    return replace(w, facts=w.facts + (new,), last_starts=last_starts, next_id=w.next_id + 1, next_tag=w.next_tag + 1,
+                   begun=w.begun or event)
 
 
 def after_step(step: Step, w: World) -> World:

@@ -6,7 +6,7 @@ from dataclasses import dataclass
 from typing import Iterator, Optional, Union
 
 from trees import (BOOL, INT, TEXT, Bind, Condition, Duration, EntryDeclaration, Expires, Folded, Item, LengthWindow, Plain,
-                   Role, Rule, Salience, Source, Timestamp, TypeDeclaration)
+                   Reference, Role, Rule, Salience, Source, Timestamp, TypeDeclaration)
 
 KINDS = {"int": INT, "long": INT, "Integer": INT, "Long": INT, "boolean": BOOL, "Boolean": BOOL, "String": TEXT}
 
@@ -34,6 +34,7 @@ class TypeInfo:
     timestamp: Optional[str]
     duration: Optional[str]
     expires: Optional[int]
+    reference: bool = False
 
 
 def type_info(t: TypeDeclaration) -> TypeInfo:
@@ -44,7 +45,8 @@ def type_info(t: TypeDeclaration) -> TypeInfo:
     for field, word in t.fields:
         fields.setdefault(field, KINDS.get(word))
     return TypeInfo(t.name, bool(first(Role, lambda a: a.event)), fields, first(Timestamp, lambda a: a.field),
-                    first(Duration, lambda a: a.field), first(Expires, lambda a: a.offset))
+                    first(Duration, lambda a: a.field), first(Expires, lambda a: a.offset),
+                    any(isinstance(a, Reference) for a in t.annotations))
 
 
 def types_by_name(items: list[Item]) -> dict[str, TypeInfo]:
@@ -156,6 +158,10 @@ class Program:
     rules: list[Rule]
     observed: set[str]
     stage: int
+
+    @property
+    def has_references(self) -> bool:
+        return any(t.reference for t in self.types.values())
 
 
 def salience_of(rule: Rule) -> int:

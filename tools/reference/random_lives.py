@@ -48,7 +48,7 @@ def promise(entry: str, start: int) -> dict:
     return {"do": "promise", "from": start} | ({} if entry == "DEFAULT" else {"entry": entry})
 
 
-def lives_case(rng: Random, stage: int = 14) -> tuple[bytes, bytes]:
+def lives_case(rng: Random, stage: int) -> tuple[bytes, bytes]:
     """A rule file, which may be refused, and a script."""
     entries = {"DEFAULT": 0} | ({"late": rng.choice([5, 60])} if rng.random() < 0.4 else {})
     text = "".join(f"declare {t} @role( event ){' @expires( 120ms )' if rng.random() < 0.1 else ''} k : long end\n" for t in TYPES)

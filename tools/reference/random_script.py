@@ -117,6 +117,8 @@ class ScriptMaker:
     def fact(self, plain: bool) -> Optional[Fact]:
         """A fact that is there; mostly a plain one where such a one is wanted, and then often one that took part in a firing."""
         facts = [f for f in present(self.world) if plain != self.program.types[f.type].event]
+        if self.program.has_references and self.chance(0.8):
+            facts = [f for f in facts if not self.program.types[f.type].reference]
         fired = {tag for _, tags, _ in self.world.fired for tag in tags}
         marked = [f for f in facts if f.tag in fired]
         if marked and self.chance(0.6):
@@ -126,8 +128,13 @@ class ScriptMaker:
     def entry_members(self, entry: str) -> list[tuple[str, object]]:
         return [] if entry == "DEFAULT" and self.chance(0.8) else [("entry", entry)]
 
+    def type_to_insert(self) -> TypeInfo:
+        """Mostly one of reference facts while these are taken, and then mostly another one."""
+        wanted = [t for t in self.types if t.reference != self.world.begun]
+        return self.rng.choice(wanted if self.program.has_references and wanted and self.chance(0.8) else self.types)
+
     def insert_line(self) -> list[tuple[str, object]]:
-        info, entry = self.rng.choice(self.types), self.rng.choice(self.entries + ["DEFAULT"] * 2)
+        info, entry = self.type_to_insert(), self.rng.choice(self.entries + ["DEFAULT"] * 2)
         return [("do", "insert"), ("type", info.name)] + self.entry_members(entry) + [("fields", self.values(info, entry))]
 
     def modify_line(self) -> Optional[list[tuple[str, object]]]:
@@ -164,6 +171,7 @@ class ScriptMaker:
         sorts += [self.fire_line] * 5
         sorts += [lambda: [("do", "held")]] * 2 if stage >= 14 else []
         sorts += [self.promise_line] * 2 if stage >= 16 else []
+        sorts += [lambda: [("do", "begin")]] if stage >= 17 else []
         return self.rng.choice(sorts)() or self.insert_line()
 
     # ---- faulty lines

@@ -10,11 +10,12 @@ from __future__ import annotations
 from typing import Callable, Optional, TypeVar
 
 import temporal
+from stages import DEFAULT_STAGE
 from tokens import LexicalFault, Token, line_of, tokens_of
 from trees import (Action, AnyOf, Attribute, Annotation, Binary, Bind, Body, Comparison, Compare, Condition, Dialect,
                    DialectAttribute, Duration, EntryDeclaration, Existing, Expires, Expr, FieldOf, Folded, Import, Insert,
                    Item, LengthWindow, Literal, Modify, Negate, Negated, OneOf, Operand, Own, Package, Part, Plain, Retract,
-                   Role, Rule, Salience, Source, Temporal, TimeWindow, Timestamp, TypeDeclaration, Variable, Window)
+                   Reference, Role, Rule, Salience, Source, Temporal, TimeWindow, Timestamp, TypeDeclaration, Variable, Window)
 
 FILE_END = 1_048_576
 TREE_HEIGHT = 32
@@ -47,10 +48,10 @@ def is_ident(word: str) -> bool:
 
 
 class Reader:
-    """Reads the tokens of one item from left to right."""
+    """Reads the tokens of one item from left to right, by the grammar of a stage."""
 
-    def __init__(self, tokens: list[Token]):
-        self.tokens = tokens
+    def __init__(self, tokens: list[Token], stage: int = DEFAULT_STAGE):
+        self.tokens, self.stage = tokens, stage
         self.place = 0
 
     # ---- single tokens
@@ -172,8 +173,11 @@ class Reader:
         return TypeDeclaration(name, tuple(annotations), tuple(fields))
 
     def annotation(self) -> Annotation:
-        """'@' 'role' '(' ('event' | 'fact') ')' | '@' ('timestamp' | 'duration') '(' Ident ')' | '@' 'expires' '(' span ')'"""
-        word = self.one_word({"role", "timestamp", "duration", "expires"})
+        """'@' 'role' '(' ('event' | 'fact') ')' | '@' ('timestamp' | 'duration') '(' Ident ')' | '@' 'expires' '(' span ')'
+        | '@' 'reference'"""
+        word = self.one_word({"role", "timestamp", "duration", "expires"} | ({"reference"} if self.stage >= 17 else set()))
+        if word == "reference":
+            return Reference()
         self.mark("(")
         if word == "role":
             found: Annotation = Role(self.one_word({"event", "fact"}) == "event")
@@ -521,8 +525,8 @@ def items_of_tokens(tokens: list[Token]) -> list[list[Token]]:
     return items
 
 
-def read_file(data: bytes) -> list[Item]:
-    """The items of a rule file, or Refused."""
+def read_file(data: bytes, stage: int = DEFAULT_STAGE) -> list[Item]:
+    """The items of a rule file by the grammar of a stage, or Refused."""
     if len(data) > FILE_END:
         raise Refused(0, 0, "TooLong")
     try:
@@ -533,7 +537,7 @@ def read_file(data: bytes) -> list[Item]:
     for number, part in enumerate(items_of_tokens(tokens), start=1):
         line = line_of(data, part[0].at)
         try:
-            items.append(Item(line, Reader(part).item()))
+            items.append(Item(line, Reader(part, stage).item()))
         except OutsideGrammar:
             raise Refused(number, line, "Syntax") from None
     return items

@@ -18,9 +18,9 @@ import generate
 from lives import life_lines
 from reader import FILE_END
 from run import program_or_refusal, report, run
+from stages import FIRST_STAGE, LAST_STAGE, stage_asked
 
 SCRIPT_END = 1 << 30
-FIRST_STAGE, LAST_STAGE, DEFAULT_STAGE = 2, 16, 14
 MODES = ("run", "check", "lives")
 
 
@@ -159,11 +159,6 @@ def replay(words: list[str], stage: int) -> int:
     state = run(program, script, limit)
     put("".join(line + "\n" for line in state.lines))
     return state.status
-
-
-def stage_asked() -> int:
-    """The stage that the environment names, or that of today's program."""
-    return int(os.environ.get("REFERENCE_STAGE", DEFAULT_STAGE))
 
 
 def main() -> int:

@@ -6,11 +6,11 @@ from dataclasses import dataclass
 from typing import Optional, Union
 
 from checks import check
-from meaning import (ClockMove, Insertion, Modification, Promise, Retraction, Step, World, after_step, absence_fault,
+from meaning import (Begin, ClockMove, Insertion, Modification, Promise, Retraction, Step, World, after_step, absence_fault,
                      first_pending, firing, held_lines, step_fault, step_lines)
 from program import DEFAULT, Program
 from reader import Refused, read_file
-from script import (LINE_END, AtLine, BadCommand, BadJson, Command, FireLine, HeldLine, InsertLine, ModifyLine,
+from script import (LINE_END, AtLine, BadCommand, BeginLine, BadJson, Command, FireLine, HeldLine, InsertLine, ModifyLine,
                     PromiseLine, RetractLine, command_of, is_blank, lines_of)
 from trees import kind_of_value
 
@@ -34,6 +34,8 @@ def asked_insertion(line: InsertLine, w: World) -> Insertion:
     entry = DEFAULT if line.entry is None else line.entry
     if entry not in w.program.latenesses:
         raise Fault("UnknownEntry")
+    if w.program.types[line.type].reference and w.begun:
+        raise Fault("ReferenceFixed")
     kinds = w.program.types[line.type].fields
     if set(line.fields) != set(kinds):
         raise Fault("BadFields")
@@ -47,6 +49,8 @@ def asked_modification(line: ModifyLine, w: World) -> Modification:
         raise Fault("UnknownType")
     if w.program.types[line.type].event:
         raise Fault("EventFixed")
+    if w.program.types[line.type].reference:
+        raise Fault("ReferenceFixed")
     step = Modification(line.id, line.type, line.fields)
     if fault := absence_fault(step, w):
         raise Fault(fault)
@@ -63,6 +67,8 @@ def asked_retraction(line: RetractLine, w: World) -> Retraction:
         raise Fault("UnknownType")
     if line.type in w.program.observed:
         raise Fault("EventObserved")
+    if w.program.types[line.type].reference:
+        raise Fault("ReferenceFixed")
     return Retraction(line.id, line.type)
 
 
@@ -83,6 +89,8 @@ def asked_step(command: Command, w: World) -> Step:
         return asked_retraction(command, w)
     if isinstance(command, PromiseLine):
         return asked_promise(command, w)
+    if isinstance(command, BeginLine):
+        return Begin()
     return ClockMove(command.ms if isinstance(command, AtLine) else w.clock + command.by)
 
 
@@ -158,7 +166,7 @@ def run(program: Program, script: bytes, limit: int) -> Run:
 def program_or_refusal(rules: bytes, stage: int) -> Union[Program, str]:
     """The program of a rule file, or its line of refusal."""
     try:
-        return check(read_file(rules), stage)
+        return check(read_file(rules, stage), stage)
     except Refused as refused:
         return f"refused item {refused.item} line {refused.line} {refused.code}"
 

@@ -234,7 +234,12 @@ class Expires:
     offset: int
 
 
-Annotation = Union[Role, Timestamp, Duration, Expires]
+@dataclass(frozen=True)
+class Reference:
+    """`@reference`: the facts of the type are there before any event, and stay as they are."""
+
+
+Annotation = Union[Role, Timestamp, Duration, Expires, Reference]
 
 
 @dataclass(frozen=True)

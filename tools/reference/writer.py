@@ -12,7 +12,7 @@ from reader import is_ident
 from tokens import WORD, UNITS
 from trees import (Action, Annotation, Attribute, Binary, Bind, Body, Compare, Comparison, Condition, Dialect,
                    EntryDeclaration, Expires, Expr, FieldOf, Folded, Import, Insert, LengthWindow, Literal, Modify,
-                   Negate, Negated, Operand, Package, Part, Plain, Role, Rule, Salience, Source, Temporal, TimeWindow,
+                   Negate, Negated, Operand, Package, Part, Plain, Reference, Role, Rule, Salience, Source, Temporal, TimeWindow,
                    Timestamp, TypeDeclaration, Variable)
 
 SEPARATORS = [" "] * 12 + ["\n"] * 4 + ["\n  ", "\t", "  ", "\r\n", " /* a */ ", " // b\n", " # c\n"]
@@ -170,6 +170,8 @@ class Writer:
             return ["@", "role", "(", "event" if a.event else "fact", ")"]
         if isinstance(a, Expires):
             return ["@", "expires", "("] + self.span(a.offset) + [")"]
+        if isinstance(a, Reference):
+            return ["@", "reference"]
         return ["@", "timestamp" if isinstance(a, Timestamp) else "duration", "(", a.field, ")"]
 
     def attribute(self, a: Attribute) -> list[str]:
