@@ -22,7 +22,7 @@ from collections import Counter
 from typing import Optional
 
 from generate import Case, case_of, lives_case_of, write_case
-from meaning import has_forgotten
+from keeping import has_forgotten
 from run import outcome, report_of
 from stages import DEFAULT_STAGE
 

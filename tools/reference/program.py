@@ -150,14 +150,19 @@ def sight_of_actions(rule: Rule, types: dict[str, TypeInfo]) -> Sight:
 # ---- the program of an accepted file
 
 
-@dataclass(frozen=True)
+@dataclass(frozen=True, eq=False)
 class Program:
-    """An accepted rule file; `stage` is the stage of the project whose meaning is taken."""
+    """An accepted rule file; `stage` is the stage of the project whose meaning is taken, `written` are the items as they were read."""
     types: dict[str, TypeInfo]
     latenesses: dict[str, int]
     rules: list[Rule]
     observed: set[str]
     stage: int
+    written: tuple[Item, ...] = ()
+
+    def title(self, rule: int) -> str:
+        """The name by which a rule is printed."""
+        return self.rules[rule].name
 
     @property
     def has_references(self) -> bool:
@@ -170,4 +175,4 @@ def salience_of(rule: Rule) -> int:
 
 def program_of(items: list[Item], stage: int) -> Program:
     types, rules = types_by_name(items), rules_of(items)
-    return Program(types, latenesses(items), rules, observed_types(rules, types), stage)
+    return Program(types, latenesses(items), rules, observed_types(rules, types), stage, tuple(items))

@@ -6,8 +6,9 @@ from dataclasses import dataclass
 from typing import Optional, Union
 
 from checks import check
+from keeping import held_lines
 from meaning import (Begin, ClockMove, Insertion, Modification, Promise, Retraction, Step, World, after_step, absence_fault,
-                     first_pending, firing, held_lines, step_fault, step_lines)
+                     first_pending, firing, step_fault, step_lines)
 from program import DEFAULT, Program
 from reader import Refused, read_file
 from script import (LINE_END, AtLine, BadCommand, BeginLine, BadJson, Command, FireLine, HeldLine, InsertLine, ModifyLine,
@@ -96,12 +97,16 @@ def asked_step(command: Command, w: World) -> Step:
 
 @dataclass
 class Run:
-    """Where a run stands: the world, the firings that are left, what was printed, whether the limit ended it."""
+    """Where a run stands: the world, the firings that are left, what was printed, whether the limit ended it; the lines taken, the
+    firings made, and whether a line before those printed was faulty."""
     world: World
     left: int
     limit: int
     lines: list[str]
     ended: bool = False
+    number: int = 0
+    firings: int = 0
+    faulty: bool = False
 
     def line(self, number: int, line: bytes) -> None:
         """What one line of the script does."""
@@ -143,24 +148,30 @@ class Run:
                 return
             lines, self.world = firing(first, self.world, number)
             self.lines += lines
-            self.left, done = self.left - 1, done + 1
+            self.left, self.firings, done = self.left - 1, self.firings + 1, done + 1
 
+    @property
+    def is_faulty(self) -> bool:
+        return self.faulty or any(line.startswith("fault ") for line in self.lines)
 
     @property
     def status(self) -> int:
-        if self.ended:
-            return 4
-        return 1 if any(line.startswith("fault ") for line in self.lines) else 0
+        return 4 if self.ended else 1 if self.is_faulty else 0
+
+
+def run_on(state: Run, script: bytes) -> Run:
+    """The run goes on over the whole script, or up to the limit of firings."""
+    for line in lines_of(script):
+        state.number += 1
+        state.line(state.number, line)
+        if state.ended:
+            break
+    return state
 
 
 def run(program: Program, script: bytes, limit: int) -> Run:
     """A run over the whole script, or up to the limit of firings."""
-    state = Run(World(program), limit, limit, [])
-    for number, line in enumerate(lines_of(script), start=1):
-        state.line(number, line)
-        if state.ended:
-            break
-    return state
+    return run_on(Run(World(program), limit, limit, []), script)
 
 
 def program_or_refusal(rules: bytes, stage: int) -> Union[Program, str]:
