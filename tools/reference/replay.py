@@ -16,6 +16,7 @@ from dataclasses import dataclass
 from typing import Optional, Union
 
 import generate
+from certify import proof_lines
 from lives import life_lines
 from meaning import World
 from program import Program
@@ -46,7 +47,7 @@ class Asked:
 
 
 def modes(stage: int) -> list[str]:
-    return ["run", "check", "lives"] + ["save"] * (stage >= 18)
+    return ["run", "check", "lives"] + ["save"] * (stage >= 18) + ["proof"] * (stage >= 19)
 
 
 def usage(stage: int) -> str:
@@ -185,6 +186,8 @@ def looked_over(program: Program, mode: str) -> int:
     """The modes that read no script."""
     if mode == "lives":
         put_lines(life_lines(program))
+    elif mode == "proof":
+        put_lines(proof_lines(program))
     else:
         put_lines([f"accepted {len(program.types)} types {len(program.rules)} rules"])
     return 0
