@@ -11,6 +11,7 @@ from dataclasses import dataclass
 from typing import Callable, Iterator, Optional
 
 import temporal
+from expand import expand
 from lives import network_of_positives
 from program import (FactMeant, Program, Sight, TypeInfo, ValueMeant, entries_of_item, entry_declarations,
                      known_entries, observed_types, program_of, rules_of, sight_of_actions, sight_of_source, sights,
@@ -449,12 +450,14 @@ CODES: list[tuple[str, Check]] = [
 ]
 
 
-def check(items: list[Item], stage: int) -> Program:
-    """The program of the file, or Refused with the first failing item and its first code."""
+def check(written: list[Item], stage: int) -> Program:
+    """The program of the file, written out, or Refused with the first failing item, as it was read, and its first code."""
+    items, origins = expand(written) if stage >= 20 else (written, list(range(len(written))))
     types = types_by_name(items)
     file = File(items, stage, types, observed_types(rules_of(items), types))
     for k, item in enumerate(items):
         for code, fails in CODES:
             if fails(file, items[:k], item.body):
-                raise Refused(k + 1, item.line, code)
-    return program_of(items, stage)
+                raise Refused(origins[k] + 1, item.line, code)
+    titles = [written[origin].body.name for item, origin in zip(items, origins) if isinstance(item.body, Rule)]
+    return program_of(items, stage, written, titles)

@@ -10,6 +10,7 @@ import dataclasses
 from random import Random
 from typing import Any, Optional
 
+from random_alternatives import with_choices, with_refused_choices
 from random_rules import FileMaker
 from temporal import OPERATORS
 from trees import (AnyOf, Binary, Bind, Body, Compare, Condition, Duration, EntryDeclaration, Existing, Expires,
@@ -374,6 +375,8 @@ def planted(rng: Random, stage: int) -> bytes:
         bodies = meant_for(rng, rng.choice(meant_codes(stage)), bodies, stage)
     elif draw < 0.65:
         bodies = with_trees(rng, bodies, stage)
+    if stage >= 20:
+        bodies = with_refused_choices(rng, bodies) if rng.random() < 0.4 else with_choices(rng, bodies)
     items = [writer.item(b) for b in bodies]
     if 0.65 <= draw < 0.77:
         items = with_tokens(rng, items)

@@ -152,17 +152,19 @@ def sight_of_actions(rule: Rule, types: dict[str, TypeInfo]) -> Sight:
 
 @dataclass(frozen=True, eq=False)
 class Program:
-    """An accepted rule file; `stage` is the stage of the project whose meaning is taken, `written` are the items as they were read."""
+    """An accepted rule file; `stage` is the stage of the project whose meaning is taken, `written` are the items as they were read, `titles` the names
+    that the rules have there."""
     types: dict[str, TypeInfo]
     latenesses: dict[str, int]
     rules: list[Rule]
     observed: set[str]
     stage: int
     written: tuple[Item, ...] = ()
+    titles: tuple[str, ...] = ()
 
     def title(self, rule: int) -> str:
-        """The name by which a rule is printed."""
-        return self.rules[rule].name
+        """The name by which a rule is printed: that of the rule as it was read, where it is written out."""
+        return self.titles[rule] if self.titles else self.rules[rule].name
 
     @property
     def has_references(self) -> bool:
@@ -173,6 +175,6 @@ def salience_of(rule: Rule) -> int:
     return next((a.value for a in rule.attributes if isinstance(a, Salience)), 0)
 
 
-def program_of(items: list[Item], stage: int) -> Program:
+def program_of(items: list[Item], stage: int, written: list[Item], titles: list[str]) -> Program:
     types, rules = types_by_name(items), rules_of(items)
-    return Program(types, latenesses(items), rules, observed_types(rules, types), stage, tuple(items))
+    return Program(types, latenesses(items), rules, observed_types(rules, types), stage, tuple(written), tuple(titles))

@@ -12,7 +12,7 @@ from typing import Callable, Optional, TypeVar
 import temporal
 from stages import DEFAULT_STAGE
 from tokens import LexicalFault, Token, line_of, tokens_of
-from trees import (Action, AnyOf, Attribute, Annotation, Binary, Bind, Body, Comparison, Compare, Condition, Dialect,
+from trees import (Action, Alternatives, AnyOf, Attribute, Annotation, Binary, Bind, Body, Comparison, Compare, Condition, Dialect,
                    DialectAttribute, Duration, EntryDeclaration, Existing, Expires, Expr, FieldOf, Folded, Import, Insert,
                    Item, LengthWindow, Literal, Modify, Negate, Negated, OneOf, Operand, Own, Package, Part, Plain, Retract,
                    Reference, Role, Rule, Salience, Source, Temporal, TimeWindow, Timestamp, TypeDeclaration, Variable, Window)
@@ -20,9 +20,11 @@ from trees import (Action, AnyOf, Attribute, Annotation, Binary, Bind, Body, Com
 FILE_END = 1_048_576
 TREE_HEIGHT = 32
 PARENTHESES = 32
+NESTED_ALTERNATIVES = 16
 
 RESERVED = set("package import dialect declare rule when then end salience not exists accumulate from over in this new insert "
                "modify retract true false Number".split())
+RESERVED_LATER = {20: {"or", "extends"}}
 FIRST_WORDS = {"package", "import", "dialect", "declare", "rule"}
 RELATIONS = {"==", "!=", "<", "<=", ">", ">="}
 FUNCTIONS = {"count", "sum", "min", "max", "average"}
@@ -42,9 +44,9 @@ class OutsideGrammar(Exception):
     """The tokens of an item are none of the grammar."""
 
 
-def is_ident(word: str) -> bool:
+def is_ident(word: str, stage: int = DEFAULT_STAGE) -> bool:
     """A word that is not reserved (the word's form is the lexer's)."""
-    return word not in RESERVED
+    return word not in RESERVED and not any(stage >= first and word in words for first, words in RESERVED_LATER.items())
 
 
 class Reader:
@@ -97,7 +99,7 @@ class Reader:
 
     def at_ident(self, ahead: int = 0) -> bool:
         token = self.peek(ahead)
-        return token is not None and token.kind == "word" and is_ident(str(token.value))
+        return token is not None and token.kind == "word" and is_ident(str(token.value), self.stage)
 
     def ident(self) -> str:
         if not self.at_ident():
@@ -159,9 +161,11 @@ class Reader:
         return Import(tuple(path), star)
 
     def declaration(self) -> TypeDeclaration:
-        """'declare' Ident meta* field* 'end'"""
-        name = self.ident()
-        annotations = []
+        """'declare' Ident ['extends' Ident] meta* field* 'end'"""
+        name, parent, annotations = self.ident(), None, []
+        if self.stage >= 20 and self.at_word("extends"):
+            self.word("extends")
+            parent = self.ident()
         while self.skip_mark("@"):
             annotations.append(self.annotation())
         fields = []
@@ -170,7 +174,7 @@ class Reader:
             self.mark(":")
             fields.append((field, self.ident()))
         self.word("end")
-        return TypeDeclaration(name, tuple(annotations), tuple(fields))
+        return TypeDeclaration(name, tuple(annotations), tuple(fields), parent)
 
     def annotation(self) -> Annotation:
         """'@' 'role' '(' ('event' | 'fact') ')' | '@' ('timestamp' | 'duration') '(' Ident ')' | '@' 'expires' '(' span ')'
@@ -242,8 +246,10 @@ class Reader:
 
     # ---- conditions
 
-    def condition(self) -> Condition:
-        """source | ('not' | 'exists') group | folded"""
+    def condition(self, depth: int = 0) -> Condition:
+        """source | ('not' | 'exists') group | folded | alternatives, within so many of these"""
+        if self.stage >= 20 and self.at_mark("("):
+            return self.alternatives(depth + 1)
         if self.at_word("not"):
             self.word("not")
             return Negated(self.group())
@@ -255,6 +261,25 @@ class Reader:
         if self.at_word("Number", 2 if self.at_kind("var") and self.at_mark(":", 1) else 0):
             return self.number_from_accumulate()
         return Plain(self.source())
+
+    def alternatives(self, depth: int) -> Alternatives:
+        """'(' condition+ ('or' condition+)+ ')', at most 16 deep"""
+        if depth > NESTED_ALTERNATIVES:
+            raise OutsideGrammar("alternatives too deep")
+        self.mark("(")
+        choices = [self.choice(depth)]
+        while not choices[1:] or self.at_word("or"):
+            self.word("or")
+            choices.append(self.choice(depth))
+        self.mark(")")
+        return Alternatives(tuple(choices))
+
+    def choice(self, depth: int) -> tuple[Condition, ...]:
+        """condition+"""
+        conditions = [self.condition(depth)]
+        while not self.at_word("or") and not self.at_mark(")"):
+            conditions.append(self.condition(depth))
+        return tuple(conditions)
 
     def group(self) -> Source:
         """'(' source ')' | source"""
@@ -443,7 +468,7 @@ class Reader:
         self.mark("(")
         value = self.expression()
         self.mark(")")
-        return field_of_setter(word), value
+        return field_of_setter(word, self.stage), value
 
     def expression(self) -> Expr:
         """expr, with a tree at most 32 high and parentheses at most 32 deep"""
@@ -496,12 +521,12 @@ class Reader:
         return expr, height + minuses
 
 
-def field_of_setter(word: str) -> str:
+def field_of_setter(word: str, stage: int = DEFAULT_STAGE) -> str:
     """The field that `setPrice` names: what stands behind `set`, its first letter made small; it must be a name itself."""
     if not word.startswith("set") or len(word) == 3:
         raise OutsideGrammar("no setter")
     field = word[3].lower() + word[4:]
-    if field[0] in "0123456789" or not is_ident(field):
+    if field[0] in "0123456789" or not is_ident(field, stage):
         raise OutsideGrammar("no name behind set")
     return field
 

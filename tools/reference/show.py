@@ -9,7 +9,7 @@ from __future__ import annotations
 from typing import Callable, Optional
 
 from meaning import quoted
-from trees import (Action, Annotation, Attribute, Binary, Bind, Body, Compare, Comparison, Condition, Dialect,
+from trees import (Action, Alternatives, Annotation, Attribute, Binary, Bind, Body, Compare, Comparison, Condition, Dialect,
                    EntryDeclaration, Expires, Expr, FieldOf, Folded, Import, Insert, Item, Literal, Modify, Negate, Negated,
                    Operand, Own, Package, Part, Plain, Reference, Role, Rule, Salience, Source, Temporal, TimeWindow, Timestamp,
                    TypeDeclaration, Variable, Window)
@@ -83,6 +83,8 @@ def result_test(test: tuple[str, Operand]) -> Tokens:
 
 
 def condition(c: Condition) -> Tokens:
+    if isinstance(c, Alternatives):
+        return ["("] + parted("or", lambda choice: each(condition, choice), c.choices) + [")"]
     if isinstance(c, Plain):
         return source(c.source)
     if isinstance(c, Folded):
@@ -139,7 +141,8 @@ def item(b: Body) -> Tokens:
     if isinstance(b, Dialect):
         return ["dialect", quoted(b.text)]
     if isinstance(b, TypeDeclaration):
-        return ["declare", b.name] + each(annotation, b.annotations) + each(lambda f: [f[0], ":", f[1]], b.fields) + ["end"]
+        parent = [] if b.parent is None else ["extends", b.parent]
+        return ["declare", b.name] + parent + each(annotation, b.annotations) + each(lambda f: [f[0], ":", f[1]], b.fields) + ["end"]
     if isinstance(b, EntryDeclaration):
         lateness = [] if b.lateness is None else ["@", "lateness", "("] + number(b.lateness) + [")"]
         return ["declare", "entry", "-", "point", quoted(b.name)] + lateness + ["end"]

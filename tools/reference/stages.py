@@ -4,7 +4,7 @@ from __future__ import annotations
 
 import os
 
-FIRST_STAGE, LAST_STAGE = 2, 19
+FIRST_STAGE, LAST_STAGE = 2, 20
 
 # That of today's program.
 DEFAULT_STAGE = 14
