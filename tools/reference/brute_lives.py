@@ -4,7 +4,7 @@
     python3 tools/reference/brute_lives.py --seeds A B
 
 A seed gives a program of one or two rules over small spans: up to eight conditions on events that are points, or up to three of which some
-last; some stand in `not`, `exists` or an accumulate, some under a window, on a plain type, or on one with an expiry. The table of lives is
+last; some stand in `not`, `exists` or an accumulate, some under a window, on a plain type, on one of reference facts, or on one with an expiry. The table of lives is
 taken twice: with the reach that a network of bounds gives, and with one that is searched for. There one event ends at 0, the other starts
 at each distance from the greatest down, and all events of the network take whole starts and ends in a room about them, by what an operator
 says of two events (`temporal.holds`) and by no bound or path. The spans are so small that a finite reach stays in the room; one that
@@ -33,6 +33,7 @@ TYPES = {
     "Lasting": TypeInfo("Lasting", True, {"len": "Int"}, None, "len", None),
     "Expiring": TypeInfo("Expiring", True, {}, None, None, 2),
     "Fact": TypeInfo("Fact", False, {}, None, None, None),
+    "Reference": TypeInfo("Reference", False, {}, None, None, None, True),
 }
 LATENESSES = {"DEFAULT": 0, "late": 3}
 
@@ -53,7 +54,7 @@ def random_rule(rng: Random, name: str) -> Rule:
     conditions: list[Condition] = []
     bound: list[str] = []
     for k in range(count):
-        kind = rng.choices(["Point", "Lasting" if lasting else "Point", "Expiring", "Fact"], [6, 6, 2, 0.1])[0]
+        kind = rng.choices(["Point", "Lasting" if lasting else "Point", "Expiring", "Fact", "Reference"], [6, 6, 2, 0.1, 1])[0]
         event = TYPES[kind].event
         tests = [random_test(rng, rng.choice(bound)) for _ in range(rng.choice([1, 1, 1, 2]))] if event and bound else []
         window = rng.choice([None] * 20 + [TimeWindow(4), LengthWindow(2)]) if event else None

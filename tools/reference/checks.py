@@ -11,6 +11,7 @@ from dataclasses import dataclass
 from typing import Callable, Iterator, Optional
 
 import temporal
+from expand import expand
 from lives import network_of_positives
 from program import (FactMeant, Program, Sight, TypeInfo, ValueMeant, entries_of_item, entry_declarations,
                      known_entries, observed_types, program_of, rules_of, sight_of_actions, sight_of_source, sights,
@@ -352,13 +353,13 @@ def is_wrong_kind(file: File, before: list[Item], body) -> bool:
             or any(action_misfits(file, a, sight_of_actions(body, file.types)) for a in body.actions))
 
 
-# ---- NotAnEvent, BadTimestamp, EventFixed, EventObserved, BadParams, NeverMatches
+# ---- NotAnEvent, BadTimestamp, BadReference, EventFixed, EventObserved, ReferenceFixed, BadParams, NeverMatches
 
 
 def needs_event(file: File, before: list[Item], body) -> bool:
     """A plain type has times or expiry, stands under a window, or takes part in a temporal test."""
     if isinstance(body, TypeDeclaration):
-        return not type_info(body).event and any(not isinstance(a, Role) for a in body.annotations)
+        return not type_info(body).event and any(isinstance(a, (Timestamp, Duration, Expires)) for a in body.annotations)
     if not isinstance(body, Rule):
         return False
     for condition, sight in sights(body, file.types):
@@ -379,6 +380,11 @@ def has_bad_timestamp(file: File, before: list[Item], body) -> bool:
     return any(fields[a.field] != INT for a in body.annotations if isinstance(a, (Timestamp, Duration)))
 
 
+def marks_event(file: File, before: list[Item], body) -> bool:
+    """An event type is one of reference facts."""
+    return isinstance(body, TypeDeclaration) and type_info(body).event and type_info(body).reference
+
+
 def types_of_actions(file: File, rule: Rule, sort) -> list[str]:
     sight = sight_of_actions(rule, file.types)
     return [sight[a.variable].type for a in rule.actions if isinstance(a, sort)]
@@ -391,6 +397,14 @@ def modifies_event(file: File, before: list[Item], body) -> bool:
 def retracts_observed(file: File, before: list[Item], body) -> bool:
     """From stage 6: an action retracts an event of a type that a negative pattern or an accumulate observes."""
     return file.stage >= 6 and isinstance(body, Rule) and any(t in file.observed for t in types_of_actions(file, body, Retract))
+
+
+def fixes_reference(file: File, before: list[Item], body) -> bool:
+    """An action inserts, modifies or retracts a reference fact."""
+    if not isinstance(body, Rule):
+        return False
+    named = [a.type for a in body.actions if isinstance(a, Insert)] + types_of_actions(file, body, (Modify, Retract))
+    return any(file.types[name].reference for name in named)
 
 
 def window_is_bad(source: Source) -> bool:
@@ -427,19 +441,23 @@ CODES: list[tuple[str, Check]] = [
     ("WrongKind", is_wrong_kind),
     ("NotAnEvent", needs_event),
     ("BadTimestamp", has_bad_timestamp),
+    ("BadReference", marks_event),
     ("EventFixed", modifies_event),
     ("EventObserved", retracts_observed),
+    ("ReferenceFixed", fixes_reference),
     ("BadParams", has_bad_params),
     ("NeverMatches", never_matches),
 ]
 
 
-def check(items: list[Item], stage: int) -> Program:
-    """The program of the file, or Refused with the first failing item and its first code."""
+def check(written: list[Item], stage: int) -> Program:
+    """The program of the file, written out, or Refused with the first failing item, as it was read, and its first code."""
+    items, origins = expand(written) if stage >= 20 else (written, list(range(len(written))))
     types = types_by_name(items)
     file = File(items, stage, types, observed_types(rules_of(items), types))
     for k, item in enumerate(items):
         for code, fails in CODES:
             if fails(file, items[:k], item.body):
-                raise Refused(k + 1, item.line, code)
-    return program_of(items, stage)
+                raise Refused(origins[k] + 1, item.line, code)
+    titles = [written[origin].body.name for item, origin in zip(items, origins) if isinstance(item.body, Rule)]
+    return program_of(items, stage, written, titles)

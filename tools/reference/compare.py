@@ -22,8 +22,9 @@ from collections import Counter
 from typing import Optional
 
 from generate import Case, case_of, lives_case_of, write_case
-from meaning import has_forgotten
+from keeping import has_forgotten
 from run import outcome, report_of
+from stages import DEFAULT_STAGE
 
 TOP = os.path.dirname(os.path.dirname(os.path.dirname(os.path.abspath(__file__))))
 PROGRAM = os.path.join(TOP, "crates/replay_main/out/replay_main")
@@ -103,7 +104,7 @@ def summary(counts: Counter) -> str:
 def main() -> int:
     parser = argparse.ArgumentParser(description="Holds the program against the reference on random files and scripts.")
     parser.add_argument("--seeds", type=int, nargs=2, required=True, metavar=("A", "B"), help="from A up to B - 1")
-    parser.add_argument("--stage", type=int, default=14, help="the stage that the program has reached (default 14)")
+    parser.add_argument("--stage", type=int, default=DEFAULT_STAGE, help="the stage that the program has reached (default that of today's program)")
     parser.add_argument("--replay", default=shlex.quote(PROGRAM), help="the program, a command")
     parser.add_argument("--folder", default="reference-failures", help="where the files of failing seeds are left")
     parser.add_argument("--seconds", type=float, default=60.0, help="the time that the program may take for a seed")
@@ -116,7 +117,7 @@ def main() -> int:
     counts: Counter = Counter()
     agreed = differed = 0
     for seed in range(*asked.seeds):
-        case = lives_case_of(seed) if asked.lives else case_of(seed, asked.stage)
+        case = lives_case_of(seed, asked.stage) if asked.lives else case_of(seed, asked.stage)
         found = outcome(case.rules, case.script, asked.stage, case.limit or 100_000)
         wanted = report_of(found)
         count_lines(counts, wanted[0])

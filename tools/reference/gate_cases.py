@@ -23,8 +23,9 @@ from compare import TOP
 from reader import FILE_END
 from replay import BadWords, asked, generated_run, mode_text, usage
 from run import program_or_refusal, run
+from stages import DEFAULT_STAGE
 
-STAGE = 14
+STAGE = DEFAULT_STAGE
 ROOM = 1 << 20
 RULES_PIECE, SCRIPT_PIECE = 4096, 65536
 STATUS = {"shelf": 5, "script": 5, "out": 6}
@@ -127,23 +128,23 @@ def writes(case: Case, text: bytes) -> list[Call]:
 def all_calls(case: Case) -> tuple[list[Call], int]:
     """The calls of the case's run where nothing fails, in their order, and its status."""
     try:
-        mode, limit, name, gen = asked(case.words, STAGE)
+        a = asked(case.words, STAGE)
     except BadWords:
         return writes(case, (usage(STAGE) + "\n").encode()), 2
-    if gen is not None and not any(word.startswith("--limit") for word in case.words):
+    if a.gen is not None and not any(word.startswith("--limit") for word in case.words):
         raise TooSlow
-    if gen is not None:
-        text, status = generated_run(gen, limit, STAGE)
+    if a.gen is not None:
+        text, status = generated_run(a.gen, a.limit, STAGE)
         return writes(case, text.encode()), status
-    if name != "RULES":
+    if a.rules != "RULES":
         return writes(case, b"refused item 0 line 0 Missing\n"), 3
     calls = file_calls(case.rules[:FILE_END + 1])
     program = program_or_refusal(case.rules[:FILE_END + 1], STAGE)
     if isinstance(program, str):
         return calls + writes(case, (program + "\n").encode()), 3
-    if mode != "run":
-        return calls + writes(case, mode_text(program, mode).encode()), 0
-    more, status = run_calls(case, program, limit)
+    if a.mode != "run":
+        return calls + writes(case, mode_text(program, a.mode).encode()), 0
+    more, status = run_calls(case, program, a.limit)
     return calls + more, status
 
 

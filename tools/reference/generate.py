@@ -17,10 +17,12 @@ from typing import Optional
 
 from checks import check
 from plants import planted
+from random_alternatives import with_choices
 from random_lives import lives_case
 from random_rules import FileMaker
 from random_script import ScriptMaker
 from reader import Refused, read_file
+from stages import DEFAULT_STAGE
 from writer import Writer
 
 BUDGET = 150
@@ -39,12 +41,14 @@ def accepted_case(rng: Random, stage: int) -> Case:
     while True:
         maker = FileMaker(rng, stage)
         writer = Writer(rng)
-        rules = writer.text_of([writer.item(b) for b in maker.bodies()]).encode("utf-8")
+        bodies = with_choices(rng, maker.bodies()) if stage >= 20 else maker.bodies()
+        rules = writer.text_of([writer.item(b) for b in bodies]).encode("utf-8")
         try:
-            program = check(read_file(rules), stage)
+            program = check(read_file(rules, stage), stage)
         except Refused as refused:
-            # A network that never matches, or a modification that happens to set a field twice: a file of the other sort.
-            if refused.code in ("Syntax", "LimitPassed", "UnknownType"):
+            # A network that never matches, or a modification that happens to set a field twice: a file of the other sort. A rule with
+            # alternatives may happen to be too large when it is written out.
+            if refused.code in ("Syntax", "UnknownType") or refused.code == "LimitPassed" and stage < 20:
                 raise
             continue
         script = ScriptMaker(rng, program, maker.bounded, BUDGET).script(rng.choice([10, 25, 40, 60]))
@@ -60,9 +64,9 @@ def case_of(seed: int, stage: int) -> Case:
     return accepted_case(rng, stage)
 
 
-def lives_case_of(seed: int) -> Case:
+def lives_case_of(seed: int, stage: int = DEFAULT_STAGE) -> Case:
     """The case of a seed among those of finite lives."""
-    return Case(*lives_case(Random(f"lives/{seed}")), 200)
+    return Case(*lives_case(Random(f"lives/{seed}" if stage < 16 else f"lives/{stage}/{seed}"), stage), 200)
 
 
 # ---- the large run of `--gen N`
@@ -108,7 +112,7 @@ def write_case(case: Case, folder: str) -> None:
 def main() -> None:
     parser = argparse.ArgumentParser(description="Writes the rule file and the script of a seed.")
     parser.add_argument("seed", type=int)
-    parser.add_argument("--stage", type=int, default=14)
+    parser.add_argument("--stage", type=int, default=DEFAULT_STAGE)
     parser.add_argument("--folder", default="case")
     asked = parser.parse_args()
     write_case(case_of(asked.seed, asked.stage), asked.folder)

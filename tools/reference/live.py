@@ -12,9 +12,10 @@ import sys
 from typing import Iterable
 
 from meaning import World
-from program import TODAY, Program
+from program import Program
 from replay import WriteFailed, put, rule_file
 from run import Run, program_or_refusal
+from stages import stage_asked
 
 LIMIT = 100_000
 
@@ -37,7 +38,7 @@ def live(words: list[str]) -> int:
         put("usage: replay RULES\n")
         return 2
     try:
-        program = program_or_refusal(rule_file(words[0]), TODAY)
+        program = program_or_refusal(rule_file(words[0]), stage_asked())
     except FileNotFoundError:
         program = "refused item 0 line 0 Missing"
     except OSError:

@@ -8,7 +8,7 @@ from __future__ import annotations
 
 import temporal
 from program import Program, TypeInfo
-from temporal import A_END, A_START, B_END, B_START, INFINITE, Network
+from temporal import A_END, A_START, B_END, B_START, INFINITE, Edge, Network
 from trees import Condition, LengthWindow, Plain, Rule, Temporal, TimeWindow
 
 NOTHING = None
@@ -28,10 +28,10 @@ def place_of_variable(rule: Rule, variable: str) -> int:
     return next(k for k, c in enumerate(rule.conditions) if isinstance(c, Plain) and c.source.variable == variable)
 
 
-def network(rule: Rule, types: dict[str, TypeInfo], places: set[int]) -> Network:
-    """Two points for each event condition, the edges of the operators among them, and what starts and ends are."""
-    edges = []
-    for k in places:
+def network_edges(rule: Rule, types: dict[str, TypeInfo], places: set[int]) -> list[Edge]:
+    """Over two points of each event condition, the edges of the operators among them, and what starts and ends are."""
+    edges: list[Edge] = []
+    for k in sorted(places):
         info = types[rule.conditions[k].source.type]
         edges += temporal.event_edges((k, "s"), (k, "e"), info.duration is None)
         for part in rule.conditions[k].source.parts:
@@ -40,17 +40,26 @@ def network(rule: Rule, types: dict[str, TypeInfo], places: set[int]) -> Network
                 names = {A_START: (k, "s"), A_END: (k, "e"), B_START: (other, "s"), B_END: (other, "e")}
                 if other in places:
                     edges += [(names[x], names[y], most) for x, y, most in temporal.edges(part.operator, part.parameters)]
-    return Network([(k, point) for k in places for point in "se"], edges)
+    return edges
+
+
+def network(rule: Rule, types: dict[str, TypeInfo], places: set[int]) -> Network:
+    return Network([(k, point) for k in places for point in "se"], network_edges(rule, types, places))
 
 
 def network_of_positives(rule: Rule, types: dict[str, TypeInfo]) -> Network:
     return network(rule, types, set(positive_events(rule, types, len(rule.conditions))))
 
 
+def network_places(rule: Rule, types: dict[str, TypeInfo], i: int, j: int) -> set[int]:
+    """The conditions of the network for i and j: the positive event patterns, for an i that is none those before it, and both."""
+    seen = len(rule.conditions) if isinstance(rule.conditions[i], Plain) else i
+    return set(positive_events(rule, types, seen)) | {i, j}
+
+
 def reach(rule: Rule, types: dict[str, TypeInfo], i: int, j: int):
     """The greatest start of j less the end of i over all solutions; INFINITE, or NOTHING where there is no solution."""
-    seen = len(rule.conditions) if isinstance(rule.conditions[i], Plain) else i
-    solved = network(rule, types, set(positive_events(rule, types, seen)) | {i, j})
+    solved = network(rule, types, network_places(rule, types, i, j))
     return solved.bound((j, "s"), (i, "e")) if solved.solvable else NOTHING
 
 
@@ -63,6 +72,13 @@ def tail(condition: Condition, program: Program):
     return max(program.latenesses[source.entry or "DEFAULT"], window, info.expires or 0)
 
 
+def places_run_over(rule: Rule, types: dict[str, TypeInfo], i: int) -> list[int]:
+    """The conditions whose facts may still meet an event of i: all of them for a positive pattern, else i and those before it.
+    Reference facts are there before any event, and so are none of these."""
+    end = len(rule.conditions) if isinstance(rule.conditions[i], Plain) else i + 1
+    return [j for j in range(end) if not types[rule.conditions[j].source.type].reference]
+
+
 def life_of_pattern(rule: Rule, program: Program, i: int):
     """The life of an event pattern whose type has no explicit expiry."""
     window = rule.conditions[i].source.window
@@ -70,7 +86,7 @@ def life_of_pattern(rule: Rule, program: Program, i: int):
         return window.length
     if isinstance(window, LengthWindow):
         return INFINITE
-    others = range(len(rule.conditions)) if isinstance(rule.conditions[i], Plain) else range(i + 1)
+    others = places_run_over(rule, program.types, i)
     if any(not is_event(rule.conditions[j], program.types) for j in others):
         return INFINITE
     reaches = [(reach(rule, program.types, i, j), tail(rule.conditions[j], program)) for j in others]

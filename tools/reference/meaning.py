@@ -9,13 +9,11 @@ whole-number results of accumulates are this project's own.
 
 from __future__ import annotations
 
-from collections import Counter
 from dataclasses import dataclass, field, replace
 from functools import cached_property
 from typing import Callable, Optional, Union
 
 import temporal
-from lives import life_of_type
 from lookup import NO_FACTS, Group, Groups, Memory, Wanted, equalities
 from program import DEFAULT, Program, salience_of
 from temporal import INFINITE, NEVER
@@ -44,7 +42,7 @@ class Fact:
 @dataclass(frozen=True, eq=False)
 class World:
     """The list of facts in order of insertion, the clock, the last start and the promise of each entry point (0 where none is
-    kept), the next numbers, and the matches that are marked as fired."""
+    kept), the next numbers, the matches that are marked as fired, and whether it has begun: by its first event, or by a line."""
     program: Program
     facts: tuple[Fact, ...] = ()
     clock: int = 0
@@ -53,6 +51,7 @@ class World:
     next_id: int = 1
     next_tag: int = 1
     fired: frozenset = frozenset()
+    begun: bool = False
     memory: Memory = field(default_factory=Memory)
 
     @cached_property
@@ -66,13 +65,16 @@ class World:
         return {place: [f for f in group.facts if is_present(f, self)] if self.program.types[place[0]].expires else list(group.facts)
                 for place, group in self.memory.places.groups.items()}
 
-    def with_fired(self, fired: frozenset) -> "World":
-        """The same with other marks; its matches are the same."""
-        marked = replace(self, fired=fired)
+    def alike(self, **changes) -> "World":
+        """The same with changes on which no match depends."""
+        other = replace(self, **changes)
         for name in ("matches", "streams"):
             if name in self.__dict__:
-                marked.__dict__[name] = self.__dict__[name]
-        return marked
+                other.__dict__[name] = self.__dict__[name]
+        return other
+
+    def with_fired(self, fired: frozenset) -> "World":
+        return self.alike(fired=fired)
 
 
 def floor_of(w: World, entry: str) -> int:
@@ -233,14 +235,23 @@ def fold(function: str, values: list[int]) -> Optional[int]:
     return {"min": min, "max": max, "average": lambda v: sum(v) // len(v)}[function](values)
 
 
-def folded(condition: Folded, passing: list[Fact], row: Row) -> list[Row]:
-    """The row with the result, where there is one and all result tests hold of it."""
-    arguments = [bound_by(condition.source, f)[condition.argument] for f in passing]
-    result = fold(condition.function, arguments)
+def arguments(condition: Folded, passing: list[Fact]) -> list:
+    """What an accumulate takes of the facts that pass."""
+    return [bound_by(condition.source, f)[condition.argument] for f in passing]
+
+
+def with_result(condition: Folded, values: list, row: Row) -> list[Row]:
+    """The row with the result over the arguments, where there is one and all result tests hold of it."""
+    result = fold(condition.function, values)
     if result is None or not all(RELATIONS[rel](result, value_of(o, row.names, None)) for rel, o in condition.tests):
         return []
     names = {} if condition.result is None else {condition.result: result}
     return [Row(row.cells + (result,), {**row.names, **names})]
+
+
+def folded(condition: Folded, passing: list[Fact], row: Row) -> list[Row]:
+    """The row with the result over the facts that pass."""
+    return with_result(condition, arguments(condition, passing), row)
 
 
 def longer_rows(condition: Condition, passing: list[Fact], row: Row) -> list[Row]:
@@ -388,7 +399,12 @@ class Promise:
     start: int
 
 
-Step = Union[Insertion, Modification, Retraction, ClockMove, Promise]
+@dataclass(frozen=True)
+class Begin:
+    """No reference fact comes any more."""
+
+
+Step = Union[Insertion, Modification, Retraction, ClockMove, Promise, Begin]
 
 
 def start_and_duration(step: Insertion, w: World) -> tuple[int, int]:
@@ -439,6 +455,8 @@ def step_fault(step: Step, w: World) -> Optional[str]:
         return clock_fault(step, w)
     if isinstance(step, Promise):
         return promise_fault(step, w)
+    if isinstance(step, Begin):
+        return None
     return absence_fault(step, w)
 
 
@@ -455,17 +473,20 @@ def changed(step: Step, w: World) -> World:
         return replace(w, facts=tuple(f for f in w.facts if f is not gone))
     if isinstance(step, ClockMove):
         return replace(w, clock=step.to)
+    if isinstance(step, Begin):
+        return replace(w, begun=True)
     return replace(w, promises={**w.promises, step.entry: step.start})
 
 
 def with_inserted(step: Insertion, w: World) -> World:
-    """The next id and the next tag; an event's start becomes the last start of its entry point."""
-    start, end, last_starts = 0, 0, w.last_starts
-    if w.program.types[step.type].event:
+    """The next id and the next tag; an event's start becomes the last start of its entry point, and the world has begun."""
+    start, end, last_starts, event = 0, 0, w.last_starts, w.program.types[step.type].event
+    if event:
         start, duration = start_and_duration(step, w)
         end, last_starts = start + duration, {**w.last_starts, step.entry: start}
     new = Fact(w.next_id, w.next_tag, step.type, step.entry, step.values, start, end)
-    return replace(w, facts=w.facts + (new,), last_starts=last_starts, next_id=w.next_id + 1, next_tag=w.next_tag + 1)
+    return replace(w, facts=w.facts + (new,), last_starts=last_starts, next_id=w.next_id + 1, next_tag=w.next_tag + 1,
+                   begun=w.begun or event)
 
 
 def after_step(step: Step, w: World) -> World:
@@ -518,7 +539,7 @@ def planned(action: Action, row: Row, w: World) -> Optional[Step]:
 
 def fire_line(m: Match, w: World) -> str:
     cells = "".join(f" #{c.id}" if isinstance(c, Fact) else f" ={c}" for c in m.row.cells)
-    return f"fire {quoted(w.program.rules[m.rule].name)}{cells}"
+    return f"fire {quoted(w.program.title(m.rule))}{cells}"
 
 
 def quoted(text: str) -> str:
@@ -544,31 +565,3 @@ def firing(m: Match, w: World, line: int) -> tuple[list[str], World]:
         else:
             lines.append(f"fault {line} {fault}")
     return lines, w
-
-
-# ---- what is kept
-
-
-def is_kept(f: Fact, w: World, lives: dict[str, Union[int, float]], named: set[int]) -> bool:
-    """Present facts of types without a finite life; events within their life; events that a pending match names."""
-    if f.id in named and w.program.types[f.type].event:
-        return True
-    life = lives.get(f.type, INFINITE)
-    return is_present(f, w) if life == INFINITE else w.clock <= f.end + life
-
-
-def kept_events(w: World) -> list[Fact]:
-    lives = {t.name: life_of_type(w.program, t.name) for t in w.program.types.values() if t.event and t.expires is None}
-    named = {f.id for m in pending(w) for f in m.row.facts}
-    return [f for f in w.facts if w.program.types[f.type].event and is_kept(f, w, lives, named)]
-
-
-def held_lines(w: World) -> list[str]:
-    """For each event type in file order how many of its events are kept."""
-    kept = Counter(f.type for f in kept_events(w))
-    return [f"held {t.name} {kept[t.name]}" for t in w.program.types.values() if t.event]
-
-
-def has_forgotten(w: World) -> bool:
-    """Whether some present event is not kept."""
-    return sum(w.program.types[f.type].event and is_present(f, w) for f in w.facts) > len(kept_events(w))

@@ -10,11 +10,12 @@ import dataclasses
 from random import Random
 from typing import Any, Optional
 
+from random_alternatives import with_choices, with_refused_choices
 from random_rules import FileMaker
 from temporal import OPERATORS
 from trees import (AnyOf, Binary, Bind, Body, Compare, Condition, Duration, EntryDeclaration, Existing, Expires,
-                   FieldOf, Folded, Insert, LengthWindow, Literal, Modify, Negate, Negated, OneOf, Own, Plain, Retract, Role, Rule,
-                   Salience, Source, Temporal, TimeWindow, Timestamp, TypeDeclaration, Variable)
+                   FieldOf, Folded, Insert, LengthWindow, Literal, Modify, Negate, Negated, OneOf, Own, Plain, Reference, Retract,
+                   Role, Rule, Salience, Source, Temporal, TimeWindow, Timestamp, TypeDeclaration, Variable)
 from writer import Writer
 
 # ---- bytes: lexical faults
@@ -162,14 +163,15 @@ def doubled(rng: Random, parts: tuple) -> tuple:
     return parts + (rng.choice(parts),) if parts else parts
 
 
-def change_type(rng: Random, t: TypeDeclaration) -> TypeDeclaration:
+def change_type(rng: Random, t: TypeDeclaration, stage: int) -> TypeDeclaration:
     many = tuple((f"f{k}", "long") for k in range(33 - len(t.fields)))
     return rng.choice([
         lambda: dataclasses.replace(t, fields=doubled(rng, t.fields)),
         lambda: dataclasses.replace(t, annotations=doubled(rng, t.annotations)),
         lambda: dataclasses.replace(t, fields=t.fields + many[:rng.choice([len(many), len(many) - 1])]),
         lambda: dataclasses.replace(t, annotations=t.annotations + (rng.choice(
-            [Timestamp("n"), Duration("n"), Expires(5), Expires(0), Role(False), Role(True), Timestamp("s")]),)),
+            [Timestamp("n"), Duration("n"), Expires(5), Expires(0), Role(False), Role(True), Timestamp("s")]
+            + [Reference()] * (stage >= 17)),)),
         lambda: dataclasses.replace(t, annotations=tuple(a for a in t.annotations if not isinstance(a, Role)))])()
 
 
@@ -223,11 +225,11 @@ def change_rule(rng: Random, r: Rule) -> Rule:
             for _ in range(rng.choice([0, 1, 32, 33])))))])()
 
 
-def change_body(rng: Random, body: Body) -> Body:
+def change_body(rng: Random, body: Body, stage: int) -> Body:
     if rng.random() < 0.5:
         return change_leaf(rng, body)
     if isinstance(body, TypeDeclaration):
-        return change_type(rng, body)
+        return change_type(rng, body, stage)
     return change_rule(rng, body) if isinstance(body, Rule) else change_leaf(rng, body)
 
 
@@ -275,7 +277,7 @@ def with_rule(rng: Random, bodies: list[Body], conditions: list[Condition], acti
     return bodies[:k] + more + bodies[k:]
 
 
-def meant_for(rng: Random, code: str, bodies: list[Body]) -> list[Body]:
+def meant_for(rng: Random, code: str, bodies: list[Body], stage: int) -> list[Body]:
     """A change that gives this code, where the file has a place for it."""
     event, plain = pattern("Ev", "v"), pattern("Pl", "w")
     if code == "UnknownType":
@@ -308,6 +310,11 @@ def meant_for(rng: Random, code: str, bodies: list[Body]) -> list[Body]:
                                          (("s", rng.choice(["String", "boolean"])),))]
     if code == "EventFixed":
         return with_rule(rng, bodies, [plain, event], [Retract("w"), Modify("v", (("n", Literal(1)),))])
+    if code == "BadReference":
+        return bodies + [TypeDeclaration("Bad", tuple(rng.sample([Role(True), Reference()], 2)), (("n", "long"),))]
+    if code == "ReferenceFixed":
+        action = rng.choice([Insert("Rf", (Literal(1),)), Modify("r", (("n", Literal(1)),)), Retract("r")])
+        return with_rule(rng, [TypeDeclaration("Rf", (Reference(),), (("n", "long"),))] + bodies, [event, pattern("Rf", "r")], [action])
     if code == "EventObserved":
         observer = rng.choice([Negated(Source(None, "Ev", (), None, None)), Existing(Source(None, "Ev", (), None, None)),
                                Folded(None, Source("q", "Ev", (), None, None), "count", "q", ()),
@@ -330,14 +337,21 @@ def meant_for(rng: Random, code: str, bodies: list[Body]) -> list[Body]:
             lambda: with_rule(rng, bodies, [pattern("Pl", "w", Bind("w", "n"))], []),
             lambda: with_rule(rng, bodies, [plain], [Modify("w", (("n", Literal(1)), ("s", Literal("a")), ("n", Literal(2))))]),
             lambda: [EntryDeclaration("DEFAULT", 5)] + bodies])()
-    return with_trees(rng, bodies)
+    return with_trees(rng, bodies, stage)
 
 
 MEANT = ["UnknownType", "UnknownField", "UnknownVariable", "WrongKind", "WrongKind", "NotAnEvent", "BadTimestamp", "EventFixed",
          "EventObserved", "BadParams", "NeverMatches", "TwiceDeclared"]
 
+# Those that are there from a later stage on.
+MEANT_FROM = {17: ["BadReference", "ReferenceFixed"]}
 
-def with_trees(rng: Random, bodies: list[Body]) -> list[Body]:
+
+def meant_codes(stage: int) -> list[str]:
+    return MEANT + [code for first, codes in MEANT_FROM.items() if stage >= first for code in codes * 2]
+
+
+def with_trees(rng: Random, bodies: list[Body], stage: int) -> list[Body]:
     """One or two changes to the items."""
     bodies = list(bodies)
     for _ in range(rng.choice([1, 1, 1, 2])):
@@ -345,7 +359,7 @@ def with_trees(rng: Random, bodies: list[Body]) -> list[Body]:
             bodies = change_file(rng, bodies) or bodies
         else:
             k = rng.randrange(len(bodies))
-            bodies[k] = change_body(rng, bodies[k])
+            bodies[k] = change_body(rng, bodies[k], stage)
     return bodies
 
 
@@ -358,9 +372,11 @@ def planted(rng: Random, stage: int) -> bytes:
     bodies, writer = maker.bodies(), Writer(rng)
     draw = rng.random()
     if draw < 0.35:
-        bodies = meant_for(rng, rng.choice(MEANT), bodies)
+        bodies = meant_for(rng, rng.choice(meant_codes(stage)), bodies, stage)
     elif draw < 0.65:
-        bodies = with_trees(rng, bodies)
+        bodies = with_trees(rng, bodies, stage)
+    if stage >= 20:
+        bodies = with_refused_choices(rng, bodies) if rng.random() < 0.4 else with_choices(rng, bodies)
     items = [writer.item(b) for b in bodies]
     if 0.65 <= draw < 0.77:
         items = with_tokens(rng, items)

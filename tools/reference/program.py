@@ -5,15 +5,16 @@ from __future__ import annotations
 from dataclasses import dataclass
 from typing import Iterator, Optional, Union
 
+from stages import DEFAULT_STAGE
 from trees import (BOOL, INT, TEXT, Bind, Condition, Duration, EntryDeclaration, Expires, Folded, Item, LengthWindow, Plain,
-                   Role, Rule, Salience, Source, Timestamp, TypeDeclaration)
+                   Reference, Role, Rule, Salience, Source, Timestamp, TypeDeclaration)
 
 KINDS = {"int": INT, "long": INT, "Integer": INT, "Long": INT, "boolean": BOOL, "Boolean": BOOL, "String": TEXT}
 
 DEFAULT = "DEFAULT"
 
 # The stage of the project that the program has reached (tools/reference/README.md).
-TODAY = 14
+TODAY = DEFAULT_STAGE
 
 
 def type_declarations(items: list[Item]) -> list[TypeDeclaration]:
@@ -37,6 +38,7 @@ class TypeInfo:
     timestamp: Optional[str]
     duration: Optional[str]
     expires: Optional[int]
+    reference: bool = False
 
 
 def type_info(t: TypeDeclaration) -> TypeInfo:
@@ -47,7 +49,8 @@ def type_info(t: TypeDeclaration) -> TypeInfo:
     for field, word in t.fields:
         fields.setdefault(field, KINDS.get(word))
     return TypeInfo(t.name, bool(first(Role, lambda a: a.event)), fields, first(Timestamp, lambda a: a.field),
-                    first(Duration, lambda a: a.field), first(Expires, lambda a: a.offset))
+                    first(Duration, lambda a: a.field), first(Expires, lambda a: a.offset),
+                    any(isinstance(a, Reference) for a in t.annotations))
 
 
 def types_by_name(items: list[Item]) -> dict[str, TypeInfo]:
@@ -151,20 +154,31 @@ def sight_of_actions(rule: Rule, types: dict[str, TypeInfo]) -> Sight:
 # ---- the program of an accepted file
 
 
-@dataclass(frozen=True)
+@dataclass(frozen=True, eq=False)
 class Program:
-    """An accepted rule file; `stage` is the stage of the project whose meaning is taken."""
+    """An accepted rule file; `stage` is the stage of the project whose meaning is taken, `written` are the items as they were read, `titles` the names
+    that the rules have there."""
     types: dict[str, TypeInfo]
     latenesses: dict[str, int]
     rules: list[Rule]
     observed: set[str]
     stage: int
+    written: tuple[Item, ...] = ()
+    titles: tuple[str, ...] = ()
+
+    def title(self, rule: int) -> str:
+        """The name by which a rule is printed: that of the rule as it was read, where it is written out."""
+        return self.titles[rule] if self.titles else self.rules[rule].name
+
+    @property
+    def has_references(self) -> bool:
+        return any(t.reference for t in self.types.values())
 
 
 def salience_of(rule: Rule) -> int:
     return next((a.value for a in rule.attributes if isinstance(a, Salience)), 0)
 
 
-def program_of(items: list[Item], stage: int) -> Program:
+def program_of(items: list[Item], stage: int, written: list[Item], titles: list[str]) -> Program:
     types, rules = types_by_name(items), rules_of(items)
-    return Program(types, latenesses(items), rules, observed_types(rules, types), stage)
+    return Program(types, latenesses(items), rules, observed_types(rules, types), stage, tuple(written), tuple(titles))

@@ -9,7 +9,7 @@ from typing import Optional
 from program import DEFAULT, TypeInfo, type_info
 from trees import (BOOL, INT, TEXT, Action, AnyOf, Binary, Bind, Body, Compare, Comparison, Condition, Dialect, DialectAttribute,
                    Duration, EntryDeclaration, Existing, Expires, Expr, FieldOf, Folded, Import, Insert, LengthWindow, Literal,
-                   Modify, Negate, Negated, OneOf, Operand, Own, Package, Part, Plain, Retract, Role, Rule, Salience, Source,
+                   Modify, Negate, Negated, OneOf, Operand, Own, Package, Part, Plain, Reference, Retract, Role, Rule, Salience, Source,
                    Temporal, TimeWindow, Timestamp, TypeDeclaration, Value, Variable)
 
 KIND_WORDS = {INT: ["long", "int", "Long", "Integer"], BOOL: ["boolean", "Boolean"], TEXT: ["String"]}
@@ -78,8 +78,9 @@ class FileMaker:
                 annotations.append(Duration("len" if self.chance(0.9) else COUNTER))
             if self.stage >= 6 and self.chance(0.25):
                 annotations.append(Expires(rng.choice(SPANS)))
-        elif self.chance(0.2):
-            annotations.append(Role(False))
+        else:
+            annotations += [Role(False)] if self.chance(0.2) else []
+            annotations += [Reference()] if self.stage >= 17 and self.chance(0.4) else []
         rng.shuffle(fields)
         rng.shuffle(annotations)
         return TypeDeclaration(name, tuple(annotations), tuple(fields))
@@ -203,13 +204,14 @@ class FileMaker:
     def insertion(self, rule_types: list[str], seen: Seen) -> Optional[Insert]:
         places = {t.name: k for k, t in enumerate(self.types)}
         after = max((places[name] for name in rule_types), default=-1) if self.bounded else -1
-        if not self.types[after + 1:]:
+        types = [t for t in self.types[after + 1:] if not t.reference]
+        if not types:
             return None
-        info = self.rng.choice(self.types[after + 1:])
+        info = self.rng.choice(types)
         return Insert(info.name, tuple(self.expr(kind, seen) for kind in info.fields.values()))
 
     def modification(self, seen: Seen, guarded: set[str]) -> Optional[Modify]:
-        facts = [v for v, t in seen.facts.items() if not t.event and (not self.bounded or v in guarded)]
+        facts = [v for v, t in seen.facts.items() if not t.event and not t.reference and (not self.bounded or v in guarded)]
         if not facts:
             return None
         variable = self.rng.choice(facts)
@@ -221,7 +223,7 @@ class FileMaker:
         return Modify(variable, tuple(sets))
 
     def retraction(self, seen: Seen, observed: set[str]) -> Optional[Retract]:
-        facts = [v for v, t in seen.facts.items() if t.name not in observed]
+        facts = [v for v, t in seen.facts.items() if t.name not in observed and not t.reference]
         return Retract(self.rng.choice(facts)) if facts else None
 
     def guarded_variables(self, conditions: list[Condition]) -> set[str]:

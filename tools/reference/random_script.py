@@ -117,6 +117,8 @@ class ScriptMaker:
     def fact(self, plain: bool) -> Optional[Fact]:
         """A fact that is there; mostly a plain one where such a one is wanted, and then often one that took part in a firing."""
         facts = [f for f in present(self.world) if plain != self.program.types[f.type].event]
+        if self.program.has_references and self.chance(0.8):
+            facts = [f for f in facts if not self.program.types[f.type].reference]
         fired = {tag for _, tags, _ in self.world.fired for tag in tags}
         marked = [f for f in facts if f.tag in fired]
         if marked and self.chance(0.6):
@@ -126,8 +128,13 @@ class ScriptMaker:
     def entry_members(self, entry: str) -> list[tuple[str, object]]:
         return [] if entry == "DEFAULT" and self.chance(0.8) else [("entry", entry)]
 
+    def type_to_insert(self) -> TypeInfo:
+        """Mostly one of reference facts while these are taken, and then mostly another one."""
+        wanted = [t for t in self.types if t.reference != self.world.begun]
+        return self.rng.choice(wanted if self.program.has_references and wanted and self.chance(0.8) else self.types)
+
     def insert_line(self) -> list[tuple[str, object]]:
-        info, entry = self.rng.choice(self.types), self.rng.choice(self.entries + ["DEFAULT"] * 2)
+        info, entry = self.type_to_insert(), self.rng.choice(self.entries + ["DEFAULT"] * 2)
         return [("do", "insert"), ("type", info.name)] + self.entry_members(entry) + [("fields", self.values(info, entry))]
 
     def modify_line(self) -> Optional[list[tuple[str, object]]]:
@@ -151,16 +158,20 @@ class ScriptMaker:
         return [("do", "fire")] + most  # type: ignore[operator]
 
     def promise_line(self) -> list[tuple[str, object]]:
-        entry = self.rng.choice(self.entries)
-        start = self.rng.choice([floor_of(self.world, entry), self.world.clock, self.world.clock + self.rng.choice(SPANS)])
-        return [("do", "promise")] + self.entry_members(entry) + [("from", start)]
+        """Mostly where something changes: at the floor, the clock, or the last start for which a negative pattern may wait."""
+        rng, entry, w = self.rng, self.rng.choice(self.entries), self.world
+        times = [t for f in present(w) if w.program.types[f.type].event for t in (f.start, f.end)] or [w.clock]
+        start = rng.choice([floor_of(w, entry), w.clock, w.clock + rng.choice(SPANS), rng.choice(times) + rng.choice([0, 1] + SPANS),
+                            rng.choice(times) + rng.choice(SPANS) + 1])
+        return [("do", "promise")] + self.entry_members(entry) + [("from", min(max(start, w.promises.get(entry, 0)), w.clock + 20))]
 
     def good_line(self) -> list[tuple[str, object]]:
         stage = self.program.stage
         sorts = [self.insert_line] * 11 + [self.modify_line] * 3 + [self.retract_line] * 2 + [self.clock_line] * 3
         sorts += [self.fire_line] * 5
         sorts += [lambda: [("do", "held")]] * 2 if stage >= 14 else []
-        sorts += [self.promise_line] if stage >= 16 else []
+        sorts += [self.promise_line] * 2 if stage >= 16 else []
+        sorts += [lambda: [("do", "begin")]] if stage >= 17 else []
         return self.rng.choice(sorts)() or self.insert_line()
 
     # ---- faulty lines
@@ -210,8 +221,10 @@ class ScriptMaker:
             lambda: [("do", "advance"), ("by", rng.choice([2**53 + 1 - w.clock, 2**63 - 1]))],
         ]
         if self.program.stage >= 16:
-            sorts += [lambda: [("do", "promise"), ("from", rng.choice([-1, 2**53 + 1, w.promises.get("DEFAULT", 0) - 1]))],
-                      lambda: [("do", "promise"), ("entry", rng.choice(["", "nowhere"])), ("from", 1)]]
+            promise: list[tuple[str, object]] = [("do", "promise")]
+            sorts += [lambda: promise + self.entry_members(entry) + [("from", rng.choice([-1, w.promises.get(entry, 0) - 1, -(2**63)]))],
+                      lambda: promise + self.entry_members(entry) + [("from", rng.choice([2**53 + 1, 2**63 - 1]))],
+                      lambda: promise + [("entry", rng.choice(["", "nowhere"])), ("from", rng.choice([1, -1]))]]
         return rng.choice(sorts)() or None  # type: ignore[operator]
 
     def spoilt(self, members: list[tuple[str, object]]) -> list[tuple[str, object]]:
@@ -226,7 +239,7 @@ class ScriptMaker:
             elif what == 1:
                 members[k] = (name, rng.choice(ODD_VALUES))
             elif what == 2:
-                members.append((rng.choice(["do", "type", "id", "fields", "by", "ms", "max", "x", "entry"]), rng.choice(ODD_VALUES)))
+                members.append((rng.choice(["do", "type", "id", "fields", "by", "ms", "max", "x", "entry"] + ["from"] * (self.program.stage >= 16)), rng.choice(ODD_VALUES)))
             elif what == 3:
                 members = [(n, [(m, v) for m, v in pairs if self.chance(0.6)] if isinstance(pairs, list) else pairs)
                            for n, pairs in members]

@@ -10,18 +10,21 @@ from __future__ import annotations
 from typing import Callable, Optional, TypeVar
 
 import temporal
+from stages import DEFAULT_STAGE
 from tokens import LexicalFault, Token, line_of, tokens_of
-from trees import (Action, AnyOf, Attribute, Annotation, Binary, Bind, Body, Comparison, Compare, Condition, Dialect,
+from trees import (Action, Alternatives, AnyOf, Attribute, Annotation, Binary, Bind, Body, Comparison, Compare, Condition, Dialect,
                    DialectAttribute, Duration, EntryDeclaration, Existing, Expires, Expr, FieldOf, Folded, Import, Insert,
                    Item, LengthWindow, Literal, Modify, Negate, Negated, OneOf, Operand, Own, Package, Part, Plain, Retract,
-                   Role, Rule, Salience, Source, Temporal, TimeWindow, Timestamp, TypeDeclaration, Variable, Window)
+                   Reference, Role, Rule, Salience, Source, Temporal, TimeWindow, Timestamp, TypeDeclaration, Variable, Window)
 
 FILE_END = 1_048_576
 TREE_HEIGHT = 32
 PARENTHESES = 32
+NESTED_ALTERNATIVES = 16
 
 RESERVED = set("package import dialect declare rule when then end salience not exists accumulate from over in this new insert "
                "modify retract true false Number".split())
+RESERVED_LATER = {20: {"or", "extends"}}
 FIRST_WORDS = {"package", "import", "dialect", "declare", "rule"}
 RELATIONS = {"==", "!=", "<", "<=", ">", ">="}
 FUNCTIONS = {"count", "sum", "min", "max", "average"}
@@ -41,16 +44,16 @@ class OutsideGrammar(Exception):
     """The tokens of an item are none of the grammar."""
 
 
-def is_ident(word: str) -> bool:
+def is_ident(word: str, stage: int = DEFAULT_STAGE) -> bool:
     """A word that is not reserved (the word's form is the lexer's)."""
-    return word not in RESERVED
+    return word not in RESERVED and not any(stage >= first and word in words for first, words in RESERVED_LATER.items())
 
 
 class Reader:
-    """Reads the tokens of one item from left to right."""
+    """Reads the tokens of one item from left to right, by the grammar of a stage."""
 
-    def __init__(self, tokens: list[Token]):
-        self.tokens = tokens
+    def __init__(self, tokens: list[Token], stage: int = DEFAULT_STAGE):
+        self.tokens, self.stage = tokens, stage
         self.place = 0
 
     # ---- single tokens
@@ -96,7 +99,7 @@ class Reader:
 
     def at_ident(self, ahead: int = 0) -> bool:
         token = self.peek(ahead)
-        return token is not None and token.kind == "word" and is_ident(str(token.value))
+        return token is not None and token.kind == "word" and is_ident(str(token.value), self.stage)
 
     def ident(self) -> str:
         if not self.at_ident():
@@ -158,16 +161,18 @@ class Reader:
         return Import(tuple(path), star)
 
     def declaration(self) -> TypeDeclaration:
-        """'declare' Ident meta* field* 'end'"""
-        name = self.ident()
-        annotations = []
+        """'declare' Ident ['extends' Ident] meta* field* 'end'"""
+        name, parent, annotations = self.ident(), None, []
+        if self.stage >= 20 and self.at_word("extends"):
+            self.word("extends")
+            parent = self.ident()
         while self.skip_mark("@"):
             annotations.append(self.annotation())
         fields = []
         while not self.at_word("end"):
             fields.append(self.field())
         self.word("end")
-        return TypeDeclaration(name, tuple(annotations), tuple(fields))
+        return TypeDeclaration(name, tuple(annotations), tuple(fields), parent)
 
     def field(self) -> tuple[str, str]:
         """Ident ':' Ident"""
@@ -176,8 +181,11 @@ class Reader:
         return name, self.ident()
 
     def annotation(self) -> Annotation:
-        """'@' 'role' '(' ('event' | 'fact') ')' | '@' ('timestamp' | 'duration') '(' Ident ')' | '@' 'expires' '(' span ')'"""
-        word = self.one_word({"role", "timestamp", "duration", "expires"})
+        """'@' 'role' '(' ('event' | 'fact') ')' | '@' ('timestamp' | 'duration') '(' Ident ')' | '@' 'expires' '(' span ')'
+        | '@' 'reference'"""
+        word = self.one_word({"role", "timestamp", "duration", "expires"} | ({"reference"} if self.stage >= 17 else set()))
+        if word == "reference":
+            return Reference()
         self.mark("(")
         if word == "role":
             found: Annotation = Role(self.one_word({"event", "fact"}) == "event")
@@ -242,8 +250,10 @@ class Reader:
 
     # ---- conditions
 
-    def condition(self) -> Condition:
-        """source | ('not' | 'exists') group | folded"""
+    def condition(self, depth: int = 0) -> Condition:
+        """source | ('not' | 'exists') group | folded | alternatives, within so many of these"""
+        if self.stage >= 20 and self.at_mark("("):
+            return self.alternatives(depth + 1)
         if self.at_word("not"):
             self.word("not")
             return Negated(self.group())
@@ -255,6 +265,25 @@ class Reader:
         if self.at_word("Number", 2 if self.at_kind("var") and self.at_mark(":", 1) else 0):
             return self.number_from_accumulate()
         return Plain(self.source())
+
+    def alternatives(self, depth: int) -> Alternatives:
+        """'(' condition+ ('or' condition+)+ ')', at most 16 deep"""
+        if depth > NESTED_ALTERNATIVES:
+            raise OutsideGrammar("alternatives too deep")
+        self.mark("(")
+        choices = [self.choice(depth)]
+        while not choices[1:] or self.at_word("or"):
+            self.word("or")
+            choices.append(self.choice(depth))
+        self.mark(")")
+        return Alternatives(tuple(choices))
+
+    def choice(self, depth: int) -> tuple[Condition, ...]:
+        """condition+"""
+        conditions = [self.condition(depth)]
+        while not self.at_word("or") and not self.at_mark(")"):
+            conditions.append(self.condition(depth))
+        return tuple(conditions)
 
     def group(self) -> Source:
         """'(' source ')' | source"""
@@ -443,7 +472,7 @@ class Reader:
         self.mark("(")
         value = self.expression()
         self.mark(")")
-        return field_of_setter(word), value
+        return field_of_setter(word, self.stage), value
 
     def expression(self) -> Expr:
         """expr, with a tree at most 32 high and parentheses at most 32 deep"""
@@ -496,12 +525,12 @@ class Reader:
         return expr, height + minuses
 
 
-def field_of_setter(word: str) -> str:
+def field_of_setter(word: str, stage: int = DEFAULT_STAGE) -> str:
     """The field that `setPrice` names: what stands behind `set`, its first letter made small; it must be a name itself."""
     if not word.startswith("set") or len(word) == 3:
         raise OutsideGrammar("no setter")
     field = word[3].lower() + word[4:]
-    if field[0] in "0123456789" or not is_ident(field):
+    if field[0] in "0123456789" or not is_ident(field, stage):
         raise OutsideGrammar("no name behind set")
     return field
 
@@ -525,8 +554,8 @@ def items_of_tokens(tokens: list[Token]) -> list[list[Token]]:
     return items
 
 
-def read_file(data: bytes) -> list[Item]:
-    """The items of a rule file, or Refused."""
+def read_file(data: bytes, stage: int = DEFAULT_STAGE) -> list[Item]:
+    """The items of a rule file by the grammar of a stage, or Refused."""
     if len(data) > FILE_END:
         raise Refused(0, 0, "TooLong")
     try:
@@ -537,7 +566,7 @@ def read_file(data: bytes) -> list[Item]:
     for number, part in enumerate(items_of_tokens(tokens), start=1):
         line = line_of(data, part[0].at)
         try:
-            items.append(Item(line, Reader(part).item()))
+            items.append(Item(line, Reader(part, stage).item()))
         except OutsideGrammar:
             raise Refused(number, line, "Syntax") from None
     return items

@@ -12,17 +12,20 @@ from __future__ import annotations
 import os
 import re
 import sys
-from typing import Optional
+from dataclasses import dataclass
+from typing import Optional, Union
 
 import generate
+from certify import proof_lines
 from lives import life_lines
+from meaning import World
 from program import Program
 from reader import FILE_END
-from run import program_or_refusal, report, run
+from resume import IMAGE_END, Refused, resumed, saved
+from run import Run, program_or_refusal, report, run_on
+from stages import FIRST_STAGE, LAST_STAGE, stage_asked
 
 SCRIPT_END = 1 << 30
-FIRST_STAGE, LAST_STAGE = 2, 16
-MODES = ("run", "check", "lives")
 
 
 class BadWords(Exception):
@@ -33,16 +36,31 @@ class WriteFailed(Exception):
     """Standard output takes no more."""
 
 
+@dataclass(frozen=True)
+class Asked:
+    """What the words ask for: the mode, the limit, the name of the rule file, that of an image, the number of a load."""
+    mode: str
+    limit: int
+    rules: Optional[str]
+    image: Optional[str]
+    gen: Optional[int]
+
+
+def modes(stage: int) -> list[str]:
+    return ["run", "check", "lives"] + ["save"] * (stage >= 18) + ["proof"] * (stage >= 19)
+
+
 def usage(stage: int) -> str:
     if stage < 10:
         return "usage: replay RULES"
-    line = "usage: replay [--mode run|check|lives] [--limit N] RULES"
+    resume = " [--resume NAME]" if stage >= 18 else ""
+    line = f"usage: replay [--mode {'|'.join(modes(stage))}] [--limit N]{resume} RULES"
     return line if stage < 13 else line + " | replay [--limit N] --gen N"
 
 
 def options_and_rules(words: list[str], stage: int) -> tuple[dict[str, str], list[str]]:
     """The words by `--name value`, `--name=value` and others, as one simple command reads them."""
-    names = {"mode", "limit"} | ({"gen"} if stage >= 13 else set())
+    names = {"mode", "limit"} | ({"gen"} if stage >= 13 else set()) | ({"resume"} if stage >= 18 else set())
     options: dict[str, str] = {}
     rules: list[str] = []
     rest = list(words)
@@ -72,23 +90,25 @@ def number(text: str, digits: int, low: int, high: int) -> int:
     return int(text)
 
 
-def asked(words: list[str], stage: int) -> tuple[str, int, Optional[str], Optional[int]]:
-    """The mode, the limit, the name of the rule file, and the number of `--gen`."""
+def asked(words: list[str], stage: int) -> Asked:
+    """What the words ask for, or BadWords."""
     if stage < 10:
         if len(words) != 1:
             raise BadWords
-        return "run", 100_000, words[0], None
+        return Asked("run", 100_000, words[0], None, None)
     options, rules = options_and_rules(words, stage)
-    mode = options.get("mode", "run")
+    mode, image = options.get("mode", "run"), options.get("resume")
     limit = number(options.get("limit", "100000"), 7, 1, 1_000_000)
     gen = number(options["gen"], 10, 0, 2_147_483_647) if "gen" in options else None
-    if mode not in MODES or len(rules) > 1 or (gen is None) == (not rules) or (gen is not None and mode != "run"):
+    if mode not in modes(stage) or len(rules) > 1 or (gen is None) == (not rules):
         raise BadWords
-    return mode, limit, rules[0] if rules else None, gen
+    if (gen is not None and (mode != "run" or image is not None)) or (image is not None and mode not in ("run", "save")):
+        raise BadWords
+    return Asked(mode, limit, rules[0] if rules else None, image, gen)
 
 
-def put(text: str) -> None:
-    data = text.encode("utf-8")
+def put(data: Union[bytes, str]) -> None:
+    data = data.encode("utf-8") if isinstance(data, str) else data
     try:
         while data:
             taken = os.write(1, data)
@@ -99,11 +119,27 @@ def put(text: str) -> None:
         raise WriteFailed from None
 
 
+def put_lines(lines: list[str]) -> None:
+    put("".join(line + "\n" for line in lines))
+
+
 def read_all(fd: int, most: int) -> bytes:
     data = bytearray()
     while len(data) < most and (piece := os.read(fd, min(1 << 20, most - len(data)))):
         data += piece
     return bytes(data)
+
+
+def file_bytes(name: str, most: int) -> bytes:
+    fd = os.open(name, os.O_RDONLY)
+    try:
+        return read_all(fd, most)
+    finally:
+        os.close(fd)
+
+
+def rule_file(name: str) -> bytes:
+    return file_bytes(name, FILE_END + 1)
 
 
 def generated_run(n: int, limit: int, stage: int) -> tuple[str, int]:
@@ -116,60 +152,72 @@ def generated_run(n: int, limit: int, stage: int) -> tuple[str, int]:
     return f"gen {n} lines {len(lines)} fires {fires} faults {faults}\n", status
 
 
-def rule_file(name: str) -> bytes:
-    fd = os.open(name, os.O_RDONLY)
+def run_at_start(program: Program, a: Asked) -> Run:
+    """A run before its first line: a new one, or one that goes on from an image."""
+    if a.image is None:
+        return Run(World(program), a.limit, a.limit, [])
     try:
-        return read_all(fd, FILE_END + 1)
-    finally:
-        os.close(fd)
+        data = file_bytes(a.image, IMAGE_END + 1)
+    except FileNotFoundError:
+        raise Refused("Missing") from None
+    return resumed(data, program, a.limit)
+
+
+def scripted(program: Program, a: Asked) -> int:
+    """Runs a script, and prints its lines or the image behind it."""
+    try:
+        state = run_at_start(program, a)
+        script = read_all(0, SCRIPT_END + 1)
+        if len(script) > SCRIPT_END:
+            return 8
+        run_on(state, script)
+        if a.mode == "save" and not state.ended:
+            put(saved(state))
+        else:
+            put_lines(state.lines[-1:] if a.mode == "save" else state.lines)
+        return state.status
+    except Refused as refused:
+        put_lines([f"refused checkpoint {refused}"])
+        return 9
 
 
 def mode_text(program: Program, mode: str) -> str:
-    """What the modes other than `run` print of an accepted rule file."""
+    """What the modes that read no script print of an accepted rule file."""
     if mode == "check":
         return f"accepted {len(program.types)} types {len(program.rules)} rules\n"
-    return "".join(line + "\n" for line in life_lines(program))
+    return "".join(line + "\n" for line in (proof_lines(program) if mode == "proof" else life_lines(program)))
 
 
 def replay(words: list[str], stage: int) -> int:
     """Does all that the program does, and answers the status."""
     try:
-        mode, limit, name, gen = asked(words, stage)
+        a = asked(words, stage)
     except BadWords:
-        put(usage(stage) + "\n")
+        put_lines([usage(stage)])
         return 2
-    if gen is not None:
-        text, status = generated_run(gen, limit, stage)
+    if a.gen is not None:
+        text, status = generated_run(a.gen, a.limit, stage)
         put(text)
         return status
     try:
-        rules = rule_file(name)
-    except FileNotFoundError:
-        put("refused item 0 line 0 Missing\n")
-        return 3
-    except OSError:
-        return 5
-    program = program_or_refusal(rules, stage)
-    if isinstance(program, str):
-        put(program + "\n")
-        return 3
-    if mode != "run":
-        put(mode_text(program, mode))
+        program = program_or_refusal(rule_file(a.rules), stage)
+        if isinstance(program, str):
+            put_lines([program])
+            return 3
+        if a.mode in ("run", "save"):
+            return scripted(program, a)
+        put(mode_text(program, a.mode))
         return 0
-    try:
-        script = read_all(0, SCRIPT_END + 1)
+    except FileNotFoundError:
+        put_lines(["refused item 0 line 0 Missing"])
+        return 3
     except OSError:
         return 5
-    if len(script) > SCRIPT_END:
-        return 8
-    state = run(program, script, limit)
-    put("".join(line + "\n" for line in state.lines))
-    return state.status
 
 
 def main() -> int:
     words = sys.argv[1:]
-    stage = int(os.environ.get("REFERENCE_STAGE", "14"))
+    stage = stage_asked()
     if len(words) >= 2 and words[0] == "--stage":
         stage, words = int(words[1]), words[2:]
     if not FIRST_STAGE <= stage <= LAST_STAGE:

@@ -6,11 +6,12 @@ from dataclasses import dataclass
 from typing import Optional, Union
 
 from checks import check
-from meaning import (ClockMove, Insertion, Modification, Promise, Retraction, Step, World, after_step, absence_fault,
-                     first_pending, firing, held_lines, step_fault, step_lines)
+from keeping import held_lines
+from meaning import (Begin, ClockMove, Insertion, Modification, Promise, Retraction, Step, World, after_step, absence_fault,
+                     first_pending, firing, step_fault, step_lines)
 from program import DEFAULT, Program
 from reader import Refused, read_file
-from script import (LINE_END, AtLine, BadCommand, BadJson, Command, FireLine, HeldLine, InsertLine, ModifyLine,
+from script import (LINE_END, AtLine, BadCommand, BeginLine, BadJson, Command, FireLine, HeldLine, InsertLine, ModifyLine,
                     PromiseLine, RetractLine, command_of, is_blank, lines_of)
 from trees import kind_of_value
 
@@ -34,6 +35,8 @@ def asked_insertion(line: InsertLine, w: World) -> Insertion:
     entry = DEFAULT if line.entry is None else line.entry
     if entry not in w.program.latenesses:
         raise Fault("UnknownEntry")
+    if w.program.types[line.type].reference and w.begun:
+        raise Fault("ReferenceFixed")
     kinds = w.program.types[line.type].fields
     if set(line.fields) != set(kinds):
         raise Fault("BadFields")
@@ -47,6 +50,8 @@ def asked_modification(line: ModifyLine, w: World) -> Modification:
         raise Fault("UnknownType")
     if w.program.types[line.type].event:
         raise Fault("EventFixed")
+    if w.program.types[line.type].reference:
+        raise Fault("ReferenceFixed")
     step = Modification(line.id, line.type, line.fields)
     if fault := absence_fault(step, w):
         raise Fault(fault)
@@ -63,6 +68,8 @@ def asked_retraction(line: RetractLine, w: World) -> Retraction:
         raise Fault("UnknownType")
     if line.type in w.program.observed:
         raise Fault("EventObserved")
+    if w.program.types[line.type].reference:
+        raise Fault("ReferenceFixed")
     return Retraction(line.id, line.type)
 
 
@@ -83,17 +90,23 @@ def asked_step(command: Command, w: World) -> Step:
         return asked_retraction(command, w)
     if isinstance(command, PromiseLine):
         return asked_promise(command, w)
+    if isinstance(command, BeginLine):
+        return Begin()
     return ClockMove(command.ms if isinstance(command, AtLine) else w.clock + command.by)
 
 
 @dataclass
 class Run:
-    """Where a run stands: the world, the firings that are left, what was printed, whether the limit ended it."""
+    """Where a run stands: the world, the firings that are left, what was printed, whether the limit ended it; the lines taken, the
+    firings made, and whether a line before those printed was faulty."""
     world: World
     left: int
     limit: int
     lines: list[str]
     ended: bool = False
+    number: int = 0
+    firings: int = 0
+    faulty: bool = False
 
     def line(self, number: int, line: bytes) -> None:
         """What one line of the script does."""
@@ -135,30 +148,36 @@ class Run:
                 return
             lines, self.world = firing(first, self.world, number)
             self.lines += lines
-            self.left, done = self.left - 1, done + 1
+            self.left, self.firings, done = self.left - 1, self.firings + 1, done + 1
 
+    @property
+    def is_faulty(self) -> bool:
+        return self.faulty or any(line.startswith("fault ") for line in self.lines)
 
     @property
     def status(self) -> int:
-        if self.ended:
-            return 4
-        return 1 if any(line.startswith("fault ") for line in self.lines) else 0
+        return 4 if self.ended else 1 if self.is_faulty else 0
 
 
-def run(program: Program, script: bytes, limit: int) -> Run:
-    """A run over the whole script, or up to the limit of firings."""
-    state = Run(World(program), limit, limit, [])
-    for number, line in enumerate(lines_of(script), start=1):
-        state.line(number, line)
+def run_on(state: Run, script: bytes) -> Run:
+    """The run goes on over the whole script, or up to the limit of firings."""
+    for line in lines_of(script):
+        state.number += 1
+        state.line(state.number, line)
         if state.ended:
             break
     return state
 
 
+def run(program: Program, script: bytes, limit: int) -> Run:
+    """A run over the whole script, or up to the limit of firings."""
+    return run_on(Run(World(program), limit, limit, []), script)
+
+
 def program_or_refusal(rules: bytes, stage: int) -> Union[Program, str]:
     """The program of a rule file, or its line of refusal."""
     try:
-        return check(read_file(rules), stage)
+        return check(read_file(rules, stage), stage)
     except Refused as refused:
         return f"refused item {refused.item} line {refused.line} {refused.code}"
 

@@ -219,6 +219,11 @@ class PromiseLine:
 
 
 @dataclass(frozen=True)
+class BeginLine:
+    pass
+
+
+@dataclass(frozen=True)
 class FireLine:
     most: Optional[int]
 
@@ -228,7 +233,7 @@ class HeldLine:
     pass
 
 
-Command = Union[InsertLine, ModifyLine, RetractLine, AdvanceLine, AtLine, PromiseLine, FireLine, HeldLine]
+Command = Union[InsertLine, ModifyLine, RetractLine, AdvanceLine, AtLine, PromiseLine, BeginLine, FireLine, HeldLine]
 
 
 def is_whole(value, low: int, high: int) -> bool:
@@ -244,7 +249,8 @@ MEMBERS = {"type": lambda v: isinstance(v, str), "entry": lambda v: isinstance(v
 # The word behind `do`, the stage from which it is there, the members that must stand, and those that may.
 FORMS = {"insert": (1, {"type", "fields"}, {"entry"}), "modify": (4, {"type", "id", "fields"}, set()),
          "retract": (4, {"type", "id"}, set()), "advance": (5, {"by"}, set()), "at": (5, {"ms"}, set()),
-         "fire": (1, set(), {"max"}), "held": (14, set(), set()), "promise": (16, {"from"}, {"entry"})}
+         "fire": (1, set(), {"max"}), "held": (14, set(), set()), "promise": (16, {"from"}, {"entry"}),
+         "begin": (17, set(), set())}
 
 
 def command_of(line: bytes, stage: int) -> Command:
@@ -274,6 +280,8 @@ def command_of(line: bytes, stage: int) -> Command:
         return AtLine(members["ms"])
     if word == "promise":
         return PromiseLine(members.get("entry"), members["from"])
+    if word == "begin":
+        return BeginLine()
     return FireLine(members.get("max")) if word == "fire" else HeldLine()
 
 

@@ -35,12 +35,12 @@ def at_most(x: Hashable, y: Hashable, most: int) -> Edge:
 
 def between(low: int, x: Hashable, y: Hashable, high: int) -> list[Edge]:
     """low <= x - y <= high"""
-    return [(x, y, high), (y, x, -low)]
+    return [(y, x, -low), (x, y, high)]
 
 
 def near(x: Hashable, y: Hashable, v: int) -> list[Edge]:
     """|x - y| <= v"""
-    return between(-v, x, y, v)
+    return [(x, y, v), (y, x, v)]
 
 
 def before(x: Hashable, y: Hashable) -> list[Edge]:

@@ -185,7 +185,13 @@ class Folded:
     tests: tuple[tuple[str, Operand], ...]
 
 
-Condition = Union[Plain, Negated, Existing, Folded]
+@dataclass(frozen=True)
+class Alternatives:
+    """`( A() or B() C() )`: the conditions of each choice. It stands in no rule that is written out."""
+    choices: tuple[tuple["Condition", ...], ...]
+
+
+Condition = Union[Plain, Negated, Existing, Folded, Alternatives]
 
 
 # ---- actions
@@ -234,7 +240,12 @@ class Expires:
     offset: int
 
 
-Annotation = Union[Role, Timestamp, Duration, Expires]
+@dataclass(frozen=True)
+class Reference:
+    """`@reference`: the facts of the type are there before any event, and stay as they are."""
+
+
+Annotation = Union[Role, Timestamp, Duration, Expires, Reference]
 
 
 @dataclass(frozen=True)
@@ -268,10 +279,11 @@ class Dialect:
 
 @dataclass(frozen=True)
 class TypeDeclaration:
-    """A type; each field is its name and its kind word."""
+    """A type; each field is its name and its kind word. One that is written out has no parent."""
     name: str
     annotations: tuple[Annotation, ...]
     fields: tuple[tuple[str, str], ...]
+    parent: Optional[str] = None
 
 
 @dataclass(frozen=True)

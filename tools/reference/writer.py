@@ -9,10 +9,11 @@ from __future__ import annotations
 from random import Random
 
 from reader import is_ident
+from stages import LAST_STAGE
 from tokens import WORD, UNITS
-from trees import (Action, Annotation, Attribute, Binary, Bind, Body, Compare, Comparison, Condition, Dialect,
+from trees import (Action, Alternatives, Annotation, Attribute, Binary, Bind, Body, Compare, Comparison, Condition, Dialect,
                    EntryDeclaration, Expires, Expr, FieldOf, Folded, Import, Insert, LengthWindow, Literal, Modify,
-                   Negate, Negated, Operand, Package, Part, Plain, Role, Rule, Salience, Source, Temporal, TimeWindow,
+                   Negate, Negated, Operand, Package, Part, Plain, Reference, Role, Rule, Salience, Source, Temporal, TimeWindow,
                    Timestamp, TypeDeclaration, Variable)
 
 SEPARATORS = [" "] * 12 + ["\n"] * 4 + ["\n  ", "\t", "  ", "\r\n", " /* a */ ", " // b\n", " # c\n"]
@@ -50,7 +51,7 @@ class Writer:
         return quote + "".join(escapes.get(c, c) for c in text) + quote
 
     def name(self, text: str) -> list[str]:
-        ascii_word = text.isascii() and WORD.fullmatch(text.encode()) and is_ident(text)
+        ascii_word = text.isascii() and WORD.fullmatch(text.encode()) and is_ident(text, LAST_STAGE)
         return [text if ascii_word and self.rng.random() < 0.5 else self.quoted(text)]
 
     def span(self, ms: int) -> list[str]:
@@ -115,6 +116,8 @@ class Writer:
         return found + ([] if s.entry is None else ["from", "entry", "-", "point"] + self.name(s.entry))
 
     def condition(self, c: Condition) -> list[str]:
+        if isinstance(c, Alternatives):
+            return ["("] + self.listed([[t for inner in choice for t in self.condition(inner)] for choice in c.choices], "or") + [")"]
         if isinstance(c, Plain):
             return self.source(c.source)
         if isinstance(c, Folded):
@@ -170,6 +173,8 @@ class Writer:
             return ["@", "role", "(", "event" if a.event else "fact", ")"]
         if isinstance(a, Expires):
             return ["@", "expires", "("] + self.span(a.offset) + [")"]
+        if isinstance(a, Reference):
+            return ["@", "reference"]
         return ["@", "timestamp" if isinstance(a, Timestamp) else "duration", "(", a.field, ")"]
 
     def attribute(self, a: Attribute) -> list[str]:
@@ -184,7 +189,7 @@ class Writer:
         if isinstance(b, Dialect):
             return ["dialect", self.quoted(b.text)] + self.maybe(";")
         if isinstance(b, TypeDeclaration):
-            return (["declare", b.name] + [t for a in b.annotations for t in self.annotation(a)]
+            return (["declare", b.name] + ([] if b.parent is None else ["extends", b.parent]) + [t for a in b.annotations for t in self.annotation(a)]
                     + [t for name, word in b.fields for t in (name, ":", word)] + ["end"])
         if isinstance(b, EntryDeclaration):
             lateness = [] if b.lateness is None else ["@", "lateness", "("] + self.span(b.lateness) + [")"]

@@ -1,0 +1,15 @@
+"""How far the program is that is meant: the stages that are written here, and the one that is asked for."""
+
+from __future__ import annotations
+
+import os
+
+FIRST_STAGE, LAST_STAGE = 2, 20
+
+# That of today's program.
+DEFAULT_STAGE = 14
+
+
+def stage_asked() -> int:
+    """The stage that the environment names, or that of today's program."""
+    return int(os.environ.get("REFERENCE_STAGE", DEFAULT_STAGE))
