@@ -4,7 +4,7 @@ ghost use Rattle.fx_io.specs.Outside.{Rose, append, AppendsFront, count_after};
 ghost use Rattle.command_words.specs.declared.asking.Asked.TheVariants.{RuleFile};
 ghost use Rattle.command_words.specs.declared.asking.Mode.{Mode as ModeAsked};
 ghost use Rattle.command_words.specs.Asked.{asked_by, IsWithinBounds};
-ghost use Rattle.rule_lives.specs.Keeping.{IsSafeTable};
+ghost use Rattle.rule_lives.specs.Keeping.{AreLives, IsSafeTable};
 ghost use Rattle.rule_world.specs.Programs.{IsRunnable};
 ghost use Rattle.replay.specs.Calls.{ShelfSeen, seen_of_shelf, seen, wanted_told, RunOf};
 ghost use Rattle.replay.specs.Notices.{usage};
@@ -43,6 +43,7 @@ fn run_with_lives<E: Engine, S: Source, K: Sink>(
     out: &mut K,
 ) -> u8
     requires runnable { IsRunnable program }
+    requires lives { AreLives program lives }
     requires table { IsSafeTable program lives }
     requires low { limit ≤ 1000000 }
     ensures { (name : List ℕ) (first last : ShelfSeen) → RunOf E.gives E.fires E.counts (Some (RuleFile name Mode.Run limit)) (Some (runs limit program))
