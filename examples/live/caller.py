@@ -37,7 +37,10 @@ class Engine:
     """A running program. Lines are sent one by one, and each answer is read up to a line that is known to come."""
 
     def __init__(self, program, rules):
-        self.process = subprocess.Popen([program, rules], stdin=subprocess.PIPE, stdout=subprocess.PIPE, encoding="utf-8")
+        try:
+            self.process = subprocess.Popen([program, rules], stdin=subprocess.PIPE, stdout=subprocess.PIPE, encoding="utf-8")
+        except OSError as error:
+            sys.exit(f"the program {program} does not start ({error.strerror}): build it as README.md says, or take tools/reference/live.py")
         self.sent = 0
 
     def send(self, command):
@@ -125,9 +128,13 @@ class Desk:
         self.fire()
 
     def take(self, row):
-        """A row has arrived."""
-        self.until(milliseconds(row["arrived"]))
-        fields = withdrawal(row)
+        """A row has arrived. One that lacks a column, or has something else in it, is shown and left out."""
+        try:
+            arrived, fields = milliseconds(row["arrived"]), withdrawal(row)
+        except (AttributeError, KeyError, TypeError, ValueError):
+            not_taken(f"a row of other columns {json.dumps(row)}")
+            return
+        self.until(arrived)
         heapq.heappush(self.held, (fields["at"], next(self.order), fields))
 
     def fire(self):

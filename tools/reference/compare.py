@@ -27,7 +27,7 @@ from generate import Case, case_of, lives_case_of, write_case
 from keeping import has_forgotten
 from modes import questions
 from run import outcome, report_of
-from stages import DEFAULT_STAGE
+from stages import TODAY
 
 TOP = os.path.dirname(os.path.dirname(os.path.dirname(os.path.abspath(__file__))))
 PROGRAM = os.path.join(TOP, "crates/replay_main/out/replay_main")
@@ -118,7 +118,7 @@ def summary(counts: Counter) -> str:
 def main() -> int:
     parser = argparse.ArgumentParser(description="Holds the program against the reference on random files and scripts.")
     parser.add_argument("--seeds", type=int, nargs=2, required=True, metavar=("A", "B"), help="from A up to B - 1")
-    parser.add_argument("--stage", type=int, default=DEFAULT_STAGE, help="the stage that the program has reached (default that of today's program)")
+    parser.add_argument("--stage", type=int, default=TODAY, help="the stage that the program has reached (default that of today's program)")
     parser.add_argument("--replay", default=shlex.quote(PROGRAM), help="the program, a command")
     parser.add_argument("--folder", default="reference-failures", help="where the files of failing seeds are left")
     parser.add_argument("--seconds", type=float, default=60.0, help="the time that the program may take for a seed")

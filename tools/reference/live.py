@@ -9,28 +9,21 @@ For callers that are tried before the program is proved (docs/LIVE.md). It is sl
 from __future__ import annotations
 
 import sys
+from typing import Iterable
 
 from meaning import World
-from replay import put, rule_file
+from program import Program
+from replay import WriteFailed, put, rule_file
 from run import Run, program_or_refusal
 from stages import stage_asked
 
 LIMIT = 100_000
 
 
-def main() -> int:
-    if len(sys.argv) != 2:
-        put("usage: replay RULES\n")
-        return 2
-    try:
-        program = program_or_refusal(rule_file(sys.argv[1]), stage_asked())
-    except FileNotFoundError:
-        program = "refused item 0 line 0 Missing"
-    if isinstance(program, str):
-        put(program + "\n")
-        return 3
-    state, faulty = Run(World(program), LIMIT, LIMIT, []), False
-    for number, line in enumerate(sys.stdin.buffer, start=1):
+def answered(program: Program, lines: Iterable[bytes], limit: int = LIMIT) -> int:
+    """Answers each line before the next one is taken; the status of the run."""
+    state, faulty = Run(World(program), limit, limit, []), False
+    for number, line in enumerate(lines, start=1):
         state.line(number, line.removesuffix(b"\n"))
         faulty = faulty or any(it.startswith("fault ") for it in state.lines)
         put("".join(it + "\n" for it in state.lines))
@@ -38,6 +31,31 @@ def main() -> int:
         if state.ended:
             return 4
     return 1 if faulty else 0
+
+
+def live(words: list[str]) -> int:
+    if len(words) != 1:
+        put("usage: replay RULES\n")
+        return 2
+    try:
+        program = program_or_refusal(rule_file(words[0]), stage_asked())
+    except FileNotFoundError:
+        program = "refused item 0 line 0 Missing"
+    except OSError:
+        return 5
+    if isinstance(program, str):
+        put(program + "\n")
+        return 3
+    return answered(program, sys.stdin.buffer)
+
+
+def main() -> int:
+    try:
+        return live(sys.argv[1:])
+    except WriteFailed:
+        return 6
+    except OSError:
+        return 5
 
 
 if __name__ == "__main__":

@@ -45,30 +45,43 @@ class Filter:
         return self.passing
 
 
+class Group:
+    """Facts of one key in the order of their starts, as one entry point takes them in. It only grows."""
+
+    def __init__(self) -> None:
+        self.facts: list = []
+        self.starts: list[int] = []
+
+    def near(self, wanted: Wanted) -> list:
+        """The facts that start where it is wanted."""
+        first = 0 if wanted.low == -INFINITE else bisect_left(self.starts, wanted.low)
+        behind = len(self.starts) if wanted.high == INFINITE else bisect_right(self.starts, wanted.high)
+        return self.facts[first:behind]
+
+
+NO_FACTS = Group()
+
+
 class Groups:
-    """Facts by a key. Where a list begins with the one that is held, only the others are put into their groups."""
+    """Facts by a key. Where a list begins with the one that is held, only the others are put into their groups; else all groups
+    are new ones."""
 
     def __init__(self, key_of: Callable[[Any], Hashable]):
         self.key_of, self.facts = key_of, []
-        self.groups: dict[Hashable, tuple[list, list[int]]] = {}
+        self.groups: dict[Hashable, Group] = {}
 
     def hold(self, facts: Sequence) -> None:
         held = len(self.facts)
         if facts[:held] != self.facts:
             held, self.groups = 0, {}
         for fact in facts[held:]:
-            group, starts = self.groups.setdefault(self.key_of(fact), ([], []))
-            group.append(fact)
-            starts.append(fact.start)
+            key = self.key_of(fact)
+            group = self.groups.get(key)
+            if group is None:
+                group = self.groups[key] = Group()
+            group.facts.append(fact)
+            group.starts.append(fact.start)
         self.facts = facts
-
-    def near(self, wanted: Wanted) -> list:
-        """The facts with the wanted key that start where it is wanted. They are in the order of their starts, as one entry point
-        takes them in."""
-        group, starts = self.groups.get(wanted.values, ([], []))
-        first = 0 if wanted.low == -INFINITE else bisect_left(starts, wanted.low)
-        behind = len(starts) if wanted.high == INFINITE else bisect_right(starts, wanted.high)
-        return group[first:behind]
 
 
 def by_equalities(source: Source) -> Groups:

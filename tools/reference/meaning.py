@@ -14,7 +14,7 @@ from functools import cached_property
 from typing import Callable, Optional, Union
 
 import temporal
-from lookup import Groups, Memory, Wanted, equalities
+from lookup import NO_FACTS, Group, Groups, Memory, Wanted, equalities
 from program import DEFAULT, Program, salience_of
 from temporal import INFINITE, NEVER
 from trees import (AnyOf, Action, Binary, Comparison, Compare, Condition, Existing, Expr, Folded, Insert, Literal, LengthWindow,
@@ -62,9 +62,8 @@ class World:
     def streams(self) -> dict[tuple[str, str], list[Fact]]:
         """The present facts by type and entry point, in order of insertion."""
         self.memory.places.hold(self.facts)
-        groups = {place: facts for place, (facts, _) in self.memory.places.groups.items()}
-        return {place: [f for f in facts if is_present(f, self)] if self.program.types[place[0]].expires else list(facts)
-                for place, facts in groups.items()}
+        return {place: [f for f in group.facts if is_present(f, self)] if self.program.types[place[0]].expires else list(group.facts)
+                for place, group in self.memory.places.groups.items()}
 
     def alike(self, **changes) -> "World":
         """The same with changes on which no match depends."""
@@ -98,9 +97,11 @@ def present(w: World) -> list[Fact]:
 
 @dataclass(eq=False)
 class Taken:
-    """What a row was for a condition: what it asks of facts, which facts were tested, which of them passed, and the rows that
-    came of it. With the same facts the same comes of it."""
+    """What a row was for a condition: what it asks of facts, in which group and of how many it looked, which facts were tested, which
+    of them passed, and the rows that came of it. With the same facts the same comes of it."""
     wanted: Wanted
+    group: Optional[Group] = None
+    count: int = 0
     near: list[Fact] = field(default_factory=list)
     passing: list[Fact] = field(default_factory=list)
     longer: Optional[list["Row"]] = None
@@ -273,9 +274,11 @@ def wanted(source: Source, row: Row, w: World) -> Wanted:
     return Wanted(values, INFINITE, -INFINITE) if bounds is None else Wanted(values, *bounds)
 
 
-def taken_again(condition: Condition, row: Row, near: list[Fact], taken: Taken) -> list[Row]:
-    """The longer rows where other facts are to be tested than before: those that were tested keep their outcome and their rows."""
+def take_again(condition: Condition, row: Row, near: list[Fact], taken: Taken) -> None:
+    """Where other facts are to be tested than before, those that were tested keep their outcome and their rows."""
     source, tested = condition.source, taken.near
+    if taken.longer is not None and near == tested:
+        return
     if taken.longer is not None and near[:len(tested)] == tested:
         passing = taken.passing + [f for f in near[len(tested):] if passes(source, f, row)]
     else:
@@ -286,18 +289,20 @@ def taken_again(condition: Condition, row: Row, near: list[Fact], taken: Taken) 
     else:
         longer = longer_rows(condition, passing, row)
     taken.near, taken.passing, taken.longer = near, passing, longer
-    return longer
 
 
 def extended(condition: Condition, row: Row, among: Groups, w: World) -> list[Row]:
     """What a condition makes of a row, of the candidates."""
-    source = condition.source
     taken = row.taken.get(id(condition))
     if taken is None:
-        taken = row.taken[id(condition)] = Taken(wanted(source, row, w))
-    near = among.near(taken.wanted)
-    longer = taken.longer if near == taken.near and taken.longer is not None else taken_again(condition, row, near, taken)
-    return longer if not longer or not isinstance(condition, Negated) or is_mature(source, row, w) else []
+        taken = row.taken[id(condition)] = Taken(wanted(condition.source, row, w))
+    group = among.groups.get(taken.wanted.values, NO_FACTS)
+    if group is not taken.group or len(group.facts) != taken.count:
+        take_again(condition, row, group.near(taken.wanted), taken)
+        taken.group, taken.count = group, len(group.facts)
+    if taken.longer and isinstance(condition, Negated) and not is_mature(condition.source, row, w):
+        return []
+    return taken.longer
 
 
 def looked_at(rule: Rule, w: World) -> list:

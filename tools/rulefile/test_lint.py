@@ -1,0 +1,119 @@
+"""Warnings: of rule files that have one each, of the examples, and of none that is not so."""
+
+import sys
+import unittest
+from pathlib import Path
+
+sys.path.insert(0, str(Path(__file__).resolve().parent))
+
+from lint import warnings_of  # noqa: E402
+from generate import case_of  # noqa: E402
+from run import program_or_refusal, report  # noqa: E402
+from tokens import line_of  # noqa: E402
+
+EXAMPLES = Path(__file__).resolve().parent.parent.parent / "examples"
+
+TYPES = """declare Draw @role( event ) @timestamp( at ) @expires( 1h ) at : long card : String cents : long end
+declare Call @role( event ) @expires( 1h ) card : String end
+declare Card number : String open : boolean count : long end
+declare Told @role( event ) @expires( 10m ) card : String end
+declare Block card : String end
+declare Long @role( event ) card : String end
+declare entry-point "ATM" @lateness( 2s ) end
+"""
+
+# Rules over these types, and the warnings that they have.
+RULES = [
+    ('rule r when Draw() from entry-point "ATM" then end', []),
+    ('rule r when Draw() from entry-point "AMT" then end', ["undeclared-entry"]),
+    ('rule r when $a : Draw( $c : card ) Draw( card == $c, this after[1ms,9s] $a ) from entry-point "ATM" then end', ["no-from"]),
+    ('rule r when $a : Draw( $c : card ) from entry-point "ATM" not( Draw( card == $c, this before[0s,9s] $a ) from entry-point "ATM" ) then end',
+     ["same-moment"]),
+    ('rule r when $a : Draw( $c : card ) from entry-point "ATM" not( Draw( card == $c, this before[1ms,9s] $a ) from entry-point "ATM" ) then end', []),
+    ('rule r when Draw() over window:time( 60 ) then end', ["bare-number"]),
+    ('rule r when Draw() over window:time( 60ms ) then end', []),
+    ('rule r when $a : Call() Call( this after[1,30] $a ) then end', ["bare-number"]),
+    ('rule r when Call() over window:time( 2h ) then end', ["no-effect"]),
+    ('rule r when Call() over window:time( 59m ) then end', []),
+    ('rule r when Draw() over window:time( 2s ) from entry-point "ATM" then end', ["too-late"]),
+    ('declare Brief @role( event ) @expires( 1s ) end rule r when Brief() from entry-point "ATM" then end', ["too-late"]),
+    ('rule r when Draw() over window:time( 2s1ms ) from entry-point "ATM" then end', []),
+    ('rule r when $a : Call() not( Draw( this after[1s,2s] $a, this before[1s,2s] $a ) from entry-point "ATM" ) then end', ["impossible"]),
+    ('rule r when $a : Card( open == true ) then modify( $a ) { count = 1 } end', ["again"]),
+    ('rule r when $a : Card( open == true ) then modify( $a ) { count = 1, open = false } end', []),
+    ('rule r when $a : Card( count < 9 ) then modify( $a ) { count = $a.count + 1 } end', []),
+    ('rule r when $a : Card( $n : number ) Card( number == $n, count > 3 ) then modify( $a ) { count = 1 } end', ["pairs-itself"]),
+    ('rule r when $a : Card() not( Block() ) then modify( $a ) { count = 1 } insert( new Block( "x" ) ); end', []),
+    ('rule r when Block( card == "x" ) then insert( new Block( "x" ) ); end', ["again"]),
+    ('rule r when Block( card == "x" ) then insert( new Block( "y" ) ); end', []),
+    ('rule r when $b : Block() then retract( $b ); insert( new Block( "y" ) ); end', ["again"]),
+    ('rule r when $l : Long( $c : card ) over window:time( 1m ) not( Told( card == $c ) ) then insert( new Told( $c ) ); end', []),
+    ('rule r when $l : Call( $c : card ) not( Told( card == $c ) ) then insert( new Told( $c ) ); end', []),
+    ('rule r when $a : Draw( $c : card ) from entry-point "ATM" Draw( card == $c, this after[0s,9s] $a ) from entry-point "ATM" then end',
+     ["pairs-itself"]),
+    ('rule r when $a : Draw( $c : card ) from entry-point "ATM" Draw( card == $c, this after[1ms,9s] $a ) from entry-point "ATM" then end', []),
+    ('rule r when $a : Card( $n : number, open == true ) Card( number == $n, open == false ) then end', []),
+    ('rule r when not( Block( $c : card ) ) then end', ["unseen-binding"]),
+    ('rule r when Long( $c : card ) Card( number == $c ) then end', ["for-ever"]),
+    ('rule r when Long( $c : card ) Card( number == $c ) not( Told( card == $c ) ) then insert( new Told( $c ) ); end', ["for-ever", "old-events"]),
+    ('rule r when $l : Long( $c : card ) not( Call( card == $c, this after[0s,9s] $l ) ) not( Told( card == $c ) ) then insert( new Told( $c ) ); end',
+     ["for-ever", "old-events"]),
+    ('rule r when $l : Long( $c : card ) not( Call( card == $c, this after $l ) ) not( Told( card == $c ) ) then insert( new Told( $c ) ); end',
+     ["for-ever"]),
+]
+
+# The lines of the examples that have a warning; each is so, and some are there to be shown.
+OF_EXAMPLES = {
+    "alarm.drl": ["54 for-ever", "55 for-ever", "65 for-ever", "66 for-ever"],
+    "endless.drl": ["8 again"],
+    "fraud.drl": ["43 for-ever", "44 for-ever", "46 for-ever", "56 for-ever", "108 for-ever", "111 for-ever"],
+    "parcels.drl": ["26 for-ever", "27 for-ever", "27 undeclared-entry"],
+    "coming-from/differs.drl": ["16 pairs-itself", "23 undeclared-entry"],
+    "coming-from/esper.drl": ["18 for-ever", "19 for-ever", "26 for-ever", "36 for-ever", "51 for-ever", "52 for-ever", "56 for-ever", "61 for-ever"],
+    "coming-from/flink.drl": ["11 for-ever", "13 for-ever", "16 for-ever", "18 for-ever", "39 for-ever", "49 for-ever"],
+}
+
+
+class Lint(unittest.TestCase):
+    def test_rules(self):
+        for rule, names in RULES:
+            with self.subTest(rule):
+                self.assertEqual(sorted({w.code for w in warnings_of((TYPES + rule).encode())}), names)
+
+    def test_an_entry_point_that_nobody_looks_into(self):
+        rules = b'declare Draw @role( event ) @expires( 1h ) end declare entry-point "ATM" end rule r when Draw() then end'
+        self.assertEqual([w.code for w in warnings_of(rules)], ["unseen-entry"])
+
+    def test_a_retraction_brings_old_events_back(self):
+        block = "rule block when Long( $c : card ) not( Block( card == $c ) ) then insert( new Block( $c ) ); end "
+        free = "rule free when $b : Block() Card( count > 0 ) then retract( $b ); end"
+        self.assertIn("old-events", {w.code for w in warnings_of((TYPES + block + free).encode())})
+        self.assertNotIn("old-events", {w.code for w in warnings_of((TYPES + block).encode())})
+
+    def test_examples(self):
+        for path in sorted(EXAMPLES.glob("**/*.drl")):
+            data, name = path.read_bytes(), str(path.relative_to(EXAMPLES))
+            with self.subTest(name):
+                told = sorted((line_of(data, w.at), w.code) for w in warnings_of(data))
+                self.assertEqual([f"{line} {code}" for line, code in told], OF_EXAMPLES.get(name, []))
+
+    def test_again_is_so(self):
+        """A rule of which it is told that it makes itself pending again runs into the limit."""
+        script = b'{"do":"insert","type":"Card","fields":{"number":"a","open":true,"count":2}}\n' \
+                 b'{"do":"insert","type":"Block","fields":{"card":"x"}}\n{"do":"fire"}\n'
+        for rule, names in RULES:
+            if "Card" in rule or "Block" in rule:
+                output, status = report((TYPES + rule).encode(), script, 14, 50)
+                with self.subTest(rule):
+                    self.assertEqual(status == 4, names == ["again"])
+
+    def test_random_files(self):
+        """Nothing fails; what is kept for ever is what the mode lives calls infinite."""
+        for seed in range(60):
+            data = case_of(seed, 14).rules
+            if not isinstance(program_or_refusal(data, 14), str):
+                self.assertIsInstance(warnings_of(data), list)
+
+
+if __name__ == "__main__":
+    unittest.main()

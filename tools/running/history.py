@@ -1,0 +1,142 @@
+"""A run that is followed line by line, with what became of facts and firings; for short scripts, by the second evaluator."""
+
+from __future__ import annotations
+
+import sys
+from dataclasses import dataclass, field
+from pathlib import Path
+from typing import Optional, Union
+
+TOOLS = Path(__file__).resolve().parent.parent
+sys.path[:0] = [str(TOOLS / "rulefile"), str(TOOLS / "reference")]
+
+from meaning import Fact, Match, World, after_step, fire_line, first_pending, planned, step_fault  # noqa: E402
+from run import Run  # noqa: E402
+from script import BadCommand, BadJson, Command, FireLine, command_of, is_blank, lines_of  # noqa: E402
+from program import Program  # noqa: E402
+from trees import Value  # noqa: E402
+
+LIMIT = 100_000
+
+
+@dataclass
+class Told:
+    """A fact that was inserted at a line, and the line at which it was no longer there."""
+    fact: Fact
+    line: int
+    gone: Optional[int] = None
+
+
+@dataclass
+class History:
+    """The world before and behind each line up to the one that is asked for, of which the last two are kept."""
+    program: Program
+    lines: list[bytes]
+    before: World
+    behind: World
+    answers: list[str] = field(default_factory=list)
+    facts: dict[int, Told] = field(default_factory=dict)
+    fired: dict[tuple, int] = field(default_factory=dict)
+    ended: bool = False
+
+    @property
+    def number(self) -> int:
+        return len(self.lines)
+
+    @property
+    def line(self) -> bytes:
+        return self.lines[-1] if self.lines else b""
+
+    @property
+    def is_fire(self) -> bool:
+        return isinstance(command_or_none(self.line, self.program.stage), FireLine)
+
+    @property
+    def world(self) -> World:
+        """The world that a `fire` line finds, and the one that any other line leaves."""
+        return self.before if self.is_fire else self.behind
+
+
+def command_or_none(line: bytes, stage: int) -> Optional[Command]:
+    try:
+        return None if is_blank(line) else command_of(line, stage)
+    except (BadJson, BadCommand):
+        return None
+
+
+def followed(program: Program, script: bytes, last: Optional[int]) -> History:
+    """The run up to a line, or to the end of the script."""
+    lines = lines_of(script)[:last]
+    run = Run(World(program), LIMIT, LIMIT, [])
+    history = History(program, lines, run.world, run.world)
+    for number, line in enumerate(lines, start=1):
+        history.before, run.lines = run.world, []
+        run.line(number, line)
+        history.behind, history.answers = run.world, run.lines
+        note_facts(history, number)
+        for key in history.behind.fired - history.before.fired:
+            history.fired[key] = number
+        if run.ended:
+            history.lines, history.ended = lines[:number], True
+            break
+    return history
+
+
+def note_facts(history: History, number: int) -> None:
+    """The facts that came and went with a line; of a modified one the newest version."""
+    before, behind = history.before.facts, history.behind.facts
+    if behind[:len(before)] == before:
+        history.facts.update((f.id, Told(f, number)) for f in behind[len(before):])
+        return
+    known = {f.id for f in history.before.facts}
+    there = {f.id for f in history.behind.facts}
+    for f in history.behind.facts:
+        if f.id not in known:
+            history.facts[f.id] = Told(f, number)
+        elif history.facts[f.id].fact is not f:
+            history.facts[f.id].fact = f
+    for gone in known - there:
+        history.facts[gone].gone = number
+
+
+def shown_value(value: Union[Value, Fact]) -> str:
+    if isinstance(value, Fact):
+        return f"#{value.id}"
+    if isinstance(value, bool):
+        return "true" if value else "false"
+    return f'"{value}"' if isinstance(value, str) else str(value)
+
+
+def shown_fact(f: Fact) -> str:
+    """A fact with its values."""
+    values = ", ".join(f"{name} {shown_value(value)}" for name, value in f.values.items())
+    return f"#{f.id} {f.type}" + (f" ( {values} )" if values else "")
+
+
+@dataclass(frozen=True)
+class FaultyAction:
+    """An action that was faulty: its firing, its place in the rule from 1, the world at that moment, and the step that it asked for."""
+    firing: str
+    match: Match
+    place: int
+    code: str
+    world: World
+    step: object
+
+
+def faulty_actions(history: History) -> list[FaultyAction]:
+    """The faulty actions of the firings of a `fire` line, which is done once more, action by action."""
+    w, found = history.before, []
+    for _ in range(sum(answer.startswith("fire ") for answer in history.answers)):
+        m = first_pending(w)
+        if m is None:
+            break
+        steps = [planned(action, m.row, w) for action in w.program.rules[m.rule].actions]
+        w = w.with_fired(w.fired | {m.key})
+        for place, step in enumerate(steps, start=1):
+            code = "Overflow" if step is None else step_fault(step, w)
+            if code:
+                found.append(FaultyAction(fire_line(m, w), m, place, code, w, step))
+            else:
+                w = after_step(step, w)
+    return found

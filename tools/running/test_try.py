@@ -1,0 +1,149 @@
+"""`./try` from the top: who answers, what goes through, what is said of wrong words and files; and cases."""
+
+import contextlib
+import io
+import os
+import shutil
+import subprocess
+import sys
+import tempfile
+import unittest
+from pathlib import Path
+from unittest import mock
+
+sys.path.insert(0, str(Path(__file__).resolve().parent))
+
+import try_rules  # noqa: E402
+
+TOP = Path(__file__).resolve().parent.parent.parent
+os.chdir(TOP)
+
+DEAR, SCRIPT = TOP / "examples" / "dear.drl", TOP / "examples" / "dear.jsonl"
+
+
+@contextlib.contextmanager
+def standard_output(into: io.BufferedRandom):
+    """What is written to the descriptor 1, as the program's lines are, goes to this file."""
+    sys.stdout.flush()
+    kept = os.dup(1)
+    os.dup2(into.fileno(), 1)
+    try:
+        yield
+    finally:
+        sys.stdout.flush()
+        os.dup2(kept, 1)
+        os.close(kept)
+
+
+def tried(*words: object, script: str = "") -> tuple[str, str, int]:
+    """What `./try` prints, what it says, and its status."""
+    said = io.StringIO()
+    with tempfile.TemporaryFile() as lines, tempfile.TemporaryFile() as output, contextlib.redirect_stderr(said):
+        lines.write(script.encode())
+        lines.seek(0)
+        with mock.patch("sys.argv", ["try", *map(str, words)]), mock.patch("sys.stdin", io.TextIOWrapper(lines)), standard_output(output):
+            status = try_rules.main()
+        output.seek(0)
+        return output.read().decode(), said.getvalue(), status
+
+
+class Try(unittest.TestCase):
+    def test_a_short_script(self):
+        output, said, status = tried("--by", "evaluator", DEAR, SCRIPT)
+        self.assertEqual((output, status), ((TOP / "examples" / "dear.out").read_text(), 1))
+        self.assertIn("the second evaluator", said.splitlines()[0])
+
+    def test_standard_input(self):
+        output, _, status = tried("--by", "evaluator", DEAR, script='{"do":"insert","type":"Order","fields":{"amount":60}}\n{"do":"fire"}')
+        self.assertEqual((output, status), ('new #1 Order\nfire "large order" #1\n', 0))
+
+    def test_the_words_of_the_program(self):
+        self.assertEqual(tried("--by=evaluator", "--mode", "check", DEAR)[::2], ("accepted 2 types 3 rules\n", 0))
+        self.assertIn("life Smoke infinite", tried("--by=evaluator", "--mode=lives", "examples/alarm.drl")[0])
+        output, _, status = tried("--by=evaluator", "--limit", "3", "examples/endless.drl", "examples/endless.jsonl")
+        self.assertEqual((output.splitlines()[-1], status), ("limit 3", 4))
+
+    def test_a_refusal(self):
+        with tempfile.TemporaryDirectory() as folder:
+            rules = Path(folder, "rules.drl")
+            rules.write_text("declare Item price : long end\nrule dear when Item( prize > 3 ) then end\n")
+            output, said, status = tried(rules, SCRIPT)
+        self.assertEqual((output, status), ("refused item 2 line 2 UnknownField\n", 3))
+        self.assertIn("rules.drl:2:22: UnknownField: `Item` has no field `prize`", said)
+        self.assertIn("`price`?", said)
+
+    def test_what_is_wrong(self):
+        for words, status, part in (((), 2, "which rule file?"), ((".",), 5, "a directory"), (("examples/daer.drl",), 3, "examples/dear.drl?"),
+                                    ((DEAR, "nothere.jsonl"), 5, "there is no script"), ((DEAR, "examples"), 5, "a directory"),
+                                    ((DEAR, SCRIPT, "x"), 2, "a third"), (("--limit", "0", DEAR), 2, "from 1 to"),
+                                    (("--mode", "Check", DEAR), 2, "check?"), (("--lmit", "3", DEAR), 2, "--limit?"),
+                                    (("--mode", "check", "--mode", "check", DEAR), 2, "stands twice"), (("--by", "hand", DEAR), 2, "--by is")):
+            with self.subTest(words):
+                output, said, came = tried(*words)
+                self.assertEqual(came, status)
+                self.assertIn(part, said)
+
+    def test_the_tools(self):
+        self.assertEqual(tried("--where", DEAR)[::2], ("", 0))
+        self.assertIn("again", tried("--lint", "examples/endless.drl")[0])
+        self.assertIn("`amount` is a whole number", tried("--why", DEAR, SCRIPT, "--line", 6)[0])
+
+    def test_a_reader_that_ends(self):
+        command = [sys.executable, str(TOP / "tools" / "reference" / "live.py"), str(TOP / "examples" / "live" / "withdrawals.drl")]
+        program = subprocess.Popen(command, stdin=subprocess.PIPE, stdout=subprocess.PIPE, stderr=subprocess.PIPE)
+        program.stdin.write(b'{"do":"held"}\n')
+        program.stdin.flush()
+        self.assertEqual(program.stdout.readline(), b"held Withdrawal 0\n")
+        program.stdout.close()
+        program.stdin.write(b'{"do":"held"}\n')
+        program.stdin.close()
+        self.assertEqual((program.wait(), program.stderr.read()), (6, b""))
+        program.stderr.close()
+
+
+class Caller(unittest.TestCase):
+    """examples/live/caller.py, where its program is not there, and where a row lacks a column."""
+
+    def called(self, program: str, rows: str) -> tuple[str, str, int]:
+        command = [sys.executable, "examples/live/caller.py", program, "examples/live/withdrawals.drl"]
+        done = subprocess.run(command, input=rows, capture_output=True, text=True, cwd=TOP)
+        return done.stdout, done.stderr, done.returncode
+
+    def test_no_program(self):
+        self.assertEqual(self.called("nothere", "")[1:], (
+            "the program nothere does not start (No such file or directory): build it as README.md says, or take tools/reference/live.py\n", 1))
+
+    def test_a_row_that_lacks_a_column(self):
+        rows = (TOP / "examples" / "live" / "withdrawals.csv").read_text().splitlines()
+        output, said, status = self.called("tools/reference/live.py", "\n".join(rows[:3] + ["2026-03-02 10:00:10"] + rows[3:]) + "\n")
+        self.assertEqual((len(output.splitlines()), status), (3, 1))
+        self.assertIn('a row of other columns {"arrived": "2026-03-02 10:00:10", "at": null', said)
+
+
+class Cases(unittest.TestCase):
+    def test_the_examples(self):
+        output, _, status = tried("--cases", "examples/cases", "examples/live/withdrawals.drl")
+        self.assertEqual((output.splitlines()[-1], status), ("cases=5 expected=5 differs=0 shown=0", 0))
+
+    def test_a_difference_is_told_by_its_line(self):
+        with tempfile.TemporaryDirectory() as folder:
+            shutil.copy(SCRIPT, Path(folder, "dear"))
+            Path(folder, "dear.stdout").write_text((TOP / "examples" / "dear.out").read_text().replace("#2\n", "#7\n", 1))
+            output, _, status = tried("--cases", folder, DEAR)
+            self.assertEqual(status, 1)
+            self.assertIn('       3 - fire "dear item" #7\n       3 + fire "dear item" #2\n', output)
+            tried("--cases", folder, DEAR, "--write")
+            self.assertEqual(tried("--cases", folder, DEAR)[2], 0)
+
+    def test_words_and_names(self):
+        with tempfile.TemporaryDirectory() as folder:
+            shutil.copy(TOP / "examples" / "endless.jsonl", Path(folder, "endless"))
+            Path(folder, "endless.args").write_text("--limit\n2\nendless.drl\n")
+            self.assertIn("no rule file endless.drl", tried("--cases", folder)[1])
+            output, _, status = tried("--cases", folder, "--data", "endless.drl=examples/endless.drl")
+            self.assertEqual(status, 0)
+            self.assertIn("   limit 2\n", output)
+
+
+if __name__ == "__main__":
+    unittest.main()

@@ -1,0 +1,132 @@
+"""Why lines are faulty and rules do not fire: one script, and what is told of its lines."""
+
+import argparse
+import sys
+import unittest
+from pathlib import Path
+
+sys.path.insert(0, str(Path(__file__).resolve().parent))
+
+from why import told  # noqa: E402
+
+RULES = b"""declare Card number : String open : boolean end
+declare Draw @role( event ) @timestamp( at ) at : long card : String cents : long end
+declare Call @role( event ) @expires( 1m ) card : String end
+declare Alert card : String cents : long end
+declare entry-point "ATM" @lateness( 2s ) end
+rule "silent" when
+  $c : Card( $n : number, open == true )
+  $d : Draw( card == $n, cents >= 100 ) over window:time( 1h ) from entry-point "ATM" // a large one
+  not( Call( card == $n, this after[0s,10s] $d ) )
+then insert( new Alert( $n, $d.cents ) ); modify( $c ) { open = false } end
+rule "gone" salience -1 when $c : Card( $n : number, open == false ) accumulate( Draw( card == $n, $x : cents ) from entry-point "ATM";
+  $sum : sum( $x ); $sum > 1000 )
+then retract( $c ); retract( $c ); insert( new Alert( $n, $sum * 9223372036854775807 ) ); end
+"""
+
+SCRIPT = b"""{"do":"insert","type":"Card","fields":{"number":"a","open":true}}
+{"do":"insert","type":"Card","fields":{"number":"b","open":false}}
+{"do":"at","ms":5000}
+{"do":"insert","type":"Draw","entry":"ATM","fields":{"at":4000,"card":"a","cents":500}}
+{"do":"insert","type":"Draw","entry":"ATM","fields":{"at":4500,"card":"b","cents":5000}}
+{"do":"insert","type":"Draw","entry":"ATM","fields":{"at":4400,"card":"b","cents":1}}
+{"do":"insert","type":"Draw","entry":"ATM","fields":{"at":2000,"card":"b","cents":1}}
+{"do":"insert","type":"Draw","entry":"ATM","fields":{"at":9000,"card":"b","cents":1}}
+{"do":"insert","type":"Draw","entry":"ATM","fields":{"at":5000,"card":"b","cent":1}}
+{"do":"insert","type":"Draw","entry":"ATM","fields":{"at":5000,"card":7,"cents":1}}
+{"do":"insert","type":"Drew","fields":{}}
+{"do":"insert","type":"Draw","entry":"ATN","fields":{"at":5000,"card":"b","cents":1}}
+{"do":"insert","type":"Draw"}
+{"do":"Fire"}
+{"do":"fire",}
+{"do":"at","ms":1}
+{"do":"retract","type":"Call","id":1}
+{"do":"modify","type":"Draw","id":3,"fields":{"cents":1}}
+{"do":"modify","type":"Card","id":9,"fields":{"open":true}}
+{"do":"fire"}
+{"do":"at","ms":14001}
+{"do":"fire"}
+{"do":"insert","type":"Call","fields":{"card":"a"}}
+{"do":"modify","type":"Card","id":2,"fields":{"open":true}}
+{"do":"at","ms":7000000}
+"""
+
+# Of a line what is told of its fault.
+FAULTS = {6: "Late: it starts at 4400, and `ATM` takes events from 4500 on, where its last one started",
+          8: "Ahead: it starts at 9000, and the clock is 5000",
+          9: "BadFields: `Draw` has no field `cent`, `cents`?; `cents` is missing",
+          10: "BadValue: `card` is a text, and not 7",
+          11: "UnknownType: the rule file declares no `Drew`; `Draw`?",
+          12: "UnknownEntry: no pattern and no declaration names `ATN`; `ATM`?",
+          13: "BadCommand: `fields` is missing",
+          14: "BadCommand: `Fire` is no command; `fire`?",
+          15: "BadJson: column 14",
+          16: "ClockBack: the clock is 5000, and would go to 1",
+          17: 'EventObserved: `Call` stands in a `not`, an `exists`, an accumulate or a window of length: "silent", condition 3',
+          18: "EventFixed: `Draw` is a type of events",
+          19: "Absent: no fact has the number 9 yet",
+          20: 'Absent: action 2 of fire "gone" #2 =5000: #2 was retracted at line 20',
+          24: "Absent: #2 was retracted at line 20"}
+
+
+def lines(line: int, rule=None, facts=(), script: bytes = SCRIPT) -> str:
+    return "\n".join(told(argparse.Namespace(line=line, rule=rule, fact=list(facts)), RULES, script))
+
+
+class Why(unittest.TestCase):
+    def test_faults(self):
+        for line, text in FAULTS.items():
+            with self.subTest(line):
+                self.assertIn(text, lines(line))
+        self.assertIn("Overflow: action 3 of", lines(20))
+        script = b'{"do":"at","ms":5000}\n{"do":"insert","type":"Draw","entry":"ATM","fields":{"at":2000,"card":"b","cents":1}}\n'
+        self.assertIn("Late: it starts at 2000, and `ATM` takes events from 3000 on: the clock is 5000, and the lateness 2000", lines(2, script=script))
+
+    def test_a_line_without_a_fault(self):
+        self.assertIn("left: the clock is 5000; events are taken from: `DEFAULT` 5000, `ATM` 4000", lines(4))
+        self.assertIn("(it answers nothing)", lines(3))
+
+    def test_pending(self):
+        """At a `fire` line what it finds."""
+        text = lines(22)
+        self.assertIn("pending: 1\n  fire \"silent\" #1 #3", text)
+        self.assertIn("found: the clock is 14001", text)
+
+    def test_a_not_that_waits(self):
+        text = lines(20, "silent")
+        self.assertIn('2  $d : Draw( card == $n, cents >= 100 ) over window:time( 1h ) from entry-point "ATM"\n', text)
+        self.assertIn("#1 #3: waits until the clock is 14001: a `Call` that starts up to 14000 may still come into `DEFAULT`", text)
+
+    def test_kept_back(self):
+        self.assertIn("#1: there is no `Draw`", lines(3, "silent"))
+        self.assertIn("the empty row: none of the 1 passes `open == true`",
+                      lines(1, "silent", script=SCRIPT.replace(b"true", b"false", 1)))
+        self.assertIn("#1: none is in the window", lines(25, "silent", script=SCRIPT.replace(b'{"do":"fire"}', b"")))
+        self.assertIn("the result is 0, of 0, and `$sum > 1000` fails", lines(2, "gone"))
+
+    def test_what_forbids(self):
+        script = SCRIPT.replace(b'{"do":"at","ms":14001}', b'{"do":"insert","type":"Call","fields":{"card":"a"}}')
+        self.assertIn("#1 #3: #5 passes, which it forbids", lines(22, "silent", script=script))
+
+    def test_a_fact(self):
+        text = lines(5, "silent", [4, 2, 99])
+        self.assertIn('condition 2: behind #1 it fails `card == $n`: card is "b", and it is compared with "a"', text)
+        self.assertIn("condition 1: it fails `open == true`: open is false", text)
+        self.assertIn("there is no fact #99 up to this line", text)
+        self.assertIn("left the window at 3604000", lines(25, "silent", [3], SCRIPT.replace(b'{"do":"fire"}', b"")))
+        self.assertIn("was retracted at line 20", lines(21, "gone", [2]))
+
+    def test_the_operator_that_holds(self):
+        rules = b"declare A @role( event ) end rule r when $a : A() A( this after $a ) then end"
+        text = "\n".join(told(argparse.Namespace(line=None, rule="r", fact=[1]), rules, b'{"do":"insert","type":"A","fields":{}}'))
+        self.assertIn("fails `this after $a`: it is at 0, and $a, #1, at 0, so that `coincides` and `meets` and `metby` holds", text)
+
+    def test_what_has_fired(self):
+        self.assertIn("#2 =5000: pending", lines(20, "gone"))
+        rules = RULES.replace(b"modify( $c ) { open = false }", b"")
+        text = "\n".join(told(argparse.Namespace(line=23, rule="silent", fact=[]), rules, SCRIPT.replace(b'"Call"', b'"Cell"')))
+        self.assertIn("#1 #3: fired at line 22, and stands since", text)
+
+
+if __name__ == "__main__":
+    unittest.main()

@@ -1,0 +1,114 @@
+#!/usr/bin/env python3
+"""Tells of a script why a line answers what it answers, and why a rule does or does not fire there.
+
+    python3 tools/running/why.py RULES SCRIPT [--line N] [--rule NAME] [--fact N ..]
+
+Without `--line` it is the last line. Of a `fire` line the world is meant that it finds, of any other line the one that it leaves. It
+tells the line with its answers, of each fault the field, the fact, the floor or the action that it is about, and which matches are
+pending. With `--rule`, condition by condition, how many rows go on and what keeps the others back; with `--fact` as well, which
+test sends that fact away. The status is 0, or 3 where the rule file is refused.
+"""
+
+from __future__ import annotations
+
+import argparse
+import sys
+from pathlib import Path
+from typing import Iterator
+
+from history import History, followed, shown_fact  # first: it finds the other tools
+
+import faults
+from lint import Desk, desk_of
+from meaning import floor_of
+from rows import Inspection, Text, told_of_fact, told_of_rule, told_pending
+from where import report
+
+MOST_PENDING = 20
+
+
+def told_of_line(history: History) -> Iterator[str]:
+    """The line, what it answered, and why it is faulty."""
+    yield f"line {history.number}: {history.line.decode('utf-8', 'replace')[:200].strip()}"
+    reasons = list(faults.told(history))
+    for answer in history.answers:
+        if not answer.startswith(f"fault {history.number} "):
+            yield f"  {answer}"
+    yield from (f"  {reason}" for reason in reasons)
+    if not history.answers:
+        yield "  (it answers nothing)"
+
+
+def told_of_world(history: History) -> Iterator[str]:
+    """The clock, the floors, and what is pending."""
+    w = history.world
+    floors = ", ".join(f"`{entry}` {floor_of(w, entry)}" for entry in w.program.latenesses)
+    yield f"{'found' if history.is_fire else 'left'}: the clock is {w.clock}; events are taken from: {floors}"
+    lines = told_pending(w)
+    yield f"pending: {len(lines) or 'nothing'}"
+    yield from (f"  {line}" for line in lines[:MOST_PENDING])
+    if len(lines) > MOST_PENDING:
+        yield f"  and {len(lines) - MOST_PENDING} more"
+
+
+def told_of_named_rule(name: str, data: bytes, desk: Desk, history: History, numbers: list[int]) -> Iterator[str]:
+    """The conditions of a rule one by one, and facts that are asked for."""
+    item, rule = next((item, rule) for item, rule in desk.rules if rule.name == name)
+    inspection = Inspection(item, rule, history.world, Text(data, desk))
+    yield f'rule "{name}"'
+    yield from told_of_rule(inspection, history)
+    for number in numbers:
+        told = history.facts.get(number)
+        if told is None:
+            yield f"  there is no fact #{number} up to this line"
+        elif told.gone is not None and told.gone <= history.number and not any(f.id == number for f in history.world.facts):
+            yield f"  {shown_fact(told.fact)} was retracted at line {told.gone}"
+        else:
+            version = next((f for f in history.world.facts if f.id == number), told.fact)
+            yield from told_of_fact(inspection, version)
+
+
+def told(asked: argparse.Namespace, data: bytes, script: bytes) -> Iterator[str]:
+    desk = desk_of(data)
+    history = followed(desk.program, script, asked.line)
+    yield from told_of_line(history)
+    if history.ended:
+        yield f"the run ended at this line: the limit of firings"
+    yield from told_of_world(history)
+    names = [rule.name for _, rule in desk.rules]
+    if asked.rule is None:
+        return
+    if asked.rule not in names:
+        yield f"there is no rule \"{asked.rule}\"; the rules are " + ", ".join(f'"{name}"' for name in names)
+        return
+    yield from told_of_named_rule(asked.rule, data, desk, history, asked.fact)
+
+
+def main() -> int:
+    parser = argparse.ArgumentParser(prog="why", description="Why a line answers what it answers, and why a rule does or does not fire there.")
+    parser.add_argument("rules", metavar="RULES", type=Path)
+    parser.add_argument("script", metavar="SCRIPT", type=Path)
+    parser.add_argument("--line", type=int, metavar="N", help="the line of the script; without it the last one")
+    parser.add_argument("--rule", metavar="NAME", help="the rule to look into")
+    parser.add_argument("--fact", type=int, metavar="N", nargs="+", default=[], help="facts to follow through the rule")
+    asked = parser.parse_args()
+    if asked.fact and asked.rule is None:
+        parser.error("--fact is asked of a --rule")
+    if asked.line is not None and asked.line < 1:
+        parser.error("lines count from 1")
+    try:
+        data, script = asked.rules.read_bytes(), asked.script.read_bytes()
+    except OSError as error:
+        print(f"why: {error.filename}: {error.strerror}", file=sys.stderr)
+        return 5
+    refusal = report(str(asked.rules), data)
+    if refusal:
+        sys.stderr.write(refusal)
+        return 3
+    for line in told(asked, data, script):
+        print(line)
+    return 0
+
+
+if __name__ == "__main__":
+    sys.exit(main())
