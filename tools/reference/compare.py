@@ -1,9 +1,10 @@
 #!/usr/bin/env python3
 """Holds the built program against the reference, on random rule files and scripts.
 
-    python3 tools/reference/compare.py --seeds A B [--stage N] [--replay PROGRAM] [--folder FOLDER] [--keep-going] [--lives]
+    python3 tools/reference/compare.py --seeds A B [--stage N] [--replay PROGRAM] [--folder FOLDER] [--keep-going] [--lives] [--modes]
 
-With --lives the files are over events of finite lives, which end within the scripts. For each seed from A up to B - 1 the program
+With --modes the program is also asked for its other modes, as far as they are there at the stage: check and lives, the image of a run
+that is cut, the run that goes on from it, an image that is spoilt, and certificates, which are confirmed. With --lives the files are over events of finite lives, which end within the scripts. For each seed from A up to B - 1 the program
 runs on the seed's file and script, and its bytes and status are compared with those of the reference. The first difference is printed
 with its seed, and the files of that seed, with both outputs, are left in the folder. The last lines say how many seeds agreed and
 what was seen. The status is 0 where all agreed, 1 where one did not.
@@ -19,12 +20,14 @@ import subprocess
 import sys
 import tempfile
 from collections import Counter
+from dataclasses import replace
 from typing import Optional
 
 from generate import Case, case_of, lives_case_of, write_case
 from keeping import has_forgotten
+from modes import questions
 from run import outcome, report_of
-from stages import DEFAULT_STAGE
+from stages import TODAY
 
 TOP = os.path.dirname(os.path.dirname(os.path.dirname(os.path.abspath(__file__))))
 PROGRAM = os.path.join(TOP, "crates/replay_main/out/replay_main")
@@ -41,16 +44,27 @@ def words_of(case: Case) -> list[str]:
     return ([] if case.limit is None else ["--limit", str(case.limit)]) + ["rules.drl"]
 
 
-def program_answer(command: list[str], case: Case, seconds: float) -> tuple[bytes, int, bytes]:
+def program_answer(command: list[str], words: list[str], case: Case, image: bytes, seconds: float) -> tuple[bytes, int, bytes]:
     """The program's output, status and standard error in a folder of its own."""
     with tempfile.TemporaryDirectory(prefix="reference-") as folder:
         write_case(case, folder)
+        with open(os.path.join(folder, "image"), "wb") as f:
+            f.write(image)
         with open(os.path.join(folder, "script.jsonl"), "rb") as script:
             try:
-                done = subprocess.run(command + words_of(case), cwd=folder, stdin=script, capture_output=True, timeout=seconds)
+                done = subprocess.run(command + words, cwd=folder, stdin=script, capture_output=True, timeout=seconds)
             except subprocess.TimeoutExpired:
                 return b"", NO_END, b"no end in time\n"
         return done.stdout, done.returncode, done.stderr
+
+
+def other_difference(command: list[str], case: Case, stage: int, seed: int, seconds: float) -> Optional[str]:
+    """What is wrong with the program's answers in its other modes."""
+    for q in questions(case, stage, seed):
+        output, status, _ = program_answer(command, q.words, replace(case, script=q.script), q.image, seconds)
+        if said := q.judge(output, status):
+            return f"{' '.join(q.words)}: {said}"
+    return None
 
 
 def first_difference(wanted: bytes, got: bytes) -> Optional[str]:
@@ -104,11 +118,12 @@ def summary(counts: Counter) -> str:
 def main() -> int:
     parser = argparse.ArgumentParser(description="Holds the program against the reference on random files and scripts.")
     parser.add_argument("--seeds", type=int, nargs=2, required=True, metavar=("A", "B"), help="from A up to B - 1")
-    parser.add_argument("--stage", type=int, default=DEFAULT_STAGE, help="the stage that the program has reached (default that of today's program)")
+    parser.add_argument("--stage", type=int, default=TODAY, help="the stage that the program has reached (default that of today's program)")
     parser.add_argument("--replay", default=shlex.quote(PROGRAM), help="the program, a command")
     parser.add_argument("--folder", default="reference-failures", help="where the files of failing seeds are left")
     parser.add_argument("--seconds", type=float, default=60.0, help="the time that the program may take for a seed")
     parser.add_argument("--keep-going", action="store_true", help="do not stop at the first difference")
+    parser.add_argument("--modes", action="store_true", help="ask for the other modes too")
     parser.add_argument("--lives", action="store_true", help="files over events of finite lives")
     asked = parser.parse_args()
     command = absolute(asked.replay)
@@ -122,10 +137,12 @@ def main() -> int:
         wanted = report_of(found)
         count_lines(counts, wanted[0])
         counts["forgetting"] += not isinstance(found, str) and has_forgotten(found.world)
-        got = program_answer(command, case, asked.seconds)
+        got = program_answer(command, words_of(case), case, b"", asked.seconds)
         difference = first_difference(wanted[0], got[0])
         if difference is None and wanted[1] != got[1]:
             difference = f"the reference ends with the status {wanted[1]}, the program with {got[1]}"
+        if difference is None and asked.modes:
+            difference = other_difference(command, case, asked.stage, seed, asked.seconds)
         if difference is None:
             agreed += 1
             continue

@@ -23,9 +23,9 @@ from compare import TOP
 from reader import FILE_END
 from replay import BadWords, asked, generated_run, mode_text, usage
 from run import program_or_refusal, run
-from stages import DEFAULT_STAGE
+from stages import TODAY
 
-STAGE = DEFAULT_STAGE
+STAGE = TODAY
 ROOM = 1 << 20
 RULES_PIECE, SCRIPT_PIECE = 4096, 65536
 STATUS = {"shelf": 5, "script": 5, "out": 6}

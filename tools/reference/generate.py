@@ -22,7 +22,7 @@ from random_lives import lives_case
 from random_rules import FileMaker
 from random_script import ScriptMaker
 from reader import Refused, read_file
-from stages import DEFAULT_STAGE
+from stages import TODAY
 from writer import Writer
 
 BUDGET = 150
@@ -64,7 +64,7 @@ def case_of(seed: int, stage: int) -> Case:
     return accepted_case(rng, stage)
 
 
-def lives_case_of(seed: int, stage: int = DEFAULT_STAGE) -> Case:
+def lives_case_of(seed: int, stage: int = TODAY) -> Case:
     """The case of a seed among those of finite lives."""
     return Case(*lives_case(Random(f"lives/{seed}" if stage < 16 else f"lives/{stage}/{seed}"), stage), 200)
 
@@ -112,7 +112,7 @@ def write_case(case: Case, folder: str) -> None:
 def main() -> None:
     parser = argparse.ArgumentParser(description="Writes the rule file and the script of a seed.")
     parser.add_argument("seed", type=int)
-    parser.add_argument("--stage", type=int, default=DEFAULT_STAGE)
+    parser.add_argument("--stage", type=int, default=TODAY)
     parser.add_argument("--folder", default="case")
     asked = parser.parse_args()
     write_case(case_of(asked.seed, asked.stage), asked.folder)

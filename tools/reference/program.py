@@ -5,16 +5,12 @@ from __future__ import annotations
 from dataclasses import dataclass
 from typing import Iterator, Optional, Union
 
-from stages import DEFAULT_STAGE
 from trees import (BOOL, INT, TEXT, Bind, Condition, Duration, EntryDeclaration, Expires, Folded, Item, LengthWindow, Plain,
                    Reference, Role, Rule, Salience, Source, Timestamp, TypeDeclaration)
 
 KINDS = {"int": INT, "long": INT, "Integer": INT, "Long": INT, "boolean": BOOL, "Boolean": BOOL, "String": TEXT}
 
 DEFAULT = "DEFAULT"
-
-# The stage of the project that the program has reached (tools/reference/README.md).
-TODAY = DEFAULT_STAGE
 
 
 def type_declarations(items: list[Item]) -> list[TypeDeclaration]:

@@ -10,7 +10,7 @@ from __future__ import annotations
 from typing import Callable, Optional, TypeVar
 
 import temporal
-from stages import DEFAULT_STAGE
+from stages import TODAY
 from tokens import LexicalFault, Token, line_of, tokens_of
 from trees import (Action, Alternatives, AnyOf, Attribute, Annotation, Binary, Bind, Body, Comparison, Compare, Condition, Dialect,
                    DialectAttribute, Duration, EntryDeclaration, Existing, Expires, Expr, FieldOf, Folded, Import, Insert,
@@ -44,7 +44,7 @@ class OutsideGrammar(Exception):
     """The tokens of an item are none of the grammar."""
 
 
-def is_ident(word: str, stage: int = DEFAULT_STAGE) -> bool:
+def is_ident(word: str, stage: int = TODAY) -> bool:
     """A word that is not reserved (the word's form is the lexer's)."""
     return word not in RESERVED and not any(stage >= first and word in words for first, words in RESERVED_LATER.items())
 
@@ -52,7 +52,7 @@ def is_ident(word: str, stage: int = DEFAULT_STAGE) -> bool:
 class Reader:
     """Reads the tokens of one item from left to right, by the grammar of a stage."""
 
-    def __init__(self, tokens: list[Token], stage: int = DEFAULT_STAGE):
+    def __init__(self, tokens: list[Token], stage: int = TODAY):
         self.tokens, self.stage = tokens, stage
         self.place = 0
 
@@ -525,7 +525,7 @@ class Reader:
         return expr, height + minuses
 
 
-def field_of_setter(word: str, stage: int = DEFAULT_STAGE) -> str:
+def field_of_setter(word: str, stage: int = TODAY) -> str:
     """The field that `setPrice` names: what stands behind `set`, its first letter made small; it must be a name itself."""
     if not word.startswith("set") or len(word) == 3:
         raise OutsideGrammar("no setter")
@@ -554,7 +554,7 @@ def items_of_tokens(tokens: list[Token]) -> list[list[Token]]:
     return items
 
 
-def read_file(data: bytes, stage: int = DEFAULT_STAGE) -> list[Item]:
+def read_file(data: bytes, stage: int = TODAY) -> list[Item]:
     """The items of a rule file by the grammar of a stage, or Refused."""
     if len(data) > FILE_END:
         raise Refused(0, 0, "TooLong")

@@ -7,9 +7,9 @@ import os
 FIRST_STAGE, LAST_STAGE = 2, 20
 
 # That of today's program.
-DEFAULT_STAGE = 14
+TODAY = 14
 
 
 def stage_asked() -> int:
     """The stage that the environment names, or that of today's program."""
-    return int(os.environ.get("REFERENCE_STAGE", DEFAULT_STAGE))
+    return int(os.environ.get("REFERENCE_STAGE", TODAY))

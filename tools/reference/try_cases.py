@@ -21,7 +21,7 @@ from collections import Counter
 from compare import TOP, count_lines, summary
 from generate import case_of
 from run import report
-from stages import DEFAULT_STAGE
+from stages import TODAY
 
 
 def write(path: str, data: bytes) -> None:
@@ -32,7 +32,7 @@ def write(path: str, data: bytes) -> None:
 def main() -> int:
     parser = argparse.ArgumentParser(description="Holds the unproved program against the reference.")
     parser.add_argument("--seeds", type=int, nargs=2, required=True, metavar=("A", "B"), help="from A up to B - 1")
-    parser.add_argument("--stage", type=int, default=DEFAULT_STAGE)
+    parser.add_argument("--stage", type=int, default=TODAY)
     parser.add_argument("--folder", default="reference-cases")
     asked = parser.parse_args()
     folder, rules = os.path.abspath(asked.folder), os.path.abspath(asked.folder) + "-rules"

@@ -18,7 +18,7 @@ sys.path.insert(0, str(Path(__file__).resolve().parent.parent / "reference"))
 from complaints import complaints_of  # noqa: E402
 from reader import FILE_END, Refused, items_of_tokens, read_file  # noqa: E402
 from checks import check  # noqa: E402
-from program import TODAY  # noqa: E402
+from stages import TODAY  # noqa: E402
 from tokens import LexicalFault, line_of, tokens_of  # noqa: E402
 from tolerant import Complaint, read_tolerantly  # noqa: E402
 

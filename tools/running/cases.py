@@ -21,9 +21,9 @@ from typing import Iterator, Optional
 import programs  # noqa: F401  (first: it finds tools/reference)
 
 import where
-from program import TODAY
 from replay import BadWords, number, options_and_rules
 from run import report
+from stages import TODAY
 
 OTHERS = {".args", ".stdout", ".status", ".drl", ".md", ".csv", ".out"}
 LINES_AROUND = 2

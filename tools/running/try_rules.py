@@ -23,10 +23,11 @@ import cases
 import lint
 import where
 import why
-from program import TODAY, Program
+from program import Program
 from reader import FILE_END
 from replay import BadWords, WriteFailed, options_and_rules
 from run import program_or_refusal
+from stages import TODAY
 
 # As long as the second evaluator takes some seconds, where rules join events: docs/TOOLS.md.
 MOST_LINES = 10_000
