@@ -7,7 +7,8 @@
 The runs are those of tools/refused_memory.py: a bank's entry points and the three desks of examples. Call k of a run (it opens the rule
 file, finds a place in it, reads it, reads the script, writes) fails with EIO, for each k. Then the status is 5, of a write 6, and what was
 printed is a front of what the whole run prints; after a failed read of the script it is what the lines print that were taken with their
-ends. Where each read and write moves at most 1, 7 or 4,096 bytes, the run ends as the whole one does; and in these pieces each call
+ends, or all of them where the end of the script was told. (The machine is asked first where the script stands; that may fail and changes
+nothing.) Where each read and write moves at most 1, 7 or 4,096 bytes, the run ends as the whole one does; and in these pieces each call
 of the bank's run fails in turn too. A small library in C, built by $CC or cc, stands before the C library for this.
 Prints each run that ended otherwise, and the number of runs. The status is 0 where every run ended as it is to end, 1 where one did not,
 and 2 where there is no program or no compiler.
@@ -40,10 +41,10 @@ LIBRARY = r"""
 #include <sys/uio.h>
 #include <unistd.h>
 
-static struct { long calls, failed, taken; } *told;
+static struct { long calls, failed, taken, ended; } *told;
 static long failing, most;
 
-/* Whether this call fails; its kind is told: 1 of the rule file, 2 of the script, 3 of the output. */
+/* Whether this call fails; its kind is told: 1 of the rule file, 2 of the script, 3 of the output, 4 where the script stands. */
 static int fails(long kind) {
     if (!told) {
         int (*opens)(const char *, int, ...) = dlsym(RTLD_NEXT, "open");
@@ -82,7 +83,7 @@ int openat(int folder, const char *path, int flags, ...) {
 
 off_t lseek(int file, off_t at, int from) {
     off_t (*next)(int, off_t, int) = dlsym(RTLD_NEXT, "lseek");
-    return fails(1) ? -1 : next(file, at, from);
+    return fails(file ? 1 : 4) ? -1 : next(file, at, from);
 }
 
 ssize_t read(int file, void *bytes, size_t size) {
@@ -90,6 +91,7 @@ ssize_t read(int file, void *bytes, size_t size) {
     if (fails(file ? 1 : 2)) return -1;
     ssize_t n = next(file, bytes, short_of(size));
     if (!file && n > 0) told->taken += n;
+    if (!file && !n) told->ended = 1;
     return n;
 }
 
@@ -112,10 +114,12 @@ class Ended(NamedTuple):
 
 
 class Told(NamedTuple):
-    """What the library tells of a run: how many calls there were, of what the failed one was, and the bytes of the script that were taken."""
+    """What the library tells of a run: how many calls there were, of what the failed one was, how many bytes of the script were taken, and
+    whether its end was told."""
     calls: int
     failed: int
     taken: int
+    ended: int
 
 
 class Behind:
@@ -129,13 +133,13 @@ class Behind:
 
     def run(self, row: Row, call: int = 0, most: int = 0, script: Optional[bytes] = None) -> tuple[Ended, Told]:
         """The run in pieces of so many bytes (0: whole) of which this call fails (0: none)."""
-        self.told.write_bytes(bytes(24))
+        self.told.write_bytes(bytes(32))
         rules = self.folder / f"{row.name}.drl"
         rules.write_bytes(row.rules)
         outside = {"LD_PRELOAD": str(self.library), "FAILING_TOLD": str(self.told), "FAILING_CALL": str(call), "FAILING_MOST": str(most)}
         given = row.script if script is None else script
         done = subprocess.run([self.program, rules], input=given, stdout=subprocess.PIPE, env=outside, timeout=60)
-        return Ended(done.returncode, done.stdout), Told(*struct.unpack("3l", self.told.read_bytes()))
+        return Ended(done.returncode, done.stdout), Told(*struct.unpack("4l", self.told.read_bytes()))
 
 
 def taken_lines(script: bytes, taken: int) -> bytes:
@@ -146,8 +150,10 @@ def taken_lines(script: bytes, taken: int) -> bytes:
 def is_as_wanted(behind: Behind, row: Row, whole: Ended, ended: Ended, told: Told) -> bool:
     """Whether a run of which a call failed ended as it is to end."""
     if told.failed == 2:
-        lines, _ = behind.run(row, script=taken_lines(row.script, told.taken))
+        lines, _ = behind.run(row, script=row.script if told.ended else taken_lines(row.script, told.taken))
         return ended == Ended(5, lines.printed)
+    if told.failed == 4:
+        return ended == whole
     return ended.status == (6 if told.failed == 3 else 5) and whole.printed.startswith(ended.printed)
 
 
@@ -173,7 +179,8 @@ def all_runs(behind: Behind) -> bool:
         good = fail_each(behind, row, whole, 0) and good
         for most in PIECES:
             ended, told = behind.run(row, most=most)
-            print(f"{row.name}, in pieces of {most} bytes: {told.calls} calls, {'as the whole run' if ended == whole else 'OTHERWISE'}", flush=True)
+            how = "as the whole run" if ended == whole else "OTHERWISE"
+            print(f"{row.name}, in pieces of {most} bytes: {told.calls} calls, {how}", flush=True)
             good = good and ended == whole
             if row.name == "bank":
                 good = fail_each(behind, row, whole, most) and good
