@@ -1,21 +1,44 @@
-ghost use Rattle.std.specs.Prelude.{◌≡◌, ℕ, Err, IfOk};
+ghost use Rattle.std.specs.Prelude.{◌≡◌, ℕ, [], Err, IfOk};
 ghost use Rattle.std.specs.List.{All};
 ghost use Rattle.rule_world.specs.Programs.{IsRunnable};
 ghost use Rattle.rule_lives.specs.Networks.{IsSolvable};
 ghost use Rattle.drl_check.specs.declared.fault.CheckCode.{CheckCode};
-ghost use Rattle.drl_check.specs.Checks.{IsAcceptedFile, IsFirstFailure};
-ghost use Rattle.drl_program.specs.Programs.{program_of};
-ghost use Rattle.drl_check.specs.Outcomes.{checked};
+ghost use Rattle.drl_check.specs.Checks.{failure_from, IsAcceptedFile, IsFirstFailure};
+ghost use Rattle.drl_sight.specs.Declarations.{types_of};
+ghost use Rattle.drl_sight.specs.EntryPoints.{entry_names};
+ghost use Rattle.drl_sight.specs.Observed.{watched_names};
+ghost use Rattle.drl_program.specs.Programs.{program_of, program_with, types_alone};
+ghost use Rattle.drl_check.specs.Outcomes.{checked_by, checked};
 ghost use Rattle.drl_check.specs.Answers.{within_32_bits, Gives};
 
 use crate::CheckFault;
 use crate::refusal::refusal;
 use crate::whole::Whole;
-use drl_grammar::File;
+use drl_grammar::{File, Item};
 use drl_program::program;
-use drl_sight::entry_points;
+use drl_sight::{Declared, entry_points};
+use fx_base::NoMemory;
 use rule_model::Program;
 use std::alloc::Global;
+
+// The program of the items, whose types these are.
+fn program_among(alloc: Global, types: &Declared, items: &[Item]) -> Result<Program, NoMemory>
+    ensures { IfOk result (λ program. program ≡ program_with types.now (entry_names items.now) items.now) }
+{
+    let entries = entry_points(alloc, items)?;
+    program(alloc, types, &entries, items)
+}
+
+// The program of the items, or the first that fails a check, by what they say as a whole.
+fn judged(alloc: Global, whole: &Whole, items: &[Item]) -> Result<Program, CheckFault>
+    requires types { whole.now.types ≡ types_of items.now }
+    requires watched { whole.now.watched ≡ watched_names items.now }
+    requires alone { whole.now.alone ≡ types_alone (types_of items.now) }
+    ensures { Gives (λ program. program) result (checked_by (failure_from items.now [] items.now) (program_with (types_of items.now) (entry_names items.now) items.now)) }
+{
+    refusal(alloc, whole, items)?;
+    Ok(program_among(alloc, whole.types.declared(), items)?)
+}
 
 #[tactic(auto, unfolding(crate::specs::Outcomes::checked))]
 fn checked_program(alloc: Global, file: &File) -> Result<Program, CheckFault>
@@ -23,9 +46,7 @@ fn checked_program(alloc: Global, file: &File) -> Result<Program, CheckFault>
 {
     let items = file.items.as_slice();
     let whole = Whole::of(alloc, items)?;
-    refusal(alloc, &whole, items)?;
-    let entries = entry_points(alloc, items)?;
-    Ok(program(alloc, whole.types.declared(), &entries, items)?)
+    judged(alloc, &whole, items)
 }
 
 /// The program of a file, exactly where all its items pass all the checks; else the first item that fails one, with the

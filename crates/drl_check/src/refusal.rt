@@ -226,42 +226,48 @@ fn failing(
     failing_use(alloc, whole, body)
 }
 
-fn with_type(alloc: Global, names: Places, body: &Body) -> Result<Places, NoMemory>
-    ensures { IfOk result (λ more. more ≡ names ++ type_names (type_in body.now)) }
-{
-    match body {
-        Body::Declare(tree) => names.with(alloc, &tree.name),
-        Body::Package(_)
-        | Body::Import { .. }
-        | Body::Dialect(_)
-        | Body::Entry { .. }
-        | Body::Rule(_) => Ok(names),
-    }
+/// The names that the items before one declare.
+#[derive(Drop)]
+struct Earlier {
+    types: Places,
+    entries: Places,
+    rules: Places,
 }
 
-fn with_entry(alloc: Global, names: Places, body: &Body) -> Result<Places, NoMemory>
-    ensures { IfOk result (λ more. more ≡ names ++ entries_declared body.now) }
-{
-    match body {
-        Body::Entry { name, .. } => names.with(alloc, name),
-        Body::Package(_)
-        | Body::Import { .. }
-        | Body::Dialect(_)
-        | Body::Declare(_)
-        | Body::Rule(_) => Ok(names),
+impl Earlier {
+    fn none(alloc: Global) -> Earlier
+        ensures types { result.types ≡ [] }
+        ensures entries { result.entries ≡ [] }
+        ensures rules { result.rules ≡ [] }
+    {
+        Earlier {
+            types: Places::new(alloc),
+            entries: Places::new(alloc),
+            rules: Places::new(alloc),
+        }
     }
-}
 
-fn with_rule(alloc: Global, names: Places, body: &Body) -> Result<Places, NoMemory>
-    ensures { IfOk result (λ more. more ≡ names ++ rule_names (rule_in body.now)) }
-{
-    match body {
-        Body::Rule(tree) => names.with(alloc, &tree.name),
-        Body::Package(_)
-        | Body::Import { .. }
-        | Body::Dialect(_)
-        | Body::Declare(_)
-        | Body::Entry { .. } => Ok(names),
+    // With what one item more declares.
+    fn with(self, alloc: Global, body: &Body) -> Result<Earlier, NoMemory>
+        ensures types { IfOk result (λ more. more.types ≡ self.types ++ type_names (type_in body.now)) }
+        ensures entries { IfOk result (λ more. more.entries ≡ self.entries ++ entries_declared body.now) }
+        ensures rules { IfOk result (λ more. more.rules ≡ self.rules ++ rule_names (rule_in body.now)) }
+    {
+        match body {
+            Body::Declare(tree) => Ok(Earlier {
+                types: self.types.with(alloc, &tree.name)?,
+                ..self
+            }),
+            Body::Entry { name, .. } => Ok(Earlier {
+                entries: self.entries.with(alloc, name)?,
+                ..self
+            }),
+            Body::Rule(tree) => Ok(Earlier {
+                rules: self.rules.with(alloc, &tree.name)?,
+                ..self
+            }),
+            Body::Package(_) | Body::Import { .. } | Body::Dialect(_) => Ok(self),
+        }
     }
 }
 
@@ -280,18 +286,16 @@ pub(crate) fn refusal(alloc: Global, whole: &Whole, items: &[Item]) -> Result<()
     requires alone { whole.now.alone ≡ types_alone (types_of items.now) }
     ensures { Judges result (failure_from items.now [] items.now) }
 {
-    let mut earlier_types = Places::new(alloc);
-    let mut earlier_entries = Places::new(alloc);
-    let mut earlier_rules = Places::new(alloc);
+    let mut earlier = Earlier::none(alloc);
     let mut known = default_entry(alloc)?;
     for (place, item) in items.iter().enumerate() {
         known = with_entries(alloc, known, &item.body)?;
         match failing(
             alloc,
             whole,
-            &earlier_types,
-            &earlier_entries,
-            &earlier_rules,
+            &earlier.types,
+            &earlier.entries,
+            &earlier.rules,
             &known,
             &item.body,
         )? {
@@ -304,9 +308,7 @@ pub(crate) fn refusal(alloc: Global, whole: &Whole, items: &[Item]) -> Result<()
             }
             None => {}
         }
-        earlier_types = with_type(alloc, earlier_types, &item.body)?;
-        earlier_entries = with_entry(alloc, earlier_entries, &item.body)?;
-        earlier_rules = with_rule(alloc, earlier_rules, &item.body)?;
+        earlier = earlier.with(alloc, &item.body)?;
     }
     Ok(())
 }

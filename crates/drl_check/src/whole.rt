@@ -28,9 +28,9 @@ impl<'a> Whole<'a> {
         ensures alone { IfOk result (λ whole. whole.alone ≡ types_alone (types_of items.now)) }
     {
         Ok(Whole {
-            types: Kinded::of(alloc, items)?,
             watched: watched_types(alloc, items)?,
             alone: program_of_types(alloc, items)?,
+            types: Kinded::of(alloc, items)?,
         })
     }
 }

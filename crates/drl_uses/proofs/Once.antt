@@ -1,8 +1,9 @@
 -- The fields of a type one after the other: what one field more adds to those that count.
-use Rattle.std.proofs.Common.{◌≡◌, ◌++◌, ◌∷◌, ◌||◌, ℕ, Bool, true, false, not, List, [], map, if◌then◌else◌, refl, ap, ◌∙◌}
+use Rattle.std.proofs.Common.{◌≡◌, ◌+◌, ◌<◌, ◌++◌, ◌∷◌, ◌||◌, ℕ, Bool, true, false, not, List, [], Option, length, map, get_or, take, if◌then◌else◌, refl, sym, ap, ◌∙◌}
 use Rattle.std.specs.List.{filter}
 use Rattle.std.specs.Str.{bytes_eq}
-use Rattle.std.proofs.lemmas.List.{append-nil, map-append}
+use Rattle.std.proofs.lemmas.List.{append-nil, map-append, take_more}
+use Rattle.fx_base.specs.declared.kind.Kind.{Kind}
 use Rattle.std.proofs.lemmas.List.Elements.{filter-append}
 use Rattle.drl_sight.specs.Names.{is_among}
 use Rattle.drl_uses.specs.Kinds.{fields_once, word_kind, taken_kinds}
@@ -42,3 +43,14 @@ kinds_behind fields field = by (is_among (names_in fields) field.0) (once_behind
         → taken_kinds (fields ++ field ∷ []) ≡ (if stands then taken_kinds fields else taken_kinds fields ++ word_kind field ∷ [])
     by true e = ap (map word_kind) (e ∙ append-nil (fields_once fields))
     by false e = ap (map word_kind) e ∙ map-append word_kind (fields_once fields) (field ∷ [])
+
+-- one field more, where names and kinds of those before it are gathered
+pub one_field_more : (fields : List (List ℕ × List ℕ)) (k : ℕ) (field : List ℕ × List ℕ) (before names : List (List ℕ)) (kinds now : List (Option Kind))
+    → k < length fields → field ≡ get_or fields k field → before ≡ names_in (take k fields) → kinds ≡ taken_kinds (take k fields)
+    → names ≡ before ++ field.0 ∷ [] → now ≡ (if is_among before field.0 then kinds else kinds ++ word_kind field ∷ [])
+    → (names ≡ names_in (take (k + 1) fields)) × (now ≡ taken_kinds (take (k + 1) fields))
+one_field_more fields k field before names kinds now lt is same_before same_kinds named added =
+    let more : take (k + 1) fields ≡ take k fields ++ field ∷ [] = take_more fields k field lt ∙ ap (λ (f : List ℕ × List ℕ). take k fields ++ f ∷ []) (sym is) in (
+      named ∙ ap (λ front. front ++ field.0 ∷ []) same_before ∙ sym (map-append (λ (f : List ℕ × List ℕ). f.0) (take k fields) (field ∷ [])) ∙ ap names_in (sym more),
+      added ∙ rw (same_before, same_kinds) (sym (kinds_behind (take k fields) field)) ∙ ap taken_kinds (sym more),
+    )

@@ -44,7 +44,7 @@ fn add_kind(
 }
 
 // The kinds of the values that an insert takes, by the fields of a type.
-#[tactic(auto, using(std::proofs::lemmas::Grind::common_steps, crate::proofs::Once::kinds_behind), unfolding(crate::specs::Kinds::fields_once))]
+#[tactic(auto, unfolding(crate::specs::Kinds::fields_once))]
 fn kinds_of_fields(alloc: Global, fields: &[(Text, Text)]) -> Result<Seq<Option<Kind>>, NoMemory>
     ensures { IfOk result (λ kinds. kinds ≡ taken_kinds fields.now) }
 {

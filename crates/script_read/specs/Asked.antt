@@ -31,7 +31,8 @@ abbrev pub asked_of_reading : Option Data → Asked
 asked_of_reading None = bad_json
 asked_of_reading (Some d) = asked_of_command (command_of d)
 
--- what a line asks for, as a function
+-- What a line asks for, as a function. The same as a relation: `IsReading` here and `IsForm` in `Form.antt`, law
+-- `script_read::laws::a_line_asks_for_what_its_form_says`.
 unfoldable pub asked : List ℕ → Asked
 asked line = asked_of_reading (reading line)
 

@@ -73,8 +73,7 @@ asked_step setting number left w bad_command = fault_step number left w BadComma
 abbrev pub blank_step : ℕ → World → LineEffect
 blank_step left w = goes_on (record { text = []; world = w; left = left; faulty = false })
 
--- What a line asks for is the function `asked`. The same as a relation: `IsForm` in `script_read/specs/Form.antt`, law
--- `script_read::laws::a_line_asks_for_what_its_form_says`.
+-- a line of the script
 unfoldable pub line_step : RunSetting → ℕ → ℕ → World → List ℕ → LineEffect
 line_step setting number left w line =
     if nat_lt 65536 (length line) then fault_step number left w LineLong
