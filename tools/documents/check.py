@@ -1,0 +1,104 @@
+#!/usr/bin/env python3
+"""Says which figures, names, links and limits of README and docs do not hold.
+
+    python3 tools/documents/check.py              all findings, and the words of each page
+    python3 tools/documents/check.py PAGE..       those of these pages alone (MAP, docs/MAP.md)
+    python3 tools/documents/check.py --sentences  besides, each sentence of more than 40 words
+
+The status is 0 where all holds, and 1 otherwise. Long sentences are told and are no failure.
+"""
+
+from __future__ import annotations
+
+import argparse
+import sys
+from pathlib import Path
+from typing import Iterator
+
+from figures import edit_faults, example_faults, figure_faults, figures
+from graph import graph_faults
+from links import Links
+from map import HEADS, map_faults
+from names import Names
+from pages import Page, pages_of
+from tree import Tree
+
+# The greatest number of words, by page, and of all together.
+LIMITS = {"README": 900, "RULES": 7000, "SCRIPT": 2200, "LIVE": 2600, "EXAMPLES": 2200, "COMING-FROM": 2600, "TOOLS": 1500, "RECIPES": 1500,
+          "PROVED": 3500, "MAP": 2500, "DECISIONS": 2000, "PERFORMANCE": 1500, "CHANGING": 2000, "PROOF-NOTES": 3500}
+ALL_WORDS = 32000
+LONG = 40
+# Pages that speak of the code alone: a name of code that stands nowhere is a fault there.
+OF_CODE = {"PROVED", "MAP", "DECISIONS", "CHANGING", "PROOF-NOTES"}
+
+Found = Iterator[tuple[str, int, str]]
+
+
+def name_of(page: Page) -> str:
+    return Path(page.path).stem
+
+
+def found_in(page: Page, tree: Tree, names: Names, links: Links, counted: dict[str, int]) -> Iterator[tuple[int, str]]:
+    """What does not hold on one page, with the lines."""
+    yield from names.faults(page)
+    yield from names.unknown(page) if name_of(page) in OF_CODE else ()
+    yield from links.faults(page)
+    yield from figure_faults(page, counted)
+    if name_of(page) == "CHANGING":
+        yield from edit_faults(tree, page)
+    if name_of(page) == "MAP":
+        yield from ((0, fault) for fault in graph_faults(tree, page))
+        yield from ((0, fault) for fault in map_faults(tree, HEADS.read_text(encoding="utf-8")))
+    limit = LIMITS.get(name_of(page), 0)
+    if page.words > limit:
+        yield 0, f"{page.words:,} words, where {limit:,} are the limit"
+
+
+def found_beside(pages: list[Page], tree: Tree, links: Links) -> Found:
+    """What does not hold beside the pages: examples, what sources point to, the words of all."""
+    yield from (("examples", 0, fault) for fault in example_faults(tree))
+    yield from links.faults_of_sources()
+    words = sum(page.words for page in pages)
+    if words > ALL_WORDS:
+        yield "all pages", 0, f"{words:,} words, where {ALL_WORDS:,} are the limit"
+
+
+def all_found(pages: list[Page], wanted: list[Page], tree: Tree) -> Found:
+    names, links, counted = Names(tree), Links(tree), figures(tree)
+    for page in wanted:
+        yield from ((page.path, line, fault) for line, fault in found_in(page, tree, names, links, counted))
+    if len(wanted) == len(pages):
+        yield from found_beside(pages, tree, links)
+
+
+def long_sentences(pages: list[Page]) -> Found:
+    for page in pages:
+        for block in page.blocks:
+            for sentence in block.sentences:
+                count = len(sentence.split())
+                if count > LONG:
+                    yield page.path, block.line, f"{count} words: {sentence[:100]}.."
+
+
+def shown(found: list[tuple[str, int, str]]) -> str:
+    return "\n".join(f"{path}:{line}: {fault}" if line else f"{path}: {fault}" for path, line, fault in found)
+
+
+def main() -> int:
+    parser = argparse.ArgumentParser(description=__doc__, formatter_class=argparse.RawDescriptionHelpFormatter)
+    parser.add_argument("page", nargs="*")
+    parser.add_argument("--sentences", action="store_true")
+    words = parser.parse_args()
+    tree = Tree()
+    pages = pages_of(tree.top)
+    wanted = [page for page in pages if not words.page or name_of(page) in {Path(name).stem for name in words.page}]
+    faults = list(dict.fromkeys(all_found(pages, wanted, tree)))
+    lengthy = list(long_sentences(wanted))
+    print(shown(faults + lengthy if words.sentences else faults))
+    print("words: " + ", ".join(f"{name_of(page)} {page.words:,}" for page in wanted))
+    print(f"faults: {len(faults)}; sentences of more than {LONG} words: {len(lengthy)}; words in all: {sum(page.words for page in wanted):,}")
+    return 1 if faults else 0
+
+
+if __name__ == "__main__":
+    sys.exit(main())
