@@ -16,7 +16,7 @@ PATH = re.compile(r"(?!-)[\w.*-]+(?:/[\w.*-]+)+/?")
 CALL = re.compile(r"(\w+(?:::\w+)*)(?:: ([\w, ]+))?")
 NAMES_IN_FILE = re.compile(r"((?:`\w+`(?:,| and|, and)? )+)(?:in|of) `([\w/.-]+\.(?:antt|rt))`")
 FILE_WITH_NAMES = re.compile(r"`([\w/.-]+\.(?:antt|rt))` \(((?:`\w+`(?:, | and )?)+)\)")
-PLACEHOLDER = re.compile(r"(?:^|[/:])(?:CRATE|NAME|X|FILE|RULES|SCRIPT|PROGRAM)(?:$|[/.:])|^function: clause$")
+PLACEHOLDER = re.compile(r"(?:^|[/:])(?:CRATE|NAME|X|FILE|RULES|SCRIPT|PROGRAM)(?:$|[/.:])|^function: clause$|^crate(?:::|/)")
 # Places that a build makes.
 BUILT = re.compile(r"(?:^|/)out(?:/|$)")
 LIBRARIES = {"std", "alloc", "core", "Self", "Rattle"}
