@@ -49,8 +49,10 @@ def found_in(page: Page, tree: Tree, names: Names, links: Links, counted: dict[s
     if name_of(page) == "MAP":
         yield from ((0, fault) for fault in graph_faults(tree, page))
         yield from ((0, fault) for fault in map_faults(tree, HEADS.read_text(encoding="utf-8")))
-    limit = LIMITS.get(name_of(page), 0)
-    if page.words > limit:
+    limit = LIMITS.get(name_of(page))
+    if limit is None:
+        yield 0, "a page without a limit of its words (LIMITS in tools/documents/check.py)"
+    elif page.words > limit:
         yield 0, f"{page.words:,} words, where {limit:,} are the limit"
 
 

@@ -18,6 +18,11 @@ ROOMS = ("crates/", "tools/", "examples/")
 Faults = Iterator[tuple[int, str]]
 
 
+def command_alone(span: re.Match[str]) -> str:
+    """A code span that is a command with its words, and nothing of another one."""
+    return span[1] if " " in span[1] else ""
+
+
 def line_of(text: str, place: int) -> int:
     return text.count("\n", 0, place) + 1
 
@@ -61,9 +66,8 @@ class Links:
         return page_of(self.tree.top, str(file)).anchors
 
     def path_faults(self, page: Page) -> Faults:
-        """Paths without backticks, in sentences and in the commands of fenced blocks."""
-        page.blocks
-        texts = [(block.line, SPAN.sub("", block.text)) for block in page.blocks] + page.fenced
+        """Paths in sentences and in commands, which stand in fenced blocks or in backticks with blanks."""
+        texts = [(block.line, SPAN.sub(command_alone, block.text)) for block in page.blocks] + page.fenced
         for line, text in texts:
             for match in PLAIN.finditer(text):
                 if "/out/" not in match[0] and match[0].rstrip("/") not in self.tree.places:

@@ -84,6 +84,7 @@ class Names:
         return f"it has no clause {missing[0]}" if missing else ""
 
     def span_fault(self, span: str, block: Block) -> str:
+        span = span.removeprefix("./")
         if PLACEHOLDER.search(span) or BUILT.search(span):
             return ""
         if FILE.fullmatch(span):

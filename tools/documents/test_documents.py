@@ -49,7 +49,7 @@ class Small(unittest.TestCase):
 
     def test_names_that_are_there(self):
         text = ("`low/specs/Kept.antt`, `crates/low`, `low::put: kept`, `Code::Late`, `base::item`, `Item`; `IsKept` in `Kept.antt`, `NAME.edit`, "
-                "`crates/high/out/high`, `std::vec`, `low/specs/*.antt`\n\n`low`: its `src/lib.rt` and `Kept.antt` (`IsKept`)")
+                "`crates/high/out/high`, `./crates.txt`, `./crates/low`, `std::vec`, `low/specs/*.antt`\n\n`low`: its `src/lib.rt` and `Kept.antt` (`IsKept`)")
         self.assertEqual(self.named(text), [])
 
     def test_names_that_are_not_there(self):
@@ -73,6 +73,7 @@ class Small(unittest.TestCase):
         self.assertEqual(self.linked("docs/MAP.md, *Gone*"), ["docs/MAP.md: it has no section *Gone*"])
         self.assertEqual(sorted(set(self.linked("see docs/GONE.md"))), ["docs/GONE.md: no such file or folder", "docs/GONE.md: no such page"])
         self.assertEqual(self.linked("```\npython3 tools/gone.py\n```"), ["tools/gone.py: no such file or folder"])
+        self.assertEqual(self.linked("`python3 tools/gone.py x`"), ["tools/gone.py: no such file or folder"])
 
     def test_sources_point_to_sections(self):
         self.assertEqual(list(Links(self.tree).faults_of_sources()), [("crates/high/src/lib.rt", 1, "docs/MAP.md: it has no section *Gone*")])
