@@ -3,7 +3,7 @@
 from __future__ import annotations
 
 import re
-from dataclasses import dataclass, field
+from dataclasses import dataclass
 from functools import cached_property
 from pathlib import Path
 
@@ -39,24 +39,30 @@ class Page:
     """A document: its path below the top, and its text."""
     path: str
     text: str
-    fenced: list[tuple[int, str]] = field(default_factory=list)
 
     @cached_property
     def words(self) -> int:
         return len(self.text.split())
 
     @cached_property
-    def lines(self) -> list[str]:
-        """The lines, those inside of fences blank; these are kept in `fenced`."""
-        inside, lines = False, []
-        self.fenced.clear()
+    def parted(self) -> tuple[list[str], list[tuple[int, str]]]:
+        """The lines with those inside of fences blank, and these with their numbers."""
+        inside, lines, fenced = False, [], []
         for number, line in enumerate(COMMENT.sub(blank, self.text).split("\n"), 1):
             is_fence = bool(FENCE.match(line))
             if inside and not is_fence:
-                self.fenced.append((number, line))
+                fenced.append((number, line))
             lines.append("" if inside or is_fence else line)
             inside ^= is_fence
-        return lines
+        return lines, fenced
+
+    @property
+    def lines(self) -> list[str]:
+        return self.parted[0]
+
+    @property
+    def fenced(self) -> list[tuple[int, str]]:
+        return self.parted[1]
 
     @cached_property
     def headings(self) -> list[str]:
