@@ -15,7 +15,7 @@ import sys
 from pathlib import Path
 from typing import Iterator
 
-from figures import edit_faults, example_faults, figure_faults, figures
+from figures import clause_faults, edit_faults, example_faults, figure_faults, figures
 from graph import graph_faults
 from links import Links
 from map import HEADS, map_faults
@@ -46,6 +46,8 @@ def found_in(page: Page, tree: Tree, names: Names, links: Links, counted: dict[s
     yield from figure_faults(page, counted)
     if name_of(page) == "CHANGING":
         yield from edit_faults(tree, page)
+    if name_of(page) == "PROVED":
+        yield from clause_faults(tree, page)
     if name_of(page) == "MAP":
         yield from ((0, fault) for fault in graph_faults(tree, page))
         yield from ((0, fault) for fault in map_faults(tree, HEADS.read_text(encoding="utf-8")))

@@ -58,6 +58,13 @@ def edit_faults(tree: Tree, page: Page) -> Faults:
     yield from ((0, f"wrong body {name}: the table has it not") for name in sorted(there - named))
 
 
+def clause_faults(tree: Tree, page: Page) -> Faults:
+    """Clauses of the program's one call that the page of promises has not."""
+    named = {name for block in page.blocks for span in block.spans for name in re.findall(r"\w+", span)}
+    promised = tree.crates["sozhipen"].clauses.get("run", set()) if "sozhipen" in tree.crates else set()
+    yield from ((0, f"`sozhipen::run: {clause}`: no row has this clause") for clause in sorted(promised - named))
+
+
 def example_faults(tree: Tree) -> Iterator[str]:
     """Examples without what they print: scripts beside rule files, and cases."""
     for script in sorted((tree.top / "examples").rglob("*.jsonl")):

@@ -5,7 +5,7 @@ import unittest
 from pathlib import Path
 
 from check import found_in, long_sentences
-from figures import edit_faults, example_faults, figure_faults, figures, number_of
+from figures import clause_faults, edit_faults, example_faults, figure_faults, figures, number_of
 from graph import edges_of, graph_faults
 from links import Links
 from map import FROM, HEADS, TO, brief, made, map_faults, own_words, table
@@ -20,6 +20,7 @@ FILES = {
     "crates/low/src/lib.rt": "//! The store of `Item`.\n\npub fn put(x: u64) -> u64\n    ensures kept { result ≡ x }\n{ x }\n",
     "crates/low/specs/Kept.antt": "IsKept : Type 0\n",
     "crates/low/must-fail/drops_it.edit": "file: src/lib.rt\n",
+    "crates/sozhipen/src/lib.rt": "//! The call.\npub fn run()\n    ensures exact { x }\n    ensures front { x }\n{}\n",
     "crates/high/src/lib.rt": "//! The top, see docs/MAP.md (*Gone*).\npub enum Code {\n    Late,\n}\n",
     "crates/cases/stdin": "=== 1 one\n=== end\n=== 2 two\n=== end\n",
     "crates/cases/stdout": "=== each script: 18 calls, status 5, prefixes\n=== each out: 3 calls, status 6, prefixes\n",
@@ -88,6 +89,10 @@ class Small(unittest.TestCase):
         self.assertEqual([fault for _, fault in edit_faults(self.tree, page)],
                          ["wrong body low/keeps_it: it is not in the gate", "wrong body low/drops_it: the table has it not"])
         self.assertEqual(list(example_faults(self.tree)), ["examples/a.drl: what it prints is not recorded (.out)"])
+
+    def test_clauses_of_the_call(self):
+        self.assertEqual([fault for _, fault in clause_faults(self.tree, Page("docs/PROVED.md", "it prints so (`exact`)"))],
+                         ["`sozhipen::run: front`: no row has this clause"])
 
     def test_graph(self):
         self.assertEqual(list(edges_of("a, b <- c (+ d) <- e")), [("d", "c"), ("a", "c"), ("b", "c"), ("c", "e")])
