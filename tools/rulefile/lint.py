@@ -27,8 +27,8 @@ from program import DEFAULT, Program
 from temporal import INFINITE
 from tokens import Token
 from tolerant import Complaint, ReadItem
-from trees import (AnyOf, Compare, Condition, EntryDeclaration, Existing, Expr, FieldOf, Folded, Insert, Item, Literal, Modify,
-                   Negate, Negated, Plain, Retract, Rule, Source, Temporal, TimeWindow, Variable, operands_of)
+from trees import (AnyOf, Compare, Condition, EntryDeclaration, Existing, Expr, FieldOf, Folded, Insert, Item, LengthWindow, Literal,
+                   Modify, Negate, Negated, Plain, Retract, Rule, Source, Temporal, TimeWindow, Variable, operands_of)
 
 
 @dataclass
@@ -77,15 +77,25 @@ def undeclared_entries(desk: Desk) -> Iterator[Complaint]:
 
 
 def missing_from(desk: Desk) -> Iterator[Complaint]:
-    """A pattern that looks into DEFAULT, in a rule that looks for the same type elsewhere as well."""
+    """A pattern that looks into DEFAULT, in a rule that looks for the same type elsewhere as well, or in a file that else does so."""
     made = {action.type for _, rule in desk.rules for action in rule.actions if isinstance(action, Insert)}
+    in_file = {name: usual_entry(desk, name) for name in desk.program.types}
     for item, rule in desk.rules:
         for condition in rule.conditions:
             source = condition.source
-            elsewhere = sorted({entry_of(c.source) for c in rule.conditions if c.source.type == source.type} - {DEFAULT})
+            in_rule = sorted({entry_of(c.source) for c in rule.conditions if c.source.type == source.type} - {DEFAULT})
+            elsewhere = in_rule[0] if in_rule else in_file[source.type]
             if source.entry is None and elsewhere and source.type not in made:
-                yield warning("no-from", item.tokens_of(source)[0], f"this pattern looks into `DEFAULT`, and another one of `{source.type}` "
-                              f"in this rule into `{elsewhere[0]}`", f'`from entry-point "{elsewhere[0]}"` behind it')
+                others = f"another one of `{source.type}` in this rule" if in_rule else f"the other rules look for `{source.type}`"
+                yield warning("no-from", item.tokens_of(source)[0], f"this pattern looks into `DEFAULT`, and {others} into `{elsewhere}`",
+                              f'`from entry-point "{elsewhere}"` behind it')
+
+
+def usual_entry(desk: Desk, type_name: str) -> Optional[str]:
+    """The one entry point besides DEFAULT that patterns of a type look into, where these are twice as many as those without a `from`."""
+    entries = [c.source.entry for _, rule in desk.rules for c in rule.conditions if c.source.type == type_name]
+    named = [entry for entry in entries if entry is not None]
+    return named[0] if len(set(named)) == 1 and named[0] != DEFAULT and len(named) >= 2 * (len(entries) - len(named)) else None
 
 
 def unseen_entries(desk: Desk) -> Iterator[Complaint]:
@@ -279,6 +289,42 @@ def again(desk: Desk) -> Iterator[Complaint]:
                 yield warning("again", item.tokens_of(action)[3], f"the new `{action.type}` is found by the rule itself: {name}", instead)
 
 
+def flip_of(desk: Desk, rule: Rule) -> Optional[tuple[Source, dict[str, Optional[Literal]]]]:
+    """The pattern of the one fact that a rule modifies, with the new values, where all else that it finds stays while the clock stands."""
+    changes = [a for a in rule.actions if not isinstance(a, Insert)]
+    if len(changes) != 1 or not isinstance(changes[0], Modify):
+        return None
+    source, made = source_of_variable(rule, changes[0].variable), changed_types(rule)
+    for c in (c for c in rule.conditions if c.source is not source):
+        found = isinstance(c, (Plain, Existing)) or isinstance(c, Negated) and stays(desk, c)
+        if not found or not desk.is_event(c.source) or c.source.type in made or isinstance(c.source.window, LengthWindow):
+            return None
+    return source, {name: literal(value) for name, value in changes[0].sets}
+
+
+def asks_the_same(first: Source, second: Source, but: set[str]) -> bool:
+    """Whether two patterns of a type have the same constant tests, but for those of some fields."""
+    def tests(source: Source) -> list:
+        return [test for test in source.constant_tests if not but & {c.field for group in test.groups for c in group}]
+    return (first.type, entry_of(first)) == (second.type, entry_of(second)) and all(t in tests(first) for t in tests(second))
+
+
+def to_and_fro(desk: Desk) -> Iterator[Complaint]:
+    """Two rules each of which makes the other pending again: where both have found their events, neither comes to an end."""
+    flips = [(item, rule, *flip) for item, rule in desk.rules for flip in [flip_of(desk, rule)] if flip]
+    for k, (item, rule, source, values) in enumerate(flips):
+        for _, other, source_of_other, values_of_other in flips[k + 1:]:
+            fields = set(values) | set(values_of_other)
+            if not (asks_the_same(source, source_of_other, fields) and asks_the_same(source_of_other, source, fields)):
+                continue
+            looked_at = is_looked_at(rule, source.variable, fields) or is_looked_at(other, source_of_other.variable, fields)
+            if not looked_at and surely_passes(source_of_other, values, True) and surely_passes(source, values_of_other, True):
+                action = next(a for a in rule.actions if isinstance(a, Modify))
+                yield warning("to-and-fro", item.tokens_of(action)[0], f'this and the `modify` of "{other.name}" make one another pending: where both rules '
+                              f"have their events for one `{source.type}`, they fire in turn up to the limit of firings",
+                              f"keep the moment in the fact, and let the next event be later: `since = $e.at`, and `at > $since`")
+
+
 def is_kept_event(desk: Desk, condition: Condition) -> bool:
     """A pattern of events that stay: without a window, and without an expiry."""
     source = condition.source
@@ -311,13 +357,21 @@ def stays(desk: Desk, condition: Condition) -> bool:
     return desk.is_event(source) and source.window is None and desk.program.types[source.type].expires is None
 
 
+def has_passed(desk: Desk, rule: Rule, forbidden: Source) -> bool:
+    """Whether what an accumulate of the rule counts is gone when the fact that the rule forbids expires."""
+    expires = desk.program.types[forbidden.type].expires
+    folded = [c.source for c in rule.conditions if isinstance(c, Folded) and c.tests]
+    spans = [s.window.length if isinstance(s.window, TimeWindow) else desk.program.types[s.type].expires for s in folded]
+    return expires is not None and any(span is not None and span <= expires for span in spans)
+
+
 def old_events(desk: Desk) -> Iterator[Complaint]:
     """A rule that fires once for what it inserts and forbids: when that goes, it fires again for the same old events."""
     for item, rule in desk.rules:
         old = next((c for c in rule.conditions if is_kept_event(desk, c)), None)
         forbidding = [c.source for c in rule.conditions if isinstance(c, (Negated, Existing)) and not stays(desk, c)]
         inserts = [a for a in rule.actions if isinstance(a, Insert) and [a.type] == [source.type for source in forbidding]]
-        if old is None or len(inserts) < len(rule.actions) or not inserts:
+        if old is None or len(inserts) < len(rule.actions) or not inserts or has_passed(desk, rule, forbidding[0]):
             continue
         goes = how_it_goes(desk, rule, forbidding[0])
         if goes is not None:
@@ -336,16 +390,30 @@ def pairs_itself(desk: Desk) -> Iterator[Complaint]:
                     break
 
 
+def meets_itself(desk: Desk) -> Iterator[Complaint]:
+    """A `not` or an `exists` that the fact of an earlier condition passes itself."""
+    does = {Negated: "this `not` never holds", Existing: "this `exists` always holds"}
+    for item, rule in desk.rules:
+        for k, condition in enumerate(rule.conditions):
+            for j, before in enumerate(rule.conditions[:k] if type(condition) in does else []):
+                tests = before.source.constant_tests
+                if (isinstance(before, Plain) and finds_the_same(desk, before.source, condition.source)
+                        and all(test in tests for test in condition.source.constant_tests)):
+                    yield warning("meets-itself", item.tokens_of(condition.source)[0], f"the `{condition.source.type}` of condition {j + 1} passes "
+                                  f"here itself, so {does[type(condition)]}", itself_instead(desk, condition.source))
+                    break
+
+
 def itself_instead(desk: Desk, source: Source) -> str:
     return "a test of a key, as `id != $a.id`" + ("; of an event, `after[1ms,..]`" if desk.is_event(source) else "")
 
 
 def finds_the_same(desk: Desk, first: Source, second: Source) -> bool:
     """Whether each fact that passes the constant tests of both passes the other tests of the second together with itself."""
-    if first.type != second.type or entry_of(first) != entry_of(second) or first.window != second.window:
+    if first.type != second.type or entry_of(first) != entry_of(second) or second.window not in (None, first.window):
         return False
     own = {b.variable: b.field for b in first.binds}
-    tests = [c for test in second.joined_tests for group in test.groups for c in group]
+    tests = [c for test in second.joined_tests for group in test.groups for c in group if test not in first.joined_tests]
     if any(len(test.groups) > 1 for test in second.joined_tests):
         return False
     joined = all(isinstance(c, Compare) and c.relation in ("==", "<=", ">=") and field_of_first(c, first, own) == c.field for c in tests)
@@ -393,7 +461,7 @@ def kept_for_ever(desk: Desk) -> Iterator[Complaint]:
 
 
 LINTS = [undeclared_entries, missing_from, unseen_entries, same_moment, bare_numbers, windows_beyond_expiry, too_late, impossible_tests, again,
-         old_events, pairs_itself, unused_bindings, kept_for_ever]
+         to_and_fro, old_events, pairs_itself, meets_itself, unused_bindings, kept_for_ever]
 
 
 def desk_of(data: bytes) -> Desk:
