@@ -245,6 +245,11 @@ def stands(tokens: Sequence[Token], place: int, pattern: str) -> bool:
     return place >= 0 and place + len(words) <= len(tokens) and all(map(is_like, tokens[place:], words))
 
 
+def with_article(type_name: str) -> str:
+    """A type with its article."""
+    return f"{'an' if type_name[:1] in tuple('AEIOaeio') else 'a'} `{type_name}`"
+
+
 def close_to(word: str, among: Sequence[str]) -> str:
     """The likeliest word that was meant, quoted, or nothing."""
     found = get_close_matches(word, among, 1, 0.6) or [w for w in among if w.lower() == word.lower()]
@@ -280,7 +285,7 @@ def is_inside(word: str, tokens: Sequence[Token], place: int) -> bool:
 def is_reserved_name(production: str, tokens: Sequence[Token], place: int) -> bool:
     """Whether a reserved word stands where a name is expected."""
     return (production in ("field", "declaration") and place < len(tokens) and tokens[place].kind == "word"
-            and tokens[place].value in reader.RESERVED and tokens[place].value != "end")
+            and tokens[place].value in reader.RESERVED and tokens[place].value != "end" and not stands(tokens, place - 1, "default"))
 
 
 def is_kind_first(production: str, tokens: Sequence[Token], place: int) -> bool:

@@ -21,6 +21,7 @@ from where import TODAY, read_tolerantly, report, shown  # first: it finds tools
 import kept
 import temporal
 from checks import check, comparisons
+from forms import with_article
 from lives import network, place_of_variable, positive_events
 from meaning import RELATIONS
 from program import DEFAULT, Program
@@ -116,7 +117,8 @@ def same_moment(desk: Desk) -> Iterator[Complaint]:
     for item, rule in desk.rules:
         for condition in rule.conditions:
             for test in condition.source.temporal_tests if isinstance(condition, Negated) else []:
-                if test.operator == "before" and test.parameters and min(test.parameters) == 0 and may_be_last(desk, rule, condition, test):
+                waits = test.operator == "before" and test.parameters and min(test.parameters) == 0
+                if waits and may_be_last(desk, rule, condition, test) and passing_itself(desk, rule, condition) is None:
                     yield warning("same-moment", item.tokens_of(test)[1], "this `before` lets an event of the same moment in, so the `not` waits "
                                   "until the clock has moved on", "`before[1ms,..]`, which waits for nothing")
 
@@ -176,7 +178,7 @@ def too_late(desk: Desk) -> Iterator[Complaint]:
                 yield warning("too-late", window_tokens(item, source)[0], f"`{entry_of(source)}` is up to {kept.span(lateness)} late: an event that is "
                               f"{kept.span(source.window.length)} late is not in the window when it comes", "a longer window")
             elif expires is not None and expires <= lateness:
-                yield warning("too-late", item.tokens_of(source)[0], f"`{entry_of(source)}` is up to {kept.span(lateness)} late: a `{source.type}` that is "
+                yield warning("too-late", item.tokens_of(source)[0], f"`{entry_of(source)}` is up to {kept.span(lateness)} late: {with_article(source.type)} that is "
                               f"{kept.span(expires)} late has expired when it comes", "a longer @expires")
 
 
@@ -289,16 +291,29 @@ def again(desk: Desk) -> Iterator[Complaint]:
                 yield warning("again", item.tokens_of(action)[3], f"the new `{action.type}` is found by the rule itself: {name}", instead)
 
 
+def found_types(rule: Rule) -> set[str]:
+    return {c.source.type for c in rule.conditions}
+
+
+def rests_on_events(desk: Desk, rule: Rule, but: Source, changed: set[str], of_other: set[str]) -> bool:
+    """Whether all that a rule finds but for one pattern stays while the clock stands: events, and the absence of facts that neither it
+    nor another rule, which finds facts of these types, is about."""
+    def remains(c: Condition) -> bool:
+        absent = isinstance(c, Negated) and (stays(desk, c) or not desk.is_event(c.source) and c.source.type not in of_other)
+        found = isinstance(c, (Plain, Existing)) and desk.is_event(c.source) and not isinstance(c.source.window, LengthWindow)
+        return (absent or found) and c.source.type not in changed
+
+    return all(remains(c) for c in rule.conditions if c.source is not but)
+
+
 def flip_of(desk: Desk, rule: Rule) -> Optional[tuple[Source, dict[str, Optional[Literal]]]]:
-    """The pattern of the one fact that a rule modifies, with the new values, where all else that it finds stays while the clock stands."""
+    """The pattern of the one fact that a rule modifies, with the new values, where all else that it finds stays."""
     changes = [a for a in rule.actions if not isinstance(a, Insert)]
     if len(changes) != 1 or not isinstance(changes[0], Modify):
         return None
-    source, made = source_of_variable(rule, changes[0].variable), changed_types(rule)
-    for c in (c for c in rule.conditions if c.source is not source):
-        found = isinstance(c, (Plain, Existing)) or isinstance(c, Negated) and stays(desk, c)
-        if not found or not desk.is_event(c.source) or c.source.type in made or isinstance(c.source.window, LengthWindow):
-            return None
+    source = source_of_variable(rule, changes[0].variable)
+    if not rests_on_events(desk, rule, source, changed_types(rule), set(desk.program.types)):
+        return None
     return source, {name: literal(value) for name, value in changes[0].sets}
 
 
@@ -309,8 +324,38 @@ def asks_the_same(first: Source, second: Source, but: set[str]) -> bool:
     return (first.type, entry_of(first)) == (second.type, entry_of(second)) and all(t in tests(first) for t in tests(second))
 
 
+def in_turn(token: Token, action: str, other: Rule, type_name: str, instead: str) -> Complaint:
+    """Two rules each of which makes the other pending again."""
+    return warning("to-and-fro", token, f'this and the `{action}` of "{other.name}" make one another pending: where both rules '
+                   f"have their events for one `{type_name}`, they fire in turn up to the limit of firings", instead)
+
+
+def given_and_taken(desk: Desk) -> Iterator[Complaint]:
+    """A rule that inserts what it forbids, and one that retracts that, both for events."""
+    for item, rule in desk.rules:
+        for action in (a for a in rule.actions if isinstance(a, Insert)):
+            forbidden = [c.source for c in rule.conditions if isinstance(c, Negated) and c.source.type == action.type]
+            if len(forbidden) != 1 or not all(isinstance(a, Insert) for a in rule.actions):
+                continue
+            values = {name: literal(value) for name, value in zip(desk.program.types[action.type].fields, action.values)}
+            other = next((other for _, other in desk.rules if takes(desk, other, forbidden[0], values, rule)
+                          and rests_on_events(desk, rule, forbidden[0], changed_types(rule) | changed_types(other), found_types(other))), None)
+            if other is not None:
+                yield in_turn(item.tokens_of(action)[3], "retract", other, action.type,
+                              "let what is done stay: a field that says it, `modify( $a ) { done = true }` instead of the `retract`")
+
+
+def takes(desk: Desk, rule: Rule, forbidden: Source, values: dict[str, Optional[Literal]], giver: Rule) -> bool:
+    """Whether a rule retracts a fact with these values, and all else that it finds stays."""
+    gone = [a.variable for a in rule.actions if not isinstance(a, Insert)]
+    source = source_of_variable(rule, gone[0]) if len(gone) == 1 and any(isinstance(a, Retract) for a in rule.actions) else None
+    return (source is not None and (source.type, entry_of(source)) == (forbidden.type, entry_of(forbidden)) and surely_passes(source, values, False)
+            and rests_on_events(desk, rule, source, changed_types(giver) | changed_types(rule), found_types(giver)))
+
+
 def to_and_fro(desk: Desk) -> Iterator[Complaint]:
-    """Two rules each of which makes the other pending again: where both have found their events, neither comes to an end."""
+    """Two rules that make one another pending: where both have found their events, neither comes to an end."""
+    yield from given_and_taken(desk)
     flips = [(item, rule, *flip) for item, rule in desk.rules for flip in [flip_of(desk, rule)] if flip]
     for k, (item, rule, source, values) in enumerate(flips):
         for _, other, source_of_other, values_of_other in flips[k + 1:]:
@@ -320,9 +365,8 @@ def to_and_fro(desk: Desk) -> Iterator[Complaint]:
             looked_at = is_looked_at(rule, source.variable, fields) or is_looked_at(other, source_of_other.variable, fields)
             if not looked_at and surely_passes(source_of_other, values, True) and surely_passes(source, values_of_other, True):
                 action = next(a for a in rule.actions if isinstance(a, Modify))
-                yield warning("to-and-fro", item.tokens_of(action)[0], f'this and the `modify` of "{other.name}" make one another pending: where both rules '
-                              f"have their events for one `{source.type}`, they fire in turn up to the limit of firings",
-                              f"keep the moment in the fact, and let the next event be later: `since = $e.at`, and `at > $since`")
+                yield in_turn(item.tokens_of(action)[0], "modify", other, source.type,
+                              "keep the moment in the fact, and let the next event be later: `since = $e.at`, and `at > $since`")
 
 
 def is_kept_event(desk: Desk, condition: Condition) -> bool:
@@ -373,6 +417,8 @@ def old_events(desk: Desk) -> Iterator[Complaint]:
         inserts = [a for a in rule.actions if isinstance(a, Insert) and [a.type] == [source.type for source in forbidding]]
         if old is None or len(inserts) < len(rule.actions) or not inserts or has_passed(desk, rule, forbidding[0]):
             continue
+        if any(w.at == item.tokens_of(inserts[0])[3].at for w in given_and_taken(desk)):
+            continue
         goes = how_it_goes(desk, rule, forbidding[0])
         if goes is not None:
             yield warning("old-events", item.tokens_of(inserts[0])[3], f"when the `{inserts[0].type}` {goes}, the rule fires again for the same "
@@ -385,23 +431,30 @@ def pairs_itself(desk: Desk) -> Iterator[Complaint]:
         for k, condition in enumerate(rule.conditions):
             for before in rule.conditions[:k]:
                 if isinstance(condition, Plain) and isinstance(before, Plain) and finds_the_same(desk, before.source, condition.source):
-                    yield warning("pairs-itself", item.tokens_of(condition.source)[0], f"a `{condition.source.type}` is found by this pattern together "
+                    yield warning("pairs-itself", item.tokens_of(condition.source)[0], f"{with_article(condition.source.type)} is found by this pattern together "
                                   "with itself", itself_instead(desk, condition.source))
                     break
+
+
+def passing_itself(desk: Desk, rule: Rule, condition: Condition) -> Optional[int]:
+    """The number of an earlier condition whose fact passes a `not` or an `exists` itself."""
+    source = condition.source
+    for j, before in enumerate(rule.conditions[:rule.conditions.index(condition)], start=1):
+        if (isinstance(before, Plain) and finds_the_same(desk, before.source, source)
+                and all(test in before.source.constant_tests for test in source.constant_tests)):
+            return j
+    return None
 
 
 def meets_itself(desk: Desk) -> Iterator[Complaint]:
     """A `not` or an `exists` that the fact of an earlier condition passes itself."""
     does = {Negated: "this `not` never holds", Existing: "this `exists` always holds"}
     for item, rule in desk.rules:
-        for k, condition in enumerate(rule.conditions):
-            for j, before in enumerate(rule.conditions[:k] if type(condition) in does else []):
-                tests = before.source.constant_tests
-                if (isinstance(before, Plain) and finds_the_same(desk, before.source, condition.source)
-                        and all(test in tests for test in condition.source.constant_tests)):
-                    yield warning("meets-itself", item.tokens_of(condition.source)[0], f"the `{condition.source.type}` of condition {j + 1} passes "
-                                  f"here itself, so {does[type(condition)]}", itself_instead(desk, condition.source))
-                    break
+        for condition in (c for c in rule.conditions if type(c) in does):
+            j = passing_itself(desk, rule, condition)
+            if j is not None:
+                yield warning("meets-itself", item.tokens_of(condition.source)[0], f"the `{condition.source.type}` of condition {j} passes "
+                              f"here itself, so {does[type(condition)]}", itself_instead(desk, condition.source))
 
 
 def itself_instead(desk: Desk, source: Source) -> str:
