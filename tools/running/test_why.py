@@ -127,6 +127,16 @@ class Why(unittest.TestCase):
         self.assertIn("pending: 3", text)
         self.assertIn("left pending: 2, as the line has a `max`", text)
 
+    def test_what_fires_again(self):
+        rules = b"declare A n : long end declare B end rule r when A() then end rule s when A() not( B() ) then end"
+        insert, modify = b'{"do":"insert","type":"%s","fields":{%s}}\n', b'{"do":"modify","type":"A","id":1,"fields":{"n":2}}\n'
+        fire, gone = b'{"do":"fire"}\n', b'{"do":"retract","type":"B","id":2}\n'
+        for between, text in ((modify, 'fire "r" #1  (again, as at line 2: #1 was modified since, and is a newer version)'),
+                              (insert % (b"B", b"") + gone, 'fire "s" #1  (again, as at line 2: the match ceased since, and came back)')):
+            script = insert % (b"A", b'"n":1') + fire + between + fire
+            said = "\n".join(told(argparse.Namespace(line=None, rule=None, fact=[]), rules, script))
+            self.assertEqual(said.count(text), 2)
+
     def test_dates(self):
         rules = b"declare A @role( event ) @timestamp( at ) at : long end rule r when A() then end"
         script = b'{"do":"at","ms":1772524800000}\n{"do":"insert","type":"A","fields":{"at":1772524800001}}\n'

@@ -16,7 +16,7 @@ import sys
 from pathlib import Path
 from typing import Iterator
 
-from history import History, followed, shown_fact  # first: it finds the other tools
+from history import History, again, followed, shown_fact  # first: it finds the other tools
 
 import faults
 from lint import Desk, desk_of
@@ -34,7 +34,7 @@ def told_of_line(history: History) -> Iterator[str]:
     reasons = list(faults.told(history))
     for answer in history.answers:
         if not answer.startswith(f"fault {history.number} "):
-            yield f"  {answer}"
+            yield f"  {answer}{again(history, answer)}"
     yield from (f"  {reason}" for reason in reasons)
     if not history.answers:
         yield "  (it answers nothing)"
@@ -47,7 +47,7 @@ def told_of_world(history: History) -> Iterator[str]:
     yield f"{'found' if history.is_fire else 'left'}: the clock is {moment(w.clock)}; events are taken from: {floors}"
     lines = told_pending(w)
     yield f"pending: {len(lines) or 'nothing'}"
-    yield from (f"  {line}" for line in lines[:MOST_PENDING])
+    yield from (f"  {line}{again(history, line)}" for line in lines[:MOST_PENDING])
     if len(lines) > MOST_PENDING:
         yield f"  and {len(lines) - MOST_PENDING} more"
     left = len(told_pending(history.behind)) if history.is_fire and lines else 0
