@@ -122,8 +122,14 @@ def late(step: Insertion, w: World) -> str:
         return f"{text}, where its last one started: events of one entry point come in the order of their starts, whatever the lateness"
     lateness = w.program.latenesses[step.entry]
     if lateness == 0:
-        return f"{text}: the clock is {moment(w.clock)}, and `{step.entry}` has no @lateness"
+        return f"{text}: the clock is {moment(w.clock)}, and `{step.entry}` has no @lateness" + told_when_over(step, w)
     return f"{text}: the clock is {moment(w.clock)}, and the lateness {lateness}"
+
+
+def told_when_over(step: Insertion, w: World) -> str:
+    """What an event that lasts needs, where it is told of at its end."""
+    start, duration = start_and_duration(step, w)
+    return ": an event that is told of when it is over starts before, and needs one" if duration > 0 and start + duration <= w.clock else ""
 
 
 def of_step(code: str, step: object, history: History, w: World) -> str:
@@ -131,7 +137,7 @@ def of_step(code: str, step: object, history: History, w: World) -> str:
     if code == "Late":
         return late(step, w)
     if code == "Ahead":
-        return f"it starts at {moment(start_and_duration(step, w)[0])}, and the clock is {moment(w.clock)}: move the clock first"
+        return f"it starts at {moment(start_and_duration(step, w)[0])}, and the clock is {moment(w.clock)}: move the clock first, or insert it when it has come"
     if code == "BadDuration":
         return f"the duration is {start_and_duration(step, w)[1]}, and has to be 0 to 2^53"
     if code == "ClockBack":

@@ -137,11 +137,17 @@ class Why(unittest.TestCase):
             said = "\n".join(told(argparse.Namespace(line=None, rule=None, fact=[]), rules, script))
             self.assertEqual(said.count(text), 2)
 
+    def test_an_event_told_of_when_it_is_over(self):
+        rules = b"declare A @role( event ) @timestamp( s ) @duration( d ) s : long d : long end rule r when A() then end"
+        script = b'{"do":"at","ms":9000}\n{"do":"insert","type":"A","fields":{"s":5000,"d":4000}}\n'
+        text = "\n".join(told(argparse.Namespace(line=None, rule=None, fact=[]), rules, script))
+        self.assertIn("the clock is 9000, and `DEFAULT` has no @lateness: an event that is told of when it is over", text)
+
     def test_dates(self):
         rules = b"declare A @role( event ) @timestamp( at ) at : long end rule r when A() then end"
         script = b'{"do":"at","ms":1772524800000}\n{"do":"insert","type":"A","fields":{"at":1772524800001}}\n'
         text = "\n".join(told(argparse.Namespace(line=None, rule=None, fact=[]), rules, script))
-        self.assertIn("it starts at 1772524800001 (2026-03-03 08:00:00.001), and the clock is 1772524800000 (2026-03-03 08:00:00)", text)
+        self.assertIn("it starts at 1772524800001 (2026-03-03 08:00:00.001), and the clock is 1772524800000 (2026-03-03 08:00:00): move", text)
 
     def test_a_fact(self):
         text = lines(5, "silent", [4, 2, 99])
