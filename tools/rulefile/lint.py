@@ -87,7 +87,7 @@ def missing_from(desk: Desk) -> Iterator[Complaint]:
             in_rule = sorted({entry_of(c.source) for c in rule.conditions if c.source.type == source.type} - {DEFAULT})
             elsewhere = in_rule[0] if in_rule else in_file[source.type]
             if source.entry is None and elsewhere and source.type not in made:
-                others = f"another one of `{source.type}` in this rule" if in_rule else f"the other rules look for `{source.type}`"
+                others = f"another one of `{source.type}` in this rule" if in_rule else f"those of `{source.type}` in other rules"
                 yield warning("no-from", item.tokens_of(source)[0], f"this pattern looks into `DEFAULT`, and {others} into `{elsewhere}`",
                               f'`from entry-point "{elsewhere}"` behind it')
 
@@ -363,7 +363,10 @@ def to_and_fro(desk: Desk) -> Iterator[Complaint]:
             if not (asks_the_same(source, source_of_other, fields) and asks_the_same(source_of_other, source, fields)):
                 continue
             looked_at = is_looked_at(rule, source.variable, fields) or is_looked_at(other, source_of_other.variable, fields)
-            if not looked_at and surely_passes(source_of_other, values, True) and surely_passes(source, values_of_other, True):
+            made = (changed_types(rule) | changed_types(other)) - {source.type}
+            if looked_at or made & (found_types(rule) | found_types(other)):
+                continue
+            if surely_passes(source_of_other, values, True) and surely_passes(source, values_of_other, True):
                 action = next(a for a in rule.actions if isinstance(a, Modify))
                 yield in_turn(item.tokens_of(action)[0], "modify", other, source.type,
                               "keep the moment in the fact, and let the next event be later: `since = $e.at`, and `at > $since`")

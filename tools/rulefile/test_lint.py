@@ -104,7 +104,9 @@ class Lint(unittest.TestCase):
         script = b"".join(b'{"do":"insert","type":%s}\n' % fact for fact in (
             b'"Lamp","fields":{"number":"a","on":false,"since":-1}', b'"Press","fields":{"at":0,"lamp":"a","up":true}',
             b'"Press","fields":{"at":0,"lamp":"a","up":false}')) + b'{"do":"fire"}\n'
-        rule = 'rule {0} when $l : Lamp( $n : number, on == {1}, $s : since ) $p : Press( lamp == $n, up == {2}{3} ) then modify( $l ) {{ on = {2}, since = $p.at }} end\n'
+        rule = """rule {0} when $l : Lamp( $n : number, on == {1}, $s : since ) $p : Press( lamp == $n, up == {2}{3} )
+then modify( $l ) {{ on = {2}, since = $p.at }} end
+"""
         for later, told in (("", True), (", at > $s", False)):
             rules = (TYPES + rule.format("on", "false", "true", later) + rule.format("off", "true", "false", later)).encode()
             self.assertEqual([w.code for w in warnings_of(rules) if w.code != "for-ever"], ["to-and-fro"] if told else [])
