@@ -78,6 +78,15 @@ class Try(unittest.TestCase):
         self.assertEqual((output, status), (f"--mode run --limit 5 -- {DEAR}\na line\n", 0))
         self.assertIn(f"the program {program}", said)
 
+    def test_what_to_ask_next(self):
+        """Behind a faulty line, and behind the limit, whoever answers."""
+        for status, part in ((1, "--why"), (4, "--lint")):
+            with tempfile.TemporaryDirectory() as folder:
+                program = Path(folder, "replay")
+                program.write_text(f"#!/bin/sh\nexit {status}\n")
+                program.chmod(0o755)
+                self.assertIn(part, tried("--by", program, DEAR, SCRIPT)[1])
+
     def test_a_refusal(self):
         with tempfile.TemporaryDirectory() as folder:
             rules = Path(folder, "rules.drl")

@@ -219,7 +219,10 @@ def run_rules(words: list[str]) -> int:
     if by == "proved" or is_program(by):
         tell("the proved program" if by == "proved" else f"the program {by}")
         status = by_proved([*asked.options, "--", str(asked.rules)], script, PROVED if by == "proved" else Path(by))
-        return refused(asked, data) if status == 3 else status
+        if status == 3:
+            return refused(asked, data)
+        hint(asked, status)
+        return status
     program = program_or_refusal(data, TODAY)
     if isinstance(program, str):
         put(program + "\n")
