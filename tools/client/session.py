@@ -16,7 +16,7 @@ import os
 import subprocess
 import sys
 import threading
-from collections import deque
+from collections import Counter, deque
 from pathlib import Path
 from typing import Any, BinaryIO, Callable, Optional, Union
 
@@ -99,6 +99,7 @@ class Session(Lines[Answer]):
         self.book = Book(self.rules)
         self.on_answer, self.record = on_answer, record
         self.faults: list[Fault] = []
+        self.fired: Counter[str] = Counter()
         self.pending: deque[Optional[Answer]] = deque()
         self.actions: Optional[Actions] = None
         self.lines = self.places = self.answering = self.taken = 0
@@ -124,6 +125,12 @@ class Session(Lines[Answer]):
     def facts(self) -> list[Fact]:
         """The facts that an answer may still name, at the place of the script up to which answers have come."""
         return list(self.book.facts.values())
+
+    def counts(self) -> dict[str, Any]:
+        """For a dashboard, at the place up to which answers have come: the clock, the lines written, the faults by code, the firings by
+        rule, and the facts by type: plain ones that are there, and events that an answer may still name."""
+        return {"clock": self.book.clock, "lines": self.lines, "faults": dict(Counter(fault.code for fault in self.faults)),
+                "firings": dict(self.fired), "facts": dict(Counter(fact.type for fact in self.facts))}
 
     # ---- lines
 
@@ -253,6 +260,7 @@ class Session(Lines[Answer]):
             firing, self.actions = self.book.firing(text_of(name), answer.line, [n for sign, n in found if sign == "#"],
                                                     [n for sign, n in found if sign == "="])
             answer.told_firings.append(firing)
+            self.fired[firing.rule] += 1
 
     def up_to_word(self, word: str) -> Optional[Answer]:
         """The first line that is not answered and begins with this word; those before it were good and answer nothing."""

@@ -134,6 +134,18 @@ class Lines(Case):
         with self.assertRaises(ValueError):
             session.send_line("\n")
 
+    def test_counts(self):
+        session = self.session(READINGS)
+        session.at(5000)
+        for value in (1, 2, 3):
+            session.insert("Reading", {"at": 5000, "value": value}, "plant")
+        session.insert("Limit", {"value": 1})
+        session.at(1)
+        session.fire().wait()
+        self.assertEqual(session.counts(), {"clock": 5000, "lines": 7, "faults": {"ClockBack": 1}, "firings": {"many": 1},
+                                            "facts": {"Reading": 3, "Limit": 1}})
+        session.close()
+
     def test_words_of_other_programs(self):
         session = self.session(READINGS)
         with self.assertRaisesRegex(NotKnown, "promise.*BadCommand"):

@@ -1,7 +1,7 @@
 #!/usr/bin/env python3
 """A page for one rule file and one script, on this machine alone:
 
-    python3 tools/desk/desk.py RULES SCRIPT [--port N] [--seconds N]
+    python3 tools/desk/desk.py RULES SCRIPT [--port N] [--seconds N] [--program PROGRAM]
 
 It prints the address to open in a browser, and serves it until Ctrl+C. docs/TOOLS.md says what the page shows.
 """
@@ -9,6 +9,7 @@ It prints the address to open in a browser, and serves it until Ctrl+C. docs/TOO
 from __future__ import annotations
 
 import argparse
+import os
 import sys
 from pathlib import Path
 
@@ -24,7 +25,10 @@ def asked() -> argparse.Namespace:
     parser.add_argument("script", type=Path, help="the script; it may be new")
     parser.add_argument("--port", type=int, default=0, help="without it any that is free")
     parser.add_argument("--seconds", type=int, default=20, metavar="N", help="how long a run may take, from 1 to 600 (20)")
+    parser.add_argument("--program", type=Path, help="a built program; without it that of this clone, or the second evaluator")
     options = parser.parse_args()
+    if options.program and not (options.program.is_file() and os.access(options.program, os.X_OK)):
+        parser.error(f"there is no program {options.program}")
     if not 1 <= options.seconds <= 600:
         parser.error("a run takes from 1 to 600 seconds")
     return options
@@ -32,7 +36,7 @@ def asked() -> argparse.Namespace:
 
 def main() -> int:
     options = asked()
-    desk = Desk(options.rules, options.script, title_of(options.rules), options.seconds)
+    desk = Desk(options.rules, options.script, title_of(options.rules), options.seconds, options.program)
     try:
         desk.texts()
         server = DeskServer(desk, options.port)

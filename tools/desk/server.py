@@ -77,9 +77,9 @@ class File:
 class Desk:
     """The two files, the token, and the time lines of the last runs."""
 
-    def __init__(self, rules: Path, script: Path, title: str, seconds: int):
+    def __init__(self, rules: Path, script: Path, title: str, seconds: int, program: Optional[Path] = None):
         self.files = {"rules": File(rules, RULES_MOST), "script": File(script, SCRIPT_MOST)}
-        self.title, self.seconds = title, seconds
+        self.title, self.seconds, self.program = title, seconds, program
         self.token = secrets.token_urlsafe(24)
         self.timelines: dict[int, str] = {}
         self.runs = 0
@@ -92,7 +92,7 @@ class Desk:
     def work(self, asked: dict, word: str) -> dict[str, Any]:
         """What the child says of the texts that the page sends."""
         request = {"do": word, "title": self.title, "rules": text_in(asked, "rules", RULES_MOST),
-                   "script": text_in(asked, "script", SCRIPT_MOST)}
+                   "script": text_in(asked, "script", SCRIPT_MOST), "program": self.program and str(self.program.resolve())}
         if request["script"].count("\n") > LINES_MOST:
             raise Refused(413, f"the script has more than {LINES_MOST} lines: run it by ./try")
         if word == "why":

@@ -114,6 +114,16 @@ class Work(unittest.TestCase):
                 self.assertEqual(list(work_module.built(b"declare A end\n", b'{"do":"fire"}\n')),
                                  ["--limit 2000", "declare A end", '{"do":"fire"}'])
 
+    @unittest.skipUnless(hasattr(os, "memfd_create"), "the program would be given a file in memory")
+    def test_a_program_that_was_built_elsewhere(self):
+        with tempfile.TemporaryDirectory() as folder:
+            program = Path(folder) / "replay"
+            program.write_text("#!/bin/sh\necho held by another\n")
+            program.chmod(0o755)
+            said = work(program=str(program))
+        self.assertEqual(of_kind(said, "accepted")["program"], f"the program {program}")
+        self.assertEqual(of_kind(said, "output")["lines"], ["held by another"])
+
     def test_lines_to_add(self):
         types = of_kind(work(), "accepted")["types"]
         self.assertEqual(types[0], {"type": "Fire", "timestamp": None, "line": {"do": "insert", "type": "Fire", "fields": {"room": 0}}})

@@ -10,7 +10,7 @@ import os
 import subprocess
 import sys
 from pathlib import Path
-from typing import Any, Iterator, Union
+from typing import Any, Iterator, Optional, Union
 
 from findings import (LANGUAGE, TOP, advice, fault_reason, fault_words, life_reasons, reasons_at,  # it finds the other tools, too
                       refusals)
@@ -58,6 +58,12 @@ def evaluated(program: Program, script: bytes) -> Iterator[str]:
         state.lines.clear()
         if state.ended:
             return
+
+
+def take_program(named: Optional[str]) -> None:
+    """Another program than that of this clone."""
+    global BUILT
+    BUILT = Path(named) if named else BUILT
 
 
 def has_built_program() -> bool:
@@ -145,7 +151,7 @@ def types_shown(program: Program) -> list[dict]:
 
 
 def run(asked: dict, rules: bytes, script: bytes, program: Program) -> None:
-    say(kind="accepted", types=types_shown(program), rules=[rule.name for rule in program.rules], program=program_said())
+    say(kind="accepted", types=types_shown(program), rules=[rule.name for rule in program.rules], program=program_said(asked.get("program")))
     say(kind="lives", lives=life_reasons(program))
     say(kind="advice", findings=advice(rules))
     output = "".join(line + "\n" for line in printed(program, rules, script)).encode("utf-8")
@@ -158,8 +164,9 @@ def run(asked: dict, rules: bytes, script: bytes, program: Program) -> None:
     tell_faults(program, script, recording)
 
 
-def program_said() -> str:
-    return "the proved program" if has_built_program() else "the second evaluator, tools/reference"
+def program_said(named: Optional[str]) -> str:
+    built_one = f"the program {named}" if named else "the proved program"
+    return built_one if has_built_program() else "the second evaluator, tools/reference"
 
 
 def why(asked: dict, rules: bytes, script: bytes, program: Program) -> None:
@@ -168,6 +175,7 @@ def why(asked: dict, rules: bytes, script: bytes, program: Program) -> None:
 
 def main() -> int:
     asked = json.load(sys.stdin)
+    take_program(asked.get("program"))
     bound(asked["seconds"])
     rules, script = asked["rules"].encode("utf-8"), asked["script"].encode("utf-8")
     program: Union[Program, str] = program_or_refusal(rules, LANGUAGE)

@@ -14,7 +14,7 @@ import checks
 import temporal
 from checks import (NO_VALUE, TIME_END, comparison_misfits, comparisons, expressions_of, kind_of_leaf, leaves_of, size,
                     variables_of)
-from forms import close_to
+from forms import NO_EVAL, close_to
 from lives import network_of_positives, positive_events
 from program import (KINDS, FactMeant, Sight, TypeInfo, ValueMeant, entries_of_item, known_entries, observed_types,
                      sight_of_actions, sight_of_source, sights, types_by_name)
@@ -198,7 +198,14 @@ def type_token(item: ReadItem, source: Source) -> Token:
 
 def unknown_type(file: FileRead, name: str, token: Token) -> Iterator[Complaint]:
     if name not in file.types and name not in file.half:
-        yield said("UnknownType", token, f"the type `{name}` is not declared", close_to(name, list(file.types)))
+        instead = NO_EVAL if name == "eval" else close_to(name, list(file.types))
+        yield said("UnknownType", token, f"the type `{name}` is not declared", instead)
+
+
+def is_told_inside(item: ReadItem, source: Source) -> bool:
+    """Whether something is told of the grammar inside a pattern."""
+    tokens = item.tokens_of(source)
+    return any(tokens[0].at < c.at <= tokens[-1].at for c in item.complaints)
 
 
 def unknown_types(file: FileRead, item: ReadItem) -> Iterator[Complaint]:
@@ -206,7 +213,8 @@ def unknown_types(file: FileRead, item: ReadItem) -> Iterator[Complaint]:
         yield from unknown_type(file, str(token.value), token)
     if isinstance(item.body, Rule):
         for condition in item.body.conditions:
-            yield from unknown_type(file, condition.source.type, type_token(item, condition.source))
+            if condition.source.type != "eval" or not is_told_inside(item, condition.source):
+                yield from unknown_type(file, condition.source.type, type_token(item, condition.source))
         for action in item.body.actions:
             if isinstance(action, Insert):
                 yield from unknown_type(file, action.type, item.tokens_of(action)[3])
@@ -238,8 +246,14 @@ def unknown_field_of_leaf(file: FileRead, item: ReadItem, leaf, sight: Sight, ow
             yield said("UnknownField", item.tokens_of(leaf)[0], f"`{leaf.field}` is a field of no fact here", f"`$a.{leaf.field}`")
         else:
             yield from unknown_field(file, own, leaf.field, item.tokens_of(leaf)[0], meant_by_bare_word(leaf.field, sight))
-    if isinstance(leaf, FieldOf) and isinstance(sight.get(leaf.variable), FactMeant):
+    if isinstance(leaf, FieldOf) and isinstance(sight.get(leaf.variable), FactMeant) and not is_called(item, item.tokens_of(leaf)[-1]):
         yield from unknown_field(file, sight[leaf.variable].type, leaf.field, item.tokens_of(leaf)[-1])
+
+
+def is_called(item: ReadItem, token: Token) -> bool:
+    """Whether a parenthesis opens behind a name, which is told as such."""
+    behind = next((t for t in item.tokens if t.at > token.at), None)
+    return behind is not None and behind.kind == "mark" and behind.value == "("
 
 
 def unknown_fields(file: FileRead, item: ReadItem) -> Iterator[Complaint]:

@@ -16,8 +16,12 @@ from tokens import Token
 ONE_TOKEN = "a time is one token: `10s`"
 WHOLE = "there are whole numbers alone: count in the smallest unit, as cents"
 NO_SUMS = "there are sums in actions alone: keep the value in a field, or in a fact that another rule inserts"
+NO_EVAL = "there is no `eval`: the test in the pattern, `price < $p`; sums and products are in actions alone"
 NO_CALLS = "rules call nothing: the line of the firing is printed, and so is `new ..` of a fact that the rule inserts"
 ONE_FUNCTION = "one function of one variable: a second `accumulate` for the next one"
+ONE_SOURCE = "one pattern is the source: let a rule insert a fact for each pair, and take these"
+ONE_PATTERN = "one pattern stands in `not` and `exists`"
+FIELD_ALONE = "the field alone: `$a.price`, and not `$a.getPrice()`"
 ARGUMENT = "the argument is a variable that the source binds: `accumulate( Draw( $x : cents ); $sum : sum( $x ) )`"
 LEFT_OUT = "leave it out: a rule has `salience` and `dialect` alone"
 ONCE = "leave it out: let a field say that it is done, `$a : Item( done == false )` and `modify( $a ) { done = true }`"
@@ -54,7 +58,8 @@ FORMS = [Form(*row) for row in (
     ("field", 0, ",", "no mark between fields"),
     ("field", 0, ";", "no mark between fields"),
     ("field", 0, ".", "the bare kind: `String`"),
-    ("field", 0, "=", "a field has no default"),
+    ("field", 0, "=", "a field has no default: an `insert` gives each one"),
+    ("field", 1, "default", "a field has no default: an `insert` gives each one"),
     ("annotation", 2, "role ( T", "`@role( event )`, without quotes"),
     ("annotation", 1, "N W", ONE_TOKEN),
     ("annotation", 0, "key", "leave it out: " + FOUR),
@@ -100,9 +105,10 @@ FORMS = [Form(*row) for row in (
     ("condition", 0, ".", "a type has no package: `Case( .. )`"),
     ("behind entry", 0, "over", '`over` stands before `from`: `Draw() over window:time( 1h ) from entry-point "ATM"`'),
     ("group", 0, "then", "`)` is missing"),
-    ("group", 0, "W", "one pattern stands in `not` and `exists`"),
-    ("group", 0, "$", "one pattern stands in `not` and `exists`"),
-    ("group", 0, ",", "one pattern stands in `not` and `exists`"),
+    ("group", 0, "or", ONE_PATTERN + "; neither of two is two `not`, one below the other"),
+    ("group", 0, "W", ONE_PATTERN),
+    ("group", 0, "$", ONE_PATTERN),
+    ("group", 0, ",", ONE_PATTERN),
     ("entry", 1, "from collect", "`accumulate( $i : Item(); $many : count( $i ); $many >= 3 )`"),
     ("entry", 1, "from accumulate", "`$sum : Number() from accumulate( .. )`"),
     ("entry", 1, "from T", '`from entry-point "ATM"`'),
@@ -121,8 +127,10 @@ FORMS = [Form(*row) for row in (
     ("accumulate", 0, "+", NO_SUMS),
     ("accumulate", 0, "-", NO_SUMS),
     ("accumulate", 0, ",", "`;` stands before the function, and before the tests of its result"),
-    ("accumulate", 0, "W ( $ )", "the result has a variable: `$total : sum( $x )`"),
-    ("accumulate", 0, "W", "the result has a variable: `$total : sum( $x )`"),
+    ("accumulate", 1, "; W", "the result has a variable: `$total : sum( $x )`"),
+    ("accumulate", 1, ", W", "the result has a variable: `$total : sum( $x )`"),
+    ("accumulate", 0, "W", ONE_SOURCE),
+    ("accumulate", 0, "$ : W (", ONE_SOURCE),
     ("function", 0, "avg", "`average( $x )`"),
     ("function", 1, "( )", ARGUMENT),
     ("function", 1, "( N", ARGUMENT),
@@ -160,8 +168,6 @@ FORMS = [Form(*row) for row in (
     ("part", 1, "W memberOf", TEXT_TESTS),
     ("part", 1, "W soundslike", TEXT_TESTS),
     ("part", 1, "W str", TEXT_TESTS),
-    ("part", 2, "eval ( W", "`eval` is none: the test in the pattern, `price < $p`"),
-    ("part", 2, "eval ( $", "`eval` is none: the test in the pattern, `price < $p`"),
     ("part", 3, "forall ( W (", "`not( Item( sold == false ) )` for `forall( Item( sold == true ) )`"),
     ("part", 1, "W (", "the field alone: `cents`, and not `getCents()`"),
     ("part", 1, "W )", "a truth value is compared: `open == true`"),
@@ -188,6 +194,10 @@ FORMS = [Form(*row) for row in (
     ("part", 0, "-", NO_SUMS),
     ("part", 0, "*", NO_SUMS),
     ("part", 0, "|| this", "two rules, or one test whose bounds hold both"),
+    ("part", 1, "|| this", "two rules: a temporal test is a part of its own"),
+    ("part", 0, "&& this", "`,` before it: a temporal test is a part of its own"),
+    ("part", 1, "&& this", "`,` before it: a temporal test is a part of its own"),
+    ("part", 3, "$ . W (", FIELD_ALONE),
     # actions
     ("action", 2, "insert ( W", INSERTED),
     ("action", 2, "insert ( $", INSERTED),
@@ -213,6 +223,7 @@ FORMS = [Form(*row) for row in (
     ("expression", 0, "W =", "the values alone, in the order of the fields: `new Case( 7, \"places\" )`"),
     ("expression", 1, "N .", WHOLE),
     ("expression", 0, "null", "there is no `null`: each fact has all its fields"),
+    ("expression", 3, "$ . W (", FIELD_ALONE),
     ("expression", 1, "W (", NO_CALLS),
     ("expression", 0, "(", NO_CALLS),
     ("expression", 0, "new", "one fact in each `insert`"),
@@ -232,6 +243,11 @@ def stands(tokens: Sequence[Token], place: int, pattern: str) -> bool:
     """Whether the tokens from a place on are those of a pattern."""
     words = pattern.split()
     return place >= 0 and place + len(words) <= len(tokens) and all(map(is_like, tokens[place:], words))
+
+
+def with_article(type_name: str) -> str:
+    """A type with its article."""
+    return f"{'an' if type_name[:1] in tuple('AEIOaeio') else 'a'} `{type_name}`"
 
 
 def close_to(word: str, among: Sequence[str]) -> str:
@@ -255,10 +271,21 @@ def misspelt(production: str, tokens: Sequence[Token], place: int) -> str:
     return ""
 
 
+def is_inside(word: str, tokens: Sequence[Token], place: int) -> bool:
+    """Whether the innermost parenthesis that is open before a place stands behind this word."""
+    depth = 0
+    for k in range(min(place, len(tokens)) - 1, 0, -1):
+        depth += stands(tokens, k, ")")
+        depth -= stands(tokens, k, "(")
+        if depth < 0:
+            return stands(tokens, k - 1, word)
+    return False
+
+
 def is_reserved_name(production: str, tokens: Sequence[Token], place: int) -> bool:
     """Whether a reserved word stands where a name is expected."""
     return (production in ("field", "declaration") and place < len(tokens) and tokens[place].kind == "word"
-            and tokens[place].value in reader.RESERVED and tokens[place].value != "end")
+            and tokens[place].value in reader.RESERVED and tokens[place].value != "end" and not stands(tokens, place - 1, "default"))
 
 
 def is_kind_first(production: str, tokens: Sequence[Token], place: int) -> bool:
@@ -270,6 +297,8 @@ def instead_of(production: str, tokens: Sequence[Token], place: int) -> str:
     """What to write instead of what stands at a place, or nothing where that is not known."""
     if is_reserved_name(production, tokens, place):
         return f"`{tokens[place].value}` is a reserved word: another name"
+    if production == "part" and is_inside("eval", tokens, place):
+        return NO_EVAL
     found = misspelt(production, tokens, place)
     if found:
         return found

@@ -21,14 +21,15 @@ from where import TODAY, read_tolerantly, report, shown  # first: it finds tools
 import kept
 import temporal
 from checks import check, comparisons
+from forms import with_article
 from lives import network, place_of_variable, positive_events
 from meaning import RELATIONS
 from program import DEFAULT, Program
 from temporal import INFINITE
 from tokens import Token
 from tolerant import Complaint, ReadItem
-from trees import (AnyOf, Compare, Condition, EntryDeclaration, Existing, Expr, FieldOf, Folded, Insert, Item, Literal, Modify,
-                   Negate, Negated, Plain, Retract, Rule, Source, Temporal, TimeWindow, Variable, operands_of)
+from trees import (AnyOf, Compare, Condition, EntryDeclaration, Existing, Expr, FieldOf, Folded, Insert, Item, LengthWindow, Literal,
+                   Modify, Negate, Negated, Plain, Retract, Rule, Source, Temporal, TimeWindow, Variable, operands_of)
 
 
 @dataclass
@@ -77,15 +78,25 @@ def undeclared_entries(desk: Desk) -> Iterator[Complaint]:
 
 
 def missing_from(desk: Desk) -> Iterator[Complaint]:
-    """A pattern that looks into DEFAULT, in a rule that looks for the same type elsewhere as well."""
+    """A pattern that looks into DEFAULT, in a rule that looks for the same type elsewhere as well, or in a file that else does so."""
     made = {action.type for _, rule in desk.rules for action in rule.actions if isinstance(action, Insert)}
+    in_file = {name: usual_entry(desk, name) for name in desk.program.types}
     for item, rule in desk.rules:
         for condition in rule.conditions:
             source = condition.source
-            elsewhere = sorted({entry_of(c.source) for c in rule.conditions if c.source.type == source.type} - {DEFAULT})
+            in_rule = sorted({entry_of(c.source) for c in rule.conditions if c.source.type == source.type} - {DEFAULT})
+            elsewhere = in_rule[0] if in_rule else in_file[source.type]
             if source.entry is None and elsewhere and source.type not in made:
-                yield warning("no-from", item.tokens_of(source)[0], f"this pattern looks into `DEFAULT`, and another one of `{source.type}` "
-                              f"in this rule into `{elsewhere[0]}`", f'`from entry-point "{elsewhere[0]}"` behind it')
+                others = f"another one of `{source.type}` in this rule" if in_rule else f"those of `{source.type}` in other rules"
+                yield warning("no-from", item.tokens_of(source)[0], f"this pattern looks into `DEFAULT`, and {others} into `{elsewhere}`",
+                              f'`from entry-point "{elsewhere}"` behind it')
+
+
+def usual_entry(desk: Desk, type_name: str) -> Optional[str]:
+    """The one entry point besides DEFAULT that patterns of a type look into, where these are twice as many as those without a `from`."""
+    entries = [c.source.entry for _, rule in desk.rules for c in rule.conditions if c.source.type == type_name]
+    named = [entry for entry in entries if entry is not None]
+    return named[0] if len(set(named)) == 1 and named[0] != DEFAULT and len(named) >= 2 * (len(entries) - len(named)) else None
 
 
 def unseen_entries(desk: Desk) -> Iterator[Complaint]:
@@ -106,7 +117,8 @@ def same_moment(desk: Desk) -> Iterator[Complaint]:
     for item, rule in desk.rules:
         for condition in rule.conditions:
             for test in condition.source.temporal_tests if isinstance(condition, Negated) else []:
-                if test.operator == "before" and test.parameters and min(test.parameters) == 0 and may_be_last(desk, rule, condition, test):
+                waits = test.operator == "before" and test.parameters and min(test.parameters) == 0
+                if waits and may_be_last(desk, rule, condition, test) and passing_itself(desk, rule, condition) is None:
                     yield warning("same-moment", item.tokens_of(test)[1], "this `before` lets an event of the same moment in, so the `not` waits "
                                   "until the clock has moved on", "`before[1ms,..]`, which waits for nothing")
 
@@ -166,7 +178,7 @@ def too_late(desk: Desk) -> Iterator[Complaint]:
                 yield warning("too-late", window_tokens(item, source)[0], f"`{entry_of(source)}` is up to {kept.span(lateness)} late: an event that is "
                               f"{kept.span(source.window.length)} late is not in the window when it comes", "a longer window")
             elif expires is not None and expires <= lateness:
-                yield warning("too-late", item.tokens_of(source)[0], f"`{entry_of(source)}` is up to {kept.span(lateness)} late: a `{source.type}` that is "
+                yield warning("too-late", item.tokens_of(source)[0], f"`{entry_of(source)}` is up to {kept.span(lateness)} late: {with_article(source.type)} that is "
                               f"{kept.span(expires)} late has expired when it comes", "a longer @expires")
 
 
@@ -279,6 +291,87 @@ def again(desk: Desk) -> Iterator[Complaint]:
                 yield warning("again", item.tokens_of(action)[3], f"the new `{action.type}` is found by the rule itself: {name}", instead)
 
 
+def found_types(rule: Rule) -> set[str]:
+    return {c.source.type for c in rule.conditions}
+
+
+def rests_on_events(desk: Desk, rule: Rule, but: Source, changed: set[str], of_other: set[str]) -> bool:
+    """Whether all that a rule finds but for one pattern stays while the clock stands: events, and the absence of facts that neither it
+    nor another rule, which finds facts of these types, is about."""
+    def remains(c: Condition) -> bool:
+        absent = isinstance(c, Negated) and (stays(desk, c) or not desk.is_event(c.source) and c.source.type not in of_other)
+        found = isinstance(c, (Plain, Existing)) and desk.is_event(c.source) and not isinstance(c.source.window, LengthWindow)
+        return (absent or found) and c.source.type not in changed
+
+    return all(remains(c) for c in rule.conditions if c.source is not but)
+
+
+def flip_of(desk: Desk, rule: Rule) -> Optional[tuple[Source, dict[str, Optional[Literal]]]]:
+    """The pattern of the one fact that a rule modifies, with the new values, where all else that it finds stays."""
+    changes = [a for a in rule.actions if not isinstance(a, Insert)]
+    if len(changes) != 1 or not isinstance(changes[0], Modify):
+        return None
+    source = source_of_variable(rule, changes[0].variable)
+    if not rests_on_events(desk, rule, source, changed_types(rule), set(desk.program.types)):
+        return None
+    return source, {name: literal(value) for name, value in changes[0].sets}
+
+
+def asks_the_same(first: Source, second: Source, but: set[str]) -> bool:
+    """Whether two patterns of a type have the same constant tests, but for those of some fields."""
+    def tests(source: Source) -> list:
+        return [test for test in source.constant_tests if not but & {c.field for group in test.groups for c in group}]
+    return (first.type, entry_of(first)) == (second.type, entry_of(second)) and all(t in tests(first) for t in tests(second))
+
+
+def in_turn(token: Token, action: str, other: Rule, type_name: str, instead: str) -> Complaint:
+    """Two rules each of which makes the other pending again."""
+    return warning("to-and-fro", token, f'this and the `{action}` of "{other.name}" make one another pending: where both rules '
+                   f"have their events for one `{type_name}`, they fire in turn up to the limit of firings", instead)
+
+
+def given_and_taken(desk: Desk) -> Iterator[Complaint]:
+    """A rule that inserts what it forbids, and one that retracts that, both for events."""
+    for item, rule in desk.rules:
+        for action in (a for a in rule.actions if isinstance(a, Insert)):
+            forbidden = [c.source for c in rule.conditions if isinstance(c, Negated) and c.source.type == action.type]
+            if len(forbidden) != 1 or not all(isinstance(a, Insert) for a in rule.actions):
+                continue
+            values = {name: literal(value) for name, value in zip(desk.program.types[action.type].fields, action.values)}
+            other = next((other for _, other in desk.rules if takes(desk, other, forbidden[0], values, rule)
+                          and rests_on_events(desk, rule, forbidden[0], changed_types(rule) | changed_types(other), found_types(other))), None)
+            if other is not None:
+                yield in_turn(item.tokens_of(action)[3], "retract", other, action.type,
+                              "let what is done stay: a field that says it, `modify( $a ) { done = true }` instead of the `retract`")
+
+
+def takes(desk: Desk, rule: Rule, forbidden: Source, values: dict[str, Optional[Literal]], giver: Rule) -> bool:
+    """Whether a rule retracts a fact with these values, and all else that it finds stays."""
+    gone = [a.variable for a in rule.actions if not isinstance(a, Insert)]
+    source = source_of_variable(rule, gone[0]) if len(gone) == 1 and any(isinstance(a, Retract) for a in rule.actions) else None
+    return (source is not None and (source.type, entry_of(source)) == (forbidden.type, entry_of(forbidden)) and surely_passes(source, values, False)
+            and rests_on_events(desk, rule, source, changed_types(giver) | changed_types(rule), found_types(giver)))
+
+
+def to_and_fro(desk: Desk) -> Iterator[Complaint]:
+    """Two rules that make one another pending: where both have found their events, neither comes to an end."""
+    yield from given_and_taken(desk)
+    flips = [(item, rule, *flip) for item, rule in desk.rules for flip in [flip_of(desk, rule)] if flip]
+    for k, (item, rule, source, values) in enumerate(flips):
+        for _, other, source_of_other, values_of_other in flips[k + 1:]:
+            fields = set(values) | set(values_of_other)
+            if not (asks_the_same(source, source_of_other, fields) and asks_the_same(source_of_other, source, fields)):
+                continue
+            looked_at = is_looked_at(rule, source.variable, fields) or is_looked_at(other, source_of_other.variable, fields)
+            made = (changed_types(rule) | changed_types(other)) - {source.type}
+            if looked_at or made & (found_types(rule) | found_types(other)):
+                continue
+            if surely_passes(source_of_other, values, True) and surely_passes(source, values_of_other, True):
+                action = next(a for a in rule.actions if isinstance(a, Modify))
+                yield in_turn(item.tokens_of(action)[0], "modify", other, source.type,
+                              "keep the moment in the fact, and let the next event be later: `since = $e.at`, and `at > $since`")
+
+
 def is_kept_event(desk: Desk, condition: Condition) -> bool:
     """A pattern of events that stay: without a window, and without an expiry."""
     source = condition.source
@@ -311,13 +404,23 @@ def stays(desk: Desk, condition: Condition) -> bool:
     return desk.is_event(source) and source.window is None and desk.program.types[source.type].expires is None
 
 
+def has_passed(desk: Desk, rule: Rule, forbidden: Source) -> bool:
+    """Whether what an accumulate of the rule counts is gone when the fact that the rule forbids expires."""
+    expires = desk.program.types[forbidden.type].expires
+    folded = [c.source for c in rule.conditions if isinstance(c, Folded) and c.tests]
+    spans = [s.window.length if isinstance(s.window, TimeWindow) else desk.program.types[s.type].expires for s in folded]
+    return expires is not None and any(span is not None and span <= expires for span in spans)
+
+
 def old_events(desk: Desk) -> Iterator[Complaint]:
     """A rule that fires once for what it inserts and forbids: when that goes, it fires again for the same old events."""
     for item, rule in desk.rules:
         old = next((c for c in rule.conditions if is_kept_event(desk, c)), None)
         forbidding = [c.source for c in rule.conditions if isinstance(c, (Negated, Existing)) and not stays(desk, c)]
         inserts = [a for a in rule.actions if isinstance(a, Insert) and [a.type] == [source.type for source in forbidding]]
-        if old is None or len(inserts) < len(rule.actions) or not inserts:
+        if old is None or len(inserts) < len(rule.actions) or not inserts or has_passed(desk, rule, forbidding[0]):
+            continue
+        if any(w.at == item.tokens_of(inserts[0])[3].at for w in given_and_taken(desk)):
             continue
         goes = how_it_goes(desk, rule, forbidding[0])
         if goes is not None:
@@ -331,9 +434,30 @@ def pairs_itself(desk: Desk) -> Iterator[Complaint]:
         for k, condition in enumerate(rule.conditions):
             for before in rule.conditions[:k]:
                 if isinstance(condition, Plain) and isinstance(before, Plain) and finds_the_same(desk, before.source, condition.source):
-                    yield warning("pairs-itself", item.tokens_of(condition.source)[0], f"a `{condition.source.type}` is found by this pattern together "
+                    yield warning("pairs-itself", item.tokens_of(condition.source)[0], f"{with_article(condition.source.type)} is found by this pattern together "
                                   "with itself", itself_instead(desk, condition.source))
                     break
+
+
+def passing_itself(desk: Desk, rule: Rule, condition: Condition) -> Optional[int]:
+    """The number of an earlier condition whose fact passes a `not` or an `exists` itself."""
+    source = condition.source
+    for j, before in enumerate(rule.conditions[:rule.conditions.index(condition)], start=1):
+        if (isinstance(before, Plain) and finds_the_same(desk, before.source, source)
+                and all(test in before.source.constant_tests for test in source.constant_tests)):
+            return j
+    return None
+
+
+def meets_itself(desk: Desk) -> Iterator[Complaint]:
+    """A `not` or an `exists` that the fact of an earlier condition passes itself."""
+    does = {Negated: "this `not` never holds", Existing: "this `exists` always holds"}
+    for item, rule in desk.rules:
+        for condition in (c for c in rule.conditions if type(c) in does):
+            j = passing_itself(desk, rule, condition)
+            if j is not None:
+                yield warning("meets-itself", item.tokens_of(condition.source)[0], f"the `{condition.source.type}` of condition {j} passes "
+                              f"here itself, so {does[type(condition)]}", itself_instead(desk, condition.source))
 
 
 def itself_instead(desk: Desk, source: Source) -> str:
@@ -342,10 +466,10 @@ def itself_instead(desk: Desk, source: Source) -> str:
 
 def finds_the_same(desk: Desk, first: Source, second: Source) -> bool:
     """Whether each fact that passes the constant tests of both passes the other tests of the second together with itself."""
-    if first.type != second.type or entry_of(first) != entry_of(second) or first.window != second.window:
+    if first.type != second.type or entry_of(first) != entry_of(second) or second.window not in (None, first.window):
         return False
     own = {b.variable: b.field for b in first.binds}
-    tests = [c for test in second.joined_tests for group in test.groups for c in group]
+    tests = [c for test in second.joined_tests for group in test.groups for c in group if test not in first.joined_tests]
     if any(len(test.groups) > 1 for test in second.joined_tests):
         return False
     joined = all(isinstance(c, Compare) and c.relation in ("==", "<=", ">=") and field_of_first(c, first, own) == c.field for c in tests)
@@ -393,7 +517,7 @@ def kept_for_ever(desk: Desk) -> Iterator[Complaint]:
 
 
 LINTS = [undeclared_entries, missing_from, unseen_entries, same_moment, bare_numbers, windows_beyond_expiry, too_late, impossible_tests, again,
-         old_events, pairs_itself, unused_bindings, kept_for_ever]
+         to_and_fro, old_events, pairs_itself, meets_itself, unused_bindings, kept_for_ever]
 
 
 def desk_of(data: bytes) -> Desk:

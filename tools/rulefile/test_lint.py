@@ -19,6 +19,8 @@ declare Card number : String open : boolean count : long end
 declare Told @role( event ) @expires( 10m ) card : String end
 declare Block card : String end
 declare Long @role( event ) card : String end
+declare Lamp number : String on : boolean since : long end
+declare Press @role( event ) @timestamp( at ) @expires( 1h ) at : long lamp : String up : boolean end
 declare entry-point "ATM" @lateness( 2s ) end
 """
 
@@ -28,7 +30,8 @@ RULES = [
     ('rule r when Draw() from entry-point "AMT" then end', ["undeclared-entry"]),
     ('rule r when $a : Draw( $c : card ) Draw( card == $c, this after[1ms,9s] $a ) from entry-point "ATM" then end', ["no-from"]),
     ('rule r when $a : Draw( $c : card ) from entry-point "ATM" not( Draw( card == $c, this before[0s,9s] $a ) from entry-point "ATM" ) then end',
-     ["same-moment"]),
+     ["meets-itself"]),
+    ('rule r when $a : Draw( $c : card ) from entry-point "ATM" not( Call( card == $c, this before[0s,9s] $a ) ) then end', ["same-moment"]),
     ('rule r when $a : Draw( $c : card ) from entry-point "ATM" not( Draw( card == $c, this before[1ms,9s] $a ) from entry-point "ATM" ) then end', []),
     ('rule r when Draw() over window:time( 60 ) then end', ["bare-number"]),
     ('rule r when Draw() over window:time( 60ms ) then end', []),
@@ -53,6 +56,12 @@ RULES = [
      ["pairs-itself"]),
     ('rule r when $a : Draw( $c : card ) from entry-point "ATM" Draw( card == $c, this after[1ms,9s] $a ) from entry-point "ATM" then end', []),
     ('rule r when $a : Card( $n : number, open == true ) Card( number == $n, open == false ) then end', []),
+    ('rule r when $a : Call( $c : card ) not( Call( card == $c, this after[0s,9s] $a ) ) then end', ["meets-itself"]),
+    ('rule r when $a : Call( $c : card ) not( Call( card == $c, this after[1ms,9s] $a ) ) then end', []),
+    ('rule r when $a : Press( $l : lamp, up == true ) not( Press( lamp == $l, up == false, this after[0s,9s] $a ) ) then end', []),
+    ('rule r when $a : Press( $l : lamp ) not( Press( lamp == $l, up == false, this after[0s,9s] $a ) ) then end', []),
+    ('rule r when $a : Card( $n : number, open == true ) exists( Card( number == $n ) ) then end', ["meets-itself"]),
+    ('rule r when Card( $n : number ) $a : Call( card == $n ) not( Call( card == $n, this after[0s,9s] $a ) ) then end', ["meets-itself"]),
     ('rule r when not( Block( $c : card ) ) then end', ["unseen-binding"]),
     ('rule r when Long( $c : card ) Card( number == $c ) then end', ["for-ever"]),
     ('rule r when Long( $c : card ) Card( number == $c ) not( Told( card == $c ) ) then insert( new Told( $c ) ); end', ["for-ever", "old-events"]),
@@ -89,6 +98,43 @@ class Lint(unittest.TestCase):
         free = "rule free when $b : Block() Card( count > 0 ) then retract( $b ); end"
         self.assertIn("old-events", {w.code for w in warnings_of((TYPES + block + free).encode())})
         self.assertNotIn("old-events", {w.code for w in warnings_of((TYPES + block).encode())})
+
+    def test_two_rules_to_and_fro(self):
+        """They are told of, and run into the limit; where the next event has to be later they do not."""
+        script = b"".join(b'{"do":"insert","type":%s}\n' % fact for fact in (
+            b'"Lamp","fields":{"number":"a","on":false,"since":-1}', b'"Press","fields":{"at":0,"lamp":"a","up":true}',
+            b'"Press","fields":{"at":0,"lamp":"a","up":false}')) + b'{"do":"fire"}\n'
+        rule = """rule {0} when $l : Lamp( $n : number, on == {1}, $s : since ) $p : Press( lamp == $n, up == {2}{3} )
+then modify( $l ) {{ on = {2}, since = $p.at }} end
+"""
+        for later, told in (("", True), (", at > $s", False)):
+            rules = (TYPES + rule.format("on", "false", "true", later) + rule.format("off", "true", "false", later)).encode()
+            self.assertEqual([w.code for w in warnings_of(rules) if w.code != "for-ever"], ["to-and-fro"] if told else [])
+            self.assertEqual(report(rules, script, 14, 50)[1] == 4, told)
+
+    def test_given_and_taken_to_and_fro(self):
+        script = b"".join(b'{"do":"insert","type":%s}\n' % fact for fact in (
+            b'"Press","fields":{"at":0,"lamp":"a","up":true}', b'"Call","fields":{"card":"a"}')) + b'{"do":"fire"}\n'
+        block = "rule block when Press( $c : lamp ) not( Block( card == $c ) ) then insert( new Block( $c ) ); end\n"
+        for free, told in (("rule free when $b : Block( $c : card ) Call( card == $c ) then retract( $b ); end", True),
+                           ("rule free when $b : Block( $c : card ) not( Call( card == $c ) ) then retract( $b ); end", False)):
+            rules = (TYPES + block + free).encode()
+            self.assertEqual([w.code for w in warnings_of(rules) if w.code != "for-ever"], ["to-and-fro"] if told else [])
+            self.assertEqual(report(rules, script, 14, 50)[1] == 4, told)
+
+    def test_no_from_in_a_file(self):
+        """A pattern that looks into DEFAULT, where the others of its type do not."""
+        named = 'rule {} when $a : Long() from entry-point "ATM" Call( this after[0s,9s] $a ) then end\n'
+        bare = "rule bare when Long() then end\n"
+        for many, told in ((1, []), (2, ["no-from"])):
+            rules = TYPES + "".join(named.format(f"r{k}") for k in range(many)) + bare
+            self.assertEqual([w.code for w in warnings_of(rules.encode())], told)
+
+    def test_what_an_accumulate_counted_is_gone(self):
+        rule = """rule r when $l : Long( $c : card ) accumulate( $x : Long( card == $c ) over window:time( {} ); $n : count( $x ); $n >= 3 )
+not( Told( card == $c ) ) then insert( new Told( $c ) ); end"""
+        for span, told in (("10m", False), ("11m", True)):
+            self.assertEqual("old-events" in {w.code for w in warnings_of((TYPES + rule.format(span)).encode())}, told)
 
     def test_examples(self):
         for path in sorted(EXAMPLES.glob("**/*.drl")):

@@ -639,9 +639,13 @@ def parts_of_file(tokens: list[Token]) -> list[list[Token]]:
 
 
 def is_patched(data: bytes, at: int, patches: list[Patch]) -> bool:
-    """Whether what stands here was patched, or follows a patch in its line."""
-    return any(patch.start <= at and (not data[patch.end:at].strip() or patch.to_line_end and b"\n" not in data[patch.end:at].strip(b"\n"))
-               for patch in patches)
+    """Whether what stands here was patched, or follows a patch in its line, or the name behind a `!`."""
+    def follows(patch: Patch) -> bool:
+        between = data[patch.end:at].strip()
+        denied = data[patch.start:patch.end] == b"!" and re.fullmatch(rb"\w+", between) is not None
+        return not between or denied or patch.to_line_end and b"\n" not in data[patch.end:at].strip(b"\n")
+
+    return any(patch.start <= at and follows(patch) for patch in patches)
 
 
 def read_item(part: list[Token], shown: Callable[[Token], str]) -> ReadItem:

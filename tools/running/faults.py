@@ -9,6 +9,7 @@ from history import FaultyAction, History, faulty_actions, shown_value  # first:
 import script
 from forms import close_to
 from meaning import ClockMove, Insertion, Modification, Retraction, World, floor_of, start_and_duration
+from moments import moment
 from program import DEFAULT
 from run import TEXT_END, has_kind
 from trees import LengthWindow, Plain
@@ -116,13 +117,19 @@ def late(step: Insertion, w: World) -> str:
     """Which floor the event is below: that of the order, or that of the lateness."""
     start, _ = start_and_duration(step, w)
     last, behind = w.last_starts.get(step.entry, 0), w.clock - w.program.latenesses[step.entry]
-    text = f"it starts at {start}, and `{step.entry}` takes events from {floor_of(w, step.entry)} on"
+    text = f"it starts at {moment(start)}, and `{step.entry}` takes events from {moment(floor_of(w, step.entry))} on"
     if last >= behind:
         return f"{text}, where its last one started: events of one entry point come in the order of their starts, whatever the lateness"
     lateness = w.program.latenesses[step.entry]
     if lateness == 0:
-        return f"{text}: the clock is {w.clock}, and `{step.entry}` has no @lateness"
-    return f"{text}: the clock is {w.clock}, and the lateness {lateness}"
+        return f"{text}: the clock is {moment(w.clock)}, and `{step.entry}` has no @lateness" + told_when_over(step, w)
+    return f"{text}: the clock is {moment(w.clock)}, and the lateness {lateness}"
+
+
+def told_when_over(step: Insertion, w: World) -> str:
+    """What an event that lasts needs, where it is told of at its end."""
+    start, duration = start_and_duration(step, w)
+    return ": an event that is told of when it is over starts before, and needs one" if duration > 0 and start + duration <= w.clock else ""
 
 
 def of_step(code: str, step: object, history: History, w: World) -> str:
@@ -130,11 +137,11 @@ def of_step(code: str, step: object, history: History, w: World) -> str:
     if code == "Late":
         return late(step, w)
     if code == "Ahead":
-        return f"it starts at {start_and_duration(step, w)[0]}, and the clock is {w.clock}: move the clock first"
+        return f"it starts at {moment(start_and_duration(step, w)[0])}, and the clock is {moment(w.clock)}: move the clock first, or insert it when it has come"
     if code == "BadDuration":
         return f"the duration is {start_and_duration(step, w)[1]}, and has to be 0 to 2^53"
     if code == "ClockBack":
-        return f"the clock is {w.clock}, and would go to {step.to}"
+        return f"the clock is {moment(w.clock)}, and would go to {moment(step.to)}"
     if code == "ClockEnd":
         return f"the clock would go to {step.to}, and its end is 2^53"
     return absent(step.type, step.id, history)

@@ -29,7 +29,8 @@ class Told:
 
 @dataclass
 class History:
-    """The world before and behind each line up to the one that is asked for, of which the last two are kept."""
+    """The world before and behind each line up to the one that is asked for, of which the last two are kept. `earlier` has the firings
+    that lines before it printed, with the last such line; `modified` the last line at which a fact became a newer version."""
     program: Program
     lines: list[bytes]
     before: World
@@ -37,6 +38,8 @@ class History:
     answers: list[str] = field(default_factory=list)
     facts: dict[int, Told] = field(default_factory=dict)
     fired: dict[tuple, int] = field(default_factory=dict)
+    earlier: dict[str, int] = field(default_factory=dict)
+    modified: dict[int, int] = field(default_factory=dict)
     ended: bool = False
 
     @property
@@ -70,6 +73,7 @@ def followed(program: Program, script: bytes, last: Optional[int]) -> History:
     run = Run(World(program), LIMIT, LIMIT, [])
     history = History(program, lines, run.world, run.world)
     for number, line in enumerate(lines, start=1):
+        history.earlier.update((answer, number - 1) for answer in history.answers if answer.startswith("fire "))
         history.before, run.lines = run.world, []
         run.line(number, line)
         history.behind, history.answers = run.world, run.lines
@@ -94,9 +98,20 @@ def note_facts(history: History, number: int) -> None:
         if f.id not in known:
             history.facts[f.id] = Told(f, number)
         elif history.facts[f.id].fact is not f:
-            history.facts[f.id].fact = f
+            history.facts[f.id].fact, history.modified[f.id] = f, number
     for gone in known - there:
         history.facts[gone].gone = number
+
+
+def again(history: History, firing: str) -> str:
+    """Why a firing that an earlier line printed comes again; nothing where none did."""
+    line = history.earlier.get(firing)
+    if line is None:
+        return ""
+    numbers = [int(cell[1:]) for cell in firing[firing.rindex('"') + 1:].split() if cell.startswith("#")]
+    newer = [f"#{number}" for number in numbers if history.modified.get(number, 0) >= line]
+    why = f"{', '.join(newer)} was modified since, and is a newer version" if newer else "the match ceased since, and came back"
+    return f"  (again, as at line {line}: {why})"
 
 
 def shown_value(value: Union[Value, Fact]) -> str:

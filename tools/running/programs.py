@@ -45,8 +45,8 @@ def proved_is_current() -> bool:
     return all(source.stat().st_mtime <= built for source in sources() if source.exists())
 
 
-def by_proved(words: list[str], script: Optional[BinaryIO]) -> int:
-    status = subprocess.run([str(PROVED), *words], stdin=script or subprocess.DEVNULL).returncode
+def by_proved(words: list[str], script: Optional[BinaryIO], program: Path = PROVED) -> int:
+    status = subprocess.run([str(program), *words], stdin=script or subprocess.DEVNULL).returncode
     return status if status >= 0 else 128 - status
 
 

@@ -10,9 +10,11 @@ from typing import Iterator, Optional
 from history import History, shown_fact, shown_value  # first: it finds tools/reference
 
 import temporal
+from forms import with_article
 from lint import Desk
 from meaning import (RELATIONS, Fact, Row, World, bound_by, candidates, comparison_holds, fire_line, firing_key, fold, is_mature,
                      is_present, longer_rows, passes, pending, present, quoted, test_holds, times_named, times_of, value_of)
+from moments import moment
 from program import DEFAULT
 from tokens import Token
 from tolerant import ReadItem
@@ -62,14 +64,14 @@ def place_of_sending(source: Source, f: Fact, w: World) -> Optional[str]:
     if not any(f is there for there in w.facts):
         return "is not there"
     if not is_present(f, w):
-        return f"expired at {f.start + w.program.types[f.type].expires}"
+        return f"expired at {moment(f.start + w.program.types[f.type].expires)}"
     return None
 
 
 def window_sending(source: Source, f: Fact, w: World) -> str:
     """Why a fact that passes the constant tests is not in the window."""
     if isinstance(source.window, TimeWindow):
-        return f"left the window at {f.start + source.window.length}"
+        return f"left the window at {moment(f.start + source.window.length)}"
     return f"is not among the last {source.window.count} that pass the constant tests"
 
 
@@ -77,8 +79,8 @@ def meant(test: object, f: Fact, row: Row) -> str:
     """The values that a test compares."""
     if not isinstance(test, AnyOf):
         (start, end), other = times_of(f), row.names[test.other]
-        times = f"{start}" if start == end else f"{start} to {end}"
-        of_other = f"{other.start}" if other.start == other.end else f"{other.start} to {other.end}"
+        times = moment(start) if start == end else f"{moment(start)} to {moment(end)}"
+        of_other = moment(other.start) if other.start == other.end else f"{moment(other.start)} to {moment(other.end)}"
         others = [op for op in temporal.OPERATORS if temporal.holds(op, (), times_of(f), times_of(other))]
         return f"it is at {times}, and ${test.other}, #{other.id}, at {of_other}, so that {' and '.join(f'`{op}`' for op in others) or 'none'} holds"
     told = []
@@ -143,7 +145,7 @@ class Inspection:
         w, entry = self.world, source.entry or DEFAULT
         last = temporal.greatest_start(times_named(source, row), w.program.types[source.type].duration is None)
         until = last + w.program.latenesses[entry] + 1
-        return f"waits until the clock is {until}: a `{source.type}` that starts up to {last} may still come into `{entry}`"
+        return f"waits until the clock is {moment(until)}: {with_article(source.type)} that starts up to {moment(last)} may still come into `{entry}`"
 
     def kept_back(self, condition: Condition, row: Row) -> str:
         """Why a row does not go on behind a condition."""
@@ -152,9 +154,21 @@ class Inspection:
             return self.tally(source, row)
         passing = [f for f in candidates(source, self.world) if passes(source, f, row)]
         if isinstance(condition, Negated):
-            passed = ", ".join(f"#{f.id}" for f in passing[:MOST_SHOWN]) + (", .." if len(passing) > MOST_SHOWN else "")
-            return f"{passed} {'passes' if len(passing) == 1 else 'pass'}, which it forbids" if passing else self.waiting(source, row)
+            return self.forbidden(passing, row) if passing else self.waiting(source, row)
         return self.no_result(condition, passing, row)
+
+    def forbidden(self, passing: list[Fact], row: Row) -> str:
+        """Which facts keep a row back in a `not`."""
+        passed = ", ".join(f"#{f.id}" for f in passing[:MOST_SHOWN]) + (", .." if len(passing) > MOST_SHOWN else "")
+        itself = all(any(f is cell for cell in row.cells) for f in passing)
+        return f"{passed} {'passes' if len(passing) == 1 else 'pass'}, which it forbids" + (": the fact itself" if itself else "")
+
+    def elsewhere(self, source: Source) -> str:
+        """In which other entry points facts of the type are, where a pattern has none to look at."""
+        if candidates(source, self.world):
+            return ""
+        entries = Counter(f.entry for f in present(self.world) if f.type == source.type and f.entry != (source.entry or DEFAULT))
+        return "".join(f", {count} in `{entry}`" for entry, count in entries.items())
 
     def no_result(self, condition: Folded, passing: list[Fact], row: Row) -> str:
         """Why an accumulate gives nothing, or which test its result fails."""
@@ -201,7 +215,8 @@ def told_of_rule(inspection: Inspection, history: History) -> Iterator[str]:
             if not longer:
                 back.append(f"{shown_row(row)}: {inspection.kept_back(condition, row)}")
         looked = len(candidates(condition.source, w))
-        yield f"     {looked} {'fact' if looked == 1 else 'facts'} to look at; rows: {len(found)} come, {len(behind)} go on"
+        elsewhere = inspection.elsewhere(condition.source) if behind else ""
+        yield f"     {looked} {'fact' if looked == 1 else 'facts'} to look at{elsewhere}; rows: {len(found)} come, {len(behind)} go on"
         yield from (f"     {line}" for line in some(back, "are kept back"))
         found = behind
         if not found:

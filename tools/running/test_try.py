@@ -53,6 +53,12 @@ class Try(unittest.TestCase):
         self.assertEqual((output, status), ((TOP / "examples" / "dear.out").read_text(), 1))
         self.assertIn("the second evaluator", said.splitlines()[0])
 
+    def test_the_desks(self):
+        for script in sorted((TOP / "examples" / "desks").glob("*.jsonl")):
+            with self.subTest(script.stem):
+                output, _, status = tried("--by", "evaluator", script.with_suffix(".drl"), script)
+                self.assertEqual((output, status), (script.with_suffix(".out").read_text(), 1))
+
     def test_standard_input(self):
         output, _, status = tried("--by", "evaluator", DEAR, script='{"do":"insert","type":"Order","fields":{"amount":60}}\n{"do":"fire"}')
         self.assertEqual((output, status), ('new #1 Order\nfire "large order" #1\n', 0))
@@ -62,6 +68,24 @@ class Try(unittest.TestCase):
         self.assertIn("life Smoke infinite", tried("--by=evaluator", "--mode=lives", "examples/alarm.drl")[0])
         output, _, status = tried("--by=evaluator", "--limit", "3", "examples/endless.drl", "examples/endless.jsonl")
         self.assertEqual((output.splitlines()[-1], status), ("limit 3", 4))
+
+    def test_a_program_that_was_built_elsewhere(self):
+        with tempfile.TemporaryDirectory() as folder:
+            program = Path(folder, "replay")
+            program.write_text('#!/bin/sh\necho "$*"\ncat\n')
+            program.chmod(0o755)
+            output, said, status = tried("--by", program, "--limit", "5", DEAR, script="a line\n")
+        self.assertEqual((output, status), (f"--mode run --limit 5 -- {DEAR}\na line\n", 0))
+        self.assertIn(f"the program {program}", said)
+
+    def test_what_to_ask_next(self):
+        """Behind a faulty line, and behind the limit, whoever answers."""
+        for status, part in ((1, "--why"), (4, "--lint")):
+            with tempfile.TemporaryDirectory() as folder:
+                program = Path(folder, "replay")
+                program.write_text(f"#!/bin/sh\nexit {status}\n")
+                program.chmod(0o755)
+                self.assertIn(part, tried("--by", program, DEAR, SCRIPT)[1])
 
     def test_a_refusal(self):
         with tempfile.TemporaryDirectory() as folder:

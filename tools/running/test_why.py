@@ -108,6 +108,47 @@ class Why(unittest.TestCase):
         script = SCRIPT.replace(b'{"do":"at","ms":14001}', b'{"do":"insert","type":"Call","fields":{"card":"a"}}')
         self.assertIn("#1 #3: #5 passes, which it forbids", lines(22, "silent", script=script))
 
+    def test_what_forbids_itself(self):
+        rules = b"declare A @role( event ) end rule r when $a : A() not( A( this after[0s,9s] $a ) ) then end"
+        text = "\n".join(told(argparse.Namespace(line=None, rule="r", fact=[]), rules, b'{"do":"insert","type":"A","fields":{}}'))
+        self.assertIn("#1: #1 passes, which it forbids: the fact itself", text)
+
+    def test_facts_elsewhere(self):
+        """A `not` that holds, since what it looks for came in by another entry point."""
+        rules = b'declare A end declare B end declare entry-point "e" end rule r when A() not( B() ) then end'
+        script = b'{"do":"insert","type":"A","fields":{}}\n{"do":"insert","type":"B","entry":"e","fields":{}}\n'
+        text = "\n".join(told(argparse.Namespace(line=None, rule="r", fact=[]), rules, script))
+        self.assertIn("0 facts to look at, 1 in `e`; rows: 1 come, 1 go on", text)
+
+    def test_what_a_line_with_max_leaves(self):
+        rules = b"declare A end rule r when A() then end"
+        script = b'{"do":"insert","type":"A","fields":{}}\n' * 3 + b'{"do":"fire","max":1}\n'
+        text = "\n".join(told(argparse.Namespace(line=None, rule=None, fact=[]), rules, script))
+        self.assertIn("pending: 3", text)
+        self.assertIn("left pending: 2, as the line has a `max`", text)
+
+    def test_what_fires_again(self):
+        rules = b"declare A n : long end declare B end rule r when A() then end rule s when A() not( B() ) then end"
+        insert, modify = b'{"do":"insert","type":"%s","fields":{%s}}\n', b'{"do":"modify","type":"A","id":1,"fields":{"n":2}}\n'
+        fire, gone = b'{"do":"fire"}\n', b'{"do":"retract","type":"B","id":2}\n'
+        for between, text in ((modify, 'fire "r" #1  (again, as at line 2: #1 was modified since, and is a newer version)'),
+                              (insert % (b"B", b"") + gone, 'fire "s" #1  (again, as at line 2: the match ceased since, and came back)')):
+            script = insert % (b"A", b'"n":1') + fire + between + fire
+            said = "\n".join(told(argparse.Namespace(line=None, rule=None, fact=[]), rules, script))
+            self.assertEqual(said.count(text), 2)
+
+    def test_an_event_told_of_when_it_is_over(self):
+        rules = b"declare A @role( event ) @timestamp( s ) @duration( d ) s : long d : long end rule r when A() then end"
+        script = b'{"do":"at","ms":9000}\n{"do":"insert","type":"A","fields":{"s":5000,"d":4000}}\n'
+        text = "\n".join(told(argparse.Namespace(line=None, rule=None, fact=[]), rules, script))
+        self.assertIn("the clock is 9000, and `DEFAULT` has no @lateness: an event that is told of when it is over", text)
+
+    def test_dates(self):
+        rules = b"declare A @role( event ) @timestamp( at ) at : long end rule r when A() then end"
+        script = b'{"do":"at","ms":1772524800000}\n{"do":"insert","type":"A","fields":{"at":1772524800001}}\n'
+        text = "\n".join(told(argparse.Namespace(line=None, rule=None, fact=[]), rules, script))
+        self.assertIn("it starts at 1772524800001 (2026-03-03 08:00:00.001), and the clock is 1772524800000 (2026-03-03 08:00:00): move", text)
+
     def test_a_fact(self):
         text = lines(5, "silent", [4, 2, 99])
         self.assertIn('condition 2: behind #1 it fails `card == $n`: card is "b", and it is compared with "a"', text)

@@ -17,7 +17,7 @@ from difflib import get_close_matches
 from pathlib import Path
 from typing import BinaryIO, Callable, Optional
 
-from programs import by_checked, by_evaluator, by_proved, checked_is_there, proved_is_current, put, tell  # first: it finds the others
+from programs import PROVED, by_checked, by_evaluator, by_proved, checked_is_there, proved_is_current, put, tell  # first: it finds the others
 
 import cases
 import lint
@@ -73,14 +73,18 @@ class Asked:
 
 
 def without_by(words: list[str]) -> tuple[list[str], Optional[str]]:
-    """The words without `--by NAME`, which is no word of the program."""
+    """The words without `--by NAME`, which is no word of the program; NAME may be the path of a program that was built elsewhere."""
     place = next((k for k, word in enumerate(words) if word == "--by" or word.startswith("--by=")), None)
     if place is None:
         return words, None
     name, width = (words[place][5:], 1) if "=" in words[place] else (" ".join(words[place + 1:place + 2]), 2)
-    if name not in ("proved", "evaluator", "checked"):
-        raise Ended(2, f"--by is proved, evaluator or checked, and not `{name}`")
+    if name not in ("proved", "evaluator", "checked") and not is_program(name):
+        raise Ended(2, f"--by is proved, evaluator, checked or the path of a built program, and not `{name}`")
     return words[:place] + words[place + width:], name
+
+
+def is_program(name: str) -> bool:
+    return "/" in name and Path(name).is_file() and os.access(name, os.X_OK)
 
 
 def what_is_wrong(words: list[str]) -> str:
@@ -212,10 +216,13 @@ def run_rules(words: list[str]) -> int:
     data = rules_in(asked.rules)
     script = script_in(asked.script) if asked.mode == "run" else None
     by = chosen(asked, script)
-    if by == "proved":
-        tell("the proved program")
-        status = by_proved([*asked.options, "--", str(asked.rules)], script)
-        return refused(asked, data) if status == 3 else status
+    if by == "proved" or is_program(by):
+        tell("the proved program" if by == "proved" else f"the program {by}")
+        status = by_proved([*asked.options, "--", str(asked.rules)], script, PROVED if by == "proved" else Path(by))
+        if status == 3:
+            return refused(asked, data)
+        hint(asked, status)
+        return status
     program = program_or_refusal(data, TODAY)
     if isinstance(program, str):
         put(program + "\n")

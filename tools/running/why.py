@@ -16,11 +16,12 @@ import sys
 from pathlib import Path
 from typing import Iterator
 
-from history import History, followed, shown_fact  # first: it finds the other tools
+from history import History, again, followed, shown_fact  # first: it finds the other tools
 
 import faults
 from lint import Desk, desk_of
 from meaning import floor_of
+from moments import moment
 from rows import Inspection, Text, told_of_fact, told_of_rule, told_pending
 from where import report
 
@@ -33,7 +34,7 @@ def told_of_line(history: History) -> Iterator[str]:
     reasons = list(faults.told(history))
     for answer in history.answers:
         if not answer.startswith(f"fault {history.number} "):
-            yield f"  {answer}"
+            yield f"  {answer}{again(history, answer)}"
     yield from (f"  {reason}" for reason in reasons)
     if not history.answers:
         yield "  (it answers nothing)"
@@ -42,13 +43,16 @@ def told_of_line(history: History) -> Iterator[str]:
 def told_of_world(history: History) -> Iterator[str]:
     """The clock, the floors, and what is pending."""
     w = history.world
-    floors = ", ".join(f"`{entry}` {floor_of(w, entry)}" for entry in w.program.latenesses)
-    yield f"{'found' if history.is_fire else 'left'}: the clock is {w.clock}; events are taken from: {floors}"
+    floors = ", ".join(f"`{entry}` {moment(floor_of(w, entry))}" for entry in w.program.latenesses)
+    yield f"{'found' if history.is_fire else 'left'}: the clock is {moment(w.clock)}; events are taken from: {floors}"
     lines = told_pending(w)
     yield f"pending: {len(lines) or 'nothing'}"
-    yield from (f"  {line}" for line in lines[:MOST_PENDING])
+    yield from (f"  {line}{again(history, line)}" for line in lines[:MOST_PENDING])
     if len(lines) > MOST_PENDING:
         yield f"  and {len(lines) - MOST_PENDING} more"
+    left = len(told_pending(history.behind)) if history.is_fire and lines else 0
+    if left:
+        yield f"left pending: {left}, as the line has a `max` or the run a limit"
 
 
 def told_of_named_rule(name: str, data: bytes, desk: Desk, history: History, numbers: list[int]) -> Iterator[str]:
