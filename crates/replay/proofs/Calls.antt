@@ -242,21 +242,19 @@ mode_done gives fires counts name mode limit w first last left given faults befo
     other n some (inr more) (inr both) e = omega (arith, both.1, e, more)
 
 -- a call may end with a refusal
-pub refusal_ends : (asked : Asked) (s : ℕ) → (s ≡ 3) ⊎ ((6 ≤ s) × (s ≤ 7)) → MayEnd (Some asked) s
-refusal_ends (RuleFile name mode limit) s (inl three) = inr (omega (arith, three), omega (arith, three))
-refusal_ends (RuleFile name mode limit) s (inr both) = inr (omega (arith, both.0), omega (arith, both.1))
-refusal_ends (Load number limit) s (inl three) = inr (inl three)
-refusal_ends (Load number limit) s (inr both) = inr (inr (inr both))
+refusal_ends : (name : List ℕ) (mode : Mode) (limit s : ℕ) → (s ≡ 3) ⊎ ((6 ≤ s) × (s ≤ 7)) → MayEnd (Some (RuleFile name mode limit)) s
+refusal_ends name mode limit s (inl three) = inr (omega (arith, three), omega (arith, three))
+refusal_ends name mode limit s (inr both) = inr (omega (arith, both.0), omega (arith, both.1))
 
 -- a rule file that is missing or refused
-pub refused_done : (gives : Gives) (fires : Fires) (counts : Counts) (asked : Asked) (refusal : Refusal) (first last : ShelfSeen) (left : Option (List ℕ)) (given faults : ℕ)
+pub refused_done : (gives : Gives) (fires : Fires) (counts : Counts) (name : List ℕ) (mode : Mode) (limit : ℕ) (refusal : Refusal) (first last : ShelfSeen) (left : Option (List ℕ)) (given faults : ℕ)
     (before after : Option (List ℕ)) (failed failed' s : ℕ) → (s ≤ 4 → (after ≡ append before (refusal_text refusal)) × (s ≡ 3)) → (5 ≤ s → AppendsFront before after (refusal_text refusal))
-    → (s ≡ 3) ⊎ ((6 ≤ s) × (s ≤ 7)) → (s ≡ 6 → Rose failed failed') → (s ≡ 3 → IsUnfit first.files first.misses last.misses asked)
-    → RunOf gives fires counts (Some asked) (Some (refuses refusal)) (seen first left given faults before failed) (seen last left given faults after failed') s
-refused_done gives fires counts asked refusal first last left given faults before after failed failed' s said front answers write file =
-    script_unread gives fires counts (Some asked) (refuses refusal) first last left given faults before after failed failed' s
+    → (s ≡ 3) ⊎ ((6 ≤ s) × (s ≤ 7)) → (s ≡ 6 → Rose failed failed') → (s ≡ 3 → IsUnfit first.files first.misses last.misses (RuleFile name mode limit))
+    → RunOf gives fires counts (Some (RuleFile name mode limit)) (Some (refuses refusal)) (seen first left given faults before failed) (seen last left given faults after failed') s
+refused_done gives fires counts name mode limit refusal first last left given faults before after failed failed' s said front answers write file =
+    script_unread gives fires counts (Some (RuleFile name mode limit)) (refuses refusal) first last left given faults before after failed failed' s
     (λ script. written_as (record { bytes = refusal_text refusal; status = 3 }) refl said front)
-    (refusal_ends asked s answers) (λ five. other answers (inr (inl five))) (λ eight. other answers (inr (inr eight))) (λ three. (said (omega (arith, three))).0)
+    (refusal_ends name mode limit s answers) (λ five. other answers (inr (inl five))) (λ eight. other answers (inr (inr eight))) (λ three. (said (omega (arith, three))).0)
     (λ two. absurd (other answers (inl (omega (arith, two))))) file write (λ low. absurd (other answers (inl (omega (arith, low)))))
   where
     other : (s ≡ 3) ⊎ ((6 ≤ s) × (s ≤ 7)) → (s ≤ 2) ⊎ (s ≡ 5) ⊎ (s ≡ 8) → ⊥
@@ -289,21 +287,16 @@ usage_done gives fires counts first last left given faults before after failed f
     other (inr six) (inr (inl e)) = omega (arith, six, e)
     other (inr six) (inr (inr e)) = omega (arith, six, e)
 
--- a load of which the rule file is accepted
+-- a load
 pub load_done : (gives : Gives) (fires : Fires) (counts : Counts) (number limit : ℕ) (w : Wanted) (first last : ShelfSeen) (left : Option (List ℕ)) (given faults : ℕ)
     (before after : Option (List ℕ)) (failed failed' s : ℕ) → ((script : List ℕ) → IsWritten gives fires counts w script before after s)
     → (s ≤ 1) ⊎ (s ≡ 4) ⊎ ((6 ≤ s) × (s ≤ 7)) → (s ≡ 6 → Rose failed failed')
     → RunOf gives fires counts (Some (Load number limit)) (Some w) (seen first left given faults before failed) (seen last left given faults after failed') s
 load_done gives fires counts number limit w first last left given faults before after failed failed' s written answers write =
     script_unread gives fires counts (Some (Load number limit)) w first last left given faults before after failed failed' s written
-    (ends answers) (λ five. other answers (inl five)) (λ eight. other answers (inr (inl eight))) (λ three. absurd (other answers (inr (inr (inl three)))))
+    answers (λ five. other answers (inl five)) (λ eight. other answers (inr (inl eight))) (λ three. absurd (other answers (inr (inr (inl three)))))
     (λ two. absurd (other answers (inr (inr (inr two))))) (λ three. absurd (other answers (inr (inr (inl three))))) write (λ low run. run)
   where
-    ends : (s ≤ 1) ⊎ (s ≡ 4) ⊎ ((6 ≤ s) × (s ≤ 7)) → MayEnd (Some (Load number limit)) s
-    ends (inl low) = inl low
-    ends (inr (inl four)) = inr (inr (inl four))
-    ends (inr (inr both)) = inr (inr (inr both))
-
     other : (s ≤ 1) ⊎ (s ≡ 4) ⊎ ((6 ≤ s) × (s ≤ 7)) → (s ≡ 5) ⊎ (s ≡ 8) ⊎ (s ≡ 3) ⊎ (s ≡ 2) → ⊥
     other answers is = grind (arith, answers, is)
 
@@ -542,9 +535,14 @@ module _ {gives : Gives} {fires : Fires} {counts : Counts} {asked : Option Asked
       five (name, mode, limit, is, inr rose) = subst NoRun is none rose.0
 
   -- no rule file is read, and no write failed
-  pub completes_load : IfSome asked (λ it. ¬ ReadsFile it) → (Rose before.write_faults after.write_faults → ⊥) → (s ≤ 4) ⊎ (s ≡ 7)
-  completes_load none write = stays_low asked run.ends five (λ six. write (run.write six)) (not_8 (no_file_no_run asked none))
+  pub completes_load : IfSome asked (λ it. ¬ ReadsFile it) → (Rose before.write_faults after.write_faults → ⊥) → (s ≤ 2) ⊎ (s ≡ 4) ⊎ (s ≡ 7)
+  completes_load none write = ends_low asked none run.ends five (λ six. write (run.write six)) (not_8 (no_file_no_run asked none))
     where
+      ends_low : (a : Option Asked) → IfSome a (λ it. ¬ ReadsFile it) → MayEnd a s → s ≢ 5 → s ≢ 6 → s ≢ 8 → (s ≤ 2) ⊎ (s ≡ 4) ⊎ (s ≡ 7)
+      ends_low None n ends not_5 not_6 not_8 = grind (arith, ends)
+      ends_low (Some (RuleFile name mode limit)) n ends not_5 not_6 not_8 = absurd (n tt)
+      ends_low (Some (Load number limit)) n ends not_5 not_6 not_8 = grind (arith, ends)
+
       five : s ≢ 5
       five is = let cause = run.read is in subst (λ (a : Option Asked). IfSome a (λ it. ¬ ReadsFile it)) cause.3 none tt
 

@@ -59,7 +59,7 @@ TellsScript _ told script = Unit {0}
 abbrev pub MayEnd : Option Asked → ℕ → Type 0
 MayEnd None status = (status ≡ 2) ⊎ ((6 ≤ status) × (status ≤ 7))
 MayEnd (Some (RuleFile name mode limit)) status = (status ≤ 1) ⊎ ((3 ≤ status) × (status ≤ 8))
-MayEnd (Some (Load number limit)) status = (status ≤ 1) ⊎ (status ≡ 3) ⊎ (status ≡ 4) ⊎ ((6 ≤ status) × (status ≤ 7))
+MayEnd (Some (Load number limit)) status = (status ≤ 1) ⊎ (status ≡ 4) ⊎ ((6 ≤ status) × (status ≤ 7))
 
 -- ---- a call
 

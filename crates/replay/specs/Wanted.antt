@@ -92,7 +92,8 @@ abbrev pub HasRefused : Option Files → List ℕ → Type 0
 HasRefused None name = Unit {0}
 HasRefused (Some files) name = IsRefusedFile (files name)
 
--- the rule file that is asked for is missing, as the shelf's counts of misses before and after say, or its bytes are refused, where they are told
+-- the rule file that is asked for is missing, as the shelf's counts of misses before and after say, or its bytes are refused, where they are told;
+-- that of a load is accepted (law `replay::laws::the_rule_file_of_a_load_is_accepted`)
 abbrev pub IsUnfit : Option Files → (List ℕ → ℕ) → (List ℕ → ℕ) → Asked → Type 0
 IsUnfit told before after (RuleFile name mode limit) = Rose (before name) (after name) ⊎ HasRefused told name
-IsUnfit told before after (Load number limit) = IsRefused (reading rules_text)
+IsUnfit told before after (Load number limit) = ⊥

@@ -1,10 +1,12 @@
 //! Laws of the run, each the contract of a function that does nothing.
 ghost use Rattle.std.specs.Prelude.{◌≡◌, ◌↔◌, ℕ, List, None};
+ghost use Rattle.gen_load.specs.Rules.{rules_text};
 ghost use Rattle.rule_model.specs.declared.program.Program.{Program};
 ghost use Rattle.rule_world.specs.Worlds.{World};
 ghost use Rattle.engine.specs.declared.lines.OutLine.{OutLine};
 ghost use Rattle.script_run.specs.Firings.{Counts, Fires, Gives, all_fired, firings};
 ghost use Rattle.replay.specs.declared.rule_file.Reading.{Reading};
+ghost use Rattle.replay.specs.declared.rule_file.Reading.TheVariants.{Accepted};
 ghost use Rattle.replay.specs.Refusals.{reading};
 ghost use Rattle.replay.specs.Report.{Report, IsReport};
 ghost use Rattle.replay.specs.RuleFiles.{IsReading};
@@ -25,6 +27,11 @@ pub fn a_rule_file_is_what_the_grammar_says(bytes: &[u8])
 {
     parsed_is_exact(bytes)
 }
+
+/// The rule file of a load is accepted.
+pub fn the_rule_file_of_a_load_is_accepted()
+    ensures { (program : Program) × (reading rules_text ≡ Accepted program) }
+{}
 
 /// What is wanted has at most one report.
 pub fn there_is_at_most_one_report()

@@ -218,7 +218,7 @@ pub fn run_rules<E: Engine, F: Shelf, S: Source, K: Sink>(
 /// script was a fault, 2 where the words are refused, 3 where the rule file is missing or refused, 4 where a match was pending
 /// when no firing was left, 5 where a read failed, 6 where a write failed, 7 where memory was refused, and 8 where the script has
 /// more than 1 GiB. Of these the modes other than `run` have 0, 3, 5, 6 and 7, and a load has those of its run, 0, 1 and 4, besides
-/// 3, 6 and 7.
+/// 6 and 7: its rule file is accepted.
 pub fn replay<E: Engine, F: Shelf, S: Source, K: Sink>(
     alloc: Global,
     words: &[String],
@@ -259,7 +259,7 @@ pub fn replay<E: Engine, F: Shelf, S: Source, K: Sink>(
         → ((name : List ℕ) → Rose (F.faults shelf.old name) (F.faults shelf.new name) → ⊥) → (Rose (K.faults out.old) (K.faults out.new) → ⊥)
         → (result ≤ 4) ⊎ (result ≡ 7) }
     ensures load_completes { IfSome (asked_by words.now) (λ asked. ¬ ReadsFile asked) → (Rose (K.faults out.old) (K.faults out.new) → ⊥)
-        → (result ≤ 4) ⊎ (result ≡ 7) }
+        → (result ≤ 2) ⊎ (result ≡ 4) ⊎ (result ≡ 7) }
     ensures answers { result ≤ 8 }
 
     // The causes of the answers, of whatever shelf, script and sink.

@@ -1,15 +1,15 @@
-use Rattle.std.proofs.Common.{◌≡◌, refl, sym, ap, ◌∙◌, inl, inr, arith, subst}
-use Rattle.command_words.specs.declared.asking.Asked.TheVariants.{Load}
+use Rattle.std.proofs.Common.{◌≡◌, refl, sym, ap, ◌∙◌, inl, inr, arith}
 use Rattle.gen_load.specs.Rules.{rules_text}
 use Rattle.replay.specs.declared.rule_file.Reading.TheVariants.{Accepted, Refused}
-use Rattle.replay.specs.Refusals.{reading, IsRefused}
+use Rattle.replay.specs.Refusals.{reading}
 use Rattle.replay.specs.Wanted.{sums_up}
-use Rattle.replay.proofs.Calls.{load_done, refused_done, nothing_done}
+use Rattle.replay.proofs.Calls.{load_done, nothing_done}
+use Rattle.replay.proofs.LoadFile.{load_file_accepted}
 use Rattle.replay.proofs.Reports.{a_load}
 use Rattle.replay.proofs.load.run_load.Goals as goal
 
 pub returns-in-Err : goal.returns-in-Err
-returns-in-Err g c first last left given faults = nothing_done g.E.Engine.gives g.E.Engine.fires g.E.Engine.counts _ _ first last left given faults _ _ 7 (inr (inr (inr (omega arith, omega arith)))) (inl refl)
+returns-in-Err g c first last left given faults = nothing_done g.E.Engine.gives g.E.Engine.fires g.E.Engine.counts _ _ first last left given faults _ _ 7 (inr (inr (omega arith, omega arith))) (inl refl)
 
 pub returns-in-Ok-Accepted : goal.returns-in-Ok-Accepted
 returns-in-Ok-Accepted g c first last left given faults =
@@ -27,9 +27,7 @@ pub returns-in-Ok-Refused : goal.returns-in-Ok-Refused
 returns-in-Ok-Refused g c first last left given faults =
     let is : reading rules_text ≡ Refused c.in-Ok-Refused.refusal =
     ap reading (sym (c.as_slice.ensures ∙ c.in-Ok.ensures.rules)) ∙ sym c.in-Ok-Refused.ensures.reading ∙ c.in-Ok-Refused.field-0-is in
-    rw (a_load c.args.number c.args.limit (Refused c.in-Ok-Refused.refusal) is)
-    (refused_done g.E.Engine.gives g.E.Engine.fires g.E.Engine.counts (Load c.args.number c.args.limit) c.in-Ok-Refused.refusal first last left given faults _ _ _ _ _
-    c.refuse.ensures.said c.refuse.ensures.front c.refuse.ensures.answers c.refuse.ensures.cause (λ three. subst IsRefused (sym is) tt))
+    let both : Refused c.in-Ok-Refused.refusal ≡ Accepted load_file_accepted.0 = sym is ∙ load_file_accepted.1 in absurd cc
 
 pub returns : goal.returns
-returns g c first last left given faults = nothing_done g.E.Engine.gives g.E.Engine.fires g.E.Engine.counts _ _ first last left given faults _ _ 7 (inr (inr (inr (omega arith, omega arith)))) (inl refl)
+returns g c first last left given faults = nothing_done g.E.Engine.gives g.E.Engine.fires g.E.Engine.counts _ _ first last left given faults _ _ 7 (inr (inr (omega arith, omega arith))) (inl refl)

@@ -14,7 +14,7 @@ returns-in-Err-Missing-clause-run g c =
     let gone = c.in-Err-Missing.ensures.missing (ap Err c.in-Err-Missing.field-0-is) in
     let miss = c.in-Err-Missing.ensures.miss (ap Err c.in-Err-Missing.field-0-is) in
     by_told (wanted_told (Some (RuleFile c.args.name.now c.args.mode c.args.limit)) (g.F.Shelf.files c.args.shelf.now)) (refuses c.whole_file.result)
-    (refused_done g.E.Engine.gives g.E.Engine.fires g.E.Engine.counts (RuleFile c.args.name.now c.args.mode c.args.limit) c.whole_file.result _ _ _ _ _ _ _ _ _ _ c.refuse.ensures.said c.refuse.ensures.front c.refuse.ensures.answers c.refuse.ensures.cause
+    (refused_done g.E.Engine.gives g.E.Engine.fires g.E.Engine.counts c.args.name.now c.args.mode c.args.limit c.whole_file.result _ _ _ _ _ _ _ _ _ _ c.refuse.ensures.said c.refuse.ensures.front c.refuse.ensures.answers c.refuse.ensures.cause
     (λ three. inl miss))
     (told_is (g.F.Shelf.files c.args.shelf.now) (λ files. wanted_by_name (wanted_of c.args.mode c.args.limit) files c.args.name.now) (refuses c.whole_file.result) (λ files told. no_file (wanted_of c.args.mode c.args.limit) c.args.name.now _ files told gone ∙ ap refuses (sym c.whole_file.ensures)))
 
@@ -42,7 +42,7 @@ unfolding file_limit
 returns-in-Ok-Refused-clause-run g c =
     let is : reading c.in-Ok.file.items ≡ Refused c.in-Ok-Refused.refusal = ap reading (sym c.deref.ensures.value) ∙ sym c.in-Ok-Refused.ensures.reading ∙ c.in-Ok-Refused.field-0-is in
     by_told (wanted_told (Some (RuleFile c.args.name.now c.args.mode c.args.limit)) (g.F.Shelf.files c.args.shelf.now)) (refuses c.in-Ok-Refused.refusal)
-    (refused_done g.E.Engine.gives g.E.Engine.fires g.E.Engine.counts (RuleFile c.args.name.now c.args.mode c.args.limit) c.in-Ok-Refused.refusal _ _ _ _ _ _ _ _ _ _ c.refuse-in-Ok-Refused.ensures.said c.refuse-in-Ok-Refused.ensures.front c.refuse-in-Ok-Refused.ensures.answers c.refuse-in-Ok-Refused.ensures.cause
+    (refused_done g.E.Engine.gives g.E.Engine.fires g.E.Engine.counts c.args.name.now c.args.mode c.args.limit c.in-Ok-Refused.refusal _ _ _ _ _ _ _ _ _ _ c.refuse-in-Ok-Refused.ensures.said c.refuse-in-Ok-Refused.ensures.front c.refuse-in-Ok-Refused.ensures.answers c.refuse-in-Ok-Refused.ensures.cause
     (λ three. inr (refused_file c.args.name.now _ c.in-Ok.file.items c.in-Ok-Refused.refusal c.in-Ok.ensures.found c.in-Ok.ensures.bytes is)))
     (told_is (g.F.Shelf.files c.args.shelf.now) (λ files. wanted_by_name (wanted_of c.args.mode c.args.limit) files c.args.name.now) (refuses c.in-Ok-Refused.refusal) (λ files told. a_file (wanted_of c.args.mode c.args.limit) c.args.name.now _ files c.in-Ok.file.items (Refused c.in-Ok-Refused.refusal) told c.in-Ok.ensures.found c.in-Ok.ensures.bytes is))
 

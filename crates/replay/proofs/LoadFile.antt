@@ -1,0 +1,10 @@
+-- What the rule file of a load reads as.
+use Rattle.std.proofs.Common.{◌≡◌, ap, ◌∙◌}
+use Rattle.gen_load.specs.Rules.{rules_text}
+use Rattle.rule_model.specs.declared.program.Program.{Program}
+use Rattle.load_laws.proofs.Accepted.{accepted}
+use Rattle.replay.specs.declared.rule_file.Reading.TheVariants.{Accepted}
+use Rattle.replay.specs.Refusals.{of_checked, of_parsed, reading}
+
+pub load_file_accepted : (program : Program) × (reading rules_text ≡ Accepted program)
+load_file_accepted = (accepted.1, ap of_parsed accepted.2 ∙ ap of_checked accepted.3)
