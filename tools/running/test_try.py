@@ -59,7 +59,7 @@ class Try(unittest.TestCase):
 
     def test_the_words_of_the_program(self):
         self.assertEqual(tried("--by=evaluator", "--mode", "check", DEAR)[::2], ("accepted 2 types 3 rules\n", 0))
-        self.assertIn("life Smoke infinite", tried("--by=evaluator", "--mode=lives", "examples/alarm.drl")[0])
+        self.assertIn("life Scan infinite", tried("--by=evaluator", "--mode=lives", "examples/parcels.drl")[0])
         output, _, status = tried("--by=evaluator", "--limit", "3", "examples/endless.drl", "examples/endless.jsonl")
         self.assertEqual((output.splitlines()[-1], status), ("limit 3", 4))
 
