@@ -111,7 +111,7 @@ class Caller(unittest.TestCase):
 
     def test_no_program(self):
         _, said, status = self.called("nothere", "")
-        self.assertEqual((said.count("\n"), status), (1, 1))
+        self.assertEqual((said.count("\n"), status), (1, 2))
         self.assertIn("there is no program nothere to run", said)
 
     def test_a_row_that_lacks_a_column(self):
