@@ -6,6 +6,7 @@
 Rows come in the order of their arrival. Each is held back for two seconds, the lateness of its entry point, so that what starts first
 goes in first, and the clock is moved to the moments of arrival. In a real stream these are the machine's clock, and a timer calls
 `until` each second, so that alerts of what did not happen come too. docs/LIVE.md says how the client is used.
+The status is the program's, and 2 where there is no program, or it ends before its script does.
 """
 
 import csv
@@ -70,7 +71,8 @@ class Desk:
 
 def main():
     if len(sys.argv) != 3:
-        sys.exit("usage: caller.py PROGRAM RULES < ROWS")
+        print("usage: caller.py PROGRAM RULES < ROWS", file=sys.stderr)
+        return 2
     try:
         session = Session(sys.argv[2], sys.argv[1])
         desk, table = Desk(session), csv.DictReader(sys.stdin)
@@ -79,7 +81,8 @@ def main():
         desk.rest()
         status = session.close()
     except ClientError as error:
-        sys.exit(f"caller.py: {error}")
+        print(f"caller.py: {error}", file=sys.stderr)
+        return 2
     print(f"the program's status: {status}", file=sys.stderr)
     return status
 

@@ -119,7 +119,7 @@ class Session(Lines[Answer]):
             return subprocess.Popen(words, stdin=subprocess.PIPE, stdout=subprocess.PIPE)
         except OSError as error:
             raise NoProgram(f"there is no program {error.filename or words[0]} to run ({error.strerror}): build it (README.md, "
-                            "command 3), or take tools/reference/live.py") from None
+                            "Commands), or take tools/reference/live.py") from None
 
     @property
     def facts(self) -> list[Fact]:

@@ -73,9 +73,7 @@ RULES = [
 
 # The lines of the examples that have a warning; each is so, and some are there to be shown.
 OF_EXAMPLES = {
-    "alarm.drl": ["54 for-ever", "55 for-ever", "65 for-ever", "66 for-ever"],
     "endless.drl": ["8 again"],
-    "fraud.drl": ["43 for-ever", "44 for-ever", "46 for-ever", "56 for-ever", "108 for-ever", "111 for-ever"],
     "parcels.drl": ["26 for-ever", "27 for-ever", "27 undeclared-entry"],
     "coming-from/differs.drl": ["16 pairs-itself", "23 undeclared-entry"],
     "coming-from/esper.drl": ["18 for-ever", "19 for-ever", "26 for-ever", "36 for-ever", "51 for-ever", "52 for-ever", "56 for-ever", "61 for-ever"],

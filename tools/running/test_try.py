@@ -65,7 +65,7 @@ class Try(unittest.TestCase):
 
     def test_the_words_of_the_program(self):
         self.assertEqual(tried("--by=evaluator", "--mode", "check", DEAR)[::2], ("accepted 2 types 3 rules\n", 0))
-        self.assertIn("life Smoke infinite", tried("--by=evaluator", "--mode=lives", "examples/alarm.drl")[0])
+        self.assertIn("life Scan infinite", tried("--by=evaluator", "--mode=lives", "examples/parcels.drl")[0])
         output, _, status = tried("--by=evaluator", "--limit", "3", "examples/endless.drl", "examples/endless.jsonl")
         self.assertEqual((output.splitlines()[-1], status), ("limit 3", 4))
 
@@ -135,7 +135,7 @@ class Caller(unittest.TestCase):
 
     def test_no_program(self):
         _, said, status = self.called("nothere", "")
-        self.assertEqual((said.count("\n"), status), (1, 1))
+        self.assertEqual((said.count("\n"), status), (1, 2))
         self.assertIn("there is no program nothere to run", said)
 
     def test_a_row_that_lacks_a_column(self):

@@ -35,7 +35,7 @@ MOST_LINES = 10_000
 MODES = ("run", "check", "lives")
 
 USAGE = """usage: ./try [--mode run|check|lives] [--limit N] [--by proved|evaluator|checked] RULES [SCRIPT]
-       ./try --gen N                     a load that the program makes itself (docs/COMMANDS.md)
+       ./try --gen N                     a load that the program makes itself (docs/SCRIPT.md)
        ./try --where RULES               where and why a rule file is refused, all at once
        ./try --lint RULES                what is accepted in a rule file, and seldom meant
        ./try --why RULES SCRIPT [--line N] [--rule NAME] [--fact N ..]

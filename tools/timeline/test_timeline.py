@@ -44,7 +44,7 @@ class Desks(unittest.TestCase):
         lives = desk("fraud").lives
         self.assertEqual((lives[7].told, lives[7].gone, lives[7].maker), (110000, 111000, 2))
         self.assertEqual(lives[7].changes, [Change(111000, {"open": False})])
-        self.assertEqual((lives[4].start, lives[4].told, lives[4].gone), (98500, 100000, None))
+        self.assertEqual((lives[4].start, lives[4].told, lives[4].gone), (98500, 100000, 7298500))
         beat = desk("alarm").lives[4]
         self.assertEqual((beat.gone, beat.retracted), (30000, False))
 
