@@ -7,6 +7,7 @@ from dataclasses import dataclass
 from functools import cached_property
 from pathlib import Path
 
+TABLE_RULE = re.compile(r":?-+:?")
 FENCE = re.compile(r"^ *```")
 HEADING = re.compile(r"^(#+) +(.*?)\s*$")
 ITEM = re.compile(r"^\s*(?:[-*]|\d+\.) +")
@@ -42,7 +43,8 @@ class Page:
 
     @cached_property
     def words(self) -> int:
-        return len(self.text.split())
+        """The words outside of fences; the bars and rules of tables are none."""
+        return sum(not TABLE_RULE.fullmatch(word) for line in self.parted[0] for word in line.replace("|", " ").split())
 
     @cached_property
     def parted(self) -> tuple[list[str], list[tuple[int, str]]]:
