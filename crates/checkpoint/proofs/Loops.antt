@@ -1,5 +1,5 @@
 -- The loops over the items of a list.
-use Rattle.std.proofs.Common.{◌≡◌, ℕ, zero, suc, ◌-◌, ◌+◌, ◌<◌, ◌≤◌, List, [], ◌∷◌, ◌++◌, length, get_or, take, drop, Option, Some, None, option_map, refl, sym, ap, subst, ◌∙◌, append_assoc, add-one, take-suc, arith}
+use Rattle.std.proofs.Common.{◌≡◌, ℕ, suc, ◌-◌, ◌+◌, ◌<◌, ◌≤◌, List, [], ◌∷◌, ◌++◌, length, get_or, take, drop, Option, Some, None, option_map, refl, sym, ap, subst, ◌∙◌, append_assoc, add-one, take-suc, arith}
 use Rattle.std.proofs.lemmas.List.{append-nil, drop_more}
 use Rattle.checkpoint.specs.Bytes.{each_bytes, Each}
 use Rattle.checkpoint.specs.Reading.{◌>>=◌, Read, items_at}

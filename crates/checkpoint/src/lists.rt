@@ -1,4 +1,4 @@
-ghost use Rattle.std.specs.Prelude.{◌≡◌, ◌<◌, ◌++◌, option_map, OnOk, IfOk};
+ghost use Rattle.std.specs.Prelude.{◌≡◌, ◌<◌, ◌≤◌, ◌++◌, length, option_map, OnOk, IfOk};
 ghost use Rattle.checkpoint.specs.Bytes.{string_bytes, list_bytes, each_bytes, AreAll, AreBytes, Each};
 ghost use Rattle.checkpoint.specs.Reading.{string_at, utf8_text, text_at, items_at, list_at};
 
@@ -81,12 +81,13 @@ pub(crate) fn put_list<T: Spelled>(items: &[T], out: &mut Vec<u8>) -> Result<(),
     Ok(())
 }
 
-// So many values, and the bytes behind them.
+// So many values, and the bytes behind them. Takes memory for as many at once, so there are at least so many bytes.
 fn items_at<T: Spelled>(
     alloc: Global,
     count: u64,
     from: &[u8],
 ) -> Result<Option<(Seq<T>, &[u8])>, NoMemory>
+    requires { count ≤ length from.now }
     ensures { IfOk result (λ found. option_map (λ f. (f.0, f.1.now)) found ≡ items_at T.at count from.now) }
 {
     let mut items = Vec::with_capacity(alloc, count as usize)?;
