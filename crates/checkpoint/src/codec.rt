@@ -9,7 +9,9 @@ use crate::spelled::Spelled;
 use fx_base::NoMemory;
 use std::alloc::Global;
 
-/// The bytes of an image. Its time grows with their number.
+/// The bytes of an image: `FXC1`, and its fields in order. A number has its 1, 2 or 8 bytes, the highest first, signed ones in
+/// two's complement; a truth value is a byte 0 or 1, a list is its length as a u64 and its items, a text the list of its bytes,
+/// and in front of a value stands a byte 0, 1 or 2, for a whole number, a truth value or a text. Time grows with the bytes.
 #[tactic(auto, unfolding(crate::specs::Bytes::image_bytes, crate::specs::Bytes::IsImage))]
 pub fn encode(alloc: Global, image: &Image) -> Result<Vec<u8>, NoMemory>
     ensures bytes { IfOk result (λ bytes. bytes.items ≡ image_bytes image.now) }
@@ -57,8 +59,8 @@ fn image_of(alloc: Global, bytes: &[u8]) -> Result<Option<Image>, NoMemory>
     }
 }
 
-/// The image of which these are the bytes; `BadImage` exactly where they are no image's bytes. It goes once over the bytes, and before
-/// it takes memory for a list it asks whether the bytes can have as many items as are said.
+/// The image that has these bytes. `BadImage`: exactly where no image has them. It goes once over the bytes, and takes memory
+/// for a list only where the bytes left can be as many items as are said.
 pub fn decode(alloc: Global, bytes: &[u8]) -> Result<Image, DecodeFault>
     ensures found { IfOk result (λ image. IsImage image × (image_bytes image ≡ bytes.now)) }
     ensures only { IfOk result (λ image. (other : ImageData) → IsImage other → image_bytes other ≡ bytes.now → image ≡ other) }

@@ -1,4 +1,4 @@
-//! Images of a session as plain data, and their bytes: one spelling for each image, an image for these bytes alone.
+//! Images of a session as plain data, and their bytes: one spelling for each image, and `decode` takes nothing else.
 //! It stands on `fx_base` and `row_delta`, and assumes nothing of the bytes that it is given.
 #![tactic(auto)]
 
