@@ -1,0 +1,75 @@
+-- The loops over the items of a list.
+use Rattle.std.proofs.Common.{◌≡◌, ℕ, suc, ◌-◌, ◌+◌, ◌<◌, ◌≤◌, List, [], ◌∷◌, ◌++◌, length, get_or, take, drop, Option, Some, None, option_map, refl, sym, ap, subst, ◌∙◌, append_assoc, add-one, take-suc, arith}
+use Rattle.std.proofs.lemmas.List.{append-nil, drop_more}
+use Rattle.checkpoint.specs.Bytes.{each_bytes, Each}
+use Rattle.checkpoint.specs.Reading.{◌>>=◌, Read, items_at}
+
+pub seen : {B C : Type 0} (o : Option B) (view : B → C) (read : Option C) (found : B) → option_map view o ≡ read → o ≡ Some found → read ≡ Some (view found)
+seen o view read found e is = sym e ∙ ap (option_map view) is
+
+pub seen_none : {B C : Type 0} (o : Option B) (view : B → C) (read : Option C) → option_map view o ≡ read → o ≡ None → read ≡ None
+seen_none o view read e is = sym e ∙ ap (option_map view) is
+
+-- the items read so far, before those that are read next
+abbrev pub with_front : {A : Type 0} → List A → Read (List A) → Read (List A)
+with_front front read = read >>= λ xs. Some (front ++ xs.0, xs.1)
+
+regroup : {A : Type 0} (front : List A) (x : A) (read : Read (List A)) → with_front front (read >>= λ xs. Some (x ∷ xs.0, xs.1)) ≡ with_front (front ++ x ∷ []) read
+regroup front x None = refl
+regroup {A} front x (Some xs) = ap (λ (ys : List A). Some (ys, xs.1)) (simp append_assoc)
+
+pub begins : {A : Type 0} (read : List ℕ → Read A) (count : ℕ) (bytes : List ℕ) → with_front [] (items_at read (count - 0) bytes) ≡ items_at read count bytes
+begins read count bytes = let k : count - 0 ≡ count = omega arith in rw k (nothing (items_at read count bytes))
+  where
+    nothing : {A : Type 0} (o : Read (List A)) → with_front [] o ≡ o
+    nothing None = refl
+    nothing (Some x) = refl
+
+pub goes_on : {A : Type 0} (read : List ℕ → Read A) (front : List A) (count i : ℕ) (bytes rest : List ℕ) (x : A) (total : Read (List A)) → i < count → read bytes ≡ Some (x, rest)
+    → with_front front (items_at read (count - i) bytes) ≡ total → with_front (front ++ x ∷ []) (items_at read (count - (i + 1)) rest) ≡ total
+unfolding items_at
+goes_on read front count i bytes rest x total lt is_x so_far =
+    let k : count - i ≡ suc (count - (i + 1)) = omega arith in
+    let turn : with_front front (items_at read (count - i) bytes) ≡ with_front (front ++ x ∷ []) (items_at read (count - (i + 1)) rest) =
+    rw (k, is_x) (regroup front x (items_at read (count - (i + 1)) rest)) in
+    sym turn ∙ so_far
+
+pub stops : {A : Type 0} (read : List ℕ → Read A) (front : List A) (count i : ℕ) (bytes : List ℕ) (total : Read (List A)) → i < count → read bytes ≡ None
+    → with_front front (items_at read (count - i) bytes) ≡ total → total ≡ None
+unfolding items_at
+stops read front count i bytes total lt none so_far =
+    let k : count - i ≡ suc (count - (i + 1)) = omega arith in
+    let turn : with_front front (items_at read (count - i) bytes) ≡ None = rw (k, none) refl in
+    sym so_far ∙ turn
+
+pub ends : {A : Type 0} (read : List ℕ → Read A) (front : List A) (count i : ℕ) (bytes : List ℕ) (total : Read (List A)) → count ≤ i
+    → with_front front (items_at read (count - i) bytes) ≡ total → total ≡ Some (front, bytes)
+unfolding items_at
+ends {A} read front count i bytes total le so_far =
+    let k : count - i ≡ 0 = omega arith in
+    let turn : with_front front (items_at read (count - i) bytes) ≡ Some (front, bytes) = rw k (ap (λ (ys : List A). Some (ys, bytes)) (append-nil front)) in
+    sym so_far ∙ turn
+
+-- ---- writing
+
+-- what two calls append
+pub both_appended : (before first next : List ℕ) {between after : List ℕ} → between ≡ before ++ first → after ≡ between ++ next → after ≡ before ++ (first ++ next)
+both_appended before first next one two = two ∙ ap (λ (z : List ℕ). z ++ next) one ∙ append_assoc before first next
+
+module _ {A : Type 0} (items : List A) (x : A) where
+  -- a turn of the loop that writes items
+  pub writes_on : (s : A → List ℕ) (i : ℕ) (out next all : List ℕ) → i < length items → x ≡ get_or items i x → next ≡ out ++ s x → out ++ each_bytes s (drop i items) ≡ all
+      → next ++ each_bytes s (drop (i + 1) items) ≡ all
+  writes_on s i out next all lt is e so_far =
+      let cut : drop i items ≡ x ∷ drop (i + 1) items = drop_more items i x lt ∙ ap (λ (y : A). y ∷ drop (i + 1) items) (sym is) in
+      let whole : out ++ each_bytes s (drop i items) ≡ (out ++ s x) ++ each_bytes s (drop (i + 1) items) = rw cut (sym (append_assoc out (s x) (each_bytes s (drop (i + 1) items)))) in
+      ap (λ (b : List ℕ). b ++ each_bytes s (drop (i + 1) items)) e ∙ sym whole ∙ so_far
+
+  pub fits_on : (F : A → Type 0) (i : ℕ) → i < length items → x ≡ get_or items i x → Each F (take i items) → F x → Each F (take (i + 1) items)
+  fits_on F i lt is so_far fits =
+      let cut : take (i + 1) items ≡ take i items ++ x ∷ [] = rw add-one (take-suc items i x lt ∙ ap (λ (y : A). take i items ++ y ∷ []) (sym is)) in
+      subst (Each F) (sym cut) (each_and F (take i items) so_far fits)
+    where
+      each_and : (F : A → Type 0) (xs : List A) → Each F xs → F x → Each F (xs ++ x ∷ [])
+      each_and F [] h f = (f, tt)
+      each_and F (y ∷ xs) h f = (h.0, each_and F xs h.1 f)
