@@ -148,10 +148,9 @@ class Lines(Case):
 
     def test_words_of_other_programs(self):
         session = self.session(READINGS)
-        with self.assertRaisesRegex(NotKnown, "promise.*BadCommand"):
-            session.promise(10, "plant")
-        with self.assertRaises(NotKnown):
+        with self.assertRaisesRegex(NotKnown, "begin.*BadCommand"):
             session.begin()
+        self.assertEqual(session.promise(-1, "plant").fault.code, "PromiseBack")
         other = self.session(READINGS, [sys.executable, "-c", NEWER])
         self.assertEqual((other.promise(10, "plant").text, other.begin().fault),
                          ('{"do":"promise","entry":"plant","from":10}', None))

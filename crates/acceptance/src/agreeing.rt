@@ -10,7 +10,7 @@ use rete_net::{Rete, RuleChange};
 use row_change::changes_nothing;
 use row_delta::{Delta, Row};
 use rule_eval::rows_of_rules;
-use rule_model::Program;
+use rule_model::{Moment, Program};
 use rule_world::{floor, new_times};
 use std::alloc::Global;
 use std::mem::replace;
@@ -37,6 +37,8 @@ pub(crate) enum Step<'a> {
     Go(u64),
     /// The clock goes to this moment, in milliseconds.
     At(Millis),
+    /// No event of this entry point starts before this moment any more.
+    Promise(&'a str, Millis),
 }
 
 /// The rows of a rule by all differences so far.
@@ -160,21 +162,18 @@ fn values_of(alloc: Global, cells: &[Cell]) -> Result<Vec<Value>, NoMemory> {
     Ok(values)
 }
 
-/// The times of a new fact, if it may come so late.
-#[tactic(auto, unfolding(rule_world::specs::Events::most_millis))]
-fn times_of(
-    program: &Program,
-    ty: TypeId,
-    entry: EntryId,
-    clock: Millis,
-    fields: &[Value],
-) -> Option<Times>
-    requires { IsRunnable program.now }
-{
-    if clock < 0 || MOST_MILLIS < clock {
-        return None;
+/// What stands at the place of an entry point.
+fn moment_at(moments: &[Millis], entry: EntryId) -> Millis {
+    moments.get(usize::from(entry.0)).copied().unwrap_or(0)
+}
+
+/// 0 for each entry point.
+fn zeros(alloc: Global, program: &Program) -> Result<Vec<Millis>, NoMemory> {
+    let mut moments = Vec::new(alloc);
+    for _ in program.entries.as_slice() {
+        moments.push(0)?;
     }
-    new_times(program, ty, floor(program, 0, clock, entry), clock, fields).ok()
+    Ok(moments)
 }
 
 /// Holds a fact, whose tag is new.
@@ -225,6 +224,9 @@ struct Run {
     net: Rete,
     facts: FactStore,
     clock: Millis,
+    /// By the places of the entry points.
+    last_starts: Vec<Millis>,
+    promises: Vec<Millis>,
     next_id: u64,
     next_tag: u64,
     rules: Vec<RuleRows>,
@@ -240,6 +242,8 @@ impl Run {
             net,
             facts: FactStore::new(alloc),
             clock: 0,
+            last_starts: zeros(alloc, program)?,
+            promises: zeros(alloc, program)?,
             next_id: 1,
             next_tag: 1,
             rules,
@@ -261,10 +265,13 @@ impl Run {
             Some(tag) => self.facts.fact(tag),
             None => None,
         };
-        let deltas = self
-            .net
-            .advance(alloc, program, gone.as_slice(), come, clock, &self.facts)?;
         self.clock = clock;
+        let moment = Moment {
+            clock,
+            last_starts: &self.last_starts,
+            promises: &self.promises,
+        };
+        let deltas = self.net.advance(alloc, program, gone.as_slice(), come, &moment, &self.facts)?;
         let rules = replace(&mut self.rules, Vec::new(alloc));
         match behind_answers(alloc, rules, deltas)? {
             Some(rules) => {
@@ -293,7 +300,7 @@ impl Run {
             return Ok(None);
         };
         let fields = values_of(alloc, cells)?;
-        match times_of(program, ty, entry, self.clock, &fields) {
+        match self.times_of(program, ty, entry, &fields) {
             Some(times) => Ok(Some(Fact {
                 id: FactId(self.next_id),
                 ty,
@@ -306,7 +313,28 @@ impl Run {
         }
     }
 
-    /// A fact comes. The network is not told of an event that is not present any more.
+    /// The times of a new fact, if it may come so late.
+    #[tactic(auto, unfolding(rule_world::specs::Events::most_millis))]
+    fn times_of(
+        &self,
+        program: &Program,
+        ty: TypeId,
+        entry: EntryId,
+        fields: &[Value],
+    ) -> Option<Times>
+        requires { IsRunnable program.now }
+    {
+        let clock = self.clock;
+        if clock < 0 || MOST_MILLIS < clock {
+            return None;
+        }
+        let last_start = moment_at(&self.last_starts, entry);
+        let promise = moment_at(&self.promises, entry);
+        let floor = floor(program, last_start, promise, clock, entry);
+        new_times(program, ty, floor, clock, fields).ok()
+    }
+
+    /// A fact comes. Of an event that is not present any more the network is told the moment alone.
     fn come(
         &mut self,
         alloc: Global,
@@ -322,15 +350,37 @@ impl Run {
         };
         let (tag, clock) = (fact.tag, self.clock);
         let is_present = program.is_present(clock, &fact);
+        let place = usize::from(fact.entry.0);
+        if program.is_event(fact.ty) && place < self.last_starts.len() {
+            self.last_starts[place] = fact.times.start;
+        }
         self.next_id = self.next_id.saturating_add(1);
         self.next_tag = self.next_tag.saturating_add(1);
         if !holds(&mut self.facts, fact) {
             return Ok(false);
         }
-        if !is_present {
-            return Ok(true);
+        let come = if is_present { Some(tag) } else { None };
+        self.advance(alloc, program, &[], come, clock)
+    }
+
+    /// An entry point makes a promise.
+    fn promise(
+        &mut self,
+        alloc: Global,
+        program: &Program,
+        entry: &str,
+        from: Millis,
+    ) -> Result<bool, NoMemory> {
+        let Some(entry) = entry_named(program, entry) else {
+            return Ok(false);
+        };
+        let place = usize::from(entry.0);
+        if self.promises.len() <= place || from < self.promises[place] {
+            return Ok(false);
         }
-        self.advance(alloc, program, &[], Some(tag), clock)
+        self.promises[place] = from;
+        let clock = self.clock;
+        self.advance(alloc, program, &[], None, clock)
     }
 
     /// A fact is exchanged for its next version.
@@ -401,6 +451,7 @@ impl Run {
             Step::Change(id, place, cell) => self.change(alloc, program, id, place, cell),
             Step::Go(id) => self.go(alloc, program, id),
             Step::At(clock) => self.at(alloc, program, clock, skips),
+            Step::Promise(entry, from) => self.promise(alloc, program, entry, from),
         }
     }
 
@@ -409,7 +460,12 @@ impl Run {
         requires { IsRunnable program.now }
     {
         let facts = self.facts.facts(alloc)?;
-        let found = rows_of_rules(alloc, program, self.clock, facts.as_slice())?;
+        let moment = Moment {
+            clock: self.clock,
+            last_starts: &self.last_starts,
+            promises: &self.promises,
+        };
+        let found = rows_of_rules(alloc, program, &moment, facts.as_slice())?;
         for (rule, rows) in self.rules.iter().zip(found.iter()) {
             if !rule.are(alloc, rows.as_slice())? {
                 return Ok(false);

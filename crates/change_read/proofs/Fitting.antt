@@ -1,5 +1,5 @@
 -- The values of the steps that changes ask for have the declared kinds.
-use Rattle.std.proofs.Common.{◌≡◌, ◌≤◌, ◌<◌, ◌==◌, ℕ, Bool as Truth, true, false, cond, List, [], ◌∷◌, length, nat_le, Option, Some, None, option_map, Result, Ok, Err, refl, subst, lt-ltb, arith}
+use Rattle.std.proofs.Common.{◌≡◌, ◌≤◌, ◌<◌, ◌==◌, ℕ, ℤ, Bool as Truth, true, false, cond, List, [], ◌∷◌, length, nat_le, Option, Some, None, option_map, Result, Ok, Err, refl, subst, lt-ltb, arith}
 use Rattle.std.proofs.lemmas.Bool.Decides.{Decides-eqb}
 use Rattle.std.specs.List.{list_all}
 use Rattle.std.specs.Option.{option_and_then}
@@ -15,9 +15,9 @@ use Rattle.rule_model.specs.declared.step.Step.{Step}
 use Rattle.rule_world.specs.declared.code.Code.{Code}
 use Rattle.rule_world.specs.declared.code.Code.TheVariants.{EventFixed, Absent, BadFields}
 use Rattle.script_read.specs.declared.asked.Change.{Change}
-use Rattle.script_read.specs.declared.asked.Change.TheVariants.{Insert, Modify, Retract, Advance, At}
+use Rattle.script_read.specs.declared.asked.Change.TheVariants.{Insert, Modify, Retract, Advance, At, Promise}
 use Rattle.script_read.specs.declared.given.Given.{Given}
-use Rattle.change_read.specs.Changes.{type_named, entry_asked, values_step, insert_step, sets_step, modify_step, retract_step, change_step}
+use Rattle.change_read.specs.Changes.{type_named, entry_asked, values_step, insert_step, sets_step, modify_step, retract_step, promise_step, change_step}
 use Rattle.change_read.specs.Fields.{are_fields, are_some_fields, given_under, value_given, field_value, values_given, field_named, set_for, sets_given}
 use Rattle.change_read.proofs.Places.{some_is, stands, type_stands, entry_within, FieldAt, field_stands}
 use Rattle.fx_base.specs.declared.kind.Kind.TheVariants as kind
@@ -201,6 +201,12 @@ unfolding step_fits
 retract_fits p present None id s e = cc
 retract_fits p present (Some ty) id s e = subst (λ (t : Step). step_fits p present t ≡ true) (ok_is e) refl
 
+-- nor has a promise
+promise_fits : (p : Program) (present : ℕ → Option Fact) (entry : Option ℕ) (from : ℤ) (s : Step) → promise_step entry from ≡ Ok s → step_fits p present s ≡ true
+unfolding step_fits
+promise_fits p present None from s e = cc
+promise_fits p present (Some entry) from s e = subst (λ (t : Step). step_fits p present t ≡ true) (ok_is e) refl
+
 -- at each change
 pub asked_fits : (p : Program) (present : ℕ → Option Fact) (change : Change) (s : Step) → 1 ≤ length p.entries → change_step p present change ≡ Ok s
     → step_fits p present s ≡ true
@@ -213,3 +219,4 @@ asked_fits p present (Modify ty id members) s some e =
 asked_fits p present (Retract ty id) s some e = retract_fits p present (type_named ty p.types 0) id s e
 asked_fits p present (Advance by) s some e = subst (λ (t : Step). step_fits p present t ≡ true) (ok_is e) refl
 asked_fits p present (At moment) s some e = subst (λ (t : Step). step_fits p present t ≡ true) (ok_is e) refl
+asked_fits p present (Promise entry from) s some e = promise_fits p present (entry_asked entry p.entries) from s e

@@ -1,5 +1,5 @@
 -- The step that a change of the script asks for, or its fault. The faults are tried in their order.
-use Rattle.std.specs.Prelude.{ℕ, ◌+◌, List, [], ◌∷◌, Option, Some, None, Result, Ok, Err, if◌then◌else◌}
+use Rattle.std.specs.Prelude.{ℕ, ◌+◌, List, [], ◌∷◌, Option, Some, None, Result, Ok, Err, ℤ, if◌then◌else◌}
 use Rattle.std.specs.Str.{bytes_eq}
 use Rattle.fx_base.specs.declared.ids.FactId.{FactId}
 use Rattle.fx_base.specs.declared.kind.Kind.{Kind}
@@ -11,7 +11,7 @@ use Rattle.rule_model.specs.declared.program.TypeInfo.{TypeInfo}
 use Rattle.rule_model.specs.declared.step.Step.{Step}
 use Rattle.script_read.specs.declared.given.Given.{Given}
 use Rattle.script_read.specs.declared.asked.Change.{Change}
-use Rattle.script_read.specs.declared.asked.Change.TheVariants.{Insert, Modify, Retract, Advance, At}
+use Rattle.script_read.specs.declared.asked.Change.TheVariants.{Insert, Modify, Retract, Advance, At, Promise}
 use Rattle.rule_world.specs.declared.code.Code.{Code}
 use Rattle.rule_world.specs.declared.code.Code.TheVariants.{UnknownType, UnknownEntry, EventFixed, Absent, BadFields, BadValue}
 use Rattle.rule_world.specs.Worlds.{is_of_type}
@@ -67,6 +67,12 @@ abbrev pub retract_step : Option (ℕ × TypeInfo) → FactId → Result Step Co
 retract_step None id = Err UnknownType
 retract_step (Some ty) id = Ok (step.Retract (record { 0 = ty.0 }) id)
 
+-- ---- promises; whether the moment may be promised is asked when the step is done
+
+abbrev pub promise_step : Option ℕ → ℤ → Result Step Code
+promise_step None from = Err UnknownEntry
+promise_step (Some entry) from = Ok (step.Promise (record { 0 = entry }) from)
+
 -- the step of a change, given the present facts by their ids
 unfoldable pub change_step : Program → (ℕ → Option Fact) → Change → Result Step Code
 change_step p present (Insert ty entry fields) = insert_step (type_named ty p.types 0) (entry_asked entry p.entries) fields
@@ -74,3 +80,4 @@ change_step p present (Modify ty id fields) = modify_step (type_named ty p.types
 change_step p present (Retract ty id) = retract_step (type_named ty p.types 0) id
 change_step p present (Advance by) = Ok (step.Advance by)
 change_step p present (At moment) = Ok (step.At moment)
+change_step p present (Promise entry from) = promise_step (entry_asked entry p.entries) from

@@ -1,10 +1,10 @@
 ghost use Rattle.std.specs.Prelude.{◌≡◌, ◌≤◌, ◌^◌, length, option_map, IfOk};
 ghost use Rattle.rule_world.specs.Worlds.{is_of_type};
-ghost use Rattle.change_read.specs.Changes.{type_named, entry_named, entry_asked, insert_step, modify_step, retract_step, change_step};
+ghost use Rattle.change_read.specs.Changes.{type_named, entry_named, entry_asked, insert_step, modify_step, retract_step, promise_step, change_step};
 
 use crate::Present;
 use crate::fields::{has_fields, has_some_fields, sets_for, values_for};
-use fx_base::{EntryId, FactId, NoMemory, Text, TypeId};
+use fx_base::{EntryId, FactId, Millis, NoMemory, Text, TypeId};
 use rule_model::{EntryInfo, Program, Step, TypeInfo};
 use rule_world::Code;
 use script_read::{Change, Given};
@@ -128,9 +128,20 @@ fn read_retract(types: &[TypeInfo], name: &Text, id: FactId) -> Result<Step, Cod
     }
 }
 
+// The step of a promise, or its fault.
+fn read_promise(entries: &[EntryInfo], name: &Option<Text>, from: Millis) -> Result<Step, Code>
+    requires { length entries.now ≤ 2 ^ 16 }
+    ensures { result ≡ promise_step (entry_asked name.now entries.now) from }
+{
+    match entry_for(entries, name) {
+        Some(entry) => Ok(Step::Promise { entry, from }),
+        None => Err(Code::UnknownEntry),
+    }
+}
+
 /// The step that a change asks for, or the first of its faults in the order of `Code`. A new fact has its values in the order of
 /// the declaration; a modification has its sets in the order of the members. Whether a fact that is to be
-/// retracted is there, the times of an event are lawful and the clock may move so is not asked here. `NoMemory` comes only where memory is refused.
+/// retracted is there, the times of an event are lawful, the clock may move so and a moment may be promised is not asked here. `NoMemory` comes only where memory is refused.
 #[tactic(auto, unfolding(crate::specs::Changes::change_step))]
 pub fn asked_step<P: Present>(
     alloc: Global,
@@ -153,5 +164,8 @@ pub fn asked_step<P: Present>(
         Change::Retract { ty, id } => Ok(read_retract(types, ty, *id)),
         Change::Advance(by) => Ok(Ok(Step::Advance(*by))),
         Change::At(moment) => Ok(Ok(Step::At(*moment))),
+        Change::Promise { entry, from } => {
+            Ok(read_promise(program.entries.as_slice(), entry, *from))
+        }
     }
 }

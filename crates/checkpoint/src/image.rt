@@ -27,7 +27,7 @@ pub struct Image {
     pub run: RunPart,
     /// In milliseconds.
     pub clock: i64,
-    /// Whether the session has taken a line.
+    /// Whether the world has begun: with its first event, or because the script said so.
     pub begun: bool,
     /// The last start at each entry point, by their places, in milliseconds.
     pub lasts: Seq<i64>,

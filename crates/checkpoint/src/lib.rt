@@ -10,8 +10,6 @@ mod lists;
 mod numbers;
 mod parts;
 mod spelled;
-#[cfg(test)]
-mod tests;
 
 pub use codec::{decode, encode};
 pub use fault::DecodeFault;

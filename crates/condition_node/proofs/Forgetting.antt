@@ -11,8 +11,7 @@ use Rattle.row_delta.specs.Rows.{has, InOrder}
 use Rattle.rule_model.specs.declared.condition.Accumulate.{Accumulate}
 use Rattle.rule_model.specs.declared.condition.Pattern.{Pattern}
 use Rattle.rule_model.specs.declared.program.Program.{Program}
-use Rattle.rule_model.specs.Maturity.{watermark}
-use Rattle.rule_model.specs.Snapshots.{Snapshot}
+use Rattle.rule_model.specs.Snapshots.{Snapshot, floor}
 use Rattle.rule_model.proofs.Listed.{both_of}
 use Rattle.join_tests.specs.Joins.{Look, joins}
 use Rattle.pair_memory.specs.declared.memories.Memories.{Memories}
@@ -109,17 +108,17 @@ module _ (p : Program) (look : Look) (old : Named → Bool) (dropped gone : List
       ordered = λ s left forgotten is. ordered;
     })
 
-  module _ (m n : NotNode) (kept : Lessened m.tally.memories n.tally.memories) (alone : LeftAlone m.tally.memories n.tally.memories) (floor : n.ripening.floor ≡ m.ripening.floor)
+  module _ (m n : NotNode) (kept : Lessened m.tally.memories n.tally.memories) (alone : LeftAlone m.tally.memories n.tally.memories) (same_floor : n.ripening.floor ≡ m.ripening.floor)
       (in_step : IsInStep p look m → IsInStep p look n) (told : IsInStep p look m → Went (not_rows p look m) (not_rows p look n)) (ordered : IsInStep p look m → InOrder gone) where
     pub not_forgot : (before : Node) → before ≡ node.Not m → Forgets before (node.Not n)
     not_forgot before same = subst (λ (b : Node). Forgets b (node.Not n)) (sym same) (record {
       stands = λ s left forgotten is. record {
         counts = counts_on counts_blockers m.tally.memories n.tally.memories kept alone s left forgotten is.rows is.stands.counts;
         in_step = in_step is.stands.in_step;
-        floor = floor ∙ is.stands.floor ∙ ap (λ (q : Pattern). watermark p s q.entry.0) (sym kept.pattern);
+        floor = same_floor ∙ is.stands.floor ∙ ap (λ (q : Pattern). floor p s q.entry.0) (sym kept.pattern);
       };
       drops = λ s left forgotten is row e.
-          not_drops p m n look left (candidates_of p m.tally.memories.pattern s) forgotten old dropped gone is.stands.counts.stands is.rows kept.pattern floor alone (told is.stands.in_step) row
+          not_drops p m n look left (candidates_of p m.tally.memories.pattern s) forgotten old dropped gone is.stands.counts.stands is.rows kept.pattern same_floor alone (told is.stands.in_step) row
           (not_shown p look s left forgotten is.at_hand is.named is.tags m is.stands row ∙ e);
       alone = λ s left forgotten is row e.
           sym (not_shown p look s left forgotten is.at_hand is.named is.tags m is.stands row) ∙ went (not_rows p look m row) (not_rows p look n row) (has gone row) (told is.stands.in_step row) e;

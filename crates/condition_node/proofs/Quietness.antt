@@ -1,10 +1,9 @@
 -- How long the nodes of each kind are quiet.
-use Rattle.std.proofs.Common.{◌≡◌, ◌∙◌, sym, ap, refl, subst, ℕ, ℤ, pos, ◌+ℤ◌, ◌-ℤ◌, ◌≤ℤ◌, ◌<ℤ◌, ◌^◌, int_lt, arith, true, false, not, ◌&&◌, Option, Some, None, IfSome}
-use Rattle.std.proofs.lemmas.Int.{ints}
+use Rattle.std.proofs.Common.{◌≡◌, ◌∙◌, sym, ap, subst, ℕ, ℤ, pos, ◌+ℤ◌, ◌-ℤ◌, ◌≤ℤ◌, ◌<ℤ◌, ◌^◌, int_lt, arith, true, false, not, ◌&&◌, Option, Some, None, IfSome}
+use Rattle.std.proofs.lemmas.Int.{ints, clamps}
 use Rattle.row_delta.specs.declared.row.Row.{Row}
 use Rattle.rule_model.specs.declared.program.Program.{Program}
-use Rattle.rule_model.specs.Maturity.{watermark}
-use Rattle.rule_model.specs.Snapshots.{Snapshot}
+use Rattle.rule_model.specs.Snapshots.{Snapshot, floor}
 use Rattle.rule_model.specs.Types.{lateness_of}
 use Rattle.rule_model.proofs.Listed.{both_of}
 use Rattle.beta_join.specs.declared.join.BetaJoin.{BetaJoin}
@@ -20,9 +19,10 @@ use Rattle.condition_node.specs.declared.node.Node.TheVariants as node
 use Rattle.condition_node.specs.Quiet.{at_clock, IsBefore, IsQuiet, IsDue}
 use Rattle.condition_node.proofs.Knowing.{not_of}
 use Rattle.condition_node.proofs.Staying.{join_stays, exists_stays, fold_stays, not_stays, not_ripens}
+use Rattle.rule_model.proofs.Floors.{clock_below_floor, floor_on}
 
-less_later : (a b l : ℤ) → a ≤ℤ b → (a -ℤ l) ≤ℤ (b -ℤ l)
-less_later a b l h = omega (arith, ints, h)
+itself : (a : ℤ) → a ≤ℤ a
+itself a = omega (arith, ints)
 
 not_below : (at least x : ℤ) → int_lt at least ≡ false → x ≤ℤ least → int_lt at x ≡ false
 not_below at least x e h = grind (arith, ints)
@@ -30,20 +30,25 @@ not_below at least x e h = grind (arith, ints)
 least_low : (least c l : ℤ) → int_lt least (c -ℤ l) ≡ false → pos 0 ≤ℤ c → pos 0 ≤ℤ (least +ℤ l)
 least_low least c l e h = grind (arith, ints)
 
-past : (moment least l : ℤ) → moment ≡ (least +ℤ l) +ℤ pos 1 → int_lt least (moment -ℤ l) ≡ true
-past moment least l e = grind (arith, ints)
-
 own_moment : (at : ℤ) (o : Option ℤ) → is_moment o at ≡ true → o ≡ Some at
 own_moment at None e = absurd (let n : false ≡ true = e in cc)
 own_moment at (Some x) e = ap Some (int_same x at e)
 
-watermark_later : (p : Program) (s : Snapshot) (clock : ℤ) (entry : ℕ) → s.clock ≤ℤ clock → watermark p s entry ≤ℤ watermark p (at_clock s clock) entry
-unfolding watermark
-watermark_later p s clock entry h = less_later s.clock clock (lateness_of p entry) h
+-- the floor at a later clock is not before
+floor_later : (p : Program) (s : Snapshot) (clock : ℤ) (entry : ℕ) → s.clock ≤ℤ clock → floor p s entry ≤ℤ floor p (at_clock s clock) entry
+floor_later p s clock entry h = floor_on p s (at_clock s clock) entry h (itself (s.reached.last_start entry)) (itself (s.reached.promise entry))
 
-watermark_is : (p : Program) (s : Snapshot) (entry : ℕ) → watermark p s entry ≡ s.clock -ℤ lateness_of p entry
-unfolding watermark
-watermark_is p s entry = refl
+-- and not beyond what neither it was before nor the clock less the lateness is
+floor_within : (p : Program) (s : Snapshot) (clock least : ℤ) (entry : ℕ) → int_lt least (floor p s entry) ≡ false → (clock -ℤ lateness_of p entry) ≤ℤ least → floor p (at_clock s clock) entry ≤ℤ least
+unfolding floor
+floor_within p s clock least entry e h = grind (arith, ints, clamps)
+
+-- what is not before the floor is not before the clock less the lateness
+not_late : (p : Program) (s : Snapshot) (least : ℤ) (entry : ℕ) → int_lt least (floor p s entry) ≡ false → int_lt least (s.clock -ℤ lateness_of p entry) ≡ false
+not_late p s least entry e = let below = clock_below_floor p s entry in grind (arith, ints, below)
+
+past_floor : (p : Program) (s : Snapshot) (moment least : ℤ) (entry : ℕ) → moment ≡ (least +ℤ lateness_of p entry) +ℤ pos 1 → int_lt least (floor p (at_clock s moment) entry) ≡ true
+past_floor p s moment least entry e = let below = clock_below_floor p (at_clock s moment) entry in grind (arith, ints, below)
 
 pub join_quiet : (p : Program) (join : BetaJoin) (until : Option ℤ) → IsQuiet p (node.Join join) until
 join_quiet p join until look s rows forgotten clock tags known named stands begun later low before same = join_stays p look s rows forgotten clock tags known named join same stands
@@ -59,7 +64,7 @@ module _ (p : Program) (waiting : NotNode) where
   none_due none look s rows forgotten clock tags known named stands begun later low before same =
       let entry = waiting.tally.memories.pattern.entry.0 in
       not_stays p look s rows forgotten clock tags known named waiting same stands
-      (subst (λ (floor : ℤ). floor ≤ℤ watermark p (at_clock s clock) entry) (sym stands.floor) (watermark_later p s clock entry later)) (λ at row e. absurd (none at row e))
+      (subst (λ (now : ℤ). now ≤ℤ floor p (at_clock s clock) entry) (sym stands.floor) (floor_later p s clock entry later)) (λ at row e. absurd (none at row e))
 
   pub due_at : (until : Option ℤ) (least : ℤ) (first : Row) → waits waiting.ripening.waiting.keys least first ≡ true → ((at : ℤ) (row : Row) → waits waiting.ripening.waiting.keys at row ≡ true → int_lt at least ≡ false)
       → ((clock : ℤ) → pos 0 ≤ℤ (least +ℤ lateness_of p waiting.tally.memories.pattern.entry.0) → clock <ℤ pos (2 ^ 63) → IsBefore until clock → (clock -ℤ lateness_of p waiting.tally.memories.pattern.entry.0) ≤ℤ least)
@@ -70,10 +75,11 @@ module _ (p : Program) (waiting : NotNode) where
       let late = lateness_of p entry in
       let x = unblocked m look first && is_moment (moment_at p m.pattern look first) least in
       let due : int_lt least waiting.ripening.floor ≡ false = not_of (int_lt least waiting.ripening.floor) (both_of x (not (int_lt least waiting.ripening.floor)) (sym (stands.in_step least first) ∙ there)).1 in
-      let reached = reaches clock (least_low least s.clock late (ap (int_lt least) (sym (stands.floor ∙ watermark_is p s entry)) ∙ due) begun) low before in
+      let due_still = ap (int_lt least) (sym stands.floor) ∙ due in
+      let reached = reaches clock (least_low least s.clock late (not_late p s least entry due_still) begun) low before in
       not_stays p look s rows forgotten clock tags known named waiting same stands
-      (subst (λ (floor : ℤ). floor ≤ℤ watermark p (at_clock s clock) entry) (sym stands.floor) (watermark_later p s clock entry later))
-      (λ at row e. not_below at least (watermark p (at_clock s clock) entry) (over at row e) (subst (λ (floor : ℤ). floor ≤ℤ least) (sym (watermark_is p (at_clock s clock) entry)) reached))
+      (subst (λ (now : ℤ). now ≤ℤ floor p (at_clock s clock) entry) (sym stands.floor) (floor_later p s clock entry later))
+      (λ at row e. not_below at least (floor p (at_clock s clock) entry) (over at row e) (floor_within p s clock least entry due_still reached))
 
   -- from the least moment on a row that waits for it is there
   pub comes_then : (moment least : ℤ) (first : Row) → waits waiting.ripening.waiting.keys least first ≡ true → moment ≡ (least +ℤ lateness_of p waiting.tally.memories.pattern.entry.0) +ℤ pos 1
@@ -83,14 +89,14 @@ module _ (p : Program) (waiting : NotNode) where
       let entry = m.pattern.entry.0 in
       let free = unblocked m look first in
       let own = is_moment (moment_at p m.pattern look first) least in
-      let floor = watermark p (at_clock s moment) entry in
+      let now = floor p (at_clock s moment) entry in
       let waits = both_of (free && own) (not (int_lt least waiting.ripening.floor)) (sym (stands.in_step least first) ∙ there) in
       let meant = both_of free own waits.0 in
       let meant_at = own_moment least (moment_at p m.pattern look first) meant.1 in
       let made =
       not_ripens p look s rows forgotten moment tags known named waiting same stands first meant.0
       (ap (mature waiting.ripening.floor) meant_at ∙ not_of (int_lt least waiting.ripening.floor) waits.1)
-      (ap (mature floor) meant_at ∙ ap (int_lt least) (watermark_is p (at_clock s moment) entry) ∙ past moment least (lateness_of p entry) is) in
+      (ap (mature now) meant_at ∙ past_floor p s moment least entry is) in
       (first, made.0, made.1)
 
   pub if_due : (least : ℤ) (first : Row) → waits waiting.ripening.waiting.keys least first ≡ true → (until : Option ℤ)

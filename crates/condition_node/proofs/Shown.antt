@@ -10,8 +10,8 @@ use Rattle.rule_model.specs.declared.condition.Pattern.{Pattern}
 use Rattle.rule_model.specs.declared.program.Program.{Program}
 use Rattle.rule_model.specs.Distinct.{HaveDistinctTags}
 use Rattle.rule_model.specs.Lent.{bound_in}
-use Rattle.rule_model.specs.Maturity.{watermark, is_mature}
-use Rattle.rule_model.specs.Snapshots.{Snapshot}
+use Rattle.rule_model.specs.Maturity.{is_mature}
+use Rattle.rule_model.specs.Snapshots.{Snapshot, floor}
 use Rattle.join_tests.specs.Joins.{Look, joins}
 use Rattle.pair_memory.specs.declared.memories.Memories.{Memories}
 use Rattle.pair_memory.specs.Joined.{has_name}
@@ -65,27 +65,27 @@ module _ (p : Program) (look : Look) (s : Snapshot) (rows : Row → Bool) (forgo
         ∙ asked_first (rows row) (clean forgotten row) (list_any (pass row) names) (list_any (pass row) names) (λ e. refl)
 
     -- a row that names no forgotten fact is mature by the store where it is by the snapshot
-    ripe_alike : (q : Pattern) (floor : ℤ) → floor ≡ watermark p s q.entry.0 → (row : Row) → cleaned rows forgotten row ≡ true → is_mature p q (bound_in look row) floor ≡ is_ripe p q s row
+    ripe_alike : (q : Pattern) (now : ℤ) → now ≡ floor p s q.entry.0 → (row : Row) → cleaned rows forgotten row ≡ true → is_mature p q (bound_in look row) now ≡ is_ripe p q s row
     unfolding is_ripe
-    ripe_alike q floor is row e =
-        sym (row_mature p q look row floor)
-        ∙ ap (mature floor) (sym (moment_alike p q look (held s) row (row_alike look (held s) s forgotten known (held_known s forgotten) p q rows named row e)))
-        ∙ row_mature p q (held s) row floor
+    ripe_alike q now is row e =
+        sym (row_mature p q look row now)
+        ∙ ap (mature now) (sym (moment_alike p q look (held s) row (row_alike look (held s) s forgotten known (held_known s forgotten) p q rows named row e)))
+        ∙ row_mature p q (held s) row now
         ∙ ap (is_mature p q (bound_in (held s) row)) is
 
-    pub not_shown_at : (waiting : NotNode) → Counts counts_blockers p waiting.tally.memories look s rows forgotten → waiting.ripening.floor ≡ watermark p s waiting.tally.memories.pattern.entry.0
+    pub not_shown_at : (waiting : NotNode) → Counts counts_blockers p waiting.tally.memories look s rows forgotten → waiting.ripening.floor ≡ floor p s waiting.tally.memories.pattern.entry.0
         → (row : Row) → not_rows p look waiting row ≡ cleaned (line p s (Negated waiting.tally.memories.pattern) rows) forgotten row
     unfolding has_partner
     not_shown_at waiting counts told row =
         let m = waiting.tally.memories in
         let q = m.pattern in
-        let floor = waiting.ripening.floor in
+        let now = waiting.ripening.floor in
         let names = candidate_names p q s in
         let pass = joins q (held s) in
         not_law p waiting look (held s) pass rows names forgotten (listed counts_blockers m counts) row
-        ∙ and_assoc (cleaned rows forgotten row) (not (list_any (pass row) names)) (is_mature p q (bound_in look row) floor)
-        ∙ asked_first (rows row) (clean forgotten row) (not (list_any (pass row) names) && is_mature p q (bound_in look row) floor) (not (list_any (pass row) names) && is_ripe p q s row)
-        (λ e. ap (λ b. not (list_any (pass row) names) && b) (ripe_alike q floor told row e))
+        ∙ and_assoc (cleaned rows forgotten row) (not (list_any (pass row) names)) (is_mature p q (bound_in look row) now)
+        ∙ asked_first (rows row) (clean forgotten row) (not (list_any (pass row) names) && is_mature p q (bound_in look row) now) (not (list_any (pass row) names) && is_ripe p q s row)
+        (λ e. ap (λ b. not (list_any (pass row) names) && b) (ripe_alike q now told row e))
 
     pub not_shown : (waiting : NotNode) → WaitsFor p waiting look s rows forgotten → (row : Row) → not_rows p look waiting row ≡ cleaned (line p s (Negated waiting.tally.memories.pattern) rows) forgotten row
     not_shown waiting waits row = not_shown_at waiting waits.counts waits.floor row

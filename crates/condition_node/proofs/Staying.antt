@@ -8,8 +8,7 @@ use Rattle.rule_model.specs.declared.condition.Condition.TheVariants.{Negated}
 use Rattle.rule_model.specs.declared.condition.Pattern.{Pattern}
 use Rattle.rule_model.specs.declared.program.Program.{Program}
 use Rattle.rule_model.specs.Distinct.{HaveDistinctTags}
-use Rattle.rule_model.specs.Maturity.{watermark}
-use Rattle.rule_model.specs.Snapshots.{Snapshot}
+use Rattle.rule_model.specs.Snapshots.{Snapshot, floor}
 use Rattle.join_tests.specs.Joins.{Look, versions_at, joins}
 use Rattle.pair_memory.specs.declared.memories.Memories.{Memories}
 use Rattle.pair_memory.specs.Standing.{cleaned, StandsFor}
@@ -83,24 +82,24 @@ module _ (p : Program) (look : Look) (s : Snapshot) (rows : Row → Bool) (forgo
       sym (fold_shown p look next rows forgotten known_next named_next tags fold folds_next row) ∙ fold_shown p look s rows forgotten known named tags fold folds row
 
   pub not_stays : (waiting : NotNode) → SameCandidates waiting.tally.memories.pattern → NodeStands p (node.Not waiting) look s rows forgotten
-      → waiting.ripening.floor ≤ℤ watermark p next waiting.tally.memories.pattern.entry.0
-      → ((at : ℤ) (row : Row) → waits waiting.ripening.waiting.keys at row ≡ true → int_lt at (watermark p next waiting.tally.memories.pattern.entry.0) ≡ false) → LineStays (node.Not waiting)
+      → waiting.ripening.floor ≤ℤ floor p next waiting.tally.memories.pattern.entry.0
+      → ((at : ℤ) (row : Row) → waits waiting.ripening.waiting.keys at row ≡ true → int_lt at (floor p next waiting.tally.memories.pattern.entry.0) ≡ false) → LineStays (node.Not waiting)
   not_stays waiting same waits later quiet row =
       let m = waiting.tally.memories in
-      let floor = watermark p next m.pattern.entry.0 in
-      let stays = quiet_law p waiting look floor waits.in_step later quiet in
-      let risen : WaitsFor p (with_floor waiting floor) look next rows forgotten = record { counts = counts_on counts_blockers m same waits.counts; in_step = stays.0; floor = refl } in
-      sym (not_shown p look next rows forgotten known_next named_next tags (with_floor waiting floor) risen row) ∙ stays.1 row ∙ not_shown p look s rows forgotten known named tags waiting waits row
+      let now = floor p next m.pattern.entry.0 in
+      let stays = quiet_law p waiting look now waits.in_step later quiet in
+      let risen : WaitsFor p (with_floor waiting now) look next rows forgotten = record { counts = counts_on counts_blockers m same waits.counts; in_step = stays.0; floor = refl } in
+      sym (not_shown p look next rows forgotten known_next named_next tags (with_floor waiting now) risen row) ∙ stays.1 row ∙ not_shown p look s rows forgotten known named tags waiting waits row
 
   -- a row for which no candidate passes comes where its moment is past
   pub not_ripens : (waiting : NotNode) → SameCandidates waiting.tally.memories.pattern → NodeStands p (node.Not waiting) look s rows forgotten
       → (row : Row) → unblocked waiting.tally.memories look row ≡ true → mature waiting.ripening.floor (moment_at p waiting.tally.memories.pattern look row) ≡ false
-      → mature (watermark p next waiting.tally.memories.pattern.entry.0) (moment_at p waiting.tally.memories.pattern look row) ≡ true
+      → mature (floor p next waiting.tally.memories.pattern.entry.0) (moment_at p waiting.tally.memories.pattern look row) ≡ true
       → (cleaned (line p s (Negated waiting.tally.memories.pattern) rows) forgotten row ≡ false) × (cleaned (line p next (Negated waiting.tally.memories.pattern) rows) forgotten row ≡ true)
   not_ripens waiting same waits row none early ripe =
       let m = waiting.tally.memories in
       let moment = moment_at p m.pattern look row in
-      let floor = watermark p next m.pattern.entry.0 in (
+      let now = floor p next m.pattern.entry.0 in (
         sym (not_shown p look s rows forgotten known named tags waiting waits row) ∙ ap (λ b. b && mature waiting.ripening.floor moment) none ∙ early,
-        sym (not_shown_at p look next rows forgotten known_next named_next tags (with_floor waiting floor) (counts_on counts_blockers m same waits.counts) refl row) ∙ ap (λ b. b && mature floor moment) none ∙ ripe,
+        sym (not_shown_at p look next rows forgotten known_next named_next tags (with_floor waiting now) (counts_on counts_blockers m same waits.counts) refl row) ∙ ap (λ b. b && mature now moment) none ∙ ripe,
       )

@@ -56,7 +56,7 @@ module _ (p : Program) (look world : Look) (s next : Snapshot) (rows rows_now : 
   Tells n = NodeStands p n look s rows forgotten → Turns n → (row : Row) → cleaned (line p next (condition_of n) rows_now) forgotten row ≡ cleaned (line p s (condition_of n) rows) forgotten row
 
   pub join_still : (m : BetaJoin) → Stays (node.Join m)
-  join_still m stands turn = join_turns p next.clock look left right m m (kept_still m.memories look left right none none_right) world s next rows rows_now forgotten stands refl turn
+  join_still m stands turn = join_turns p (λ next. Unit {0}) look left right m m (kept_still m.memories look left right none none_right) world s next rows rows_now forgotten stands tt turn
 
   pub join_tells_none : (m : BetaJoin) → Tells (node.Join m)
   join_tells_none m stands turn row =
@@ -64,7 +64,7 @@ module _ (p : Program) (look world : Look) (s next : Snapshot) (rows rows_now : 
 
   pub exists_still : (m : TallyNode Witnesses) → Stays (node.Exists m)
   exists_still m stands turn =
-      exists_turns p next.clock look left right m m (kept_still m.memories look left right none none_right) (no_step counts_witnesses look m.memories left right none) world s next rows rows_now forgotten stands refl turn
+      exists_turns p (λ next. Unit {0}) look left right m m (kept_still m.memories look left right none none_right) (no_step counts_witnesses look m.memories left right none) world s next rows rows_now forgotten stands tt turn
 
   pub exists_tells_none : (m : TallyNode Witnesses) → Tells (node.Exists m)
   exists_tells_none m stands turn row =
@@ -74,7 +74,7 @@ module _ (p : Program) (look world : Look) (s next : Snapshot) (rows rows_now : 
   pub fold_still : (m : FoldNode) → Stays (node.Fold m)
   fold_still m stands turn =
       let t = m.tally.memories in
-      fold_turns p next.clock look left right m m refl (kept_still t look left right none none_right) (no_step (gathers m.accumulate) look t left right none) world s next rows rows_now forgotten stands refl turn
+      fold_turns p (λ next. Unit {0}) look left right m m refl (kept_still t look left right none none_right) (no_step (gathers m.accumulate) look t left right none) world s next rows rows_now forgotten stands tt turn
 
   pub fold_tells_none : (m : FoldNode) → Tells (node.Fold m)
   fold_tells_none m stands turn row =

@@ -1,5 +1,5 @@
 -- A turn of the node of each kind: what it then stands for, and that it tells the difference of its line.
-use Rattle.std.proofs.Common.{◌≡◌, ◌∙◌, sym, ap, refl, subst, ℕ, ℤ, ◌-ℤ◌, Bool}
+use Rattle.std.proofs.Common.{◌≡◌, ◌∙◌, sym, ap, refl, subst, ℤ, Bool}
 use Rattle.row_delta.specs.declared.delta.Delta.{Delta}
 use Rattle.row_delta.specs.declared.row.Named.{Named}
 use Rattle.row_delta.specs.declared.row.Row.{Row}
@@ -9,9 +9,7 @@ use Rattle.rule_model.specs.declared.condition.Accumulate.{Accumulate}
 use Rattle.rule_model.specs.declared.condition.Condition.TheVariants.{Plain, Negated, Existing, Folded}
 use Rattle.rule_model.specs.declared.condition.Pattern.{Pattern}
 use Rattle.rule_model.specs.declared.program.Program.{Program}
-use Rattle.rule_model.specs.Maturity.{watermark}
-use Rattle.rule_model.specs.Snapshots.{Snapshot}
-use Rattle.rule_model.specs.Types.{lateness_of}
+use Rattle.rule_model.specs.Snapshots.{Snapshot, floor}
 use Rattle.join_tests.specs.Joins.{Look}
 use Rattle.pair_memory.specs.Inputs.{IsStepped}
 use Rattle.pair_memory.specs.Memories.{made}
@@ -36,30 +34,26 @@ use Rattle.condition_node.specs.Turns.{IsTurn}
 use Rattle.condition_node.proofs.Folding.{fold_shown}
 use Rattle.condition_node.proofs.Knowing.{blockers_ask, witnesses_ask, gathers_ask}
 use Rattle.condition_node.proofs.Shown.{join_shown, exists_shown, not_shown}
-use Rattle.condition_node.proofs.Turning.{stands_next, counts_next, later_floor}
+use Rattle.condition_node.proofs.Turning.{stands_next, counts_next, later_is}
 
 -- from rows and candidates for which the one node stands it turns to the other, for each turn with these differences
-abbrev pub TurnsTo : Program → ℤ → Look → Node → Node → Delta → Delta → Type 0
-TurnsTo p clock look old new left right = (world : Look) (s next : Snapshot) (rows rows_now : Row → Bool) (forgotten : Named → Bool)
-    → NodeStands p old look s rows forgotten → next.clock ≡ clock → IsTurn p (condition_of old) look world s next rows rows_now forgotten left right
+abbrev pub TurnsTo : Program → (Snapshot → Type 0) → Look → Node → Node → Delta → Delta → Type 0
+TurnsTo p At look old new left right = (world : Look) (s next : Snapshot) (rows rows_now : Row → Bool) (forgotten : Named → Bool)
+    → NodeStands p old look s rows forgotten → At next → IsTurn p (condition_of old) look world s next rows rows_now forgotten left right
     → NodeStands p new look next rows_now forgotten
 
 -- and it tells this difference
-abbrev pub Tells : Program → ℤ → Look → Node → Delta → Delta → Delta → Type 0
-Tells p clock look old left right delta = (world : Look) (s next : Snapshot) (rows rows_now : Row → Bool) (forgotten : Named → Bool)
-    → NodeStands p old look s rows forgotten → next.clock ≡ clock → IsTurn p (condition_of old) look world s next rows rows_now forgotten left right
+abbrev pub Tells : Program → (Snapshot → Type 0) → Look → Node → Delta → Delta → Delta → Type 0
+Tells p At look old left right delta = (world : Look) (s next : Snapshot) (rows rows_now : Row → Bool) (forgotten : Named → Bool)
+    → NodeStands p old look s rows forgotten → At next → IsTurn p (condition_of old) look world s next rows rows_now forgotten left right
     → IsDifference (cleaned (line p s (condition_of old) rows) forgotten) (cleaned (line p next (condition_of old) rows_now) forgotten) delta
 
-pub watermark_by : (p : Program) (next : Snapshot) (entry : ℕ) (clock floor : ℤ) → next.clock ≡ clock → floor ≡ clock -ℤ lateness_of p entry → floor ≡ watermark p next entry
-unfolding watermark
-watermark_by p next entry clock floor at is = is ∙ ap (λ c. c -ℤ lateness_of p entry) (sym at)
-
-module _ (p : Program) (clock : ℤ) (look : Look) (left right : Delta) where
+module _ (p : Program) (At : Snapshot → Type 0) (look : Look) (left right : Delta) where
   module _ (m n : BetaJoin) (stepped : IsStepped m.memories n.memories look left right) where
-    pub join_turns : TurnsTo p clock look (node.Join m) (node.Join n) left right
+    pub join_turns : TurnsTo p At look (node.Join m) (node.Join n) left right
     join_turns world s next rows rows_now forgotten stands at turn = stands_next p m.memories n.memories look world s next rows rows_now forgotten left right (Plain m.memories.pattern) turn stepped refl stands
 
-    pub join_tells : (delta : Delta) → IsDifference (made m.memories look) (made n.memories look) delta → Tells p clock look (node.Join m) left right delta
+    pub join_tells : (delta : Delta) → IsDifference (made m.memories look) (made n.memories look) delta → Tells p At look (node.Join m) left right delta
     join_tells delta is world s next rows rows_now forgotten stands at turn =
         difference_alike (made m.memories look) (cleaned (line p s (Plain m.memories.pattern) rows) forgotten) (made n.memories look) (cleaned (line p next (Plain m.memories.pattern) rows_now) forgotten) delta
         (join_shown p look s rows forgotten turn.at_hand turn.named m.memories stands)
@@ -67,11 +61,11 @@ module _ (p : Program) (clock : ℤ) (look : Look) (left right : Delta) where
         ∙ ap (λ (q : Pattern). cleaned (line p next (Plain q) rows_now) forgotten row) stepped.pattern) is
 
   module _ (m n : TallyNode Witnesses) (stepped : IsStepped m.memories n.memories look left right) (step : TallyStep counts_witnesses look m.memories n.memories left right) where
-    pub exists_turns : TurnsTo p clock look (node.Exists m) (node.Exists n) left right
+    pub exists_turns : TurnsTo p At look (node.Exists m) (node.Exists n) left right
     exists_turns world s next rows rows_now forgotten stands at turn =
         counts_next p m.memories n.memories look world s next rows rows_now forgotten left right (Existing m.memories.pattern) turn stepped refl counts_witnesses witnesses_ask turn.stay stands step
 
-    pub exists_tells : (delta : Delta) → IsDifference (shown itself shows_any where_witnessed m.memories look) (shown itself shows_any where_witnessed n.memories look) delta → Tells p clock look (node.Exists m) left right delta
+    pub exists_tells : (delta : Delta) → IsDifference (shown itself shows_any where_witnessed m.memories look) (shown itself shows_any where_witnessed n.memories look) delta → Tells p At look (node.Exists m) left right delta
     exists_tells delta is world s next rows rows_now forgotten stands at turn =
         difference_alike (shown itself shows_any where_witnessed m.memories look) (cleaned (line p s (Existing m.memories.pattern) rows) forgotten)
         (shown itself shows_any where_witnessed n.memories look) (cleaned (line p next (Existing m.memories.pattern) rows_now) forgotten) delta
@@ -79,21 +73,21 @@ module _ (p : Program) (clock : ℤ) (look : Look) (left right : Delta) where
         (λ row. exists_shown p look next rows_now forgotten turn.at_hand_now turn.named_now turn.tags_now n.memories (exists_turns world s next rows rows_now forgotten stands at turn) row
         ∙ ap (λ (q : Pattern). cleaned (line p next (Existing q) rows_now) forgotten row) stepped.pattern) is
 
-  module _ (m n : NotNode) (floor : ℤ) (stepped : IsStepped m.tally.memories n.tally.memories look left right) (step : TallyStep counts_blockers look m.tally.memories n.tally.memories left right)
-      (floor_is : floor ≡ clock -ℤ lateness_of p m.tally.memories.pattern.entry.0) (risen : n.ripening.floor ≡ later m.ripening.floor floor) (in_step : IsInStep p look m → IsInStep p look n) where
-    pub not_turns : TurnsTo p clock look (node.Not m) (node.Not n) left right
+  module _ (m n : NotNode) (stepped : IsStepped m.tally.memories n.tally.memories look left right) (step : TallyStep counts_blockers look m.tally.memories n.tally.memories left right)
+      (told : ℤ) (told_is : (next : Snapshot) → At next → told ≡ floor p next m.tally.memories.pattern.entry.0) (risen : n.ripening.floor ≡ later m.ripening.floor told) (in_step : IsInStep p look m → IsInStep p look n) where
+    pub not_turns : TurnsTo p At look (node.Not m) (node.Not n) left right
     not_turns world s next rows rows_now forgotten waits at turn =
         let entry = m.tally.memories.pattern.entry.0 in
         record {
           counts = counts_next p m.tally.memories n.tally.memories look world s next rows rows_now forgotten left right (Negated m.tally.memories.pattern) turn stepped refl counts_blockers blockers_ask turn.stay waits.counts step;
           in_step = in_step waits.in_step;
-          floor = risen ∙ ap (λ a. later a floor) waits.floor
-              ∙ ap (later (watermark p s entry)) (watermark_by p next entry clock floor at floor_is)
-              ∙ later_floor p s next entry turn.clock
-              ∙ ap (λ (q : Pattern). watermark p next q.entry.0) (sym stepped.pattern);
+          floor = risen ∙ ap (λ a. later a told) waits.floor
+              ∙ ap (later (floor p s entry)) (told_is next at)
+              ∙ later_is (floor p s entry) (floor p next entry) (turn.floors entry)
+              ∙ ap (λ (q : Pattern). floor p next q.entry.0) (sym stepped.pattern);
         }
 
-    pub not_tells : (delta : Delta) → (IsInStep p look m → IsDifference (not_rows p look m) (not_rows p look n) delta) → Tells p clock look (node.Not m) left right delta
+    pub not_tells : (delta : Delta) → (IsInStep p look m → IsDifference (not_rows p look m) (not_rows p look n) delta) → Tells p At look (node.Not m) left right delta
     not_tells delta is world s next rows rows_now forgotten waits at turn =
         difference_alike (not_rows p look m) (cleaned (line p s (Negated m.tally.memories.pattern) rows) forgotten)
         (not_rows p look n) (cleaned (line p next (Negated m.tally.memories.pattern) rows_now) forgotten) delta
@@ -102,7 +96,7 @@ module _ (p : Program) (clock : ℤ) (look : Look) (left right : Delta) where
         ∙ ap (λ (q : Pattern). cleaned (line p next (Negated q) rows_now) forgotten row) stepped.pattern) (is waits.in_step)
 
   module _ (m n : FoldNode) (same : n.accumulate ≡ m.accumulate) (stepped : IsStepped m.tally.memories n.tally.memories look left right) (step : TallyStep (gathers m.accumulate) look m.tally.memories n.tally.memories left right) where
-    pub fold_turns : TurnsTo p clock look (node.Fold m) (node.Fold n) left right
+    pub fold_turns : TurnsTo p At look (node.Fold m) (node.Fold n) left right
     fold_turns world s next rows rows_now forgotten folds at turn =
         record {
           counts = subst (λ (a : Accumulate). Counts (gathers a) p n.tally.memories look next rows_now forgotten) (sym same)
@@ -111,7 +105,7 @@ module _ (p : Program) (clock : ℤ) (look : Look) (left right : Delta) where
         }
 
     pub fold_tells : (delta : Delta) → IsDifference (shown without_value shows_value (result_for m.accumulate) m.tally.memories look) (shown without_value shows_value (result_for m.accumulate) n.tally.memories look) delta
-        → Tells p clock look (node.Fold m) left right delta
+        → Tells p At look (node.Fold m) left right delta
     fold_tells delta is world s next rows rows_now forgotten folds at turn =
         difference_alike (shown without_value shows_value (result_for m.accumulate) m.tally.memories look) (cleaned (line p s (Folded m.accumulate) rows) forgotten)
         (shown without_value shows_value (result_for m.accumulate) n.tally.memories look) (cleaned (line p next (Folded m.accumulate) rows_now) forgotten) delta

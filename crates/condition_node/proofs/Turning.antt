@@ -1,5 +1,5 @@
 -- After a turn a node stands for the new rows and candidates.
-use Rattle.std.proofs.Common.{◌≡◌, sym, subst, ℕ, ℤ, ◌-ℤ◌, ◌≤ℤ◌, Bool, true, false, arith}
+use Rattle.std.proofs.Common.{◌≡◌, ◌∙◌, sym, ap, subst, ℤ, ◌≤ℤ◌, Bool, true, false, arith}
 use Rattle.std.proofs.lemmas.Int.{ints}
 use Rattle.row_delta.specs.declared.delta.Delta.{Delta}
 use Rattle.row_delta.specs.declared.row.Named.{Named}
@@ -8,10 +8,8 @@ use Rattle.rule_model.specs.declared.condition.Condition.{Condition}
 use Rattle.rule_model.specs.declared.condition.Condition.TheVariants.{Plain, Negated, Existing, Folded}
 use Rattle.rule_model.specs.declared.condition.Pattern.{Pattern}
 use Rattle.rule_model.specs.declared.program.Program.{Program}
-use Rattle.rule_model.specs.Snapshots.{Snapshot}
-use Rattle.rule_model.specs.Maturity.{watermark}
+use Rattle.rule_model.specs.Snapshots.{Snapshot, floor}
 use Rattle.rule_model.specs.Rows.{pattern_of}
-use Rattle.rule_model.specs.Types.{lateness_of}
 use Rattle.join_tests.specs.Joins.{Look, joins}
 use Rattle.pair_memory.specs.declared.memories.Memories.{Memories}
 use Rattle.pair_memory.specs.Inputs.{IsNameDifference, IsStepped}
@@ -25,6 +23,9 @@ use Rattle.condition_rows.specs.Sets.{held, candidates_of}
 use Rattle.condition_node.specs.Nodes.{Counts}
 use Rattle.condition_node.specs.Turns.{CountedStay, IsTurn}
 use Rattle.condition_node.proofs.Knowing.{held_known, known_too, joining_alike, seen_alike, AsksOfSet, counted_alike}
+use Rattle.rule_model.specs.Moments.{IsAt, snapshot_at}
+use Rattle.rule_model.specs.declared.moment.Moment.{Moment}
+use Rattle.rule_model.proofs.Floors.{same_floor}
 
 module _ {T : Type 0} (p : Program) (m n : Memories T) (look world : Look) (s next : Snapshot) (rows rows_now : Row → Bool) (forgotten : Named → Bool) (left right : Delta)
     (c : Condition)
@@ -65,10 +66,12 @@ none_counted p world s next rows rows_now left (Existing q) = none_stay (joins q
 none_counted p world s next rows rows_now left (Folded a) = none_stay (joins a.pattern world) rows rows_now (candidates_of p a.pattern s) (candidates_of p a.pattern next) left
 
 -- ---- the floor
-later_is : (a b l : ℤ) → a ≤ℤ b → later (a -ℤ l) (b -ℤ l) ≡ b -ℤ l
-later_is a b l h = grind (arith, ints)
 
--- of two floors of an entry point that of the later clock is the later one
-pub later_floor : (p : Program) (s next : Snapshot) (entry : ℕ) → s.clock ≤ℤ next.clock → later (watermark p s entry) (watermark p next entry) ≡ watermark p next entry
-unfolding watermark
-later_floor p s next entry h = later_is s.clock next.clock (lateness_of p entry) h
+-- of two floors the one that is not less is the later one
+pub later_is : (a b : ℤ) → a ≤ℤ b → later a b ≡ b
+later_is a b h = grind (arith, ints)
+
+-- the floor by a moment is that of each snapshot of the moment
+pub floor_told : (p : Program) (m : Moment) (asked q : Pattern) (told : ℤ) → asked ≡ q → told ≡ floor p (snapshot_at m) asked.entry.0 → (next : Snapshot) → IsAt next m → told ≡ floor p next q.entry.0
+floor_told p m asked q told same is next at =
+    is ∙ same_floor p (snapshot_at m) next asked.entry.0 (sym at.clock) (sym at.reached) ∙ ap (λ (r : Pattern). floor p next r.entry.0) same

@@ -5,8 +5,7 @@ use Rattle.row_delta.specs.declared.row.Row.{Row}
 use Rattle.rule_model.specs.declared.condition.Condition.{Condition}
 use Rattle.rule_model.specs.declared.condition.Condition.TheVariants.{Plain, Negated, Existing, Folded}
 use Rattle.rule_model.specs.declared.program.Program.{Program}
-use Rattle.rule_model.specs.Maturity.{watermark}
-use Rattle.rule_model.specs.Snapshots.{Snapshot}
+use Rattle.rule_model.specs.Snapshots.{Snapshot, floor}
 use Rattle.join_tests.specs.Joins.{Look, joins}
 use Rattle.pair_memory.specs.declared.memories.Memories.{Memories}
 use Rattle.pair_memory.specs.Standing.{StandsFor}
@@ -43,7 +42,7 @@ Counts holds p m look s rows forgotten =
 pub record WaitsFor (p : Program) (waiting : NotNode) (look : Look) (s : Snapshot) (rows : Row → Bool) (forgotten : Named → Bool) : Type 0 where
   pub counts : Counts counts_blockers p waiting.tally.memories look s rows forgotten
   pub in_step : IsInStep p look waiting
-  pub floor : waiting.ripening.floor ≡ watermark p s waiting.tally.memories.pattern.entry.0
+  pub floor : waiting.ripening.floor ≡ floor p s waiting.tally.memories.pattern.entry.0
 
 -- the node of an accumulate looks at the facts of its pattern
 pub record FoldsFor (p : Program) (fold : FoldNode) (look : Look) (s : Snapshot) (rows : Row → Bool) (forgotten : Named → Bool) : Type 0 where

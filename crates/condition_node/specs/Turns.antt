@@ -1,5 +1,5 @@
 -- What is given for a step of a node.
-use Rattle.std.specs.Prelude.{Bool, ◌≤ℤ◌}
+use Rattle.std.specs.Prelude.{ℕ, Bool, ◌≤ℤ◌}
 use Rattle.row_delta.specs.declared.delta.Delta.{Delta}
 use Rattle.row_delta.specs.declared.row.Named.{Named}
 use Rattle.row_delta.specs.declared.row.Row.{Row}
@@ -9,7 +9,7 @@ use Rattle.rule_model.specs.declared.condition.Condition.TheVariants.{Plain}
 use Rattle.rule_model.specs.declared.program.Program.{Program}
 use Rattle.rule_model.specs.Distinct.{HaveDistinctTags}
 use Rattle.rule_model.specs.Rows.{pattern_of}
-use Rattle.rule_model.specs.Snapshots.{Snapshot}
+use Rattle.rule_model.specs.Snapshots.{Snapshot, floor}
 use Rattle.join_tests.specs.Joins.{Look, joins}
 use Rattle.pair_memory.specs.Inputs.{IsNameDifference}
 use Rattle.pair_memory.specs.Standing.{cleaned, remembered, no_names}
@@ -30,6 +30,7 @@ pub record IsTurn (p : Program) (condition : Condition) (look world : Look) (s n
   pub tags : HaveDistinctTags s.facts
   pub tags_now : HaveDistinctTags next.facts
   pub clock : s.clock ≤ℤ next.clock
+  pub floors : (entry : ℕ) → floor p s entry ≤ℤ floor p next entry
   pub at_hand : HasAllOf look s forgotten
   pub at_hand_now : HasAllOf look next forgotten
   pub known : HasAllOf world s no_names

@@ -6,8 +6,8 @@ ghost use Rattle.row_delta.specs.Rows.{has, InOrder};
 ghost use Rattle.row_change.specs.Changes.{IsDifference, changes_nothing};
 ghost use Rattle.rule_model.specs.declared.program.Program.{Program};
 ghost use Rattle.rule_model.specs.Rows.{pattern_of};
-ghost use Rattle.rule_model.specs.Snapshots.{Snapshot};
-ghost use Rattle.rule_model.specs.Types.{lateness_of};
+ghost use Rattle.rule_model.specs.Moments.{IsAt};
+ghost use Rattle.rule_model.specs.Snapshots.{Snapshot, floor};
 ghost use Rattle.join_tests.specs.Joins.{Look};
 ghost use Rattle.pair_memory.specs.Joined.{has_name};
 ghost use Rattle.pair_memory.specs.Standing.{clean, cleaned, either, no_rows};
@@ -23,7 +23,7 @@ use beta_join::BetaJoin;
 use fx_base::{EntryId, Facts, Millis, NoMemory, Seq};
 use not_node::NotNode;
 use row_delta::{Delta, Named, Row};
-use rule_model::{Accumulate, Condition, Pattern, Program};
+use rule_model::{Accumulate, Condition, Moment, Pattern, Program};
 use std::alloc::Global;
 use tally_node::{Gathered, TallyNode, Witnesses};
 
@@ -43,11 +43,13 @@ pub enum Node {
     Fold(FoldNode),
 }
 
-/// The moment before which no event of an entry point can start any more, at this clock.
-fn watermark(program: &Program, entry: EntryId, clock: Millis) -> i128
-    ensures { result ≡ clock -ℤ lateness_of program.now entry.0 }
+/// The floor of an entry point at the clock 0, where no event was inserted and nothing promised.
+#[tactic(auto, unfolding(rule_model::specs::Snapshots::floor))]
+fn first_floor(program: &Program, entry: EntryId) -> i128
+    ensures { result ≡ floor program.now empty_snapshot entry.0 }
 {
-    i128::from(clock) - i128::from(program.lateness(entry))
+    let start: i128 = 0;
+    start.max(start - i128::from(program.lateness(entry)))
 }
 
 /// The clock from which a moment is past at an entry point of this lateness; nothing where no clock of 64 bits comes so far.
@@ -71,7 +73,7 @@ impl Node {
             }
             Condition::Negated(pattern) => {
                 let pattern = pattern.copied(alloc)?;
-                let floor = watermark(program, pattern.entry, 0);
+                let floor = first_floor(program, pattern.entry);
                 Ok(Node::Not(NotNode::new(alloc, pattern, floor)))
             }
             Condition::Existing(pattern) => {
@@ -100,7 +102,7 @@ impl Node {
     }
 
     /// Takes what has changed in the rows of the conditions before this one, and in its candidates, each named by a row of its
-    /// own, and the clock in milliseconds, and answers what has changed in what the condition makes of them. It costs what the
+    /// own, and the moment, and answers what has changed in what the condition makes of them. It costs what the
     /// node of the kind says; where nothing has changed and no row becomes mature, a comparison and a look at the least moment.
     pub fn advance<F: Facts>(
         &mut self,
@@ -108,16 +110,16 @@ impl Node {
         program: &Program,
         left: &Delta,
         right: &Delta,
-        clock: Millis,
+        moment: &Moment,
         facts: &F,
     ) -> Result<Delta, NoMemory>
         ensures condition { OnOk result (condition_of self.new ≡ condition_of self.old) }
         ensures stands { OnOk result ((world : Look) (s next : Snapshot) (rows rows_now : Row → Bool) (forgotten : Named → Bool)
-            → NodeStands program.now self.old (F.map facts.now) s rows forgotten → next.clock ≡ clock
+            → NodeStands program.now self.old (F.map facts.now) s rows forgotten → IsAt next moment.now
             → IsTurn program.now (condition_of self.old) (F.map facts.now) world s next rows rows_now forgotten left.now right.now
             → NodeStands program.now self.new (F.map facts.now) next rows_now forgotten) }
         ensures difference { IfOk result (λ delta. (world : Look) (s next : Snapshot) (rows rows_now : Row → Bool) (forgotten : Named → Bool)
-            → NodeStands program.now self.old (F.map facts.now) s rows forgotten → next.clock ≡ clock
+            → NodeStands program.now self.old (F.map facts.now) s rows forgotten → IsAt next moment.now
             → IsTurn program.now (condition_of self.old) (F.map facts.now) world s next rows rows_now forgotten left.now right.now
             → IsDifference (cleaned (line program.now s (condition_of self.old) rows) forgotten) (cleaned (line program.now next (condition_of self.old) rows_now) forgotten) delta) }
     {
@@ -127,7 +129,7 @@ impl Node {
                 Ok(delta)
             }
             Node::Not(waiting) => {
-                let floor = watermark(program, waiting.pattern().entry, clock);
+                let floor = moment.floor(program, waiting.pattern().entry);
                 let delta = waiting.advance(alloc, program, left, right, floor, facts)?;
                 Ok(delta)
             }

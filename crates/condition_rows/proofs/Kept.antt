@@ -10,9 +10,9 @@ use Rattle.rule_model.specs.declared.program.Program.{Program}
 use Rattle.rule_model.specs.Candidates.{is_candidate, candidates, passes, passing}
 use Rattle.rule_model.specs.Distinct.{HaveDistinctTags}
 use Rattle.rule_model.specs.Lent.{bound_in}
-use Rattle.rule_model.specs.Maturity.{is_mature, watermark}
+use Rattle.rule_model.specs.Maturity.{is_mature}
 use Rattle.rule_model.specs.Rows.{extended}
-use Rattle.rule_model.specs.Snapshots.{Snapshot}
+use Rattle.rule_model.specs.Snapshots.{Snapshot, floor}
 use Rattle.rule_model.specs.Tuples.{Tuple, Bindings, empty_tuple, name_of, row_of, bound_by}
 use Rattle.rule_model.proofs.Listed.{in_if, of_if, in_unless, of_unless, not_empty, both, both_of}
 use Rattle.rule_model.proofs.Named.{of_filter}
@@ -74,9 +74,9 @@ module _ (p : Program) (s : Snapshot) (d : HaveDistinctTags s.facts) (front : Li
   pub bound_made : (t : Tuple) → IsMade p s front t → bound_in (held s) (row_of t) ≡ bound_by t
   bound_made t i = bound_named (held s) (row_of t) t refl (made_facts p s d front t i)
 
-  ripe_made : (q : Pattern) (t : Tuple) → IsMade p s front t → is_ripe p q s (row_of t) ≡ is_mature p q (bound_by t) (watermark p s q.entry.0)
+  ripe_made : (q : Pattern) (t : Tuple) → IsMade p s front t → is_ripe p q s (row_of t) ≡ is_mature p q (bound_by t) (floor p s q.entry.0)
   unfolding is_ripe
-  ripe_made q t i = ap (λ (b : Bindings). is_mature p q b (watermark p s q.entry.0)) (bound_made t i)
+  ripe_made q t i = ap (λ (b : Bindings). is_mature p q b (floor p s q.entry.0)) (bound_made t i)
 
   pub existing_line : (q : Pattern) (row : Row) → rows_of p s (front ++ Existing q ∷ []) row ≡ line p s (Existing q) (rows_of p s front) row
   existing_line q row =
@@ -87,7 +87,7 @@ module _ (p : Program) (s : Snapshot) (d : HaveDistinctTags s.facts) (front : Li
   abbrev waits_not : Pattern → Row → Bool
   waits_not q row = not (has_partner p q s row) && is_ripe p q s row
 
-  waits_made : (q : Pattern) (t : Tuple) → IsMade p s front t → waits_not q (row_of t) ≡ (length (passing p q s t) == 0 && is_mature p q (bound_by t) (watermark p s q.entry.0))
+  waits_made : (q : Pattern) (t : Tuple) → IsMade p s front t → waits_not q (row_of t) ≡ (length (passing p q s t) == 0 && is_mature p q (bound_by t) (floor p s q.entry.0))
   waits_made q t i =
       ap (λ b. not b && is_ripe p q s (row_of t)) (partner_made q t i)
       ∙ ap (λ b. b && is_ripe p q s (row_of t)) (not_not (length (passing p q s t) == 0))
@@ -96,5 +96,5 @@ module _ (p : Program) (s : Snapshot) (d : HaveDistinctTags s.facts) (front : Li
   pub negated_line : (q : Pattern) (row : Row) → rows_of p s (front ++ Negated q ∷ []) row ≡ line p s (Negated q) (rows_of p s front) row
   negated_line q row =
       kept_rows p s front (Negated q) (waits_not q)
-      (λ t i e. in_if (length (passing p q s t) == 0 && is_mature p q (bound_by t) (watermark p s q.entry.0)) t (sym (waits_made q t i) ∙ e))
-      (λ t next i j. let r = of_if (length (passing p q s t) == 0 && is_mature p q (bound_by t) (watermark p s q.entry.0)) t next j in (waits_made q t i ∙ r.0, r.1)) row
+      (λ t i e. in_if (length (passing p q s t) == 0 && is_mature p q (bound_by t) (floor p s q.entry.0)) t (sym (waits_made q t i) ∙ e))
+      (λ t next i j. let r = of_if (length (passing p q s t) == 0 && is_mature p q (bound_by t) (floor p s q.entry.0)) t next j in (waits_made q t i ∙ r.0, r.1)) row

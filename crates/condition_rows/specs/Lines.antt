@@ -11,9 +11,9 @@ use Rattle.rule_model.specs.declared.condition.Condition.TheVariants.{Plain, Neg
 use Rattle.rule_model.specs.declared.condition.Pattern.{Pattern}
 use Rattle.rule_model.specs.declared.program.Program.{Program}
 use Rattle.rule_model.specs.Lent.{bound_in}
-use Rattle.rule_model.specs.Maturity.{is_mature, watermark}
+use Rattle.rule_model.specs.Maturity.{is_mature}
 use Rattle.rule_model.specs.Rows.{result_of}
-use Rattle.rule_model.specs.Snapshots.{Snapshot}
+use Rattle.rule_model.specs.Snapshots.{Snapshot, floor}
 use Rattle.rule_model.specs.Tests.{results_hold}
 use Rattle.join_tests.specs.Joins.{joins}
 use Rattle.pair_memory.specs.Joined.{joined}
@@ -24,7 +24,7 @@ use Rattle.condition_rows.specs.Sets.{held, candidates_of, has_partner, partners
 
 -- what the row has bound is mature for the negative pattern
 unfoldable pub is_ripe : Program → Pattern → Snapshot → Row → Bool
-is_ripe p pattern s row = is_mature p pattern (bound_in (held s) row) (watermark p s pattern.entry.0)
+is_ripe p pattern s row = is_mature p pattern (bound_in (held s) row) (floor p s pattern.entry.0)
 
 -- the value is what there is
 abbrev pub is_result : Option ℤ → ℤ → Bool

@@ -1,18 +1,18 @@
 -- What a store has at hand of the facts of a snapshot, and rows that name these facts alone.
-use Rattle.std.specs.Prelude.{◌≡◌, Bool, true, false, ℤ, pos, [], Some}
+use Rattle.std.specs.Prelude.{◌≡◌, Bool, true, false, pos, [], Some}
 use Rattle.std.specs.Option.{is_some}
 use Rattle.fx_base.specs.declared.fact.Fact.{Fact}
 use Rattle.fx_base.specs.declared.ids.Tag.{Tag}
 use Rattle.row_delta.specs.declared.row.Named.{Named}
 use Rattle.row_delta.specs.declared.row.Row.{Row}
-use Rattle.rule_model.specs.Snapshots.{Snapshot}
+use Rattle.rule_model.specs.Snapshots.{nothing_reached, Snapshot}
 use Rattle.rule_model.specs.Tuples.{name_of}
 use Rattle.join_tests.specs.Joins.{Look, versions_at}
 use Rattle.condition_rows.specs.Sets.{held}
 
 -- where nothing was inserted
 abbrev pub empty_snapshot : Snapshot
-empty_snapshot = record { facts = []; clock = pos 0; last_start = λ entry. pos 0 }
+empty_snapshot = record { facts = []; clock = pos 0; reached = nothing_reached }
 
 -- the store has each version of the snapshot that is not forgotten
 abbrev pub HasAllOf : Look → Snapshot → (Named → Bool) → Type 0

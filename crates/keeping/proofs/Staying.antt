@@ -15,7 +15,7 @@ use Rattle.rule_model.specs.declared.life.LifeTable.{LifeTable}
 use Rattle.rule_model.specs.declared.program.Program.{Program}
 use Rattle.rule_model.specs.declared.program.Rule.{Rule}
 use Rattle.rule_model.specs.declared.step.Step.{Step}
-use Rattle.rule_model.specs.declared.step.Step.TheVariants.{Insert, Modify, Retract, Advance, At}
+use Rattle.rule_model.specs.declared.step.Step.TheVariants.{Insert, Modify, Retract, Advance, At, Promise}
 use Rattle.rule_model.specs.Candidates.{is_within, is_present, is_inside, is_candidate}
 use Rattle.rule_model.specs.Rows.{pattern_of}
 use Rattle.rule_model.specs.Snapshots.{Snapshot}
@@ -68,6 +68,7 @@ observed_stays p w (Retract ty id) law none f i event observed =
     absurd cc))) i
 observed_stays p w (Advance by) law none f i event observed = i
 observed_stays p w (At moment) law none f i event observed = i
+observed_stays p w (Promise entry from) law none f i event observed = i
 
 -- ---- a fact past its life, over two snapshots
 

@@ -15,6 +15,8 @@ mod held_events;
 #[cfg(test)]
 mod held_facts;
 #[cfg(test)]
+mod images;
+#[cfg(test)]
 mod lines;
 #[cfg(test)]
 mod loads;

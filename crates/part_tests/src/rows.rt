@@ -3,7 +3,7 @@ use row_delta::{Delta, Extra, Named, Row};
 use std::alloc::Global;
 use std::test::Fail;
 
-fn row_of_one_fact(alloc: Global) -> Result<Row, NoMemory> {
+pub(crate) fn row_of_one_fact(alloc: Global) -> Result<Row, NoMemory> {
     let named = Named {
         id: FactId(1),
         tag: Tag(3),
@@ -40,7 +40,7 @@ fn a_row_comes_and_goes(rt: HostRuntime) -> Result<(), Fail> {
     Ok(())
 }
 
-fn extra(alloc: Global) -> Result<Extra, NoMemory> {
+pub(crate) fn extra(alloc: Global) -> Result<Extra, NoMemory> {
     Ok(Extra {
         rule: RuleId(2),
         condition: 1,

@@ -14,7 +14,7 @@ fn a_text_has_its_bytes(rt: HostRuntime) -> Result<(), Fail> {
     Ok(())
 }
 
-fn values(alloc: Global) -> Result<Seq<Value>, NoMemory> {
+pub(crate) fn values(alloc: Global) -> Result<Seq<Value>, NoMemory> {
     let text = Value::Text(Text::new(alloc, "ab")?);
     Ok(Seq::from_vec(vec![in alloc; Value::Int(3), Value::Bool(true), text]?))
 }

@@ -1,5 +1,5 @@
 -- Snapshots as a store keeps them, and what leads from one to the next.
-use Rattle.std.specs.Prelude.{◌≡◌, ◌==◌, ◌++◌, not, Bool, true, ℤ, pos, ◌≤ℤ◌, List, map, Option, option_to_list}
+use Rattle.std.specs.Prelude.{ℕ, ◌≡◌, ◌==◌, ◌++◌, not, Bool, true, ℤ, pos, ◌≤ℤ◌, List, map, Option, option_to_list}
 use Rattle.std.specs.List.{filter, list_any}
 use Rattle.std.specs.List.Sorted.{IsStrictlySortedBy}
 use Rattle.std.specs.Ordering.{nat_cmp}
@@ -8,7 +8,7 @@ use Rattle.fx_base.specs.declared.fact.Fact.{Fact}
 use Rattle.rule_model.specs.declared.program.Program.{Program}
 use Rattle.rule_model.specs.Candidates.{is_present}
 use Rattle.rule_model.specs.Distinct.{HaveDistinctTags}
-use Rattle.rule_model.specs.Snapshots.{Snapshot}
+use Rattle.rule_model.specs.Snapshots.{Snapshot, floor}
 use Rattle.rule_model.specs.Types.{is_event}
 use Rattle.rule_world.specs.Events.{most_millis}
 
@@ -23,11 +23,12 @@ pub record IsOrderly (p : Program) (s : Snapshot) : Type 0 where
 abbrev pub shares_tag : List Fact → Fact → Bool
 shares_tag facts f = list_any (λ (g : Fact). g.tag.0 == f.tag.0) facts
 
--- The clock moves on or stands, some facts go, and one may come, which is the latest.
+-- The clock and the floors move on or stand, some facts go, and one may come, which is the latest.
 pub record Moves (p : Program) (s next : Snapshot) (gone : List Fact) (come : Option Fact) : Type 0 where
   pub before : IsOrderly p s
   pub after : IsOrderly p next
   pub clock : s.clock ≤ℤ next.clock
+  pub floors : (entry : ℕ) → floor p s entry ≤ℤ floor p next entry
   pub held : (f : Fact) → In f gone → In f s.facts
   pub once : HaveDistinctTags gone
   pub facts : next.facts ≡ filter (λ (f : Fact). not (shares_tag gone f)) s.facts ++ option_to_list come

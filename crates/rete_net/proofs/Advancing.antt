@@ -1,5 +1,5 @@
 -- A step of a network over the rows of its conditions.
-use Rattle.std.proofs.Common.{◌≡◌, ◌∙◌, sym, ap, refl, subst, zero-add, ℕ, ◌<◌, ◌^◌, arith, ℤ, length, ◌&&◌, not, Bool, true, false, List, [], ◌∷◌, Option, Some, None, slice_get}
+use Rattle.std.proofs.Common.{◌≡◌, ◌∙◌, sym, ap, refl, subst, zero-add, ℕ, ◌<◌, ◌^◌, arith, length, ◌&&◌, not, Bool, true, false, List, [], ◌∷◌, Option, Some, None, slice_get}
 use mathlib.Core.Path.{fun_ext}
 use Rattle.std.proofs.lemmas.Option.{slice_get_within}
 use Rattle.fx_base.specs.declared.fact.Fact.{Fact}
@@ -33,6 +33,7 @@ use Rattle.rete_net.proofs.Cleaning.{has_clean}
 use Rattle.rete_net.proofs.Frames.{net_again, stepped_nodes}
 use Rattle.rete_net.proofs.Growing.{has_at}
 use Rattle.rete_net.proofs.Turning.{rising}
+use Rattle.rule_model.specs.declared.moment.Moment.{Moment}
 
 -- the rows of conditions are what the lines make of them
 pub rows_made : (p : Program) (s : Snapshot) → HaveDistinctTags s.facts → AreMade p s (rows_of p s)
@@ -55,24 +56,24 @@ first_stays p s next forgotten =
     subst (λ (set : Row → Bool). Leads (cleaned (rows_of p s []) forgotten) (cleaned set forgotten) [] []) (same_first p s next)
     (record { goes = λ row. unmoved (cleaned (rows_of p s []) forgotten row); comes = λ row. unmoved (cleaned (rows_of p s []) forgotten row) })
 
-module _ (p : Program) (look : Look) (s next : Snapshot) (gone : List Fact) (come : Option Fact) (clock : ℤ) (forgotten : Named → Bool) (first : Delta) (was : List Condition → Row → Bool) (lists : Rule → List Row)
+module _ (p : Program) (look : Look) (s next : Snapshot) (gone : List Fact) (come : Option Fact) (moment : Moment) (forgotten : Named → Bool) (first : Delta) (was : List Condition → Row → Bool) (lists : Rule → List Row)
     (old new : Rete) (shape : IsNetOf p old.nodes.items old.ends.items) (answers : List RuleChange)
-    (given : IsGiven p look s next gone come clock forgotten) (made : AreMade p s was) (leads : Leads (cleaned (was []) forgotten) (cleaned (rows_of p next []) forgotten) first.gone first.come)
+    (given : IsGiven p look s next gone come moment forgotten) (made : AreMade p s was) (leads : Leads (cleaned (was []) forgotten) (cleaned (rows_of p next []) forgotten) first.gone first.come)
     (standing : AreStanding p s was forgotten old.nodes.items shape.conditions)
     (beside : (k : ℕ) (n : NetNode) → slice_get old.nodes.items k ≡ Some n → StaysBeside p given.world s next (condition_of n.node) (was (before shape.conditions n.parent)) (rows_of p next (before shape.conditions n.parent)) forgotten)
-    (same : new.ends.items ≡ old.ends.items) (step : NetStep p look gone come clock first old.nodes.items new.nodes.items old.ends.items answers)
+    (same : new.ends.items ≡ old.ends.items) (step : NetStep p look gone come moment first old.nodes.items new.nodes.items old.ends.items answers)
     (listed : (place : ℕ) (rule : Rule) → slice_get p.rules place ≡ Some rule → cleaned (was rule.conditions) forgotten ≡ has (lists rule)) where
   distinct_now : HaveDistinctTags next.facts
   distinct_now = rising next.facts given.moves.after.in_order
 
   pub shape_now : IsNetOf p new.nodes.items new.ends.items
-  shape_now = net_again p old.nodes.items new.nodes.items old.ends.items new.ends.items same (stepped_nodes p look gone come clock first old.nodes.items new.nodes.items old.ends.items answers step) shape
+  shape_now = net_again p old.nodes.items new.nodes.items old.ends.items new.ends.items same (stepped_nodes p look gone come moment first old.nodes.items new.nodes.items old.ends.items answers step) shape
 
   pub stands_now : NodesStand p new next forgotten
   stands_now = record {
-    shape = net_again p old.nodes.items new.nodes.items old.ends.items new.ends.items same (stepped_nodes p look gone come clock first old.nodes.items new.nodes.items old.ends.items answers step) shape;
+    shape = net_again p old.nodes.items new.nodes.items old.ends.items new.ends.items same (stepped_nodes p look gone come moment first old.nodes.items new.nodes.items old.ends.items answers step) shape;
     nodes =
-        (standing_now p look s next gone come clock forgotten first was (rows_of p next) old.nodes.items new.nodes.items shape.conditions step.deltas given made (rows_made p next distinct_now) leads standing beside step.nodes step.stepped).stand;
+        (standing_now p look s next gone come moment forgotten first was (rows_of p next) old.nodes.items new.nodes.items shape.conditions step.deltas given made (rows_made p next distinct_now) leads standing beside step.nodes step.stepped).stand;
   }
 
   pub between_now : length old.ends.items < 2 ^ 16 → AreBetween p lists (clean_rows p next forgotten) answers
@@ -81,7 +82,7 @@ module _ (p : Program) (look : Look) (s next : Snapshot) (gone : List Fact) (com
     placed = λ place delta e. placed place delta e (slice_get old.ends.items place) refl;
     each = λ place rule e.
         let end = shape.lasts place rule e in
-        let is = answer_at p look s next gone come clock forgotten first was (rows_of p next) old.nodes.items new.nodes.items shape.conditions step.deltas given made (rows_made p next distinct_now) leads standing beside step.nodes step.stepped old.ends.items place rule end in
+        let is = answer_at p look s next gone come moment forgotten first was (rows_of p next) old.nodes.items new.nodes.items shape.conditions step.deltas given made (rows_made p next distinct_now) leads standing beside step.nodes step.stepped old.ends.items place rule end in
         subst (λ (change : Option Delta). IsChange change (lists rule) (clean_rows p next forgotten rule)) (sym (ap (change_of (changes_from first step.deltas 0 old.ends.items)) (sym (zero-add place)) ∙ found_change first step.deltas 0 place old.ends.items end.last end.found))
         (is_change (lists rule) (clean_rows p next forgotten rule) (delta_at first step.deltas end.last)
         (subst (λ (set : Row → Bool). IsDifference set (has (clean_rows p next forgotten rule)) (delta_at first step.deltas end.last)) (listed place rule e)

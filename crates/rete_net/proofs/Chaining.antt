@@ -1,6 +1,6 @@
 -- A step of all nodes, one after those before it, over the rows that conditions have before the step and behind it, where some facts have
 -- been forgotten.
-use Rattle.std.proofs.Common.{◌≡◌, ◌∙◌, sym, refl, subst, ℕ, zero, suc, ℤ, ◌<◌, List, [], ◌∷◌, ◌++◌, take, get_or, length, arith, Bool, true, Option, Some, None, slice_get}
+use Rattle.std.proofs.Common.{◌≡◌, ◌∙◌, sym, refl, subst, ℕ, zero, suc, ◌<◌, List, [], ◌∷◌, ◌++◌, take, get_or, length, arith, Bool, true, Option, Some, None, slice_get}
 use Rattle.std.proofs.lemmas.List.{get_or-take}
 use Rattle.std.proofs.lemmas.Option.{slice_get_within, slice_get-get_or}
 use Rattle.fx_base.specs.declared.fact.Fact.{Fact}
@@ -26,6 +26,8 @@ use Rattle.rete_net.specs.declared.node.NetNode.{NetNode}
 use Rattle.rete_net.specs.Nets.{NetNodeStands}
 use Rattle.rete_net.specs.Shapes.{before, IsShaped, EndsAt}
 use Rattle.rete_net.specs.Steps.{delta_at, left_delta, IsNodeTurn, NodeStep, SteppedBelow}
+use Rattle.rule_model.specs.declared.moment.Moment.{Moment}
+use Rattle.rule_model.specs.Moments.{IsAt}
 
 -- the rows of conditions in a snapshot, as the lines make them, name versions of the snapshot alone
 pub record AreMade (p : Program) (s : Snapshot) (sets : List Condition → Row → Bool) : Type 0 where
@@ -33,9 +35,9 @@ pub record AreMade (p : Program) (s : Snapshot) (sets : List Condition → Row �
   pub named : (conditions : List Condition) → NameHeld s (sets conditions)
 
 -- what leads from the one snapshot to the other, a store that has at hand what is remembered of both, and a world that has all of both
-pub record IsGiven (p : Program) (look : Look) (s next : Snapshot) (gone : List Fact) (come : Option Fact) (clock : ℤ) (forgotten : Named → Bool) : Type 0 where
+pub record IsGiven (p : Program) (look : Look) (s next : Snapshot) (gone : List Fact) (come : Option Fact) (moment : Moment) (forgotten : Named → Bool) : Type 0 where
   pub moves : Moves p s next gone come
-  pub moment : next.clock ≡ clock
+  pub is_at : IsAt next moment
   pub at_hand : HasAllOf look s forgotten
   pub at_hand_now : HasAllOf look next forgotten
   pub world : Look
@@ -53,12 +55,12 @@ pub record StaysBeside (p : Program) (world : Look) (s next : Snapshot) (conditi
   pub same : (who : Named) → forgotten who ≡ true → candidates_of p (pattern_of condition) s who ≡ candidates_of p (pattern_of condition) next who
   pub stay : (left : Delta) → Leads (cleaned rows forgotten) (cleaned rows_now forgotten) left.gone left.come → CountedStay condition p world s next rows rows_now forgotten left
 
-module _ (p : Program) (look : Look) (s next : Snapshot) (gone : List Fact) (come : Option Fact) (clock : ℤ) (forgotten : Named → Bool) (first : Delta) (was is : List Condition → Row → Bool)
+module _ (p : Program) (look : Look) (s next : Snapshot) (gone : List Fact) (come : Option Fact) (moment : Moment) (forgotten : Named → Bool) (first : Delta) (was is : List Condition → Row → Bool)
     (nodes nodes_now : List NetNode) (conditions : ℕ → List Condition) (deltas : List Delta)
-    (given : IsGiven p look s next gone come clock forgotten) (made : AreMade p s was) (made_now : AreMade p next is) (leads : Leads (cleaned (was []) forgotten) (cleaned (is []) forgotten) first.gone first.come)
+    (given : IsGiven p look s next gone come moment forgotten) (made : AreMade p s was) (made_now : AreMade p next is) (leads : Leads (cleaned (was []) forgotten) (cleaned (is []) forgotten) first.gone first.come)
     (standing : AreStanding p s was forgotten nodes conditions)
     (beside : (k : ℕ) (n : NetNode) → slice_get nodes k ≡ Some n → StaysBeside p given.world s next (condition_of n.node) (was (before conditions n.parent)) (is (before conditions n.parent)) forgotten)
-    (same : length nodes_now ≡ length nodes) (stepped : SteppedBelow p look gone come clock first nodes nodes_now deltas (length nodes)) where
+    (same : length nodes_now ≡ length nodes) (stepped : SteppedBelow p look gone come moment first nodes nodes_now deltas (length nodes)) where
   -- the node of a place answers the true difference of the rows of its conditions, of those that name no forgotten fact
   abbrev Answers : ℕ → Type 0
   Answers k = IsDifference (cleaned (was (conditions k)) forgotten) (cleaned (is (conditions k)) forgotten) (delta_at first deltas k)
@@ -96,7 +98,7 @@ module _ (p : Program) (look : Look) (s next : Snapshot) (gone : List Fact) (com
       (get_or nodes_now k old, slice_get-get_or nodes_now k old lt)
 
   step_at : (k : ℕ) (old new : NetNode) → slice_get nodes k ≡ Some old → slice_get nodes_now k ≡ Some new
-      → NodeStep p look gone come clock old new (left_delta first (take k deltas) old.parent) (delta_at first deltas k)
+      → NodeStep p look gone come moment old new (left_delta first (take k deltas) old.parent) (delta_at first deltas k)
   step_at k old new e f = stepped k (slice_get_within nodes k old e) old new e f
 
   one : (k : ℕ) (old : NetNode) → slice_get nodes k ≡ Some old → ((q : ℕ) → q < k → Answers q) → Answers k
@@ -104,7 +106,7 @@ module _ (p : Program) (look : Look) (s next : Snapshot) (gone : List Fact) (com
       let new = now_at k old e in
       let behind = before conditions old.parent in
       let c = condition_of old.node in
-      let d = (step_at k old new.0 e new.1).difference s next (was behind) (is behind) forgotten (standing.stand k old e) given.moment (turn k old e answers) in
+      let d = (step_at k old new.0 e new.1).difference s next (was behind) (is behind) forgotten (standing.stand k old e) given.is_at (turn k old e answers) in
       subst (λ (cs : List Condition). IsDifference (cleaned (was cs) forgotten) (cleaned (is cs) forgotten) (delta_at first deltas k)) (sym (standing.shaped.own k old e))
       (subst (λ (set : Row → Bool). IsDifference (cleaned set forgotten) (cleaned (is (behind ++ c ∷ [])) forgotten) (delta_at first deltas k)) (sym (made.more behind c))
       (subst (λ (set : Row → Bool). IsDifference (cleaned (line p s c (was behind)) forgotten) (cleaned set forgotten) (delta_at first deltas k)) (sym (made_now.more behind c)) d))
@@ -126,7 +128,7 @@ module _ (p : Program) (look : Look) (s next : Snapshot) (gone : List Fact) (com
   stands_at : (k : ℕ) (old new : NetNode) → slice_get nodes k ≡ Some old → slice_get nodes_now k ≡ Some new → NetNodeStands p new next (is (before conditions old.parent)) forgotten
   stands_at k old new e f =
       let behind = before conditions old.parent in
-      (step_at k old new e f).stands s next (was behind) (is behind) forgotten (standing.stand k old e) given.moment
+      (step_at k old new e f).stands s next (was behind) (is behind) forgotten (standing.stand k old e) given.is_at
       (turn k old e (λ q lt. let w : k < length nodes = slice_get_within nodes k old e in all_below (suc q) q old (omega arith) (omega arith)))
 
   pub standing_now : AreStanding p next is forgotten nodes_now conditions

@@ -24,10 +24,10 @@ use Rattle.rule_model.specs.declared.program.Rule.{Rule}
 use Rattle.rule_model.specs.Candidates.{fits, is_behind, is_present, is_candidate, is_inside, candidates}
 use Rattle.rule_model.specs.Distinct.{HaveDistinctTags}
 use Rattle.rule_model.specs.Lent.{bound_in}
-use Rattle.rule_model.specs.Maturity.{is_mature, watermark}
+use Rattle.rule_model.specs.Maturity.{is_mature}
 use Rattle.rule_model.specs.Rows.{pattern_of, result_of}
 use Rattle.rule_model.specs.Simple.{is_length, observes, is_observed_in}
-use Rattle.rule_model.specs.Snapshots.{Snapshot}
+use Rattle.rule_model.specs.Snapshots.{Snapshot, floor}
 use Rattle.rule_model.specs.Tests.{results_hold, tests_hold}
 use Rattle.rule_model.specs.Tuples.{Bindings, name_of, unbound}
 use Rattle.rule_model.proofs.Listed.{both_of, of_map}
@@ -290,8 +290,8 @@ module _ (p : Program) (s : Snapshot) (f : Fact) (forgotten : Named → Bool) (d
           ∙ filter_among (λ (g : Fact). joins q (held less) row (name_of g)) (λ (g : Fact). joins q (held s) row (name_of g)) (candidates p q s) joins_same
 
       ripe_same : is_ripe p q less row ≡ is_ripe p q s row
-      unfolding is_ripe watermark
-      ripe_same = ap (λ (bound : Bindings). is_mature p q bound (watermark p s q.entry.0)) (bound_same row e)
+      unfolding is_ripe floor
+      ripe_same = ap (λ (bound : Bindings). is_mature p q bound (floor p s q.entry.0)) (bound_same row e)
 
     gives_same : (a : Accumulate) → IsApart a.pattern f → (row : Row) → cleaned rows forgotten row ≡ true → (v : ℤ) → gives p a less row v ≡ gives p a s row v
     unfolding gives

@@ -1,5 +1,5 @@
 -- The shape of a network, which each step of its nodes keeps.
-use Rattle.std.proofs.Common.{◌≡◌, ◌∙◌, sym, ap, subst, ℕ, ℤ, ◌<◌, arith, Bool, true, List, ◌∷◌, ◌++◌, [], length, Option, Some, slice_get}
+use Rattle.std.proofs.Common.{◌≡◌, ◌∙◌, sym, ap, subst, ℕ, ◌<◌, arith, Bool, true, List, ◌∷◌, ◌++◌, [], length, Option, Some, slice_get}
 use Rattle.std.proofs.lemmas.Option.{slice_get_within}
 use Rattle.fx_base.specs.declared.fact.Fact.{Fact}
 use Rattle.row_delta.specs.declared.delta.Delta.{Delta}
@@ -17,6 +17,7 @@ use Rattle.rete_net.specs.Dropped.{AllForget}
 use Rattle.rete_net.specs.Shapes.{before, EndsAt, IsNetOf}
 use Rattle.rete_net.specs.Steps.{NetStep}
 use Rattle.rete_net.proofs.Growing.{has_at}
+use Rattle.rule_model.specs.declared.moment.Moment.{Moment}
 
 -- nodes in the places of others: as many, each with the parent and the condition of the one that was there
 pub record IsReplaced (old new : List NetNode) : Type 0 where
@@ -24,9 +25,9 @@ pub record IsReplaced (old new : List NetNode) : Type 0 where
   pub parent : (k : ℕ) (a b : NetNode) → slice_get old k ≡ Some a → slice_get new k ≡ Some b → b.parent ≡ a.parent
   pub condition : (k : ℕ) (a b : NetNode) → slice_get old k ≡ Some a → slice_get new k ≡ Some b → condition_of b.node ≡ condition_of a.node
 
-pub stepped_nodes : (p : Program) (look : Look) (gone : List Fact) (come : Option Fact) (clock : ℤ) (first : Delta) (old new : List NetNode) (ends : List ℕ) (answers : List RuleChange)
-    → NetStep p look gone come clock first old new ends answers → IsReplaced old new
-stepped_nodes p look gone come clock first old new ends answers step = record {
+pub stepped_nodes : (p : Program) (look : Look) (gone : List Fact) (come : Option Fact) (moment : Moment) (first : Delta) (old new : List NetNode) (ends : List ℕ) (answers : List RuleChange)
+    → NetStep p look gone come moment first old new ends answers → IsReplaced old new
+stepped_nodes p look gone come moment first old new ends answers step = record {
   many = step.nodes;
   parent = λ k a b e f. (step.stepped k (slice_get_within old k a e) a b e f).parent;
   condition = λ k a b e f. (step.stepped k (slice_get_within old k a e) a b e f).condition;

@@ -1,5 +1,6 @@
 -- A network that stands for a snapshot, over the clock that its nodes have seen.
 use Rattle.std.proofs.Common.{◌≡◌, ◌∙◌, sym, ap, refl, subst, ℕ, ℤ, pos, negsuc, ◌<◌, ◌≤ℤ◌, ◌<ℤ◌, ◌^◌, arith, Bool, List, length, Option, Some, None, slice_get, SFits, w64}
+use Rattle.std.specs.Int.Signed.{≤ℤ_refl}
 use Rattle.std.proofs.lemmas.Int.{ints}
 use Rattle.std.proofs.lemmas.Option.{slice_get_within}
 use Rattle.fx_base.specs.declared.fact.Fact.{Fact}
@@ -10,7 +11,7 @@ use Rattle.rule_model.specs.declared.condition.Condition.{Condition}
 use Rattle.rule_model.specs.declared.program.Program.{Program}
 use Rattle.rule_model.specs.declared.program.Rule.{Rule}
 use Rattle.rule_model.specs.Rows.{rows}
-use Rattle.rule_model.specs.Snapshots.{Snapshot}
+use Rattle.rule_model.specs.Snapshots.{Snapshot, floor}
 use Rattle.join_tests.specs.Joins.{Look}
 use Rattle.pair_memory.specs.Standing.{cleaned, no_names}
 use Rattle.condition_rows.specs.Looks.{HasAllOf}
@@ -35,6 +36,9 @@ use Rattle.rete_net.proofs.Cleaning.{has_clean}
 use Rattle.rete_net.proofs.Growing.{has_at}
 use Rattle.rete_net.proofs.Quieting.{seen_now}
 use Rattle.rete_net.proofs.Turning.{rising}
+use Rattle.rule_model.specs.declared.moment.Moment.{Moment}
+use Rattle.rule_model.specs.Moments.{IsAt}
+use Rattle.rule_model.proofs.Floors.{floor_on}
 
 onward : (a b c : ℤ) → a ≤ℤ b → b ≤ℤ c → a ≤ℤ c
 onward a b c h k = omega (arith, ints, h, k)
@@ -58,10 +62,10 @@ rule_rows p net at s other forgotten nodes same place rule e =
 
 -- ---- a step
 
-module _ (p : Program) (look : Look) (s next : Snapshot) (gone : List Fact) (come : Option Fact) (clock : ℤ) (forgotten : Named → Bool) (old new : Rete) (answers : List RuleChange)
-    (moves : Moves p s next gone come) (moment : next.clock ≡ clock) (apart : AreNotNeeded p forgotten s next gone come) (has_before : HasAllOf look s forgotten) (has_now : HasAllOf look next forgotten)
+module _ (p : Program) (look : Look) (s next : Snapshot) (gone : List Fact) (come : Option Fact) (moment : Moment) (forgotten : Named → Bool) (old new : Rete) (answers : List RuleChange)
+    (moves : Moves p s next gone come) (is_at : IsAt next moment) (apart : AreNotNeeded p forgotten s next gone come) (has_before : HasAllOf look s forgotten) (has_now : HasAllOf look next forgotten)
     (stands : NetStands p old s forgotten) (same : new.ends.items ≡ old.ends.items)
-    (step : NetStep p look gone come clock no_change old.nodes.items new.nodes.items old.ends.items answers) where
+    (step : NetStep p look gone come moment no_change old.nodes.items new.nodes.items old.ends.items answers) where
   abbrev was : Snapshot
   was = at_clock s stands.seen
 
@@ -71,17 +75,19 @@ module _ (p : Program) (look : Look) (s next : Snapshot) (gone : List Fact) (com
   known_now : HasAllOf world next no_names
   known_now = both_known_now p look s next gone come forgotten moves apart has_before has_now
 
-  abbrev from_seen : IsGiven p look was next gone come clock forgotten
+  abbrev from_seen : IsGiven p look was next gone come moment forgotten
   from_seen = record {
     moves = record {
       before = stands.kept;
       after = moves.after;
       clock = onward stands.seen s.clock next.clock stands.later moves.clock;
+      floors = λ entry. onward (floor p was entry) (floor p s entry) (floor p next entry)
+          (floor_on p was s entry stands.later (≤ℤ_refl (s.reached.last_start entry)) (≤ℤ_refl (s.reached.promise entry))) (moves.floors entry);
       held = moves.held;
       once = moves.once;
       facts = moves.facts;
     };
-    moment = moment;
+    is_at = is_at;
     at_hand = at_hand_at look s stands.seen forgotten has_before;
     at_hand_now = has_now;
     world = world;
@@ -120,13 +126,13 @@ module _ (p : Program) (look : Look) (s next : Snapshot) (gone : List Fact) (com
   pub net_stands : AreQuiet p new.nodes.items new.quiet_until → NetStands p new next forgotten
   net_stands quiet =
       seen_now p new next forgotten
-      (stands_now p look was next gone come clock forgotten no_change (rows_of p was) (clean_rows p s forgotten) old new stands.nodes.shape answers from_seen made (first_stays p was next forgotten) standing beside
+      (stands_now p look was next gone come moment forgotten no_change (rows_of p was) (clean_rows p s forgotten) old new stands.nodes.shape answers from_seen made (first_stays p was next forgotten) standing beside
       same step listed)
       moves.after (onward (pos 0) stands.seen next.clock stands.begun from_seen.moves.clock) quiet
 
   pub net_between : IsRunnable p → AreBetween p (clean_rows p s forgotten) (clean_rows p next forgotten) answers
   net_between runnable =
-      between_now p look was next gone come clock forgotten no_change (rows_of p was) (clean_rows p s forgotten) old new stands.nodes.shape answers from_seen made (first_stays p was next forgotten) standing beside
+      between_now p look was next gone come moment forgotten no_change (rows_of p was) (clean_rows p s forgotten) old new stands.nodes.shape answers from_seen made (first_stays p was next forgotten) standing beside
       same step listed
       (few_ends p old.ends.items stands.nodes.shape.count runnable)
 

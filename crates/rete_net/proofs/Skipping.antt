@@ -1,5 +1,5 @@
 -- A step in which nothing reaches a node: it stays as it is, and nothing changes in the rows of its condition.
-use Rattle.std.proofs.Common.{◌≡◌, sym, refl, subst, ℤ, ◌&&◌, not, Bool, true, false, List, Option}
+use Rattle.std.proofs.Common.{◌≡◌, sym, refl, subst, ◌&&◌, not, Bool, true, false, List, Option}
 use mathlib.Core.Path.{fun_ext}
 use Rattle.std.specs.List.Sorted.{IsStrictlySortedBy}
 use Rattle.fx_base.specs.declared.fact.Fact.{Fact}
@@ -23,6 +23,7 @@ use Rattle.condition_node.proofs.Moved.{node_moves}
 use Rattle.rete_net.specs.declared.node.NetNode.{NetNode}
 use Rattle.rete_net.specs.Steps.{no_change, NodeStep}
 use Rattle.rete_net.proofs.Turning.{node_step}
+use Rattle.rule_model.specs.declared.moment.Moment.{Moment}
 
 unmoved : (b : Bool) → false ≡ (b && not b)
 unmoved true = refl
@@ -47,11 +48,11 @@ pub record StayAsTheyAre (n : NetNode) (gone : List Fact) (come : Option Fact) :
       → NodeStands p n.node look s rows forgotten → IsTurn p (condition_of n.node) look world s next rows rows_now forgotten left right
       → (row : Row) → cleaned (line p next (condition_of n.node) rows_now) forgotten row ≡ cleaned (line p s (condition_of n.node) rows) forgotten row
 
-pub skipped : (p : Program) (look : Look) (gone : List Fact) (come : Option Fact) (clock : ℤ) (n : NetNode) (left : Delta) → StayAsTheyAre n gone come → changes_nothing left ≡ true
-    → NodeStep p look gone come clock n n left no_change
-skipped p look gone come clock n left stay none =
-    node_step p look gone come clock n n left no_change no_change
-    (λ p node look other s rows forgotten known known_other named. node_moves p look other s rows forgotten known known_other named node) refl refl (pattern_of (condition_of n.node)) clock refl refl
+pub skipped : (p : Program) (look : Look) (gone : List Fact) (come : Option Fact) (moment : Moment) (n : NetNode) (left : Delta) → StayAsTheyAre n gone come → changes_nothing left ≡ true
+    → NodeStep p look gone come moment n n left no_change
+skipped p look gone come moment n left stay none =
+    node_step p look gone come moment n n left no_change no_change
+    (λ p node look other s rows forgotten known known_other named. node_moves p look other s rows forgotten known known_other named node) refl refl (pattern_of (condition_of n.node)) moment.clock refl refl
     (λ s next window stands moves at. stay.gate p s next stands moves)
     (λ s next window stands moves at. nothing_differs (candidates_of p (pattern_of (condition_of n.node)) s) (candidates_of p (pattern_of (condition_of n.node)) next) (stay.candidates p s next moves) no_change no_difference)
     (λ world s next rows rows_now forgotten stands at turn. stay.node p look world s next rows rows_now forgotten left no_change none refl stands turn)

@@ -16,7 +16,7 @@ use Rattle.rule_model.specs.declared.condition.Pattern.{Pattern}
 use Rattle.rule_model.specs.declared.program.Program.{Program}
 use Rattle.rule_model.specs.declared.program.Rule.{Rule}
 use Rattle.rule_model.specs.Rows.{rows}
-use Rattle.rule_model.specs.Snapshots.{Snapshot}
+use Rattle.rule_model.specs.Snapshots.{Snapshot, floor}
 use Rattle.rule_model.proofs.Listed.{both_of}
 use Rattle.join_tests.specs.Joins.{Look, joins}
 use Rattle.pair_memory.specs.Joined.{splits, joined, unjoined}
@@ -46,6 +46,8 @@ use Rattle.rete_net.proofs.Chaining.{AreMade, IsGiven, AreStanding, StaysBeside}
 use Rattle.rete_net.proofs.Cleaning.{all_clean}
 use Rattle.rete_net.proofs.Growing.{has_at}
 use Rattle.rete_net.proofs.Quieting.{seen_now}
+use Rattle.rule_model.specs.Moments.{IsAt}
+use Rattle.rule_model.specs.declared.moment.Moment.{Moment}
 
 -- ---- conditions make nothing of no rows
 
@@ -86,10 +88,10 @@ none_held forgotten tag f e n = e
 standstill : (n : ℤ) → n ≤ℤ n
 standstill n = ≤ℤ_refl n
 
-abbrev starts : (p : Program) (forgotten : Named → Bool) → IsGiven p no_facts empty_snapshot empty_snapshot [] None (pos 0) forgotten
-starts p forgotten = record {
-  moves = record { before = kept p; after = kept p; clock = standstill (pos 0); held = λ f i. absurd i; once = tt; facts = refl };
-  moment = refl;
+abbrev starts : (p : Program) (moment : Moment) → IsAt empty_snapshot moment → (forgotten : Named → Bool) → IsGiven p no_facts empty_snapshot empty_snapshot [] None moment forgotten
+starts p moment is_at forgotten = record {
+  moves = record { before = kept p; after = kept p; clock = standstill (pos 0); floors = λ entry. standstill (floor p empty_snapshot entry); held = λ f i. absurd i; once = tt; facts = refl };
+  is_at = is_at;
   at_hand = none_held forgotten;
   at_hand_now = none_held forgotten;
   world = no_facts;
@@ -136,9 +138,9 @@ beside p forgotten c behind = record {
 
 -- ---- what was built
 
-module _ (p : Program) (net new : Rete) (all : List (List Condition)) (answers : List RuleChange) (built : AreBuilt p net.nodes.items all)
+module _ (p : Program) (moment : Moment) (is_at : IsAt empty_snapshot moment) (net new : Rete) (all : List (List Condition)) (answers : List RuleChange) (built : AreBuilt p net.nodes.items all)
     (ends : HaveEnds all net.ends.items p.rules (length p.rules)) (fronts_are : AreFronts p all) (distinct : AreDistinct all) (count : length net.ends.items ≡ length p.rules) (same : new.ends.items ≡ net.ends.items)
-    (step : NetStep p no_facts [] None (pos 0) empty_row_comes net.nodes.items new.nodes.items net.ends.items answers) where
+    (step : NetStep p no_facts [] None moment empty_row_comes net.nodes.items new.nodes.items net.ends.items answers) where
   abbrev conditions : ℕ → List Condition
   conditions k = get_or all k []
 
@@ -191,12 +193,12 @@ module _ (p : Program) (net new : Rete) (all : List (List Condition)) (answers :
 
   nodes_now : (forgotten : Named → Bool) → NodesStand p new empty_snapshot forgotten
   nodes_now forgotten =
-      stands_now p no_facts empty_snapshot empty_snapshot [] None (pos 0) forgotten empty_row_comes nothing (λ rule. []) net new shape answers (starts p forgotten) (nothing_made p empty_snapshot) (first_comes p forgotten)
+      stands_now p no_facts empty_snapshot empty_snapshot [] None moment forgotten empty_row_comes nothing (λ rule. []) net new shape answers (starts p moment is_at forgotten) (nothing_made p empty_snapshot) (first_comes p forgotten)
       (standing forgotten) (λ k n e. beside p forgotten (condition_of n.node) (before conditions n.parent)) same step (λ place rule e. refl)
 
   pub built_net : IsNetOf p new.nodes.items new.ends.items
   built_net =
-      shape_now p no_facts empty_snapshot empty_snapshot [] None (pos 0) no_names empty_row_comes nothing (λ rule. []) net new shape answers (starts p no_names) (nothing_made p empty_snapshot) (first_comes p no_names)
+      shape_now p no_facts empty_snapshot empty_snapshot [] None moment no_names empty_row_comes nothing (λ rule. []) net new shape answers (starts p moment is_at no_names) (nothing_made p empty_snapshot) (first_comes p no_names)
       (standing no_names) (λ k n e. beside p no_names (condition_of n.node) (before conditions n.parent)) same step (λ place rule e. refl)
 
   pub built_stands : AreQuiet p new.nodes.items new.quiet_until → (forgotten : Named → Bool) → NetStands p new empty_snapshot forgotten
@@ -206,6 +208,6 @@ module _ (p : Program) (net new : Rete) (all : List (List Condition)) (answers :
   pub built_between : IsRunnable p → AreBetween p (λ rule. []) (λ rule. rows p empty_snapshot rule.conditions) answers
   built_between runnable =
       subst (λ (lists : Rule → List Row). AreBetween p (λ rule. []) lists answers) (fun_ext (λ rule. all_clean (rows p empty_snapshot rule.conditions)))
-      (between_now p no_facts empty_snapshot empty_snapshot [] None (pos 0) no_names empty_row_comes nothing (λ rule. []) net new shape answers (starts p no_names) (nothing_made p empty_snapshot) (first_comes p no_names)
+      (between_now p no_facts empty_snapshot empty_snapshot [] None moment no_names empty_row_comes nothing (λ rule. []) net new shape answers (starts p moment is_at no_names) (nothing_made p empty_snapshot) (first_comes p no_names)
       (standing no_names) (λ k n e. beside p no_names (condition_of n.node) (before conditions n.parent)) same step (λ place rule e. refl)
       (few_ends p net.ends.items count runnable))

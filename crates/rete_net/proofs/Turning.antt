@@ -31,6 +31,8 @@ use Rattle.condition_node.specs.Nodes.{condition_of, NodeStands}
 use Rattle.condition_node.specs.Turns.{IsTurn}
 use Rattle.rete_net.specs.declared.node.NetNode.{NetNode}
 use Rattle.rete_net.specs.Steps.{IsNodeTurn, NodeStep}
+use Rattle.rule_model.specs.declared.moment.Moment.{Moment}
+use Rattle.rule_model.specs.Moments.{IsAt}
 
 -- ---- tags in order are distinct
 
@@ -85,29 +87,29 @@ MoveLaw = (p : Program) (node : Node) (look other : Look) (s : Snapshot) (rows :
 pub held_has : (s : Snapshot) (forgotten : Named → Bool) → HasAllOf (held s) s forgotten
 held_has s forgotten tag f e n = e
 
-module _ (p : Program) (look : Look) (gone : List Fact) (come : Option Fact) (clock : ℤ) (old new : NetNode) (left right delta : Delta) where
+module _ (p : Program) (look : Look) (gone : List Fact) (come : Option Fact) (moment : Moment) (old new : NetNode) (left right delta : Delta) where
   abbrev meant : Pattern
   meant = pattern_of (condition_of old.node)
 
   abbrev FromTo : Pattern → ℤ → (Snapshot → Snapshot → Type 0) → Type 0
   FromTo q at claim = (s next : Snapshot) → has_good_window p q ≡ true → GateStands p q old.gate s → Moves p s next gone come → next.clock ≡ at → claim s next
 
-  -- what the gate answers, and what the node answers, of a pattern and a clock
+  -- what the gate answers of a pattern and a clock, and what the node answers
   abbrev GateStays : Pattern → ℤ → Type 0
   GateStays q at = FromTo q at (λ s next. GateStands p q new.gate next)
 
   abbrev GateDiffers : Pattern → ℤ → Type 0
   GateDiffers q at = FromTo q at (λ s next. IsNameDifference (candidates_of p q s) (candidates_of p q next) right)
 
-  abbrev Steps : ℤ → (Snapshot → Snapshot → (Row → Bool) → (Row → Bool) → (Named → Bool) → Type 0) → Type 0
-  Steps at claim = (world : Look) (s next : Snapshot) (rows rows_now : Row → Bool) (forgotten : Named → Bool) → NodeStands p old.node look s rows forgotten → next.clock ≡ at
+  abbrev Steps : (Snapshot → Snapshot → (Row → Bool) → (Row → Bool) → (Named → Bool) → Type 0) → Type 0
+  Steps claim = (world : Look) (s next : Snapshot) (rows rows_now : Row → Bool) (forgotten : Named → Bool) → NodeStands p old.node look s rows forgotten → IsAt next moment
       → IsTurn p (condition_of old.node) look world s next rows rows_now forgotten left right → claim s next rows rows_now forgotten
 
-  abbrev NodeStays : ℤ → Type 0
-  NodeStays at = Steps at (λ s next rows rows_now forgotten. NodeStands p new.node look next rows_now forgotten)
+  abbrev NodeStays : Type 0
+  NodeStays = Steps (λ s next rows rows_now forgotten. NodeStands p new.node look next rows_now forgotten)
 
-  abbrev NodeDiffers : ℤ → Type 0
-  NodeDiffers at = Steps at (λ s next rows rows_now forgotten. IsDifference (cleaned (line p s (condition_of old.node) rows) forgotten) (cleaned (line p next (condition_of old.node) rows_now) forgotten) delta)
+  abbrev NodeDiffers : Type 0
+  NodeDiffers = Steps (λ s next rows rows_now forgotten. IsDifference (cleaned (line p s (condition_of old.node) rows) forgotten) (cleaned (line p next (condition_of old.node) rows_now) forgotten) delta)
 
   module _ (s next : Snapshot) (rows rows_now : Row → Bool) (forgotten : Named → Bool) (is : IsNodeTurn p look s next gone come (condition_of old.node) rows rows_now forgotten left)
       (names : IsNameDifference (candidates_of p meant s) (candidates_of p meant next) right) where
@@ -116,6 +118,7 @@ module _ (p : Program) (look : Look) (gone : List Fact) (come : Option Fact) (cl
       tags = rising s.facts is.moves.before.in_order;
       tags_now = rising next.facts is.moves.after.in_order;
       clock = is.moves.clock;
+      floors = is.moves.floors;
       at_hand = is.at_hand;
       at_hand_now = is.at_hand_now;
       known = is.known;
@@ -127,29 +130,29 @@ module _ (p : Program) (look : Look) (gone : List Fact) (come : Option Fact) (cl
       candidates = remembered_differ (candidates_of p meant s) (candidates_of p meant next) forgotten right is.same names;
     }
 
-  both : (claim : Pattern → ℤ → Type 0) (q : Pattern) (at : ℤ) → q ≡ meant → at ≡ clock → claim q at → claim meant clock
-  both claim q at e f h = subst (λ (r : Pattern). claim r clock) e (subst (λ (z : ℤ). claim q z) f h)
+  both : (claim : Pattern → ℤ → Type 0) (q : Pattern) (at : ℤ) → q ≡ meant → at ≡ moment.clock → claim q at → claim meant moment.clock
+  both claim q at e f h = subst (λ (r : Pattern). claim r moment.clock) e (subst (λ (z : ℤ). claim q z) f h)
 
-  stepped : MoveLaw → new.parent ≡ old.parent → condition_of new.node ≡ condition_of old.node → GateStays meant clock → GateDiffers meant clock → NodeStays clock → NodeDiffers clock
-      → NodeStep p look gone come clock old new left delta
+  stepped : MoveLaw → new.parent ≡ old.parent → condition_of new.node ≡ condition_of old.node → GateStays meant moment.clock → GateDiffers meant moment.clock → NodeStays → NodeDiffers
+      → NodeStep p look gone come moment old new left delta
   stepped law parent same gates names nodes differs = record {
     parent = parent;
     condition = same;
     stands = λ s next rows rows_now forgotten standing at is. record {
-      gate = subst (λ (c : Condition). GateStands p (pattern_of c) new.gate next) (sym same) (gates s next is.window standing.gate is.moves at);
+      gate = subst (λ (c : Condition). GateStands p (pattern_of c) new.gate next) (sym same) (gates s next is.window standing.gate is.moves at.clock);
       node = law p new.node look (held next) next rows_now forgotten is.at_hand_now (held_has next forgotten) is.named_now
           (nodes is.world s next rows rows_now forgotten (at_store s rows forgotten is.at_hand is.named standing.node) at
-          (turn s next rows rows_now forgotten is (names s next is.window standing.gate is.moves at)));
+          (turn s next rows rows_now forgotten is (names s next is.window standing.gate is.moves at.clock)));
     };
     difference = λ s next rows rows_now forgotten standing at is.
         differs is.world s next rows rows_now forgotten (at_store s rows forgotten is.at_hand is.named standing.node) at
-        (turn s next rows rows_now forgotten is (names s next is.window standing.gate is.moves at));
+        (turn s next rows rows_now forgotten is (names s next is.window standing.gate is.moves at.clock));
   }
     where
       at_store : (s : Snapshot) (rows : Row → Bool) (forgotten : Named → Bool) → HasAllOf look s forgotten → NameHeld s rows → NodeStands p old.node (held s) s rows forgotten → NodeStands p old.node look s rows forgotten
       at_store s rows forgotten has named stands = law p old.node (held s) look s rows forgotten (held_has s forgotten) has named stands
 
-  pub node_step : MoveLaw → new.parent ≡ old.parent → condition_of new.node ≡ condition_of old.node → (q : Pattern) (at : ℤ) → q ≡ meant → at ≡ clock
-      → GateStays q at → GateDiffers q at → NodeStays at → NodeDiffers at → NodeStep p look gone come clock old new left delta
+  pub node_step : MoveLaw → new.parent ≡ old.parent → condition_of new.node ≡ condition_of old.node → (q : Pattern) (at : ℤ) → q ≡ meant → at ≡ moment.clock
+      → GateStays q at → GateDiffers q at → NodeStays → NodeDiffers → NodeStep p look gone come moment old new left delta
   node_step law parent same q at e f gates names nodes differs =
-      stepped law parent same (both GateStays q at e f gates) (both GateDiffers q at e f names) (subst NodeStays f nodes) (subst NodeDiffers f differs)
+      stepped law parent same (both GateStays q at e f gates) (both GateDiffers q at e f names) nodes differs

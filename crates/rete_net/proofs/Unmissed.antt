@@ -22,10 +22,9 @@ use Rattle.rule_model.specs.declared.program.Program.{Program}
 use Rattle.rule_model.specs.declared.program.Rule.{Rule}
 use Rattle.rule_model.specs.Candidates.{fits, is_candidate, is_inside, is_within, is_present}
 use Rattle.rule_model.specs.Distinct.{HaveDistinctTags}
-use Rattle.rule_model.specs.Maturity.{watermark}
 use Rattle.rule_model.specs.Rows.{pattern_of, rows}
 use Rattle.rule_model.specs.Simple.{is_length}
-use Rattle.rule_model.specs.Snapshots.{Snapshot}
+use Rattle.rule_model.specs.Snapshots.{Snapshot, floor}
 use Rattle.rule_model.specs.Tuples.{name_of}
 use Rattle.rule_model.specs.Types.{is_event}
 use Rattle.rule_model.proofs.Listed.{both_of}
@@ -188,9 +187,9 @@ module _ (p : Program) (s : Snapshot) (f : Fact) (forgotten : Named → Bool) (k
     moved : (n : Node) → NodeStands p n (held s) s rows forgotten → NodeStands p n (held less) s rows forgotten
     moved n stands = node_moves p (held s) (held less) s rows forgotten (held_known s forgotten) (less_known p s f forgotten d d_less there known) named n stands
 
-    watermark_same : (entry : ℕ) → watermark p s entry ≡ watermark p less entry
-    unfolding watermark
-    watermark_same entry = refl
+    floor_same : (entry : ℕ) → floor p s entry ≡ floor p less entry
+    unfolding floor
+    floor_same entry = refl
 
     node_less : (n : Node) → Unobserved f (condition_of n) → NodeStands p n (held s) s rows forgotten → NodeStands p n (held less) less rows_less forgotten
     node_less (node.Join join) u stands = stands_less (condition_of (node.Join join)) u join.memories (moved (node.Join join) stands)
@@ -199,7 +198,7 @@ module _ (p : Program) (s : Snapshot) (f : Fact) (forgotten : Named → Bool) (k
         record {
           counts = counts_less counts_blockers blockers_ask (Negated waiting.tally.memories.pattern) (of_other is) is waiting.tally.memories now.counts;
           in_step = now.in_step;
-          floor = now.floor ∙ watermark_same waiting.tally.memories.pattern.entry.0;
+          floor = now.floor ∙ floor_same waiting.tally.memories.pattern.entry.0;
         }
     node_less (node.Not waiting) (of_binding q at short) stands = absurd cc
     node_less (node.Exists tally) (of_other is) stands =

@@ -1,5 +1,5 @@
 -- A step of the nodes of a network, each behind the one that it names, which stands before it.
-use Rattle.std.specs.Prelude.{◌≡◌, ◌<◌, ◌+◌, ◌^◌, Bool, true, ℕ, ℤ, cond, List, [], ◌∷◌, ◌++◌, Option, Some, None, slice_get, slice_index_or, length, take}
+use Rattle.std.specs.Prelude.{◌≡◌, ◌<◌, ◌+◌, ◌^◌, Bool, true, ℕ, cond, List, [], ◌∷◌, ◌++◌, Option, Some, None, slice_get, slice_index_or, length, take}
 use Rattle.fx_base.specs.declared.fact.Fact.{Fact}
 use Rattle.row_delta.specs.declared.delta.Delta.{Delta}
 use Rattle.row_delta.specs.declared.row.Named.{Named}
@@ -21,6 +21,8 @@ use Rattle.condition_node.specs.Turns.{CountedStay}
 use Rattle.rete_net.specs.declared.changes.RuleChange.{RuleChange}
 use Rattle.rete_net.specs.declared.node.NetNode.{NetNode}
 use Rattle.rete_net.specs.Nets.{NetNodeStands}
+use Rattle.rule_model.specs.Moments.{IsAt}
+use Rattle.rule_model.specs.declared.moment.Moment.{Moment}
 
 abbrev pub no_change : Delta
 no_change = record { gone = []; come = [] }
@@ -55,20 +57,20 @@ pub record IsNodeTurn (p : Program) (look : Look) (s next : Snapshot) (gone : Li
   pub stay : CountedStay condition p world s next rows rows_now forgotten left
 
 -- what a step of a node and its gate answers: where it stood it stands, and the answer is the true difference of the rows of its condition
-pub record NodeStep (p : Program) (look : Look) (gone : List Fact) (come : Option Fact) (clock : ℤ) (old new : NetNode) (left delta : Delta) : Type 0 where
+pub record NodeStep (p : Program) (look : Look) (gone : List Fact) (come : Option Fact) (moment : Moment) (old new : NetNode) (left delta : Delta) : Type 0 where
   pub parent : new.parent ≡ old.parent
   pub condition : condition_of new.node ≡ condition_of old.node
-  pub stands : (s next : Snapshot) (rows rows_now : Row → Bool) (forgotten : Named → Bool) → NetNodeStands p old s rows forgotten → next.clock ≡ clock
+  pub stands : (s next : Snapshot) (rows rows_now : Row → Bool) (forgotten : Named → Bool) → NetNodeStands p old s rows forgotten → IsAt next moment
       → IsNodeTurn p look s next gone come (condition_of old.node) rows rows_now forgotten left → NetNodeStands p new next rows_now forgotten
-  pub difference : (s next : Snapshot) (rows rows_now : Row → Bool) (forgotten : Named → Bool) → NetNodeStands p old s rows forgotten → next.clock ≡ clock
+  pub difference : (s next : Snapshot) (rows rows_now : Row → Bool) (forgotten : Named → Bool) → NetNodeStands p old s rows forgotten → IsAt next moment
       → IsNodeTurn p look s next gone come (condition_of old.node) rows rows_now forgotten left
       → IsDifference (cleaned (line p s (condition_of old.node) rows) forgotten) (cleaned (line p next (condition_of old.node) rows_now) forgotten) delta
 
 -- the nodes before this place took their step, each after those before it; what comes to the first nodes is `first`
-abbrev pub SteppedBelow : Program → Look → List Fact → Option Fact → ℤ → Delta → List NetNode → List NetNode → List Delta → ℕ → Type 0
-SteppedBelow p look gone come clock first before after deltas n =
+abbrev pub SteppedBelow : Program → Look → List Fact → Option Fact → Moment → Delta → List NetNode → List NetNode → List Delta → ℕ → Type 0
+SteppedBelow p look gone come moment first before after deltas n =
     (k : ℕ) → k < n → (old new : NetNode) → slice_get before k ≡ Some old → slice_get after k ≡ Some new
-    → NodeStep p look gone come clock old new (left_delta first (take k deltas) old.parent) (delta_at first deltas k)
+    → NodeStep p look gone come moment old new (left_delta first (take k deltas) old.parent) (delta_at first deltas k)
 
 -- the change of the rule in a place, if the difference has a row
 abbrev pub change_at : ℕ → Delta → List RuleChange
@@ -80,8 +82,8 @@ changes_from none deltas place [] = []
 changes_from none deltas place (end ∷ ends) = change_at place (delta_at none deltas end) ++ changes_from none deltas (place + 1) ends
 
 -- what a step of a network answers: its nodes took their step, and the changes are what the last nodes of the rules answered
-pub record NetStep (p : Program) (look : Look) (gone : List Fact) (come : Option Fact) (clock : ℤ) (first : Delta) (before after : List NetNode) (ends : List ℕ) (given : List RuleChange) : Type 0 where
+pub record NetStep (p : Program) (look : Look) (gone : List Fact) (come : Option Fact) (moment : Moment) (first : Delta) (before after : List NetNode) (ends : List ℕ) (given : List RuleChange) : Type 0 where
   pub deltas : List Delta
   pub nodes : length after ≡ length before
-  pub stepped : SteppedBelow p look gone come clock first before after deltas (length before)
+  pub stepped : SteppedBelow p look gone come moment first before after deltas (length before)
   pub answers : length ends < 2 ^ 16 → given ≡ changes_from first deltas 0 ends

@@ -6,6 +6,7 @@ ghost use Rattle.rule_model.specs.declared.program.Rule.{Rule};
 ghost use Rattle.row_delta.specs.declared.row.Named.{Named as NamedData};
 ghost use Rattle.row_delta.specs.declared.row.Row.{Row as RowData};
 ghost use Rattle.rule_model.specs.Lent.{lent};
+ghost use Rattle.rule_model.specs.Moments.{IsAt};
 ghost use Rattle.rule_model.specs.Rows.{rows};
 ghost use Rattle.rule_model.specs.Snapshots.{Snapshot};
 ghost use Rattle.rule_world.specs.Programs.{IsRunnable};
@@ -32,7 +33,7 @@ use crate::quiet::is_before;
 use crate::steps::{quiet_until, step_all};
 use fx_base::{Fact, Facts, Millis, NoMemory, Seq};
 use row_delta::{Delta, Named, Row};
-use rule_model::Program;
+use rule_model::{Moment, Program};
 use std::alloc::Global;
 
 /// The network of a program: its nodes, each behind its parent, the last node of each rule by the rule's place, and the moment of
@@ -56,11 +57,16 @@ impl Rete {
     {
         let mut net = Rete::of_rules(alloc, program)?;
         let first = empty_row_comes(alloc)?;
-        let changes = net.step(alloc, program, &first, &[], None, 0, &NoFacts)?;
+        let start = Moment {
+            clock: 0,
+            last_starts: &[],
+            promises: &[],
+        };
+        let changes = net.step(alloc, program, &first, &[], None, &start, &NoFacts)?;
         Ok((net, changes))
     }
 
-    /// Takes the facts that go and the one that comes, if one does, and the clock in milliseconds, and answers of the rules
+    /// Takes the facts that go and the one that comes, if one does, and the moment, and answers of the rules
     /// whose rows change, in their order, what has changed in them, but for rows that name a forgotten fact; no rule may need one.
     /// `facts` has those that stay and are not forgotten, those that go and the one that comes. A node that nothing reaches costs the constant tests of each of these facts and a look, and takes no memory: one
     /// before whose condition no row changes, whose pattern no such fact fits, and that has neither a window nor a `not`. The
@@ -71,16 +77,16 @@ impl Rete {
         program: &Program,
         gone: &[&Fact],
         come: Option<&Fact>,
-        clock: Millis,
+        moment: &Moment,
         facts: &F,
     ) -> Result<Vec<RuleChange>, NoMemory>
         ensures stands { OnOk result ((s next : Snapshot) (forgotten : NamedData → Bool) → IsRunnable program.now → NetStands program.now self.old s forgotten
-            → Moves program.now s next (lent gone.now) (option_map (λ f. f.now) come.entry) → next.clock ≡ clock
+            → Moves program.now s next (lent gone.now) (option_map (λ f. f.now) come.entry) → IsAt next moment.now
             → AreNotNeeded program.now forgotten s next (lent gone.now) (option_map (λ f. f.now) come.entry)
             → HasAllOf (F.map facts.now) s forgotten → HasAllOf (F.map facts.now) next forgotten
             → NetStands program.now self.new next forgotten) }
         ensures differences { IfOk result (λ changes. (s next : Snapshot) (forgotten : NamedData → Bool) → IsRunnable program.now → NetStands program.now self.old s forgotten
-            → Moves program.now s next (lent gone.now) (option_map (λ f. f.now) come.entry) → next.clock ≡ clock
+            → Moves program.now s next (lent gone.now) (option_map (λ f. f.now) come.entry) → IsAt next moment.now
             → AreNotNeeded program.now forgotten s next (lent gone.now) (option_map (λ f. f.now) come.entry)
             → HasAllOf (F.map facts.now) s forgotten → HasAllOf (F.map facts.now) next forgotten
             → AreBetween program.now (clean_rows program.now s forgotten) (clean_rows program.now next forgotten) changes.items) }
@@ -89,7 +95,7 @@ impl Rete {
         ensures rules { length self.old.ends.items < 2 ^ 16 → IfOk result (λ changes. (c : RuleChangeData) → In c changes.items → c.rule.0 < length self.old.ends.items) }
     {
         let none = no_change(alloc);
-        let changes = self.step(alloc, program, &none, gone, come, clock, facts)?;
+        let changes = self.step(alloc, program, &none, gone, come, moment, facts)?;
         Ok(changes)
     }
 
@@ -179,12 +185,12 @@ impl Rete {
         first: &Delta,
         gone: &[&Fact],
         come: Option<&Fact>,
-        clock: Millis,
+        moment: &Moment,
         facts: &F,
     ) -> Result<Vec<RuleChange>, NoMemory>
         ensures ends { OnOk result (self.new.ends.items ≡ self.old.ends.items) }
         ensures quiet { OnOk result (AreQuiet program.now self.new.nodes.items self.new.quiet_until) }
-        ensures stepped { IfOk result (λ changes. NetStep program.now (F.map facts.now) (lent gone.now) (option_map (λ f. f.now) come.entry) clock first.now self.old.nodes.items self.new.nodes.items self.old.ends.items changes.items) }
+        ensures stepped { IfOk result (λ changes. NetStep program.now (F.map facts.now) (lent gone.now) (option_map (λ f. f.now) come.entry) moment.now first.now self.old.nodes.items self.new.nodes.items self.old.ends.items changes.items) }
     {
         let deltas = step_all(
             &mut self.nodes,
@@ -193,7 +199,7 @@ impl Rete {
             first,
             gone,
             come,
-            clock,
+            moment,
             facts,
         )?;
         self.quiet_until = quiet_until(&self.nodes, program);

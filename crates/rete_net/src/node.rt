@@ -1,6 +1,7 @@
-ghost use Rattle.std.specs.Prelude.{◌≡◌, ℤ, true, option_map, IfOk, IsTrue};
+ghost use Rattle.std.specs.Prelude.{◌≡◌, true, option_map, IfOk, IsTrue};
 ghost use Rattle.row_delta.specs.declared.delta.Delta.{Delta as DeltaData};
 ghost use Rattle.row_change.specs.Changes.{changes_nothing};
+ghost use Rattle.rule_model.specs.declared.moment.Moment.{Moment as MomentData};
 ghost use Rattle.rule_model.specs.declared.program.Program.{Program as ProgramData};
 ghost use Rattle.rule_model.specs.Lent.{lent};
 ghost use Rattle.join_tests.specs.Joins.{Look};
@@ -14,11 +15,11 @@ ghost use Rattle.rete_net.specs.Steps.{no_change, NodeStep};
 use crate::build::no_change;
 use crate::quiet::{earlier, widened};
 use condition_node::Node;
-use fx_base::{Fact, Facts, Millis, NoMemory, Seq};
+use fx_base::{Fact, Facts, NoMemory, Seq};
 use pattern_gate::PatternGate;
 use row_change::changes_nothing;
 use row_delta::{Delta, Named, Row};
-use rule_model::{Condition, Program};
+use rule_model::{Condition, Moment, Program};
 use std::alloc::Global;
 
 /// A node of the network: where the rows of the conditions before it come from, the gate of its candidates, and the node of its
@@ -56,28 +57,33 @@ impl NetNode {
         left: &Delta,
         gone: &[&Fact],
         come: Option<&Fact>,
-        clock: Millis,
+        moment: &Moment,
         facts: &F,
     ) -> Result<Delta, NoMemory>
-        ensures { IfOk result (λ delta. NodeStep program.now (F.map facts.now) (lent gone.now) (option_map (λ f. f.now) come.entry) clock self.old self.new left.now delta) }
+        ensures { IfOk result (λ delta. NodeStep program.now (F.map facts.now) (lent gone.now) (option_map (λ f. f.now) come.entry) moment.now self.old self.new left.now delta) }
     {
         if changes_nothing(left) && self.is_still(gone, come) {
             return Ok(no_change(alloc));
         }
-        let right = self
-            .gate
-            .advance(alloc, program, self.node.pattern(), gone, come, clock)?;
+        let right = self.gate.advance(
+            alloc,
+            program,
+            self.node.pattern(),
+            gone,
+            come,
+            moment.clock,
+        )?;
         let delta = self
             .node
-            .advance(alloc, program, left, &right, clock, facts)?;
+            .advance(alloc, program, left, &right, moment, facts)?;
         Ok(delta)
     }
 
-    /// Whether it stays as it is, whatever the clock, where these facts go and this one comes, if one does, and nothing changes in
+    /// Whether it stays as it is, whatever the moment, where these facts go and this one comes, if one does, and nothing changes in
     /// the rows before it. Of each fact it costs the constant tests. Takes no memory.
     fn is_still(&self, gone: &[&Fact], come: Option<&Fact>) -> bool
-        ensures { IsTrue result → (p : ProgramData) (look : Look) (clock : ℤ) (left : DeltaData) → changes_nothing left ≡ true
-            → NodeStep p look (lent gone.now) (option_map (λ f. f.now) come.entry) clock self.now self.now left no_change }
+        ensures { IsTrue result → (p : ProgramData) (look : Look) (moment : MomentData) (left : DeltaData) → changes_nothing left ≡ true
+            → NodeStep p look (lent gone.now) (option_map (λ f. f.now) come.entry) moment self.now self.now left no_change }
     {
         self.node.is_still() && self.gate.is_still(self.node.pattern(), gone, come)
     }

@@ -5,9 +5,9 @@ ghost use Rattle.rete_net.specs.Steps.{delta_at, left_delta, SteppedBelow};
 
 use crate::node::NetNode;
 use crate::quiet::earlier;
-use fx_base::{Fact, Facts, Millis, NoMemory};
+use fx_base::{Fact, Facts, NoMemory};
 use row_delta::Delta;
-use rule_model::Program;
+use rule_model::{Moment, Program};
 use std::alloc::Global;
 
 /// The difference in a place, or `none` past the end.
@@ -39,16 +39,16 @@ pub(crate) fn step_all<F: Facts>(
     first: &Delta,
     gone: &[&Fact],
     come: Option<&Fact>,
-    clock: Millis,
+    moment: &Moment,
     facts: &F,
 ) -> Result<Vec<Delta>, NoMemory>
-    ensures { IfOk result (λ deltas. SteppedBelow program.now (F.map facts.now) (lent gone.now) (option_map (λ f. f.now) come.entry) clock first.now nodes.old nodes.new deltas.items (length nodes.old)) }
+    ensures { IfOk result (λ deltas. SteppedBelow program.now (F.map facts.now) (lent gone.now) (option_map (λ f. f.now) come.entry) moment.now first.now nodes.old nodes.new deltas.items (length nodes.old)) }
 {
     let mut deltas = Vec::with_capacity(alloc, nodes.len())?;
     for i in 0..nodes.len() {
         let node = &mut nodes[i];
         let left = left_delta(first, &deltas, node.parent);
-        let delta = node.advance(alloc, program, left, gone, come, clock, facts)?;
+        let delta = node.advance(alloc, program, left, gone, come, moment, facts)?;
         deltas.push(delta)?;
     }
     Ok(deltas)

@@ -7,11 +7,12 @@ use Rattle.rule_model.specs.declared.condition.Condition.{Condition}
 use Rattle.rule_model.specs.declared.condition.Condition.TheVariants.{Plain, Negated, Existing, Folded}
 use Rattle.rule_model.specs.declared.program.Program.{Program}
 use Rattle.rule_model.specs.Candidates.{candidates, passes, passing}
-use Rattle.rule_model.specs.Maturity.{watermark}
 use Rattle.rule_model.specs.Rows.{extended, tuples, pattern_of, HaveOperators}
-use Rattle.rule_model.specs.Snapshots.{Snapshot}
+use Rattle.rule_model.specs.Snapshots.{Snapshot, floor}
 use Rattle.rule_model.specs.Tuples.{Tuple, empty_tuple}
 use Rattle.rule_eval.specs.Found.{made_by}
+use Rattle.rule_model.specs.declared.moment.Moment.{Moment}
+use Rattle.rule_eval.specs.Over.{over}
 
 -- functions that agree gather the same
 pub flat_map_same : {A B : Type 0} (f g : A → List B) → ((x : A) → f x ≡ g x) → (xs : List A) → flat_map f xs ≡ flat_map g xs
@@ -24,19 +25,19 @@ flat_map_twice f g [] = refl
 flat_map_twice f g (x ∷ xs) = flat_map-append g (f x) (flat_map f xs) ∙ ap (λ ys. flat_map g (f x) ++ ys) (flat_map_twice f g xs)
 
 -- what a condition makes, by the candidates that pass
-pub made_is : (p : Program) (s : Snapshot) (c : Condition) (t : Tuple) → made_by p s.clock c t (passing p (pattern_of c) s t) ≡ extended p s c t
-unfolding watermark
-made_is p s (Plain q) t = refl
-made_is p s (Negated q) t = refl
-made_is p s (Existing q) t = refl
-made_is p s (Folded a) t = refl
+pub made_is : (p : Program) (facts : List Fact) (m : Moment) (c : Condition) (t : Tuple) → made_by p m c t (passing p (pattern_of c) (over facts m) t) ≡ extended p (over facts m) c t
+unfolding floor
+made_is p facts m (Plain q) t = refl
+made_is p facts m (Negated q) t = refl
+made_is p facts m (Existing q) t = refl
+made_is p facts m (Folded a) t = refl
 
 -- the tuples that one condition makes of these
-pub all_made : (p : Program) (s : Snapshot) (c : Condition) (found : List Fact) (ts : List Tuple) → found ≡ candidates p (pattern_of c) s
-    → flat_map (λ t. made_by p s.clock c t (filter (passes (pattern_of c) t) found)) ts ≡ flat_map (extended p s c) ts
-all_made p s c found ts e =
-    flat_map_same (λ t. made_by p s.clock c t (filter (passes (pattern_of c) t) found)) (extended p s c)
-    (λ t. ap (λ (fs : List Fact). made_by p s.clock c t (filter (passes (pattern_of c) t) fs)) e ∙ made_is p s c t) ts
+pub all_made : (p : Program) (facts : List Fact) (m : Moment) (c : Condition) (found : List Fact) (ts : List Tuple) → found ≡ candidates p (pattern_of c) (over facts m)
+    → flat_map (λ t. made_by p m c t (filter (passes (pattern_of c) t) found)) ts ≡ flat_map (extended p (over facts m) c) ts
+all_made p facts m c found ts e =
+    flat_map_same (λ t. made_by p m c t (filter (passes (pattern_of c) t) found)) (extended p (over facts m) c)
+    (λ t. ap (λ (fs : List Fact). made_by p m c t (filter (passes (pattern_of c) t) fs)) e ∙ made_is p facts m c t) ts
 
 -- ---- the walk over the conditions
 

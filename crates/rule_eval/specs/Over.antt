@@ -1,8 +1,10 @@
--- Facts at a clock.
-use Rattle.std.specs.Prelude.{ℤ, pos, List}
+-- Facts at a moment.
+use Rattle.std.specs.Prelude.{List}
 use Rattle.fx_base.specs.declared.fact.Fact.{Fact}
+use Rattle.rule_model.specs.declared.moment.Moment.{Moment}
+use Rattle.rule_model.specs.Moments.{reached_in}
 use Rattle.rule_model.specs.Snapshots.{Snapshot}
 
--- these facts at this clock, where no event was inserted before; rows do not ask for it
-abbrev pub over : List Fact → ℤ → Snapshot
-over facts clock = record { facts = facts; clock = clock; last_start = λ entry. pos 0 }
+-- the snapshot of these facts at this moment
+abbrev pub over : List Fact → Moment → Snapshot
+over facts m = record { facts = facts; clock = m.clock; reached = reached_in m.last_starts.now m.promises.now }

@@ -4,9 +4,9 @@
 #![tactic(auto)]
 
 mod bindings;
+mod finder;
 mod finding;
 mod folding;
 mod maturity;
-mod moment;
 
 pub use finding::rows_of_rules;

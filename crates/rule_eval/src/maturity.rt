@@ -1,10 +1,11 @@
-ghost use Rattle.std.specs.Prelude.{◌≡◌, ◌-ℤ◌, option_map, IfOk};
+ghost use Rattle.std.specs.Prelude.{◌≡◌, option_map, IfOk};
 ghost use Rattle.rule_model.specs.Maturity.{bounds_of, is_past as is_past_of, is_mature, AreOperators};
+ghost use Rattle.rule_model.specs.Moments.{snapshot_at};
+ghost use Rattle.rule_model.specs.Snapshots.{floor};
 ghost use Rattle.rule_model.specs.Tuples.{bound_by};
-ghost use Rattle.rule_model.specs.Types.{lateness_of};
 
 use crate::bindings::Bindings;
-use crate::moment::Moment;
+use crate::finder::Finder;
 use fx_base::{NoMemory, Times};
 use rule_model::{Pattern, TimeTest};
 use std::alloc::Global;
@@ -38,7 +39,7 @@ fn is_past(window: Window, moment: i128) -> bool
     }
 }
 
-impl<'p> Moment<'p> {
+impl<'p> Finder<'p> {
     /// Whether the bindings are mature for a negative pattern: no event that passes its temporal tests can start any more.
     pub(crate) fn is_mature(
         &self,
@@ -47,7 +48,7 @@ impl<'p> Moment<'p> {
         bindings: &Bindings,
     ) -> Result<bool, NoMemory>
         requires { AreOperators pattern.now.times }
-        ensures { IfOk result (λ mature. mature ≡ is_mature self.now.program.now pattern.now (bound_by bindings.now) (self.now.clock -ℤ lateness_of self.now.program.now pattern.now.entry.0)) }
+        ensures { IfOk result (λ mature. mature ≡ is_mature self.now.program.now pattern.now (bound_by bindings.now) (floor self.now.program.now (snapshot_at self.now.moment.now) pattern.now.entry.0)) }
     {
         if !self.program.is_event(pattern.ty) {
             return Ok(true);
@@ -56,8 +57,8 @@ impl<'p> Moment<'p> {
             Some(bounds) => bounds,
             None => return Ok(true),
         };
-        let moment = i128::from(self.clock) - i128::from(self.program.lateness(pattern.entry));
+        let floor = self.moment.floor(self.program, pattern.entry);
         let starts = possible_start(&bounds, self.program.is_point(pattern.ty));
-        Ok(is_past(starts, moment))
+        Ok(is_past(starts, floor))
     }
 }

@@ -12,7 +12,7 @@ use Rattle.rule_model.specs.declared.life.Life.TheVariants as lives
 use Rattle.rule_model.specs.declared.life.LifeTable.{LifeTable}
 use Rattle.rule_model.specs.declared.program.Program.{Program}
 use Rattle.rule_model.specs.declared.step.Step.{Step}
-use Rattle.rule_model.specs.declared.step.Step.TheVariants.{Insert, Modify, Retract, Advance, At}
+use Rattle.rule_model.specs.declared.step.Step.TheVariants.{Insert, Modify, Retract, Advance, At, Promise}
 use Rattle.rule_model.specs.Candidates.{is_present}
 use Rattle.rule_model.specs.Rows.{Makes, pattern_of}
 use Rattle.rule_model.specs.Snapshots.{Snapshot}
@@ -41,6 +41,7 @@ keeps_nothing (Modify id sets) = tt
 keeps_nothing (Retract ty id) = λ f own of_type of_id. own
 keeps_nothing (Advance by) = tt
 keeps_nothing (At moment) = tt
+keeps_nothing (Promise entry from) = tt
 
 pub clock_on : (p : Program) (w : World) (step : Step) → IsLawful p w → step_fault p w step ≡ None → w.clock ≤ℤ (moved p w step).clock
 clock_on p w step law none = (turns_of p w step empty_tuple law none (keeps_nothing step)).to
@@ -92,6 +93,7 @@ keeps_next p w (Retract ty id) cs tuple h = λ f own of_type of_id.
     (both _ _ there.1 (both _ _ (number_same f.ty.0 ty.0 of_type) (number_same f.id.0 id.0 of_id)))
 keeps_next p w (Advance by) cs tuple h = tt
 keeps_next p w (At moment) cs tuple h = tt
+keeps_next p w (Promise entry from) cs tuple h = tt
 
 -- ---- what the table says of a fact
 

@@ -8,7 +8,7 @@ use Rattle.fx_base.specs.declared.fact.Fact.{Fact}
 use Rattle.fx_base.specs.declared.value.Value.{Value}
 use Rattle.rule_model.specs.declared.program.Program.{Program}
 use Rattle.rule_model.specs.declared.step.Step.{Step}
-use Rattle.rule_model.specs.declared.step.Step.TheVariants.{Insert, Modify, Retract, Advance, At}
+use Rattle.rule_model.specs.declared.step.Step.TheVariants.{Insert, Modify, Retract, Advance, At, Promise}
 use Rattle.rule_model.specs.Candidates.{is_present}
 use Rattle.rule_model.specs.Snapshots.{Snapshot, floor}
 use Rattle.rule_model.specs.Tuples.{Tuple}
@@ -157,3 +157,5 @@ turns_of p w (Advance by) tuple law none keeps =
     record { shift = stay p w.clock tuple w.facts (lawful_timed p w law); from = same_clock w.clock; to = (moved_forward w.clock (w.clock +ℤ by) none).0 }
 turns_of p w (At moment) tuple law none keeps =
     record { shift = stay p w.clock tuple w.facts (lawful_timed p w law); from = same_clock w.clock; to = (moved_forward w.clock moment none).0 }
+turns_of p w (Promise entry from) tuple law none keeps =
+    record { shift = stay p w.clock tuple w.facts (lawful_timed p w law); from = same_clock w.clock; to = same_clock w.clock }

@@ -4,7 +4,7 @@ use Rattle.std.proofs.lemmas.Int.{ints}
 use Rattle.rule_model.specs.declared.matched.Match.{Match}
 use Rattle.rule_model.specs.declared.program.Program.{Program}
 use Rattle.rule_model.specs.declared.step.Step.{Step}
-use Rattle.rule_model.specs.declared.step.Step.TheVariants.{Insert, Modify, Retract, Advance, At}
+use Rattle.rule_model.specs.declared.step.Step.TheVariants.{Insert, Modify, Retract, Advance, At, Promise}
 use Rattle.rule_model.specs.Matches.{matches, has_match}
 use Rattle.rule_model.proofs.Listed.{both, both_of}
 use Rattle.rule_world.specs.Worlds.{World, snapshot, pending, moved, settled, stepped, still_fired}
@@ -36,6 +36,7 @@ same_marks p w (Modify id sets) = refl
 same_marks p w (Retract ty id) = refl
 same_marks p w (Advance by) = refl
 same_marks p w (At moment) = refl
+same_marks p w (Promise entry from) = refl
 
 -- a match that is pending behind the step is one there
 pending_match : (p : Program) (w : World) (step : Step) (m : Match) → has_match (pending p (stepped p w step)) m ≡ true → has_match (matches p (snapshot (moved p w step))) m ≡ true

@@ -11,9 +11,9 @@ use Rattle.rule_model.specs.declared.condition.Pattern.{Pattern}
 use Rattle.rule_model.specs.declared.program.Program.{Program}
 use Rattle.fx_base.specs.declared.times.Times.{Times}
 use Rattle.rule_model.specs.Candidates.{passing}
-use Rattle.rule_model.specs.Maturity.{IsPossible, IsMature, of_plain, of_none, of_unbounded, of_past, watermark}
+use Rattle.rule_model.specs.Maturity.{IsPossible, IsMature, of_plain, of_none, of_unbounded, of_past}
 use Rattle.rule_model.specs.Rows.{Makes, result_of}
-use Rattle.rule_model.specs.Snapshots.{Snapshot}
+use Rattle.rule_model.specs.Snapshots.{Snapshot, floor}
 use Rattle.rule_model.specs.Tuples.{Tuple, bound_by}
 use Rattle.rule_model.specs.Types.{is_event, lateness_of}
 use Rattle.rule_model.proofs.Grown.{makes_grow, begins}
@@ -21,6 +21,7 @@ use Rattle.rule_model.proofs.RuleOf.{in_place}
 use Rattle.rule_lives.proofs.Basics.{Front, at_grows, at_last, times_grow}
 use Rattle.rule_lives.proofs.Still.{Settled, tail_of}
 use Rattle.rule_lives.proofs.Shifts.{Aged, Shift, back, passing_same, own_stays}
+use Rattle.rule_model.proofs.Floors.{clock_below_floor}
 
 pub front_of : (p : Program) (s : Snapshot) (cs : List Condition) (t made : Tuple) → Makes p s cs t made → Front t made
 front_of p s cs t made h = begins p s cs t made (makes_grow p s cs t made h)
@@ -45,9 +46,8 @@ mature_too p c now later q t a from (of_past u last before) =
     let starts = last.starts in
     of_past u last (omega (arith, ints))
 
-watermark_from : (p : Program) (s : Snapshot) (c : ℤ) (entry : ℕ) → c ≤ℤ s.clock → (c -ℤ lateness_of p entry) ≤ℤ watermark p s entry
-unfolding watermark
-watermark_from p s c entry from = omega (arith, ints)
+floor_from : (p : Program) (s : Snapshot) (c : ℤ) (entry : ℕ) → c ≤ℤ s.clock → (c -ℤ lateness_of p entry) ≤ℤ floor p s entry
+floor_from p s c entry from = omega (arith, ints, clock_below_floor p s entry)
 
 -- ---- conditions
 
@@ -99,7 +99,7 @@ module _ (p : Program) (c : ℤ) (tuple : Tuple) (s o : Snapshot) (r : Turns p c
   transfer (Negated q ∷ cs) t a h =
       let front = front_of p s (Negated q ∷ cs) t tuple h in
       let e = ap (λ (u : Tuple). u.facts) h.1.2 in
-      let mature = mature_too p c (watermark p s q.entry.0) (watermark p o q.entry.0) q t (aged_front p c q t tuple front a.0) (watermark_from p o c q.entry.0 r.to) h.1.1 in
+      let mature = mature_too p c (floor p s q.entry.0) (floor p o q.entry.0) q t (aged_front p c q t tuple front a.0) (floor_from p o c q.entry.0 r.to) h.1.1 in
       (h.0, (sym (same_passing q t front a.0) ∙ h.1.0, mature, h.1.2), transfer cs h.0 (same_length t h.0 cs e a.1) h.2)
   transfer (Existing q ∷ cs) t a h =
       let front = front_of p s (Existing q ∷ cs) t tuple h in

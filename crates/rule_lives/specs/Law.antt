@@ -7,7 +7,7 @@ use Rattle.rule_model.specs.declared.condition.Condition.{Condition}
 use Rattle.rule_model.specs.declared.program.Program.{Program}
 use Rattle.rule_model.specs.declared.program.Rule.{Rule}
 use Rattle.rule_model.specs.declared.step.Step.{Step}
-use Rattle.rule_model.specs.declared.step.Step.TheVariants.{Insert, Modify, Retract, Advance, At}
+use Rattle.rule_model.specs.declared.step.Step.TheVariants.{Insert, Modify, Retract, Advance, At, Promise}
 use Rattle.rule_model.specs.Candidates.{passing}
 use Rattle.rule_model.specs.Rows.{Makes, pattern_of}
 use Rattle.rule_model.specs.Simple.{is_observed_in}
@@ -38,6 +38,7 @@ KeepsTuple (Modify id sets) tuple = Unit {0}
 KeepsTuple (Retract ty id) tuple = (f : Fact) → In f tuple.facts → f.ty.0 ≡ ty.0 → f.id.0 ≡ id.0 → ⊥
 KeepsTuple (Advance by) tuple = Unit {0}
 KeepsTuple (At moment) tuple = Unit {0}
+KeepsTuple (Promise entry from) tuple = Unit {0}
 
 -- ---- what is asked of the program
 

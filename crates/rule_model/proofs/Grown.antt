@@ -8,9 +8,9 @@ use Rattle.rule_model.specs.declared.condition.Condition.{Condition}
 use Rattle.rule_model.specs.declared.condition.Condition.TheVariants.{Plain, Negated, Existing, Folded}
 use Rattle.rule_model.specs.declared.program.Program.{Program}
 use Rattle.rule_model.specs.Candidates.{passing}
-use Rattle.rule_model.specs.Maturity.{is_mature, watermark}
+use Rattle.rule_model.specs.Maturity.{is_mature}
 use Rattle.rule_model.specs.Rows.{IsRow, Extends, Makes, result_of, extended, tuples, rows}
-use Rattle.rule_model.specs.Snapshots.{Snapshot}
+use Rattle.rule_model.specs.Snapshots.{Snapshot, floor}
 use Rattle.rule_model.specs.Tuples.{Tuple, empty_tuple, with_fact, with_value, row_of, bound_by}
 use Rattle.rule_model.proofs.Listed.{of_map, of_flat_map, of_if, of_unless, of_result}
 
@@ -33,7 +33,7 @@ extends_grows p s (Folded a) t next x = (x.0, x.1, x.3)
 
 pub listed_grows : (p : Program) (s : Snapshot) (c : Condition) (t next : Tuple) → In next (extended p s c t) → Grows p s c t next
 listed_grows p s (Plain q) t next i = let r = of_map (with_fact t) next (passing p q s t) i in (r.0, r.1, sym r.2)
-listed_grows p s (Negated q) t next i = (of_if (length (passing p q s t) == 0 && is_mature p q (bound_by t) (watermark p s q.entry.0)) t next i).1
+listed_grows p s (Negated q) t next i = (of_if (length (passing p q s t) == 0 && is_mature p q (bound_by t) (floor p s q.entry.0)) t next i).1
 listed_grows p s (Existing q) t next i = (of_unless (length (passing p q s t) == 0) t next i).1
 listed_grows p s (Folded a) t next i = let r = of_result a t next (result_of a (passing p a.pattern s t)) i in (r.0, r.1, r.3)
 

@@ -1,5 +1,5 @@
 -- When a negative pattern waits no longer (Drools Fusion 5 User Guide, negative patterns with temporal constraints).
-use Rattle.std.specs.Prelude.{◌≡◌, ℕ, ℤ, ◌-ℤ◌, ◌<ℤ◌, int_lt, ◌||◌, not, Bool, true, false, List, [], ◌∷◌, Option, Some, None, option_map}
+use Rattle.std.specs.Prelude.{◌≡◌, ℤ, ◌<ℤ◌, int_lt, ◌||◌, not, Bool, true, false, List, [], ◌∷◌, Option, Some, None, option_map}
 use Rattle.std.specs.Option.{option_and_then}
 use Rattle.fx_base.specs.declared.fact.Fact.{Fact}
 use Rattle.fx_base.specs.declared.times.Times.{Times}
@@ -12,21 +12,14 @@ use Rattle.temporal_ops.specs.Starts.{window_of}
 use Rattle.rule_model.specs.declared.condition.Pattern.{Pattern}
 use Rattle.rule_model.specs.declared.program.Program.{Program}
 use Rattle.rule_model.specs.declared.test.TimeTest.{TimeTest}
-use Rattle.rule_model.specs.Snapshots.{Snapshot}
 use Rattle.rule_model.specs.Tests.{times_hold}
 use Rattle.rule_model.specs.Tuples.{Bindings}
-use Rattle.rule_model.specs.Types.{is_event, is_point, lateness_of}
+use Rattle.rule_model.specs.Types.{is_event, is_point}
 
 -- the times of an event of the pattern's type that pass its temporal tests; they range over all pairs of whole numbers
 pub record IsPossible (p : Program) (pattern : Pattern) (bound : Bindings) (y : Times) : Type 0 where
   pub event : IsEvent (is_point p pattern.ty.0) y
   pub tests : times_hold bound y pattern.times ≡ true
-
--- The watermark of an entry point: the clock less its lateness. No event that comes from now on starts before it. A `not` waits by it and not
--- by the floor, which is the last start of the entry point where that is later, and by which a new event is late: so what is mature changes
--- with the clock alone, and no event that comes in ends the waiting of another rule.
-unfoldable pub watermark : Program → Snapshot → ℕ → ℤ
-watermark p s entry = s.clock -ℤ lateness_of p entry
 
 -- What was bound is mature for a negative pattern, where all events that start before a moment are known: the pattern is one of plain
 -- facts; no event is possible; there is none that starts last; or the one that starts last starts before the moment.

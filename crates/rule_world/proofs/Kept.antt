@@ -14,13 +14,14 @@ use Rattle.rule_model.specs.declared.program.Rule.{Rule}
 use Rattle.rule_model.specs.Candidates.{is_present, fits, is_behind, count_behind, is_inside, is_candidate, candidates, passes, passing}
 use Rattle.rule_model.specs.First.{first}
 use Rattle.rule_model.specs.Matches.{matches, matches_from, has_match, fire_cmp, saliences}
-use Rattle.rule_model.specs.Maturity.{is_mature, watermark}
+use Rattle.rule_model.specs.Maturity.{is_mature}
 use Rattle.rule_model.specs.Rows.{result_of, with_result, extended, tuples, rows}
-use Rattle.rule_model.specs.Snapshots.{Snapshot}
+use Rattle.rule_model.specs.Snapshots.{Snapshot, floor}
 use Rattle.rule_model.specs.Tests.{tests_hold}
 use Rattle.rule_model.specs.Tuples.{Tuple, empty_tuple, with_fact, row_of, bound_by, unbound}
 use Rattle.rule_world.specs.Worlds.{World, snapshot, present, only_present, found, fact_of, pending, settled, first_pending}
 use Rattle.rule_world.proofs.Fresh.{and_parts}
+use Rattle.rule_model.proofs.Floors.{same_floor}
 
 -- ---- filters
 
@@ -110,15 +111,11 @@ module _ (p : Program) (w : World) where
   same_passing : (q : Pattern) (t : Tuple) → passing p q o t ≡ passing p q s t
   same_passing q t = ap (filter (passes q t)) (same_candidates q)
 
-  same_watermark : (entry : ℕ) → watermark p o entry ≡ watermark p s entry
-  unfolding watermark
-  same_watermark entry = refl
-
   same_extended : (c : Condition) (t : Tuple) → extended p o c t ≡ extended p s c t
   same_extended (Plain q) t = ap (map (with_fact t)) (same_passing q t)
   same_extended (Negated q) t =
-      ap (λ fs. if length fs == 0 && is_mature p q (bound_by t) (watermark p o q.entry.0) then t ∷ [] else []) (same_passing q t)
-      ∙ ap (λ m. if length (passing p q s t) == 0 && is_mature p q (bound_by t) m then t ∷ [] else []) (same_watermark q.entry.0)
+      ap (λ fs. if length fs == 0 && is_mature p q (bound_by t) (floor p o q.entry.0) then t ∷ [] else []) (same_passing q t)
+      ∙ ap (λ m. if length (passing p q s t) == 0 && is_mature p q (bound_by t) m then t ∷ [] else []) (same_floor p o s q.entry.0 refl refl)
   same_extended (Existing q) t = ap (λ (fs : List Fact). if length fs == 0 then [] else (t ∷ [])) (same_passing q t)
   same_extended (Folded a) t = ap (λ fs. with_result a t (result_of a fs)) (same_passing a.pattern t)
 

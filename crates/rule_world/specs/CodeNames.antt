@@ -1,7 +1,7 @@
 -- The names of the codes of faults, as lines print them.
 use Rattle.std.specs.Prelude.{ℕ, List, codes}
 use Rattle.rule_world.specs.declared.code.Code.{Code}
-use Rattle.rule_world.specs.declared.code.Code.TheVariants.{UnknownType, UnknownEntry, EventFixed, EventObserved, Absent, BadFields, BadValue, BadDuration, Late, Ahead, ClockBack, ClockEnd, Overflow}
+use Rattle.rule_world.specs.declared.code.Code.TheVariants.{UnknownType, UnknownEntry, EventFixed, EventObserved, Absent, BadFields, BadValue, BadDuration, Late, Ahead, ClockBack, ClockEnd, PromiseBack, PromiseEnd, Overflow}
 
 abbrev pub code_name : Code → List ℕ
 code_name UnknownType = codes "UnknownType"
@@ -16,4 +16,6 @@ code_name Late = codes "Late"
 code_name Ahead = codes "Ahead"
 code_name ClockBack = codes "ClockBack"
 code_name ClockEnd = codes "ClockEnd"
+code_name PromiseBack = codes "PromiseBack"
+code_name PromiseEnd = codes "PromiseEnd"
 code_name Overflow = codes "Overflow"

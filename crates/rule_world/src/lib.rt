@@ -8,4 +8,4 @@ pub mod laws;
 mod times;
 
 pub use code::Code;
-pub use times::{clock_after, clock_at, floor, new_times, presence_end};
+pub use times::{clock_after, clock_at, floor, new_times, presence_end, promise_at};

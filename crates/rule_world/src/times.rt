@@ -2,7 +2,7 @@ ghost use Rattle.std.specs.Prelude.{◌≡◌, ◌≤ℤ◌, ◌-ℤ◌, ◌+ℤ
 ghost use Rattle.std.specs.List.{list_all};
 ghost use Rattle.rule_model.specs.Snapshots.{floor_by};
 ghost use Rattle.rule_model.specs.Types.{expiry_of, lateness_of};
-ghost use Rattle.rule_world.specs.Events.{field_number, end_of_presence, start_of as start_of_event, duration_of as duration_of_event, event_fault, event_times as times_of_event, times_of, new_fault, clock_fault, most_millis};
+ghost use Rattle.rule_world.specs.Events.{field_number, end_of_presence, start_of as start_of_event, duration_of as duration_of_event, event_fault, event_times as times_of_event, times_of, new_fault, clock_fault, promise_fault, most_millis};
 ghost use Rattle.rule_world.specs.Programs.{IsRunnable, has_expiry, has_lateness};
 
 use crate::Code;
@@ -23,16 +23,24 @@ fn lateness(program: &Program, entry: EntryId) -> Millis
     }
 }
 
-/// The floor of an entry point, in milliseconds, below which no event may start: the start of the event that was inserted there last,
-/// or the clock less the lateness of the entry point, whichever is later. Takes no memory.
+/// The floor of an entry point, its watermark, in milliseconds, below which no event may start: the start of the event that was inserted
+/// there last, its promise, or the clock less its lateness, whichever is latest. Takes no memory.
 #[tactic(auto, unfolding(crate::specs::Events::most_millis))]
-pub fn floor(program: &Program, last_start: Millis, clock: Millis, entry: EntryId) -> Millis
+pub fn floor(
+    program: &Program,
+    last_start: Millis,
+    promise: Millis,
+    clock: Millis,
+    entry: EntryId,
+) -> Millis
     requires runnable { IsRunnable program.now }
     requires low { pos 0 ≤ℤ clock }
-    ensures floor { result ≡ floor_by (lateness_of program.now entry.0) last_start clock }
+    ensures floor { result ≡ floor_by (lateness_of program.now entry.0) last_start promise clock }
     ensures low { (pos 0 -ℤ most_millis) ≤ℤ result }
 {
-    last_start.max(clock - lateness(program, entry))
+    last_start
+        .max(promise)
+        .max(clock - lateness(program, entry))
 }
 
 // The whole number that a field holds.
@@ -184,4 +192,20 @@ pub fn clock_at(clock: Millis, moment: Millis) -> Result<Millis, Code>
         return Err(Code::ClockEnd);
     }
     Ok(moment)
+}
+
+/// The promise of an entry point at a moment, behind this one, or why it is not to be promised. Takes no memory.
+#[tactic(auto, unfolding(crate::specs::Events::most_millis))]
+pub fn promise_at(promise: Millis, from: Millis) -> Result<Millis, Code>
+    ensures promise { IfOk result (λ next. next ≡ from) }
+    ensures none { IfOk result (λ _. promise_fault promise from ≡ None) }
+    ensures fault { IfErr result (λ code. promise_fault promise from ≡ Some code) }
+{
+    if from < promise {
+        return Err(Code::PromiseBack);
+    }
+    if MOST_MILLIS < from {
+        return Err(Code::PromiseEnd);
+    }
+    Ok(from)
 }

@@ -6,13 +6,13 @@ use Rattle.std.proofs.lemmas.Slice.Eq.{bytes_eq-Decides}
 use Rattle.std.proofs.lemmas.Bool.Decides.{Decides-eqb}
 use Rattle.serde_json.specs.Data.{Data, Members}
 use Rattle.script_read.specs.Members.{text_member, object_member, whole_member, id_member, count_member, count}
-use Rattle.script_read.specs.Form.{IsForm, fire, fire_most, held, insert, insert_into, modify, retract, advance, at, fire_of, held_of, insert_of, modify_of, retract_of, advance_of, at_of, has_count, fire_parts, insert_parts, insert_into_parts, modify_parts, retract_parts, advance_parts, at_parts, command_by_word, command_of}
+use Rattle.script_read.specs.Form.{IsForm, fire, fire_most, held, insert, insert_into, modify, retract, advance, at, promise, promise_for, fire_of, held_of, insert_of, modify_of, retract_of, advance_of, at_of, promise_of, has_count, fire_parts, insert_parts, insert_into_parts, modify_parts, retract_parts, advance_parts, at_parts, promise_parts, promise_of_parts, command_by_word, command_of}
 use Rattle.script_read.specs.declared.asked.Command.{Command}
 use Rattle.script_read.specs.declared.asked.Command.TheVariants.{Fire, Held}
 
 -- every command with the form of a value is the one that is found
 pub form_again : {d : Data} {c : Command} → IsForm d c → command_of d ≡ Some c
-unfolding command_of fire_of held_of insert_of modify_of retract_of advance_of at_of
+unfolding command_of fire_of held_of insert_of modify_of retract_of advance_of at_of promise_of
 form_again (fire word members) = rw (word, members) refl
 form_again (fire_most word most members) = rw (word, members, most) refl
 form_again (held word members) = rw (word, members) refl
@@ -22,6 +22,8 @@ form_again (modify word ty id fields members) = rw (word, members, ty, id, field
 form_again (retract word ty id members) = rw (word, members, ty, id) refl
 form_again (advance word by members) = rw (word, members, by) refl
 form_again (at word moment members) = rw (word, members, moment) refl
+form_again (promise word from members) = rw (word, members, from) refl
+form_again (promise_for word entry from members) = rw (word, members, entry, from) refl
 
 -- a value has the form of at most one command
 pub one_form : {d : Data} {c other : Command} → IsForm d c → IsForm d other → c ≡ other
@@ -159,6 +161,26 @@ at_sound : (d : Data) (c : Command) → text_member (codes "do") d ≡ Some (cod
 unfolding at_of
 at_sound d c word found = at_counted (has_count 2 (count d)) (whole_member (codes "ms") d) d c refl refl word found
 
+-- at each case of the two counts and of the two members
+promise_counted : (plain into : Bool) (entry : Option (List ℕ)) (from : Option ℤ) (d : Data) (c : Command)
+    → has_count 2 (count d) ≡ plain → has_count 3 (count d) ≡ into → text_member (codes "entry") d ≡ entry → whole_member (codes "from") d ≡ from
+    → text_member (codes "do") d ≡ Some (codes "promise")
+    → Some c ≡ (if plain then promise_parts from else (if into then promise_of_parts entry from else None)) → IsForm d c
+promise_counted true into entry (Some from) d c members more way given word found =
+    subst (IsForm d) (some_injective (sym found)) (promise word given (counted 2 (count d) members))
+promise_counted true into entry None d c members more way given word found = cc
+promise_counted false true (Some entry) (Some from) d c members more way given word found =
+    subst (IsForm d) (some_injective (sym found)) (promise_for word way given (counted 3 (count d) more))
+promise_counted false true (Some entry) None d c members more way given word found = cc
+promise_counted false true None from d c members more way given word found = cc
+promise_counted false false entry from d c members more way given word found = cc
+
+-- a promise that is found has its form
+promise_sound : (d : Data) (c : Command) → text_member (codes "do") d ≡ Some (codes "promise") → Some c ≡ promise_of d → IsForm d c
+unfolding promise_of
+promise_sound d c word found =
+    promise_counted (has_count 2 (count d)) (has_count 3 (count d)) (text_member (codes "entry") d) (whole_member (codes "from") d) d c refl refl refl refl word found
+
 -- what is found by a test comes from one of its two sides
 by_test : (b : Bool) (front rest : Option Command) (P : Command → Type 0) → (b ≡ true → (c : Command) → Some c ≡ front → P c)
     → ((c : Command) → Some c ≡ rest → P c) → (c : Command) → Some c ≡ (if b then front else rest) → P c
@@ -181,7 +203,8 @@ by_word (Some word) d stands =
     (by_test (bytes_eq word (codes "advance")) _ _ (IsForm d) (λ same c. advance_sound d c (word_is (codes "advance") word d stands same))
     (by_test (bytes_eq word (codes "at")) _ _ (IsForm d) (λ same c. at_sound d c (word_is (codes "at") word d stands same))
     (by_test (bytes_eq word (codes "held")) _ _ (IsForm d) (λ same c. held_sound d c (word_is (codes "held") word d stands same))
-    (λ c found. cc)))))))
+    (by_test (bytes_eq word (codes "promise")) _ _ (IsForm d) (λ same c. promise_sound d c (word_is (codes "promise") word d stands same))
+    (λ c found. cc))))))))
 
 -- a value has the form of the command that is found in it
 pub form_sound : (d : Data) (c : Command) → Some c ≡ command_of d → IsForm d c

@@ -6,7 +6,7 @@ use Rattle.script_read.specs.Given.{givens}
 use Rattle.script_read.specs.Members.{text_member, object_member, whole_member, id_member, count_member, count}
 use Rattle.script_read.specs.declared.asked.Command.{Command}
 use Rattle.script_read.specs.declared.asked.Command.TheVariants.{Change, Fire, Held}
-use Rattle.script_read.specs.declared.asked.Change.TheVariants.{Insert, Modify, Retract, Advance, At}
+use Rattle.script_read.specs.declared.asked.Change.TheVariants.{Insert, Modify, Retract, Advance, At, Promise}
 
 -- The forms, one for each kind of line: an object with exactly the members that are named. Since each name stands once,
 -- an object of n members that has n given names has no other.
@@ -54,6 +54,16 @@ pub data IsForm : Data → Command → Type 0 where
       → whole_member (codes "ms") d ≡ Some moment
       → count d ≡ Some 2
       → IsForm d (Change (At moment))
+  -- {"do":"promise","from":t}
+  promise : {d : Data} {from : ℤ} → text_member (codes "do") d ≡ Some (codes "promise")
+      → whole_member (codes "from") d ≡ Some from
+      → count d ≡ Some 2
+      → IsForm d (Change (Promise None from))
+  -- {"do":"promise","entry":X,"from":t}
+  promise_for : {d : Data} {entry : List ℕ} {from : ℤ} → text_member (codes "do") d ≡ Some (codes "promise")
+      → text_member (codes "entry") d ≡ Some entry → whole_member (codes "from") d ≡ Some from
+      → count d ≡ Some 3
+      → IsForm d (Change (Promise (Some entry) from))
 
 abbrev pub has_count : ℕ → Option ℕ → Bool
 has_count n None = false
@@ -112,6 +122,18 @@ at_parts (Some moment) = Some (Change (At moment))
 unfoldable pub at_of : Data → Option Command
 at_of d = if has_count 2 (count d) then at_parts (whole_member (codes "ms") d) else None
 
+abbrev pub promise_parts : Option ℤ → Option Command
+promise_parts None = None
+promise_parts (Some from) = Some (Change (Promise None from))
+
+abbrev pub promise_of_parts : Option (List ℕ) → Option ℤ → Option Command
+promise_of_parts (Some entry) (Some from) = Some (Change (Promise (Some entry) from))
+promise_of_parts _ _ = None
+
+unfoldable pub promise_of : Data → Option Command
+promise_of d = if has_count 2 (count d) then promise_parts (whole_member (codes "from") d)
+    else (if has_count 3 (count d) then promise_of_parts (text_member (codes "entry") d) (whole_member (codes "from") d) else None)
+
 -- by the word after `do`
 abbrev pub command_by_word : Data → Option (List ℕ) → Option Command
 command_by_word d None = None
@@ -121,7 +143,8 @@ command_by_word d (Some word) = if bytes_eq word (codes "fire") then fire_of d
     else (if bytes_eq word (codes "retract") then retract_of d
     else (if bytes_eq word (codes "advance") then advance_of d
     else (if bytes_eq word (codes "at") then at_of d
-    else (if bytes_eq word (codes "held") then held_of d else None))))))
+    else (if bytes_eq word (codes "held") then held_of d
+    else (if bytes_eq word (codes "promise") then promise_of d else None)))))))
 
 -- the command whose form a value has
 unfoldable pub command_of : Data → Option Command

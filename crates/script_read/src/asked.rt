@@ -35,4 +35,9 @@ pub enum Change {
     Advance(Millis),
     /// The clock goes to this moment.
     At(Millis),
+    /// The entry point with this name, without one the default entry point, gets no event any more that starts before this moment.
+    Promise {
+        entry: Option<Text>,
+        from: Millis,
+    },
 }

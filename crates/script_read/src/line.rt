@@ -1,8 +1,8 @@
 ghost use Rattle.std.specs.Prelude.{◌≡◌, IfOk, IsErrOf, option_map, codes};
 ghost use Rattle.serde_json.specs.Data.{Data};
 ghost use Rattle.serde_json.specs.View.{view};
-ghost use Rattle.script_read.specs.Members.{text_member as text_under, object_member as object_under};
-ghost use Rattle.script_read.specs.Form.{IsForm, fire_of, held_of, insert_parts, insert_into_parts, insert_of, modify_of, retract_of, advance_of, at_of, command_of};
+ghost use Rattle.script_read.specs.Members.{text_member as text_under, object_member as object_under, whole_member as whole_under};
+ghost use Rattle.script_read.specs.Form.{IsForm, fire_of, held_of, insert_parts, insert_into_parts, insert_of, modify_of, retract_of, advance_of, at_of, promise_parts, promise_of_parts, promise_of, command_of};
 ghost use Rattle.script_read.specs.Asked.{IsReading, reading, asked, Answers};
 
 use crate::asked::{Change, Command};
@@ -149,6 +149,39 @@ fn at(value: &Value) -> Option<Command>
     }
 }
 
+#[tactic(auto, unfolding(crate::specs::Form::promise_of))]
+fn promise(alloc: Global, value: &Value) -> Result<Option<Command>, NoMemory>
+    ensures { IfOk result (λ found. found ≡ promise_of (view value.now)) }
+{
+    match count(value) {
+        Some(2) => Ok(plain_promise(value)),
+        Some(3) => entry_promise(alloc, value),
+        _ => Ok(None),
+    }
+}
+
+// The command of a promise that names no entry point.
+fn plain_promise(value: &Value) -> Option<Command>
+    ensures { result ≡ promise_parts (whole_under (codes "from") (view value.now)) }
+{
+    let from = whole_member(value, "from")?;
+    Some(Command::Change(Change::Promise { entry: None, from }))
+}
+
+// The command of a promise that names its entry point.
+fn entry_promise(alloc: Global, value: &Value) -> Result<Option<Command>, NoMemory>
+    ensures { IfOk result (λ found. found
+        ≡ promise_of_parts (text_under (codes "entry") (view value.now)) (whole_under (codes "from") (view value.now))) }
+{
+    match (text_member(value, "entry"), whole_member(value, "from")) {
+        (Some(entry), Some(from)) => Ok(Some(Command::Change(Change::Promise {
+            entry: Some(Text::new(alloc, entry)?),
+            from,
+        }))),
+        _ => Ok(None),
+    }
+}
+
 // The command whose form the value has.
 #[tactic(auto, unfolding(crate::specs::Form::command_of))]
 fn form(alloc: Global, value: &Value) -> Result<Option<Command>, NoMemory>
@@ -165,6 +198,7 @@ fn form(alloc: Global, value: &Value) -> Result<Option<Command>, NoMemory>
         "advance" => Ok(advance(value)),
         "at" => Ok(at(value)),
         "held" => Ok(held(value)),
+        "promise" => promise(alloc, value),
         _ => Ok(None),
     }
 }

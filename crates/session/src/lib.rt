@@ -4,9 +4,9 @@
 
 mod counting;
 mod firing;
-mod last_starts;
 pub mod laws;
 mod moving;
+mod reaching;
 mod refreshing;
 mod running;
 mod session;

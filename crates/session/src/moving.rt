@@ -1,6 +1,6 @@
 ghost use Rattle.std.specs.Prelude.{◌≡◌, ◌+◌, ◌<◌, ◌^◌, ◌≤ℤ◌, ◌+ℤ◌, ◌-ℤ◌, ◌==◌, ◌&&◌, not, ℕ, pos, true, false, None, Some, slice_get, is_some, cond, IfOk, OnOk};
 ghost use Rattle.rule_model.specs.Lives.{AreShort, IsShortLife};
-ghost use Rattle.rule_model.specs.declared.step.Step.TheVariants.{Insert, Modify, Retract, At};
+ghost use Rattle.rule_model.specs.declared.step.Step.TheVariants.{Insert, Modify, Retract, At, Promise};
 ghost use Rattle.rule_model.specs.Candidates.{is_present};
 ghost use Rattle.rule_model.specs.Types.{is_event};
 ghost use Rattle.rule_world.specs.Events.{end_of_presence, most_millis, times_of};
@@ -14,14 +14,14 @@ ghost use Rattle.session_laws.specs.Standing.{Runs, StaysSound};
 ghost use Rattle.session_laws.specs.Waiting.{with_timer, without_timer};
 ghost use Rattle.std.specs.FinMap as map;
 
-use crate::last_starts::last_starts_behind;
+use crate::reaching::{last_starts_behind, promises_behind};
 use crate::refreshing::{followed, without_all};
 use crate::state::State;
 use due_queue::DueQueue;
 use fact_store::FactStore;
-use fx_base::{Copies, Fact, FactId, Facts, Millis, NoMemory, Seq, Tag, TypeId, Value};
+use fx_base::{Copies, EntryId, Fact, FactId, Facts, Millis, NoMemory, Seq, Tag, TypeId, Value};
 use retention::Retention;
-use rule_model::{Life, LifeTable, Program};
+use rule_model::{Life, LifeTable, Moment, Program};
 use rule_world::presence_end;
 use session_laws::{Memory, Setting};
 use std::alloc::Global;
@@ -212,15 +212,21 @@ impl State {
         state.expiries = timed(state.expiries, program, &fact)?;
         hold(&mut memory.retention, tag, life_end(&setting.lives, &fact))?;
         state.facts = with_fact(state.facts, fact)?;
+        let agenda = state.agenda;
+        let moment = Moment {
+            clock: state.clock,
+            last_starts: state.last_starts.as_slice(),
+            promises: state.promises.as_slice(),
+        };
         let (agenda, left) = followed(
             alloc,
             program,
             &mut memory.net,
-            state.agenda,
+            agenda,
             &state.facts,
             &[],
             state.facts.fact(tag),
-            state.clock,
+            &moment,
         )?;
         state.agenda = agenda;
         state.next_id += 1;
@@ -228,7 +234,7 @@ impl State {
         state.settled(alloc, setting, memory, left.as_slice())
     }
 
-    // The same with an event that is not present any more.
+    // The same with an event that is not present any more. Its start may end the waiting of a `not`.
     fn with_numbers(
         self,
         alloc: Global,
@@ -248,9 +254,26 @@ impl State {
     {
         let mut state = self;
         state.last_starts = last_starts_behind(&setting.program, fact, state.last_starts)?;
+        let agenda = state.agenda;
+        let moment = Moment {
+            clock: state.clock,
+            last_starts: state.last_starts.as_slice(),
+            promises: state.promises.as_slice(),
+        };
+        let (agenda, left) = followed(
+            alloc,
+            &setting.program,
+            &mut memory.net,
+            agenda,
+            &state.facts,
+            &[],
+            None,
+            &moment,
+        )?;
+        state.agenda = agenda;
         state.next_id += 1;
         state.next_tag += 1;
-        state.settled(alloc, setting, memory, &[])
+        state.settled(alloc, setting, memory, left.as_slice())
     }
 
     /// The state with a modification of the plain fact of the id, which has this tag and is there.
@@ -276,15 +299,21 @@ impl State {
         let before = state.facts.fact(tag).unwrap();
         let after = revised(alloc, before, sets, next)?;
         state.facts = with_fact(state.facts, after)?;
+        let agenda = state.agenda;
+        let moment = Moment {
+            clock: state.clock,
+            last_starts: state.last_starts.as_slice(),
+            promises: state.promises.as_slice(),
+        };
         let (agenda, left) = followed(
             alloc,
             &setting.program,
             &mut memory.net,
-            state.agenda,
+            agenda,
             &state.facts,
             &[tag.0],
             state.facts.fact(next),
-            state.clock,
+            &moment,
         )?;
         state.agenda = agenda;
         state.facts.take(tag);
@@ -310,15 +339,21 @@ impl State {
         ensures sound { IfOk result (λ s. StaysSound setting.now.program memory.old self memory.new s) }
     {
         let mut state = self;
+        let agenda = state.agenda;
+        let moment = Moment {
+            clock: state.clock,
+            last_starts: state.last_starts.as_slice(),
+            promises: state.promises.as_slice(),
+        };
         let (agenda, left) = followed(
             alloc,
             &setting.program,
             &mut memory.net,
-            state.agenda,
+            agenda,
             &state.facts,
             &[tag.0],
             None,
-            state.clock,
+            &moment,
         )?;
         state.agenda = agenda;
         state.facts.take(tag);
@@ -345,6 +380,43 @@ impl State {
         self.settled(alloc, setting, memory, &[])
     }
 
+    /// The state where an entry point has promised a moment. A row that waits no longer then costs what the network says, and the others a
+    /// look at each `not`.
+    pub(crate) fn with_promise(
+        self,
+        alloc: Global,
+        setting: &Setting,
+        memory: &mut Memory,
+        entry: EntryId,
+        from: Millis,
+    ) -> Result<State, NoMemory>
+        requires runs { Runs setting.now }
+        ensures stands { IfOk result (λ s. Moves setting.now memory.old self (Promise entry from) memory.new s) }
+        ensures tags { IfOk result (λ s. s.next_tag ≡ self.next_tag) }
+        ensures sound { IfOk result (λ s. StaysSound setting.now.program memory.old self memory.new s) }
+    {
+        let mut state = self;
+        state.promises = promises_behind(entry, from, state.promises)?;
+        let agenda = state.agenda;
+        let moment = Moment {
+            clock: state.clock,
+            last_starts: state.last_starts.as_slice(),
+            promises: state.promises.as_slice(),
+        };
+        let (agenda, left) = followed(
+            alloc,
+            &setting.program,
+            &mut memory.net,
+            agenda,
+            &state.facts,
+            &[],
+            None,
+            &moment,
+        )?;
+        state.agenda = agenda;
+        state.settled(alloc, setting, memory, left.as_slice())
+    }
+
     /// The state at a later clock, without the events that are not present any more. Where nothing is due it costs a look at the
     /// queue of expiries, one at the network's least moment and one at the ends of lives.
     pub(crate) fn with_clock(
@@ -368,15 +440,21 @@ impl State {
             state.clock = clock;
             return state.settled(alloc, setting, memory, &[]);
         }
+        let agenda = state.agenda;
+        let moment = Moment {
+            clock,
+            last_starts: state.last_starts.as_slice(),
+            promises: state.promises.as_slice(),
+        };
         let (agenda, left) = followed(
             alloc,
             &setting.program,
             &mut memory.net,
-            state.agenda,
+            agenda,
             &state.facts,
             due.as_slice(),
             None,
-            clock,
+            &moment,
         )?;
         state.agenda = agenda;
         state.facts = without_all(state.facts, due);

@@ -1,6 +1,6 @@
 ghost use Rattle.std.specs.Prelude.{◌≡◌, ◌<◌, ◌^◌, ◌==◌, ◌||◌, length, ℕ, ℤ, Bool, List, filter_map, option_map, IfOk, OnOk};
 ghost use Rattle.std.specs.List.{list_any};
-ghost use Rattle.fact_store.specs.Held.{HeldFacts, facts_of};
+ghost use Rattle.fact_store.specs.Held.{HeldFacts};
 ghost use Rattle.fx_base.specs.Lists.{In};
 ghost use Rattle.rete_net.specs.declared.changes.RuleChange.{RuleChange as RuleChangeData};
 ghost use Rattle.rete_net.specs.Nets.{AreBetween, NetStands, clean_rows};
@@ -13,19 +13,18 @@ ghost use Rattle.row_delta.specs.declared.row.Row.{Row as RowData};
 ghost use Rattle.rule_model.specs.declared.program.Program.{Program as ProgramData};
 ghost use Rattle.rule_model.specs.declared.program.Rule.{Rule as RuleData};
 ghost use Rattle.rule_model.specs.Lent.{lent};
-ghost use Rattle.session_laws.specs.Refreshed.{over};
 ghost use Rattle.rule_world.specs.Programs.{IsRunnable};
-ghost use Rattle.session_laws.specs.Following.{LeadsOn};
+ghost use Rattle.session_laws.specs.Following.{Instant, LeadsOn, facts_at, instant_at};
 ghost use Rattle.session_laws.specs.Refreshed.{IsRefreshed};
 ghost use Rattle.session_laws.specs.Waiting.{left_at};
 ghost use Rattle.std.specs.FinMap as map;
 
 use agenda::Agenda;
 use fact_store::FactStore;
-use fx_base::{Fact, Facts, Millis, NoMemory, Tag};
+use fx_base::{Fact, Facts, NoMemory, Tag};
 use rete_net::{Rete, RuleChange};
 use row_delta::{Named, Row};
-use rule_model::Program;
+use rule_model::{Moment, Program};
 use std::alloc::Global;
 
 /// Adds the tags of the facts that are named.
@@ -86,7 +85,7 @@ fn facts_at<'s>(
     Ok(found)
 }
 
-/// The agenda after the network has taken the facts of these tags that go, the fact that comes, if one does, and the clock; and the
+/// The agenda after the network has taken the facts of these tags that go, the fact that comes, if one does, and the moment; and the
 /// tags that the rows which go name. The facts have those that go and the one that comes.
 pub(crate) fn followed(
     alloc: Global,
@@ -96,20 +95,20 @@ pub(crate) fn followed(
     facts: &FactStore,
     gone: &[u64],
     come: Option<&Fact>,
-    clock: Millis,
+    moment: &Moment,
 ) -> Result<(Agenda, Vec<Tag>), NoMemory>
     requires { IsRunnable program.now }
-    ensures net { (before behind all : HeldFacts) (from : ℤ) (forgotten : NamedData → Bool) → LeadsOn program.now before from behind clock all gone.now (option_map (λ f. f.now) come.entry) forgotten facts.now
-        → NetStands program.now net.old (over (facts_of before) from) forgotten → OnOk result (NetStands program.now net.new (over (facts_of behind) clock) forgotten) }
-    ensures agenda { (before behind all : HeldFacts) (from : ℤ) (forgotten : NamedData → Bool) → LeadsOn program.now before from behind clock all gone.now (option_map (λ f. f.now) come.entry) forgotten facts.now
-        → NetStands program.now net.old (over (facts_of before) from) forgotten
-        → IfOk result (λ r. IsRefreshed program.now.rules (clean_rows program.now (over (facts_of before) from) forgotten) (clean_rows program.now (over (facts_of behind) clock) forgotten) agenda r.0) }
+    ensures net { (before behind all : HeldFacts) (from : Instant) (forgotten : NamedData → Bool) → LeadsOn program.now before from behind (instant_at moment.now) all gone.now (option_map (λ f. f.now) come.entry) forgotten facts.now
+        → NetStands program.now net.old (facts_at before from) forgotten → OnOk result (NetStands program.now net.new (facts_at behind (instant_at moment.now)) forgotten) }
+    ensures agenda { (before behind all : HeldFacts) (from : Instant) (forgotten : NamedData → Bool) → LeadsOn program.now before from behind (instant_at moment.now) all gone.now (option_map (λ f. f.now) come.entry) forgotten facts.now
+        → NetStands program.now net.old (facts_at before from) forgotten
+        → IfOk result (λ r. IsRefreshed program.now.rules (clean_rows program.now (facts_at before from) forgotten) (clean_rows program.now (facts_at behind (instant_at moment.now)) forgotten) agenda r.0) }
     ensures left { IfOk result (λ r. HasLeft agenda r.0 (is_among r.1.items)) }
     ensures shape { (p : ProgramData) → IsNetOf p net.old.nodes.items net.old.ends.items → OnOk result (IsNetOf p net.new.nodes.items net.new.ends.items) }
     ensures rules { length net.old.ends.items < 2 ^ 16 → AreOfRules (length net.old.ends.items) agenda.pending → IfOk result (λ r. AreOfRules (length net.old.ends.items) r.0.pending) }
 {
     let gone = facts_at(alloc, facts, gone)?;
-    let changes = net.advance(alloc, program, gone.as_slice(), come, clock, facts)?;
+    let changes = net.advance(alloc, program, gone.as_slice(), come, moment, facts)?;
     refreshed(alloc, agenda, changes)
 }
 

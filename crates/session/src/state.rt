@@ -3,7 +3,7 @@ ghost use Rattle.rule_model.specs.Matches.{fire_cmp};
 ghost use Rattle.rule_model.specs.First.{first};
 ghost use Rattle.rule_world.specs.Worlds.{modify_fault, is_of_type};
 ghost use Rattle.session_laws.specs.Places.{IsNewestTag, newest};
-ghost use Rattle.session_laws.specs.Standing.{last_start_in};
+ghost use Rattle.rule_model.specs.Moments.{moment_in};
 ghost use Rattle.std.specs.FinMap as map;
 
 use agenda::Agenda;
@@ -17,7 +17,7 @@ use std::alloc::Global;
 use std::marker::Model;
 
 /// What a session keeps of its world: the facts that are present by their tags, the moments at which they expire, the clock, the last
-/// starts of the entry points, the agenda and the next numbers.
+/// starts and the promises of the entry points, the agenda and the next numbers.
 #[derive(Drop)]
 pub(crate) struct State {
     pub(crate) facts: FactStore,
@@ -27,6 +27,8 @@ pub(crate) struct State {
     pub(crate) clock: Millis,
     /// In milliseconds, by the places of the entry points; 0 for those beyond the end.
     pub(crate) last_starts: Vec<Millis>,
+    /// The same of the promises.
+    pub(crate) promises: Vec<Millis>,
     pub(crate) agenda: Agenda,
     pub(crate) next_id: u64,
     pub(crate) next_tag: u64,
@@ -42,7 +44,7 @@ impl Model for State {
 
     ghost coded = { Prim.hlevel (codes, held_code, timers_code) };
 
-    ghost view = { λ s. record { facts = s.facts; expiries = s.expiries; clock = s.clock; last_starts = s.last_starts.items; agenda = s.agenda; next_id = s.next_id; next_tag = s.next_tag } };
+    ghost view = { λ s. record { facts = s.facts; expiries = s.expiries; clock = s.clock; lists = record { last_starts = s.last_starts.items; promises = s.promises.items }; agenda = s.agenda; next_id = s.next_id; next_tag = s.next_tag } };
 
     ghost invariant = { λ s. IsSafe s.facts s.expiries s.clock s.next_id s.next_tag };
 }
@@ -53,7 +55,8 @@ impl State {
         ensures facts { result.facts ≡ map.empty }
         ensures expiries { result.expiries ≡ map.empty }
         ensures clock { result.clock ≡ pos 0 }
-        ensures last_starts { result.last_starts ≡ [] }
+        ensures last_starts { result.lists.last_starts ≡ [] }
+        ensures promises { result.lists.promises ≡ [] }
         ensures agenda { result.agenda ≡ agenda }
         ensures next_id { result.next_id ≡ 1 }
         ensures next_tag { result.next_tag ≡ 1 }
@@ -63,6 +66,7 @@ impl State {
             expiries: DueQueue::new(alloc),
             clock: 0,
             last_starts: Vec::new(alloc),
+            promises: Vec::new(alloc),
             agenda,
             next_id: 1,
             next_tag: 1,
@@ -85,9 +89,20 @@ impl State {
 
     /// The start of the event that was inserted last in an entry point, in milliseconds, or 0. Takes no memory.
     pub(crate) fn last_start(&self, entry: EntryId) -> Millis
-        ensures { result ≡ last_start_in self.now.last_starts entry.0 }
+        ensures { result ≡ moment_in self.now.lists.last_starts entry.0 }
     {
         self.last_starts
+            .as_slice()
+            .get(entry.0 as usize)
+            .copied()
+            .unwrap_or(0)
+    }
+
+    /// What an entry point has promised, in milliseconds, or 0: no event of it starts before this moment any more. Takes no memory.
+    pub(crate) fn promise(&self, entry: EntryId) -> Millis
+        ensures { result ≡ moment_in self.now.lists.promises entry.0 }
+    {
+        self.promises
             .as_slice()
             .get(entry.0 as usize)
             .copied()

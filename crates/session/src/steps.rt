@@ -1,6 +1,6 @@
 ghost use Rattle.std.specs.Prelude.{◌≡◌, ◌+◌, ◌<◌, ◌≤◌, ◌≤ℤ◌, ◌+ℤ◌, ◌-ℤ◌, ◌&&◌, ◌^◌, pos, true, [], ◌∷◌, ◌++◌, length, None, Some, slice_get, IfOk, IfErr, OnOk};
 ghost use Rattle.rule_model.specs.declared.program.Program.{Program as ProgramData};
-ghost use Rattle.rule_model.specs.declared.step.Step.TheVariants.{Insert, Modify, Retract, Advance, At};
+ghost use Rattle.rule_model.specs.declared.step.Step.TheVariants.{Insert, Modify, Retract, Advance, At, Promise};
 ghost use Rattle.rule_model.specs.Types.{is_event, is_observed};
 ghost use Rattle.rule_world.specs.Events.{most_millis, new_fault, times_of};
 ghost use Rattle.rule_world.specs.Programs.{IsRunnable};
@@ -13,7 +13,7 @@ use crate::state::State;
 use engine::OutLine;
 use fx_base::{EntryId, Fact, FactId, Millis, NoMemory, Seq, Tag, Times, TypeId, Value};
 use rule_model::{Program, Step};
-use rule_world::{Code, clock_after, clock_at, floor, new_times};
+use rule_world::{Code, clock_after, clock_at, floor, new_times, promise_at};
 use session_laws::{Memory, Setting};
 use std::alloc::Global;
 
@@ -53,10 +53,16 @@ impl State {
         ensures high { IfOk result (λ times. times.start ≤ℤ most_millis) }
         ensures end_low { IfOk result (λ times. (pos 0 -ℤ most_millis) ≤ℤ times.end) }
         ensures end_high { IfOk result (λ times. times.end ≤ℤ (most_millis +ℤ most_millis)) }
-        ensures none { IfOk result (λ _. new_fault (slice_get program.now.types ty.0) (floor_in program.now self.now.last_starts self.now.clock entry.0) self.now.clock fields.now ≡ None) }
-        ensures fault { IfErr result (λ code. new_fault (slice_get program.now.types ty.0) (floor_in program.now self.now.last_starts self.now.clock entry.0) self.now.clock fields.now ≡ Some code) }
+        ensures none { IfOk result (λ _. new_fault (slice_get program.now.types ty.0) (floor_in program.now self.now entry.0) self.now.clock fields.now ≡ None) }
+        ensures fault { IfErr result (λ code. new_fault (slice_get program.now.types ty.0) (floor_in program.now self.now entry.0) self.now.clock fields.now ≡ Some code) }
     {
-        let floor = floor(program, self.last_start(entry), self.clock, entry);
+        let floor = floor(
+            program,
+            self.last_start(entry),
+            self.promise(entry),
+            self.clock,
+            entry,
+        );
         new_times(program, ty, floor, self.clock, fields)
     }
 
@@ -195,6 +201,29 @@ impl State {
         }
     }
 
+    // The entry point's promise at this moment.
+    fn promise_from(
+        self,
+        alloc: Global,
+        setting: &Setting,
+        memory: &mut Memory,
+        entry: EntryId,
+        from: Millis,
+        lines: &mut Vec<OutLine>,
+    ) -> Result<State, NoMemory>
+        requires runs { Runs setting.now }
+        ensures stands { IfOk result (λ s. Tries setting.now memory.old self (Promise entry from) memory.new s) }
+        ensures lines { OnOk result (Writes setting.now memory.old self (Promise entry from) lines.old.items lines.new.items) }
+        ensures tags { IfOk result (λ s. s.next_tag ≡ self.next_tag) }
+        ensures sound { IfOk result (λ s. StaysSound setting.now.program memory.old self memory.new s) }
+        ensures known { has_known_type setting.now.program (Promise entry from) ≡ true → OnOk result (StayKnown setting.now.program lines.old.items lines.new.items) }
+    {
+        match promise_at(self.promise(entry), from) {
+            Ok(from) => self.with_promise(alloc, setting, memory, entry, from),
+            Err(code) => self.refuse(code, lines),
+        }
+    }
+
     // A step, whose line is added to these, or its fault.
     fn step(
         self,
@@ -220,6 +249,9 @@ impl State {
             Step::Retract { ty, id } => self.retract(alloc, setting, memory, ty, id, lines),
             Step::Advance(by) => self.advance(alloc, setting, memory, by, lines),
             Step::At(moment) => self.go_to(alloc, setting, memory, moment, lines),
+            Step::Promise { entry, from } => {
+                self.promise_from(alloc, setting, memory, entry, from, lines)
+            }
         }
     }
 

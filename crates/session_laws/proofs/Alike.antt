@@ -33,11 +33,11 @@ same_bool true b f g = sym (f refl)
 same_bool false true f g = g refl
 same_bool false false f g = refl
 
-module _ (p : Program) (s o : Snapshot) (clock : o.clock ≡ s.clock) (ds : HaveDistinctTags s.facts) (dt : HaveDistinctTags o.facts) (a : AllOf o.facts s.facts) (b : AllOf s.facts o.facts) where
+module _ (p : Program) (s o : Snapshot) (clock : o.clock ≡ s.clock) (reached : o.reached ≡ s.reached) (ds : HaveDistinctTags s.facts) (dt : HaveDistinctTags o.facts) (a : AllOf o.facts s.facts) (b : AllOf s.facts o.facts) where
   same_row : (cs : List Condition) (row : Row) → has (rows p s cs) row ≡ has (rows p o cs) row
   same_row cs row =
-      same_bool _ _ (λ e. in_has row (rows p o cs) (rows_over p s o clock ds dt (λ f. (a f, b f)) cs row (has_in row (rows p s cs) e)))
-      (λ e. in_has row (rows p s cs) (rows_over p o s (sym clock) dt ds (λ f. (b f, a f)) cs row (has_in row (rows p o cs) e)))
+      same_bool _ _ (λ e. in_has row (rows p o cs) (rows_over p s o clock reached ds dt (λ f. (a f, b f)) cs row (has_in row (rows p s cs) e)))
+      (λ e. in_has row (rows p s cs) (rows_over p o s (sym clock) (sym reached) dt ds (λ f. (b f, a f)) cs row (has_in row (rows p o cs) e)))
 
   -- the rules have the same rows
   pub same_rows : (rule : Rule) (row : Row) → has (rows p s rule.conditions) row ≡ has (rows p o rule.conditions) row

@@ -16,7 +16,7 @@ use Rattle.rule_world.proofs.Faultless.{event_by}
 use Rattle.rule_world.proofs.Found.{found_fits}
 use Rattle.rule_world.specs.Worlds.{World, found, is_of_type}
 use Rattle.script_read.specs.declared.asked.Change.{Change}
-use Rattle.script_read.specs.declared.asked.Change.TheVariants.{Insert, Modify, Retract, Advance, At}
+use Rattle.script_read.specs.declared.asked.Change.TheVariants.{Insert, Modify, Retract, Advance, At, Promise}
 use Rattle.script_read.specs.declared.given.Given.{Given}
 use Rattle.change_read.specs.Changes.{change_step, fields_step, modify_step, type_named}
 use Rattle.change_read.proofs.Fitting.{asked_fits}
@@ -59,6 +59,7 @@ module _ (s : Setting) (m : Memory) (k : Contents) (w : World) (runs : Runs s) (
   same_asked (Retract ty id) = refl
   same_asked (Advance by) = refl
   same_asked (At moment) = refl
+  same_asked (Promise entry from) = refl
 
 -- ---- it fits
 
@@ -69,6 +70,7 @@ fits_plain p w (step.Modify id sets) fit = λ f there. plain_fit p f sets (subst
 fits_plain p w (step.Retract ty id) fit = tt
 fits_plain p w (step.Advance by) fit = tt
 fits_plain p w (step.At moment) fit = tt
+fits_plain p w (step.Promise entry from) fit = tt
 
 -- what a change asks for fits
 pub change_fits : (p : Program) (w : World) (change : Change) → IsRunnable p → IsOrdered p w → Fits p w (change_step p (found p w) change)

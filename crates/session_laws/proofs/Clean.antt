@@ -29,7 +29,7 @@ use Rattle.forgetting.proofs.Seeing.{fact_in, own_at, named_present, sight_law}
 use Rattle.session_laws.specs.declared.memory.Memory.{Memory}
 use Rattle.session_laws.specs.declared.setting.Setting.{Setting}
 use Rattle.session_laws.specs.Refreshed.{over, matches_by}
-use Rattle.session_laws.specs.Standing.{Contents, Standing, Whole, with_facts}
+use Rattle.session_laws.specs.Standing.{Contents, Standing, Whole, with_facts, reached_of}
 use Rattle.session_laws.proofs.Alike.{same_matches}
 use Rattle.session_laws.proofs.Exactly.{Exact, exact}
 use Rattle.session_laws.proofs.Members.{Holds, all_listed, held_distinct, listed, own_tags}
@@ -55,11 +55,11 @@ module _ (p : Program) (k : Contents) (w : World) (whole : Whole p k w) where
   pub whole_holds : Holds k.facts (present p w)
   whole_holds = holds p k (only_present p w) (exact p k w whole)
 
-  pub whole_matches : (q : Match) → has_match (matches p (over (facts_of k.facts) k.clock)) q ≡ has_match (matches p (snapshot w)) q
+  pub whole_matches : (q : Match) → has_match (matches p (over (facts_of k.facts) k.clock (reached_of k))) q ≡ has_match (matches p (snapshot w)) q
   whole_matches q =
       let x : Exact p k (only_present p w) = exact p k w whole in
       let h : Holds k.facts (present p w) = whole_holds in
-      same_matches p (over (facts_of k.facts) k.clock) (snapshot (only_present p w)) (sym x.mirrors.clock) (held_distinct k.facts (own_tags k.facts (present p w) h)) x.lawful.ordered.tags
+      same_matches p (over (facts_of k.facts) k.clock (reached_of k)) (snapshot (only_present p w)) (sym x.mirrors.clock) (sym x.mirrors.reached) (held_distinct k.facts (own_tags k.facts (present p w) h)) x.lawful.ordered.tags
       (listed k.facts (present p w) h) (all_listed k.facts (present p w) h) p.rules q
       ∙ ap (λ ms. has_match ms q) (kept_matches p w)
 

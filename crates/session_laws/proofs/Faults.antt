@@ -18,11 +18,11 @@ use Rattle.fact_store.proofs.Stored.{tied}
 use Rattle.rule_world.specs.declared.code.Code.{Code}
 use Rattle.rule_world.specs.declared.code.Code.TheVariants.{EventObserved, Absent, ClockBack, ClockEnd}
 use Rattle.rule_model.specs.declared.program.Program.{Program}
-use Rattle.rule_model.specs.declared.step.Step.TheVariants.{Insert, Modify, Retract, Advance, At}
-use Rattle.rule_world.specs.Events.{clock_fault, most_millis, new_fault, times_of}
+use Rattle.rule_model.specs.declared.step.Step.TheVariants.{Insert, Modify, Retract, Advance, At, Promise}
+use Rattle.rule_world.specs.Events.{clock_fault, most_millis, new_fault, promise_fault, times_of}
 use Rattle.rule_world.specs.Lawful.{IsLawful}
 use Rattle.rule_world.specs.Worlds.{World, at_clock, only_present, is_of_type, moved, retract_fault, settled, step_fault, stepped, with_new, with_revised, with_retracted}
-use Rattle.rule_model.specs.Snapshots.{floor, floor_by}
+use Rattle.rule_model.specs.Snapshots.{floor, floor_by, Reached}
 use Rattle.rule_model.specs.Types.{is_event, is_observed, lateness_of}
 use Rattle.engine.specs.declared.lines.OutLine.TheVariants.{New}
 use Rattle.session_laws.specs.declared.memory.Memory.{Memory}
@@ -30,7 +30,7 @@ use Rattle.session_laws.specs.declared.setting.Setting.{Setting}
 use Rattle.session_laws.specs.Gives.{step_lines}
 use Rattle.session_laws.specs.Leading.{Moves}
 use Rattle.session_laws.specs.Places.{IsSafe, floor_in, newest}
-use Rattle.session_laws.specs.Standing.{Contents, Mirrors, Standing, with_facts}
+use Rattle.session_laws.specs.Standing.{Contents, Mirrors, Standing, with_facts, reached_of}
 use Rattle.session_laws.specs.Waiting.{with_timer, without_timer, left_at}
 use Rattle.session_laws.proofs.Members.{got_old, none_left}
 use Rattle.session_laws.proofs.Newest.{store_found, store_none}
@@ -84,13 +84,13 @@ module _ (s : Setting) (m : Memory) (k : Contents) (w : World) (st : Standing s 
   whole = st.seen.whole.mirrors
 
   module _ (ty : TypeId) (entry : EntryId) (fields : List Value) where
-    pub insert_fault : (o : Option Code) → new_fault (slice_get s.program.types ty.0) (floor_in s.program k.last_starts k.clock entry.0) k.clock fields ≡ o
+    pub insert_fault : (o : Option Code) → new_fault (slice_get s.program.types ty.0) (floor_in s.program k entry.0) k.clock fields ≡ o
         → step_fault s.program w (Insert ty entry fields) ≡ o
     unfolding step_fault floor
     insert_fault o e =
         let p = s.program in
-        ap (λ z. new_fault (slice_get p.types ty.0) (floor_by (lateness_of p entry.0) z w.clock) w.clock fields) (sym (whole.last_starts entry.0))
-        ∙ ap (λ z. new_fault (slice_get p.types ty.0) (floor_in p k.last_starts z entry.0) z fields) (sym whole.clock) ∙ e
+        ap (λ (r : Reached). new_fault (slice_get p.types ty.0) (floor_by (lateness_of p entry.0) (r.last_start entry.0) (r.promise entry.0) w.clock) w.clock fields) (sym whole.reached)
+        ∙ ap (λ z. new_fault (slice_get p.types ty.0) (floor_by (lateness_of p entry.0) ((reached_of k).last_start entry.0) ((reached_of k).promise entry.0) z) z fields) (sym whole.clock) ∙ e
 
     pub insert_done : (times : Times) → times ≡ times_of (slice_get s.program.types ty.0) k.clock fields
         → stepped s.program w (Insert ty entry fields) ≡ settled s.program (with_new s.program w (numbered k ty entry fields times))
@@ -113,6 +113,12 @@ module _ (s : Setting) (m : Memory) (k : Contents) (w : World) (st : Standing s 
   pub at_fault : (moment : ℤ) (o : Option Code) → clock_fault k.clock moment ≡ o → step_fault s.program w (At moment) ≡ o
   unfolding step_fault
   at_fault moment o e = ap (λ z. clock_fault z moment) (sym whole.clock) ∙ e
+
+  -- ---- promises
+
+  pub promise_refused : (entry : EntryId) (from : ℤ) (o : Option Code) → promise_fault ((reached_of k).promise entry.0) from ≡ o → step_fault s.program w (Promise entry from) ≡ o
+  unfolding step_fault
+  promise_refused entry from o e = ap (λ (r : Reached). promise_fault (r.promise entry.0) from) (sym whole.reached) ∙ e
 
   -- a move by so much is one to that moment
   pub advance_at : (by clock : ℤ) → clock ≡ k.clock +ℤ by → stepped s.program w (Advance by) ≡ stepped s.program w (At clock)

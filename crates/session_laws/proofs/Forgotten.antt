@@ -44,7 +44,7 @@ use Rattle.session_laws.specs.declared.setting.Setting.{Setting}
 use Rattle.session_laws.specs.Gives.{version_of}
 use Rattle.session_laws.specs.Places.{IsSafe}
 use Rattle.session_laws.specs.Refreshed.{over, rows_at}
-use Rattle.session_laws.specs.Standing.{Awaits, Contents, Seen, Standing, holding, with_facts}
+use Rattle.session_laws.specs.Standing.{Awaits, Contents, Seen, Standing, holding, with_facts, reached_of}
 use Rattle.session_laws.specs.Waiting.{HaveOwnTags, left_at}
 use Rattle.session_laws.proofs.Alike.{same_matches}
 use Rattle.session_laws.proofs.Exactly.{Exact, exact}
@@ -107,7 +107,7 @@ safe_fewer facts fewer timers clock id tag gone safe less = record {
 
 module _ (p : Program) (net : Rete) (k : Contents) (w : World) (seen : Seen p net k w) where
   abbrev s : Snapshot
-  s = over (facts_of seen.all) k.clock
+  s = over (facts_of seen.all) k.clock (reached_of k)
 
   all_exact : Exact p (with_facts k seen.all) (only_present p w)
   all_exact = exact p (with_facts k seen.all) w seen.whole
@@ -141,7 +141,7 @@ module _ (p : Program) (net : Rete) (k : Contents) (w : World) (seen : Seen p ne
   -- the snapshot has the matches of the world
   world_matches : (q : Match) → has_match (matches p s) q ≡ has_match (matches p (snapshot w)) q
   world_matches q =
-      same_matches p s (snapshot (only_present p w)) (sym seen.whole.mirrors.clock) distinct all_exact.lawful.ordered.tags (listed seen.all (only_present p w).facts all_holds) (all_listed seen.all (only_present p w).facts all_holds) p.rules q
+      same_matches p s (snapshot (only_present p w)) (sym seen.whole.mirrors.clock) (sym seen.whole.mirrors.reached) distinct all_exact.lawful.ordered.tags (listed seen.all (only_present p w).facts all_holds) (all_listed seen.all (only_present p w).facts all_holds) p.rules q
       ∙ ap (λ ms. has_match ms q) (kept_matches p w)
 
   -- a row that names nothing forgotten names facts of the store
@@ -161,20 +161,20 @@ module _ (p : Program) (net : Rete) (k : Contents) (w : World) (seen : Seen p ne
         → has (rows_for answers q.rule.0) q.row ≡ some_tag old q
     drops_old answers dropped q matched free = by (slice_get p.rules q.rule.0) refl
       where
-        found : found_at (rows_at p (facts_of seen.all) k.clock) (slice_get p.rules q.rule.0) q.row ≡ true
-        found = sym (is_found (rows_at p (facts_of seen.all) k.clock) p.rules q) ∙ world_matches q ∙ matched
+        found : found_at (rows_at p (facts_of seen.all) k.clock (reached_of k)) (slice_get p.rules q.rule.0) q.row ≡ true
+        found = sym (is_found (rows_at p (facts_of seen.all) k.clock (reached_of k)) p.rules q) ∙ world_matches q ∙ matched
 
         by : (o : Option Rule) → slice_get p.rules q.rule.0 ≡ o → has (rows_for answers q.rule.0) q.row ≡ some_tag old q
-        by None e = absurd (let no : false ≡ true = ap (λ o. found_at (rows_at p (facts_of seen.all) k.clock) o q.row) (sym e) ∙ found in cc)
+        by None e = absurd (let no : false ≡ true = ap (λ o. found_at (rows_at p (facts_of seen.all) k.clock (reached_of k)) o q.row) (sym e) ∙ found in cc)
         by (Some rule) e =
-            let there : rows_of p s rule.conditions q.row ≡ true = ap (λ o. found_at (rows_at p (facts_of seen.all) k.clock) o q.row) (sym e) ∙ found in
+            let there : rows_of p s rule.conditions q.row ≡ true = ap (λ o. found_at (rows_at p (facts_of seen.all) k.clock (reached_of k)) o q.row) (sym e) ∙ found in
             (dropped q.rule.0 rule e).exact q.row
             ∙ both_hold (rows_of p s rule.conditions q.row) (clean seen.forgotten q.row) (list_any named q.row.facts) there free
             ∙ some_old k.facts own_store old tags is q.row.facts (named_there rule q.row there free)
 
     module _ (facts : HeldFacts) (b : Marks) (less : (tag : ℕ) → map.get facts tag ≡ left_at k.facts tags tag) where
       abbrev t : Contents
-      t = contents facts k.expiries k.clock k.last_starts b k.next_id k.next_tag
+      t = contents facts k.expiries k.clock k.lists b k.next_id k.next_tag
 
       still_held : (tag : ℕ) (f : Fact) → map.get facts tag ≡ Some f → map.get k.facts tag ≡ Some f
       still_held tag f e = by (list_any (nat_eq tag) tags) (sym (less tag) ∙ e)
@@ -233,7 +233,7 @@ module _ (p : Program) (net : Rete) (k : Contents) (w : World) (seen : Seen p ne
             facts = seen.whole.mirrors.facts;
             waits = seen.whole.mirrors.waits;
             clock = seen.whole.mirrors.clock;
-            last_starts = seen.whole.mirrors.last_starts;
+            reached = seen.whole.mirrors.reached;
             next_id = seen.whole.mirrors.next_id;
             next_tag = seen.whole.mirrors.next_tag;
           };
@@ -282,17 +282,17 @@ module _ (s : Setting) (m : Memory) (k : Contents) (left : ℕ → Bool) (w : Wo
       → ((tag : ℕ) → map.get facts tag ≡ left_at k.facts tags tag)
       → b.saliences ≡ k.agenda.saliences → b.pending ≡ k.agenda.pending
       → ((q : Match) → has_match b.fired q ≡ (has_match k.agenda.fired q && not (has (rows_for answers q.rule.0) q.row)))
-      → Standing s (record { net = net; retention = r }) (contents facts k.expiries k.clock k.last_starts b k.next_id k.next_tag) w
+      → Standing s (record { net = net; retention = r }) (contents facts k.expiries k.clock k.lists b k.next_id k.next_tag) w
   stands_less net r facts b old tags names answers passes is names_are stands dropped less saliences pending fired =
       let p = s.program in
-      let v = over (facts_of a.seen.all) k.clock in
+      let v = over (facts_of a.seen.all) k.clock (reached_of k) in
       let at_hand = has_all p m.net k w a.seen in
       record {
         seen =
             sees_less p m.net k w a.seen (has_tag old) tags is facts b less net
             (subst (λ (ns : List Named). NetStands p net v (either a.seen.forgotten (has_name ns))) names_are (stands v a.seen.forgotten a.seen.stands at_hand)) saliences;
         holds =
-            a.finishes (holding (contents facts k.expiries k.clock k.last_starts b k.next_id k.next_tag) r) (has_tag old) (record {
+            a.finishes (holding (contents facts k.expiries k.clock k.lists b k.next_id k.next_tag) r) (has_tag old) (record {
               told = passes_there r (has_tag old) passes;
               store = λ tag. less tag ∙ ap (λ c. if c then None else map.get k.facts tag) (is tag);
               pending = λ q. ap (λ ms. has_match ms q) pending;

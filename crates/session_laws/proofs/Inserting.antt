@@ -21,7 +21,7 @@ use Rattle.rule_model.specs.Types.{is_event}
 use Rattle.rule_model.proofs.Listed.{in_right}
 use Rattle.rule_world.specs.Events.{end_of_presence, most_millis, times_of}
 use Rattle.rule_world.specs.Lawful.{IsLawful}
-use Rattle.rule_world.specs.Worlds.{World, only_present, last_start_with, moved, new_fact, present, settled, step_fault, stepped, with_new}
+use Rattle.rule_world.specs.Worlds.{World, only_present, moved, new_fact, present, settled, step_fault, stepped, with_new}
 use Rattle.rule_world.proofs.Fresh.{below_of}
 use Rattle.agenda.specs.Agendas.{Marks}
 use Rattle.rete_net.specs.declared.net.Rete.{Rete}
@@ -35,19 +35,21 @@ use Rattle.forgetting.specs.WorldSights.{comes, goes, sight_of}
 use Rattle.forgetting.proofs.Covering.{later_covers}
 use Rattle.session_laws.specs.declared.memory.Memory.{Memory}
 use Rattle.session_laws.specs.declared.setting.Setting.{Setting}
-use Rattle.session_laws.specs.Following.{HasAtHand, Leads, LeadsOn}
-use Rattle.session_laws.specs.Refreshed.{over, IsRefreshed}
-use Rattle.session_laws.specs.Standing.{Contents, AreForgotten, Awaits, Mirrors, Runs, Standing, Whole, holding, last_start_in, with_facts}
+use Rattle.session_laws.specs.Following.{GoesOn, HasAtHand, Instant, Leads, LeadsOn, facts_at, instant_of}
+use Rattle.session_laws.specs.Refreshed.{IsRefreshed}
+use Rattle.session_laws.specs.Standing.{Contents, AreForgotten, Awaits, Mirrors, Runs, Standing, Whole, holding, with_facts, reached_of, ReachedLists, reached_by}
 use Rattle.session_laws.specs.Waiting.{with_timer}
 use Rattle.session_laws.proofs.Exactly.{Exact, exact, after_new, after_numbers}
 use Rattle.session_laws.proofs.Members.{got_new, got_old, of_insert}
 use Rattle.session_laws.proofs.Needs.{not_needed}
 use Rattle.session_laws.proofs.Readied.{whole_holds, whole_ready}
 use Rattle.session_laws.proofs.Ready.{lead_new}
-use Rattle.session_laws.proofs.Rules.{not_refreshed}
-use Rattle.session_laws.proofs.Stands.{contents, new_moves, next_is_free, numbers_move}
+use Rattle.session_laws.proofs.Stands.{contents, new_moves, next_is_free, numbers_move, reached_with}
 use Rattle.session_laws.proofs.Taken.{taken_awaits}
 use Rattle.std.specs.FinMap as map
+use Rattle.rule_model.specs.Snapshots.{Reached}
+use Rattle.session_laws.proofs.Reaching.{reaches_on}
+use Rattle.session_laws.proofs.Still.{AgendaFollows, NetFollows, none_out, still_awaits}
 
 same_number : (a b : ℕ) → (a == b) ≡ true → a ≡ b
 same_number a b e = grind (arith, nat_tests)
@@ -131,27 +133,7 @@ held_covers ends also now new until before after covers free is due lingering = 
     past_by true until false end p h e = absurd (let n : false ≡ true = e in cc)
     past_by false until b end p h e = p (and_not b false e)
 
--- ---- what the network and the agenda have followed
-
--- the network stands for the facts behind whatever leads on to them, if it did so before
-abbrev pub NetFollows : Program → Rete → Rete → ℤ → HeldFacts → List ℕ → Option Fact → Type 0
-NetFollows p net next clock facts gone come =
-    (before behind all : HeldFacts) (from : ℤ) (forgotten : Named → Bool) → LeadsOn p before from behind clock all gone come forgotten facts
-    → NetStands p net (over (facts_of before) from) forgotten → NetStands p next (over (facts_of behind) clock) forgotten
-
--- and the agenda is refreshed by their rows
-abbrev pub AgendaFollows : Program → Rete → ℤ → HeldFacts → List ℕ → Option Fact → Marks → Marks → Type 0
-AgendaFollows p net clock facts gone come a b =
-    (before behind all : HeldFacts) (from : ℤ) (forgotten : Named → Bool) → LeadsOn p before from behind clock all gone come forgotten facts
-    → NetStands p net (over (facts_of before) from) forgotten
-    → IsRefreshed p.rules (clean_rows p (over (facts_of before) from) forgotten) (clean_rows p (over (facts_of behind) clock) forgotten) a b
-
 -- ---- the store
-
--- nothing goes out
-none_out : (o : Option Fact) → changed None (λ g. false) o ≡ o
-none_out None = refl
-none_out (Some g) = refl
 
 -- what is not forgotten is at hand
 pub none_going : (k : Contents) (all : HeldFacts) (forgotten : Named → Bool) → AreForgotten k all forgotten → HasAtHand all k.facts [] forgotten
@@ -278,17 +260,21 @@ module _ (s : Setting) (m : Memory) (k : Contents) (w : World) (st : Standing s 
   -- ---- both phases
 
   module _ (runs : Runs s) (none : step_fault p w step ≡ None) (lawful : IsLawful p (stepped p w step)) where
+    goes_on : (reached : Reached) → reached ≡ (stepped p w step).reached → GoesOn (reached_of k) reached
+    goes_on reached is =
+        subst (λ (r : Reached). GoesOn r reached) (sym st.seen.whole.mirrors.reached) (subst (GoesOn w.reached) (sym is) (reaches_on p w step st.seen.whole.lawful none))
+
     from_zero : is_event p f.ty.0 ≡ true → pos 0 ≤ℤ f.times.start
     from_zero e =
         let after : IsLawful p (settled p (with_new p w f)) = subst (IsLawful p) done lawful in
         ((after.sound f (in_right f w.facts (f ∷ []) (inl refl))).timed e).from_zero
 
     -- a fact that is present
-    module _ (here : is_present p k.clock f ≡ true) (high : f.times.start ≤ℤ most_millis) (n : Memory) (facts : HeldFacts) (expiries : Timers) (starts : List ℤ) (b : Marks)
+    module _ (here : is_present p k.clock f ≡ true) (high : f.times.start ≤ℤ most_millis) (n : Memory) (facts : HeldFacts) (expiries : Timers) (lists : ReachedLists) (b : Marks)
         (made : facts ≡ map.insert k.facts f.tag.0 f) (timed : expiries ≡ with_timer k.expiries f.tag.0 (end_of_presence p f.ty.0 f.times.start))
-        (last : (entry : ℕ) → last_start_in starts entry ≡ last_start_with p f (last_start_in k.last_starts) entry) where
+        (last : reached_by lists ≡ reached_with p f (reached_of k)) where
       abbrev t : Contents
-      t = contents facts expiries k.clock starts b (k.next_id + 1) (k.next_tag + 1)
+      t = contents facts expiries k.clock lists b (k.next_id + 1) (k.next_tag + 1)
 
       abbrev more : HeldFacts
       more = map.insert all f.tag.0 f
@@ -301,7 +287,7 @@ module _ (s : Setting) (m : Memory) (k : Contents) (w : World) (st : Standing s 
         lawful = lawful;
         mirrors =
             subst (Mirrors p (with_facts t more)) (sym (ap (only_present p) done ∙ after_new p w f in_world))
-            (new_moves p (with_facts k all) more expiries starts b f (only_present p w) before id tag refl timed last);
+            (new_moves p (with_facts k all) more expiries lists b f (only_present p w) before id tag refl timed last);
       }
 
       leads : Leads p all k.clock more k.clock more [] (Some f)
@@ -311,10 +297,11 @@ module _ (s : Setting) (m : Memory) (k : Contents) (w : World) (st : Standing s 
       new_tag : (g : Fact) → Some f ≡ Some g → k.next_tag ≤ g.tag.0
       new_tag g e = let same : f ≡ g = cc in subst (λ (z : Fact). k.next_tag ≤ z.tag.0) same (omega (arith, tag))
 
-      leads_on : LeadsOn p all k.clock more k.clock more [] (Some f) forgotten facts
+      leads_on : LeadsOn p all (instant_of k) more (instant_of t) more [] (Some f) forgotten facts
       leads_on = record {
         leads = leads;
-        unneeded = not_needed s m k w st step runs none more k.clock more [] (Some f) leads whole_new.mirrors.facts whole_new.mirrors.clock (λ u i. absurd i) new_tag;
+        goes_on = goes_on (reached_by lists) whole_new.mirrors.reached;
+        unneeded = not_needed s m k w st step runs none more (instant_of t) more [] (Some f) leads whole_new.mirrors.facts whole_new.mirrors.clock whole_new.mirrors.reached (λ u i. absurd i) new_tag;
         at_hand = none_going t more forgotten (forgotten_new facts made t refl refl);
       }
 
@@ -324,15 +311,15 @@ module _ (s : Setting) (m : Memory) (k : Contents) (w : World) (st : Standing s 
       pub present_awaits : (until : Option ℤ) (left : ℕ → Bool) → until ≡ ends_by s.lives f
           → ((u : ℕ) → map.get n.retention.due u ≡ cond (u == f.tag.0 && is_some until) until (map.get m.retention.due u))
           → ((u : ℕ) → lingers n.retention u ≡ (lingers m.retention u && not (u == f.tag.0 && is_some until)))
-          → NetFollows p m.net n.net k.clock facts [] (Some f) → AgendaFollows p m.net k.clock facts [] (Some f) k.agenda b → HasLeft k.agenda b left
+          → NetFollows p m.net n.net (instant_of t) facts [] (Some f) → AgendaFollows p m.net (instant_of t) facts [] (Some f) k.agenda b → HasLeft k.agenda b left
           → Awaits s n t left (stepped p w step)
       present_awaits until left is due lingering net agenda has_left = taken_awaits s m k w st step n t left runs none (record {
         all = more;
         whole = whole_new;
         are = forgotten_new facts made t refl refl;
         later = λ u g e. elim (of_insert all f g u e) [ inl q ↦ inr (omega (arith, q.1, tag)) | inr h ↦ inl h ];
-        stands = net all more more k.clock forgotten leads_on st.seen.stands;
-        refreshed = agenda all more more k.clock forgotten leads_on st.seen.stands;
+        stands = net all more more (instant_of k) forgotten leads_on st.seen.stands;
+        refreshed = agenda all more more (instant_of k) forgotten leads_on st.seen.stands;
         has_left = has_left;
         store = store_new facts made comes_is;
         covered =
@@ -341,10 +328,10 @@ module _ (s : Setting) (m : Memory) (k : Contents) (w : World) (st : Standing s 
         lingering = λ u e. and_not (lingers m.retention u) (u == f.tag.0 && is_some until) (sym (lingering u) ∙ e);
       })
 
-    -- an event that is not present any more leaves its numbers and its start alone
-    module _ (gone : is_present p k.clock f ≡ false) (starts : List ℤ) (last : (entry : ℕ) → last_start_in starts entry ≡ last_start_with p f (last_start_in k.last_starts) entry) where
+    -- an event that is not present any more leaves its numbers and its start alone; by its start rows may become mature
+    module _ (gone : is_present p k.clock f ≡ false) (n : Memory) (lists : ReachedLists) (b : Marks) (last : reached_by lists ≡ reached_with p f (reached_of k)) (kept : n.retention ≡ m.retention) where
       abbrev with_its_numbers : Contents
-      with_its_numbers = contents k.facts k.expiries k.clock starts k.agenda (k.next_id + 1) (k.next_tag + 1)
+      with_its_numbers = contents k.facts k.expiries k.clock lists b (k.next_id + 1) (k.next_tag + 1)
 
       not_in_world : is_present p w.clock f ≡ false
       not_in_world = ap (λ z. is_present p z f) (sym st.seen.whole.mirrors.clock) ∙ gone
@@ -354,25 +341,16 @@ module _ (s : Setting) (m : Memory) (k : Contents) (w : World) (st : Standing s 
         lawful = lawful;
         mirrors =
             subst (Mirrors p (with_facts with_its_numbers all)) (sym (ap (only_present p) done ∙ after_numbers p w f not_in_world))
-            (numbers_move p (with_facts k all) starts f (only_present p w) before last);
+            (numbers_move p (with_facts k all) lists b f (only_present p w) before last);
       }
 
       comes_none : comes p w step ≡ None
       comes_none = ap (λ g. only (is_present p w.clock) (Some g)) new_is ∙ ap (λ c. cond c (Some f) None) not_in_world
 
-      pub numbers_await : (left : ℕ → Bool) → Awaits s m with_its_numbers left (stepped p w step)
-      numbers_await left = taken_awaits s m k w st step m with_its_numbers left runs none (record {
-        all = all;
-        whole = whole_numbers;
-        are = record { held = st.seen.are.held; known = st.seen.are.known; below = below_more };
-        later = λ u g e. inl e;
-        stands = st.seen.stands;
-        refreshed = not_refreshed p.rules (clean_rows p (over (facts_of all) k.clock) forgotten) (clean_rows p (over (facts_of all) k.clock) forgotten) (λ place rule e row. refl) k.agenda;
-        has_left = λ q u was is names. absurd (let n : true ≡ false = sym was ∙ is in cc);
-        store = λ u. sym (none_out (map.get k.facts u)) ∙ ap (λ o. changed (brought o u) (λ g. false) (map.get k.facts u)) (sym comes_none);
-        covered = covered_before;
-        lingering = λ u e. e;
-      })
+      pub numbers_await : (left : ℕ → Bool) → NetFollows p m.net n.net (instant_of with_its_numbers) k.facts [] None → AgendaFollows p m.net (instant_of with_its_numbers) k.facts [] None k.agenda b
+          → HasLeft k.agenda b left → Awaits s n with_its_numbers left (stepped p w step)
+      numbers_await left net agenda has_left =
+          still_awaits s m k w st step runs none lawful n lists b (k.next_id + 1) (k.next_tag + 1) whole_numbers.mirrors (omega arith) comes_none (λ g. refl) kept left net agenda has_left
 
 -- ---- what is returned
 

@@ -75,6 +75,7 @@ fitting_known p present (step.Modify id sets) fits = refl
 fitting_known p present (step.Retract ty id) fits = refl
 fitting_known p present (step.Advance by) fits = refl
 fitting_known p present (step.At moment) fits = refl
+fitting_known p present (step.Promise entry from) fits = refl
 
 -- what a change of the script asks for
 pub asked_known : (p : Program) (present : ℕ → Option Fact) (change : Change) (asked : Result Step Code) → IsRunnable p → asked ≡ change_step p present change → WantsKnown p asked

@@ -19,13 +19,15 @@ use Rattle.row_delta.specs.declared.row.Named.{Named}
 use Rattle.condition_rows.specs.Looks.{HasAllOf}
 use Rattle.condition_rows.specs.Sets.{held}
 use Rattle.pattern_gate.specs.Moves.{Moves, shares_tag}
-use Rattle.session_laws.specs.Following.{Comes, HasAtHand, Leads}
+use Rattle.session_laws.specs.Following.{Comes, GoesOn, HasAtHand, Leads}
 use Rattle.session_laws.specs.Gives.{version_of}
 use Rattle.session_laws.specs.Refreshed.{over}
 use Rattle.session_laws.specs.Waiting.{HaveOwnTags}
 use Rattle.session_laws.proofs.Members.{got_new, got_old, of_insert, version_found}
 use Rattle.session_laws.proofs.Rising.{Rise, rising_filter, rising_more, rising_same}
 use Rattle.std.specs.FinMap as map
+use Rattle.rule_model.specs.Snapshots.{Reached, Snapshot}
+use Rattle.rule_model.proofs.Floors.{floor_on}
 
 same_number : (m n : ℕ) → nat_eq m n ≡ true → m ≡ n
 same_number m n e = grind (arith, nat_tests)
@@ -194,25 +196,33 @@ module _ (p : Program) (before behind all : HeldFacts) (from to : ℤ) (gone : L
       by None c = subst Rise (sym (append-nil (filter keeps (facts_of before)))) rest
       by (Some c) h = rising_more (filter keeps (facts_of before)) c rest (λ g i. h.1 g.tag.0 g (at_own before own_before g (of_filter keeps g (facts_of before) i)))
 
-  pub leads_move : Moves p (over (facts_of before) from) (over (facts_of behind) to) out come
-  leads_move = record {
-    before = l.kept_before;
-    after = l.kept_behind;
-    clock = l.later;
-    held = held_out;
-    once = distinct_found all l.own gone l.once;
-    facts = rising_same (facts_of behind) next (tags_rise behind own_behind) next_rises to_next from_next;
-  }
+  module _ (was now : Reached) (goes_on : GoesOn was now) where
+    abbrev s : Snapshot
+    s = over (facts_of before) from was
+
+    abbrev t : Snapshot
+    t = over (facts_of behind) to now
+
+    pub leads_move : Moves p s t out come
+    leads_move = record {
+      before = record { in_order = l.kept_before.in_order; present = l.kept_before.present; low = l.kept_before.low; high = l.kept_before.high };
+      after = record { in_order = l.kept_behind.in_order; present = l.kept_behind.present; low = l.kept_behind.low; high = l.kept_behind.high };
+      clock = l.later;
+      floors = λ entry. floor_on p s t entry l.later (goes_on.last_start entry) (goes_on.promise entry);
+      held = held_out;
+      once = distinct_found all l.own gone l.once;
+      facts = rising_same (facts_of behind) next (tags_rise behind own_behind) next_rises to_next from_next;
+    }
 
   -- the store has at hand those before and behind that are not forgotten
-  module _ (forgotten : Named → Bool) (facts : HeldFacts) (at_hand : HasAtHand all facts gone forgotten) where
-    pub has_before : HasAllOf (λ tag. map.get facts tag.0) (over (facts_of before) from) forgotten
+  module _ (was now : Reached) (forgotten : Named → Bool) (facts : HeldFacts) (at_hand : HasAtHand all facts gone forgotten) where
+    pub has_before : HasAllOf (λ tag. map.get facts tag.0) (over (facts_of before) from was) forgotten
     unfolding held
     has_before tag f e known =
         let r = version_found (facts_of before) f tag (sym (same_version (facts_of before) tag) ∙ e) in
         ap (map.get facts) (sym r.1) ∙ at_hand.known f.tag.0 f (in_all f.tag.0 f (at_own before own_before f r.0)) known
 
-    pub has_behind : HasAllOf (λ tag. map.get facts tag.0) (over (facts_of behind) to) forgotten
+    pub has_behind : HasAllOf (λ tag. map.get facts tag.0) (over (facts_of behind) to now) forgotten
     unfolding held
     has_behind tag f e known =
         let r = version_found (facts_of behind) f tag (sym (same_version (facts_of behind) tag) ∙ e) in

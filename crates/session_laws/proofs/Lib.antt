@@ -8,6 +8,7 @@ pub mod Leads
 pub mod Ready
 pub mod Exactly
 pub mod Newest
+pub mod Reaching
 pub mod Readied
 pub mod Stands
 pub mod Looking
@@ -25,7 +26,9 @@ pub mod Taken
 pub mod Needing
 pub mod Needs
 pub mod Retracting
+pub mod Still
 pub mod Inserting
+pub mod Promising
 pub mod Olds
 pub mod Dropping
 pub mod Forgotten

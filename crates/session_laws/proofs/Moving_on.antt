@@ -20,14 +20,16 @@ use Rattle.forgetting.specs.WorldSights.{fact_at, sight_of}
 use Rattle.forgetting.proofs.Covering.{later_covers}
 use Rattle.session_laws.specs.declared.memory.Memory.{Memory}
 use Rattle.session_laws.specs.declared.setting.Setting.{Setting}
-use Rattle.session_laws.specs.Following.{HasAtHand, IsReady, Leads, LeadsOn}
-use Rattle.session_laws.specs.Standing.{AreForgotten, Contents, Mirrors, Runs, Standing, holding, with_facts}
+use Rattle.session_laws.specs.Following.{GoesOn, HasAtHand, IsReady, Leads, LeadsOn, instant_of}
+use Rattle.session_laws.specs.Standing.{AreForgotten, Contents, Mirrors, Runs, Standing, holding, with_facts, reached_of}
 use Rattle.session_laws.specs.Waiting.{left_at}
 use Rattle.session_laws.proofs.Exactly.{Exact, exact}
 use Rattle.session_laws.proofs.Members.{Holds, got_new, got_old, of_insert}
 use Rattle.session_laws.proofs.Needs.{not_needed}
 use Rattle.session_laws.proofs.Newest.{holds}
 use Rattle.session_laws.proofs.Readied.{whole_ready}
+use Rattle.rule_model.specs.Snapshots.{Reached}
+use Rattle.session_laws.proofs.Reaching.{reaches_on}
 
 -- ---- one fact at a time
 
@@ -152,9 +154,12 @@ module _ (s : Setting) (m : Memory) (k : Contents) (w : World) (st : Standing s 
   -- what the network is led to where no rule needs a forgotten fact
   pub leads_on : (step : Step) → Runs s → step_fault p w step ≡ None → (t : Contents) (behind both : HeldFacts) (gone : List ℕ) (come : Option Fact) (more : HeldFacts)
       → Leads p all k.clock behind t.clock both gone come → Mirrors p (with_facts t behind) (only_present p (stepped p w step)) → ((tag : ℕ) → In tag gone → (f : Fact) × (map.get k.facts tag ≡ Some f))
-      → ((f : Fact) → come ≡ Some f → k.next_tag ≤ f.tag.0) → HasAtHand both more gone forgotten → LeadsOn p all k.clock behind t.clock both gone come forgotten more
+      → ((f : Fact) → come ≡ Some f → k.next_tag ≤ f.tag.0) → HasAtHand both more gone forgotten → LeadsOn p all (instant_of k) behind (instant_of t) both gone come forgotten more
   leads_on step runs none t behind both gone come more leads mirrors held new hand = record {
     leads = leads;
-    unneeded = not_needed s m k w st step runs none behind t.clock both gone come leads mirrors.facts mirrors.clock held new;
+    goes_on =
+        subst (λ (r : Reached). GoesOn r (reached_of t)) (sym st.seen.whole.mirrors.reached)
+        (subst (GoesOn w.reached) (sym mirrors.reached) (reaches_on p w step st.seen.whole.lawful none));
+    unneeded = not_needed s m k w st step runs none behind (instant_of t) both gone come leads mirrors.facts mirrors.clock mirrors.reached held new;
     at_hand = hand;
   }

@@ -15,7 +15,7 @@ use Rattle.rule_model.specs.declared.program.Program.{Program}
 use Rattle.rule_model.specs.Candidates.{is_present, fits, is_behind, count_behind, is_inside, is_candidate, candidates}
 use Rattle.rule_model.specs.Distinct.{HaveDistinctTags}
 use Rattle.rule_model.specs.Rows.{rows}
-use Rattle.rule_model.specs.Snapshots.{Snapshot}
+use Rattle.rule_model.specs.Snapshots.{Reached, Snapshot}
 use Rattle.rule_model.specs.Tests.{tests_hold}
 use Rattle.rule_model.specs.Tuples.{name_of, unbound}
 use Rattle.rule_model.proofs.Listed.{both_of}
@@ -59,10 +59,10 @@ named_candidate p s d q f i = candidate_named p s d q f (of_filter (is_candidate
 
 -- ---- a map of the present facts
 
-module _ (p : Program) (w : World) (d : HaveDistinctTags w.facts) (stored : HeldFacts) (clock : ℤ) (now : clock ≡ w.clock)
+module _ (p : Program) (w : World) (d : HaveDistinctTags w.facts) (stored : HeldFacts) (clock : ℤ) (now : clock ≡ w.clock) (reached : Reached) (same : reached ≡ w.reached)
     (at : (tag : ℕ) → map.get stored tag ≡ version_of (present p w) (tag_of tag)) where
   abbrev here : Snapshot
-  here = over (facts_of stored) clock
+  here = over (facts_of stored) clock reached
 
   abbrev there : Snapshot
   there = snapshot (only_present p w)
@@ -89,21 +89,21 @@ module _ (p : Program) (w : World) (d : HaveDistinctTags w.facts) (stored : Held
   pub world_rows : (cs : List Condition) (row : Row) → rows_of p here cs row ≡ rows_of p (snapshot w) cs row
   world_rows cs row =
       same_truth (rows_of p here cs row) (rows_of p there cs row)
-      (λ e. in_has row (rows p there cs) (rows_over p here there (sym now) distinct_here distinct_there alike cs row (has_in row (rows p here cs) e)))
-      (λ e. in_has row (rows p here cs) (rows_over p there here now distinct_there distinct_here back cs row (has_in row (rows p there cs) e)))
+      (λ e. in_has row (rows p there cs) (rows_over p here there (sym now) (sym same) distinct_here distinct_there alike cs row (has_in row (rows p here cs) e)))
+      (λ e. in_has row (rows p here cs) (rows_over p there here now same distinct_there distinct_here back cs row (has_in row (rows p there cs) e)))
       ∙ ap (λ rs. has rs row) (kept_rows p w cs)
 
   module _ (q : Pattern) (who : Named) where
     to_world : candidates_of p q here who ≡ true → candidates_of p q (snapshot w) who ≡ true
     to_world e =
         let f = candidate_of p here distinct_here q who e in
-        let among = (same_in_order p here there (sym now) distinct_here distinct_there alike q f.0).0 f.1 in
+        let among = (same_in_order p here there (sym now) (sym same) distinct_here distinct_there alike q f.0).0 f.1 in
         ap (candidates_of p q (snapshot w)) (sym f.2) ∙ named_candidate p (snapshot w) d q f.0 (subst (In f.0) (kept_candidates p w q) among)
 
     from_world : candidates_of p q (snapshot w) who ≡ true → candidates_of p q here who ≡ true
     from_world e =
         let f = candidate_of p (snapshot w) d q who e in
-        let among = (same_in_order p there here now distinct_there distinct_here back q f.0).0 (subst (In f.0) (sym (kept_candidates p w q)) f.1) in
+        let among = (same_in_order p there here now same distinct_there distinct_here back q f.0).0 (subst (In f.0) (sym (kept_candidates p w q)) f.1) in
         ap (candidates_of p q here) (sym f.2) ∙ named_candidate p here distinct_here q f.0 among
 
     pub world_candidates : candidates_of p q here who ≡ candidates_of p q (snapshot w) who

@@ -19,7 +19,7 @@ use Rattle.rule_model.specs.Candidates.{is_candidate}
 use Rattle.rule_model.specs.Distinct.{HaveDistinctTags}
 use Rattle.rule_model.specs.Lent.{Holds}
 use Rattle.rule_model.specs.Rows.{pattern_of}
-use Rattle.rule_model.specs.Snapshots.{Snapshot}
+use Rattle.rule_model.specs.Snapshots.{Reached, Snapshot}
 use Rattle.rule_model.specs.Tuples.{name_of, row_of}
 use Rattle.rule_model.proofs.Listed.{both_of, of_append, in_left}
 use Rattle.rule_model.proofs.Named.{of_filter}
@@ -49,13 +49,14 @@ use Rattle.forgetting.proofs.Before.{chosen}
 use Rattle.forgetting.proofs.Seeing.{own_at}
 use Rattle.session_laws.specs.declared.memory.Memory.{Memory}
 use Rattle.session_laws.specs.declared.setting.Setting.{Setting}
-use Rattle.session_laws.specs.Following.{Leads}
+use Rattle.session_laws.specs.Following.{GoesOn, Instant, Leads, facts_at, instant_of}
 use Rattle.session_laws.specs.Gives.{version_of}
 use Rattle.session_laws.specs.Refreshed.{over}
-use Rattle.session_laws.specs.Standing.{Contents, Runs, Standing}
+use Rattle.session_laws.specs.Standing.{Contents, Runs, Standing, reached_of}
 use Rattle.session_laws.proofs.Leads.{leads_move}
 use Rattle.session_laws.proofs.Needing.{stored_present, distinct_here, of_world, world_rows, world_candidates}
 use Rattle.session_laws.proofs.Phases.{NotNeeded}
+use Rattle.session_laws.proofs.Reaching.{reaches_on}
 
 -- ---- what a map gives at some tags
 
@@ -89,27 +90,27 @@ module _ (s : Setting) (m : Memory) (k : Contents) (w : World) (st : Standing s 
   forgotten = st.seen.forgotten
 
   abbrev before : Snapshot
-  before = over (facts_of all) k.clock
+  before = over (facts_of all) k.clock (reached_of k)
 
   ordered : IsOrdered s.program w
   ordered = st.seen.whole.lawful.ordered
 
   before_distinct : HaveDistinctTags (facts_of all)
-  before_distinct = distinct_here s.program w ordered.tags all k.clock st.seen.whole.mirrors.clock st.seen.whole.mirrors.facts
+  before_distinct = distinct_here s.program w ordered.tags all k.clock st.seen.whole.mirrors.clock (reached_of k) st.seen.whole.mirrors.reached st.seen.whole.mirrors.facts
 
   in_world : (f : Fact) → In f (facts_of all) → In f w.facts
-  in_world = of_world s.program w ordered.tags all k.clock st.seen.whole.mirrors.clock st.seen.whole.mirrors.facts
+  in_world = of_world s.program w ordered.tags all k.clock st.seen.whole.mirrors.clock (reached_of k) st.seen.whole.mirrors.reached st.seen.whole.mirrors.facts
 
   before_world : (q : Pattern) (who : Named) → candidates_of s.program q before who ≡ candidates_of s.program q (snapshot w) who
-  before_world = world_candidates s.program w ordered.tags all k.clock st.seen.whole.mirrors.clock st.seen.whole.mirrors.facts
+  before_world = world_candidates s.program w ordered.tags all k.clock st.seen.whole.mirrors.clock (reached_of k) st.seen.whole.mirrors.reached st.seen.whole.mirrors.facts
 
   before_rows : (cs : List Condition) (row : Row) → rows_of s.program before cs row ≡ rows_of s.program (snapshot w) cs row
-  before_rows = world_rows s.program w ordered.tags all k.clock st.seen.whole.mirrors.clock st.seen.whole.mirrors.facts
+  before_rows = world_rows s.program w ordered.tags all k.clock st.seen.whole.mirrors.clock (reached_of k) st.seen.whole.mirrors.reached st.seen.whole.mirrors.facts
 
   at_own : (f : Fact) → In f (facts_of all) → map.get all f.tag.0 ≡ Some f
   at_own f i =
       let r = from_list all f i in
-      let own = ((stored_present s.program w ordered.tags all k.clock st.seen.whole.mirrors.clock st.seen.whole.mirrors.facts).to r.0 f r.1).1 in
+      let own = ((stored_present s.program w ordered.tags all k.clock st.seen.whole.mirrors.clock (reached_of k) st.seen.whole.mirrors.reached st.seen.whole.mirrors.facts).to r.0 f r.1).1 in
       ap (map.get all) own ∙ r.1
 
   -- the store has no forgotten fact
@@ -129,12 +130,12 @@ module _ (s : Setting) (m : Memory) (k : Contents) (w : World) (st : Standing s 
 
   -- ---- a step
 
-  module _ (step : Step) (none : step_fault s.program w step ≡ None) (behind : HeldFacts) (to : ℤ) (both : HeldFacts) (gone : List ℕ) (come : Option Fact)
-      (leads : Leads s.program all k.clock behind to both gone come)
-      (at : (tag : ℕ) → map.get behind tag ≡ version_of (present s.program (moved s.program w step)) (tag_of tag)) (now : to ≡ (moved s.program w step).clock)
+  module _ (step : Step) (none : step_fault s.program w step ≡ None) (behind : HeldFacts) (to : Instant) (both : HeldFacts) (gone : List ℕ) (come : Option Fact)
+      (leads : Leads s.program all k.clock behind to.clock both gone come)
+      (at : (tag : ℕ) → map.get behind tag ≡ version_of (present s.program (moved s.program w step)) (tag_of tag)) (now : to.clock ≡ (moved s.program w step).clock) (reached : to.reached ≡ (moved s.program w step).reached)
       (stored : (tag : ℕ) → In tag gone → (f : Fact) × (map.get k.facts tag ≡ Some f)) (new : (f : Fact) → come ≡ Some f → k.next_tag ≤ f.tag.0) where
     abbrev after : Snapshot
-    after = over (facts_of behind) to
+    after = facts_at behind to
 
     abbrev next : Snapshot
     next = snapshot (moved s.program w step)
@@ -145,8 +146,14 @@ module _ (s : Setting) (m : Memory) (k : Contents) (w : World) (st : Standing s 
     abbrev stays : Fact → Bool
     stays f = not (shares_tag out f)
 
+    goes_on : GoesOn (reached_of k) to.reached
+    unfolding stepped
+    goes_on =
+        subst (λ (r : Reached). GoesOn r to.reached) (sym st.seen.whole.mirrors.reached)
+        (subst (GoesOn w.reached) (sym reached) (reaches_on s.program w step st.seen.whole.lawful none))
+
     moves : Moves s.program before after out come
-    moves = leads_move s.program all behind both k.clock to gone come leads
+    moves = leads_move s.program all behind both k.clock to.clock gone come leads (reached_of k) to.reached goes_on
 
     lawful_step : IsLawfulStep s.program s.lives w step
     lawful_step = record { flagged = runs.runnable.observed; operators = runs.runnable.operators; safe = runs.table.safe; lawful = st.seen.whole.lawful; faultless = none }
@@ -155,16 +162,16 @@ module _ (s : Setting) (m : Memory) (k : Contents) (w : World) (st : Standing s 
     next_distinct = tags_behind s.program w step ordered
 
     after_distinct : HaveDistinctTags (facts_of behind)
-    after_distinct = distinct_here s.program (moved s.program w step) next_distinct behind to now at
+    after_distinct = distinct_here s.program (moved s.program w step) next_distinct behind to.clock now to.reached reached at
 
     in_next : (f : Fact) → In f (facts_of behind) → In f next.facts
-    in_next = of_world s.program (moved s.program w step) next_distinct behind to now at
+    in_next = of_world s.program (moved s.program w step) next_distinct behind to.clock now to.reached reached at
 
     after_world : (q : Pattern) (who : Named) → candidates_of s.program q after who ≡ candidates_of s.program q next who
-    after_world = world_candidates s.program (moved s.program w step) next_distinct behind to now at
+    after_world = world_candidates s.program (moved s.program w step) next_distinct behind to.clock now to.reached reached at
 
     after_rows : (cs : List Condition) (row : Row) → rows_of s.program after cs row ≡ rows_of s.program next cs row
-    after_rows = world_rows s.program (moved s.program w step) next_distinct behind to now at
+    after_rows = world_rows s.program (moved s.program w step) next_distinct behind to.clock now to.reached reached at
 
     -- what goes is in the store
     none_goes : (f : Fact) → In f out → forgotten (name_of f) ≡ false
@@ -297,9 +304,9 @@ module _ (s : Setting) (m : Memory) (k : Contents) (w : World) (st : Standing s 
 
 pub not_needed : NotNeeded
 unfolding stepped
-not_needed s m k w st step runs none behind to both gone come leads at now stored new = record {
-  none_goes = none_goes s m k w st runs step none behind to both gone come leads at now stored new;
-  none_comes = none_comes s m k w st runs step none behind to both gone come leads at now stored new;
-  same_candidates = same_candidates s m k w st runs step none behind to both gone come leads at now stored new;
-  none_counted = none_counted s m k w st runs step none behind to both gone come leads at now stored new;
+not_needed s m k w st step runs none behind to both gone come leads at now reached stored new = record {
+  none_goes = none_goes s m k w st runs step none behind to both gone come leads at now reached stored new;
+  none_comes = none_comes s m k w st runs step none behind to both gone come leads at now reached stored new;
+  same_candidates = same_candidates s m k w st runs step none behind to both gone come leads at now reached stored new;
+  none_counted = none_counted s m k w st runs step none behind to both gone come leads at now reached stored new;
 }

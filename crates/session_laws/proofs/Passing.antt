@@ -36,9 +36,9 @@ use Rattle.forgetting.proofs.Naming.{some_in}
 use Rattle.forgetting.proofs.Seeing.{own_at}
 use Rattle.session_laws.specs.declared.memory.Memory.{Memory}
 use Rattle.session_laws.specs.declared.setting.Setting.{Setting}
-use Rattle.session_laws.specs.Following.{Leads, LeadsOn}
+use Rattle.session_laws.specs.Following.{Leads, LeadsOn, instant_of}
 use Rattle.session_laws.specs.Refreshed.{over, IsRefreshed}
-use Rattle.session_laws.specs.Standing.{Awaits, Contents, Mirrors, Runs, Standing, expiry_at, holding, with_facts}
+use Rattle.session_laws.specs.Standing.{Awaits, Contents, Mirrors, Runs, Standing, expiry_at, holding, with_facts, reached_of}
 use Rattle.session_laws.specs.Waiting.{left_at}
 use Rattle.session_laws.proofs.Exactly.{after_clock}
 use Rattle.session_laws.proofs.Moving_on.{covered_at, hand_of, leads_on, left_changed, less_forgotten, of_left, world_exact, world_holds, world_ready}
@@ -47,6 +47,7 @@ use Rattle.session_laws.proofs.Rules.{not_refreshed}
 use Rattle.session_laws.proofs.Stands.{clock_moves, contents}
 use Rattle.session_laws.proofs.Taken.{taken_awaits}
 use Rattle.session_laws.proofs.Timers.{come_is_absent}
+use Rattle.rule_model.specs.Snapshots.{Reached}
 
 -- ---- the facts that are left
 
@@ -88,7 +89,7 @@ module _ (s : Setting) (m : Memory) (k : Contents) (w : World) (st : Standing s 
   step = At clock
 
   abbrev t : Contents
-  t = contents others later clock k.last_starts b k.next_id k.next_tag
+  t = contents others later clock k.lists b k.next_id k.next_tag
 
   passes : w.clock ≤ℤ clock
   passes = subst (λ z. z ≤ℤ clock) st.seen.whole.mirrors.clock le
@@ -119,7 +120,7 @@ module _ (s : Setting) (m : Memory) (k : Contents) (w : World) (st : Standing s 
       let held : is_kept_fact (ends_by s.lives) (sight_of p w) tag f ≡ true = ap (λ o. not (has_come w.clock o) || is_needed (sight_of p w) tag) endless in
       (f, st.holds.store tag ∙ ap (only (is_kept_fact (ends_by s.lives) (sight_of p w) tag)) seen ∙ ap (λ c. cond c (Some f) None) held)
 
-  pub later_leads_on : LeadsOn p all k.clock behind clock all due None st.seen.forgotten k.facts
+  pub later_leads_on : LeadsOn p all (instant_of k) behind (instant_of t) all due None st.seen.forgotten k.facts
   later_leads_on =
       leads_on s m k w st step runs none t behind all due None k.facts later_leads later_mirrors due_there (λ g e. absurd (let n : None ≡ Some g = e in cc))
       (hand_of k all due st.seen.forgotten st.seen.are due_there)
@@ -133,8 +134,8 @@ module _ (s : Setting) (m : Memory) (k : Contents) (w : World) (st : Standing s 
       (λ tag f e. absurd (let n : None ≡ Some f = e in cc))
       (λ tag f e h. expired_endless p s.lives clock f runs.table.safe (not_there (is_present p clock f) h)) later_store refl
 
-  pub later_awaits : (net : Rete) (gone : ℕ → Bool) → NetStands p net (over (facts_of behind) clock) st.seen.forgotten
-      → IsRefreshed p.rules (clean_rows p (over (facts_of all) k.clock) st.seen.forgotten) (clean_rows p (over (facts_of behind) clock) st.seen.forgotten) k.agenda b
+  pub later_awaits : (net : Rete) (gone : ℕ → Bool) → NetStands p net (over (facts_of behind) clock (reached_of k)) st.seen.forgotten
+      → IsRefreshed p.rules (clean_rows p (over (facts_of all) k.clock (reached_of k)) st.seen.forgotten) (clean_rows p (over (facts_of behind) clock (reached_of k)) st.seen.forgotten) k.agenda b
       → HasLeft k.agenda b gone → Awaits s (record { net = net; retention = m.retention }) t gone (stepped p w step)
   later_awaits net gone stands refreshed has_left =
       taken_awaits s m k w st step (record { net = net; retention = m.retention }) t gone runs none (record {
@@ -153,15 +154,15 @@ module _ (s : Setting) (m : Memory) (k : Contents) (w : World) (st : Standing s 
 -- ---- where nothing changes
 
 -- rows that name no forgotten fact and stay keep the agenda
-pub quiet_refreshed : (p : Program) (facts : List Fact) (from to : ℤ) (forgotten : Named → Bool)
+pub quiet_refreshed : (p : Program) (facts : List Fact) (from to : ℤ) (reached : Reached) (forgotten : Named → Bool)
     → ((place : ℕ) (rule : Rule) → slice_get p.rules place ≡ Some rule
-    → (row : Row) → cleaned (rows_of p (over facts to) rule.conditions) forgotten row ≡ cleaned (rows_of p (over facts from) rule.conditions) forgotten row)
-    → (a : Marks) → IsRefreshed p.rules (clean_rows p (over facts from) forgotten) (clean_rows p (over facts to) forgotten) a a
-quiet_refreshed p facts from to forgotten same =
-    not_refreshed p.rules (clean_rows p (over facts from) forgotten) (clean_rows p (over facts to) forgotten)
+    → (row : Row) → cleaned (rows_of p (over facts to reached) rule.conditions) forgotten row ≡ cleaned (rows_of p (over facts from reached) rule.conditions) forgotten row)
+    → (a : Marks) → IsRefreshed p.rules (clean_rows p (over facts from reached) forgotten) (clean_rows p (over facts to reached) forgotten) a a
+quiet_refreshed p facts from to reached forgotten same =
+    not_refreshed p.rules (clean_rows p (over facts from reached) forgotten) (clean_rows p (over facts to reached) forgotten)
     (λ place rule e row.
-    ap (λ (set : Row → Bool). set row) (has_clean (rows p (over facts to) rule.conditions) forgotten) ∙ same place rule e row
-    ∙ sym (ap (λ (set : Row → Bool). set row) (has_clean (rows p (over facts from) rule.conditions) forgotten)))
+    ap (λ (set : Row → Bool). set row) (has_clean (rows p (over facts to reached) rule.conditions) forgotten) ∙ same place rule e row
+    ∙ sym (ap (λ (set : Row → Bool). set row) (has_clean (rows p (over facts from reached) rule.conditions) forgotten)))
 
 pub none_left : (a : Marks) (left : ℕ → Bool) → HasLeft a a left
 none_left a left q tag was free names = absurd (let n : true ≡ false = sym was ∙ free in cc)

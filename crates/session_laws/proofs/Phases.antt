@@ -1,5 +1,5 @@
 -- What the first phase of a step leaves, and what it asks of the facts that are forgotten.
-use Rattle.std.proofs.Common.{◌≡◌, ◌≤◌, ◌⊎◌, ℕ, ℤ, Bool, true, List, filter_map, Option, Some, None}
+use Rattle.std.proofs.Common.{◌≡◌, ◌≤◌, ◌⊎◌, ℕ, Bool, true, List, filter_map, Option, Some, None}
 use Rattle.fx_base.specs.Lists.{In}
 use Rattle.fx_base.specs.declared.fact.Fact.{Fact}
 use Rattle.fact_store.specs.Held.{HeldFacts, facts_of, tag_of}
@@ -14,10 +14,10 @@ use Rattle.forgetting.specs.Steps.{HasLeft, brought, changed}
 use Rattle.forgetting.specs.WorldSights.{comes, goes}
 use Rattle.session_laws.specs.declared.memory.Memory.{Memory}
 use Rattle.session_laws.specs.declared.setting.Setting.{Setting}
-use Rattle.session_laws.specs.Following.{Leads}
+use Rattle.session_laws.specs.Following.{Instant, Leads, facts_at}
 use Rattle.session_laws.specs.Gives.{version_of}
 use Rattle.session_laws.specs.Refreshed.{over, IsRefreshed}
-use Rattle.session_laws.specs.Standing.{Contents, AreForgotten, Awaits, Runs, Standing, Whole, with_facts}
+use Rattle.session_laws.specs.Standing.{Contents, AreForgotten, Awaits, Runs, Standing, Whole, with_facts, reached_of}
 use Rattle.std.specs.FinMap as map
 
 -- the parts of a session behind the first phase of a step, which did not change what is forgotten
@@ -27,8 +27,8 @@ pub record IsTaken (s : Setting) (m : Memory) (k : Contents) (w : World) (st : S
   pub are : AreForgotten t all st.seen.forgotten
   -- what comes has a new tag
   pub later : (tag : ℕ) (f : Fact) → map.get all tag ≡ Some f → (map.get st.seen.all tag ≡ Some f) ⊎ (k.next_tag ≤ tag)
-  pub stands : NetStands s.program n.net (over (facts_of all) t.clock) st.seen.forgotten
-  pub refreshed : IsRefreshed s.program.rules (clean_rows s.program (over (facts_of st.seen.all) k.clock) st.seen.forgotten) (clean_rows s.program (over (facts_of all) t.clock) st.seen.forgotten) k.agenda t.agenda
+  pub stands : NetStands s.program n.net (over (facts_of all) t.clock (reached_of t)) st.seen.forgotten
+  pub refreshed : IsRefreshed s.program.rules (clean_rows s.program (over (facts_of st.seen.all) k.clock (reached_of k)) st.seen.forgotten) (clean_rows s.program (over (facts_of all) t.clock (reached_of t)) st.seen.forgotten) k.agenda t.agenda
   pub has_left : HasLeft k.agenda t.agenda left
   pub store : (tag : ℕ) → map.get t.facts tag ≡ changed (brought (comes s.program w step) tag) (goes s.program w step) (map.get k.facts tag)
   pub covered : Covers (ends_of (ends_by s.lives) (map.get t.facts)) t.clock n.retention
@@ -42,7 +42,7 @@ TakenAwaits = (s : Setting) (m : Memory) (k : Contents) (w : World) (st : Standi
 -- in a step of a world no rule needs a forgotten fact
 abbrev pub NotNeeded : Type 0
 NotNeeded = (s : Setting) (m : Memory) (k : Contents) (w : World) (st : Standing s m k w) (step : Step) → Runs s → step_fault s.program w step ≡ None
-    → (behind : HeldFacts) (to : ℤ) (both : HeldFacts) (gone : List ℕ) (come : Option Fact) → Leads s.program st.seen.all k.clock behind to both gone come
-    → ((tag : ℕ) → map.get behind tag ≡ version_of (present s.program (stepped s.program w step)) (tag_of tag)) → to ≡ (stepped s.program w step).clock
+    → (behind : HeldFacts) (to : Instant) (both : HeldFacts) (gone : List ℕ) (come : Option Fact) → Leads s.program st.seen.all k.clock behind to.clock both gone come
+    → ((tag : ℕ) → map.get behind tag ≡ version_of (present s.program (stepped s.program w step)) (tag_of tag)) → to.clock ≡ (stepped s.program w step).clock → to.reached ≡ (stepped s.program w step).reached
     → ((tag : ℕ) → In tag gone → (f : Fact) × (map.get k.facts tag ≡ Some f)) → ((f : Fact) → come ≡ Some f → k.next_tag ≤ f.tag.0)
-    → AreNotNeeded s.program st.seen.forgotten (over (facts_of st.seen.all) k.clock) (over (facts_of behind) to) (filter_map (map.get both) gone) come
+    → AreNotNeeded s.program st.seen.forgotten (over (facts_of st.seen.all) k.clock (reached_of k)) (facts_at behind to) (filter_map (map.get both) gone) come

@@ -8,15 +8,14 @@ use Rattle.std.proofs.lemmas.Int.{ints}
 use Rattle.fx_base.specs.Lists.{In}
 use Rattle.fx_base.specs.declared.fact.Fact.{Fact}
 use Rattle.due_queue.specs.Timers.{Timers, TakesDue, has_come, is_due}
-use Rattle.fact_store.specs.Held.{HeldFacts, facts_of}
+use Rattle.fact_store.specs.Held.{HeldFacts}
 use Rattle.fact_store.proofs.Members.{from_list, from_map, tags_rise}
 use Rattle.rule_model.specs.declared.program.Program.{Program}
 use Rattle.rule_model.specs.Candidates.{is_present, is_within}
 use Rattle.rule_model.specs.Types.{is_event, expiry_of}
 use Rattle.rule_world.specs.Events.{end_of_presence, most_millis}
 use Rattle.pattern_gate.specs.Moves.{IsOrderly}
-use Rattle.session_laws.specs.Following.{IsReady, Leads}
-use Rattle.session_laws.specs.Refreshed.{over}
+use Rattle.session_laws.specs.Following.{IsReady, Leads, at_clock}
 use Rattle.session_laws.specs.Standing.{expiry_at}
 use Rattle.session_laws.specs.Waiting.{with_timer, without_timer, left_at, HaveOwnTags}
 use Rattle.session_laws.proofs.Leaving.{due_once, one_gone}
@@ -31,7 +30,7 @@ pub record IsFit (p : Program) (clock : ℤ) (f : Fact) : Type 0 where
   pub high : is_event p f.ty.0 ≡ true → f.times.start ≤ℤ most_millis
 
 -- facts that are fit, each at its own tag
-pub kept_of : (p : Program) (held : HeldFacts) (clock : ℤ) → HaveOwnTags held → ((tag : ℕ) (f : Fact) → map.get held tag ≡ Some f → IsFit p clock f) → IsOrderly p (over (facts_of held) clock)
+pub kept_of : (p : Program) (held : HeldFacts) (clock : ℤ) → HaveOwnTags held → ((tag : ℕ) (f : Fact) → map.get held tag ≡ Some f → IsFit p clock f) → IsOrderly p (at_clock held clock)
 kept_of p held clock own fit = record {
   in_order = tags_rise held own;
   present = λ f i. let r = from_list held f i in (fit r.0 f r.1).present;
@@ -156,7 +155,7 @@ module _ (p : Program) (facts : HeldFacts) (timers : Timers) (clock : ℤ) (r : 
     own_all : HaveOwnTags all
     own_all = own_more g (fit_plain p clock g plain) all made
 
-    kept_revised : IsOrderly p (over (facts_of behind) clock)
+    kept_revised : IsOrderly p (at_clock behind clock)
     kept_revised = kept_of p behind clock (λ tag x e. own_all tag x (of_behind tag x e)) (λ tag x e. fit_more g (fit_plain p clock g plain) all made tag x (of_behind tag x e))
 
     pub ready_revised : map.get facts g.tag.0 ≡ None → is_event p f.ty.0 ≡ false → IsReady p behind timers clock
@@ -190,7 +189,7 @@ module _ (p : Program) (facts : HeldFacts) (timers : Timers) (clock : ℤ) (r : 
     own_left : HaveOwnTags fewer
     own_left tag g e = r.own tag g (stays tag g e).0
 
-    kept_left : IsOrderly p (over (facts_of fewer) next)
+    kept_left : IsOrderly p (at_clock fewer next)
     kept_left = kept_of p fewer next own_left (λ tag g e. let s = stays tag g e in let fit = fit_of tag g s.0 in record { present = s.1; low = fit.low; high = fit.high })
 
     pub ready_later : IsReady p fewer later next

@@ -31,10 +31,10 @@ use Rattle.forgetting.proofs.Covering.{retract_covers}
 use Rattle.forgetting.proofs.WorldSteps.{retracts_one}
 use Rattle.session_laws.specs.declared.memory.Memory.{Memory}
 use Rattle.session_laws.specs.declared.setting.Setting.{Setting}
-use Rattle.session_laws.specs.Following.{Leads, LeadsOn}
+use Rattle.session_laws.specs.Following.{Leads, LeadsOn, instant_of}
 use Rattle.session_laws.specs.Places.{IsNewestTag, newest}
 use Rattle.session_laws.specs.Refreshed.{over, IsRefreshed}
-use Rattle.session_laws.specs.Standing.{Awaits, Contents, Mirrors, Runs, Standing, holding, with_facts}
+use Rattle.session_laws.specs.Standing.{Awaits, Contents, Mirrors, Runs, Standing, holding, with_facts, reached_of}
 use Rattle.session_laws.specs.Waiting.{left_at, without_timer}
 use Rattle.session_laws.proofs.Exactly.{after_without}
 use Rattle.session_laws.proofs.Leaving.{one_gone}
@@ -118,7 +118,7 @@ module _ (s : Setting) (m : Memory) (k : Contents) (w : World) (st : Standing s 
     step = Retract ty id
 
     abbrev t : Contents
-    t = contents others fewer k.clock k.last_starts b k.next_id k.next_tag
+    t = contents others fewer k.clock k.lists b k.next_id k.next_tag
 
     abbrev behind : HeldFacts
     behind = map.remove all tag.0
@@ -138,7 +138,7 @@ module _ (s : Setting) (m : Memory) (k : Contents) (w : World) (st : Standing s 
     retract_leads : Leads p all k.clock behind k.clock all (tag.0 ∷ []) None
     retract_leads = lead_less p all k.expiries k.clock (world_ready s m k w st) behind tag.0 refl f all_at_tag
 
-    pub retract_leads_on : LeadsOn p all k.clock behind k.clock all (tag.0 ∷ []) None st.seen.forgotten k.facts
+    pub retract_leads_on : LeadsOn p all (instant_of k) behind (instant_of t) all (tag.0 ∷ []) None st.seen.forgotten k.facts
     retract_leads_on =
         leads_on s m k w st step runs none t behind all (tag.0 ∷ []) None k.facts retract_leads retract_mirrors one_going (λ g e. absurd (let n : None ≡ Some g = e in cc))
         (hand_of k all (tag.0 ∷ []) st.seen.forgotten st.seen.are one_going)
@@ -155,8 +155,8 @@ module _ (s : Setting) (m : Memory) (k : Contents) (w : World) (st : Standing s 
         store_left u
         ∙ left_changed (goes p w step) (list_any (nat_eq u) (tag.0 ∷ [])) (map.get k.facts u) (λ g e. one_out u g e ∙ sym (or-false (nat_eq u tag.0)))
 
-    pub retract_awaits : (net : Rete) (retention : Retention) (left : ℕ → Bool) → NetStands p net (over (facts_of behind) k.clock) st.seen.forgotten
-        → IsRefreshed p.rules (clean_rows p (over (facts_of all) k.clock) st.seen.forgotten) (clean_rows p (over (facts_of behind) k.clock) st.seen.forgotten) k.agenda b
+    pub retract_awaits : (net : Rete) (retention : Retention) (left : ℕ → Bool) → NetStands p net (over (facts_of behind) k.clock (reached_of k)) st.seen.forgotten
+        → IsRefreshed p.rules (clean_rows p (over (facts_of all) k.clock (reached_of k)) st.seen.forgotten) (clean_rows p (over (facts_of behind) k.clock (reached_of k)) st.seen.forgotten) k.agenda b
         → HasLeft k.agenda b left → retention.due ≡ map.remove m.retention.due tag.0 → ((u : ℕ) → lingers retention u ≡ (lingers m.retention u && not (u == tag.0)))
         → Awaits s (record { net = net; retention = retention }) t left (stepped p w step)
     retract_awaits net retention left stands refreshed has_left due lingering =

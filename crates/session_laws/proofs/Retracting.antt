@@ -58,7 +58,7 @@ use Rattle.session_laws.specs.declared.memory.Memory.{Memory}
 use Rattle.session_laws.specs.declared.setting.Setting.{Setting}
 use Rattle.session_laws.specs.Places.{IsNewestTag, newest}
 use Rattle.session_laws.specs.Refreshed.{over}
-use Rattle.session_laws.specs.Standing.{AreForgotten, Awaits, Contents, Mirrors, Runs, Standing, expiry_at, holding, with_facts}
+use Rattle.session_laws.specs.Standing.{AreForgotten, Awaits, Contents, Mirrors, Runs, Standing, expiry_at, holding, with_facts, reached_of}
 use Rattle.session_laws.specs.Waiting.{HaveOwnTags, without_timer}
 use Rattle.session_laws.proofs.Exactly.{Exact, exact, after_without}
 use Rattle.session_laws.proofs.Members.{Holds, held_distinct, is_out, not_out, of_remove}
@@ -154,9 +154,9 @@ module _ (s : Setting) (m : Memory) (k : Contents) (w : World) (st : Standing s 
 
   -- so its parts are those behind the first phase, where these are the present facts of the next world
   awaits : (next : HeldFacts) → Mirrors p (with_facts k next) (only_present p (stepped p w step)) → AreForgotten k next st.seen.forgotten
-      → ((tag : ℕ) (f : Fact) → map.get next tag ≡ Some f → map.get all tag ≡ Some f) → NetStands p m.net (over (facts_of next) k.clock) st.seen.forgotten
+      → ((tag : ℕ) (f : Fact) → map.get next tag ≡ Some f → map.get all tag ≡ Some f) → NetStands p m.net (over (facts_of next) k.clock (reached_of k)) st.seen.forgotten
       → ((place : ℕ) (rule : Rule) → slice_get p.rules place ≡ Some rule → (row : Row)
-      → has (clean_rows p (over (facts_of next) k.clock) st.seen.forgotten rule) row ≡ has (clean_rows p (over (facts_of all) k.clock) st.seen.forgotten rule) row)
+      → has (clean_rows p (over (facts_of next) k.clock (reached_of k)) st.seen.forgotten rule) row ≡ has (clean_rows p (over (facts_of all) k.clock (reached_of k)) st.seen.forgotten rule) row)
       → Next
   awaits next mirrors are was stands same = taken_awaits s m k w st step m k left runs none (record {
     all = next;
@@ -164,7 +164,7 @@ module _ (s : Setting) (m : Memory) (k : Contents) (w : World) (st : Standing s 
     are = are;
     later = λ tag f e. inl (was tag f e);
     stands = stands;
-    refreshed = not_refreshed p.rules (clean_rows p (over (facts_of all) k.clock) st.seen.forgotten) (clean_rows p (over (facts_of next) k.clock) st.seen.forgotten) same k.agenda;
+    refreshed = not_refreshed p.rules (clean_rows p (over (facts_of all) k.clock (reached_of k)) st.seen.forgotten) (clean_rows p (over (facts_of next) k.clock (reached_of k)) st.seen.forgotten) same k.agenda;
     has_left = λ q tag was_pending is_not named. two_ways (has_match k.agenda.pending q) was_pending is_not;
     store = same_store;
     covered = covered;
@@ -240,7 +240,7 @@ module _ (s : Setting) (m : Memory) (k : Contents) (w : World) (st : Standing s 
         other_part (is_event p f.ty.0) (is_observed_in p.rules f.ty.0) event (sym unseen ∙ runs.runnable.observed f.ty.0)
 
     abbrev was : Snapshot
-    was = over (facts_of all) k.clock
+    was = over (facts_of all) k.clock (reached_of k)
 
     listed : In f (facts_of all)
     listed = from_map all f f.tag.0 at_tag
@@ -289,8 +289,8 @@ module _ (s : Setting) (m : Memory) (k : Contents) (w : World) (st : Standing s 
     same_list : filter (is_other f) (facts_of all) ≡ facts_of next
     same_list = rising_same (filter (is_other f) (facts_of all)) (facts_of next) (rising_filter (is_other f) (facts_of all) (tags_rise all own)) (tags_rise next own_next) to_next of_next
 
-    same_less : less_fact was f ≡ over (facts_of next) k.clock
-    same_less = ap (λ (facts : List Fact). over facts k.clock) same_list
+    same_less : less_fact was f ≡ over (facts_of next) k.clock (reached_of k)
+    same_less = ap (λ (facts : List Fact). over facts k.clock (reached_of k)) same_list
 
     same_timers : (other : ℕ) → map.get k.expiries other ≡ without_timer k.expiries f.tag.0 other
     same_timers other = by (nat_eq f.tag.0 other) refl

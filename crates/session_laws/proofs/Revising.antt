@@ -28,10 +28,10 @@ use Rattle.forgetting.proofs.Covering.{endless_covers}
 use Rattle.forgetting.proofs.Naming.{same_bool}
 use Rattle.session_laws.specs.declared.memory.Memory.{Memory}
 use Rattle.session_laws.specs.declared.setting.Setting.{Setting}
-use Rattle.session_laws.specs.Following.{Leads, LeadsOn}
+use Rattle.session_laws.specs.Following.{Leads, LeadsOn, instant_of}
 use Rattle.session_laws.specs.Places.{IsNewestTag, newest}
 use Rattle.session_laws.specs.Refreshed.{over, IsRefreshed}
-use Rattle.session_laws.specs.Standing.{AreForgotten, Awaits, Contents, Mirrors, Runs, Standing, holding, with_facts}
+use Rattle.session_laws.specs.Standing.{AreForgotten, Awaits, Contents, Mirrors, Runs, Standing, holding, with_facts, reached_of}
 use Rattle.session_laws.specs.Waiting.{left_at}
 use Rattle.session_laws.proofs.Exactly.{after_revised}
 use Rattle.session_laws.proofs.Leaving.{one_gone}
@@ -82,7 +82,7 @@ module _ (s : Setting) (m : Memory) (k : Contents) (w : World) (st : Standing s 
 
     -- with both versions, and behind the step
     abbrev t : HeldFacts → Contents
-    t facts = contents facts k.expiries k.clock k.last_starts b k.next_id (k.next_tag + 1)
+    t facts = contents facts k.expiries k.clock k.lists b k.next_id (k.next_tag + 1)
 
     abbrev both : HeldFacts
     both = map.insert all after.tag.0 after
@@ -144,7 +144,7 @@ module _ (s : Setting) (m : Memory) (k : Contents) (w : World) (st : Standing s 
         let here : g.tag.0 ≡ k.next_tag = ap (λ (z : Fact). z.tag.0) (sym same) ∙ at_next in
         omega (arith, here)
 
-    pub modify_leads_on : LeadsOn p all k.clock behind k.clock both (tag.0 ∷ []) (Some after) st.seen.forgotten more
+    pub modify_leads_on : LeadsOn p all (instant_of k) behind (instant_of (t others)) both (tag.0 ∷ []) (Some after) st.seen.forgotten more
     modify_leads_on =
         leads_on s m k w st step runs none (t others) behind both (tag.0 ∷ []) (Some after) more modify_leads modify_mirrors one_going new_tag
         (hand_of (t more) both (tag.0 ∷ []) st.seen.forgotten are_more more_going)
@@ -191,8 +191,8 @@ module _ (s : Setting) (m : Memory) (k : Contents) (w : World) (st : Standing s 
       | inr h ↦ inl h
     ]
 
-    pub modify_awaits : (net : Rete) (left : ℕ → Bool) → NetStands p net (over (facts_of behind) k.clock) st.seen.forgotten
-        → IsRefreshed p.rules (clean_rows p (over (facts_of all) k.clock) st.seen.forgotten) (clean_rows p (over (facts_of behind) k.clock) st.seen.forgotten) k.agenda b
+    pub modify_awaits : (net : Rete) (left : ℕ → Bool) → NetStands p net (over (facts_of behind) k.clock (reached_of k)) st.seen.forgotten
+        → IsRefreshed p.rules (clean_rows p (over (facts_of all) k.clock (reached_of k)) st.seen.forgotten) (clean_rows p (over (facts_of behind) k.clock (reached_of k)) st.seen.forgotten) k.agenda b
         → HasLeft k.agenda b left → Awaits s (record { net = net; retention = m.retention }) (t others) left (stepped p w step)
     modify_awaits net left stands refreshed has_left =
         taken_awaits s m k w st step (record { net = net; retention = m.retention }) (t others) left runs none (record {

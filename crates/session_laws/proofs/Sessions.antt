@@ -34,12 +34,13 @@ use Rattle.session_laws.specs.Gives.{version_of, does, fires, gives}
 use Rattle.session_laws.specs.Leading.{Fits, StandsAfter, WritesFor}
 use Rattle.session_laws.specs.Places.{newest}
 use Rattle.session_laws.specs.Refreshed.{rows_at, no_rows, matches_by, over, IsRefreshed}
-use Rattle.session_laws.specs.Standing.{Contents, Runs, Standing, expiry_at, holding}
+use Rattle.session_laws.specs.Standing.{Contents, Runs, Standing, expiry_at, holding, reached_of, ReachedLists}
 use Rattle.session_laws.proofs.Asking.{change_fits, same_asked}
 use Rattle.session_laws.proofs.Firings.{FiresInto, WritesFiring, top_of, plan_of, due_fires, no_fire, yes_fire}
 use Rattle.session_laws.proofs.Rules.{found_at, is_found}
 use Rattle.session_laws.proofs.Stands.{contents}
 use Rattle.std.specs.FinMap as map_of
+use Rattle.rule_model.specs.Snapshots.{Reached, nothing_reached}
 
 -- ---- over no facts
 
@@ -64,13 +65,13 @@ none_held : facts_of nothing ≡ []
 none_held = no_member (facts_of nothing) (λ f i. let r = from_list nothing f i in none_there r.0 f r.1)
 
 abbrev pub start : Marks → Contents
-start a = contents map_of.empty map_of.empty (pos 0) [] a 1 1
+start a = contents map_of.empty map_of.empty (pos 0) (record { last_starts = []; promises = [] }) a 1 1
 
 abbrev pub blank : List Rule → Marks
 blank rules = record { saliences = saliences rules; pending = []; fired = [] }
 
 -- A session that has nothing, with the network of its program over no facts, stands for the empty world.
-module _ (s : Setting) (m : Memory) (b : Marks) (net : NetStands s.program m.net empty_snapshot no_names) (r : IsRefreshed s.program.rules no_rows (rows_at s.program [] (pos 0)) (blank s.program.rules) b)
+module _ (s : Setting) (m : Memory) (b : Marks) (net : NetStands s.program m.net empty_snapshot no_names) (r : IsRefreshed s.program.rules no_rows (rows_at s.program [] (pos 0) nothing_reached) (blank s.program.rules) b)
     (due : m.retention.due ≡ map_of.empty) (lingering : (tag : ℕ) → lingers m.retention tag ≡ false) where
   start_stands : Standing s m (start b) empty_world
   unfolding version_of
@@ -83,7 +84,7 @@ module _ (s : Setting) (m : Memory) (b : Marks) (net : NetStands s.program m.net
           facts = λ tag. get-empty nat_cmp tag;
           waits = λ tag. get-empty nat_cmp tag ∙ sym (ap (expiry_at s.program) (get-empty nat_cmp tag));
           clock = refl;
-          last_starts = λ entry. refl;
+          reached = refl;
           next_id = refl;
           next_tag = refl;
         };
@@ -94,31 +95,31 @@ module _ (s : Setting) (m : Memory) (b : Marks) (net : NetStands s.program m.net
         known = λ tag f e. absurd (none_there tag f e);
         below = λ who e. absurd (let n : false ≡ true = e in cc);
       };
-      stands = subst (λ facts. NetStands s.program m.net (over facts (pos 0)) no_names) (sym none_held) net;
+      stands = subst (λ facts. NetStands s.program m.net (over facts (pos 0) nothing_reached) no_names) (sym none_held) net;
       saliences = r.saliences;
     };
     holds =
         start_law (ends_by s.lives) (sight_of s.program empty_world) (holding (start b) m.retention) (λ tag. refl) (λ q. refl) (λ tag. get-empty nat_cmp tag) due lingering
-        (λ q. r.pending q ∙ ap (λ z. has_match (matches_by (rows_at s.program [] (pos 0)) s.program.rules) q && not z) (no_match s.program.rules q)
+        (λ q. r.pending q ∙ ap (λ z. has_match (matches_by (rows_at s.program [] (pos 0) nothing_reached) s.program.rules) q && not z) (no_match s.program.rules q)
         ∙ sym (has_pending s.program empty_world q))
         (λ q. r.fired q);
   }
 
 pub empty_stands : (s x : Setting) (m : Memory) (k : Contents) (a b : Marks) → x ≡ s → a ≡ blank s.program.rules → NetStands s.program m.net empty_snapshot no_names
-    → IsRefreshed s.program.rules no_rows (rows_at s.program [] (pos 0)) a b → m.retention.due ≡ map_of.empty → ((tag : ℕ) → lingers m.retention tag ≡ false) → k ≡ start b
+    → IsRefreshed s.program.rules no_rows (rows_at s.program [] (pos 0) nothing_reached) a b → m.retention.due ≡ map_of.empty → ((tag : ℕ) → lingers m.retention tag ≡ false) → k ≡ start b
     → Standing x m k empty_world
 empty_stands s x m k a b same is net r due lingering e =
     subst (λ (z : Setting). Standing z m k empty_world) (sym same)
     (subst (λ (z : Contents). Standing s m z empty_world) (sym e)
-    (start_stands s m b net (subst (λ (z : Marks). IsRefreshed s.program.rules no_rows (rows_at s.program [] (pos 0)) z b) is r) due lingering))
+    (start_stands s m b net (subst (λ (z : Marks). IsRefreshed s.program.rules no_rows (rows_at s.program [] (pos 0) nothing_reached) z b) is r) due lingering))
 
-pub from_parts : (k : Contents) (facts : HeldFacts) (expiries : Timers) (clock : ℤ) (starts : List ℤ) (a : Marks) (id tag : ℕ) → k.facts ≡ facts → k.expiries ≡ expiries → k.clock ≡ clock → k.last_starts ≡ starts → k.agenda ≡ a → k.next_id ≡ id → k.next_tag ≡ tag
-    → k ≡ contents facts expiries clock starts a id tag
-from_parts k facts expiries clock starts a id tag f e c s h i t =
-    ap (λ z. contents z k.expiries k.clock k.last_starts k.agenda k.next_id k.next_tag) f ∙ ap (λ z. contents facts z k.clock k.last_starts k.agenda k.next_id k.next_tag) e
-    ∙ ap (λ z. contents facts expiries z k.last_starts k.agenda k.next_id k.next_tag) c
-    ∙ ap (λ z. contents facts expiries clock z k.agenda k.next_id k.next_tag) s ∙ ap (λ z. contents facts expiries clock starts z k.next_id k.next_tag) h
-    ∙ ap (λ z. contents facts expiries clock starts a z k.next_tag) i ∙ ap (contents facts expiries clock starts a id) t
+pub from_parts : (k : Contents) (facts : HeldFacts) (expiries : Timers) (clock : ℤ) (lists : ReachedLists) (a : Marks) (id tag : ℕ) → k.facts ≡ facts → k.expiries ≡ expiries → k.clock ≡ clock → k.lists ≡ lists → k.agenda ≡ a → k.next_id ≡ id → k.next_tag ≡ tag
+    → k ≡ contents facts expiries clock lists a id tag
+from_parts k facts expiries clock lists a id tag f e c s h i t =
+    ap (λ z. contents z k.expiries k.clock k.lists k.agenda k.next_id k.next_tag) f ∙ ap (λ z. contents facts z k.clock k.lists k.agenda k.next_id k.next_tag) e
+    ∙ ap (λ z. contents facts expiries z k.lists k.agenda k.next_id k.next_tag) c
+    ∙ ap (λ z. contents facts expiries clock z k.agenda k.next_id k.next_tag) s ∙ ap (λ z. contents facts expiries clock lists z k.next_id k.next_tag) h
+    ∙ ap (λ z. contents facts expiries clock lists a z k.next_tag) i ∙ ap (contents facts expiries clock lists a id) t
 
 pub some_mapped : {A B : Type 0} (f : A → B) (o : Option A) → is_some o ≡ is_some (option_map f o)
 some_mapped f None = refl

@@ -19,7 +19,7 @@ use Rattle.forgetting.proofs.Closing.{world_step_kept}
 use Rattle.session_laws.specs.declared.memory.Memory.{Memory}
 use Rattle.session_laws.specs.declared.setting.Setting.{Setting}
 use Rattle.session_laws.specs.Refreshed.{over, matches_by, only_in}
-use Rattle.session_laws.specs.Standing.{Contents, Runs, Seen, Standing, holding, with_facts}
+use Rattle.session_laws.specs.Standing.{Contents, Runs, Seen, Standing, holding, with_facts, reached_of}
 use Rattle.session_laws.proofs.Clean.{clean_matches, clean_kept, clean_next, clean_was, whole_matches}
 use Rattle.session_laws.proofs.Phases.{IsTaken, TakenAwaits}
 use Rattle.std.specs.FinMap as map
@@ -46,10 +46,10 @@ module _ (s : Setting) (m : Memory) (k : Contents) (w : World) (st : Standing s 
 
   -- the rows by which the agenda went on
   abbrev old : Rule → List Row
-  old = clean_rows s.program (over (facts_of st.seen.all) k.clock) st.seen.forgotten
+  old = clean_rows s.program (over (facts_of st.seen.all) k.clock (reached_of k)) st.seen.forgotten
 
   abbrev new : Rule → List Row
-  new = clean_rows s.program (over (facts_of taken.all) t.clock) st.seen.forgotten
+  new = clean_rows s.program (over (facts_of taken.all) t.clock (reached_of t)) st.seen.forgotten
 
   lawful_step : IsLawfulStep s.program s.lives w step
   lawful_step = record { flagged = runs.runnable.observed; operators = runs.runnable.operators; safe = runs.table.safe; lawful = st.seen.whole.lawful; faultless = none }
@@ -57,13 +57,13 @@ module _ (s : Setting) (m : Memory) (k : Contents) (w : World) (st : Standing s 
   -- their matches are those of the worlds that name nothing forgotten
   was_match : (q : Match) → has_match (matches_by old s.program.rules) q ≡ (has_match (matches s.program (snapshot w)) q && is_clean lives sight q)
   was_match q =
-      clean_matches s.program (over (facts_of st.seen.all) k.clock) st.seen.forgotten q
+      clean_matches s.program (over (facts_of st.seen.all) k.clock (reached_of k)) st.seen.forgotten q
       ∙ ap (λ b. b && clean st.seen.forgotten q.row) (whole_matches s.program (with_facts k st.seen.all) w st.seen.whole q)
       ∙ same_if (has_match (matches s.program (snapshot w)) q) (clean st.seen.forgotten q.row) (is_clean lives sight q) (λ is. sym (clean_was s m k w st q is))
 
   next_match : (q : Match) → has_match (matches_by new s.program.rules) q ≡ (has_match (matches s.program (snapshot next)) q && is_clean lives sight q)
   next_match q =
-      clean_matches s.program (over (facts_of taken.all) t.clock) st.seen.forgotten q
+      clean_matches s.program (over (facts_of taken.all) t.clock (reached_of t)) st.seen.forgotten q
       ∙ ap (λ b. b && clean st.seen.forgotten q.row) (whole_matches s.program (with_facts t taken.all) next taken.whole q)
       ∙ same_if (has_match (matches s.program (snapshot next)) q) (clean st.seen.forgotten q.row) (is_clean lives sight q)
       (λ is. sym (clean_next s m k w st next (with_facts t taken.all) taken.whole taken.later q is))
@@ -100,7 +100,7 @@ taken_awaits s m k w st step n t left runs none taken = record {
   fired = still_fired s m k w st step n t left runs none taken;
   finishes = λ after old forgets.
       world_step_kept s.program s.lives w step (holding k m.retention) (holding t n.retention) after
-      (only_in s.program.rules (clean_rows s.program (over (facts_of st.seen.all) k.clock) st.seen.forgotten) (clean_rows s.program (over (facts_of taken.all) t.clock) st.seen.forgotten))
-      (only_in s.program.rules (clean_rows s.program (over (facts_of taken.all) t.clock) st.seen.forgotten) (clean_rows s.program (over (facts_of st.seen.all) k.clock) st.seen.forgotten)) left old
+      (only_in s.program.rules (clean_rows s.program (over (facts_of st.seen.all) k.clock (reached_of k)) st.seen.forgotten) (clean_rows s.program (over (facts_of taken.all) t.clock (reached_of t)) st.seen.forgotten))
+      (only_in s.program.rules (clean_rows s.program (over (facts_of taken.all) t.clock (reached_of t)) st.seen.forgotten) (clean_rows s.program (over (facts_of st.seen.all) k.clock (reached_of k)) st.seen.forgotten)) left old
       (lawful_step s m k w st step n t left runs none taken) st.holds (takes s m k w st step n t left runs none taken) taken.has_left forgets;
 }

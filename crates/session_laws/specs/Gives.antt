@@ -11,7 +11,7 @@ use Rattle.rule_model.specs.declared.matched.Match.{Match}
 use Rattle.rule_model.specs.declared.program.Program.{Program}
 use Rattle.rule_model.specs.declared.program.Rule.{Rule}
 use Rattle.rule_model.specs.declared.step.Step.{Step}
-use Rattle.rule_model.specs.declared.step.Step.TheVariants.{Insert, Modify, Retract, Advance, At}
+use Rattle.rule_model.specs.declared.step.Step.TheVariants.{Insert, Modify, Retract, Advance, At, Promise}
 use Rattle.rule_model.specs.Lent.{bound_in}
 use Rattle.rule_model.specs.Planned.{step_of}
 use Rattle.rule_world.specs.Worlds.{World, stepped, step_fault, present, found, first_pending, marked}
@@ -33,6 +33,7 @@ step_lines w (Modify id sets) = []
 step_lines w (Retract ty id) = []
 step_lines w (Advance by) = []
 step_lines w (At moment) = []
+step_lines w (Promise entry from) = []
 
 -- a fault changes nothing
 abbrev pub refused : World → Code → List OutLine × World

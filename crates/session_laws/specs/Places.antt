@@ -15,7 +15,7 @@ use Rattle.rule_model.specs.Planned.{step_of}
 use Rattle.rule_model.specs.Snapshots.{floor_by}
 use Rattle.rule_model.specs.Types.{lateness_of}
 use Rattle.session_laws.specs.Gives.{step_or_overflow}
-use Rattle.session_laws.specs.Standing.{Contents, last_start_in}
+use Rattle.session_laws.specs.Standing.{Contents, reached_of}
 use Rattle.std.specs.FinMap as map
 
 -- ---- the facts
@@ -45,9 +45,9 @@ pub record IsSafe (facts : HeldFacts) (expiries : Timers) (clock : ℤ) (next_id
 
 -- ---- times
 
--- the floor of an entry point, by the last starts that are kept
-abbrev pub floor_in : Program → List ℤ → ℤ → ℕ → ℤ
-floor_in p starts clock entry = floor_by (lateness_of p entry) (last_start_in starts entry) clock
+-- the floor of an entry point, by what is kept of it
+abbrev pub floor_in : Program → Contents → ℕ → ℤ
+floor_in p k entry = floor_by (lateness_of p entry) ((reached_of k).last_start entry) ((reached_of k).promise entry) k.clock
 
 -- ---- what actions are to do
 

@@ -1,5 +1,5 @@
 -- What becomes of an agenda where the rows of rules change.
-use Rattle.std.specs.Prelude.{◌≡◌, ◌&&◌, ◌||◌, not, Bool, ℤ, pos, List, [], map}
+use Rattle.std.specs.Prelude.{◌≡◌, ◌&&◌, ◌||◌, not, Bool, ℤ, List, [], map}
 use Rattle.fx_base.specs.declared.fact.Fact.{Fact}
 use Rattle.row_delta.specs.declared.row.Row.{Row}
 use Rattle.rule_model.specs.declared.matched.Match.{Match}
@@ -7,18 +7,18 @@ use Rattle.rule_model.specs.declared.program.Program.{Program}
 use Rattle.rule_model.specs.declared.program.Rule.{Rule}
 use Rattle.rule_model.specs.Matches.{matches_from, has_match}
 use Rattle.rule_model.specs.Rows.{rows}
-use Rattle.rule_model.specs.Snapshots.{Snapshot}
+use Rattle.rule_model.specs.Snapshots.{Reached, Snapshot}
 use Rattle.agenda.specs.Agendas.{Marks}
 
 -- ---- which rows the rules have
 
--- these facts at this clock, where no event was inserted before; rows do not ask for it
-abbrev pub over : List Fact → ℤ → Snapshot
-over facts clock = record { facts = facts; clock = clock; last_start = λ entry. pos 0 }
+-- these facts at this clock, where entry points have reached this
+abbrev pub over : List Fact → ℤ → Reached → Snapshot
+over facts clock reached = record { facts = facts; clock = clock; reached = reached }
 
--- those over facts at a clock
-abbrev pub rows_at : Program → List Fact → ℤ → Rule → List Row
-rows_at p facts clock rule = rows p (over facts clock) rule.conditions
+-- those over facts
+abbrev pub rows_at : Program → List Fact → ℤ → Reached → Rule → List Row
+rows_at p facts clock reached rule = rows p (over facts clock reached) rule.conditions
 
 abbrev pub no_rows : Rule → List Row
 no_rows rule = []

@@ -1,5 +1,5 @@
 -- Which worlds a session stands for, where events are forgotten.
-use Rattle.std.specs.Prelude.{◌≡◌, ◌<◌, ℕ, ℤ, pos, Bool, true, not, List, length, Option, Some, None, is_some, slice_index_or}
+use Rattle.std.specs.Prelude.{◌≡◌, ◌<◌, ℕ, ℤ, Bool, true, not, List, length, Option, Some, None, is_some}
 use Rattle.std.specs.FinMap as map
 use Rattle.row_delta.specs.declared.row.Named.{Named}
 use Rattle.fx_base.specs.declared.fact.Fact.{Fact}
@@ -27,21 +27,30 @@ use Rattle.session_laws.specs.declared.memory.Memory.{Memory}
 use Rattle.session_laws.specs.declared.setting.Setting.{Setting}
 use Rattle.session_laws.specs.Gives.{version_of}
 use Rattle.session_laws.specs.Refreshed.{over}
+use Rattle.rule_model.specs.Snapshots.{Reached}
+use Rattle.rule_model.specs.Moments.{reached_in}
 
--- What a session has: facts by their tags, the moments at which they expire, the clock, the last starts of the entry points, the agenda
+-- what the entry points have reached, by their places; beyond the end of a list it is 0
+pub record ReachedLists : Type 0 where
+  pub last_starts : List ℤ
+  pub promises : List ℤ
+
+abbrev pub reached_by : ReachedLists → Reached
+reached_by lists = reached_in lists.last_starts lists.promises
+
+-- What a session has: facts by their tags, the moments at which they expire, the clock, what the entry points have reached, the agenda
 -- and the next numbers.
 pub record Contents : Type 0 where
   pub facts : HeldFacts
   pub expiries : Timers
   pub clock : ℤ
-  pub last_starts : List ℤ
+  pub lists : ReachedLists
   pub agenda : Marks
   pub next_id : ℕ
   pub next_tag : ℕ
 
--- the last start of an entry point; 0 where none is kept
-abbrev pub last_start_in : List ℤ → ℕ → ℤ
-last_start_in starts entry = slice_index_or starts entry (pos 0)
+abbrev pub reached_of : Contents → Reached
+reached_of k = reached_by k.lists
 
 -- the moment from which a fact is not present, where there is a fact and a moment
 abbrev pub expiry_at : Program → Option Fact → Option ℤ
@@ -58,7 +67,7 @@ pub record Mirrors (p : Program) (k : Contents) (w : World) : Type 0 where
   pub facts : (tag : ℕ) → map.get k.facts tag ≡ version_of w.facts (tag_of tag)
   pub waits : Waits p k
   pub clock : k.clock ≡ w.clock
-  pub last_starts : (entry : ℕ) → last_start_in k.last_starts entry ≡ w.last_start entry
+  pub reached : (reached_of k) ≡ w.reached
   pub next_id : k.next_id ≡ w.next_id
   pub next_tag : k.next_tag ≡ w.next_tag
 
@@ -86,7 +95,7 @@ pub record Seen (p : Program) (net : Rete) (k : Contents) (w : World) : Type 0 w
   pub whole : Whole p (with_facts k all) w
   pub forgotten : Named → Bool
   pub are : AreForgotten k all forgotten
-  pub stands : NetStands p net (over (facts_of all) k.clock) forgotten
+  pub stands : NetStands p net (over (facts_of all) k.clock (reached_of k)) forgotten
   pub saliences : k.agenda.saliences ≡ saliences p.rules
 
 -- what a session holds, as forgetting sees it

@@ -9,5 +9,5 @@ invariant-loop-i g l = record {
   nodes : length l.nodes ≡ length l.fn.nodes;
   deltas : length l.deltas.items ≡ l.i;
   rest : (k : ℕ) → l.i ≤ k → slice_get l.nodes k ≡ slice_get l.fn.nodes k;
-  below : SteppedBelow l.program (g.F.Facts.map l.facts) (lent l.gone) (option_map (λ f. f.now) l.fn.come) l.fn.clock l.first l.fn.nodes l.nodes l.deltas.items l.i;
+  below : SteppedBelow l.program (g.F.Facts.map l.facts) (lent l.gone) (option_map (λ f. f.now) l.fn.come) l.moment l.first l.fn.nodes l.nodes l.deltas.items l.i;
 }

@@ -5,4 +5,4 @@ use Rattle.rule_eval.proofs.Stepwise.{Leads}
 use Rattle.rule_eval.proofs.finding.found_bindings.Given as goal
 
 abbrev pub invariant-loop-condition : goal.invariant-loop-condition
-invariant-loop-condition l = Leads l.moment.program.now (over (lent l.facts) l.moment.clock) l.conditions (drop l.condition-index l.conditions) l.all.items
+invariant-loop-condition l = Leads l.finder.program.now (over (lent l.facts) l.finder.moment.now) l.conditions (drop l.condition-index l.conditions) l.all.items

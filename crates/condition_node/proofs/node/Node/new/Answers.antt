@@ -1,14 +1,13 @@
-use Rattle.std.proofs.Common.{◌∙◌, sym, ap, refl, pos, SFits, to_z-of_z}
+use Rattle.std.proofs.Common.{◌∙◌, sym, ap, SFits, to_z-of_z}
 use Rattle.std.specs.Int.{w128}
 use Rattle.rule_model.specs.declared.condition.Accumulate.{Accumulate}
 use Rattle.rule_model.specs.declared.condition.Pattern.{Pattern}
-use Rattle.rule_model.specs.Maturity.{watermark}
 use Rattle.tally_node.specs.Counts.{counts_blockers, counts_witnesses}
 use Rattle.tally_node.specs.Gathers.{gathers}
 use Rattle.condition_rows.specs.Looks.{empty_snapshot}
 use Rattle.condition_node.proofs.Moved.{stands_empty, counts_empty}
-use Rattle.condition_node.proofs.Telling.{watermark_by}
 use Rattle.condition_node.proofs.node.Node.new.Goals as goal
+use Rattle.rule_model.specs.Snapshots.{floor}
 
 pub returns-in_ok-pattern-in-Plain-clause-stands : goal.returns-in_ok-pattern-in-Plain-clause-stands
 returns-in_ok-pattern-in-Plain-clause-stands c look forgotten = stands_empty c.args.program.now c.new.result.memories look forgotten (c.new.ensures.nothing look forgotten)
@@ -17,13 +16,12 @@ pub returns-in_ok-pattern-in-Negated-clause-stands : goal.returns-in_ok-pattern-
 returns-in_ok-pattern-in-Negated-clause-stands c look forgotten =
     let p = c.args.program.now in
     let new = c.new-in-Negated in
-    let fits : SFits w128 c.watermark-floor.result = search in
+    let fits : SFits w128 c.first_floor-floor.result = search in
     let floor_is = simp to_z-of_z at new.ensures.floor in
     record {
       counts = counts_empty counts_blockers p new.result.tally.memories look forgotten (new.ensures.nothing look forgotten);
       in_step = new.ensures.in_step p look;
-      floor = floor_is ∙ watermark_by p empty_snapshot c.in_ok-pattern-in-Negated.pattern.entry.0 (pos 0) c.watermark-floor.result refl c.watermark-floor.ensures
-          ∙ ap (λ (q : Pattern). watermark p empty_snapshot q.entry.0) (sym new.ensures.pattern);
+      floor = floor_is ∙ c.first_floor-floor.ensures ∙ ap (λ (q : Pattern). floor p empty_snapshot q.entry.0) (sym new.ensures.pattern);
     }
 
 pub returns-in_ok-pattern-in-Existing-clause-stands : goal.returns-in_ok-pattern-in-Existing-clause-stands

@@ -1,4 +1,4 @@
-use Rattle.std.proofs.Common.{◌≡◌, subst, length, arith, to_z, of_z, to_z-of_z, w64}
+use Rattle.std.proofs.Common.{subst, length, arith}
 use Rattle.fx_base.specs.Lists.{In}
 use Rattle.std.specs.Option.{option_map}
 use Rattle.rule_model.specs.Lent.{lent}
@@ -10,28 +10,27 @@ use Rattle.rete_net.proofs.Turns.{settled}
 use Rattle.rete_net.proofs.net.Rete.advance.Given.{Over}
 use Rattle.rete_net.proofs.net.Rete.advance.Goals as goal
 
--- the step of the nodes, at the clock that was given, where nothing comes to the first of them
+-- the step of the nodes, at the moment that was given, where nothing comes to the first of them
 step : (g : Over) (c : goal.After-drop-none-3 g)
-    → NetStep c.args.program.now (g.F.Facts.map c.args.facts.now) (lent c.args.gone.now) (option_map (λ f. f.now) c.args.come) c.args.clock no_change c.args.self.now.nodes.items c.step.new.self.nodes.items c.args.self.now.ends.items c.in_ok-changes.changes.items
+    → NetStep c.args.program.now (g.F.Facts.map c.args.facts.now) (lent c.args.gone.now) (option_map (λ f. f.now) c.args.come) c.args.moment.now no_change c.args.self.now.nodes.items c.step.new.self.nodes.items c.args.self.now.ends.items c.in_ok-changes.changes.items
 step g c =
-    let whole : to_z w64 (of_z w64 c.args.clock) ≡ c.args.clock = to_z-of_z c.ranges.clock in
-    settled c.args.program.now (g.F.Facts.map c.args.facts.now) (lent c.args.gone.now) (option_map (λ f. f.now) c.args.come) (to_z w64 (of_z w64 c.args.clock)) c.args.clock c.no_change-none.result no_change
-    c.args.self.now.nodes.items c.step.new.self.nodes.items c.args.self.now.ends.items c.in_ok-changes.changes.items whole c.no_change-none.ensures c.in_ok-changes.ensures.stepped
+    settled c.args.program.now (g.F.Facts.map c.args.facts.now) (lent c.args.gone.now) (option_map (λ f. f.now) c.args.come) c.args.moment.now c.no_change-none.result no_change
+    c.args.self.now.nodes.items c.step.new.self.nodes.items c.args.self.now.ends.items c.in_ok-changes.changes.items c.no_change-none.ensures c.in_ok-changes.ensures.stepped
 
 pub returns-clause-stands : goal.returns-clause-stands
 returns-clause-stands g c s next forgotten runnable stands moves at apart has has_now =
-    net_stands c.args.program.now (g.F.Facts.map c.args.facts.now) s next (lent c.args.gone.now) (option_map (λ f. f.now) c.args.come) c.args.clock forgotten c.args.self.now c.step.new.self c.in_ok-changes.changes.items
+    net_stands c.args.program.now (g.F.Facts.map c.args.facts.now) s next (lent c.args.gone.now) (option_map (λ f. f.now) c.args.come) c.args.moment.now forgotten c.args.self.now c.step.new.self c.in_ok-changes.changes.items
     moves at apart has has_now stands c.in_ok-changes.ensures.ends (step g c) c.in_ok-changes.ensures.quiet
 
 pub returns-clause-differences : goal.returns-clause-differences
 returns-clause-differences g c s next forgotten runnable stands moves at apart has has_now =
-    net_between c.args.program.now (g.F.Facts.map c.args.facts.now) s next (lent c.args.gone.now) (option_map (λ f. f.now) c.args.come) c.args.clock forgotten c.args.self.now c.step.new.self c.in_ok-changes.changes.items
+    net_between c.args.program.now (g.F.Facts.map c.args.facts.now) s next (lent c.args.gone.now) (option_map (λ f. f.now) c.args.come) c.args.moment.now forgotten c.args.self.now c.step.new.self c.in_ok-changes.changes.items
     moves at apart has has_now stands c.in_ok-changes.ensures.ends (step g c) runnable
 
 pub returns-clause-net : goal.returns-clause-net
 returns-clause-net g c p net =
     net_again p c.args.self.now.nodes.items c.step.new.self.nodes.items c.args.self.now.ends.items c.step.new.self.ends.items c.in_ok-changes.ensures.ends
-    (stepped_nodes c.args.program.now (g.F.Facts.map c.args.facts.now) (lent c.args.gone.now) (option_map (λ f. f.now) c.args.come) c.args.clock no_change c.args.self.now.nodes.items c.step.new.self.nodes.items c.args.self.now.ends.items c.in_ok-changes.changes.items (step g c)) net
+    (stepped_nodes c.args.program.now (g.F.Facts.map c.args.facts.now) (lent c.args.gone.now) (option_map (λ f. f.now) c.args.come) c.args.moment.now no_change c.args.self.now.nodes.items c.step.new.self.nodes.items c.args.self.now.ends.items c.in_ok-changes.changes.items (step g c)) net
 
 pub returns-clause-rules : goal.returns-clause-rules
 returns-clause-rules g c few change i =

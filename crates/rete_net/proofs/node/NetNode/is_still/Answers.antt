@@ -11,11 +11,11 @@ use Rattle.rete_net.proofs.Skipping.{skipped}
 use Rattle.rete_net.proofs.node.NetNode.is_still.Goals as goal
 
 pub returns-then-is_still : goal.returns-then-is_still
-returns-then-is_still c told p look clock left none =
+returns-then-is_still c told p look moment left none =
     let gone = lent c.args.gone.now in
     let come = option_map (λ f. f.now) c.args.come in
     let gate = c.args.self.now.gate in
-    skipped p look gone come clock c.args.self.now left (record {
+    skipped p look gone come moment c.args.self.now left (record {
       gate = subst (λ (q : Pattern). (p : Program) (s next : Snapshot) → GateStands p q gate s → Moves p s next gone come → GateStands p q gate next) c.pattern.ensures (c.is_still-then-is_still.ensures.stands told);
       candidates = subst (λ (q : Pattern). (p : Program) (s next : Snapshot) → Moves p s next gone come → (who : Named) → candidates_of p q next who ≡ candidates_of p q s who) c.pattern.ensures
           (c.is_still-then-is_still.ensures.candidates told);

@@ -21,6 +21,16 @@ returns-in-At-clause-lines c =
     let fits : SFits w64 c.in-At.moment = search in
     rw c.in-At.is (simp to_z-of_z at c.go_to.ensures.lines)
 
+pub returns-in-Promise-clause-stands : goal.returns-in-Promise-clause-stands
+returns-in-Promise-clause-stands c =
+    let fits : SFits w64 c.in-Promise.from = search in
+    rw c.in-Promise.is (simp to_z-of_z at c.promise_from.ensures.stands)
+
+pub returns-in-Promise-clause-lines : goal.returns-in-Promise-clause-lines
+returns-in-Promise-clause-lines c =
+    let fits : SFits w64 c.in-Promise.from = search in
+    rw c.in-Promise.is (simp to_z-of_z at c.promise_from.ensures.lines)
+
 pub returns-in-Modify-clause-lines : goal.returns-in-Modify-clause-lines
 returns-in-Modify-clause-lines c = rw c.in-Modify.is c.modify.ensures.lines
 

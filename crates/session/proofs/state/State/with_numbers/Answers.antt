@@ -1,4 +1,4 @@
-use Rattle.std.proofs.Common.{◌≡◌, ◌∙◌, false, sym, subst, ap, slice_get}
+use Rattle.std.proofs.Common.{◌≡◌, ◌∙◌, ◌+◌, false, refl, sym, subst, ap, slice_get, to_z, of_z, w64}
 use Rattle.std.proofs.lemmas.Result.{IfOk-weaker}
 use Rattle.rule_model.specs.declared.step.Step.TheVariants.{Insert}
 use Rattle.rule_model.specs.Candidates.{is_present}
@@ -6,10 +6,13 @@ use Rattle.rule_world.specs.Events.{times_of}
 use Rattle.rule_world.specs.Worlds.{stepped}
 use Rattle.session_laws.specs.Leading.{Moves}
 use Rattle.session_laws.specs.Standing.{Contents, IsSound}
-use Rattle.session_laws.proofs.Faults.{safe_numbers}
+use Rattle.session_laws.proofs.Faults.{clock_same, safe_numbers}
 use Rattle.session_laws.proofs.Inserting.{numbers_await}
-use Rattle.session_laws.proofs.Stands.{contents}
+use Rattle.session_laws.proofs.Stands.{contents, last_reached}
 use Rattle.session.proofs.state.State.with_numbers.Goals as goal
+use Rattle.session_laws.specs.declared.memory.Memory.{Memory}
+use Rattle.retention.specs.Retentions.{is_among}
+use Rattle.session_laws.proofs.Knowing.{followed_sound}
 
 pub invariant_of-state : goal.invariant_of-state
 invariant_of-state c = safe_numbers c.state.inside.facts c.state.inside.expiries c.state.inside.clock c.state.inside.next_id c.state.inside.next_tag c.state.invariant
@@ -18,18 +21,27 @@ pub returns-clause-stands : goal.returns-clause-stands
 returns-clause-stands c =
     let p = c.args.setting.now.program in
     let f = c.args.fact.now in
-    let k = (contents c.state.inside.facts c.state.inside.expiries c.state.inside.clock c.state.inside.last_starts.items c.state.inside.agenda c.state.inside.next_id c.state.inside.next_tag) in
+    let k = (contents c.state.inside.facts c.state.inside.expiries c.state.inside.clock (record { last_starts = c.state.inside.last_starts.items; promises = c.state.inside.promises.items }) c.state.inside.agenda c.state.inside.next_id c.state.inside.next_tag) in
     let id : f.id.0 ≡ c.state.inside.next_id = c.requires.id ∙ ap (λ (k : Contents). k.next_id) (sym c.state.view_is) in
     let at : f.tag.0 ≡ c.state.inside.next_tag = c.requires.tag ∙ ap (λ (k : Contents). k.next_tag) (sym c.state.view_is) in
     let times : f.times ≡ times_of (slice_get p.types f.ty.0) c.state.inside.clock f.fields = c.requires.times ∙ ap (λ (k : Contents). times_of (slice_get p.types f.ty.0) k.clock f.fields) (sym c.state.view_is) in
     let gone : is_present p c.state.inside.clock f ≡ false = ap (λ (k : Contents). is_present p k.clock f) c.state.view_is ∙ c.requires.absent in
+    let same : to_z w64 (of_z w64 c.state.inside.clock) ≡ c.state.inside.clock = clock_same c.state.inside.clock c.state.invariant.clock_low c.state.invariant.clock_high in
+    let n : Memory = record { net = c.followed.new.net; retention = c.args.memory.now.retention } in
     IfOk-weaker c.settled.result _ _
     (λ s h. subst (λ (z : Contents). Moves c.args.setting.now c.args.memory.now z (Insert f.ty f.entry f.fields) c.settled.new.memory s) c.state.view_is
     (λ w st none lawful. h (stepped p w (Insert f.ty f.entry f.fields))
-    (numbers_await c.args.setting.now c.args.memory.now k w st f id at times c.requires.runs none lawful gone c.in_ok-state-inside.field-0.items c.in_ok-state-inside.ensures _)))
+    (numbers_await c.args.setting.now c.args.memory.now k w st f id at times c.requires.runs none lawful gone n (record { last_starts = c.in_ok-state-inside.field-0.items; promises = c.state.inside.promises.items }) c.in_ok-agenda.agenda
+    (last_reached p f _ _ _ c.in_ok-state-inside.ensures) refl (is_among c.as_slice-3.result.now)
+    (simp (same, c.as_slice.ensures.value, c.as_slice-2.ensures.value) at c.in_ok-agenda.ensures.net) (simp (same, c.as_slice.ensures.value, c.as_slice-2.ensures.value) at c.in_ok-agenda.ensures.agenda)
+    (simp (sym c.as_slice-3.ensures.value) at c.in_ok-agenda.ensures.left))))
     c.settled.ensures.stands
+
+pub returns-clause-tags : goal.returns-clause-tags
+returns-clause-tags c = IfOk-weaker c.settled.result _ _ (λ s h. h ∙ ap (λ (k : Contents). k.next_tag + 1) c.state.view_is) c.settled.ensures.tags
 
 pub returns-clause-sound : goal.returns-clause-sound
 returns-clause-sound c = IfOk-weaker c.settled.result _ _
-    (λ s stays sound. let here = subst (IsSound c.args.setting.now.program c.args.memory.now) (sym c.state.view_is) sound in stays (record { net = here.net; pending = here.pending }))
+    (λ s stays sound. stays (followed_sound c.args.setting.now c.args.memory.now _ (contents c.state.inside.facts c.state.inside.expiries c.state.inside.clock (record { last_starts = c.state.inside.last_starts.items; promises = c.state.inside.promises.items }) c.state.inside.agenda c.state.inside.next_id c.state.inside.next_tag) _ c.requires.runs
+    (subst (IsSound c.args.setting.now.program c.args.memory.now) (sym c.state.view_is) sound) (c.in_ok-agenda.ensures.shape c.args.setting.now.program) c.in_ok-agenda.ensures.rules))
     c.settled.ensures.sound

@@ -1,42 +1,19 @@
-use crate::{DecodeFault, FiredMatch, Image, RunPart, decode, encode};
-use fx_base::{EntryId, Fact, FactId, NoMemory, RuleId, Seq, Tag, Text, Times, TypeId, Value};
-use row_delta::{Extra, Named, Row};
+use crate::rows::{extra, row_of_one_fact};
+use crate::texts::values;
+use checkpoint::{DecodeFault, FiredMatch, Image, RunPart, decode, encode};
+use fx_base::{EntryId, Fact, FactId, NoMemory, RuleId, Seq, Tag, Times, TypeId};
 use std::alloc::Global;
 use std::test::Fail;
 
-fn row(alloc: Global) -> Result<Row, NoMemory> {
-    let named = Named {
-        id: FactId(1),
-        tag: Tag(2),
-    };
-    Ok(Row {
-        facts: Seq::from_vec(vec![in alloc; named]?),
-        values: Seq::from_vec(Vec::new(alloc)),
-    })
-}
-
 /// An event with a value of each kind.
 fn event(alloc: Global) -> Result<Fact, NoMemory> {
-    let text = Text::new(alloc, "é")?;
-    let fields = vec![in alloc; Value::Int(-1), Value::Bool(true), Value::Text(text)]?;
     Ok(Fact {
         id: FactId(1),
         ty: TypeId(0),
         entry: EntryId(1),
-        fields: Seq::from_vec(fields),
+        fields: values(alloc)?,
         tag: Tag(2),
         times: Times { start: 5, end: 7 },
-    })
-}
-
-/// One that counts a forgotten fact. It has 59 bytes.
-fn extra(alloc: Global) -> Result<Extra, NoMemory> {
-    Ok(Extra {
-        rule: RuleId(1),
-        condition: 1,
-        row: row(alloc)?,
-        count: 1,
-        values: Seq::from_vec(vec![in alloc; 4]?),
     })
 }
 
@@ -50,7 +27,7 @@ fn image(alloc: Global) -> Result<Image, NoMemory> {
     };
     let fired = FiredMatch {
         rule: RuleId(0),
-        row: row(alloc)?,
+        row: row_of_one_fact(alloc)?,
     };
     Ok(Image {
         run,
@@ -70,7 +47,7 @@ fn image(alloc: Global) -> Result<Image, NoMemory> {
 fn an_image_is_read_from_its_bytes(rt: HostRuntime) -> Result<(), Fail> {
     let alloc = rt.alloc();
     let bytes = encode(alloc, &image(alloc)?)?;
-    assert_eq!(rt; bytes.len(), 289);
+    assert_eq!(rt; bytes.len(), 313);
     let again = decode(alloc, bytes.as_slice())?;
     assert_eq!(rt; encode(alloc, &again)?, bytes);
     Ok(())
@@ -81,9 +58,9 @@ const CHANGES: &[(usize, &[u8], bool)] = &[
     (0, b"", false),
     (1, b"", true),
     (0, b"\x00", true),
-    (67, b"\x00\x00\x00\x00\x00\x00\x00\x00", false),
-    (67, b"\x10\x00\x00\x00\x00\x00\x00\x00", true),
-    (289, b"", true),
+    (83, b"\x00\x00\x00\x00\x00\x00\x00\x00", false),
+    (83, b"\x10\x00\x00\x00\x00\x00\x00\x00", true),
+    (313, b"", true),
 ];
 
 /// Whether these bytes, changed at the end, are no image's.

@@ -3,9 +3,9 @@ use Rattle.std.specs.List.{filter}
 use Rattle.rule_model.specs.Candidates.{is_candidate, candidates}
 use Rattle.rule_model.specs.Lent.{lent}
 use Rattle.rule_eval.specs.Over.{over}
-use Rattle.rule_eval.proofs.moment.Moment.candidates.Given as goal
+use Rattle.rule_eval.proofs.finder.Finder.candidates.Given as goal
 
 abbrev pub invariant-loop-fact : goal.invariant-loop-fact
 invariant-loop-fact l =
-    lent l.found.items ++ filter (is_candidate l.self.program.now l.pattern (over (lent l.facts) l.self.clock)) (lent (drop l.fact-index l.facts))
-    ≡ candidates l.self.program.now l.pattern (over (lent l.facts) l.self.clock)
+    lent l.found.items ++ filter (is_candidate l.self.program.now l.pattern (over (lent l.facts) l.self.moment.now)) (lent (drop l.fact-index l.facts))
+    ≡ candidates l.self.program.now l.pattern (over (lent l.facts) l.self.moment.now)

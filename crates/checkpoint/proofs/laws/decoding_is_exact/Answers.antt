@@ -1,0 +1,7 @@
+use Rattle.std.proofs.Common.{ap, sym, ◌∙◌}
+use Rattle.checkpoint.specs.Reading.{decoded}
+use Rattle.checkpoint.proofs.Whole.{decoded_takes, decoded_again}
+use Rattle.checkpoint.proofs.laws.decoding_is_exact.Goals as goal
+
+pub returns : goal.returns
+returns c bytes image octets = (decoded_takes bytes image octets, λ is. ap decoded (sym is.1) ∙ decoded_again image is.0)

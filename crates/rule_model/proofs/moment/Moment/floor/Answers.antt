@@ -1,0 +1,8 @@
+use Rattle.std.proofs.Common.{arith}
+use Rattle.std.proofs.lemmas.Int.{ints, clamps}
+use Rattle.rule_model.specs.Snapshots.{floor}
+use Rattle.rule_model.proofs.moment.Moment.floor.Goals as goal
+
+pub returns : goal.returns
+unfolding floor
+returns c = omega (arith, ints, clamps, c.max.ensures.value, c.max-known.ensures.value, c.from.ensures, c.from-2.ensures, c.from-3.ensures, c.lateness.ensures, c.moment_in.ensures, c.moment_in-2.ensures)

@@ -1,0 +1,58 @@
+use Rattle.std.proofs.Common.{◌≡◌, Some, None, refl, ◌∙◌, ap, subst, to_z, of_z, to_z-of_z, SFits, w64}
+use Rattle.std.proofs.lemmas.Result.{IfOk-weaker}
+use Rattle.rule_model.specs.declared.step.Step.TheVariants.{Promise}
+use Rattle.session_laws.specs.Leading.{Moves}
+use Rattle.session_laws.proofs.Faults.{promise_refused}
+use Rattle.session_laws.proofs.Tried.{no_lines, on_ok, on_ok_weaker, refused_lines, refused_tries, tried_done}
+use Rattle.session.proofs.state.State.promise_from.Goals as goal
+
+pub returns-in-Ok-clause-stands : goal.returns-in-Ok-clause-stands
+returns-in-Ok-clause-stands c =
+    let s = c.args.setting.now in
+    let m = c.args.memory.now in
+    let whole : to_z w64 (of_z w64 c.args.from) ≡ c.args.from = to_z-of_z c.ranges.from in
+    let promise : to_z w64 (of_z w64 c.promise.result) ≡ c.promise.result = (let fits : SFits w64 c.promise.result = search in to_z-of_z fits) in
+    let none_at = simp (whole, promise) at c.in-Ok.ensures.none in
+    let none = simp c.promise.ensures at none_at in
+    let from : c.in-Ok.from ≡ c.args.from = simp whole at c.in-Ok.ensures.promise in
+    let next : to_z w64 (of_z w64 c.in-Ok.from) ≡ c.args.from = ap (λ z. to_z w64 (of_z w64 z)) from ∙ whole in
+    IfOk-weaker c.with_promise.result _ _ (λ t moves. tried_done s m c.args.self (Promise c.args.entry c.args.from) c.with_promise.new.memory t
+    (λ w st suits. promise_refused s m c.args.self w st c.args.entry c.args.from None none)
+    (subst (λ z. Moves s m c.args.self (Promise c.args.entry z) c.with_promise.new.memory t) next moves)) c.with_promise.ensures.stands
+
+pub returns-in-Ok-clause-lines : goal.returns-in-Ok-clause-lines
+returns-in-Ok-clause-lines c =
+    let s = c.args.setting.now in
+    let m = c.args.memory.now in
+    let whole : to_z w64 (of_z w64 c.args.from) ≡ c.args.from = to_z-of_z c.ranges.from in
+    let promise : to_z w64 (of_z w64 c.promise.result) ≡ c.promise.result = (let fits : SFits w64 c.promise.result = search in to_z-of_z fits) in
+    let none_at = simp (whole, promise) at c.in-Ok.ensures.none in
+    let none = simp c.promise.ensures at none_at in
+    on_ok c.with_promise.result (no_lines s m c.args.self (Promise c.args.entry c.args.from) c.args.lines.now.items (λ w st suits. promise_refused s m c.args.self w st c.args.entry c.args.from None none) (λ w. refl))
+
+pub returns-in-Err-clause-stands : goal.returns-in-Err-clause-stands
+returns-in-Err-clause-stands c =
+    let s = c.args.setting.now in
+    let m = c.args.memory.now in
+    let whole : to_z w64 (of_z w64 c.args.from) ≡ c.args.from = to_z-of_z c.ranges.from in
+    let promise : to_z w64 (of_z w64 c.promise.result) ≡ c.promise.result = (let fits : SFits w64 c.promise.result = search in to_z-of_z fits) in
+    let fault_at = simp (whole, promise) at c.in-Err.ensures.fault in
+    let fault = simp c.promise.ensures at fault_at in
+    IfOk-weaker c.refuse.result _ _ (refused_tries s m c.args.self (Promise c.args.entry c.args.from) c.in-Err.code (λ w st suits. promise_refused s m c.args.self w st c.args.entry c.args.from (Some c.in-Err.code) fault)) c.refuse.ensures.state
+
+pub returns-in-Err-clause-lines : goal.returns-in-Err-clause-lines
+returns-in-Err-clause-lines c =
+    let s = c.args.setting.now in
+    let m = c.args.memory.now in
+    let whole : to_z w64 (of_z w64 c.args.from) ≡ c.args.from = to_z-of_z c.ranges.from in
+    let promise : to_z w64 (of_z w64 c.promise.result) ≡ c.promise.result = (let fits : SFits w64 c.promise.result = search in to_z-of_z fits) in
+    let fault_at = simp (whole, promise) at c.in-Err.ensures.fault in
+    let fault = simp c.promise.ensures at fault_at in
+    on_ok_weaker c.refuse.result (refused_lines s m c.args.self (Promise c.args.entry c.args.from) c.in-Err.code (λ w st suits. promise_refused s m c.args.self w st c.args.entry c.args.from (Some c.in-Err.code) fault)
+    c.args.lines.now.items c.refuse.new.lines.items) c.refuse.ensures.lines
+
+pub returns-in-Ok-clause-known : goal.returns-in-Ok-clause-known
+returns-in-Ok-clause-known c = λ known. on_ok c.with_promise.result (λ before. before)
+
+pub returns-in-Err-clause-known : goal.returns-in-Err-clause-known
+returns-in-Err-clause-known c = λ known. c.refuse.ensures.known c.args.setting.now.program

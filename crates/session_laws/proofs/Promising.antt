@@ -1,0 +1,62 @@
+-- A session that has taken a promise awaits the second phase of the step.
+use Rattle.std.proofs.Common.{◌≡◌, ◌≤◌, ◌∙◌, ℕ, ℤ, Bool, List, [], None, Option, refl, sym, ap, subst, arith}
+use mathlib.Core.Path.{fun_ext}
+use Rattle.fx_base.specs.declared.fact.Fact.{Fact}
+use Rattle.fx_base.specs.declared.ids.EntryId.{EntryId}
+use Rattle.rule_model.specs.declared.program.Program.{Program}
+use Rattle.rule_model.specs.declared.step.Step.{Step}
+use Rattle.rule_model.specs.declared.step.Step.TheVariants.{Promise}
+use Rattle.rule_model.specs.Snapshots.{Reached}
+use Rattle.rule_world.specs.Lawful.{IsLawful}
+use Rattle.rule_world.specs.Worlds.{World, only_present, promise_with, settled, step_fault, stepped, moved, with_promise}
+use Rattle.agenda.specs.Agendas.{Marks}
+use Rattle.forgetting.specs.Steps.{HasLeft}
+use Rattle.session_laws.specs.declared.memory.Memory.{Memory}
+use Rattle.session_laws.specs.declared.setting.Setting.{Setting}
+use Rattle.session_laws.specs.Following.{instant_of}
+use Rattle.session_laws.specs.Standing.{Contents, Awaits, Mirrors, Runs, Standing, with_facts, reached_of, ReachedLists, reached_by}
+use Rattle.session_laws.proofs.Exactly.{after_promise}
+use Rattle.session_laws.proofs.Stands.{contents}
+use Rattle.session_laws.proofs.Still.{AgendaFollows, NetFollows, still_awaits}
+use Rattle.rule_model.specs.Moments.{moment_in, reached_in}
+
+-- what entry points have reached where one has promised a moment
+abbrev pub promised : ℕ → ℤ → Reached → Reached
+promised entry from r = record r { promise = promise_with entry from r.promise }
+
+-- the same of the lists that are kept, place by place
+pub promise_reached : (entry : ℕ) (from : ℤ) (starts promises now : List ℤ) → ((other : ℕ) → moment_in now other ≡ promise_with entry from (moment_in promises) other)
+    → reached_in starts now ≡ promised entry from (reached_in starts promises)
+promise_reached entry from starts promises now h = ap (λ (p : ℕ → ℤ). record { last_start = moment_in starts; promise = p }) (fun_ext h)
+
+no_less : (n : ℕ) → n ≤ n
+no_less n = omega arith
+
+module _ (s : Setting) (m : Memory) (k : Contents) (w : World) (st : Standing s m k w) (entry : EntryId) (from : ℤ) (runs : Runs s) (none : step_fault s.program w (Promise entry from) ≡ None)
+    (lawful : IsLawful s.program (stepped s.program w (Promise entry from))) (n : Memory) (lists : ReachedLists) (b : Marks) (is : reached_by lists ≡ promised entry.0 from (reached_of k)) (kept : n.retention ≡ m.retention) where
+  abbrev p : Program
+  p = s.program
+
+  abbrev step : Step
+  step = Promise entry from
+
+  abbrev t : Contents
+  t = contents k.facts k.expiries k.clock lists b k.next_id k.next_tag
+
+  mirrors : Mirrors p (with_facts t st.seen.all) (only_present p (stepped p w step))
+  unfolding stepped moved
+  mirrors =
+      let m = st.seen.whole.mirrors in
+      subst (Mirrors p (with_facts t st.seen.all)) (sym (after_promise p w entry.0 from)) (record {
+        facts = m.facts;
+        waits = m.waits;
+        clock = m.clock;
+        reached = is ∙ ap (promised entry.0 from) m.reached;
+        next_id = m.next_id;
+        next_tag = m.next_tag;
+      })
+
+  pub promise_awaits : (left : ℕ → Bool) → NetFollows p m.net n.net (instant_of t) k.facts [] None → AgendaFollows p m.net (instant_of t) k.facts [] None k.agenda b → HasLeft k.agenda b left
+      → Awaits s n t left (stepped p w step)
+  promise_awaits left net agenda has_left =
+      still_awaits s m k w st step runs none lawful n lists b k.next_id k.next_tag mirrors (no_less k.next_tag) refl (λ f. refl) kept left net agenda has_left

@@ -1,0 +1,43 @@
+-- What entry points have reached does not fall in a step without a fault.
+use Rattle.std.proofs.Common.{◌≡◌, ◌==◌, ℕ, ℤ, ◌≤ℤ◌, Bool, true, false, None, refl, subst, arith, if◌then◌else◌}
+use Rattle.std.proofs.lemmas.Bool.Decides.{nat_tests}
+use Rattle.std.proofs.lemmas.Int.{ints}
+use Rattle.fx_base.specs.declared.ids.EntryId.{EntryId}
+use Rattle.rule_model.specs.declared.program.Program.{Program}
+use Rattle.rule_model.specs.declared.step.Step.{Step}
+use Rattle.rule_model.specs.declared.step.Step.TheVariants.{Insert, Modify, Retract, Advance, At, Promise}
+use Rattle.rule_model.specs.Snapshots.{Reached}
+use Rattle.rule_world.specs.Lawful.{IsLawful}
+use Rattle.rule_world.specs.Worlds.{World, moved, promise_with, step_fault, stepped}
+use Rattle.rule_world.proofs.Faultless.{promised_forward}
+use Rattle.rule_world.proofs.Sound.{new_goes_on}
+use Rattle.session_laws.specs.Following.{GoesOn}
+
+itself : (a : ℤ) → a ≤ℤ a
+itself a = omega (arith, ints)
+
+same_number : (a b : ℕ) → (a == b) ≡ true → a ≡ b
+same_number a b e = grind (arith, nat_tests)
+
+pub stays_reached : (r : Reached) → GoesOn r r
+stays_reached r = record { last_start = λ entry. itself (r.last_start entry); promise = λ entry. itself (r.promise entry) }
+
+promise_on : (promise : ℕ → ℤ) (entry : ℕ) (from : ℤ) → promise entry ≤ℤ from → (other : ℕ) → promise other ≤ℤ promise_with entry from promise other
+promise_on promise entry from le other = by (entry == other) refl
+  where
+    by : (b : Bool) → (entry == other) ≡ b → promise other ≤ℤ (if b then from else promise other)
+    by true e = subst (λ n. promise n ≤ℤ from) (same_number entry other e) le
+    by false e = itself (promise other)
+
+pub reaches_on : (p : Program) (w : World) (step : Step) → IsLawful p w → step_fault p w step ≡ None → GoesOn w.reached (stepped p w step).reached
+unfolding stepped moved step_fault
+reaches_on p w (Insert ty entry fields) law none =
+    record { last_start = (new_goes_on p w ty.0 entry.0 fields none law.last_low law.last_high).last; promise = λ other. itself (w.reached.promise other) }
+reaches_on p w (Modify id sets) law none = stays_reached w.reached
+reaches_on p w (Retract ty id) law none = stays_reached w.reached
+reaches_on p w (Advance by) law none = stays_reached w.reached
+reaches_on p w (At moment) law none = stays_reached w.reached
+reaches_on p w (Promise entry from) law none = record {
+  last_start = λ other. itself (w.reached.last_start other);
+  promise = promise_on w.reached.promise entry.0 from (promised_forward (w.reached.promise entry.0) from none).0;
+}
