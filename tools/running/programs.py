@@ -86,7 +86,7 @@ def by_checked(options: list[str], rules: Path, script: Optional[BinaryIO]) -> i
     if done.returncode == 6:
         tell("no answer: the checked run has 60 s (some 50,000 lines without joins) and 1 MiB of output, and shows nothing past either.")
         tell('A rule that makes itself pending again looks like that: write {"do":"fire","max":100} while you try.')
-        tell("The proved program has neither limit: (cd crates/replay_main && rt run -- RULES < SCRIPT) builds it.")
+        tell("The proved program has neither limit: `rt ci` builds it (README.md, Commands).")
     else:
         tell(f"the checked run did not end by itself: the status {done.returncode} is that of rt try, not of the program.")
     return done.returncode

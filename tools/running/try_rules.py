@@ -237,7 +237,7 @@ def generated(words: list[str]) -> int:
     if proved_is_current():
         tell("the proved program")
         return by_proved(words, None)
-    raise Ended(2, "--gen is for the proved program, which is not built (README.md, Commands): (cd crates/replay_main && rt run -- --gen 1)")
+    raise Ended(2, "--gen is for the proved program, which is not built (README.md, Commands)")
 
 
 def main() -> int:

@@ -125,7 +125,7 @@ const FRAUD_STEPS: &[Step] = &[
     ComeBy(
         "ATM",
         "Withdrawal",
-        &[Int(98_500), Int(7), Int(10_000), Text("harbour")],
+        &[Int(99_500), Int(7), Int(10_000), Text("harbour")],
     ),
     ComeBy(
         "ATM",
@@ -163,7 +163,7 @@ const FRAUD_STEPS: &[Step] = &[
     ComeBy(
         "ATM",
         "Withdrawal",
-        &[Int(110_500), Int(7), Int(150_000), Text("market")],
+        &[Int(112_000), Int(7), Int(150_000), Text("market")],
     ),
     Come("Case", &[Int(8), Text("burst"), Int(112_000), Bool(true)]),
     Come("Call", &[Int(112_000), Int(8), Text("it was me")]),
