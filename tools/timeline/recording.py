@@ -9,7 +9,7 @@ from __future__ import annotations
 
 import re
 import sys
-from dataclasses import dataclass, field
+from dataclasses import dataclass, field, replace
 from pathlib import Path
 from typing import NoReturn, Optional
 
@@ -20,11 +20,9 @@ from meaning import (EMPTY_ROW, Fact, Insertion, Modification, Retraction, Row, 
 from program import DEFAULT, Program  # noqa: E402
 from run import Fault as LineFault, asked_step, program_or_refusal  # noqa: E402
 from script import BadCommand, BadJson, Command, FireLine, HeldLine, command_of, is_blank, lines_of  # noqa: E402
+from stages import TODAY  # noqa: E402
 from temporal import INFINITE, NEVER, greatest_start  # noqa: E402
 from trees import Condition, Existing, Negated, Plain, Rule, Value  # noqa: E402
-
-# How much of the language tools/reference is to take: as much as the program runs.
-LANGUAGE = 14
 
 FIRE_LINE = re.compile(r'fire ("(?:[^"\\]|\\.)*")((?: #[0-9]+| =-?[0-9]+)*)')
 CELL = re.compile(r"([#=])(-?[0-9]+)")
@@ -161,10 +159,11 @@ def waiting_of(condition: Condition, row: Row, program: Program) -> Optional[Wai
     return Waiting(source.type, max(end for _, end in others), last + program.latenesses[source.entry or DEFAULT] + 1)
 
 
-def longest_waiting(rule: Rule, row: Row, lives: dict[int, Life], program: Program) -> Optional[Waiting]:
-    """The waiting of the rule that ended last, None where all was known as soon as the facts were."""
+def longest_waiting(rule: Rule, row: Row, lives: dict[int, Life], program: Program, clock: int) -> Optional[Waiting]:
+    """The waiting of the rule that ended last, at the latest now; None where all was known as soon as the facts were."""
     known = max((lives[f.id].told for f in row.facts), default=0)
-    found = [w for w in (waiting_of(c, row, program) for c in rule.conditions) if w is not None and w.until > max(known, w.since)]
+    waited = [replace(w, until=min(w.until, clock)) for c in rule.conditions if (w := waiting_of(c, row, program))]
+    found = [w for w in waited if w.until > max(known, w.since)]
     return max(found, key=lambda w: w.until, default=None)
 
 
@@ -223,7 +222,7 @@ class Recorder:
         if is_blank(line):
             return
         try:
-            self.command(number, command_of(line, LANGUAGE))
+            self.command(number, command_of(line, TODAY))
         except (BadJson, BadCommand, LineFault):
             self.unfit(f"line {number} of the script is faulty")
 
@@ -302,7 +301,7 @@ class Recorder:
         """Notes a firing, and does its actions."""
         self.take(line)
         self.fired[rule.name, row.tags, row.values] = len(self.worlds) - 1
-        waiting = longest_waiting(rule, row, self.recording.lives, self.program)
+        waiting = longest_waiting(rule, row, self.recording.lives, self.program, self.world.clock)
         values = {fact.id: fact.values for fact in row.facts}
         variables = {name: value for name, value in row.names.items() if not isinstance(value, Fact)}
         firing = Firing(len(self.recording.firings) + 1, rule.name, cells, self.world.clock, line, waiting, values, variables)
@@ -317,7 +316,7 @@ class Recorder:
 
 def recording_of(rules: bytes, script: bytes, output: bytes) -> Recording:
     """The recording of a run, or Unfit."""
-    program = program_or_refusal(rules, LANGUAGE)
+    program = program_or_refusal(rules, TODAY)
     if isinstance(program, str):
         raise Unfit(f"the rule file is not accepted: {program}")
     return Recorder(program, [line.decode("utf-8") for line in lines_of(output)]).whole(script)

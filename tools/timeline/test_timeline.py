@@ -40,6 +40,16 @@ class Desks(unittest.TestCase):
         silent = next(firing for firing in desk("fraud").firings if firing.rule == "silent")
         self.assertEqual((silent.line, silent.clock, silent.waiting.since, silent.waiting.until), (36, 202501, 112500, 202501))
 
+    def test_a_promise(self):
+        """It ends the waiting before the clock does."""
+        script = b"""{"do":"insert","type":"Smoke","fields":{"room":"hall"}}
+{"do":"at","ms":50}
+{"do":"promise","entry":"radio","from":10001}
+{"do":"fire"}
+"""
+        recording = recording_of((EXAMPLES / "smoke.drl").read_bytes(), script, b'new #1 Smoke\nfire "no water" #1\n')
+        self.assertEqual([(f.line, f.waiting.since, f.waiting.until) for f in recording.firings], [(4, 0, 50)])
+
     def test_lives(self):
         lives = desk("fraud").lives
         self.assertEqual((lives[7].told, lives[7].gone, lives[7].maker), (110000, 111000, 2))
