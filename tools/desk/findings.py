@@ -20,7 +20,7 @@ import lives  # noqa: E402
 from checks import check  # noqa: E402
 from program import Program  # noqa: E402
 from reader import OutsideGrammar, Reader, Refused, items_of_tokens, read_file  # noqa: E402
-from recording import LANGUAGE  # noqa: E402
+from stages import TODAY  # noqa: E402
 from temporal import INFINITE  # noqa: E402
 from tokens import LexicalFault, Token, tokens_of  # noqa: E402
 
@@ -122,7 +122,7 @@ def read_refusals(data: bytes) -> list[Finding]:
     if found:
         return found
     try:
-        check(read_file(data), LANGUAGE)
+        check(read_file(data), TODAY)
         return []
     except Refused as refused:
         at = items[refused.item - 1][0].at if refused.item else 0

@@ -12,7 +12,7 @@ import sys
 from pathlib import Path
 from typing import Any, Iterator, Optional, Union
 
-from findings import (LANGUAGE, TOP, advice, fault_reason, fault_words, life_reasons, reasons_at,  # it finds the other tools, too
+from findings import (TODAY, TOP, advice, fault_reason, fault_words, life_reasons, reasons_at,  # it finds the other tools, too
                       refusals)
 
 from clock import Clock, clock_of
@@ -178,7 +178,7 @@ def main() -> int:
     take_program(asked.get("program"))
     bound(asked["seconds"])
     rules, script = asked["rules"].encode("utf-8"), asked["script"].encode("utf-8")
-    program: Union[Program, str] = program_or_refusal(rules, LANGUAGE)
+    program: Union[Program, str] = program_or_refusal(rules, TODAY)
     if isinstance(program, str):
         say(kind="refused", text=program, findings=refusals(rules))
     else:
