@@ -4,7 +4,7 @@
     python3 replay.py [--stage N] WORDS < SCRIPT
 
 Only as the two first words `--stage N` are this tool's own; without them the stage is that of the environment variable
-REFERENCE_STAGE, or 14. All other words are the program's. Everything that was taken into memory is assumed to fit.
+REFERENCE_STAGE, or that of today. All other words are the program's. Everything that was taken into memory is assumed to fit.
 """
 
 from __future__ import annotations

@@ -145,7 +145,7 @@ class Inspection:
         w, entry = self.world, source.entry or DEFAULT
         last = temporal.greatest_start(times_named(source, row), w.program.types[source.type].duration is None)
         until = last + w.program.latenesses[entry] + 1
-        return f"waits until the clock is {moment(until)}: {with_article(source.type)} that starts up to {moment(last)} may still come into `{entry}`"
+        return f"waits until the clock is {moment(until)}, at the latest: {with_article(source.type)} that starts up to {moment(last)} may still come into `{entry}`"
 
     def kept_back(self, condition: Condition, row: Row) -> str:
         """Why a row does not go on behind a condition."""

@@ -95,7 +95,7 @@ class Why(unittest.TestCase):
     def test_a_not_that_waits(self):
         text = lines(20, "silent")
         self.assertIn('2  $d : Draw( card == $n, cents >= 100 ) over window:time( 1h ) from entry-point "ATM"\n', text)
-        self.assertIn("#1 #3: waits until the clock is 14001: a `Call` that starts up to 14000 may still come into `DEFAULT`", text)
+        self.assertIn("#1 #3: waits until the clock is 14001, at the latest: a `Call` that starts up to 14000 may still come into `DEFAULT`", text)
 
     def test_kept_back(self):
         self.assertIn("#1: there is no `Draw`", lines(3, "silent"))
