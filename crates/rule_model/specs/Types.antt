@@ -10,6 +10,10 @@ abbrev pub is_event_type : Option TypeInfo → Bool
 is_event_type None = false
 is_event_type (Some ty) = ty.event
 
+abbrev pub is_reference_type : Option TypeInfo → Bool
+is_reference_type None = false
+is_reference_type (Some ty) = ty.reference
+
 -- a type without a duration is one of points
 abbrev pub is_point_type : Option TypeInfo → Bool
 is_point_type None = true
@@ -34,6 +38,10 @@ lateness_in (Some entry) = entry.lateness
 -- whether the facts of a type are events
 unfoldable pub is_event : Program → ℕ → Bool
 is_event p ty = is_event_type (slice_get p.types ty)
+
+-- whether the facts of a type are there before any event, and stay as they are
+unfoldable pub is_reference : Program → ℕ → Bool
+is_reference p ty = is_reference_type (slice_get p.types ty)
 
 -- whether the events of a type end where they start
 unfoldable pub is_point : Program → ℕ → Bool

@@ -24,12 +24,26 @@ fn moment_in(moments: &[Millis], entry: EntryId) -> Millis
 }
 
 impl<'a> Moment<'a> {
+    /// The start of the event that was inserted last in an entry point. Takes no memory.
+    pub fn last_start(&self, entry: EntryId) -> Millis
+        ensures { result ≡ moment_in self.now.last_starts.now entry.0 }
+    {
+        moment_in(self.last_starts, entry)
+    }
+
+    /// The moment before which no event of an entry point starts any more. Takes no memory.
+    pub fn promise(&self, entry: EntryId) -> Millis
+        ensures { result ≡ moment_in self.now.promises.now entry.0 }
+    {
+        moment_in(self.promises, entry)
+    }
+
     /// The floor of an entry point, its watermark: no event that comes from now on starts before it. Takes no memory.
     #[tactic(auto, unfolding(crate::specs::Snapshots::floor))]
     pub fn floor(&self, program: &Program, entry: EntryId) -> i128
         ensures { result ≡ floor program.now (snapshot_at self.now) entry.0 }
     {
-        let known = moment_in(self.last_starts, entry).max(moment_in(self.promises, entry));
+        let known = self.last_start(entry).max(self.promise(entry));
         let late = i128::from(self.clock) - i128::from(program.lateness(entry));
         i128::from(known).max(late)
     }

@@ -7,7 +7,7 @@ use Rattle.fx_base.specs.declared.fact.Fact.{Fact}
 use Rattle.fx_base.specs.declared.value.Value.{Value}
 use Rattle.rule_model.specs.declared.program.Program.{Program}
 use Rattle.rule_model.specs.declared.step.Step.{Step}
-use Rattle.rule_model.specs.declared.step.Step.TheVariants.{Insert, Modify, Retract, Advance, At, Promise}
+use Rattle.rule_model.specs.declared.step.Step.TheVariants.{Insert, Modify, Retract, Advance, At, Promise, Begin}
 use Rattle.rule_model.specs.Candidates.{is_within, is_present}
 use Rattle.rule_model.specs.Matches.{has_match}
 use Rattle.rule_model.specs.Snapshots.{floor}
@@ -34,6 +34,7 @@ kept_fault p w (Retract ty id) = ap (retract_fault p ty.0) (kept_found p w id.0)
 kept_fault p w (Advance by) = refl
 kept_fault p w (At moment) = refl
 kept_fault p w (Promise entry from) = refl
+kept_fault p w Begin = refl
 
 -- ---- one step of each kind
 
@@ -66,10 +67,10 @@ kept_revised p w id sets =
     (λ f. same_when_revised p w.clock id w.next_tag sets f (has_id id f)))
 
 abbrev pub with_numbers : Program → World → Fact → World
-with_numbers p w f = record w { reached = record w.reached { last_start = last_start_with p f w.reached.last_start }; next_id = w.next_id + 1; next_tag = w.next_tag + 1 }
+with_numbers p w f = record w { reached = record w.reached { last_start = last_start_with p f w.reached.last_start }; begun = w.begun || is_event p f.ty.0; next_id = w.next_id + 1; next_tag = w.next_tag + 1 }
 
 abbrev new_world : Program → World → Fact → List Fact → World
-new_world p w f facts = record w { facts = facts; reached = record w.reached { last_start = last_start_with p f w.reached.last_start }; next_id = w.next_id + 1; next_tag = w.next_tag + 1 }
+new_world p w f facts = record w { facts = facts; reached = record w.reached { last_start = last_start_with p f w.reached.last_start }; begun = w.begun || is_event p f.ty.0; next_id = w.next_id + 1; next_tag = w.next_tag + 1 }
 
 pub kept_new : (p : Program) (w : World) (f : Fact) → is_present p w.clock f ≡ true → only_present p (with_new p w f) ≡ with_new p (only_present p w) f
 kept_new p w f e =
@@ -133,4 +134,5 @@ kept_lawful p w l = record {
   promise_high = l.promise_high;
   sound = λ f i. sound_kept p w f (l.sound f (of_filter (is_present p w.clock) f w.facts i));
   events = events_filtered p (is_present p w.clock) w.facts l.events;
+  unbegun = λ b f i. l.unbegun b f (of_filter (is_present p w.clock) f w.facts i);
 }

@@ -1,13 +1,14 @@
 -- The names of the codes of faults, as lines print them.
 use Rattle.std.specs.Prelude.{ℕ, List, codes}
 use Rattle.rule_world.specs.declared.code.Code.{Code}
-use Rattle.rule_world.specs.declared.code.Code.TheVariants.{UnknownType, UnknownEntry, EventFixed, EventObserved, Absent, BadFields, BadValue, BadDuration, Late, Ahead, ClockBack, ClockEnd, PromiseBack, PromiseEnd, Overflow}
+use Rattle.rule_world.specs.declared.code.Code.TheVariants.{UnknownType, UnknownEntry, EventFixed, EventObserved, ReferenceFixed, Absent, BadFields, BadValue, BadDuration, Late, Ahead, ClockBack, ClockEnd, PromiseBack, PromiseEnd, Overflow}
 
 abbrev pub code_name : Code → List ℕ
 code_name UnknownType = codes "UnknownType"
 code_name UnknownEntry = codes "UnknownEntry"
 code_name EventFixed = codes "EventFixed"
 code_name EventObserved = codes "EventObserved"
+code_name ReferenceFixed = codes "ReferenceFixed"
 code_name Absent = codes "Absent"
 code_name BadFields = codes "BadFields"
 code_name BadValue = codes "BadValue"

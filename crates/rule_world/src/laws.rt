@@ -12,7 +12,7 @@ ghost use Rattle.rule_model.specs.declared.matched.Match.{Match};
 ghost use Rattle.rule_model.specs.declared.program.Program.{Program};
 ghost use Rattle.rule_model.specs.declared.program.Rule.{Rule};
 ghost use Rattle.rule_model.specs.declared.step.Step.{Step};
-ghost use Rattle.rule_model.specs.declared.step.Step.TheVariants.{Retract, Advance, At};
+ghost use Rattle.rule_model.specs.declared.step.Step.TheVariants.{Retract, Advance, At, Begin};
 ghost use Rattle.rule_model.specs.Candidates.{is_present};
 ghost use Rattle.rule_model.specs.Lent.{Holds, bound_in};
 ghost use Rattle.rule_model.specs.Matches.{fire_cmp, saliences, has_match};
@@ -54,12 +54,13 @@ pub fn new_versions_have_the_next_tag()
     ensures { (p : Program) (w : World) (step : Step) (f : Fact) → In f (stepped p w step).facts → In f w.facts ⊎ (f.tag.0 ≡ w.next_tag) }
 {}
 
-/// The retraction of what is not present, and a move of the clock to where it stands, change nothing.
+/// The retraction of what is not present, a move of the clock to where it stands, and a begin of a world that has begun change nothing.
 pub fn vain_steps_change_nothing()
     ensures retraction { (p : Program) (w : World) (ty : TypeId) (id : FactId) → IsOrdered p w → is_of_type ty.0 (found p w id.0) ≡ false
         → stepped p w (Retract ty id) ≡ w }
     ensures advance { (p : Program) (w : World) → IsOrdered p w → stepped p w (Advance (pos 0)) ≡ w }
     ensures at { (p : Program) (w : World) → IsOrdered p w → stepped p w (At w.clock) ≡ w }
+    ensures begin { (p : Program) (w : World) → IsOrdered p w → w.begun ≡ true → stepped p w Begin ≡ w }
 {}
 
 /// The steps that the actions of a typed program ask for have values of the declared kinds: for a row of the rule over the

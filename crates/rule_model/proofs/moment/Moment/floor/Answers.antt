@@ -5,4 +5,4 @@ use Rattle.rule_model.proofs.moment.Moment.floor.Goals as goal
 
 pub returns : goal.returns
 unfolding floor
-returns c = omega (arith, ints, clamps, c.max.ensures.value, c.max-known.ensures.value, c.from.ensures, c.from-2.ensures, c.from-3.ensures, c.lateness.ensures, c.moment_in.ensures, c.moment_in-2.ensures)
+returns c = omega (arith, ints, clamps, c.max.ensures.value, c.max-known.ensures.value, c.from.ensures, c.from-2.ensures, c.from-3.ensures, c.lateness.ensures, c.last_start.ensures, c.promise.ensures)
