@@ -6,7 +6,7 @@ use Rattle.drl_grammar.specs.declared.file.Body.{Body}
 use Rattle.drl_grammar.specs.declared.file.File.{File}
 use Rattle.drl_grammar.specs.declared.file.Item.{Item}
 use Rattle.drl_check.specs.declared.fault.CheckCode.{CheckCode}
-use Rattle.drl_check.specs.declared.fault.CheckCode.TheVariants.{TwiceDeclared, LimitPassed, UnknownType, UnknownField, UnknownVariable, WrongKind, NotAnEvent, BadTimestamp, EventFixed, EventObserved, BadParams, NeverMatches}
+use Rattle.drl_check.specs.declared.fault.CheckCode.TheVariants.{TwiceDeclared, LimitPassed, UnknownType, UnknownField, UnknownVariable, WrongKind, NotAnEvent, BadTimestamp, BadReference, EventFixed, EventObserved, ReferenceFixed, BadParams, NeverMatches}
 use Rattle.drl_check.specs.Checks.{Failure, codes_in_order, fails, first_code, FailsFirst, Passes, AllPass, IsAcceptedFile, IsFirstFailure, failure_at, failure_from, failure_of}
 
 -- ---- codes
@@ -18,36 +18,41 @@ none_split false c o e = (refl, e)
 module _ (all before : List Item) (b : Body) where
   by_code : fails TwiceDeclared all before b ≡ false → fails LimitPassed all before b ≡ false → fails UnknownType all before b ≡ false
       → fails UnknownField all before b ≡ false → fails UnknownVariable all before b ≡ false → fails WrongKind all before b ≡ false → fails NotAnEvent all before b ≡ false
-      → fails BadTimestamp all before b ≡ false → fails EventFixed all before b ≡ false → fails EventObserved all before b ≡ false → fails BadParams all before b ≡ false → fails NeverMatches all before b ≡ false
+      → fails BadTimestamp all before b ≡ false → fails BadReference all before b ≡ false → fails EventFixed all before b ≡ false → fails EventObserved all before b ≡ false
+      → fails ReferenceFixed all before b ≡ false → fails BadParams all before b ≡ false → fails NeverMatches all before b ≡ false
       → Passes all before b
-  by_code q r s t u v w x y z l m TwiceDeclared = q
-  by_code q r s t u v w x y z l m LimitPassed = r
-  by_code q r s t u v w x y z l m UnknownType = s
-  by_code q r s t u v w x y z l m UnknownField = t
-  by_code q r s t u v w x y z l m UnknownVariable = u
-  by_code q r s t u v w x y z l m WrongKind = v
-  by_code q r s t u v w x y z l m NotAnEvent = w
-  by_code q r s t u v w x y z l m BadTimestamp = x
-  by_code q r s t u v w x y z l m EventFixed = y
-  by_code q r s t u v w x y z l m EventObserved = z
-  by_code q r s t u v w x y z l m BadParams = l
-  by_code q r s t u v w x y z l m NeverMatches = m
+  by_code q r s t u v w x y z k l m n TwiceDeclared = q
+  by_code q r s t u v w x y z k l m n LimitPassed = r
+  by_code q r s t u v w x y z k l m n UnknownType = s
+  by_code q r s t u v w x y z k l m n UnknownField = t
+  by_code q r s t u v w x y z k l m n UnknownVariable = u
+  by_code q r s t u v w x y z k l m n WrongKind = v
+  by_code q r s t u v w x y z k l m n NotAnEvent = w
+  by_code q r s t u v w x y z k l m n BadTimestamp = x
+  by_code q r s t u v w x y z k l m n BadReference = y
+  by_code q r s t u v w x y z k l m n EventFixed = z
+  by_code q r s t u v w x y z k l m n EventObserved = k
+  by_code q r s t u v w x y z k l m n ReferenceFixed = l
+  by_code q r s t u v w x y z k l m n BadParams = m
+  by_code q r s t u v w x y z k l m n NeverMatches = n
 
   passes_of : first_code codes_in_order all before b ≡ None → Passes all before b
   passes_of e =
-      let q = none_split (fails TwiceDeclared all before b) TwiceDeclared (first_code (LimitPassed ∷ UnknownType ∷ UnknownField ∷ UnknownVariable ∷ WrongKind ∷ NotAnEvent ∷ BadTimestamp ∷ EventFixed ∷ EventObserved ∷ BadParams ∷ NeverMatches ∷ []) all before b) e in
-      let r = none_split (fails LimitPassed all before b) LimitPassed (first_code (UnknownType ∷ UnknownField ∷ UnknownVariable ∷ WrongKind ∷ NotAnEvent ∷ BadTimestamp ∷ EventFixed ∷ EventObserved ∷ BadParams ∷ NeverMatches ∷ []) all before b) q.1 in
-      let s = none_split (fails UnknownType all before b) UnknownType (first_code (UnknownField ∷ UnknownVariable ∷ WrongKind ∷ NotAnEvent ∷ BadTimestamp ∷ EventFixed ∷ EventObserved ∷ BadParams ∷ NeverMatches ∷ []) all before b) r.1 in
-      let t = none_split (fails UnknownField all before b) UnknownField (first_code (UnknownVariable ∷ WrongKind ∷ NotAnEvent ∷ BadTimestamp ∷ EventFixed ∷ EventObserved ∷ BadParams ∷ NeverMatches ∷ []) all before b) s.1 in
-      let u = none_split (fails UnknownVariable all before b) UnknownVariable (first_code (WrongKind ∷ NotAnEvent ∷ BadTimestamp ∷ EventFixed ∷ EventObserved ∷ BadParams ∷ NeverMatches ∷ []) all before b) t.1 in
-      let v = none_split (fails WrongKind all before b) WrongKind (first_code (NotAnEvent ∷ BadTimestamp ∷ EventFixed ∷ EventObserved ∷ BadParams ∷ NeverMatches ∷ []) all before b) u.1 in
-      let w = none_split (fails NotAnEvent all before b) NotAnEvent (first_code (BadTimestamp ∷ EventFixed ∷ EventObserved ∷ BadParams ∷ NeverMatches ∷ []) all before b) v.1 in
-      let x = none_split (fails BadTimestamp all before b) BadTimestamp (first_code (EventFixed ∷ EventObserved ∷ BadParams ∷ NeverMatches ∷ []) all before b) w.1 in
-      let y = none_split (fails EventFixed all before b) EventFixed (first_code (EventObserved ∷ BadParams ∷ NeverMatches ∷ []) all before b) x.1 in
-      let z = none_split (fails EventObserved all before b) EventObserved (first_code (BadParams ∷ NeverMatches ∷ []) all before b) y.1 in
-      let l = none_split (fails BadParams all before b) BadParams (first_code (NeverMatches ∷ []) all before b) z.1 in
-      let m = none_split (fails NeverMatches all before b) NeverMatches None l.1 in
-      by_code q.0 r.0 s.0 t.0 u.0 v.0 w.0 x.0 y.0 z.0 l.0 m.0
+      let q = none_split (fails TwiceDeclared all before b) TwiceDeclared (first_code (LimitPassed ∷ UnknownType ∷ UnknownField ∷ UnknownVariable ∷ WrongKind ∷ NotAnEvent ∷ BadTimestamp ∷ BadReference ∷ EventFixed ∷ EventObserved ∷ ReferenceFixed ∷ BadParams ∷ NeverMatches ∷ []) all before b) e in
+      let r = none_split (fails LimitPassed all before b) LimitPassed (first_code (UnknownType ∷ UnknownField ∷ UnknownVariable ∷ WrongKind ∷ NotAnEvent ∷ BadTimestamp ∷ BadReference ∷ EventFixed ∷ EventObserved ∷ ReferenceFixed ∷ BadParams ∷ NeverMatches ∷ []) all before b) q.1 in
+      let s = none_split (fails UnknownType all before b) UnknownType (first_code (UnknownField ∷ UnknownVariable ∷ WrongKind ∷ NotAnEvent ∷ BadTimestamp ∷ BadReference ∷ EventFixed ∷ EventObserved ∷ ReferenceFixed ∷ BadParams ∷ NeverMatches ∷ []) all before b) r.1 in
+      let t = none_split (fails UnknownField all before b) UnknownField (first_code (UnknownVariable ∷ WrongKind ∷ NotAnEvent ∷ BadTimestamp ∷ BadReference ∷ EventFixed ∷ EventObserved ∷ ReferenceFixed ∷ BadParams ∷ NeverMatches ∷ []) all before b) s.1 in
+      let u = none_split (fails UnknownVariable all before b) UnknownVariable (first_code (WrongKind ∷ NotAnEvent ∷ BadTimestamp ∷ BadReference ∷ EventFixed ∷ EventObserved ∷ ReferenceFixed ∷ BadParams ∷ NeverMatches ∷ []) all before b) t.1 in
+      let v = none_split (fails WrongKind all before b) WrongKind (first_code (NotAnEvent ∷ BadTimestamp ∷ BadReference ∷ EventFixed ∷ EventObserved ∷ ReferenceFixed ∷ BadParams ∷ NeverMatches ∷ []) all before b) u.1 in
+      let w = none_split (fails NotAnEvent all before b) NotAnEvent (first_code (BadTimestamp ∷ BadReference ∷ EventFixed ∷ EventObserved ∷ ReferenceFixed ∷ BadParams ∷ NeverMatches ∷ []) all before b) v.1 in
+      let x = none_split (fails BadTimestamp all before b) BadTimestamp (first_code (BadReference ∷ EventFixed ∷ EventObserved ∷ ReferenceFixed ∷ BadParams ∷ NeverMatches ∷ []) all before b) w.1 in
+      let y = none_split (fails BadReference all before b) BadReference (first_code (EventFixed ∷ EventObserved ∷ ReferenceFixed ∷ BadParams ∷ NeverMatches ∷ []) all before b) x.1 in
+      let z = none_split (fails EventFixed all before b) EventFixed (first_code (EventObserved ∷ ReferenceFixed ∷ BadParams ∷ NeverMatches ∷ []) all before b) y.1 in
+      let k = none_split (fails EventObserved all before b) EventObserved (first_code (ReferenceFixed ∷ BadParams ∷ NeverMatches ∷ []) all before b) z.1 in
+      let l = none_split (fails ReferenceFixed all before b) ReferenceFixed (first_code (BadParams ∷ NeverMatches ∷ []) all before b) k.1 in
+      let m = none_split (fails BadParams all before b) BadParams (first_code (NeverMatches ∷ []) all before b) l.1 in
+      let n = none_split (fails NeverMatches all before b) NeverMatches None m.1 in
+      by_code q.0 r.0 s.0 t.0 u.0 v.0 w.0 x.0 y.0 z.0 k.0 l.0 m.0 n.0
 
   none_of : (cs : List CheckCode) → Passes all before b → first_code cs all before b ≡ None
   none_of [] p = refl

@@ -7,14 +7,14 @@ use Rattle.drl_grammar.specs.declared.file.Body.TheVariants as body
 use Rattle.drl_grammar.specs.declared.file.Item.{Item}
 use Rattle.drl_grammar.specs.declared.file.TypeTree.{TypeTree}
 use Rattle.drl_check.specs.declared.fault.CheckCode.{CheckCode}
-use Rattle.drl_check.specs.declared.fault.CheckCode.TheVariants.{TwiceDeclared, LimitPassed, UnknownType, UnknownField, UnknownVariable, WrongKind, NotAnEvent, BadTimestamp, EventFixed, EventObserved, BadParams, NeverMatches}
+use Rattle.drl_check.specs.declared.fault.CheckCode.TheVariants.{TwiceDeclared, LimitPassed, UnknownType, UnknownField, UnknownVariable, WrongKind, NotAnEvent, BadTimestamp, BadReference, EventFixed, EventObserved, ReferenceFixed, BadParams, NeverMatches}
 use Rattle.drl_sight.specs.Declarations.{types_of}
 use Rattle.drl_sight.specs.Observed.{is_observed}
 use Rattle.drl_sight.specs.Sight.{begin, sight_of_actions}
 use Rattle.drl_check.specs.Twice.{is_twice}
 use Rattle.drl_limits.specs.Limits.{exceeds_limit}
 use Rattle.drl_uses.specs.Uses.{any_condition, has_unknown_type, has_unknown_field, has_unknown_variable, inserts_unknown_type, action_lacks, action_unseen}
-use Rattle.drl_check.specs.Events.{annotation_lacks, is_no_event, has_bad_timestamp, modifies_event, retracts_observed}
+use Rattle.drl_check.specs.Events.{annotation_lacks, is_no_event, has_bad_timestamp, marks_event, modifies_event, retracts_observed, fixes_reference}
 use Rattle.drl_check.specs.Params.{is_negative, expires_at_once, is_condition_refused}
 use Rattle.drl_check.specs.Solvable.{never_matches}
 use Rattle.drl_uses.specs.Kinds.{has_unknown_kind, has_wrong_kind, action_misfits}
@@ -68,6 +68,14 @@ needs_whole_times (body.Dialect text) = false
 needs_whole_times (body.Entry name lateness) = false
 needs_whole_times (body.Rule r) = false
 
+abbrev pub has_bad_reference : Body → Bool
+has_bad_reference (body.Declare t) = marks_event t
+has_bad_reference (body.Package path) = false
+has_bad_reference (body.Import path star) = false
+has_bad_reference (body.Dialect text) = false
+has_bad_reference (body.Entry name lateness) = false
+has_bad_reference (body.Rule r) = false
+
 abbrev pub fixes_event : List TypeTree → Body → Bool
 fixes_event types (body.Rule r) = list_any (modifies_event (sight_of_actions types r.conditions)) r.actions
 fixes_event types (body.Package path) = false
@@ -84,6 +92,14 @@ drops_observed observed types (body.Import path star) = false
 drops_observed observed types (body.Dialect text) = false
 drops_observed observed types (body.Declare t) = false
 drops_observed observed types (body.Entry name lateness) = false
+
+abbrev pub changes_reference : List TypeTree → Body → Bool
+changes_reference types (body.Rule r) = list_any (fixes_reference types (sight_of_actions types r.conditions)) r.actions
+changes_reference types (body.Package path) = false
+changes_reference types (body.Import path star) = false
+changes_reference types (body.Dialect text) = false
+changes_reference types (body.Declare t) = false
+changes_reference types (body.Entry name lateness) = false
 
 abbrev pub has_bad_params : Body → Bool
 has_bad_params (body.Entry name lateness) = is_negative lateness
@@ -105,14 +121,17 @@ fails UnknownVariable all before b = lacks_variable (types_of all) b
 fails WrongKind all before b = is_wrong_kind (types_of all) b
 fails NotAnEvent all before b = needs_event (types_of all) b
 fails BadTimestamp all before b = needs_whole_times b
+fails BadReference all before b = has_bad_reference b
 fails EventFixed all before b = fixes_event (types_of all) b
 fails EventObserved all before b = drops_observed (is_observed all) (types_of all) b
+fails ReferenceFixed all before b = changes_reference (types_of all) b
 fails BadParams all before b = has_bad_params b
 fails NeverMatches all before b = never_matches all b
 
 -- the codes, in the order in which they are tried
 abbrev pub codes_in_order : List CheckCode
-codes_in_order = TwiceDeclared ∷ LimitPassed ∷ UnknownType ∷ UnknownField ∷ UnknownVariable ∷ WrongKind ∷ NotAnEvent ∷ BadTimestamp ∷ EventFixed ∷ EventObserved ∷ BadParams ∷ NeverMatches ∷ []
+codes_in_order = TwiceDeclared ∷ LimitPassed ∷ UnknownType ∷ UnknownField ∷ UnknownVariable ∷ WrongKind ∷ NotAnEvent ∷ BadTimestamp ∷ BadReference ∷ EventFixed ∷ EventObserved ∷ ReferenceFixed
+    ∷ BadParams ∷ NeverMatches ∷ []
 
 -- an item passes all checks
 abbrev pub Passes : List Item → List Item → Body → Type 0

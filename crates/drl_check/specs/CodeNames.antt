@@ -1,7 +1,7 @@
 -- The names of the codes of checks, as the line of a refused file prints them.
 use Rattle.std.specs.Prelude.{ℕ, List, codes}
 use Rattle.drl_check.specs.declared.fault.CheckCode.{CheckCode}
-use Rattle.drl_check.specs.declared.fault.CheckCode.TheVariants.{TwiceDeclared, LimitPassed, UnknownType, UnknownField, UnknownVariable, WrongKind, NotAnEvent, BadTimestamp, EventFixed, EventObserved, BadParams, NeverMatches}
+use Rattle.drl_check.specs.declared.fault.CheckCode.TheVariants.{TwiceDeclared, LimitPassed, UnknownType, UnknownField, UnknownVariable, WrongKind, NotAnEvent, BadTimestamp, BadReference, EventFixed, EventObserved, ReferenceFixed, BadParams, NeverMatches}
 
 abbrev pub check_code_name : CheckCode → List ℕ
 check_code_name TwiceDeclared = codes "TwiceDeclared"
@@ -12,7 +12,9 @@ check_code_name UnknownVariable = codes "UnknownVariable"
 check_code_name WrongKind = codes "WrongKind"
 check_code_name NotAnEvent = codes "NotAnEvent"
 check_code_name BadTimestamp = codes "BadTimestamp"
+check_code_name BadReference = codes "BadReference"
 check_code_name EventFixed = codes "EventFixed"
 check_code_name EventObserved = codes "EventObserved"
+check_code_name ReferenceFixed = codes "ReferenceFixed"
 check_code_name BadParams = codes "BadParams"
 check_code_name NeverMatches = codes "NeverMatches"

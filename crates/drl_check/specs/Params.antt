@@ -35,6 +35,7 @@ has_short_expiry (meta.Expires offset) = is_below_one offset
 has_short_expiry (meta.Role event) = false
 has_short_expiry (meta.Timestamp field) = false
 has_short_expiry (meta.Duration field) = false
+has_short_expiry meta.Reference = false
 
 abbrev pub expires_at_once : TypeTree → Bool
 expires_at_once t = list_any has_short_expiry t.metas

@@ -61,6 +61,7 @@ meta_word (meta.Role event) = codes "role"
 meta_word (meta.Timestamp field) = codes "timestamp"
 meta_word (meta.Duration field) = codes "duration"
 meta_word (meta.Expires offset) = codes "expires"
+meta_word meta.Reference = codes "reference"
 
 -- given the names of the types, of the entry points and of the rules that earlier items declare
 abbrev pub is_repeated : List (List ℕ) → List (List ℕ) → List (List ℕ) → Body → Bool

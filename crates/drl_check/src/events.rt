@@ -1,13 +1,15 @@
 ghost use Rattle.std.specs.Prelude.{◌≡◌, Some, IfOk};
 ghost use Rattle.std.specs.List.{list_any};
-ghost use Rattle.drl_check.specs.Events.{meta_lacks, annotation_lacks, is_of_events, is_no_event, meta_misfits, has_bad_timestamp, is_event_meant, modifies_event, is_observed_meant, retracts_observed};
+ghost use Rattle.drl_check.specs.Events.{meta_lacks, annotation_lacks, is_of_events, is_no_event, meta_misfits, has_bad_timestamp, marks_event, is_event_meant, modifies_event, is_observed_meant, retracts_observed, is_reference_named, is_reference_meant, fixes_reference};
 ghost use Rattle.drl_sight.specs.Observed.{is_event_among};
-ghost use Rattle.drl_sight.specs.Sight.{begin, behind_all, sight_of_actions};
+ghost use Rattle.drl_sight.specs.Sight.{begin, behind_all, meaning_of, sight_of_actions};
 
 use drl_grammar::{ActTree, CondTree, Meta, RuleTree, TypeTree};
-use drl_sight::{Declared, DeclaredType, Meaning, Place, Places, Seen, is_event_tree};
+use drl_sight::{
+    Declared, DeclaredType, Meaning, Place, Places, Seen, is_event_tree, is_reference_tree,
+};
 use drl_uses::is_whole;
-use fx_base::NoMemory;
+use fx_base::{NoMemory, Text};
 use std::alloc::Global;
 
 // ---- annotations
@@ -18,7 +20,7 @@ fn is_meta_lacking(ty: &DeclaredType, meta: &Meta) -> bool
     match meta {
         Meta::Timestamp(field) => !ty.has(field),
         Meta::Duration(field) => !ty.has(field),
-        Meta::Role(_) | Meta::Expires(_) => false,
+        Meta::Role(_) | Meta::Expires(_) | Meta::Reference => false,
     }
 }
 
@@ -40,7 +42,7 @@ fn speaks_of_events(meta: &Meta) -> bool
     ensures { result ≡ is_of_events meta.now }
 {
     match meta {
-        Meta::Role(_) => false,
+        Meta::Role(_) | Meta::Reference => false,
         Meta::Timestamp(_) | Meta::Duration(_) | Meta::Expires(_) => true,
     }
 }
@@ -64,7 +66,7 @@ fn is_meta_misfit(ty: &DeclaredType, meta: &Meta) -> bool
     match meta {
         Meta::Timestamp(field) => !is_whole(ty.kind_of(field)),
         Meta::Duration(field) => !is_whole(ty.kind_of(field)),
-        Meta::Role(_) | Meta::Expires(_) => false,
+        Meta::Role(_) | Meta::Expires(_) | Meta::Reference => false,
     }
 }
 
@@ -80,6 +82,13 @@ pub(crate) fn misfits_annotated(alloc: Global, tree: &TypeTree) -> Result<bool, 
 {
     let ty = DeclaredType::of(alloc, tree)?;
     Ok(is_some_misfit(&ty, tree.metas.as_slice()))
+}
+
+/// Whether an event type is marked as a reference type.
+pub(crate) fn is_marked_event(tree: &TypeTree) -> bool
+    ensures { result ≡ marks_event tree.now }
+{
+    is_event_tree(tree) && is_reference_tree(tree)
 }
 
 // ---- actions
@@ -184,4 +193,63 @@ pub(crate) fn retracts_some_observed(
 {
     let place = behind_conditions(alloc, types, tree.conditions.as_slice())?;
     Ok(do_retract_observed(watched, &place, tree.actions.as_slice()))
+}
+
+// ---- reference types
+
+fn is_reference_type(types: &Declared, name: &Text) -> bool
+    ensures { result ≡ is_reference_named types.now name.now }
+{
+    match types.find(name) {
+        Some(ty) => ty.is_reference(),
+        None => false,
+    }
+}
+
+fn is_reference_seen(meaning: &Meaning) -> bool
+    ensures { result ≡ is_reference_meant (Some meaning.now) }
+{
+    match meaning.seen() {
+        Seen::Fact { fact: _, ty } => ty.is_reference(),
+        Seen::Field { .. } | Seen::Result { .. } => false,
+    }
+}
+
+fn is_reference_variable(place: &Place, name: &Text) -> bool
+    ensures { result ≡ is_reference_meant (meaning_of place.now.sight name.now) }
+{
+    match place.find(name) {
+        Some(meaning) => is_reference_seen(meaning),
+        None => false,
+    }
+}
+
+fn does_fix_reference(types: &Declared, place: &Place, action: &ActTree) -> bool
+    ensures { result ≡ fixes_reference types.now place.now.sight action.now }
+{
+    match action {
+        ActTree::Insert { ty, .. } => is_reference_type(types, ty),
+        ActTree::Modify { var, .. } => is_reference_variable(place, var),
+        ActTree::Retract(var) => is_reference_variable(place, var),
+    }
+}
+
+fn do_fix_reference(types: &Declared, place: &Place, actions: &[ActTree]) -> bool
+    ensures { result ≡ list_any (fixes_reference types.now place.now.sight) actions.now }
+{
+    actions
+        .iter()
+        .any(|action| does_fix_reference(types, place, action))
+}
+
+/// Whether one of the actions of a rule inserts, modifies or retracts a fact of a reference type.
+pub(crate) fn fixes_some_reference(
+    alloc: Global,
+    types: &Declared,
+    tree: &RuleTree,
+) -> Result<bool, NoMemory>
+    ensures { IfOk result (λ fixes. fixes ≡ list_any (fixes_reference types.now (sight_of_actions types.now tree.now.conditions)) tree.now.actions) }
+{
+    let place = behind_conditions(alloc, types, tree.conditions.as_slice())?;
+    Ok(do_fix_reference(types, &place, tree.actions.as_slice()))
 }

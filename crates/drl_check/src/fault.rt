@@ -31,11 +31,15 @@ pub enum CheckCode {
     NotAnEvent,
     /// The field of a timestamp or a duration holds no whole numbers.
     BadTimestamp,
+    /// An event type is marked as a reference type.
+    BadReference,
     /// An action modifies an event.
     EventFixed,
     /// An action retracts an event of a type that the file observes: one that stands in a not, an exists or an accumulate of
     /// some rule, or under a length window.
     EventObserved,
+    /// An action inserts, modifies or retracts a fact of a reference type, one that is marked by `@reference`.
+    ReferenceFixed,
     /// A lateness is below 0, an expiry or a time window below 1 ms, a length window of no events; or a temporal operator has
     /// another number of parameters than it takes, or one below 0 and is neither `after` nor `before`.
     BadParams,
@@ -58,8 +62,10 @@ impl CheckCode {
             CheckCode::WrongKind => "WrongKind",
             CheckCode::NotAnEvent => "NotAnEvent",
             CheckCode::BadTimestamp => "BadTimestamp",
+            CheckCode::BadReference => "BadReference",
             CheckCode::EventFixed => "EventFixed",
             CheckCode::EventObserved => "EventObserved",
+            CheckCode::ReferenceFixed => "ReferenceFixed",
             CheckCode::BadParams => "BadParams",
             CheckCode::NeverMatches => "NeverMatches",
         }

@@ -27,7 +27,7 @@ fn is_short_expiry(meta: &Meta) -> bool
 {
     match meta {
         Meta::Expires(offset) => *offset < 1,
-        Meta::Role(_) | Meta::Timestamp(_) | Meta::Duration(_) => false,
+        Meta::Role(_) | Meta::Timestamp(_) | Meta::Duration(_) | Meta::Reference => false,
     }
 }
 

@@ -2,15 +2,15 @@ ghost use Rattle.std.specs.Prelude.{◌≡◌, ◌<◌, ◌+◌, ◌^◌, ◌++�
 ghost use Rattle.drl_sight.specs.Declarations.{types_of, type_in, rule_in, type_names, rule_names};
 ghost use Rattle.drl_sight.specs.Observed.{is_event_among, watched_names};
 ghost use Rattle.drl_sight.specs.EntryPoints.{entries_declared, entries_named, with_names};
-ghost use Rattle.drl_check.specs.Checks.{lacks_type, lacks_field as lacks_field_of, lacks_variable as lacks_variable_of, is_wrong_kind, needs_event, needs_whole_times, fixes_event, drops_observed, has_bad_params, failure_from};
+ghost use Rattle.drl_check.specs.Checks.{lacks_type, lacks_field as lacks_field_of, lacks_variable as lacks_variable_of, is_wrong_kind, needs_event, needs_whole_times, has_bad_reference, fixes_event, drops_observed, changes_reference, has_bad_params, failure_from};
 ghost use Rattle.drl_check.specs.Failing.{first_failing, first_failing_event, first_failing_use};
 ghost use Rattle.drl_check.specs.Answers.{within_32_bits, Judges};
 ghost use Rattle.drl_check.specs.Solvable.{never_matches_alone, HasFewConditions, HasNetwork};
 ghost use Rattle.drl_program.specs.Programs.{types_alone};
 
 use crate::events::{
-    is_plain_with_times, lacks_annotated, misfits_annotated, modifies_some_event,
-    retracts_some_observed,
+    fixes_some_reference, is_marked_event, is_plain_with_times, lacks_annotated, misfits_annotated,
+    modifies_some_event, retracts_some_observed,
 };
 use crate::params::{does_expire_at_once, does_some_condition_refuse, is_below_zero};
 use crate::twice::repeats;
@@ -97,6 +97,19 @@ fn is_timestamp_bad(alloc: Global, body: &Body) -> Result<bool, NoMemory>
     }
 }
 
+fn is_reference_bad(body: &Body) -> bool
+    ensures { result ≡ has_bad_reference body.now }
+{
+    match body {
+        Body::Declare(tree) => is_marked_event(tree),
+        Body::Package(_)
+        | Body::Import { .. }
+        | Body::Dialect(_)
+        | Body::Entry { .. }
+        | Body::Rule(_) => false,
+    }
+}
+
 fn is_event_modified(alloc: Global, types: &Declared, body: &Body) -> Result<bool, NoMemory>
     ensures { IfOk result (λ modified. modified ≡ fixes_event types.now body.now) }
 {
@@ -117,6 +130,19 @@ fn is_observed_retracted(alloc: Global, whole: &Whole, body: &Body) -> Result<bo
         Body::Rule(tree) => {
             retracts_some_observed(alloc, whole.types.declared(), &whole.watched, tree)
         },
+        Body::Package(_)
+        | Body::Import { .. }
+        | Body::Dialect(_)
+        | Body::Declare(_)
+        | Body::Entry { .. } => Ok(false),
+    }
+}
+
+fn is_reference_changed(alloc: Global, types: &Declared, body: &Body) -> Result<bool, NoMemory>
+    ensures { IfOk result (λ changed. changed ≡ changes_reference types.now body.now) }
+{
+    match body {
+        Body::Rule(tree) => fixes_some_reference(alloc, types, tree),
         Body::Package(_)
         | Body::Import { .. }
         | Body::Dialect(_)
@@ -167,11 +193,17 @@ fn failing_event(alloc: Global, whole: &Whole, body: &Body) -> Result<Option<Che
     if is_timestamp_bad(alloc, body)? {
         return Ok(Some(CheckCode::BadTimestamp));
     }
+    if is_reference_bad(body) {
+        return Ok(Some(CheckCode::BadReference));
+    }
     if is_event_modified(alloc, whole.types.declared(), body)? {
         return Ok(Some(CheckCode::EventFixed));
     }
     if is_observed_retracted(alloc, whole, body)? {
         return Ok(Some(CheckCode::EventObserved));
+    }
+    if is_reference_changed(alloc, whole.types.declared(), body)? {
+        return Ok(Some(CheckCode::ReferenceFixed));
     }
     if are_params_bad(body) {
         return Ok(Some(CheckCode::BadParams));

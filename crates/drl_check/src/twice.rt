@@ -121,6 +121,7 @@ fn word_of_meta(meta: &Meta) -> &'static str
         Meta::Timestamp(_) => "timestamp",
         Meta::Duration(_) => "duration",
         Meta::Expires(_) => "expires",
+        Meta::Reference => "reference",
     }
 }
 

@@ -36,6 +36,7 @@ pub data IsStar : Bool → List TokenKind → List TokenKind → Type 0 where
 -- ---- types and entry points
 
 -- meta := '@' 'role' '(' ('event' | 'fact') ')' | '@' 'timestamp' '(' Ident ')' | '@' 'duration' '(' Ident ')' | '@' 'expires' '(' span ')'
+--       | '@' 'reference'
 pub data IsMeta : Meta → List TokenKind → List TokenKind → Type 0 where
   event_role : {rest : List TokenKind} → IsMeta (meta.Role true) (Mark At ∷ Word (codes "role") ∷ Mark OpenParenthesis ∷ Word (codes "event") ∷ Mark CloseParenthesis ∷ rest) rest
   fact_role : {rest : List TokenKind} → IsMeta (meta.Role false) (Mark At ∷ Word (codes "role") ∷ Mark OpenParenthesis ∷ Word (codes "fact") ∷ Mark CloseParenthesis ∷ rest) rest
@@ -45,6 +46,7 @@ pub data IsMeta : Meta → List TokenKind → List TokenKind → Type 0 where
       → IsMeta (meta.Duration f) (Mark At ∷ Word (codes "duration") ∷ Mark OpenParenthesis ∷ Word f ∷ Mark CloseParenthesis ∷ rest) rest
   expires : {ms : ℤ} {ts rest : List TokenKind} → IsSpan ms ts (Mark CloseParenthesis ∷ rest)
       → IsMeta (meta.Expires ms) (Mark At ∷ Word (codes "expires") ∷ Mark OpenParenthesis ∷ ts) rest
+  reference : {rest : List TokenKind} → IsMeta meta.Reference (Mark At ∷ Word (codes "reference") ∷ rest) rest
 
 -- field := Ident ':' Ident
 pub data IsField : List ℕ × List ℕ → List TokenKind → List TokenKind → Type 0 where

@@ -49,6 +49,8 @@ pub enum Meta {
     Duration(Text),
     /// Explicit expiry, in milliseconds.
     Expires(i64),
+    /// A reference type: its facts are there before any event, and stay as they are.
+    Reference,
 }
 
 #[derive(Debug, Drop)]

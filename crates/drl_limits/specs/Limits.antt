@@ -144,6 +144,7 @@ meta_within (meta.Timestamp field) = is_name field
 meta_within (meta.Duration field) = is_name field
 meta_within (meta.Role event) = true
 meta_within (meta.Expires offset) = is_span offset
+meta_within meta.Reference = true
 
 -- a type has at most 32 fields
 abbrev pub type_within : TypeTree → Bool

@@ -267,7 +267,7 @@ fn is_meta_within(meta: &Meta) -> bool
     match meta {
         Meta::Timestamp(field) => is_short_name(field),
         Meta::Duration(field) => is_short_name(field),
-        Meta::Role(_) => true,
+        Meta::Role(_) | Meta::Reference => true,
         Meta::Expires(offset) => is_span_within(*offset),
     }
 }

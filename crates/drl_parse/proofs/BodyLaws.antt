@@ -49,6 +49,7 @@ no_minus t ts rest (g.type_of h (m.further g.fact_role metas) fields) = refl
 no_minus t ts rest (g.type_of h (m.further (g.timestamp hf) metas) fields) = refl
 no_minus t ts rest (g.type_of h (m.further (g.duration hf) metas) fields) = refl
 no_minus t ts rest (g.type_of h (m.further (g.expires hf) metas) fields) = refl
+no_minus t ts rest (g.type_of h (m.further g.reference metas) fields) = refl
 
 type_again : (t : TypeTree) (ts rest : List TokenKind) → IsType t ts rest → declare_at ts ≡ Some (body.Declare t, rest)
 type_again t ts rest h = rw (no_minus t ts rest h, type_exact.again t ts rest h (omega arith)) refl

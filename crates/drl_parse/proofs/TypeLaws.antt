@@ -21,7 +21,7 @@ use Rattle.drl_phrase.specs.Reading.{◌>>=◌, after, closed, ident, many_at, m
 use Rattle.drl_phrase.proofs.NameLaws.{span_exact, name_exact}
 use Rattle.drl_phrase.proofs.ShapeLaws.{then, guarded, ident_then, ident_is, same_bytes, closed_then, ended_then, ended_is, Begins, many_sound, many_again, many_shorter, maybe_sound, maybe_again, maybe_shorter}
 use Rattle.drl_parse.specs.declared.words.MetaWord.{MetaWord}
-use Rattle.drl_parse.specs.declared.words.MetaWord.TheVariants.{RoleWord, TimestampWord, DurationWord, ExpiresWord}
+use Rattle.drl_parse.specs.declared.words.MetaWord.TheVariants.{RoleWord, TimestampWord, DurationWord, ExpiresWord, ReferenceWord}
 use Rattle.drl_parse.specs.Reading.{meta_text, meta_word, role_word, behind_meta, meta_at, field_at, type_at, lateness_at, behind_point, entry_at}
 
 -- ---- annotations
@@ -29,7 +29,8 @@ use Rattle.drl_parse.specs.Reading.{meta_text, meta_word, role_word, behind_meta
 word_sound : (w : List ℕ) → IfSome (meta_word w) (λ k. w ≡ meta_text k)
 unfolding meta_word
 word_sound w = pick (bytes_eq w (codes "role")) RoleWord _ (same_bytes w _) (λ o. pick (bytes_eq w (codes "timestamp")) TimestampWord _ (same_bytes w _) (λ o.
-    pick (bytes_eq w (codes "duration")) DurationWord _ (same_bytes w _) (λ o. pick (bytes_eq w (codes "expires")) ExpiresWord _ (same_bytes w _) (λ o. tt))))
+    pick (bytes_eq w (codes "duration")) DurationWord _ (same_bytes w _) (λ o. pick (bytes_eq w (codes "expires")) ExpiresWord _ (same_bytes w _) (λ o.
+    pick (bytes_eq w (codes "reference")) ReferenceWord _ (same_bytes w _) (λ o. tt)))))
   where
     pick : (b : Bool) (k : MetaWord) (others : Option MetaWord) → (b ≡ true → w ≡ meta_text k) → (b ≡ false → IfSome others (λ k. w ≡ meta_text k)) → IfSome (cond b (Some k) others) (λ k. w ≡ meta_text k)
     pick true k others is go = is refl
@@ -48,6 +49,7 @@ behind_sound TimestampWord (Mark OpenParenthesis ∷ Word f ∷ Mark CloseParent
 behind_sound DurationWord (Mark OpenParenthesis ∷ Word f ∷ Mark CloseParenthesis ∷ rest) = ident_then IsMeta _ f _ (λ h. g.duration h)
 behind_sound ExpiresWord (Mark OpenParenthesis ∷ ts) =
     then IsSpan ts (span_at ts) _ IsMeta _ (span_exact.sound ts) (λ ms hms. closed_then p.CloseParenthesis IsSpan ms.0 ts (meta.Expires ms.0) ms.1 IsMeta _ hms (λ rest hr. g.expires hr))
+behind_sound ReferenceWord rest = g.reference
 behind_sound word ts = tt
 
 meta_exact : Exact IsMeta meta_at 0

@@ -19,7 +19,7 @@ use Rattle.drl_phrase.specs.Reading.{◌>>=◌, after_word, closed, ended, ident
 use Rattle.drl_condition.specs.Reading.{condition_at}
 use Rattle.drl_action.specs.Reading.{action_at}
 use Rattle.drl_parse.specs.declared.words.MetaWord.{MetaWord}
-use Rattle.drl_parse.specs.declared.words.MetaWord.TheVariants.{RoleWord, TimestampWord, DurationWord, ExpiresWord}
+use Rattle.drl_parse.specs.declared.words.MetaWord.TheVariants.{RoleWord, TimestampWord, DurationWord, ExpiresWord, ReferenceWord}
 use Rattle.drl_parse.specs.declared.words.ItemWord.{ItemWord}
 use Rattle.drl_parse.specs.declared.words.ItemWord.TheVariants.{PackageWord, ImportWord, DialectWord, DeclareWord, RuleWord}
 
@@ -30,10 +30,12 @@ meta_text RoleWord = codes "role"
 meta_text TimestampWord = codes "timestamp"
 meta_text DurationWord = codes "duration"
 meta_text ExpiresWord = codes "expires"
+meta_text ReferenceWord = codes "reference"
 
 unfoldable pub meta_word : List ℕ → Option MetaWord
 meta_word w = if bytes_eq w (codes "role") then Some RoleWord else if bytes_eq w (codes "timestamp") then Some TimestampWord
-    else if bytes_eq w (codes "duration") then Some DurationWord else if bytes_eq w (codes "expires") then Some ExpiresWord else None
+    else if bytes_eq w (codes "duration") then Some DurationWord else if bytes_eq w (codes "expires") then Some ExpiresWord
+    else if bytes_eq w (codes "reference") then Some ReferenceWord else None
 
 -- the word of a role, and whether it is that of events
 unfoldable pub role_word : List ℕ → Option Bool
@@ -74,6 +76,7 @@ behind_meta RoleWord (Mark OpenParenthesis ∷ Word f ∷ Mark CloseParenthesis 
 behind_meta TimestampWord (Mark OpenParenthesis ∷ Word f ∷ Mark CloseParenthesis ∷ rest) = ident f (Some (meta.Timestamp f, rest))
 behind_meta DurationWord (Mark OpenParenthesis ∷ Word f ∷ Mark CloseParenthesis ∷ rest) = ident f (Some (meta.Duration f, rest))
 behind_meta ExpiresWord (Mark OpenParenthesis ∷ ts) = span_at ts >>= λ ms. closed p.CloseParenthesis (meta.Expires ms.0) ms.1
+behind_meta ReferenceWord rest = Some (meta.Reference, rest)
 behind_meta word ts = None
 
 unfoldable pub meta_at : List TokenKind → Read Meta

@@ -69,6 +69,7 @@ fn behind_meta_word(
                 Some(rest) => Ok(Some((Meta::Expires(span), rest))),
             }
         }
+        (MetaWord::ReferenceWord, rest) => Ok(Some((Meta::Reference, rest))),
         _ => Ok(None),
     }
 }

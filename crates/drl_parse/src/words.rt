@@ -8,6 +8,7 @@ pub(crate) enum MetaWord {
     TimestampWord,
     DurationWord,
     ExpiresWord,
+    ReferenceWord,
 }
 
 /// The words with which items begin.
@@ -29,6 +30,7 @@ pub(crate) fn word_of_meta(word: &str) -> Option<MetaWord>
         "timestamp" => Some(MetaWord::TimestampWord),
         "duration" => Some(MetaWord::DurationWord),
         "expires" => Some(MetaWord::ExpiresWord),
+        "reference" => Some(MetaWord::ReferenceWord),
         _ => None,
     }
 }

@@ -47,6 +47,7 @@ meta_again x ts rest (g.expires {ms} {ts = inner} h) good =
       is_fine = fine_append (number_tokens ms) (Mark CloseParenthesis ∷ []) one.is_fine refl;
       behind = one.behind.1;
     }
+meta_again x ts rest g.reference good = record { stands = λ k. g.reference; is_fine = refl; behind = good.1.1 }
 
 field_again : Agains IsField IsField field_tokens
 field_again x ts rest (g.field {f} {k = kind} hf hk) good =

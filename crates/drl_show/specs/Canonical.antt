@@ -200,6 +200,7 @@ meta_tokens (meta.Role event) = annotation_tokens (codes "role") (role_word even
 meta_tokens (meta.Timestamp f) = annotation_tokens (codes "timestamp") f
 meta_tokens (meta.Duration f) = annotation_tokens (codes "duration") f
 meta_tokens (meta.Expires ms) = span_annotation_tokens (codes "expires") ms
+meta_tokens meta.Reference = Mark At ∷ Word (codes "reference") ∷ []
 
 abbrev pub field_tokens : List ℕ × List ℕ → List TokenKind
 field_tokens (f, k) = Word f ∷ Mark Colon ∷ Word k ∷ []

@@ -60,6 +60,10 @@ impl Written for Meta {
             Meta::Timestamp(field) => annotation(out, "timestamp", field.as_str()),
             Meta::Duration(field) => annotation(out, "duration", field.as_str()),
             Meta::Expires(ms) => span_annotation(alloc, out, "expires", *ms),
+            Meta::Reference => {
+                mark(out, Mark::At)?;
+                word(out, "reference")
+            }
         }
     }
 }

@@ -1,5 +1,5 @@
 -- What the annotations of a type say. Of annotations of one word the first counts.
-use Rattle.std.specs.Prelude.{ℕ, ℤ, Bool, false, List, [], ◌∷◌, Option, Some, None}
+use Rattle.std.specs.Prelude.{ℕ, ℤ, ◌||◌, Bool, true, false, List, [], ◌∷◌, Option, Some, None}
 use Rattle.drl_grammar.specs.declared.file.Meta.{Meta}
 use Rattle.drl_grammar.specs.declared.file.Meta.TheVariants as meta
 use Rattle.drl_grammar.specs.declared.file.TypeTree.{TypeTree}
@@ -9,6 +9,7 @@ role_with (meta.Role event) others = event
 role_with (meta.Timestamp field) others = others
 role_with (meta.Duration field) others = others
 role_with (meta.Expires offset) others = others
+role_with meta.Reference others = others
 
 -- whether the role is that of events; without one it is that of facts
 abbrev pub role_of : List Meta → Bool
@@ -23,6 +24,7 @@ timestamp_with (meta.Timestamp field) others = Some field
 timestamp_with (meta.Role event) others = others
 timestamp_with (meta.Duration field) others = others
 timestamp_with (meta.Expires offset) others = others
+timestamp_with meta.Reference others = others
 
 -- the field that holds the start
 abbrev pub timestamp_of : List Meta → Option (List ℕ)
@@ -34,6 +36,7 @@ duration_with (meta.Duration field) others = Some field
 duration_with (meta.Role event) others = others
 duration_with (meta.Timestamp field) others = others
 duration_with (meta.Expires offset) others = others
+duration_with meta.Reference others = others
 
 -- the field that holds the duration
 abbrev pub duration_of : List Meta → Option (List ℕ)
@@ -45,8 +48,21 @@ expiry_with (meta.Expires offset) others = Some offset
 expiry_with (meta.Role event) others = others
 expiry_with (meta.Timestamp field) others = others
 expiry_with (meta.Duration field) others = others
+expiry_with meta.Reference others = others
 
 -- how long behind its start an event is present, in milliseconds
 abbrev pub expiry_of : List Meta → Option ℤ
 expiry_of [] = None
 expiry_of (m ∷ metas) = expiry_with m (expiry_of metas)
+
+abbrev pub is_reference_meta : Meta → Bool
+is_reference_meta meta.Reference = true
+is_reference_meta (meta.Role event) = false
+is_reference_meta (meta.Timestamp field) = false
+is_reference_meta (meta.Duration field) = false
+is_reference_meta (meta.Expires offset) = false
+
+-- whether it is a reference type: its facts are there before any event, and stay as they are
+abbrev pub reference_of : List Meta → Bool
+reference_of [] = false
+reference_of (m ∷ metas) = is_reference_meta m || reference_of metas

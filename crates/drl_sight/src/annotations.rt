@@ -1,5 +1,5 @@
 ghost use Rattle.std.specs.Prelude.{◌≡◌, option_map};
-ghost use Rattle.drl_sight.specs.Annotations.{role_of, is_event, timestamp_of, duration_of, expiry_of};
+ghost use Rattle.drl_sight.specs.Annotations.{role_of, is_event, timestamp_of, duration_of, expiry_of, reference_of};
 
 use drl_grammar::{Meta, TypeTree};
 use fx_base::{Millis, Text};
@@ -11,7 +11,7 @@ pub fn is_event_tree(tree: &TypeTree) -> bool
     for meta in tree.metas.as_slice() {
         match meta {
             Meta::Role(event) => return *event,
-            Meta::Timestamp(_) | Meta::Duration(_) | Meta::Expires(_) => {}
+            Meta::Timestamp(_) | Meta::Duration(_) | Meta::Expires(_) | Meta::Reference => {}
         }
     }
     false
@@ -24,7 +24,7 @@ pub fn timestamp_field(tree: &TypeTree) -> Option<&Text>
     for meta in tree.metas.as_slice() {
         match meta {
             Meta::Timestamp(field) => return Some(field),
-            Meta::Role(_) | Meta::Duration(_) | Meta::Expires(_) => {}
+            Meta::Role(_) | Meta::Duration(_) | Meta::Expires(_) | Meta::Reference => {}
         }
     }
     None
@@ -37,7 +37,7 @@ pub fn duration_field(tree: &TypeTree) -> Option<&Text>
     for meta in tree.metas.as_slice() {
         match meta {
             Meta::Duration(field) => return Some(field),
-            Meta::Role(_) | Meta::Timestamp(_) | Meta::Expires(_) => {}
+            Meta::Role(_) | Meta::Timestamp(_) | Meta::Expires(_) | Meta::Reference => {}
         }
     }
     None
@@ -50,8 +50,21 @@ pub fn expiry_offset(tree: &TypeTree) -> Option<Millis>
     for meta in tree.metas.as_slice() {
         match meta {
             Meta::Expires(offset) => return Some(*offset),
-            Meta::Role(_) | Meta::Timestamp(_) | Meta::Duration(_) => {}
+            Meta::Role(_) | Meta::Timestamp(_) | Meta::Duration(_) | Meta::Reference => {}
         }
     }
     None
+}
+
+/// Whether a type is a reference type, as the annotations say: its facts are there before any event, and stay as they are.
+pub fn is_reference_tree(tree: &TypeTree) -> bool
+    ensures { result ≡ reference_of tree.now.metas }
+{
+    for meta in tree.metas.as_slice() {
+        match meta {
+            Meta::Reference => return true,
+            Meta::Role(_) | Meta::Timestamp(_) | Meta::Duration(_) | Meta::Expires(_) => {}
+        }
+    }
+    false
 }

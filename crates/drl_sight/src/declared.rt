@@ -2,9 +2,9 @@ ghost use Rattle.std.specs.Prelude.{◌≡◌, ◌++◌, List, map, option_map, 
 ghost use Rattle.drl_sight.specs.Names.{place_of, is_among};
 ghost use Rattle.drl_sight.specs.Declarations.{types_of, type_names, field_names, type_named, kind_of, kind_at};
 ghost use Rattle.drl_sight.specs.Meanings.{field_kind};
-ghost use Rattle.drl_sight.specs.Annotations.{is_event};
+ghost use Rattle.drl_sight.specs.Annotations.{is_event, reference_of};
 
-use crate::annotations::is_event_tree;
+use crate::annotations::{is_event_tree, is_reference_tree};
 use crate::places::Places;
 use drl_grammar::{Body, Item, TypeTree};
 use fx_base::{Copies, Kind, NoMemory, Text};
@@ -99,6 +99,13 @@ impl<'a> DeclaredType<'a> {
         ensures { result ≡ is_event self.now }
     {
         is_event_tree(self.tree)
+    }
+
+    /// Whether it is a reference type.
+    pub fn is_reference(&self) -> bool
+        ensures { result ≡ reference_of self.now.metas }
+    {
+        is_reference_tree(self.tree)
     }
 
     /// Its fields, each with its name and the word of its kind.

@@ -12,7 +12,9 @@ mod operands;
 mod places;
 mod sight;
 
-pub use annotations::{duration_field, expiry_offset, is_event_tree, timestamp_field};
+pub use annotations::{
+    duration_field, expiry_offset, is_event_tree, is_reference_tree, timestamp_field,
+};
 pub use declared::{Declared, DeclaredType, kind_of_word, names_of_fields};
 pub use entries::{default_entry, entry_points, lateness_of_entry, source_of, with_entries};
 pub use names::{differ, has_at_most};
