@@ -25,6 +25,10 @@ const SHOWN: &[(&str, &str)] = &[
         "declare A @ role ( fact ) @ expires ( - 60000 ) end\n",
     ),
     (
+        "declare Rate @reference @role(fact) code : String end",
+        "declare Rate @ reference @ role ( fact ) code : String end\n",
+    ),
+    (
         "declare entry-point \"the end\" end declare entry - point late @lateness(2s500ms) end",
         "declare entry - point \"the end\" end\ndeclare entry - point \"late\" @ lateness ( 2500 ) end\n",
     ),

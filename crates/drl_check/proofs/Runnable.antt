@@ -1,5 +1,5 @@
 -- The program of an accepted file is one that engines run.
-use Rattle.std.proofs.Common.{◌≡◌, ◌++◌, ◌∷◌, ◌&&◌, ◌||◌, ℕ, ℤ, Bool, true, false, not, nat_le, nat_lt, length, List, [], map, Option, Some, None, is_some, refl, sym, ◌∙◌, ap, subst, append-nil, append_assoc, arith}
+use Rattle.std.proofs.Common.{◌≡◌, ◌++◌, ◌∷◌, ◌&&◌, ◌||◌, ℕ, zero, suc, ℤ, Bool, true, false, not, nat_le, nat_lt, length, List, [], map, slice_get, Option, Some, None, is_some, refl, sym, ◌∙◌, ap, subst, append-nil, append_assoc, arith}
 use Rattle.std.specs.List.{All, list_all, list_any, flat_map}
 use Rattle.std.specs.Str.{bytes_eq}
 use Rattle.std.proofs.lemmas.List.{length-map, map-append}
@@ -16,8 +16,9 @@ use Rattle.drl_grammar.specs.declared.file.Meta.TheVariants as meta
 use Rattle.drl_grammar.specs.declared.file.RuleTree.{RuleTree}
 use Rattle.drl_grammar.specs.declared.file.TypeTree.{TypeTree}
 use Rattle.rule_model.specs.declared.program.Rule.{Rule}
+use Rattle.rule_model.specs.Types.{is_event_type, is_event, is_reference_type, is_reference}
 use Rattle.rule_world.specs.Programs.{has_conditions, has_few_actions, has_expiry, UseOperators, NameEarlier, IsRunnable}
-use Rattle.drl_sight.specs.Annotations.{expiry_of}
+use Rattle.drl_sight.specs.Annotations.{expiry_of, reference_of}
 use Rattle.drl_sight.specs.Annotations as annotation
 use Rattle.drl_sight.specs.Declarations.{types_of, rules_of, type_in, rule_in, type_names, type_named, field_names}
 use Rattle.drl_sight.specs.EntryPoints.{entries_named, entry_names}
@@ -31,9 +32,9 @@ use Rattle.drl_program.proofs.Flagged.{observed_are_flagged}
 use Rattle.drl_program.proofs.Timed.{each_has_operator}
 use Rattle.drl_uses.specs.Uses.{any_condition, is_type_unknown, has_unknown_type, inserts_unknown_type, has_unknown_variable}
 use Rattle.drl_uses.specs.Kinds.{has_wrong_kind}
-use Rattle.drl_check.specs.declared.fault.CheckCode.TheVariants.{TwiceDeclared, LimitPassed, UnknownType, UnknownVariable, WrongKind, NotAnEvent, BadParams}
-use Rattle.drl_check.specs.Checks.{lacks_type, lacks_variable, is_wrong_kind, needs_event, has_bad_params, AllPass, IsAcceptedFile}
-use Rattle.drl_check.specs.Events.{is_of_events, is_no_event}
+use Rattle.drl_check.specs.declared.fault.CheckCode.TheVariants.{TwiceDeclared, LimitPassed, UnknownType, UnknownVariable, WrongKind, NotAnEvent, BadReference, BadParams}
+use Rattle.drl_check.specs.Checks.{lacks_type, lacks_variable, is_wrong_kind, needs_event, has_bad_reference, has_bad_params, AllPass, IsAcceptedFile}
+use Rattle.drl_check.specs.Events.{is_of_events, is_no_event, marks_event}
 use Rattle.drl_check.specs.Params.{has_short_expiry, expires_at_once}
 use Rattle.drl_check.specs.Twice.{meta_word, is_repeated}
 use Rattle.drl_sight.specs.EntryPoints.{declared_entries}
@@ -56,6 +57,7 @@ expiry_by (meta.Expires offset ∷ metas) x e s w =
     let within = and_left (meta_within (meta.Expires offset)) (list_all meta_within metas) w in
     (refl, subst (λ z. is_time z ≡ true) same (given_time offset short within))
 expiry_by (meta.Role event ∷ metas) x e s w = expiry_by metas x e s w
+expiry_by (meta.Reference ∷ metas) x e s w = expiry_by metas x e s w
 expiry_by (meta.Timestamp field ∷ metas) x e s w = (refl, (expiry_by metas x e s (and_right (meta_within (meta.Timestamp field)) (list_all meta_within metas) w)).1)
 expiry_by (meta.Duration field ∷ metas) x e s w = (refl, (expiry_by metas x e s (and_right (meta_within (meta.Duration field)) (list_all meta_within metas) w)).1)
 
@@ -89,6 +91,38 @@ all_expire names all before [] p = refl
 all_expire names all before (item ∷ items) p =
     body_expires names (length (types_of before)) (length (rules_of before)) (entry_names before) (types_of all) item.body (types_of items) (p.0 LimitPassed) (p.0 NotAnEvent) (p.0 BadParams)
     (all_expire names all (before ++ item ∷ []) items p.1)
+
+-- ---- reference types are no event types
+
+body_unmarked : (b : Body) (rest : List TypeTree) → has_bad_reference b ≡ false → list_any marks_event rest ≡ false → list_any marks_event (type_in b ++ rest) ≡ false
+body_unmarked (body.Declare t) rest e h = neither (marks_event t) (list_any marks_event rest) e h
+  where
+    neither : (a b : Bool) → a ≡ false → b ≡ false → (a || b) ≡ false
+    neither true b e h = e
+    neither false b e h = h
+body_unmarked (body.Package p) rest e h = h
+body_unmarked (body.Import p star) rest e h = h
+body_unmarked (body.Dialect d) rest e h = h
+body_unmarked (body.Entry a l) rest e h = h
+body_unmarked (body.Rule r) rest e h = h
+
+all_unmarked : (all before items : List Item) → AllPass all before items → list_any marks_event (types_of items) ≡ false
+all_unmarked all before [] p = refl
+all_unmarked all before (item ∷ items) p = body_unmarked item.body (types_of items) (p.0 BadReference) (all_unmarked all (before ++ item ∷ []) items p.1)
+
+references_by : (names : List (List ℕ)) (types : List TypeTree) (ty : ℕ) → list_any marks_event types ≡ false → is_reference_type (slice_get (map (type_info names) types) ty) ≡ true
+    → is_event_type (slice_get (map (type_info names) types) ty) ≡ false
+references_by names [] ty h r = refl
+references_by names (t ∷ types) zero h r = no_event (annotation.is_event t) (reference_of t.metas) (or_left (marks_event t) (list_any marks_event types) h) r
+  where
+    no_event : (a b : Bool) → (a && b) ≡ false → b ≡ true → a ≡ false
+    no_event true b e r = sym r ∙ e
+    no_event false b e r = refl
+references_by names (t ∷ types) (suc ty) h r = references_by names types ty (or_right (marks_event t) (list_any marks_event types) h) r
+
+accepted_references : (file : File) → IsAcceptedFile file → (ty : ℕ) → is_reference (program_of file) ty ≡ true → is_event (program_of file) ty ≡ false
+unfolding is_event is_reference
+accepted_references file a ty r = references_by (observed_names (rules_of file.items)) (types_of file.items) ty (all_unmarked file.items [] file.items a) r
 
 -- ---- temporal tests have operators
 
@@ -210,6 +244,7 @@ accepted_runnable file a =
       named = all_named entries file.items [] file.items a;
       windows = accepted_windows file a;
       observed = observed_are_flagged file (omega (arith, few)) (declared_once file.items [] file.items a none_declared) (all_known file.items [] file.items a);
+      references = accepted_references file a;
       actions = all_sound types entries has_few_actions (actions_sound types entries) file.items [] file.items a;
       typed = accepted_typed file a;
     }

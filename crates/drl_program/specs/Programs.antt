@@ -61,7 +61,7 @@ use Rattle.rule_model.specs.declared.test.TimeTest.{TimeTest}
 use Rattle.rule_model.specs.declared.test.ResultTest.{ResultTest}
 use Rattle.drl_sight.specs.Names.{place_of}
 use Rattle.drl_sight.specs.Declarations.{types_of, rules_of, type_names, field_names, type_named, kind_of}
-use Rattle.drl_sight.specs.Annotations.{is_event, timestamp_of, duration_of, expiry_of}
+use Rattle.drl_sight.specs.Annotations.{is_event, timestamp_of, duration_of, expiry_of, reference_of}
 use Rattle.drl_sight.specs.EntryPoints.{entry_names, lateness_named}
 use Rattle.drl_sight.specs.Sight.{Sight, Meaning, of_fact, of_field, of_result, meaning_of, Place, begin, behind, sight_of_actions}
 use Rattle.drl_sight.specs.Operands.{any_of_part}
@@ -100,6 +100,7 @@ type_info observed t = record {
   duration = option_map (field_place t) (duration_of t.metas);
   expires = expiry_of t.metas;
   observed = is_observed_event observed t;
+  reference = reference_of t.metas;
 }
 
 -- ---- entry points, given the items of the file

@@ -6,8 +6,8 @@ ghost use Rattle.drl_program.specs.Programs.{field_info, field_place, type_info,
 use crate::numbers::field_number;
 use drl_grammar::{Body, Item, TypeTree};
 use drl_sight::{
-    DeclaredType, Places, duration_field, expiry_offset, is_event_tree, kind_of_word,
-    lateness_of_entry, timestamp_field,
+    DeclaredType, Places, duration_field, expiry_offset, is_event_tree, is_reference_tree,
+    kind_of_word, lateness_of_entry, timestamp_field,
 };
 use fx_base::{Copies, Kind, NoMemory, Seq, Text};
 use rule_model::{EntryInfo, TypeInfo};
@@ -75,6 +75,7 @@ fn info_with(
         duration: field_named(ty, duration_field(tree)),
         expires: expiry_offset(tree),
         observed: is_observed(observed, tree),
+        reference: is_reference_tree(tree),
     })
 }
 
