@@ -6,13 +6,14 @@ use Rattle.std.proofs.lemmas.Slice.Eq.{bytes_eq-Decides}
 use Rattle.std.proofs.lemmas.Bool.Decides.{Decides-eqb}
 use Rattle.serde_json.specs.Data.{Data, Members}
 use Rattle.script_read.specs.Members.{text_member, object_member, whole_member, id_member, count_member, count}
-use Rattle.script_read.specs.Form.{IsForm, fire, fire_most, held, insert, insert_into, modify, retract, advance, at, promise, promise_for, fire_of, held_of, insert_of, modify_of, retract_of, advance_of, at_of, promise_of, has_count, fire_parts, insert_parts, insert_into_parts, modify_parts, retract_parts, advance_parts, at_parts, promise_parts, promise_of_parts, command_by_word, command_of}
+use Rattle.script_read.specs.Form.{IsForm, fire, fire_most, held, insert, insert_into, modify, retract, advance, at, promise, promise_for, begin, fire_of, held_of, insert_of, modify_of, retract_of, advance_of, at_of, promise_of, begin_of, has_count, fire_parts, insert_parts, insert_into_parts, modify_parts, retract_parts, advance_parts, at_parts, promise_parts, promise_of_parts, command_by_word, command_of}
 use Rattle.script_read.specs.declared.asked.Command.{Command}
-use Rattle.script_read.specs.declared.asked.Command.TheVariants.{Fire, Held}
+use Rattle.script_read.specs.declared.asked.Command.TheVariants.{Change, Fire, Held}
+use Rattle.script_read.specs.declared.asked.Change.TheVariants.{Begin}
 
 -- every command with the form of a value is the one that is found
 pub form_again : {d : Data} {c : Command} → IsForm d c → command_of d ≡ Some c
-unfolding command_of fire_of held_of insert_of modify_of retract_of advance_of at_of promise_of
+unfolding command_of fire_of held_of insert_of modify_of retract_of advance_of at_of promise_of begin_of
 form_again (fire word members) = rw (word, members) refl
 form_again (fire_most word most members) = rw (word, members, most) refl
 form_again (held word members) = rw (word, members) refl
@@ -24,6 +25,7 @@ form_again (advance word by members) = rw (word, members, by) refl
 form_again (at word moment members) = rw (word, members, moment) refl
 form_again (promise word from members) = rw (word, members, from) refl
 form_again (promise_for word entry from members) = rw (word, members, entry, from) refl
+form_again (begin word members) = rw (word, members) refl
 
 -- a value has the form of at most one command
 pub one_form : {d : Data} {c other : Command} → IsForm d c → IsForm d other → c ≡ other
@@ -181,6 +183,17 @@ unfolding promise_of
 promise_sound d c word found =
     promise_counted (has_count 2 (count d)) (has_count 3 (count d)) (text_member (codes "entry") d) (whole_member (codes "from") d) d c refl refl refl refl word found
 
+-- at each case of the count
+begin_counted : (alone : Bool) (d : Data) (c : Command) → has_count 1 (count d) ≡ alone → text_member (codes "do") d ≡ Some (codes "begin")
+    → Some c ≡ (if alone then Some (Change Begin) else None) → IsForm d c
+begin_counted true d c members word found = subst (IsForm d) (some_injective (sym found)) (begin word (counted 1 (count d) members))
+begin_counted false d c members word found = cc
+
+-- a begin that is found has its form
+begin_sound : (d : Data) (c : Command) → text_member (codes "do") d ≡ Some (codes "begin") → Some c ≡ begin_of d → IsForm d c
+unfolding begin_of
+begin_sound d c word found = begin_counted (has_count 1 (count d)) d c refl word found
+
 -- what is found by a test comes from one of its two sides
 by_test : (b : Bool) (front rest : Option Command) (P : Command → Type 0) → (b ≡ true → (c : Command) → Some c ≡ front → P c)
     → ((c : Command) → Some c ≡ rest → P c) → (c : Command) → Some c ≡ (if b then front else rest) → P c
@@ -204,7 +217,8 @@ by_word (Some word) d stands =
     (by_test (bytes_eq word (codes "at")) _ _ (IsForm d) (λ same c. at_sound d c (word_is (codes "at") word d stands same))
     (by_test (bytes_eq word (codes "held")) _ _ (IsForm d) (λ same c. held_sound d c (word_is (codes "held") word d stands same))
     (by_test (bytes_eq word (codes "promise")) _ _ (IsForm d) (λ same c. promise_sound d c (word_is (codes "promise") word d stands same))
-    (λ c found. cc))))))))
+    (by_test (bytes_eq word (codes "begin")) _ _ (IsForm d) (λ same c. begin_sound d c (word_is (codes "begin") word d stands same))
+    (λ c found. cc)))))))))
 
 -- a value has the form of the command that is found in it
 pub form_sound : (d : Data) (c : Command) → Some c ≡ command_of d → IsForm d c

@@ -6,7 +6,7 @@ use Rattle.script_read.specs.Given.{givens}
 use Rattle.script_read.specs.Members.{text_member, object_member, whole_member, id_member, count_member, count}
 use Rattle.script_read.specs.declared.asked.Command.{Command}
 use Rattle.script_read.specs.declared.asked.Command.TheVariants.{Change, Fire, Held}
-use Rattle.script_read.specs.declared.asked.Change.TheVariants.{Insert, Modify, Retract, Advance, At, Promise}
+use Rattle.script_read.specs.declared.asked.Change.TheVariants.{Insert, Modify, Retract, Advance, At, Promise, Begin}
 
 -- The forms, one for each kind of line: an object with exactly the members that are named. Since each name stands once,
 -- an object of n members that has n given names has no other.
@@ -64,6 +64,10 @@ pub data IsForm : Data → Command → Type 0 where
       → text_member (codes "entry") d ≡ Some entry → whole_member (codes "from") d ≡ Some from
       → count d ≡ Some 3
       → IsForm d (Change (Promise (Some entry) from))
+  -- {"do":"begin"}
+  begin : {d : Data} → text_member (codes "do") d ≡ Some (codes "begin")
+      → count d ≡ Some 1
+      → IsForm d (Change Begin)
 
 abbrev pub has_count : ℕ → Option ℕ → Bool
 has_count n None = false
@@ -134,6 +138,9 @@ unfoldable pub promise_of : Data → Option Command
 promise_of d = if has_count 2 (count d) then promise_parts (whole_member (codes "from") d)
     else (if has_count 3 (count d) then promise_of_parts (text_member (codes "entry") d) (whole_member (codes "from") d) else None)
 
+unfoldable pub begin_of : Data → Option Command
+begin_of d = if has_count 1 (count d) then Some (Change Begin) else None
+
 -- by the word after `do`
 abbrev pub command_by_word : Data → Option (List ℕ) → Option Command
 command_by_word d None = None
@@ -144,7 +151,8 @@ command_by_word d (Some word) = if bytes_eq word (codes "fire") then fire_of d
     else (if bytes_eq word (codes "advance") then advance_of d
     else (if bytes_eq word (codes "at") then at_of d
     else (if bytes_eq word (codes "held") then held_of d
-    else (if bytes_eq word (codes "promise") then promise_of d else None)))))))
+    else (if bytes_eq word (codes "promise") then promise_of d
+    else (if bytes_eq word (codes "begin") then begin_of d else None))))))))
 
 -- the command whose form a value has
 unfoldable pub command_of : Data → Option Command

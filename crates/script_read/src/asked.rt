@@ -35,6 +35,8 @@ pub enum Change {
     Advance(Millis),
     /// The clock goes to this moment.
     At(Millis),
+    /// The world has begun: no fact of a reference type comes any more.
+    Begin,
     /// The entry point with this name, without one the default entry point, gets no event any more that starts before this moment.
     Promise {
         entry: Option<Text>,

@@ -2,7 +2,7 @@ ghost use Rattle.std.specs.Prelude.{◌≡◌, IfOk, IsErrOf, option_map, codes}
 ghost use Rattle.serde_json.specs.Data.{Data};
 ghost use Rattle.serde_json.specs.View.{view};
 ghost use Rattle.script_read.specs.Members.{text_member as text_under, object_member as object_under, whole_member as whole_under};
-ghost use Rattle.script_read.specs.Form.{IsForm, fire_of, held_of, insert_parts, insert_into_parts, insert_of, modify_of, retract_of, advance_of, at_of, promise_parts, promise_of_parts, promise_of, command_of};
+ghost use Rattle.script_read.specs.Form.{IsForm, fire_of, held_of, insert_parts, insert_into_parts, insert_of, modify_of, retract_of, advance_of, at_of, promise_parts, promise_of_parts, promise_of, begin_of, command_of};
 ghost use Rattle.script_read.specs.Asked.{IsReading, reading, asked, Answers};
 
 use crate::asked::{Change, Command};
@@ -182,6 +182,16 @@ fn entry_promise(alloc: Global, value: &Value) -> Result<Option<Command>, NoMemo
     }
 }
 
+#[tactic(auto, unfolding(crate::specs::Form::begin_of))]
+fn begin(value: &Value) -> Option<Command>
+    ensures { result ≡ begin_of (view value.now) }
+{
+    match count(value)? {
+        1 => Some(Command::Change(Change::Begin)),
+        _ => None,
+    }
+}
+
 // The command whose form the value has.
 #[tactic(auto, unfolding(crate::specs::Form::command_of))]
 fn form(alloc: Global, value: &Value) -> Result<Option<Command>, NoMemory>
@@ -199,6 +209,7 @@ fn form(alloc: Global, value: &Value) -> Result<Option<Command>, NoMemory>
         "at" => Ok(at(value)),
         "held" => Ok(held(value)),
         "promise" => promise(alloc, value),
+        "begin" => Ok(begin(value)),
         _ => Ok(None),
     }
 }
