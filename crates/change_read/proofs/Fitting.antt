@@ -1,5 +1,5 @@
 -- The values of the steps that changes ask for have the declared kinds.
-use Rattle.std.proofs.Common.{◌≡◌, ◌≤◌, ◌<◌, ◌==◌, ℕ, ℤ, Bool as Truth, true, false, cond, List, [], ◌∷◌, length, nat_le, Option, Some, None, option_map, Result, Ok, Err, refl, subst, lt-ltb, arith}
+use Rattle.std.proofs.Common.{◌≡◌, ◌≤◌, ◌<◌, ◌==◌, ◌&&◌, ℕ, ℤ, Bool as Truth, true, false, cond, List, [], ◌∷◌, length, nat_le, Option, Some, None, option_map, Result, Ok, Err, refl, subst, lt-ltb, arith}
 use Rattle.std.proofs.lemmas.Bool.Decides.{Decides-eqb}
 use Rattle.std.specs.List.{list_all}
 use Rattle.std.specs.Option.{option_and_then}
@@ -13,14 +13,15 @@ use Rattle.rule_model.specs.declared.program.Program.{Program}
 use Rattle.rule_model.specs.declared.program.TypeInfo.{TypeInfo}
 use Rattle.rule_model.specs.declared.step.Step.{Step}
 use Rattle.rule_world.specs.declared.code.Code.{Code}
-use Rattle.rule_world.specs.declared.code.Code.TheVariants.{EventFixed, Absent, BadFields}
+use Rattle.rule_world.specs.declared.code.Code.TheVariants.{EventFixed, ReferenceFixed, Absent, BadFields}
 use Rattle.script_read.specs.declared.asked.Change.{Change}
-use Rattle.script_read.specs.declared.asked.Change.TheVariants.{Insert, Modify, Retract, Advance, At, Promise}
+use Rattle.script_read.specs.declared.asked.Change.TheVariants.{Insert, Modify, Retract, Advance, At, Promise, Begin}
 use Rattle.script_read.specs.declared.given.Given.{Given}
-use Rattle.change_read.specs.Changes.{type_named, entry_asked, values_step, insert_step, sets_step, modify_step, retract_step, promise_step, change_step}
+use Rattle.change_read.specs.Changes.{type_named, entry_asked, values_step, new_step, insert_step, sets_step, modify_step, retract_step, promise_step, change_step}
 use Rattle.change_read.specs.Fields.{are_fields, are_some_fields, given_under, value_given, field_value, values_given, field_named, set_for, sets_given}
 use Rattle.change_read.proofs.Places.{some_is, stands, type_stands, entry_within, FieldAt, field_stands}
 use Rattle.fx_base.specs.declared.kind.Kind.TheVariants as kind
+use Rattle.rule_model.specs.declared.step.Step.TheVariants as step
 use Rattle.fx_base.specs.declared.value.Value.TheVariants as value
 use Rattle.script_read.specs.declared.given.Given.TheVariants as given
 
@@ -154,15 +155,21 @@ insert_tested : (b : Truth) (front : Result Step Code) (s : Step) (p : Program) 
 insert_tested true front s p present fits e = fits e
 insert_tested false front s p present fits e = cc
 
+-- at each case of the test of the type
+not_fixed : (b : Truth) (front : Result Step Code) (s : Step) → cond b (Err ReferenceFixed) front ≡ Ok s → front ≡ Ok s
+not_fixed true front s e = cc
+not_fixed false front s e = e
+
 -- at each case of the type and the entry point
-insert_fits : (p : Program) (present : ℕ → Option Fact) (ty : Option (ℕ × TypeInfo)) (entry : Option ℕ) (members : List (List ℕ × Given)) (s : Step)
+insert_fits : (p : Program) (begun : Truth) (present : ℕ → Option Fact) (ty : Option (ℕ × TypeInfo)) (entry : Option ℕ) (members : List (List ℕ × Given)) (s : Step)
     → IsFound p.types ty → ((place : ℕ) → entry ≡ Some place → place < length p.entries)
-    → insert_step ty entry members ≡ Ok s → step_fits p present s ≡ true
-insert_fits p present None entry members s is below e = cc
-insert_fits p present (Some ty) None members s is below e = cc
-insert_fits p present (Some ty) (Some entry) members s is below e =
+    → insert_step begun ty entry members ≡ Ok s → step_fits p present s ≡ true
+insert_fits p begun present None entry members s is below e = cc
+insert_fits p begun present (Some ty) None members s is below e = cc
+insert_fits p begun present (Some ty) (Some entry) members s is below e =
     insert_tested (are_fields ty.1.fields members) (values_step ty.0 entry (values_given ty.1.fields members)) s p present
-    (insertion_fits p present ty entry (values_given ty.1.fields members) s (is ty refl) (below entry refl) (values_have_kinds ty.1.fields members)) e
+    (insertion_fits p present ty entry (values_given ty.1.fields members) s (is ty refl) (below entry refl) (values_have_kinds ty.1.fields members))
+    (not_fixed (ty.1.reference && begun) (new_step ty.0 entry ty.1.fields members) s e)
 
 -- the modification at each case of its sets
 modification_fits : (p : Program) (present : ℕ → Option Fact) (ty : ℕ × TypeInfo) (id : FactId) (sets : Option (List (ℕ × Value))) (f : Fact) (s : Step)
@@ -174,24 +181,26 @@ modification_fits p present ty id None f s is there plain of_type fits e = cc
 modification_fits p present ty id (Some sets) f s is there plain of_type fits e =
     subst (λ (t : Step). step_fits p present t ≡ true) (ok_is e) (rw (there, of_type, is, plain) (fits sets refl))
 
--- at each case of the three tests
-modify_tested : (event of_type some : Truth) (front : Result Step Code) (s : Step) (p : Program) (present : ℕ → Option Fact)
+-- at each case of the four tests
+modify_tested : (event reference of_type some : Truth) (front : Result Step Code) (s : Step) (p : Program) (present : ℕ → Option Fact)
     → (event ≡ false → of_type ≡ true → front ≡ Ok s → step_fits p present s ≡ true)
-    → cond event (Err EventFixed) (cond of_type (cond some front (Err BadFields)) (Err Absent)) ≡ Ok s → step_fits p present s ≡ true
-modify_tested true of_type some front s p present fits e = cc
-modify_tested false true true front s p present fits e = fits refl refl e
-modify_tested false true false front s p present fits e = cc
-modify_tested false false some front s p present fits e = cc
+    → cond event (Err EventFixed) (cond reference (Err ReferenceFixed) (cond of_type (cond some front (Err BadFields)) (Err Absent))) ≡ Ok s
+    → step_fits p present s ≡ true
+modify_tested true reference of_type some front s p present fits e = cc
+modify_tested false true of_type some front s p present fits e = cc
+modify_tested false false true true front s p present fits e = fits refl refl e
+modify_tested false false true false front s p present fits e = cc
+modify_tested false false false some front s p present fits e = cc
 
 -- at each case of the type and of the fact with the id
 modify_fits : (p : Program) (present : ℕ → Option Fact) (ty : Option (ℕ × TypeInfo)) (id : FactId) (fact : Option Fact) (members : List (List ℕ × Given)) (s : Step)
     → IsFound p.types ty → present id.0 ≡ fact → modify_step ty id fact members ≡ Ok s → step_fits p present s ≡ true
 modify_fits p present None id fact members s is there e = cc
 modify_fits p present (Some ty) id None members s is there e =
-    modify_tested ty.1.event false (are_some_fields ty.1.fields members) (sets_step id (sets_given ty.1.fields members)) s p present
+    modify_tested ty.1.event ty.1.reference false (are_some_fields ty.1.fields members) (sets_step id (sets_given ty.1.fields members)) s p present
     (λ plain of_type. cc) e
 modify_fits p present (Some ty) id (Some f) members s is there e =
-    modify_tested ty.1.event (f.ty.0 == ty.0) (are_some_fields ty.1.fields members) (sets_step id (sets_given ty.1.fields members)) s p present
+    modify_tested ty.1.event ty.1.reference (f.ty.0 == ty.0) (are_some_fields ty.1.fields members) (sets_step id (sets_given ty.1.fields members)) s p present
     (λ plain of_type. modification_fits p present ty id (sets_given ty.1.fields members) f s (is ty refl) there plain
     ((Decides-eqb f.ty.0 ty.0).0 of_type) (sets_fit_fields ty.1.fields members)) e
 
@@ -199,7 +208,8 @@ modify_fits p present (Some ty) id (Some f) members s is there e =
 retract_fits : (p : Program) (present : ℕ → Option Fact) (ty : Option (ℕ × TypeInfo)) (id : FactId) (s : Step) → retract_step ty id ≡ Ok s → step_fits p present s ≡ true
 unfolding step_fits
 retract_fits p present None id s e = cc
-retract_fits p present (Some ty) id s e = subst (λ (t : Step). step_fits p present t ≡ true) (ok_is e) refl
+retract_fits p present (Some ty) id s e =
+    subst (λ (t : Step). step_fits p present t ≡ true) (ok_is (not_fixed ty.1.reference (Ok (step.Retract (record { 0 = ty.0 }) id)) s e)) refl
 
 -- nor has a promise
 promise_fits : (p : Program) (present : ℕ → Option Fact) (entry : Option ℕ) (from : ℤ) (s : Step) → promise_step entry from ≡ Ok s → step_fits p present s ≡ true
@@ -208,15 +218,16 @@ promise_fits p present None from s e = cc
 promise_fits p present (Some entry) from s e = subst (λ (t : Step). step_fits p present t ≡ true) (ok_is e) refl
 
 -- at each change
-pub asked_fits : (p : Program) (present : ℕ → Option Fact) (change : Change) (s : Step) → 1 ≤ length p.entries → change_step p present change ≡ Ok s
+pub asked_fits : (p : Program) (begun : Truth) (present : ℕ → Option Fact) (change : Change) (s : Step) → 1 ≤ length p.entries → change_step p begun present change ≡ Ok s
     → step_fits p present s ≡ true
 unfolding change_step step_fits
-asked_fits p present (Insert ty entry members) s some e =
-    insert_fits p present (type_named ty p.types 0) (entry_asked entry p.entries) members s (named ty p.types)
+asked_fits p begun present (Insert ty entry members) s some e =
+    insert_fits p begun present (type_named ty p.types 0) (entry_asked entry p.entries) members s (named ty p.types)
     (λ place. entry_is entry p place some) e
-asked_fits p present (Modify ty id members) s some e =
+asked_fits p begun present (Modify ty id members) s some e =
     modify_fits p present (type_named ty p.types 0) id (present id.0) members s (named ty p.types) refl e
-asked_fits p present (Retract ty id) s some e = retract_fits p present (type_named ty p.types 0) id s e
-asked_fits p present (Advance by) s some e = subst (λ (t : Step). step_fits p present t ≡ true) (ok_is e) refl
-asked_fits p present (At moment) s some e = subst (λ (t : Step). step_fits p present t ≡ true) (ok_is e) refl
-asked_fits p present (Promise entry from) s some e = promise_fits p present (entry_asked entry p.entries) from s e
+asked_fits p begun present (Retract ty id) s some e = retract_fits p present (type_named ty p.types 0) id s e
+asked_fits p begun present (Advance by) s some e = subst (λ (t : Step). step_fits p present t ≡ true) (ok_is e) refl
+asked_fits p begun present (At moment) s some e = subst (λ (t : Step). step_fits p present t ≡ true) (ok_is e) refl
+asked_fits p begun present (Promise entry from) s some e = promise_fits p present (entry_asked entry p.entries) from s e
+asked_fits p begun present Begin s some e = subst (λ (t : Step). step_fits p present t ≡ true) (ok_is e) refl

@@ -1,5 +1,5 @@
 -- The step that a change of the script asks for, or its fault. The faults are tried in their order.
-use Rattle.std.specs.Prelude.{ℕ, ◌+◌, List, [], ◌∷◌, Option, Some, None, Result, Ok, Err, ℤ, if◌then◌else◌}
+use Rattle.std.specs.Prelude.{ℕ, ◌+◌, ◌&&◌, Bool, List, [], ◌∷◌, Option, Some, None, Result, Ok, Err, ℤ, if◌then◌else◌}
 use Rattle.std.specs.Str.{bytes_eq}
 use Rattle.fx_base.specs.declared.ids.FactId.{FactId}
 use Rattle.fx_base.specs.declared.kind.Kind.{Kind}
@@ -11,9 +11,9 @@ use Rattle.rule_model.specs.declared.program.TypeInfo.{TypeInfo}
 use Rattle.rule_model.specs.declared.step.Step.{Step}
 use Rattle.script_read.specs.declared.given.Given.{Given}
 use Rattle.script_read.specs.declared.asked.Change.{Change}
-use Rattle.script_read.specs.declared.asked.Change.TheVariants.{Insert, Modify, Retract, Advance, At, Promise}
+use Rattle.script_read.specs.declared.asked.Change.TheVariants.{Insert, Modify, Retract, Advance, At, Promise, Begin}
 use Rattle.rule_world.specs.declared.code.Code.{Code}
-use Rattle.rule_world.specs.declared.code.Code.TheVariants.{UnknownType, UnknownEntry, EventFixed, Absent, BadFields, BadValue}
+use Rattle.rule_world.specs.declared.code.Code.TheVariants.{UnknownType, UnknownEntry, EventFixed, ReferenceFixed, Absent, BadFields, BadValue}
 use Rattle.rule_world.specs.Worlds.{is_of_type}
 use Rattle.change_read.specs.Fields.{are_fields, are_some_fields, values_given, sets_given}
 use Rattle.rule_model.specs.declared.step.Step.TheVariants as step
@@ -33,17 +33,21 @@ abbrev pub entry_asked : Option (List ℕ) → List EntryInfo → Option ℕ
 entry_asked None entries = Some 0
 entry_asked (Some name) entries = entry_named name entries 0
 
--- ---- insertions
+-- ---- insertions; whether the world has begun is given
 
 abbrev pub values_step : ℕ → ℕ → Option (List Value) → Result Step Code
 values_step ty entry None = Err BadValue
 values_step ty entry (Some values) = Ok (step.Insert (record { 0 = ty }) (record { 0 = entry }) values)
 
-abbrev pub insert_step : Option (ℕ × TypeInfo) → Option ℕ → List (List ℕ × Given) → Result Step Code
-insert_step None entry members = Err UnknownType
-insert_step (Some ty) None members = Err UnknownEntry
-insert_step (Some ty) (Some entry) members =
-    if are_fields ty.1.fields members then values_step ty.0 entry (values_given ty.1.fields members) else Err BadFields
+abbrev pub new_step : ℕ → ℕ → List (List ℕ × Kind) → List (List ℕ × Given) → Result Step Code
+new_step ty entry fields members = if are_fields fields members then values_step ty entry (values_given fields members) else Err BadFields
+
+abbrev pub insert_step : Bool → Option (ℕ × TypeInfo) → Option ℕ → List (List ℕ × Given) → Result Step Code
+insert_step begun None entry members = Err UnknownType
+insert_step begun (Some ty) None members = Err UnknownEntry
+insert_step begun (Some ty) (Some entry) members =
+    if ty.1.reference && begun then Err ReferenceFixed
+    else new_step ty.0 entry ty.1.fields members
 
 -- ---- modifications; the fact that has the id, if one has it, is given
 
@@ -58,6 +62,7 @@ abbrev pub modify_step : Option (ℕ × TypeInfo) → FactId → Option Fact →
 modify_step None id fact members = Err UnknownType
 modify_step (Some ty) id fact members =
     if ty.1.event then Err EventFixed
+    else if ty.1.reference then Err ReferenceFixed
     else if is_of_type ty.0 fact then fields_step id ty.1.fields members
     else Err Absent
 
@@ -65,7 +70,7 @@ modify_step (Some ty) id fact members =
 
 abbrev pub retract_step : Option (ℕ × TypeInfo) → FactId → Result Step Code
 retract_step None id = Err UnknownType
-retract_step (Some ty) id = Ok (step.Retract (record { 0 = ty.0 }) id)
+retract_step (Some ty) id = if ty.1.reference then Err ReferenceFixed else Ok (step.Retract (record { 0 = ty.0 }) id)
 
 -- ---- promises; whether the moment may be promised is asked when the step is done
 
@@ -73,11 +78,12 @@ abbrev pub promise_step : Option ℕ → ℤ → Result Step Code
 promise_step None from = Err UnknownEntry
 promise_step (Some entry) from = Ok (step.Promise (record { 0 = entry }) from)
 
--- the step of a change, given the present facts by their ids
-unfoldable pub change_step : Program → (ℕ → Option Fact) → Change → Result Step Code
-change_step p present (Insert ty entry fields) = insert_step (type_named ty p.types 0) (entry_asked entry p.entries) fields
-change_step p present (Modify ty id fields) = modify_step (type_named ty p.types 0) id (present id.0) fields
-change_step p present (Retract ty id) = retract_step (type_named ty p.types 0) id
-change_step p present (Advance by) = Ok (step.Advance by)
-change_step p present (At moment) = Ok (step.At moment)
-change_step p present (Promise entry from) = promise_step (entry_asked entry p.entries) from
+-- the step of a change, given whether the world has begun, and the present facts by their ids
+unfoldable pub change_step : Program → Bool → (ℕ → Option Fact) → Change → Result Step Code
+change_step p begun present (Insert ty entry fields) = insert_step begun (type_named ty p.types 0) (entry_asked entry p.entries) fields
+change_step p begun present (Modify ty id fields) = modify_step (type_named ty p.types 0) id (present id.0) fields
+change_step p begun present (Retract ty id) = retract_step (type_named ty p.types 0) id
+change_step p begun present (Advance by) = Ok (step.Advance by)
+change_step p begun present (At moment) = Ok (step.At moment)
+change_step p begun present (Promise entry from) = promise_step (entry_asked entry p.entries) from
+change_step p begun present Begin = Ok step.Begin

@@ -1,5 +1,5 @@
 //! A law of the steps that changes ask for, the contract of a function that does nothing.
-ghost use Rattle.std.specs.Prelude.{◌≡◌, ◌≤◌, ℕ, true, length, Option, Ok};
+ghost use Rattle.std.specs.Prelude.{◌≡◌, ◌≤◌, ℕ, Bool, true, length, Option, Ok};
 ghost use Rattle.fx_base.specs.declared.fact.Fact.{Fact};
 ghost use Rattle.rule_model.specs.declared.program.Program.{Program};
 ghost use Rattle.rule_model.specs.declared.step.Step.{Step};
@@ -12,6 +12,6 @@ ghost use Rattle.change_read.specs.Changes.{change_step};
 /// That is so whatever facts are given: a modification is asked for only where the fact that is given for its id has the type that
 /// the change names.
 pub fn asked_steps_fit()
-    ensures { (p : Program) (present : ℕ → Option Fact) (change : Change) (step : Step) → 1 ≤ length p.entries
-        → change_step p present change ≡ Ok step → step_fits p present step ≡ true }
+    ensures { (p : Program) (begun : Bool) (present : ℕ → Option Fact) (change : Change) (step : Step) → 1 ≤ length p.entries
+        → change_step p begun present change ≡ Ok step → step_fits p present step ≡ true }
 {}

@@ -63,6 +63,7 @@ fn is_present<P: Present>(present: &P, id: FactId, ty: TypeId) -> bool
 fn read_insert(
     alloc: Global,
     program: &Program,
+    begun: bool,
     name: &Text,
     entry: &Option<Text>,
     members: &[(Text, Given)],
@@ -70,7 +71,7 @@ fn read_insert(
     requires types { length program.now.types ≤ 2 ^ 16 }
     requires entries { length program.now.entries ≤ 2 ^ 16 }
     ensures { IfOk result (λ step. step
-        ≡ insert_step (type_named name.now program.now.types 0) (entry_asked entry.now program.now.entries) members.now) }
+        ≡ insert_step begun (type_named name.now program.now.types 0) (entry_asked entry.now program.now.entries) members.now) }
 {
     let Some((ty, info)) = declared_type(program.types.as_slice(), name) else {
         return Ok(Err(Code::UnknownType));
@@ -78,6 +79,9 @@ fn read_insert(
     let Some(entry) = entry_for(program.entries.as_slice(), entry) else {
         return Ok(Err(Code::UnknownEntry));
     };
+    if info.reference && begun {
+        return Ok(Err(Code::ReferenceFixed));
+    }
     if !has_fields(info.fields.as_slice(), members) {
         return Ok(Err(Code::BadFields));
     }
@@ -105,6 +109,9 @@ fn read_modify<P: Present>(
     if info.event {
         return Ok(Err(Code::EventFixed));
     }
+    if info.reference {
+        return Ok(Err(Code::ReferenceFixed));
+    }
     if !is_present(present, id, ty) {
         return Ok(Err(Code::Absent));
     }
@@ -123,6 +130,7 @@ fn read_retract(types: &[TypeInfo], name: &Text, id: FactId) -> Result<Step, Cod
     ensures { result ≡ retract_step (type_named name.now types.now 0) id }
 {
     match declared_type(types, name) {
+        Some((_, info)) if info.reference => Err(Code::ReferenceFixed),
         Some((ty, _)) => Ok(Step::Retract { ty, id }),
         None => Err(Code::UnknownType),
     }
@@ -140,7 +148,7 @@ fn read_promise(entries: &[EntryInfo], name: &Option<Text>, from: Millis) -> Res
 }
 
 /// The step that a change asks for, or the first of its faults in the order of `Code`. A new fact has its values in the order of
-/// the declaration; a modification has its sets in the order of the members. Whether a fact that is to be
+/// the declaration; a modification has its sets in the order of the members. Whether a plain fact that is to be
 /// retracted is there, the times of an event are lawful, the clock may move so and a moment may be promised is not asked here. `NoMemory` comes only where memory is refused.
 #[tactic(auto, unfolding(crate::specs::Changes::change_step))]
 pub fn asked_step<P: Present>(
@@ -151,12 +159,19 @@ pub fn asked_step<P: Present>(
 ) -> Result<Result<Step, Code>, NoMemory>
     requires types { length program.now.types ≤ 2 ^ 16 }
     requires entries { length program.now.entries ≤ 2 ^ 16 }
-    ensures { IfOk result (λ step. step ≡ change_step program.now (P.present present.now) change.now) }
+    ensures { IfOk result (λ step. step ≡ change_step program.now (P.has_begun present.now) (P.present present.now) change.now) }
 {
     let types = program.types.as_slice();
     match change {
         Change::Insert { ty, entry, fields } => {
-            read_insert(alloc, program, ty, entry, fields.as_slice())
+            read_insert(
+                alloc,
+                program,
+                present.begun(),
+                ty,
+                entry,
+                fields.as_slice(),
+            )
         }
         Change::Modify { ty, id, fields } => {
             read_modify(alloc, types, present, ty, *id, fields.as_slice())
@@ -164,6 +179,7 @@ pub fn asked_step<P: Present>(
         Change::Retract { ty, id } => Ok(read_retract(types, ty, *id)),
         Change::Advance(by) => Ok(Ok(Step::Advance(*by))),
         Change::At(moment) => Ok(Ok(Step::At(*moment))),
+        Change::Begin => Ok(Ok(Step::Begin)),
         Change::Promise { entry, from } => {
             Ok(read_promise(program.entries.as_slice(), entry, *from))
         }

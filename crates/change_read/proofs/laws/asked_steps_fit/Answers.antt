@@ -2,4 +2,4 @@ use Rattle.change_read.proofs.Fitting.{asked_fits}
 use Rattle.change_read.proofs.laws.asked_steps_fit.Goals as goal
 
 pub returns : goal.returns
-returns c p present change step some e = asked_fits p present change step some e
+returns c p begun present change step some e = asked_fits p begun present change step some e
