@@ -50,7 +50,7 @@ class Lines(Generic[Sent]):
         return self.send_known({"do": "promise", **where, "from": start})
 
     def begin(self) -> Sent:
-        """The facts that events are held against are in; events follow."""
+        """The tables are in: no fact of a reference type comes any more."""
         return self.send_known({"do": "begin"})
 
 

@@ -36,10 +36,11 @@ rule "many" when accumulate( Reading( $x : value ) over window:time( 1m ) from e
 """
 
 
-# A program that knows `promise`, answers each insert, and has the marks faulty.
-NEWER = """import sys
+# A program that does not know `begin`, answers each insert, and has the marks faulty.
+OLDER = """import sys
 for number, line in enumerate(sys.stdin, 1):
-    answer = "new #%d Mark" % number if "insert" in line else "fault %d BadJson" % number if line == "x\\n" else None
+    code = "BadCommand" if "begin" in line else "BadJson" if line == "x\\n" else None
+    answer = "new #%d Mark" % number if "insert" in line else "fault %d %s" % (number, code) if code else None
     if answer: print(answer, flush=True)
 """
 LIMITED = """import sys
@@ -105,7 +106,7 @@ class Values(Case):
 class Lines(Case):
     def test_many_lines_before_an_answer_is_read(self):
         """The program stands still when nobody reads what it answers: here the thread does."""
-        session = self.session("declare Mark end", [sys.executable, "-c", NEWER])
+        session = self.session("declare Mark end", [sys.executable, "-c", OLDER])
         answers = [session.insert("Mark", {}) for _ in range(20_000)]
         self.assertEqual([answer.fact.id for answer in answers[::1000]], list(range(1, 20_001, 1000)))
         self.assertEqual(session.close(), 0)
@@ -147,13 +148,18 @@ class Lines(Case):
         session.close()
 
     def test_words_of_other_programs(self):
-        session = self.session(READINGS)
+        older = self.session(READINGS, [sys.executable, "-c", OLDER])
         with self.assertRaisesRegex(NotKnown, "begin.*BadCommand"):
-            session.begin()
-        self.assertEqual(session.promise(-1, "plant").fault.code, "PromiseBack")
-        other = self.session(READINGS, [sys.executable, "-c", NEWER])
-        self.assertEqual((other.promise(10, "plant").text, other.begin().fault),
+            older.begin()
+        self.assertEqual((older.promise(10, "plant").text, older.promise(11, "plant").fault),
                          ('{"do":"promise","entry":"plant","from":10}', None))
+
+    def test_a_promise_and_a_begin(self):
+        session = self.session("declare Limit @reference value : long end " + READINGS.replace("declare Limit value : long end", ""))
+        self.assertEqual(session.promise(-1, "plant").fault.code, "PromiseBack")
+        first = session.insert("Limit", {"value": 1})
+        self.assertEqual((session.begin().fault, session.begin().fault, first.fact.id), (None, None, 1))
+        self.assertEqual(session.insert("Limit", {"value": 2}).fault.code, "ReferenceFixed")
 
 
 class Ends(Case):

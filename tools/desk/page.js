@@ -254,7 +254,8 @@ function showRules(names, types) {
   $("why-rule").replaceChildren(element("option", { value: "" }, "(none: what is pending)"), ...names.map(name => element("option", { value: name }, name)));
   $("why-rule").value = names.includes(chosen) ? chosen : names[0] || "";
   const lines = [...types.map(type => [`insert ${type.type}`, type.line, type.timestamp]), ["at", { do: "at", ms: 0 }, "ms"],
-    ["advance", { do: "advance", by: 1000 }], ["fire", { do: "fire" }], ["held", { do: "held" }]];
+    ["advance", { do: "advance", by: 1000 }], ["promise", { do: "promise", from: 0 }], ["begin", { do: "begin" }],
+    ["fire", { do: "fire" }], ["held", { do: "held" }]];
   $("add").replaceChildren(element("option", {}, "add a line .."), ...lines.map(([name]) => element("option", {}, name)));
   $("add").onchange = () => {
     const [, line, moment] = lines[$("add").selectedIndex - 1];

@@ -8,6 +8,7 @@ import sys
 import tempfile
 import unittest
 from pathlib import Path
+from typing import get_args
 
 HERE = Path(__file__).resolve().parent
 TOP = HERE.parents[1]
@@ -15,6 +16,7 @@ sys.path.insert(0, str(TOP / "tools" / "reference"))
 
 from reader import FUNCTIONS, RESERVED  # noqa: E402
 from temporal import OPERATORS  # noqa: E402
+from trees import Annotation  # noqa: E402
 
 VIM = HERE / "vim"
 SYNTAX = (VIM / "syntax" / "drl.vim").read_text()
@@ -40,6 +42,13 @@ class Words(unittest.TestCase):
     def test_functions_and_operators(self):
         self.assertEqual((keywords("drlFunction"), keywords("drlOperator")), (set(FUNCTIONS), set(OPERATORS)))
         self.assertEqual((alternatives("support.function.drl"), alternatives("keyword.operator.word.drl")), (set(FUNCTIONS), set(OPERATORS)))
+
+    def test_annotations(self):
+        """Those of types, as the classes of the trees have them, and that of entry points."""
+        annotations = {sort.__name__.lower() for sort in get_args(Annotation)} | {"lateness"}
+        self.assertEqual(set(re.search(r"^syntax match drlAnnotation /@\\\((.*)\\\)", SYNTAX, re.M)[1].split("\\|")), annotations)
+        found = next(pattern["match"] for pattern in GRAMMAR["patterns"] if pattern["name"] == "storage.modifier.drl")
+        self.assertEqual(set(re.search(r"\(([\w|]+)\)", found)[1].split("|")), annotations)
 
     def test_the_extension_names_its_files(self):
         folder = HERE / "drl"

@@ -7,7 +7,7 @@ import os
 FIRST_STAGE, LAST_STAGE = 2, 20
 
 # That of today's program.
-TODAY = 16
+TODAY = 17
 
 
 def stage_asked() -> int:

@@ -11,6 +11,7 @@ from generate import case_of, lives_case_of  # noqa: E402
 from meaning import Row, World, candidates, is_mature, longer_rows, passes  # noqa: E402
 from run import Run, program_or_refusal  # noqa: E402
 from script import lines_of  # noqa: E402
+from stages import TODAY  # noqa: E402
 from trees import Negated, Rule  # noqa: E402
 
 
@@ -28,9 +29,9 @@ def rows_of_every_pair(rule: Rule, w: World) -> list[Row]:
 
 
 class Lookups(unittest.TestCase):
-    def agree(self, rules: bytes, script: bytes) -> int:
+    def agree(self, rules: bytes, script: bytes, stage: int) -> int:
         """Runs the script, comparing the rows of each rule behind each line; how many rows were seen."""
-        program = program_or_refusal(rules, 14)
+        program = program_or_refusal(rules, stage)
         if isinstance(program, str):
             return 0
         state, seen = Run(World(program), 200, 200, []), 0
@@ -43,11 +44,11 @@ class Lookups(unittest.TestCase):
         return seen
 
     def test_random_files(self):
-        seen = sum(self.agree(case.rules, case.script) for case in map(lambda seed: case_of(seed, 14), range(40)))
+        seen = sum(self.agree(case.rules, case.script, TODAY) for case in (case_of(seed, TODAY) for seed in range(40)))
         self.assertGreater(seen, 1000)
 
     def test_files_of_finite_lives(self):
-        seen = sum(self.agree(case.rules, case.script) for case in map(lives_case_of, range(60)))
+        seen = sum(self.agree(case.rules, case.script, TODAY) for case in map(lives_case_of, range(60)))
         self.assertGreater(seen, 200)
 
     def test_another_fact_of_the_same_number(self):

@@ -20,8 +20,8 @@ from program import (KINDS, FactMeant, Sight, TypeInfo, ValueMeant, entries_of_i
                      sight_of_actions, sight_of_source, sights, types_by_name)
 from tokens import Token
 from trees import (INT, Binary, Compare, Condition, Duration, EntryDeclaration, Expires, Expr, FieldOf, Folded, Insert, Item,
-                   LengthWindow, Literal, Modify, Negate, OneOf, Own, Plain, Retract, Role, Rule, Salience, Source, TimeWindow,
-                   Timestamp, TypeDeclaration, Variable, operands_of)
+                   LengthWindow, Literal, Modify, Negate, OneOf, Own, Plain, Reference, Retract, Role, Rule, Salience, Source,
+                   TimeWindow, Timestamp, TypeDeclaration, Variable, operands_of)
 
 KIND_NAMES = {"Int": "a whole number", "Bool": "a truth value", "Text": "a text", NO_VALUE: "no value", None: "of no kind"}
 
@@ -453,7 +453,7 @@ def events_needed(file: FileRead, item: ReadItem) -> Iterator[Complaint]:
     body = item.body
     if isinstance(body, TypeDeclaration) and not file.types[body.name].event and body.name not in file.half:
         for annotation in body.annotations:
-            if not isinstance(annotation, Role):
+            if not isinstance(annotation, (Role, Reference)):
                 yield said("NotAnEvent", item.tokens_of(annotation)[0], f"`{body.name}` is a plain type, which has no times", "`@role( event )`")
     if not isinstance(body, Rule):
         return
@@ -478,21 +478,33 @@ def bad_times(file: FileRead, item: ReadItem) -> Iterator[Complaint]:
                 yield said("BadTimestamp", item.tokens_of(annotation)[2], f"`{annotation.field}` is no whole number", "a field of `long`, in milliseconds")
 
 
+def bad_references(file: FileRead, item: ReadItem) -> Iterator[Complaint]:
+    """Events that are to be there before any event."""
+    if isinstance(item.body, TypeDeclaration) and file.types[item.body.name].event:
+        for annotation in item.body.annotations:
+            if isinstance(annotation, Reference):
+                yield said("BadReference", item.tokens_of(annotation)[0], f"`{item.body.name}` is a type of events, and reference facts are plain",
+                           "leave it out, or `@role( event )`")
+
+
 def bad_actions(file: FileRead, item: ReadItem) -> Iterator[Complaint]:
-    """Modifications of events, retractions of observed ones."""
+    """Modifications of events, retractions of observed ones, and changes of reference facts."""
     if not isinstance(item.body, Rule):
         return
     sight = sight_of_actions(item.body, file.types)
     for action in item.body.actions:
-        meant = None if isinstance(action, Insert) else sight.get(action.variable)
+        meant = FactMeant(action.type) if isinstance(action, Insert) else sight.get(action.variable)
         if not isinstance(meant, FactMeant) or meant.type not in file.types:
             continue
-        token = item.tokens_of(action)[2]
-        if isinstance(action, Modify) and file.types[meant.type].event:
+        info, token = file.types[meant.type], item.tokens_of(action)[3 if isinstance(action, Insert) else 2]
+        if isinstance(action, Modify) and info.event:
             yield said("EventFixed", token, f"`{meant.type}` is a type of events, which are never modified", "insert another event")
-        if isinstance(action, Retract) and meant.type in file.observed:
+        elif isinstance(action, Retract) and meant.type in file.observed:
             yield said("EventObserved", token, f"some rule has `{meant.type}` in `not`, `exists`, `accumulate` or a window of length",
                        "let it expire, or insert another event that calls it off")
+        elif info.reference:
+            yield said("ReferenceFixed", token, f"`{meant.type}` is a reference type, and no rule changes its facts",
+                       "keep what changes in a type of its own, which names the fact by a key; or leave `@reference` out")
 
 
 # ---- parameters
@@ -550,7 +562,7 @@ def with_tests_up_to(rule: Rule, k: int, n: int) -> Rule:
 # ---- all
 
 
-NAMES = [twice_in_item, unknown_types, unknown_fields, unknown_variables, misfits, events_needed, bad_times, bad_actions, bad_params]
+NAMES = [twice_in_item, unknown_types, unknown_fields, unknown_variables, misfits, events_needed, bad_times, bad_references, bad_actions, bad_params]
 
 
 def complaints_of(items: list[ReadItem]) -> list[Complaint]:

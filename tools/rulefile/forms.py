@@ -29,7 +29,7 @@ PHASE = "leave it out: a fact can say which phase it is, `Phase( number == 2 )`"
 JOINED = "conditions stand one below the other, with no mark between; for `or` write two rules"
 INSERTED = "`insert( new Alert( $c ) );` alone, with no variable for it"
 TEXT_TESTS = "there is none: a truth value, set where the script is made"
-FOUR = "the annotations are `@role( event )`, `@timestamp( field )`, `@duration( field )`, `@expires( 10s )`"
+KNOWN = "the annotations are `@role( event )`, `@timestamp( field )`, `@duration( field )`, `@expires( 10s )`, `@reference`"
 
 
 class Form(NamedTuple):
@@ -54,6 +54,7 @@ FORMS = [Form(*row) for row in (
     ("field", 2, "window W", "a window stands behind its pattern: `Tick() over window:time( 10s )`"),
     ("field", 1, "extends W", "a type has its own fields alone: write all of them"),
     ("field", 0, "extends", "a type has its own fields alone: write all of them"),
+    ("field", 1, "reference (", "`@reference` alone, without parentheses"),
     ("field", 0, "@", "annotations stand between the name and the fields"),
     ("field", 0, ",", "no mark between fields"),
     ("field", 0, ";", "no mark between fields"),
@@ -62,8 +63,8 @@ FORMS = [Form(*row) for row in (
     ("field", 1, "default", "a field has no default: an `insert` gives each one"),
     ("annotation", 2, "role ( T", "`@role( event )`, without quotes"),
     ("annotation", 1, "N W", ONE_TOKEN),
-    ("annotation", 0, "key", "leave it out: " + FOUR),
-    ("annotation", 0, "W", FOUR),
+    ("annotation", 0, "key", "leave it out: " + KNOWN),
+    ("annotation", 0, "W", KNOWN),
     # the attributes of a rule
     ("attribute", 0, "no - loop", ONCE),
     ("attribute", 0, "lock - on", ONCE),
@@ -265,7 +266,7 @@ def misspelt(production: str, tokens: Sequence[Token], place: int) -> str:
         known = "the operators are " + ", ".join(temporal.OPERATORS)
         return close_to(word, temporal.OPERATORS) or known
     if production == "annotation" and stands(tokens, place - 1, "@ W"):
-        return close_to(word, ("role", "timestamp", "duration", "expires"))
+        return close_to(word, ("role", "timestamp", "duration", "expires", "reference"))
     if production == "function" and word != "avg" and not stands(tokens, place - 1, "( W"):
         return close_to(word, sorted(reader.FUNCTIONS))
     return ""

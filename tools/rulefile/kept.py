@@ -8,15 +8,16 @@ from typing import Optional, Union
 import lives
 from program import Program
 from temporal import INFINITE
-from trees import LengthWindow, Plain, Rule, TimeWindow
+from trees import LengthWindow, Rule, TimeWindow
 
 
 @dataclass(frozen=True)
 class Reason:
-    """A condition of a rule, by their places, that asks for the whole life of a type; why, in words."""
+    """A condition of a rule, by their places, that asks for the whole life of a type; why, in words; the plain type that it is for."""
     rule: int
     condition: int
     why: str
+    plain: Optional[str] = None
 
 
 def span(milliseconds: Union[int, float]) -> str:
@@ -28,21 +29,20 @@ def span(milliseconds: Union[int, float]) -> str:
     return text or "0s"
 
 
-def why_for_ever(rule: Rule, program: Program, i: int) -> str:
-    """What makes the life of a pattern infinite."""
+def why_for_ever(rule: Rule, program: Program, i: int) -> tuple[str, Optional[str]]:
+    """What makes the life of a pattern infinite, and the plain type that does."""
     condition = rule.conditions[i]
     if isinstance(condition.source.window, LengthWindow):
-        return "a window of length holds its events until others come"
-    seen = len(rule.conditions) if isinstance(condition, Plain) else i + 1
-    for j in (j for j in range(seen) if j != i):
+        return "a window of length holds its events until others come", None
+    for j in (j for j in lives.places_run_over(rule, program.types, i) if j != i):
         other = rule.conditions[j].source
         if not lives.is_event(rule.conditions[j], program.types):
-            return f"condition {j + 1} is of the plain type `{other.type}`, of which a fact may come or change at any time"
+            return f"condition {j + 1} is of the plain type `{other.type}`, of which a fact may come or change at any time", other.type
         if lives.reach(rule, program.types, i, j) == INFINITE:
-            return f"no temporal test bounds how long behind it `{other.type}` of condition {j + 1} may start"
+            return f"no temporal test bounds how long behind it `{other.type}` of condition {j + 1} may start", None
         if isinstance(other.window, LengthWindow):
-            return f"condition {j + 1} has a window of length, in which events stay until others come"
-    return "its own entry point or window has no bound"
+            return f"condition {j + 1} has a window of length, in which events stay until others come", None
+    return "its own entry point or window has no bound", None
 
 
 def why_so_long(rule: Rule, program: Program, i: int, life: Union[int, float]) -> str:
@@ -50,8 +50,7 @@ def why_so_long(rule: Rule, program: Program, i: int, life: Union[int, float]) -
     condition = rule.conditions[i]
     if isinstance(condition.source.window, TimeWindow):
         return f"its window of {span(condition.source.window.length)}"
-    seen = range(len(rule.conditions)) if isinstance(condition, Plain) else range(i + 1)
-    for j in seen:
+    for j in lives.places_run_over(rule, program.types, i):
         reach, tail = lives.reach(rule, program.types, i, j), lives.tail(rule.conditions[j], program)
         if reach is not lives.NOTHING and reach + tail == life:
             other = rule.conditions[j].source.type
@@ -67,8 +66,7 @@ def reasons(program: Program, name: str) -> list[Reason]:
     for k, rule in enumerate(program.rules):
         for i, condition in enumerate(rule.conditions):
             if condition.source.type == name and lives.life_of_pattern(rule, program, i) == life:
-                why = why_for_ever(rule, program, i) if life == INFINITE else why_so_long(rule, program, i, life)
-                found.append(Reason(k, i, why))
+                found.append(Reason(k, i, *(why_for_ever(rule, program, i) if life == INFINITE else (why_so_long(rule, program, i, life),))))
     return found
 
 

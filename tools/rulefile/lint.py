@@ -512,8 +512,14 @@ def kept_for_ever(desk: Desk) -> Iterator[Complaint]:
         for reason in kept.reasons(desk.program, info.name):
             item, rule = desk.rules[reason.rule]
             source = rule.conditions[reason.condition].source
+            table = f"`@reference` for `{reason.plain}`, if its facts are there before any event and stay; else " if is_fixed(desk, reason.plain) else ""
             yield warning("for-ever", item.tokens_of(source)[0], f"events of `{info.name}` are kept for ever, since {reason.why}",
-                          "a window of time here, a bound, or an @expires for the type")
+                          table + "a window of time here, a bound, or an @expires for the type")
+
+
+def is_fixed(desk: Desk, type_name: Optional[str]) -> bool:
+    """Whether it is a type that no rule changes."""
+    return type_name is not None and all(type_name not in changed_types(rule) for _, rule in desk.rules)
 
 
 LINTS = [undeclared_entries, missing_from, unseen_entries, same_moment, bare_numbers, windows_beyond_expiry, too_late, impossible_tests, again,

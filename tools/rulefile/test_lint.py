@@ -6,7 +6,7 @@ from pathlib import Path
 
 sys.path.insert(0, str(Path(__file__).resolve().parent))
 
-from lint import warnings_of  # noqa: E402
+from lint import TODAY, warnings_of  # noqa: E402
 from generate import case_of  # noqa: E402
 from run import program_or_refusal, report  # noqa: E402
 from tokens import line_of  # noqa: E402
@@ -19,6 +19,7 @@ declare Card number : String open : boolean count : long end
 declare Told @role( event ) @expires( 10m ) card : String end
 declare Block card : String end
 declare Long @role( event ) card : String end
+declare Owner @reference card : String end
 declare Lamp number : String on : boolean since : long end
 declare Press @role( event ) @timestamp( at ) @expires( 1h ) at : long lamp : String up : boolean end
 declare entry-point "ATM" @lateness( 2s ) end
@@ -64,6 +65,8 @@ RULES = [
     ('rule r when Card( $n : number ) $a : Call( card == $n ) not( Call( card == $n, this after[0s,9s] $a ) ) then end', ["meets-itself"]),
     ('rule r when not( Block( $c : card ) ) then end', ["unseen-binding"]),
     ('rule r when Long( $c : card ) Card( number == $c ) then end', ["for-ever"]),
+    ('rule r when Long( $c : card ) Owner( card == $c ) then end', []),
+    ('rule r when Long( $c : card ) Owner( card == $c ) Card( number == $c ) then end', ["for-ever"]),
     ('rule r when Long( $c : card ) Card( number == $c ) not( Told( card == $c ) ) then insert( new Told( $c ) ); end', ["for-ever", "old-events"]),
     ('rule r when $l : Long( $c : card ) not( Call( card == $c, this after[0s,9s] $l ) ) not( Told( card == $c ) ) then insert( new Told( $c ) ); end',
      ["for-ever", "old-events"]),
@@ -87,6 +90,12 @@ class Lint(unittest.TestCase):
             with self.subTest(rule):
                 self.assertEqual(sorted({w.code for w in warnings_of((TYPES + rule).encode())}), names)
 
+    def test_a_table_that_no_rule_changes(self):
+        rule = "rule r when Long( $c : card ) Card( number == $c ) then end "
+        for other, told in (("", True), ("rule s when $c : Card( count == 1 ) then retract( $c ); end", False)):
+            instead = [w.instead for w in warnings_of((TYPES + rule + other).encode()) if w.code == "for-ever"]
+            self.assertEqual([text.startswith("`@reference` for `Card`") for text in instead], [told])
+
     def test_an_entry_point_that_nobody_looks_into(self):
         rules = b'declare Draw @role( event ) @expires( 1h ) end declare entry-point "ATM" end rule r when Draw() then end'
         self.assertEqual([w.code for w in warnings_of(rules)], ["unseen-entry"])
@@ -108,7 +117,7 @@ then modify( $l ) {{ on = {2}, since = $p.at }} end
         for later, told in (("", True), (", at > $s", False)):
             rules = (TYPES + rule.format("on", "false", "true", later) + rule.format("off", "true", "false", later)).encode()
             self.assertEqual([w.code for w in warnings_of(rules) if w.code != "for-ever"], ["to-and-fro"] if told else [])
-            self.assertEqual(report(rules, script, 14, 50)[1] == 4, told)
+            self.assertEqual(report(rules, script, TODAY, 50)[1] == 4, told)
 
     def test_given_and_taken_to_and_fro(self):
         script = b"".join(b'{"do":"insert","type":%s}\n' % fact for fact in (
@@ -118,7 +127,7 @@ then modify( $l ) {{ on = {2}, since = $p.at }} end
                            ("rule free when $b : Block( $c : card ) not( Call( card == $c ) ) then retract( $b ); end", False)):
             rules = (TYPES + block + free).encode()
             self.assertEqual([w.code for w in warnings_of(rules) if w.code != "for-ever"], ["to-and-fro"] if told else [])
-            self.assertEqual(report(rules, script, 14, 50)[1] == 4, told)
+            self.assertEqual(report(rules, script, TODAY, 50)[1] == 4, told)
 
     def test_no_from_in_a_file(self):
         """A pattern that looks into DEFAULT, where the others of its type do not."""
@@ -147,15 +156,15 @@ not( Told( card == $c ) ) then insert( new Told( $c ) ); end"""
                  b'{"do":"insert","type":"Block","fields":{"card":"x"}}\n{"do":"fire"}\n'
         for rule, names in RULES:
             if "Card" in rule or "Block" in rule:
-                output, status = report((TYPES + rule).encode(), script, 14, 50)
+                output, status = report((TYPES + rule).encode(), script, TODAY, 50)
                 with self.subTest(rule):
                     self.assertEqual(status == 4, names == ["again"])
 
     def test_random_files(self):
         """Nothing fails; what is kept for ever is what the mode lives calls infinite."""
         for seed in range(60):
-            data = case_of(seed, 14).rules
-            if not isinstance(program_or_refusal(data, 14), str):
+            data = case_of(seed, TODAY).rules
+            if not isinstance(program_or_refusal(data, TODAY), str):
                 self.assertIsInstance(warnings_of(data), list)
 
 

@@ -6,7 +6,7 @@ from pathlib import Path
 
 sys.path.insert(0, str(Path(__file__).resolve().parent))
 
-from where import FILE_END, all_complaints, complaints_of, is_told, read_tolerantly, refusal_of, report  # noqa: E402
+from where import FILE_END, TODAY, all_complaints, complaints_of, is_told, read_tolerantly, refusal_of, report  # noqa: E402
 from generate import case_of  # noqa: E402
 
 TOP = Path(__file__).resolve().parent.parent.parent
@@ -81,6 +81,12 @@ MISTAKES = [
     ("( 1h )", "( 1hour )", "21:67 BadChar", "`1hour`"),
     ('rule "emptied"', "rule “emptied”", "18:6 BadChar", '`"`'),
     ('entry-point "ATM"\n  not', 'entry-point "ATM\n  not', "12:66 OpenText", "not closed"),
+    ("declare Account id", "declare Account @reference id", "23:11 ReferenceFixed", "`Account` is a reference type"),
+    ("declare Case account", "declare Case @reference account", "15:15 ReferenceFixed", "a type of its own"),
+    ("declare Draw @role( event )", "declare Draw @role( event ) @reference", "3:30 BadReference", "reference facts are plain"),
+    ("declare Case account", "declare Case @refrence account", "4:15 Syntax", "`reference`?"),
+    ("declare Case account", "declare Room @reference( true ) account : String end declare Case account", "4:24 Syntax", "without parentheses"),
+    ("declare Case account", "declare Room @reference @reference account : String end declare Case account", "4:26 TwiceDeclared", "`@reference` stands a second time"),
 ]
 
 DROOLS = """import java.util.List;
@@ -130,7 +136,7 @@ class Where(unittest.TestCase):
     def test_what_is_accepted(self):
         """Nothing is told of examples and random files, even where the checks are not asked first."""
         files = [path.read_bytes() for path in sorted(TOP.glob("examples/**/*.drl"))]
-        files += [case_of(seed, 14).rules for seed in range(60)]
+        files += [case_of(seed, TODAY).rules for seed in range(60)]
         for data in files:
             if refusal_of(data) is None:
                 items, complaints = read_tolerantly(data)
@@ -139,7 +145,7 @@ class Where(unittest.TestCase):
     def test_planted_refusals(self):
         """Random files with one refusal: it is among what is told, without asking the checks."""
         for seed in range(2, 200, 3):
-            data = case_of(seed, 14).rules
+            data = case_of(seed, TODAY).rules
             if len(data) <= FILE_END and refusal_of(data) is not None:
                 items, complaints = read_tolerantly(data)
                 with self.subTest(seed):

@@ -8,7 +8,7 @@ from history import FaultyAction, History, faulty_actions, shown_value  # first:
 
 import script
 from forms import close_to
-from meaning import ClockMove, Insertion, Modification, Retraction, World, floor_of, start_and_duration
+from meaning import ClockMove, Insertion, Modification, Promise, Retraction, World, floor_of, start_and_duration
 from moments import moment
 from program import DEFAULT
 from run import TEXT_END, has_kind
@@ -18,7 +18,7 @@ KINDS = {"Int": "a whole number", "Bool": "a truth value", "Text": "a text"}
 FORMS = {"insert": '{"do":"insert","type":"Item","fields":{..}}, with "entry" where it is not DEFAULT',
          "modify": '{"do":"modify","type":"Item","id":1,"fields":{..}}', "retract": '{"do":"retract","type":"Item","id":1}',
          "advance": '{"do":"advance","by":500}', "at": '{"do":"at","ms":10000}', "fire": '{"do":"fire"}, with "max" where it is bounded',
-         "held": '{"do":"held"}'}
+         "held": '{"do":"held"}', "promise": '{"do":"promise","from":5000}, with "entry" where it is not DEFAULT', "begin": '{"do":"begin"}'}
 MEMBERS = {"type": "a text", "entry": "a text", "fields": "an object", "id": "a whole number from 1", "by": "a whole number",
            "ms": "a whole number", "max": "a whole number from 0", "from": "a whole number"}
 
@@ -110,6 +110,15 @@ def observers(type_name: str, history: History) -> str:
     return f"`{type_name}` stands in a `not`, an `exists`, an accumulate or a window of length: {'; '.join(found)}"
 
 
+def reference_fixed(command, history: History) -> str:
+    """What began the world, of an insert; of other lines that the facts stay as they are."""
+    if not isinstance(command, script.InsertLine):
+        return f"`{command.type}` is a reference type: its facts stay as they are"
+    began = script.command_of(history.lines[history.begun_at - 1], history.program.stage)
+    by = "`begin`" if isinstance(began, script.BeginLine) else "the first event"
+    return f"`{command.type}` is a reference type: its facts come before the world begins, and it began at line {history.begun_at}, by {by}"
+
+
 # ---- times
 
 
@@ -118,6 +127,8 @@ def late(step: Insertion, w: World) -> str:
     start, _ = start_and_duration(step, w)
     last, behind = w.last_starts.get(step.entry, 0), w.clock - w.program.latenesses[step.entry]
     text = f"it starts at {moment(start)}, and `{step.entry}` takes events from {moment(floor_of(w, step.entry))} on"
+    if w.promises.get(step.entry, 0) > max(last, behind):
+        return f"{text}, as was promised"
     if last >= behind:
         return f"{text}, where its last one started: events of one entry point come in the order of their starts, whatever the lateness"
     lateness = w.program.latenesses[step.entry]
@@ -144,6 +155,10 @@ def of_step(code: str, step: object, history: History, w: World) -> str:
         return f"the clock is {moment(w.clock)}, and would go to {moment(step.to)}"
     if code == "ClockEnd":
         return f"the clock would go to {step.to}, and its end is 2^53"
+    if code == "PromiseBack":
+        return f"`{step.entry}` is promised from {moment(w.promises.get(step.entry, 0))} on, and would be from {moment(step.start)}"
+    if code == "PromiseEnd":
+        return f"the promise is from {step.start} on, and the clock's end is 2^53"
     return absent(step.type, step.id, history)
 
 
@@ -166,6 +181,8 @@ def of_line(code: str, history: History) -> str:
         return f"`{command.type}` is a type of events, which are never modified"
     if code == "EventObserved":
         return observers(command.type, history)
+    if code == "ReferenceFixed":
+        return reference_fixed(command, history)
     if code == "BadFields":
         return bad_fields(command, w)
     if code == "BadValue":
@@ -181,6 +198,8 @@ def step_of(command, w: World) -> object:
         return Modification(command.id, command.type, command.fields)
     if isinstance(command, script.RetractLine):
         return Retraction(command.id, command.type)
+    if isinstance(command, script.PromiseLine):
+        return Promise(command.entry or DEFAULT, command.start)
     return ClockMove(command.ms if isinstance(command, script.AtLine) else w.clock + command.by)
 
 

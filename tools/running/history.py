@@ -30,7 +30,8 @@ class Told:
 @dataclass
 class History:
     """The world before and behind each line up to the one that is asked for, of which the last two are kept. `earlier` has the firings
-    that lines before it printed, with the last such line; `modified` the last line at which a fact became a newer version."""
+    that lines before it printed, with the last such line; `modified` the last line at which a fact became a newer version; `begun_at` is
+    the line that began the world, 0 where none did."""
     program: Program
     lines: list[bytes]
     before: World
@@ -40,6 +41,7 @@ class History:
     fired: dict[tuple, int] = field(default_factory=dict)
     earlier: dict[str, int] = field(default_factory=dict)
     modified: dict[int, int] = field(default_factory=dict)
+    begun_at: int = 0
     ended: bool = False
 
     @property
@@ -77,6 +79,7 @@ def followed(program: Program, script: bytes, last: Optional[int]) -> History:
         history.before, run.lines = run.world, []
         run.line(number, line)
         history.behind, history.answers = run.world, run.lines
+        history.begun_at = history.begun_at or (number if history.behind.begun else 0)
         note_facts(history, number)
         for key in history.behind.fired - history.before.fired:
             history.fired[key] = number

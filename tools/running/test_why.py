@@ -82,6 +82,22 @@ class Why(unittest.TestCase):
         script = b'{"do":"at","ms":5000}\n{"do":"insert","type":"Draw","entry":"ATM","fields":{"at":2000,"card":"b","cents":1}}\n'
         self.assertIn("Late: it starts at 2000, and `ATM` takes events from 3000 on: the clock is 5000, and the lateness 2000", lines(2, script=script))
 
+    def test_faults_of_tables_and_promises(self):
+        rules = b"declare E @role( event ) k : long end declare F @reference k : long end rule r when $e : E() F( k == $e.k ) then end"
+        first = [b'{"do":"insert","type":"F","fields":{"k":1}}', b'{"do":"insert","type":"E","fields":{"k":1}}']
+        for begin, line, text in (
+                ([], b'{"do":"insert","type":"F","fields":{"k":2}}', "ReferenceFixed: `F` is a reference type: its facts come before the world begins, "
+                                                                    "and it began at line 2, by the first event"),
+                ([b'{"do":"begin"}'], b'{"do":"insert","type":"F","fields":{"k":2}}', "it began at line 1, by `begin`"),
+                ([], b'{"do":"retract","type":"F","id":1}', "ReferenceFixed: `F` is a reference type: its facts stay as they are"),
+                ([], b'{"do":"begin","now":true}', 'BadCommand: `now` is no member of `begin`; the form is {"do":"begin"}'),
+                ([b'{"do":"promise","from":5}'], b'{"do":"promise","from":4}', "PromiseBack: `DEFAULT` is promised from 5 on, and would be from 4"),
+                ([b'{"do":"promise","from":5}'], first[1], "Late: it starts at 0, and `DEFAULT` takes events from 5 on, as was promised"),
+                ([], b'{"do":"promise","from":9007199254740993}', "PromiseEnd: the promise is from 9007199254740993 on")):
+            with self.subTest(line):
+                script = b"\n".join(begin + first + [line])
+                self.assertIn(text, "\n".join(told(argparse.Namespace(line=None, rule=None, fact=[]), rules, script)))
+
     def test_a_line_without_a_fault(self):
         self.assertIn("left: the clock is 5000; events are taken from: `DEFAULT` 5000, `ATM` 4000", lines(4))
         self.assertIn("(it answers nothing)", lines(3))

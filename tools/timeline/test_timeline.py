@@ -50,6 +50,20 @@ class Desks(unittest.TestCase):
         recording = recording_of((EXAMPLES / "smoke.drl").read_bytes(), script, b'new #1 Smoke\nfire "no water" #1\n')
         self.assertEqual([(f.line, f.waiting.since, f.waiting.until) for f in recording.firings], [(4, 0, 50)])
 
+    def test_a_begin(self):
+        """Facts of a table come before it alone."""
+        rules = b"declare E @role( event ) k : long end declare F @reference k : long end rule r when $e : E() F( k == $e.k ) then end"
+        script = b"""{"do":"insert","type":"F","fields":{"k":1}}
+{"do":"begin"}
+{"do":"begin"}
+{"do":"insert","type":"F","fields":{"k":2}}
+{"do":"insert","type":"E","fields":{"k":1}}
+{"do":"fire"}
+"""
+        recording = recording_of(rules, script, b'new #1 F\nfault 4 ReferenceFixed\nnew #2 E\nfire "r" #2 #1\n')
+        self.assertEqual((kinds(recording), [fault.code for fault in recording.faults]),
+                         ({EVENTS: 1, FACTS: 1, FIRINGS: 1, FAULTS: 1}, ["ReferenceFixed"]))
+
     def test_lives(self):
         lives = desk("fraud").lives
         self.assertEqual((lives[7].told, lives[7].gone, lives[7].maker), (110000, 111000, 2))

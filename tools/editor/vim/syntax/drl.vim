@@ -9,7 +9,7 @@ syntax keyword drlFunction count sum min max average
 syntax keyword drlOperator after before coincides during includes finishes finishedby starts startedby meets metby overlaps overlappedby
 syntax match drlPhrase /\<entry-point\>\|\<window:\(time\|length\)\>/
 syntax match drlVariable /\$\w\+/
-syntax match drlAnnotation /@\(role\|timestamp\|duration\|expires\|lateness\)\>/
+syntax match drlAnnotation /@\(role\|timestamp\|duration\|expires\|reference\|lateness\)\>/
 syntax match drlNumber /\<\d\+\(\(d\|h\|m\|s\|ms\)\d*\)*\>/
 syntax region drlText start=/"/ skip=/\\./ end=/"/ oneline
 syntax region drlText start=/'/ skip=/\\./ end=/'/ oneline
