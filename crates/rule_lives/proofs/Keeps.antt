@@ -12,15 +12,14 @@ use Rattle.rule_model.specs.declared.life.Life.TheVariants as lives
 use Rattle.rule_model.specs.declared.life.LifeTable.{LifeTable}
 use Rattle.rule_model.specs.declared.program.Program.{Program}
 use Rattle.rule_model.specs.declared.step.Step.{Step}
-use Rattle.rule_model.specs.declared.step.Step.TheVariants.{Insert, Modify, Retract, Advance, At, Promise}
+use Rattle.rule_model.specs.declared.step.Step.TheVariants.{Insert, Modify, Retract, Advance, At, Promise, Begin}
 use Rattle.rule_model.specs.Candidates.{is_present}
 use Rattle.rule_model.specs.Rows.{Makes, pattern_of}
 use Rattle.rule_model.specs.Snapshots.{Snapshot}
 use Rattle.rule_model.specs.Tuples.{Tuple, empty_tuple}
 use Rattle.rule_model.proofs.Listed.{both, of_append}
 use Rattle.rule_model.proofs.Order.{passed}
-use Rattle.rule_world.specs.Lawful.{IsLawful}
-use Rattle.rule_world.specs.Worlds.{World, snapshot, moved, step_fault, has_id}
+use Rattle.rule_world.specs.Worlds.{World, snapshot, moved, has_id}
 use Rattle.rule_world.proofs.Keeping.{was_present}
 use Rattle.rule_world.proofs.Steps.{stays}
 use Rattle.rule_lives.specs.Reach.{finite}
@@ -30,21 +29,10 @@ use Rattle.rule_lives.specs.Keeping.{AreSafe, IsKept, plain, unexpired, endless,
 use Rattle.rule_lives.proofs.Basics.{number_same}
 use Rattle.rule_lives.proofs.Safe.{plain_unlisted}
 use Rattle.rule_lives.proofs.Shifts.{of_counted}
-use Rattle.rule_lives.proofs.Moves.{turns_of}
+use Rattle.rule_lives.proofs.Moves.{clock_on}
 use Rattle.rule_lives.proofs.Laws.{of_rule, of_prefix}
 
--- ---- the clock and the facts behind a step
-
-keeps_nothing : (step : Step) → KeepsTuple step empty_tuple
-keeps_nothing (Insert ty entry fields) = tt
-keeps_nothing (Modify id sets) = tt
-keeps_nothing (Retract ty id) = λ f own of_type of_id. own
-keeps_nothing (Advance by) = tt
-keeps_nothing (At moment) = tt
-keeps_nothing (Promise entry from) = tt
-
-pub clock_on : (p : Program) (w : World) (step : Step) → IsLawful p w → step_fault p w step ≡ None → w.clock ≤ℤ (moved p w step).clock
-clock_on p w step law none = (turns_of p w step empty_tuple law none (keeps_nothing step)).to
+-- ---- the facts of a tuple
 
 -- a fact of the snapshot that is present
 abbrev pub Here : Program → Snapshot → Fact → Type 0
@@ -94,6 +82,7 @@ keeps_next p w (Retract ty id) cs tuple h = λ f own of_type of_id.
 keeps_next p w (Advance by) cs tuple h = tt
 keeps_next p w (At moment) cs tuple h = tt
 keeps_next p w (Promise entry from) cs tuple h = tt
+keeps_next p w Begin cs tuple h = tt
 
 -- ---- what the table says of a fact
 
@@ -121,7 +110,7 @@ tuple_names_kept p table w step flagged are law none rule in_rules tuple comes f
     let next = snapshot (moved p w step) in
     let keeps = keeps_next p w step rule.conditions tuple comes.0 in
     by_life p table w are f inside
-    (was_present p f w.clock next.clock (clock_on p w step law none) (here p next tuple rule.conditions comes.0 f own).1)
+    (was_present p f w.clock next.clock (clock_on p w step none) (here p next tuple rule.conditions comes.0 f own).1)
     (λ n life. inl (of_rule p w step flagged law none rule in_rules tuple keeps (inr comes) f own n life))
 
 pub tuple_meets_kept : TupleMeetsKept
@@ -129,5 +118,5 @@ tuple_meets_kept p table w step flagged are law none rule in_rules q c at_q side
     let next = snapshot (moved p w step) in
     let keeps = keeps_next p w step (take q rule.conditions) tuple comes.0 in
     by_life p table w are f inside
-    (was_present p f w.clock next.clock (clock_on p w step law none) (of_counted p (pattern_of c) next tuple f passes).1.present)
+    (was_present p f w.clock next.clock (clock_on p w step none) (of_counted p (pattern_of c) next tuple f passes).1.present)
     (λ n life. inl (of_prefix p w step flagged law none rule in_rules tuple keeps q c at_q side_q (inr comes) f passes n life))

@@ -27,13 +27,14 @@ use Rattle.rule_world.specs.Worlds.{snapshot, moved}
 use Rattle.rule_lives.specs.Networks.{bindings, occurrence, binds}
 use Rattle.rule_lives.specs.Reach.{finite, infinite, Placed}
 use Rattle.rule_lives.specs.Lifetimes.{scope, IsLife}
-use Rattle.rule_lives.specs.Law.{Made, ObservedAreFlagged, OfRule, OfPrefix}
+use Rattle.rule_lives.specs.Law.{Made, IsFlagged, OfRule, OfPrefix}
 use Rattle.rule_lives.proofs.Basics.{below, number_same}
 use Rattle.rule_lives.proofs.Shifts.{of_counted, Timed, timed_in}
 use Rattle.rule_lives.proofs.Transfers.{Turns, turned, transfer}
 use Rattle.rule_lives.proofs.Limits.{Limits, limits_of, lives_below, times_or, times_of, HasBound}
 use Rattle.rule_lives.proofs.Anchors.{Anchor, aged_at, all_aged}
 use Rattle.rule_lives.proofs.Places.{Stands, stands_at, standing}
+use Rattle.rule_lives.proofs.Flagged.{steady_of, quiet_of}
 use Rattle.rule_lives.proofs.Moves.{turns_of}
 
 -- ---- observed types
@@ -58,10 +59,10 @@ side_observes (Existing q) e = refl
 side_observes (Folded a) e = refl
 
 -- an event type that a condition of a rule observes is one that the program calls observed
-pub observed_of : (p : Program) (rule : Rule) → ObservedAreFlagged p → In rule p.rules → (k : ℕ) (d : Condition) → slice_get rule.conditions k ≡ Some d → binds d ≡ false
+pub observed_of : (p : Program) (rule : Rule) → IsFlagged p → In rule p.rules → (k : ℕ) (d : Condition) → slice_get rule.conditions k ≡ Some d → binds d ≡ false
     → is_event p (pattern_of d).ty.0 ≡ true → is_observed p (pattern_of d).ty.0 ≡ true
 observed_of p rule flagged in_rules k d at_k side_k event =
-    flagged (pattern_of d).ty.0 ∙ both _ _ event
+    flagged.observed (pattern_of d).ty.0 ∙ both _ _ event
     (any_here (λ (r : Rule). list_any (observes_type (pattern_of d).ty.0) r.conditions) rule p.rules in_rules
     (any_here (observes_type (pattern_of d).ty.0) d rule.conditions (in_place rule.conditions k d at_k)
     (both _ _ (side_observes d side_k) (number_same (pattern_of d).ty.0 (pattern_of d).ty.0 refl))))
@@ -101,7 +102,7 @@ not_side cs k i d q at_k at_i side_k e =
     let f : true ≡ false = ap binds (sym b) ∙ side_k in
     absurd cc
 
-whole_rule : (p : Program) (c n : ℤ) (s o : Snapshot) (rule : Rule) (tuple : Tuple) (x : Fact) (i : ℕ) (q : Pattern) → ObservedAreFlagged p → Turns p c tuple s o → In rule p.rules
+whole_rule : (p : Program) (c n : ℤ) (s o : Snapshot) (rule : Rule) (tuple : Tuple) (x : Fact) (i : ℕ) (q : Pattern) → IsFlagged p → Turns p c tuple s o → In rule p.rules
     → Made p s rule.conditions tuple → slice_get rule.conditions i ≡ Some (Plain q) → slice_get tuple.facts (bindings (take i rule.conditions)) ≡ Some x
     → x.ty.0 ≡ q.ty.0 → q.window ≡ Whole → IsLife p x.ty.0 (finite n) → (x.times.end +ℤ n) <ℤ c → Made p o rule.conditions tuple
 whole_rule p c n s o rule tuple x i q flagged t in_rules h at_i at_x ty is_whole life old =
@@ -112,7 +113,8 @@ whole_rule p c n s o rule tuple x i q flagged t in_rules h at_i at_x ty is_whole
       own = λ k d at_k side_k e. absurd (not_side rule.conditions k i d q at_k at_i side_k e);
       there = λ sides e. ap times_or at_x;
       observed = observed_of p rule flagged in_rules;
-      old = old;
+      past_life = old;
+      steadies = λ j at_j e. steady_of p rule flagged in_rules j.place j.condition at_j e;
     } in
     transfer p c tuple s o t rule.conditions empty_tuple
     (all_aged p c tuple rule.conditions 0 (λ k d at_k.
@@ -120,7 +122,7 @@ whole_rule p c n s o rule tuple x i q flagged t in_rules h at_i at_x ty is_whole
     rw m (aged_at p c n rule.conditions here tuple x.times anchor k d at_k (λ side_k. not_side rule.conditions k i d q at_k at_i side_k)))) h
 
 -- a tuple with an event past its life stays
-rule_stays : (p : Program) (c n : ℤ) (s o : Snapshot) (rule : Rule) (tuple : Tuple) (x : Fact) → ObservedAreFlagged p → Turns p c tuple s o → In rule p.rules
+rule_stays : (p : Program) (c n : ℤ) (s o : Snapshot) (rule : Rule) (tuple : Tuple) (x : Fact) → IsFlagged p → Turns p c tuple s o → In rule p.rules
     → Made p s rule.conditions tuple → In x tuple.facts → IsLife p x.ty.0 (finite n) → (x.times.end +ℤ n) <ℤ c → Made p o rule.conditions tuple
 rule_stays p c n s o rule tuple x flagged t in_rules h own life old =
     let r = standing p s tuple rule.conditions x h own in
@@ -128,17 +130,21 @@ rule_stays p c n s o rule tuple x flagged t in_rules h own life old =
     let is_whole = outside p x.ty.0 n c rule (record { place = r.place; condition = Plain r.pattern }) s x r.pattern.window life in_rules r.placed (sym r.stands.ty) refl r.stands.inside timed.ordered t.from old in
     whole_rule p c n s o rule tuple x r.place r.pattern flagged t in_rules h r.placed r.at_place r.stands.ty is_whole life old
 
-rule_within : (p : Program) (c n : ℤ) (s o : Snapshot) (rule : Rule) (tuple : Tuple) (x : Fact) → ObservedAreFlagged p → Turns p c tuple s o → In rule p.rules
+rule_within : (p : Program) (c n : ℤ) (s o : Snapshot) (rule : Rule) (tuple : Tuple) (x : Fact) → IsFlagged p → Turns p c tuple s o → In rule p.rules
     → Made p s rule.conditions tuple → (Made p o rule.conditions tuple → ⊥) → In x tuple.facts → IsLife p x.ty.0 (finite n) → c ≤ℤ (x.times.end +ℤ n)
 rule_within p c n s o rule tuple x flagged t in_rules h not_made own life =
     by_lt_z (x.times.end +ℤ n) c (λ old. absurd (not_made (rule_stays p c n s o rule tuple x flagged t in_rules h own life old))) (λ le. le)
 
 pub of_rule : OfRule
 of_rule p w step flagged law none rule in_rules tuple keeps (inl d) x own n life =
-    rule_within p w.clock n (snapshot w) (snapshot (moved p w step)) rule tuple x flagged (turns_of p w step tuple law none keeps) in_rules d.0 d.1 own life
+    let next = snapshot (moved p w step) in
+    let quiet = quiet_of p w x flagged law life.event step none (inl (standing p (snapshot w) tuple rule.conditions x d.0 own).stands.there) in
+    rule_within p w.clock n (snapshot w) next rule tuple x flagged (turns_of p w step tuple law none keeps quiet) in_rules d.0 d.1 own life
 of_rule p w step flagged law none rule in_rules tuple keeps (inr d) x own n life =
-    rule_within p w.clock n (snapshot (moved p w step)) (snapshot w) rule tuple x flagged
-    (turned p w.clock tuple (snapshot w) (snapshot (moved p w step)) (turns_of p w step tuple law none keeps)) in_rules d.0 d.1 own life
+    let next = snapshot (moved p w step) in
+    let quiet = quiet_of p w x flagged law life.event step none (inr (standing p next tuple rule.conditions x d.0 own).stands.there) in
+    rule_within p w.clock n next (snapshot w) rule tuple x flagged
+    (turned p w.clock tuple (snapshot w) next (turns_of p w step tuple law none keeps quiet)) in_rules d.0 d.1 own life
 
 -- ---- tuples of the conditions before one that binds no fact
 
@@ -191,7 +197,7 @@ side_there cs i (Negated q) facts z e sides h = h
 side_there cs i (Existing q) facts z e sides h = h
 side_there cs i (Folded a) facts z e sides h = h
 
-whole_prefix : (p : Program) (c n : ℤ) (s o : Snapshot) (rule : Rule) (tuple : Tuple) (x : Fact) (q : ℕ) (d : Condition) → ObservedAreFlagged p → Turns p c tuple s o → In rule p.rules
+whole_prefix : (p : Program) (c n : ℤ) (s o : Snapshot) (rule : Rule) (tuple : Tuple) (x : Fact) (q : ℕ) (d : Condition) → IsFlagged p → Turns p c tuple s o → In rule p.rules
     → Made p s (take q rule.conditions) tuple → slice_get rule.conditions q ≡ Some d → binds d ≡ false → IsPossible p (pattern_of d) (bound_by tuple) x.times
     → x.ty.0 ≡ (pattern_of d).ty.0 → (pattern_of d).window ≡ Whole → IsLife p x.ty.0 (finite n) → (x.times.end +ℤ n) <ℤ c → Made p o (take q rule.conditions) tuple
 whole_prefix p c n s o rule tuple x q d flagged t in_rules h at_q side_q possible ty is_whole life old =
@@ -209,7 +215,8 @@ whole_prefix p c n s o rule tuple x q d flagged t in_rules h at_q side_q possibl
           subst (λ (v : Condition). IsPossible p (pattern_of v) (bound_by tuple) x.times) one possible;
       there = side_there (take (suc q) cs) q d tuple.facts x.times side_q;
       observed = λ k g at_k side_k event. observed_of p rule flagged in_rules k g (of_first cs (suc q) k g at_k) side_k event;
-      old = old;
+      past_life = old;
+      steadies = λ j at_j e. steady_of p rule flagged in_rules j.place j.condition (of_first cs (suc q) j.place j.condition at_j) e;
     } in
     transfer p c tuple s o t (take q cs) empty_tuple
     (all_aged p c tuple (take q cs) 0 (λ k g at_k.
@@ -217,7 +224,7 @@ whole_prefix p c n s o rule tuple x q d flagged t in_rules h at_q side_q possibl
     let m : 0 + bindings (take k (take q cs)) ≡ bindings (take k (take (suc q) cs)) = omega (arith, v.2) in
     rw m (aged_at p c n (take (suc q) cs) here tuple x.times anchor k g v.0 (λ side_k e. omega (arith, v.1))))) h
 
-prefix_within : (p : Program) (c n : ℤ) (s o v : Snapshot) (rule : Rule) (tuple : Tuple) (x : Fact) (q : ℕ) (d : Condition) → ObservedAreFlagged p → Turns p c tuple s o → c ≤ℤ v.clock
+prefix_within : (p : Program) (c n : ℤ) (s o v : Snapshot) (rule : Rule) (tuple : Tuple) (x : Fact) (q : ℕ) (d : Condition) → IsFlagged p → Turns p c tuple s o → c ≤ℤ v.clock
     → (In x v.facts → Timed p x) → In rule p.rules → Made p s (take q rule.conditions) tuple → (Made p o (take q rule.conditions) tuple → ⊥)
     → slice_get rule.conditions q ≡ Some d → binds d ≡ false → In x (passing p (pattern_of d) v tuple) → IsLife p x.ty.0 (finite n) → c ≤ℤ (x.times.end +ℤ n)
 prefix_within p c n s o v rule tuple x q d flagged t from timed in_rules h not_made at_q side_q passes life =
@@ -232,11 +239,13 @@ prefix_within p c n s o v rule tuple x q d flagged t from timed in_rules h not_m
 pub of_prefix : OfPrefix
 of_prefix p w step flagged law none rule in_rules tuple keeps q d at_q side_q (inl e) x passes n life =
     let next = snapshot (moved p w step) in
-    let t = turns_of p w step tuple law none keeps in
+    let quiet = quiet_of p w x flagged law life.event step none (inr (of_counted p (pattern_of d) next tuple x passes).0) in
+    let t = turns_of p w step tuple law none keeps quiet in
     let b = turned p w.clock tuple (snapshot w) next t in
     prefix_within p w.clock n (snapshot w) next next rule tuple x q d flagged t t.to (timed_in x b.shift) in_rules e.0 e.1 at_q side_q passes life
 of_prefix p w step flagged law none rule in_rules tuple keeps q d at_q side_q (inr e) x passes n life =
     let next = snapshot (moved p w step) in
-    let t = turns_of p w step tuple law none keeps in
+    let quiet = quiet_of p w x flagged law life.event step none (inr (of_counted p (pattern_of d) next tuple x passes).0) in
+    let t = turns_of p w step tuple law none keeps quiet in
     let b = turned p w.clock tuple (snapshot w) next t in
     prefix_within p w.clock n next (snapshot w) next rule tuple x q d flagged b t.to (timed_in x b.shift) in_rules e.0 e.1 at_q side_q passes life

@@ -1,4 +1,5 @@
 pub mod Basics
+pub mod Flagged
 pub mod Still
 pub mod Shifts
 pub mod Transfers

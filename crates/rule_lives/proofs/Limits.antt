@@ -19,7 +19,7 @@ use Rattle.rule_model.specs.Maturity.{IsPossible}
 use Rattle.rule_model.specs.Rows.{pattern_of}
 use Rattle.rule_model.specs.Tests.{time_holds_with, time_holds, times_hold}
 use Rattle.rule_model.specs.Tuples.{Tuple, bound_by}
-use Rattle.rule_model.specs.Types.{is_event}
+use Rattle.rule_model.specs.Types.{is_event, is_reference}
 use Rattle.rule_model.proofs.Listed.{both, both_of}
 use Rattle.rule_lives.specs.Networks.{Occurrence, bound, aside, bindings, is_met, Meets, Solves, binds}
 use Rattle.rule_lives.specs.Reach.{Limit, finite, infinite, Below, Placed, distance, SolvesWith}
@@ -54,9 +54,10 @@ limited_by (finite most) p cs i j n e event under times s = (
       (λ top. top),
 )
 
+-- what the conditions of a pattern's scope that are on no reference type add is within its life
 pub record Limits (p : Program) (cs : List Condition) (i : Placed) (n : ℤ) : Type 0 where
-  pub events : (j : Placed) → slice_get cs j.place ≡ Some j.condition → is_event p (pattern_of j.condition).ty.0 ≡ true
-  pub limited : (j : Placed) → slice_get cs j.place ≡ Some j.condition → (times : Occurrence → Times) → SolvesWith p cs i j times → Limited p cs i j n times
+  pub events : (j : Placed) → slice_get cs j.place ≡ Some j.condition → is_reference p (pattern_of j.condition).ty.0 ≡ false → is_event p (pattern_of j.condition).ty.0 ≡ true
+  pub limited : (j : Placed) → slice_get cs j.place ≡ Some j.condition → is_reference p (pattern_of j.condition).ty.0 ≡ false → (times : Occurrence → Times) → SolvesWith p cs i j times → Limited p cs i j n times
 
 module _ (p : Program) (ty : ℕ) (n : ℤ) (rule : Rule) (i : Placed) (life : IsLife p ty (finite n)) (in_rules : In rule p.rules) (at_i : slice_get rule.conditions i.place ≡ Some i.condition)
     (of_type : (pattern_of i.condition).ty.0 ≡ ty) where
@@ -72,17 +73,19 @@ module _ (p : Program) (ty : ℕ) (n : ℤ) (rule : Rule) (i : Placed) (life : I
   })
 
   adds_below : (pattern_of i.condition).window ≡ Whole → (j : Placed) → slice_get (scope rule.conditions i) j.place ≡ Some j.condition
-      → (l : Limit) → Adds p (scope rule.conditions i) i j l → Below l (finite n)
-  adds_below is_whole j at_j l adds = lives_below Whole l is_whole (record { j = j; stands = at_j; adds = adds })
+      → is_reference p (pattern_of j.condition).ty.0 ≡ false → (l : Limit) → Adds p (scope rule.conditions i) i j l → Below l (finite n)
+  adds_below is_whole j at_j changes l adds = lives_below Whole l is_whole (record { j = j; stands = at_j; changes = changes; adds = adds })
 
   events_there : (pattern_of i.condition).window ≡ Whole → (j : Placed) → slice_get (scope rule.conditions i) j.place ≡ Some j.condition
-      → is_event p (pattern_of j.condition).ty.0 ≡ true
-  events_there is_whole j at_j = event_by (is_event p (pattern_of j.condition).ty.0) p (scope rule.conditions i) i j n refl (adds_below is_whole j at_j)
+      → is_reference p (pattern_of j.condition).ty.0 ≡ false → is_event p (pattern_of j.condition).ty.0 ≡ true
+  events_there is_whole j at_j changes =
+      event_by (is_event p (pattern_of j.condition).ty.0) p (scope rule.conditions i) i j n refl (adds_below is_whole j at_j changes)
 
   pub limits_of : (pattern_of i.condition).window ≡ Whole → Limits p (scope rule.conditions i) i n
   limits_of is_whole = record {
     events = events_there is_whole;
-    limited = λ j at_j. limited_by (tail p (pattern_of j.condition)) p (scope rule.conditions i) i j n refl (events_there is_whole j at_j) (adds_below is_whole j at_j);
+    limited = λ j at_j changes.
+        limited_by (tail p (pattern_of j.condition)) p (scope rule.conditions i) i j n refl (events_there is_whole j at_j changes) (adds_below is_whole j at_j changes);
   }
 
 -- ---- solutions

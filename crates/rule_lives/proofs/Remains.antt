@@ -4,7 +4,7 @@ use Rattle.std.proofs.lemmas.Int.{ints}
 use Rattle.rule_model.specs.declared.matched.Match.{Match}
 use Rattle.rule_model.specs.declared.program.Program.{Program}
 use Rattle.rule_model.specs.declared.step.Step.{Step}
-use Rattle.rule_model.specs.declared.step.Step.TheVariants.{Insert, Modify, Retract, Advance, At, Promise}
+use Rattle.rule_model.specs.declared.step.Step.TheVariants.{Insert, Modify, Retract, Advance, At, Promise, Begin}
 use Rattle.rule_model.specs.Matches.{matches, has_match}
 use Rattle.rule_model.proofs.Listed.{both, both_of}
 use Rattle.rule_world.specs.Worlds.{World, snapshot, pending, moved, settled, stepped, still_fired}
@@ -12,8 +12,9 @@ use Rattle.rule_world.proofs.Keeping.{was_present}
 use Rattle.rule_world.proofs.Pending.{has_pending, has_still}
 use Rattle.rule_lives.specs.Keeping.{IsKept, plain, unexpired, endless, living, named, MatchNamesKept, KeptBefore}
 use Rattle.rule_lives.proofs.Basics.{not_true}
-use Rattle.rule_lives.proofs.Keeps.{clock_on, tuple_names_kept}
+use Rattle.rule_lives.proofs.Keeps.{tuple_names_kept}
 use Rattle.rule_lives.proofs.Matched.{names_of, is_match, own_fact}
+use Rattle.rule_lives.proofs.Moves.{clock_on}
 
 pub match_names_kept : MatchNamesKept
 match_names_kept p table w step flagged ops are law none m is was_not f own inside =
@@ -37,6 +38,7 @@ same_marks p w (Retract ty id) = refl
 same_marks p w (Advance by) = refl
 same_marks p w (At moment) = refl
 same_marks p w (Promise entry from) = refl
+same_marks p w Begin = refl
 
 -- a match that is pending behind the step is one there
 pending_match : (p : Program) (w : World) (step : Step) (m : Match) → has_match (pending p (stepped p w step)) m ≡ true → has_match (matches p (snapshot (moved p w step))) m ≡ true
@@ -70,10 +72,10 @@ pub kept_before : KeptBefore
 unfolding stepped
 kept_before p table w step flagged ops are law none f (plain there e) inside = plain inside e
 kept_before p table w step flagged ops are law none f (unexpired expiry there event expires present) inside =
-    unexpired expiry inside event expires (was_present p f w.clock (moved p w step).clock (clock_on p w step law none) present)
+    unexpired expiry inside event expires (was_present p f w.clock (moved p w step).clock (clock_on p w step none) present)
 kept_before p table w step flagged ops are law none f (endless there e) inside = endless inside e
 kept_before p table w step flagged ops are law none f (living n there e le) inside =
-    living n inside e (before_too w.clock (moved p w step).clock (f.times.end +ℤ n) (clock_on p w step law none) le)
+    living n inside e (before_too w.clock (moved p w step).clock (f.times.end +ℤ n) (clock_on p w step none) le)
 kept_before p table w step flagged ops are law none f (named m there is_pending own) inside = by (has_match (matches p (snapshot w)) m) refl
   where
     by : (b : Bool) → has_match (matches p (snapshot w)) m ≡ b → IsKept p table w f

@@ -1,4 +1,4 @@
--- A fact that is older than a pattern's tail passes over one snapshot exactly where it passes over another.
+-- A fact that is older than a pattern's tail, or of a reference type, passes over one snapshot exactly where it passes over another.
 use Rattle.std.proofs.Common.{◌≡◌, ◌==◌, ℕ, ℤ, ◌+ℤ◌, ◌-ℤ◌, ◌≤ℤ◌, ◌<ℤ◌, Bool, true, false, not, ◌&&◌, ◌||◌, List, Option, Some, None, if◌then◌else◌, refl, subst, ap, ◌∙◌, arith}
 use Rattle.std.specs.Int.{int_max}
 use Rattle.std.proofs.lemmas.Int.{ints, clamps}
@@ -14,9 +14,11 @@ use Rattle.rule_model.specs.Tests.{tests_hold, times_hold}
 use Rattle.rule_model.specs.Tuples.{Tuple, unbound, bound_by}
 use Rattle.rule_model.specs.Types.{is_event, expiry_of, lateness_of}
 use Rattle.rule_model.proofs.Listed.{both, both_of}
+use Rattle.rule_world.proofs.Found.{plain_present}
 use Rattle.rule_lives.specs.Reach.{finite, infinite}
 use Rattle.rule_lives.specs.Lifetimes.{tail_by, tail}
 use Rattle.rule_lives.proofs.Basics.{below, same_number, number_same}
+use Rattle.rule_lives.proofs.Flagged.{Steady}
 
 -- ---- tails
 
@@ -69,6 +71,12 @@ pub tail_of : (p : Program) (c : ℤ) (q : Pattern) (y : Times) (s : Settled p c
 unfolding tail
 tail_of p c q y s = tail_has (is_event p q.ty.0) q.window (expiry_of p q.ty.0) (lateness_of p q.entry.0) s.0 s.1
 
+-- what counts at these times counts at every clock: the pattern is on an event type and they are older than its tail, or it is on a
+-- reference type
+pub data Still (p : Program) (c : ℤ) (q : Pattern) (y : Times) : Type 0 where
+  old : is_event p q.ty.0 ≡ true → Settled p c q y → Still p c q y
+  steady : Steady p q → Still p c q y
+
 -- ---- what is left of the tests of an old fact
 
 or_true : (a : Bool) → (a || true) ≡ true
@@ -77,21 +85,21 @@ or_true false = refl
 
 unexpired : (event : Bool) (expiry : Option ℤ) (now start c most : ℤ) → event ≡ true → ((x : ℤ) → expiry ≡ Some x → x ≤ℤ most)
     → (not event || is_within expiry (now -ℤ start)) ≡ true → c ≤ℤ now → (start +ℤ most) <ℤ c → expiry ≡ None
-unexpired true None now start c most e least h from old = refl
-unexpired true (Some x) now start c most e least h from old =
+unexpired true None now start c most e least h from past = refl
+unexpired true (Some x) now start c most e least h from past =
     let l = least x refl in
     let k = below (now -ℤ start) x h in
     absurd (omega (arith, ints))
-unexpired false expiry now start c most e least h from old = absurd cc
+unexpired false expiry now start c most e least h from past = absurd cc
 
 in_whole : (p : Program) (q : Pattern) (window : WindowTag) (now : ℤ) (facts : List Fact) (f : Fact) (c most : ℤ) → ((span : ℤ) → window ≡ Time span → span ≤ℤ most)
     → ((count : ℕ) → window ≡ Length count → ⊥) → is_inside p q window now facts f ≡ true → c ≤ℤ now → (f.times.start +ℤ most) <ℤ c → window ≡ Whole
-in_whole p q Whole now facts f c most least free h from old = refl
-in_whole p q (Time span) now facts f c most least free h from old =
+in_whole p q Whole now facts f c most least free h from past = refl
+in_whole p q (Time span) now facts f c most least free h from past =
     let l = least span refl in
     let k = below (now -ℤ f.times.start) span h in
     absurd (omega (arith, ints))
-in_whole p q (Length count) now facts f c most least free h from old = absurd (free count refl)
+in_whole p q (Length count) now facts f c most least free h from past = absurd (free count refl)
 
 -- a candidate that also passes
 abbrev pub counts : Program → Pattern → Snapshot → Tuple → Fact → Bool
@@ -130,13 +138,22 @@ pub always_present : (p : Program) (now : ℤ) (f : Fact) → expiry_of p f.ty.0
 unfolding is_present
 always_present p now f e = ap (λ (x : Option ℤ). not (is_event p f.ty.0) || is_within x (now -ℤ f.times.start)) e ∙ or_true (not (is_event p f.ty.0))
 
--- what counts at one clock from c on, and is settled there, counts at every clock
-pub stays : (p : Program) (q : Pattern) (s o : Snapshot) (c : ℤ) (t : Tuple) (f : Fact) → c ≤ℤ s.clock → Settled p c q f.times → Counts p q s t f → Counts p q o t f
-stays p q s o c t f from old h =
-    let has = tail_of p c q f.times old in
+-- what counts at one clock from c on, and is still there, counts at every clock
+pub stays : (p : Program) (q : Pattern) (s o : Snapshot) (c : ℤ) (t : Tuple) (f : Fact) → c ≤ℤ s.clock → Still p c q f.times → Counts p q s t f → Counts p q o t f
+stays p q s o c t f from (steady is) h = record {
+  present = plain_present p o.clock f (ap (is_event p) h.ty ∙ is.plain);
+  ty = h.ty;
+  entry = h.entry;
+  alone = h.alone;
+  inside = ap (λ (w : WindowTag). is_inside p q w o.clock o.facts f) is.is_whole;
+  joined = h.joined;
+  times = h.times;
+}
+stays p q s o c t f from (old event settled) h =
+    let has = tail_of p c q f.times settled in
     let by_pattern = subst (λ (ty : ℕ). (not (is_event p ty) || is_within (expiry_of p ty) (s.clock -ℤ f.times.start)) ≡ true) h.ty (present_parts p s.clock f h.present) in
-    let none : expiry_of p q.ty.0 ≡ None = unexpired (is_event p q.ty.0) (expiry_of p q.ty.0) s.clock f.times.start c old.0 has.is_event has.expires by_pattern from old.2 in
-    let is_whole : q.window ≡ Whole = in_whole p q q.window s.clock s.facts f c old.0 has.spans has.no_length h.inside from old.2 in
+    let none : expiry_of p q.ty.0 ≡ None = unexpired (is_event p q.ty.0) (expiry_of p q.ty.0) s.clock f.times.start c settled.0 has.is_event has.expires by_pattern from settled.2 in
+    let is_whole : q.window ≡ Whole = in_whole p q q.window s.clock s.facts f c settled.0 has.spans has.no_length h.inside from settled.2 in
     record {
       present = always_present p o.clock f (ap (expiry_of p) h.ty ∙ none);
       ty = h.ty;

@@ -1,5 +1,5 @@
 -- A tuple of which every condition is settled is made over both snapshots or over none.
-use Rattle.std.proofs.Common.{◌≡◌, ℕ, suc, ℤ, ◌-ℤ◌, ◌≤ℤ◌, true, List, [], ◌∷◌, ◌++◌, length, Some, sym, ◌∙◌, ap, subst, arith}
+use Rattle.std.proofs.Common.{◌≡◌, ℕ, suc, ℤ, ◌-ℤ◌, ◌≤ℤ◌, List, [], ◌∷◌, ◌++◌, length, Some, sym, ◌∙◌, ap, subst, arith}
 use Rattle.std.specs.Prelude.{slice_get}
 use Rattle.std.proofs.lemmas.Int.{ints}
 use Rattle.std.proofs.lemmas.List.{length-append}
@@ -15,12 +15,12 @@ use Rattle.rule_model.specs.Maturity.{IsPossible, IsMature, of_plain, of_none, o
 use Rattle.rule_model.specs.Rows.{Makes, result_of}
 use Rattle.rule_model.specs.Snapshots.{Snapshot, floor}
 use Rattle.rule_model.specs.Tuples.{Tuple, bound_by}
-use Rattle.rule_model.specs.Types.{is_event, lateness_of}
+use Rattle.rule_model.specs.Types.{lateness_of}
 use Rattle.rule_model.proofs.Grown.{makes_grow, begins}
 use Rattle.rule_model.proofs.RuleOf.{in_place}
 use Rattle.rule_lives.proofs.Basics.{Front, at_grows, at_last, times_grow}
-use Rattle.rule_lives.proofs.Still.{Settled, tail_of}
-use Rattle.rule_lives.proofs.Shifts.{Aged, Shift, back, passing_same, own_stays}
+use Rattle.rule_lives.proofs.Still.{Still, tail_of}
+use Rattle.rule_lives.proofs.Shifts.{Calm, aged, fixed, Shift, back, passing_same, own_stays}
 use Rattle.rule_model.proofs.Floors.{clock_below_floor}
 
 pub front_of : (p : Program) (s : Snapshot) (cs : List Condition) (t made : Tuple) → Makes p s cs t made → Front t made
@@ -29,17 +29,19 @@ front_of p s cs t made h = begins p s cs t made (makes_grow p s cs t made h)
 possible_grows : (p : Program) (q : Pattern) (t made : Tuple) (y : Times) → Front t made → IsPossible p q (bound_by t) y → IsPossible p q (bound_by made) y
 possible_grows p q t made y f h = record { event = h.event; tests = times_grow q.times y t made f h.tests }
 
-aged_front : (p : Program) (c : ℤ) (q : Pattern) (t made : Tuple) → Front t made → Aged p c q made → Aged p c q t
-aged_front p c q t made f a = record { event = a.event; observed = a.observed; old = λ y h. a.old y (possible_grows p q t made y f h) }
+calm_front : (p : Program) (c : ℤ) (q : Pattern) (t made : Tuple) → Front t made → Calm p c q made → Calm p c q t
+calm_front p c q t made f (fixed is) = fixed is
+calm_front p c q t made f (aged a) = aged (record { event = a.event; observed = a.observed; old = λ y h. a.old y (possible_grows p q t made y f h) })
 
 -- ---- maturity
 
 -- what is settled for a negative pattern is mature at both moments or at none
-mature_too : (p : Program) (c now later : ℤ) (q : Pattern) (t : Tuple) → Aged p c q t → (c -ℤ lateness_of p q.entry.0) ≤ℤ later → IsMature p q (bound_by t) now → IsMature p q (bound_by t) later
+mature_too : (p : Program) (c now later : ℤ) (q : Pattern) (t : Tuple) → Calm p c q t → (c -ℤ lateness_of p q.entry.0) ≤ℤ later → IsMature p q (bound_by t) now → IsMature p q (bound_by t) later
 mature_too p c now later q t a from (of_plain e) = of_plain e
 mature_too p c now later q t a from (of_none h) = of_none h
 mature_too p c now later q t a from (of_unbounded h) = of_unbounded h
-mature_too p c now later q t a from (of_past u last before) =
+mature_too p c now later q t (fixed is) from (of_past u last before) = of_plain is.plain
+mature_too p c now later q t (aged a) from (of_past u last before) =
     let s = a.old last.event last.possible in
     let l = (tail_of p c q last.event s).late in
     let o = s.2 in
@@ -54,10 +56,10 @@ floor_from p s c entry from = omega (arith, ints, clock_below_floor p s entry)
 -- every condition is settled: one that binds a fact at the tuple's own fact, another at each possible event
 abbrev pub AllAged : Program → ℤ → Tuple → ℕ → List Condition → Type 0
 AllAged p c tuple m [] = Unit {0}
-AllAged p c tuple m (Plain q ∷ cs) = (is_event p q.ty.0 ≡ true) × ((f : Fact) → slice_get tuple.facts m ≡ Some f → Settled p c q f.times) × AllAged p c tuple (suc m) cs
-AllAged p c tuple m (Negated q ∷ cs) = Aged p c q tuple × AllAged p c tuple m cs
-AllAged p c tuple m (Existing q ∷ cs) = Aged p c q tuple × AllAged p c tuple m cs
-AllAged p c tuple m (Folded a ∷ cs) = Aged p c a.pattern tuple × AllAged p c tuple m cs
+AllAged p c tuple m (Plain q ∷ cs) = ((f : Fact) → slice_get tuple.facts m ≡ Some f → Still p c q f.times) × AllAged p c tuple (suc m) cs
+AllAged p c tuple m (Negated q ∷ cs) = Calm p c q tuple × AllAged p c tuple m cs
+AllAged p c tuple m (Existing q ∷ cs) = Calm p c q tuple × AllAged p c tuple m cs
+AllAged p c tuple m (Folded a ∷ cs) = Calm p c a.pattern tuple × AllAged p c tuple m cs
 
 all_at : (p : Program) (c : ℤ) (tuple : Tuple) (m k : ℕ) (cs : List Condition) → m ≡ k → AllAged p c tuple m cs → AllAged p c tuple k cs
 all_at p c tuple m k cs e h = subst (λ (v : ℕ). AllAged p c tuple v cs) e h
@@ -82,8 +84,8 @@ next_place t next made f e front =
     ∙ at_grows (t.facts ++ f ∷ []) front.0 (length t.facts) f (at_last t.facts f)
 
 module _ (p : Program) (c : ℤ) (tuple : Tuple) (s o : Snapshot) (r : Turns p c tuple s o) where
-  same_passing : (q : Pattern) (t : Tuple) → Front t tuple → Aged p c q tuple → passing p q s t ≡ passing p q o t
-  same_passing q t front a = passing_same p c tuple q s o t (aged_front p c q t tuple front a) r.from r.to r.shift
+  same_passing : (q : Pattern) (t : Tuple) → Front t tuple → Calm p c q tuple → passing p q s t ≡ passing p q o t
+  same_passing q t front a = passing_same p c tuple q s o t (calm_front p c q t tuple front a) r.from r.to r.shift
 
   same_length : (t next : Tuple) (cs : List Condition) → next.facts ≡ t.facts → AllAged p c tuple (length t.facts) cs → AllAged p c tuple (length next.facts) cs
   same_length t next cs e a = all_at p c tuple (length t.facts) (length next.facts) cs (ap (λ (fs : List Fact). length fs) (sym e)) a
@@ -94,12 +96,12 @@ module _ (p : Program) (c : ℤ) (tuple : Tuple) (s o : Snapshot) (r : Turns p c
       let e = ap (λ (u : Tuple). u.facts) h.1.2 in
       let place = next_place t h.0 tuple h.1.0 e (front_of p s cs h.0 tuple h.2) in
       let own : In h.1.0 tuple.facts = in_place tuple.facts (length t.facts) h.1.0 place in
-      let next = all_at p c tuple (suc (length t.facts)) (length h.0.facts) cs (longer t h.0 h.1.0 e) a.2 in
-      (h.0, (h.1.0, own_stays p c tuple q s o t h.1.0 a.0 r.from r.shift own (a.1 h.1.0 place) h.1.1, h.1.2), transfer cs h.0 next h.2)
+      let next = all_at p c tuple (suc (length t.facts)) (length h.0.facts) cs (longer t h.0 h.1.0 e) a.1 in
+      (h.0, (h.1.0, own_stays p c tuple q s o t h.1.0 r.from r.shift own (a.0 h.1.0 place) h.1.1, h.1.2), transfer cs h.0 next h.2)
   transfer (Negated q ∷ cs) t a h =
       let front = front_of p s (Negated q ∷ cs) t tuple h in
       let e = ap (λ (u : Tuple). u.facts) h.1.2 in
-      let mature = mature_too p c (floor p s q.entry.0) (floor p o q.entry.0) q t (aged_front p c q t tuple front a.0) (floor_from p o c q.entry.0 r.to) h.1.1 in
+      let mature = mature_too p c (floor p s q.entry.0) (floor p o q.entry.0) q t (calm_front p c q t tuple front a.0) (floor_from p o c q.entry.0 r.to) h.1.1 in
       (h.0, (sym (same_passing q t front a.0) ∙ h.1.0, mature, h.1.2), transfer cs h.0 (same_length t h.0 cs e a.1) h.2)
   transfer (Existing q ∷ cs) t a h =
       let front = front_of p s (Existing q ∷ cs) t tuple h in

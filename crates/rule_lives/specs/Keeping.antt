@@ -23,7 +23,7 @@ use Rattle.rule_world.specs.Worlds.{World, snapshot, pending, moved, stepped, st
 use Rattle.rule_lives.specs.Networks.{binds}
 use Rattle.rule_lives.specs.Reach.{finite, infinite}
 use Rattle.rule_lives.specs.Lifetimes.{IsLife}
-use Rattle.rule_lives.specs.Law.{Made, ObservedAreFlagged}
+use Rattle.rule_lives.specs.Law.{Made, IsFlagged}
 
 -- ---- the table of lives
 
@@ -85,14 +85,14 @@ Comes p w step conditions tuple = Made p (snapshot (moved p w step)) conditions 
 
 -- By a safe table: a fact of the world that a tuple of a whole rule names which comes is kept in the world.
 abbrev pub TupleNamesKept : Type 0
-TupleNamesKept = (p : Program) (table : LifeTable) (w : World) (step : Step) → ObservedAreFlagged p → AreSafe p table → IsLawful p w
+TupleNamesKept = (p : Program) (table : LifeTable) (w : World) (step : Step) → IsFlagged p → AreSafe p table → IsLawful p w
     → step_fault p w step ≡ None
     → (rule : Rule) → In rule p.rules → (tuple : Tuple) → Comes p w step rule.conditions tuple
     → (f : Fact) → In f tuple.facts → In f w.facts → IsKept p table w f
 
 -- The same of a match that comes.
 abbrev pub MatchNamesKept : Type 0
-MatchNamesKept = (p : Program) (table : LifeTable) (w : World) (step : Step) → ObservedAreFlagged p → UseOperators p.rules → AreSafe p table
+MatchNamesKept = (p : Program) (table : LifeTable) (w : World) (step : Step) → IsFlagged p → UseOperators p.rules → AreSafe p table
     → IsLawful p w → step_fault p w step ≡ None
     → (m : Match) → has_match (matches p (snapshot (moved p w step))) m ≡ true → has_match (matches p (snapshot w)) m ≡ false
     → (f : Fact) → In (name_of f) m.row.facts → In f w.facts → IsKept p table w f
@@ -100,7 +100,7 @@ MatchNamesKept = (p : Program) (table : LifeTable) (w : World) (step : Step) →
 -- A fact of the world that passes, behind the step, for a `not`, `exists` or `accumulate` with a tuple of the conditions before that one
 -- which comes is kept in the world.
 abbrev pub TupleMeetsKept : Type 0
-TupleMeetsKept = (p : Program) (table : LifeTable) (w : World) (step : Step) → ObservedAreFlagged p → AreSafe p table → IsLawful p w
+TupleMeetsKept = (p : Program) (table : LifeTable) (w : World) (step : Step) → IsFlagged p → AreSafe p table → IsLawful p w
     → step_fault p w step ≡ None
     → (rule : Rule) → In rule p.rules → (q : ℕ) (c : Condition) → slice_get rule.conditions q ≡ Some c → binds c ≡ false
     → (tuple : Tuple) → Comes p w step (take q rule.conditions) tuple
@@ -108,6 +108,6 @@ TupleMeetsKept = (p : Program) (table : LifeTable) (w : World) (step : Step) →
 
 -- What is kept behind the step and was a fact before it was kept before it.
 abbrev pub KeptBefore : Type 0
-KeptBefore = (p : Program) (table : LifeTable) (w : World) (step : Step) → ObservedAreFlagged p → UseOperators p.rules → AreSafe p table
+KeptBefore = (p : Program) (table : LifeTable) (w : World) (step : Step) → IsFlagged p → UseOperators p.rules → AreSafe p table
     → IsLawful p w → step_fault p w step ≡ None
     → (f : Fact) → IsKept p table (stepped p w step) f → In f w.facts → IsKept p table w f

@@ -13,7 +13,7 @@ use Rattle.rule_model.specs.declared.condition.WindowTag.TheVariants.{Whole, Tim
 use Rattle.rule_model.specs.declared.program.Program.{Program}
 use Rattle.rule_model.specs.declared.program.Rule.{Rule}
 use Rattle.rule_model.specs.Rows.{pattern_of}
-use Rattle.rule_model.specs.Types.{is_event, expiry_of, lateness_of}
+use Rattle.rule_model.specs.Types.{is_event, is_reference, expiry_of, lateness_of}
 use Rattle.rule_lives.specs.Reach.{Limit, finite, infinite, Below, plus, Placed, IsReach}
 
 -- ---- tails
@@ -52,10 +52,12 @@ scope rule i = scope_of i.condition
     scope_of (Existing pattern) = take (suc i.place) rule
     scope_of (Folded a) = take (suc i.place) rule
 
--- j stands among the conditions that matter to i, and adds the limit
+-- j stands among the conditions that matter to i, is on no reference type, whose facts are there before any event and stay, and adds the
+-- limit
 pub record AddsSome (p : Program) (conditions : List Condition) (i : Placed) (l : Limit) : Type 0 where
   pub j : Placed
   pub stands : slice_get conditions j.place ≡ Some j.condition
+  pub changes : is_reference p (pattern_of j.condition).ty.0 ≡ false
   pub adds : Adds p conditions i j l
 
 -- One of the limits of which the life of condition i is the greatest. What stands in a window of time matters as long as that is, and
