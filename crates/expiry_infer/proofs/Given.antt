@@ -1,5 +1,5 @@
 -- Reaches, what conditions add, and what patterns give, against the greatest limits that were found.
-use Rattle.std.proofs.Common.{◌≡◌, inl, inr, ◌<◌, ◌≤◌, ℕ, zero, suc, ℤ, pos, ◌≤ℤ◌, true, List, [], ◌∷◌, length, take, Some, None, refl, sym, ◌∙◌, ap, subst, arith}
+use Rattle.std.proofs.Common.{◌≡◌, inl, inr, ◌<◌, ◌≤◌, ℕ, zero, suc, ℤ, pos, ◌≤ℤ◌, true, false, List, [], ◌∷◌, length, take, Some, None, refl, sym, ◌∙◌, ap, subst, arith}
 use Rattle.std.specs.Prelude.{slice_get}
 use Rattle.std.specs.List.{All}
 use Rattle.std.proofs.lemmas.Int.{ints}
@@ -12,13 +12,13 @@ use Rattle.rule_model.specs.declared.program.Rule.{Rule}
 use Rattle.rule_model.specs.declared.program.TypeInfo.{TypeInfo}
 use Rattle.rule_model.specs.declared.test.TimeTest.{TimeTest}
 use Rattle.rule_model.specs.Rows.{pattern_of, HaveOperators}
-use Rattle.rule_model.specs.Types.{is_event_type, expiry_in, is_event, expiry_of}
+use Rattle.rule_model.specs.Types.{is_event_type, expiry_in, is_event, is_reference, expiry_of}
 use Rattle.rule_model.proofs.RuleOf.{in_place}
 use Rattle.rule_lives.specs.Networks.{Occurrence, bindings}
 use Rattle.rule_lives.specs.Reach.{Limit, finite, infinite, plus, Placed, SolvesWith, IsReach}
 use Rattle.rule_lives.specs.Lifetimes.{tail, Adds, of_fact, of_event, AddsSome, LivesFor, scope, PatternLife, IsLife}
 use Rattle.expiry_infer.specs.Edges.{HaveNetwork}
-use Rattle.expiry_infer.specs.Tables.{placed, AddsAt, GivesAt, GivesIn, StandsIn}
+use Rattle.expiry_infer.specs.Tables.{placed, AddsBy, AddsAt, GivesAt, GivesIn, StandsIn}
 use Rattle.expiry_infer.specs.Tails.{HaveLives}
 use Rattle.expiry_infer.specs.Tops.{Among, IsTop}
 use Rattle.expiry_infer.proofs.Places.{false_is}
@@ -42,18 +42,22 @@ unsolved p conditions i j infinite none h = none h.0.0 h.0.1
 
 -- ---- what a condition adds
 
-pub added : (p : Program) (conditions : List Condition) (i j : Placed) (r more low top : Limit) → is_event p (pattern_of j.condition).ty.0 ≡ true → IsReach p conditions i j r
-    → more ≡ plus r (tail p (pattern_of j.condition)) → IsTop (λ (l : Limit). l ≡ more) low top → IsTop (Adds p conditions i j) low top
-added p conditions i j r more low top event reach is h =
-    top_like (λ (l : Limit). l ≡ more) (Adds p conditions i j) low top (λ l e. of_event event r reach (e ∙ is)) (λ l a. it_is l a) h
+pub added : (p : Program) (conditions : List Condition) (i j : Placed) (r more low top : Limit) → is_reference p (pattern_of j.condition).ty.0 ≡ false → is_event p (pattern_of j.condition).ty.0 ≡ true → IsReach p conditions i j r
+    → more ≡ plus r (tail p (pattern_of j.condition)) → IsTop (λ (l : Limit). l ≡ more) low top → IsTop (AddsBy p conditions i j) low top
+added p conditions i j r more low top changes event reach is h =
+    top_like (λ (l : Limit). l ≡ more) (AddsBy p conditions i j) low top (λ l e. (changes, of_event event r reach (e ∙ is))) (λ l a. it_is l a.1) h
   where
     it_is : (l : Limit) → Adds p conditions i j l → l ≡ more
     it_is l (of_fact fact e) = absurd (false_is (sym fact ∙ event))
     it_is l (of_event e s other k) = k ∙ ap (λ (z : Limit). plus z (tail p (pattern_of j.condition))) (one_reach p conditions i j s r other reach) ∙ sym is
 
+-- a condition on a reference type adds nothing
+pub fixed_added : (p : Program) (conditions : List Condition) (i j : Placed) (low : Limit) → is_reference p (pattern_of j.condition).ty.0 ≡ true → IsTop (AddsBy p conditions i j) low low
+fixed_added p conditions i j low is = top_of_none (AddsBy p conditions i j) low (λ l a. false_is (sym a.0 ∙ is))
+
 pub none_added : (p : Program) (conditions : List Condition) (i j : Placed) (low : Limit) → is_event p (pattern_of j.condition).ty.0 ≡ true
-    → ((times : Occurrence → Times) → SolvesWith p conditions i j times → ⊥) → IsTop (Adds p conditions i j) low low
-none_added p conditions i j low event none = top_of_none (Adds p conditions i j) low (λ l a. never l a)
+    → ((times : Occurrence → Times) → SolvesWith p conditions i j times → ⊥) → IsTop (AddsBy p conditions i j) low low
+none_added p conditions i j low event none = top_of_none (AddsBy p conditions i j) low (λ l a. never l a.1)
   where
     never : (l : Limit) → Adds p conditions i j l → ⊥
     never l (of_fact fact e) = false_is (sym fact ∙ event)
@@ -63,8 +67,8 @@ pub all_added : (p : Program) (conditions : List Condition) (i : Placed) (end : 
     → IsTop (Among conditions (AddsAt p conditions i) end) low top → IsTop (AddsSome p conditions i) low top
 all_added p conditions i end low top all h =
     top_like (Among conditions (AddsAt p conditions i) end) (AddsSome p conditions i) low top
-    (λ l a. record { j = placed a.place a.x; stands = a.stands; adds = a.limit })
-    (λ l a. anywhere conditions (AddsAt p conditions i) end a.j.place a.j.condition l all a.stands a.adds) h
+    (λ l a. record { j = placed a.place a.x; stands = a.stands; changes = a.limit.0; adds = a.limit.1 })
+    (λ l a. anywhere conditions (AddsAt p conditions i) end a.j.place a.j.condition l all a.stands (a.changes, a.adds)) h
 
 -- ---- scopes
 

@@ -1,10 +1,11 @@
 -- The table of the inferred lives of a program, with conditions and rules by their places.
-use Rattle.std.specs.Prelude.{◌≡◌, ℕ, List, length, Some, slice_get}
+use Rattle.std.specs.Prelude.{◌≡◌, ℕ, false, List, length, Some, slice_get}
 use Rattle.fx_base.specs.Lists.{In}
 use Rattle.rule_model.specs.declared.condition.Condition.{Condition}
 use Rattle.rule_model.specs.declared.program.Program.{Program}
 use Rattle.rule_model.specs.declared.program.Rule.{Rule}
 use Rattle.rule_model.specs.Rows.{pattern_of}
+use Rattle.rule_model.specs.Types.{is_reference}
 use Rattle.rule_lives.specs.Lifetimes.{Adds, LivesFor}
 use Rattle.rule_lives.specs.Reach.{Limit, Placed}
 use Rattle.expiry_infer.specs.declared.lifetimes.Placed as lent_placed
@@ -25,9 +26,13 @@ lent i = placed i.place i.condition.now
 abbrev pub StandsIn : List Condition → Placed → Type 0
 StandsIn conditions i = slice_get conditions i.place ≡ Some i.condition
 
--- what the condition j of place `place` adds to i
+-- what j adds to i: nothing where it is on a reference type
+abbrev pub AddsBy : Program → List Condition → Placed → Placed → Limit → Type 0
+AddsBy p conditions i j l = (is_reference p (pattern_of j.condition).ty.0 ≡ false) × Adds p conditions i j l
+
+-- the same of the condition j of place `place`
 abbrev pub AddsAt : Program → List Condition → Placed → ℕ → Condition → Limit → Type 0
-AddsAt p conditions i place j l = Adds p conditions i (placed place j) l
+AddsAt p conditions i place j l = AddsBy p conditions i (placed place j) l
 
 -- what the condition i of place `place` gives to the type, if its pattern is on it
 abbrev pub GivesAt : Program → List Condition → ℕ → ℕ → Condition → Limit → Type 0

@@ -3,13 +3,13 @@ ghost use Rattle.std.specs.Prelude.{◌≡◌, ◌<◌, ◌≤◌, length, slice
 ghost use Rattle.rule_model.specs.Lives.{AreShort, IsShortLife};
 ghost use Rattle.rule_model.specs.Rows.{pattern_of};
 ghost use Rattle.rule_model.specs.Types.{is_event, expiry_of};
-ghost use Rattle.rule_lives.specs.Lifetimes.{Adds, AddsSome, IsLife, LivesFor, scope as scope_of};
+ghost use Rattle.rule_lives.specs.Lifetimes.{AddsSome, IsLife, LivesFor, scope as scope_of};
 ghost use Rattle.expiry_infer.specs.Found.{limit_of};
 ghost use Rattle.expiry_infer.specs.Tails.{HaveLives, IsSmall};
 ghost use Rattle.expiry_infer.specs.Tops.{Among, IsTop};
 ghost use Rattle.rule_lives.specs.Keeping.{AreLives, IsLifeOf, IsSafeTable};
 ghost use Rattle.rule_world.specs.Programs.{IsRunnable};
-ghost use Rattle.expiry_infer.specs.Tables.{lent, GivesAt, StandsIn};
+ghost use Rattle.expiry_infer.specs.Tables.{lent, AddsBy, GivesAt, StandsIn};
 
 use crate::limits::{greater, sum, tail};
 use crate::solving::reach;
@@ -24,7 +24,7 @@ struct Placed<'c> {
     condition: &'c Condition,
 }
 
-// The greater of a limit and of what j adds to the life of i.
+// The greater of a limit and of what j adds to the life of i: nothing where j is on a reference type.
 fn with_added(
     alloc: Global,
     program: &Program,
@@ -36,10 +36,13 @@ fn with_added(
     requires conditions { HaveLives program.now conditions.now }
     requires i { StandsIn conditions.now (lent i.now) }
     requires j { StandsIn conditions.now (lent j.now) }
-    ensures top { IfOk result (λ greatest. IsTop (Adds program.now conditions.now (lent i.now) (lent j.now)) (limit_of most) (limit_of greatest)) }
+    ensures top { IfOk result (λ greatest. IsTop (AddsBy program.now conditions.now (lent i.now) (lent j.now)) (limit_of most) (limit_of greatest)) }
     ensures small { IfOk result (λ greatest. IsSmall (limit_of most) → IsSmall (limit_of greatest)) }
 {
     let pattern = j.condition.pattern();
+    if program.is_reference(pattern.ty) {
+        return Ok(most);
+    }
     if !program.is_event(pattern.ty) {
         return Ok(Bound::Infinite);
     }

@@ -5,13 +5,13 @@ use Rattle.fx_base.specs.declared.fact.Fact.{Fact}
 use Rattle.fx_base.specs.declared.value.Value.{Value}
 use Rattle.rule_model.specs.declared.program.Program.{Program}
 use Rattle.rule_model.specs.declared.step.Step.{Step}
-use Rattle.rule_model.specs.declared.step.Step.TheVariants.{Insert, Modify, Retract, Advance, At, Promise}
+use Rattle.rule_model.specs.declared.step.Step.TheVariants.{Insert, Modify, Retract, Advance, At, Promise, Begin}
 use Rattle.rule_model.specs.Candidates.{is_present}
 use Rattle.rule_model.specs.Distinct.{HaveDistinctTags}
 use Rattle.rule_model.specs.Matches.{matches, has_match}
 use Rattle.rule_model.proofs.Once.{one_fact}
 use Rattle.rule_world.specs.Lawful.{IsOrdered}
-use Rattle.rule_world.specs.Worlds.{World, snapshot, present, only_present, found, moved, settled, stepped, step_fault, modify_fault, new_fact, with_new, with_revised, with_retracted, at_clock, with_promise, revised, has_id}
+use Rattle.rule_world.specs.Worlds.{World, snapshot, present, only_present, found, moved, settled, stepped, step_fault, modify_fault, new_fact, with_new, with_revised, with_retracted, at_clock, with_promise, with_begin, revised, has_id}
 use Rattle.rule_world.proofs.Faultless.{moved_forward}
 use Rattle.rule_world.proofs.Found.{found_in}
 use Rattle.rule_world.proofs.Fresh.{AllBelow, below_of, and_both, and_parts, has_number}
@@ -46,6 +46,7 @@ comes_next p w (Retract ty id) f e = absurd (let n : None ≡ Some f = e in cc)
 comes_next p w (Advance by) f e = absurd (let n : None ≡ Some f = e in cc)
 comes_next p w (At moment) f e = absurd (let n : None ≡ Some f = e in cc)
 comes_next p w (Promise entry from) f e = absurd (let n : None ≡ Some f = e in cc)
+comes_next p w Begin f e = absurd (let n : None ≡ Some f = e in cc)
 
 module _ (p : Program) (w : World) (o : IsOrdered p w) where
   abbrev there : List Fact
@@ -127,6 +128,7 @@ world_step_law p w (At moment) o none =
     is_step p w o (at_clock w moment) (At moment) (λ tag. later_facts p w o moment tag le) le refl
 world_step_law p w (Promise entry from) o none =
     is_step p w o (with_promise w entry.0 from) (Promise entry from) (λ tag. all_stay (fact_at (present p w) tag)) (stands w.clock w.clock refl) refl
+world_step_law p w Begin o none = is_step p w o (with_begin w) Begin (λ tag. all_stay (fact_at (present p w) tag)) (stands w.clock w.clock refl) refl
 
 pub retracts_one : RetractsOne
 retracts_one p w ty id g o found_one typed tag f at =

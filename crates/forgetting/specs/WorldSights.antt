@@ -6,7 +6,7 @@ use Rattle.fx_base.specs.declared.ids.TypeId.{TypeId}
 use Rattle.rule_model.specs.declared.matched.Match.{Match}
 use Rattle.rule_model.specs.declared.program.Program.{Program}
 use Rattle.rule_model.specs.declared.step.Step.{Step}
-use Rattle.rule_model.specs.declared.step.Step.TheVariants.{Insert, Modify, Retract, Advance, At, Promise}
+use Rattle.rule_model.specs.declared.step.Step.TheVariants.{Insert, Modify, Retract, Advance, At, Promise, Begin}
 use Rattle.rule_model.specs.Candidates.{is_present}
 use Rattle.rule_model.specs.Matches.{matches, has_match}
 use Rattle.rule_world.specs.Lawful.{IsOrdered}
@@ -38,6 +38,7 @@ comes p w (Retract ty id) = None
 comes p w (Advance by) = None
 comes p w (At moment) = None
 comes p w (Promise entry from) = None
+comes p w Begin = None
 
 -- which facts go out: the version that is modified, the fact that is retracted, and what is not present any more
 abbrev pub goes : Program → World → Step → Fact → Bool
@@ -47,6 +48,7 @@ goes p w (Retract ty id) f = f.ty.0 == ty.0 && has_id id.0 f
 goes p w (Advance by) f = not (is_present p (w.clock +ℤ by) f)
 goes p w (At moment) f = not (is_present p moment f)
 goes p w (Promise entry from) f = false
+goes p w Begin f = false
 
 -- the sight of a world whose numbers and marks are in order is lawful
 abbrev pub SightLaw : Type 0

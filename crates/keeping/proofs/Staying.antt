@@ -15,7 +15,7 @@ use Rattle.rule_model.specs.declared.life.LifeTable.{LifeTable}
 use Rattle.rule_model.specs.declared.program.Program.{Program}
 use Rattle.rule_model.specs.declared.program.Rule.{Rule}
 use Rattle.rule_model.specs.declared.step.Step.{Step}
-use Rattle.rule_model.specs.declared.step.Step.TheVariants.{Insert, Modify, Retract, Advance, At, Promise}
+use Rattle.rule_model.specs.declared.step.Step.TheVariants.{Insert, Modify, Retract, Advance, At, Promise, Begin}
 use Rattle.rule_model.specs.Candidates.{is_within, is_present, is_inside, is_candidate}
 use Rattle.rule_model.specs.Rows.{pattern_of}
 use Rattle.rule_model.specs.Snapshots.{Snapshot}
@@ -35,7 +35,6 @@ use Rattle.rule_lives.specs.Lifetimes.{IsLife}
 use Rattle.rule_lives.specs.Networks.{binds}
 use Rattle.rule_lives.specs.Reach.{finite, infinite}
 use Rattle.rule_lives.proofs.Basics.{not_true, same_number}
-use Rattle.rule_lives.proofs.Keeps.{clock_on}
 use Rattle.rule_lives.proofs.Limits.{lives_below}
 use Rattle.condition_rows.specs.Sets.{candidates_of}
 use Rattle.condition_rows.proofs.Ends.{same_truth}
@@ -44,7 +43,7 @@ use Rattle.keeping.specs.Kept.{is_alive, is_named, is_kept, is_forgotten}
 use Rattle.keeping.specs.Steps.{IsLawfulStep, behind}
 use Rattle.rule_lives.proofs.Laws.{observed_of}
 use Rattle.rule_lives.proofs.Matched.{same_fact}
-use Rattle.rule_lives.proofs.Moves.{plain_there, retracted_is_not_observed}
+use Rattle.rule_lives.proofs.Moves.{plain_there, retracted_is_not_observed, clock_on}
 use Rattle.keeping.proofs.Versions.{lost, tags_behind}
 
 -- ---- no step takes away an observed event
@@ -69,6 +68,7 @@ observed_stays p w (Retract ty id) law none f i event observed =
 observed_stays p w (Advance by) law none f i event observed = i
 observed_stays p w (At moment) law none f i event observed = i
 observed_stays p w (Promise entry from) law none f i event observed = i
+observed_stays p w Begin law none f i event observed = i
 
 -- ---- a fact past its life, over two snapshots
 
@@ -187,7 +187,7 @@ module _ (p : Program) (table : LifeTable) (w : World) (step : Step) (given : Is
   fact_same : (f : Fact) → In f w.facts → is_kept p table w f ≡ false → In f next.facts → candidates_of p (pattern_of c) next (name_of f) ≡ candidates_of p (pattern_of c) (snapshot w) (name_of f)
   fact_same f i e there =
       candidate_named p next (tags_behind p w step given.lawful.ordered) (pattern_of c) f there
-      ∙ lost_same p table w given.safe given.lawful next (clock_on p w step given.lawful given.faultless) rule in_rules k c at_k f i e
+      ∙ lost_same p table w given.safe given.lawful next (clock_on p w step given.faultless) rule in_rules k c at_k f i e
       ∙ sym (candidate_named p (snapshot w) given.lawful.ordered.tags (pattern_of c) f i)
 
   -- what is still there

@@ -10,13 +10,13 @@ use Rattle.rule_world.specs.Lawful.{IsLawful}
 use Rattle.rule_world.specs.Programs.{UseOperators}
 use Rattle.rule_world.specs.Worlds.{World, snapshot, moved, step_fault}
 use Rattle.rule_lives.specs.Keeping.{AreSafe}
-use Rattle.rule_lives.specs.Law.{ObservedAreFlagged}
+use Rattle.rule_lives.specs.Law.{IsFlagged}
 use Rattle.condition_rows.specs.Sets.{rows_of}
 
--- a step without a fault of a lawful world, with a safe table of lives for a program whose observed types are flagged and whose temporal
--- tests have operators, as those of every runnable program
+-- a step without a fault of a lawful world, with a safe table of lives for a program whose types are flagged and whose temporal tests have
+-- operators, as those of every runnable program
 pub record IsLawfulStep (p : Program) (table : LifeTable) (w : World) (step : Step) : Type 0 where
-  pub flagged : ObservedAreFlagged p
+  pub flagged : IsFlagged p
   pub operators : UseOperators p.rules
   pub safe : AreSafe p table
   pub lawful : IsLawful p w

@@ -1,8 +1,8 @@
-use Rattle.std.proofs.Common.{◌≡◌, true, ap, subst, sym, ◌∙◌}
+use Rattle.std.proofs.Common.{◌≡◌, true, false, ap, subst, sym, ◌∙◌}
 use Rattle.std.specs.Prelude.{IfOk, IfSome}
 use Rattle.rule_model.specs.declared.condition.Pattern.{Pattern}
 use Rattle.rule_model.specs.Rows.{pattern_of}
-use Rattle.rule_model.specs.Types.{is_event}
+use Rattle.rule_model.specs.Types.{is_event, is_reference}
 use Rattle.rule_lives.specs.Lifetimes.{tail}
 use Rattle.rule_lives.specs.Reach.{plus}
 use Rattle.expiry_infer.specs.Found.{limit_of, IsFound}
@@ -31,9 +31,10 @@ returns-in-Some-clause-top c =
     let i = lent c.args.i.now in
     let j = lent c.args.j.now in
     let pattern = c.pattern-pattern.ensures in
+    let changes : is_reference p (pattern_of j.condition).ty.0 ≡ false = sym (ap (λ (q : Pattern). is_reference p q.ty.0) pattern) ∙ sym c.is_reference.ensures ∙ c.if-is_reference.false in
     let event : is_event p (pattern_of j.condition).ty.0 ≡ true = sym (ap (λ (q : Pattern). is_event p q.ty.0) pattern) ∙ sym c.is_event.ensures ∙ c.if-not-is_event.false in
     let found = subst (λ r. IfOk r (IsFound p conditions i j)) c.in_ok-distance.was (c.reach.ensures.reach i.condition j.condition c.requires.i c.requires.j) in
-    added p conditions i j (limit_of c.in-Some.distance) (limit_of c.sum.result) (limit_of c.args.most) (limit_of c.greater.result) event (subst (IsFound p conditions i j) c.in-Some.is found)
+    added p conditions i j (limit_of c.in-Some.distance) (limit_of c.sum.result) (limit_of c.args.most) (limit_of c.greater.result) changes event (subst (IsFound p conditions i j) c.in-Some.is found)
     (c.sum.ensures ∙ ap (plus (limit_of c.in-Some.distance)) (c.tail.ensures ∙ ap (tail p) pattern))
     c.greater.ensures
 
