@@ -78,14 +78,14 @@ module _ (test : Named → Bool) (who : Named) where
   named_where (f ∷ facts) = named_step (test (name_of f)) f (filter (λ (f : Fact). test (name_of f)) facts) (has_name (map name_of facts) who) refl (named_where facts)
 
 module _ (p : Program) (s : Snapshot) (tags : HaveDistinctTags s.facts) (q : Pattern) (row : Row) where
-  partner_in : (f : Fact) → In f (partners p q s row) → In f s.facts
+  pub partner_in : (f : Fact) → In f (partners p q s row) → In f s.facts
   unfolding partners
   partner_in f i = of_filter (is_candidate p q s) f s.facts (of_filter (λ (g : Fact). joins q (held s) row (name_of g)) f (candidates p q s) i)
 
   partners_held : Holds (held s) (partners p q s row)
   partners_held = held_all s tags (partners p q s row) partner_in
 
-  partners_once : EachOnce (partners p q s row)
+  pub partners_once : EachOnce (partners p q s row)
   unfolding partners
   partners_once = once_filter (λ (g : Fact). joins q (held s) row (name_of g)) (candidates p q s) (once_filter (is_candidate p q s) s.facts (once_facts s.facts tags))
 
@@ -135,7 +135,7 @@ module _ (rows : Row → Bool) (forgotten : Named → Bool) (here given : Row �
       ∙ ap (λ b. (rows r.0 && given r.0 r.1) && b) (sym (ap (clean forgotten) (from_unvalued row r e)))
 
   -- a test of what is clean and a value makes the clean rows
-  valued_clean : (row : Row) → valued (λ left v. cleaned rows forgotten left && here left v) row ≡ cleaned (valued (λ left v. rows left && given left v)) forgotten row
+  pub valued_clean : (row : Row) → valued (λ left v. cleaned rows forgotten left && here left v) row ≡ cleaned (valued (λ left v. rows left && given left v)) forgotten row
   unfolding valued
   valued_clean row = split_clean row (unvalued row) refl
 

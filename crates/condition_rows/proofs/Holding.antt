@@ -91,7 +91,7 @@ module _ (s : Snapshot) where
   unfolding held
   held_fact d f i = first_with s.facts d f i
 
-  held_in : (tag : Tag) (f : Fact) → held s tag ≡ Some f → In f s.facts
+  pub held_in : (tag : Tag) (f : Fact) → held s tag ≡ Some f → In f s.facts
   unfolding held
   held_in tag f e = found_in (has_tag tag) s.facts f e
 
