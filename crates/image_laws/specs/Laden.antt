@@ -1,5 +1,5 @@
 -- The rows of kept facts, where conditions count and gather beyond them.
-use Rattle.std.specs.Prelude.{◌≡◌, ◌<◌, ◌==◌, ◌&&◌, ◌||◌, ◌↔◌, ◌++◌, not, ℕ, suc, ℤ, Bool, true, false, List, [], ◌∷◌, map, length, Option, Some, None, slice_get}
+use Rattle.std.specs.Prelude.{◌≡◌, ◌<◌, ◌==◌, ◌&&◌, ◌||◌, ◌↔◌, ◌++◌, not, ℕ, zero, suc, ℤ, Bool, true, false, List, [], ◌∷◌, map, length, Option, Some, None, slice_get}
 use Rattle.std.specs.List.{find}
 use Rattle.std.specs.Option.{is_some}
 use Rattle.std.specs.Ordering.{eq_by_cmp}
@@ -62,14 +62,15 @@ extra_at extras rule condition row = find (is_extra_at rule condition row) extra
 abbrev pub AreOwners : Program → (ℕ → ℕ → ℕ) → Type 0
 AreOwners p owners = (place k : ℕ) (rule : Rule) → slice_get p.rules place ≡ Some rule → k < length rule.conditions → IsFirstWith p (suc k) rule.conditions (owners place k)
 
--- the rows of these conditions, which stand from a place on, of the rows of those before them
-unfoldable pub laden_from : Program → Snapshot → List Extra → (ℕ → ℕ) → ℕ → List Condition → (Row → Bool) → Row → Bool
-laden_from p s extras owner k [] left = left
-laden_from p s extras owner k (c ∷ conditions) left = laden_from p s extras owner (suc k) conditions (laden_line p s (extra_at extras (owner k) k) c left)
+abbrev pub laden_with : Program → Snapshot → (Row → Option Extra) → Option Condition → (Row → Bool) → Row → Bool
+laden_with p s beyond None left = left
+laden_with p s beyond (Some c) left = laden_line p s beyond c left
 
--- the rows of the first conditions of a rule
-abbrev pub laden : Program → Snapshot → List Extra → (ℕ → ℕ) → List Condition → Row → Bool
-laden p s extras owner conditions = laden_from p s extras owner 0 conditions is_empty_row
+-- The rows of the first so many of these conditions, from the empty row alone. `owner` gives the rule whose extras are those of the
+-- condition in a place.
+unfoldable pub laden : Program → Snapshot → List Extra → (ℕ → ℕ) → List Condition → ℕ → Row → Bool
+laden p s extras owner conditions zero = is_empty_row
+laden p s extras owner conditions (suc n) = laden_with p s (extra_at extras (owner n) n) (slice_get conditions n) (laden p s extras owner conditions n)
 
 -- ---- what is kept of a snapshot
 

@@ -18,5 +18,5 @@ pub fn laden_rows_are_the_kept_rows()
     ensures { (p : Program) (s : Snapshot) (t : Snapshot) (forgotten : Named → Bool) (extras : List Extra) (owners : ℕ → ℕ → ℕ)
         → HaveDistinctTags s.facts → IsKeptOf p s forgotten t → AreExtras p s forgotten extras → AreOwners p owners
         → (place : ℕ) (rule : Rule) → slice_get p.rules place ≡ Some rule → (n : ℕ) (row : Row)
-        → laden p t extras (owners place) (take n rule.conditions) row ≡ cleaned (rows_of p s (take n rule.conditions)) forgotten row }
+        → laden p t extras (owners place) rule.conditions n row ≡ cleaned (rows_of p s (take n rule.conditions)) forgotten row }
 {}

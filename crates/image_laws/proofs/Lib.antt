@@ -1,0 +1,4 @@
+pub mod Kept
+pub mod Extras
+pub mod Gathered
+pub mod Rows
