@@ -95,12 +95,12 @@ abbrev pub type_info : List (List ℕ) → TypeTree → TypeInfo
 type_info observed t = record {
   name = t.name;
   event = is_event t;
+  reference = reference_of t.metas;
   fields = map field_info t.fields;
   timestamp = option_map (field_place t) (timestamp_of t.metas);
   duration = option_map (field_place t) (duration_of t.metas);
   expires = expiry_of t.metas;
   observed = is_observed_event observed t;
-  reference = reference_of t.metas;
 }
 
 -- ---- entry points, given the items of the file

@@ -70,12 +70,12 @@ fn info_with(
     Ok(TypeInfo {
         name: tree.name.copy(alloc)?,
         event: is_event_tree(tree),
+        reference: is_reference_tree(tree),
         fields: infos_of_fields(alloc, tree.fields.as_slice())?,
         timestamp: field_named(ty, timestamp_field(tree)),
         duration: field_named(ty, duration_field(tree)),
         expires: expiry_offset(tree),
         observed: is_observed(observed, tree),
-        reference: is_reference_tree(tree),
     })
 }
 

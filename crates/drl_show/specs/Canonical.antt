@@ -187,6 +187,10 @@ abbrev pub role_word : Bool → List ℕ
 role_word true = codes "event"
 role_word false = codes "fact"
 
+-- an annotation without parentheses
+abbrev pub bare_annotation_tokens : List ℕ → List TokenKind
+bare_annotation_tokens name = Mark At ∷ Word name ∷ []
+
 -- an annotation with a word in its parentheses
 abbrev pub annotation_tokens : List ℕ → List ℕ → List TokenKind
 annotation_tokens name content = Mark At ∷ Word name ∷ Mark OpenParenthesis ∷ Word content ∷ Mark CloseParenthesis ∷ []
@@ -200,7 +204,7 @@ meta_tokens (meta.Role event) = annotation_tokens (codes "role") (role_word even
 meta_tokens (meta.Timestamp f) = annotation_tokens (codes "timestamp") f
 meta_tokens (meta.Duration f) = annotation_tokens (codes "duration") f
 meta_tokens (meta.Expires ms) = span_annotation_tokens (codes "expires") ms
-meta_tokens meta.Reference = Mark At ∷ Word (codes "reference") ∷ []
+meta_tokens meta.Reference = bare_annotation_tokens (codes "reference")
 
 abbrev pub field_tokens : List ℕ × List ℕ → List TokenKind
 field_tokens (f, k) = Word f ∷ Mark Colon ∷ Word k ∷ []

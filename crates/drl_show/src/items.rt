@@ -1,5 +1,5 @@
 ghost use Rattle.std.specs.Prelude.{◌≡◌, OnOk};
-ghost use Rattle.drl_show.specs.Canonical.{annotation_tokens, entry_tokens, lateness_tokens, maybe, role_word, span_annotation_tokens, star_tokens};
+ghost use Rattle.drl_show.specs.Canonical.{annotation_tokens, bare_annotation_tokens, entry_tokens, lateness_tokens, maybe, role_word, span_annotation_tokens, star_tokens};
 ghost use Rattle.drl_show.specs.Texts.{added};
 
 use crate::shapes::{Written, write_each};
@@ -24,6 +24,14 @@ fn role(event: bool) -> &'static str
     ensures { result.now ≡ role_word event }
 {
     if event { "event" } else { "fact" }
+}
+
+// An annotation without parentheses.
+fn bare_annotation(out: &mut Vec<u8>, name: &str) -> Result<(), NoMemory>
+    ensures { OnOk result (out.new.items ≡ added out.old.items (bare_annotation_tokens name.now)) }
+{
+    mark(out, Mark::At)?;
+    word(out, name)
 }
 
 // An annotation with a word in its parentheses.
@@ -60,10 +68,7 @@ impl Written for Meta {
             Meta::Timestamp(field) => annotation(out, "timestamp", field.as_str()),
             Meta::Duration(field) => annotation(out, "duration", field.as_str()),
             Meta::Expires(ms) => span_annotation(alloc, out, "expires", *ms),
-            Meta::Reference => {
-                mark(out, Mark::At)?;
-                word(out, "reference")
-            }
+            Meta::Reference => bare_annotation(out, "reference"),
         }
     }
 }
