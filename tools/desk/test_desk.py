@@ -60,6 +60,8 @@ class Findings(unittest.TestCase):
     def test_words_are_those_of_the_documents(self):
         self.assertIn("below the floor", fault_words("Late"))
         self.assertIn("Declare it", refusal_words("UnknownType"))
+        self.assertIn("the world has begun", fault_words("ReferenceFixed"))
+        self.assertIn("reference facts are plain", refusal_words("BadReference"))
         self.assertEqual(fault_words("NoSuchCode"), "")
 
     def test_lives(self):
