@@ -25,7 +25,7 @@ use Rattle.rule_lives.specs.Networks.{binds}
 use Rattle.pair_memory.specs.Standing.{clean, cleaned}
 use Rattle.condition_rows.specs.Sets.{rows_of}
 use Rattle.image_laws.specs.Extras.{IsFirstWith, lost_partners, values_gathered, IsExtraIn, AreExtras}
-use Rattle.image_laws.specs.Laden.{values_of, is_extra_at, extra_at, AreOwners}
+use Rattle.image_laws.specs.Laden.{values_of, count_of, is_extra_at, extra_at, AreOwners}
 
 one_number : (m n : ℕ) → (m == n) ≡ true → m ≡ n
 one_number m n e = grind (arith, nat_tests)
@@ -178,3 +178,15 @@ module _ (p : Program) (s : Snapshot) (forgotten : Named → Bool) (extras : Lis
         by : (o : Option Extra) → extra_at extras owner k row ≡ o → values_of o ≡ values_gathered c (lost row)
         by None at = sym (none (lost row) (λ f i. let n : false ≡ true = ap is_some (sym at) ∙ to_extra f i in absurd cc) ∙ gathers_nothing c)
         by (Some x) at = let i = found_in (is_extra_at owner k row) extras x at in (says row x i.0 i.1).gathered
+
+    -- it counts them
+    pub extra_count : count_of (extra_at extras owner k row) ≡ length (lost row)
+    extra_count = by (extra_at extras owner k row) refl
+      where
+        none : (fs : List Fact) → ((f : Fact) → In f fs → ⊥) → 0 ≡ length fs
+        none [] h = refl
+        none (f ∷ fs) h = absurd (h f (inl refl))
+
+        by : (o : Option Extra) → extra_at extras owner k row ≡ o → count_of o ≡ length (lost row)
+        by None at = none (lost row) (λ f i. let n : false ≡ true = ap is_some (sym at) ∙ to_extra f i in absurd cc)
+        by (Some x) at = let i = found_in (is_extra_at owner k row) extras x at in (says row x i.0 i.1).counted

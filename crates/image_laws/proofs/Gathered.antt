@@ -7,7 +7,7 @@ use Rattle.fold_fn.specs.Order.{times, in_rising_order}
 use Rattle.fold_fn.proofs.Rising.{times-cons, times-nil, times-rising}
 
 times_append : (v : ℤ) (xs ys : List ℤ) → times v (xs ++ ys) ≡ times v xs + times v ys
-times_append v [] ys = ap (λ n. n + times v ys) (sym (times-nil v))
+times_append v [] ys = let none : times v [] ≡ 0 = times-nil v in omega (arith, none)
 times_append v (x ∷ xs) ys = grind (arith, times-cons, times_append v xs ys)
 
 parted_step : (v x : ℤ) (b : Bool) (kept lost all : List ℤ) → times v kept + times v lost ≡ times v all
@@ -20,7 +20,7 @@ map_if g true x xs = refl
 map_if g false x xs = refl
 
 parted_times : {A : Type 0} (g : A → ℤ) (lost : A → Bool) (v : ℤ) (xs : List A) → times v (map g (filter (λ x. not (lost x)) xs)) + times v (map g (filter lost xs)) ≡ times v (map g xs)
-parted_times g lost v [] = ap (λ n. n + times v []) (times-nil v)
+parted_times g lost v [] = let none : times v [] ≡ 0 = times-nil v in omega (arith, none)
 parted_times g lost v (x ∷ xs) =
     ap (λ zs. times v zs + times v (map g (cond (lost x) (x ∷ filter lost xs) (filter lost xs)))) (map_if g (not (lost x)) x (filter (λ y. not (lost y)) xs))
     ∙ ap (λ zs. times v (cond (not (lost x)) (g x ∷ map g (filter (λ y. not (lost y)) xs)) (map g (filter (λ y. not (lost y)) xs))) + times v zs) (map_if g (lost x) x (filter lost xs))

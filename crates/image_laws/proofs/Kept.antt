@@ -1,5 +1,6 @@
 -- A snapshot of kept facts sees what is kept of the whole one as that does: versions, candidates, and which of them join a clean row.
 use Rattle.std.proofs.Common.{◌≡◌, ◌↔◌, ◌∙◌, ◌&&◌, ◌==◌, not, ℕ, Bool, true, false, List, [], ◌∷◌, length, nat_lt, cond, inl, inr, Option, Some, None, refl, sym, ap, subst, arith}
+use Rattle.std.specs.Prelude.{slice_get}
 use Rattle.std.specs.List.{filter, find}
 use Rattle.std.proofs.lemmas.Bool.Decides.{nat_tests}
 use Rattle.fx_base.specs.Lists.{In, EachOnce}
@@ -63,7 +64,7 @@ module _ (p : Program) (s t : Snapshot) (forgotten : Named → Bool) (d : HaveDi
 
   -- ---- one condition of a rule
 
-  module _ (rule : Rule) (in_rules : In rule p.rules) (c : Condition) (in_rule : In c rule.conditions) where
+  module _ (rule : Rule) (in_rules : In rule p.rules) (k : ℕ) (c : Condition) (at_k : slice_get rule.conditions k ≡ Some c) where
     abbrev q : Pattern
     q = pattern_of c
 
@@ -80,7 +81,7 @@ module _ (p : Program) (s t : Snapshot) (forgotten : Named → Bool) (d : HaveDi
         kept : (g : Fact) → In g s.facts → is_behind p q s.clock f g ≡ true → (b : Bool) → forgotten (name_of g) ≡ b → forgotten (name_of g) ≡ false
         kept g i e true h =
             let fitting = (both_of (nat_lt f.tag.0 g.tag.0) (fits p q s.clock g) e).1 in
-            let n : true ≡ false = sym fitting ∙ of.uncounted rule in_rules c in_rule count is g i h in
+            let n : true ≡ false = sym fitting ∙ of.uncounted rule in_rules k c at_k count is g i h in
             absurd cc
         kept g i e false h = h
 
@@ -118,9 +119,9 @@ module _ (p : Program) (s t : Snapshot) (forgotten : Named → Bool) (d : HaveDi
         to : candidates_of p q t who ≡ true → remembered (candidates_of p q s) forgotten who ≡ true
         to e =
             let f = candidate_of p t of.tags q who e in
-            let k = from_kept f.0 f.1 in
+            let there = from_kept f.0 f.1 in
             subst (λ (n : Named). remembered (candidates_of p q s) forgotten n ≡ true) f.2
-            (both (candidates_of p q s (name_of f.0)) (not (forgotten (name_of f.0))) (named s d f.0 k.0) (not_is (forgotten (name_of f.0)) k.1))
+            (both (candidates_of p q s (name_of f.0)) (not (forgotten (name_of f.0))) (named s d f.0 there.0) (not_is (forgotten (name_of f.0)) there.1))
 
         from : remembered (candidates_of p q s) forgotten who ≡ true → candidates_of p q t who ≡ true
         from e =
@@ -139,21 +140,21 @@ module _ (p : Program) (s t : Snapshot) (forgotten : Named → Bool) (d : HaveDi
       abbrev kept_partners : List Fact
       kept_partners = filter (λ (f : Fact). not (forgotten (name_of f))) (partners p q s row)
 
+      abbrev kept_fact : Fact → Bool
+      kept_fact f = not (forgotten (name_of f))
+
+      abbrev joining : Snapshot → Fact → Bool
+      joining u f = joins q (held u) row (name_of f)
+
       pub partners_kept : Same (partners p q t row) kept_partners
       unfolding partners
       partners_kept f = (to, from)
         where
-          abbrev kept_fact : Fact → Bool
-          kept_fact g = not (forgotten (name_of g))
-
-          abbrev joining : Snapshot → Fact → Bool
-          joining u g = joins q (held u) row (name_of g)
-
           to : In f (filter (joining t) (candidates p q t)) → In f (filter kept_fact (filter (joining s) (candidates p q s)))
           to i =
-              let k = from_kept f (of_filter (joining t) f (candidates p q t) i) in
-              in_filter kept_fact f (filter (joining s) (candidates p q s)) (not_is (forgotten (name_of f)) k.1)
-              (in_filter (joining s) f (candidates p q s) (sym (joins_same f k.0 k.1) ∙ passed (joining t) f (candidates p q t) i) k.0)
+              let there = from_kept f (of_filter (joining t) f (candidates p q t) i) in
+              in_filter kept_fact f (filter (joining s) (candidates p q s)) (not_is (forgotten (name_of f)) there.1)
+              (in_filter (joining s) f (candidates p q s) (sym (joins_same f there.0 there.1) ∙ passed (joining t) f (candidates p q t) i) there.0)
 
           from : In f (filter kept_fact (filter (joining s) (candidates p q s))) → In f (filter (joining t) (candidates p q t))
           from i =

@@ -2,3 +2,4 @@ pub mod Kept
 pub mod Extras
 pub mod Gathered
 pub mod Rows
+pub mod Sorted

@@ -1,5 +1,5 @@
 -- The rows of kept facts, with the extras, are the rows of all facts that name kept ones alone.
-use Rattle.std.proofs.Common.{◌≡◌, ◌∙◌, ◌&&◌, ◌||◌, not, ℕ, zero, suc, ℤ, Bool, true, false, List, [], ◌∷◌, ◌++◌, map, inl, inr, Option, Some, None, refl, sym, ap, subst}
+use Rattle.std.proofs.Common.{◌≡◌, ◌∙◌, ◌&&◌, ◌||◌, not, ℕ, zero, suc, ◌+◌, ℤ, Bool, true, false, List, [], ◌∷◌, ◌++◌, map, length, inl, inr, Option, Some, None, refl, sym, ap, subst, arith}
 use Rattle.std.specs.Prelude.{slice_get, take}
 use Rattle.std.specs.List.{filter, list_any}
 use Rattle.std.specs.Option.{is_some}
@@ -7,6 +7,8 @@ use Rattle.std.proofs.lemmas.Map.Views.{tells_apart}
 use mathlib.Core.Path.{fun_ext}
 use Rattle.fx_base.specs.Lists.{In}
 use Rattle.fx_base.specs.declared.fact.Fact.{Fact}
+use Rattle.std.proofs.lemmas.List.Filters.{length-filter_both}
+use Rattle.fold_fn.specs.Laws.{HaveSame}
 use Rattle.fold_fn.specs.Results.{fold_result}
 use Rattle.fold_fn.proofs.ResultLemmas.{result_same}
 use Rattle.row_delta.specs.declared.extra.Extra.{Extra}
@@ -22,6 +24,7 @@ use Rattle.rule_model.specs.declared.program.Rule.{Rule}
 use Rattle.rule_model.specs.Candidates.{candidates}
 use Rattle.rule_model.specs.Distinct.{HaveDistinctTags}
 use Rattle.rule_model.specs.Lent.{bound_in}
+use Rattle.rule_model.specs.Maturity.{is_mature}
 use Rattle.rule_model.specs.Rows.{argument, pattern_of, rows}
 use Rattle.rule_model.specs.Snapshots.{Snapshot, floor}
 use Rattle.rule_model.specs.Tests.{results_hold}
@@ -31,7 +34,7 @@ use Rattle.rule_model.proofs.Floors.{same_floor}
 use Rattle.rule_model.proofs.Listed.{in_map, of_map, both_of}
 use Rattle.rule_model.proofs.Named.{of_filter}
 use Rattle.rule_model.proofs.Once.{once_filter, once_facts}
-use Rattle.rule_model.proofs.Order.{in_filter, passed, same_values}
+use Rattle.rule_model.proofs.Order.{in_filter, passed, same_length, same_values}
 use Rattle.rule_model.proofs.RuleOf.{in_place}
 use Rattle.rule_lives.specs.Networks.{binds}
 use Rattle.join_tests.specs.Joins.{joins}
@@ -47,11 +50,11 @@ use Rattle.condition_rows.proofs.Naming.{rows_named}
 use Rattle.condition_rows.proofs.Whole.{one_more}
 use Rattle.condition_node.proofs.Folding.{valued_clean, partners_once}
 use Rattle.condition_node.proofs.Knowing.{held_known, joining_alike, row_alike}
-use Rattle.condition_node.proofs.Shown.{asked_first, ripe_alike}
+use Rattle.condition_node.proofs.Shown.{asked_first}
 use Rattle.keeping.proofs.Members.{some_passes, passing_one}
 use Rattle.image_laws.specs.Extras.{AreExtras, lost_partners}
-use Rattle.image_laws.specs.Laden.{values_of, laden_gives, laden_line, laden_with, extra_at, AreOwners, laden, IsKeptOf}
-use Rattle.image_laws.proofs.Extras.{to_extra, of_extra, extra_values}
+use Rattle.image_laws.specs.Laden.{values_of, count_of, laden_gives, laden_line, laden_with, extra_at, AreOwners, laden, IsKeptOf}
+use Rattle.image_laws.proofs.Extras.{to_extra, of_extra, extra_values, extra_count}
 use Rattle.image_laws.proofs.Gathered.{parted_values}
 use Rattle.image_laws.proofs.Kept.{known, to_kept, from_kept, candidates_kept, joins_same, partners_kept, partners_once_kept}
 
@@ -111,48 +114,7 @@ module _ (p : Program) (s t : Snapshot) (forgotten : Named → Bool) (extras : L
   names : (k : ℕ) → NameHeld s (rows_before k)
   names k = rows_named p s d (take k rule.conditions)
 
-  module _ (k : ℕ) (c : Condition) (at_k : slice_get rule.conditions k ≡ Some c) where
-    in_rule : In c rule.conditions
-    in_rule = in_place rule.conditions k c at_k
-
-    -- ---- whether a candidate joins
-
-    partner_kept : binds c ≡ false → (row : Row) → cleaned (rows_before k) forgotten row ≡ true
-        → (has_partner p (pattern_of c) t row || is_some (beyond k row)) ≡ has_partner p (pattern_of c) s row
-    partner_kept aside row is = same_truth (has_partner p (pattern_of c) t row || is_some (beyond k row)) (has_partner p (pattern_of c) s row) to from
-      where
-        abbrev q : Pattern
-        q = pattern_of c
-
-        to : (has_partner p q t row || is_some (beyond k row)) ≡ true → has_partner p q s row ≡ true
-        to e = elim (or_split (has_partner p q t row) (is_some (beyond k row)) e) [
-          | inl h ↦
-              (let f = partner_there p q t row h in
-              let kept = from_kept p s t forgotten d of rule in_rules c in_rule f.0 f.1 in
-              there_partner p q s row f.0 kept.0 (sym (joins_same p s t forgotten d of rule in_rules c in_rule (rows_before k) (names k) row is f.0 kept.0 kept.1) ∙ f.2))
-          | inr h ↦
-              (let f = of_extra p s forgotten extras are owners own place rule stands k c at_k aside row is h in
-              let j = in_lost p q s forgotten row f.0 f.1 in
-              there_partner p q s row f.0 j.0 j.1)
-        ]
-
-        by : (f : Fact) → In f (candidates p q s) → joins q (held s) row (name_of f) ≡ true → (b : Bool) → forgotten (name_of f) ≡ b → (has_partner p q t row || is_some (beyond k row)) ≡ true
-        by f i e true h =
-            or_right (has_partner p q t row) (is_some (beyond k row)) (to_extra p s forgotten extras are owners own place rule stands k c at_k aside row is f (lost_in p q s forgotten row f i e h))
-        by f i e false h =
-            or_left (has_partner p q t row) (is_some (beyond k row))
-            (there_partner p q t row f (to_kept p s t forgotten d of rule in_rules c in_rule f i h) (joins_same p s t forgotten d of rule in_rules c in_rule (rows_before k) (names k) row is f i h ∙ e))
-
-        from : has_partner p q s row ≡ true → (has_partner p q t row || is_some (beyond k row)) ≡ true
-        from e = let f = partner_there p q s row e in by f.0 f.1 f.2 (forgotten (name_of f.0)) refl
-
-    ripe_kept : (row : Row) → cleaned (rows_before k) forgotten row ≡ true → is_ripe p (pattern_of c) t row ≡ is_ripe p (pattern_of c) s row
-    unfolding is_ripe
-    ripe_kept row is =
-        ripe_alike p (held t) s (rows_before k) forgotten (known p s t forgotten d of) (names k) d (pattern_of c) (floor p t (pattern_of c).entry.0)
-        (same_floor p t s (pattern_of c).entry.0 of.clock of.reached) row is
-
-  -- ---- what an accumulate gives
+  -- ---- what a row has bound
 
   abbrev looking : (ℕ → Option Fact) → Row → Bindings
   looking facts row = record { fact = facts; result = slice_get row.values }
@@ -162,19 +124,75 @@ module _ (p : Program) (s t : Snapshot) (forgotten : Named → Bool) (extras : L
       ap (λ facts. looking facts row)
       (fun_ext (named_alike (held t) (held s) row.facts (row_alike (held t) (held s) s forgotten (known p s t forgotten d of) (held_known s forgotten) p q (rows_before k) (names k) row is)))
 
+  module _ (k : ℕ) (c : Condition) (at_k : slice_get rule.conditions k ≡ Some c) where
+    -- ---- whether a candidate joins
+
+    partner_kept : binds c ≡ false → (row : Row) → cleaned (rows_before k) forgotten row ≡ true
+        → (has_partner p (pattern_of c) t row || is_some (beyond k row)) ≡ has_partner p (pattern_of c) s row
+    partner_kept aside row is = same_truth (has_partner p (pattern_of c) t row || is_some (beyond k row)) (has_partner p (pattern_of c) s row) to from
+      where
+        to : (has_partner p (pattern_of c) t row || is_some (beyond k row)) ≡ true → has_partner p (pattern_of c) s row ≡ true
+        to e = elim (or_split (has_partner p (pattern_of c) t row) (is_some (beyond k row)) e) [
+          | inl h ↦
+              (let f = partner_there p (pattern_of c) t row h in
+              let kept = from_kept p s t forgotten d of rule in_rules k c at_k f.0 f.1 in
+              there_partner p (pattern_of c) s row f.0 kept.0 (sym (joins_same p s t forgotten d of rule in_rules k c at_k (rows_before k) (names k) row is f.0 kept.0 kept.1) ∙ f.2))
+          | inr h ↦
+              (let f = of_extra p s forgotten extras are owners own place rule stands k c at_k aside row is h in
+              let j = in_lost p (pattern_of c) s forgotten row f.0 f.1 in
+              there_partner p (pattern_of c) s row f.0 j.0 j.1)
+        ]
+
+        by : (f : Fact) → In f (candidates p (pattern_of c) s) → joins (pattern_of c) (held s) row (name_of f) ≡ true → (b : Bool) → forgotten (name_of f) ≡ b → (has_partner p (pattern_of c) t row || is_some (beyond k row)) ≡ true
+        by f i e true h =
+            or_right (has_partner p (pattern_of c) t row) (is_some (beyond k row)) (to_extra p s forgotten extras are owners own place rule stands k c at_k aside row is f (lost_in p (pattern_of c) s forgotten row f i e h))
+        by f i e false h =
+            or_left (has_partner p (pattern_of c) t row) (is_some (beyond k row))
+            (there_partner p (pattern_of c) t row f (to_kept p s t forgotten d of rule in_rules k c at_k f i h) (joins_same p s t forgotten d of rule in_rules k c at_k (rows_before k) (names k) row is f i h ∙ e))
+
+        from : has_partner p (pattern_of c) s row ≡ true → (has_partner p (pattern_of c) t row || is_some (beyond k row)) ≡ true
+        from e = let f = partner_there p (pattern_of c) s row e in by f.0 f.1 f.2 (forgotten (name_of f.0)) refl
+
+    ripe_kept : (row : Row) → cleaned (rows_before k) forgotten row ≡ true → is_ripe p (pattern_of c) t row ≡ is_ripe p (pattern_of c) s row
+    unfolding is_ripe
+    ripe_kept row is =
+        ap (λ bound. is_mature p (pattern_of c) bound (floor p t (pattern_of c).entry.0)) (bound_kept k (pattern_of c) row is)
+        ∙ ap (is_mature p (pattern_of c) (bound_in (held s) row)) (same_floor p t s (pattern_of c).entry.0 of.clock of.reached)
+
+    -- ---- how many candidates join
+
+    pub counted_kept : binds c ≡ false → (row : Row) → cleaned (rows_before k) forgotten row ≡ true
+        → length (partners p (pattern_of c) t row) + count_of (beyond k row) ≡ length (partners p (pattern_of c) s row)
+    counted_kept aside row is =
+        let q = pattern_of c in
+        let kept = filter (λ (f : Fact). not (forgotten (name_of f))) (partners p q s row) in
+        let here : length (partners p q t row) ≡ length kept =
+        same_length (partners p q t row) kept (partners_once p t of.tags q row)
+        (partners_once_kept p s t forgotten d of rule in_rules k c at_k (rows_before k) (names k) row is)
+        (partners_kept p s t forgotten d of rule in_rules k c at_k (rows_before k) (names k) row is) in
+        let lost : count_of (beyond k row) ≡ length (lost_partners p s forgotten q row) = extra_count p s forgotten extras are owners own place rule stands k c at_k aside row is in
+        let all : length (lost_partners p s forgotten q row) + length kept ≡ length (partners p q s row) =
+        length-filter_both (λ (f : Fact). forgotten (name_of f)) (λ (f : Fact). not (forgotten (name_of f))) (λ f. refl) (partners p q s row) in
+        omega (arith, here, lost, all)
+
+  -- ---- what an accumulate gives
+
   module _ (k : ℕ) (a : Accumulate) (at_k : slice_get rule.conditions k ≡ Some (Folded a)) (row : Row) (is : cleaned (rows_before k) forgotten row ≡ true) where
     abbrev given : Fact → ℤ
     given = argument a.arg
 
-    values_kept : fold_result a.kind (map given (partners p a.pattern t row) ++ values_of (beyond k row)) ≡ fold_result a.kind (map given (partners p a.pattern s row))
-    values_kept =
-        let in_conditions = in_place rule.conditions k (Folded a) at_k in
-        ap (λ more. fold_result a.kind (map given (partners p a.pattern t row) ++ more)) (extra_values p s forgotten extras are owners own place rule stands k (Folded a) at_k refl row is)
-        ∙ result_same a.kind _ (map given (partners p a.pattern s row))
+    -- the values of the candidates and those of the extra are, in some order, those of all candidates
+    pub gathered_kept : HaveSame (map given (partners p a.pattern t row) ++ values_of (beyond k row)) (map given (partners p a.pattern s row))
+    gathered_kept =
+        subst (λ more. HaveSame (map given (partners p a.pattern t row) ++ more) (map given (partners p a.pattern s row)))
+        (sym (extra_values p s forgotten extras are owners own place rule stands k (Folded a) at_k refl row is))
         (parted_values given (λ (f : Fact). forgotten (name_of f)) (partners p a.pattern t row) (partners p a.pattern s row)
         (same_values given (partners p a.pattern t row) _ (partners_once p t of.tags a.pattern row)
-        (partners_once_kept p s t forgotten d of rule in_rules (Folded a) in_conditions (rows_before k) (names k) row is)
-        (partners_kept p s t forgotten d of rule in_rules (Folded a) in_conditions (rows_before k) (names k) row is)))
+        (partners_once_kept p s t forgotten d of rule in_rules k (Folded a) at_k (rows_before k) (names k) row is)
+        (partners_kept p s t forgotten d of rule in_rules k (Folded a) at_k (rows_before k) (names k) row is)))
+
+    values_kept : fold_result a.kind (map given (partners p a.pattern t row) ++ values_of (beyond k row)) ≡ fold_result a.kind (map given (partners p a.pattern s row))
+    values_kept = result_same a.kind _ (map given (partners p a.pattern s row)) gathered_kept
 
     gives_kept : (v : ℤ) → laden_gives p a t (values_of (beyond k row)) row v ≡ gives p a s row v
     unfolding laden_gives gives
@@ -188,7 +206,7 @@ module _ (p : Program) (s t : Snapshot) (forgotten : Named → Bool) (extras : L
       → laden_line p t (beyond k) c (cleaned (rows_before k) forgotten) row ≡ cleaned (line p s c (rows_before k)) forgotten row
   line_kept k (Plain q) at_k row =
       ap (λ (right : Named → Bool). joined (joins q (held t)) (cleaned (rows_before k) forgotten) right row)
-      (fun_ext (candidates_kept p s t forgotten d of rule in_rules (Plain q) (in_place rule.conditions k (Plain q) at_k)))
+      (fun_ext (candidates_kept p s t forgotten d of rule in_rules k (Plain q) at_k))
       ∙ joined_clean (joins q (held s)) (joins q (held t)) (rows_before k) (candidates_of p q s) forgotten
       (joining_alike (held t) (held s) s forgotten (known p s t forgotten d of) (held_known s forgotten) p q (rows_before k) (names k)) row
   line_kept k (Negated q) at_k row =

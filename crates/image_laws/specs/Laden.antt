@@ -37,6 +37,11 @@ abbrev pub values_of : Option Extra → List ℤ
 values_of None = []
 values_of (Some e) = e.values
 
+-- how many facts an extra counts
+abbrev pub count_of : Option Extra → ℕ
+count_of None = 0
+count_of (Some e) = e.count
+
 -- the value is the result of the function over the candidates that join the row and these further values, and its tests hold
 unfoldable pub laden_gives : Program → Accumulate → Snapshot → List ℤ → Row → ℤ → Bool
 laden_gives p a s more row v = is_result (fold_result a.kind (map (argument a.arg) (partners p a.pattern s row) ++ more)) v && results_hold (bound_in (held s) row) v a.tests
@@ -80,5 +85,5 @@ pub record IsKeptOf (p : Program) (s : Snapshot) (forgotten : Named → Bool) (t
   pub facts : (f : Fact) → In f t.facts ↔ (In f s.facts × (forgotten (name_of f) ≡ false))
   pub clock : t.clock ≡ s.clock
   pub reached : t.reached ≡ s.reached
-  pub uncounted : (rule : Rule) → In rule p.rules → (c : Condition) → In c rule.conditions → (count : ℕ) → (pattern_of c).window ≡ Length count
+  pub uncounted : (rule : Rule) → In rule p.rules → (k : ℕ) (c : Condition) → slice_get rule.conditions k ≡ Some c → (count : ℕ) → (pattern_of c).window ≡ Length count
       → (f : Fact) → In f s.facts → forgotten (name_of f) ≡ true → fits p (pattern_of c) s.clock f ≡ false
