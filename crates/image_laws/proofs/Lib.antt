@@ -3,3 +3,4 @@ pub mod Extras
 pub mod Gathered
 pub mod Rows
 pub mod Sorted
+pub mod Imaged

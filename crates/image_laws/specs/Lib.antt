@@ -1,2 +1,4 @@
 pub mod Extras
 pub mod Laden
+pub mod Images
+pub mod Fitting
