@@ -3,10 +3,10 @@
 #![tactic(auto)]
 
 mod counting;
+mod course;
 mod firing;
 pub mod laws;
 mod moving;
-mod reaching;
 mod refreshing;
 mod running;
 mod session;

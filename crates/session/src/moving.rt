@@ -1,6 +1,6 @@
 ghost use Rattle.std.specs.Prelude.{◌≡◌, ◌+◌, ◌<◌, ◌^◌, ◌≤ℤ◌, ◌+ℤ◌, ◌-ℤ◌, ◌==◌, ◌&&◌, not, ℕ, pos, true, false, None, Some, slice_get, is_some, cond, IfOk, OnOk};
 ghost use Rattle.rule_model.specs.Lives.{AreShort, IsShortLife};
-ghost use Rattle.rule_model.specs.declared.step.Step.TheVariants.{Insert, Modify, Retract, At, Promise};
+ghost use Rattle.rule_model.specs.declared.step.Step.TheVariants.{Insert, Modify, Retract, At, Promise, Begin};
 ghost use Rattle.rule_model.specs.Candidates.{is_present};
 ghost use Rattle.rule_model.specs.Types.{is_event};
 ghost use Rattle.rule_world.specs.Events.{end_of_presence, most_millis, times_of};
@@ -14,14 +14,13 @@ ghost use Rattle.session_laws.specs.Standing.{Runs, StaysSound};
 ghost use Rattle.session_laws.specs.Waiting.{with_timer, without_timer};
 ghost use Rattle.std.specs.FinMap as map;
 
-use crate::reaching::{last_starts_behind, promises_behind};
 use crate::refreshing::{followed, without_all};
 use crate::state::State;
 use due_queue::DueQueue;
 use fact_store::FactStore;
 use fx_base::{Copies, EntryId, Fact, FactId, Facts, Millis, NoMemory, Seq, Tag, TypeId, Value};
 use retention::Retention;
-use rule_model::{Life, LifeTable, Moment, Program};
+use rule_model::{Life, LifeTable, Program};
 use rule_world::presence_end;
 use session_laws::{Memory, Setting};
 use std::alloc::Global;
@@ -208,16 +207,12 @@ impl State {
         let mut state = self;
         let tag = fact.tag;
         let program = &setting.program;
-        state.last_starts = last_starts_behind(program, &fact, state.last_starts)?;
+        state.course = state.course.with_new(program, &fact)?;
         state.expiries = timed(state.expiries, program, &fact)?;
         hold(&mut memory.retention, tag, life_end(&setting.lives, &fact))?;
         state.facts = with_fact(state.facts, fact)?;
         let agenda = state.agenda;
-        let moment = Moment {
-            clock: state.clock,
-            last_starts: state.last_starts.as_slice(),
-            promises: state.promises.as_slice(),
-        };
+        let moment = state.course.moment(state.clock);
         let (agenda, left) = followed(
             alloc,
             program,
@@ -253,13 +248,9 @@ impl State {
         ensures sound { IfOk result (λ s. StaysSound setting.now.program memory.old self memory.new s) }
     {
         let mut state = self;
-        state.last_starts = last_starts_behind(&setting.program, fact, state.last_starts)?;
+        state.course = state.course.with_new(&setting.program, fact)?;
         let agenda = state.agenda;
-        let moment = Moment {
-            clock: state.clock,
-            last_starts: state.last_starts.as_slice(),
-            promises: state.promises.as_slice(),
-        };
+        let moment = state.course.moment(state.clock);
         let (agenda, left) = followed(
             alloc,
             &setting.program,
@@ -300,11 +291,7 @@ impl State {
         let after = revised(alloc, before, sets, next)?;
         state.facts = with_fact(state.facts, after)?;
         let agenda = state.agenda;
-        let moment = Moment {
-            clock: state.clock,
-            last_starts: state.last_starts.as_slice(),
-            promises: state.promises.as_slice(),
-        };
+        let moment = state.course.moment(state.clock);
         let (agenda, left) = followed(
             alloc,
             &setting.program,
@@ -340,11 +327,7 @@ impl State {
     {
         let mut state = self;
         let agenda = state.agenda;
-        let moment = Moment {
-            clock: state.clock,
-            last_starts: state.last_starts.as_slice(),
-            promises: state.promises.as_slice(),
-        };
+        let moment = state.course.moment(state.clock);
         let (agenda, left) = followed(
             alloc,
             &setting.program,
@@ -380,8 +363,8 @@ impl State {
         self.settled(alloc, setting, memory, &[])
     }
 
-    /// The state where an entry point has promised a moment. A row that waits no longer then costs what the network says, and the others a
-    /// look at each `not`.
+    /// The state where an entry point has promised a moment. It costs a look at each node, and of a row that waits no longer what the
+    /// network says.
     pub(crate) fn with_promise(
         self,
         alloc: Global,
@@ -396,13 +379,9 @@ impl State {
         ensures sound { IfOk result (λ s. StaysSound setting.now.program memory.old self memory.new s) }
     {
         let mut state = self;
-        state.promises = promises_behind(entry, from, state.promises)?;
+        state.course = state.course.with_promise(entry, from)?;
         let agenda = state.agenda;
-        let moment = Moment {
-            clock: state.clock,
-            last_starts: state.last_starts.as_slice(),
-            promises: state.promises.as_slice(),
-        };
+        let moment = state.course.moment(state.clock);
         let (agenda, left) = followed(
             alloc,
             &setting.program,
@@ -415,6 +394,23 @@ impl State {
         )?;
         state.agenda = agenda;
         state.settled(alloc, setting, memory, left.as_slice())
+    }
+
+    /// The state of a world that has begun. No row asks for that, so the network is not asked.
+    pub(crate) fn with_begin(
+        self,
+        alloc: Global,
+        setting: &Setting,
+        memory: &mut Memory,
+    ) -> Result<State, NoMemory>
+        requires runs { Runs setting.now }
+        ensures stands { IfOk result (λ s. Moves setting.now memory.old self Begin memory.new s) }
+        ensures tags { IfOk result (λ s. s.next_tag ≡ self.next_tag) }
+        ensures sound { IfOk result (λ s. StaysSound setting.now.program memory.old self memory.new s) }
+    {
+        let mut state = self;
+        state.course = state.course.with_begin();
+        state.settled(alloc, setting, memory, &[])
     }
 
     /// The state at a later clock, without the events that are not present any more. Where nothing is due it costs a look at the
@@ -441,11 +437,7 @@ impl State {
             return state.settled(alloc, setting, memory, &[]);
         }
         let agenda = state.agenda;
-        let moment = Moment {
-            clock,
-            last_starts: state.last_starts.as_slice(),
-            promises: state.promises.as_slice(),
-        };
+        let moment = state.course.moment(clock);
         let (agenda, left) = followed(
             alloc,
             &setting.program,

@@ -28,8 +28,8 @@ fn saliences_of(alloc: Global, rules: &[Rule]) -> Result<Vec<i64>, NoMemory>
 }
 
 /// An engine of a program. It keeps, under their tags, the present facts that some rule can still need, the
-/// moments at which events expire, the clock, the last starts of the entry points, an agenda, the network of its rules, and the events
-/// whose lives end.
+/// moments at which events expire, the clock, what the entry points have reached, whether the world has begun, an agenda, the network of
+/// its rules, and the events whose lives end.
 #[derive(Drop)]
 pub struct Session {
     setting: Running,

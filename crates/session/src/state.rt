@@ -3,21 +3,21 @@ ghost use Rattle.rule_model.specs.Matches.{fire_cmp};
 ghost use Rattle.rule_model.specs.First.{first};
 ghost use Rattle.rule_world.specs.Worlds.{modify_fault, is_of_type};
 ghost use Rattle.session_laws.specs.Places.{IsNewestTag, newest};
-ghost use Rattle.rule_model.specs.Moments.{moment_in};
 ghost use Rattle.std.specs.FinMap as map;
 
+use crate::course::Course;
 use agenda::Agenda;
 use change_read::Present;
 use due_queue::DueQueue;
 use fact_store::FactStore;
-use fx_base::{EntryId, Fact, FactId, Millis, NoMemory, Tag, TypeId};
+use fx_base::{Fact, FactId, Millis, Tag, TypeId};
 use rule_model::{Match, Program};
 use rule_world::Code;
 use std::alloc::Global;
 use std::marker::Model;
 
-/// What a session keeps of its world: the facts that are present by their tags, the moments at which they expire, the clock, the last
-/// starts and the promises of the entry points, the agenda and the next numbers.
+/// What a session keeps of its world: the facts that are present by their tags, the moments at which they expire, the clock, the course
+/// so far, the agenda and the next numbers.
 #[derive(Drop)]
 pub(crate) struct State {
     pub(crate) facts: FactStore,
@@ -25,10 +25,7 @@ pub(crate) struct State {
     pub(crate) expiries: DueQueue,
     /// In milliseconds, from 0 to 2^53.
     pub(crate) clock: Millis,
-    /// In milliseconds, by the places of the entry points; 0 for those beyond the end.
-    pub(crate) last_starts: Vec<Millis>,
-    /// The same of the promises.
-    pub(crate) promises: Vec<Millis>,
+    pub(crate) course: Course,
     pub(crate) agenda: Agenda,
     pub(crate) next_id: u64,
     pub(crate) next_tag: u64,
@@ -44,7 +41,7 @@ impl Model for State {
 
     ghost coded = { Prim.hlevel (codes, held_code, timers_code) };
 
-    ghost view = { λ s. record { facts = s.facts; expiries = s.expiries; clock = s.clock; lists = record { last_starts = s.last_starts.items; promises = s.promises.items }; agenda = s.agenda; next_id = s.next_id; next_tag = s.next_tag } };
+    ghost view = { λ s. record { facts = s.facts; expiries = s.expiries; clock = s.clock; course = s.course; agenda = s.agenda; next_id = s.next_id; next_tag = s.next_tag } };
 
     ghost invariant = { λ s. IsSafe s.facts s.expiries s.clock s.next_id s.next_tag };
 }
@@ -55,8 +52,7 @@ impl State {
         ensures facts { result.facts ≡ map.empty }
         ensures expiries { result.expiries ≡ map.empty }
         ensures clock { result.clock ≡ pos 0 }
-        ensures last_starts { result.lists.last_starts ≡ [] }
-        ensures promises { result.lists.promises ≡ [] }
+        ensures course { result.course ≡ record { last_starts = []; promises = []; begun = false } }
         ensures agenda { result.agenda ≡ agenda }
         ensures next_id { result.next_id ≡ 1 }
         ensures next_tag { result.next_tag ≡ 1 }
@@ -65,8 +61,7 @@ impl State {
             facts: FactStore::new(alloc),
             expiries: DueQueue::new(alloc),
             clock: 0,
-            last_starts: Vec::new(alloc),
-            promises: Vec::new(alloc),
+            course: Course::new(alloc),
             agenda,
             next_id: 1,
             next_tag: 1,
@@ -87,28 +82,6 @@ impl State {
         self.clock
     }
 
-    /// The start of the event that was inserted last in an entry point, in milliseconds, or 0. Takes no memory.
-    pub(crate) fn last_start(&self, entry: EntryId) -> Millis
-        ensures { result ≡ moment_in self.now.lists.last_starts entry.0 }
-    {
-        self.last_starts
-            .as_slice()
-            .get(entry.0 as usize)
-            .copied()
-            .unwrap_or(0)
-    }
-
-    /// What an entry point has promised, in milliseconds, or 0: no event of it starts before this moment any more. Takes no memory.
-    pub(crate) fn promise(&self, entry: EntryId) -> Millis
-        ensures { result ≡ moment_in self.now.lists.promises entry.0 }
-    {
-        self.promises
-            .as_slice()
-            .get(entry.0 as usize)
-            .copied()
-            .unwrap_or(0)
-    }
-
     /// The tag of the fact that is to be modified, or why it is not to be. Takes no memory.
     pub(crate) fn modifiable(&self, program: &Program, id: FactId) -> Result<Tag, Code>
         ensures tag { IfOk result (IsNewestTag self.now.facts id.0) }
@@ -117,6 +90,7 @@ impl State {
     {
         match self.facts.get(id) {
             Some(fact) if program.is_event(fact.ty) => Err(Code::EventFixed),
+            Some(fact) if program.is_reference(fact.ty) => Err(Code::ReferenceFixed),
             Some(fact) => Ok(fact.tag),
             None => Err(Code::Absent),
         }
@@ -140,7 +114,13 @@ impl Present for State {
 
     ghost present = { newest };
 
+    ghost has_begun = { λ k. k.course.begun };
+
     fn fact_with(&self, id: FactId) -> Option<&Fact> {
         self.facts.get(id)
+    }
+
+    fn begun(&self) -> bool {
+        self.course.begun()
     }
 }

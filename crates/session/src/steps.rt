@@ -1,13 +1,14 @@
-ghost use Rattle.std.specs.Prelude.{◌≡◌, ◌+◌, ◌<◌, ◌≤◌, ◌≤ℤ◌, ◌+ℤ◌, ◌-ℤ◌, ◌&&◌, ◌^◌, pos, true, [], ◌∷◌, ◌++◌, length, None, Some, slice_get, IfOk, IfErr, OnOk};
+ghost use Rattle.std.specs.Prelude.{◌≡◌, ◌+◌, ◌<◌, ◌≤◌, ◌≤ℤ◌, ◌+ℤ◌, ◌-ℤ◌, ◌&&◌, ◌^◌, pos, true, List, [], ◌∷◌, ◌++◌, length, None, Some, slice_get, IfOk, IfErr, OnOk};
 ghost use Rattle.rule_model.specs.declared.program.Program.{Program as ProgramData};
-ghost use Rattle.rule_model.specs.declared.step.Step.TheVariants.{Insert, Modify, Retract, Advance, At, Promise};
+ghost use Rattle.rule_model.specs.declared.step.Step.TheVariants.{Insert, Modify, Retract, Advance, At, Promise, Begin};
 ghost use Rattle.rule_model.specs.Types.{is_event, is_observed};
-ghost use Rattle.rule_world.specs.Events.{most_millis, new_fault, times_of};
+ghost use Rattle.rule_world.specs.Events.{most_millis, times_of};
 ghost use Rattle.rule_world.specs.Programs.{IsRunnable};
+ghost use Rattle.engine.specs.declared.lines.OutLine.{OutLine as OutLineData};
 ghost use Rattle.engine.specs.declared.lines.OutLine.TheVariants.{Fault};
 ghost use Rattle.session_laws.specs.Leading.{AllWantKnown, has_known_type, StandsAfter, StandsAfterAll, StayKnown, Tries, WantsKnown, Writes, WritesAll, WritesFor};
 ghost use Rattle.session_laws.specs.Standing.{Runs, StaysSound};
-ghost use Rattle.session_laws.specs.Places.{floor_in};
+ghost use Rattle.session_laws.specs.Places.{insert_fault_in};
 
 use crate::state::State;
 use engine::OutLine;
@@ -53,13 +54,16 @@ impl State {
         ensures high { IfOk result (λ times. times.start ≤ℤ most_millis) }
         ensures end_low { IfOk result (λ times. (pos 0 -ℤ most_millis) ≤ℤ times.end) }
         ensures end_high { IfOk result (λ times. times.end ≤ℤ (most_millis +ℤ most_millis)) }
-        ensures none { IfOk result (λ _. new_fault (slice_get program.now.types ty.0) (floor_in program.now self.now entry.0) self.now.clock fields.now ≡ None) }
-        ensures fault { IfErr result (λ code. new_fault (slice_get program.now.types ty.0) (floor_in program.now self.now entry.0) self.now.clock fields.now ≡ Some code) }
+        ensures none { IfOk result (λ _. insert_fault_in program.now self.now ty.0 entry.0 fields.now ≡ None) }
+        ensures fault { IfErr result (λ code. insert_fault_in program.now self.now ty.0 entry.0 fields.now ≡ Some code) }
     {
+        if program.is_reference(ty) && self.course.begun() {
+            return Err(Code::ReferenceFixed);
+        }
         let floor = floor(
             program,
-            self.last_start(entry),
-            self.promise(entry),
+            self.course.last_start(entry),
+            self.course.promise(entry),
             self.clock,
             entry,
         );
@@ -148,6 +152,9 @@ impl State {
         if are_observed(&setting.program, ty) {
             return self.refuse(Code::EventObserved, lines);
         }
+        if setting.program.is_reference(ty) {
+            return self.refuse(Code::ReferenceFixed, lines);
+        }
         match self.tag_of(ty, id) {
             Some(tag) => self.without(alloc, setting, memory, ty, id, tag),
             None if setting.program.is_event(ty) => {
@@ -218,10 +225,26 @@ impl State {
         ensures sound { IfOk result (λ s. StaysSound setting.now.program memory.old self memory.new s) }
         ensures known { has_known_type setting.now.program (Promise entry from) ≡ true → OnOk result (StayKnown setting.now.program lines.old.items lines.new.items) }
     {
-        match promise_at(self.promise(entry), from) {
+        match promise_at(self.course.promise(entry), from) {
             Ok(from) => self.with_promise(alloc, setting, memory, entry, from),
             Err(code) => self.refuse(code, lines),
         }
+    }
+
+    // The world has begun, which has no fault and no line.
+    fn begin(
+        self,
+        alloc: Global,
+        setting: &Setting,
+        memory: &mut Memory,
+    ) -> Result<State, NoMemory>
+        requires runs { Runs setting.now }
+        ensures stands { IfOk result (λ s. Tries setting.now memory.old self Begin memory.new s) }
+        ensures lines { (lines : List OutLineData) → Writes setting.now memory.old self Begin lines lines }
+        ensures tags { IfOk result (λ s. s.next_tag ≡ self.next_tag) }
+        ensures sound { IfOk result (λ s. StaysSound setting.now.program memory.old self memory.new s) }
+    {
+        self.with_begin(alloc, setting, memory)
     }
 
     // A step, whose line is added to these, or its fault.
@@ -249,6 +272,7 @@ impl State {
             Step::Retract { ty, id } => self.retract(alloc, setting, memory, ty, id, lines),
             Step::Advance(by) => self.advance(alloc, setting, memory, by, lines),
             Step::At(moment) => self.go_to(alloc, setting, memory, moment, lines),
+            Step::Begin => self.begin(alloc, setting, memory),
             Step::Promise { entry, from } => {
                 self.promise_from(alloc, setting, memory, entry, from, lines)
             }

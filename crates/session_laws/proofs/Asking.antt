@@ -8,7 +8,7 @@ use Rattle.rule_model.specs.declared.program.TypeInfo.{TypeInfo}
 use Rattle.rule_model.specs.declared.step.Step.{Step}
 use Rattle.rule_model.specs.Types.{is_event, is_event_type}
 use Rattle.rule_world.specs.declared.code.Code.{Code}
-use Rattle.rule_world.specs.declared.code.Code.TheVariants.{EventFixed, Absent}
+use Rattle.rule_world.specs.declared.code.Code.TheVariants.{EventFixed, ReferenceFixed, Absent}
 use Rattle.rule_world.specs.Kinds.{sets_fit, step_fits}
 use Rattle.rule_world.specs.Lawful.{IsLawful, IsOrdered}
 use Rattle.rule_world.specs.Programs.{IsRunnable}
@@ -16,9 +16,9 @@ use Rattle.rule_world.proofs.Faultless.{event_by}
 use Rattle.rule_world.proofs.Found.{found_fits}
 use Rattle.rule_world.specs.Worlds.{World, found, is_of_type}
 use Rattle.script_read.specs.declared.asked.Change.{Change}
-use Rattle.script_read.specs.declared.asked.Change.TheVariants.{Insert, Modify, Retract, Advance, At, Promise}
+use Rattle.script_read.specs.declared.asked.Change.TheVariants.{Insert, Modify, Retract, Advance, At, Promise, Begin}
 use Rattle.script_read.specs.declared.given.Given.{Given}
-use Rattle.change_read.specs.Changes.{change_step, fields_step, modify_step, type_named}
+use Rattle.change_read.specs.Changes.{change_step, entry_asked, fields_step, insert_step, modify_step, type_named}
 use Rattle.change_read.proofs.Fitting.{asked_fits}
 use Rattle.change_read.proofs.Places.{stands, type_stands}
 use Rattle.session_laws.specs.declared.memory.Memory.{Memory}
@@ -42,7 +42,7 @@ module _ (s : Setting) (m : Memory) (k : Contents) (w : World) (runs : Runs s) (
       by ty.1.event refl (is_of_type ty.0 (newest k id.0)) (is_of_type ty.0 (found s.program w id.0)) (λ fixed. same_of_type s m k w runs st ty.0 id.0 (plain fixed))
     where
       tested : Bool → Bool → Result Step Code
-      tested b there = if b then Err EventFixed else if there then fields_step id ty.1.fields members else Err Absent
+      tested b there = if b then Err EventFixed else if ty.1.reference then Err ReferenceFixed else if there then fields_step id ty.1.fields members else Err Absent
 
       plain : ty.1.event ≡ false → is_event s.program ty.0 ≡ false
       plain fixed = event_by s.program ty.0 ∙ ap is_event_type (stands s.program.types ty.0 ty.1 (type_stands name s.program.types 0 ty e)) ∙ fixed
@@ -52,14 +52,16 @@ module _ (s : Setting) (m : Memory) (k : Contents) (w : World) (runs : Runs s) (
       by false fixed a c same = ap (tested false) (same fixed)
 
   -- so each change asks for the same
-  pub same_asked : (change : Change) → change_step s.program (newest k) change ≡ change_step s.program (found s.program w) change
+  pub same_asked : (change : Change) → change_step s.program k.course.begun (newest k) change ≡ change_step s.program w.begun (found s.program w) change
   unfolding change_step
-  same_asked (Insert ty entry members) = refl
+  same_asked (Insert ty entry members) =
+      ap (λ begun. insert_step begun (type_named ty s.program.types 0) (entry_asked entry s.program.entries) members) st.seen.whole.mirrors.begun
   same_asked (Modify ty id members) = same_modified ty id members (type_named ty s.program.types 0) refl
   same_asked (Retract ty id) = refl
   same_asked (Advance by) = refl
   same_asked (At moment) = refl
   same_asked (Promise entry from) = refl
+  same_asked Begin = refl
 
 -- ---- it fits
 
@@ -71,13 +73,14 @@ fits_plain p w (step.Retract ty id) fit = tt
 fits_plain p w (step.Advance by) fit = tt
 fits_plain p w (step.At moment) fit = tt
 fits_plain p w (step.Promise entry from) fit = tt
+fits_plain p w step.Begin fit = tt
 
 -- what a change asks for fits
-pub change_fits : (p : Program) (w : World) (change : Change) → IsRunnable p → IsOrdered p w → Fits p w (change_step p (found p w) change)
+pub change_fits : (p : Program) (w : World) (change : Change) → IsRunnable p → IsOrdered p w → Fits p w (change_step p w.begun (found p w) change)
 change_fits p w change runnable o asked e =
-    let fit : step_fits p (found p w) asked ≡ true = asked_fits p (found p w) change asked runnable.some_entry e in
+    let fit : step_fits p (found p w) asked ≡ true = asked_fits p w.begun (found p w) change asked runnable.some_entry e in
     record { plain = fits_plain p w asked fit; fits = λ none. found_fits p w asked o fit }
 
 pub gives_lawful : (p : Program) (w : World) (change : Change) → IsRunnable p → IsLawful p w → IsLawful p (gives p w change).1
 unfolding gives
-gives_lawful p w change runnable l = does_lawful p w (change_step p (found p w) change) l (change_fits p w change runnable l.ordered)
+gives_lawful p w change runnable l = does_lawful p w (change_step p w.begun (found p w) change) l (change_fits p w change runnable l.ordered)

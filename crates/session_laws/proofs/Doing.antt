@@ -7,7 +7,7 @@ use Rattle.fx_base.specs.declared.fact.Fact.{Fact}
 use Rattle.rule_model.specs.declared.program.Program.{Program}
 use Rattle.rule_model.specs.declared.program.TypeInfo.{TypeInfo}
 use Rattle.rule_model.specs.declared.step.Step.{Step}
-use Rattle.rule_model.specs.declared.step.Step.TheVariants.{Insert, Modify, Retract, Advance, At, Promise}
+use Rattle.rule_model.specs.declared.step.Step.TheVariants.{Insert, Modify, Retract, Advance, At, Promise, Begin}
 use Rattle.rule_model.specs.Types.{is_event, is_event_type}
 use Rattle.rule_world.specs.declared.code.Code.{Code}
 use Rattle.rule_world.specs.Kinds.{set_fits, sets_fit, step_fits}
@@ -69,6 +69,7 @@ of_plain_later p v u (Retract ty id) first o stays fit = tt
 of_plain_later p v u (Advance by) first o stays fit = tt
 of_plain_later p v u (At moment) first o stays fit = tt
 of_plain_later p v u (Promise entry from) first o stays fit = tt
+of_plain_later p v u Begin first o stays fit = tt
 
 -- ---- a plan, which fits the world of the firing
 

@@ -5,7 +5,7 @@ use Rattle.fx_base.specs.declared.value.Value.{Value}
 use Rattle.rule_model.specs.declared.program.Program.{Program}
 use Rattle.rule_model.specs.Candidates.{is_present}
 use Rattle.rule_world.specs.Lawful.{IsLawful}
-use Rattle.rule_world.specs.Worlds.{World, only_present, settled, with_new, with_revised, at_clock, with_retracted, with_promise}
+use Rattle.rule_world.specs.Worlds.{World, only_present, settled, with_new, with_revised, at_clock, with_retracted, with_promise, with_begin}
 use Rattle.rule_world.proofs.Kept.{kept_settled}
 use Rattle.rule_world.proofs.Keeping.{kept_lawful, kept_new, kept_numbers, kept_revised, kept_without, kept_later, with_numbers, without_fact}
 use Rattle.session_laws.specs.Standing.{Contents, Mirrors, Whole}
@@ -37,3 +37,6 @@ after_clock p w clock le = kept_settled p (at_clock w clock) ∙ ap (settled p) 
 
 pub after_promise : (p : Program) (w : World) (entry : ℕ) (from : ℤ) → only_present p (settled p (with_promise w entry from)) ≡ settled p (with_promise (only_present p w) entry from)
 after_promise p w entry from = kept_settled p (with_promise w entry from)
+
+pub after_begin : (p : Program) (w : World) → only_present p (settled p (with_begin w)) ≡ settled p (with_begin (only_present p w))
+after_begin p w = kept_settled p (with_begin w)

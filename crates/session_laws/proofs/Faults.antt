@@ -16,20 +16,21 @@ use Rattle.due_queue.specs.Timers.{Timers, TakesDue, is_due}
 use Rattle.fact_store.specs.Held.{HeldFacts, HoldsNone, IsNewest}
 use Rattle.fact_store.proofs.Stored.{tied}
 use Rattle.rule_world.specs.declared.code.Code.{Code}
-use Rattle.rule_world.specs.declared.code.Code.TheVariants.{EventObserved, Absent, ClockBack, ClockEnd}
+use Rattle.rule_world.specs.declared.code.Code.TheVariants.{EventObserved, ReferenceFixed, Absent, ClockBack, ClockEnd}
 use Rattle.rule_model.specs.declared.program.Program.{Program}
 use Rattle.rule_model.specs.declared.step.Step.TheVariants.{Insert, Modify, Retract, Advance, At, Promise}
 use Rattle.rule_world.specs.Events.{clock_fault, most_millis, new_fault, promise_fault, times_of}
 use Rattle.rule_world.specs.Lawful.{IsLawful}
+use Rattle.rule_world.specs.Programs.{IsRunnable}
 use Rattle.rule_world.specs.Worlds.{World, at_clock, only_present, is_of_type, moved, retract_fault, settled, step_fault, stepped, with_new, with_revised, with_retracted}
 use Rattle.rule_model.specs.Snapshots.{floor, floor_by, Reached}
-use Rattle.rule_model.specs.Types.{is_event, is_observed, lateness_of}
+use Rattle.rule_model.specs.Types.{is_event, is_observed, is_reference, lateness_of}
 use Rattle.engine.specs.declared.lines.OutLine.TheVariants.{New}
 use Rattle.session_laws.specs.declared.memory.Memory.{Memory}
 use Rattle.session_laws.specs.declared.setting.Setting.{Setting}
 use Rattle.session_laws.specs.Gives.{step_lines}
 use Rattle.session_laws.specs.Leading.{Moves}
-use Rattle.session_laws.specs.Places.{IsSafe, floor_in, newest}
+use Rattle.session_laws.specs.Places.{IsSafe, insert_fault_in, newest}
 use Rattle.session_laws.specs.Standing.{Contents, Mirrors, Standing, with_facts, reached_of}
 use Rattle.session_laws.specs.Waiting.{with_timer, without_timer, left_at}
 use Rattle.session_laws.proofs.Members.{got_old, none_left}
@@ -84,13 +85,16 @@ module _ (s : Setting) (m : Memory) (k : Contents) (w : World) (st : Standing s 
   whole = st.seen.whole.mirrors
 
   module _ (ty : TypeId) (entry : EntryId) (fields : List Value) where
-    pub insert_fault : (o : Option Code) → new_fault (slice_get s.program.types ty.0) (floor_in s.program k entry.0) k.clock fields ≡ o
-        → step_fault s.program w (Insert ty entry fields) ≡ o
+    pub insert_fault : (o : Option Code) → insert_fault_in s.program k ty.0 entry.0 fields ≡ o → step_fault s.program w (Insert ty entry fields) ≡ o
     unfolding step_fault floor
     insert_fault o e =
         let p = s.program in
-        ap (λ (r : Reached). new_fault (slice_get p.types ty.0) (floor_by (lateness_of p entry.0) (r.last_start entry.0) (r.promise entry.0) w.clock) w.clock fields) (sym whole.reached)
-        ∙ ap (λ z. new_fault (slice_get p.types ty.0) (floor_by (lateness_of p entry.0) ((reached_of k).last_start entry.0) ((reached_of k).promise entry.0) z) z fields) (sym whole.clock) ∙ e
+        let fixed = is_reference p ty.0 in
+        let of : ℤ → Option Code = λ z. new_fault (slice_get p.types ty.0) (floor_by (lateness_of p entry.0) ((reached_of k).last_start entry.0) ((reached_of k).promise entry.0) z) z fields in
+        ap (λ (r : Reached). if fixed && w.begun then Some ReferenceFixed
+        else new_fault (slice_get p.types ty.0) (floor_by (lateness_of p entry.0) (r.last_start entry.0) (r.promise entry.0) w.clock) w.clock fields) (sym whole.reached)
+        ∙ ap (λ (z : ℤ). if fixed && w.begun then Some ReferenceFixed else of z) (sym whole.clock)
+        ∙ ap (λ (b : Bool). if fixed && b then Some ReferenceFixed else of k.clock) (sym whole.begun) ∙ e
 
     pub insert_done : (times : Times) → times ≡ times_of (slice_get s.program.types ty.0) k.clock fields
         → stepped s.program w (Insert ty entry fields) ≡ settled s.program (with_new s.program w (numbered k ty entry fields times))
@@ -151,48 +155,63 @@ at_done p w moment = refl
 
 -- ---- the fault of a retraction
 
-fault_by : (event observed there : Bool) → Option Code
-fault_by event observed there = if event then if observed then Some EventObserved else None else if there then None else Some Absent
+fault_by : (event observed reference there : Bool) → Option Code
+fault_by event observed reference there =
+    if event then if observed then Some EventObserved else None else if reference then Some ReferenceFixed else if there then None else Some Absent
 
-found_by : (event observed : Bool) → (event && observed) ≡ false → fault_by event observed true ≡ None
+found_by : (event observed reference : Bool) → (event && observed) ≡ false → reference ≡ false → fault_by event observed reference true ≡ None
 unfolding fault_by
-found_by true true e = absurd (let n : true ≡ false = e in cc)
-found_by true false e = refl
-found_by false observed e = refl
+found_by true true reference e h = absurd (let n : true ≡ false = e in cc)
+found_by true false reference e h = refl
+found_by false observed true e h = absurd (let n : true ≡ false = h in cc)
+found_by false observed false e h = refl
 
-vain_by : (event observed there : Bool) → event ≡ true → (event && observed) ≡ false → fault_by event observed there ≡ None
+vain_by : (event observed reference there : Bool) → event ≡ true → (event && observed) ≡ false → fault_by event observed reference there ≡ None
 unfolding fault_by
-vain_by true true there e h = absurd (let n : true ≡ false = h in cc)
-vain_by true false there e h = refl
-vain_by false observed there e h = absurd (let n : false ≡ true = e in cc)
+vain_by true true reference there e h = absurd (let n : true ≡ false = h in cc)
+vain_by true false reference there e h = refl
+vain_by false observed reference there e h = absurd (let n : false ≡ true = e in cc)
 
-observed_by : (event observed there : Bool) → (event && observed) ≡ true → fault_by event observed there ≡ Some EventObserved
+observed_by : (event observed reference there : Bool) → (event && observed) ≡ true → fault_by event observed reference there ≡ Some EventObserved
 unfolding fault_by
-observed_by true true there e = refl
-observed_by true false there e = absurd (let n : false ≡ true = e in cc)
-observed_by false observed there e = absurd (let n : false ≡ true = e in cc)
+observed_by true true reference there e = refl
+observed_by true false reference there e = absurd (let n : false ≡ true = e in cc)
+observed_by false observed reference there e = absurd (let n : false ≡ true = e in cc)
 
-absent_by : (event observed there : Bool) → event ≡ false → there ≡ false → fault_by event observed there ≡ Some Absent
+fixed_by : (event observed reference there : Bool) → event ≡ false → reference ≡ true → fault_by event observed reference there ≡ Some ReferenceFixed
 unfolding fault_by
-absent_by true observed there e h = absurd (let n : true ≡ false = e in cc)
-absent_by false observed true e h = absurd (let n : true ≡ false = h in cc)
-absent_by false observed false e h = refl
+fixed_by true observed reference there e h = absurd (let n : true ≡ false = e in cc)
+fixed_by false observed true there e h = refl
+fixed_by false observed false there e h = absurd (let n : false ≡ true = h in cc)
 
-pub retract_found : (p : Program) (ty : ℕ) (o : Option Fact) → (is_event p ty && is_observed p ty) ≡ false → is_of_type ty o ≡ true → retract_fault p ty o ≡ None
+absent_by : (event observed reference there : Bool) → event ≡ false → reference ≡ false → there ≡ false → fault_by event observed reference there ≡ Some Absent
 unfolding fault_by
-retract_found p ty o e h = ap (fault_by (is_event p ty) (is_observed p ty)) h ∙ found_by (is_event p ty) (is_observed p ty) e
+absent_by true observed reference there e r h = absurd (let n : true ≡ false = e in cc)
+absent_by false observed true there e r h = absurd (let n : true ≡ false = r in cc)
+absent_by false observed false true e r h = absurd (let n : true ≡ false = h in cc)
+absent_by false observed false false e r h = refl
 
-pub retract_event : (p : Program) (ty : ℕ) (o : Option Fact) → (is_event p ty && is_observed p ty) ≡ false → is_event p ty ≡ true → retract_fault p ty o ≡ None
-unfolding fault_by
-retract_event p ty o e h = vain_by (is_event p ty) (is_observed p ty) (is_of_type ty o) h e
+module _ (p : Program) (ty : ℕ) (o : Option Fact) where
+  pub retract_found : (is_event p ty && is_observed p ty) ≡ false → is_reference p ty ≡ false → is_of_type ty o ≡ true → retract_fault p ty o ≡ None
+  unfolding fault_by
+  retract_found e r h = ap (fault_by (is_event p ty) (is_observed p ty) (is_reference p ty)) h ∙ found_by (is_event p ty) (is_observed p ty) (is_reference p ty) e r
 
-pub retract_observed : (p : Program) (ty : ℕ) (o : Option Fact) → (is_event p ty && is_observed p ty) ≡ true → retract_fault p ty o ≡ Some EventObserved
-unfolding fault_by
-retract_observed p ty o e = observed_by (is_event p ty) (is_observed p ty) (is_of_type ty o) e
+  pub retract_event : (is_event p ty && is_observed p ty) ≡ false → is_event p ty ≡ true → retract_fault p ty o ≡ None
+  unfolding fault_by
+  retract_event e h = vain_by (is_event p ty) (is_observed p ty) (is_reference p ty) (is_of_type ty o) h e
 
-pub retract_absent : (p : Program) (ty : ℕ) (o : Option Fact) → is_event p ty ≡ false → is_of_type ty o ≡ false → retract_fault p ty o ≡ Some Absent
-unfolding fault_by
-retract_absent p ty o e h = absent_by (is_event p ty) (is_observed p ty) (is_of_type ty o) e h
+  pub retract_observed : (is_event p ty && is_observed p ty) ≡ true → retract_fault p ty o ≡ Some EventObserved
+  unfolding fault_by
+  retract_observed e = observed_by (is_event p ty) (is_observed p ty) (is_reference p ty) (is_of_type ty o) e
+
+  -- reference types are no event types
+  pub retract_fixed : IsRunnable p → is_reference p ty ≡ true → retract_fault p ty o ≡ Some ReferenceFixed
+  unfolding fault_by
+  retract_fixed runnable e = fixed_by (is_event p ty) (is_observed p ty) (is_reference p ty) (is_of_type ty o) (runnable.references ty e) e
+
+  pub retract_absent : is_event p ty ≡ false → is_reference p ty ≡ false → is_of_type ty o ≡ false → retract_fault p ty o ≡ Some Absent
+  unfolding fault_by
+  retract_absent e r h = absent_by (is_event p ty) (is_observed p ty) (is_reference p ty) (is_of_type ty o) e r h
 
 -- ---- what the store finds
 

@@ -174,7 +174,7 @@ module _ (p : Program) (net : Rete) (k : Contents) (w : World) (seen : Seen p ne
 
     module _ (facts : HeldFacts) (b : Marks) (less : (tag : ℕ) → map.get facts tag ≡ left_at k.facts tags tag) where
       abbrev t : Contents
-      t = contents facts k.expiries k.clock k.lists b k.next_id k.next_tag
+      t = contents facts k.expiries k.clock k.course b k.next_id k.next_tag
 
       still_held : (tag : ℕ) (f : Fact) → map.get facts tag ≡ Some f → map.get k.facts tag ≡ Some f
       still_held tag f e = by (list_any (nat_eq tag) tags) (sym (less tag) ∙ e)
@@ -234,6 +234,7 @@ module _ (p : Program) (net : Rete) (k : Contents) (w : World) (seen : Seen p ne
             waits = seen.whole.mirrors.waits;
             clock = seen.whole.mirrors.clock;
             reached = seen.whole.mirrors.reached;
+            begun = seen.whole.mirrors.begun;
             next_id = seen.whole.mirrors.next_id;
             next_tag = seen.whole.mirrors.next_tag;
           };
@@ -282,7 +283,7 @@ module _ (s : Setting) (m : Memory) (k : Contents) (left : ℕ → Bool) (w : Wo
       → ((tag : ℕ) → map.get facts tag ≡ left_at k.facts tags tag)
       → b.saliences ≡ k.agenda.saliences → b.pending ≡ k.agenda.pending
       → ((q : Match) → has_match b.fired q ≡ (has_match k.agenda.fired q && not (has (rows_for answers q.rule.0) q.row)))
-      → Standing s (record { net = net; retention = r }) (contents facts k.expiries k.clock k.lists b k.next_id k.next_tag) w
+      → Standing s (record { net = net; retention = r }) (contents facts k.expiries k.clock k.course b k.next_id k.next_tag) w
   stands_less net r facts b old tags names answers passes is names_are stands dropped less saliences pending fired =
       let p = s.program in
       let v = over (facts_of a.seen.all) k.clock (reached_of k) in
@@ -292,7 +293,7 @@ module _ (s : Setting) (m : Memory) (k : Contents) (left : ℕ → Bool) (w : Wo
             sees_less p m.net k w a.seen (has_tag old) tags is facts b less net
             (subst (λ (ns : List Named). NetStands p net v (either a.seen.forgotten (has_name ns))) names_are (stands v a.seen.forgotten a.seen.stands at_hand)) saliences;
         holds =
-            a.finishes (holding (contents facts k.expiries k.clock k.lists b k.next_id k.next_tag) r) (has_tag old) (record {
+            a.finishes (holding (contents facts k.expiries k.clock k.course b k.next_id k.next_tag) r) (has_tag old) (record {
               told = passes_there r (has_tag old) passes;
               store = λ tag. less tag ∙ ap (λ c. if c then None else map.get k.facts tag) (is tag);
               pending = λ q. ap (λ ms. has_match ms q) pending;

@@ -37,14 +37,14 @@ use Rattle.session_laws.specs.declared.memory.Memory.{Memory}
 use Rattle.session_laws.specs.declared.setting.Setting.{Setting}
 use Rattle.session_laws.specs.Following.{GoesOn, HasAtHand, Instant, Leads, LeadsOn, facts_at, instant_of}
 use Rattle.session_laws.specs.Refreshed.{IsRefreshed}
-use Rattle.session_laws.specs.Standing.{Contents, AreForgotten, Awaits, Mirrors, Runs, Standing, Whole, holding, with_facts, reached_of, ReachedLists, reached_by}
+use Rattle.session_laws.specs.Standing.{Contents, AreForgotten, Awaits, Mirrors, Runs, Standing, Whole, holding, with_facts, reached_of, Course, reached_by}
 use Rattle.session_laws.specs.Waiting.{with_timer}
 use Rattle.session_laws.proofs.Exactly.{Exact, exact, after_new, after_numbers}
 use Rattle.session_laws.proofs.Members.{got_new, got_old, of_insert}
 use Rattle.session_laws.proofs.Needs.{not_needed}
 use Rattle.session_laws.proofs.Readied.{whole_holds, whole_ready}
 use Rattle.session_laws.proofs.Ready.{lead_new}
-use Rattle.session_laws.proofs.Stands.{contents, new_moves, next_is_free, numbers_move, reached_with}
+use Rattle.session_laws.proofs.Stands.{HasStart, contents, new_moves, next_is_free, numbers_move}
 use Rattle.session_laws.proofs.Taken.{taken_awaits}
 use Rattle.std.specs.FinMap as map
 use Rattle.rule_model.specs.Snapshots.{Reached}
@@ -270,11 +270,11 @@ module _ (s : Setting) (m : Memory) (k : Contents) (w : World) (st : Standing s 
         ((after.sound f (in_right f w.facts (f ∷ []) (inl refl))).timed e).from_zero
 
     -- a fact that is present
-    module _ (here : is_present p k.clock f ≡ true) (high : f.times.start ≤ℤ most_millis) (n : Memory) (facts : HeldFacts) (expiries : Timers) (lists : ReachedLists) (b : Marks)
+    module _ (here : is_present p k.clock f ≡ true) (high : f.times.start ≤ℤ most_millis) (n : Memory) (facts : HeldFacts) (expiries : Timers) (course : Course) (b : Marks)
         (made : facts ≡ map.insert k.facts f.tag.0 f) (timed : expiries ≡ with_timer k.expiries f.tag.0 (end_of_presence p f.ty.0 f.times.start))
-        (last : reached_by lists ≡ reached_with p f (reached_of k)) where
+        (last : HasStart p f k.course course) where
       abbrev t : Contents
-      t = contents facts expiries k.clock lists b (k.next_id + 1) (k.next_tag + 1)
+      t = contents facts expiries k.clock course b (k.next_id + 1) (k.next_tag + 1)
 
       abbrev more : HeldFacts
       more = map.insert all f.tag.0 f
@@ -287,7 +287,7 @@ module _ (s : Setting) (m : Memory) (k : Contents) (w : World) (st : Standing s 
         lawful = lawful;
         mirrors =
             subst (Mirrors p (with_facts t more)) (sym (ap (only_present p) done ∙ after_new p w f in_world))
-            (new_moves p (with_facts k all) more expiries lists b f (only_present p w) before id tag refl timed last);
+            (new_moves p (with_facts k all) more expiries course b f (only_present p w) before id tag refl timed last);
       }
 
       leads : Leads p all k.clock more k.clock more [] (Some f)
@@ -300,7 +300,7 @@ module _ (s : Setting) (m : Memory) (k : Contents) (w : World) (st : Standing s 
       leads_on : LeadsOn p all (instant_of k) more (instant_of t) more [] (Some f) forgotten facts
       leads_on = record {
         leads = leads;
-        goes_on = goes_on (reached_by lists) whole_new.mirrors.reached;
+        goes_on = goes_on (reached_by course) whole_new.mirrors.reached;
         unneeded = not_needed s m k w st step runs none more (instant_of t) more [] (Some f) leads whole_new.mirrors.facts whole_new.mirrors.clock whole_new.mirrors.reached (λ u i. absurd i) new_tag;
         at_hand = none_going t more forgotten (forgotten_new facts made t refl refl);
       }
@@ -329,9 +329,9 @@ module _ (s : Setting) (m : Memory) (k : Contents) (w : World) (st : Standing s 
       })
 
     -- an event that is not present any more leaves its numbers and its start alone; by its start rows may become mature
-    module _ (gone : is_present p k.clock f ≡ false) (n : Memory) (lists : ReachedLists) (b : Marks) (last : reached_by lists ≡ reached_with p f (reached_of k)) (kept : n.retention ≡ m.retention) where
+    module _ (gone : is_present p k.clock f ≡ false) (n : Memory) (course : Course) (b : Marks) (last : HasStart p f k.course course) (kept : n.retention ≡ m.retention) where
       abbrev with_its_numbers : Contents
-      with_its_numbers = contents k.facts k.expiries k.clock lists b (k.next_id + 1) (k.next_tag + 1)
+      with_its_numbers = contents k.facts k.expiries k.clock course b (k.next_id + 1) (k.next_tag + 1)
 
       not_in_world : is_present p w.clock f ≡ false
       not_in_world = ap (λ z. is_present p z f) (sym st.seen.whole.mirrors.clock) ∙ gone
@@ -341,7 +341,7 @@ module _ (s : Setting) (m : Memory) (k : Contents) (w : World) (st : Standing s 
         lawful = lawful;
         mirrors =
             subst (Mirrors p (with_facts with_its_numbers all)) (sym (ap (only_present p) done ∙ after_numbers p w f not_in_world))
-            (numbers_move p (with_facts k all) lists b f (only_present p w) before last);
+            (numbers_move p (with_facts k all) course b f (only_present p w) before last);
       }
 
       comes_none : comes p w step ≡ None
@@ -350,7 +350,7 @@ module _ (s : Setting) (m : Memory) (k : Contents) (w : World) (st : Standing s 
       pub numbers_await : (left : ℕ → Bool) → NetFollows p m.net n.net (instant_of with_its_numbers) k.facts [] None → AgendaFollows p m.net (instant_of with_its_numbers) k.facts [] None k.agenda b
           → HasLeft k.agenda b left → Awaits s n with_its_numbers left (stepped p w step)
       numbers_await left net agenda has_left =
-          still_awaits s m k w st step runs none lawful n lists b (k.next_id + 1) (k.next_tag + 1) whole_numbers.mirrors (omega arith) comes_none (λ g. refl) kept left net agenda has_left
+          still_awaits s m k w st step runs none lawful n course b (k.next_id + 1) (k.next_tag + 1) whole_numbers.mirrors (omega arith) comes_none (λ g. refl) kept left net agenda has_left
 
 -- ---- what is returned
 

@@ -1,5 +1,5 @@
 -- The lines of changes and firings name types and rules of the program alone.
-use Rattle.std.proofs.Common.{◌^◌, ◌≡◌, ◌<◌, ℕ, zero, suc, not, true, List, [], ◌∷◌, ◌++◌, length, nat_lt, Option, Some, None, option_map, Result, Ok, refl, sym, ◌∙◌, subst, lt-ltb, arith}
+use Rattle.std.proofs.Common.{◌^◌, ◌≡◌, ◌<◌, ℕ, zero, suc, not, Bool, true, List, [], ◌∷◌, ◌++◌, length, nat_lt, Option, Some, None, option_map, Result, Ok, refl, sym, ◌∙◌, subst, lt-ltb, arith}
 use Rattle.std.specs.Prelude.{slice_get}
 use Rattle.std.proofs.lemmas.List.Folds.{list_all-append}
 use Rattle.std.proofs.Math.Logic.{∥∥₁_elim}
@@ -76,10 +76,11 @@ fitting_known p present (step.Retract ty id) fits = refl
 fitting_known p present (step.Advance by) fits = refl
 fitting_known p present (step.At moment) fits = refl
 fitting_known p present (step.Promise entry from) fits = refl
+fitting_known p present step.Begin fits = refl
 
 -- what a change of the script asks for
-pub asked_known : (p : Program) (present : ℕ → Option Fact) (change : Change) (asked : Result Step Code) → IsRunnable p → asked ≡ change_step p present change → WantsKnown p asked
-asked_known p present change asked runnable is one own = fitting_known p present one (asked_fits p present change one runnable.some_entry (sym is ∙ own))
+pub asked_known : (p : Program) (begun : Bool) (present : ℕ → Option Fact) (change : Change) (asked : Result Step Code) → IsRunnable p → asked ≡ change_step p begun present change → WantsKnown p asked
+asked_known p begun present change asked runnable is one own = fitting_known p present one (asked_fits p begun present change one runnable.some_entry (sym is ∙ own))
 
 -- ---- what actions are to do
 

@@ -29,6 +29,7 @@ pub mod Retracting
 pub mod Still
 pub mod Inserting
 pub mod Promising
+pub mod Beginning
 pub mod Olds
 pub mod Dropping
 pub mod Forgotten

@@ -11,9 +11,9 @@ use Rattle.due_queue.specs.Timers.{has_come}
 use Rattle.fact_store.specs.Held.{IsNewest}
 use Rattle.rule_model.specs.declared.program.Program.{Program}
 use Rattle.rule_model.specs.declared.step.Step.TheVariants.{Modify, Retract}
-use Rattle.rule_model.specs.Types.{is_event, is_observed}
+use Rattle.rule_model.specs.Types.{is_event, is_observed, is_reference}
 use Rattle.rule_world.specs.declared.code.Code.{Code}
-use Rattle.rule_world.specs.declared.code.Code.TheVariants.{EventObserved, Absent}
+use Rattle.rule_world.specs.declared.code.Code.TheVariants.{EventObserved, ReferenceFixed, Absent}
 use Rattle.rule_world.specs.Worlds.{World, found, is_of_type, only_present, modify_fault, present, retract_fault, step_fault}
 use Rattle.rule_world.proofs.Found.{fact_in, found_in}
 use Rattle.rule_world.proofs.Fresh.{below_of}
@@ -124,10 +124,10 @@ unasked : (p : Program) (ty : ℕ) (f : Fact) → is_event p f.ty.0 ≡ true →
 unasked p ty f event = by (is_event p ty) refl
   where
     by : (b : Bool) → is_event p ty ≡ b
-        → ◌≡◌ {A = Option Code} (if b then if is_observed p ty then Some EventObserved else None else Some Absent)
-        (if b then if is_observed p ty then Some EventObserved else None else if is_of_type ty (Some f) then None else Some Absent)
+        → ◌≡◌ {A = Option Code} (if b then if is_observed p ty then Some EventObserved else None else if is_reference p ty then Some ReferenceFixed else Some Absent)
+        (if b then if is_observed p ty then Some EventObserved else None else if is_reference p ty then Some ReferenceFixed else if is_of_type ty (Some f) then None else Some Absent)
     by true e = refl
-    by false e = ap (λ c. if c then None else Some Absent) (sym (other_type p ty f e event))
+    by false e = ap (λ (c : Bool). if is_reference p ty then Some ReferenceFixed else if c then None else Some Absent) (sym (other_type p ty f e event))
 
 module _ (s : Setting) (m : Memory) (k : Contents) (w : World) (runs : Runs s) (st : Standing s m k w) where
   -- whether what is found is of a plain type is asked of either

@@ -51,7 +51,7 @@ module _ (s : Setting) (m : Memory) (k : Contents) (w : World) (st : Standing s 
   module _ (b : Marks) (sal : b.saliences ≡ k.agenda.saliences) (pend : (x : Match) → has_match b.pending x ≡ (has_match k.agenda.pending x && not (eq_by_cmp match_cmp q x)))
       (fired : (x : Match) → has_match b.fired x ≡ (has_match k.agenda.fired x || eq_by_cmp match_cmp q x)) where
     abbrev t : Contents
-    t = contents k.facts k.expiries k.clock k.lists b k.next_id k.next_tag
+    t = contents k.facts k.expiries k.clock k.course b k.next_id k.next_tag
 
     marked_seen : Seen p m.net t (marked w q)
     marked_seen =
@@ -66,6 +66,7 @@ module _ (s : Setting) (m : Memory) (k : Contents) (w : World) (st : Standing s 
               waits = mirrors.waits;
               clock = mirrors.clock;
               reached = mirrors.reached;
+              begun = mirrors.begun;
               next_id = mirrors.next_id;
               next_tag = mirrors.next_tag;
             };

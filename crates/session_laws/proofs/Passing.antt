@@ -89,7 +89,7 @@ module _ (s : Setting) (m : Memory) (k : Contents) (w : World) (st : Standing s 
   step = At clock
 
   abbrev t : Contents
-  t = contents others later clock k.lists b k.next_id k.next_tag
+  t = contents others later clock k.course b k.next_id k.next_tag
 
   passes : w.clock ≤ℤ clock
   passes = subst (λ z. z ≤ℤ clock) st.seen.whole.mirrors.clock le

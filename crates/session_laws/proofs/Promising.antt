@@ -14,26 +14,36 @@ use Rattle.forgetting.specs.Steps.{HasLeft}
 use Rattle.session_laws.specs.declared.memory.Memory.{Memory}
 use Rattle.session_laws.specs.declared.setting.Setting.{Setting}
 use Rattle.session_laws.specs.Following.{instant_of}
-use Rattle.session_laws.specs.Standing.{Contents, Awaits, Mirrors, Runs, Standing, with_facts, reached_of, ReachedLists, reached_by}
+use Rattle.session_laws.specs.Standing.{Contents, Awaits, Mirrors, Runs, Standing, with_facts, reached_of, Course, reached_by}
 use Rattle.session_laws.proofs.Exactly.{after_promise}
 use Rattle.session_laws.proofs.Stands.{contents}
 use Rattle.session_laws.proofs.Still.{AgendaFollows, NetFollows, still_awaits}
-use Rattle.rule_model.specs.Moments.{moment_in, reached_in}
+use Rattle.rule_model.specs.Moments.{moment_in}
 
 -- what entry points have reached where one has promised a moment
 abbrev pub promised : ℕ → ℤ → Reached → Reached
 promised entry from r = record r { promise = promise_with entry from r.promise }
 
+-- the course of a world where one has promised it
+pub record HasPromise (entry : ℕ) (from : ℤ) (was now : Course) : Type 0 where
+  pub reached : reached_by now ≡ promised entry from (reached_by was)
+  pub begun : now.begun ≡ was.begun
+
 -- the same of the lists that are kept, place by place
-pub promise_reached : (entry : ℕ) (from : ℤ) (starts promises now : List ℤ) → ((other : ℕ) → moment_in now other ≡ promise_with entry from (moment_in promises) other)
-    → reached_in starts now ≡ promised entry from (reached_in starts promises)
-promise_reached entry from starts promises now h = ap (λ (p : ℕ → ℤ). record { last_start = moment_in starts; promise = p }) (fun_ext h)
+pub has_promise : (entry : ℕ) (from : ℤ) (was now : Course) → ((other : ℕ) → moment_in now.promises other ≡ promise_with entry from (moment_in was.promises) other) → now.last_starts ≡ was.last_starts
+    → now.begun ≡ was.begun → HasPromise entry from was now
+has_promise entry from was now promises starts begun = record {
+  reached =
+      ap (λ (p : ℕ → ℤ). record { last_start = moment_in now.last_starts; promise = p }) (fun_ext promises)
+      ∙ ap (λ (of : List ℤ). record { last_start = moment_in of; promise = promise_with entry from (moment_in was.promises) }) starts;
+  begun = begun;
+}
 
 no_less : (n : ℕ) → n ≤ n
 no_less n = omega arith
 
 module _ (s : Setting) (m : Memory) (k : Contents) (w : World) (st : Standing s m k w) (entry : EntryId) (from : ℤ) (runs : Runs s) (none : step_fault s.program w (Promise entry from) ≡ None)
-    (lawful : IsLawful s.program (stepped s.program w (Promise entry from))) (n : Memory) (lists : ReachedLists) (b : Marks) (is : reached_by lists ≡ promised entry.0 from (reached_of k)) (kept : n.retention ≡ m.retention) where
+    (lawful : IsLawful s.program (stepped s.program w (Promise entry from))) (n : Memory) (course : Course) (b : Marks) (is : HasPromise entry.0 from k.course course) (kept : n.retention ≡ m.retention) where
   abbrev p : Program
   p = s.program
 
@@ -41,7 +51,7 @@ module _ (s : Setting) (m : Memory) (k : Contents) (w : World) (st : Standing s 
   step = Promise entry from
 
   abbrev t : Contents
-  t = contents k.facts k.expiries k.clock lists b k.next_id k.next_tag
+  t = contents k.facts k.expiries k.clock course b k.next_id k.next_tag
 
   mirrors : Mirrors p (with_facts t st.seen.all) (only_present p (stepped p w step))
   unfolding stepped moved
@@ -51,7 +61,8 @@ module _ (s : Setting) (m : Memory) (k : Contents) (w : World) (st : Standing s 
         facts = m.facts;
         waits = m.waits;
         clock = m.clock;
-        reached = is ∙ ap (promised entry.0 from) m.reached;
+        reached = is.reached ∙ ap (promised entry.0 from) m.reached;
+        begun = is.begun ∙ m.begun;
         next_id = m.next_id;
         next_tag = m.next_tag;
       })
@@ -59,4 +70,4 @@ module _ (s : Setting) (m : Memory) (k : Contents) (w : World) (st : Standing s 
   pub promise_awaits : (left : ℕ → Bool) → NetFollows p m.net n.net (instant_of t) k.facts [] None → AgendaFollows p m.net (instant_of t) k.facts [] None k.agenda b → HasLeft k.agenda b left
       → Awaits s n t left (stepped p w step)
   promise_awaits left net agenda has_left =
-      still_awaits s m k w st step runs none lawful n lists b k.next_id k.next_tag mirrors (no_less k.next_tag) refl (λ f. refl) kept left net agenda has_left
+      still_awaits s m k w st step runs none lawful n course b k.next_id k.next_tag mirrors (no_less k.next_tag) refl (λ f. refl) kept left net agenda has_left

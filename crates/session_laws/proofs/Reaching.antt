@@ -5,7 +5,7 @@ use Rattle.std.proofs.lemmas.Int.{ints}
 use Rattle.fx_base.specs.declared.ids.EntryId.{EntryId}
 use Rattle.rule_model.specs.declared.program.Program.{Program}
 use Rattle.rule_model.specs.declared.step.Step.{Step}
-use Rattle.rule_model.specs.declared.step.Step.TheVariants.{Insert, Modify, Retract, Advance, At, Promise}
+use Rattle.rule_model.specs.declared.step.Step.TheVariants.{Insert, Modify, Retract, Advance, At, Promise, Begin}
 use Rattle.rule_model.specs.Snapshots.{Reached}
 use Rattle.rule_world.specs.Lawful.{IsLawful}
 use Rattle.rule_world.specs.Worlds.{World, moved, promise_with, step_fault, stepped}
@@ -37,6 +37,7 @@ reaches_on p w (Modify id sets) law none = stays_reached w.reached
 reaches_on p w (Retract ty id) law none = stays_reached w.reached
 reaches_on p w (Advance by) law none = stays_reached w.reached
 reaches_on p w (At moment) law none = stays_reached w.reached
+reaches_on p w Begin law none = stays_reached w.reached
 reaches_on p w (Promise entry from) law none = record {
   last_start = λ other. itself (w.reached.last_start other);
   promise = promise_on w.reached.promise entry.0 from (promised_forward (w.reached.promise entry.0) from none).0;

@@ -118,7 +118,7 @@ module _ (s : Setting) (m : Memory) (k : Contents) (w : World) (st : Standing s 
     step = Retract ty id
 
     abbrev t : Contents
-    t = contents others fewer k.clock k.lists b k.next_id k.next_tag
+    t = contents others fewer k.clock k.course b k.next_id k.next_tag
 
     abbrev behind : HeldFacts
     behind = map.remove all tag.0

@@ -13,7 +13,7 @@ use Rattle.fact_store.specs.Held.{HeldFacts, facts_of}
 use Rattle.rule_model.specs.declared.program.Program.{Program}
 use Rattle.rule_model.specs.declared.step.Step.{Step}
 use Rattle.rule_model.specs.declared.step.Step.TheVariants.{Modify}
-use Rattle.rule_model.specs.Types.{is_event}
+use Rattle.rule_model.specs.Types.{is_event, is_reference}
 use Rattle.rule_world.specs.Lawful.{IsLawful}
 use Rattle.rule_world.specs.Worlds.{World, has_id, only_present, modify_fault, moved, revised, settled, step_fault, stepped, with_revised}
 use Rattle.agenda.specs.Agendas.{Marks}
@@ -82,7 +82,7 @@ module _ (s : Setting) (m : Memory) (k : Contents) (w : World) (st : Standing s 
 
     -- with both versions, and behind the step
     abbrev t : HeldFacts → Contents
-    t facts = contents facts k.expiries k.clock k.lists b k.next_id (k.next_tag + 1)
+    t facts = contents facts k.expiries k.clock k.course b k.next_id (k.next_tag + 1)
 
     abbrev both : HeldFacts
     both = map.insert all after.tag.0 after
@@ -102,7 +102,7 @@ module _ (s : Setting) (m : Memory) (k : Contents) (w : World) (st : Standing s 
     plain_after : is_event p after.ty.0 ≡ false
     plain_after =
         ap (λ (z : Fact). is_event p z.ty.0) after_is ∙ ap (λ (z : Fact). is_event p z.ty.0) before_is
-        ∙ plain_by (is_event p f.ty.0) (ap (modify_fault p) (sym (newest_is s m k w st id tag is)) ∙ plain)
+        ∙ plain_by (is_event p f.ty.0) (is_reference p f.ty.0) (ap (modify_fault p) (sym (newest_is s m k w st id tag is)) ∙ plain)
 
     above : (u : ℕ) (g : Fact) → map.get all u ≡ Some g → u < after.tag.0
     above u g e = subst (λ n. u < n) (sym at_next) (all_below s m k w st u g e)

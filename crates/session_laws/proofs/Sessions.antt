@@ -34,7 +34,7 @@ use Rattle.session_laws.specs.Gives.{version_of, does, fires, gives}
 use Rattle.session_laws.specs.Leading.{Fits, StandsAfter, WritesFor}
 use Rattle.session_laws.specs.Places.{newest}
 use Rattle.session_laws.specs.Refreshed.{rows_at, no_rows, matches_by, over, IsRefreshed}
-use Rattle.session_laws.specs.Standing.{Contents, Runs, Standing, expiry_at, holding, reached_of, ReachedLists}
+use Rattle.session_laws.specs.Standing.{Contents, Runs, Standing, expiry_at, holding, reached_of, Course}
 use Rattle.session_laws.proofs.Asking.{change_fits, same_asked}
 use Rattle.session_laws.proofs.Firings.{FiresInto, WritesFiring, top_of, plan_of, due_fires, no_fire, yes_fire}
 use Rattle.session_laws.proofs.Rules.{found_at, is_found}
@@ -65,7 +65,7 @@ none_held : facts_of nothing ≡ []
 none_held = no_member (facts_of nothing) (λ f i. let r = from_list nothing f i in none_there r.0 f r.1)
 
 abbrev pub start : Marks → Contents
-start a = contents map_of.empty map_of.empty (pos 0) (record { last_starts = []; promises = [] }) a 1 1
+start a = contents map_of.empty map_of.empty (pos 0) (record { last_starts = []; promises = []; begun = false }) a 1 1
 
 abbrev pub blank : List Rule → Marks
 blank rules = record { saliences = saliences rules; pending = []; fired = [] }
@@ -85,6 +85,7 @@ module _ (s : Setting) (m : Memory) (b : Marks) (net : NetStands s.program m.net
           waits = λ tag. get-empty nat_cmp tag ∙ sym (ap (expiry_at s.program) (get-empty nat_cmp tag));
           clock = refl;
           reached = refl;
+          begun = refl;
           next_id = refl;
           next_tag = refl;
         };
@@ -113,13 +114,13 @@ empty_stands s x m k a b same is net r due lingering e =
     (subst (λ (z : Contents). Standing s m z empty_world) (sym e)
     (start_stands s m b net (subst (λ (z : Marks). IsRefreshed s.program.rules no_rows (rows_at s.program [] (pos 0) nothing_reached) z b) is r) due lingering))
 
-pub from_parts : (k : Contents) (facts : HeldFacts) (expiries : Timers) (clock : ℤ) (lists : ReachedLists) (a : Marks) (id tag : ℕ) → k.facts ≡ facts → k.expiries ≡ expiries → k.clock ≡ clock → k.lists ≡ lists → k.agenda ≡ a → k.next_id ≡ id → k.next_tag ≡ tag
-    → k ≡ contents facts expiries clock lists a id tag
-from_parts k facts expiries clock lists a id tag f e c s h i t =
-    ap (λ z. contents z k.expiries k.clock k.lists k.agenda k.next_id k.next_tag) f ∙ ap (λ z. contents facts z k.clock k.lists k.agenda k.next_id k.next_tag) e
-    ∙ ap (λ z. contents facts expiries z k.lists k.agenda k.next_id k.next_tag) c
-    ∙ ap (λ z. contents facts expiries clock z k.agenda k.next_id k.next_tag) s ∙ ap (λ z. contents facts expiries clock lists z k.next_id k.next_tag) h
-    ∙ ap (λ z. contents facts expiries clock lists a z k.next_tag) i ∙ ap (contents facts expiries clock lists a id) t
+pub from_parts : (k : Contents) (facts : HeldFacts) (expiries : Timers) (clock : ℤ) (course : Course) (a : Marks) (id tag : ℕ) → k.facts ≡ facts → k.expiries ≡ expiries → k.clock ≡ clock → k.course ≡ course → k.agenda ≡ a → k.next_id ≡ id → k.next_tag ≡ tag
+    → k ≡ contents facts expiries clock course a id tag
+from_parts k facts expiries clock course a id tag f e c s h i t =
+    ap (λ z. contents z k.expiries k.clock k.course k.agenda k.next_id k.next_tag) f ∙ ap (λ z. contents facts z k.clock k.course k.agenda k.next_id k.next_tag) e
+    ∙ ap (λ z. contents facts expiries z k.course k.agenda k.next_id k.next_tag) c
+    ∙ ap (λ z. contents facts expiries clock z k.agenda k.next_id k.next_tag) s ∙ ap (λ z. contents facts expiries clock course z k.next_id k.next_tag) h
+    ∙ ap (λ z. contents facts expiries clock course a z k.next_tag) i ∙ ap (contents facts expiries clock course a id) t
 
 pub some_mapped : {A B : Type 0} (f : A → B) (o : Option A) → is_some o ≡ is_some (option_map f o)
 some_mapped f None = refl
@@ -128,8 +129,8 @@ some_mapped f (Some x) = refl
 -- ---- answers
 
 module _ (s : Setting) (m : Memory) (k : Contents) where
-  module _ (runs : Runs s) (change : Change) (asked : Result Step Code) (is : asked ≡ change_step s.program (newest k) change) (w : World) (st : Standing s m k w) where
-    asked_is : asked ≡ change_step s.program (found s.program w) change
+  module _ (runs : Runs s) (change : Change) (asked : Result Step Code) (is : asked ≡ change_step s.program k.course.begun (newest k) change) (w : World) (st : Standing s m k w) where
+    asked_is : asked ≡ change_step s.program w.begun (found s.program w) change
     asked_is = is ∙ same_asked s m k w runs st change
 
     given : does s.program w asked ≡ gives s.program w change

@@ -1,6 +1,6 @@
 -- The facts, the clock and the numbers of a session, of which none is forgotten, are those of the world after a step.
 use Rattle.std.specs.List.{filter}
-use Rattle.std.proofs.Common.{◌≡◌, ℕ, ℤ, ◌+◌, ◌<◌, if◌then◌else◌, ◌==◌, Bool, true, false, List, [], ◌∷◌, ◌++◌, Option, Some, None, refl, sym, ◌∙◌, ap, subst, arith}
+use Rattle.std.proofs.Common.{◌≡◌, ℕ, ℤ, ◌+◌, ◌<◌, if◌then◌else◌, ◌==◌, ◌||◌, Bool, true, false, List, [], ◌∷◌, ◌++◌, Option, Some, None, refl, sym, ◌∙◌, ap, subst, arith}
 use Rattle.fx_base.specs.Lists.{In}
 use Rattle.fx_base.specs.declared.ids.FactId.{FactId}
 use Rattle.fx_base.specs.declared.ids.Tag.{Tag}
@@ -13,11 +13,11 @@ use Rattle.rule_model.specs.declared.program.Program.{Program}
 use Rattle.rule_model.specs.declared.step.Step.TheVariants.{Modify}
 use Rattle.rule_model.specs.Candidates.{is_present}
 use Rattle.rule_model.specs.Distinct.{HaveDistinctTags}
-use Rattle.rule_model.specs.Types.{is_event}
+use Rattle.rule_model.specs.Types.{is_event, is_reference}
 use Rattle.rule_model.proofs.Named.{of_filter}
 use Rattle.rule_model.proofs.Order.{in_filter, passed}
 use Rattle.rule_world.specs.declared.code.Code.{Code}
-use Rattle.rule_world.specs.declared.code.Code.TheVariants.{EventFixed}
+use Rattle.rule_world.specs.declared.code.Code.TheVariants.{EventFixed, ReferenceFixed}
 use Rattle.rule_world.specs.Events.{end_of_presence}
 use Rattle.rule_world.specs.Worlds.{World, at_clock, only_present, modify_fault, is_of_type, last_start_with, moved, revised, revised_in, settled, with_new, with_revised}
 use Rattle.rule_world.proofs.Fresh.{AllBelow, below_of, distinct_more, distinct_filtered}
@@ -26,7 +26,7 @@ use Rattle.rule_world.proofs.Steps.{move_numbered, numbered}
 use Rattle.agenda.specs.Agendas.{Marks}
 use Rattle.session_laws.specs.Places.{IsNewestTag, newest}
 use Rattle.session_laws.specs.Waiting.{with_timer, without_timer, left_at}
-use Rattle.session_laws.specs.Standing.{Contents, Mirrors, expiry_at, reached_of, ReachedLists, reached_by}
+use Rattle.session_laws.specs.Standing.{Contents, Mirrors, expiry_at, reached_of, Course, reached_by}
 use Rattle.session_laws.proofs.Exactly.{Exact}
 use Rattle.session_laws.proofs.Members.{Holds, holds_less, holds_new, holds_revised, swapped, versions}
 use Rattle.session_laws.proofs.Newest.{holds, tagged_in, tagged_found, world_found}
@@ -34,23 +34,33 @@ use Rattle.session_laws.proofs.Timers.{timed_new, timed_less, timed_plain, timed
 use mathlib.Core.Path.{fun_ext}
 use Rattle.std.specs.FinMap as map
 use Rattle.rule_model.specs.Snapshots.{Reached}
-use Rattle.rule_model.specs.Moments.{moment_in, reached_in}
+use Rattle.rule_model.specs.Moments.{moment_in}
 
 -- what entry points have reached where a new event has come
 abbrev pub reached_with : Program → Fact → Reached → Reached
 reached_with p f r = record r { last_start = last_start_with p f r.last_start }
 
--- the same of the lists that are kept, place by place
-pub last_reached : (p : Program) (f : Fact) (starts now promises : List ℤ) → ((entry : ℕ) → moment_in now entry ≡ last_start_with p f (moment_in starts) entry)
-    → reached_in now promises ≡ reached_with p f (reached_in starts promises)
-last_reached p f starts now promises h = ap (λ (last : ℕ → ℤ). record { last_start = last; promise = moment_in promises }) (fun_ext h)
+-- the course of a world where a new fact has come: an event moves the last start of its entry point, and begins the world
+pub record HasStart (p : Program) (f : Fact) (was now : Course) : Type 0 where
+  pub reached : reached_by now ≡ reached_with p f (reached_by was)
+  pub begun : now.begun ≡ (was.begun || is_event p f.ty.0)
 
-abbrev pub contents : HeldFacts → Timers → ℤ → ReachedLists → Marks → ℕ → ℕ → Contents
-contents facts expiries clock lists a id tag = record { facts = facts; expiries = expiries; clock = clock; lists = lists; agenda = a; next_id = id; next_tag = tag }
+-- the same of the lists that are kept, place by place
+pub has_start : (p : Program) (f : Fact) (was now : Course) → ((entry : ℕ) → moment_in now.last_starts entry ≡ last_start_with p f (moment_in was.last_starts) entry) → now.promises ≡ was.promises
+    → now.begun ≡ (was.begun || is_event p f.ty.0) → HasStart p f was now
+has_start p f was now starts promises begun = record {
+  reached =
+      ap (λ (last : ℕ → ℤ). record { last_start = last; promise = moment_in now.promises }) (fun_ext starts)
+      ∙ ap (λ (of : List ℤ). record { last_start = last_start_with p f (moment_in was.last_starts); promise = moment_in of }) promises;
+  begun = begun;
+}
+
+abbrev pub contents : HeldFacts → Timers → ℤ → Course → Marks → ℕ → ℕ → Contents
+contents facts expiries clock course a id tag = record { facts = facts; expiries = expiries; clock = clock; course = course; agenda = a; next_id = id; next_tag = tag }
 
 -- a world with another clock and other next numbers
 abbrev world_of : World → ℤ → ℕ → ℕ → World
-world_of w clock id tag = record { facts = w.facts; clock = clock; reached = w.reached; next_id = id; next_tag = tag; fired = w.fired }
+world_of w clock id tag = record { facts = w.facts; clock = clock; reached = w.reached; begun = w.begun; next_id = id; next_tag = tag; fired = w.fired }
 
 abbrev pub own : Contents → World → World
 own k w = world_of w k.clock k.next_id k.next_tag
@@ -82,11 +92,11 @@ next_is_free p k w st tag e = by (map.get k.facts tag) refl
         let at : g.tag.0 ≡ w.next_tag = r.1 ∙ e ∙ st.mirrors.next_tag in
         absurd (omega arith)
 
-pub new_moves : (p : Program) (k : Contents) (facts : HeldFacts) (expiries : Timers) (lists : ReachedLists) (b : Marks) (f : Fact) (w : World) → Exact p k w → f.id.0 ≡ k.next_id → f.tag.0 ≡ k.next_tag
+pub new_moves : (p : Program) (k : Contents) (facts : HeldFacts) (expiries : Timers) (course : Course) (b : Marks) (f : Fact) (w : World) → Exact p k w → f.id.0 ≡ k.next_id → f.tag.0 ≡ k.next_tag
     → facts ≡ map.insert k.facts f.tag.0 f → expiries ≡ with_timer k.expiries f.tag.0 (end_of_presence p f.ty.0 f.times.start)
-    → reached_by lists ≡ reached_with p f (reached_of k)
-    → Mirrors p (contents facts expiries k.clock lists b (k.next_id + 1) (k.next_tag + 1)) (settled p (with_new p w f))
-new_moves p k facts expiries lists b f w st id tag made timed last =
+    → HasStart p f k.course course
+    → Mirrors p (contents facts expiries k.clock course b (k.next_id + 1) (k.next_tag + 1)) (settled p (with_new p w f))
+new_moves p k facts expiries course b f w st id tag made timed last =
     let m = st.mirrors in
     let o = st.lawful.ordered in
     let h : Holds k.facts w.facts = holds p k w st in
@@ -101,7 +111,8 @@ new_moves p k facts expiries lists b f w st id tag made timed last =
           ap (λ timers. map.get timers t) timed ∙ timed_new p k.facts k.expiries m.waits f new t
           ∙ ap (λ held. expiry_at p (map.get held t)) (sym made);
       clock = m.clock;
-      reached = last ∙ ap (reached_with p f) m.reached;
+      reached = last.reached ∙ ap (reached_with p f) m.reached;
+      begun = last.begun ∙ ap (λ b. b || is_event p f.ty.0) m.begun;
       next_id = ap (λ n. n + 1) m.next_id;
       next_tag = ap (λ n. n + 1) m.next_tag;
     }
@@ -114,7 +125,7 @@ module _ (p : Program) (k : Contents) (b : Marks) (f : Fact) where
   rest = map.remove k.facts f.tag.0
 
   retract_out : (w : World) → Exact p k w → In f w.facts → (ty : TypeId) (id : FactId) (fewer : Timers) → ((tag : ℕ) → map.get fewer tag ≡ without_timer k.expiries f.tag.0 tag) → f.id.0 ≡ id.0 → (f.ty.0 == ty.0) ≡ true
-      → Mirrors p (contents rest fewer k.clock k.lists b k.next_id k.next_tag) (settled p (without_fact w ty.0 id.0))
+      → Mirrors p (contents rest fewer k.clock k.course b k.next_id k.next_tag) (settled p (without_fact w ty.0 id.0))
   retract_out w st i ty id fewer untimed same of_type =
       let m = st.mirrors in
       let o = st.lawful.ordered in
@@ -125,6 +136,7 @@ module _ (p : Program) (k : Contents) (b : Marks) (f : Fact) where
         waits = timed_less p k.facts k.expiries m.waits f.tag.0 fewer untimed;
         clock = m.clock;
         reached = m.reached;
+        begun = m.begun;
         next_id = m.next_id;
         next_tag = m.next_tag;
       }
@@ -134,7 +146,7 @@ module _ (p : Program) (k : Contents) (b : Marks) (f : Fact) where
   next_of sets = revised k.next_tag sets f
 
   modify_own : (w : World) (id : FactId) (sets : List (ℕ × Value)) → Exact p k (own k w) → In f w.facts → f.id.0 ≡ id.0 → is_event p f.ty.0 ≡ false
-      → Mirrors p (contents (map.insert rest k.next_tag (next_of sets)) k.expiries k.clock k.lists b k.next_id (k.next_tag + 1)) (settled p (with_revised (own k w) id.0 sets))
+      → Mirrors p (contents (map.insert rest k.next_tag (next_of sets)) k.expiries k.clock k.course b k.next_id (k.next_tag + 1)) (settled p (with_revised (own k w) id.0 sets))
   unfolding moved
   modify_own w id sets s i same plain =
       let v : World = own k w in
@@ -150,58 +162,60 @@ module _ (p : Program) (k : Contents) (b : Marks) (f : Fact) where
         waits = timed_plain p k.facts k.expiries s.mirrors.waits f.tag.0 f g (h.from f i) (next_is_free p k v s k.next_tag refl) plain plain;
         clock = refl;
         reached = s.mirrors.reached;
+        begun = s.mirrors.begun;
         next_id = refl;
         next_tag = refl;
       }
 
 -- ---- the same, for what a session took out
 
-pub plain_by : (event : Bool) → ◌≡◌ {A = Option Code} (if event then Some EventFixed else None) None → event ≡ false
-plain_by true e = absurd (let n : Some EventFixed ≡ None = e in cc)
-plain_by false e = refl
+pub plain_by : (event reference : Bool) → ◌≡◌ {A = Option Code} (if event then Some EventFixed else if reference then Some ReferenceFixed else None) None → event ≡ false
+plain_by true reference e = absurd (let n : Some EventFixed ≡ None = e in cc)
+plain_by false reference e = refl
 
 module _ (p : Program) (k : Contents) (b : Marks) (w : World) (st : Exact p k w) (id : FactId) (tag : Tag) (is : IsNewestTag k.facts id.0 tag) where
   there : In is.fact w.facts
   there = tagged_in p k w st id.0 tag is
 
   pub retract_moves : (others : HeldFacts) → others ≡ map.remove k.facts tag.0 → (ty : TypeId) (fewer : Timers) → ((other : ℕ) → map.get fewer other ≡ without_timer k.expiries tag.0 other) → is_of_type ty.0 (newest k id.0) ≡ true
-      → Mirrors p (contents others fewer k.clock k.lists b k.next_id k.next_tag) (settled p (without_fact w ty.0 id.0))
+      → Mirrors p (contents others fewer k.clock k.course b k.next_id k.next_tag) (settled p (without_fact w ty.0 id.0))
   retract_moves others left ty fewer untimed of_type =
       let own_type : (is.fact.ty.0 == ty.0) ≡ true = ap (is_of_type ty.0) (sym (tagged_found p k w st id.0 tag is)) ∙ ap (is_of_type ty.0) (sym (world_found p k w st id.0)) ∙ of_type in
       let others_are : others ≡ map.remove k.facts is.fact.tag.0 = left ∙ ap (λ (t : Tag). map.remove k.facts t.0) (sym is.tagged) in
-      subst (λ o. Mirrors p (contents o fewer k.clock k.lists b k.next_id k.next_tag) (settled p (without_fact w ty.0 id.0))) (sym others_are)
+      subst (λ o. Mirrors p (contents o fewer k.clock k.course b k.next_id k.next_tag) (settled p (without_fact w ty.0 id.0))) (sym others_are)
       (retract_out p k b is.fact w st there ty id fewer (λ other. untimed other ∙ ap (λ (t : Tag). without_timer k.expiries t.0 other) (sym is.tagged)) is.is_newest.own own_type)
 
   pub modify_moves : (sets : List (ℕ × Value)) (before after : Fact) (all facts : HeldFacts) → Some before ≡ map.get k.facts tag.0 → modify_fault p (newest k id.0) ≡ None → after ≡ revised k.next_tag sets before
       → all ≡ map.insert k.facts after.tag.0 after → facts ≡ map.remove all tag.0
-      → Mirrors p (contents facts k.expiries k.clock k.lists b k.next_id (k.next_tag + 1)) (settled p (with_revised w id.0 sets))
+      → Mirrors p (contents facts k.expiries k.clock k.course b k.next_id (k.next_tag + 1)) (settled p (with_revised w id.0 sets))
   modify_moves sets before after all facts taken none after_is made left =
       let rest : HeldFacts = map.remove k.facts is.fact.tag.0 in
       let g : Fact = revised k.next_tag sets is.fact in
       let before_is : before ≡ is.fact = (let s : Some before ≡ Some is.fact = taken ∙ ap (λ (t : Tag). map.get k.facts t.0) (sym is.tagged) ∙ is.is_newest.found in cc) in
       let s : after ≡ g = after_is ∙ ap (revised k.next_tag sets) before_is in
-      let plain : is_event p is.fact.ty.0 ≡ false = plain_by (is_event p is.fact.ty.0) (ap (modify_fault p) (sym (tagged_found p k w st id.0 tag is)) ∙ ap (modify_fault p) (sym (world_found p k w st id.0)) ∙ none) in
+      let plain : is_event p is.fact.ty.0 ≡ false = plain_by (is_event p is.fact.ty.0) (is_reference p is.fact.ty.0) (ap (modify_fault p) (sym (tagged_found p k w st id.0 tag is)) ∙ ap (modify_fault p) (sym (world_found p k w st id.0)) ∙ none) in
       let lower : is.fact.tag.0 < w.next_tag = below_of w.next_tag w.facts st.lawful.ordered.fresh is.fact there in
       let apart : k.next_tag ≡ is.fact.tag.0 → ⊥ = λ (e : k.next_tag ≡ is.fact.tag.0). absurd (omega (arith, e, lower, st.mirrors.next_tag)) in
       let m : facts ≡ map.insert rest k.next_tag g =
       left ∙ ap (λ (t : Tag). map.remove all t.0) (sym is.tagged) ∙ ap (λ o. map.remove o is.fact.tag.0) (made ∙ ap (λ (x : Fact). map.insert k.facts x.tag.0 x) s) ∙ swapped k.facts g is.fact.tag.0 apart in
-      subst (λ o. Mirrors p (contents o k.expiries k.clock k.lists b k.next_id (k.next_tag + 1)) (settled p (with_revised w id.0 sets))) (sym m)
-      (for_world p k w (λ v. Mirrors p (contents (map.insert rest k.next_tag g) k.expiries k.clock k.lists b k.next_id (k.next_tag + 1)) (settled p (with_revised v id.0 sets))) st
+      subst (λ o. Mirrors p (contents o k.expiries k.clock k.course b k.next_id (k.next_tag + 1)) (settled p (with_revised w id.0 sets))) (sym m)
+      (for_world p k w (λ v. Mirrors p (contents (map.insert rest k.next_tag g) k.expiries k.clock k.course b k.next_id (k.next_tag + 1)) (settled p (with_revised v id.0 sets))) st
       (λ v. modify_own p k b is.fact w id sets v there is.is_newest.own plain))
 
 -- ---- nothing but numbers
 
 -- an event that is not present any more is inserted
-pub numbers_move : (p : Program) (k : Contents) (lists : ReachedLists) (b : Marks) (f : Fact) (w : World) → Exact p k w
-    → reached_by lists ≡ reached_with p f (reached_of k)
-    → Mirrors p (contents k.facts k.expiries k.clock lists b (k.next_id + 1) (k.next_tag + 1)) (settled p (with_numbers p w f))
-numbers_move p k lists b f w st last =
+pub numbers_move : (p : Program) (k : Contents) (course : Course) (b : Marks) (f : Fact) (w : World) → Exact p k w
+    → HasStart p f k.course course
+    → Mirrors p (contents k.facts k.expiries k.clock course b (k.next_id + 1) (k.next_tag + 1)) (settled p (with_numbers p w f))
+numbers_move p k course b f w st last =
     let m = st.mirrors in
     record {
       facts = m.facts;
       waits = m.waits;
       clock = m.clock;
-      reached = last ∙ ap (reached_with p f) m.reached;
+      reached = last.reached ∙ ap (reached_with p f) m.reached;
+      begun = last.begun ∙ ap (λ b. b || is_event p f.ty.0) m.begun;
       next_id = ap (λ n. n + 1) m.next_id;
       next_tag = ap (λ n. n + 1) m.next_tag;
     }
@@ -231,7 +245,7 @@ module _ (p : Program) (k : Contents) (w : World) (clock : ℤ) (st : Exact p k 
   distinct_after : HaveDistinctTags still_there
   distinct_after = distinct_filtered (is_present p clock) w.facts st.lawful.ordered.tags
 
-  pub clock_moves : (b : Marks) → Mirrors p (contents fewer later clock k.lists b k.next_id k.next_tag) (settled p (only_present p (at_clock w clock)))
+  pub clock_moves : (b : Marks) → Mirrors p (contents fewer later clock k.course b k.next_id k.next_tag) (settled p (only_present p (at_clock w clock)))
   clock_moves b =
       let m = st.mirrors in
       record {
@@ -239,6 +253,7 @@ module _ (p : Program) (k : Contents) (w : World) (clock : ℤ) (st : Exact p k 
         waits = timed_left p k.facts k.expiries m.waits clock later gone takes fewer left;
         clock = refl;
         reached = m.reached;
+        begun = m.begun;
         next_id = m.next_id;
         next_tag = m.next_tag;
       }

@@ -21,7 +21,7 @@ use Rattle.session_laws.specs.declared.memory.Memory.{Memory}
 use Rattle.session_laws.specs.declared.setting.Setting.{Setting}
 use Rattle.session_laws.specs.Following.{Instant, Leads, LeadsOn, facts_at, instant_of}
 use Rattle.session_laws.specs.Refreshed.{IsRefreshed}
-use Rattle.session_laws.specs.Standing.{Contents, AreForgotten, Awaits, Mirrors, Runs, Standing, with_facts, ReachedLists}
+use Rattle.session_laws.specs.Standing.{Contents, AreForgotten, Awaits, Mirrors, Runs, Standing, with_facts, Course}
 use Rattle.session_laws.proofs.Moving_on.{covered_at, hand_of, leads_on, on_time, world_ready}
 use Rattle.session_laws.proofs.Stands.{contents}
 use Rattle.session_laws.proofs.Taken.{taken_awaits}
@@ -56,7 +56,7 @@ later_below : (a b c : ℕ) → suc a ≤ b → b ≤ c → suc a ≤ c
 later_below a b c h k = omega arith
 
 module _ (s : Setting) (m : Memory) (k : Contents) (w : World) (st : Standing s m k w) (step : Step) (runs : Runs s) (none : step_fault s.program w step ≡ None)
-    (lawful : IsLawful s.program (stepped s.program w step)) (n : Memory) (lists : ReachedLists) (b : Marks) (id tag : ℕ) where
+    (lawful : IsLawful s.program (stepped s.program w step)) (n : Memory) (course : Course) (b : Marks) (id tag : ℕ) where
   abbrev p : Program
   p = s.program
 
@@ -64,7 +64,7 @@ module _ (s : Setting) (m : Memory) (k : Contents) (w : World) (st : Standing s 
   all = st.seen.all
 
   abbrev t : Contents
-  t = contents k.facts k.expiries k.clock lists b id tag
+  t = contents k.facts k.expiries k.clock course b id tag
 
   module _ (mirrors : Mirrors p (with_facts t all) (only_present p (stepped p w step))) (tags : k.next_tag ≤ tag) (none_comes : comes p w step ≡ None) (none_goes : (f : Fact) → goes p w step f ≡ false)
       (kept : n.retention ≡ m.retention) where

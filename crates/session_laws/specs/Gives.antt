@@ -11,7 +11,7 @@ use Rattle.rule_model.specs.declared.matched.Match.{Match}
 use Rattle.rule_model.specs.declared.program.Program.{Program}
 use Rattle.rule_model.specs.declared.program.Rule.{Rule}
 use Rattle.rule_model.specs.declared.step.Step.{Step}
-use Rattle.rule_model.specs.declared.step.Step.TheVariants.{Insert, Modify, Retract, Advance, At, Promise}
+use Rattle.rule_model.specs.declared.step.Step.TheVariants.{Insert, Modify, Retract, Advance, At, Promise, Begin}
 use Rattle.rule_model.specs.Lent.{bound_in}
 use Rattle.rule_model.specs.Planned.{step_of}
 use Rattle.rule_world.specs.Worlds.{World, stepped, step_fault, present, found, first_pending, marked}
@@ -34,6 +34,7 @@ step_lines w (Retract ty id) = []
 step_lines w (Advance by) = []
 step_lines w (At moment) = []
 step_lines w (Promise entry from) = []
+step_lines w Begin = []
 
 -- a fault changes nothing
 abbrev pub refused : World → Code → List OutLine × World
@@ -54,7 +55,7 @@ does p w (Ok step) = tries p w step
 
 -- a change of the script
 unfoldable pub gives : Program → World → Change → List OutLine × World
-gives p w change = does p w (change_step p (found p w) change)
+gives p w change = does p w (change_step p w.begun (found p w) change)
 
 -- ---- firings
 

@@ -4,7 +4,7 @@ use Rattle.fx_base.specs.Lists.{In}
 use Rattle.fx_base.specs.declared.fact.Fact.{Fact}
 use Rattle.rule_model.specs.declared.program.Program.{Program}
 use Rattle.rule_model.specs.declared.step.Step.{Step}
-use Rattle.rule_model.specs.declared.step.Step.TheVariants.{Insert, Modify, Retract, Advance, At, Promise}
+use Rattle.rule_model.specs.declared.step.Step.TheVariants.{Insert, Modify, Retract, Advance, At, Promise, Begin}
 use Rattle.rule_model.specs.Types.{is_event}
 use Rattle.rule_world.specs.declared.code.Code.{Code}
 use Rattle.rule_world.specs.Kinds.{step_fits}
@@ -34,6 +34,7 @@ IsOfPlain p w (Retract ty id) = Unit {0}
 IsOfPlain p w (Advance by) = Unit {0}
 IsOfPlain p w (At moment) = Unit {0}
 IsOfPlain p w (Promise entry from) = Unit {0}
+IsOfPlain p w Begin = Unit {0}
 
 -- a step that modifies no event, and has values of the declared kinds, where it has no fault
 pub record Suits (p : Program) (w : World) (step : Step) : Type 0 where
@@ -84,6 +85,7 @@ has_known_type p (Retract ty id) = true
 has_known_type p (Advance by) = true
 has_known_type p (At moment) = true
 has_known_type p (Promise entry from) = true
+has_known_type p Begin = true
 
 -- what is wanted has a type of the program, where it is an insertion
 abbrev pub WantsKnown : Program → Result Step Code → Type 0

@@ -1,19 +1,21 @@
 -- What is asked of the facts that a session has at their tags, and what its parts keep to.
-use Rattle.std.specs.Prelude.{◌≡◌, ◌≤◌, ℕ, zero, suc, ℤ, pos, ◌≤ℤ◌, List, map as list_map, Option, None, Result, if◌then◌else◌}
+use Rattle.std.specs.Prelude.{◌≡◌, ◌≤◌, ◌&&◌, ℕ, zero, suc, ℤ, pos, ◌≤ℤ◌, List, map as list_map, Option, Some, None, Result, slice_get, if◌then◌else◌}
 use Rattle.fx_base.specs.declared.ids.Tag.{Tag}
 use Rattle.fx_base.specs.declared.fact.Fact.{Fact}
+use Rattle.fx_base.specs.declared.value.Value.{Value}
 use Rattle.due_queue.specs.Timers.{Timers}
 use Rattle.fact_store.specs.Held.{HeldFacts, IsNewest, is_id}
 use Rattle.row_delta.specs.declared.row.Row.{Row}
 use Rattle.rule_model.specs.declared.action.Action.{Action}
 use Rattle.rule_world.specs.declared.code.Code.{Code}
+use Rattle.rule_world.specs.declared.code.Code.TheVariants.{ReferenceFixed}
 use Rattle.rule_model.specs.declared.program.Program.{Program}
 use Rattle.rule_model.specs.declared.step.Step.{Step}
-use Rattle.rule_world.specs.Events.{most_millis}
+use Rattle.rule_world.specs.Events.{most_millis, new_fault}
 use Rattle.rule_model.specs.Lent.{bound_in}
 use Rattle.rule_model.specs.Planned.{step_of}
 use Rattle.rule_model.specs.Snapshots.{floor_by}
-use Rattle.rule_model.specs.Types.{lateness_of}
+use Rattle.rule_model.specs.Types.{is_reference, lateness_of}
 use Rattle.session_laws.specs.Gives.{step_or_overflow}
 use Rattle.session_laws.specs.Standing.{Contents, reached_of}
 use Rattle.std.specs.FinMap as map
@@ -48,6 +50,10 @@ pub record IsSafe (facts : HeldFacts) (expiries : Timers) (clock : ℤ) (next_id
 -- the floor of an entry point, by what is kept of it
 abbrev pub floor_in : Program → Contents → ℕ → ℤ
 floor_in p k entry = floor_by (lateness_of p entry) ((reached_of k).last_start entry) ((reached_of k).promise entry) k.clock
+
+-- why an insertion is refused, by what is kept
+abbrev pub insert_fault_in : Program → Contents → ℕ → ℕ → List Value → Option Code
+insert_fault_in p k ty entry fields = if is_reference p ty && k.course.begun then Some ReferenceFixed else new_fault (slice_get p.types ty) (floor_in p k entry) k.clock fields
 
 -- ---- what actions are to do
 

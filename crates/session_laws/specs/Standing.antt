@@ -30,27 +30,29 @@ use Rattle.session_laws.specs.Refreshed.{over}
 use Rattle.rule_model.specs.Snapshots.{Reached}
 use Rattle.rule_model.specs.Moments.{reached_in}
 
--- what the entry points have reached, by their places; beyond the end of a list it is 0
-pub record ReachedLists : Type 0 where
+-- the course of a world so far: what its entry points have reached, by their places (beyond the end of a list it is 0), and whether it
+-- has begun
+pub record Course : Type 0 where
   pub last_starts : List ℤ
   pub promises : List ℤ
+  pub begun : Bool
 
-abbrev pub reached_by : ReachedLists → Reached
-reached_by lists = reached_in lists.last_starts lists.promises
+abbrev pub reached_by : Course → Reached
+reached_by course = reached_in course.last_starts course.promises
 
--- What a session has: facts by their tags, the moments at which they expire, the clock, what the entry points have reached, the agenda
--- and the next numbers.
+-- What a session has: facts by their tags, the moments at which they expire, the clock, the course of its world, the agenda and the next
+-- numbers.
 pub record Contents : Type 0 where
   pub facts : HeldFacts
   pub expiries : Timers
   pub clock : ℤ
-  pub lists : ReachedLists
+  pub course : Course
   pub agenda : Marks
   pub next_id : ℕ
   pub next_tag : ℕ
 
 abbrev pub reached_of : Contents → Reached
-reached_of k = reached_by k.lists
+reached_of k = reached_by k.course
 
 -- the moment from which a fact is not present, where there is a fact and a moment
 abbrev pub expiry_at : Program → Option Fact → Option ℤ
@@ -68,6 +70,7 @@ pub record Mirrors (p : Program) (k : Contents) (w : World) : Type 0 where
   pub waits : Waits p k
   pub clock : k.clock ≡ w.clock
   pub reached : (reached_of k) ≡ w.reached
+  pub begun : k.course.begun ≡ w.begun
   pub next_id : k.next_id ≡ w.next_id
   pub next_tag : k.next_tag ≡ w.next_tag
 

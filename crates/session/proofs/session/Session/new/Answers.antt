@@ -7,10 +7,10 @@ use Rattle.session_laws.proofs.Knowing.{standing_sound}
 use Rattle.session_laws.proofs.Sessions.{empty_stands, from_parts}
 use Rattle.session.proofs.session.Session.new.Goals as goal
 use Rattle.rule_model.specs.Snapshots.{nothing_reached}
-use Rattle.session_laws.specs.Standing.{ReachedLists}
+use Rattle.session_laws.specs.Standing.{Course}
 
-same_lists : {lists : ReachedLists} → lists.last_starts ≡ [] → lists.promises ≡ [] → lists ≡ record { last_starts = []; promises = [] }
-same_lists {lists} e f = ap (λ xs. record { last_starts = xs; promises = lists.promises }) e ∙ ap (λ xs. record { last_starts = []; promises = xs }) f
+same_lists : {course : Course} → course.last_starts ≡ [] → course.promises ≡ [] → course ≡ record { last_starts = []; promises = [] }
+same_lists {course} e f = ap (λ xs. record { last_starts = xs; promises = course.promises }) e ∙ ap (λ xs. record { last_starts = []; promises = xs }) f
 
 pub returns-clause-stands : goal.returns-clause-stands
 returns-clause-stands c =

@@ -17,7 +17,7 @@ pub returns-clause-stands : goal.returns-clause-stands
 returns-clause-stands c w st =
     let s = c.args.setting.now in
     let m = c.args.memory.now in
-    let k = (contents c.state.inside.facts c.state.inside.expiries c.state.inside.clock (record { last_starts = c.state.inside.last_starts.items; promises = c.state.inside.promises.items }) c.state.inside.agenda c.state.inside.next_id c.state.inside.next_tag) in
+    let k = (contents c.state.inside.facts c.state.inside.expiries c.state.inside.clock c.state.inside.course c.state.inside.agenda c.state.inside.next_id c.state.inside.next_tag) in
     let here : Standing s m k w = subst (λ (k : Contents). Standing s m k w) (sym c.state.view_is) st in
     let q = c.in_ok-agenda.fired in
     let names : (tag : ℕ) → names_tag tag q ≡ true → is_among c.as_slice-2.result.now tag ≡ true = λ tag e.

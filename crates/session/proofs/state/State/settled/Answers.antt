@@ -18,7 +18,7 @@ returns-then-is_empty-clause-stands c w a =
     let same : to_z w64 (of_z w64 c.state.inside.clock) ≡ c.state.inside.clock = to_z-of_z fits in
     let r = c.in_ok-retention.retention in
     let keys = c.in_ok-retention.old.keys in
-    let k = (contents c.state.inside.facts c.state.inside.expiries c.state.inside.clock (record { last_starts = c.state.inside.last_starts.items; promises = c.state.inside.promises.items }) c.state.inside.agenda c.state.inside.next_id c.state.inside.next_tag) in
+    let k = (contents c.state.inside.facts c.state.inside.expiries c.state.inside.clock c.state.inside.course c.state.inside.agenda c.state.inside.next_id c.state.inside.next_tag) in
     let passes : Passes k.clock (is_among c.args.left.now) (is_named k.agenda) c.args.memory.now.retention r (has_tag keys) = simp (same, c.replace-retention.ensures.value) at c.in_ok-retention.ensures.passes in
     stands_same c.args.setting.now c.args.memory.now c.args.self (is_among c.args.left.now) w a r keys (no_keys keys (c.if-is_empty.ensures.0 (search rules)))
     (subst (λ (z : Contents). Passes z.clock (is_among c.args.left.now) (is_named z.agenda) c.args.memory.now.retention r (has_tag keys)) c.state.view_is passes)
@@ -33,7 +33,7 @@ returns-clause-stands c w a =
     let r = c.in_ok-retention.retention in
     let old = c.in_ok-retention.old.keys in
     let tags = c.in_ok-old.old.items in
-    let k = (contents c.state.inside.facts c.state.inside.expiries c.state.inside.clock (record { last_starts = c.state.inside.last_starts.items; promises = c.state.inside.promises.items }) c.state.inside.agenda c.state.inside.next_id c.state.inside.next_tag) in
+    let k = (contents c.state.inside.facts c.state.inside.expiries c.state.inside.clock c.state.inside.course c.state.inside.agenda c.state.inside.next_id c.state.inside.next_tag) in
     let awaits : Awaits s m k left w = subst (λ (z : Contents). Awaits s m z left w) (sym c.state.view_is) a in
     let passes : Passes k.clock left (is_named k.agenda) m.retention r (has_tag old) = simp (same, c.replace-retention.ensures.value) at c.in_ok-retention.ensures.passes in
     let names : c.in_ok-names.names.items ≡ filter_map (named_at k.facts) tags = c.in_ok-names.ensures ∙ ap (filter_map (named_at k.facts)) c.deref.ensures.value in

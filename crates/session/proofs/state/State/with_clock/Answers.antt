@@ -34,7 +34,7 @@ pub returns-then-is_quiet-clause-stands : goal.returns-then-is_quiet-clause-stan
 returns-then-is_quiet-clause-stands c = IfOk-weaker c.settled.result _ _ (λ t settled w st none lawful.
     let s = c.args.setting.now in
     let m = c.args.memory.now in
-    let k = (contents c.state.inside.facts c.state.inside.expiries c.state.inside.clock (record { last_starts = c.state.inside.last_starts.items; promises = c.state.inside.promises.items }) c.state.inside.agenda c.state.inside.next_id c.state.inside.next_tag) in
+    let k = (contents c.state.inside.facts c.state.inside.expiries c.state.inside.clock c.state.inside.course c.state.inside.agenda c.state.inside.next_id c.state.inside.next_tag) in
     let here : Standing s m k w = subst (λ (k : Contents). Standing s m k w) (sym c.state.view_is) st in
     let same : to_z w64 (of_z w64 c.args.clock) ≡ c.args.clock = clock_same c.args.clock c.requires.low c.requires.high in
     let moves : k.clock ≤ℤ c.args.clock = subst (λ (k : Contents). k.clock ≤ℤ c.args.clock) (sym c.state.view_is) c.requires.later in
@@ -49,7 +49,7 @@ returns-then-is_quiet-clause-stands c = IfOk-weaker c.settled.result _ _ (λ t s
     let clean = (simp same at c.is_quiet.ensures.rows) c.if-is_quiet.true s.program before here.seen.forgotten here.seen.stands moves (orderly s.program here.seen.all c.args.clock (reached_of k) leads.kept_behind) in
     let next = stepped s.program w (At c.args.clock) in
     settled next
-    (subst (λ (z : ℤ). Awaits s m (contents k.facts c.take_due.new.self z k.lists k.agenda k.next_id k.next_tag) (is_among []) next) (sym same)
+    (subst (λ (z : ℤ). Awaits s m (contents k.facts c.take_due.new.self z k.course k.agenda k.next_id k.next_tag) (is_among []) next) (sym same)
     (later_awaits s m k w here c.requires.runs c.args.clock moves none lawful c.take_due.new.self due takes k.facts left here.seen.all out k.agenda m.net (is_among []) stands
     (quiet_refreshed s.program (facts_of here.seen.all) k.clock c.args.clock (reached_of k) here.seen.forgotten clean k.agenda) (none_left k.agenda (is_among []))))) c.settled.ensures.stands
 
@@ -64,7 +64,7 @@ pub returns-clause-stands : goal.returns-clause-stands
 returns-clause-stands c = IfOk-weaker c.settled-2.result _ _ (λ t settled w st none lawful.
     let s = c.args.setting.now in
     let m = c.args.memory.now in
-    let k = (contents c.state.inside.facts c.state.inside.expiries c.state.inside.clock (record { last_starts = c.state.inside.last_starts.items; promises = c.state.inside.promises.items }) c.state.inside.agenda c.state.inside.next_id c.state.inside.next_tag) in
+    let k = (contents c.state.inside.facts c.state.inside.expiries c.state.inside.clock c.state.inside.course c.state.inside.agenda c.state.inside.next_id c.state.inside.next_tag) in
     let here : Standing s m k w = subst (λ (k : Contents). Standing s m k w) (sym c.state.view_is) st in
     let same : to_z w64 (of_z w64 c.args.clock) ≡ c.args.clock = clock_same c.args.clock c.requires.low c.requires.high in
     let moves : k.clock ≤ℤ c.args.clock = subst (λ (k : Contents). k.clock ≤ℤ c.args.clock) (sym c.state.view_is) c.requires.later in
@@ -74,18 +74,18 @@ returns-clause-stands c = IfOk-weaker c.settled-2.result _ _ (λ t settled w st 
     let behind = remaining here.seen.all due in
     let out = remaining_is here.seen.all due in
     let leads = later_leads_on s m k w here c.requires.runs c.args.clock moves none lawful c.take_due.new.self due takes c.without_all.result c.without_all.ensures behind out b in
-    let has_left : HasLeft k.agenda b (is_among c.as_slice-4.result.now) = subst (λ tags. HasLeft k.agenda b (is_among tags)) (sym c.as_slice-4.ensures.value) c.in_ok-agenda.ensures.left in
+    let has_left : HasLeft k.agenda b (is_among c.as_slice-2.result.now) = subst (λ tags. HasLeft k.agenda b (is_among tags)) (sym c.as_slice-2.ensures.value) c.in_ok-agenda.ensures.left in
     let next = stepped s.program w (At c.args.clock) in
     settled next
-    (subst (λ (z : ℤ). Awaits s (record { net = c.followed.new.net; retention = m.retention }) (contents c.without_all.result c.take_due.new.self z k.lists b k.next_id k.next_tag) (is_among c.as_slice-4.result.now) next) (sym same)
-    (later_awaits s m k w here c.requires.runs c.args.clock moves none lawful c.take_due.new.self due takes c.without_all.result c.without_all.ensures behind out b c.followed.new.net (is_among c.as_slice-4.result.now)
-    ((simp (same, c.as_slice.ensures.value, c.as_slice-2.ensures.value, c.as_slice-3.ensures.value) at c.in_ok-agenda.ensures.net) here.seen.all behind here.seen.all (instant_of k) here.seen.forgotten leads here.seen.stands)
-    ((simp (same, c.as_slice.ensures.value, c.as_slice-2.ensures.value, c.as_slice-3.ensures.value) at c.in_ok-agenda.ensures.agenda) here.seen.all behind here.seen.all (instant_of k) here.seen.forgotten leads here.seen.stands)
+    (subst (λ (z : ℤ). Awaits s (record { net = c.followed.new.net; retention = m.retention }) (contents c.without_all.result c.take_due.new.self z k.course b k.next_id k.next_tag) (is_among c.as_slice-2.result.now) next) (sym same)
+    (later_awaits s m k w here c.requires.runs c.args.clock moves none lawful c.take_due.new.self due takes c.without_all.result c.without_all.ensures behind out b c.followed.new.net (is_among c.as_slice-2.result.now)
+    ((simp (same, c.moment.ensures.clock, c.moment.ensures.last_starts, c.moment.ensures.promises, c.as_slice.ensures.value) at c.in_ok-agenda.ensures.net) here.seen.all behind here.seen.all (instant_of k) here.seen.forgotten leads here.seen.stands)
+    ((simp (same, c.moment.ensures.clock, c.moment.ensures.last_starts, c.moment.ensures.promises, c.as_slice.ensures.value) at c.in_ok-agenda.ensures.agenda) here.seen.all behind here.seen.all (instant_of k) here.seen.forgotten leads here.seen.stands)
     has_left))) c.settled-2.ensures.stands
 
 pub returns-clause-sound : goal.returns-clause-sound
 returns-clause-sound c = IfOk-weaker c.settled-2.result _ _
-    (λ s stays sound. stays (followed_sound c.args.setting.now c.args.memory.now _ (contents c.state.inside.facts c.state.inside.expiries c.state.inside.clock (record { last_starts = c.state.inside.last_starts.items; promises = c.state.inside.promises.items }) c.state.inside.agenda c.state.inside.next_id c.state.inside.next_tag) _ c.requires.runs
+    (λ s stays sound. stays (followed_sound c.args.setting.now c.args.memory.now _ (contents c.state.inside.facts c.state.inside.expiries c.state.inside.clock c.state.inside.course c.state.inside.agenda c.state.inside.next_id c.state.inside.next_tag) _ c.requires.runs
     (subst (IsSound c.args.setting.now.program c.args.memory.now) (sym c.state.view_is) sound) (c.in_ok-agenda.ensures.shape c.args.setting.now.program) c.in_ok-agenda.ensures.rules))
     c.settled-2.ensures.sound
 

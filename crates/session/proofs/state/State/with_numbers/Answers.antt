@@ -21,7 +21,7 @@ pub returns-clause-stands : goal.returns-clause-stands
 returns-clause-stands c =
     let p = c.args.setting.now.program in
     let f = c.args.fact.now in
-    let k = (contents c.state.inside.facts c.state.inside.expiries c.state.inside.clock (record { last_starts = c.state.inside.last_starts.items; promises = c.state.inside.promises.items }) c.state.inside.agenda c.state.inside.next_id c.state.inside.next_tag) in
+    let k = (contents c.state.inside.facts c.state.inside.expiries c.state.inside.clock c.state.inside.course c.state.inside.agenda c.state.inside.next_id c.state.inside.next_tag) in
     let id : f.id.0 ≡ c.state.inside.next_id = c.requires.id ∙ ap (λ (k : Contents). k.next_id) (sym c.state.view_is) in
     let at : f.tag.0 ≡ c.state.inside.next_tag = c.requires.tag ∙ ap (λ (k : Contents). k.next_tag) (sym c.state.view_is) in
     let times : f.times ≡ times_of (slice_get p.types f.ty.0) c.state.inside.clock f.fields = c.requires.times ∙ ap (λ (k : Contents). times_of (slice_get p.types f.ty.0) k.clock f.fields) (sym c.state.view_is) in
@@ -31,10 +31,10 @@ returns-clause-stands c =
     IfOk-weaker c.settled.result _ _
     (λ s h. subst (λ (z : Contents). Moves c.args.setting.now c.args.memory.now z (Insert f.ty f.entry f.fields) c.settled.new.memory s) c.state.view_is
     (λ w st none lawful. h (stepped p w (Insert f.ty f.entry f.fields))
-    (numbers_await c.args.setting.now c.args.memory.now k w st f id at times c.requires.runs none lawful gone n (record { last_starts = c.in_ok-state-inside.field-0.items; promises = c.state.inside.promises.items }) c.in_ok-agenda.agenda
-    (last_reached p f _ _ _ c.in_ok-state-inside.ensures) refl (is_among c.as_slice-3.result.now)
-    (simp (same, c.as_slice.ensures.value, c.as_slice-2.ensures.value) at c.in_ok-agenda.ensures.net) (simp (same, c.as_slice.ensures.value, c.as_slice-2.ensures.value) at c.in_ok-agenda.ensures.agenda)
-    (simp (sym c.as_slice-3.ensures.value) at c.in_ok-agenda.ensures.left))))
+    (numbers_await c.args.setting.now c.args.memory.now k w st f id at times c.requires.runs none lawful gone n c.in_ok-state-inside.field-0 c.in_ok-agenda.agenda
+    (last_reached p f _ _ _ c.in_ok-state-inside.ensures) refl (is_among c.as_slice.result.now)
+    (simp (same, c.moment.ensures.clock, c.moment.ensures.last_starts, c.moment.ensures.promises) at c.in_ok-agenda.ensures.net) (simp (same, c.moment.ensures.clock, c.moment.ensures.last_starts, c.moment.ensures.promises) at c.in_ok-agenda.ensures.agenda)
+    (simp (sym c.as_slice.ensures.value) at c.in_ok-agenda.ensures.left))))
     c.settled.ensures.stands
 
 pub returns-clause-tags : goal.returns-clause-tags
@@ -42,6 +42,6 @@ returns-clause-tags c = IfOk-weaker c.settled.result _ _ (λ s h. h ∙ ap (λ (
 
 pub returns-clause-sound : goal.returns-clause-sound
 returns-clause-sound c = IfOk-weaker c.settled.result _ _
-    (λ s stays sound. stays (followed_sound c.args.setting.now c.args.memory.now _ (contents c.state.inside.facts c.state.inside.expiries c.state.inside.clock (record { last_starts = c.state.inside.last_starts.items; promises = c.state.inside.promises.items }) c.state.inside.agenda c.state.inside.next_id c.state.inside.next_tag) _ c.requires.runs
+    (λ s stays sound. stays (followed_sound c.args.setting.now c.args.memory.now _ (contents c.state.inside.facts c.state.inside.expiries c.state.inside.clock c.state.inside.course c.state.inside.agenda c.state.inside.next_id c.state.inside.next_tag) _ c.requires.runs
     (subst (IsSound c.args.setting.now.program c.args.memory.now) (sym c.state.view_is) sound) (c.in_ok-agenda.ensures.shape c.args.setting.now.program) c.in_ok-agenda.ensures.rules))
     c.settled.ensures.sound

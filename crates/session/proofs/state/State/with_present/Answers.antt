@@ -25,7 +25,7 @@ invariant_of-state c =
 pub returns-clause-stands : goal.returns-clause-stands
 returns-clause-stands c =
     let p = c.args.setting.now.program in
-    let k = (contents c.state.inside.facts c.state.inside.expiries c.state.inside.clock (record { last_starts = c.state.inside.last_starts.items; promises = c.state.inside.promises.items }) c.state.inside.agenda c.state.inside.next_id c.state.inside.next_tag) in
+    let k = (contents c.state.inside.facts c.state.inside.expiries c.state.inside.clock c.state.inside.course c.state.inside.agenda c.state.inside.next_id c.state.inside.next_tag) in
     let same : to_z w64 (of_z w64 c.state.inside.clock) ≡ c.state.inside.clock = clock_same c.state.inside.clock c.state.invariant.clock_low c.state.invariant.clock_high in
     let id : c.args.fact.id.0 ≡ c.state.inside.next_id = c.requires.id ∙ ap (λ (k : Contents). k.next_id) (sym c.state.view_is) in
     let at : c.args.fact.tag.0 ≡ c.state.inside.next_tag = c.requires.tag ∙ ap (λ (k : Contents). k.next_tag) (sym c.state.view_is) in
@@ -37,10 +37,10 @@ returns-clause-stands c =
     (λ s h. subst (λ (z : Contents). Moves c.args.setting.now c.args.memory.now z (Insert c.args.fact.ty c.args.fact.entry c.args.fact.fields) c.settled.new.memory s) c.state.view_is
     (λ w st none lawful. h (stepped p w (Insert c.args.fact.ty c.args.fact.entry c.args.fact.fields))
     (present_awaits c.args.setting.now c.args.memory.now k w st c.args.fact id at times c.requires.runs none lawful now c.requires.start_high n c.in_ok-state-inside-3.field-0
-    c.in_ok-state-inside-2.field-0 (record { last_starts = c.in_ok-state-inside.field-0.items; promises = c.state.inside.promises.items }) c.in_ok-agenda.agenda c.in_ok-state-inside-3.ensures c.in_ok-state-inside-2.ensures (last_reached p c.args.fact _ _ _ c.in_ok-state-inside.ensures)
-    c.life_end.result (is_among c.as_slice-3.result.now) c.life_end.ensures c.in_ok-hold.ensures.due c.in_ok-hold.ensures.lingering
-    (simp (same, come, c.as_slice.ensures.value, c.as_slice-2.ensures.value) at c.in_ok-agenda.ensures.net) (simp (same, come, c.as_slice.ensures.value, c.as_slice-2.ensures.value) at c.in_ok-agenda.ensures.agenda)
-    (simp (sym c.as_slice-3.ensures.value) at c.in_ok-agenda.ensures.left))))
+    c.in_ok-state-inside-2.field-0 c.in_ok-state-inside.field-0 c.in_ok-agenda.agenda c.in_ok-state-inside-3.ensures c.in_ok-state-inside-2.ensures (last_reached p c.args.fact _ _ _ c.in_ok-state-inside.ensures)
+    c.life_end.result (is_among c.as_slice.result.now) c.life_end.ensures c.in_ok-hold.ensures.due c.in_ok-hold.ensures.lingering
+    (simp (same, come, c.moment.ensures.clock, c.moment.ensures.last_starts, c.moment.ensures.promises) at c.in_ok-agenda.ensures.net) (simp (same, come, c.moment.ensures.clock, c.moment.ensures.last_starts, c.moment.ensures.promises) at c.in_ok-agenda.ensures.agenda)
+    (simp (sym c.as_slice.ensures.value) at c.in_ok-agenda.ensures.left))))
     c.settled.ensures.stands
 
 pub returns-clause-tags : goal.returns-clause-tags
@@ -48,6 +48,6 @@ returns-clause-tags c = IfOk-weaker c.settled.result _ _ (λ s h. h ∙ ap (λ (
 
 pub returns-clause-sound : goal.returns-clause-sound
 returns-clause-sound c = IfOk-weaker c.settled.result _ _
-    (λ s stays sound. stays (followed_sound c.args.setting.now c.args.memory.now _ (contents c.state.inside.facts c.state.inside.expiries c.state.inside.clock (record { last_starts = c.state.inside.last_starts.items; promises = c.state.inside.promises.items }) c.state.inside.agenda c.state.inside.next_id c.state.inside.next_tag) _ c.requires.runs
+    (λ s stays sound. stays (followed_sound c.args.setting.now c.args.memory.now _ (contents c.state.inside.facts c.state.inside.expiries c.state.inside.clock c.state.inside.course c.state.inside.agenda c.state.inside.next_id c.state.inside.next_tag) _ c.requires.runs
     (subst (IsSound c.args.setting.now.program c.args.memory.now) (sym c.state.view_is) sound) (c.in_ok-agenda.ensures.shape c.args.setting.now.program) c.in_ok-agenda.ensures.rules))
     c.settled.ensures.sound

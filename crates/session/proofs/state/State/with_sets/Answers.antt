@@ -29,7 +29,7 @@ pub returns-clause-stands : goal.returns-clause-stands
 returns-clause-stands c = IfOk-weaker c.settled.result _ _ (λ t settled w st none lawful.
     let s = c.args.setting.now in
     let m = c.args.memory.now in
-    let k = (contents c.state.inside.facts c.state.inside.expiries c.state.inside.clock (record { last_starts = c.state.inside.last_starts.items; promises = c.state.inside.promises.items }) c.state.inside.agenda c.state.inside.next_id c.state.inside.next_tag) in
+    let k = (contents c.state.inside.facts c.state.inside.expiries c.state.inside.clock c.state.inside.course c.state.inside.agenda c.state.inside.next_id c.state.inside.next_tag) in
     let here : Standing s m k w = subst (λ (k : Contents). Standing s m k w) (sym c.state.view_is) st in
     let same : to_z w64 (of_z w64 c.state.inside.clock) ≡ c.state.inside.clock = clock_same c.state.inside.clock c.state.invariant.clock_low c.state.invariant.clock_high in
     let is : IsNewestTag c.state.inside.facts c.args.id.0 c.args.tag = subst (λ (k : Contents). IsNewestTag k.facts c.args.id.0 c.args.tag) (sym c.state.view_is) c.requires.tag in
@@ -45,17 +45,17 @@ returns-clause-stands c = IfOk-weaker c.settled.result _ _ (λ t settled w st no
     let behind = map.remove both c.args.tag.0 in
     let leads = modify_leads_on s m k w here c.args.id c.args.tag is c.requires.runs c.args.sets plain none lawful c.unwrap-before.result.now after taken c.in_ok-after.ensures facts c.in_ok-state-inside.ensures
     c.take.new.self c.take.ensures.rest b in
-    let has_left : HasLeft k.agenda b (is_among c.as_slice-3.result.now) = subst (λ tags. HasLeft k.agenda b (is_among tags)) (sym c.as_slice-3.ensures.value) c.in_ok-agenda.ensures.left in
+    let has_left : HasLeft k.agenda b (is_among c.as_slice.result.now) = subst (λ tags. HasLeft k.agenda b (is_among tags)) (sym c.as_slice.ensures.value) c.in_ok-agenda.ensures.left in
     settled (stepped s.program w (Modify c.args.id c.args.sets))
     (modify_awaits s m k w here c.args.id c.args.tag is c.requires.runs c.args.sets plain none lawful c.unwrap-before.result.now after taken c.in_ok-after.ensures facts c.in_ok-state-inside.ensures
-    c.take.new.self c.take.ensures.rest b c.followed.new.net (is_among c.as_slice-3.result.now)
-    ((simp (same, come, c.as_slice.ensures.value, c.as_slice-2.ensures.value) at c.in_ok-agenda.ensures.net) here.seen.all behind both (instant_of k) here.seen.forgotten leads here.seen.stands)
-    ((simp (same, come, c.as_slice.ensures.value, c.as_slice-2.ensures.value) at c.in_ok-agenda.ensures.agenda) here.seen.all behind both (instant_of k) here.seen.forgotten leads here.seen.stands)
+    c.take.new.self c.take.ensures.rest b c.followed.new.net (is_among c.as_slice.result.now)
+    ((simp (same, come, c.moment.ensures.clock, c.moment.ensures.last_starts, c.moment.ensures.promises) at c.in_ok-agenda.ensures.net) here.seen.all behind both (instant_of k) here.seen.forgotten leads here.seen.stands)
+    ((simp (same, come, c.moment.ensures.clock, c.moment.ensures.last_starts, c.moment.ensures.promises) at c.in_ok-agenda.ensures.agenda) here.seen.all behind both (instant_of k) here.seen.forgotten leads here.seen.stands)
     has_left)) c.settled.ensures.stands
 
 pub returns-clause-sound : goal.returns-clause-sound
 returns-clause-sound c = IfOk-weaker c.settled.result _ _
-    (λ s stays sound. stays (followed_sound c.args.setting.now c.args.memory.now _ (contents c.state.inside.facts c.state.inside.expiries c.state.inside.clock (record { last_starts = c.state.inside.last_starts.items; promises = c.state.inside.promises.items }) c.state.inside.agenda c.state.inside.next_id c.state.inside.next_tag) _ c.requires.runs
+    (λ s stays sound. stays (followed_sound c.args.setting.now c.args.memory.now _ (contents c.state.inside.facts c.state.inside.expiries c.state.inside.clock c.state.inside.course c.state.inside.agenda c.state.inside.next_id c.state.inside.next_tag) _ c.requires.runs
     (subst (IsSound c.args.setting.now.program c.args.memory.now) (sym c.state.view_is) sound) (c.in_ok-agenda.ensures.shape c.args.setting.now.program) c.in_ok-agenda.ensures.rules))
     c.settled.ensures.sound
 

@@ -1,0 +1,139 @@
+ghost use Rattle.std.specs.Prelude.{◌≡◌, ◌<◌, ◌||◌, ◌^◌, ℕ, pos, true, false, [], length, slice_index_or, IfOk, OnOk};
+ghost use Rattle.rule_model.specs.Moments.{moment_in};
+ghost use Rattle.rule_model.specs.Types.{is_event};
+ghost use Rattle.rule_world.specs.Worlds.{last_start_with, promise_with};
+
+use fx_base::{EntryId, Fact, Millis, NoMemory};
+use rule_model::{Moment, Program};
+use std::alloc::Global;
+use std::marker::Model;
+
+/// The course of a world so far: what its entry points have reached, and whether it has begun.
+#[derive(Drop)]
+pub(crate) struct Course {
+    /// In milliseconds, by the places of the entry points; 0 for those beyond the end.
+    last_starts: Vec<Millis>,
+    /// The same of the promises.
+    promises: Vec<Millis>,
+    begun: bool,
+}
+
+impl Model for Course {
+    ghost use Rattle.std.specs.Coded.{codes};
+    ghost use Rattle.session_laws.specs.Standing.{Course as CourseData};
+
+    ghost Value = { CourseData };
+
+    ghost coded = { Prim.hlevel codes };
+
+    ghost view = { λ c. record { last_starts = c.last_starts.items; promises = c.promises.items; begun = c.begun } };
+}
+
+impl Course {
+    /// No entry point has reached anything, and nothing has begun.
+    pub(crate) fn new(alloc: Global) -> Course
+        ensures { result ≡ record { last_starts = []; promises = []; begun = false } }
+    {
+        Course {
+            last_starts: Vec::new(alloc),
+            promises: Vec::new(alloc),
+            begun: false,
+        }
+    }
+
+    /// The moment at this clock. Takes no memory.
+    pub(crate) fn moment<'c>(&'c self, clock: Millis) -> Moment<'c>
+        ensures clock { result.clock ≡ clock }
+        ensures last_starts { result.last_starts.now ≡ self.now.last_starts }
+        ensures promises { result.promises.now ≡ self.now.promises }
+    {
+        Moment {
+            clock,
+            last_starts: self.last_starts.as_slice(),
+            promises: self.promises.as_slice(),
+        }
+    }
+
+    /// The start of the event that was inserted last in an entry point, in milliseconds, or 0. Takes no memory.
+    pub(crate) fn last_start(&self, entry: EntryId) -> Millis
+        ensures { result ≡ moment_in self.now.last_starts entry.0 }
+    {
+        self.moment(0).last_start(entry)
+    }
+
+    /// What an entry point has promised, in milliseconds, or 0: no event of it starts before this moment any more. Takes no memory.
+    pub(crate) fn promise(&self, entry: EntryId) -> Millis
+        ensures { result ≡ moment_in self.now.promises entry.0 }
+    {
+        self.moment(0).promise(entry)
+    }
+
+    /// Whether the world has begun. Takes no memory.
+    pub(crate) fn begun(&self) -> bool
+        ensures { result ≡ self.now.begun }
+    {
+        self.begun
+    }
+
+    /// The course behind a new fact: an event moves the last start of its entry point, and begins the world.
+    pub(crate) fn with_new(self, program: &Program, fact: &Fact) -> Result<Course, NoMemory>
+        ensures last_starts { IfOk result (λ next. (entry : ℕ) → moment_in next.last_starts entry ≡ last_start_with program.now fact.now (moment_in self.last_starts) entry) }
+        ensures promises { IfOk result (λ next. next.promises ≡ self.promises) }
+        ensures begun { IfOk result (λ next. next.begun ≡ (self.begun || is_event program.now fact.now.ty.0)) }
+    {
+        if !program.is_event(fact.ty) {
+            return Ok(self);
+        }
+        let mut course = self;
+        course.last_starts = with_moment(course.last_starts, fact.entry, fact.times.start)?;
+        course.begun = true;
+        Ok(course)
+    }
+
+    /// The course behind the promise of an entry point.
+    pub(crate) fn with_promise(self, entry: EntryId, from: Millis) -> Result<Course, NoMemory>
+        ensures promises { IfOk result (λ next. (other : ℕ) → moment_in next.promises other ≡ promise_with entry.0 from (moment_in self.promises) other) }
+        ensures last_starts { IfOk result (λ next. next.last_starts ≡ self.last_starts) }
+        ensures begun { IfOk result (λ next. next.begun ≡ self.begun) }
+    {
+        let mut course = self;
+        course.promises = with_moment(course.promises, entry, from)?;
+        Ok(course)
+    }
+
+    /// The course of a world that has begun. Takes no memory.
+    pub(crate) fn with_begin(self) -> Course
+        ensures { result ≡ record self { begun = true } }
+    {
+        let mut course = self;
+        course.begun = true;
+        course
+    }
+}
+
+// These moments with another one at an entry point.
+fn with_moment(
+    moments: Vec<Millis>,
+    entry: EntryId,
+    moment: Millis,
+) -> Result<Vec<Millis>, NoMemory>
+    ensures { IfOk result (λ next. (other : ℕ) → moment_in next.items other ≡ promise_with entry.0 moment (moment_in moments.items) other) }
+{
+    let mut moments = moments;
+    let place = entry.0 as usize;
+    reach(&mut moments, place)?;
+    moments[place] = moment;
+    Ok(moments)
+}
+
+// Lengthens moments by zeros until one stands at this place.
+fn reach(moments: &mut Vec<Millis>, place: usize) -> Result<(), NoMemory>
+    requires { place < 2 ^ 16 }
+    ensures reached { OnOk result (place < length moments.new.items) }
+    ensures kept { (k : ℕ) → slice_index_or moments.new.items k (pos 0) ≡ slice_index_or moments.old.items k (pos 0) }
+{
+    if moments.len() <= place {
+        moments.resize(place + 1, 0)?;
+    }
+    Ok(())
+}

@@ -1,0 +1,66 @@
+-- A session whose world has begun awaits the second phase of the step: nothing else has changed.
+use Rattle.std.proofs.Common.{◌≡◌, ℕ, Bool, true, None, inl, refl, sym, subst}
+use Rattle.fact_store.specs.Held.{facts_of}
+use Rattle.row_delta.specs.declared.row.Row.{Row}
+use Rattle.rule_model.specs.declared.program.Program.{Program}
+use Rattle.rule_model.specs.declared.program.Rule.{Rule}
+use Rattle.rule_model.specs.declared.step.Step.{Step}
+use Rattle.rule_model.specs.declared.step.Step.TheVariants.{Begin}
+use Rattle.rule_world.specs.Lawful.{IsLawful}
+use Rattle.rule_world.specs.Worlds.{World, only_present, step_fault, stepped, moved}
+use Rattle.rete_net.specs.Nets.{clean_rows}
+use Rattle.session_laws.specs.declared.memory.Memory.{Memory}
+use Rattle.session_laws.specs.declared.setting.Setting.{Setting}
+use Rattle.session_laws.specs.Refreshed.{over}
+use Rattle.session_laws.specs.Standing.{Contents, Awaits, Mirrors, Runs, Standing, with_facts, reached_of}
+use Rattle.session_laws.proofs.Exactly.{after_begin}
+use Rattle.session_laws.proofs.Moving_on.{covered_at, on_time}
+use Rattle.session_laws.proofs.Passing.{none_left}
+use Rattle.session_laws.proofs.Rules.{not_refreshed}
+use Rattle.session_laws.proofs.Stands.{contents}
+use Rattle.session_laws.proofs.Still.{none_out}
+use Rattle.session_laws.proofs.Taken.{taken_awaits}
+use Rattle.std.specs.FinMap as map
+
+module _ (s : Setting) (m : Memory) (k : Contents) (w : World) (st : Standing s m k w) (runs : Runs s) (none : step_fault s.program w Begin ≡ None) (lawful : IsLawful s.program (stepped s.program w Begin)) where
+  abbrev p : Program
+  p = s.program
+
+  abbrev t : Contents
+  t = contents k.facts k.expiries k.clock (record k.course { begun = true }) k.agenda k.next_id k.next_tag
+
+  mirrors : Mirrors p (with_facts t st.seen.all) (only_present p (stepped p w Begin))
+  unfolding stepped moved
+  mirrors =
+      let m = st.seen.whole.mirrors in
+      subst (Mirrors p (with_facts t st.seen.all)) (sym (after_begin p w)) (record {
+        facts = m.facts;
+        waits = m.waits;
+        clock = m.clock;
+        reached = m.reached;
+        begun = refl;
+        next_id = m.next_id;
+        next_tag = m.next_tag;
+      })
+
+  abbrev rows_are : Rule → List Row
+  rows_are = clean_rows p (over (facts_of st.seen.all) k.clock (reached_of k)) st.seen.forgotten
+
+  pub begin_awaits : (left : ℕ → Bool) → Awaits s m t left (stepped p w Begin)
+  begin_awaits left = taken_awaits s m k w st Begin m t left runs none (record {
+    all = st.seen.all;
+    whole = record { lawful = lawful; mirrors = mirrors };
+    are = record { held = st.seen.are.held; known = st.seen.are.known; below = st.seen.are.below };
+    later = λ u f e. inl e;
+    stands = st.seen.stands;
+    refreshed = not_refreshed p.rules rows_are rows_are (λ place rule at row. refl) k.agenda;
+    has_left = none_left k.agenda left;
+    store = λ u. sym (none_out (map.get k.facts u));
+    covered = covered_at s m k w st k.clock (on_time s m k w st);
+    lingering = λ u e. e;
+  })
+
+-- and a begin has no fault
+pub begin_is_done : (p : Program) (w : World) → step_fault p w Begin ≡ None
+unfolding step_fault
+begin_is_done p w = refl
