@@ -1,7 +1,7 @@
 ghost use Rattle.std.specs.Prelude.{◌≡◌, ◌+◌, ◌<◌, ◌≤◌, ◌≤ℤ◌, ◌+ℤ◌, ◌-ℤ◌, ◌&&◌, ◌^◌, pos, true, List, [], ◌∷◌, ◌++◌, length, None, Some, slice_get, IfOk, IfErr, OnOk};
 ghost use Rattle.rule_model.specs.declared.program.Program.{Program as ProgramData};
 ghost use Rattle.rule_model.specs.declared.step.Step.TheVariants.{Insert, Modify, Retract, Advance, At, Promise, Begin};
-ghost use Rattle.rule_model.specs.Types.{is_event, is_observed};
+ghost use Rattle.rule_model.specs.Types.{is_event, is_observed, is_reference};
 ghost use Rattle.rule_world.specs.Events.{most_millis, times_of};
 ghost use Rattle.rule_world.specs.Programs.{IsRunnable};
 ghost use Rattle.engine.specs.declared.lines.OutLine.{OutLine as OutLineData};
@@ -26,6 +26,13 @@ fn are_observed(program: &Program, ty: TypeId) -> bool
     ensures { result ≡ (is_event program.now ty.0 && is_observed program.now ty.0) }
 {
     program.is_event(ty) && program.is_observed(ty)
+}
+
+// Whether a fact of a type is not to come any more, once the world has begun.
+fn is_fixed(program: &Program, ty: TypeId, begun: bool) -> bool
+    ensures { result ≡ (is_reference program.now ty.0 && begun) }
+{
+    program.is_reference(ty) && begun
 }
 
 // Steps and their faults.
@@ -57,7 +64,7 @@ impl State {
         ensures none { IfOk result (λ _. insert_fault_in program.now self.now ty.0 entry.0 fields.now ≡ None) }
         ensures fault { IfErr result (λ code. insert_fault_in program.now self.now ty.0 entry.0 fields.now ≡ Some code) }
     {
-        if program.is_reference(ty) && self.course.begun() {
+        if is_fixed(program, ty, self.course.begun()) {
             return Err(Code::ReferenceFixed);
         }
         let floor = floor(

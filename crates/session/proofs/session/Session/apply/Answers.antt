@@ -32,7 +32,7 @@ returns-clause-next c w s =
 pub returns-clause-known : goal.returns-clause-known
 returns-clause-known c =
     let z = c.setting-inside.result.now in
-    let known = asked_known z.program (newest c.args.self.state) c.args.change.now c.in_ok-asked.asked c.setting-inside.ensures.runs.runnable c.in_ok-asked.ensures in
+    let known = asked_known z.program c.args.self.state.course.begun (newest c.args.self.state) c.args.change.now c.in_ok-asked.asked c.setting-inside.ensures.runs.runnable c.in_ok-asked.ensures in
     rw c.from_vec.ensures
     (subst (λ (x : Setting). are_known x.program c.apply.new.lines.items ≡ true) c.setting-inside.ensures.same
     (c.in_ok-state.ensures.known known (ap (are_known z.program) c.new-lines.ensures.items)))

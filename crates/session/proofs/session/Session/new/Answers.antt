@@ -1,4 +1,4 @@
-use Rattle.std.proofs.Common.{◌≡◌, ◌∙◌, ap, [], pos, rules}
+use Rattle.std.proofs.Common.{[], pos, rules}
 use Rattle.std.proofs.lemmas.Grind.{merely}
 use Rattle.pair_memory.specs.Standing.{no_names}
 use Rattle.session_laws.specs.Refreshed.{no_rows, rows_at}
@@ -7,15 +7,11 @@ use Rattle.session_laws.proofs.Knowing.{standing_sound}
 use Rattle.session_laws.proofs.Sessions.{empty_stands, from_parts}
 use Rattle.session.proofs.session.Session.new.Goals as goal
 use Rattle.rule_model.specs.Snapshots.{nothing_reached}
-use Rattle.session_laws.specs.Standing.{Course}
-
-same_lists : {course : Course} → course.last_starts ≡ [] → course.promises ≡ [] → course ≡ record { last_starts = []; promises = [] }
-same_lists {course} e f = ap (λ xs. record { last_starts = xs; promises = course.promises }) e ∙ ap (λ xs. record { last_starts = []; promises = xs }) f
 
 pub returns-clause-stands : goal.returns-clause-stands
 returns-clause-stands c =
     let p = c.args.program in
-    let parts = from_parts c.new-state.result _ _ _ _ _ _ _ c.new-state.ensures.facts c.new-state.ensures.expiries c.new-state.ensures.clock (same_lists c.new-state.ensures.last_starts c.new-state.ensures.promises) c.new-state.ensures.agenda c.new-state.ensures.next_id c.new-state.ensures.next_tag in
+    let parts = from_parts c.new-state.result _ _ _ _ _ _ _ c.new-state.ensures.facts c.new-state.ensures.expiries c.new-state.ensures.clock c.new-state.ensures.course c.new-state.ensures.agenda c.new-state.ensures.next_id c.new-state.ensures.next_tag in
     empty_stands (record { program = p; lives = c.args.lives }) c.new-setting.result (record { net = c.in_ok-net.net; retention = c.new-retention.result }) c.new-state.result c.in_ok-new.field-0 c.in_ok-agenda.agenda
     c.new-setting.ensures (search rules) (c.in_ok-net.ensures.stands c.requires.runnable no_names) (c.in_ok-agenda.ensures.agenda p no_rows (rows_at p [] (pos 0) nothing_reached) (c.in_ok-net.ensures.first c.requires.runnable))
     c.new-retention.ensures.due c.new-retention.ensures.lingering parts
@@ -23,7 +19,7 @@ returns-clause-stands c =
 pub invariant_of-result : goal.invariant_of-result
 invariant_of-result c =
     let p = c.args.program in
-    let parts = from_parts c.new-state.result _ _ _ _ _ _ _ c.new-state.ensures.facts c.new-state.ensures.expiries c.new-state.ensures.clock (same_lists c.new-state.ensures.last_starts c.new-state.ensures.promises) c.new-state.ensures.agenda c.new-state.ensures.next_id c.new-state.ensures.next_tag in
+    let parts = from_parts c.new-state.result _ _ _ _ _ _ _ c.new-state.ensures.facts c.new-state.ensures.expiries c.new-state.ensures.clock c.new-state.ensures.course c.new-state.ensures.agenda c.new-state.ensures.next_id c.new-state.ensures.next_tag in
     let stands =
     empty_stands (record { program = p; lives = c.args.lives }) c.new-setting.result (record { net = c.in_ok-net.net; retention = c.new-retention.result }) c.new-state.result c.in_ok-new.field-0 c.in_ok-agenda.agenda
     c.new-setting.ensures (search rules) (c.in_ok-net.ensures.stands c.requires.runnable no_names) (c.in_ok-agenda.ensures.agenda p no_rows (rows_at p [] (pos 0) nothing_reached) (c.in_ok-net.ensures.first c.requires.runnable))

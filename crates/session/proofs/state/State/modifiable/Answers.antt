@@ -1,6 +1,7 @@
 use Rattle.std.proofs.Common.{◌≡◌, Some, None, sym, ◌∙◌, ap}
 use Rattle.std.specs.Prelude.{if◌then◌else◌}
-use Rattle.rule_world.specs.declared.code.Code.TheVariants.{EventFixed}
+use Rattle.rule_world.specs.declared.code.Code.TheVariants.{EventFixed, ReferenceFixed}
+use Rattle.rule_model.specs.Types.{is_reference}
 use Rattle.rule_world.specs.Worlds.{modify_fault}
 use Rattle.session_laws.specs.Places.{newest}
 use Rattle.session_laws.specs.Standing.{Contents}
@@ -13,14 +14,23 @@ returns-in-Some-clause-fault c =
     let k = (contents c.self.inside.facts c.self.inside.expiries c.self.inside.clock c.self.inside.course c.self.inside.agenda c.self.inside.next_id c.self.inside.next_tag) in
     let is : newest c.args.self.now c.args.id.0 ≡ Some c.in-Some.fact.now = ap (λ (k : Contents). newest k c.args.id.0) (sym c.self.view_is) ∙ store_found k c.self.invariant c.args.id.0 c.in-Some.fact.now c.in-Some.ensures.some in
     ap (modify_fault c.args.program.now) is
-    ∙ ap (λ b. if b then Some EventFixed else None) (sym c.if-is_event.ensures)
+    ∙ ap (λ b. if b then Some EventFixed else if is_reference c.args.program.now c.in-Some.fact.now.ty.0 then Some ReferenceFixed else None) (sym c.if-is_event.ensures)
 
-pub returns-in-Some-2-clause-none : goal.returns-in-Some-2-clause-none
-returns-in-Some-2-clause-none c =
+pub returns-in-Some-2-clause-fault : goal.returns-in-Some-2-clause-fault
+returns-in-Some-2-clause-fault c =
     let k = (contents c.self.inside.facts c.self.inside.expiries c.self.inside.clock c.self.inside.course c.self.inside.agenda c.self.inside.next_id c.self.inside.next_tag) in
     let is : newest c.args.self.now c.args.id.0 ≡ Some c.in-Some.fact.now = ap (λ (k : Contents). newest k c.args.id.0) (sym c.self.view_is) ∙ store_found k c.self.invariant c.args.id.0 c.in-Some.fact.now c.in-Some.ensures.some in
     ap (modify_fault c.args.program.now) is
-    ∙ ap (λ b. if b then Some EventFixed else None) (sym c.if-is_event.ensures)
+    ∙ ap (λ b. if b then Some EventFixed else if is_reference c.args.program.now c.in-Some.fact.now.ty.0 then Some ReferenceFixed else None) (sym c.if-is_event.ensures)
+    ∙ ap (λ b. if b then Some ReferenceFixed else None) (sym c.if-is_reference.ensures)
+
+pub returns-in-Some-3-clause-none : goal.returns-in-Some-3-clause-none
+returns-in-Some-3-clause-none c =
+    let k = (contents c.self.inside.facts c.self.inside.expiries c.self.inside.clock c.self.inside.course c.self.inside.agenda c.self.inside.next_id c.self.inside.next_tag) in
+    let is : newest c.args.self.now c.args.id.0 ≡ Some c.in-Some.fact.now = ap (λ (k : Contents). newest k c.args.id.0) (sym c.self.view_is) ∙ store_found k c.self.invariant c.args.id.0 c.in-Some.fact.now c.in-Some.ensures.some in
+    ap (modify_fault c.args.program.now) is
+    ∙ ap (λ b. if b then Some EventFixed else if is_reference c.args.program.now c.in-Some.fact.now.ty.0 then Some ReferenceFixed else None) (sym c.if-is_event.ensures)
+    ∙ ap (λ b. if b then Some ReferenceFixed else None) (sym c.if-is_reference.ensures)
 
 pub returns-in-None-clause-fault : goal.returns-in-None-clause-fault
 returns-in-None-clause-fault c =

@@ -1,10 +1,10 @@
 use Rattle.std.proofs.Common.{◌≡◌, Some, None, true, false, refl, sym}
 use Rattle.std.proofs.lemmas.Result.{IfOk-weaker}
-use Rattle.rule_world.specs.declared.code.Code.TheVariants.{Absent, EventObserved}
+use Rattle.rule_world.specs.declared.code.Code.TheVariants.{Absent, EventObserved, ReferenceFixed}
 use Rattle.rule_model.specs.declared.step.Step.TheVariants.{Retract}
-use Rattle.rule_model.specs.Types.{is_event}
+use Rattle.rule_model.specs.Types.{is_event, is_reference}
 use Rattle.session_laws.specs.Places.{newest}
-use Rattle.session_laws.proofs.Faults.{retract_absent, retract_event, retract_found, retract_observed}
+use Rattle.session_laws.proofs.Faults.{retract_absent, retract_event, retract_fixed, retract_found, retract_observed}
 use Rattle.session_laws.proofs.Looking.{retract_fault_is}
 use Rattle.session_laws.proofs.Tried.{no_lines, on_ok, on_ok_weaker, refused_lines, refused_tries, tried_done}
 use Rattle.session.proofs.state.State.retract.Goals as goal
@@ -15,7 +15,7 @@ returns-in-Some-clause-stands c =
     let m = c.args.memory.now in
     IfOk-weaker c.without.result _ _ (λ t moves. tried_done s m c.args.self (Retract c.args.ty c.args.id) c.without.new.memory t
     (λ w st suits. retract_fault_is s m c.args.self w c.requires.runs st c.args.ty c.args.id None
-    (retract_found s.program c.args.ty.0 (newest c.args.self c.args.id.0) (sym c.if-are_observed.ensures) (c.in-Some.ensures.some refl))) moves) c.without.ensures.stands
+    (retract_found s.program c.args.ty.0 (newest c.args.self c.args.id.0) (sym c.if-are_observed.ensures) (sym c.if-is_reference.ensures) (c.in-Some.ensures.some refl))) moves) c.without.ensures.stands
 
 pub returns-in-Some-clause-lines : goal.returns-in-Some-clause-lines
 returns-in-Some-clause-lines c =
@@ -23,7 +23,7 @@ returns-in-Some-clause-lines c =
     let m = c.args.memory.now in
     on_ok c.without.result (no_lines s m c.args.self (Retract c.args.ty c.args.id) c.args.lines.now.items
     (λ w st suits. retract_fault_is s m c.args.self w c.requires.runs st c.args.ty c.args.id None
-    (retract_found s.program c.args.ty.0 (newest c.args.self c.args.id.0) (sym c.if-are_observed.ensures) (c.in-Some.ensures.some refl))) (λ w. refl))
+    (retract_found s.program c.args.ty.0 (newest c.args.self c.args.id.0) (sym c.if-are_observed.ensures) (sym c.if-is_reference.ensures) (c.in-Some.ensures.some refl))) (λ w. refl))
 
 pub returns-in-None-clause-stands : goal.returns-in-None-clause-stands
 returns-in-None-clause-stands c =
@@ -50,7 +50,7 @@ returns-in-None-2-clause-stands c =
     let plain : is_event s.program c.args.ty.0 ≡ false = sym c.if-is_event.ensures in
     IfOk-weaker c.refuse-in-None-2.result _ _ (refused_tries s m c.args.self (Retract c.args.ty c.args.id) Absent
     (λ w st suits. retract_fault_is s m c.args.self w c.requires.runs st c.args.ty c.args.id (Some Absent)
-    (retract_absent s.program c.args.ty.0 (newest c.args.self c.args.id.0) plain (c.in-None.ensures.none refl)))) c.refuse-in-None-2.ensures.state
+    (retract_absent s.program c.args.ty.0 (newest c.args.self c.args.id.0) plain (sym c.if-is_reference.ensures) (c.in-None.ensures.none refl)))) c.refuse-in-None-2.ensures.state
 
 pub returns-in-None-2-clause-lines : goal.returns-in-None-2-clause-lines
 returns-in-None-2-clause-lines c =
@@ -59,7 +59,7 @@ returns-in-None-2-clause-lines c =
     let plain : is_event s.program c.args.ty.0 ≡ false = sym c.if-is_event.ensures in
     on_ok_weaker c.refuse-in-None-2.result (refused_lines s m c.args.self (Retract c.args.ty c.args.id) Absent
     (λ w st suits. retract_fault_is s m c.args.self w c.requires.runs st c.args.ty c.args.id (Some Absent)
-    (retract_absent s.program c.args.ty.0 (newest c.args.self c.args.id.0) plain (c.in-None.ensures.none refl))) c.args.lines.now.items c.refuse-in-None-2.new.lines.items) c.refuse-in-None-2.ensures.lines
+    (retract_absent s.program c.args.ty.0 (newest c.args.self c.args.id.0) plain (sym c.if-is_reference.ensures) (c.in-None.ensures.none refl))) c.args.lines.now.items c.refuse-in-None-2.new.lines.items) c.refuse-in-None-2.ensures.lines
 
 pub returns-then-are_observed-clause-stands : goal.returns-then-are_observed-clause-stands
 returns-then-are_observed-clause-stands c =
@@ -82,3 +82,22 @@ returns-then-are_observed-clause-known c = λ known. c.refuse.ensures.known c.ar
 
 pub returns-in-None-2-clause-known : goal.returns-in-None-2-clause-known
 returns-in-None-2-clause-known c = λ known. c.refuse-in-None-2.ensures.known c.args.setting.now.program
+
+pub returns-then-is_reference-clause-stands : goal.returns-then-is_reference-clause-stands
+returns-then-is_reference-clause-stands c =
+    let s = c.args.setting.now in
+    let m = c.args.memory.now in
+    IfOk-weaker c.refuse-2.result _ _ (refused_tries s m c.args.self (Retract c.args.ty c.args.id) ReferenceFixed
+    (λ w st suits. retract_fault_is s m c.args.self w c.requires.runs st c.args.ty c.args.id (Some ReferenceFixed)
+    (retract_fixed s.program c.args.ty.0 (newest c.args.self c.args.id.0) c.requires.runs.runnable (sym c.if-is_reference.ensures)))) c.refuse-2.ensures.state
+
+pub returns-then-is_reference-clause-lines : goal.returns-then-is_reference-clause-lines
+returns-then-is_reference-clause-lines c =
+    let s = c.args.setting.now in
+    let m = c.args.memory.now in
+    on_ok_weaker c.refuse-2.result (refused_lines s m c.args.self (Retract c.args.ty c.args.id) ReferenceFixed
+    (λ w st suits. retract_fault_is s m c.args.self w c.requires.runs st c.args.ty c.args.id (Some ReferenceFixed)
+    (retract_fixed s.program c.args.ty.0 (newest c.args.self c.args.id.0) c.requires.runs.runnable (sym c.if-is_reference.ensures))) c.args.lines.now.items c.refuse-2.new.lines.items) c.refuse-2.ensures.lines
+
+pub returns-then-is_reference-clause-known : goal.returns-then-is_reference-clause-known
+returns-then-is_reference-clause-known c = λ known. c.refuse-2.ensures.known c.args.setting.now.program

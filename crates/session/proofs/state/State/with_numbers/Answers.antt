@@ -8,7 +8,7 @@ use Rattle.session_laws.specs.Leading.{Moves}
 use Rattle.session_laws.specs.Standing.{Contents, IsSound}
 use Rattle.session_laws.proofs.Faults.{clock_same, safe_numbers}
 use Rattle.session_laws.proofs.Inserting.{numbers_await}
-use Rattle.session_laws.proofs.Stands.{contents, last_reached}
+use Rattle.session_laws.proofs.Stands.{contents, has_start}
 use Rattle.session.proofs.state.State.with_numbers.Goals as goal
 use Rattle.session_laws.specs.declared.memory.Memory.{Memory}
 use Rattle.retention.specs.Retentions.{is_among}
@@ -32,7 +32,7 @@ returns-clause-stands c =
     (λ s h. subst (λ (z : Contents). Moves c.args.setting.now c.args.memory.now z (Insert f.ty f.entry f.fields) c.settled.new.memory s) c.state.view_is
     (λ w st none lawful. h (stepped p w (Insert f.ty f.entry f.fields))
     (numbers_await c.args.setting.now c.args.memory.now k w st f id at times c.requires.runs none lawful gone n c.in_ok-state-inside.field-0 c.in_ok-agenda.agenda
-    (last_reached p f _ _ _ c.in_ok-state-inside.ensures) refl (is_among c.as_slice.result.now)
+    (has_start p f c.state.inside.course c.in_ok-state-inside.field-0 c.in_ok-state-inside.ensures.last_starts c.in_ok-state-inside.ensures.promises c.in_ok-state-inside.ensures.begun) refl (is_among c.as_slice.result.now)
     (simp (same, c.moment.ensures.clock, c.moment.ensures.last_starts, c.moment.ensures.promises) at c.in_ok-agenda.ensures.net) (simp (same, c.moment.ensures.clock, c.moment.ensures.last_starts, c.moment.ensures.promises) at c.in_ok-agenda.ensures.agenda)
     (simp (sym c.as_slice.ensures.value) at c.in_ok-agenda.ensures.left))))
     c.settled.ensures.stands

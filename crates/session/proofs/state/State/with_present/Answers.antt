@@ -11,7 +11,7 @@ use Rattle.session_laws.specs.Standing.{Contents, IsSound}
 use Rattle.session_laws.proofs.Faults.{clock_same, safe_new}
 use Rattle.session_laws.proofs.Inserting.{present_awaits}
 use Rattle.session_laws.proofs.Members.{got_new}
-use Rattle.session_laws.proofs.Stands.{contents, last_reached}
+use Rattle.session_laws.proofs.Stands.{contents, has_start}
 use Rattle.std.specs.FinMap as map
 use Rattle.session_laws.proofs.Knowing.{followed_sound}
 use Rattle.session.proofs.state.State.with_present.Goals as goal
@@ -37,7 +37,7 @@ returns-clause-stands c =
     (λ s h. subst (λ (z : Contents). Moves c.args.setting.now c.args.memory.now z (Insert c.args.fact.ty c.args.fact.entry c.args.fact.fields) c.settled.new.memory s) c.state.view_is
     (λ w st none lawful. h (stepped p w (Insert c.args.fact.ty c.args.fact.entry c.args.fact.fields))
     (present_awaits c.args.setting.now c.args.memory.now k w st c.args.fact id at times c.requires.runs none lawful now c.requires.start_high n c.in_ok-state-inside-3.field-0
-    c.in_ok-state-inside-2.field-0 c.in_ok-state-inside.field-0 c.in_ok-agenda.agenda c.in_ok-state-inside-3.ensures c.in_ok-state-inside-2.ensures (last_reached p c.args.fact _ _ _ c.in_ok-state-inside.ensures)
+    c.in_ok-state-inside-2.field-0 c.in_ok-state-inside.field-0 c.in_ok-agenda.agenda c.in_ok-state-inside-3.ensures c.in_ok-state-inside-2.ensures (has_start p c.args.fact c.state.inside.course c.in_ok-state-inside.field-0 c.in_ok-state-inside.ensures.last_starts c.in_ok-state-inside.ensures.promises c.in_ok-state-inside.ensures.begun)
     c.life_end.result (is_among c.as_slice.result.now) c.life_end.ensures c.in_ok-hold.ensures.due c.in_ok-hold.ensures.lingering
     (simp (same, come, c.moment.ensures.clock, c.moment.ensures.last_starts, c.moment.ensures.promises) at c.in_ok-agenda.ensures.net) (simp (same, come, c.moment.ensures.clock, c.moment.ensures.last_starts, c.moment.ensures.promises) at c.in_ok-agenda.ensures.agenda)
     (simp (sym c.as_slice.ensures.value) at c.in_ok-agenda.ensures.left))))

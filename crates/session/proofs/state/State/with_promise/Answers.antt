@@ -8,7 +8,7 @@ use Rattle.session_laws.specs.Leading.{Moves}
 use Rattle.session_laws.specs.Standing.{Contents, IsSound}
 use Rattle.session_laws.proofs.Faults.{clock_same}
 use Rattle.session_laws.proofs.Knowing.{followed_sound}
-use Rattle.session_laws.proofs.Promising.{promise_awaits, promise_reached}
+use Rattle.session_laws.proofs.Promising.{has_promise, promise_awaits}
 use Rattle.session_laws.proofs.Stands.{contents}
 use Rattle.session.proofs.state.State.with_promise.Goals as goal
 
@@ -18,13 +18,13 @@ returns-clause-stands c =
     let k = (contents c.state.inside.facts c.state.inside.expiries c.state.inside.clock c.state.inside.course c.state.inside.agenda c.state.inside.next_id c.state.inside.next_tag) in
     let same : to_z w64 (of_z w64 c.state.inside.clock) ≡ c.state.inside.clock = clock_same c.state.inside.clock c.state.invariant.clock_low c.state.invariant.clock_high in
     let whole : to_z w64 (of_z w64 c.args.from) ≡ c.args.from = to_z-of_z c.ranges.from in
-    let reached = simp whole at c.in_ok-state-inside.ensures in
+    let promises = simp whole at c.in_ok-state-inside.ensures.promises in
     let n : Memory = record { net = c.followed.new.net; retention = c.args.memory.now.retention } in
     IfOk-weaker c.settled.result _ _
     (λ s h. subst (λ (z : Contents). Moves c.args.setting.now c.args.memory.now z (Promise c.args.entry c.args.from) c.settled.new.memory s) c.state.view_is
     (λ w st none lawful. h (stepped p w (Promise c.args.entry c.args.from))
     (promise_awaits c.args.setting.now c.args.memory.now k w st c.args.entry c.args.from c.requires.runs none lawful n c.in_ok-state-inside.field-0 c.in_ok-agenda.agenda
-    (promise_reached c.args.entry.0 c.args.from c.state.inside.last_starts.items c.state.inside.promises.items c.in_ok-state-inside.field-0.items reached) refl (is_among c.as_slice.result.now)
+    (has_promise c.args.entry.0 c.args.from c.state.inside.course c.in_ok-state-inside.field-0 promises c.in_ok-state-inside.ensures.last_starts c.in_ok-state-inside.ensures.begun) refl (is_among c.as_slice.result.now)
     (simp (same, c.moment.ensures.clock, c.moment.ensures.last_starts, c.moment.ensures.promises) at c.in_ok-agenda.ensures.net) (simp (same, c.moment.ensures.clock, c.moment.ensures.last_starts, c.moment.ensures.promises) at c.in_ok-agenda.ensures.agenda)
     (simp (sym c.as_slice.ensures.value) at c.in_ok-agenda.ensures.left))))
     c.settled.ensures.stands

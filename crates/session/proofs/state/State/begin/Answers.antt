@@ -1,0 +1,15 @@
+use Rattle.std.proofs.Common.{refl}
+use Rattle.std.proofs.lemmas.Result.{IfOk-weaker}
+use Rattle.rule_model.specs.declared.step.Step.TheVariants.{Begin}
+use Rattle.session_laws.proofs.Beginning.{begin_is_done}
+use Rattle.session_laws.proofs.Tried.{no_lines, tried_done}
+use Rattle.session.proofs.state.State.begin.Goals as goal
+
+pub returns-clause-stands : goal.returns-clause-stands
+returns-clause-stands c =
+    let s = c.args.setting.now in
+    let m = c.args.memory.now in
+    IfOk-weaker c.with_begin.result _ _ (λ t moves. tried_done s m c.args.self Begin c.with_begin.new.memory t (λ w st suits. begin_is_done s.program w) moves) c.with_begin.ensures.stands
+
+pub returns-clause-lines : goal.returns-clause-lines
+returns-clause-lines c lines = no_lines c.args.setting.now c.args.memory.now c.args.self Begin lines (λ w st suits. begin_is_done c.args.setting.now.program w) (λ w. refl)

@@ -1,0 +1,27 @@
+use Rattle.std.proofs.Common.{◌≡◌, [], true, sym, subst}
+use Rattle.std.proofs.lemmas.Result.{IfOk-weaker}
+use Rattle.rule_model.specs.declared.step.Step.TheVariants.{Begin}
+use Rattle.rule_world.specs.Worlds.{stepped}
+use Rattle.retention.specs.Retentions.{is_among}
+use Rattle.session_laws.specs.Leading.{Moves}
+use Rattle.session_laws.specs.Standing.{Awaits, Contents, Course, IsSound}
+use Rattle.session_laws.proofs.Beginning.{begin_awaits}
+use Rattle.session_laws.proofs.Stands.{contents}
+use Rattle.session.proofs.state.State.with_begin.Goals as goal
+
+pub returns-clause-stands : goal.returns-clause-stands
+returns-clause-stands c =
+    let s = c.args.setting.now in
+    let m = c.args.memory.now in
+    let k = (contents c.state.inside.facts c.state.inside.expiries c.state.inside.clock c.state.inside.course c.state.inside.agenda c.state.inside.next_id c.state.inside.next_tag) in
+    IfOk-weaker c.settled.result _ _
+    (λ t h. subst (λ (z : Contents). Moves s m z Begin c.settled.new.memory t) c.state.view_is
+    (λ w st none lawful. h (stepped s.program w Begin)
+    (subst (λ (z : Course). Awaits s m (contents k.facts k.expiries k.clock z k.agenda k.next_id k.next_tag) (is_among []) (stepped s.program w Begin)) (sym c.with_begin.ensures)
+    (begin_awaits s m k w st c.requires.runs none lawful (is_among [])))))
+    c.settled.ensures.stands
+
+pub returns-clause-sound : goal.returns-clause-sound
+returns-clause-sound c = IfOk-weaker c.settled.result _ _
+    (λ s stays sound. let here = subst (IsSound c.args.setting.now.program c.args.memory.now) (sym c.state.view_is) sound in stays (record { net = here.net; pending = here.pending }))
+    c.settled.ensures.sound
