@@ -239,12 +239,7 @@ impl State {
     }
 
     // The world has begun, which has no fault and no line.
-    fn begin(
-        self,
-        alloc: Global,
-        setting: &Setting,
-        memory: &mut Memory,
-    ) -> Result<State, NoMemory>
+    fn begin(self, alloc: Global, setting: &Setting, memory: &mut Memory) -> Result<State, NoMemory>
         requires runs { Runs setting.now }
         ensures stands { IfOk result (λ s. Tries setting.now memory.old self Begin memory.new s) }
         ensures lines { (lines : List OutLineData) → Writes setting.now memory.old self Begin lines lines }

@@ -28,6 +28,7 @@ use Rattle.rule_model.proofs.Order.{in_filter}
 use Rattle.rule_world.specs.Lawful.{IsOrdered}
 use Rattle.rule_world.specs.Worlds.{World, snapshot, present, moved, stepped, step_fault}
 use Rattle.rule_world.proofs.Fresh.{and_both}
+use Rattle.rule_lives.proofs.Flagged.{flagged}
 use Rattle.rule_lives.specs.Networks.{binds}
 use Rattle.rule_lives.proofs.Basics.{not_true, same_number}
 use Rattle.join_tests.specs.Joins.{joins}
@@ -156,7 +157,7 @@ module _ (s : Setting) (m : Memory) (k : Contents) (w : World) (st : Standing s 
     moves = leads_move s.program all behind both k.clock to.clock gone come leads (reached_of k) to.reached goes_on
 
     lawful_step : IsLawfulStep s.program s.lives w step
-    lawful_step = record { flagged = runs.runnable.observed; operators = runs.runnable.operators; safe = runs.table.safe; lawful = st.seen.whole.lawful; faultless = none }
+    lawful_step = record { flagged = flagged s.program runs.runnable; operators = runs.runnable.operators; safe = runs.table.safe; lawful = st.seen.whole.lawful; faultless = none }
 
     next_distinct : HaveDistinctTags next.facts
     next_distinct = tags_behind s.program w step ordered

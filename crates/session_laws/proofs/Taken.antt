@@ -11,6 +11,7 @@ use Rattle.rule_world.proofs.Fresh.{and_both, and_parts}
 use Rattle.rete_net.specs.Nets.{clean_rows}
 use Rattle.retention.specs.Watching.{Covers}
 use Rattle.pair_memory.specs.Standing.{clean}
+use Rattle.rule_lives.proofs.Flagged.{flagged}
 use Rattle.keeping.specs.Steps.{IsLawfulStep}
 use Rattle.forgetting.specs.Sights.{Lives, Sight, ends_by, ends_of, each_tag, is_kept, is_clean}
 use Rattle.forgetting.specs.Steps.{Takes}
@@ -52,7 +53,7 @@ module _ (s : Setting) (m : Memory) (k : Contents) (w : World) (st : Standing s 
   new = clean_rows s.program (over (facts_of taken.all) t.clock (reached_of t)) st.seen.forgotten
 
   lawful_step : IsLawfulStep s.program s.lives w step
-  lawful_step = record { flagged = runs.runnable.observed; operators = runs.runnable.operators; safe = runs.table.safe; lawful = st.seen.whole.lawful; faultless = none }
+  lawful_step = record { flagged = flagged s.program runs.runnable; operators = runs.runnable.operators; safe = runs.table.safe; lawful = st.seen.whole.lawful; faultless = none }
 
   -- their matches are those of the worlds that name nothing forgotten
   was_match : (q : Match) → has_match (matches_by old s.program.rules) q ≡ (has_match (matches s.program (snapshot w)) q && is_clean lives sight q)
