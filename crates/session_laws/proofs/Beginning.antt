@@ -1,10 +1,9 @@
 -- A session whose world has begun awaits the second phase of the step: nothing else has changed.
-use Rattle.std.proofs.Common.{◌≡◌, ℕ, Bool, true, None, inl, refl, sym, subst}
+use Rattle.std.proofs.Common.{◌≡◌, ℕ, Bool, true, List, None, inl, refl, sym, subst}
 use Rattle.fact_store.specs.Held.{facts_of}
 use Rattle.row_delta.specs.declared.row.Row.{Row}
 use Rattle.rule_model.specs.declared.program.Program.{Program}
 use Rattle.rule_model.specs.declared.program.Rule.{Rule}
-use Rattle.rule_model.specs.declared.step.Step.{Step}
 use Rattle.rule_model.specs.declared.step.Step.TheVariants.{Begin}
 use Rattle.rule_world.specs.Lawful.{IsLawful}
 use Rattle.rule_world.specs.Worlds.{World, only_present, step_fault, stepped, moved}

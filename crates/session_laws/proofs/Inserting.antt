@@ -1,5 +1,5 @@
 -- A session that has taken a new fact, or its numbers alone, awaits the second phase of the step.
-use Rattle.std.proofs.Common.{◌≡◌, ◌+◌, ◌∙◌, inl, inr, ℕ, ℤ, pos, ◌<◌, ◌≤◌, ◌≤ℤ◌, ◌==◌, ◌&&◌, not, Bool, true, false, cond, List, [], ◌∷◌, Option, Some, None, is_some, refl, sym, ap, subst, slice_get, arith}
+use Rattle.std.proofs.Common.{◌≡◌, ◌+◌, ◌∙◌, inl, inr, ℕ, ℤ, pos, ◌<◌, ◌≤◌, ◌≤ℤ◌, ◌==◌, ◌&&◌, not, Bool, true, false, cond, [], ◌∷◌, Option, Some, None, is_some, refl, sym, ap, subst, slice_get, arith}
 use Rattle.std.specs.Prelude.{option_and_then, OnOk, Result, Ok, Err}
 use Rattle.std.proofs.lemmas.Bool.Decides.{nat_tests}
 use Rattle.std.proofs.lemmas.Int.{ints}
@@ -10,7 +10,7 @@ use Rattle.fact_store.proofs.Stored.{tied, itself}
 use Rattle.fx_base.specs.declared.fact.Fact.{Fact}
 use Rattle.fx_base.specs.declared.times.Times.{Times}
 use Rattle.due_queue.specs.Timers.{Timers, has_come}
-use Rattle.fact_store.specs.Held.{HeldFacts, facts_of}
+use Rattle.fact_store.specs.Held.{HeldFacts}
 use Rattle.row_delta.specs.declared.row.Named.{Named}
 use Rattle.rule_model.specs.declared.program.Program.{Program}
 use Rattle.rule_model.specs.declared.step.Step.{Step}
@@ -24,8 +24,6 @@ use Rattle.rule_world.specs.Lawful.{IsLawful}
 use Rattle.rule_world.specs.Worlds.{World, only_present, moved, new_fact, present, settled, step_fault, stepped, with_new}
 use Rattle.rule_world.proofs.Fresh.{below_of}
 use Rattle.agenda.specs.Agendas.{Marks}
-use Rattle.rete_net.specs.declared.net.Rete.{Rete}
-use Rattle.rete_net.specs.Nets.{NetStands, clean_rows}
 use Rattle.retention.specs.declared.retention.Retention.{Retention}
 use Rattle.retention.specs.Retentions.{lingers}
 use Rattle.retention.specs.Watching.{Covers, Ends}
@@ -35,8 +33,7 @@ use Rattle.forgetting.specs.WorldSights.{comes, goes, sight_of}
 use Rattle.forgetting.proofs.Covering.{later_covers}
 use Rattle.session_laws.specs.declared.memory.Memory.{Memory}
 use Rattle.session_laws.specs.declared.setting.Setting.{Setting}
-use Rattle.session_laws.specs.Following.{GoesOn, HasAtHand, Instant, Leads, LeadsOn, facts_at, instant_of}
-use Rattle.session_laws.specs.Refreshed.{IsRefreshed}
+use Rattle.session_laws.specs.Following.{GoesOn, HasAtHand, Leads, LeadsOn, instant_of}
 use Rattle.session_laws.specs.Standing.{Contents, AreForgotten, Awaits, Mirrors, Runs, Standing, Whole, holding, with_facts, reached_of, Course, reached_by}
 use Rattle.session_laws.specs.Waiting.{with_timer}
 use Rattle.session_laws.proofs.Exactly.{Exact, exact, after_new, after_numbers}

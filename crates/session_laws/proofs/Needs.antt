@@ -1,5 +1,5 @@
 -- In a step no rule needs a forgotten fact.
-use Rattle.std.proofs.Common.{◌≡◌, ◌∙◌, inl, inr, refl, sym, ap, subst, ℕ, zero, suc, ℤ, ◌<◌, ◌≤◌, ◌==◌, ◌&&◌, not, Bool, true, false, cond, List, [], ◌∷◌, filter_map, Option, Some, None, arith}
+use Rattle.std.proofs.Common.{◌≡◌, ◌∙◌, inl, inr, refl, sym, ap, subst, ℕ, zero, suc, ◌<◌, ◌≤◌, ◌==◌, ◌&&◌, not, Bool, true, false, cond, List, [], ◌∷◌, filter_map, Option, Some, None, arith}
 use Rattle.std.specs.Prelude.{is_some, take, slice_get}
 use Rattle.std.specs.List.{cons_option, filter}
 use Rattle.std.specs.Option.{option_to_list}
@@ -50,7 +50,7 @@ use Rattle.forgetting.proofs.Before.{chosen}
 use Rattle.forgetting.proofs.Seeing.{own_at}
 use Rattle.session_laws.specs.declared.memory.Memory.{Memory}
 use Rattle.session_laws.specs.declared.setting.Setting.{Setting}
-use Rattle.session_laws.specs.Following.{GoesOn, Instant, Leads, facts_at, instant_of}
+use Rattle.session_laws.specs.Following.{GoesOn, Instant, Leads, facts_at}
 use Rattle.session_laws.specs.Gives.{version_of}
 use Rattle.session_laws.specs.Refreshed.{over}
 use Rattle.session_laws.specs.Standing.{Contents, Runs, Standing, reached_of}

@@ -2,14 +2,13 @@
 use Rattle.std.proofs.Common.{◌≡◌, ◌==◌, ℕ, ℤ, ◌≤ℤ◌, Bool, true, false, None, refl, subst, arith, if◌then◌else◌}
 use Rattle.std.proofs.lemmas.Bool.Decides.{nat_tests}
 use Rattle.std.proofs.lemmas.Int.{ints}
-use Rattle.fx_base.specs.declared.ids.EntryId.{EntryId}
 use Rattle.rule_model.specs.declared.program.Program.{Program}
 use Rattle.rule_model.specs.declared.step.Step.{Step}
 use Rattle.rule_model.specs.declared.step.Step.TheVariants.{Insert, Modify, Retract, Advance, At, Promise, Begin}
 use Rattle.rule_model.specs.Snapshots.{Reached}
 use Rattle.rule_world.specs.Lawful.{IsLawful}
 use Rattle.rule_world.specs.Worlds.{World, moved, promise_with, step_fault, stepped}
-use Rattle.rule_world.proofs.Faultless.{promised_forward}
+use Rattle.rule_world.proofs.Faultless.{inserted, promised_forward}
 use Rattle.rule_world.proofs.Sound.{new_goes_on}
 use Rattle.session_laws.specs.Following.{GoesOn}
 
@@ -32,7 +31,7 @@ promise_on promise entry from le other = by (entry == other) refl
 pub reaches_on : (p : Program) (w : World) (step : Step) → IsLawful p w → step_fault p w step ≡ None → GoesOn w.reached (stepped p w step).reached
 unfolding stepped moved step_fault
 reaches_on p w (Insert ty entry fields) law none =
-    record { last_start = (new_goes_on p w ty.0 entry.0 fields none law.last_low law.last_high).last; promise = λ other. itself (w.reached.promise other) }
+    record { last_start = (new_goes_on p w ty.0 entry.0 fields (inserted p w ty.0 entry.0 fields none).1 law.last_low law.last_high).last; promise = λ other. itself (w.reached.promise other) }
 reaches_on p w (Modify id sets) law none = stays_reached w.reached
 reaches_on p w (Retract ty id) law none = stays_reached w.reached
 reaches_on p w (Advance by) law none = stays_reached w.reached

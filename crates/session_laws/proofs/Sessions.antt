@@ -34,13 +34,13 @@ use Rattle.session_laws.specs.Gives.{version_of, does, fires, gives}
 use Rattle.session_laws.specs.Leading.{Fits, StandsAfter, WritesFor}
 use Rattle.session_laws.specs.Places.{newest}
 use Rattle.session_laws.specs.Refreshed.{rows_at, no_rows, matches_by, over, IsRefreshed}
-use Rattle.session_laws.specs.Standing.{Contents, Runs, Standing, expiry_at, holding, reached_of, Course}
+use Rattle.session_laws.specs.Standing.{Contents, Runs, Standing, expiry_at, holding, Course}
 use Rattle.session_laws.proofs.Asking.{change_fits, same_asked}
 use Rattle.session_laws.proofs.Firings.{FiresInto, WritesFiring, top_of, plan_of, due_fires, no_fire, yes_fire}
 use Rattle.session_laws.proofs.Rules.{found_at, is_found}
 use Rattle.session_laws.proofs.Stands.{contents}
 use Rattle.std.specs.FinMap as map_of
-use Rattle.rule_model.specs.Snapshots.{Reached, nothing_reached}
+use Rattle.rule_model.specs.Snapshots.{nothing_reached}
 
 -- ---- over no facts
 

@@ -26,7 +26,7 @@ use Rattle.rule_world.proofs.Steps.{move_numbered, numbered}
 use Rattle.agenda.specs.Agendas.{Marks}
 use Rattle.session_laws.specs.Places.{IsNewestTag, newest}
 use Rattle.session_laws.specs.Waiting.{with_timer, without_timer, left_at}
-use Rattle.session_laws.specs.Standing.{Contents, Mirrors, expiry_at, reached_of, Course, reached_by}
+use Rattle.session_laws.specs.Standing.{Contents, Mirrors, expiry_at, Course, reached_by}
 use Rattle.session_laws.proofs.Exactly.{Exact}
 use Rattle.session_laws.proofs.Members.{Holds, holds_less, holds_new, holds_revised, swapped, versions}
 use Rattle.session_laws.proofs.Newest.{holds, tagged_in, tagged_found, world_found}

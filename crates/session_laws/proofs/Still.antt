@@ -1,5 +1,5 @@
 -- A session whose facts a step leaves as they are, but not the floors of entry points.
-use Rattle.std.proofs.Common.{◌≡◌, ◌≤◌, ◌≤ℤ◌, ℕ, suc, ℤ, Bool, false, not, List, [], Option, Some, None, refl, sym, ◌∙◌, ap, subst, inl, arith}
+use Rattle.std.proofs.Common.{◌≡◌, ◌≤◌, ◌≤ℤ◌, ℕ, suc, ℤ, Bool, false, List, [], Option, Some, None, refl, sym, ◌∙◌, ap, subst, inl, arith}
 use Rattle.std.proofs.lemmas.Int.{ints}
 use mathlib.Core.Path.{fun_ext}
 use Rattle.fx_base.specs.declared.fact.Fact.{Fact}
@@ -21,7 +21,7 @@ use Rattle.session_laws.specs.declared.memory.Memory.{Memory}
 use Rattle.session_laws.specs.declared.setting.Setting.{Setting}
 use Rattle.session_laws.specs.Following.{Instant, Leads, LeadsOn, facts_at, instant_of}
 use Rattle.session_laws.specs.Refreshed.{IsRefreshed}
-use Rattle.session_laws.specs.Standing.{Contents, AreForgotten, Awaits, Mirrors, Runs, Standing, with_facts, Course}
+use Rattle.session_laws.specs.Standing.{Contents, Awaits, Mirrors, Runs, Standing, with_facts, Course}
 use Rattle.session_laws.proofs.Moving_on.{covered_at, hand_of, leads_on, on_time, world_ready}
 use Rattle.session_laws.proofs.Stands.{contents}
 use Rattle.session_laws.proofs.Taken.{taken_awaits}
