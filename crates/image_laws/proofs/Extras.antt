@@ -1,5 +1,5 @@
 -- What the extras of a snapshot say of one condition at one row.
-use Rattle.std.proofs.Common.{◌≡◌, ◌∙◌, ◌&&◌, ◌==◌, ◌<◌, not, ℕ, zero, suc, ℤ, Bool, true, false, List, [], ◌∷◌, length, cond, inl, inr, Option, Some, None, refl, sym, ap, subst, arith}
+use Rattle.std.proofs.Common.{◌≡◌, ◌∙◌, ◌&&◌, ◌==◌, ◌<◌, ℕ, zero, suc, Bool, true, false, List, [], ◌∷◌, length, cond, inl, inr, Option, Some, None, refl, sym, ap, subst, arith}
 use Rattle.std.specs.Prelude.{slice_get, take}
 use Rattle.std.specs.List.{find}
 use Rattle.std.specs.Option.{is_some}
@@ -24,7 +24,7 @@ use Rattle.rule_model.proofs.Listed.{both, both_of}
 use Rattle.rule_lives.specs.Networks.{binds}
 use Rattle.pair_memory.specs.Standing.{clean, cleaned}
 use Rattle.condition_rows.specs.Sets.{rows_of}
-use Rattle.image_laws.specs.Extras.{IsFirstWith, lost_partners, values_gathered, IsExtraIn, AreExtras}
+use Rattle.image_laws.specs.Extras.{IsFirstWith, lost_partners, values_gathered, AreExtras}
 use Rattle.image_laws.specs.Laden.{values_of, count_of, is_extra_at, extra_at, AreOwners}
 
 one_number : (m n : ℕ) → (m == n) ≡ true → m ≡ n
@@ -79,7 +79,7 @@ more_than_none : {A : Type 0} (x : A) (xs : List A) → In x xs → 0 < length x
 more_than_none x [] i = absurd i
 more_than_none x (y ∷ xs) i = omega arith
 
-first_of_some : {A : Type 0} (xs : List A) → 0 < length xs → (x : A) × In x xs
+pub first_of_some : {A : Type 0} (xs : List A) → 0 < length xs → (x : A) × In x xs
 first_of_some [] h = absurd (omega arith)
 first_of_some (x ∷ xs) h = (x, inl refl)
 

@@ -1,5 +1,5 @@
 -- The snapshot of an image has what is kept of the world's.
-use Rattle.std.proofs.Common.{◌≡◌, ◌↔◌, ◌∙◌, ◌&&◌, ◌||◌, ◌==◌, not, ℕ, ℤ, Bool, true, false, List, Option, Some, None, refl, sym, ap, arith}
+use Rattle.std.proofs.Common.{◌≡◌, ◌↔◌, ◌∙◌, ◌&&◌, ◌==◌, not, ℕ, ℤ, Bool, true, false, Option, Some, None, refl, sym, ap, arith}
 use Rattle.std.specs.Prelude.{slice_get}
 use Rattle.std.specs.declared.cmp.Ordering.TheVariants.{Less, Equal}
 use Rattle.std.specs.Cmp.{IsTotalOrder}
@@ -7,10 +7,9 @@ use Rattle.std.specs.Ordering.{nat_cmp}
 use Rattle.std.proofs.lemmas.Cmp.{on_total, nat_cmp_total, tied_itself}
 use Rattle.std.proofs.lemmas.Bool.Decides.{nat_tests}
 use mathlib.Core.Path.{fun_ext}
-use Rattle.fx_base.specs.Lists.{In, EachOnce}
+use Rattle.fx_base.specs.Lists.{In}
 use Rattle.fx_base.specs.declared.ids.Tag.{Tag}
 use Rattle.fx_base.specs.declared.fact.Fact.{Fact}
-use Rattle.row_delta.specs.declared.row.Row.{Row}
 use Rattle.checkpoint.specs.declared.image.Image.{Image}
 use Rattle.rule_model.specs.declared.condition.Condition.{Condition}
 use Rattle.rule_model.specs.declared.condition.WindowTag.TheVariants.{Length}
@@ -23,13 +22,13 @@ use Rattle.rule_model.specs.Candidates.{is_present, fits}
 use Rattle.rule_model.specs.Distinct.{HaveDistinctTags}
 use Rattle.rule_model.specs.Moments.{moment_in, reached_in}
 use Rattle.rule_model.specs.Rows.{pattern_of}
-use Rattle.rule_model.specs.Snapshots.{Reached, Snapshot}
+use Rattle.rule_model.specs.Snapshots.{Reached}
 use Rattle.rule_model.specs.Tests.{tests_hold}
 use Rattle.rule_model.specs.Tuples.{name_of, unbound}
 use Rattle.rule_model.proofs.Listed.{both_of}
 use Rattle.rule_world.specs.Lawful.{IsLawful}
 use Rattle.rule_world.specs.Worlds.{World, snapshot}
-use Rattle.rule_lives.specs.Keeping.{AreSafe, IsKept}
+use Rattle.rule_lives.specs.Keeping.{AreSafe}
 use Rattle.rule_lives.specs.Reach.{infinite}
 use Rattle.rule_lives.proofs.Basics.{not_true}
 use Rattle.rule_lives.proofs.Limits.{lives_below}
@@ -68,7 +67,7 @@ module _ (p : Program) (table : LifeTable) (w : World) (image : Image) (safe : A
 
   -- ---- its facts are those that are not forgotten
 
-  forgotten_is : (f : Fact) → In f w.facts → is_forgotten p table w (name_of f) ≡ not (is_kept p table w f)
+  pub forgotten_is : (f : Fact) → In f w.facts → is_forgotten p table w (name_of f) ≡ not (is_kept p table w f)
   forgotten_is f i = forgotten_fact p table w l.ordered.tags f i
 
   pub image_facts : (f : Fact) → In f image.facts ↔ (In f w.facts × (is_forgotten p table w (name_of f) ≡ false))

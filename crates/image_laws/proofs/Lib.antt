@@ -4,3 +4,5 @@ pub mod Gathered
 pub mod Rows
 pub mod Sorted
 pub mod Imaged
+pub mod One
+pub mod Fit

@@ -1,7 +1,7 @@
 -- The rows of kept facts, with the extras, are the rows of all facts that name kept ones alone.
 use Rattle.std.proofs.Common.{◌≡◌, ◌∙◌, ◌&&◌, ◌||◌, not, ℕ, zero, suc, ◌+◌, ℤ, Bool, true, false, List, [], ◌∷◌, ◌++◌, map, length, inl, inr, Option, Some, None, refl, sym, ap, subst, arith}
 use Rattle.std.specs.Prelude.{slice_get, take}
-use Rattle.std.specs.List.{filter, list_any}
+use Rattle.std.specs.List.{filter}
 use Rattle.std.specs.Option.{is_some}
 use Rattle.std.proofs.lemmas.Map.Views.{tells_apart}
 use mathlib.Core.Path.{fun_ext}
@@ -31,15 +31,14 @@ use Rattle.rule_model.specs.Tests.{results_hold}
 use Rattle.rule_model.specs.Tuples.{Bindings, name_of}
 use Rattle.rule_model.proofs.Firsts.{or_left, or_right, or_split}
 use Rattle.rule_model.proofs.Floors.{same_floor}
-use Rattle.rule_model.proofs.Listed.{in_map, of_map, both_of}
+use Rattle.rule_model.proofs.Listed.{in_map, of_map}
 use Rattle.rule_model.proofs.Named.{of_filter}
-use Rattle.rule_model.proofs.Once.{once_filter, once_facts}
 use Rattle.rule_model.proofs.Order.{in_filter, passed, same_length, same_values}
 use Rattle.rule_model.proofs.RuleOf.{in_place}
 use Rattle.rule_lives.specs.Networks.{binds}
 use Rattle.join_tests.specs.Joins.{joins}
 use Rattle.pair_memory.specs.Joined.{joined}
-use Rattle.pair_memory.specs.Standing.{clean, cleaned, remembered}
+use Rattle.pair_memory.specs.Standing.{clean, cleaned}
 use Rattle.pair_memory.proofs.Moving.{named_alike}
 use Rattle.pair_memory.proofs.Worlds.{joined_clean}
 use Rattle.condition_rows.specs.Lines.{gives, is_ripe, is_result, line, is_empty_row, empty_row}
@@ -86,13 +85,13 @@ unfolding has_partner
 there_partner p q s row f i e = some_passes (joins q (held s) row) (name_of f) (map name_of (candidates p q s)) (in_map name_of f (candidates p q s) i) e
 
 -- the forgotten ones of them
-lost_in : (p : Program) (q : Pattern) (s : Snapshot) (forgotten : Named → Bool) (row : Row) (f : Fact) → In f (candidates p q s) → joins q (held s) row (name_of f) ≡ true → forgotten (name_of f) ≡ true
+pub lost_in : (p : Program) (q : Pattern) (s : Snapshot) (forgotten : Named → Bool) (row : Row) (f : Fact) → In f (candidates p q s) → joins q (held s) row (name_of f) ≡ true → forgotten (name_of f) ≡ true
     → In f (lost_partners p s forgotten q row)
 unfolding partners
 lost_in p q s forgotten row f i e h =
     in_filter (λ (g : Fact). forgotten (name_of g)) f (partners p q s row) h (in_filter (λ (g : Fact). joins q (held s) row (name_of g)) f (candidates p q s) e i)
 
-in_lost : (p : Program) (q : Pattern) (s : Snapshot) (forgotten : Named → Bool) (row : Row) (f : Fact) → In f (lost_partners p s forgotten q row)
+pub in_lost : (p : Program) (q : Pattern) (s : Snapshot) (forgotten : Named → Bool) (row : Row) (f : Fact) → In f (lost_partners p s forgotten q row)
     → In f (candidates p q s) × (joins q (held s) row (name_of f) ≡ true)
 unfolding partners
 in_lost p q s forgotten row f i =

@@ -17,7 +17,7 @@ module _ {A : Type 0} (c : A → A → Ordering) (total : IsTotalOrder c) where
   abbrev IsBelow : A → List A → Type 0
   IsBelow x xs = AllByRecursion (λ y. c x y ≡ Less) xs
 
-  below_each : (x : A) (xs : List A) → IsBelow x xs → (y : A) → In y xs → c x y ≡ Less
+  pub below_each : (x : A) (xs : List A) → IsBelow x xs → (y : A) → In y xs → c x y ≡ Less
   below_each x [] b y i = absurd i
   below_each x (z ∷ xs) b y (inl e) = ap (c x) e ∙ b.0
   below_each x (z ∷ xs) b y (inr i) = below_each x xs b.1 y i
