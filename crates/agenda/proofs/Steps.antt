@@ -74,7 +74,7 @@ cond_true true false = refl
 cond_true false true = refl
 cond_true false false = refl
 
-parts : (n m : Match) (r : ℕ) (row : Row) → n.rule.0 ≡ r → n.row ≡ row → eq_by_cmp match_cmp n m ≡ (r == m.rule.0 && eq_by_cmp row_cmp row m.row)
+pub parts : (n m : Match) (r : ℕ) (row : Row) → n.rule.0 ≡ r → n.row ≡ row → eq_by_cmp match_cmp n m ≡ (r == m.rule.0 && eq_by_cmp row_cmp row m.row)
 parts n m r row e f =
     match_parts n.rule.0 n.row m ∙ ap (λ z. z == m.rule.0 && eq_by_cmp row_cmp n.row m.row) e ∙ ap (λ z. r == m.rule.0 && eq_by_cmp row_cmp z m.row) f
 

@@ -7,6 +7,7 @@ ghost use Rattle.agenda.specs.Agendas.{IsChanged, names_id, names_tag};
 ghost use Rattle.rule_model.specs.declared.matched.Match.{Match};
 ghost use Rattle.agenda.specs.declared.ranked.Ranked.{Ranked};
 ghost use Rattle.std.specs.List.{list_any};
+ghost use Rattle.std.specs.List.Sorted.{IsStrictlySortedBy};
 
 use crate::naming::{lower_all, put_ranked, take_ranked, times_of};
 use crate::ranked::Ranked;
@@ -166,6 +167,45 @@ impl Agenda {
             }
             None => Err(NoMemory),
         }
+    }
+
+    /// The fired matches, by rule and row. It costs a copy of each.
+    pub fn fired(&self, alloc: Global) -> Result<Vec<Match>, NoMemory>
+        ensures matches { IfOk result (λ ms. ms.items ≡ self.now.fired) }
+        ensures order { IfOk result (λ ms. IsStrictlySortedBy match_cmp ms.items) }
+    {
+        let mut matches = Vec::with_capacity(alloc, self.fired.len())?;
+        for matched in &self.fired {
+            matches.push(Match {
+                rule: matched.rule,
+                row: matched.row.copy(alloc)?,
+            })?;
+        }
+        Ok(matches)
+    }
+
+    /// Marks the match of a rule with this row as fired, whether it was pending or not. It costs the logarithm of the matches.
+    pub fn mark(self, rule: RuleId, row: Row) -> Result<Agenda, NoMemory>
+        ensures saliences { IfOk result (λ a. a.saliences ≡ self.saliences) }
+        ensures pending { IfOk result (λ a. (m : Match) → has_match a.pending m ≡ (has_match self.pending m && not (rule.0 == m.rule.0 && eq_by_cmp row_cmp row m.row))) }
+        ensures fired { IfOk result (λ a. (m : Match) → has_match a.fired m ≡ (has_match self.fired m || (rule.0 == m.rule.0 && eq_by_cmp row_cmp row m.row))) }
+    {
+        let Agenda {
+            saliences,
+            mut pending,
+            mut fired,
+            mut named,
+        } = self;
+        let ranked = Ranked::of(saliences.as_slice(), rule, row);
+        take_ranked(&mut pending, &mut named, &ranked);
+        let Ranked { matched, .. } = ranked;
+        fired.insert(matched)?;
+        Ok(Agenda {
+            saliences,
+            pending,
+            fired,
+            named,
+        })
     }
 
     /// Drops the fired matches of a rule with these rows; pending ones stay. It costs the logarithm of the fired matches for each

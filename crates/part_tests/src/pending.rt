@@ -68,3 +68,23 @@ fn a_tag_is_named_while_its_match_is_pending(rt: HostRuntime) -> Result<(), Fail
     assert!(rt; agenda.drop_fired(RuleId(0), fired).top().is_none());
     Ok(())
 }
+
+/// Whether one match was fired, of this rule.
+fn was_fired(alloc: Global, agenda: &Agenda, rule: u16) -> Result<bool, NoMemory> {
+    Ok(match agenda.fired(alloc)?.as_slice() {
+        [matched] => matched.rule == RuleId(rule),
+        _ => false,
+    })
+}
+
+#[test]
+fn a_pending_match_is_marked_as_fired(rt: HostRuntime) -> Result<(), Fail> {
+    let alloc = rt.alloc();
+    let agenda = Agenda::new(alloc, &[0])?;
+    let agenda = agenda.change(RuleId(0), comes(alloc, 2)?)?;
+    assert!(rt; !was_fired(alloc, &agenda, 0)?);
+    let agenda = agenda.mark(RuleId(0), row_of(alloc, 2)?)?;
+    assert!(rt; agenda.top().is_none());
+    assert!(rt; was_fired(alloc, &agenda, 0)?);
+    Ok(())
+}

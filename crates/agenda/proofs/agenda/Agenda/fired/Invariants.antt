@@ -1,0 +1,6 @@
+use Rattle.std.proofs.Common.{◌≡◌, Bor, map}
+use Rattle.rule_model.specs.declared.matched.Match.{Match}
+use Rattle.agenda.proofs.agenda.Agenda.fired.Given as goal
+
+abbrev pub invariant-loop-matched : goal.invariant-loop-matched
+invariant-loop-matched l = l.matches.items ≡ map (λ (m : Bor Match). m.now) l.yielded
