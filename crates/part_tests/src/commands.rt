@@ -9,6 +9,8 @@ const LINES: &[(&[u8], &str)] = &[
     (b"{\"do\":\"fire\"}", "Ok(Fire(None))"),
     (b"{\"max\":2,\"do\":\"fire\"}", "Ok(Fire(Some(2)))"),
     (b"{\"do\":\"held\"}", "Ok(Held)"),
+    (b"{\"do\":\"begin\"}", "Ok(Change(Begin))"),
+    (b"{\"do\":\"begin\",\"ms\":0}", "Err(BadCommand)"),
     (
         b"{\"do\":\"at\",\"ms\":9223372036854775807}",
         "Ok(Change(At(9223372036854775807)))",

@@ -1,7 +1,9 @@
 use Rattle.std.proofs.Common.{◌≡◌, Some, None, refl, ◌∙◌, ap, subst, to_z, of_z, to_z-of_z, SFits, w64}
 use Rattle.std.proofs.lemmas.Result.{IfOk-weaker}
 use Rattle.rule_model.specs.declared.step.Step.TheVariants.{Promise}
+use Rattle.rule_world.specs.Events.{promise_fault}
 use Rattle.session_laws.specs.Leading.{Moves}
+use Rattle.session_laws.specs.Standing.{Contents, reached_of}
 use Rattle.session_laws.proofs.Faults.{promise_refused}
 use Rattle.session_laws.proofs.Tried.{no_lines, on_ok, on_ok_weaker, refused_lines, refused_tries, tried_done}
 use Rattle.session.proofs.state.State.promise_from.Goals as goal
@@ -13,7 +15,8 @@ returns-in-Ok-clause-stands c =
     let whole : to_z w64 (of_z w64 c.args.from) ≡ c.args.from = to_z-of_z c.ranges.from in
     let promise : to_z w64 (of_z w64 c.promise.result) ≡ c.promise.result = (let fits : SFits w64 c.promise.result = search in to_z-of_z fits) in
     let none_at = simp (whole, promise) at c.in-Ok.ensures.none in
-    let none = simp c.promise.ensures at none_at in
+    let none_here = simp c.promise.ensures at none_at in
+    let none = subst (λ (k : Contents). promise_fault ((reached_of k).promise c.args.entry.0) c.args.from ≡ None) c.self.view_is none_here in
     let from : c.in-Ok.from ≡ c.args.from = simp whole at c.in-Ok.ensures.promise in
     let next : to_z w64 (of_z w64 c.in-Ok.from) ≡ c.args.from = ap (λ z. to_z w64 (of_z w64 z)) from ∙ whole in
     IfOk-weaker c.with_promise.result _ _ (λ t moves. tried_done s m c.args.self (Promise c.args.entry c.args.from) c.with_promise.new.memory t
@@ -27,7 +30,8 @@ returns-in-Ok-clause-lines c =
     let whole : to_z w64 (of_z w64 c.args.from) ≡ c.args.from = to_z-of_z c.ranges.from in
     let promise : to_z w64 (of_z w64 c.promise.result) ≡ c.promise.result = (let fits : SFits w64 c.promise.result = search in to_z-of_z fits) in
     let none_at = simp (whole, promise) at c.in-Ok.ensures.none in
-    let none = simp c.promise.ensures at none_at in
+    let none_here = simp c.promise.ensures at none_at in
+    let none = subst (λ (k : Contents). promise_fault ((reached_of k).promise c.args.entry.0) c.args.from ≡ None) c.self.view_is none_here in
     on_ok c.with_promise.result (no_lines s m c.args.self (Promise c.args.entry c.args.from) c.args.lines.now.items (λ w st suits. promise_refused s m c.args.self w st c.args.entry c.args.from None none) (λ w. refl))
 
 pub returns-in-Err-clause-stands : goal.returns-in-Err-clause-stands
@@ -37,7 +41,8 @@ returns-in-Err-clause-stands c =
     let whole : to_z w64 (of_z w64 c.args.from) ≡ c.args.from = to_z-of_z c.ranges.from in
     let promise : to_z w64 (of_z w64 c.promise.result) ≡ c.promise.result = (let fits : SFits w64 c.promise.result = search in to_z-of_z fits) in
     let fault_at = simp (whole, promise) at c.in-Err.ensures.fault in
-    let fault = simp c.promise.ensures at fault_at in
+    let fault_here = simp c.promise.ensures at fault_at in
+    let fault = subst (λ (k : Contents). promise_fault ((reached_of k).promise c.args.entry.0) c.args.from ≡ Some c.in-Err.code) c.self.view_is fault_here in
     IfOk-weaker c.refuse.result _ _ (refused_tries s m c.args.self (Promise c.args.entry c.args.from) c.in-Err.code (λ w st suits. promise_refused s m c.args.self w st c.args.entry c.args.from (Some c.in-Err.code) fault)) c.refuse.ensures.state
 
 pub returns-in-Err-clause-lines : goal.returns-in-Err-clause-lines
@@ -47,7 +52,8 @@ returns-in-Err-clause-lines c =
     let whole : to_z w64 (of_z w64 c.args.from) ≡ c.args.from = to_z-of_z c.ranges.from in
     let promise : to_z w64 (of_z w64 c.promise.result) ≡ c.promise.result = (let fits : SFits w64 c.promise.result = search in to_z-of_z fits) in
     let fault_at = simp (whole, promise) at c.in-Err.ensures.fault in
-    let fault = simp c.promise.ensures at fault_at in
+    let fault_here = simp c.promise.ensures at fault_at in
+    let fault = subst (λ (k : Contents). promise_fault ((reached_of k).promise c.args.entry.0) c.args.from ≡ Some c.in-Err.code) c.self.view_is fault_here in
     on_ok_weaker c.refuse.result (refused_lines s m c.args.self (Promise c.args.entry c.args.from) c.in-Err.code (λ w st suits. promise_refused s m c.args.self w st c.args.entry c.args.from (Some c.in-Err.code) fault)
     c.args.lines.now.items c.refuse.new.lines.items) c.refuse.ensures.lines
 

@@ -2,7 +2,7 @@ use Rattle.std.proofs.Common.{◌≡◌, Some, None, true, false, refl, sym}
 use Rattle.std.proofs.lemmas.Result.{IfOk-weaker}
 use Rattle.rule_world.specs.declared.code.Code.TheVariants.{Absent, EventObserved, ReferenceFixed}
 use Rattle.rule_model.specs.declared.step.Step.TheVariants.{Retract}
-use Rattle.rule_model.specs.Types.{is_event, is_reference}
+use Rattle.rule_model.specs.Types.{is_event}
 use Rattle.session_laws.specs.Places.{newest}
 use Rattle.session_laws.proofs.Faults.{retract_absent, retract_event, retract_fixed, retract_found, retract_observed}
 use Rattle.session_laws.proofs.Looking.{retract_fault_is}
@@ -87,17 +87,17 @@ pub returns-then-is_reference-clause-stands : goal.returns-then-is_reference-cla
 returns-then-is_reference-clause-stands c =
     let s = c.args.setting.now in
     let m = c.args.memory.now in
-    IfOk-weaker c.refuse-2.result _ _ (refused_tries s m c.args.self (Retract c.args.ty c.args.id) ReferenceFixed
+    IfOk-weaker c.refuse-then-is_reference.result _ _ (refused_tries s m c.args.self (Retract c.args.ty c.args.id) ReferenceFixed
     (λ w st suits. retract_fault_is s m c.args.self w c.requires.runs st c.args.ty c.args.id (Some ReferenceFixed)
-    (retract_fixed s.program c.args.ty.0 (newest c.args.self c.args.id.0) c.requires.runs.runnable (sym c.if-is_reference.ensures)))) c.refuse-2.ensures.state
+    (retract_fixed s.program c.args.ty.0 (newest c.args.self c.args.id.0) c.requires.runs.runnable (sym c.if-is_reference.ensures)))) c.refuse-then-is_reference.ensures.state
 
 pub returns-then-is_reference-clause-lines : goal.returns-then-is_reference-clause-lines
 returns-then-is_reference-clause-lines c =
     let s = c.args.setting.now in
     let m = c.args.memory.now in
-    on_ok_weaker c.refuse-2.result (refused_lines s m c.args.self (Retract c.args.ty c.args.id) ReferenceFixed
+    on_ok_weaker c.refuse-then-is_reference.result (refused_lines s m c.args.self (Retract c.args.ty c.args.id) ReferenceFixed
     (λ w st suits. retract_fault_is s m c.args.self w c.requires.runs st c.args.ty c.args.id (Some ReferenceFixed)
-    (retract_fixed s.program c.args.ty.0 (newest c.args.self c.args.id.0) c.requires.runs.runnable (sym c.if-is_reference.ensures))) c.args.lines.now.items c.refuse-2.new.lines.items) c.refuse-2.ensures.lines
+    (retract_fixed s.program c.args.ty.0 (newest c.args.self c.args.id.0) c.requires.runs.runnable (sym c.if-is_reference.ensures))) c.args.lines.now.items c.refuse-then-is_reference.new.lines.items) c.refuse-then-is_reference.ensures.lines
 
 pub returns-then-is_reference-clause-known : goal.returns-then-is_reference-clause-known
-returns-then-is_reference-clause-known c = λ known. c.refuse-2.ensures.known c.args.setting.now.program
+returns-then-is_reference-clause-known c = λ known. c.refuse-then-is_reference.ensures.known c.args.setting.now.program

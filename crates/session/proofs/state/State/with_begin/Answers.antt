@@ -1,4 +1,4 @@
-use Rattle.std.proofs.Common.{◌≡◌, [], true, sym, subst}
+use Rattle.std.proofs.Common.{◌∙◌, [], sym, subst, ap}
 use Rattle.std.proofs.lemmas.Result.{IfOk-weaker}
 use Rattle.rule_model.specs.declared.step.Step.TheVariants.{Begin}
 use Rattle.rule_world.specs.Worlds.{stepped}
@@ -25,3 +25,6 @@ pub returns-clause-sound : goal.returns-clause-sound
 returns-clause-sound c = IfOk-weaker c.settled.result _ _
     (λ s stays sound. let here = subst (IsSound c.args.setting.now.program c.args.memory.now) (sym c.state.view_is) sound in stays (record { net = here.net; pending = here.pending }))
     c.settled.ensures.sound
+
+pub returns-clause-tags : goal.returns-clause-tags
+returns-clause-tags c = IfOk-weaker c.settled.result _ _ (λ s h. h ∙ ap (λ (k : Contents). k.next_tag) c.state.view_is) c.settled.ensures.tags

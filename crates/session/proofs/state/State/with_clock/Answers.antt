@@ -1,4 +1,4 @@
-use Rattle.std.proofs.Common.{◌≡◌, ◌≤ℤ◌, ℤ, [], sym, subst, to_z, of_z, w64}
+use Rattle.std.proofs.Common.{◌≡◌, ◌≤ℤ◌, ◌∙◌, ℤ, [], sym, subst, ap, to_z, of_z, w64}
 use Rattle.std.proofs.lemmas.Result.{IfOk-weaker}
 use Rattle.fact_store.specs.Held.{HeldFacts, facts_of}
 use Rattle.rule_model.specs.declared.step.Step.TheVariants.{At}
@@ -79,9 +79,12 @@ returns-clause-stands c = IfOk-weaker c.settled-2.result _ _ (λ t settled w st 
     settled next
     (subst (λ (z : ℤ). Awaits s (record { net = c.followed.new.net; retention = m.retention }) (contents c.without_all.result c.take_due.new.self z k.course b k.next_id k.next_tag) (is_among c.as_slice-2.result.now) next) (sym same)
     (later_awaits s m k w here c.requires.runs c.args.clock moves none lawful c.take_due.new.self due takes c.without_all.result c.without_all.ensures behind out b c.followed.new.net (is_among c.as_slice-2.result.now)
-    ((simp (same, c.moment.ensures.clock, c.moment.ensures.last_starts, c.moment.ensures.promises, c.as_slice.ensures.value) at c.in_ok-agenda.ensures.net) here.seen.all behind here.seen.all (instant_of k) here.seen.forgotten leads here.seen.stands)
-    ((simp (same, c.moment.ensures.clock, c.moment.ensures.last_starts, c.moment.ensures.promises, c.as_slice.ensures.value) at c.in_ok-agenda.ensures.agenda) here.seen.all behind here.seen.all (instant_of k) here.seen.forgotten leads here.seen.stands)
+    ((simp (same, c.moment-moment.ensures.clock, c.moment-moment.ensures.last_starts, c.moment-moment.ensures.promises, c.as_slice.ensures.value) at c.in_ok-agenda.ensures.net) here.seen.all behind here.seen.all (instant_of k) here.seen.forgotten leads here.seen.stands)
+    ((simp (same, c.moment-moment.ensures.clock, c.moment-moment.ensures.last_starts, c.moment-moment.ensures.promises, c.as_slice.ensures.value) at c.in_ok-agenda.ensures.agenda) here.seen.all behind here.seen.all (instant_of k) here.seen.forgotten leads here.seen.stands)
     has_left))) c.settled-2.ensures.stands
+
+pub returns-clause-tags : goal.returns-clause-tags
+returns-clause-tags c = IfOk-weaker c.settled-2.result _ _ (λ s h. h ∙ ap (λ (k : Contents). k.next_tag) c.state.view_is) c.settled-2.ensures.tags
 
 pub returns-clause-sound : goal.returns-clause-sound
 returns-clause-sound c = IfOk-weaker c.settled-2.result _ _

@@ -33,7 +33,7 @@ returns-clause-stands c =
     (λ w st none lawful. h (stepped p w (Insert f.ty f.entry f.fields))
     (numbers_await c.args.setting.now c.args.memory.now k w st f id at times c.requires.runs none lawful gone n c.in_ok-state-inside.field-0 c.in_ok-agenda.agenda
     (has_start p f c.state.inside.course c.in_ok-state-inside.field-0 c.in_ok-state-inside.ensures.last_starts c.in_ok-state-inside.ensures.promises c.in_ok-state-inside.ensures.begun) refl (is_among c.as_slice.result.now)
-    (simp (same, c.moment.ensures.clock, c.moment.ensures.last_starts, c.moment.ensures.promises) at c.in_ok-agenda.ensures.net) (simp (same, c.moment.ensures.clock, c.moment.ensures.last_starts, c.moment.ensures.promises) at c.in_ok-agenda.ensures.agenda)
+    (simp (same, c.moment-moment.ensures.clock, c.moment-moment.ensures.last_starts, c.moment-moment.ensures.promises) at c.in_ok-agenda.ensures.net) (simp (same, c.moment-moment.ensures.clock, c.moment-moment.ensures.last_starts, c.moment-moment.ensures.promises) at c.in_ok-agenda.ensures.agenda)
     (simp (sym c.as_slice.ensures.value) at c.in_ok-agenda.ensures.left))))
     c.settled.ensures.stands
 

@@ -39,7 +39,7 @@ returns-clause-stands c =
     (present_awaits c.args.setting.now c.args.memory.now k w st c.args.fact id at times c.requires.runs none lawful now c.requires.start_high n c.in_ok-state-inside-3.field-0
     c.in_ok-state-inside-2.field-0 c.in_ok-state-inside.field-0 c.in_ok-agenda.agenda c.in_ok-state-inside-3.ensures c.in_ok-state-inside-2.ensures (has_start p c.args.fact c.state.inside.course c.in_ok-state-inside.field-0 c.in_ok-state-inside.ensures.last_starts c.in_ok-state-inside.ensures.promises c.in_ok-state-inside.ensures.begun)
     c.life_end.result (is_among c.as_slice.result.now) c.life_end.ensures c.in_ok-hold.ensures.due c.in_ok-hold.ensures.lingering
-    (simp (same, come, c.moment.ensures.clock, c.moment.ensures.last_starts, c.moment.ensures.promises) at c.in_ok-agenda.ensures.net) (simp (same, come, c.moment.ensures.clock, c.moment.ensures.last_starts, c.moment.ensures.promises) at c.in_ok-agenda.ensures.agenda)
+    (simp (same, come, c.moment-moment.ensures.clock, c.moment-moment.ensures.last_starts, c.moment-moment.ensures.promises) at c.in_ok-agenda.ensures.net) (simp (same, come, c.moment-moment.ensures.clock, c.moment-moment.ensures.last_starts, c.moment-moment.ensures.promises) at c.in_ok-agenda.ensures.agenda)
     (simp (sym c.as_slice.ensures.value) at c.in_ok-agenda.ensures.left))))
     c.settled.ensures.stands
 

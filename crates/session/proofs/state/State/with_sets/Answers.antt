@@ -49,8 +49,8 @@ returns-clause-stands c = IfOk-weaker c.settled.result _ _ (λ t settled w st no
     settled (stepped s.program w (Modify c.args.id c.args.sets))
     (modify_awaits s m k w here c.args.id c.args.tag is c.requires.runs c.args.sets plain none lawful c.unwrap-before.result.now after taken c.in_ok-after.ensures facts c.in_ok-state-inside.ensures
     c.take.new.self c.take.ensures.rest b c.followed.new.net (is_among c.as_slice.result.now)
-    ((simp (same, come, c.moment.ensures.clock, c.moment.ensures.last_starts, c.moment.ensures.promises) at c.in_ok-agenda.ensures.net) here.seen.all behind both (instant_of k) here.seen.forgotten leads here.seen.stands)
-    ((simp (same, come, c.moment.ensures.clock, c.moment.ensures.last_starts, c.moment.ensures.promises) at c.in_ok-agenda.ensures.agenda) here.seen.all behind both (instant_of k) here.seen.forgotten leads here.seen.stands)
+    ((simp (same, come, c.moment-moment.ensures.clock, c.moment-moment.ensures.last_starts, c.moment-moment.ensures.promises) at c.in_ok-agenda.ensures.net) here.seen.all behind both (instant_of k) here.seen.forgotten leads here.seen.stands)
+    ((simp (same, come, c.moment-moment.ensures.clock, c.moment-moment.ensures.last_starts, c.moment-moment.ensures.promises) at c.in_ok-agenda.ensures.agenda) here.seen.all behind both (instant_of k) here.seen.forgotten leads here.seen.stands)
     has_left)) c.settled.ensures.stands
 
 pub returns-clause-sound : goal.returns-clause-sound

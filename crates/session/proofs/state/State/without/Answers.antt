@@ -34,8 +34,8 @@ returns-clause-stands c = IfOk-weaker c.settled.result _ _ (λ t settled w st no
     settled (stepped s.program w (Retract c.args.ty c.args.id))
     (retract_awaits s m k w here c.args.id c.args.tag is c.requires.runs c.args.ty of_type none lawful c.untimed.result c.untimed.ensures c.take.new.self c.take.ensures.rest b
     c.followed.new.net c.release.new.self (is_among c.as_slice.result.now)
-    ((simp (same, c.moment.ensures.clock, c.moment.ensures.last_starts, c.moment.ensures.promises) at c.in_ok-agenda.ensures.net) here.seen.all behind here.seen.all (instant_of k) here.seen.forgotten leads here.seen.stands)
-    ((simp (same, c.moment.ensures.clock, c.moment.ensures.last_starts, c.moment.ensures.promises) at c.in_ok-agenda.ensures.agenda) here.seen.all behind here.seen.all (instant_of k) here.seen.forgotten leads here.seen.stands)
+    ((simp (same, c.moment-moment.ensures.clock, c.moment-moment.ensures.last_starts, c.moment-moment.ensures.promises) at c.in_ok-agenda.ensures.net) here.seen.all behind here.seen.all (instant_of k) here.seen.forgotten leads here.seen.stands)
+    ((simp (same, c.moment-moment.ensures.clock, c.moment-moment.ensures.last_starts, c.moment-moment.ensures.promises) at c.in_ok-agenda.ensures.agenda) here.seen.all behind here.seen.all (instant_of k) here.seen.forgotten leads here.seen.stands)
     has_left c.release.ensures.due c.release.ensures.lingering)) c.settled.ensures.stands
 
 pub returns-clause-sound : goal.returns-clause-sound
