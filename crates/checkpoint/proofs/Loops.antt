@@ -1,14 +1,11 @@
 -- The loops over the items of a list.
-use Rattle.std.proofs.Common.{◌≡◌, ℕ, suc, ◌-◌, ◌+◌, ◌<◌, ◌≤◌, List, [], ◌∷◌, ◌++◌, length, get_or, take, drop, Option, Some, None, option_map, refl, sym, ap, subst, ◌∙◌, append_assoc, add-one, take-suc, arith}
+use Rattle.std.proofs.Common.{◌≡◌, ℕ, suc, ◌-◌, ◌+◌, ◌<◌, ◌≤◌, List, [], ◌∷◌, ◌++◌, length, get_or, take, drop, Some, None, Result, Ok, Err, refl, sym, ap, subst, ◌∙◌, append_assoc, add-one, take-suc, arith}
 use Rattle.std.proofs.lemmas.List.{append-nil, drop_more}
+use Rattle.std.specs.Prelude.{IsErrAnd, IfErr}
+use Rattle.checkpoint.specs.declared.fault.DecodeFault.{DecodeFault}
+use Rattle.checkpoint.specs.declared.fault.DecodeFault.TheVariants.{BadImage, NoMemory}
 use Rattle.checkpoint.specs.Bytes.{each_bytes, Each}
-use Rattle.checkpoint.specs.Reading.{◌>>=◌, Read, items_at}
-
-pub seen : {B C : Type 0} (o : Option B) (view : B → C) (read : Option C) (found : B) → option_map view o ≡ read → o ≡ Some found → read ≡ Some (view found)
-seen o view read found e is = sym e ∙ ap (option_map view) is
-
-pub seen_none : {B C : Type 0} (o : Option B) (view : B → C) (read : Option C) → option_map view o ≡ read → o ≡ None → read ≡ None
-seen_none o view read e is = sym e ∙ ap (option_map view) is
+use Rattle.checkpoint.specs.Reading.{◌>>=◌, Read, Tells, items_at}
 
 -- the items read so far, before those that are read next
 abbrev pub with_front : {A : Type 0} → List A → Read (List A) → Read (List A)
@@ -34,13 +31,19 @@ goes_on read front count i bytes rest x total lt is_x so_far =
     rw (k, is_x) (regroup front x (items_at read (count - (i + 1)) rest)) in
     sym turn ∙ so_far
 
-pub stops : {A : Type 0} (read : List ℕ → Read A) (front : List A) (count i : ℕ) (bytes : List ℕ) (total : Read (List A)) → i < count → read bytes ≡ None
-    → with_front front (items_at read (count - i) bytes) ≡ total → total ≡ None
+pub stops : {A : Type 0} (read : List ℕ → Read A) (front : List A) (count i : ℕ) (bytes : List ℕ) (total : Read (List A)) (fault : DecodeFault) → i < count → Tells (read bytes) fault
+    → with_front front (items_at read (count - i) bytes) ≡ total → Tells total fault
 unfolding items_at
-stops read front count i bytes total lt none so_far =
+stops read front count i bytes total BadImage lt none so_far =
     let k : count - i ≡ suc (count - (i + 1)) = omega arith in
     let turn : with_front front (items_at read (count - i) bytes) ≡ None = rw (k, none) refl in
     sym so_far ∙ turn
+stops read front count i bytes total NoMemory lt told so_far = tt
+
+-- what a step's fault tells is told of the whole
+pub passed_on : {A : Type 0} (r : Result A DecodeFault) (fault : DecodeFault) (P : DecodeFault → Type 0) → IsErrAnd r (λ e. e ≡ fault) → P fault → IfErr r P
+passed_on (Ok x) fault P same told = tt
+passed_on (Err e) fault P same told = subst P (sym same) told
 
 pub ends : {A : Type 0} (read : List ℕ → Read A) (front : List A) (count i : ℕ) (bytes : List ℕ) (total : Read (List A)) → count ≤ i
     → with_front front (items_at read (count - i) bytes) ≡ total → total ≡ Some (front, bytes)
@@ -51,10 +54,6 @@ ends {A} read front count i bytes total le so_far =
     sym so_far ∙ turn
 
 -- ---- writing
-
--- what two calls append
-pub both_appended : (before first next : List ℕ) {between after : List ℕ} → between ≡ before ++ first → after ≡ between ++ next → after ≡ before ++ (first ++ next)
-both_appended before first next one two = two ∙ ap (λ (z : List ℕ). z ++ next) one ∙ append_assoc before first next
 
 module _ {A : Type 0} (items : List A) (x : A) where
   -- a turn of the loop that writes items

@@ -1,13 +1,13 @@
 -- The bytes of an image, and the image of bytes.
 use Rattle.std.proofs.Common.{◌≡◌, ℕ, ◌==◌, ◌&&◌, Bool, true, false, cond, List, [], ◌∷◌, ◌++◌, Option, Some, None, Result, Ok, Err, refl, sym, ap, subst, ◌∙◌}
-use Rattle.std.specs.Prelude.{codes, IsErrAnd}
+use Rattle.std.specs.Prelude.{codes, IfOk, IfErr}
 use Rattle.std.proofs.lemmas.Bool.{eqb-true}
 use Rattle.std.proofs.lemmas.List.{append-nil}
 use Rattle.checkpoint.specs.declared.fault.DecodeFault.{DecodeFault}
-use Rattle.checkpoint.specs.declared.fault.DecodeFault.TheVariants.{BadImage, NoMemory}
+use Rattle.checkpoint.specs.declared.fault.DecodeFault.TheVariants.{BadImage}
 use Rattle.checkpoint.specs.declared.image.Image.{Image}
 use Rattle.checkpoint.specs.Bytes.{field_bytes, image_bytes, AreFields, IsImage}
-use Rattle.checkpoint.specs.Reading.{◌>>=◌, Read, fields_at, behind_header, if_last, decoded}
+use Rattle.checkpoint.specs.Reading.{◌>>=◌, Read, fields_at, behind_header, if_last, decoded, Tells}
 use Rattle.checkpoint.proofs.Exact.{AreOctets, behind, bind_some, some_is}
 use Rattle.checkpoint.proofs.Structs.{fields_exact}
 
@@ -62,10 +62,21 @@ decoded_again image is =
 pub one_spelling : (a b : Image) → IsImage a → IsImage b → image_bytes a ≡ image_bytes b → a ≡ b
 one_spelling a b is_a is_b e = some_is a b (sym (decoded_again a is_a) ∙ ap decoded e ∙ decoded_again b is_b)
 
-pub bad : (bytes : List ℕ) → decoded bytes ≡ None → (image : Image) → IsImage image → image_bytes image ≡ bytes → ⊥
-bad bytes none image is e = let n : None ≡ Some image = sym none ∙ ap decoded (sym e) ∙ decoded_again image is in cc
+-- ---- what the answer of a reading says
 
--- the answer where memory is refused is not that the bytes are bad
-pub no_memory_is_no_fault : {A : Type 0} (r : Result A DecodeFault) {P : Type 0} → IsErrAnd r (λ fault. fault ≡ NoMemory) → r ≡ Err BadImage → P
-no_memory_is_no_fault (Ok x) told is = absurd told
-no_memory_is_no_fault (Err fault) told is = let both : Err NoMemory ≡ Err BadImage = sym (ap Err told) ∙ is in absurd cc
+pub is_found : (bytes : List ℕ) (r : Result Image DecodeFault) → AreOctets bytes → IfOk r (λ x. decoded bytes ≡ Some x)
+    → IfOk r (λ x. IsImage x × (image_bytes x ≡ bytes))
+is_found bytes (Ok x) octets is = decoded_takes bytes x octets is
+is_found bytes (Err fault) octets is = tt
+
+pub is_only : (bytes : List ℕ) (r : Result Image DecodeFault) → IfOk r (λ x. decoded bytes ≡ Some x)
+    → IfOk r (λ x. (other : Image) → IsImage other → image_bytes other ≡ bytes → x ≡ other)
+is_only bytes (Ok x) is = λ other is_other e. some_is x other (sym is ∙ ap decoded (sym e) ∙ decoded_again other is_other)
+is_only bytes (Err fault) is = tt
+
+pub is_bad : (bytes : List ℕ) (r : Result Image DecodeFault) → IfErr r (Tells (decoded bytes))
+    → r ≡ Err BadImage → (image : Image) → IsImage image → image_bytes image ≡ bytes → ⊥
+is_bad bytes r told bad image is e =
+    let none : decoded bytes ≡ None = subst (λ (r : Result Image DecodeFault). IfErr r (Tells (decoded bytes))) bad told in
+    let n : None ≡ Some image = sym none ∙ ap decoded (sym e) ∙ decoded_again image is in
+    cc

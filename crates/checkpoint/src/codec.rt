@@ -1,11 +1,11 @@
-ghost use Rattle.std.specs.Prelude.{◌≡◌, option_map, IfOk, Err};
+ghost use Rattle.std.specs.Prelude.{◌≡◌, IfOk, IfErr, Some, Err};
 ghost use Rattle.checkpoint.specs.declared.image.Image.{Image as ImageData};
 ghost use Rattle.checkpoint.specs.Bytes.{image_bytes, IsImage};
-ghost use Rattle.checkpoint.specs.Reading.{behind_header, decoded};
+ghost use Rattle.checkpoint.specs.Reading.{behind_header, decoded, Tells};
 
 use crate::fault::DecodeFault;
 use crate::image::Image;
-use crate::spelled::Spelled;
+use crate::spelled::{Readable, Spelled};
 use fx_base::NoMemory;
 use std::alloc::Global;
 
@@ -25,37 +25,33 @@ pub fn encode(alloc: Global, image: &Image) -> Result<Vec<u8>, NoMemory>
 
 // The bytes behind the first four, which are those of each image.
 #[tactic(auto, unfolding(crate::specs::Reading::behind_header))]
-fn behind_header(bytes: &[u8]) -> Option<&[u8]>
-    ensures { option_map (λ rest. rest.now) result ≡ behind_header bytes.now }
+fn behind_header(bytes: &[u8]) -> Result<&[u8], DecodeFault>
+    ensures found { IfOk result (λ rest. behind_header bytes.now ≡ Some rest.now) }
+    ensures bad { IfErr result (Tells (behind_header bytes.now)) }
 {
     match bytes {
         [a, b, c, d, rest @ ..] => {
             if *a == b'F' && *b == b'X' && *c == b'C' && *d == b'1' {
-                Some(rest)
+                Ok(rest)
             } else {
-                None
+                Err(DecodeFault::BadImage)
             }
         }
-        _ => None,
+        _ => Err(DecodeFault::BadImage),
     }
 }
 
-// The image of the bytes, or nothing.
+// The image of the bytes.
 #[tactic(auto, unfolding(crate::specs::Reading::decoded))]
-fn image_of(alloc: Global, bytes: &[u8]) -> Result<Option<Image>, NoMemory>
-    ensures { IfOk result (λ found. found ≡ decoded bytes.now) }
+fn image_of(alloc: Global, bytes: &[u8]) -> Result<Image, DecodeFault>
+    ensures found { IfOk result (λ image. decoded bytes.now ≡ Some image) }
+    ensures bad { IfErr result (Tells (decoded bytes.now)) }
 {
-    let rest = match behind_header(bytes) {
-        None => return Ok(None),
-        Some(rest) => rest,
-    };
-    let (image, behind) = match Image::take(alloc, rest)? {
-        None => return Ok(None),
-        Some(found) => found,
-    };
+    let rest = behind_header(bytes)?;
+    let (image, behind) = Image::take(alloc, rest)?;
     match behind {
-        [] => Ok(Some(image)),
-        [_, ..] => Ok(None),
+        [] => Ok(image),
+        [_, ..] => Err(DecodeFault::BadImage),
     }
 }
 
@@ -66,9 +62,5 @@ pub fn decode(alloc: Global, bytes: &[u8]) -> Result<Image, DecodeFault>
     ensures only { IfOk result (λ image. (other : ImageData) → IsImage other → image_bytes other ≡ bytes.now → image ≡ other) }
     ensures bad { result ≡ Err DecodeFault.BadImage → (image : ImageData) → IsImage image → image_bytes image ≡ bytes.now → ⊥ }
 {
-    let found = image_of(alloc, bytes)?;
-    match found {
-        Some(image) => Ok(image),
-        None => Err(DecodeFault::BadImage),
-    }
+    image_of(alloc, bytes)
 }

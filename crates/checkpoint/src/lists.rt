@@ -1,9 +1,9 @@
-ghost use Rattle.std.specs.Prelude.{◌≡◌, ◌<◌, ◌≤◌, ◌++◌, length, option_map, OnOk, IfOk};
-ghost use Rattle.checkpoint.specs.Bytes.{string_bytes, list_bytes, each_bytes, AreAll, AreBytes, Each};
-ghost use Rattle.checkpoint.specs.Reading.{string_at, utf8_text, text_at, items_at, list_at};
+ghost use Rattle.std.specs.Prelude.{◌≡◌, ◌≤◌, ◌++◌, length, option_map, OnOk, IfOk, IfErr, Some};
+ghost use Rattle.checkpoint.specs.Bytes.{string_bytes, each_bytes, AreBytes, Each};
+ghost use Rattle.checkpoint.specs.Reading.{string_at, utf8_text, items_at, Tells};
 
-use crate::numbers::long_at;
-use crate::spelled::Spelled;
+use crate::fault::DecodeFault;
+use crate::spelled::{Listed, Readable, Spelled};
 use fx_base::{NoMemory, Seq, Text};
 use std::alloc::Global;
 
@@ -20,18 +20,16 @@ pub(crate) fn put_string(string: &[u8], out: &mut Vec<u8>) -> Result<(), NoMemor
 
 /// As many bytes as are said, and the bytes behind them. Takes no memory.
 #[tactic(auto, unfolding(crate::specs::Reading::string_at))]
-pub(crate) fn string_at(from: &[u8]) -> Option<(&[u8], &[u8])>
-    ensures { option_map (λ f. (f.0.now, f.1.now)) result ≡ string_at from.now }
+pub(crate) fn string_at(alloc: Global, from: &[u8]) -> Result<(&[u8], &[u8]), DecodeFault>
+    ensures found { IfOk result (λ f. string_at from.now ≡ Some (f.0.now, f.1.now)) }
+    ensures bad { IfErr result (Tells (string_at from.now)) }
 {
-    let (count, rest) = match long_at(from) {
-        None => return None,
-        Some(found) => found,
-    };
+    let (count, rest) = u64::take(alloc, from)?;
     if (rest.len() as u64) < count {
-        return None;
+        return Err(DecodeFault::BadImage);
     }
     let (string, behind) = rest.split_at(count as usize);
-    Some((string, behind))
+    Ok((string, behind))
 }
 
 // The bytes as text, where they are UTF-8.
@@ -41,20 +39,33 @@ fn as_text(bytes: &[u8]) -> Option<&str>
     std::str::from_utf8(bytes).ok()
 }
 
-/// A text, and the bytes behind it.
-#[tactic(auto, unfolding(crate::specs::Reading::text_at))]
-pub(crate) fn text_at(alloc: Global, from: &[u8]) -> Result<Option<(Text, &[u8])>, NoMemory>
-    ensures { IfOk result (λ found. option_map (λ f. (f.0, f.1.now)) found ≡ text_at from.now) }
-{
-    let (string, rest) = match string_at(from) {
-        None => return Ok(None),
-        Some(found) => found,
-    };
-    match as_text(string) {
-        None => Ok(None),
-        Some(text) => {
-            let text = Text::new(alloc, text)?;
-            Ok(Some((text, rest)))
+impl Spelled for Text {
+    ghost use Rattle.checkpoint.specs.Bytes.{IsText};
+
+    ghost spelling = { string_bytes };
+
+    ghost is_fit = { IsText };
+
+    fn put(&self, out: &mut Vec<u8>) -> Result<(), NoMemory> {
+        put_string(self.as_str().as_bytes(), out)?;
+        Ok(())
+    }
+}
+
+impl Readable for Text {
+    ghost use Rattle.checkpoint.specs.Reading.{text_at};
+
+    ghost at = { text_at };
+
+    #[tactic(auto, unfolding(crate::specs::Reading::text_at))]
+    fn take(alloc: Global, from: &[u8]) -> Result<(Text, &[u8]), DecodeFault> {
+        let (string, behind) = string_at(alloc, from)?;
+        match as_text(string) {
+            None => Err(DecodeFault::BadImage),
+            Some(text) => {
+                let text = Text::new(alloc, text)?;
+                Ok((text, behind))
+            }
         }
     }
 }
@@ -70,56 +81,53 @@ fn put_each<T: Spelled>(items: &[T], out: &mut Vec<u8>) -> Result<(), NoMemory>
     Ok(())
 }
 
-/// Appends values behind their number.
-pub(crate) fn put_list<T: Spelled>(items: &[T], out: &mut Vec<u8>) -> Result<(), NoMemory>
-    ensures appends { OnOk result (out.new.items ≡ out.old.items ++ list_bytes T.spelling items.now) }
-    ensures fits { OnOk result (AreAll T.is_fit items.now) }
-{
-    let count = items.len() as u64;
-    count.put(out)?;
-    put_each(items, out)?;
-    Ok(())
+impl<T: Spelled> Spelled for Seq<T> {
+    ghost use Rattle.checkpoint.specs.Bytes.{list_bytes, AreAll};
+
+    ghost spelling = { list_bytes T.spelling };
+
+    ghost is_fit = { AreAll T.is_fit };
+
+    fn put(&self, out: &mut Vec<u8>) -> Result<(), NoMemory> {
+        let items = self.as_slice();
+        let count = items.len() as u64;
+        count.put(out)?;
+        put_each(items, out)
+    }
 }
 
 // So many values, and the bytes behind them. Takes memory for as many at once, so there are at least so many bytes.
-fn items_at<T: Spelled>(
+fn items_at<T: Readable>(
     alloc: Global,
     count: u64,
     from: &[u8],
-) -> Result<Option<(Seq<T>, &[u8])>, NoMemory>
+) -> Result<(Seq<T>, &[u8]), DecodeFault>
     requires { count ≤ length from.now }
-    ensures { IfOk result (λ found. option_map (λ f. (f.0, f.1.now)) found ≡ items_at T.at count from.now) }
+    ensures found { IfOk result (λ f. items_at T.at count from.now ≡ Some (f.0, f.1.now)) }
+    ensures bad { IfErr result (Tells (items_at T.at count from.now)) }
 {
     let mut items = Vec::with_capacity(alloc, count as usize)?;
     let mut rest = from;
     for _ in 0..count {
-        let (item, behind) = match T::take(alloc, rest)? {
-            None => return Ok(None),
-            Some(found) => found,
-        };
-        items.push(item)?;
+        let (item, behind) = T::take(alloc, rest)?;
+        items.push(item).unwrap();
         rest = behind;
     }
-    Ok(Some((Seq::from_vec(items), rest)))
+    Ok((Seq::from_vec(items), rest))
 }
 
-/// As many values as are said, each of which has at least so many bytes, and the bytes behind them. Takes no memory where
-/// the bytes cannot have so many.
-#[tactic(auto, unfolding(crate::specs::Reading::list_at))]
-pub(crate) fn list_at<T: Spelled>(
-    alloc: Global,
-    from: &[u8],
-    least: usize,
-) -> Result<Option<(Seq<T>, &[u8])>, NoMemory>
-    requires { 0 < least }
-    ensures { IfOk result (λ found. option_map (λ f. (f.0, f.1.now)) found ≡ list_at T.at least from.now) }
-{
-    let (count, rest) = match long_at(from) {
-        None => return Ok(None),
-        Some(found) => found,
-    };
-    if ((rest.len() / least) as u64) < count {
-        return Ok(None);
+/// As many values as are said, where the bytes can have so many: else it takes no memory.
+impl<T: Listed> Readable for Seq<T> {
+    ghost use Rattle.checkpoint.specs.Reading.{list_at};
+
+    ghost at = { list_at T.at T.LEAST };
+
+    #[tactic(auto, unfolding(crate::specs::Reading::list_at))]
+    fn take(alloc: Global, from: &[u8]) -> Result<(Seq<T>, &[u8]), DecodeFault> {
+        let (count, rest) = u64::take(alloc, from)?;
+        if ((rest.len() / T::LEAST) as u64) < count {
+            return Err(DecodeFault::BadImage);
+        }
+        items_at(alloc, count, rest)
     }
-    items_at(alloc, count, rest)
 }

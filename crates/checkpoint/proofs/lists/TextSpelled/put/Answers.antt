@@ -1,0 +1,9 @@
+use Rattle.std.proofs.Common.{subst, ◌∙◌}
+use Rattle.std.proofs.lemmas.Str.{is_utf8-from_IsUtf8}
+use Rattle.checkpoint.specs.Bytes.{IsText}
+use Rattle.checkpoint.proofs.lists.TextSpelled.put.Goals as goal
+
+pub returns-clause-fits : goal.returns-clause-fits
+returns-clause-fits c =
+    let same = c.as_bytes.ensures.value ∙ c.as_str.ensures in
+    subst IsText same (c.in_ok-put_string.ensures.fits.0, is_utf8-from_IsUtf8 c.as_bytes.result.now c.as_bytes.ensures.utf8)
