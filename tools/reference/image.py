@@ -76,7 +76,7 @@ class Image:
     run: RunPart
     clock: int
     begun: bool
-    lasts: tuple[int, ...]
+    last_starts: tuple[int, ...]
     promises: tuple[int, ...]
     next_id: int
     next_tag: int
@@ -130,7 +130,7 @@ def extra_bytes(e: Extra) -> bytes:
 def encode(image: Image) -> bytes:
     run = image.run
     return (HEAD + string(run.rules) + unsigned(run.lines) + unsigned(run.firings) + flag(run.faulty)
-            + signed(image.clock) + flag(image.begun) + listed(signed, image.lasts) + listed(signed, image.promises)
+            + signed(image.clock) + flag(image.begun) + listed(signed, image.last_starts) + listed(signed, image.promises)
             + unsigned(image.next_id) + unsigned(image.next_tag) + listed(fact_bytes, image.facts)
             + listed(lambda m: unsigned(m.rule, 2) + row_bytes(m.row), image.fired) + listed(extra_bytes, image.extras))
 

@@ -84,7 +84,7 @@ def extras_of(image: Image) -> Extras:
 def world_of(image: Image, program: Program) -> LadenWorld:
     """The world of the facts of an image, with what its rows have beyond them."""
     entries = list(program.latenesses)
-    return LadenWorld(program, tuple(fact_of(f, program) for f in image.facts), image.clock, dict(zip(entries, image.lasts)),
+    return LadenWorld(program, tuple(fact_of(f, program) for f in image.facts), image.clock, dict(zip(entries, image.last_starts)),
                       dict(zip(entries, image.promises)), image.next_id, image.next_tag,
                       frozenset((m.rule, m.row.tags, m.row.values) for m in image.fired), image.begun, extras=extras_of(image))
 
@@ -100,7 +100,7 @@ def is_sorted(keys: list) -> bool:
 def numbers_fit(image: Image, program: Program) -> bool:
     entries = len(program.latenesses)
     return (0 <= image.clock <= TIME_END and not is_too_large(image) and min(image.next_id, image.next_tag) >= 1
-            and len(image.lasts) == entries and all(0 <= n <= image.clock for n in image.lasts)
+            and len(image.last_starts) == entries and all(0 <= n <= image.clock for n in image.last_starts)
             and len(image.promises) == entries and all(0 <= n <= TIME_END for n in image.promises))
 
 
@@ -109,7 +109,7 @@ def times_fit(f: ImageFact, info: TypeInfo, image: Image) -> bool:
     to 2^53 ms, a point 0."""
     if not info.event:
         return f.start == f.end == 0
-    return (image.begun and 0 <= f.start <= min(image.clock, image.lasts[f.entry])
+    return (image.begun and 0 <= f.start <= min(image.clock, image.last_starts[f.entry])
             and 0 <= f.end - f.start <= (0 if info.duration is None else TIME_END))
 
 

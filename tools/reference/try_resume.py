@@ -97,7 +97,7 @@ def other_number(rng: Random, n: int) -> int:
 
 def changed(image: Image, rng: Random) -> Image:
     """The image with one part left out, doubled or changed."""
-    name = rng.choice(["clock", "begun", "lasts", "promises", "next_id", "next_tag", "facts", "fired", "extras", "facts", "fired", "extras"])
+    name = rng.choice(["clock", "begun", "last_starts", "promises", "next_id", "next_tag", "facts", "fired", "extras", "facts", "fired", "extras"])
     value = getattr(image, name)
     if isinstance(value, bool):
         return replace(image, begun=not value)

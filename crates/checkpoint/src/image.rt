@@ -30,7 +30,7 @@ pub struct Image {
     /// Whether the world has begun: with its first event, or because the script said so.
     pub begun: bool,
     /// The last start at each entry point, by their places, in milliseconds.
-    pub lasts: Seq<i64>,
+    pub last_starts: Seq<i64>,
     /// The start that each entry point promises, by their places, in milliseconds.
     pub promises: Seq<i64>,
     /// The number of the next inserted fact.

@@ -33,7 +33,7 @@ fn image(alloc: Global) -> Result<Image, NoMemory> {
         run,
         clock: 9,
         begun: true,
-        lasts: Seq::from_vec(vec![in alloc; 0, 5]?),
+        last_starts: Seq::from_vec(vec![in alloc; 0, 5]?),
         promises: Seq::from_vec(vec![in alloc; 0, -6]?),
         next_id: 2,
         next_tag: 3,
