@@ -107,7 +107,7 @@ module _ (p : Program) (table : LifeTable) (w : World) (image : Image) (safe : A
   abbrev reaching : (ℕ → ℤ) → (ℕ → ℤ) → Reached
   reaching last_start promise = record { last_start = last_start; promise = promise }
 
-  image_reached : reached_in image.lasts image.promises ≡ w.reached
+  image_reached : reached_in image.last_starts image.promises ≡ w.reached
   image_reached =
       ap (λ last. reaching last (moment_in image.promises)) (fun_ext is.last_starts.each)
       ∙ ap (reaching w.reached.last_start) (fun_ext is.promises.each)

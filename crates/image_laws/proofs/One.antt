@@ -54,8 +54,8 @@ fired_too x y same m i =
     subst (λ (z : FiredMatch). In z y.fired) is n.1
 
 abbrev image_with : RunPart → ℤ → Bool → List ℤ → List ℤ → ℕ → ℕ → List Fact → List FiredMatch → List Extra → Image
-image_with run clock begun lasts promises next_id next_tag facts fired extras =
-    record { run = run; clock = clock; begun = begun; lasts = lasts; promises = promises; next_id = next_id; next_tag = next_tag; facts = facts; fired = fired; extras = extras }
+image_with run clock begun last_starts promises next_id next_tag facts fired extras =
+    record { run = run; clock = clock; begun = begun; last_starts = last_starts; promises = promises; next_id = next_id; next_tag = next_tag; facts = facts; fired = fired; extras = extras }
 
 module _ (p : Program) (table : LifeTable) (w : World) (a b : Image) (of_a : IsImageOf p table w a) (of_b : IsImageOf p table w b) where
   same_facts : Same a.facts b.facts
@@ -72,13 +72,13 @@ module _ (p : Program) (table : LifeTable) (w : World) (a b : Image) (of_a : IsI
 
   pub one_image : a.run ≡ b.run → a ≡ b
   one_image e =
-      ap (λ run. image_with run a.clock a.begun a.lasts a.promises a.next_id a.next_tag a.facts a.fired a.extras) e
-      ∙ ap (λ clock. image_with b.run clock a.begun a.lasts a.promises a.next_id a.next_tag a.facts a.fired a.extras) (of_a.clock ∙ sym of_b.clock)
-      ∙ ap (λ begun. image_with b.run b.clock begun a.lasts a.promises a.next_id a.next_tag a.facts a.fired a.extras) (of_a.begun ∙ sym of_b.begun)
-      ∙ ap (λ lasts. image_with b.run b.clock b.begun lasts a.promises a.next_id a.next_tag a.facts a.fired a.extras) (same_moments w.reached.last_start (length p.entries) a.lasts b.lasts of_a.last_starts of_b.last_starts)
-      ∙ ap (λ promises. image_with b.run b.clock b.begun b.lasts promises a.next_id a.next_tag a.facts a.fired a.extras) (same_moments w.reached.promise (length p.entries) a.promises b.promises of_a.promises of_b.promises)
-      ∙ ap (λ n. image_with b.run b.clock b.begun b.lasts b.promises n a.next_tag a.facts a.fired a.extras) (of_a.next_id ∙ sym of_b.next_id)
-      ∙ ap (λ n. image_with b.run b.clock b.begun b.lasts b.promises b.next_id n a.facts a.fired a.extras) (of_a.next_tag ∙ sym of_b.next_tag)
-      ∙ ap (λ facts. image_with b.run b.clock b.begun b.lasts b.promises b.next_id b.next_tag facts a.fired a.extras) (sorted_same tag_cmp tag_total a.facts b.facts of_a.facts_in_order of_b.facts_in_order same_facts)
-      ∙ ap (λ fired. image_with b.run b.clock b.begun b.lasts b.promises b.next_id b.next_tag b.facts fired a.extras) (sorted_same fired_cmp fired_total a.fired b.fired of_a.fired_in_order of_b.fired_in_order same_fired)
-      ∙ ap (λ extras. image_with b.run b.clock b.begun b.lasts b.promises b.next_id b.next_tag b.facts b.fired extras) (sorted_same extra_cmp extra_total a.extras b.extras of_a.extras.in_order of_b.extras.in_order same_extras)
+      ap (λ run. image_with run a.clock a.begun a.last_starts a.promises a.next_id a.next_tag a.facts a.fired a.extras) e
+      ∙ ap (λ clock. image_with b.run clock a.begun a.last_starts a.promises a.next_id a.next_tag a.facts a.fired a.extras) (of_a.clock ∙ sym of_b.clock)
+      ∙ ap (λ begun. image_with b.run b.clock begun a.last_starts a.promises a.next_id a.next_tag a.facts a.fired a.extras) (of_a.begun ∙ sym of_b.begun)
+      ∙ ap (λ last_starts. image_with b.run b.clock b.begun last_starts a.promises a.next_id a.next_tag a.facts a.fired a.extras) (same_moments w.reached.last_start (length p.entries) a.last_starts b.last_starts of_a.last_starts of_b.last_starts)
+      ∙ ap (λ promises. image_with b.run b.clock b.begun b.last_starts promises a.next_id a.next_tag a.facts a.fired a.extras) (same_moments w.reached.promise (length p.entries) a.promises b.promises of_a.promises of_b.promises)
+      ∙ ap (λ n. image_with b.run b.clock b.begun b.last_starts b.promises n a.next_tag a.facts a.fired a.extras) (of_a.next_id ∙ sym of_b.next_id)
+      ∙ ap (λ n. image_with b.run b.clock b.begun b.last_starts b.promises b.next_id n a.facts a.fired a.extras) (of_a.next_tag ∙ sym of_b.next_tag)
+      ∙ ap (λ facts. image_with b.run b.clock b.begun b.last_starts b.promises b.next_id b.next_tag facts a.fired a.extras) (sorted_same tag_cmp tag_total a.facts b.facts of_a.facts_in_order of_b.facts_in_order same_facts)
+      ∙ ap (λ fired. image_with b.run b.clock b.begun b.last_starts b.promises b.next_id b.next_tag b.facts fired a.extras) (sorted_same fired_cmp fired_total a.fired b.fired of_a.fired_in_order of_b.fired_in_order same_fired)
+      ∙ ap (λ extras. image_with b.run b.clock b.begun b.last_starts b.promises b.next_id b.next_tag b.facts b.fired extras) (sorted_same extra_cmp extra_total a.extras b.extras of_a.extras.in_order of_b.extras.in_order same_extras)

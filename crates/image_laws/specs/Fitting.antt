@@ -31,7 +31,7 @@ abbrev pub world_of : Image → World
 world_of image = record {
   facts = image.facts;
   clock = image.clock;
-  reached = reached_in image.lasts image.promises;
+  reached = reached_in image.last_starts image.promises;
   begun = image.begun;
   next_id = image.next_id;
   next_tag = image.next_tag;
@@ -80,7 +80,7 @@ IsNeeded p table image owners f =
 
 -- An image fits a program with a table of lives.
 pub record Fits (p : Program) (table : LifeTable) (image : Image) : Type 0 where
-  pub last_starts : length image.lasts ≡ length p.entries
+  pub last_starts : length image.last_starts ≡ length p.entries
   pub promises : length image.promises ≡ length p.entries
   pub next_id : IsSmall image.next_id
   pub next_tag : IsSmall image.next_tag

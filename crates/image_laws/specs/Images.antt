@@ -41,13 +41,13 @@ has_fired image m = has_match (map match_fired image.fired) m
 
 -- what the conditions of rules look at in an image
 abbrev pub snapshot_of : Image → Snapshot
-snapshot_of image = record { facts = image.facts; clock = image.clock; reached = reached_in image.lasts image.promises }
+snapshot_of image = record { facts = image.facts; clock = image.clock; reached = reached_in image.last_starts image.promises }
 
 -- An image is that of a world, with the lives of a table. What it says of the run so far is no part of this.
 pub record IsImageOf (p : Program) (table : LifeTable) (w : World) (image : Image) : Type 0 where
   pub clock : image.clock ≡ w.clock
   pub begun : image.begun ≡ w.begun
-  pub last_starts : AreMoments w.reached.last_start (length p.entries) image.lasts
+  pub last_starts : AreMoments w.reached.last_start (length p.entries) image.last_starts
   pub promises : AreMoments w.reached.promise (length p.entries) image.promises
   pub next_id : image.next_id ≡ w.next_id
   pub next_tag : image.next_tag ≡ w.next_tag
