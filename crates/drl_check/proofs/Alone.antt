@@ -15,7 +15,7 @@ use Rattle.rule_model.specs.declared.program.Program.{Program}
 use Rattle.rule_model.specs.declared.program.TypeInfo.{TypeInfo}
 use Rattle.rule_model.specs.declared.test.TimeTest.{TimeTest}
 use Rattle.rule_model.specs.Types.{is_event_type, is_point_type, is_event, is_point}
-use Rattle.expiry_infer.specs.Edges.{place_of, net_edge, test_edges, condition_edges, edges_of}
+use Rattle.life_edges.specs.Edges.{place_of, net_edge, test_edges, condition_edges, edges_of}
 use Rattle.expiry_infer.specs.Solvable.{can_match}
 use Rattle.drl_sight.specs.Declarations.{types_of, rules_of}
 use Rattle.drl_sight.specs.EntryPoints.{entry_names}

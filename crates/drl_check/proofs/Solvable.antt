@@ -13,7 +13,7 @@ use Rattle.drl_grammar.specs.declared.file.TypeTree.{TypeTree}
 use Rattle.rule_model.specs.declared.program.Program.{Program}
 use Rattle.rule_model.specs.declared.program.Rule.{Rule}
 use Rattle.rule_lives.specs.Networks.{IsSolvable}
-use Rattle.expiry_infer.specs.Edges.{HaveNetwork}
+use Rattle.life_edges.specs.Edges.{HaveNetwork}
 use Rattle.expiry_infer.specs.Solvable.{can_match}
 use Rattle.expiry_infer.proofs.Matching.{can_match_is_exact}
 use Rattle.drl_sight.specs.Declarations.{types_of, rules_of, rule_in}

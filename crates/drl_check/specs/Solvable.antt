@@ -6,7 +6,7 @@ use Rattle.drl_grammar.specs.declared.file.Body.TheVariants as body
 use Rattle.drl_grammar.specs.declared.file.Item.{Item}
 use Rattle.drl_grammar.specs.declared.file.TypeTree.{TypeTree}
 use Rattle.rule_model.specs.declared.program.Program.{Program}
-use Rattle.expiry_infer.specs.Edges.{HaveNetwork}
+use Rattle.life_edges.specs.Edges.{HaveNetwork}
 use Rattle.expiry_infer.specs.Solvable.{can_match}
 use Rattle.drl_sight.specs.Declarations.{types_of}
 use Rattle.drl_sight.specs.EntryPoints.{entry_names}

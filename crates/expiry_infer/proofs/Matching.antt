@@ -5,9 +5,9 @@ use Rattle.temporal_net.proofs.Potentials.{decided}
 use Rattle.rule_model.specs.declared.condition.Condition.{Condition}
 use Rattle.rule_model.specs.declared.program.Program.{Program}
 use Rattle.rule_lives.specs.Networks.{IsSolvable}
-use Rattle.expiry_infer.specs.Edges.{edges_of, HaveNetwork}
+use Rattle.life_edges.specs.Edges.{edges_of, HaveNetwork}
 use Rattle.expiry_infer.specs.Solvable.{can_match}
-use Rattle.expiry_infer.proofs.Fitting.{all_among}
+use Rattle.life_edges.proofs.Fitting.{all_among}
 use Rattle.expiry_infer.proofs.Reaching.{solvable, numbered}
 
 pub can_match_is_exact : (p : Program) (conditions : List Condition) → HaveNetwork conditions → Decides (can_match p conditions) (IsSolvable p conditions)

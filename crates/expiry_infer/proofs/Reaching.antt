@@ -13,31 +13,21 @@ use Rattle.temporal_net.specs.Networks as net
 use Rattle.rule_model.specs.declared.condition.Condition.{Condition}
 use Rattle.rule_model.specs.declared.program.Program.{Program}
 use Rattle.rule_lives.specs.Networks.{Occurrence, Solves, IsSolvable}
-use Rattle.rule_lives.specs.Reach.{infinite, Placed, IsReach, IsGreatest, distance, occurrence_of}
+use Rattle.rule_lives.specs.Reach.{infinite, Placed, IsReach, IsGreatest, distance}
 use Rattle.rule_world.specs.Programs.{NameEarlier}
-use Rattle.expiry_infer.specs.Edges.{start_of, end_of, edges_of}
-use Rattle.expiry_infer.specs.Found.{limit_of, IsSolved}
-use Rattle.expiry_infer.proofs.Places.{false_is}
-use Rattle.expiry_infer.proofs.Solutions.{Agree}
-use Rattle.expiry_infer.proofs.Solved.{points_solve, times_solve, times_of, times_agree, points_of, points_agree}
-
--- the times that a solution of the edges gives
-of_points : (p : Program) (conditions : List Condition) (places : List ℕ) → NameEarlier conditions → (v : ℕ → ℤ) → net.Solves (edges_of p conditions places 0 conditions) v
-    → Solves p conditions places (times_of conditions v)
-of_points p conditions places named v h = times_solve p conditions places v (times_of conditions v) named (times_agree conditions v) h
-
--- the numbers that times which solve the network give
-of_times : (p : Program) (conditions : List Condition) (places : List ℕ) → length conditions ≤ 8 → NameEarlier conditions → (times : Occurrence → Times)
-    → Solves p conditions places times → net.Solves (edges_of p conditions places 0 conditions) (points_of conditions times)
-of_times p conditions places few named times h =
-    points_solve p conditions places (points_of conditions times) times named (points_agree conditions times few) h
+use Rattle.life_edges.specs.Edges.{start_of, end_of, edges_of}
+use Rattle.expiry_infer.specs.Found.{IsSolved}
+use Rattle.life_edges.specs.Tails.{limit_of}
+use Rattle.life_edges.proofs.Places.{false_is}
+use Rattle.life_edges.proofs.Solved.{times_of, times_agree, points_of, points_agree}
+use Rattle.life_edges.proofs.Distances.{of_points, of_times, same_distance}
 
 pub solvable : (p : Program) (conditions : List Condition) → NameEarlier conditions → net.IsSolvable (edges_of p conditions [] 0 conditions) → IsSolvable p conditions
 solvable p conditions named h = (times_of conditions h.0, of_points p conditions [] named h.0 h.1)
 
 pub numbered : (p : Program) (conditions : List Condition) (places : List ℕ) → length conditions ≤ 8 → NameEarlier conditions → (times : Occurrence → Times)
     → Solves p conditions places times → net.IsSolvable (edges_of p conditions places 0 conditions)
-numbered p conditions places few named times h = (points_of conditions times, of_times p conditions places few named times h)
+numbered p conditions places few named times h = (points_of conditions times, of_times p conditions places named times h)
 
 pub unsolvable : (p : Program) (conditions : List Condition) (places : List ℕ) → length conditions ≤ 8 → NameEarlier conditions
     → (net.IsSolvable (edges_of p conditions places 0 conditions) → ⊥) → (times : Occurrence → Times) → Solves p conditions places times → ⊥
@@ -57,21 +47,14 @@ bound_here edges network x y from to bound solved e f h =
 
 -- ---- distances
 
-same_distance : (conditions : List Condition) (i j : Placed) (v : ℕ → ℤ) (times : Occurrence → Times) → Agree conditions v times
-    → slice_get conditions i.place ≡ Some i.condition → slice_get conditions j.place ≡ Some j.condition
-    → distance conditions i j times ≡ (v (start_of j.place) -ℤ v (end_of i.place))
-same_distance conditions i j v times agree at_i at_j =
-    ap (λ (y : Times). y.start -ℤ (times (occurrence_of conditions i)).end) (agree j.place j.condition at_j)
-    ∙ ap (λ (y : Times). v (start_of j.place) -ℤ y.end) (agree i.place i.condition at_i)
-
 greatest : (p : Program) (conditions : List Condition) (i j : Placed) → length conditions ≤ 8 → NameEarlier conditions
     → slice_get conditions i.place ≡ Some i.condition → slice_get conditions j.place ≡ Some j.condition → (most : ℤ)
     → net.IsGreatest (edges_of p conditions (i.place ∷ j.place ∷ []) 0 conditions) (start_of j.place) (end_of i.place) most → IsGreatest p conditions i j most
 greatest p conditions i j few named at_i at_j most h =
     let places = i.place ∷ j.place ∷ [] in
     let v = h.attained.0 in record {
-      bounds = λ times s. subst (λ (z : ℤ). z ≤ℤ most) (sym (same_distance conditions i j (points_of conditions times) times (points_agree conditions times few) at_i at_j))
-          (h.bounds (points_of conditions times) (of_times p conditions places few named times s));
+      bounds = λ times s. subst (λ (z : ℤ). z ≤ℤ most) (sym (same_distance conditions i j (points_of conditions times) times (points_agree conditions times) at_i at_j))
+          (h.bounds (points_of conditions times) (of_times p conditions places named times s));
       times = times_of conditions v;
       solves = of_points p conditions places named v h.attained.1;
       attained = same_distance conditions i j v (times_of conditions v) (times_agree conditions v) at_i at_j ∙ h.attained.2;

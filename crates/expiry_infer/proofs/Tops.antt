@@ -8,10 +8,9 @@ use Rattle.fx_base.specs.declared.bound.Bound.TheVariants.{Finite, Infinite}
 use Rattle.temporal_net.specs.Networks.{IsWithinNetwork}
 use Rattle.rule_world.specs.Events.{most_millis}
 use Rattle.rule_lives.specs.Reach.{Limit, finite, infinite, plus, Below}
-use Rattle.expiry_infer.specs.Found.{limit_of}
-use Rattle.expiry_infer.specs.Tails.{IsShort, IsSmall, IsSpan}
+use Rattle.life_edges.specs.Tails.{limit_of, IsShort, IsSmall, IsSpan}
 use Rattle.expiry_infer.specs.Tops.{Among, IsTop}
-use Rattle.expiry_infer.proofs.Places.{the_same}
+use Rattle.life_edges.proofs.Places.{the_same}
 
 pub below_itself : (l : Limit) → Below l l
 below_itself (finite a) = omega (arith, ints)

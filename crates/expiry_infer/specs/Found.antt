@@ -1,23 +1,19 @@
 -- What is found of a network.
 use Rattle.std.specs.Prelude.{◌≡◌, Option, Some, None, List}
 use Rattle.fx_base.specs.declared.bound.Bound.{Bound}
-use Rattle.fx_base.specs.declared.bound.Bound.TheVariants.{Finite, Infinite}
 use Rattle.fx_base.specs.declared.times.Times.{Times}
 use Rattle.temporal_net.specs.declared.edge.NetEdge.{NetEdge}
 use Rattle.temporal_net.specs.Networks.{Network, IsSolvable}
 use Rattle.rule_model.specs.declared.condition.Condition.{Condition}
 use Rattle.rule_model.specs.declared.program.Program.{Program}
 use Rattle.rule_lives.specs.Networks.{Occurrence}
-use Rattle.rule_lives.specs.Reach.{Limit, finite, infinite, Placed, SolvesWith, IsReach}
+use Rattle.rule_lives.specs.Reach.{Placed, SolvesWith, IsReach}
+use Rattle.life_edges.specs.Tails.{limit_of}
 
 -- the network of 16 points with these edges, which has a solution, or nothing where it has none
 abbrev pub IsSolved : List NetEdge → Option Network → Type 0
 IsSolved edges (Some network) = (network ≡ record { points = 16; edges = edges }) × IsSolvable edges
 IsSolved edges None = IsSolvable edges → ⊥
-
-abbrev pub limit_of : Bound → Limit
-limit_of (Finite most) = finite most
-limit_of Infinite = infinite
 
 -- the reach of j behind i, or nothing where their network has no solution
 abbrev pub IsFound : Program → List Condition → Placed → Placed → Option Bound → Type 0

@@ -1,6 +1,5 @@
 -- The table of the inferred lives of a program, with conditions and rules by their places.
-use Rattle.std.specs.Prelude.{◌≡◌, ℕ, false, List, length, Some, slice_get}
-use Rattle.fx_base.specs.Lists.{In}
+use Rattle.std.specs.Prelude.{◌≡◌, ℕ, false, List, length}
 use Rattle.rule_model.specs.declared.condition.Condition.{Condition}
 use Rattle.rule_model.specs.declared.program.Program.{Program}
 use Rattle.rule_model.specs.declared.program.Rule.{Rule}
@@ -9,22 +8,11 @@ use Rattle.rule_model.specs.Types.{is_reference}
 use Rattle.rule_lives.specs.Lifetimes.{Adds, LivesFor}
 use Rattle.rule_lives.specs.Reach.{Limit, Placed}
 use Rattle.expiry_infer.specs.declared.lifetimes.Placed as lent_placed
-use Rattle.expiry_infer.specs.Edges.{HaveNetwork}
+use Rattle.life_edges.specs.Places.{placed}
 use Rattle.expiry_infer.specs.Tops.{Among}
-
--- the conditions of each rule have a network
-abbrev pub RulesHaveNetworks : Program → Type 0
-RulesHaveNetworks p = (rule : Rule) → In rule p.rules → HaveNetwork rule.conditions
-
-abbrev pub placed : ℕ → Condition → Placed
-placed place c = record { place = place; condition = c }
 
 abbrev pub lent : lent_placed.Placed → Placed
 lent i = placed i.place i.condition.now
-
--- the condition stands at its place
-abbrev pub StandsIn : List Condition → Placed → Type 0
-StandsIn conditions i = slice_get conditions i.place ≡ Some i.condition
 
 -- what j adds to i: nothing where it is on a reference type
 abbrev pub AddsBy : Program → List Condition → Placed → Placed → Limit → Type 0

@@ -4,7 +4,7 @@ ghost use Rattle.std.specs.Bool.{Decides};
 ghost use Rattle.rule_model.specs.declared.condition.Condition.{Condition};
 ghost use Rattle.rule_model.specs.declared.program.Program.{Program};
 ghost use Rattle.rule_lives.specs.Networks.{IsSolvable};
-ghost use Rattle.expiry_infer.specs.Edges.{HaveNetwork};
+ghost use Rattle.life_edges.specs.Edges.{HaveNetwork};
 ghost use Rattle.expiry_infer.specs.Solvable.{can_match};
 
 /// Patterns can match, as a function, exactly where their network has a solution.

@@ -6,7 +6,6 @@
 pub mod laws;
 mod lifetimes;
 mod limits;
-mod network;
 mod solving;
 
 pub use lifetimes::lives;

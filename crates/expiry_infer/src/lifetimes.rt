@@ -3,17 +3,18 @@ ghost use Rattle.std.specs.Prelude.{◌≡◌, ◌<◌, ◌≤◌, length, slice
 ghost use Rattle.rule_model.specs.Lives.{AreShort, IsShortLife};
 ghost use Rattle.rule_model.specs.Rows.{pattern_of};
 ghost use Rattle.rule_model.specs.Types.{is_event, expiry_of};
-ghost use Rattle.rule_lives.specs.Lifetimes.{AddsSome, IsLife, LivesFor, scope as scope_of};
-ghost use Rattle.expiry_infer.specs.Found.{limit_of};
-ghost use Rattle.expiry_infer.specs.Tails.{HaveLives, IsSmall};
+ghost use Rattle.rule_lives.specs.Lifetimes.{AddsSome, IsLife, LivesFor};
+ghost use Rattle.life_edges.specs.Tails.{limit_of, HaveLives, IsSmall};
 ghost use Rattle.expiry_infer.specs.Tops.{Among, IsTop};
 ghost use Rattle.rule_lives.specs.Keeping.{AreLives, IsLifeOf, IsSafeTable};
 ghost use Rattle.rule_world.specs.Programs.{IsRunnable};
-ghost use Rattle.expiry_infer.specs.Tables.{lent, AddsBy, GivesAt, StandsIn};
+ghost use Rattle.expiry_infer.specs.Tables.{lent, AddsBy, GivesAt};
+ghost use Rattle.life_edges.specs.Places.{StandsIn};
 
-use crate::limits::{greater, sum, tail};
+use crate::limits::{greater, sum};
 use crate::solving::reach;
 use fx_base::{Bound, NoMemory, Seq};
+use life_edges::{scope, tail};
 use rule_model::{Condition, Life, LifeTable, Program, TypeInfo, WindowTag};
 use std::alloc::Global;
 
@@ -73,19 +74,6 @@ fn with_all_added(
     Ok(most)
 }
 
-// The conditions that matter to i.
-fn scope<'c>(conditions: &'c [Condition], i: &Placed) -> &'c [Condition]
-    requires { StandsIn conditions.now (lent i.now) }
-    ensures { result.now ≡ scope_of conditions.now (lent i.now) }
-{
-    match i.condition {
-        Condition::Plain(_) => conditions,
-        Condition::Negated(_) | Condition::Existing(_) | Condition::Folded(_) => {
-            &conditions[..i.place + 1]
-        }
-    }
-}
-
 // The greatest of a limit and of the limits of the life of i.
 fn with_pattern(
     alloc: Global,
@@ -100,7 +88,13 @@ fn with_pattern(
     ensures small { IfOk result (λ greatest. IsSmall (limit_of most) → IsSmall (limit_of greatest)) }
 {
     match i.condition.pattern().window {
-        WindowTag::Whole => with_all_added(alloc, program, scope(conditions, i), i, most),
+        WindowTag::Whole => with_all_added(
+            alloc,
+            program,
+            scope(conditions, i.place, i.condition),
+            i,
+            most,
+        ),
         WindowTag::Time(span) => Ok(greater(most, Bound::Finite(span))),
         WindowTag::Length(_) => Ok(Bound::Infinite),
     }

@@ -3,19 +3,19 @@ ghost use Rattle.std.specs.Bool.{Decides};
 ghost use Rattle.temporal_net.specs.Networks.{IsWithinNetwork};
 ghost use Rattle.rule_model.specs.declared.condition.Condition.{Condition as AnyCondition};
 ghost use Rattle.rule_lives.specs.Networks.{IsSolvable};
-ghost use Rattle.expiry_infer.specs.Edges.{edges_of, HaveNetwork};
+ghost use Rattle.life_edges.specs.Edges.{edges_of, HaveNetwork};
 ghost use Rattle.expiry_infer.specs.Found.{IsFound, IsSolved};
 ghost use Rattle.expiry_infer.specs.Solvable.{can_match};
-ghost use Rattle.expiry_infer.specs.Tables.{placed};
+ghost use Rattle.life_edges.specs.Places.{placed};
 
-use crate::network::{POINTS, end, network, start};
 use fx_base::{Bound, NoMemory};
+use life_edges::{POINTS, end, network, start};
 use rule_model::{Condition, Program};
 use std::alloc::Global;
 use temporal_net::{Minimal, Net, NetFault};
 
 // The network of the conditions and of these places, where it has a solution.
-#[tactic(auto, using(crate::proofs::Fitting::all_among, crate::proofs::Fitting::all_small))]
+#[tactic(auto, using(life_edges::proofs::Fitting::all_among, life_edges::proofs::Fitting::all_small))]
 fn solved(
     alloc: Global,
     program: &Program,

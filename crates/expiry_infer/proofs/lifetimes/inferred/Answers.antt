@@ -4,12 +4,11 @@ use Rattle.std.proofs.lemmas.Option.{slice_get_read}
 use Rattle.rule_model.specs.declared.condition.Condition.{Condition}
 use Rattle.rule_model.specs.declared.program.Rule.{Rule}
 use Rattle.rule_model.proofs.RuleOf.{in_place}
-use Rattle.expiry_infer.specs.Tails.{HaveLives}
-use Rattle.expiry_infer.specs.Found.{limit_of}
+use Rattle.life_edges.specs.Tails.{HaveLives, limit_of}
 use Rattle.expiry_infer.specs.Tables.{GivesAt}
 use Rattle.expiry_infer.specs.Tops.{Among, IsTop}
 use Rattle.expiry_infer.proofs.Given.{is_life}
-use Rattle.expiry_infer.proofs.Runnable.{rule_has_lives}
+use Rattle.life_edges.proofs.Runnable.{rule_has_lives}
 use Rattle.expiry_infer.proofs.Tops.{top_next}
 use Rattle.expiry_infer.proofs.lifetimes.inferred.Goals as goal
 

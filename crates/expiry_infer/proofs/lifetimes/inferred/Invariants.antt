@@ -1,8 +1,7 @@
 use Rattle.std.proofs.Common.{pos}
 use Rattle.rule_lives.specs.Reach.{finite}
-use Rattle.expiry_infer.specs.Found.{limit_of}
+use Rattle.life_edges.specs.Tails.{limit_of, IsSmall}
 use Rattle.expiry_infer.specs.Tables.{GivesIn}
-use Rattle.expiry_infer.specs.Tails.{IsSmall}
 use Rattle.expiry_infer.specs.Tops.{Among, IsTop}
 use Rattle.expiry_infer.proofs.lifetimes.inferred.Given as goal
 

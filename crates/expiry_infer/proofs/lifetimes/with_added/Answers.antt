@@ -5,9 +5,9 @@ use Rattle.rule_model.specs.Rows.{pattern_of}
 use Rattle.rule_model.specs.Types.{is_event, is_reference}
 use Rattle.rule_lives.specs.Lifetimes.{tail}
 use Rattle.rule_lives.specs.Reach.{plus}
-use Rattle.expiry_infer.specs.Found.{limit_of, IsFound}
+use Rattle.expiry_infer.specs.Found.{IsFound}
+use Rattle.life_edges.specs.Tails.{limit_of, IsShort, IsSmall}
 use Rattle.temporal_net.specs.Networks.{IsWithinNetwork}
-use Rattle.expiry_infer.specs.Tails.{IsShort, IsSmall}
 use Rattle.expiry_infer.specs.Tables.{lent}
 use Rattle.expiry_infer.proofs.Given.{added}
 use Rattle.expiry_infer.proofs.Tops.{top_small, sum_small}

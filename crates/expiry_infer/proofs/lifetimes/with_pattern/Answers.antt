@@ -1,11 +1,11 @@
 use Rattle.rule_model.specs.declared.condition.Pattern.{Pattern}
 use Rattle.rule_lives.specs.Reach.{finite}
-use Rattle.expiry_infer.specs.Found.{limit_of}
+use Rattle.life_edges.specs.Tails.{limit_of, HaveLives, HasShortWindow, IsSmall}
 use Rattle.expiry_infer.proofs.Tops.{top_small, span_small, span_whole}
 use Rattle.std.proofs.Common.{◌≡◌, ap, subst, sym, ◌∙◌}
-use Rattle.expiry_infer.specs.Tables.{lent, StandsIn}
-use Rattle.expiry_infer.specs.Tails.{HaveLives, HasShortWindow, IsSmall}
-use Rattle.expiry_infer.proofs.Given.{scope_lives, scope_at}
+use Rattle.expiry_infer.specs.Tables.{lent}
+use Rattle.life_edges.specs.Places.{StandsIn}
+use Rattle.life_edges.proofs.Scopes.{scope_lives, scope_at}
 use Rattle.expiry_infer.proofs.lifetimes.with_pattern.Goals as goal
 
 pub with_all_added-requires-clause-conditions : goal.with_all_added-requires-clause-conditions

@@ -1,6 +1,5 @@
-use Rattle.expiry_infer.specs.Found.{limit_of}
+use Rattle.life_edges.specs.Tails.{limit_of, IsSmall}
 use Rattle.expiry_infer.specs.Tables.{GivesAt}
-use Rattle.expiry_infer.specs.Tails.{IsSmall}
 use Rattle.expiry_infer.specs.Tops.{Among, IsTop}
 use Rattle.expiry_infer.proofs.lifetimes.with_rule.Given as goal
 

@@ -1,7 +1,7 @@
 use Rattle.std.proofs.Common.{◌∷◌, [], subst}
-use Rattle.expiry_infer.specs.Edges.{edges_of}
+use Rattle.life_edges.specs.Edges.{edges_of}
 use Rattle.expiry_infer.specs.Found.{IsSolved}
-use Rattle.expiry_infer.specs.Tables.{placed}
+use Rattle.life_edges.specs.Places.{placed}
 use Rattle.expiry_infer.proofs.Reaching.{reached, unsolvable, bound_here}
 use Rattle.expiry_infer.proofs.solving.reach.Goals as goal
 

@@ -1,8 +1,8 @@
 use Rattle.std.proofs.Common.{◌∙◌}
 use Rattle.std.proofs.lemmas.List.Elements.{All-same}
 use Rattle.temporal_net.specs.Networks.{IsSmall}
-use Rattle.expiry_infer.specs.Edges.{edges_of}
-use Rattle.expiry_infer.proofs.Fitting.{all_small}
+use Rattle.life_edges.specs.Edges.{edges_of}
+use Rattle.life_edges.proofs.Fitting.{all_small}
 use Rattle.expiry_infer.proofs.solving.solved.Goals as goal
 
 pub solve-requires-clause-small : goal.solve-requires-clause-small

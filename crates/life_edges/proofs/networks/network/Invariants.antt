@@ -1,6 +1,6 @@
 use Rattle.std.proofs.Common.{◌≡◌, ◌++◌, drop}
-use Rattle.expiry_infer.specs.Edges.{edges_of}
-use Rattle.expiry_infer.proofs.network.network.Given as goal
+use Rattle.life_edges.specs.Edges.{edges_of}
+use Rattle.life_edges.proofs.networks.network.Given as goal
 
 abbrev pub invariant-loop-place : goal.invariant-loop-place
 invariant-loop-place l = l.edges.items ++ edges_of l.program l.conditions l.places l.place (drop l.place l.conditions) ≡ edges_of l.program l.conditions l.places 0 l.conditions

@@ -1,7 +1,7 @@
 use Rattle.std.proofs.Common.{◌≡◌, ◌<◌, ◌+◌, drop}
 use Rattle.rule_lives.specs.Networks.{bindings}
-use Rattle.expiry_infer.specs.Edges.{place_of as place_in}
-use Rattle.expiry_infer.proofs.network.place_of.Given as goal
+use Rattle.life_edges.specs.Edges.{place_of as place_in}
+use Rattle.life_edges.proofs.networks.place_of.Given as goal
 
 abbrev pub invariant-loop-place : goal.invariant-loop-place
 invariant-loop-place l = record {

@@ -20,8 +20,8 @@ use Rattle.rule_model.specs.declared.test.TimeTest.{TimeTest}
 use Rattle.rule_model.specs.Types.{is_point}
 use Rattle.rule_model.proofs.Listed.{both, both_of}
 use Rattle.rule_lives.specs.Networks.{Occurrence, bound, bindings, occurrence, is_met, Meets}
-use Rattle.expiry_infer.specs.Edges.{start_of, end_of, point_of, place_of, net_edge, test_edges, event_edges, pattern_edges}
-use Rattle.expiry_infer.proofs.Places.{false_is, binder}
+use Rattle.life_edges.specs.Edges.{start_of, end_of, point_of, place_of, net_edge, test_edges, event_edges, pattern_edges}
+use Rattle.life_edges.proofs.Places.{false_is, binder}
 
 abbrev pub Holds : (ℕ → ℤ) → NetEdge → Type 0
 Holds v e = (v e.x -ℤ v e.y) ≤ℤ e.most

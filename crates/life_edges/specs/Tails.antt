@@ -1,5 +1,7 @@
--- Conditions whose reaches and tails 64 bits can add.
+-- Limits of the code as those of the definitions, and conditions whose reaches and tails 64 bits can add.
 use Rattle.std.specs.Prelude.{◌≡◌, ◌^◌, ◌≤ℤ◌, ℕ, ℤ, pos, List, Some, slice_get}
+use Rattle.fx_base.specs.declared.bound.Bound.{Bound}
+use Rattle.fx_base.specs.declared.bound.Bound.TheVariants.{Finite, Infinite}
 use Rattle.rule_model.specs.declared.condition.Condition.{Condition}
 use Rattle.rule_model.specs.declared.condition.WindowTag.{WindowTag}
 use Rattle.rule_model.specs.declared.condition.WindowTag.TheVariants.{Whole, Time, Length}
@@ -8,7 +10,11 @@ use Rattle.rule_model.specs.Rows.{pattern_of}
 use Rattle.rule_world.specs.Events.{most_millis}
 use Rattle.rule_lives.specs.Lifetimes.{tail}
 use Rattle.rule_lives.specs.Reach.{Limit, finite, infinite}
-use Rattle.expiry_infer.specs.Edges.{HaveNetwork}
+use Rattle.life_edges.specs.Edges.{HaveNetwork}
+
+abbrev pub limit_of : Bound → Limit
+limit_of (Finite most) = finite most
+limit_of Infinite = infinite
 
 -- from 0 to 2^53 ms
 abbrev pub IsSpan : ℤ → Type 0

@@ -1,10 +1,8 @@
 -- The solutions of the edges of a network and those of the occurrences, each made of the other.
-use Rattle.std.proofs.Common.{◌≡◌, ◌⊎◌, inl, inr, ◌||◌, ◌==◌, ◌+◌, ◌<◌, ◌≤◌, ◌-◌, ℕ, zero, suc, ℤ, Bool, true, false, cond, nat_lt, List, [], ◌∷◌, length, Option, Some, None, if◌then◌else◌, refl, sym, ◌∙◌, ap, subst, arith}
+use Rattle.std.proofs.Common.{◌≡◌, ◌⊎◌, inl, inr, ◌||◌, ◌==◌, ◌+◌, ◌*◌, ◌/◌, ◌%◌, ℕ, zero, suc, ℤ, Bool, true, false, cond, List, [], ◌∷◌, Option, Some, None, if◌then◌else◌, refl, sym, ◌∙◌, ap, subst, arith}
 use Rattle.std.specs.Prelude.{slice_get}
 use Rattle.std.specs.List.{All, list_any}
-use Rattle.std.proofs.lemmas.Bool.Decides.{nat_tests}
 use Rattle.std.proofs.lemmas.List.Elements.{All-nil, All-append}
-use Rattle.std.proofs.lemmas.Option.{slice_get_within}
 use Rattle.fx_base.specs.Lists.{In}
 use Rattle.fx_base.specs.declared.times.Times.{Times}
 use Rattle.temporal_net.specs.declared.edge.NetEdge.{NetEdge}
@@ -16,9 +14,9 @@ use Rattle.rule_model.proofs.Firsts.{or_left, or_right}
 use Rattle.rule_lives.specs.Networks.{Occurrence, bound, aside, occurrence, IsMember, Meets, Solves}
 use Rattle.rule_world.specs.Programs.{NameEarlier}
 use Rattle.rule_lives.proofs.Basics.{same_number, number_same}
-use Rattle.expiry_infer.specs.Edges.{place_of, pattern_edges, stands_in, condition_edges, edges_of}
-use Rattle.expiry_infer.proofs.Places.{the_same, false_is, own_place, named_here}
-use Rattle.expiry_infer.proofs.Solutions.{Holds, Agree, times_at, all_first, all_second, pattern_from, pattern_to}
+use Rattle.life_edges.specs.Edges.{start_of, end_of, place_of, pattern_edges, stands_in, condition_edges, edges_of}
+use Rattle.life_edges.proofs.Places.{the_same, false_is, own_place, named_here}
+use Rattle.life_edges.proofs.Solutions.{Holds, Agree, times_at, all_first, all_second, pattern_from, pattern_to}
 
 -- ---- members
 
@@ -136,7 +134,7 @@ abbrev event_at : List Condition → (Occurrence → Times) → ℕ → Times
 event_at conditions times place = times_here conditions times place (slice_get conditions place)
 
 abbrev pub points_of : List Condition → (Occurrence → Times) → ℕ → ℤ
-points_of conditions times point = cond (nat_lt point 8) (event_at conditions times point).start (event_at conditions times (point - 8)).end
+points_of conditions times point = cond (point % 2 == 0) (event_at conditions times (point / 2)).start (event_at conditions times (point / 2)).end
 
 first_of_two : {A : Type 0} (b : Bool) (x y : A) → b ≡ true → cond b x y ≡ x
 first_of_two true x y e = refl
@@ -146,26 +144,26 @@ second_of_two : {A : Type 0} (b : Bool) (x y : A) → b ≡ false → cond b x y
 second_of_two false x y e = refl
 second_of_two true x y e = absurd (false_is (sym e))
 
-is_below : (n : ℕ) → n < 8 → nat_lt n 8 ≡ true
-is_below n h = grind (arith, nat_tests)
+even : (n : ℕ) → (n * 2 % 2 == 0) ≡ true
+even n = let is : n * 2 % 2 ≡ 0 = omega arith in rw is refl
 
-is_above : (n : ℕ) → nat_lt (n + 8) 8 ≡ false
-is_above n = grind (arith, nat_tests)
+odd : (n : ℕ) → ((n * 2 + 1) % 2 == 0) ≡ false
+odd n = let is : (n * 2 + 1) % 2 ≡ 1 = omega arith in rw is refl
 
 abbrev pair : ℤ → ℤ → Times
 pair s e = record { start = s; end = e }
 
-pub points_agree : (conditions : List Condition) (times : Occurrence → Times) → length conditions ≤ 8 → Agree conditions (points_of conditions times) times
-points_agree conditions times few place c at =
-    let within : place < length conditions = slice_get_within conditions place c at in
-    let below : place < 8 = omega arith in
-    let back : place + 8 - 8 ≡ place = omega arith in
+pub points_agree : (conditions : List Condition) (times : Occurrence → Times) → Agree conditions (points_of conditions times) times
+points_agree conditions times place c at =
     let here : event_at conditions times place ≡ times (occurrence conditions place c) = ap (times_here conditions times place) at in
-    let start : points_of conditions times place ≡ (times (occurrence conditions place c)).start =
-    first_of_two (nat_lt place 8) (event_at conditions times place).start (event_at conditions times (place - 8)).end (is_below place below) ∙ ap (λ (y : Times). y.start) here in
-    let end : points_of conditions times (place + 8) ≡ (times (occurrence conditions place c)).end =
-    second_of_two (nat_lt (place + 8) 8) (event_at conditions times (place + 8)).start (event_at conditions times (place + 8 - 8)).end (is_above place)
-    ∙ ap (λ (n : ℕ). (event_at conditions times n).end) back ∙ ap (λ (y : Times). y.end) here in
+    let half : place * 2 / 2 ≡ place = omega arith in
+    let half_of_odd : (place * 2 + 1) / 2 ≡ place = omega arith in
+    let start : points_of conditions times (start_of place) ≡ (times (occurrence conditions place c)).start =
+    first_of_two (place * 2 % 2 == 0) (event_at conditions times (place * 2 / 2)).start (event_at conditions times (place * 2 / 2)).end (even place)
+    ∙ ap (λ (n : ℕ). (event_at conditions times n).start) half ∙ ap (λ (y : Times). y.start) here in
+    let end : points_of conditions times (end_of place) ≡ (times (occurrence conditions place c)).end =
+    second_of_two ((place * 2 + 1) % 2 == 0) (event_at conditions times ((place * 2 + 1) / 2)).start (event_at conditions times ((place * 2 + 1) / 2)).end (odd place)
+    ∙ ap (λ (n : ℕ). (event_at conditions times n).end) half_of_odd ∙ ap (λ (y : Times). y.end) here in
     equal_times start end
   where
     equal_times : {y : Times} {a b : ℤ} → a ≡ y.start → b ≡ y.end → y ≡ record { start = a; end = b }

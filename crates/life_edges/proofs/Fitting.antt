@@ -18,10 +18,10 @@ use Rattle.rule_model.specs.Maturity.{AreOperators}
 use Rattle.rule_model.specs.Rows.{pattern_of, HaveOperators}
 use Rattle.rule_model.specs.Types.{is_point}
 use Rattle.rule_world.specs.Programs.{NameEarlier}
-use Rattle.expiry_infer.specs.Edges.{start_of, end_of, point_of, place_of, net_edge, test_edges, event_edges, pattern_edges, stands_in, edges_of}
-use Rattle.expiry_infer.proofs.Places.{the_same, place_below, named_here}
-use Rattle.expiry_infer.proofs.Solutions.{Named}
-use Rattle.expiry_infer.proofs.Solved.{held, each_from}
+use Rattle.life_edges.specs.Edges.{start_of, end_of, point_of, place_of, net_edge, test_edges, event_edges, pattern_edges, stands_in, edges_of}
+use Rattle.life_edges.proofs.Places.{the_same, place_below, named_here}
+use Rattle.life_edges.proofs.Solutions.{Named}
+use Rattle.life_edges.proofs.Solved.{held, each_from}
 
 record Fits (e : NetEdge) : Type 0 where
   among : IsAmong 16 e

@@ -25,8 +25,8 @@ use Rattle.rule_world.proofs.Acting.{all_of}
 use Rattle.rule_world.proofs.Fresh.{and_parts}
 use Rattle.rule_lives.specs.Lifetimes.{tail_by, tail}
 use Rattle.rule_lives.specs.Reach.{infinite}
-use Rattle.expiry_infer.specs.Tables.{RulesHaveNetworks}
-use Rattle.expiry_infer.specs.Tails.{IsSpan, IsShort, HasShortWindow, HaveLives}
+use Rattle.life_edges.specs.Edges.{RulesHaveNetworks}
+use Rattle.life_edges.specs.Tails.{IsSpan, IsShort, HasShortWindow, HaveLives}
 
 few : (rule : Rule) → has_conditions rule ≡ true → length rule.conditions ≤ 8
 few rule h = let e = (and_parts (nat_le 1 (length rule.conditions)) (nat_le (length rule.conditions) 8) h).1 in grind (arith, nat_tests)

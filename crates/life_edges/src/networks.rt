@@ -1,8 +1,8 @@
-ghost use Rattle.std.specs.Prelude.{◌≡◌, ◌<◌, ◌≤◌, ◌==◌, ◌++◌, length, map, IfOk};
+ghost use Rattle.std.specs.Prelude.{◌∷◌, [], ◌≡◌, ◌<◌, ◌≤◌, ◌==◌, ◌++◌, length, map, IfOk};
 ghost use Rattle.std.specs.List.{All, list_any};
 ghost use Rattle.rule_lives.specs.Networks.{bindings};
 ghost use Rattle.rule_world.specs.Programs.{NameEarlier};
-ghost use Rattle.expiry_infer.specs.Edges.{start_of, end_of, point_of, net_edge, place_of as place_in, test_edges, event_edges, pattern_edges, stands_in as is_inside, edges_of};
+ghost use Rattle.life_edges.specs.Edges.{start_of, end_of, point_of, net_edge, place_of as place_in, test_edges, event_edges, pattern_edges, stands_in as is_inside, edges_of};
 
 use fx_base::NoMemory;
 use rule_model::{Condition, Pattern, Program, TimeTest};
@@ -11,22 +11,22 @@ use temporal_net::NetEdge;
 use temporal_ops::{Corner, OpEdge};
 
 /// How many points a network has: a start and an end for each of at most 8 conditions.
-pub(crate) const POINTS: u8 = 16;
+pub const POINTS: u8 = 16;
 
 /// The start of the event of the condition of this place.
-pub(crate) fn start(place: usize) -> u8
+pub fn start(place: usize) -> u8
     requires { place < 8 }
     ensures { result ≡ start_of place }
 {
-    place as u8
+    place as u8 * 2
 }
 
 /// The end of the event of the condition of this place.
-pub(crate) fn end(place: usize) -> u8
+pub fn end(place: usize) -> u8
     requires { place < 8 }
     ensures { result ≡ end_of place }
 {
-    place as u8 + 8
+    place as u8 * 2 + 1
 }
 
 // The point of the tested event or of that which the test names, by the places of their conditions.
@@ -159,7 +159,7 @@ fn stands_in(program: &Program, places: &[usize], place: usize, condition: &Cond
 }
 
 /// The edges of the network of the conditions, which has the patterns that bind events and of the others those of these places.
-pub(crate) fn network(
+pub fn network(
     alloc: Global,
     program: &Program,
     conditions: &[Condition],
@@ -176,4 +176,20 @@ pub(crate) fn network(
         }
     }
     Ok(edges)
+}
+
+/// The edges of the network of the conditions and of these two, which bound how far behind the end of an event of condition i one of
+/// condition j can start.
+pub fn edges_between(
+    alloc: Global,
+    program: &Program,
+    conditions: &[Condition],
+    i: usize,
+    j: usize,
+) -> Result<Vec<NetEdge>, NoMemory>
+    requires few { length conditions.now ≤ 8 }
+    requires named { NameEarlier conditions.now }
+    ensures { IfOk result (λ edges. edges.items ≡ edges_of program.now conditions.now (i ∷ j ∷ []) 0 conditions.now) }
+{
+    network(alloc, program, conditions, &[i, j])
 }

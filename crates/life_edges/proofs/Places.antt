@@ -10,7 +10,7 @@ use Rattle.rule_model.specs.declared.test.TimeTest.{TimeTest}
 use Rattle.rule_model.specs.Rows.{pattern_of}
 use Rattle.rule_lives.specs.Networks.{bindings}
 use Rattle.rule_world.specs.Programs.{NameEarlier}
-use Rattle.expiry_infer.specs.Edges.{place_of}
+use Rattle.life_edges.specs.Edges.{place_of}
 
 pub the_same : {A : Type 0} {x y : A} → Some x ≡ Some y → x ≡ y
 the_same e = cc

@@ -1,7 +1,8 @@
--- The network of the conditions of a rule as edges between numbered points: the event of the condition of place k, which is below 8,
--- starts at the point k and ends at the point k + 8.
-use Rattle.std.specs.Prelude.{◌==◌, ◌+◌, ◌≤◌, ℕ, zero, suc, pos, Bool, true, false, List, [], ◌∷◌, ◌++◌, length, map, if◌then◌else◌}
+-- The network of the conditions of a rule as edges between numbered points (Dechter, Meiri, Pearl 1991): the event of the condition of
+-- place k, which is below 8, starts at the point 2k and ends at the point 2k + 1.
+use Rattle.std.specs.Prelude.{◌==◌, ◌+◌, ◌≤◌, ℕ, zero, suc, pos, Bool, true, false, List, [], ◌∷◌, ◌*◌, ◌++◌, length, map, if◌then◌else◌}
 use Rattle.std.specs.List.{list_any, flat_map}
+use Rattle.fx_base.specs.Lists.{In}
 use Rattle.temporal_ops.specs.declared.edge.Corner.{Corner}
 use Rattle.temporal_ops.specs.declared.edge.Corner.TheVariants.{AStart, AEnd, BStart, BEnd}
 use Rattle.temporal_ops.specs.declared.edge.OpEdge.{OpEdge}
@@ -10,6 +11,7 @@ use Rattle.rule_model.specs.declared.condition.Condition.{Condition}
 use Rattle.rule_model.specs.declared.condition.Condition.TheVariants.{Plain, Negated, Existing, Folded}
 use Rattle.rule_model.specs.declared.condition.Pattern.{Pattern}
 use Rattle.rule_model.specs.declared.program.Program.{Program}
+use Rattle.rule_model.specs.declared.program.Rule.{Rule}
 use Rattle.rule_model.specs.declared.test.TimeTest.{TimeTest}
 use Rattle.rule_model.specs.Rows.{pattern_of, HaveOperators}
 use Rattle.rule_model.specs.Types.{is_event, is_point}
@@ -21,13 +23,17 @@ pub record HaveNetwork (conditions : List Condition) : Type 0 where
   pub operators : HaveOperators conditions
   pub named : NameEarlier conditions
 
+-- the conditions of each rule do
+abbrev pub RulesHaveNetworks : Program → Type 0
+RulesHaveNetworks p = (rule : Rule) → In rule p.rules → HaveNetwork rule.conditions
+
 -- ---- points
 
 abbrev pub start_of : ℕ → ℕ
-start_of place = place
+start_of place = place * 2
 
 abbrev pub end_of : ℕ → ℕ
-end_of place = place + 8
+end_of place = place * 2 + 1
 
 -- the point of an edge between the events of two conditions, by their places
 abbrev pub point_of : ℕ → ℕ → Corner → ℕ

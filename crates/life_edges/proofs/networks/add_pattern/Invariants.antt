@@ -1,7 +1,7 @@
 use Rattle.std.proofs.Common.{◌≡◌, ◌++◌, drop}
 use Rattle.std.specs.List.{flat_map}
-use Rattle.expiry_infer.specs.Edges.{test_edges, pattern_edges}
-use Rattle.expiry_infer.proofs.network.add_pattern.Given as goal
+use Rattle.life_edges.specs.Edges.{test_edges, pattern_edges}
+use Rattle.life_edges.proofs.networks.add_pattern.Given as goal
 
 abbrev pub invariant-loop-test : goal.invariant-loop-test
 invariant-loop-test l = l.edges.items ++ flat_map (test_edges l.conditions l.place) (drop l.test-index l.pattern.times) ≡ l.fn.edges.items ++ pattern_edges l.program l.conditions l.place l.pattern

@@ -4,8 +4,8 @@ use Rattle.std.proofs.lemmas.Option.{slice_get_read}
 use Rattle.rule_model.specs.declared.condition.Pattern.{Pattern}
 use Rattle.rule_model.specs.declared.test.TimeTest.{TimeTest}
 use Rattle.rule_lives.specs.Networks.{bindings}
-use Rattle.expiry_infer.proofs.Places.{named_here}
-use Rattle.expiry_infer.proofs.network.network.Goals as goal
+use Rattle.life_edges.proofs.Places.{named_here}
+use Rattle.life_edges.proofs.networks.network.Goals as goal
 
 pub add_pattern-requires-clause-named : goal.add_pattern-requires-clause-named
 add_pattern-requires-clause-named c =
