@@ -1,14 +1,18 @@
 -- Solutions of edges and of networks, each made of the other, and the distances in them.
-use Rattle.std.proofs.Common.{◌≡◌, ℕ, ℤ, ◌-ℤ◌, List, Some, ◌∙◌, ap}
+use Rattle.std.proofs.Common.{◌≡◌, ℕ, ℤ, ◌-ℤ◌, ◌≤ℤ◌, ◌<ℤ◌, List, [], ◌∷◌, Some, sym, ◌∙◌, ap, subst, arith}
 use Rattle.std.specs.Prelude.{slice_get}
+use Rattle.std.proofs.lemmas.Int.{ints}
+use Rattle.fx_base.specs.declared.bound.Bound.{Bound}
+use Rattle.fx_base.specs.declared.bound.Bound.TheVariants.{Finite, Infinite}
 use Rattle.fx_base.specs.declared.times.Times.{Times}
 use Rattle.temporal_net.specs.Networks as net
 use Rattle.rule_model.specs.declared.condition.Condition.{Condition}
 use Rattle.rule_model.specs.declared.program.Program.{Program}
 use Rattle.rule_lives.specs.Networks.{Occurrence, Solves}
-use Rattle.rule_lives.specs.Reach.{Placed, distance, occurrence_of}
+use Rattle.rule_lives.specs.Reach.{infinite, Placed, IsReach, IsGreatest, distance, occurrence_of}
 use Rattle.rule_world.specs.Programs.{NameEarlier}
 use Rattle.life_edges.specs.Edges.{start_of, end_of, edges_of}
+use Rattle.life_edges.specs.Tails.{limit_of}
 use Rattle.life_edges.proofs.Solutions.{Agree}
 use Rattle.life_edges.proofs.Solved.{points_solve, times_solve, times_of, times_agree, points_of, points_agree}
 
@@ -28,3 +32,41 @@ pub same_distance : (conditions : List Condition) (i j : Placed) (v : ℕ → �
 same_distance conditions i j v times agree at_i at_j =
     ap (λ (y : Times). y.start -ℤ (times (occurrence_of conditions i)).end) (agree j.place j.condition at_j)
     ∙ ap (λ (y : Times). v (start_of j.place) -ℤ y.end) (agree i.place i.condition at_i)
+
+-- ---- reaches
+
+greatest : (p : Program) (conditions : List Condition) (i j : Placed) → NameEarlier conditions
+    → slice_get conditions i.place ≡ Some i.condition → slice_get conditions j.place ≡ Some j.condition → (most : ℤ)
+    → net.IsGreatest (edges_of p conditions (i.place ∷ j.place ∷ []) 0 conditions) (start_of j.place) (end_of i.place) most → IsGreatest p conditions i j most
+greatest p conditions i j named at_i at_j most h =
+    let places = i.place ∷ j.place ∷ [] in
+    let v = h.attained.0 in record {
+      bounds = λ times s. subst (λ (z : ℤ). z ≤ℤ most) (sym (same_distance conditions i j (points_of conditions times) times (points_agree conditions times) at_i at_j))
+          (h.bounds (points_of conditions times) (of_times p conditions places named times s));
+      times = times_of conditions v;
+      solves = of_points p conditions places named v h.attained.1;
+      attained = same_distance conditions i j v (times_of conditions v) (times_agree conditions v) at_i at_j ∙ h.attained.2;
+    }
+
+passed : (a b c : ℤ) → c ≡ a → a ≤ℤ b → b <ℤ c → ⊥
+passed a b c e h k = omega (arith, ints)
+
+unbounded : (p : Program) (conditions : List Condition) (i j : Placed) → NameEarlier conditions
+    → slice_get conditions i.place ≡ Some i.condition → slice_get conditions j.place ≡ Some j.condition
+    → net.IsUnbounded (edges_of p conditions (i.place ∷ j.place ∷ []) 0 conditions) (start_of j.place) (end_of i.place) → IsReach p conditions i j infinite
+unbounded p conditions i j named at_i at_j h =
+    let places = i.place ∷ j.place ∷ [] in (
+      (times_of conditions h.solvable.0, of_points p conditions places named h.solvable.0 h.solvable.1),
+      λ most g.
+          let further = h.passes most in
+          let v = further.0 in
+          passed (distance conditions i j (times_of conditions v)) most (v (start_of j.place) -ℤ v (end_of i.place))
+          (sym (same_distance conditions i j v (times_of conditions v) (times_agree conditions v) at_i at_j))
+          (g.bounds (times_of conditions v) (of_points p conditions places named v further.1)) further.2,
+    )
+
+pub reached : (p : Program) (conditions : List Condition) (i j : Placed) (bound : Bound) → NameEarlier conditions
+    → slice_get conditions i.place ≡ Some i.condition → slice_get conditions j.place ≡ Some j.condition
+    → net.IsBound (edges_of p conditions (i.place ∷ j.place ∷ []) 0 conditions) (start_of j.place) (end_of i.place) bound → IsReach p conditions i j (limit_of bound)
+reached p conditions i j (Finite most) named at_i at_j h = greatest p conditions i j named at_i at_j most h
+reached p conditions i j Infinite named at_i at_j h = unbounded p conditions i j named at_i at_j h

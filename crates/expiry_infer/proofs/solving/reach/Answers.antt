@@ -2,7 +2,8 @@ use Rattle.std.proofs.Common.{◌∷◌, [], subst}
 use Rattle.life_edges.specs.Edges.{edges_of}
 use Rattle.expiry_infer.specs.Found.{IsSolved}
 use Rattle.life_edges.specs.Places.{placed}
-use Rattle.expiry_infer.proofs.Reaching.{reached, unsolvable, bound_here}
+use Rattle.expiry_infer.proofs.Reaching.{unsolvable, bound_here}
+use Rattle.life_edges.proofs.Distances.{reached}
 use Rattle.expiry_infer.proofs.solving.reach.Goals as goal
 
 pub returns-in-Some-clause-reach : goal.returns-in-Some-clause-reach
@@ -11,7 +12,7 @@ returns-in-Some-clause-reach c first second at_i at_j =
     let conditions = c.args.conditions.now in
     let edges = edges_of p conditions (c.args.i ∷ c.args.j ∷ []) 0 conditions in
     let solved = subst (IsSolved edges) c.in-Some.is c.in_ok-minimal.ensures in
-    reached p conditions (placed c.args.i first) (placed c.args.j second) c.bound.result c.requires.network.few c.requires.network.named at_i at_j
+    reached p conditions (placed c.args.i first) (placed c.args.j second) c.bound.result c.requires.network.named at_i at_j
     (bound_here edges c.in-Some.minimal _ _ _ _ c.bound.result solved c.start.ensures c.end.ensures c.bound.ensures.greatest)
 
 pub returns-in-None-clause-reach : goal.returns-in-None-clause-reach
