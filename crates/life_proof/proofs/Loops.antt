@@ -1,0 +1,26 @@
+-- The turns of loops over two lists side by side.
+use Rattle.std.proofs.Common.{◌≡◌, ◌&&◌, suc, Bool, true, false, List, [], ◌∷◌, length, refl, ap}
+use Rattle.rule_model.specs.declared.life.Life.{Life}
+use Rattle.rule_model.specs.declared.program.Program.{Program}
+use Rattle.rule_model.specs.declared.program.TypeInfo.{TypeInfo}
+use Rattle.life_proof.specs.declared.part.Asked.{Asked}
+use Rattle.life_proof.specs.declared.part.Part.{Part}
+use Rattle.life_proof.specs.Good.{is_good_part, are_good_parts}
+use Rattle.life_proof.specs.Tables.{is_life_of, are_lives_of}
+
+fails : (p q : Bool) → q ≡ false → (p && q) ≡ false
+fails true q e = e
+fails false q e = refl
+
+-- lists of different length do not agree
+pub unlike_lives : (types : List TypeInfo) (lives : List Life) → (length types ≡ length lives → ⊥) → are_lives_of types lives ≡ false
+unlike_lives [] [] n = absurd (n refl)
+unlike_lives [] (life ∷ lives) n = refl
+unlike_lives (ty ∷ types) [] n = refl
+unlike_lives (ty ∷ types) (life ∷ lives) n = fails (is_life_of ty life) (are_lives_of types lives) (unlike_lives types lives (λ e. n (ap suc e)))
+
+pub unlike_parts : (p : Program) (asked : List Asked) (parts : List Part) → (length asked ≡ length parts → ⊥) → are_good_parts p asked parts ≡ false
+unlike_parts p [] [] n = absurd (n refl)
+unlike_parts p [] (part ∷ parts) n = refl
+unlike_parts p (a ∷ asked) [] n = refl
+unlike_parts p (a ∷ asked) (part ∷ parts) n = fails (is_good_part p a part) (are_good_parts p asked parts) (unlike_parts p asked parts (λ e. n (ap suc e)))

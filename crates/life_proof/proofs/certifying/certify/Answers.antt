@@ -1,0 +1,23 @@
+use Rattle.std.proofs.Common.{◌∙◌, List, sym, subst}
+use Rattle.std.proofs.lemmas.List.Elements.{All-same}
+use Rattle.life_proof.specs.declared.part.Asked.{Asked}
+use Rattle.life_proof.specs.Asked.{IsAsked, asked}
+use Rattle.life_proof.specs.Good.{AreGoodParts}
+use Rattle.life_proof.proofs.Asked.{all_asked}
+use Rattle.life_proof.proofs.Certified.{table_lawful}
+use Rattle.life_proof.proofs.certifying.certify.Goals as goal
+
+pub parts_of-requires-clause-asked : goal.parts_of-requires-clause-asked
+parts_of-requires-clause-asked c =
+    let p = c.args.program.now in
+    All-same (IsAsked p c.args.lives.now) c.deref.result.now (asked p c.args.lives.now) (c.deref.ensures.value ∙ c.in_ok-asked.ensures) (all_asked p c.args.lives.now)
+
+pub returns : goal.returns
+returns c =
+    let p = c.args.program.now in
+    let questions = c.deref.ensures.value ∙ c.in_ok-asked.ensures in
+    record {
+      lawful = table_lawful p c.args.lives.now c.requires.lives;
+      parts = subst (AreGoodParts p (asked p c.args.lives.now)) (sym c.from_vec.ensures)
+          (subst (λ (a : List Asked). AreGoodParts p a c.in_ok-parts.parts.items) questions c.in_ok-parts.ensures);
+    }

@@ -1,0 +1,5 @@
+pub mod Asked
+pub mod Tables
+pub mod Good
+pub mod Solved
+pub mod Laws
