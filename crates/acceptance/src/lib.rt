@@ -7,6 +7,8 @@
 #[cfg(test)]
 mod agreeing;
 #[cfg(test)]
+mod certificates;
+#[cfg(test)]
 mod desks;
 #[cfg(test)]
 mod every_kind;
