@@ -115,13 +115,13 @@ def is_chain(edges: tuple[Edge, ...]) -> bool:
 
 def is_good_part(program: Program, table: Table, part: Part) -> bool:
     """Its edges are the network's and lead from one to the next: from the start of j to the end of i, with a sum that leaves room for
-    the tail within the life, or round to where they begin, with a sum below 0."""
+    the tail within the life, or round to where they begin, with a sum below 0, where j is on an event type: a plain fact has no end."""
     network = set(edges_of_part(program, part))
     if not is_chain(part.edges) or not all(edge in network for edge in part.edges):
         return False
     first, last = part.edges[0][0], part.edges[-1][1]
     if part.cycle:
-        return first == last and part.total < 0
+        return first == last and part.total < 0 and is_event(program.rules[part.rule], program, part.j)
     tail, life = tail_of_part(program, part), table[program.rules[part.rule].conditions[part.i].source.type].value
     return first == (part.j, "s") and last == (part.i, "e") and tail is not None and part.total + tail <= life
 
