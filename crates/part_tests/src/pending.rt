@@ -49,6 +49,7 @@ fn the_greatest_salience_fires_first(rt: HostRuntime) -> Result<(), Fail> {
     let agenda = agenda.change(RuleId(1), comes(alloc, 1)?)?;
     assert!(rt; is_first(&agenda, 1));
     let agenda = after_one(alloc, agenda)?;
+    assert!(rt; was_fired(alloc, &agenda, 1)?);
     assert!(rt; is_first(&agenda, 0));
     let agenda = after_one(alloc, agenda)?;
     assert!(rt; agenda.top().is_none());
