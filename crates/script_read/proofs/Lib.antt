@@ -1,4 +1,7 @@
 pub mod AskedLaws
 pub mod Counts
+pub mod Fields
 pub mod FormLaws
+pub mod Forms
+pub mod Numbers
 pub mod Readings

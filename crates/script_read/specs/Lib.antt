@@ -3,3 +3,4 @@ pub mod Given
 pub mod Members
 pub mod Form
 pub mod Asked
+pub mod Flat

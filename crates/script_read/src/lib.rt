@@ -5,13 +5,19 @@
 mod asked;
 mod blank;
 mod fault;
+mod flat;
 mod given;
 pub mod laws;
 mod line;
 mod members;
+mod scratch;
+mod tree;
+mod whole;
 
 pub use asked::{Change, Command};
 pub use blank::is_blank;
 pub use fault::CommandFault;
+pub use flat::command_with;
 pub use given::Given;
 pub use line::command;
+pub use scratch::Scratch;

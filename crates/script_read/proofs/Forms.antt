@@ -1,0 +1,144 @@
+-- The commands of objects whose members stand in the order in which the forms name them.
+use Rattle.std.proofs.Common.{◌≡◌, ℕ, ℤ, List, [], ◌∷◌, ◌≤◌, length, get_or, Option, Some, None, Result, Ok, Err, take, drop, take_all, Bor, Global, codes, refl, sym, ap, ◌∙◌, arith}
+use Rattle.std.specs.Prelude.{IfOk, IfSome, option_map, option_and_then}
+use Rattle.fx_base.specs.declared.no_memory.NoMemory.{NoMemory}
+use Rattle.json.specs.Json as json
+use Rattle.json.specs.Value.{value_view, members_view}
+use Rattle.json.specs.declared.value.Value.{Value as Tree}
+use Rattle.serde_json.specs.Data.{Num, Data, Members, no_members}
+use Rattle.serde_json.specs.Find.{as_i64}
+use Rattle.serde_json.specs.Read.{of_json, of_members, number_of}
+use Rattle.script_read.specs.Flat.{tree_command, word_command, tree_givens}
+use Rattle.script_read.specs.Form.{command_of, insert_of, at_of, advance_of}
+use Rattle.script_read.specs.Given.{givens}
+use Rattle.script_read.specs.Members.{text_member, object_member, whole_member, count}
+use Rattle.script_read.specs.Asked.{asks, reading, asked_of_reading, asked}
+use Rattle.script_read.specs.declared.asked.Command.{Command}
+use Rattle.script_read.specs.declared.asked.Command.TheVariants.{Change}
+use Rattle.script_read.specs.declared.asked.Change.TheVariants.{Insert, At, Advance}
+use Rattle.script_read.specs.declared.given.Given.{Given}
+
+-- ---- the members of an object, one by one
+
+abbrev Member : Type 0
+Member = Bor (List ℕ) × Tree Global
+
+-- a member of this name, with this value
+abbrev pub Holds : Member → List ℕ → json.Json → Type 0
+Holds m name j = (m.0.now ≡ name) × (value_view m.1 ≡ j)
+
+moved : (x m : Member) {name : List ℕ} {j : json.Json} → m ≡ x → Holds m name j → Holds x name j
+moved x m e is = (ap (λ k. k.0.now) (sym e) ∙ is.0, ap (λ k. value_view k.1) (sym e) ∙ is.1)
+
+pub one_member : (ms : List Member) (a : Member) {k : List ℕ} {j : json.Json} → length ms ≡ 1 → a ≡ get_or ms 0 a → Holds a k j
+    → members_view ms ≡ json.member k j json.no_members
+one_member [] a e at is = absurd (omega (arith, e))
+one_member (x ∷ []) a e at is = let first = moved x a at is in rw (first.0, first.1) refl
+one_member (x ∷ y ∷ ms) a e at is = absurd (omega (arith, e))
+
+pub two_members : (ms : List Member) (a b : Member) {k l : List ℕ} {i j : json.Json} → length ms ≡ 2 → a ≡ get_or ms 0 a → b ≡ get_or ms 1 b → Holds a k i → Holds b l j
+    → members_view ms ≡ json.member k i (json.member l j json.no_members)
+two_members [] a b e at after is also = absurd (omega (arith, e))
+two_members (x ∷ []) a b e at after is also = absurd (omega (arith, e))
+two_members (x ∷ y ∷ []) a b e at after is also =
+    let first = moved x a at is in
+    let second = moved y b after also in
+    rw (first.0, first.1, second.0, second.1) refl
+two_members (x ∷ y ∷ z ∷ ms) a b e at after is also = absurd (omega (arith, e))
+
+pub three_members : (ms : List Member) (a b c : Member) {k l m : List ℕ} {h i j : json.Json} → length ms ≡ 3 → a ≡ get_or ms 0 a → b ≡ get_or ms 1 b → c ≡ get_or ms 2 c
+    → Holds a k h → Holds b l i → Holds c m j → members_view ms ≡ json.member k h (json.member l i (json.member m j json.no_members))
+three_members [] a b c e at after last is also third = absurd (omega (arith, e))
+three_members (x ∷ []) a b c e at after last is also third = absurd (omega (arith, e))
+three_members (x ∷ y ∷ []) a b c e at after last is also third = absurd (omega (arith, e))
+three_members (x ∷ y ∷ z ∷ []) a b c e at after last is also third =
+    let first = moved x a at is in
+    let second = moved y b after also in
+    let end = moved z c last third in
+    rw (first.0, first.1, second.0, second.1, end.0, end.1) refl
+three_members (x ∷ y ∷ z ∷ w ∷ ms) a b c e at after last is also third = absurd (omega (arith, e))
+
+-- an object by its first member and the others
+pub first_is : (ms : List Member) (a : Member) (word : List ℕ) {expected : List ℕ} {n : ℕ} → 1 ≤ length ms → length (drop 1 ms) ≤ n → a ≡ get_or ms 0 a → word ≡ expected
+    → Holds a (codes "do") (json.string word) → word_command expected (members_view (take n (drop 1 ms))) ≡ tree_command (json.object (members_view ms))
+unfolding word_command
+first_is [] a word some all at named is = absurd (omega (arith, some))
+first_is (x ∷ ms) a word {n = n} some all at named is =
+    let first = moved x a at is in
+    let rest : take n ms ≡ ms = take_all n ms all in
+    rw (first.0, first.1, named, rest) refl
+
+-- ---- a command that is found for one reading is found for an equal one
+
+pub same_found : {a b : Option Command} (found : Option Command) → a ≡ b → IfSome found (λ c. a ≡ Some c) → IfSome found (λ c. b ≡ Some c)
+same_found None e is = tt
+same_found (Some c) e is = sym e ∙ is
+
+pub same_command : {a b : Option Command} (found : Result (Option Command) NoMemory) → a ≡ b → IfOk found (λ o. IfSome o (λ c. a ≡ Some c)) → IfOk found (λ o. IfSome o (λ c. b ≡ Some c))
+same_command (Ok found) e is = same_found found e is
+same_command (Err fault) e is = tt
+
+-- at each case of the reading
+asked_at : (o : Option Data) (c : Command) → option_and_then command_of o ≡ Some c → asked_of_reading o ≡ asks c
+asked_at None c says = absurd (cc)
+asked_at (Some d) c says = rw says refl
+
+-- a line asks for the command that is found in its tree
+pub asked_by : (line : List ℕ) (j : json.Json) → reading line ≡ of_json j → (found : Result (Option Command) NoMemory)
+    → IfOk found (λ o. IfSome o (λ c. tree_command j ≡ Some c)) → IfOk found (λ o. IfSome o (λ c. asked line ≡ asks c))
+unfolding asked tree_command
+asked_by line j read (Ok (Some c)) is = ap asked_of_reading read ∙ asked_at (of_json j) c is
+asked_by line j read (Ok None) is = tt
+asked_by line j read (Err fault) is = tt
+
+-- ---- the commands
+
+-- at each case of the reading of the fields
+insert_read : (o : Option Members) (ty : List ℕ) (parts : json.Members) (fields : List (List ℕ × Given)) → of_members parts no_members ≡ o → option_map givens o ≡ Some fields
+    → word_command (codes "insert") (json.member (codes "type") (json.string ty) (json.member (codes "fields") (json.object parts) json.no_members)) ≡ Some (Change (Insert ty None fields))
+unfolding word_command tree_command command_of insert_of text_member object_member count
+insert_read None ty parts fields read says = absurd (cc)
+insert_read (Some ms) ty parts fields read says = rw read (ap (option_map (λ fs. Change (Insert ty None fs))) says)
+
+-- an insert in the default entry point
+pub insert_is : (ty : List ℕ) (parts : json.Members) (fields : List (List ℕ × Given)) → tree_givens parts ≡ Some fields
+    → word_command (codes "insert") (json.member (codes "type") (json.string ty) (json.member (codes "fields") (json.object parts) json.no_members)) ≡ Some (Change (Insert ty None fields))
+insert_is ty parts fields says = insert_read (of_members parts no_members) ty parts fields refl says
+
+-- at each case of the reading of the fields
+entry_read : (o : Option Members) (ty entry : List ℕ) (parts : json.Members) (fields : List (List ℕ × Given)) → of_members parts no_members ≡ o → option_map givens o ≡ Some fields
+    → word_command (codes "insert") (json.member (codes "type") (json.string ty) (json.member (codes "entry") (json.string entry) (json.member (codes "fields") (json.object parts) json.no_members)))
+    ≡ Some (Change (Insert ty (Some entry) fields))
+unfolding word_command tree_command command_of insert_of text_member object_member count
+entry_read None ty entry parts fields read says = absurd (cc)
+entry_read (Some ms) ty entry parts fields read says = rw read (ap (option_map (λ fs. Change (Insert ty (Some entry) fs))) says)
+
+-- an insert that names its entry point
+pub entry_is : (ty entry : List ℕ) (parts : json.Members) (fields : List (List ℕ × Given)) → tree_givens parts ≡ Some fields
+    → word_command (codes "insert") (json.member (codes "type") (json.string ty) (json.member (codes "entry") (json.string entry) (json.member (codes "fields") (json.object parts) json.no_members)))
+    ≡ Some (Change (Insert ty (Some entry) fields))
+entry_is ty entry parts fields says = entry_read (of_members parts no_members) ty entry parts fields refl says
+
+-- at each case of the number
+at_read : (o : Option Num) (digits : List ℕ) (n : ℤ) → number_of digits ≡ o → option_and_then as_i64 o ≡ Some n
+    → word_command (codes "at") (json.member (codes "ms") (json.number digits) json.no_members) ≡ Some (Change (At n))
+unfolding word_command tree_command command_of at_of text_member whole_member count
+at_read None digits n read says = absurd (cc)
+at_read (Some x) digits n read says = rw read (rw says refl)
+
+-- a move of the clock to a moment
+pub at_is : (digits : List ℕ) (n : ℤ) → option_and_then as_i64 (number_of digits) ≡ Some n
+    → word_command (codes "at") (json.member (codes "ms") (json.number digits) json.no_members) ≡ Some (Change (At n))
+at_is digits n says = at_read (number_of digits) digits n refl says
+
+-- at each case of the number
+advance_read : (o : Option Num) (digits : List ℕ) (n : ℤ) → number_of digits ≡ o → option_and_then as_i64 o ≡ Some n
+    → word_command (codes "advance") (json.member (codes "by") (json.number digits) json.no_members) ≡ Some (Change (Advance n))
+unfolding word_command tree_command command_of advance_of text_member whole_member count
+advance_read None digits n read says = absurd (cc)
+advance_read (Some x) digits n read says = rw read (rw says refl)
+
+-- a move of the clock by a time
+pub advance_is : (digits : List ℕ) (n : ℤ) → option_and_then as_i64 (number_of digits) ≡ Some n
+    → word_command (codes "advance") (json.member (codes "by") (json.number digits) json.no_members) ≡ Some (Change (Advance n))
+advance_is digits n says = advance_read (number_of digits) digits n refl says

@@ -1,0 +1,8 @@
+use Rattle.std.proofs.Common.{◌≡◌, Ok}
+use Rattle.script_read.specs.Asked.{asked, asks}
+use Rattle.script_read.proofs.AskedLaws.{answer_ok}
+use Rattle.script_read.proofs.flat.command_with.Goals as goal
+
+pub returns-in-Some-clause-ok : goal.returns-in-Some-clause-ok
+returns-in-Some-clause-ok c =
+    let says : asked c.args.line.now ≡ asks c.in-Some.found = rw c.in-Some.is at c.in_ok-found.ensures in answer_ok c.args.line.now (Ok c.in-Some.found) says

@@ -1,0 +1,5 @@
+use Rattle.script_read.proofs.Fields.{AreSoFar}
+use Rattle.script_read.proofs.tree.fields_in.Given as goal
+
+abbrev pub invariant-loop-name : goal.invariant-loop-name
+invariant-loop-name l = AreSoFar l.members l.name-index l.fields.items

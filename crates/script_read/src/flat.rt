@@ -1,0 +1,177 @@
+ghost use Rattle.std.specs.Prelude.{◌≡◌, Some, IfOk, IfSome, IsErrOf, codes, option_and_then};
+ghost use Rattle.json.specs.Json.{object, if_last, value as value_in};
+ghost use Rattle.json.specs.Lex.{tokens};
+ghost use Rattle.json.specs.Value.{value_view, members_view};
+ghost use Rattle.serde_json.specs.Data.{Data};
+ghost use Rattle.serde_json.specs.Read.{max_depth};
+ghost use Rattle.script_read.specs.Asked.{IsReading, Answers, asked, asks};
+ghost use Rattle.script_read.specs.Flat.{tree_command, word_command};
+ghost use Rattle.script_read.specs.Form.{IsForm};
+
+use crate::asked::{Change, Command};
+use crate::fault::CommandFault;
+use crate::line::command;
+use crate::scratch::Scratch;
+use crate::tree::{fields_in, members_under, text_under, whole_under};
+use fx_base::{NoMemory, Text};
+use json::{Error, Reader, Value as Tree};
+use simdutf8::compat::from_utf8;
+use std::alloc::Global;
+
+// How deep arrays and objects may nest in a line.
+const MOST_DEPTH: usize = 127;
+
+// The tree that a text is.
+fn tree_of<'a>(
+    alloc: Global,
+    text: &'a str,
+    scratch: &'a mut Scratch,
+) -> Result<Option<Tree<'a>>, NoMemory>
+    ensures { IfOk result (λ found. IfSome found
+        (λ tree. option_and_then (λ p. if_last p.0 p.1) (value_in max_depth (tokens text.now)) ≡ Some (value_view tree))) }
+{
+    let mut reader = Reader::new(text, scratch.lend())?;
+    let tree = match Tree::read(alloc, &mut reader, MOST_DEPTH) {
+        Ok(tree) => tree,
+        Err(Error::OutOfMemory) => return Err(NoMemory),
+        Err(_) => return Ok(None),
+    };
+    match reader.next() {
+        Some(_) => Ok(None),
+        None => Ok(Some(tree)),
+    }
+}
+
+// The insert that has these members behind its word.
+fn insert(alloc: Global, members: &[(&str, Tree<'_>)]) -> Result<Option<Command>, NoMemory>
+    ensures { IfOk result (λ found. IfSome found (λ c. word_command (codes "insert") (members_view members.now) ≡ Some c)) }
+{
+    match members {
+        [_, _] => plain_insert(alloc, members),
+        [_, _, _] => entry_insert(alloc, members),
+        _ => Ok(None),
+    }
+}
+
+// The insert that names no entry point.
+fn plain_insert(alloc: Global, members: &[(&str, Tree<'_>)]) -> Result<Option<Command>, NoMemory>
+    ensures { IfOk result (λ found. IfSome found (λ c. word_command (codes "insert") (members_view members.now) ≡ Some c)) }
+{
+    let [ty, fields] = members else {
+        return Ok(None);
+    };
+    match (text_under(ty, "type"), members_under(fields, "fields")) {
+        (Some(ty), Some(parts)) => match fields_in(alloc, parts)? {
+            Some(fields) => Ok(Some(Command::Change(Change::Insert {
+                ty: Text::new(alloc, ty)?,
+                entry: None,
+                fields,
+            }))),
+            None => Ok(None),
+        },
+        _ => Ok(None),
+    }
+}
+
+// The insert that names its entry point.
+fn entry_insert(alloc: Global, members: &[(&str, Tree<'_>)]) -> Result<Option<Command>, NoMemory>
+    ensures { IfOk result (λ found. IfSome found (λ c. word_command (codes "insert") (members_view members.now) ≡ Some c)) }
+{
+    let [ty, entry, fields] = members else {
+        return Ok(None);
+    };
+    match (
+        text_under(ty, "type"),
+        text_under(entry, "entry"),
+        members_under(fields, "fields"),
+    ) {
+        (Some(ty), Some(entry), Some(parts)) => match fields_in(alloc, parts)? {
+            Some(fields) => Ok(Some(Command::Change(Change::Insert {
+                ty: Text::new(alloc, ty)?,
+                entry: Some(Text::new(alloc, entry)?),
+                fields,
+            }))),
+            None => Ok(None),
+        },
+        _ => Ok(None),
+    }
+}
+
+// The move of the clock to a moment that has these members behind its word.
+fn at(members: &[(&str, Tree<'_>)]) -> Option<Command>
+    ensures { IfSome result (λ c. word_command (codes "at") (members_view members.now) ≡ Some c) }
+{
+    let [moment] = members else {
+        return None;
+    };
+    Some(Command::Change(Change::At(whole_under(moment, "ms")?)))
+}
+
+// The move of the clock by a time that has these members behind its word.
+fn advance(members: &[(&str, Tree<'_>)]) -> Option<Command>
+    ensures { IfSome result (λ c. word_command (codes "advance") (members_view members.now) ≡ Some c) }
+{
+    let [time] = members else {
+        return None;
+    };
+    Some(Command::Change(Change::Advance(whole_under(time, "by")?)))
+}
+
+// The command of an object with these members, where they stand in the order of its form.
+fn form_in(alloc: Global, members: &[(&str, Tree<'_>)]) -> Result<Option<Command>, NoMemory>
+    ensures { IfOk result (λ found. IfSome found (λ c. tree_command (object (members_view members.now)) ≡ Some c)) }
+{
+    let [first, rest @ ..] = members else {
+        return Ok(None);
+    };
+    let Some(word) = text_under(first, "do") else {
+        return Ok(None);
+    };
+    match word {
+        "insert" => insert(alloc, rest),
+        "at" => Ok(at(rest)),
+        "advance" => Ok(advance(rest)),
+        _ => Ok(None),
+    }
+}
+
+// The command of a line that is an object without arrays, whose members stand in the order of its form.
+fn flat_command(
+    alloc: Global,
+    line: &[u8],
+    scratch: &mut Scratch,
+) -> Result<Option<Command>, NoMemory>
+    ensures { IfOk result (λ found. IfSome found (λ c. asked line.now ≡ asks c)) }
+{
+    let Ok(text) = from_utf8(line) else {
+        return Ok(None);
+    };
+    let Some(tree) = tree_of(alloc, text, scratch)? else {
+        return Ok(None);
+    };
+    match &tree {
+        Tree::Object(members) => form_in(alloc, members.as_slice()),
+        _ => Ok(None),
+    }
+}
+
+/// The command that a line asks for, as `command` finds it, with memory that is kept from line to line. Inserts and moves of
+/// the clock are read in less time where their members stand in the order of their forms, and no value is an array.
+pub fn command_with(
+    alloc: Global,
+    line: &[u8],
+    scratch: &mut Scratch,
+) -> Result<Command, CommandFault>
+    ensures asked { Answers (asked line.now) result }
+
+    // The same by the forms.
+    ensures ok { IfOk result (λ c. (d : Data) × IsReading line.now d × IsForm d c) }
+    ensures bad_json { IsErrOf result CommandFault.BadJson → (d : Data) → ¬ IsReading line.now d }
+    ensures bad_command { IsErrOf result CommandFault.BadCommand
+        → (d : Data) × IsReading line.now d × ((c : Command) → ¬ IsForm d c) }
+{
+    match flat_command(alloc, line, scratch)? {
+        Some(found) => Ok(found),
+        None => command(alloc, line),
+    }
+}
