@@ -12,7 +12,7 @@ use crate::turn::Turn;
 use engine::Engine;
 use fx_base::NoMemory;
 use fx_io::Line;
-use script_read::{Change, Command, CommandFault, command, is_blank};
+use script_read::{Change, Command, CommandFault, Scratch, command_with, is_blank};
 use std::alloc::Global;
 
 // Makes a change, and appends what it prints.
@@ -74,6 +74,7 @@ fn obey_line<E: Engine>(
     limit: u64,
     left: u64,
     line: &[u8],
+    scratch: &mut Scratch,
     text: &mut Vec<u8>,
 ) -> Result<(E, Turn), NoMemory>
     requires few { E.tags engine + 16 * left < 2 ^ 62 }
@@ -88,7 +89,7 @@ fn obey_line<E: Engine>(
     if is_blank(line) {
         return Ok((engine, Turn::Goes(false, left)));
     }
-    match command(alloc, line) {
+    match command_with(alloc, line, scratch) {
         Ok(wanted) => obey(alloc, engine, number, limit, left, &wanted, text),
         Err(CommandFault::NoMemory) => Err(NoMemory),
         Err(CommandFault::BadJson) => {
@@ -110,6 +111,7 @@ pub(crate) fn take_turn<E: Engine>(
     limit: u64,
     left: u64,
     line: Line,
+    scratch: &mut Scratch,
     text: &mut Vec<u8>,
 ) -> Result<(E, Option<Turn>), NoMemory>
     requires few { E.tags engine + 16 * left < 2 ^ 62 }
@@ -137,6 +139,7 @@ pub(crate) fn take_turn<E: Engine>(
                 limit,
                 left,
                 bytes.as_slice(),
+                scratch,
                 text,
             )?;
             Ok((next, Some(turn)))

@@ -15,6 +15,7 @@ use engine::Engine;
 use fx_base::limits::LINE_MAX;
 use fx_io::{LineReader, Sink, Source, write_all};
 use rule_model::{LifeTable, Program};
+use script_read::Scratch;
 use std::alloc::Global;
 
 /// The most bytes that a script may have.
@@ -56,6 +57,7 @@ pub fn run<E: Engine, S: Source, K: Sink>(
 {
     let mut reader = LineReader::new(alloc, LINE_MAX, SCRIPT_MAX)?;
     let mut engine = E::new(alloc, program, lives)?;
+    let mut scratch = Scratch::new(alloc);
     let mut text = Vec::new(alloc);
     let mut faulted = false;
     let mut number = 1;
@@ -67,7 +69,16 @@ pub fn run<E: Engine, S: Source, K: Sink>(
             Ok(line) => line,
             Err(fault) => return Err(of_line_fault(fault)),
         };
-        let (next, turn) = take_turn(alloc, engine, number, limit, left, line, &mut text)?;
+        let (next, turn) = take_turn(
+            alloc,
+            engine,
+            number,
+            limit,
+            left,
+            line,
+            &mut scratch,
+            &mut text,
+        )?;
         match turn {
             None => {
                 write_all(out, &text)?;
