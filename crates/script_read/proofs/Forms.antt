@@ -9,13 +9,13 @@ use Rattle.serde_json.specs.Data.{Num, Data, Members, no_members}
 use Rattle.serde_json.specs.Find.{as_i64}
 use Rattle.serde_json.specs.Read.{of_json, of_members, number_of}
 use Rattle.script_read.specs.Flat.{tree_command, word_command, tree_givens}
-use Rattle.script_read.specs.Form.{command_of, insert_of, at_of, advance_of}
+use Rattle.script_read.specs.Form.{command_of, insert_of, modify_of, retract_of, promise_of, fire_of, at_of, advance_of}
 use Rattle.script_read.specs.Given.{givens}
-use Rattle.script_read.specs.Members.{text_member, object_member, whole_member, count}
+use Rattle.script_read.specs.Members.{text_member, object_member, whole_member, id_member, count, from_one}
 use Rattle.script_read.specs.Asked.{asks, reading, asked_of_reading, asked}
 use Rattle.script_read.specs.declared.asked.Command.{Command}
-use Rattle.script_read.specs.declared.asked.Command.TheVariants.{Change}
-use Rattle.script_read.specs.declared.asked.Change.TheVariants.{Insert, At, Advance}
+use Rattle.script_read.specs.declared.asked.Command.TheVariants.{Change, Fire}
+use Rattle.script_read.specs.declared.asked.Change.TheVariants.{Insert, Modify, Retract, Promise, At, Advance}
 use Rattle.script_read.specs.declared.given.Given.{Given}
 
 -- ---- the members of an object, one by one
@@ -142,3 +142,61 @@ advance_read (Some x) digits n read says = rw read (rw says refl)
 pub advance_is : (digits : List ℕ) (n : ℤ) → option_and_then as_i64 (number_of digits) ≡ Some n
     → word_command (codes "advance") (json.member (codes "by") (json.number digits) json.no_members) ≡ Some (Change (Advance n))
 advance_is digits n says = advance_read (number_of digits) digits n refl says
+
+-- at each case of the number and of the reading of the fields
+modify_read : (id : Option Num) (o : Option Members) (ty digits : List ℕ) (n : ℕ) (parts : json.Members) (fields : List (List ℕ × Given)) → number_of digits ≡ id → of_members parts no_members ≡ o
+    → option_and_then from_one (option_and_then as_i64 id) ≡ Some n → option_map givens o ≡ Some fields
+    → word_command (codes "modify") (json.member (codes "type") (json.string ty) (json.member (codes "id") (json.number digits) (json.member (codes "fields") (json.object parts) json.no_members)))
+    ≡ Some (Change (Modify ty (record { 0 = n }) fields))
+unfolding word_command tree_command command_of modify_of text_member object_member whole_member id_member count
+modify_read None o ty digits n parts fields read found counts says = absurd (cc)
+modify_read (Some x) None ty digits n parts fields read found counts says = absurd (cc)
+modify_read (Some x) (Some ms) ty digits n parts fields read found counts says = rw (read, found) (rw counts (ap (option_map (λ fs. Change (Modify ty (record { 0 = n }) fs))) says))
+
+-- a modify
+pub modify_is : (ty digits : List ℕ) (n : ℕ) (parts : json.Members) (fields : List (List ℕ × Given)) → option_and_then from_one (option_and_then as_i64 (number_of digits)) ≡ Some n → tree_givens parts ≡ Some fields
+    → word_command (codes "modify") (json.member (codes "type") (json.string ty) (json.member (codes "id") (json.number digits) (json.member (codes "fields") (json.object parts) json.no_members)))
+    ≡ Some (Change (Modify ty (record { 0 = n }) fields))
+modify_is ty digits n parts fields counts says = modify_read (number_of digits) (of_members parts no_members) ty digits n parts fields refl refl counts says
+
+-- at each case of the number
+retract_read : (id : Option Num) (ty digits : List ℕ) (n : ℕ) → number_of digits ≡ id → option_and_then from_one (option_and_then as_i64 id) ≡ Some n
+    → word_command (codes "retract") (json.member (codes "type") (json.string ty) (json.member (codes "id") (json.number digits) json.no_members)) ≡ Some (Change (Retract ty (record { 0 = n })))
+unfolding word_command tree_command command_of retract_of text_member whole_member id_member count
+retract_read None ty digits n read counts = absurd (cc)
+retract_read (Some x) ty digits n read counts = rw read (rw counts refl)
+
+-- a retract
+pub retract_is : (ty digits : List ℕ) (n : ℕ) → option_and_then from_one (option_and_then as_i64 (number_of digits)) ≡ Some n
+    → word_command (codes "retract") (json.member (codes "type") (json.string ty) (json.member (codes "id") (json.number digits) json.no_members)) ≡ Some (Change (Retract ty (record { 0 = n })))
+retract_is ty digits n counts = retract_read (number_of digits) ty digits n refl counts
+
+-- at each case of the number
+promise_read : (o : Option Num) (digits : List ℕ) (n : ℤ) → number_of digits ≡ o → option_and_then as_i64 o ≡ Some n
+    → word_command (codes "promise") (json.member (codes "from") (json.number digits) json.no_members) ≡ Some (Change (Promise None n))
+unfolding word_command tree_command command_of promise_of text_member whole_member count
+promise_read None digits n read says = absurd (cc)
+promise_read (Some x) digits n read says = rw read (rw says refl)
+
+-- a promise of the default entry point
+pub promise_is : (digits : List ℕ) (n : ℤ) → option_and_then as_i64 (number_of digits) ≡ Some n
+    → word_command (codes "promise") (json.member (codes "from") (json.number digits) json.no_members) ≡ Some (Change (Promise None n))
+promise_is digits n says = promise_read (number_of digits) digits n refl says
+
+-- at each case of the number
+promise_for_read : (o : Option Num) (entry digits : List ℕ) (n : ℤ) → number_of digits ≡ o → option_and_then as_i64 o ≡ Some n
+    → word_command (codes "promise") (json.member (codes "entry") (json.string entry) (json.member (codes "from") (json.number digits) json.no_members)) ≡ Some (Change (Promise (Some entry) n))
+unfolding word_command tree_command command_of promise_of text_member whole_member count
+promise_for_read None entry digits n read says = absurd (cc)
+promise_for_read (Some x) entry digits n read says = rw read (rw says refl)
+
+-- a promise that names its entry point
+pub promise_for_is : (entry digits : List ℕ) (n : ℤ) → option_and_then as_i64 (number_of digits) ≡ Some n
+    → word_command (codes "promise") (json.member (codes "entry") (json.string entry) (json.member (codes "from") (json.number digits) json.no_members)) ≡ Some (Change (Promise (Some entry) n))
+promise_for_is entry digits n says = promise_for_read (number_of digits) entry digits n refl says
+
+-- a request to fire
+pub fire_is : (ms : List Member) → length ms ≡ 0 → word_command (codes "fire") (members_view ms) ≡ Some (Fire None)
+unfolding word_command tree_command command_of fire_of text_member count
+fire_is [] e = refl
+fire_is (m ∷ ms) e = absurd (omega (arith, e))

@@ -12,7 +12,7 @@ use crate::asked::{Change, Command};
 use crate::fault::CommandFault;
 use crate::line::command;
 use crate::scratch::Scratch;
-use crate::tree::{fields_in, members_under, text_under, whole_under};
+use crate::tree::{fields_in, id_under, members_under, text_under, whole_under};
 use fx_base::{NoMemory, Text};
 use json::{Error, Reader, Value as Tree};
 use simdutf8::compat::from_utf8;
@@ -97,6 +97,95 @@ fn entry_insert(alloc: Global, members: &[(&str, Tree<'_>)]) -> Result<Option<Co
     }
 }
 
+// The modify that has these members behind its word.
+fn modify(alloc: Global, members: &[(&str, Tree<'_>)]) -> Result<Option<Command>, NoMemory>
+    ensures { IfOk result (λ found. IfSome found (λ c. word_command (codes "modify") (members_view members.now) ≡ Some c)) }
+{
+    let [ty, id, fields] = members else {
+        return Ok(None);
+    };
+    match (
+        text_under(ty, "type"),
+        id_under(id, "id"),
+        members_under(fields, "fields"),
+    ) {
+        (Some(ty), Some(id), Some(parts)) => match fields_in(alloc, parts)? {
+            Some(fields) => Ok(Some(Command::Change(Change::Modify {
+                ty: Text::new(alloc, ty)?,
+                id,
+                fields,
+            }))),
+            None => Ok(None),
+        },
+        _ => Ok(None),
+    }
+}
+
+// The retract that has these members behind its word.
+fn retract(alloc: Global, members: &[(&str, Tree<'_>)]) -> Result<Option<Command>, NoMemory>
+    ensures { IfOk result (λ found. IfSome found (λ c. word_command (codes "retract") (members_view members.now) ≡ Some c)) }
+{
+    let [ty, id] = members else {
+        return Ok(None);
+    };
+    match (text_under(ty, "type"), id_under(id, "id")) {
+        (Some(ty), Some(id)) => Ok(Some(Command::Change(Change::Retract {
+            ty: Text::new(alloc, ty)?,
+            id,
+        }))),
+        _ => Ok(None),
+    }
+}
+
+// The promise that has these members behind its word.
+fn promise(alloc: Global, members: &[(&str, Tree<'_>)]) -> Result<Option<Command>, NoMemory>
+    ensures { IfOk result (λ found. IfSome found (λ c. word_command (codes "promise") (members_view members.now) ≡ Some c)) }
+{
+    match members {
+        [_] => Ok(plain_promise(members)),
+        [_, _] => entry_promise(alloc, members),
+        _ => Ok(None),
+    }
+}
+
+// The promise that names no entry point.
+fn plain_promise(members: &[(&str, Tree<'_>)]) -> Option<Command>
+    ensures { IfSome result (λ c. word_command (codes "promise") (members_view members.now) ≡ Some c) }
+{
+    let [moment] = members else {
+        return None;
+    };
+    let from = whole_under(moment, "from")?;
+    Some(Command::Change(Change::Promise { entry: None, from }))
+}
+
+// The promise that names its entry point.
+fn entry_promise(alloc: Global, members: &[(&str, Tree<'_>)]) -> Result<Option<Command>, NoMemory>
+    ensures { IfOk result (λ found. IfSome found (λ c. word_command (codes "promise") (members_view members.now) ≡ Some c)) }
+{
+    let [entry, moment] = members else {
+        return Ok(None);
+    };
+    match (text_under(entry, "entry"), whole_under(moment, "from")) {
+        (Some(entry), Some(from)) => Ok(Some(Command::Change(Change::Promise {
+            entry: Some(Text::new(alloc, entry)?),
+            from,
+        }))),
+        _ => Ok(None),
+    }
+}
+
+// The request to fire until nothing is pending, where no member stands behind its word.
+fn fire(members: &[(&str, Tree<'_>)]) -> Option<Command>
+    ensures { IfSome result (λ c. word_command (codes "fire") (members_view members.now) ≡ Some c) }
+{
+    if members.is_empty() {
+        Some(Command::Fire(None))
+    } else {
+        None
+    }
+}
+
 // The move of the clock to a moment that has these members behind its word.
 fn at(members: &[(&str, Tree<'_>)]) -> Option<Command>
     ensures { IfSome result (λ c. word_command (codes "at") (members_view members.now) ≡ Some c) }
@@ -129,6 +218,10 @@ fn form_in(alloc: Global, members: &[(&str, Tree<'_>)]) -> Result<Option<Command
     };
     match word {
         "insert" => insert(alloc, rest),
+        "modify" => modify(alloc, rest),
+        "retract" => retract(alloc, rest),
+        "promise" => promise(alloc, rest),
+        "fire" => Ok(fire(rest)),
         "at" => Ok(at(rest)),
         "advance" => Ok(advance(rest)),
         _ => Ok(None),
@@ -155,8 +248,8 @@ fn flat_command(
     }
 }
 
-/// The command that a line asks for, as `command` finds it, with memory that is kept from line to line. Inserts and moves of
-/// the clock are read in less time where their members stand in the order of their forms, and no value is an array.
+/// The command that a line asks for, as `command` finds it, with memory that is kept from line to line. A line is read in less
+/// time where its members stand in the order of its form, and no value is an array.
 pub fn command_with(
     alloc: Global,
     line: &[u8],

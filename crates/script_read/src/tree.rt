@@ -4,12 +4,13 @@ ghost use Rattle.json.specs.Json.{object, number, string};
 ghost use Rattle.json.specs.Value.{value_view, members_view};
 ghost use Rattle.serde_json.specs.Find.{as_i64};
 ghost use Rattle.serde_json.specs.Read.{number_of};
+ghost use Rattle.script_read.specs.Members.{from_one};
 ghost use Rattle.script_read.specs.Flat.{tree_given, tree_givens, put_given};
 ghost use Rattle.script_read.specs.declared.given.Given.{Given};
 
 use crate::given::Given;
 use crate::whole::whole;
-use fx_base::{NoMemory, Seq, Text};
+use fx_base::{FactId, NoMemory, Seq, Text};
 use json::Value as Tree;
 use std::alloc::Global;
 use std::cmp::Ordering;
@@ -110,6 +111,18 @@ pub(crate) fn whole_under(member: &(&str, Tree<'_>), name: &str) -> Option<i64>
     }
     match &member.1 {
         Tree::Number(text) => whole(text),
+        _ => None,
+    }
+}
+
+/// The id of a member, where it has this name and holds a whole number from 1 on. Takes no memory.
+pub(crate) fn id_under(member: &(&str, Tree<'_>), name: &str) -> Option<FactId>
+    ensures { IfSome result (λ id. (member.now.0.now ≡ name.now)
+        × (digits : List ℕ) × (value_view member.now.1 ≡ number digits)
+        × (option_and_then from_one (option_and_then as_i64 (number_of digits)) ≡ Some id.0)) }
+{
+    match whole_under(member, name) {
+        Some(n @ 1..) => Some(FactId(n as u64)),
         _ => None,
     }
 }
