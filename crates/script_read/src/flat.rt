@@ -11,9 +11,10 @@ ghost use Rattle.script_read.specs.Form.{IsForm};
 use crate::asked::{Change, Command};
 use crate::fault::CommandFault;
 use crate::line::command;
+use crate::names::Names;
 use crate::scratch::Scratch;
 use crate::tree::{fields_in, id_under, members_under, text_under, whole_under};
-use fx_base::{NoMemory, Text};
+use fx_base::NoMemory;
 use json::{Error, Reader, Value as Tree};
 use simdutf8::compat::from_utf8;
 use std::alloc::Global;
@@ -25,12 +26,12 @@ const MOST_DEPTH: usize = 127;
 fn tree_of<'a>(
     alloc: Global,
     text: &'a str,
-    scratch: &'a mut Scratch,
+    places: &'a mut json::Scratch,
 ) -> Result<Option<Tree<'a>>, NoMemory>
     ensures { IfOk result (λ found. IfSome found
         (λ tree. option_and_then (λ p. if_last p.0 p.1) (value_in max_depth (tokens text.now)) ≡ Some (value_view tree))) }
 {
-    let mut reader = Reader::new(text, scratch.lend())?;
+    let mut reader = Reader::new(text, places)?;
     let tree = match Tree::read(alloc, &mut reader, MOST_DEPTH) {
         Ok(tree) => tree,
         Err(Error::OutOfMemory) => return Err(NoMemory),
@@ -43,27 +44,35 @@ fn tree_of<'a>(
 }
 
 // The insert that has these members behind its word.
-fn insert(alloc: Global, members: &[(&str, Tree<'_>)]) -> Result<Option<Command>, NoMemory>
+fn insert(
+    alloc: Global,
+    members: &[(&str, Tree<'_>)],
+    names: &mut Names,
+) -> Result<Option<Command>, NoMemory>
     ensures { IfOk result (λ found. IfSome found (λ c. word_command (codes "insert") (members_view members.now) ≡ Some c)) }
 {
     match members {
-        [_, _] => plain_insert(alloc, members),
-        [_, _, _] => entry_insert(alloc, members),
+        [_, _] => plain_insert(alloc, members, names),
+        [_, _, _] => entry_insert(alloc, members, names),
         _ => Ok(None),
     }
 }
 
 // The insert that names no entry point.
-fn plain_insert(alloc: Global, members: &[(&str, Tree<'_>)]) -> Result<Option<Command>, NoMemory>
+fn plain_insert(
+    alloc: Global,
+    members: &[(&str, Tree<'_>)],
+    names: &mut Names,
+) -> Result<Option<Command>, NoMemory>
     ensures { IfOk result (λ found. IfSome found (λ c. word_command (codes "insert") (members_view members.now) ≡ Some c)) }
 {
     let [ty, fields] = members else {
         return Ok(None);
     };
     match (text_under(ty, "type"), members_under(fields, "fields")) {
-        (Some(ty), Some(parts)) => match fields_in(alloc, parts)? {
+        (Some(ty), Some(parts)) => match fields_in(alloc, parts, names)? {
             Some(fields) => Ok(Some(Command::Change(Change::Insert {
-                ty: Text::new(alloc, ty)?,
+                ty: names.name(alloc, ty)?,
                 entry: None,
                 fields,
             }))),
@@ -74,7 +83,11 @@ fn plain_insert(alloc: Global, members: &[(&str, Tree<'_>)]) -> Result<Option<Co
 }
 
 // The insert that names its entry point.
-fn entry_insert(alloc: Global, members: &[(&str, Tree<'_>)]) -> Result<Option<Command>, NoMemory>
+fn entry_insert(
+    alloc: Global,
+    members: &[(&str, Tree<'_>)],
+    names: &mut Names,
+) -> Result<Option<Command>, NoMemory>
     ensures { IfOk result (λ found. IfSome found (λ c. word_command (codes "insert") (members_view members.now) ≡ Some c)) }
 {
     let [ty, entry, fields] = members else {
@@ -85,10 +98,10 @@ fn entry_insert(alloc: Global, members: &[(&str, Tree<'_>)]) -> Result<Option<Co
         text_under(entry, "entry"),
         members_under(fields, "fields"),
     ) {
-        (Some(ty), Some(entry), Some(parts)) => match fields_in(alloc, parts)? {
+        (Some(ty), Some(entry), Some(parts)) => match fields_in(alloc, parts, names)? {
             Some(fields) => Ok(Some(Command::Change(Change::Insert {
-                ty: Text::new(alloc, ty)?,
-                entry: Some(Text::new(alloc, entry)?),
+                ty: names.name(alloc, ty)?,
+                entry: Some(names.name(alloc, entry)?),
                 fields,
             }))),
             None => Ok(None),
@@ -98,7 +111,11 @@ fn entry_insert(alloc: Global, members: &[(&str, Tree<'_>)]) -> Result<Option<Co
 }
 
 // The modify that has these members behind its word.
-fn modify(alloc: Global, members: &[(&str, Tree<'_>)]) -> Result<Option<Command>, NoMemory>
+fn modify(
+    alloc: Global,
+    members: &[(&str, Tree<'_>)],
+    names: &mut Names,
+) -> Result<Option<Command>, NoMemory>
     ensures { IfOk result (λ found. IfSome found (λ c. word_command (codes "modify") (members_view members.now) ≡ Some c)) }
 {
     let [ty, id, fields] = members else {
@@ -109,9 +126,9 @@ fn modify(alloc: Global, members: &[(&str, Tree<'_>)]) -> Result<Option<Command>
         id_under(id, "id"),
         members_under(fields, "fields"),
     ) {
-        (Some(ty), Some(id), Some(parts)) => match fields_in(alloc, parts)? {
+        (Some(ty), Some(id), Some(parts)) => match fields_in(alloc, parts, names)? {
             Some(fields) => Ok(Some(Command::Change(Change::Modify {
-                ty: Text::new(alloc, ty)?,
+                ty: names.name(alloc, ty)?,
                 id,
                 fields,
             }))),
@@ -122,7 +139,11 @@ fn modify(alloc: Global, members: &[(&str, Tree<'_>)]) -> Result<Option<Command>
 }
 
 // The retract that has these members behind its word.
-fn retract(alloc: Global, members: &[(&str, Tree<'_>)]) -> Result<Option<Command>, NoMemory>
+fn retract(
+    alloc: Global,
+    members: &[(&str, Tree<'_>)],
+    names: &mut Names,
+) -> Result<Option<Command>, NoMemory>
     ensures { IfOk result (λ found. IfSome found (λ c. word_command (codes "retract") (members_view members.now) ≡ Some c)) }
 {
     let [ty, id] = members else {
@@ -130,7 +151,7 @@ fn retract(alloc: Global, members: &[(&str, Tree<'_>)]) -> Result<Option<Command
     };
     match (text_under(ty, "type"), id_under(id, "id")) {
         (Some(ty), Some(id)) => Ok(Some(Command::Change(Change::Retract {
-            ty: Text::new(alloc, ty)?,
+            ty: names.name(alloc, ty)?,
             id,
         }))),
         _ => Ok(None),
@@ -138,12 +159,16 @@ fn retract(alloc: Global, members: &[(&str, Tree<'_>)]) -> Result<Option<Command
 }
 
 // The promise that has these members behind its word.
-fn promise(alloc: Global, members: &[(&str, Tree<'_>)]) -> Result<Option<Command>, NoMemory>
+fn promise(
+    alloc: Global,
+    members: &[(&str, Tree<'_>)],
+    names: &mut Names,
+) -> Result<Option<Command>, NoMemory>
     ensures { IfOk result (λ found. IfSome found (λ c. word_command (codes "promise") (members_view members.now) ≡ Some c)) }
 {
     match members {
         [_] => Ok(plain_promise(members)),
-        [_, _] => entry_promise(alloc, members),
+        [_, _] => entry_promise(alloc, members, names),
         _ => Ok(None),
     }
 }
@@ -160,7 +185,11 @@ fn plain_promise(members: &[(&str, Tree<'_>)]) -> Option<Command>
 }
 
 // The promise that names its entry point.
-fn entry_promise(alloc: Global, members: &[(&str, Tree<'_>)]) -> Result<Option<Command>, NoMemory>
+fn entry_promise(
+    alloc: Global,
+    members: &[(&str, Tree<'_>)],
+    names: &mut Names,
+) -> Result<Option<Command>, NoMemory>
     ensures { IfOk result (λ found. IfSome found (λ c. word_command (codes "promise") (members_view members.now) ≡ Some c)) }
 {
     let [entry, moment] = members else {
@@ -168,7 +197,7 @@ fn entry_promise(alloc: Global, members: &[(&str, Tree<'_>)]) -> Result<Option<C
     };
     match (text_under(entry, "entry"), whole_under(moment, "from")) {
         (Some(entry), Some(from)) => Ok(Some(Command::Change(Change::Promise {
-            entry: Some(Text::new(alloc, entry)?),
+            entry: Some(names.name(alloc, entry)?),
             from,
         }))),
         _ => Ok(None),
@@ -207,7 +236,11 @@ fn advance(members: &[(&str, Tree<'_>)]) -> Option<Command>
 }
 
 // The command of an object with these members, where they stand in the order of its form.
-fn form_in(alloc: Global, members: &[(&str, Tree<'_>)]) -> Result<Option<Command>, NoMemory>
+fn form_in(
+    alloc: Global,
+    members: &[(&str, Tree<'_>)],
+    names: &mut Names,
+) -> Result<Option<Command>, NoMemory>
     ensures { IfOk result (λ found. IfSome found (λ c. tree_command (object (members_view members.now)) ≡ Some c)) }
 {
     let [first, rest @ ..] = members else {
@@ -217,10 +250,10 @@ fn form_in(alloc: Global, members: &[(&str, Tree<'_>)]) -> Result<Option<Command
         return Ok(None);
     };
     match word {
-        "insert" => insert(alloc, rest),
-        "modify" => modify(alloc, rest),
-        "retract" => retract(alloc, rest),
-        "promise" => promise(alloc, rest),
+        "insert" => insert(alloc, rest, names),
+        "modify" => modify(alloc, rest, names),
+        "retract" => retract(alloc, rest, names),
+        "promise" => promise(alloc, rest, names),
         "fire" => Ok(fire(rest)),
         "at" => Ok(at(rest)),
         "advance" => Ok(advance(rest)),
@@ -239,11 +272,11 @@ fn flat_command(
     let Ok(text) = from_utf8(line) else {
         return Ok(None);
     };
-    let Some(tree) = tree_of(alloc, text, scratch)? else {
+    let Some(tree) = tree_of(alloc, text, &mut scratch.places)? else {
         return Ok(None);
     };
     match &tree {
-        Tree::Object(members) => form_in(alloc, members.as_slice()),
+        Tree::Object(members) => form_in(alloc, members.as_slice(), &mut scratch.names),
         _ => Ok(None),
     }
 }

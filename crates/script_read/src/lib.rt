@@ -10,6 +10,7 @@ mod given;
 pub mod laws;
 mod line;
 mod members;
+mod names;
 mod scratch;
 mod tree;
 mod whole;

@@ -1,9 +1,11 @@
+use crate::names::Names;
 use std::alloc::Global;
 
 /// The memory that reading a line needs. One is kept, and lent to the reading of each line.
 #[derive(Drop)]
 pub struct Scratch {
-    places: json::Scratch,
+    pub(crate) places: json::Scratch,
+    pub(crate) names: Names,
 }
 
 impl Scratch {
@@ -11,10 +13,7 @@ impl Scratch {
     pub fn new(alloc: Global) -> Scratch {
         Scratch {
             places: json::Scratch::new(alloc),
+            names: Names::new(alloc),
         }
-    }
-
-    pub(crate) fn lend(&mut self) -> &mut json::Scratch {
-        &mut self.places
     }
 }

@@ -9,6 +9,7 @@ ghost use Rattle.script_read.specs.Flat.{tree_given, tree_givens, put_given};
 ghost use Rattle.script_read.specs.declared.given.Given.{Given};
 
 use crate::given::Given;
+use crate::names::Names;
 use crate::whole::whole;
 use fx_base::{FactId, NoMemory, Seq, Text};
 use json::Value as Tree;
@@ -16,7 +17,7 @@ use std::alloc::Global;
 use std::cmp::Ordering;
 
 // With more fields a line is read by the map of `serde_json`, which finds the place of a name in fewer steps.
-const MOST_FIELDS: usize = 32;
+const MOST_FIELDS: usize = 64;
 
 // What a tree gives for a field, where it is no array and no object, and its number is whole.
 #[tactic(auto, unfolding(crate::specs::Given::given_of))]
@@ -55,6 +56,7 @@ fn place_of(fields: &[(Text, Given)], name: &str) -> Option<usize>
 pub(crate) fn fields_in(
     alloc: Global,
     members: &[(&str, Tree<'_>)],
+    names: &mut Names,
 ) -> Result<Option<Seq<(Text, Given)>>, NoMemory>
     ensures { IfOk result (λ found. IfSome found (λ fields. tree_givens (members_view members.now) ≡ Some fields)) }
 {
@@ -69,7 +71,7 @@ pub(crate) fn fields_in(
         let Some(given) = given_in(alloc, member)? else {
             return Ok(None);
         };
-        fields.insert(place, (Text::new(alloc, name)?, given))?;
+        fields.insert(place, (names.name(alloc, name)?, given))?;
     }
     Ok(Some(Seq::from_vec(fields)))
 }

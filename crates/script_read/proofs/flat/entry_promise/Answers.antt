@@ -7,8 +7,8 @@ use Rattle.script_read.specs.declared.asked.Change.TheVariants.{Promise}
 use Rattle.script_read.proofs.Forms.{two_members, promise_for_is}
 use Rattle.script_read.proofs.flat.entry_promise.Goals as goal
 
-pub returns-in_ok-new-in-Some-Some : goal.returns-in_ok-new-in-Some-Some
-returns-in_ok-new-in-Some-Some c =
+pub returns-in_ok-name-in-Some-Some : goal.returns-in_ok-name-in-Some-Some
+returns-in_ok-name-in-Some-Some c =
     let is = c.in-Some-Some in
     let entry = is.entry.now in
     let n = is.from in
@@ -18,4 +18,4 @@ returns-in_ok-new-in-Some-Some c =
     two_members c.args.members.now c.entry-item.result c.moment-item.result (omega (arith, c.in-len2.len_at_least, c.in-len2.len_below))
     c.entry-item.is c.moment-item.is is.ensures (is.ensures'.0, is.ensures'.2) in
     ap (word_command (codes "promise")) whole ∙ promise_for_is entry digits n is.ensures'.3
-    ∙ ap₂ (λ e m. Some (Change (Promise (Some e) m))) (sym c.in_ok-new-in-Some-Some.ensures) (sym same)
+    ∙ ap₂ (λ e m. Some (Change (Promise (Some e) m))) (sym c.in_ok-name-in-Some-Some.ensures) (sym same)

@@ -7,8 +7,8 @@ use Rattle.script_read.specs.declared.asked.Change.TheVariants.{Modify}
 use Rattle.script_read.proofs.Forms.{three_members, modify_is}
 use Rattle.script_read.proofs.flat.modify.Goals as goal
 
-pub returns-in_ok-new-in-Some : goal.returns-in_ok-new-in-Some
-returns-in_ok-new-in-Some c =
+pub returns-in_ok-name-in-Some : goal.returns-in_ok-name-in-Some
+returns-in_ok-name-in-Some c =
     let is = c.in-Some-Some-Some in
     let ty = is.ty.now in
     let digits = is.ensures'.1 in
@@ -18,4 +18,4 @@ returns-in_ok-new-in-Some c =
     three_members c.args.members.now c.ty-item.result c.id-item.result c.fields-item.result (omega (arith, c.in-len3.len_at_least, c.in-len3.len_below))
     c.ty-item.is c.id-item.is c.fields-item.is is.ensures (is.ensures'.0, is.ensures'.2) is.ensures'' in
     ap (word_command (codes "modify")) whole ∙ modify_is ty digits is.id.0 parts c.in-Some.fields is.ensures'.3 says
-    ∙ ap (λ t. Some (Change (Modify t is.id c.in-Some.fields))) (sym c.in_ok-new-in-Some.ensures)
+    ∙ ap (λ t. Some (Change (Modify t is.id c.in-Some.fields))) (sym c.in_ok-name-in-Some.ensures)

@@ -16,6 +16,6 @@ loop-name-preserved c =
     let given = c.in-Some-2.given in
     let says : tree_given (value_view m.1) ≡ Some given = rw c.in-Some-2.is at c.in_ok-given.ensures in
     let put_in : c.insert.new.self.items ≡ put_given m.0.now given before =
-    c.in_ok-insert.ensures.items ∙ ap (λ name. insert before c.in-Some.place (name, given)) c.in_ok-new.ensures
+    c.in_ok-insert.ensures.items ∙ ap (λ name. insert before c.in-Some.place (name, given)) c.in_ok-name.ensures
     ∙ sym (subst (λ fs. put_given m.0.now given fs ≡ insert fs c.in-Some.place (m.0.now, given)) c.as_slice.ensures.value (c.in-Some.ensures.place given)) in
     one_field c.args.members.now c.loop-name.name-index m given before c.insert.new.self.items c.loop-name-test.true c.loop-name-item.is says put_in c.loop-name.invariant
