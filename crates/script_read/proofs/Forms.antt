@@ -8,7 +8,7 @@ use Rattle.json.specs.declared.value.Value.{Value as Tree}
 use Rattle.serde_json.specs.Data.{Num, Data, Members, no_members}
 use Rattle.serde_json.specs.Find.{as_i64}
 use Rattle.serde_json.specs.Read.{of_json, of_members, number_of}
-use Rattle.script_read.specs.Flat.{tree_command, word_command, tree_givens}
+use Rattle.script_read.specs.Flat.{tree_command, word_command, tree_givens, two, three}
 use Rattle.script_read.specs.Form.{command_of, insert_of, modify_of, retract_of, promise_of, fire_of, at_of, advance_of}
 use Rattle.script_read.specs.Given.{givens}
 use Rattle.script_read.specs.Members.{text_member, object_member, whole_member, id_member, count, from_one}
@@ -46,17 +46,11 @@ two_members (x ∷ y ∷ []) a b e at after is also =
     rw (first.0, first.1, second.0, second.1) refl
 two_members (x ∷ y ∷ z ∷ ms) a b e at after is also = absurd (omega (arith, e))
 
-pub three_members : (ms : List Member) (a b c : Member) {k l m : List ℕ} {h i j : json.Json} → length ms ≡ 3 → a ≡ get_or ms 0 a → b ≡ get_or ms 1 b → c ≡ get_or ms 2 c
-    → Holds a k h → Holds b l i → Holds c m j → members_view ms ≡ json.member k h (json.member l i (json.member m j json.no_members))
-three_members [] a b c e at after last is also third = absurd (omega (arith, e))
-three_members (x ∷ []) a b c e at after last is also third = absurd (omega (arith, e))
-three_members (x ∷ y ∷ []) a b c e at after last is also third = absurd (omega (arith, e))
-three_members (x ∷ y ∷ z ∷ []) a b c e at after last is also third =
-    let first = moved x a at is in
-    let second = moved y b after also in
-    let end = moved z c last third in
-    rw (first.0, first.1, second.0, second.1, end.0, end.1) refl
-three_members (x ∷ y ∷ z ∷ w ∷ ms) a b c e at after last is also third = absurd (omega (arith, e))
+pub two_same : {k m l n : List ℕ} {i g j h : json.Json} → (k ≡ m) × (i ≡ g) → (l ≡ n) × (j ≡ h) → two k i l j ≡ two m g n h
+two_same is also = rw (is.0, is.1, also.0, also.1) refl
+
+pub three_same : {k o l p m q : List ℕ} {h c i d j e : json.Json} → (k ≡ o) × (h ≡ c) → (l ≡ p) × (i ≡ d) → (m ≡ q) × (j ≡ e) → three k h l i m j ≡ three o c p d q e
+three_same is also third = rw (is.0, is.1, also.0, also.1, third.0, third.1) refl
 
 -- an object by its first member and the others
 pub first_is : (ms : List Member) (a : Member) (word : List ℕ) {expected : List ℕ} {n : ℕ} → 1 ≤ length ms → length (drop 1 ms) ≤ n → a ≡ get_or ms 0 a → word ≡ expected
@@ -106,6 +100,18 @@ pub insert_is : (ty : List ℕ) (parts : json.Members) (fields : List (List ℕ 
 insert_is ty parts fields says = insert_read (of_members parts no_members) ty parts fields refl says
 
 -- at each case of the reading of the fields
+insert_sorted : (o : Option Members) (ty : List ℕ) (parts : json.Members) (fields : List (List ℕ × Given)) → of_members parts no_members ≡ o → option_map givens o ≡ Some fields
+    → word_command (codes "insert") (two (codes "fields") (json.object parts) (codes "type") (json.string ty)) ≡ Some (Change (Insert ty None fields))
+unfolding word_command tree_command command_of insert_of text_member object_member count
+insert_sorted None ty parts fields read says = absurd (cc)
+insert_sorted (Some ms) ty parts fields read says = rw read (ap (option_map (λ fs. Change (Insert ty None fs))) says)
+
+-- the same in the order of the names
+pub insert_also : (ty : List ℕ) (parts : json.Members) (fields : List (List ℕ × Given)) → tree_givens parts ≡ Some fields
+    → word_command (codes "insert") (two (codes "fields") (json.object parts) (codes "type") (json.string ty)) ≡ Some (Change (Insert ty None fields))
+insert_also ty parts fields says = insert_sorted (of_members parts no_members) ty parts fields refl says
+
+-- at each case of the reading of the fields
 entry_read : (o : Option Members) (ty entry : List ℕ) (parts : json.Members) (fields : List (List ℕ × Given)) → of_members parts no_members ≡ o → option_map givens o ≡ Some fields
     → word_command (codes "insert") (json.member (codes "type") (json.string ty) (json.member (codes "entry") (json.string entry) (json.member (codes "fields") (json.object parts) json.no_members)))
     ≡ Some (Change (Insert ty (Some entry) fields))
@@ -143,6 +149,18 @@ pub advance_is : (digits : List ℕ) (n : ℤ) → option_and_then as_i64 (numbe
     → word_command (codes "advance") (json.member (codes "by") (json.number digits) json.no_members) ≡ Some (Change (Advance n))
 advance_is digits n says = advance_read (number_of digits) digits n refl says
 
+-- at each case of the reading of the fields
+entry_sorted : (o : Option Members) (ty entry : List ℕ) (parts : json.Members) (fields : List (List ℕ × Given)) → of_members parts no_members ≡ o → option_map givens o ≡ Some fields
+    → word_command (codes "insert") (three (codes "entry") (json.string entry) (codes "fields") (json.object parts) (codes "type") (json.string ty)) ≡ Some (Change (Insert ty (Some entry) fields))
+unfolding word_command tree_command command_of insert_of text_member object_member count
+entry_sorted None ty entry parts fields read says = absurd (cc)
+entry_sorted (Some ms) ty entry parts fields read says = rw read (ap (option_map (λ fs. Change (Insert ty (Some entry) fs))) says)
+
+-- the same in the order of the names
+pub entry_also : (ty entry : List ℕ) (parts : json.Members) (fields : List (List ℕ × Given)) → tree_givens parts ≡ Some fields
+    → word_command (codes "insert") (three (codes "entry") (json.string entry) (codes "fields") (json.object parts) (codes "type") (json.string ty)) ≡ Some (Change (Insert ty (Some entry) fields))
+entry_also ty entry parts fields says = entry_sorted (of_members parts no_members) ty entry parts fields refl says
+
 -- at each case of the number and of the reading of the fields
 modify_read : (id : Option Num) (o : Option Members) (ty digits : List ℕ) (n : ℕ) (parts : json.Members) (fields : List (List ℕ × Given)) → number_of digits ≡ id → of_members parts no_members ≡ o
     → option_and_then from_one (option_and_then as_i64 id) ≡ Some n → option_map givens o ≡ Some fields
@@ -159,6 +177,20 @@ pub modify_is : (ty digits : List ℕ) (n : ℕ) (parts : json.Members) (fields 
     ≡ Some (Change (Modify ty (record { 0 = n }) fields))
 modify_is ty digits n parts fields counts says = modify_read (number_of digits) (of_members parts no_members) ty digits n parts fields refl refl counts says
 
+-- at each case of the number and of the reading of the fields
+modify_sorted : (id : Option Num) (o : Option Members) (ty digits : List ℕ) (n : ℕ) (parts : json.Members) (fields : List (List ℕ × Given)) → number_of digits ≡ id → of_members parts no_members ≡ o
+    → option_and_then from_one (option_and_then as_i64 id) ≡ Some n → option_map givens o ≡ Some fields
+    → word_command (codes "modify") (three (codes "fields") (json.object parts) (codes "id") (json.number digits) (codes "type") (json.string ty)) ≡ Some (Change (Modify ty (record { 0 = n }) fields))
+unfolding word_command tree_command command_of modify_of text_member object_member whole_member id_member count
+modify_sorted None o ty digits n parts fields read found counts says = absurd (cc)
+modify_sorted (Some x) None ty digits n parts fields read found counts says = absurd (cc)
+modify_sorted (Some x) (Some ms) ty digits n parts fields read found counts says = rw (read, found) (rw counts (ap (option_map (λ fs. Change (Modify ty (record { 0 = n }) fs))) says))
+
+-- the same in the order of the names
+pub modify_also : (ty digits : List ℕ) (n : ℕ) (parts : json.Members) (fields : List (List ℕ × Given)) → option_and_then from_one (option_and_then as_i64 (number_of digits)) ≡ Some n → tree_givens parts ≡ Some fields
+    → word_command (codes "modify") (three (codes "fields") (json.object parts) (codes "id") (json.number digits) (codes "type") (json.string ty)) ≡ Some (Change (Modify ty (record { 0 = n }) fields))
+modify_also ty digits n parts fields counts says = modify_sorted (number_of digits) (of_members parts no_members) ty digits n parts fields refl refl counts says
+
 -- at each case of the number
 retract_read : (id : Option Num) (ty digits : List ℕ) (n : ℕ) → number_of digits ≡ id → option_and_then from_one (option_and_then as_i64 id) ≡ Some n
     → word_command (codes "retract") (json.member (codes "type") (json.string ty) (json.member (codes "id") (json.number digits) json.no_members)) ≡ Some (Change (Retract ty (record { 0 = n })))
@@ -170,6 +202,18 @@ retract_read (Some x) ty digits n read counts = rw read (rw counts refl)
 pub retract_is : (ty digits : List ℕ) (n : ℕ) → option_and_then from_one (option_and_then as_i64 (number_of digits)) ≡ Some n
     → word_command (codes "retract") (json.member (codes "type") (json.string ty) (json.member (codes "id") (json.number digits) json.no_members)) ≡ Some (Change (Retract ty (record { 0 = n })))
 retract_is ty digits n counts = retract_read (number_of digits) ty digits n refl counts
+
+-- at each case of the number
+retract_sorted : (id : Option Num) (ty digits : List ℕ) (n : ℕ) → number_of digits ≡ id → option_and_then from_one (option_and_then as_i64 id) ≡ Some n
+    → word_command (codes "retract") (two (codes "id") (json.number digits) (codes "type") (json.string ty)) ≡ Some (Change (Retract ty (record { 0 = n })))
+unfolding word_command tree_command command_of retract_of text_member whole_member id_member count
+retract_sorted None ty digits n read counts = absurd (cc)
+retract_sorted (Some x) ty digits n read counts = rw read (rw counts refl)
+
+-- the same in the order of the names
+pub retract_also : (ty digits : List ℕ) (n : ℕ) → option_and_then from_one (option_and_then as_i64 (number_of digits)) ≡ Some n
+    → word_command (codes "retract") (two (codes "id") (json.number digits) (codes "type") (json.string ty)) ≡ Some (Change (Retract ty (record { 0 = n })))
+retract_also ty digits n counts = retract_sorted (number_of digits) ty digits n refl counts
 
 -- at each case of the number
 promise_read : (o : Option Num) (digits : List ℕ) (n : ℤ) → number_of digits ≡ o → option_and_then as_i64 o ≡ Some n

@@ -30,3 +30,11 @@ tree_givens ms = option_map givens (of_members ms no_members)
 abbrev pub put_given : List ℕ → Given → List (List ℕ × Given) → List (List ℕ × Given)
 put_given name g [] = (name, g) ∷ []
 put_given name g (f ∷ fs) = match_ordering (slice_cmp nat_cmp name f.0) ((name, g) ∷ f ∷ fs) ((f.0, g) ∷ fs) (f ∷ put_given name g fs)
+
+-- two members
+abbrev pub two : List ℕ → json.Json → List ℕ → json.Json → json.Members
+two k i l j = json.member k i (json.member l j json.no_members)
+
+-- three members
+abbrev pub three : List ℕ → json.Json → List ℕ → json.Json → List ℕ → json.Json → json.Members
+three k h l i m j = json.member k h (two l i m j)

@@ -5,7 +5,7 @@ ghost use Rattle.json.specs.Value.{value_view, members_view};
 ghost use Rattle.serde_json.specs.Data.{Data};
 ghost use Rattle.serde_json.specs.Read.{max_depth};
 ghost use Rattle.script_read.specs.Asked.{IsReading, Answers, asked, asks};
-ghost use Rattle.script_read.specs.Flat.{tree_command, word_command};
+ghost use Rattle.script_read.specs.Flat.{tree_command, word_command, two, three};
 ghost use Rattle.script_read.specs.Form.{IsForm};
 
 use crate::asked::{Change, Command};
@@ -58,7 +58,7 @@ fn insert(
     }
 }
 
-// The insert that names no entry point.
+// The insert that names no entry point, in the order of its form or in that of the names.
 fn plain_insert(
     alloc: Global,
     members: &[(&str, Tree<'_>)],
@@ -66,9 +66,28 @@ fn plain_insert(
 ) -> Result<Option<Command>, NoMemory>
     ensures { IfOk result (λ found. IfSome found (λ c. word_command (codes "insert") (members_view members.now) ≡ Some c)) }
 {
-    let [ty, fields] = members else {
+    let [first, second] = members else {
         return Ok(None);
     };
+    if second.0 == "type" {
+        insert_of(alloc, second, first, names)
+    } else {
+        insert_of(alloc, first, second, names)
+    }
+}
+
+// The insert of these members, whichever stands first.
+fn insert_of(
+    alloc: Global,
+    ty: &(&str, Tree<'_>),
+    fields: &(&str, Tree<'_>),
+    names: &mut Names,
+) -> Result<Option<Command>, NoMemory>
+    ensures written { IfOk result (λ found. IfSome found (λ c.
+        word_command (codes "insert") (two ty.now.0.now (value_view ty.now.1) fields.now.0.now (value_view fields.now.1)) ≡ Some c)) }
+    ensures sorted { IfOk result (λ found. IfSome found (λ c.
+        word_command (codes "insert") (two fields.now.0.now (value_view fields.now.1) ty.now.0.now (value_view ty.now.1)) ≡ Some c)) }
+{
     match (text_under(ty, "type"), members_under(fields, "fields")) {
         (Some(ty), Some(parts)) => match fields_in(alloc, parts, names)? {
             Some(fields) => Ok(Some(Command::Change(Change::Insert {
@@ -82,7 +101,7 @@ fn plain_insert(
     }
 }
 
-// The insert that names its entry point.
+// The insert that names its entry point, in the order of its form or in that of the names.
 fn entry_insert(
     alloc: Global,
     members: &[(&str, Tree<'_>)],
@@ -90,9 +109,29 @@ fn entry_insert(
 ) -> Result<Option<Command>, NoMemory>
     ensures { IfOk result (λ found. IfSome found (λ c. word_command (codes "insert") (members_view members.now) ≡ Some c)) }
 {
-    let [ty, entry, fields] = members else {
+    let [first, second, third] = members else {
         return Ok(None);
     };
+    if third.0 == "type" {
+        entry_insert_of(alloc, third, first, second, names)
+    } else {
+        entry_insert_of(alloc, first, second, third, names)
+    }
+}
+
+// The insert of these members, whether the type stands first or last.
+fn entry_insert_of(
+    alloc: Global,
+    ty: &(&str, Tree<'_>),
+    entry: &(&str, Tree<'_>),
+    fields: &(&str, Tree<'_>),
+    names: &mut Names,
+) -> Result<Option<Command>, NoMemory>
+    ensures written { IfOk result (λ found. IfSome found (λ c. word_command (codes "insert")
+        (three ty.now.0.now (value_view ty.now.1) entry.now.0.now (value_view entry.now.1) fields.now.0.now (value_view fields.now.1)) ≡ Some c)) }
+    ensures sorted { IfOk result (λ found. IfSome found (λ c. word_command (codes "insert")
+        (three entry.now.0.now (value_view entry.now.1) fields.now.0.now (value_view fields.now.1) ty.now.0.now (value_view ty.now.1)) ≡ Some c)) }
+{
     match (
         text_under(ty, "type"),
         text_under(entry, "entry"),
@@ -110,7 +149,7 @@ fn entry_insert(
     }
 }
 
-// The modify that has these members behind its word.
+// The modify that has these members behind its word, in the order of its form or in that of the names.
 fn modify(
     alloc: Global,
     members: &[(&str, Tree<'_>)],
@@ -118,9 +157,29 @@ fn modify(
 ) -> Result<Option<Command>, NoMemory>
     ensures { IfOk result (λ found. IfSome found (λ c. word_command (codes "modify") (members_view members.now) ≡ Some c)) }
 {
-    let [ty, id, fields] = members else {
+    let [first, second, third] = members else {
         return Ok(None);
     };
+    if third.0 == "type" {
+        modify_of(alloc, third, second, first, names)
+    } else {
+        modify_of(alloc, first, second, third, names)
+    }
+}
+
+// The modify of these members, whether the type or the fields stand first.
+fn modify_of(
+    alloc: Global,
+    ty: &(&str, Tree<'_>),
+    id: &(&str, Tree<'_>),
+    fields: &(&str, Tree<'_>),
+    names: &mut Names,
+) -> Result<Option<Command>, NoMemory>
+    ensures written { IfOk result (λ found. IfSome found (λ c. word_command (codes "modify")
+        (three ty.now.0.now (value_view ty.now.1) id.now.0.now (value_view id.now.1) fields.now.0.now (value_view fields.now.1)) ≡ Some c)) }
+    ensures sorted { IfOk result (λ found. IfSome found (λ c. word_command (codes "modify")
+        (three fields.now.0.now (value_view fields.now.1) id.now.0.now (value_view id.now.1) ty.now.0.now (value_view ty.now.1)) ≡ Some c)) }
+{
     match (
         text_under(ty, "type"),
         id_under(id, "id"),
@@ -138,7 +197,7 @@ fn modify(
     }
 }
 
-// The retract that has these members behind its word.
+// The retract that has these members behind its word, in the order of its form or in that of the names.
 fn retract(
     alloc: Global,
     members: &[(&str, Tree<'_>)],
@@ -146,9 +205,28 @@ fn retract(
 ) -> Result<Option<Command>, NoMemory>
     ensures { IfOk result (λ found. IfSome found (λ c. word_command (codes "retract") (members_view members.now) ≡ Some c)) }
 {
-    let [ty, id] = members else {
+    let [first, second] = members else {
         return Ok(None);
     };
+    if second.0 == "type" {
+        retract_of(alloc, second, first, names)
+    } else {
+        retract_of(alloc, first, second, names)
+    }
+}
+
+// The retract of these members, whichever stands first.
+fn retract_of(
+    alloc: Global,
+    ty: &(&str, Tree<'_>),
+    id: &(&str, Tree<'_>),
+    names: &mut Names,
+) -> Result<Option<Command>, NoMemory>
+    ensures written { IfOk result (λ found. IfSome found (λ c.
+        word_command (codes "retract") (two ty.now.0.now (value_view ty.now.1) id.now.0.now (value_view id.now.1)) ≡ Some c)) }
+    ensures sorted { IfOk result (λ found. IfSome found (λ c.
+        word_command (codes "retract") (two id.now.0.now (value_view id.now.1) ty.now.0.now (value_view ty.now.1)) ≡ Some c)) }
+{
     match (text_under(ty, "type"), id_under(id, "id")) {
         (Some(ty), Some(id)) => Ok(Some(Command::Change(Change::Retract {
             ty: names.name(alloc, ty)?,
@@ -282,7 +360,7 @@ fn flat_command(
 }
 
 /// The command that a line asks for, as `command` finds it, with memory that is kept from line to line. A line is read in less
-/// time where its members stand in the order of its form, and no value is an array.
+/// time where its members stand in the order of its form, or in that of their names behind its word, and no value is an array.
 pub fn command_with(
     alloc: Global,
     line: &[u8],
