@@ -1,10 +1,12 @@
+use fx_base::NoMemory;
 use session_laws::Setting;
+use std::alloc::Global;
 use std::marker::Model;
 
 /// A setting that sessions run: a program that engines run, and a safe table of lives.
 #[derive(Drop)]
 pub(crate) struct Running {
-    inside: Setting,
+    inside: Box<Setting>,
 }
 
 impl Model for Running {
@@ -17,20 +19,22 @@ impl Model for Running {
 
     ghost coded = { Prim.hlevel (codes, expression_code) };
 
-    ghost view = { λ s. s.inside };
+    ghost view = { λ s. s.inside.value };
 
-    ghost invariant = { λ s. Runs s.inside };
+    ghost invariant = { λ s. Runs s.inside.value };
 }
 
 impl Running {
-    ghost use Rattle.std.specs.Prelude.{◌≡◌};
+    ghost use Rattle.std.specs.Prelude.{◌≡◌, IfOk};
     ghost use Rattle.session_laws.specs.Standing.{Runs};
 
-    pub(crate) fn new(setting: Setting) -> Running
+    pub(crate) fn new(alloc: Global, setting: Setting) -> Result<Running, NoMemory>
         requires { Runs setting }
-        ensures { result ≡ setting }
+        ensures { IfOk result (λ s. s ≡ setting) }
     {
-        Running { inside: setting }
+        Ok(Running {
+            inside: Box::new(alloc, setting)?,
+        })
     }
 
     /// The setting. Takes no memory.

@@ -34,8 +34,8 @@ fn saliences_of(alloc: Global, rules: &[Rule]) -> Result<Vec<i64>, NoMemory>
 pub struct Session {
     setting: Running,
     state: State,
-    memory: Memory,
-    ghost sound: { ∥ IsSound setting.program memory state ∥₁ },
+    memory: Box<Memory>,
+    ghost sound: { ∥ IsSound setting.program memory.value state ∥₁ },
 }
 
 impl Session {
@@ -63,11 +63,12 @@ impl Session {
         let (agenda, _left) = refreshed(alloc, Agenda::new(alloc, &saliences)?, first)?;
         let state = State::new(alloc, agenda);
         let retention = Retention::new(alloc);
-        let setting = Running::new(Setting { program, lives });
+        let setting = Running::new(alloc, Setting { program, lives })?;
+        let memory = Box::new(alloc, Memory { net, retention })?;
         Ok(Session {
             setting,
             state,
-            memory: Memory { net, retention },
+            memory,
         })
     }
 
@@ -89,7 +90,7 @@ impl Session {
         let mut lines = Vec::new(alloc);
         let inside = setting.setting();
         let asked = asked_step(alloc, &inside.program, &state, change)?;
-        let state = state.apply(alloc, inside, &mut memory, asked, &mut lines)?;
+        let state = state.apply(alloc, inside, &mut *memory, asked, &mut lines)?;
         Ok((
             Session {
                 setting,
@@ -119,7 +120,7 @@ impl Session {
         match state.plan(alloc, &inside.program)? {
             Some(plan) => {
                 let mut lines = Vec::new(alloc);
-                let state = state.fire(alloc, inside, &mut memory, plan, &mut lines)?;
+                let state = state.fire(alloc, inside, &mut *memory, plan, &mut lines)?;
                 Ok((
                     Session {
                         setting,

@@ -1,6 +1,7 @@
 use Rattle.std.proofs.Common.{◌≡◌, ◌∙◌, true, sym, ap, subst}
 use Rattle.std.proofs.Math.Logic.{∥∥₁_map}
 use Rattle.engine.specs.Known.{are_known}
+use Rattle.session_laws.specs.declared.memory.Memory.{Memory}
 use Rattle.session_laws.specs.declared.setting.Setting.{Setting}
 use Rattle.session_laws.specs.Gives.{gives}
 use Rattle.session_laws.specs.Places.{newest}
@@ -11,23 +12,25 @@ use Rattle.session.proofs.session.Session.apply.Goals as goal
 
 pub returns-clause-lines : goal.returns-clause-lines
 returns-clause-lines c w s =
-    let m = c.args.self.memory in
+    let m = c.deref_mut.result.now in
     let k = c.args.self.state in
+    let here : Standing c.args.self.setting m k w = subst (λ (n : Memory). Standing c.args.self.setting n k w) (sym c.deref_mut.ensures.value) s in
     let z = c.setting-inside.result.now in
     let same = c.setting-inside.ensures.same in
     let taken = simp c.new-lines.ensures.items at c.in_ok-state.ensures.lines in
     c.from_vec.ensures
-    ∙ change_lines z m k c.setting-inside.ensures.runs c.args.change.now c.in_ok-asked.asked c.in_ok-asked.ensures w (subst (λ (x : Setting). Standing x m k w) (sym same) s) c.apply.new.lines.items taken
+    ∙ change_lines z m k c.setting-inside.ensures.runs c.args.change.now c.in_ok-asked.asked c.in_ok-asked.ensures w (subst (λ (x : Setting). Standing x m k w) (sym same) here) c.apply.new.lines.items taken
     ∙ ap (λ (x : Setting). (gives x.program w c.args.change.now).0) same
 
 pub returns-clause-next : goal.returns-clause-next
 returns-clause-next c w s =
-    let m = c.args.self.memory in
+    let m = c.deref_mut.result.now in
     let k = c.args.self.state in
+    let here : Standing c.args.self.setting m k w = subst (λ (n : Memory). Standing c.args.self.setting n k w) (sym c.deref_mut.ensures.value) s in
     let z = c.setting-inside.result.now in
     let same = c.setting-inside.ensures.same in
     subst (λ (x : Setting). Standing x c.apply.new.memory c.in_ok-state.state (gives x.program w c.args.change.now).1) same
-    (change_stands z m k c.setting-inside.ensures.runs c.args.change.now c.in_ok-asked.asked c.in_ok-asked.ensures w (subst (λ (x : Setting). Standing x m k w) (sym same) s) c.apply.new.memory c.in_ok-state.state c.in_ok-state.ensures.stands)
+    (change_stands z m k c.setting-inside.ensures.runs c.args.change.now c.in_ok-asked.asked c.in_ok-asked.ensures w (subst (λ (x : Setting). Standing x m k w) (sym same) here) c.apply.new.memory c.in_ok-state.state c.in_ok-state.ensures.stands)
 
 pub returns-clause-known : goal.returns-clause-known
 returns-clause-known c =
@@ -39,11 +42,12 @@ returns-clause-known c =
 
 pub invariant_of-result : goal.invariant_of-result
 invariant_of-result c =
-    let m = c.args.self.memory in
+    let m = c.deref_mut.result.now in
     let k = c.args.self.state in
+    let sound : ∥ IsSound c.args.self.setting.program m k ∥₁ = subst (λ (n : Memory). ∥ IsSound c.args.self.setting.program n k ∥₁) (sym c.deref_mut.ensures.value) c.args.self.sound in
     let same = c.setting-inside.ensures.same in
     record {
       sound =
           subst (λ (x : Setting). ∥ IsSound x.program c.apply.new.memory c.in_ok-state.state ∥₁) same
-          (∥∥₁_map (subst (λ (x : Setting). ∥ IsSound x.program m k ∥₁) (sym same) c.args.self.sound) c.in_ok-state.ensures.sound);
+          (∥∥₁_map (subst (λ (x : Setting). ∥ IsSound x.program m k ∥₁) (sym same) sound) c.in_ok-state.ensures.sound);
     }

@@ -20,7 +20,7 @@ returns-clause-counts c =
     c.as_slice-2.ensures.value ∙ c.in_ok-types.ensures ∙ ap (λ (ts : List TypeInfo). event_types ts 0) c.as_slice.ensures ∙ ap (λ (x : Setting). event_types x.program.types 0) same in
     IfOk-weaker c.counts_of.result _ _
     (λ numbers are w st.
-    kept_counted s c.args.self.now.memory k (subst Runs same c.setting-inside.ensures.runs) w st numbers.items
+    kept_counted s c.args.self.now.memory.value k (subst Runs same c.setting-inside.ensures.runs) w st numbers.items
     (subst (λ (ts : List TypeId). AreCounts k.facts ts numbers.items) types (subst (λ (x : Session). AreCounts x.state.facts taken numbers.items) c.self.view_is are)))
     c.counts_of.ensures
 

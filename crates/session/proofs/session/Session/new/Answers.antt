@@ -1,8 +1,10 @@
-use Rattle.std.proofs.Common.{[], pos, rules}
+use Rattle.std.proofs.Common.{[], pos, rules, subst, sym}
 use Rattle.std.proofs.lemmas.Grind.{merely}
 use Rattle.pair_memory.specs.Standing.{no_names}
 use Rattle.session_laws.specs.Refreshed.{no_rows, rows_at}
 use Rattle.rule_world.specs.Worlds.{empty_world}
+use Rattle.session_laws.specs.declared.memory.Memory.{Memory}
+use Rattle.session_laws.specs.Standing.{Standing}
 use Rattle.session_laws.proofs.Knowing.{standing_sound}
 use Rattle.session_laws.proofs.Sessions.{empty_stands, from_parts}
 use Rattle.session.proofs.session.Session.new.Goals as goal
@@ -12,18 +14,20 @@ pub returns-clause-stands : goal.returns-clause-stands
 returns-clause-stands c =
     let p = c.args.program in
     let parts = from_parts c.new-state.result _ _ _ _ _ _ _ c.new-state.ensures.facts c.new-state.ensures.expiries c.new-state.ensures.clock c.new-state.ensures.course c.new-state.ensures.agenda c.new-state.ensures.next_id c.new-state.ensures.next_tag in
-    empty_stands (record { program = p; lives = c.args.lives }) c.new-setting.result (record { net = c.in_ok-net.net; retention = c.new-retention.result }) c.new-state.result c.in_ok-new.field-0 c.in_ok-agenda.agenda
-    c.new-setting.ensures (search rules) (c.in_ok-net.ensures.stands c.requires.runnable no_names) (c.in_ok-agenda.ensures.agenda p no_rows (rows_at p [] (pos 0) nothing_reached) (c.in_ok-net.ensures.first c.requires.runnable))
-    c.new-retention.ensures.due c.new-retention.ensures.lingering parts
+    subst (λ (n : Memory). Standing c.in_ok-setting.setting n c.new-state.result empty_world) (sym c.in_ok-memory.ensures.ok)
+    (empty_stands (record { program = p; lives = c.args.lives }) c.in_ok-setting.setting (record { net = c.in_ok-net.net; retention = c.new-retention.result }) c.new-state.result c.in_ok-new.field-0 c.in_ok-agenda.agenda
+    c.in_ok-setting.ensures (search rules) (c.in_ok-net.ensures.stands c.requires.runnable no_names) (c.in_ok-agenda.ensures.agenda p no_rows (rows_at p [] (pos 0) nothing_reached) (c.in_ok-net.ensures.first c.requires.runnable))
+    c.new-retention.ensures.due c.new-retention.ensures.lingering parts)
 
 pub invariant_of-result : goal.invariant_of-result
 invariant_of-result c =
     let p = c.args.program in
     let parts = from_parts c.new-state.result _ _ _ _ _ _ _ c.new-state.ensures.facts c.new-state.ensures.expiries c.new-state.ensures.clock c.new-state.ensures.course c.new-state.ensures.agenda c.new-state.ensures.next_id c.new-state.ensures.next_tag in
     let stands =
-    empty_stands (record { program = p; lives = c.args.lives }) c.new-setting.result (record { net = c.in_ok-net.net; retention = c.new-retention.result }) c.new-state.result c.in_ok-new.field-0 c.in_ok-agenda.agenda
-    c.new-setting.ensures (search rules) (c.in_ok-net.ensures.stands c.requires.runnable no_names) (c.in_ok-agenda.ensures.agenda p no_rows (rows_at p [] (pos 0) nothing_reached) (c.in_ok-net.ensures.first c.requires.runnable))
-    c.new-retention.ensures.due c.new-retention.ensures.lingering parts in
+    subst (λ (n : Memory). Standing c.in_ok-setting.setting n c.new-state.result empty_world) (sym c.in_ok-memory.ensures.ok)
+    (empty_stands (record { program = p; lives = c.args.lives }) c.in_ok-setting.setting (record { net = c.in_ok-net.net; retention = c.new-retention.result }) c.new-state.result c.in_ok-new.field-0 c.in_ok-agenda.agenda
+    c.in_ok-setting.ensures (search rules) (c.in_ok-net.ensures.stands c.requires.runnable no_names) (c.in_ok-agenda.ensures.agenda p no_rows (rows_at p [] (pos 0) nothing_reached) (c.in_ok-net.ensures.first c.requires.runnable))
+    c.new-retention.ensures.due c.new-retention.ensures.lingering parts) in
     record {
-      sound = merely (standing_sound c.new-setting.result (record { net = c.in_ok-net.net; retention = c.new-retention.result }) c.new-state.result empty_world stands);
+      sound = merely (standing_sound c.in_ok-setting.setting c.in_ok-memory.memory.value c.new-state.result empty_world stands);
     }
