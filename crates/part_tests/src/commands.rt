@@ -1,4 +1,4 @@
-use script_read::command;
+use script_read::{Scratch, command, command_with};
 use std::test::Fail;
 
 /// Lines, and the commands that they ask for. What other lines are told is shown by the cases of runs.
@@ -37,6 +37,17 @@ const LINES: &[(&[u8], &str)] = &[
 fn lines_ask_for_commands(rt: HostRuntime) -> Result<(), Fail> {
     for row in LINES {
         let answer = format!(in rt.alloc(); "{:?}", command(rt.alloc(), row.0))?;
+        assert_eq!(rt; answer.as_str(), row.1);
+    }
+    Ok(())
+}
+
+#[test]
+fn lines_ask_for_the_same_with_memory_that_is_kept(rt: HostRuntime) -> Result<(), Fail> {
+    let mut scratch = Scratch::new(rt.alloc());
+    for row in LINES {
+        let read = command_with(rt.alloc(), row.0, &mut scratch);
+        let answer = format!(in rt.alloc(); "{:?}", read)?;
         assert_eq!(rt; answer.as_str(), row.1);
     }
     Ok(())
