@@ -10,12 +10,12 @@ ghost use Rattle.session_laws.specs.Leading.{AllFit, AllWantKnown, StayKnown};
 ghost use Rattle.session_laws.specs.Standing.{IsSound, Runs, Standing, StaysSound};
 ghost use Rattle.session_laws.specs.Places.{planned_for, planned};
 
+use crate::boxed::BoxedFacts;
 use crate::refreshing::add_names;
 use crate::state::State;
 use crate::steps::Plan;
 use action_eval::{EvalFault, planned_step};
 use engine::{Cell, OutLine};
-use fact_store::FactStore;
 use fx_base::{NoMemory, Seq};
 use row_delta::Row;
 use rule_model::{Action, Condition, Match, Program, Rule, Step};
@@ -28,7 +28,7 @@ fn plan_action(
     alloc: Global,
     action: &Action,
     row: &Row,
-    facts: &FactStore,
+    facts: &BoxedFacts,
 ) -> Result<Result<Step, Code>, NoMemory>
     ensures { IfOk result (λ wanted. wanted ≡ planned_for facts.now row.now action.now) }
 {
@@ -43,7 +43,7 @@ fn plan_actions(
     alloc: Global,
     actions: &[Action],
     row: &Row,
-    facts: &FactStore,
+    facts: &BoxedFacts,
 ) -> Result<Plan, NoMemory>
     ensures { IfOk result (λ plan. plan.items ≡ planned facts.now row.now actions.now) }
 {

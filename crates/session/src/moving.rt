@@ -14,10 +14,10 @@ ghost use Rattle.session_laws.specs.Standing.{Runs, StaysSound};
 ghost use Rattle.session_laws.specs.Waiting.{with_timer, without_timer};
 ghost use Rattle.std.specs.FinMap as map;
 
+use crate::boxed::BoxedFacts;
 use crate::refreshing::{followed, without_all};
 use crate::state::State;
 use due_queue::DueQueue;
-use fact_store::FactStore;
 use fx_base::{Copies, EntryId, Fact, FactId, Facts, Millis, NoMemory, Seq, Tag, TypeId, Value};
 use retention::Retention;
 use rule_model::{Life, LifeTable, Program};
@@ -59,15 +59,13 @@ fn revised(
 }
 
 // These facts and one more, whose tag is new.
-fn with_fact(facts: FactStore, fact: Fact) -> Result<FactStore, NoMemory>
+fn with_fact(facts: BoxedFacts, fact: Fact) -> Result<BoxedFacts, NoMemory>
     requires { map.get facts fact.tag.0 ≡ None }
     ensures { IfOk result (λ more. more ≡ map.insert facts fact.tag.0 fact) }
 {
     let mut facts = facts;
-    match facts.put(fact) {
-        Ok(()) => Ok(facts),
-        Err((_, refused)) => Err(refused),
-    }
+    facts.put(fact)?;
+    Ok(facts)
 }
 
 // These timers and that of a fact, if it expires; its tag is new.

@@ -19,8 +19,8 @@ ghost use Rattle.session_laws.specs.Refreshed.{IsRefreshed};
 ghost use Rattle.session_laws.specs.Waiting.{left_at};
 ghost use Rattle.std.specs.FinMap as map;
 
+use crate::boxed::{BoxedAgenda, BoxedFacts};
 use agenda::Agenda;
-use fact_store::FactStore;
 use fx_base::{Fact, Facts, NoMemory, Tag};
 use rete_net::{Rete, RuleChange};
 use row_delta::{Named, Row};
@@ -68,10 +68,30 @@ pub(crate) fn refreshed(
     Ok((agenda, left))
 }
 
+impl BoxedAgenda {
+    // The same with an agenda in its box, where it stays if nothing changes.
+    fn refreshed(
+        self,
+        alloc: Global,
+        changes: Vec<RuleChange>,
+    ) -> Result<(BoxedAgenda, Vec<Tag>), NoMemory>
+        ensures agenda { (p : ProgramData) (old new : RuleData → List RowData) → AreBetween p old new changes.items → IfOk result (λ r. IsRefreshed p.rules old new self r.0) }
+        ensures left { IfOk result (λ r. HasLeft self r.0 (is_among r.1.items)) }
+        ensures rules { (rules : ℕ) → ((c : RuleChangeData) → In c changes.items → c.rule.0 < rules) → AreOfRules rules self.pending → IfOk result (λ r. AreOfRules rules r.0.pending) }
+    {
+        if changes.is_empty() {
+            return Ok((self, Vec::new(alloc)));
+        }
+        let (agenda, room) = self.taken_out(alloc)?;
+        let (agenda, left) = refreshed(alloc, agenda, changes)?;
+        Ok((BoxedAgenda::put_back(room, agenda), left))
+    }
+}
+
 // Those of the facts that have these tags, in the order of these.
 fn facts_at<'s>(
     alloc: Global,
-    facts: &'s FactStore,
+    facts: &'s BoxedFacts,
     tags: &[u64],
 ) -> Result<Vec<&'s Fact>, NoMemory>
     ensures { IfOk result (λ found. lent found.items ≡ filter_map (map.get facts.now) tags.now) }
@@ -91,12 +111,12 @@ pub(crate) fn followed(
     alloc: Global,
     program: &Program,
     net: &mut Rete,
-    agenda: Agenda,
-    facts: &FactStore,
+    agenda: BoxedAgenda,
+    facts: &BoxedFacts,
     gone: &[u64],
     come: Option<&Fact>,
     moment: &Moment,
-) -> Result<(Agenda, Vec<Tag>), NoMemory>
+) -> Result<(BoxedAgenda, Vec<Tag>), NoMemory>
     requires { IsRunnable program.now }
     ensures net { (before behind all : HeldFacts) (from : Instant) (forgotten : NamedData → Bool) → LeadsOn program.now before from behind (instant_at moment.now) all gone.now (option_map (λ f. f.now) come.entry) forgotten facts.now
         → NetStands program.now net.old (facts_at before from) forgotten → OnOk result (NetStands program.now net.new (facts_at behind (instant_at moment.now)) forgotten) }
@@ -109,11 +129,11 @@ pub(crate) fn followed(
 {
     let gone = facts_at(alloc, facts, gone)?;
     let changes = net.advance(alloc, program, gone.as_slice(), come, moment, facts)?;
-    refreshed(alloc, agenda, changes)
+    agenda.refreshed(alloc, changes)
 }
 
 /// The facts without those of these tags.
-pub(crate) fn without_all(facts: FactStore, tags: Vec<u64>) -> FactStore
+pub(crate) fn without_all(facts: BoxedFacts, tags: Vec<u64>) -> BoxedFacts
     ensures { (tag : ℕ) → map.get result tag ≡ left_at facts tags.items tag }
 {
     let mut facts = facts;

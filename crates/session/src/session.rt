@@ -61,7 +61,7 @@ impl Session {
         let saliences = saliences_of(alloc, program.rules.as_slice())?;
         let (net, first) = Rete::build(alloc, &program)?;
         let (agenda, _left) = refreshed(alloc, Agenda::new(alloc, &saliences)?, first)?;
-        let state = State::new(alloc, agenda);
+        let state = State::new(alloc, agenda)?;
         let retention = Retention::new(alloc);
         let setting = Running::new(alloc, Setting { program, lives })?;
         let memory = Box::new(alloc, Memory { net, retention })?;

@@ -10,10 +10,10 @@ ghost use Rattle.retention.specs.Retentions.{has_tag, is_among};
 ghost use Rattle.rete_net.specs.Dropped.{AreListed, rows_for};
 ghost use Rattle.session_laws.specs.Standing.{Awaits, Runs, Standing, StaysSound};
 
+use crate::boxed::{BoxedAgenda, BoxedFacts};
 use crate::refreshing::without_all;
 use crate::state::State;
 use agenda::Agenda;
-use fact_store::FactStore;
 use fx_base::{Facts, NoMemory, RuleId, Tag};
 use rete_net::RuleRows;
 use retention::Retention;
@@ -38,7 +38,7 @@ fn tags_of(alloc: Global, set: &BTreeSet<u64, Global>) -> Result<Vec<u64>, NoMem
 }
 
 // The names of the facts that have these tags.
-fn names_at(alloc: Global, facts: &FactStore, tags: &[u64]) -> Result<Vec<Named>, NoMemory>
+fn names_at(alloc: Global, facts: &BoxedFacts, tags: &[u64]) -> Result<Vec<Named>, NoMemory>
     ensures { IfOk result (λ names. names.items ≡ filter_map (λ tag. option_map name_of (map.get facts.now tag)) tags.now) }
 {
     let mut names = Vec::with_capacity(alloc, tags.len())?;
@@ -67,6 +67,18 @@ fn without_fired(agenda: Agenda, dropped: Vec<RuleRows>) -> Agenda
     agenda
 }
 
+impl BoxedAgenda {
+    // The same of an agenda in its box.
+    fn without_fired(self, alloc: Global, dropped: Vec<RuleRows>) -> Result<BoxedAgenda, NoMemory>
+        ensures saliences { IfOk result (λ a. a.saliences ≡ self.saliences) }
+        ensures pending { IfOk result (λ a. a.pending ≡ self.pending) }
+        ensures fired { (rules : ℕ) → rules < 2 ^ 16 → AreListed dropped.items rules → IfOk result (λ a. (m : Match) → has_match a.fired m ≡ (has_match self.fired m && not (has (rows_for dropped.items m.rule.0) m.row))) }
+    {
+        let (agenda, room) = self.taken_out(alloc)?;
+        Ok(BoxedAgenda::put_back(room, without_fired(agenda, dropped)))
+    }
+}
+
 impl State {
     /// Forgets what is past its life and named by no pending match: the events whose ends have come, and those past them which a match
     /// named that has stopped pending; `left` are the tags of these matches. Where nothing is old it costs what `Retention::past` says.
@@ -84,7 +96,7 @@ impl State {
     {
         let mut state = self;
         let retention = mem::replace(&mut memory.retention, Retention::new(alloc));
-        let (retention, old) = retention.past(alloc, state.clock, left, &state.agenda)?;
+        let (retention, old) = retention.past(alloc, state.clock, left, state.agenda.agenda())?;
         memory.retention = retention;
         if old.is_empty() {
             return Ok(state);
@@ -94,7 +106,8 @@ impl State {
         let dropped = memory
             .net
             .forget(alloc, &setting.program, &names, &state.facts)?;
-        state.agenda = without_fired(state.agenda, dropped);
+        let agenda = state.agenda.without_fired(alloc, dropped)?;
+        state.agenda = agenda;
         state.facts = without_all(state.facts, old);
         Ok(state)
     }

@@ -1,10 +1,6 @@
 use Rattle.session_laws.proofs.Leaving.{turn_gone}
 use Rattle.session.proofs.refreshing.without_all.Goals as goal
 
-pub loop-tag-preserved-in-Some : goal.loop-tag-preserved-in-Some
-loop-tag-preserved-in-Some c =
-    turn_gone c.args.facts c.args.tags.items c.loop-tag.facts c.take.new.self c.in-Some.tag c.loop-tag.tag-iterator.rest.items c.next.new.self.rest.items c.loop-tag.invariant c.in-Some.ensures.steps.0 c.take.ensures.rest
-
 pub loop-tag-preserved : goal.loop-tag-preserved
 loop-tag-preserved c =
     turn_gone c.args.facts c.args.tags.items c.loop-tag.facts c.take.new.self c.in-Some.tag c.loop-tag.tag-iterator.rest.items c.next.new.self.rest.items c.loop-tag.invariant c.in-Some.ensures.steps.0 c.take.ensures.rest
