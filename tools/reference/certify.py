@@ -50,8 +50,8 @@ def shortest_path(edges: list[Edge], x, y) -> tuple[Edge, ...]:
 
 
 def negative_cycle(edges: list[Edge]) -> Optional[tuple[Edge, ...]]:
-    """A cycle of fewest edges whose sum is below 0, None where there is none."""
-    points = sorted({point for edge in edges for point in edge[:2]})
+    """A cycle of fewest edges whose sum is below 0, from its last point on, None where there is none."""
+    points = sorted({point for edge in edges for point in edge[:2]}, key=lambda point: (point[0], point[1] == "e"), reverse=True)
     by_start = {point: walks(edges, point, len(points)) for point in points}
     for _ in points:
         for point, reached in [(point, next(by_start[point])) for point in points]:

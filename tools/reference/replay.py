@@ -23,7 +23,7 @@ from program import Program
 from reader import FILE_END
 from resume import IMAGE_END, Refused, resumed, saved
 from run import Run, program_or_refusal, report, run_on
-from stages import FIRST_STAGE, LAST_STAGE, stage_asked
+from stages import FIRST_STAGE, LAST_STAGE, has_proof, stage_asked
 
 SCRIPT_END = 1 << 30
 
@@ -47,7 +47,7 @@ class Asked:
 
 
 def modes(stage: int) -> list[str]:
-    return ["run", "check", "lives"] + ["save"] * (stage >= 18) + ["proof"] * (stage >= 19)
+    return ["run", "check", "lives"] + ["save"] * (stage >= 18) + ["proof"] * has_proof(stage)
 
 
 def usage(stage: int) -> str:

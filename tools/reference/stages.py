@@ -10,6 +10,11 @@ FIRST_STAGE, LAST_STAGE = 2, 20
 TODAY = 17
 
 
+def has_proof(stage: int) -> bool:
+    """Whether there is the mode `proof`: from the stage 19 on, and in today's program, which had it before images."""
+    return stage >= 19 or stage == TODAY
+
+
 def stage_asked() -> int:
     """The stage that the environment names, or that of today's program."""
     return int(os.environ.get("REFERENCE_STAGE", TODAY))

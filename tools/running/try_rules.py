@@ -32,9 +32,9 @@ from stages import TODAY
 # As long as the second evaluator takes some seconds, where rules join events: docs/TOOLS.md.
 MOST_LINES = 10_000
 
-MODES = ("run", "check", "lives")
+MODES = ("run", "check", "lives", "proof")
 
-USAGE = """usage: ./try [--mode run|check|lives] [--limit N] [--by proved|evaluator|checked] RULES [SCRIPT]
+USAGE = """usage: ./try [--mode run|check|lives|proof] [--limit N] [--by proved|evaluator|checked] RULES [SCRIPT]
        ./try --gen N                     a load that the program makes itself (docs/SCRIPT.md)
        ./try --where RULES               where and why a rule file is refused, all at once
        ./try --lint RULES                what is accepted in a rule file, and seldom meant
@@ -114,7 +114,7 @@ def asked_by(words: list[str]) -> Asked:
     mode, limit = options.get("mode", "run"), number_of(options.get("limit", "100000"))
     if mode not in MODES:
         near = get_close_matches(mode.lower(), MODES, 1)
-        raise Ended(2, f"--mode is run, check or lives, and not `{mode}`" + (f": {near[0]}?" if near else ""))
+        raise Ended(2, f"--mode is run, check, lives or proof, and not `{mode}`" + (f": {near[0]}?" if near else ""))
     if not files:
         raise Ended(2, "which rule file?")
     if len(files) > 2:

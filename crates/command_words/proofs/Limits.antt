@@ -5,7 +5,7 @@ use Rattle.clap.specs.Words.{Row, Text, first_of}
 use Rattle.std.proofs.lemmas.Bool.Decides.{nat_tests}
 use Rattle.command_words.specs.declared.asking.Asked.TheVariants.{Load}
 use Rattle.command_words.specs.declared.asking.Mode.{Mode}
-use Rattle.command_words.specs.declared.asking.Mode.TheVariants.{Run, Check, Lives}
+use Rattle.command_words.specs.declared.asking.Mode.TheVariants.{Run, Check, Lives, Proof}
 use Rattle.command_words.specs.Asked.{IsLimit, IsLoadNumber, IsWithinBounds, asks_parts, asked_rows, given_or, limit_of, limited, load_number_of, load_numbered, mode_of, number_of}
 
 limited_within : (n : ℕ) → IfSome (limited n) IsLimit
@@ -42,9 +42,11 @@ parts_within (Some mode) (Some limit) (Some name) (Some text) within = tt
 parts_within (Some Run) (Some limit) None None within = tt
 parts_within (Some Check) (Some limit) None None within = tt
 parts_within (Some Lives) (Some limit) None None within = tt
+parts_within (Some Proof) (Some limit) None None within = tt
 parts_within (Some Run) (Some limit) None (Some text) within = load_within (load_number_of text) limit (load_number_within text) within
 parts_within (Some Check) (Some limit) None (Some text) within = tt
 parts_within (Some Lives) (Some limit) None (Some text) within = tt
+parts_within (Some Proof) (Some limit) None (Some text) within = tt
 
 -- what arguments ask for
 pub rows_within : (rows : List Row) → IfSome (asked_rows rows) IsWithinBounds

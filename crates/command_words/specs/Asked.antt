@@ -9,14 +9,15 @@ use Rattle.clap.specs.Words.{Row, Text, first_of}
 use Rattle.command_words.specs.declared.asking.Asked.{Asked}
 use Rattle.command_words.specs.declared.asking.Asked.TheVariants.{RuleFile, Load}
 use Rattle.command_words.specs.declared.asking.Mode.{Mode}
-use Rattle.command_words.specs.declared.asking.Mode.TheVariants.{Run, Check, Lives}
+use Rattle.command_words.specs.declared.asking.Mode.TheVariants.{Run, Check, Lives, Proof}
 use Rattle.command_words.specs.Command.{matched}
 
 -- the mode of this name
 abbrev pub mode_of : Text → Option Mode
 mode_of name = if bytes_eq name (codes "run") then Some Run
     else (if bytes_eq name (codes "check") then Some Check
-    else (if bytes_eq name (codes "lives") then Some Lives else None))
+    else (if bytes_eq name (codes "lives") then Some Lives
+    else (if bytes_eq name (codes "proof") then Some Proof else None)))
 
 -- from 1 to so many decimal digits
 abbrev pub is_numeral : ℕ → Text → Bool

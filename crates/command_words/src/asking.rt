@@ -9,6 +9,8 @@ pub enum Mode {
     Check,
     /// To print how long the events of its types matter.
     Lives,
+    /// To print certificates of that.
+    Proof,
 }
 
 /// What the words ask for. A limit is the most firings of a run, from 1 to 1,000,000.

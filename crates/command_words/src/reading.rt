@@ -23,6 +23,7 @@ fn mode_of(name: &str) -> Option<Mode>
         "run" => Some(Mode::Run),
         "check" => Some(Mode::Check),
         "lives" => Some(Mode::Lives),
+        "proof" => Some(Mode::Proof),
         _ => None,
     }
 }

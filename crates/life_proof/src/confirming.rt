@@ -46,7 +46,8 @@ fn with_edge(sum: i128, edge: &NetEdge) -> i128
     sum + i128::from(edge.most)
 }
 
-fn total(edges: &[NetEdge]) -> i128
+/// The sum of what edges allow.
+pub fn total(edges: &[NetEdge]) -> i128
     ensures { result ≡ sum_of edges.now }
 {
     let mut sum: i128 = 0;
@@ -98,8 +99,8 @@ fn is_within(sum: i128, tail: Bound, life: Millis) -> bool
     }
 }
 
-// The tail of the condition of this place.
-fn tail_at_place(program: &Program, conditions: &[Condition], place: usize) -> Bound
+/// The tail of the condition of this place; infinite where there is none.
+pub fn tail_at_place(program: &Program, conditions: &[Condition], place: usize) -> Bound
     ensures { limit_of result ≡ tail_at program.now (slice_get conditions.now place) }
 {
     match conditions.get(place) {

@@ -11,5 +11,5 @@ mod part;
 mod tables;
 
 pub use certifying::certify;
-pub use confirming::confirm;
+pub use confirming::{confirm, tail_at_place, total};
 pub use part::{Part, Proof};

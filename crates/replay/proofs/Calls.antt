@@ -6,7 +6,7 @@ use Rattle.fx_io.specs.Lines.{lines_of}
 use Rattle.command_words.specs.declared.asking.Asked.{Asked}
 use Rattle.command_words.specs.declared.asking.Asked.TheVariants.{RuleFile, Load}
 use Rattle.command_words.specs.declared.asking.Mode.{Mode}
-use Rattle.command_words.specs.declared.asking.Mode.TheVariants.{Run, Check, Lives}
+use Rattle.command_words.specs.declared.asking.Mode.TheVariants.{Run, Check, Lives, Proof}
 use Rattle.command_words.specs.Asked.{asked_by}
 use Rattle.gen_load.specs.Rules.{rules_text}
 use Rattle.rule_model.specs.declared.life.LifeTable.{LifeTable}
@@ -30,8 +30,8 @@ use Rattle.replay.specs.Calls.{ShelfSeen, Outside, seen, wanted_told, TellsScrip
 use Rattle.replay.specs.Notices.{usage}
 use Rattle.replay.specs.Refusals.{reading, refusal_text}
 use Rattle.replay.specs.Report.{Report, IsReport, IsWritten, IsLong, IsStopped, outcome_report, run_status, fault_status, TakesFor}
-use Rattle.replay.specs.Wanted.{Wanted, Files, usage_line, refuses, runs, accepts, tells_lives, sums_up, wanted, wanted_by, wanted_of, wanted_by_name, wanted_by_number, wanted_by_file, wanted_by_reading, IfRefuses, ReadsFile, RunsScript, IsUnfit}
-use Rattle.replay.proofs.Reports.{front_of}
+use Rattle.replay.specs.Wanted.{Wanted, Files, usage_line, refuses, runs, accepts, tells_lives, proves, sums_up, wanted, wanted_by, wanted_of, wanted_by_name, wanted_by_number, wanted_by_file, wanted_by_reading, IfRefuses, ReadsFile, RunsScript, IsUnfit}
+use Rattle.replay.proofs.Reports.{front_by, front_none}
 use Rattle.replay.proofs.Tables.{by_table}
 
 some_is : {A : Type 0} {x y : A} → Some x ≡ Some y → x ≡ y
@@ -45,7 +45,7 @@ pub written_as : {gives : Gives} {fires : Fires} {counts : Counts} {w : Wanted} 
     → IsWritten gives fires counts w script before after status
 written_as {gives} {fires} {counts} {w} {script} {before} {after} q is said front = record {
   exact = λ low. (q, is, said low);
-  front = λ high r also. front_of gives fires counts w script q before after is (front high) r also;
+  front = λ high. front_by gives fires counts w script q before after is (front high);
 }
 
 none_written : (before : Option (List ℕ)) (bytes : List ℕ) → AppendsFront before before bytes
@@ -324,6 +324,7 @@ nothing_stopped gives fires counts usage_line script left before tells = refl
 nothing_stopped gives fires counts (refuses refusal) script left before tells = refl
 nothing_stopped gives fires counts (accepts p) script left before tells = refl
 nothing_stopped gives fires counts (tells_lives p) script left before tells = refl
+nothing_stopped gives fires counts (proves p) script left before tells = refl
 nothing_stopped gives fires counts (sums_up number limit p) script left before tells = refl
 
 -- why a call ends that does nothing
@@ -335,7 +336,7 @@ pub nothing_done : (gives : Gives) (fires : Fires) (counts : Counts) (asked : Op
     (before : Option (List ℕ)) (failed s : ℕ) → MayEnd asked s → Reason asked first last s
     → RunOf gives fires counts asked wanted (seen first left given faults before failed) (seen last left given faults before failed) s
 nothing_done gives fires counts asked wanted first last left given faults before failed s ends reason = record {
-  written = λ w script is tells. record { exact = λ low. absurd (omega (arith, low, between.0)); front = λ is_high r also. none_written before r.bytes };
+  written = λ w script is tells. record { exact = λ low. absurd (omega (arith, low, between.0)); front = λ is_high. front_none gives fires counts w script before (none_written before) };
   stopped = λ w script is tells stop. nothing_stopped gives fires counts w script left before tells;
   long = λ w script is tells eight. absurd (omega (arith, eight, between.1));
   refusal = λ w is three. absurd (omega (arith, three, between.0));
@@ -417,6 +418,7 @@ script_told (refuses refusal) left script e = tt
 script_told (runs limit p) left script e = e
 script_told (accepts p) left script e = tt
 script_told (tells_lives p) left script e = tt
+script_told (proves p) left script e = tt
 script_told (sums_up number limit p) left script e = tt
 
 unread_mode : (mode : Mode) (limit : ℕ) (found : Reading) (left : Option (List ℕ)) (script : List ℕ) → mode ≢ Run → TellsScript (wanted_by_reading (wanted_of mode limit) found) left script
@@ -425,6 +427,8 @@ unread_mode Check limit (Accepted p) left script no_run = tt
 unread_mode Check limit (Refused refusal) left script no_run = tt
 unread_mode Lives limit (Accepted p) left script no_run = tt
 unread_mode Lives limit (Refused refusal) left script no_run = tt
+unread_mode Proof limit (Accepted p) left script no_run = tt
+unread_mode Proof limit (Refused refusal) left script no_run = tt
 
 unread_file : (mode : Mode) (limit : ℕ) (file : Option (List ℕ)) (left : Option (List ℕ)) (script : List ℕ) → mode ≢ Run → TellsScript (wanted_by_file (wanted_of mode limit) file) left script
 unread_file mode limit None left script no_run = tt
@@ -552,3 +556,4 @@ pub not_refused : {gives : Gives} {fires : Fires} {counts : Counts} {asked : Opt
 not_refused Run limit p run three = run.refusal (runs limit p) refl three
 not_refused Check limit p run three = run.refusal (accepts p) refl three
 not_refused Lives limit p run three = run.refusal (tells_lives p) refl three
+not_refused Proof limit p run three = run.refusal (proves p) refl three

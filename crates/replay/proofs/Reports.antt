@@ -1,5 +1,5 @@
 -- What is wanted, by what was found.
-use Rattle.std.proofs.Common.{◌≡◌, ◌≢◌, ◌≤◌, ◌+◌, ℕ, Bool, true, false, List, length, take, nat_lt, Option, Some, None, refl, sym, ap, subst, ◌∙◌, arith}
+use Rattle.std.proofs.Common.{◌≡◌, ◌≢◌, inl, inr, ◌≤◌, ◌+◌, ℕ, Bool, true, false, List, length, take, nat_lt, Option, Some, None, refl, sym, ap, subst, ◌∙◌, arith}
 use Rattle.std.specs.Prelude.{IfSome}
 use Rattle.std.proofs.lemmas.Bool.Decides.{nat_tests}
 use Rattle.std.proofs.lemmas.List.{take_all, length-take}
@@ -13,8 +13,8 @@ use Rattle.replay.specs.declared.refusal.Refusal.{Refusal}
 use Rattle.replay.specs.declared.rule_file.Reading.{Reading}
 use Rattle.replay.specs.declared.rule_file.Reading.TheVariants.{Refused}
 use Rattle.replay.specs.Refusals.{reading, whole_file, IsRefused}
-use Rattle.replay.specs.Report.{Report, IsReport}
-use Rattle.replay.specs.Wanted.{Wanted, Files, refuses, sums_up, wanted_by_name, wanted_by_number, wanted_by_file, wanted_by_reading, IsRefusedFile, HasRefused}
+use Rattle.replay.specs.Report.{Report, IsDefinite, IsFront, IsFrontOfEach, IsReport}
+use Rattle.replay.specs.Wanted.{Wanted, Files, usage_line, refuses, runs, accepts, tells_lives, proves, sums_up, wanted_by_name, wanted_by_number, wanted_by_file, wanted_by_reading, IsRefusedFile, HasRefused}
 use Rattle.replay.proofs.Tables.{one_report}
 
 -- what is wanted of a load, by what its rule file is
@@ -22,10 +22,31 @@ pub a_load : (number limit : ℕ) (found : Reading) → reading rules_text ≡ f
 unfolding wanted_by_number
 a_load number limit found e = ap (wanted_by_reading (sums_up number limit)) e
 
--- the front of one report is the front of each
-pub front_of : (gives : Gives) (fires : Fires) (counts : Counts) (w : Wanted) (script : List ℕ) (q : Report) (before after : Option (List ℕ)) → IsReport gives fires counts w script q → AppendsFront before after q.bytes
-    → (r : Report) → IsReport gives fires counts w script r → AppendsFront before after r.bytes
-front_of gives fires counts w script q before after is front r also = rw (one_report gives fires counts w script r q also is) front
+-- the front of one report is the front of each, where there is one
+front_of : (gives : Gives) (fires : Fires) (counts : Counts) (w : Wanted) (script : List ℕ) (q : Report) (before after : Option (List ℕ)) → IsDefinite w → IsReport gives fires counts w script q
+    → AppendsFront before after q.bytes → IsFrontOfEach gives fires counts w script before after
+front_of gives fires counts w script q before after definite is front r also = rw (one_report gives fires counts w script r q definite also is) front
+
+pub front_by : (gives : Gives) (fires : Fires) (counts : Counts) (w : Wanted) (script : List ℕ) (q : Report) (before after : Option (List ℕ)) → IsReport gives fires counts w script q
+    → AppendsFront before after q.bytes → IsFront gives fires counts w script before after
+front_by gives fires counts usage_line script q before after is front = front_of gives fires counts usage_line script q before after tt is front
+front_by gives fires counts (refuses refusal) script q before after is front = front_of gives fires counts (refuses refusal) script q before after tt is front
+front_by gives fires counts (runs limit p) script q before after is front = front_of gives fires counts (runs limit p) script q before after tt is front
+front_by gives fires counts (accepts p) script q before after is front = front_of gives fires counts (accepts p) script q before after tt is front
+front_by gives fires counts (tells_lives p) script q before after is front = front_of gives fires counts (tells_lives p) script q before after tt is front
+front_by gives fires counts (proves p) script q before after is front = inr (q, is, front)
+front_by gives fires counts (sums_up number limit p) script q before after is front = front_of gives fires counts (sums_up number limit p) script q before after tt is front
+
+-- nothing is a front
+pub front_none : (gives : Gives) (fires : Fires) (counts : Counts) (w : Wanted) (script : List ℕ) (before : Option (List ℕ)) → ((bytes : List ℕ) → AppendsFront before before bytes)
+    → IsFront gives fires counts w script before before
+front_none gives fires counts usage_line script before none = λ r is. none r.bytes
+front_none gives fires counts (refuses refusal) script before none = λ r is. none r.bytes
+front_none gives fires counts (runs limit p) script before none = λ r is. none r.bytes
+front_none gives fires counts (accepts p) script before none = λ r is. none r.bytes
+front_none gives fires counts (tells_lives p) script before none = λ r is. none r.bytes
+front_none gives fires counts (proves p) script before none = inl refl
+front_none gives fires counts (sums_up number limit p) script before none = λ r is. none r.bytes
 
 pub no_file : (of_program : Program → Wanted) (name : List ℕ) (told : Option Files) (files : Files) → told ≡ Some files → IsMissing told name → wanted_by_name of_program files name ≡ refuses (whole_file Missing)
 unfolding wanted_by_name

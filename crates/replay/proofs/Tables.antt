@@ -14,9 +14,9 @@ use Rattle.rule_lives.specs.Lifetimes.{IsLife, PatternLife}
 use Rattle.rule_lives.specs.Reach.{Limit, finite, infinite, Below}
 use Rattle.script_run.specs.Firings.{Gives, Fires, Counts}
 use Rattle.script_run.specs.Run.{setting_of, whole_run}
-use Rattle.replay.specs.Report.{Report, IsReport, outcome_report, summary_report}
+use Rattle.replay.specs.Report.{Report, IsDefinite, IsReport, outcome_report, summary_report}
 use Rattle.replay.specs.Notices.{lives_text}
-use Rattle.replay.specs.Wanted.{Wanted, usage_line, refuses, runs, accepts, tells_lives, sums_up}
+use Rattle.replay.specs.Wanted.{Wanted, usage_line, refuses, runs, accepts, tells_lives, proves, sums_up}
 
 int_same : (a b : ℤ) → a ≤ℤ b → b ≤ℤ a → a ≡ b
 int_same a b h k = omega (arith, ints)
@@ -97,19 +97,20 @@ pub same_lives_text : (p : Program) (a b : LifeTable) → AreLives p a → AreLi
 same_lives_text p a b h k = ap (λ (table : LifeTable). lives_text p.types table.lives) (one_table p a b h k)
 
 -- what is wanted has at most one report
-pub one_report : (gives : Gives) (fires : Fires) (counts : Counts) (w : Wanted) (script : List ℕ) (r q : Report) → IsReport gives fires counts w script r → IsReport gives fires counts w script q → r ≡ q
-one_report gives fires counts usage_line script r q h k = h ∙ sym k
-one_report gives fires counts (refuses refusal) script r q h k = h ∙ sym k
-one_report gives fires counts (runs limit program) script r q h k = h.2 ∙ ap run_report (one_table program h.0 k.0 h.1 k.1) ∙ sym k.2
+pub one_report : (gives : Gives) (fires : Fires) (counts : Counts) (w : Wanted) (script : List ℕ) (r q : Report) → IsDefinite w → IsReport gives fires counts w script r → IsReport gives fires counts w script q → r ≡ q
+one_report gives fires counts usage_line script r q definite h k = h ∙ sym k
+one_report gives fires counts (refuses refusal) script r q definite h k = h ∙ sym k
+one_report gives fires counts (runs limit program) script r q definite h k = h.2 ∙ ap run_report (one_table program h.0 k.0 h.1 k.1) ∙ sym k.2
   where
     run_report : LifeTable → Report
     run_report table = outcome_report (whole_run (setting_of gives fires counts limit program table) (lines_of script))
-one_report gives fires counts (accepts program) script r q h k = h ∙ sym k
-one_report gives fires counts (sums_up number limit program) script r q h k = h.2 ∙ ap load_report (one_table program h.0 k.0 h.1 k.1) ∙ sym k.2
+one_report gives fires counts (accepts program) script r q definite h k = h ∙ sym k
+one_report gives fires counts (sums_up number limit program) script r q definite h k = h.2 ∙ ap load_report (one_table program h.0 k.0 h.1 k.1) ∙ sym k.2
   where
     load_report : LifeTable → Report
     load_report table = summary_report number (whole_run (setting_of gives fires counts limit program table) (lines_of (script_text number)))
-one_report gives fires counts (tells_lives program) script r q h k =
+one_report gives fires counts (proves program) script r q definite h k = absurd definite
+one_report gives fires counts (tells_lives program) script r q definite h k =
     h.2 ∙ ap lives_report (same_lives_text program h.0 k.0 h.1 k.1) ∙ sym k.2
   where
     lives_report : List ℕ → Report

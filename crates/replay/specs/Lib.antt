@@ -1,7 +1,9 @@
 pub mod Notices
 pub mod Summary
+pub mod Certificates
 pub mod Refusals
 pub mod RuleFiles
 pub mod Wanted
 pub mod Report
+pub mod Proving
 pub mod Calls

@@ -1,5 +1,5 @@
 -- What the program writes, and its status, with an engine of these meanings.
-use Rattle.std.specs.Prelude.{◌≡◌, ◌<◌, ◌≤◌, ◌+◌, ◌^◌, ℕ, true, false, List, Option}
+use Rattle.std.specs.Prelude.{◌≡◌, ◌⊎◌, ◌<◌, ◌≤◌, ◌+◌, ◌^◌, ℕ, true, false, List, Option}
 use Rattle.fx_io.specs.Outside.{append, AppendsFront}
 use Rattle.fx_io.specs.Lines.{lines_of}
 use Rattle.rule_model.specs.declared.life.LifeTable.{LifeTable}
@@ -13,9 +13,12 @@ use Rattle.script_run.specs.Firings.{Gives, Fires, Counts}
 use Rattle.script_run.specs.Run.{Outcome, setting_of, whole_run}
 use Rattle.script_run.specs.Unfinished.{Long, StoppedAtRead}
 use Rattle.replay.specs.Refusals.{refusal_text}
+use Rattle.life_proof.specs.declared.part.Proof.{Proof}
+use Rattle.life_proof.specs.Good.{IsGood}
+use Rattle.replay.specs.Certificates.{proof_text}
 use Rattle.replay.specs.Summary.{summary_text}
 use Rattle.replay.specs.Notices.{usage, accepted_text, lives_text}
-use Rattle.replay.specs.Wanted.{Wanted, usage_line, refuses, runs, accepts, tells_lives, sums_up}
+use Rattle.replay.specs.Wanted.{Wanted, usage_line, refuses, runs, accepts, tells_lives, proves, sums_up}
 
 -- what is written, and the status
 pub record Report : Type 0 where
@@ -41,8 +44,8 @@ abbrev pub summary_report : ℕ → Outcome → Report
 summary_report number outcome = record { bytes = summary_text number outcome.bytes; status = run_status outcome.ended }
 
 -- What is written where this is wanted, and the status: the usage line; the refusal; the run of the script, by the table of the lives of
--- the program's types; the numbers of types and rules of the program; the lives of its types, by the table that has them; the summary of
--- the run of the script of a load, by such a table.
+-- the program's types; the numbers of types and rules of the program; the lives of its types, by the table that has them; good
+-- certificates of these lives; the summary of the run of the script of a load, by such a table.
 abbrev pub IsReport : Gives → Fires → Counts → Wanted → List ℕ → Report → Type 0
 IsReport gives fires counts usage_line script r = r ≡ record { bytes = usage; status = 2 }
 IsReport gives fires counts (refuses refusal) script r = r ≡ record { bytes = refusal_text refusal; status = 3 }
@@ -51,6 +54,8 @@ IsReport gives fires counts (runs limit program) script r =
 IsReport gives fires counts (accepts program) script r = r ≡ record { bytes = accepted_text program; status = 0 }
 IsReport gives fires counts (tells_lives program) script r =
     (table : LifeTable) × AreLives program table × (r ≡ record { bytes = lives_text program.types table.lives; status = 0 })
+IsReport gives fires counts (proves program) script r =
+    (table : LifeTable) × AreLives program table × (certificate : Proof) × IsGood program table certificate × (r ≡ record { bytes = proof_text program certificate; status = 0 })
 IsReport gives fires counts (sums_up number limit program) script r =
     (table : LifeTable) × AreLives program table
     × (r ≡ summary_report number (whole_run (setting_of gives fires counts limit program table) (lines_of (script_text number))))
@@ -59,10 +64,35 @@ IsReport gives fires counts (sums_up number limit program) script r =
 abbrev pub Reports : Option (List ℕ) → Option (List ℕ) → ℕ → Report → Type 0
 Reports before after status r = (after ≡ append before r.bytes) × (status ≡ r.status)
 
--- what is written with a status where this is wanted: with one up to 4 exactly a report, else a front of each
+-- what is wanted has one report: certificates have several
+abbrev pub IsDefinite : Wanted → Type 0
+IsDefinite usage_line = Unit {0}
+IsDefinite (refuses refusal) = Unit {0}
+IsDefinite (runs limit program) = Unit {0}
+IsDefinite (accepts program) = Unit {0}
+IsDefinite (tells_lives program) = Unit {0}
+IsDefinite (proves program) = ⊥
+IsDefinite (sums_up number limit program) = Unit {0}
+
+-- the front of each report
+abbrev pub IsFrontOfEach : Gives → Fires → Counts → Wanted → List ℕ → Option (List ℕ) → Option (List ℕ) → Type 0
+IsFrontOfEach gives fires counts wanted script before after = (r : Report) → IsReport gives fires counts wanted script r → AppendsFront before after r.bytes
+
+-- the front of the report; of certificates nothing, or the front of some of the reports
+abbrev pub IsFront : Gives → Fires → Counts → Wanted → List ℕ → Option (List ℕ) → Option (List ℕ) → Type 0
+IsFront gives fires counts usage_line script before after = IsFrontOfEach gives fires counts usage_line script before after
+IsFront gives fires counts (refuses refusal) script before after = IsFrontOfEach gives fires counts (refuses refusal) script before after
+IsFront gives fires counts (runs limit program) script before after = IsFrontOfEach gives fires counts (runs limit program) script before after
+IsFront gives fires counts (accepts program) script before after = IsFrontOfEach gives fires counts (accepts program) script before after
+IsFront gives fires counts (tells_lives program) script before after = IsFrontOfEach gives fires counts (tells_lives program) script before after
+IsFront gives fires counts (proves program) script before after =
+    (after ≡ before) ⊎ ((r : Report) × IsReport gives fires counts (proves program) script r × AppendsFront before after r.bytes)
+IsFront gives fires counts (sums_up number limit program) script before after = IsFrontOfEach gives fires counts (sums_up number limit program) script before after
+
+-- what is written with a status where this is wanted: with one up to 4 exactly a report, else a front of it
 pub record IsWritten (gives : Gives) (fires : Fires) (counts : Counts) (wanted : Wanted) (script : List ℕ) (before after : Option (List ℕ)) (status : ℕ) : Type 0 where
   pub exact : status ≤ 4 → (r : Report) × IsReport gives fires counts wanted script r × Reports before after status r
-  pub front : 5 ≤ status → (r : Report) → IsReport gives fires counts wanted script r → AppendsFront before after r.bytes
+  pub front : 5 ≤ status → IsFront gives fires counts wanted script before after
 
 -- ---- runs that stop before the end of the script
 

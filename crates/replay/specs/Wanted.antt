@@ -5,7 +5,7 @@ use Rattle.fx_io.specs.Outside.{Rose}
 use Rattle.command_words.specs.declared.asking.Asked.{Asked}
 use Rattle.command_words.specs.declared.asking.Asked.TheVariants.{RuleFile, Load}
 use Rattle.command_words.specs.declared.asking.Mode.{Mode}
-use Rattle.command_words.specs.declared.asking.Mode.TheVariants.{Run, Check, Lives}
+use Rattle.command_words.specs.declared.asking.Mode.TheVariants.{Run, Check, Lives, Proof}
 use Rattle.command_words.specs.Asked.{asked_by}
 use Rattle.gen_load.specs.Rules.{rules_text}
 use Rattle.rule_model.specs.declared.program.Program.{Program}
@@ -26,6 +26,8 @@ pub data Wanted : Type 0 where
   accepts : Program → Wanted
   -- the lives of the types of a program
   tells_lives : Program → Wanted
+  -- certificates of the lives of the types of a program
+  proves : Program → Wanted
   -- the summary of a run over the load of this number: that of its script over a program, with at most so many firings
   sums_up : ℕ → ℕ → Program → Wanted
 
@@ -38,6 +40,7 @@ abbrev pub wanted_of : Mode → ℕ → Program → Wanted
 wanted_of Run limit = runs limit
 wanted_of Check limit = accepts
 wanted_of Lives limit = tells_lives
+wanted_of Proof limit = proves
 
 abbrev pub wanted_by_reading : (Program → Wanted) → Reading → Wanted
 wanted_by_reading of_program (Accepted program) = of_program program

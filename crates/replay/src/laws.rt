@@ -8,7 +8,7 @@ ghost use Rattle.script_run.specs.Firings.{Counts, Fires, Gives, all_fired, firi
 ghost use Rattle.replay.specs.declared.rule_file.Reading.{Reading};
 ghost use Rattle.replay.specs.declared.rule_file.Reading.TheVariants.{Accepted};
 ghost use Rattle.replay.specs.Refusals.{reading};
-ghost use Rattle.replay.specs.Report.{Report, IsReport};
+ghost use Rattle.replay.specs.Report.{Report, IsDefinite, IsReport};
 ghost use Rattle.replay.specs.RuleFiles.{IsReading};
 ghost use Rattle.replay.specs.Wanted.{Wanted};
 
@@ -33,8 +33,8 @@ pub fn the_rule_file_of_a_load_is_accepted()
     ensures { (program : Program) × (reading rules_text ≡ Accepted program) }
 {}
 
-/// What is wanted has at most one report.
+/// What is wanted has at most one report, unless it is certificates, which can be good in several ways.
 pub fn there_is_at_most_one_report()
     ensures { (gives : Gives) (fires : Fires) (counts : Counts) (w : Wanted) (script : List ℕ) (r q : Report)
-        → IsReport gives fires counts w script r → IsReport gives fires counts w script q → r ≡ q }
+        → IsDefinite w → IsReport gives fires counts w script r → IsReport gives fires counts w script q → r ≡ q }
 {}

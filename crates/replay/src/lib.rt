@@ -6,6 +6,7 @@
 pub mod laws;
 mod load;
 mod modes;
+mod proving;
 mod refusal;
 mod rule_file;
 mod saying;

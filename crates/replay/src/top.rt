@@ -1,6 +1,6 @@
 //! The calls of the program: what is done with a program, with a rule file, and with what the words ask for.
 ghost use Rattle.std.specs.Prelude.{◌≡◌, ◌≢◌, ◌⊎◌, ◌<◌, ◌≤◌, ◌^◌, [], List, Option, ℕ, length, Some, None, IfSome};
-ghost use Rattle.fx_io.specs.Outside.{Rose, append, AppendsFront, count_after};
+ghost use Rattle.fx_io.specs.Outside.{Rose, append, count_after};
 ghost use Rattle.command_words.specs.declared.asking.Asked.TheVariants.{RuleFile};
 ghost use Rattle.command_words.specs.declared.asking.Mode.{Mode as ModeAsked};
 ghost use Rattle.command_words.specs.Asked.{asked_by, IsWithinBounds};
@@ -9,11 +9,12 @@ ghost use Rattle.rule_world.specs.Programs.{IsRunnable};
 ghost use Rattle.replay.specs.Calls.{ShelfSeen, seen_of_shelf, seen, wanted_told, RunOf};
 ghost use Rattle.replay.specs.Notices.{usage};
 ghost use Rattle.replay.specs.Refusals.{refusal_text};
-ghost use Rattle.replay.specs.Report.{Report, IsReport, Reports, IsWritten, IsStopped, TakesFor, IsLong};
+ghost use Rattle.replay.specs.Report.{Report, IsFront, IsReport, Reports, IsWritten, IsStopped, TakesFor, IsLong};
 ghost use Rattle.replay.specs.Wanted.{Files, runs, wanted, wanted_of, wanted_by_name, IfRefuses, ReadsFile, RunsScript, HasRefused, IsUnfit};
 
 use crate::load::run_load;
 use crate::modes::{accept, tell_lives};
+use crate::proving::tell_proof;
 use crate::refusal::{RefusalCode, whole_file};
 use crate::rule_file::{FileFault, Reading, read_whole, reading_of};
 use crate::saying::{refuse, say};
@@ -31,7 +32,7 @@ const FILE_MAX: usize = 1_048_576;
 
 /// What is written where the words are refused.
 const USAGE: &[u8] =
-    b"usage: replay [--mode run|check|lives] [--limit N] RULES | replay [--limit N] --gen N\n";
+    b"usage: replay [--mode run|check|lives|proof] [--limit N] RULES | replay [--limit N] --gen N\n";
 
 // Runs a program with the table of its lives over a script.
 fn run_with_lives<E: Engine, S: Source, K: Sink>(
@@ -96,6 +97,7 @@ fn do_mode<E: Engine, S: Source, K: Sink>(
         Mode::Run => run_program::<E, S, K>(alloc, program, limit, script, out),
         Mode::Check => accept(alloc, &program, out),
         Mode::Lives => tell_lives(alloc, &program, out),
+        Mode::Proof => tell_proof(alloc, &program, out),
     }
 }
 
@@ -175,7 +177,7 @@ pub fn run_rules<E: Engine, F: Shelf, S: Source, K: Sink>(
     ensures exact { (files : Files) (bytes : List ℕ) → F.files shelf.old ≡ Some files → S.left script.old ≡ Some bytes → result ≤ 4
         → (r : Report) × IsReport E.gives E.fires E.counts (wanted_by_name (runs limit) files name.now) bytes r × Reports (K.written out.old) (K.written out.new) result r }
     ensures front { (files : Files) (bytes : List ℕ) → F.files shelf.old ≡ Some files → S.left script.old ≡ Some bytes → 5 ≤ result
-        → (r : Report) → IsReport E.gives E.fires E.counts (wanted_by_name (runs limit) files name.now) bytes r → AppendsFront (K.written out.old) (K.written out.new) r.bytes }
+        → IsFront E.gives E.fires E.counts (wanted_by_name (runs limit) files name.now) bytes (K.written out.old) (K.written out.new) }
     ensures long { (files : Files) (bytes : List ℕ) → F.files shelf.old ≡ Some files → S.left script.old ≡ Some bytes
         → result ≡ 8 → IsLong E.gives E.fires E.counts (wanted_by_name (runs limit) files name.now) bytes }
 
@@ -209,8 +211,9 @@ pub fn run_rules<E: Engine, F: Shelf, S: Source, K: Sink>(
 
 /// Does all that the program does for the words behind its own name, with an engine of this type, and answers the status.
 /// In the mode `run` it runs the script over the rule file, as [`run_rules`] does, with the limit of firings of the words.
-/// In the mode `check` it writes that the rule file is accepted, and in the mode `lives` how long, in milliseconds, the events
-/// of its types matter: both leave the script alone, and the limit means nothing to them. Where the words ask for the load of a number,
+/// In the mode `check` it writes that the rule file is accepted, in the mode `lives` how long, in milliseconds, the events
+/// of its types matter, and in the mode `proof` certificates of that, which were confirmed: these leave the script alone, and the limit means
+/// nothing to them. Where the words ask for the load of a number,
 /// it runs the load's script over the load's rule file, with the limit of the words, prints nothing of that, and writes how many lines
 /// it would print, and how many of these say what fires and what is faulty: the shelf and the script are left alone.
 ///
@@ -230,7 +233,7 @@ pub fn replay<E: Engine, F: Shelf, S: Source, K: Sink>(
     ensures exact { (files : Files) (bytes : List ℕ) → F.files shelf.old ≡ Some files → S.left script.old ≡ Some bytes → result ≤ 4
         → (r : Report) × IsReport E.gives E.fires E.counts (wanted words.now files) bytes r × Reports (K.written out.old) (K.written out.new) result r }
     ensures front { (files : Files) (bytes : List ℕ) → F.files shelf.old ≡ Some files → S.left script.old ≡ Some bytes → 5 ≤ result
-        → (r : Report) → IsReport E.gives E.fires E.counts (wanted words.now files) bytes r → AppendsFront (K.written out.old) (K.written out.new) r.bytes }
+        → IsFront E.gives E.fires E.counts (wanted words.now files) bytes (K.written out.old) (K.written out.new) }
     ensures long { (files : Files) (bytes : List ℕ) → F.files shelf.old ≡ Some files → S.left script.old ≡ Some bytes
         → result ≡ 8 → IsLong E.gives E.fires E.counts (wanted words.now files) bytes }
 

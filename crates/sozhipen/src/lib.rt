@@ -2,13 +2,13 @@
 #![tactic(auto)]
 
 ghost use Rattle.std.specs.Prelude.{◌≡◌, ◌⊎◌, ◌<◌, ◌≤◌, ◌^◌, [], List, ℕ, length, Some, None, IfSome};
-ghost use Rattle.fx_io.specs.Outside.{Rose, append, AppendsFront, count_after};
+ghost use Rattle.fx_io.specs.Outside.{Rose, append, count_after};
 ghost use Rattle.command_words.specs.declared.asking.Asked.TheVariants.{RuleFile};
 ghost use Rattle.command_words.specs.declared.asking.Mode.{Mode};
 ghost use Rattle.command_words.specs.declared.asking.Mode.TheVariants.{Run};
 ghost use Rattle.command_words.specs.Asked.{asked_by};
 ghost use Rattle.replay.specs.Refusals.{refusal_text};
-ghost use Rattle.replay.specs.Report.{Report, IsReport, Reports, IsWritten, IsStopped, TakesFor, IsLong};
+ghost use Rattle.replay.specs.Report.{Report, IsFront, IsReport, Reports, IsWritten, IsStopped, TakesFor, IsLong};
 ghost use Rattle.replay.specs.Notices.{usage};
 ghost use Rattle.replay.specs.Wanted.{Files, wanted, IfRefuses, ReadsFile, RunsScript, IsUnfit};
 ghost use Rattle.session_laws.specs.Counts.{held_counts};
@@ -45,7 +45,7 @@ pub fn run<F: Shelf, S: Source, K: Sink>(
     ensures exact { (files : Files) (bytes : List ℕ) → F.files shelf.old ≡ Some files → S.left script.old ≡ Some bytes → result ≤ 4
         → (r : Report) × IsReport gives fires held_counts (wanted words.now files) bytes r × Reports (K.written out.old) (K.written out.new) result r }
     ensures front { (files : Files) (bytes : List ℕ) → F.files shelf.old ≡ Some files → S.left script.old ≡ Some bytes → 5 ≤ result
-        → (r : Report) → IsReport gives fires held_counts (wanted words.now files) bytes r → AppendsFront (K.written out.old) (K.written out.new) r.bytes }
+        → IsFront gives fires held_counts (wanted words.now files) bytes (K.written out.old) (K.written out.new) }
     ensures long { (files : Files) (bytes : List ℕ) → F.files shelf.old ≡ Some files → S.left script.old ≡ Some bytes
         → result ≡ 8 → IsLong gives fires held_counts (wanted words.now files) bytes }
 

@@ -1,0 +1,7 @@
+use Rattle.std.proofs.Common.{◌≡◌, ◌++◌, take}
+use Rattle.std.specs.List.{flat_map}
+use Rattle.replay.specs.Certificates.{edge_text}
+use Rattle.replay.proofs.proving.push_edges.Given as goal
+
+abbrev pub invariant-loop-edge : goal.invariant-loop-edge
+invariant-loop-edge l = l.text.items ≡ l.fn.text.items ++ flat_map edge_text (take l.edge-index l.edges)

@@ -1,0 +1,14 @@
+-- What is written of certificates where a write failed, or memory was refused.
+use Rattle.std.specs.Prelude.{◌≡◌, ◌⊎◌, ℕ, List, Option}
+use Rattle.fx_io.specs.Outside.{AppendsFront}
+use Rattle.rule_model.specs.declared.life.LifeTable.{LifeTable}
+use Rattle.rule_model.specs.declared.program.Program.{Program}
+use Rattle.rule_lives.specs.Keeping.{AreLives}
+use Rattle.life_proof.specs.declared.part.Proof.{Proof}
+use Rattle.life_proof.specs.Good.{IsGood}
+use Rattle.replay.specs.Certificates.{proof_text}
+
+-- nothing, or the front of good certificates
+abbrev pub IsProofFront : Program → Option (List ℕ) → Option (List ℕ) → Type 0
+IsProofFront p before after =
+    (after ≡ before) ⊎ ((table : LifeTable) × AreLives p table × (certificate : Proof) × IsGood p table certificate × AppendsFront before after (proof_text p certificate))
