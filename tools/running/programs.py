@@ -11,9 +11,10 @@ from pathlib import Path
 from typing import BinaryIO, Iterable, Optional
 
 TOOLS = Path(__file__).resolve().parent.parent
-sys.path[:0] = [str(TOOLS / "rulefile"), str(TOOLS / "reference")]
+sys.path[:0] = [str(TOOLS / "rulefile"), str(TOOLS / "reference"), str(TOOLS / "certificates")]
 
 import live  # noqa: E402
+from certify import proof_lines  # noqa: E402
 from lives import life_lines  # noqa: E402
 from program import Program  # noqa: E402
 from replay import put  # noqa: E402
@@ -58,8 +59,8 @@ def by_evaluator(program: Program, mode: str, limit: int, script: Optional[Binar
     if mode == "check":
         put(f"accepted {len(program.types)} types {len(program.rules)} rules\n")
         return 0
-    if mode == "lives":
-        put("".join(line + "\n" for line in life_lines(program)))
+    if mode in ("lives", "proof"):
+        put("".join(line + "\n" for line in (life_lines if mode == "lives" else proof_lines)(program)))
         return 0
     return live.answered(program, script if script is not None else [], limit)
 

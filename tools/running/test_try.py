@@ -59,6 +59,18 @@ class Try(unittest.TestCase):
                 output, _, status = tried("--by", "evaluator", script.with_suffix(".drl"), script)
                 self.assertEqual((output, status), (script.with_suffix(".out").read_text(), 1))
 
+    def test_a_drawing(self):
+        """Of the certificates that are printed, and of none that are no good."""
+        proof = tried("--by=evaluator", "--mode=proof", "examples/smoke.drl")[0]
+        with tempfile.TemporaryDirectory() as folder:
+            output = Path(folder, "proof.out")
+            output.write_text(proof)
+            drawn = tried("--draw", "examples/smoke.drl", output)
+            self.assertEqual((drawn, drawn[0].count("<figure"), drawn[2]), (tried("--draw", "examples/smoke.drl"), 4, 0))
+            output.write_text(proof.replace("e1<=10000 sum 10000", "e1<=9999 sum 9999"))
+            with mock.patch("sys.stderr", io.StringIO()):
+                self.assertEqual(tried("--draw", "examples/smoke.drl", output)[::2], ("", 1))
+
     def test_standard_input(self):
         output, _, status = tried("--by", "evaluator", DEAR, script='{"do":"insert","type":"Order","fields":{"amount":60}}\n{"do":"fire"}')
         self.assertEqual((output, status), ('new #1 Order\nfire "large order" #1\n', 0))
@@ -66,6 +78,8 @@ class Try(unittest.TestCase):
     def test_the_words_of_the_program(self):
         self.assertEqual(tried("--by=evaluator", "--mode", "check", DEAR)[::2], ("accepted 2 types 3 rules\n", 0))
         self.assertIn("life Scan infinite", tried("--by=evaluator", "--mode=lives", "examples/parcels.drl")[0])
+        proof = tried("--by=evaluator", "--mode=proof", "examples/smoke.drl")[0].splitlines()
+        self.assertEqual((len(proof), proof[1], proof[-1]), (5, 'proof "no water" 1 2 s2-e1<=10000 sum 10000 tail 2000', "confirmed"))
         output, _, status = tried("--by=evaluator", "--limit", "3", "examples/endless.drl", "examples/endless.jsonl")
         self.assertEqual((output.splitlines()[-1], status), ("limit 3", 4))
 

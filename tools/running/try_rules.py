@@ -20,6 +20,7 @@ from typing import BinaryIO, Callable, Optional
 from programs import PROVED, by_checked, by_evaluator, by_proved, checked_is_there, proved_is_current, put, tell  # first: it finds the others
 
 import cases
+import draw
 import lint
 import where
 import why
@@ -39,11 +40,13 @@ USAGE = """usage: ./try [--mode run|check|lives|proof] [--limit N] [--by proved|
        ./try --where RULES               where and why a rule file is refused, all at once
        ./try --lint RULES                what is accepted in a rule file, and seldom meant
        ./try --why RULES SCRIPT [--line N] [--rule NAME] [--fact N ..]
+       ./try --draw RULES [OUTPUT]       the certificates of `--mode proof`, or of its OUTPUT, as one HTML page
        ./try --cases FOLDER [RULES] [--data NAME=FILE ..] [--write]
 Without SCRIPT it reads lines from standard input. An example: ./try examples/dear.drl examples/dear.jsonl
 """
 
-TOOLS_BY_WORD: dict[str, Callable[[], int]] = {"--where": where.main, "--lint": lint.main, "--why": why.main, "--cases": cases.main}
+TOOLS_BY_WORD: dict[str, Callable[[], int]] = {"--where": where.main, "--lint": lint.main, "--why": why.main, "--draw": draw.main,
+                                               "--cases": cases.main}
 
 
 class Ended(Exception):
@@ -215,6 +218,14 @@ def run_rules(words: list[str]) -> int:
     asked = asked_by(words)
     data = rules_in(asked.rules)
     script = script_in(asked.script) if asked.mode == "run" else None
+    try:
+        return run_script(asked, data, script)
+    finally:
+        if script is not None and asked.script is not None:
+            script.close()
+
+
+def run_script(asked: Asked, data: bytes, script: Optional[BinaryIO]) -> int:
     by = chosen(asked, script)
     if by == "proved" or is_program(by):
         tell("the proved program" if by == "proved" else f"the program {by}")
