@@ -1,5 +1,5 @@
 -- The grammar of conditions, by one case for each line and each alternative of it.
-use Rattle.std.specs.Prelude.{ℕ, ℤ, List, [], ◌∷◌, pos, neg_ℤ, true, false, Option, Some, None, codes}
+use Rattle.std.specs.Prelude.{ℕ, ℤ, suc, List, [], ◌∷◌, ◌++◌, pos, neg_ℤ, true, false, Option, Some, None, codes}
 use Rattle.temporal_ops.specs.declared.word.OpWord.{OpWord}
 use Rattle.temporal_ops.specs.declared.word.OpWord.TheVariants.{After, Before, Coincides, During, Includes, Finishes, FinishedBy, Starts, StartedBy, Meets, MetBy, Overlaps, OverlappedBy}
 use Rattle.drl_lex.specs.declared.token.Rel.{Rel}
@@ -25,6 +25,8 @@ use Rattle.drl_grammar.specs.declared.condition.ResultWord.{ResultWord}
 use Rattle.drl_grammar.specs.declared.condition.ResultWord.TheVariants.{LongValue, IntValue}
 use Rattle.drl_grammar.specs.declared.condition.CondTree.{CondTree}
 use Rattle.drl_grammar.specs.declared.condition.CondTree.TheVariants as condition
+use Rattle.drl_grammar.specs.declared.written.Piece.{Piece}
+use Rattle.drl_grammar.specs.declared.written.Piece.TheVariants as piece
 use Rattle.drl_grammar.specs.Shapes.{Maybe, Separated, Listed}
 
 -- ---- words with a meaning of their own in one place
@@ -176,3 +178,27 @@ pub data IsCondition : CondTree → List TokenKind → List TokenKind → Type 0
   negated : {s : SourceTree} {ts rest : List TokenKind} → IsGroup s ts rest → IsCondition (condition.Negated s) (Word (codes "not") ∷ ts) rest
   existing : {s : SourceTree} {ts rest : List TokenKind} → IsGroup s ts rest → IsCondition (condition.Existing s) (Word (codes "exists") ∷ ts) rest
   folded : {c : CondTree} {ts rest : List TokenKind} → IsFolded c ts rest → IsCondition c ts rest
+
+-- ---- alternatives
+
+-- The number says how deep alternatives may still go.
+mutual
+  -- choice := condition | '(' condition+ ('or' condition+)+ ')', where each condition may be such a choice
+  pub data IsChoice : ℕ → List Piece → List TokenKind → List TokenKind → Type 0 where
+    one : {d : ℕ} {c : CondTree} {ts rest : List TokenKind} → IsCondition c ts rest → IsChoice d (piece.One c ∷ []) ts rest
+    alternatives : {d : ℕ} {ps qs : List Piece} {ts middle rest : List TokenKind} → AreAll d ps ts (Word (codes "or") ∷ middle) → AreAny d qs middle (Mark CloseParenthesis ∷ rest)
+        → IsChoice (suc d) (piece.Open ∷ ps ++ piece.Or ∷ qs ++ piece.Close ∷ []) (Mark OpenParenthesis ∷ ts) rest
+
+  -- choice+, of which all are asked for
+  pub data AreAll : ℕ → List Piece → List TokenKind → List TokenKind → Type 0 where
+    last : {d : ℕ} {ps : List Piece} {ts rest : List TokenKind} → IsChoice d ps ts rest → AreAll d ps ts rest
+    further : {d : ℕ} {ps qs : List Piece} {ts middle rest : List TokenKind} → IsChoice d ps ts middle → AreAll d qs middle rest → AreAll d (ps ++ qs) ts rest
+
+  -- choice+ ('or' choice+)*, of which one is asked for
+  pub data AreAny : ℕ → List Piece → List TokenKind → List TokenKind → Type 0 where
+    only : {d : ℕ} {ps : List Piece} {ts rest : List TokenKind} → AreAll d ps ts rest → AreAny d ps ts rest
+    or_else : {d : ℕ} {ps qs : List Piece} {ts middle rest : List TokenKind} → AreAll d ps ts (Word (codes "or") ∷ middle) → AreAny d qs middle rest → AreAny d (ps ++ piece.Or ∷ qs) ts rest
+
+-- what a rule asks for: alternatives are at most 16 deep
+abbrev pub IsAsked : List Piece → List TokenKind → List TokenKind → Type 0
+IsAsked = AreAll 16

@@ -8,9 +8,9 @@ use Rattle.drl_lex.specs.declared.token.TokenKind.TheVariants.{Word}
 use Rattle.drl_lex.specs.Tokens.{AreTokens}
 use Rattle.drl_lex.specs.Kinds.{kinds, starts}
 use Rattle.drl_expr.specs.Words.{is_among}
-use Rattle.drl_grammar.specs.declared.file.File.{File}
-use Rattle.drl_grammar.specs.declared.file.Item.{Item}
-use Rattle.drl_grammar.specs.declared.file.Body.{Body}
+use Rattle.drl_grammar.specs.declared.written.Written.{Written}
+use Rattle.drl_grammar.specs.declared.written.WrittenItem.{WrittenItem}
+use Rattle.drl_grammar.specs.declared.written.WrittenBody.{WrittenBody}
 use Rattle.drl_grammar.specs.Items.{IsItem}
 
 -- an item that begins with one of these words ends with the word `end`
@@ -44,19 +44,19 @@ abbrev pub lines_at : List ℕ → List Token → List ℕ
 lines_at bytes tokens = map (line_at bytes) (starts tokens)
 
 -- the items, one behind the other, each standing for all its tokens and having the line of its first one
-pub data AreItems : List Item → List TokenKind → List ℕ → Type 0 where
+pub data AreItems : List WrittenItem → List TokenKind → List ℕ → Type 0 where
   no_items : AreItems [] [] []
-  next_item : {body : Body} {items : List Item} {t : TokenKind} {ts : List TokenKind} {line : ℕ} {lines : List ℕ} → IsItem body (t ∷ take (extent t ts) ts) []
+  next_item : {body : WrittenBody} {items : List WrittenItem} {t : TokenKind} {ts : List TokenKind} {line : ℕ} {lines : List ℕ} → IsItem body (t ∷ take (extent t ts) ts) []
       → AreItems items (drop (extent t ts) ts) (drop (extent t ts) lines) → AreItems (record { line = line; body = body } ∷ items) (t ∷ ts) (line ∷ lines)
 
 -- The item of this number, counted from 1, is the first for which no tree stands, and its first token is in this line.
 pub data IsRefused : ℕ → ℕ → List TokenKind → List ℕ → Type 0 where
-  here : {t : TokenKind} {ts : List TokenKind} {line : ℕ} {lines : List ℕ} → ((body : Body) → IsItem body (t ∷ take (extent t ts) ts) [] → ⊥) → IsRefused 1 line (t ∷ ts) (line ∷ lines)
-  later : {k refused_line : ℕ} {body : Body} {t : TokenKind} {ts : List TokenKind} {line : ℕ} {lines : List ℕ} → IsItem body (t ∷ take (extent t ts) ts) []
+  here : {t : TokenKind} {ts : List TokenKind} {line : ℕ} {lines : List ℕ} → ((body : WrittenBody) → IsItem body (t ∷ take (extent t ts) ts) [] → ⊥) → IsRefused 1 line (t ∷ ts) (line ∷ lines)
+  later : {k refused_line : ℕ} {body : WrittenBody} {t : TokenKind} {ts : List TokenKind} {line : ℕ} {lines : List ℕ} → IsItem body (t ∷ take (extent t ts) ts) []
       → IsRefused k refused_line (drop (extent t ts) ts) (drop (extent t ts) lines) → IsRefused (k + 1) refused_line (t ∷ ts) (line ∷ lines)
 
 -- the bytes are tokens, and the tokens are the file's items
-pub record IsFile (file : File) (bytes : List ℕ) : Type 0 where
+pub record IsFile (file : Written) (bytes : List ℕ) : Type 0 where
   pub tokens : List Token
   pub spelled : AreTokens tokens bytes
   pub stand : AreItems file.items (kinds tokens) (lines_at bytes tokens)

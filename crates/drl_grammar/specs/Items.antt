@@ -5,17 +5,17 @@ use Rattle.drl_lex.specs.declared.token.TokenKind.TheVariants.{Word, Number, Tex
 use Rattle.drl_lex.specs.declared.token.Mark.TheVariants.{OpenParenthesis, CloseParenthesis, Comma, Semicolon, Colon, Dot, At, Minus, Star}
 use Rattle.drl_expr.specs.Words.{IsIdent}
 use Rattle.drl_grammar.specs.declared.action.ActTree.{ActTree}
-use Rattle.drl_grammar.specs.declared.condition.CondTree.{CondTree}
 use Rattle.drl_grammar.specs.declared.file.Attr.{Attr}
 use Rattle.drl_grammar.specs.declared.file.Attr.TheVariants as attr
 use Rattle.drl_grammar.specs.declared.file.Meta.{Meta}
 use Rattle.drl_grammar.specs.declared.file.Meta.TheVariants as meta
-use Rattle.drl_grammar.specs.declared.file.TypeTree.{TypeTree}
-use Rattle.drl_grammar.specs.declared.file.RuleTree.{RuleTree}
-use Rattle.drl_grammar.specs.declared.file.Body.{Body}
-use Rattle.drl_grammar.specs.declared.file.Body.TheVariants as body
-use Rattle.drl_grammar.specs.Shapes.{Maybe, Optional, Many, NonEmpty}
-use Rattle.drl_grammar.specs.Conditions.{IsSpan, IsName, IsCondition}
+use Rattle.drl_grammar.specs.declared.written.Piece.{Piece}
+use Rattle.drl_grammar.specs.declared.written.WrittenType.{WrittenType}
+use Rattle.drl_grammar.specs.declared.written.WrittenRule.{WrittenRule}
+use Rattle.drl_grammar.specs.declared.written.WrittenBody.{WrittenBody}
+use Rattle.drl_grammar.specs.declared.written.WrittenBody.TheVariants as body
+use Rattle.drl_grammar.specs.Shapes.{Maybe, Optional, Many}
+use Rattle.drl_grammar.specs.Conditions.{IsSpan, IsName, IsAsked}
 use Rattle.drl_grammar.specs.Actions.{IsAction}
 
 -- ---- names with dots
@@ -52,10 +52,15 @@ pub data IsMeta : Meta → List TokenKind → List TokenKind → Type 0 where
 pub data IsField : List ℕ × List ℕ → List TokenKind → List TokenKind → Type 0 where
   field : {f k : List ℕ} {rest : List TokenKind} → IsIdent f → IsIdent k → IsField (f, k) (Word f ∷ Mark Colon ∷ Word k ∷ rest) rest
 
--- Ident meta* field* 'end'
-pub data IsType : TypeTree → List TokenKind → List TokenKind → Type 0 where
-  type_of : {ty : List ℕ} {ms : List Meta} {fs : List (List ℕ × List ℕ)} {ts middle rest : List TokenKind} → IsIdent ty → Many IsMeta ms ts middle → Many IsField fs middle (Word (codes "end") ∷ rest)
-      → IsType (record { name = ty; metas = ms; fields = fs }) (Word ty ∷ ts) rest
+-- 'extends' Ident
+pub data IsParent : List ℕ → List TokenKind → List TokenKind → Type 0 where
+  parent : {ty : List ℕ} {rest : List TokenKind} → IsIdent ty → IsParent ty (Word (codes "extends") ∷ Word ty ∷ rest) rest
+
+-- Ident ['extends' Ident] meta* field* 'end'
+pub data IsType : WrittenType → List TokenKind → List TokenKind → Type 0 where
+  type_of : {ty : List ℕ} {above : Option (List ℕ)} {ms : List Meta} {fs : List (List ℕ × List ℕ)} {ts behind_parent middle rest : List TokenKind} → IsIdent ty
+      → Maybe IsParent above ts behind_parent → Many IsMeta ms behind_parent middle → Many IsField fs middle (Word (codes "end") ∷ rest)
+      → IsType (record { name = ty; parent = above; metas = ms; fields = fs }) (Word ty ∷ ts) rest
 
 -- '@' 'lateness' '(' span ')'
 pub data IsLateness : ℤ → List TokenKind → List TokenKind → Type 0 where
@@ -78,27 +83,27 @@ pub data IsAttr : Attr → List TokenKind → List TokenKind → Type 0 where
   salience : {n : ℤ} {ts middle rest : List TokenKind} → IsSalience n ts middle → Optional (Mark Comma) middle rest → IsAttr (attr.Salience n) (Word (codes "salience") ∷ ts) rest
   dialect : {s : List ℕ} {middle rest : List TokenKind} → Optional (Mark Comma) middle rest → IsAttr (attr.Dialect s) (Word (codes "dialect") ∷ Text s ∷ middle) rest
 
--- name attr* 'when' condition+ 'then' action* 'end'
-pub data IsRule : RuleTree → List TokenKind → List TokenKind → Type 0 where
-  rule : {s : List ℕ} {attrs : List Attr} {cs : List CondTree} {acts : List ActTree} {ts behind_name conditions actions rest : List TokenKind}
-      → IsName s ts behind_name → Many IsAttr attrs behind_name (Word (codes "when") ∷ conditions)
-      → NonEmpty IsCondition cs conditions (Word (codes "then") ∷ actions) → Many IsAction acts actions (Word (codes "end") ∷ rest)
-      → IsRule (record { name = s; attrs = attrs; conditions = cs; actions = acts }) ts rest
+-- name attr* 'when' choice+ 'then' action* 'end'
+pub data IsRule : WrittenRule → List TokenKind → List TokenKind → Type 0 where
+  rule : {s : List ℕ} {attrs : List Attr} {ps : List Piece} {acts : List ActTree} {ts behind_name asked actions rest : List TokenKind}
+      → IsName s ts behind_name → Many IsAttr attrs behind_name (Word (codes "when") ∷ asked)
+      → IsAsked ps asked (Word (codes "then") ∷ actions) → Many IsAction acts actions (Word (codes "end") ∷ rest)
+      → IsRule (record { name = s; attrs = attrs; pieces = ps; actions = acts }) ts rest
 
 -- ---- items
 
 -- item := 'package' Ident ('.' Ident)* [';']
 --       | 'import' Ident ('.' Ident)* ['.' '*'] [';']
 --       | 'dialect' Text [';']
---       | 'declare' Ident meta* field* 'end'
+--       | 'declare' Ident ['extends' Ident] meta* field* 'end'
 --       | 'declare' 'entry' '-' 'point' name ['@' 'lateness' '(' span ')'] 'end'
---       | 'rule' name attr* 'when' condition+ 'then' action* 'end'
-pub data IsItem : Body → List TokenKind → List TokenKind → Type 0 where
+--       | 'rule' name attr* 'when' choice+ 'then' action* 'end'
+pub data IsItem : WrittenBody → List TokenKind → List TokenKind → Type 0 where
   package_item : {path : List (List ℕ)} {ts middle rest : List TokenKind} → IsPath path ts middle → Optional (Mark Semicolon) middle rest
       → IsItem (body.Package path) (Word (codes "package") ∷ ts) rest
   import_item : {path : List (List ℕ)} {all : Bool} {ts behind_path middle rest : List TokenKind} → IsPath path ts behind_path → IsStar all behind_path middle → Optional (Mark Semicolon) middle rest
       → IsItem (body.Import path all) (Word (codes "import") ∷ ts) rest
   dialect_item : {s : List ℕ} {middle rest : List TokenKind} → Optional (Mark Semicolon) middle rest → IsItem (body.Dialect s) (Word (codes "dialect") ∷ Text s ∷ middle) rest
-  declare_type : {t : TypeTree} {ts rest : List TokenKind} → IsType t ts rest → IsItem (body.Declare t) (Word (codes "declare") ∷ ts) rest
+  declare_type : {t : WrittenType} {ts rest : List TokenKind} → IsType t ts rest → IsItem (body.Declare t) (Word (codes "declare") ∷ ts) rest
   declare_entry : {s : List ℕ} {late : Option ℤ} {ts rest : List TokenKind} → IsEntry (s, late) ts rest → IsItem (body.Entry s late) (Word (codes "declare") ∷ ts) rest
-  rule_item : {r : RuleTree} {ts rest : List TokenKind} → IsRule r ts rest → IsItem (body.Rule r) (Word (codes "rule") ∷ ts) rest
+  rule_item : {r : WrittenRule} {ts rest : List TokenKind} → IsRule r ts rest → IsItem (body.Rule r) (Word (codes "rule") ∷ ts) rest
