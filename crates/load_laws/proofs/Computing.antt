@@ -28,6 +28,9 @@ unfolding
     Rattle.drl_sight.specs.EntryPoints.with_names
     Rattle.drl_sight.specs.Names.are_distinct Rattle.drl_sight.specs.Names.place_from
     Rattle.drl_sight.specs.Sight.meaning_of
+    Rattle.subrules.specs.Hierarchy.ancestors Rattle.subrules.specs.Ways.walked Rattle.subrules.specs.Ways.ways_of
+    Rattle.subrules.specs.Expanded.inherited_metas Rattle.subrules.specs.Expanded.inherited_fields Rattle.subrules.specs.Expanded.numbered_rules Rattle.subrules.specs.Expanded.origins_from
+    Rattle.subrules.specs.Faults.obstacle_from
     Rattle.drl_limits.specs.Limits.span_limit
     Rattle.drl_uses.specs.Kinds.fields_once
     Rattle.drl_uses.specs.Uses.any_condition

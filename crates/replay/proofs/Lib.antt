@@ -3,6 +3,7 @@ pub mod Files
 pub mod Reports
 pub mod LoadFile
 pub mod RuleFileLaws
+pub mod Titles
 pub mod Tables
 pub mod LivesText
 pub mod Calls

@@ -1,6 +1,7 @@
 pub mod Notices
 pub mod Summary
 pub mod Certificates
+pub mod Titles
 pub mod Refusals
 pub mod RuleFiles
 pub mod Wanted

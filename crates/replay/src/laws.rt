@@ -20,7 +20,7 @@ pub fn a_fire_command_leaves_nothing_pending()
         → firings fires p None left w ≡ all_fired lines v more → fires p v ≡ None }
 {}
 
-/// A rule file is what the grammar and the checks say: the function that the report uses gives exactly what the relation of five
+/// A rule file is what the grammar and the checks say: the function that the report uses gives exactly what the relation of six
 /// cases has.
 pub fn a_rule_file_is_what_the_grammar_says(bytes: &[u8])
     ensures { (found : Reading) → reading bytes.now ≡ found ↔ IsReading bytes.now found }

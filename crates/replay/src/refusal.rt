@@ -6,6 +6,7 @@ use drl_parse::LexCode;
 use fx_base::NoMemory;
 use script_run::push_number;
 use std::alloc::Global;
+use subrules::ExpandCode;
 
 /// Why a rule file is refused.
 #[derive(Clone, Copy, Debug, PartialEq, Eq)]
@@ -18,7 +19,9 @@ pub(crate) enum RefusalCode {
     Lexical(LexCode),
     /// An item is outside the grammar.
     Syntax,
-    /// An item fails a check.
+    /// An item cannot be written out.
+    Expanded(ExpandCode),
+    /// An item fails a check of what it is written out to.
     Checked(CheckCode),
 }
 
@@ -51,6 +54,7 @@ impl RefusalCode {
             RefusalCode::TooLong => "TooLong",
             RefusalCode::Syntax => "Syntax",
             RefusalCode::Lexical(code) => code.name(),
+            RefusalCode::Expanded(code) => code.name(),
             RefusalCode::Checked(code) => code.name(),
         }
     }

@@ -1,21 +1,28 @@
-ghost use Rattle.std.specs.Prelude.{◌≡◌, ◌<◌, ◌≤◌, ℕ, List, length, take, drop, Ok, Err, Result, IfOk, IfSome, IsErrOf};
+ghost use Rattle.std.specs.Prelude.{◌≡◌, ◌<◌, ◌≤◌, ◌-◌, ℕ, List, length, take, drop, slice_index_or, Ok, Err, Result, IfOk, IfSome, IsErrOf};
 ghost use Rattle.fx_io.specs.Outside.{Rose, file_told, IsMissing, IsFound};
 ghost use Rattle.drl_parse.specs.Parsed.{Parsed, Gives as GivesFile};
 ghost use Rattle.drl_check.specs.Answers.{Fails};
 ghost use Rattle.drl_check.specs.Checks.{Failure};
-ghost use Rattle.drl_check.specs.Outcomes.{checked};
+ghost use Rattle.drl_grammar.specs.declared.written.Written.{Written as WrittenFile};
+ghost use Rattle.subrules.specs.Expanded.{origins as origins_of};
+ghost use Rattle.subrules.specs.Faults.{obstacle};
+ghost use Rattle.subrules.specs.Outcomes.{IsExpanded, IsRefusal};
+ghost use Rattle.rule_world.specs.Programs.{IsRunnable};
 ghost use Rattle.rule_model.specs.declared.program.Program.{Program as ProgramData};
-ghost use Rattle.replay.specs.Refusals.{of_parsed, of_checked, reading, IsSound};
+ghost use Rattle.replay.specs.Refusals.{of_parsed, of_obstacle, of_checked, reading, IsSound};
+ghost use Rattle.replay.specs.Titles.{renamed, with_titles};
 ghost use Rattle.replay.specs.declared.rule_file.Reading.TheVariants.{Refused};
 ghost use Rattle.replay.specs.declared.rule_file.FileFault.TheVariants.{NoMemory as OutOfMemory};
 
 use crate::refusal::{Refusal, RefusalCode, whole_file};
 use drl_check::{CheckFault, check};
-use drl_parse::{File, ParseFault, parse};
-use fx_base::NoMemory;
+use drl_grammar::Written;
+use drl_parse::{ParseFault, parse};
+use fx_base::{Copies, NoMemory, Seq, Text};
 use fx_io::{Shelf, ShelfFault};
-use rule_model::Program;
+use rule_model::{Program, Rule};
 use std::alloc::{AllocError, Global};
+use subrules::{ExpandFault, Expanded, expand};
 
 /// Why a file was not read.
 #[derive(Clone, Copy, Debug, PartialEq, Eq)]
@@ -117,13 +124,38 @@ fn parse_refusal(fault: ParseFault) -> Result<Refusal, NoMemory>
     }
 }
 
-// The place and the code of a fault of the checks.
-fn check_refusal(fault: CheckFault) -> Result<Refusal, NoMemory>
-    ensures told { IfOk result (λ refusal. (found : Result ProgramData Failure) → Fails fault found → of_checked found ≡ Refused refusal) }
+// The place and the code of a fault of writing out.
+fn expand_refusal(fault: ExpandFault) -> Result<Refusal, NoMemory>
+    ensures told { IfOk result (λ refusal. (file : WrittenFile) → IsRefusal file fault → of_obstacle file (obstacle file.items) ≡ Refused refusal) }
+{
+    match fault {
+        ExpandFault::Refused { item, line, code } => Ok(Refusal {
+            item,
+            line: u64::from(line),
+            code: RefusalCode::Expanded(code),
+        }),
+        ExpandFault::NoMemory => Err(NoMemory),
+    }
+}
+
+// The number of the item from which an item of the plain file comes.
+fn origin(origins: &[u64], item: u32) -> u64
+    ensures { result ≡ slice_index_or origins.now (item - 1) 0 }
+{
+    match origins.get((item as usize).saturating_sub(1)) {
+        Some(number) => *number,
+        None => 0,
+    }
+}
+
+// The place and the code of a fault of the checks, of a file written out to one whose items come from these.
+fn check_refusal(fault: CheckFault, origins: &[u64]) -> Result<Refusal, NoMemory>
+    ensures told { IfOk result (λ refusal. (file : WrittenFile) (found : Result ProgramData Failure) → origins.now ≡ origins_of file.items → Fails fault found
+        → of_checked file found ≡ Refused refusal) }
 {
     match fault {
         CheckFault::Refused { item, line, code } => Ok(Refusal {
-            item: u64::from(item),
+            item: origin(origins, item),
             line: u64::from(line),
             code: RefusalCode::Checked(code),
         }),
@@ -131,14 +163,65 @@ fn check_refusal(fault: CheckFault) -> Result<Refusal, NoMemory>
     }
 }
 
-// What a file is.
-fn read_file(alloc: Global, file: &File) -> Result<Reading, NoMemory>
-    ensures reading { IfOk result (λ found. found ≡ of_checked (checked file.now)) }
+// The program with these names of rules.
+fn with_titles(alloc: Global, program: Program, titles: &[Text]) -> Result<Program, NoMemory>
+    ensures named { IfOk result (λ p. p ≡ with_titles titles.now program) }
+    ensures runnable { IsRunnable program → IfOk result IsRunnable }
+{
+    let Program {
+        types,
+        entries,
+        rules,
+    } = program;
+    Ok(Program {
+        types,
+        entries,
+        rules: Seq::from_vec(renamed(alloc, rules.into_vec(), titles)?),
+    })
+}
+
+fn renamed(alloc: Global, rules: Vec<Rule>, titles: &[Text]) -> Result<Vec<Rule>, NoMemory>
+    ensures { IfOk result (λ named. named.items ≡ renamed titles.now rules.items) }
+{
+    let mut named = Vec::with_capacity(alloc, rules.len())?;
+    for rule in rules {
+        let title = match titles.get(named.len()) {
+            Some(title) => title.copy(alloc)?,
+            None => rule.name.copy(alloc)?,
+        };
+        named.push(Rule {
+            name: title,
+            ..rule
+        })?;
+    }
+    Ok(named)
+}
+
+// What a file is that is written out to this one.
+fn read_expanded(alloc: Global, expanded: &Expanded) -> Result<Reading, NoMemory>
+    ensures reading { IfOk result (λ found. (file : WrittenFile) → IsExpanded file expanded.now → found ≡ of_obstacle file (obstacle file.items)) }
     ensures sound { IfOk result IsSound }
 {
-    match check(alloc, file) {
-        Ok(program) => Ok(Reading::Accepted(program)),
-        Err(fault) => Ok(Reading::Refused(check_refusal(fault)?)),
+    match check(alloc, &expanded.file) {
+        Ok(program) => {
+            let titles = expanded.titles.as_slice();
+            Ok(Reading::Accepted(with_titles(alloc, program, titles)?))
+        }
+        Err(fault) => {
+            let origins = expanded.origins.as_slice();
+            Ok(Reading::Refused(check_refusal(fault, origins)?))
+        }
+    }
+}
+
+// What a file is.
+fn read_file(alloc: Global, file: &Written) -> Result<Reading, NoMemory>
+    ensures reading { IfOk result (λ found. found ≡ of_obstacle file.now (obstacle file.now.items)) }
+    ensures sound { IfOk result IsSound }
+{
+    match expand(alloc, file) {
+        Ok(expanded) => read_expanded(alloc, &expanded),
+        Err(fault) => Ok(Reading::Refused(expand_refusal(fault)?)),
     }
 }
 

@@ -1,0 +1,7 @@
+use Rattle.std.proofs.Common.{◌≡◌, drop}
+use Rattle.std.specs.List.{list_any}
+use Rattle.subrules.specs.Faults.{is_over_subtypes}
+use Rattle.subrules.proofs.faults.any_over_subtypes.Given as goal
+
+abbrev pub invariant-loop-piece : goal.invariant-loop-piece
+invariant-loop-piece l = list_any (is_over_subtypes l.types) (drop l.piece-index l.pieces) ≡ list_any (is_over_subtypes l.types) l.pieces

@@ -1,0 +1,6 @@
+use Rattle.std.proofs.Common.{◌≡◌, ◌++◌, map, drop}
+use Rattle.subrules.specs.Hierarchy.{type_names}
+use Rattle.subrules.proofs.hierarchy.names_in.Given as goal
+
+abbrev pub invariant-loop-tree : goal.invariant-loop-tree
+invariant-loop-tree l = l.names.items ++ type_names (map (λ t. t.now) (drop l.tree-index l.types)) ≡ type_names (map (λ t. t.now) l.types)

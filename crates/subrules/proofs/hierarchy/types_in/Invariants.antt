@@ -1,0 +1,6 @@
+use Rattle.std.proofs.Common.{◌≡◌, ◌++◌, map, drop}
+use Rattle.subrules.specs.Hierarchy.{types_of}
+use Rattle.subrules.proofs.hierarchy.types_in.Given as goal
+
+abbrev pub invariant-loop-item : goal.invariant-loop-item
+invariant-loop-item l = map (λ t. t.now) l.types.items ++ types_of (drop l.item-index l.items) ≡ types_of l.items

@@ -1,0 +1,6 @@
+use Rattle.std.proofs.Common.{◌≡◌, drop}
+use Rattle.subrules.specs.Sizes.{all_measured, at_no_piece}
+use Rattle.subrules.proofs.sizes.measure.Given as goal
+
+abbrev pub invariant-loop-piece : goal.invariant-loop-piece
+invariant-loop-piece l = all_measured l.types l.walk (drop l.piece-index l.pieces) ≡ all_measured l.types at_no_piece l.pieces

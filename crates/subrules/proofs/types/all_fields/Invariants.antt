@@ -1,0 +1,6 @@
+use Rattle.std.proofs.Common.{◌≡◌, map, drop}
+use Rattle.subrules.specs.Expanded.{inherited_fields}
+use Rattle.subrules.proofs.types.all_fields.Given as goal
+
+abbrev pub invariant-loop-tree : goal.invariant-loop-tree
+invariant-loop-tree l = inherited_fields l.fields.items (map (λ t. t.now) (drop l.tree-index l.above)) ≡ inherited_fields l.own (map (λ t. t.now) l.above)

@@ -1,0 +1,7 @@
+use Rattle.std.proofs.Common.{◌≡◌, ◌++◌, map, drop}
+use Rattle.drl_grammar.specs.declared.condition.CondTree.TheVariants.{Negated}
+use Rattle.subrules.specs.Ways.{over_type}
+use Rattle.subrules.proofs.ways.all_negated.Given as goal
+
+abbrev pub invariant-loop-name : goal.invariant-loop-name
+invariant-loop-name l = l.way.items ++ map (λ name. Negated (over_type l.source name)) (drop l.name-index l.names) ≡ map (λ name. Negated (over_type l.source name)) l.names

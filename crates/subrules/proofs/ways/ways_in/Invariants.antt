@@ -1,0 +1,6 @@
+use Rattle.std.proofs.Common.{◌≡◌, drop}
+use Rattle.subrules.specs.Ways.{walked, at_begin}
+use Rattle.subrules.proofs.ways.ways_in.Given as goal
+
+abbrev pub invariant-loop-piece : goal.invariant-loop-piece
+invariant-loop-piece l = walked l.types l.walk (drop l.piece-index l.pieces) ≡ walked l.types at_begin l.pieces

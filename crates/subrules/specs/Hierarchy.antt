@@ -1,0 +1,75 @@
+-- Which types extend which. A name that is declared twice means its first declaration.
+use Rattle.std.specs.Prelude.{ℕ, zero, suc, nat_eq, Bool, List, [], ◌∷◌, map, length, Option, Some, None, slice_get, option_and_then, option_to_list}
+use Rattle.std.specs.List.{filter, flat_map, list_any}
+use Rattle.std.specs.Str.{bytes_eq}
+use Rattle.drl_sight.specs.EntryPoints.{with_names}
+use Rattle.drl_sight.specs.Names.{is_among, place_of}
+use Rattle.drl_grammar.specs.declared.written.WrittenBody.{WrittenBody}
+use Rattle.drl_grammar.specs.declared.written.WrittenBody.TheVariants as body
+use Rattle.drl_grammar.specs.declared.written.WrittenItem.{WrittenItem}
+use Rattle.drl_grammar.specs.declared.written.WrittenType.{WrittenType}
+
+abbrev pub type_in : WrittenBody → List WrittenType
+type_in (body.Declare t) = t ∷ []
+type_in (body.Package path) = []
+type_in (body.Import path star) = []
+type_in (body.Dialect text) = []
+type_in (body.Entry name lateness) = []
+type_in (body.Rule r) = []
+
+-- the declared types, in the order of the file
+abbrev pub types_of : List WrittenItem → List WrittenType
+types_of items = flat_map (λ (item : WrittenItem). type_in item.body) items
+
+abbrev pub type_names : List WrittenType → List (List ℕ)
+type_names types = map (λ (t : WrittenType). t.name) types
+
+-- their names, each once
+abbrev pub first_names : List WrittenType → List (List ℕ)
+first_names types = with_names [] (type_names types)
+
+-- the type of a name
+abbrev pub type_named : List WrittenType → List ℕ → Option WrittenType
+type_named types name = option_and_then (λ k. slice_get types k) (place_of (type_names types) name)
+
+abbrev pub is_named : List ℕ → WrittenType → Bool
+is_named name t = bytes_eq t.name name
+
+-- the type that a type extends
+abbrev pub parent_of : List WrittenType → WrittenType → Option WrittenType
+parent_of types t = option_and_then (type_named types) t.parent
+
+-- its parent, the parent of that, and so on upward: so many at most
+unfoldable pub ancestors : List WrittenType → ℕ → Option WrittenType → List WrittenType
+ancestors types zero up = []
+ancestors types (suc n) None = []
+ancestors types (suc n) (Some u) = u ∷ ancestors types n (parent_of types u)
+
+-- All types above a type. Where parents do not go in a circle, it has at most as many as there are types.
+abbrev pub above : List WrittenType → WrittenType → List WrittenType
+above types t = ancestors types (length types) (parent_of types t)
+
+-- Whether the way upward from a type goes in a circle: one step further than there are types it still has not ended. So the type or
+-- one above it is above itself.
+abbrev pub goes_round : List WrittenType → WrittenType → Bool
+goes_round types t = nat_eq (length (ancestors types (suc (length types)) (parent_of types t))) (suc (length types))
+
+-- whether the type of one name stands below that of another
+abbrev pub is_below : List WrittenType → List ℕ → List ℕ → Bool
+is_below types over name = list_any (is_named over) (ancestors types (length types) (option_and_then (parent_of types) (type_named types name)))
+
+-- the name that the type of a name extends
+abbrev pub extended_by : List WrittenType → List ℕ → List (List ℕ)
+extended_by types name = option_to_list (option_and_then (λ (t : WrittenType). t.parent) (type_named types name))
+
+-- the names that types extend
+abbrev pub extended : List WrittenType → List (List ℕ)
+extended types = flat_map (extended_by types) (first_names types)
+
+-- whether another type extends the type of this name
+abbrev pub has_subtypes : List WrittenType → List ℕ → Bool
+has_subtypes types name = is_among (extended types) name
+
+-- the name of a type, and those of the types below it in the order of the file
+abbrev pub kinds_of : List WrittenType → List ℕ → List (List ℕ)
+kinds_of types name = name ∷ filter (is_below types name) (first_names types)

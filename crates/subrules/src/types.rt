@@ -1,0 +1,111 @@
+ghost use Rattle.std.specs.Prelude.{◌≡◌, ◌++◌, map, IfOk, OnOk};
+ghost use Rattle.std.specs.Prelude.{not};
+ghost use Rattle.std.specs.List.{filter};
+ghost use Rattle.subrules.specs.Expanded.{meta_word, has_word, inherited_metas, inherited_fields, plain_type};
+
+use crate::copying::Copied;
+use crate::hierarchy::Hierarchy;
+use drl_grammar::{Meta, TypeTree, WrittenType};
+use fx_base::{Copies, NoMemory, Seq, Text};
+use std::alloc::Global;
+
+fn word_of_meta(meta: &Meta) -> &'static str
+    ensures { result.now ≡ meta_word meta.now }
+{
+    match meta {
+        Meta::Role(_) => "role",
+        Meta::Timestamp(_) => "timestamp",
+        Meta::Duration(_) => "duration",
+        Meta::Expires(_) => "expires",
+        Meta::Reference => "reference",
+    }
+}
+
+// Whether one of the annotations has the word of this one.
+fn has_word_of(metas: &[Meta], meta: &Meta) -> bool
+    ensures { result ≡ has_word metas.now meta.now }
+{
+    let word = word_of_meta(meta);
+    for other in metas {
+        if word == word_of_meta(other) {
+            return true;
+        }
+    }
+    false
+}
+
+// Annotations, and behind them those of others whose word none of them has.
+fn with_others(alloc: Global, metas: Vec<Meta>, others: &[Meta]) -> Result<Vec<Meta>, NoMemory>
+    ensures { IfOk result (λ all. all.items ≡ metas.items ++ filter (λ m. not (has_word metas.items m)) others.now) }
+{
+    let mut new = Vec::new(alloc);
+    for meta in others {
+        if !has_word_of(&metas, meta) {
+            new.push(meta.copied(alloc)?)?;
+        }
+    }
+    let mut all = metas;
+    for meta in new {
+        all.push(meta)?;
+    }
+    Ok(all)
+}
+
+// The annotations of a type, and those that it inherits.
+fn all_metas(alloc: Global, own: &Seq<Meta>, above: &[&WrittenType]) -> Result<Seq<Meta>, NoMemory>
+    ensures { IfOk result (λ metas. metas ≡ inherited_metas own.now (map (λ t. t.now) above.now)) }
+{
+    let mut metas = own.copied(alloc)?.into_vec();
+    for tree in above {
+        metas = with_others(alloc, metas, tree.metas.as_slice())?;
+    }
+    Ok(Seq::from_vec(metas))
+}
+
+// The fields of a type, behind those of a type that it extends.
+fn behind_fields(
+    alloc: Global,
+    first: &Seq<(Text, Text)>,
+    fields: Vec<(Text, Text)>,
+) -> Result<Vec<(Text, Text)>, NoMemory>
+    ensures { IfOk result (λ all. all.items ≡ first.now ++ fields.items) }
+{
+    let mut all = first.copied(alloc)?.into_vec();
+    for field in fields {
+        all.push(field)?;
+    }
+    Ok(all)
+}
+
+// The fields that a type inherits, and its own behind them.
+fn all_fields(
+    alloc: Global,
+    own: &Seq<(Text, Text)>,
+    above: &[&WrittenType],
+) -> Result<Seq<(Text, Text)>, NoMemory>
+    ensures { IfOk result (λ fields. fields ≡ inherited_fields own.now (map (λ t. t.now) above.now)) }
+{
+    let mut fields = own.copied(alloc)?.into_vec();
+    for tree in above {
+        fields = behind_fields(alloc, &tree.fields, fields)?;
+    }
+    Ok(Seq::from_vec(fields))
+}
+
+/// A type with all that it inherits. It costs what is written out, and a look-up for each type above it.
+pub(crate) fn plain(
+    alloc: Global,
+    types: &Hierarchy,
+    tree: &WrittenType,
+) -> Result<TypeTree, NoMemory>
+    ensures { IfOk result (λ made. made ≡ plain_type types.now tree.now) }
+{
+    let above = types.above(alloc, tree)?;
+    let metas = all_metas(alloc, &tree.metas, &above)?;
+    let fields = all_fields(alloc, &tree.fields, &above)?;
+    Ok(TypeTree {
+        name: tree.name.copy(alloc)?,
+        metas,
+        fields,
+    })
+}
