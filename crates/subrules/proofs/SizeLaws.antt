@@ -20,33 +20,33 @@ use Rattle.subrules.specs.Faults.{are_too_many}
 
 -- ---- lists of ways
 
-longest_append : (as bs : List Way) → longest (as ++ bs) ≡ max (longest as) (longest bs)
-longest_append [] bs = Prim.grind arith
-longest_append (a ∷ as) bs = let e = longest_append as bs in Prim.grind arith
+longest_append : (xs ys : List Way) → longest (xs ++ ys) ≡ max (longest xs) (longest ys)
+longest_append [] ys = Prim.grind arith
+longest_append (a ∷ xs) ys = let e = longest_append xs ys in Prim.grind arith
 
 behind : Way → List Way → List Way
-behind a bs = map (λ (b : Way). a ++ b) bs
+behind a ys = map (λ (b : Way). a ++ b) ys
 
-many_behind : (a : Way) (bs : List Way) → length (behind a bs) ≡ length bs
+many_behind : (a : Way) (ys : List Way) → length (behind a ys) ≡ length ys
 many_behind a [] = refl
-many_behind a (b ∷ bs) = ap (λ n. n + 1) (many_behind a bs)
+many_behind a (b ∷ ys) = ap (λ n. n + 1) (many_behind a ys)
 
-longest_behind : (a : Way) (b : Way) (bs : List Way) → longest (behind a (b ∷ bs)) ≡ length a + longest (b ∷ bs)
+longest_behind : (a : Way) (b : Way) (ys : List Way) → longest (behind a (b ∷ ys)) ≡ length a + longest (b ∷ ys)
 longest_behind a b [] = Prim.grind arith
-longest_behind a b (c ∷ bs) = let e = longest_behind a c bs in Prim.grind arith
+longest_behind a b (c ∷ ys) = let e = longest_behind a c ys in Prim.grind arith
 
-many_times : (as bs : List Way) → length (times as bs) ≡ length as * length bs
-many_times [] bs = refl
-many_times (a ∷ as) bs = let e = many_times as bs in let f = many_behind a bs in Prim.grind arith
+many_times : (xs ys : List Way) → length (times xs ys) ≡ length xs * length ys
+many_times [] ys = refl
+many_times (a ∷ xs) ys = let e = many_times xs ys in let f = many_behind a ys in Prim.grind arith
 
-longest_times : (a b : Way) (as bs : List Way) → longest (times (a ∷ as) (b ∷ bs)) ≡ longest (a ∷ as) + longest (b ∷ bs)
-longest_times a b [] bs = let e = longest_append (behind a (b ∷ bs)) [] in let f = longest_behind a b bs in Prim.grind arith
-longest_times a b (c ∷ as) bs =
-    let e = longest_append (behind a (b ∷ bs)) (times (c ∷ as) (b ∷ bs)) in let f = longest_behind a b bs in let g = longest_times c b as bs in Prim.grind arith
+longest_times : (a b : Way) (xs ys : List Way) → longest (times (a ∷ xs) (b ∷ ys)) ≡ longest (a ∷ xs) + longest (b ∷ ys)
+longest_times a b [] ys = let e = longest_append (behind a (b ∷ ys)) [] in let f = longest_behind a b ys in Prim.grind arith
+longest_times a b (c ∷ xs) ys =
+    let e = longest_append (behind a (b ∷ ys)) (times (c ∷ xs) (b ∷ ys)) in let f = longest_behind a b ys in let g = longest_times c b xs ys in Prim.grind arith
 
-times_nothing : (as : List Way) → times as [] ≡ []
+times_nothing : (xs : List Way) → times xs [] ≡ []
 times_nothing [] = refl
-times_nothing (a ∷ as) = times_nothing as
+times_nothing (a ∷ xs) = times_nothing xs
 
 -- ---- sizes
 
@@ -76,17 +76,17 @@ both_capped a b = by_cases (nat_lt a 257) (nat_lt b 257) refl refl
         let k = beyond b a (Prim.grind arith) one in
         rw g (Prim.grind arith)
 
-size_of_times : (as bs : List Way) → size_of (times as bs) ≡ size_times (size_of as) (size_of bs)
-size_of_times [] bs = refl
-size_of_times (a ∷ as) [] = rw (times_nothing (a ∷ as)) refl
-size_of_times (a ∷ as) (b ∷ bs) =
-    let many = many_times (a ∷ as) (b ∷ bs) in
-    let long = longest_times a b as bs in
-    let count = both_capped (length (a ∷ as)) (length (b ∷ bs)) (Prim.grind arith) (Prim.grind arith) in
-    ap (λ (n : ℕ). sized n (longest (times (a ∷ as) (b ∷ bs)))) many ∙ Prim.grind arith
+size_of_times : (xs ys : List Way) → size_of (times xs ys) ≡ size_times (size_of xs) (size_of ys)
+size_of_times [] ys = refl
+size_of_times (a ∷ xs) [] = rw (times_nothing (a ∷ xs)) refl
+size_of_times (a ∷ xs) (b ∷ ys) =
+    let many = many_times (a ∷ xs) (b ∷ ys) in
+    let long = longest_times a b xs ys in
+    let count = both_capped (length (a ∷ xs)) (length (b ∷ ys)) (Prim.grind arith) (Prim.grind arith) in
+    ap (λ (n : ℕ). sized n (longest (times (a ∷ xs) (b ∷ ys)))) many ∙ Prim.grind arith
 
-size_of_plus : (as bs : List Way) → size_of (as ++ bs) ≡ size_plus (size_of as) (size_of bs)
-size_of_plus as bs = let e = longest_append as bs in Prim.grind arith
+size_of_plus : (xs ys : List Way) → size_of (xs ++ ys) ≡ size_plus (size_of xs) (size_of ys)
+size_of_plus xs ys = let e = longest_append xs ys in Prim.grind arith
 
 longest_single : (f : List ℕ → CondTree) (name : List ℕ) (names : List (List ℕ)) → longest (map (λ k. f k ∷ []) (name ∷ names)) ≡ 1
 longest_single f name [] = refl
@@ -156,6 +156,6 @@ unfolding ways_of
 passes_alike types pieces size is =
     let ways = ways_of types pieces in
     let same : size ≡ size_of ways =
-        is ∙ ap (λ (w : SizeWalk). all_size w.inner) (sym (walked_sized types at_begin pieces)) ∙ sym (all_sized (walked types at_begin pieces).inner) in
+    is ∙ ap (λ (w : SizeWalk). all_size w.inner) (sym (walked_sized types at_begin pieces)) ∙ sym (all_sized (walked types at_begin pieces).inner) in
     ap (λ (s : Size). nat_lt 256 s.count || nat_lt 8 s.longest) same
     ∙ ap (λ b. b || nat_lt 8 (min 9 (longest ways))) (many_passes (length ways)) ∙ ap (λ b. nat_lt 256 (length ways) || b) (long_passes (longest ways) ∙ either_passes ways)
