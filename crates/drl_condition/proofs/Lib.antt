@@ -4,3 +4,4 @@ pub mod PartLaws
 pub mod PatternLaws
 pub mod FoldLaws
 pub mod ConditionLaws
+pub mod ChoiceLaws
