@@ -46,11 +46,19 @@ unfoldable pub alternatives_at : Reader → Reader
 alternatives_at choice ts = all_at choice ts >>= λ ps. after_word (codes "or") ps.1 >>= λ next. any_at (all_at choice) next >>= λ qs.
     closed p.CloseParenthesis (ps.0 ++ Or ∷ qs.0 ++ Close ∷ []) qs.1
 
+-- what follows an opening parenthesis
+unfoldable pub after_open : List TokenKind → Option (List TokenKind)
+after_open (Mark OpenParenthesis ∷ rest) = Some rest
+after_open ts = None
+
+abbrev pub choice_step : Option (List TokenKind) → List TokenKind → Reader → Read (List Piece)
+choice_step None ts inside = condition_at ts >>= λ c. Some (One c.0 ∷ [], c.1)
+choice_step (Some rest) ts inside = with_front (Open ∷ []) (inside rest)
+
 -- a condition, or alternatives that are at most so deep
 unfoldable pub choice_at : ℕ → Reader
-choice_at zero (Mark OpenParenthesis ∷ ts) = None
-choice_at (suc d) (Mark OpenParenthesis ∷ ts) = with_front (Open ∷ []) (alternatives_at (choice_at d) ts)
-choice_at d ts = condition_at ts >>= λ c. Some (One c.0 ∷ [], c.1)
+choice_at zero ts = choice_step (after_open ts) ts (λ rest. None)
+choice_at (suc d) ts = choice_step (after_open ts) ts (alternatives_at (choice_at d))
 
 -- what a rule asks for
 unfoldable pub asked_at : Reader

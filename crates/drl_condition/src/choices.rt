@@ -1,6 +1,6 @@
 ghost use Rattle.std.specs.Prelude.{◌≡◌, option_map, Option, IfOk};
 ghost use Rattle.drl_phrase.specs.Reading.{with_front};
-ghost use Rattle.drl_condition.specs.Choices.{ends_all, all_at, any_at, alternatives_at, choice_at};
+ghost use Rattle.drl_condition.specs.Choices.{ends_all, after_open, all_at, any_at, alternatives_at, choice_at};
 
 use crate::conditions::ConditionPhrase;
 use drl_grammar::Piece;
@@ -21,6 +21,17 @@ fn ends_all(tokens: &[TokenKind]) -> bool
     }
 }
 
+// The tokens behind an opening parenthesis.
+#[tactic(auto, unfolding(crate::specs::Choices::after_open))]
+fn behind_open(tokens: &[TokenKind]) -> Option<&[TokenKind]>
+    ensures { option_map (λ rest. rest.now) result ≡ after_open tokens.now }
+{
+    match tokens {
+        [TokenKind::Mark(Mark::OpenParenthesis), rest @ ..] => Some(rest),
+        _ => None,
+    }
+}
+
 // A condition, or alternatives that are at most so deep. It appends their pieces.
 #[cycle(choices)]
 fn choice<'a>(
@@ -31,21 +42,19 @@ fn choice<'a>(
 ) -> Result<Option<&'a [TokenKind]>, NoMemory>
     ensures { IfOk result (λ found. option_map (λ rest. (pieces.new.items, rest.now)) found ≡ with_front pieces.old.items (choice_at depth tokens.now)) }
 {
-    match tokens {
-        [TokenKind::Mark(Mark::OpenParenthesis), inside @ ..] => {
-            if depth == 0 {
-                return Ok(None);
-            }
-            pieces.push(Piece::Open)?;
-            alternatives(alloc, depth - 1, inside, pieces)
+    if let Some(inside) = behind_open(tokens) {
+        if depth == 0 {
+            return Ok(None);
         }
-        _ => match ConditionPhrase::read(alloc, tokens)? {
-            None => Ok(None),
-            Some((condition, rest)) => {
-                pieces.push(Piece::One(condition))?;
-                Ok(Some(rest))
-            }
-        },
+        pieces.push(Piece::Open)?;
+        return alternatives(alloc, depth - 1, inside, pieces);
+    }
+    match ConditionPhrase::read(alloc, tokens)? {
+        None => Ok(None),
+        Some((condition, rest)) => {
+            pieces.push(Piece::One(condition))?;
+            Ok(Some(rest))
+        }
     }
 }
 
