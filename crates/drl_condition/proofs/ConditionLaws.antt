@@ -100,8 +100,6 @@ condition_exact = record { sound = sound; again = again; shorter = shorter }
     shorter x ts rest (g.existing {s} {ts = inner} h) = let less = group_exact.shorter s inner rest h in omega arith
     shorter x ts rest (g.folded h) = folded_shorter x ts rest h
 
--- ---- lists of conditions
-
 -- a condition goes on with nothing that stands before it
 pub condition_begins : Begins IsCondition 9
 condition_begins x ts rest (g.plain (g.source {ty} {inner} g.unbound h hps hw he)) = let low = ident_binds ty (Mark OpenParenthesis ∷ inner) h in omega arith
@@ -111,9 +109,3 @@ condition_begins x ts rest (g.existing h) = omega arith
 condition_begins x ts rest (g.folded (g.number_form g.unbound ht hs)) = omega arith
 condition_begins x ts rest (g.folded (g.number_form g.bound ht hs)) = omega arith
 condition_begins x ts rest (g.folded (g.accumulate_form hs ht)) = omega arith
-
--- the word `then` begins no condition
-pub no_condition : (rest : List TokenKind) → condition_at (Word (codes "then") ∷ rest) ≡ None
-unfolding condition_at formed_at form_at word_form source_at binding_at pattern_at ident is_ident
-no_condition (Mark OpenParenthesis ∷ rest) = refl
-no_condition rest = refl

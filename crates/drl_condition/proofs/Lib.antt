@@ -4,3 +4,5 @@ pub mod PartLaws
 pub mod PatternLaws
 pub mod FoldLaws
 pub mod ConditionLaws
+pub mod ChoiceSteps
+pub mod ChoiceLaws

@@ -1,7 +1,8 @@
 //! The reader of the conditions of a rule: from tokens to the trees of the grammar.
-//! It assumes nothing of the tokens. It takes one walk over the tokens that it reads, and no recursion.
+//! It assumes nothing of the tokens. It takes one walk over the tokens that it reads. Alternatives take stack, at most 16 deep.
 #![tactic(auto)]
 
+mod choices;
 mod comparisons;
 mod conditions;
 mod folds;
@@ -10,5 +11,6 @@ mod patterns;
 mod values;
 mod words;
 
+pub use choices::AskedPhrase;
 pub use conditions::{ConditionPhrase, condition};
 pub use drl_phrase::Phrase;

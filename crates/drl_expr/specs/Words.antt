@@ -5,10 +5,10 @@ use Rattle.std.specs.Str.{bytes_eq}
 
 -- the reserved words
 abbrev pub item_words : List (List ℕ)
-item_words = codes "package" ∷ codes "import" ∷ codes "dialect" ∷ codes "declare" ∷ codes "rule" ∷ codes "when" ∷ codes "then" ∷ codes "end" ∷ codes "salience" ∷ []
+item_words = codes "package" ∷ codes "import" ∷ codes "dialect" ∷ codes "declare" ∷ codes "rule" ∷ codes "when" ∷ codes "then" ∷ codes "end" ∷ codes "salience" ∷ codes "extends" ∷ []
 
 abbrev pub condition_words : List (List ℕ)
-condition_words = codes "not" ∷ codes "exists" ∷ codes "accumulate" ∷ codes "from" ∷ codes "over" ∷ codes "in" ∷ codes "this" ∷ []
+condition_words = codes "not" ∷ codes "exists" ∷ codes "accumulate" ∷ codes "from" ∷ codes "over" ∷ codes "in" ∷ codes "this" ∷ codes "or" ∷ []
 
 abbrev pub value_words : List (List ℕ)
 value_words = codes "new" ∷ codes "insert" ∷ codes "modify" ∷ codes "retract" ∷ codes "true" ∷ codes "false" ∷ codes "Number" ∷ []

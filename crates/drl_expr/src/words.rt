@@ -13,6 +13,7 @@ fn is_item_word(word: &str) -> bool
         || word == "then"
         || word == "end"
         || word == "salience"
+        || word == "extends"
 }
 
 fn is_condition_word(word: &str) -> bool
@@ -25,6 +26,7 @@ fn is_condition_word(word: &str) -> bool
         || word == "over"
         || word == "in"
         || word == "this"
+        || word == "or"
 }
 
 fn is_value_word(word: &str) -> bool

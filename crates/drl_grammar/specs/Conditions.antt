@@ -183,7 +183,7 @@ pub data IsCondition : CondTree → List TokenKind → List TokenKind → Type 0
 
 -- The number says how deep alternatives may still go.
 mutual
-  -- choice := condition | '(' condition+ ('or' condition+)+ ')', where each condition may be such a choice
+  -- choice := condition | '(' choice+ ('or' choice+)+ ')'
   pub data IsChoice : ℕ → List Piece → List TokenKind → List TokenKind → Type 0 where
     one : {d : ℕ} {c : CondTree} {ts rest : List TokenKind} → IsCondition c ts rest → IsChoice d (piece.One c ∷ []) ts rest
     alternatives : {d : ℕ} {ps qs : List Piece} {ts middle rest : List TokenKind} → AreAll d ps ts (Word (codes "or") ∷ middle) → AreAny d qs middle (Mark CloseParenthesis ∷ rest)

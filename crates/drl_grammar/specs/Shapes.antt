@@ -20,10 +20,6 @@ pub data Many {A : Type 0} (Is : Phrase A) : List A → List TokenKind → List 
   nothing : {rest : List TokenKind} → Many Is [] rest rest
   further : {x : A} {xs : List A} {ts middle rest : List TokenKind} → Is x ts middle → Many Is xs middle rest → Many Is (x ∷ xs) ts rest
 
--- x+
-pub data NonEmpty {A : Type 0} (Is : Phrase A) : List A → List TokenKind → List TokenKind → Type 0 where
-  begun : {x : A} {xs : List A} {ts middle rest : List TokenKind} → Is x ts middle → Many Is xs middle rest → NonEmpty Is (x ∷ xs) ts rest
-
 -- x (separator x)*
 pub data Separated {A : Type 0} (separator : TokenKind) (Is : Phrase A) : List A → List TokenKind → List TokenKind → Type 0 where
   single : {x : A} {ts rest : List TokenKind} → Is x ts rest → Separated separator Is (x ∷ []) ts rest

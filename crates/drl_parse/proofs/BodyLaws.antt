@@ -6,9 +6,9 @@ use Rattle.drl_lex.specs.declared.token.TokenKind.{TokenKind}
 use Rattle.drl_lex.specs.declared.token.TokenKind.TheVariants.{Word, Text, Mark}
 use Rattle.drl_lex.specs.declared.token.Mark.TheVariants.{Minus, Semicolon}
 use Rattle.drl_expr.specs.Exact.{Read, Found}
-use Rattle.drl_grammar.specs.declared.file.Body.{Body}
-use Rattle.drl_grammar.specs.declared.file.Body.TheVariants as body
-use Rattle.drl_grammar.specs.declared.file.TypeTree.{TypeTree}
+use Rattle.drl_grammar.specs.declared.written.WrittenBody.{WrittenBody}
+use Rattle.drl_grammar.specs.declared.written.WrittenBody.TheVariants as body
+use Rattle.drl_grammar.specs.declared.written.WrittenType.{WrittenType}
 use Rattle.drl_grammar.specs.Items as g
 use Rattle.drl_grammar.specs.Items.{IsPath, IsType, IsEntry, IsRule, IsItem}
 use Rattle.drl_grammar.specs.Shapes.{Optional, absent, present}
@@ -27,7 +27,7 @@ use Rattle.drl_parse.proofs.TypeLaws.{type_exact, entry_exact}
 
 -- ---- declarations
 
-abbrev IsDeclaration : Body → List TokenKind → List TokenKind → Type 0
+abbrev IsDeclaration : WrittenBody → List TokenKind → List TokenKind → Type 0
 IsDeclaration x ts rest = IsItem x (Word (codes "declare") ∷ ts) rest
 
 type_found : (ts : List TokenKind) → Found IsDeclaration ts (type_at ts >>= λ t. Some (body.Declare t.0, t.1))
@@ -40,18 +40,19 @@ declare_sound (Word w ∷ Mark Minus ∷ ts) =
 declare_sound ts = type_found ts
 
 -- no type has a minus behind its name
-no_minus : (t : TypeTree) (ts rest : List TokenKind) → IsType t ts rest → declare_at ts ≡ (type_at ts >>= λ t. Some (body.Declare t.0, t.1))
+no_minus : (t : WrittenType) (ts rest : List TokenKind) → IsType t ts rest → declare_at ts ≡ (type_at ts >>= λ t. Some (body.Declare t.0, t.1))
 unfolding declare_at
-no_minus t ts rest (g.type_of h m.nothing m.nothing) = refl
-no_minus t ts rest (g.type_of h m.nothing (m.further (g.field hf hk) fields)) = refl
-no_minus t ts rest (g.type_of h (m.further g.event_role metas) fields) = refl
-no_minus t ts rest (g.type_of h (m.further g.fact_role metas) fields) = refl
-no_minus t ts rest (g.type_of h (m.further (g.timestamp hf) metas) fields) = refl
-no_minus t ts rest (g.type_of h (m.further (g.duration hf) metas) fields) = refl
-no_minus t ts rest (g.type_of h (m.further (g.expires hf) metas) fields) = refl
-no_minus t ts rest (g.type_of h (m.further g.reference metas) fields) = refl
+no_minus t ts rest (g.type_of h (m.written (g.parent hp)) metas fields) = refl
+no_minus t ts rest (g.type_of h m.left_out m.nothing m.nothing) = refl
+no_minus t ts rest (g.type_of h m.left_out m.nothing (m.further (g.field hf hk) fields)) = refl
+no_minus t ts rest (g.type_of h m.left_out (m.further g.event_role metas) fields) = refl
+no_minus t ts rest (g.type_of h m.left_out (m.further g.fact_role metas) fields) = refl
+no_minus t ts rest (g.type_of h m.left_out (m.further (g.timestamp hf) metas) fields) = refl
+no_minus t ts rest (g.type_of h m.left_out (m.further (g.duration hf) metas) fields) = refl
+no_minus t ts rest (g.type_of h m.left_out (m.further (g.expires hf) metas) fields) = refl
+no_minus t ts rest (g.type_of h m.left_out (m.further g.reference metas) fields) = refl
 
-type_again : (t : TypeTree) (ts rest : List TokenKind) → IsType t ts rest → declare_at ts ≡ Some (body.Declare t, rest)
+type_again : (t : WrittenType) (ts rest : List TokenKind) → IsType t ts rest → declare_at ts ≡ Some (body.Declare t, rest)
 type_again t ts rest h = rw (no_minus t ts rest h, type_exact.again t ts rest h (omega arith)) refl
 
 entry_again : (s : List ℕ) (late : Option ℤ) (ts rest : List TokenKind) → IsEntry (s, late) ts rest → declare_at ts ≡ Some (body.Entry s late, rest)
@@ -71,7 +72,7 @@ word_sound w = pick (bytes_eq w (codes "package")) PackageWord _ (same_bytes w _
     pick true k others is go = is refl
     pick false k others is go = go refl
 
-declared : (ts : List TokenKind) (o : Read Body) → Found IsDeclaration ts o → Found IsItem (Word (codes "declare") ∷ ts) o
+declared : (ts : List TokenKind) (o : Read WrittenBody) → Found IsDeclaration ts o → Found IsItem (Word (codes "declare") ∷ ts) o
 declared ts None h = tt
 declared ts (Some x) h = h
 
@@ -101,7 +102,7 @@ item_exact = record { sound = sound; again = again; shorter = shorter }
     sound (Word w ∷ rest) = word_then w rest (item_word w) (word_sound w)
     sound ts = tt
 
-    again : (x : Body) (ts rest : List TokenKind) → IsItem x ts rest → 9 ≤ binds rest → item_at ts ≡ Some (x, rest)
+    again : (x : WrittenBody) (ts rest : List TokenKind) → IsItem x ts rest → 9 ≤ binds rest → item_at ts ≡ Some (x, rest)
     again x ts rest (g.package_item {path} {ts = behind} {middle} hpath hend) stop =
         rw (path_again path behind middle hpath (no_step middle (no_dot middle rest hend stop)), optional_again p.Semicolon middle rest hend (omega arith)) refl
     again x ts rest (g.import_item {path} {all} {ts = behind} {behind_path} {middle} hpath hstar hend) stop =
@@ -112,7 +113,7 @@ item_exact = record { sound = sound; again = again; shorter = shorter }
     again x ts rest (g.declare_entry {s} {late} {ts = behind} h) stop = entry_again s late behind rest h
     again x ts rest (g.rule_item {r} {ts = behind} h) stop = rw (rule_exact.again r behind rest h (omega arith)) refl
 
-    shorter : (x : Body) (ts rest : List TokenKind) → IsItem x ts rest → length rest < length ts
+    shorter : (x : WrittenBody) (ts rest : List TokenKind) → IsItem x ts rest → length rest < length ts
     shorter x ts rest (g.package_item {path} {ts = behind} {middle} hpath hend) =
         let first = path_exact.shorter path behind middle hpath in let others = optional_shorter (Mark Semicolon) middle rest hend in omega arith
     shorter x ts rest (g.import_item {path} {all} {ts = behind} {behind_path} {middle} hpath hstar hend) =

@@ -8,7 +8,7 @@ use Rattle.drl_lex.specs.Kinds.{kinds}
 use Rattle.drl_lex.specs.Tokens.{AreTokens}
 use Rattle.drl_lex.specs.Reading.{Read, piece_at, behind_piece, lexed_step, lexed_from, lexed}
 use Rattle.drl_lex.proofs.FileLaws.{tokens_sound, tokens_again, refused_sound, refused_again}
-use Rattle.drl_grammar.specs.declared.file.Body.{Body}
+use Rattle.drl_grammar.specs.declared.written.WrittenBody.{WrittenBody}
 use Rattle.drl_grammar.specs.Files.{lines_at, IsFile, IsOutside}
 use Rattle.drl_parse.specs.Items.{ItemsRead, items_at}
 use Rattle.drl_parse.specs.Parsed.{file_limit, IsLexical, Parsed, is_file, outside, too_long, lexical, items_parsed, tokens_parsed, parsed_by}
@@ -62,14 +62,14 @@ items_mean : (bytes : List ℕ) (tokens : List Token) (read : ItemsRead) → Are
 items_mean bytes tokens (Ok read) spelled le h = (record { tokens = tokens; spelled = spelled; stand = h }, le)
 items_mean bytes tokens (Err refused) spelled le h = (record { tokens = tokens; spelled = spelled; refused = h }, le)
 
-tokens_mean : (body_of : List TokenKind → Option Body) (bytes : List ℕ) (read : Result (List Token) (LexCode × ℕ)) → Exactly body_of → lexed bytes ≡ read → length bytes ≤ file_limit
+tokens_mean : (body_of : List TokenKind → Option WrittenBody) (bytes : List ℕ) (read : Result (List Token) (LexCode × ℕ)) → Exactly body_of → lexed bytes ≡ read → length bytes ≤ file_limit
     → Means (tokens_parsed body_of bytes read) bytes
 tokens_mean body_of bytes (Ok tokens) exact e le =
     items_mean bytes tokens (items_at body_of (length (kinds tokens)) (kinds tokens) (lines_at bytes tokens)) (tokens_sound tokens bytes e) le
     (items_sound body_of (length (kinds tokens)) (kinds tokens) (lines_at bytes tokens) exact (same_lines bytes tokens) (omega arith))
 tokens_mean body_of bytes (Err fault) exact e le = (record { at = fault.1; refused = refused_sound fault.0 fault.1 bytes e; line_is = refl }, le)
 
-pub parsed_means : (body_of : List TokenKind → Option Body) (bytes : List ℕ) → Exactly body_of → Means (parsed_by body_of bytes) bytes
+pub parsed_means : (body_of : List TokenKind → Option WrittenBody) (bytes : List ℕ) → Exactly body_of → Means (parsed_by body_of bytes) bytes
 unfolding parsed_by
 parsed_means body_of bytes exact = go (nat_lt file_limit (length bytes)) refl
   where
@@ -79,7 +79,7 @@ parsed_means body_of bytes exact = go (nat_lt file_limit (length bytes)) refl
 
 -- ---- what is so is read
 
-pub means_parsed : (body_of : List TokenKind → Option Body) (read : Parsed) (bytes : List ℕ) → Exactly body_of → Means read bytes → parsed_by body_of bytes ≡ read
+pub means_parsed : (body_of : List TokenKind → Option WrittenBody) (read : Parsed) (bytes : List ℕ) → Exactly body_of → Means read bytes → parsed_by body_of bytes ≡ read
 unfolding parsed_by
 means_parsed body_of (is_file file) bytes exact (h, le) =
     rw (
@@ -99,5 +99,5 @@ means_parsed body_of (lexical code line) bytes exact (h, le) =
 
 -- ---- the law
 
-pub is_exactly : (body_of : List TokenKind → Option Body) (read : Parsed) (bytes : List ℕ) → Exactly body_of → Means read bytes ↔ (parsed_by body_of bytes ≡ read)
+pub is_exactly : (body_of : List TokenKind → Option WrittenBody) (read : Parsed) (bytes : List ℕ) → Exactly body_of → Means read bytes ↔ (parsed_by body_of bytes ≡ read)
 is_exactly body_of read bytes exact = (means_parsed body_of read bytes exact, λ e. rw e at (parsed_means body_of bytes exact))

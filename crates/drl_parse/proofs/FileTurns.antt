@@ -10,8 +10,8 @@ use Rattle.drl_lex.specs.Kinds.{kinds}
 use Rattle.drl_lex.specs.Reading.{lexed}
 use Rattle.drl_lex.specs.Tokens.{AreTokens}
 use Rattle.drl_lex.proofs.FileLaws.{tokens_again}
-use Rattle.drl_grammar.specs.declared.file.Item.{Item}
-use Rattle.drl_grammar.specs.declared.file.File.{File}
+use Rattle.drl_grammar.specs.declared.written.WrittenItem.{WrittenItem}
+use Rattle.drl_grammar.specs.declared.written.Written.{Written}
 use Rattle.drl_grammar.specs.Files.{lines_at, IsFile}
 use Rattle.drl_parse.specs.declared.fault.ParseFault.{ParseFault}
 use Rattle.drl_parse.specs.declared.fault.ParseFault.TheVariants.{Syntax, TooLong, Lexical, NoMemory}
@@ -43,13 +43,13 @@ given TooLong read h = absurd h
 given (Lexical code line) read h = absurd h
 given NoMemory read h = tt
 
-pub items_told : (bytes : List ℕ) (tokens : List Token) (fault : ParseFault) (result : Result File ParseFault) → nat_lt file_limit (length bytes) ≡ false → AreTokens tokens bytes
+pub items_told : (bytes : List ℕ) (tokens : List Token) (fault : ParseFault) (result : Result Written ParseFault) → nat_lt file_limit (length bytes) ≡ false → AreTokens tokens bytes
     → GivesItems (Err fault) (items_at (whole_at item_at) (length (kinds tokens)) (kinds tokens) (lines_at bytes tokens)) → IsErrAnd result (λ e. e ≡ fault) → Gives result (parsed bytes)
 items_told bytes tokens fault (Ok file) within spelled h told = absurd told
 items_told bytes tokens fault (Err e) within spelled h told = rw (told, items_are bytes tokens within spelled)
     (given fault (items_at (whole_at item_at) (length (kinds tokens)) (kinds tokens) (lines_at bytes tokens)) h)
 
-pub items_read : (bytes : List ℕ) (tokens : List Token) (items : List Item) → nat_lt file_limit (length bytes) ≡ false → AreTokens tokens bytes
+pub items_read : (bytes : List ℕ) (tokens : List Token) (items : List WrittenItem) → nat_lt file_limit (length bytes) ≡ false → AreTokens tokens bytes
     → items_at (whole_at item_at) (length (kinds tokens)) (kinds tokens) (lines_at bytes tokens) ≡ Ok items → parsed bytes ≡ is_file (record { items = items })
 items_read bytes tokens items within spelled h = rw (items_are bytes tokens within spelled, h) refl
 
@@ -63,11 +63,11 @@ means_given : (bytes : List ℕ) (read : Parsed) → parsed bytes ≡ read → E
 unfolding parsed
 means_given bytes read e exact = rw e at (parsed_means (whole_at item_at) bytes exact)
 
-pub file_given : (bytes : List ℕ) (result : Result File ParseFault) → Exactly (whole_at item_at) → Gives result (parsed bytes) → IfOk result (λ file. IsFile file bytes × (length bytes ≤ file_limit))
+pub file_given : (bytes : List ℕ) (result : Result Written ParseFault) → Exactly (whole_at item_at) → Gives result (parsed bytes) → IfOk result (λ file. IsFile file bytes × (length bytes ≤ file_limit))
 file_given bytes (Ok file) exact h = means_given bytes (is_file file) h exact
 file_given bytes (Err fault) exact h = tt
 
-pub fault_given : (bytes : List ℕ) (result : Result File ParseFault) → Exactly (whole_at item_at) → Gives result (parsed bytes) → IfErr result (λ fault. IsFault fault bytes)
+pub fault_given : (bytes : List ℕ) (result : Result Written ParseFault) → Exactly (whole_at item_at) → Gives result (parsed bytes) → IfErr result (λ fault. IsFault fault bytes)
 fault_given bytes (Ok file) exact h = tt
 fault_given bytes (Err (Syntax item line)) exact h = means_given bytes (outside item line) h exact
 fault_given bytes (Err TooLong) exact h = means_given bytes too_long h exact

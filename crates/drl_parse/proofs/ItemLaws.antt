@@ -2,28 +2,28 @@
 use Rattle.std.proofs.Common.{◌≡◌, ℕ, zero, suc, ◌≤◌, List, [], ◌∷◌, length, take, drop, length-drop, Option, Some, None, Ok, Err, refl, ap, arith}
 use Rattle.std.specs.Prelude.{IfSome}
 use Rattle.drl_lex.specs.declared.token.TokenKind.{TokenKind}
-use Rattle.drl_grammar.specs.declared.file.Item.{Item}
-use Rattle.drl_grammar.specs.declared.file.Body.{Body}
+use Rattle.drl_grammar.specs.declared.written.WrittenItem.{WrittenItem}
+use Rattle.drl_grammar.specs.declared.written.WrittenBody.{WrittenBody}
 use Rattle.drl_grammar.specs.Items.{IsItem}
 use Rattle.drl_grammar.specs.Files.{extent, AreItems, no_items, next_item, IsRefused, here, later}
 use Rattle.drl_parse.specs.Items.{ItemsRead, item_step, items_at}
 
 -- what is read of all the tokens of an item is the tree that stands for them
-pub record Exactly (body_of : List TokenKind → Option Body) : Type 0 where
+pub record Exactly (body_of : List TokenKind → Option WrittenBody) : Type 0 where
   pub stands : (ts : List TokenKind) → IfSome (body_of ts) (λ body. IsItem body ts [])
-  pub again : (body : Body) (ts : List TokenKind) → IsItem body ts [] → body_of ts ≡ Some body
+  pub again : (body : WrittenBody) (ts : List TokenKind) → IsItem body ts [] → body_of ts ≡ Some body
 
 abbrev pub Stands : ItemsRead → List TokenKind → List ℕ → Type 0
 Stands (Ok items) ts lines = AreItems items ts lines
 Stands (Err refused) ts lines = IsRefused refused.0 refused.1 ts lines
 
-item_sound : (body_of : List TokenKind → Option Body) (t : TokenKind) (ts : List TokenKind) (line : ℕ) (lines : List ℕ) (o : Option Body) (read : ItemsRead) → Exactly body_of
+item_sound : (body_of : List TokenKind → Option WrittenBody) (t : TokenKind) (ts : List TokenKind) (line : ℕ) (lines : List ℕ) (o : Option WrittenBody) (read : ItemsRead) → Exactly body_of
     → body_of (t ∷ take (extent t ts) ts) ≡ o → Stands read (drop (extent t ts) ts) (drop (extent t ts) lines) → Stands (item_step line o read) (t ∷ ts) (line ∷ lines)
 item_sound body_of t ts line lines None read exact e h = here (λ body is. let again = exact.again body (t ∷ take (extent t ts) ts) is in absurd cc)
 item_sound body_of t ts line lines (Some body) (Ok items) exact e h = next_item (rw e at (exact.stands (t ∷ take (extent t ts) ts))) h
 item_sound body_of t ts line lines (Some body) (Err refused) exact e h = later (rw e at (exact.stands (t ∷ take (extent t ts) ts))) h
 
-pub items_sound : (body_of : List TokenKind → Option Body) (n : ℕ) (ts : List TokenKind) (lines : List ℕ) → Exactly body_of → length lines ≡ length ts → length ts ≤ n → Stands (items_at body_of n ts lines) ts lines
+pub items_sound : (body_of : List TokenKind → Option WrittenBody) (n : ℕ) (ts : List TokenKind) (lines : List ℕ) → Exactly body_of → length lines ≡ length ts → length ts ≤ n → Stands (items_at body_of n ts lines) ts lines
 unfolding items_at
 items_sound body_of n [] [] exact same le = no_items
 items_sound body_of n [] (line ∷ lines) exact same le = absurd (omega arith)
@@ -33,11 +33,11 @@ items_sound body_of (suc n) (t ∷ ts) (line ∷ lines) exact same le =
     item_sound body_of t ts line lines (body_of (t ∷ take (extent t ts) ts)) (items_at body_of n (drop (extent t ts) ts) (drop (extent t ts) lines)) exact refl
     (items_sound body_of n (drop (extent t ts) ts) (drop (extent t ts) lines) exact (omega (arith, length-drop (extent t ts) ts, length-drop (extent t ts) lines)) (omega (arith, length-drop (extent t ts) ts)))
 
-no_body : (body_of : List TokenKind → Option Body) (ts : List TokenKind) (o : Option Body) → Exactly body_of → body_of ts ≡ o → ((body : Body) → IsItem body ts [] → ⊥) → body_of ts ≡ None
+no_body : (body_of : List TokenKind → Option WrittenBody) (ts : List TokenKind) (o : Option WrittenBody) → Exactly body_of → body_of ts ≡ o → ((body : WrittenBody) → IsItem body ts [] → ⊥) → body_of ts ≡ None
 no_body body_of ts None exact e h = e
 no_body body_of ts (Some body) exact e h = absurd (h body (rw e at (exact.stands ts)))
 
-pub items_again : (body_of : List TokenKind → Option Body) (n : ℕ) (items : List Item) (ts : List TokenKind) (lines : List ℕ) → Exactly body_of → AreItems items ts lines → length ts ≤ n
+pub items_again : (body_of : List TokenKind → Option WrittenBody) (n : ℕ) (items : List WrittenItem) (ts : List TokenKind) (lines : List ℕ) → Exactly body_of → AreItems items ts lines → length ts ≤ n
     → items_at body_of n ts lines ≡ Ok items
 unfolding items_at
 items_again body_of n items ts lines exact no_items le = refl
@@ -48,7 +48,7 @@ items_again body_of (suc n) items ts lines exact (next_item {body} {items = othe
       items_again body_of n others (drop (extent t behind) behind) (drop (extent t behind) later_lines) exact more (omega (arith, length-drop (extent t behind) behind)),
     ) refl
 
-pub refused_again : (body_of : List TokenKind → Option Body) (n number line : ℕ) (ts : List TokenKind) (lines : List ℕ) → Exactly body_of → IsRefused number line ts lines → length ts ≤ n
+pub refused_again : (body_of : List TokenKind → Option WrittenBody) (n number line : ℕ) (ts : List TokenKind) (lines : List ℕ) → Exactly body_of → IsRefused number line ts lines → length ts ≤ n
     → items_at body_of n ts lines ≡ Err (number, line)
 unfolding items_at
 refused_again body_of zero number line ts lines exact (here h) le = absurd (omega arith)
@@ -61,7 +61,7 @@ refused_again body_of (suc n) number line ts lines exact (later {k} {body} {t} {
     ) refl
 
 -- more turns change nothing
-pub enough_turns : (body_of : List TokenKind → Option Body) (m n : ℕ) (ts : List TokenKind) (lines : List ℕ) → length ts ≤ m → length ts ≤ n → items_at body_of m ts lines ≡ items_at body_of n ts lines
+pub enough_turns : (body_of : List TokenKind → Option WrittenBody) (m n : ℕ) (ts : List TokenKind) (lines : List ℕ) → length ts ≤ m → length ts ≤ n → items_at body_of m ts lines ≡ items_at body_of n ts lines
 unfolding items_at
 enough_turns body_of m n [] lines le le2 = refl
 enough_turns body_of m n (t ∷ ts) [] le le2 = refl

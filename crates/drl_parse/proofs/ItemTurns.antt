@@ -4,19 +4,19 @@ use Rattle.std.proofs.lemmas.List.{append-nil, length-append}
 use Rattle.std.proofs.lemmas.List.Folds.{length-prefix_len}
 use Rattle.std.proofs.lemmas.List.Sums.{prefix_len-le-length}
 use Rattle.drl_lex.specs.declared.token.TokenKind.{TokenKind}
-use Rattle.drl_grammar.specs.declared.file.Item.{Item}
-use Rattle.drl_grammar.specs.declared.file.Body.{Body}
+use Rattle.drl_grammar.specs.declared.written.WrittenItem.{WrittenItem}
+use Rattle.drl_grammar.specs.declared.written.WrittenBody.{WrittenBody}
 use Rattle.drl_grammar.specs.Files.{opens_block, begins_item, ends_block, count_before, extent}
 use Rattle.drl_parse.specs.Items.{ItemsRead, first_item, with_item, items_at}
 use Rattle.drl_parse.proofs.ItemLaws.{enough_turns}
 
 -- what was read before, and what is still read
-abbrev pub behind : List Item → ItemsRead → ItemsRead
+abbrev pub behind : List WrittenItem → ItemsRead → ItemsRead
 behind front (Ok items) = Ok (front ++ items)
 behind front (Err refused) = Err (length front + refused.0, refused.1)
 
 -- what the loop keeps: the items so far and what is read of the tokens that are left are what is read of all
-pub record SoFar (body_of : List TokenKind → Option Body) (tokens : List TokenKind) (lines : List ℕ) (items : List Item) (number : ℕ) (rest : List TokenKind) (rest_lines : List ℕ) : Type 0 where
+pub record SoFar (body_of : List TokenKind → Option WrittenBody) (tokens : List TokenKind) (lines : List ℕ) (items : List WrittenItem) (number : ℕ) (rest : List TokenKind) (rest_lines : List ℕ) : Type 0 where
   pub read : behind items (items_at body_of (length rest) rest rest_lines) ≡ items_at body_of (length tokens) tokens lines
   pub same : length rest_lines ≡ length rest
   pub counted : number ≡ length items
@@ -26,7 +26,7 @@ nothing_before : (o : ItemsRead) → behind [] o ≡ o
 nothing_before (Ok items) = refl
 nothing_before (Err (number, line)) = let same : 0 + number ≡ number = omega arith in ap (λ (n : ℕ). Err (n, line)) same
 
-pub starts : (body_of : List TokenKind → Option Body) (tokens : List TokenKind) (lines : List ℕ) (items : List Item) → items ≡ [] → length lines ≡ length tokens → SoFar body_of tokens lines items 0 tokens lines
+pub starts : (body_of : List TokenKind → Option WrittenBody) (tokens : List TokenKind) (lines : List ℕ) (items : List WrittenItem) → items ≡ [] → length lines ≡ length tokens → SoFar body_of tokens lines items 0 tokens lines
 starts body_of tokens lines items e same = rw e (record {
   read = nothing_before (items_at body_of (length tokens) tokens lines);
   same = same;
@@ -34,8 +34,8 @@ starts body_of tokens lines items e same = rw e (record {
   few = omega arith;
 })
 
-regroup : (front : List Item) (item : Item) (read : ItemsRead) → behind front (with_item item read) ≡ behind (front ++ item ∷ []) read
-regroup front item (Ok items) = ap (λ (all : List Item). Ok all) (simp append_assoc)
+regroup : (front : List WrittenItem) (item : WrittenItem) (read : ItemsRead) → behind front (with_item item read) ≡ behind (front ++ item ∷ []) read
+regroup front item (Ok items) = ap (λ (all : List WrittenItem). Ok all) (simp append_assoc)
 regroup front item (Err (number, line)) = let len : length front + (number + 1) ≡ length (front ++ item ∷ []) + number = rw length-append (omega arith) in rw len refl
 
 pub cut_at : (t : TokenKind) (ts : List TokenKind) (n : ℕ) → n ≡ extent t ts + 1 → first_item (t ∷ ts) ≡ Some (take n (t ∷ ts), drop n (t ∷ ts))
@@ -71,14 +71,14 @@ parts_are own next t ts cut =
     (ap (λ (p : List TokenKind × List TokenKind). p.0) e, ap (λ (p : List TokenKind × List TokenKind). p.1) e)
 
 -- there is a token of the item, and it has its line
-pub some_left : (body_of : List TokenKind → Option Body) (tokens : List TokenKind) (lines : List ℕ) (items : List Item) (number : ℕ) (rest own next : List TokenKind) (rest_lines : List ℕ)
+pub some_left : (body_of : List TokenKind → Option WrittenBody) (tokens : List TokenKind) (lines : List ℕ) (items : List WrittenItem) (number : ℕ) (rest own next : List TokenKind) (rest_lines : List ℕ)
     → SoFar body_of tokens lines items number rest rest_lines → Some (own, next) ≡ first_item rest → 0 < length rest
 unfolding first_item
 some_left body_of tokens lines items number [] own next rest_lines so_far cut = absurd cc
 some_left body_of tokens lines items number (t ∷ ts) own next rest_lines so_far cut = omega arith
 
 -- one more item
-pub kept : (body_of : List TokenKind → Option Body) (tokens : List TokenKind) (lines : List ℕ) (items : List Item) (number : ℕ) (rest own next : List TokenKind) (rest_lines : List ℕ) (body : Body)
+pub kept : (body_of : List TokenKind → Option WrittenBody) (tokens : List TokenKind) (lines : List ℕ) (items : List WrittenItem) (number : ℕ) (rest own next : List TokenKind) (rest_lines : List ℕ) (body : WrittenBody)
     → SoFar body_of tokens lines items number rest rest_lines → Some (own, next) ≡ first_item rest → body_of own ≡ Some body
     → SoFar body_of tokens lines (items ++ record { line = get_or rest_lines 0 0; body = body } ∷ []) (number + 1) next (drop (length own) rest_lines)
 unfolding items_at first_item
@@ -87,7 +87,7 @@ kept body_of tokens lines items number (t ∷ ts) own next [] body so_far cut is
 kept body_of tokens lines items number (t ∷ ts) own next (line ∷ later) body so_far cut is =
     let cut_is = parts_are own next t ts cut in
     let is_body : body_of (t ∷ take (extent t ts) ts) ≡ Some body = rw cut_is.0 at is in
-    let item : Item = record { line = line; body = body } in
+    let item : WrittenItem = record { line = line; body = body } in
     let turns : items_at body_of (length (drop (extent t ts) ts)) (drop (extent t ts) ts) (drop (extent t ts) later) ≡ items_at body_of (length ts) (drop (extent t ts) ts) (drop (extent t ts) later) =
     enough_turns body_of (length (drop (extent t ts) ts)) (length ts) (drop (extent t ts) ts) (drop (extent t ts) later) (omega arith) (omega (arith, length-drop (extent t ts) ts)) in
     let one : behind items (items_at body_of (length (t ∷ ts)) (t ∷ ts) (line ∷ later)) ≡ behind (items ++ item ∷ []) (items_at body_of (length ts) (drop (extent t ts) ts) (drop (extent t ts) later)) =
@@ -100,7 +100,7 @@ kept body_of tokens lines items number (t ∷ ts) own next (line ∷ later) body
     })
 
 -- an item that does not stand
-pub stops : (body_of : List TokenKind → Option Body) (tokens : List TokenKind) (lines : List ℕ) (items : List Item) (number : ℕ) (rest own next : List TokenKind) (rest_lines : List ℕ)
+pub stops : (body_of : List TokenKind → Option WrittenBody) (tokens : List TokenKind) (lines : List ℕ) (items : List WrittenItem) (number : ℕ) (rest own next : List TokenKind) (rest_lines : List ℕ)
     → SoFar body_of tokens lines items number rest rest_lines → Some (own, next) ≡ first_item rest → body_of own ≡ None
     → items_at body_of (length tokens) tokens lines ≡ Err (number + 1, get_or rest_lines 0 0)
 unfolding items_at first_item
@@ -113,8 +113,8 @@ stops body_of tokens lines items number (t ∷ ts) own next (line ∷ later) so_
     rw so_far.counted (sym so_far.read ∙ one)
 
 -- no token is left
-pub ends : (body_of : List TokenKind → Option Body) (tokens : List TokenKind) (lines : List ℕ) (items : List Item) (number : ℕ) (rest : List TokenKind) (rest_lines : List ℕ)
+pub ends : (body_of : List TokenKind → Option WrittenBody) (tokens : List TokenKind) (lines : List ℕ) (items : List WrittenItem) (number : ℕ) (rest : List TokenKind) (rest_lines : List ℕ)
     → SoFar body_of tokens lines items number rest rest_lines → None ≡ first_item rest → items_at body_of (length tokens) tokens lines ≡ Ok items
 unfolding items_at first_item
-ends body_of tokens lines items number [] rest_lines so_far cut = sym so_far.read ∙ ap (λ (all : List Item). Ok all) (append-nil items)
+ends body_of tokens lines items number [] rest_lines so_far cut = sym so_far.read ∙ ap (λ (all : List WrittenItem). Ok all) (append-nil items)
 ends body_of tokens lines items number (t ∷ ts) rest_lines so_far cut = absurd cc

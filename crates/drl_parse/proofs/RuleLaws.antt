@@ -1,29 +1,27 @@
 -- Rules are read exactly.
-use Rattle.std.proofs.Common.{◌≡◌, ℕ, ℤ, ◌<◌, ◌≤◌, cond, List, ◌∷◌, length, Some, None, refl, subst, arith}
+use Rattle.std.proofs.Common.{◌≡◌, ℕ, ℤ, ◌<◌, ◌≤◌, true, cond, List, ◌∷◌, length, Some, None, refl, subst, arith}
 use Rattle.std.specs.Prelude.{codes}
 use Rattle.std.specs.Str.{bytes_eq}
 use Rattle.drl_lex.specs.declared.token.TokenKind.{TokenKind}
 use Rattle.drl_lex.specs.declared.token.TokenKind.TheVariants.{Word, Number, Text, Mark}
-use Rattle.drl_lex.specs.declared.token.Mark.TheVariants.{OpenParenthesis, Comma, Minus}
+use Rattle.drl_lex.specs.declared.token.Mark.TheVariants.{Comma, Minus}
 use Rattle.drl_expr.specs.Exact.{Found}
-use Rattle.drl_expr.specs.Words.{is_ident}
 use Rattle.drl_grammar.specs.declared.file.Attr.{Attr}
 use Rattle.drl_grammar.specs.declared.file.Attr.TheVariants as attr
-use Rattle.drl_grammar.specs.declared.file.RuleTree.{RuleTree}
+use Rattle.drl_grammar.specs.declared.written.WrittenRule.{WrittenRule}
 use Rattle.drl_grammar.specs.Actions as a
 use Rattle.drl_grammar.specs.Actions.{IsAction}
-use Rattle.drl_grammar.specs.Conditions.{IsName, IsCondition}
+use Rattle.drl_grammar.specs.Conditions.{IsName, IsAsked}
 use Rattle.drl_grammar.specs.Items as g
 use Rattle.drl_grammar.specs.Items.{IsSalience, IsAttr, IsRule}
-use Rattle.drl_grammar.specs.Shapes.{Many, NonEmpty}
+use Rattle.drl_grammar.specs.Shapes.{Many}
 use Rattle.drl_phrase.specs.declared.phrase.Punctuation.TheVariants as p
 use Rattle.drl_phrase.specs.Exact.{binds, Exact}
-use Rattle.drl_phrase.specs.Reading.{◌>>=◌, after_word, many_at, nonempty_at, optional_at, ident, name_at}
+use Rattle.drl_phrase.specs.Reading.{◌>>=◌, after_word, many_at, optional_at, name_at}
 use Rattle.drl_phrase.proofs.NameLaws.{name_exact}
-use Rattle.drl_phrase.proofs.ShapeLaws.{then, if_some_then, guarded, same_bytes, word_sound, word_again, ended_then, ended_is, Begins, many_sound, many_again, many_shorter, nonempty_sound, nonempty_again, nonempty_shorter, optional_sound, optional_again, optional_shorter}
-use Rattle.drl_condition.specs.Words.{word_form}
-use Rattle.drl_condition.specs.Reading.{binding_at, pattern_at, source_at, form_at, formed_at, condition_at}
-use Rattle.drl_condition.proofs.ConditionLaws.{condition_exact, condition_begins}
+use Rattle.drl_phrase.proofs.ShapeLaws.{then, if_some_then, guarded, same_bytes, word_sound, word_again, ended_then, ended_is, Begins, many_sound, many_again, many_shorter, optional_sound, optional_again, optional_shorter}
+use Rattle.drl_condition.specs.Choices.{ends_all, asked_at}
+use Rattle.drl_condition.proofs.ChoiceLaws.{asked_sound, asked_again, asked_shorter}
 use Rattle.drl_action.specs.Reading.{action_word, action_at}
 use Rattle.drl_action.proofs.ActionLaws.{action_exact}
 use Rattle.drl_parse.specs.Reading.{salience_at, attr_at, actions_at, conditions_at, rule_at}
@@ -81,7 +79,7 @@ unfolding attr_at
 no_attr (Text s ∷ rest) = refl
 no_attr rest = refl
 
--- ---- actions and conditions
+-- ---- actions
 
 action_begins : Begins IsAction 7
 action_begins x ts rest (a.insert h values behind) = omega arith
@@ -93,11 +91,10 @@ no_action : (rest : List TokenKind) → action_at (Word (codes "end") ∷ rest) 
 unfolding action_at action_word
 no_action rest = refl
 
--- the word `then` begins no condition
-no_condition : (rest : List TokenKind) → condition_at (Word (codes "then") ∷ rest) ≡ None
-unfolding condition_at formed_at form_at word_form source_at pattern_at binding_at ident is_ident
-no_condition (Mark OpenParenthesis ∷ rest) = refl
-no_condition rest = refl
+-- the word `then` ends what is asked for
+then_ends : (rest : List TokenKind) → ends_all (Word (codes "then") ∷ rest) ≡ true
+unfolding ends_all
+then_ends rest = refl
 
 -- ---- rules
 
@@ -108,28 +105,28 @@ rule_exact = record { sound = sound; again = again; shorter = shorter }
     sound : (ts : List TokenKind) → Found IsRule ts (rule_at ts)
     sound ts = then IsName ts (name_at ts) _ IsRule ts (name_exact.sound ts) (λ s hs.
         then (Many IsAttr) s.1 (many_at attr_at s.1) _ IsRule ts (many_sound attr_exact s.1) (λ attrs hattrs.
-        if_some_then (after_word (codes "when") attrs.1) (λ rest. attrs.1 ≡ Word (codes "when") ∷ rest) _ IsRule ts (word_sound (codes "when") attrs.1) (λ conditions is_when.
-        then (NonEmpty IsCondition) conditions (nonempty_at condition_at conditions) _ IsRule ts (nonempty_sound condition_exact conditions) (λ cs hcs.
-        if_some_then (after_word (codes "then") cs.1) (λ rest. cs.1 ≡ Word (codes "then") ∷ rest) _ IsRule ts (word_sound (codes "then") cs.1) (λ actions is_then.
+        if_some_then (after_word (codes "when") attrs.1) (λ rest. attrs.1 ≡ Word (codes "when") ∷ rest) _ IsRule ts (word_sound (codes "when") attrs.1) (λ asked is_when.
+        then IsAsked asked (asked_at asked) _ IsRule ts (asked_sound asked) (λ ps hps.
+        if_some_then (after_word (codes "then") ps.1) (λ rest. ps.1 ≡ Word (codes "then") ∷ rest) _ IsRule ts (word_sound (codes "then") ps.1) (λ actions is_then.
         then (Many IsAction) actions (many_at action_at actions) _ IsRule ts (many_sound action_exact actions) (λ acts hacts.
-        ended_then (codes "end") (Many IsAction) acts.0 actions (record { name = s.0; attrs = attrs.0; conditions = cs.0; actions = acts.0 }) acts.1 IsRule ts hacts (λ rest hr.
-        g.rule hs (subst (Many IsAttr attrs.0 s.1) is_when hattrs) (subst (NonEmpty IsCondition cs.0 conditions) is_then hcs) hr)))))))
+        ended_then (codes "end") (Many IsAction) acts.0 actions (record { name = s.0; attrs = attrs.0; pieces = ps.0; actions = acts.0 }) acts.1 IsRule ts hacts (λ rest hr.
+        g.rule hs (subst (Many IsAttr attrs.0 s.1) is_when hattrs) (subst (IsAsked ps.0 asked) is_then hps) hr)))))))
 
-    again : (x : RuleTree) (ts rest : List TokenKind) → IsRule x ts rest → 0 ≤ binds rest → rule_at ts ≡ Some (x, rest)
-    again x ts rest (g.rule {s} {attrs} {cs} {acts} {behind_name} {conditions} {actions} hs hattrs hcs hacts) stop =
+    again : (x : WrittenRule) (ts rest : List TokenKind) → IsRule x ts rest → 0 ≤ binds rest → rule_at ts ≡ Some (x, rest)
+    again x ts rest (g.rule {s} {attrs} {ps} {acts} {behind_name} {asked} {actions} hs hattrs hps hacts) stop =
         rw (
           name_exact.again s ts behind_name hs (omega arith),
-          many_again attr_exact attr_begins attrs behind_name (Word (codes "when") ∷ conditions) hattrs (no_attr conditions) (omega arith),
-          word_again (codes "when") conditions,
-          nonempty_again condition_exact condition_begins cs conditions (Word (codes "then") ∷ actions) hcs (no_condition actions) (omega arith),
+          many_again attr_exact attr_begins attrs behind_name (Word (codes "when") ∷ asked) hattrs (no_attr asked) (omega arith),
+          word_again (codes "when") asked,
+          asked_again ps asked (Word (codes "then") ∷ actions) hps (then_ends actions),
           word_again (codes "then") actions,
           many_again action_exact action_begins acts actions (Word (codes "end") ∷ rest) hacts (no_action rest) (omega arith),
         ) (ended_is (codes "end") x rest)
 
-    shorter : (x : RuleTree) (ts rest : List TokenKind) → IsRule x ts rest → length rest < length ts
-    shorter x ts rest (g.rule {s} {attrs} {cs} {acts} {behind_name} {conditions} {actions} hs hattrs hcs hacts) =
+    shorter : (x : WrittenRule) (ts rest : List TokenKind) → IsRule x ts rest → length rest < length ts
+    shorter x ts rest (g.rule {s} {attrs} {ps} {acts} {behind_name} {asked} {actions} hs hattrs hps hacts) =
         let first = name_exact.shorter s ts behind_name hs in
-        let second = many_shorter attr_exact attrs behind_name (Word (codes "when") ∷ conditions) hattrs in
-        let third = nonempty_shorter condition_exact cs conditions (Word (codes "then") ∷ actions) hcs in
+        let second = many_shorter attr_exact attrs behind_name (Word (codes "when") ∷ asked) hattrs in
+        let third = asked_shorter hps in
         let fourth = many_shorter action_exact acts actions (Word (codes "end") ∷ rest) hacts in
         omega arith

@@ -9,10 +9,10 @@ use Rattle.drl_expr.specs.Exact.{Found}
 use Rattle.drl_expr.specs.Words.{is_ident}
 use Rattle.drl_grammar.specs.declared.file.Meta.{Meta}
 use Rattle.drl_grammar.specs.declared.file.Meta.TheVariants as meta
-use Rattle.drl_grammar.specs.declared.file.TypeTree.{TypeTree}
+use Rattle.drl_grammar.specs.declared.written.WrittenType.{WrittenType}
 use Rattle.drl_grammar.specs.Conditions.{IsSpan, IsName}
 use Rattle.drl_grammar.specs.Items as g
-use Rattle.drl_grammar.specs.Items.{IsMeta, IsField, IsType, IsLateness, IsEntry}
+use Rattle.drl_grammar.specs.Items.{IsMeta, IsField, IsParent, IsType, IsLateness, IsEntry}
 use Rattle.drl_grammar.specs.Shapes.{Maybe, Many}
 use Rattle.drl_grammar.specs.Shapes as m
 use Rattle.drl_phrase.specs.declared.phrase.Punctuation.TheVariants as p
@@ -22,7 +22,7 @@ use Rattle.drl_phrase.proofs.NameLaws.{span_exact, name_exact}
 use Rattle.drl_phrase.proofs.ShapeLaws.{then, guarded, ident_then, ident_is, same_bytes, closed_then, ended_then, ended_is, Begins, many_sound, many_again, many_shorter, maybe_sound, maybe_again, maybe_shorter}
 use Rattle.drl_parse.specs.declared.words.MetaWord.{MetaWord}
 use Rattle.drl_parse.specs.declared.words.MetaWord.TheVariants.{RoleWord, TimestampWord, DurationWord, ExpiresWord, ReferenceWord}
-use Rattle.drl_parse.specs.Reading.{meta_text, meta_word, role_word, behind_meta, meta_at, field_at, type_at, lateness_at, behind_point, entry_at}
+use Rattle.drl_parse.specs.Reading.{meta_text, meta_word, role_word, behind_meta, meta_at, field_at, parent_at, type_at, lateness_at, behind_point, entry_at}
 
 -- ---- annotations
 
@@ -109,28 +109,60 @@ unfolding field_at ident is_ident
 no_field (Mark Colon ∷ Word k ∷ rest) = refl
 no_field rest = refl
 
+parent_exact : Exact IsParent parent_at 0
+unfolding parent_at
+parent_exact = record { sound = sound; again = again; shorter = shorter }
+  where
+    sound : (ts : List TokenKind) → Found IsParent ts (parent_at ts)
+    sound (Word w ∷ Word ty ∷ rest) = guarded IsParent _ (bytes_eq w (codes "extends")) _ (λ e. rw (same_bytes w (codes "extends") e) (ident_then IsParent _ ty _ (λ h. g.parent h)))
+    sound ts = tt
+
+    again : (x : List ℕ) (ts rest : List TokenKind) → IsParent x ts rest → 0 ≤ binds rest → parent_at ts ≡ Some (x, rest)
+    again x ts rest (g.parent {ty} h) stop = ident_is ty _ h
+
+    shorter : (x : List ℕ) (ts rest : List TokenKind) → IsParent x ts rest → length rest < length ts
+    shorter x ts rest (g.parent h) = omega arith
+
+-- annotations and fields name no type that is extended
+no_parent : (ms : List Meta) (fs : List (List ℕ × List ℕ)) (ts middle rest : List TokenKind) → Many IsMeta ms ts middle → Many IsField fs middle (Word (codes "end") ∷ rest) → parent_at ts ≡ None
+unfolding parent_at
+no_parent ms fs ts middle (Word k ∷ rest) m.nothing m.nothing = refl
+no_parent ms fs ts middle rest m.nothing m.nothing = refl
+no_parent ms fs ts middle rest m.nothing (m.further (g.field hf hk) hs) = refl
+no_parent ms fs ts middle rest (m.further h hs) fields = begins h
+  where
+    begins : {x : Meta} {ts rest : List TokenKind} → IsMeta x ts rest → parent_at ts ≡ None
+    begins g.event_role = refl
+    begins g.fact_role = refl
+    begins (g.timestamp h) = refl
+    begins (g.duration h) = refl
+    begins (g.expires h) = refl
+    begins g.reference = refl
+
 pub type_exact : Exact IsType type_at 0
 unfolding type_at
 type_exact = record { sound = sound; again = again; shorter = shorter }
   where
     sound : (ts : List TokenKind) → Found IsType ts (type_at ts)
     sound (Word ty ∷ ts) = ident_then IsType _ ty _ (λ h.
-        then (Many IsMeta) ts (many_at meta_at ts) _ IsType _ (many_sound meta_exact ts) (λ ms hms.
+        then (Maybe IsParent) ts (maybe_at parent_at ts) _ IsType _ (maybe_sound parent_exact ts) (λ above habove.
+        then (Many IsMeta) above.1 (many_at meta_at above.1) _ IsType _ (many_sound meta_exact above.1) (λ ms hms.
         then (Many IsField) ms.1 (many_at field_at ms.1) _ IsType _ (many_sound field_exact ms.1) (λ fs hfs.
-        ended_then (codes "end") (Many IsField) fs.0 ms.1 (record { name = ty; metas = ms.0; fields = fs.0 }) fs.1 IsType _ hfs (λ rest hr. g.type_of h hms hr))))
+        ended_then (codes "end") (Many IsField) fs.0 ms.1 (record { name = ty; parent = above.0; metas = ms.0; fields = fs.0 }) fs.1 IsType _ hfs (λ rest hr. g.type_of h habove hms hr)))))
     sound ts = tt
 
-    again : (x : TypeTree) (ts rest : List TokenKind) → IsType x ts rest → 0 ≤ binds rest → type_at ts ≡ Some (x, rest)
-    again x ts rest (g.type_of {ty} {ms} {fs} {ts = behind} {middle} h hms hfs) stop =
+    again : (x : WrittenType) (ts rest : List TokenKind) → IsType x ts rest → 0 ≤ binds rest → type_at ts ≡ Some (x, rest)
+    again x ts rest (g.type_of {ty} {above} {ms} {fs} {ts = behind} {behind_parent} {middle} h habove hms hfs) stop =
         rw (
           ident_is ty _ h,
-          many_again meta_exact meta_begins ms behind middle hms (no_meta fs middle rest hfs) (omega arith),
+          maybe_again parent_exact above behind behind_parent habove (no_parent ms fs behind_parent middle rest hms hfs) (omega arith),
+          many_again meta_exact meta_begins ms behind_parent middle hms (no_meta fs middle rest hfs) (omega arith),
           many_again field_exact field_begins fs middle (Word (codes "end") ∷ rest) hfs (no_field rest) (omega arith),
         ) (ended_is (codes "end") x rest)
 
-    shorter : (x : TypeTree) (ts rest : List TokenKind) → IsType x ts rest → length rest < length ts
-    shorter x ts rest (g.type_of {ms} {fs} {ts = behind} {middle} h hms hfs) =
-        let first = many_shorter meta_exact ms behind middle hms in let others = many_shorter field_exact fs middle (Word (codes "end") ∷ rest) hfs in omega arith
+    shorter : (x : WrittenType) (ts rest : List TokenKind) → IsType x ts rest → length rest < length ts
+    shorter x ts rest (g.type_of {above} {ms} {fs} {ts = behind} {behind_parent} {middle} h habove hms hfs) =
+        let front = maybe_shorter parent_exact above behind behind_parent habove in let first = many_shorter meta_exact ms behind_parent middle hms in let others = many_shorter field_exact fs middle (Word (codes "end") ∷ rest) hfs in omega arith
 
 -- ---- entry points
 

@@ -1,4 +1,4 @@
--- What the bytes of a rule file are: a File, or what is refused first.
+-- What the bytes of a rule file are: a written file, or what is refused first.
 use Rattle.std.specs.Prelude.{◌≡◌, ℕ, ◌≤◌, ◌<◌, nat_lt, List, length, Option, Result, Ok, Err, if◌then◌else◌}
 use Rattle.drl_lex.specs.declared.token.Token.{Token}
 use Rattle.drl_lex.specs.declared.token.TokenKind.{TokenKind}
@@ -8,8 +8,8 @@ use Rattle.drl_lex.specs.declared.fault.LexFault.TheVariants as lex_fault
 use Rattle.drl_lex.specs.Faults as lexer
 use Rattle.drl_lex.specs.Kinds.{kinds}
 use Rattle.drl_lex.specs.Reading.{lexed}
-use Rattle.drl_grammar.specs.declared.file.File.{File}
-use Rattle.drl_grammar.specs.declared.file.Body.{Body}
+use Rattle.drl_grammar.specs.declared.written.Written.{Written}
+use Rattle.drl_grammar.specs.declared.written.WrittenBody.{WrittenBody}
 use Rattle.drl_grammar.specs.Files.{line_at, lines_at, IsOutside}
 use Rattle.drl_parse.specs.declared.fault.ParseFault.{ParseFault}
 use Rattle.drl_parse.specs.declared.fault.ParseFault.TheVariants.{Syntax, TooLong, Lexical, NoMemory}
@@ -29,7 +29,7 @@ pub record IsLexical (code : LexCode) (line : ℕ) (bytes : List ℕ) : Type 0 w
   pub refused : lexer.IsRefused code at bytes
   pub line_is : line ≡ line_at bytes at
 
--- Why there is no File of the bytes. Memory may be refused at any file.
+-- Why the bytes are no written file. Memory may be refused at any file.
 abbrev pub IsFault : ParseFault → List ℕ → Type 0
 IsFault (Syntax item line) bytes = IsOutside item line bytes × (length bytes ≤ file_limit)
 IsFault TooLong bytes = file_limit < length bytes
@@ -39,7 +39,7 @@ IsFault NoMemory bytes = Unit {0}
 -- ---- as one function of the bytes
 
 pub data Parsed : Type 0 where
-  is_file : File → Parsed
+  is_file : Written → Parsed
   outside : ℕ → ℕ → Parsed
   too_long : Parsed
   lexical : LexCode → ℕ → Parsed
@@ -48,11 +48,11 @@ abbrev pub items_parsed : ItemsRead → Parsed
 items_parsed (Ok items) = is_file (record { items = items })
 items_parsed (Err refused) = outside refused.0 refused.1
 
-abbrev pub tokens_parsed : (List TokenKind → Option Body) → List ℕ → Result (List Token) (LexCode × ℕ) → Parsed
+abbrev pub tokens_parsed : (List TokenKind → Option WrittenBody) → List ℕ → Result (List Token) (LexCode × ℕ) → Parsed
 tokens_parsed body_of bytes (Ok tokens) = items_parsed (items_at body_of (length (kinds tokens)) (kinds tokens) (lines_at bytes tokens))
 tokens_parsed body_of bytes (Err fault) = lexical fault.0 (line_at bytes fault.1)
 
-unfoldable pub parsed_by : (List TokenKind → Option Body) → List ℕ → Parsed
+unfoldable pub parsed_by : (List TokenKind → Option WrittenBody) → List ℕ → Parsed
 parsed_by body_of bytes = if nat_lt file_limit (length bytes) then too_long else tokens_parsed body_of bytes (lexed bytes)
 
 -- what the bytes are, given how the grammar reads an item
@@ -65,7 +65,7 @@ FaultOf bytes (lex_fault.Refused code at) fault = fault ≡ Lexical code (line_a
 FaultOf bytes lex_fault.NoMemory fault = fault ≡ NoMemory
 
 -- what `parse` answers: what the bytes are, unless memory was refused
-abbrev pub Gives : Result File ParseFault → Parsed → Type 0
+abbrev pub Gives : Result Written ParseFault → Parsed → Type 0
 Gives (Ok file) read = read ≡ is_file file
 Gives (Err (Syntax item line)) read = read ≡ outside item line
 Gives (Err TooLong) read = read ≡ too_long

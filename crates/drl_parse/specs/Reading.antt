@@ -5,18 +5,18 @@ use Rattle.drl_lex.specs.declared.token.TokenKind.{TokenKind}
 use Rattle.drl_lex.specs.declared.token.TokenKind.TheVariants.{Word, Number, Text, Mark}
 use Rattle.drl_lex.specs.declared.token.Mark.TheVariants.{OpenParenthesis, CloseParenthesis, Colon, Dot, At, Minus, Star}
 use Rattle.drl_expr.specs.Exact.{Read}
-use Rattle.drl_grammar.specs.declared.condition.CondTree.{CondTree}
 use Rattle.drl_grammar.specs.declared.file.Attr.{Attr}
 use Rattle.drl_grammar.specs.declared.file.Attr.TheVariants as attr
 use Rattle.drl_grammar.specs.declared.file.Meta.{Meta}
 use Rattle.drl_grammar.specs.declared.file.Meta.TheVariants as meta
-use Rattle.drl_grammar.specs.declared.file.TypeTree.{TypeTree}
-use Rattle.drl_grammar.specs.declared.file.RuleTree.{RuleTree}
-use Rattle.drl_grammar.specs.declared.file.Body.{Body}
-use Rattle.drl_grammar.specs.declared.file.Body.TheVariants as body
+use Rattle.drl_grammar.specs.declared.written.Piece.{Piece}
+use Rattle.drl_grammar.specs.declared.written.WrittenType.{WrittenType}
+use Rattle.drl_grammar.specs.declared.written.WrittenRule.{WrittenRule}
+use Rattle.drl_grammar.specs.declared.written.WrittenBody.{WrittenBody}
+use Rattle.drl_grammar.specs.declared.written.WrittenBody.TheVariants as body
 use Rattle.drl_phrase.specs.declared.phrase.Punctuation.TheVariants as p
-use Rattle.drl_phrase.specs.Reading.{◌>>=◌, after_word, closed, ended, ident, many_at, nonempty_at, maybe_at, optional_at, span_at, name_at}
-use Rattle.drl_condition.specs.Reading.{condition_at}
+use Rattle.drl_phrase.specs.Reading.{◌>>=◌, after_word, closed, ended, ident, many_at, maybe_at, optional_at, span_at, name_at}
+use Rattle.drl_condition.specs.Choices.{asked_at}
 use Rattle.drl_action.specs.Reading.{action_at}
 use Rattle.drl_parse.specs.declared.words.MetaWord.{MetaWord}
 use Rattle.drl_parse.specs.declared.words.MetaWord.TheVariants.{RoleWord, TimestampWord, DurationWord, ExpiresWord, ReferenceWord}
@@ -87,8 +87,13 @@ unfoldable pub field_at : List TokenKind → Read (List ℕ × List ℕ)
 field_at (Word f ∷ Mark Colon ∷ Word k ∷ rest) = ident f (ident k (Some ((f, k), rest)))
 field_at ts = None
 
-unfoldable pub type_at : List TokenKind → Read TypeTree
-type_at (Word ty ∷ ts) = ident ty (many_at meta_at ts >>= λ ms. many_at field_at ms.1 >>= λ fs. ended (codes "end") (record { name = ty; metas = ms.0; fields = fs.0 }) fs.1)
+unfoldable pub parent_at : List TokenKind → Read (List ℕ)
+parent_at (Word w ∷ Word ty ∷ rest) = if bytes_eq w (codes "extends") then ident ty (Some (ty, rest)) else None
+parent_at ts = None
+
+unfoldable pub type_at : List TokenKind → Read WrittenType
+type_at (Word ty ∷ ts) = ident ty (maybe_at parent_at ts >>= λ above. many_at meta_at above.1 >>= λ ms. many_at field_at ms.1 >>= λ fs.
+    ended (codes "end") (record { name = ty; parent = above.0; metas = ms.0; fields = fs.0 }) fs.1)
 type_at ts = None
 
 unfoldable pub lateness_at : List TokenKind → Read ℤ
@@ -116,26 +121,26 @@ attr_at (Word w ∷ ts) = if bytes_eq w (codes "salience") then (salience_at ts 
 attr_at ts = None
 
 -- what stands behind the word `then`
-unfoldable pub actions_at : List ℕ → List Attr → List CondTree → List TokenKind → Read RuleTree
-actions_at s attrs cs ts = many_at action_at ts >>= λ acts. ended (codes "end") (record { name = s; attrs = attrs; conditions = cs; actions = acts.0 }) acts.1
+unfoldable pub actions_at : List ℕ → List Attr → List Piece → List TokenKind → Read WrittenRule
+actions_at s attrs ps ts = many_at action_at ts >>= λ acts. ended (codes "end") (record { name = s; attrs = attrs; pieces = ps; actions = acts.0 }) acts.1
 
 -- what stands behind the word `when`
-unfoldable pub conditions_at : List ℕ → List Attr → List TokenKind → Read RuleTree
-conditions_at s attrs ts = nonempty_at condition_at ts >>= λ cs. after_word (codes "then") cs.1 >>= λ rest. actions_at s attrs cs.0 rest
+unfoldable pub conditions_at : List ℕ → List Attr → List TokenKind → Read WrittenRule
+conditions_at s attrs ts = asked_at ts >>= λ ps. after_word (codes "then") ps.1 >>= λ rest. actions_at s attrs ps.0 rest
 
 -- a rule behind its first word
-unfoldable pub rule_at : List TokenKind → Read RuleTree
+unfoldable pub rule_at : List TokenKind → Read WrittenRule
 rule_at ts = name_at ts >>= λ s. many_at attr_at s.1 >>= λ attrs. after_word (codes "when") attrs.1 >>= λ rest. conditions_at s.0 attrs.0 rest
 
 -- ---- items
 
 -- what stands behind the word `declare`: no type has a minus behind its name
-unfoldable pub declare_at : List TokenKind → Read Body
+unfoldable pub declare_at : List TokenKind → Read WrittenBody
 declare_at (Word w ∷ Mark Minus ∷ ts) = entry_at (Word w ∷ Mark Minus ∷ ts) >>= λ e. Some (body.Entry e.0.0 e.0.1, e.1)
 declare_at ts = type_at ts >>= λ t. Some (body.Declare t.0, t.1)
 
 -- what stands behind the first word of an item
-unfoldable pub behind_item : ItemWord → List TokenKind → Read Body
+unfoldable pub behind_item : ItemWord → List TokenKind → Read WrittenBody
 behind_item PackageWord ts = path_at ts >>= λ path. Some (body.Package path.0, optional_at p.Semicolon path.1)
 behind_item ImportWord ts = path_at ts >>= λ path. Some (body.Import path.0 (star_at path.1).0, optional_at p.Semicolon (star_at path.1).1)
 behind_item DialectWord (Text s ∷ ts) = Some (body.Dialect s, optional_at p.Semicolon ts)
@@ -143,6 +148,6 @@ behind_item DeclareWord ts = declare_at ts
 behind_item RuleWord ts = rule_at ts >>= λ r. Some (body.Rule r.0, r.1)
 behind_item word ts = None
 
-unfoldable pub item_at : List TokenKind → Read Body
+unfoldable pub item_at : List TokenKind → Read WrittenBody
 item_at (Word w ∷ ts) = item_word w >>= λ word. behind_item word ts
 item_at ts = None

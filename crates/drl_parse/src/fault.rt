@@ -5,7 +5,7 @@ use fx_base::NoMemory;
 use std::alloc::{AllocError, AllocFailed};
 use thiserror::Error;
 
-/// Why there is no File of the bytes.
+/// Why the bytes are no written file.
 #[derive(Clone, Copy, Debug, PartialEq, Eq, Error)]
 pub enum ParseFault {
     /// The item of this number, counted from 1, is the first that is outside the grammar; its first token stands on

@@ -5,7 +5,7 @@ use crate::paths::{Path, star};
 use crate::rules::RuleLine;
 use crate::types::{EntryLine, TypeLine};
 use crate::words::{ItemWord, word_of_item};
-use drl_grammar::Body;
+use drl_grammar::WrittenBody;
 use drl_lex::{Mark, TokenKind};
 use drl_phrase::{Phrase, Punctuation, optional};
 use fx_base::NoMemory;
@@ -16,19 +16,22 @@ use std::alloc::Global;
 fn declaration(
     alloc: Global,
     tokens: &[TokenKind],
-) -> Result<Option<(Body, &[TokenKind])>, NoMemory>
+) -> Result<Option<(WrittenBody, &[TokenKind])>, NoMemory>
     ensures { IfOk result (λ found. option_map (λ f. (f.0, f.1.now)) found ≡ declare_at tokens.now) }
 {
     match tokens {
         [TokenKind::Word(_), TokenKind::Mark(Mark::Minus), ..] => {
             match EntryLine::read(alloc, tokens)? {
                 None => Ok(None),
-                Some(((name, lateness), rest)) => Ok(Some((Body::Entry { name, lateness }, rest))),
+                Some(((name, lateness), rest)) => Ok(Some((
+                    WrittenBody::Entry { name, lateness },
+                    rest,
+                ))),
             }
         }
         _ => match TypeLine::read(alloc, tokens)? {
             None => Ok(None),
-            Some((tree, rest)) => Ok(Some((Body::Declare(tree), rest))),
+            Some((tree, rest)) => Ok(Some((WrittenBody::Declare(tree), rest))),
         },
     }
 }
@@ -39,14 +42,14 @@ fn behind_first(
     alloc: Global,
     word: ItemWord,
     tokens: &[TokenKind],
-) -> Result<Option<(Body, &[TokenKind])>, NoMemory>
+) -> Result<Option<(WrittenBody, &[TokenKind])>, NoMemory>
     ensures { IfOk result (λ found. option_map (λ f. (f.0, f.1.now)) found ≡ behind_item word tokens.now) }
 {
     match word {
         ItemWord::PackageWord => match Path::read(alloc, tokens)? {
             None => Ok(None),
             Some((path, rest)) => Ok(Some((
-                Body::Package(path),
+                WrittenBody::Package(path),
                 optional(Punctuation::Semicolon, rest),
             ))),
         },
@@ -55,7 +58,7 @@ fn behind_first(
             Some((path, rest)) => {
                 let (star, rest) = star(rest);
                 Ok(Some((
-                    Body::Import { path, star },
+                    WrittenBody::Import { path, star },
                     optional(Punctuation::Semicolon, rest),
                 )))
             }
@@ -64,7 +67,7 @@ fn behind_first(
             [TokenKind::Text(text), rest @ ..] => {
                 let dialect = text.clone()?;
                 Ok(Some((
-                    Body::Dialect(dialect),
+                    WrittenBody::Dialect(dialect),
                     optional(Punctuation::Semicolon, rest),
                 )))
             }
@@ -73,7 +76,7 @@ fn behind_first(
         ItemWord::DeclareWord => declaration(alloc, tokens),
         ItemWord::RuleWord => match RuleLine::read(alloc, tokens)? {
             None => Ok(None),
-            Some((rule, rest)) => Ok(Some((Body::Rule(rule), rest))),
+            Some((rule, rest)) => Ok(Some((WrittenBody::Rule(rule), rest))),
         },
     }
 }
@@ -82,14 +85,17 @@ fn behind_first(
 pub(crate) struct ItemLine;
 
 impl Phrase for ItemLine {
-    type Tree = Body;
+    type Tree = WrittenBody;
 
     ghost use Rattle.drl_parse.specs.Reading.{item_at};
 
     ghost at = { item_at };
 
     #[tactic(auto, unfolding(crate::specs::Reading::item_at))]
-    fn read(alloc: Global, tokens: &[TokenKind]) -> Result<Option<(Body, &[TokenKind])>, NoMemory> {
+    fn read(
+        alloc: Global,
+        tokens: &[TokenKind],
+    ) -> Result<Option<(WrittenBody, &[TokenKind])>, NoMemory> {
         match tokens {
             [TokenKind::Word(word), rest @ ..] => match word_of_item(word.as_str()) {
                 None => Ok(None),

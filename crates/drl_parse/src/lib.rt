@@ -14,8 +14,8 @@ mod words;
 
 pub use drl_expr::{ExprTree, LitTree, Node};
 pub use drl_grammar::{
-    ActTree, Attr, Body, Cmp, CondTree, File, FoldWord, Item, Meta, Operand, Part, RuleTree,
-    SourceTree, TypeTree, WindowTree,
+    ActTree, Attr, Cmp, CondTree, FoldWord, Meta, Operand, Part, Piece, SourceTree, WindowTree,
+    Written, WrittenBody, WrittenItem, WrittenRule, WrittenType,
 };
 pub use drl_lex::{LexCode, Rel};
 pub use fault::ParseFault;

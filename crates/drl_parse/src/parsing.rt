@@ -1,7 +1,7 @@
 ghost use Rattle.std.specs.Prelude.{◌≡◌, ◌↔◌, ◌<◌, ◌≤◌, ◌^◌, ℕ, length, nat_lt, IfOk, IfErr};
 ghost use Rattle.drl_lex.specs.Reading.{lexed};
 ghost use Rattle.drl_lex.specs.declared.fault.LexCode.{LexCode as LexCodeData};
-ghost use Rattle.drl_grammar.specs.declared.file.File.{File as FileData};
+ghost use Rattle.drl_grammar.specs.declared.written.Written.{Written as WrittenData};
 ghost use Rattle.drl_grammar.specs.Files.{line_at, IsFile, IsOutside};
 ghost use Rattle.drl_parse.specs.Parsed.{file_limit, IsLexical, IsFault, Parsed, is_file, outside, too_long, lexical, parsed, FaultOf, Gives};
 ghost use Rattle.drl_parse.specs.Reading.{item_at};
@@ -12,7 +12,7 @@ use crate::fault::ParseFault;
 use crate::items::ItemLine;
 use crate::lines::{line_of, lines_of};
 use crate::splitting::split_item;
-use drl_grammar::{File, Item};
+use drl_grammar::{Written, WrittenItem};
 use drl_lex::{LexFault, TokenKind, kinds_and_starts, lex};
 use drl_phrase::whole;
 use fx_base::Seq;
@@ -26,7 +26,11 @@ fn outside(item: u32, line: u32) -> ParseFault
 }
 
 // The items that the tokens are, or the first that is none.
-fn items_of(alloc: Global, tokens: &[TokenKind], lines: &[u32]) -> Result<Seq<Item>, ParseFault>
+fn items_of(
+    alloc: Global,
+    tokens: &[TokenKind],
+    lines: &[u32],
+) -> Result<Seq<WrittenItem>, ParseFault>
     requires same { length lines.now ≡ length tokens.now }
     requires few { length tokens.now < 2 ^ 31 }
     ensures { GivesItems result (items_at (whole_at item_at) (length tokens.now) tokens.now lines.now) }
@@ -42,7 +46,7 @@ fn items_of(alloc: Global, tokens: &[TokenKind], lines: &[u32]) -> Result<Seq<It
             None => return Err(outside(number, line)),
             Some(body) => body,
         };
-        items.push(Item { line, body })?;
+        items.push(WrittenItem { line, body })?;
         rest = next;
         rest_lines = rest_lines.split_at(own.len()).1;
     }
@@ -74,7 +78,7 @@ fn lexer_fault(bytes: &[u8], fault: LexFault) -> ParseFault
 }
 
 // What the bytes are.
-fn read_file(alloc: Global, bytes: &[u8]) -> Result<File, ParseFault>
+fn read_file(alloc: Global, bytes: &[u8]) -> Result<Written, ParseFault>
     ensures { Gives result (parsed bytes.now) }
 {
     if is_too_long(bytes) {
@@ -87,12 +91,12 @@ fn read_file(alloc: Global, bytes: &[u8]) -> Result<File, ParseFault>
     let (said, offsets) = kinds_and_starts(alloc, tokens)?;
     let lines = lines_of(alloc, bytes, offsets.as_slice())?;
     let items = items_of(alloc, said.as_slice(), &lines)?;
-    Ok(File { items })
+    Ok(Written { items })
 }
 
-/// The File for which the bytes stand, or what is refused first: more than 1,048,576 bytes, then the first fault of
+/// The written file for which the bytes stand, or what is refused first: more than 1,048,576 bytes, then the first fault of
 /// the lexer, then the first item that is outside the grammar. Memory may be refused at any file.
-pub fn parse(alloc: Global, bytes: &[u8]) -> Result<File, ParseFault>
+pub fn parse(alloc: Global, bytes: &[u8]) -> Result<Written, ParseFault>
     ensures file { IfOk result (λ file. IsFile file bytes.now × (length bytes.now ≤ file_limit)) }
     ensures refused { IfErr result (λ fault. IsFault fault bytes.now) }
 
@@ -102,10 +106,10 @@ pub fn parse(alloc: Global, bytes: &[u8]) -> Result<File, ParseFault>
     read_file(alloc, bytes)
 }
 
-/// A law of the definitions: all bytes are one File, or one thing is refused first, never both, and `parsed` gives it.
+/// A law of the definitions: all bytes are one written file, or one thing is refused first, never both, and `parsed` gives it.
 /// The call does nothing.
 pub fn parsed_is_exact(bytes: &[u8])
-    ensures file { (file : FileData) → (IsFile file bytes.now × (length bytes.now ≤ file_limit)) ↔ (parsed bytes.now ≡ is_file file) }
+    ensures file { (file : WrittenData) → (IsFile file bytes.now × (length bytes.now ≤ file_limit)) ↔ (parsed bytes.now ≡ is_file file) }
     ensures syntax { (item line : ℕ) → (IsOutside item line bytes.now × (length bytes.now ≤ file_limit)) ↔ (parsed bytes.now ≡ outside item line) }
     ensures long { (file_limit < length bytes.now) ↔ (parsed bytes.now ≡ too_long) }
     ensures tokens { (code : LexCodeData) (line : ℕ) → (IsLexical code line bytes.now × (length bytes.now ≤ file_limit)) ↔ (parsed bytes.now ≡ lexical code line) }

@@ -2,10 +2,10 @@ ghost use Rattle.std.specs.Prelude.{◌≡◌, option_map, Option, IfOk};
 ghost use Rattle.drl_parse.specs.Reading.{actions_at, conditions_at};
 
 use drl_action::Action;
-use drl_condition::ConditionPhrase;
-use drl_grammar::{Attr, CondTree, RuleTree};
+use drl_condition::AskedPhrase;
+use drl_grammar::{Attr, Piece, WrittenRule};
 use drl_lex::{Mark, TokenKind};
-use drl_phrase::{Name, Phrase, Punctuation, behind_word, many, non_empty, optional};
+use drl_phrase::{Name, Phrase, Punctuation, behind_word, many, optional};
 use fx_base::{NoMemory, Seq, Text};
 use std::alloc::Global;
 
@@ -75,19 +75,19 @@ fn with_actions(
     alloc: Global,
     name: Text,
     attrs: Seq<Attr>,
-    conditions: Seq<CondTree>,
+    pieces: Seq<Piece>,
     tokens: &[TokenKind],
-) -> Result<Option<(RuleTree, &[TokenKind])>, NoMemory>
-    ensures { IfOk result (λ found. option_map (λ f. (f.0, f.1.now)) found ≡ actions_at name attrs conditions tokens.now) }
+) -> Result<Option<(WrittenRule, &[TokenKind])>, NoMemory>
+    ensures { IfOk result (λ found. option_map (λ f. (f.0, f.1.now)) found ≡ actions_at name attrs pieces tokens.now) }
 {
     let (actions, rest) = many::<Action>(alloc, tokens)?;
     match behind_word("end", rest) {
         None => Ok(None),
         Some(rest) => Ok(Some((
-            RuleTree {
+            WrittenRule {
                 name,
                 attrs,
-                conditions,
+                pieces,
                 actions,
             },
             rest,
@@ -102,16 +102,16 @@ fn with_conditions(
     name: Text,
     attrs: Seq<Attr>,
     tokens: &[TokenKind],
-) -> Result<Option<(RuleTree, &[TokenKind])>, NoMemory>
+) -> Result<Option<(WrittenRule, &[TokenKind])>, NoMemory>
     ensures { IfOk result (λ found. option_map (λ f. (f.0, f.1.now)) found ≡ conditions_at name attrs tokens.now) }
 {
-    let (conditions, rest) = match non_empty::<ConditionPhrase>(alloc, tokens)? {
+    let (pieces, rest) = match AskedPhrase::read(alloc, tokens)? {
         None => return Ok(None),
         Some(found) => found,
     };
     match behind_word("then", rest) {
         None => Ok(None),
-        Some(rest) => with_actions(alloc, name, attrs, conditions, rest),
+        Some(rest) => with_actions(alloc, name, attrs, pieces, rest),
     }
 }
 
@@ -119,7 +119,7 @@ fn with_conditions(
 pub(crate) struct RuleLine;
 
 impl Phrase for RuleLine {
-    type Tree = RuleTree;
+    type Tree = WrittenRule;
 
     ghost use Rattle.drl_parse.specs.Reading.{rule_at};
 
@@ -129,7 +129,7 @@ impl Phrase for RuleLine {
     fn read(
         alloc: Global,
         tokens: &[TokenKind],
-    ) -> Result<Option<(RuleTree, &[TokenKind])>, NoMemory> {
+    ) -> Result<Option<(WrittenRule, &[TokenKind])>, NoMemory> {
         let (name, rest) = match Name::read(alloc, tokens)? {
             None => return Ok(None),
             Some(found) => found,

@@ -3,7 +3,7 @@ ghost use Rattle.drl_parse.specs.Reading.{behind_meta, behind_point};
 
 use crate::words::{MetaWord, role_of, word_of_meta};
 use drl_expr::is_ident_word;
-use drl_grammar::{Meta, TypeTree};
+use drl_grammar::{Meta, WrittenType};
 use drl_lex::{Mark, TokenKind};
 use drl_phrase::{Name, Phrase, Punctuation, Span, behind, behind_word, many, maybe};
 use fx_base::{NoMemory, Text};
@@ -127,11 +127,36 @@ impl Phrase for FieldLine {
     }
 }
 
+/// The type that a type extends.
+pub(crate) struct Parent;
+
+impl Phrase for Parent {
+    type Tree = Text;
+
+    ghost use Rattle.drl_parse.specs.Reading.{parent_at};
+
+    ghost at = { parent_at };
+
+    #[tactic(auto, unfolding(crate::specs::Reading::parent_at, drl_phrase::specs::Reading::ident))]
+    fn read(
+        _alloc: Global,
+        tokens: &[TokenKind],
+    ) -> Result<Option<(Text, &[TokenKind])>, NoMemory> {
+        match tokens {
+            [TokenKind::Word(extends), TokenKind::Word(name), rest @ ..]
+                if extends.as_str() == "extends" && is_ident_word(name.as_str()) => {
+                Ok(Some((name.clone()?, rest)))
+            }
+            _ => Ok(None),
+        }
+    }
+}
+
 /// A type behind the word `declare`.
 pub(crate) struct TypeLine;
 
 impl Phrase for TypeLine {
-    type Tree = TypeTree;
+    type Tree = WrittenType;
 
     ghost use Rattle.drl_parse.specs.Reading.{type_at};
 
@@ -141,9 +166,10 @@ impl Phrase for TypeLine {
     fn read(
         alloc: Global,
         tokens: &[TokenKind],
-    ) -> Result<Option<(TypeTree, &[TokenKind])>, NoMemory> {
+    ) -> Result<Option<(WrittenType, &[TokenKind])>, NoMemory> {
         match tokens {
             [TokenKind::Word(name), rest @ ..] if is_ident_word(name.as_str()) => {
+                let (parent, rest) = maybe::<Parent>(alloc, rest)?;
                 let (metas, rest) = many::<MetaLine>(alloc, rest)?;
                 let (fields, rest) = many::<FieldLine>(alloc, rest)?;
                 let rest = match behind_word("end", rest) {
@@ -152,8 +178,9 @@ impl Phrase for TypeLine {
                 };
                 let name = name.clone()?;
                 Ok(Some((
-                    TypeTree {
+                    WrittenType {
                         name,
+                        parent,
                         metas,
                         fields,
                     },

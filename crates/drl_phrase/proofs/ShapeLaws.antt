@@ -8,11 +8,11 @@ use Rattle.drl_lex.specs.declared.token.TokenKind.TheVariants.{Word, Mark}
 use Rattle.drl_lex.specs.declared.token.Mark.TheVariants.{CloseParenthesis, CloseBracket, CloseBrace, Comma, Semicolon, Or, And}
 use Rattle.drl_expr.specs.Words.{is_ident, IsIdent}
 use Rattle.drl_expr.specs.Exact.{Read, Phrase, Found}
-use Rattle.drl_grammar.specs.Shapes.{Maybe, left_out, written, Optional, absent, present, Many, nothing, further, NonEmpty, begun, Separated, single, more, Listed, empty, members}
+use Rattle.drl_grammar.specs.Shapes.{Maybe, left_out, written, Optional, absent, present, Many, nothing, further, Separated, single, more, Listed, empty, members}
 use Rattle.drl_phrase.specs.declared.phrase.Punctuation.{Punctuation}
 use Rattle.drl_phrase.specs.declared.phrase.Punctuation.TheVariants as p
 use Rattle.drl_phrase.specs.Exact.{binds, Exact}
-use Rattle.drl_phrase.specs.Reading.{◌>>=◌, after, mark_of, level, after_word, closed, ended, ident, with_first, more_step, more_at, members_at, separated_at, listed_step, listed_at, many_step, turns_at, many_at, nonempty_at, maybe_step, maybe_at, optional_step, optional_at, if_last, whole_at}
+use Rattle.drl_phrase.specs.Reading.{◌>>=◌, after, mark_of, level, after_word, closed, ended, ident, with_first, more_step, more_at, members_at, separated_at, listed_step, listed_at, many_step, turns_at, many_at, maybe_step, maybe_at, optional_step, optional_at, if_last, whole_at}
 
 -- ---- options
 
@@ -288,22 +288,6 @@ many_again exact begins xs ts rest h stop low = turns_again exact begins (length
 pub many_shorter : {A : Type 0} {Is : Phrase A} {read : List TokenKind → Read A} {k : ℕ} → Exact Is read k → (xs : List A) (ts rest : List TokenKind) → Many Is xs ts rest → length rest ≤ length ts
 many_shorter exact xs ts rest nothing = omega arith
 many_shorter exact xs ts rest (further {x} {xs = others} {middle} h hs) =
-    let first = exact.shorter x ts middle h in let behind = many_shorter exact others middle rest hs in omega arith
-
--- ---- at least one
-
-pub nonempty_sound : {A : Type 0} {Is : Phrase A} {read : List TokenKind → Read A} {k : ℕ} → Exact Is read k → (ts : List TokenKind) → Found (NonEmpty Is) ts (nonempty_at read ts)
-unfolding nonempty_at
-nonempty_sound {Is} {read} exact ts = then Is ts (read ts) _ (NonEmpty Is) ts (exact.sound ts) (λ x hx. then (Many Is) x.1 (many_at read x.1) _ (NonEmpty Is) ts (many_sound exact x.1) (λ xs hxs. begun hx hxs))
-
-pub nonempty_again : {A : Type 0} {Is : Phrase A} {read : List TokenKind → Read A} {k : ℕ} → Exact Is read k → Begins Is k
-    → (xs : List A) (ts rest : List TokenKind) → NonEmpty Is xs ts rest → read rest ≡ None → k ≤ binds rest → nonempty_at read ts ≡ Some (xs, rest)
-unfolding nonempty_at
-nonempty_again exact begins xs ts rest (begun {x} {xs = others} {middle} h hs) stop low =
-    rw (exact.again x ts middle h (many_begins begins others middle rest hs low), many_again exact begins others middle rest hs stop low) refl
-
-pub nonempty_shorter : {A : Type 0} {Is : Phrase A} {read : List TokenKind → Read A} {k : ℕ} → Exact Is read k → (xs : List A) (ts rest : List TokenKind) → NonEmpty Is xs ts rest → length rest < length ts
-nonempty_shorter exact xs ts rest (begun {x} {xs = others} {middle} h hs) =
     let first = exact.shorter x ts middle h in let behind = many_shorter exact others middle rest hs in omega arith
 
 -- ---- what may be left out

@@ -12,7 +12,7 @@ seen o view read found e is = sym e ∙ ap (option_map view) is
 pub seen_none : {B C : Type 0} (o : Option B) (view : B → C) (read : Option C) → option_map view o ≡ read → o ≡ None → read ≡ None
 seen_none o view read e is = sym e ∙ ap (option_map view) is
 
-pub nothing_before : {A : Type 0} (o : Read (List A)) → with_front [] o ≡ o
+nothing_before : {A : Type 0} (o : Read (List A)) → with_front [] o ≡ o
 nothing_before None = refl
 nothing_before (Some x) = refl
 
@@ -66,9 +66,9 @@ no_turn_left {A} read s front count i ts total le so_far =
 
 -- ---- as many as there are
 
-pub many_begins : {A : Type 0} (read : List TokenKind → Read A) (front : List A) (ts : List TokenKind) → with_front front (turns_at read (length ts - 0) ts) ≡ with_front front (many_at read ts)
+pub many_begins : {A : Type 0} (read : List TokenKind → Read A) (ts : List TokenKind) → with_front [] (turns_at read (length ts - 0) ts) ≡ many_at read ts
 unfolding many_at
-many_begins read front ts = let k : length ts - 0 ≡ length ts = omega arith in rw k refl
+many_begins read ts = let k : length ts - 0 ≡ length ts = omega arith in rw k (nothing_before (turns_at read (length ts) ts))
 
 pub many_goes_on : {A : Type 0} (read : List TokenKind → Read A) (front : List A) (count i : ℕ) (ts rest : List TokenKind) (x : A) (total : Read (List A)) → i < count
     → read ts ≡ Some (x, rest) → with_front front (turns_at read (count - i) ts) ≡ total → with_front (front ++ x ∷ []) (turns_at read (count - (i + 1)) rest) ≡ total

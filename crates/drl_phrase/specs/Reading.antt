@@ -106,10 +106,6 @@ turns_at read (suc n) ts = many_step (read ts) ts (λ x rest. with_first x (turn
 unfoldable pub many_at : {A : Type 0} → (List TokenKind → Read A) → List TokenKind → Read (List A)
 many_at read ts = turns_at read (length ts) ts
 
--- x+, as many as can be read
-unfoldable pub nonempty_at : {A : Type 0} → (List TokenKind → Read A) → List TokenKind → Read (List A)
-nonempty_at read ts = read ts >>= λ x. with_first x.0 (many_at read x.1)
-
 abbrev pub maybe_step : {A : Type 0} → Read A → List TokenKind → Read (Option A)
 maybe_step None ts = Some (None, ts)
 maybe_step (Some x) ts = Some (Some x.0, x.1)

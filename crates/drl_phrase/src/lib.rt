@@ -8,4 +8,4 @@ mod shapes;
 
 pub use names::{Name, Span};
 pub use phrase::{Phrase, Punctuation, behind, behind_word, whole};
-pub use shapes::{listed, many, maybe, non_empty, optional, separated};
+pub use shapes::{listed, many, maybe, optional, separated};

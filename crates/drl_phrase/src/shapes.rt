@@ -1,5 +1,5 @@
 ghost use Rattle.std.specs.Prelude.{◌≡◌, option_map, Option, Some, IfOk};
-ghost use Rattle.drl_phrase.specs.Reading.{with_front, separated_at, listed_at, many_at, nonempty_at, maybe_at, optional_at};
+ghost use Rattle.drl_phrase.specs.Reading.{separated_at, listed_at, many_at, maybe_at, optional_at};
 
 use crate::{Phrase, Punctuation, behind};
 use drl_lex::TokenKind;
@@ -57,15 +57,14 @@ pub fn listed<P: Phrase>(
     }
 }
 
-// These phrases, and behind them as many more as can be read.
-fn with_more<P: Phrase>(
+/// As many phrases as can be read, maybe none.
+pub fn many<P: Phrase>(
     alloc: Global,
-    first: Vec<P::Tree>,
     tokens: &[TokenKind],
 ) -> Result<(Seq<P::Tree>, &[TokenKind]), NoMemory>
-    ensures { IfOk result (λ found. Some (found.0, found.1.now) ≡ with_front first.items (many_at P.at tokens.now)) }
+    ensures { IfOk result (λ found. Some (found.0, found.1.now) ≡ many_at P.at tokens.now) }
 {
-    let mut items = first;
+    let mut items = Vec::new(alloc);
     let mut rest = tokens;
     for _ in 0..tokens.len() {
         let (item, behind) = match P::read(alloc, rest)? {
@@ -76,34 +75,6 @@ fn with_more<P: Phrase>(
         rest = behind;
     }
     Ok((Seq::from_vec(items), rest))
-}
-
-/// As many phrases as can be read, maybe none.
-#[tactic(auto, using(crate::proofs::Turns::nothing_before))]
-pub fn many<P: Phrase>(
-    alloc: Global,
-    tokens: &[TokenKind],
-) -> Result<(Seq<P::Tree>, &[TokenKind]), NoMemory>
-    ensures { IfOk result (λ found. Some (found.0, found.1.now) ≡ many_at P.at tokens.now) }
-{
-    with_more::<P>(alloc, Vec::new(alloc), tokens)
-}
-
-/// As many phrases as can be read, at least one.
-#[tactic(auto, unfolding(crate::specs::Reading::nonempty_at))]
-pub fn non_empty<P: Phrase>(
-    alloc: Global,
-    tokens: &[TokenKind],
-) -> Result<Option<(Seq<P::Tree>, &[TokenKind])>, NoMemory>
-    ensures { IfOk result (λ found. option_map (λ f. (f.0, f.1.now)) found ≡ nonempty_at P.at tokens.now) }
-{
-    let (first, rest) = match P::read(alloc, tokens)? {
-        None => return Ok(None),
-        Some(found) => found,
-    };
-    let mut items = Vec::new(alloc);
-    items.push(first)?;
-    Ok(Some(with_more::<P>(alloc, items, rest)?))
 }
 
 /// The phrase, if one can be read.

@@ -1,9 +1,9 @@
 use Rattle.std.proofs.Common.{arith}
 use Rattle.drl_phrase.proofs.Turns.{seen, seen_none, many_begins, many_goes_on, many_ends, many_no_turn_left}
-use Rattle.drl_phrase.proofs.shapes.with_more.Goals as goal
+use Rattle.drl_phrase.proofs.shapes.many.Goals as goal
 
 pub loop-init : goal.loop-init
-loop-init g c = many_begins _ _ _
+loop-init g c = rw c.new-items.ensures.items (many_begins _ _)
 
 pub returns-in-None : goal.returns-in-None
 returns-in-None g c = rw c.from_vec.ensures (many_ends _ _ _ _ _ (seen_none _ _ _ c.in_ok-read.ensures c.in-None.is) c.loop.invariant)

@@ -1,6 +1,0 @@
-use Rattle.std.proofs.Common.{◌≡◌, ◌-◌, length}
-use Rattle.drl_phrase.specs.Reading.{with_front, turns_at, many_at}
-use Rattle.drl_phrase.proofs.shapes.with_more.Given as goal
-
-abbrev pub invariant-loop : goal.invariant-loop
-invariant-loop g l = with_front l.items.items (turns_at g.P.Phrase.at (length l.tokens - l.counter) l.rest) ≡ with_front l.fn.first.items (many_at g.P.Phrase.at l.tokens)
