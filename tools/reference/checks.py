@@ -17,6 +17,7 @@ from program import (FactMeant, Program, Sight, TypeInfo, ValueMeant, entries_of
                      known_entries, observed_types, program_of, rules_of, sight_of_actions, sight_of_source, sights,
                      type_declarations, type_info, types_by_name, KINDS)
 from reader import Refused
+from stages import has_alternatives
 from trees import (INT, Action, AnyOf, Binary, Comparison, Compare, Condition, DialectAttribute, Duration,
                    EntryDeclaration, Existing, Expires, Expr, FieldOf, Folded, Insert, Item, LengthWindow, Literal, Modify,
                    Negate, Negated, OneOf, Operand, Own, Plain, Retract, Role, Rule, Salience, Source, TimeWindow,
@@ -452,7 +453,7 @@ CODES: list[tuple[str, Check]] = [
 
 def check(written: list[Item], stage: int) -> Program:
     """The program of the file, written out, or Refused with the first failing item, as it was read, and its first code."""
-    items, origins = expand(written) if stage >= 20 else (written, list(range(len(written))))
+    items, origins = expand(written) if has_alternatives(stage) else (written, list(range(len(written))))
     types = types_by_name(items)
     file = File(items, stage, types, observed_types(rules_of(items), types))
     for k, item in enumerate(items):

@@ -22,7 +22,7 @@ from random_lives import lives_case
 from random_rules import FileMaker
 from random_script import ScriptMaker
 from reader import Refused, read_file
-from stages import TODAY
+from stages import TODAY, has_alternatives
 from writer import Writer
 
 BUDGET = 150
@@ -41,14 +41,14 @@ def accepted_case(rng: Random, stage: int) -> Case:
     while True:
         maker = FileMaker(rng, stage)
         writer = Writer(rng)
-        bodies = with_choices(rng, maker.bodies()) if stage >= 20 else maker.bodies()
+        bodies = with_choices(rng, maker.bodies()) if has_alternatives(stage) else maker.bodies()
         rules = writer.text_of([writer.item(b) for b in bodies]).encode("utf-8")
         try:
             program = check(read_file(rules, stage), stage)
         except Refused as refused:
             # A network that never matches, or a modification that happens to set a field twice: a file of the other sort. A rule with
             # alternatives may happen to be too large when it is written out.
-            if refused.code in ("Syntax", "UnknownType") or refused.code == "LimitPassed" and stage < 20:
+            if refused.code in ("Syntax", "UnknownType") or refused.code == "LimitPassed" and not has_alternatives(stage):
                 raise
             continue
         script = ScriptMaker(rng, program, maker.bounded, BUDGET).script(rng.choice([10, 25, 40, 60]))

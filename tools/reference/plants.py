@@ -12,6 +12,7 @@ from typing import Any, Optional
 
 from random_alternatives import with_choices, with_refused_choices
 from random_rules import FileMaker
+from stages import has_alternatives
 from temporal import OPERATORS
 from trees import (AnyOf, Binary, Bind, Body, Compare, Condition, Duration, EntryDeclaration, Existing, Expires,
                    FieldOf, Folded, Insert, LengthWindow, Literal, Modify, Negate, Negated, OneOf, Own, Plain, Reference, Retract,
@@ -375,7 +376,7 @@ def planted(rng: Random, stage: int) -> bytes:
         bodies = meant_for(rng, rng.choice(meant_codes(stage)), bodies, stage)
     elif draw < 0.65:
         bodies = with_trees(rng, bodies, stage)
-    if stage >= 20:
+    if has_alternatives(stage):
         bodies = with_refused_choices(rng, bodies) if rng.random() < 0.4 else with_choices(rng, bodies)
     items = [writer.item(b) for b in bodies]
     if 0.65 <= draw < 0.77:

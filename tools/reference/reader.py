@@ -10,7 +10,7 @@ from __future__ import annotations
 from typing import Callable, Optional, TypeVar
 
 import temporal
-from stages import TODAY
+from stages import TODAY, has_alternatives
 from tokens import LexicalFault, Token, line_of, tokens_of
 from trees import (Action, Alternatives, AnyOf, Attribute, Annotation, Binary, Bind, Body, Comparison, Compare, Condition, Dialect,
                    DialectAttribute, Duration, EntryDeclaration, Existing, Expires, Expr, FieldOf, Folded, Import, Insert,
@@ -24,7 +24,8 @@ NESTED_ALTERNATIVES = 16
 
 RESERVED = set("package import dialect declare rule when then end salience not exists accumulate from over in this new insert "
                "modify retract true false Number".split())
-RESERVED_LATER = {20: {"or", "extends"}}
+# those of files with alternatives and subtypes
+RESERVED_LATER = {"or", "extends"}
 FIRST_WORDS = {"package", "import", "dialect", "declare", "rule"}
 RELATIONS = {"==", "!=", "<", "<=", ">", ">="}
 FUNCTIONS = {"count", "sum", "min", "max", "average"}
@@ -46,7 +47,7 @@ class OutsideGrammar(Exception):
 
 def is_ident(word: str, stage: int = TODAY) -> bool:
     """A word that is not reserved (the word's form is the lexer's)."""
-    return word not in RESERVED and not any(stage >= first and word in words for first, words in RESERVED_LATER.items())
+    return word not in RESERVED and not (has_alternatives(stage) and word in RESERVED_LATER)
 
 
 class Reader:
@@ -163,7 +164,7 @@ class Reader:
     def declaration(self) -> TypeDeclaration:
         """'declare' Ident ['extends' Ident] meta* field* 'end'"""
         name, parent, annotations = self.ident(), None, []
-        if self.stage >= 20 and self.at_word("extends"):
+        if has_alternatives(self.stage) and self.at_word("extends"):
             self.word("extends")
             parent = self.ident()
         while self.skip_mark("@"):
@@ -252,7 +253,7 @@ class Reader:
 
     def condition(self, depth: int = 0) -> Condition:
         """source | ('not' | 'exists') group | folded | alternatives, within so many of these"""
-        if self.stage >= 20 and self.at_mark("("):
+        if has_alternatives(self.stage) and self.at_mark("("):
             return self.alternatives(depth + 1)
         if self.at_word("not"):
             self.word("not")

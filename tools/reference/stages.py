@@ -15,6 +15,11 @@ def has_proof(stage: int) -> bool:
     return stage >= 19 or stage == TODAY
 
 
+def has_alternatives(stage: int) -> bool:
+    """Whether there are alternatives and subtypes: from the stage 20 on, and in today's program, which had them before images."""
+    return stage >= 20 or stage == TODAY
+
+
 def stage_asked() -> int:
     """The stage that the environment names, or that of today's program."""
     return int(os.environ.get("REFERENCE_STAGE", TODAY))

@@ -44,7 +44,7 @@ class Lookups(unittest.TestCase):
         return seen
 
     def test_random_files(self):
-        seen = sum(self.agree(case.rules, case.script, TODAY) for case in (case_of(seed, TODAY) for seed in range(40)))
+        seen = sum(self.agree(case.rules, case.script, TODAY) for case in (case_of(seed, TODAY) for seed in range(50)))
         self.assertGreater(seen, 1000)
 
     def test_files_of_finite_lives(self):

@@ -1,8 +1,9 @@
 -- Sizes of ways are those of the ways that are written out.
 use Rattle.std.proofs.Common.{◌≡◌, ◌<◌, ◌≤◌, ◌+◌, ◌-◌, ◌*◌, ◌||◌, ℕ, zero, suc, nat_lt, nat_eq, min, max, Bool, true, false, List, [], ◌∷◌, ◌++◌, length, map, take, Option, Some, None, slice_get, option_map, cond, refl, sym, ap, ◌∙◌, arith}
-use Rattle.std.specs.List.{flat_map, list_any}
-use Rattle.std.proofs.lemmas.List.{length-map, map-append, take-map}
+use Rattle.std.specs.List.{filter, flat_map, list_any}
+use Rattle.std.proofs.lemmas.List.{length-append, length-map, map-append, take-map}
 use Rattle.std.proofs.lemmas.Option.{slice_get-map}
+use Rattle.std.proofs.Math.Nat.{mul_comm}
 use Rattle.drl_grammar.specs.declared.condition.CondTree.{CondTree}
 use Rattle.drl_grammar.specs.declared.condition.CondTree.TheVariants as condition
 use Rattle.drl_grammar.specs.declared.written.Piece.{Piece}
@@ -13,9 +14,9 @@ use Rattle.subrules.specs.declared.sizes.SizeOfAlternatives.{SizeOfAlternatives}
 use Rattle.subrules.specs.declared.sizes.SizeWalk.{SizeWalk}
 use Rattle.subrules.specs.declared.ways.Alternatives.{Alternatives}
 use Rattle.subrules.specs.declared.ways.Walk.{Walk}
-use Rattle.subrules.specs.Hierarchy.{kinds_of}
-use Rattle.subrules.specs.Ways.{Way, times, choices, all_ways, asks, closed_in, taken, walked, at_begin, ways_of}
-use Rattle.subrules.specs.Sizes.{longest, sized, size_of, free_size, begun_size, size_times, size_plus, size_of_choices, all_size, asks_size, closed_size, measured, all_measured, at_no_piece, size_of_all, size_of_walk, passes_limits}
+use Rattle.subrules.specs.Hierarchy.{first_names, has_subtypes, is_below, kinds_of}
+use Rattle.subrules.specs.Ways.{Way, times, over_type, choices, all_ways, asks, closed_in, taken, walked, at_begin, ways_of}
+use Rattle.subrules.specs.Sizes.{longest, sized, size_of, nothing, free_size, begun_size, size_times, size_plus, size_of_choices, all_size, asks_size, closed_size, measured, all_measured, at_no_piece, size_of_all, size_of_walk, passes_limits}
 use Rattle.subrules.specs.Faults.{are_too_many}
 
 -- ---- lists of ways
@@ -24,25 +25,25 @@ longest_append : (xs ys : List Way) → longest (xs ++ ys) ≡ max (longest xs) 
 longest_append [] ys = Prim.grind arith
 longest_append (a ∷ xs) ys = let e = longest_append xs ys in Prim.grind arith
 
-behind : Way → List Way → List Way
+abbrev behind : Way → List Way → List Way
 behind a ys = map (λ (b : Way). a ++ b) ys
 
 many_behind : (a : Way) (ys : List Way) → length (behind a ys) ≡ length ys
-many_behind a [] = refl
-many_behind a (b ∷ ys) = ap (λ n. n + 1) (many_behind a ys)
+many_behind a ys = length-map ys (λ (b : Way). a ++ b)
 
 longest_behind : (a : Way) (b : Way) (ys : List Way) → longest (behind a (b ∷ ys)) ≡ length a + longest (b ∷ ys)
-longest_behind a b [] = Prim.grind arith
-longest_behind a b (c ∷ ys) = let e = longest_behind a c ys in Prim.grind arith
+longest_behind a b [] = let l = length-append a b in Prim.grind arith
+longest_behind a b (c ∷ ys) = let l = length-append a b in let e = longest_behind a c ys in Prim.grind arith
 
 many_times : (xs ys : List Way) → length (times xs ys) ≡ length xs * length ys
-many_times [] ys = refl
-many_times (a ∷ xs) ys = let e = many_times xs ys in let f = many_behind a ys in Prim.grind arith
+many_times [] ys = Prim.grind arith
+many_times (a ∷ xs) ys = length-append (behind a ys) (times xs ys) ∙ ap (λ n. n + length (times xs ys)) (many_behind a ys) ∙ ap (λ n. length ys + n) (many_times xs ys) ∙ Prim.grind arith
 
 longest_times : (a b : Way) (xs ys : List Way) → longest (times (a ∷ xs) (b ∷ ys)) ≡ longest (a ∷ xs) + longest (b ∷ ys)
-longest_times a b [] ys = let e = longest_append (behind a (b ∷ ys)) [] in let f = longest_behind a b ys in Prim.grind arith
+longest_times a b [] ys = longest_append (behind a (b ∷ ys)) [] ∙ ap (λ n. max n 0) (longest_behind a b ys) ∙ Prim.grind arith
 longest_times a b (c ∷ xs) ys =
-    let e = longest_append (behind a (b ∷ ys)) (times (c ∷ xs) (b ∷ ys)) in let f = longest_behind a b ys in let g = longest_times c b xs ys in Prim.grind arith
+    longest_append (behind a (b ∷ ys)) (times (c ∷ xs) (b ∷ ys)) ∙ ap (λ n. max n (longest (times (c ∷ xs) (b ∷ ys)))) (longest_behind a b ys)
+    ∙ ap (λ n. max (length a + longest (b ∷ ys)) n) (longest_times c b xs ys) ∙ Prim.grind arith
 
 times_nothing : (xs : List Way) → times xs [] ≡ []
 times_nothing [] = refl
@@ -55,38 +56,65 @@ beyond : (a b : ℕ) → 257 ≤ a → 1 ≤ b → 257 ≤ a * b
 beyond a zero many some = Prim.grind arith
 beyond a (suc b) many some = Prim.grind arith
 
+below : (a : ℕ) → a < 257 → min 257 a ≡ a
+below a lt = Prim.grind arith
+
+full : (a b : ℕ) → 257 ≤ a → 1 ≤ b → min 257 (a * b) ≡ 257
+full a b many some = let n = beyond a b many some in Prim.grind arith
+
+swapped : (a b : ℕ) → 1 ≤ a → 257 ≤ b → min 257 (a * b) ≡ 257
+swapped a b some many = ap (min 257) (mul_comm a b) ∙ full b a many some
+
 both_capped : (a b : ℕ) → 1 ≤ a → 1 ≤ b → min 257 (min 257 a * min 257 b) ≡ min 257 (a * b)
-both_capped a b = by_cases (nat_lt a 257) (nat_lt b 257) refl refl
+both_capped a b one two = by_cases (nat_lt a 257) (nat_lt b 257) refl refl
   where
-    by_cases : (x y : Bool) → nat_lt a 257 ≡ x → nat_lt b 257 ≡ y → 1 ≤ a → 1 ≤ b → min 257 (min 257 a * min 257 b) ≡ min 257 (a * b)
-    by_cases true true e f one two =
-        let g : min 257 a ≡ a = Prim.grind arith in
-        let h : min 257 b ≡ b = Prim.grind arith in
-        rw g h refl
-    by_cases false y e f one two =
-        let g : min 257 a ≡ 257 = Prim.grind arith in
-        let m : 1 ≤ min 257 b = Prim.grind arith in
-        let n = beyond 257 (min 257 b) (Prim.grind arith) m in
-        let k = beyond a b (Prim.grind arith) two in
-        rw g (Prim.grind arith)
-    by_cases true false e f one two =
-        let g : min 257 b ≡ 257 = Prim.grind arith in
-        let m : 1 ≤ min 257 a = Prim.grind arith in
-        let n = beyond 257 (min 257 a) (Prim.grind arith) m in
-        let k = beyond b a (Prim.grind arith) one in
-        rw g (Prim.grind arith)
+    by_cases : (x y : Bool) → nat_lt a 257 ≡ x → nat_lt b 257 ≡ y → min 257 (min 257 a * min 257 b) ≡ min 257 (a * b)
+    by_cases true true e f = ap (λ n. min 257 (n * min 257 b)) (below a (Prim.grind arith)) ∙ ap (λ n. min 257 (a * n)) (below b (Prim.grind arith))
+    by_cases false y e f = full (min 257 a) (min 257 b) (Prim.grind arith) (Prim.grind arith) ∙ sym (full a b (Prim.grind arith) two)
+    by_cases true false e f = swapped (min 257 a) (min 257 b) (Prim.grind arith) (Prim.grind arith) ∙ sym (swapped a b one (Prim.grind arith))
+
+product_of : (a b : ℕ) (c d : ℕ) → 1 ≤ a → 1 ≤ b → size_times (sized a c) (sized b d) ≡ sized (a * b) (c + d)
+product_of (suc a) (suc b) c d one two =
+    not_none (suc a) (suc b) one two ∙ ap (λ n. sized n (min 9 c + min 9 d)) refl ∙ both (both_capped (suc a) (suc b) one two) (capped_sum c d)
+  where
+    both : {m n k l : ℕ} → min 257 m ≡ min 257 n → min 9 k ≡ min 9 l → sized m k ≡ sized n l
+    both e f = ap (λ x. record { count = x; longest = _ }) e ∙ ap (λ x. record { count = _; longest = x }) f
+
+    capped_sum : (c d : ℕ) → min 9 (min 9 c + min 9 d) ≡ min 9 (c + d)
+    capped_sum c d = Prim.grind arith
+
+    not_none : (m n : ℕ) → 1 ≤ m → 1 ≤ n → size_times (sized m c) (sized n d) ≡ sized (min 257 m * min 257 n) (min 9 c + min 9 d)
+    not_none m n some more = rw (some_is m some) (rw (some_is n more) refl)
+
+    some_is : (m : ℕ) → 1 ≤ m → nat_eq (min 257 m) 0 ≡ false
+    some_is m some = Prim.grind arith
 
 size_of_times : (xs ys : List Way) → size_of (times xs ys) ≡ size_times (size_of xs) (size_of ys)
 size_of_times [] ys = refl
-size_of_times (a ∷ xs) [] = rw (times_nothing (a ∷ xs)) refl
+size_of_times (a ∷ xs) [] = ap size_of (times_nothing (a ∷ xs)) ∙ sym (nothing_behind (length (a ∷ xs)) (longest (a ∷ xs)))
+  where
+    nothing_behind : (m k : ℕ) → size_times (sized m k) (size_of []) ≡ size_of []
+    nothing_behind m k = either_none (nat_eq (min 257 m) 0)
+      where
+        either_none : (x : Bool) → (cond (x || true) nothing (sized (min 257 m * 0) (min 9 k + 0))) ≡ nothing
+        either_none true = refl
+        either_none false = refl
 size_of_times (a ∷ xs) (b ∷ ys) =
-    let many = many_times (a ∷ xs) (b ∷ ys) in
-    let long = longest_times a b xs ys in
-    let count = both_capped (length (a ∷ xs)) (length (b ∷ ys)) (Prim.grind arith) (Prim.grind arith) in
-    ap (λ (n : ℕ). sized n (longest (times (a ∷ xs) (b ∷ ys)))) many ∙ Prim.grind arith
+    ap (λ n. sized n (longest (times (a ∷ xs) (b ∷ ys)))) (many_times (a ∷ xs) (b ∷ ys)) ∙ ap (sized (length (a ∷ xs) * length (b ∷ ys))) (longest_times a b xs ys)
+    ∙ sym (product_of (length (a ∷ xs)) (length (b ∷ ys)) (longest (a ∷ xs)) (longest (b ∷ ys)) (Prim.grind arith) (Prim.grind arith))
 
 size_of_plus : (xs ys : List Way) → size_of (xs ++ ys) ≡ size_plus (size_of xs) (size_of ys)
-size_of_plus xs ys = let e = longest_append xs ys in Prim.grind arith
+size_of_plus xs ys =
+    ap (λ n. sized n (longest (xs ++ ys))) (length-append xs ys) ∙ ap (sized (length xs + length ys)) (longest_append xs ys) ∙ both_sized (length xs) (length ys) (longest xs) (longest ys)
+  where
+    both_sized : (m n k l : ℕ) → sized (m + n) (max k l) ≡ size_plus (sized m k) (sized n l)
+    both_sized m n k l = ap (λ x. record { count = x; longest = min 9 (max k l) }) (counts m n) ∙ ap (λ x. record { count = min 257 (min 257 m + min 257 n); longest = x }) (longests k l)
+      where
+        counts : (m n : ℕ) → min 257 (m + n) ≡ min 257 (min 257 m + min 257 n)
+        counts m n = Prim.grind arith
+
+        longests : (k l : ℕ) → min 9 (max k l) ≡ min 9 (max (min 9 k) (min 9 l))
+        longests k l = Prim.grind arith
 
 longest_single : (f : List ℕ → CondTree) (name : List ℕ) (names : List (List ℕ)) → longest (map (λ k. f k ∷ []) (name ∷ names)) ≡ 1
 longest_single f name [] = refl
@@ -94,8 +122,14 @@ longest_single f name (other ∷ names) = let e = longest_single f other names i
 
 size_of_condition : (types : List WrittenType) (c : CondTree) → size_of (choices types c) ≡ size_of_choices types c
 size_of_condition types (condition.Plain s) =
-    ap (λ (n : ℕ). sized n _) (length-map (kinds_of types s.ty) _) ∙ ap (sized (length (kinds_of types s.ty))) (longest_single _ s.ty _)
-size_of_condition types (condition.Negated s) = ap (sized 1) (Prim.grind arith ∙ length-map (kinds_of types s.ty) _)
+    let one = λ (name : List ℕ). condition.Plain (over_type s name) in
+    ap (λ n. sized n (longest (choices types (condition.Plain s)))) (length-map (kinds_of types s.ty) (λ name. one name ∷ []))
+    ∙ ap (sized (length (kinds_of types s.ty))) (longest_single one s.ty (cond (has_subtypes types s.ty) (filter (is_below types s.ty) (first_names types)) []))
+size_of_condition types (condition.Negated s) =
+    let long = length-map (kinds_of types s.ty) (λ name. condition.Negated (over_type s name)) in ap (sized 1) (ap (λ n. max n 0) long ∙ max_zero (length (kinds_of types s.ty)))
+  where
+    max_zero : (n : ℕ) → max n 0 ≡ n
+    max_zero n = Prim.grind arith
 size_of_condition types (condition.Existing s) = refl
 size_of_condition types (condition.Folded result s kind arg tests) = refl
 
@@ -107,7 +141,7 @@ asks_sized a ways = ap (λ (s : Size). record { done = size_of a.done; here = s 
 all_sized : (a : Alternatives) → size_of (all_ways a) ≡ all_size (size_of_all a)
 all_sized a = size_of_plus a.done a.here
 
-last_of : List Alternatives → Option Alternatives
+abbrev last_of : List Alternatives → Option Alternatives
 last_of outer = slice_get outer (length outer - 1)
 
 last_sized : (outer : List Alternatives) → slice_get (map size_of_all outer) (length (map size_of_all outer) - 1) ≡ option_map size_of_all (last_of outer)

@@ -1,5 +1,5 @@
 -- Which types extend which. A name that is declared twice means its first declaration.
-use Rattle.std.specs.Prelude.{ℕ, zero, suc, nat_eq, Bool, List, [], ◌∷◌, map, length, Option, Some, None, slice_get, option_and_then, option_to_list}
+use Rattle.std.specs.Prelude.{ℕ, zero, suc, nat_eq, cond, Bool, List, [], ◌∷◌, map, length, Option, Some, None, slice_get, option_and_then, option_to_list}
 use Rattle.std.specs.List.{filter, flat_map, list_any}
 use Rattle.std.specs.Str.{bytes_eq}
 use Rattle.drl_sight.specs.EntryPoints.{with_names}
@@ -70,6 +70,6 @@ extended types = flat_map (extended_by types) (first_names types)
 abbrev pub has_subtypes : List WrittenType → List ℕ → Bool
 has_subtypes types name = is_among (extended types) name
 
--- the name of a type, and those of the types below it in the order of the file
+-- the name of a type, and, where others extend it, those of the types below it in the order of the file
 abbrev pub kinds_of : List WrittenType → List ℕ → List (List ℕ)
-kinds_of types name = name ∷ filter (is_below types name) (first_names types)
+kinds_of types name = name ∷ cond (has_subtypes types name) (filter (is_below types name) (first_names types)) []

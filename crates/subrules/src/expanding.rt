@@ -69,8 +69,8 @@ fn add_rules(
     title: &Text,
     rules: Vec<RuleTree>,
 ) -> Result<(), NoMemory>
-    ensures items { OnOk result (made.new.items.items ≡ made.old.items.items ++ map (λ rule. at_line item.now.line (RuleBody rule)) rules.items) }
-    ensures origins { OnOk result (made.new.origins.items ≡ made.old.origins.items ++ map (λ rule. number) rules.items) }
+    ensures items { OnOk result (made.new.items.items ≡ made.old.items.items ++ map (at_line item.now.line) (map RuleBody rules.items)) }
+    ensures origins { OnOk result (made.new.origins.items ≡ made.old.origins.items ++ map (λ b. number) (map RuleBody rules.items)) }
     ensures titles { OnOk result (made.new.titles.items ≡ made.old.titles.items ++ map (λ rule. title.now) rules.items) }
 {
     for rule in rules {
@@ -116,6 +116,7 @@ fn add_item(
 }
 
 // Writes the items out.
+#[tactic(auto, unfolding(crate::specs::Expanded::origins_from))]
 fn written_out(
     alloc: Global,
     types: &Hierarchy,

@@ -185,6 +185,7 @@ fn fault_of(
 }
 
 /// The first of the items that cannot be written out.
+#[tactic(auto, unfolding(crate::specs::Faults::obstacle_from))]
 pub(crate) fn first_obstacle(
     alloc: Global,
     types: &Hierarchy,

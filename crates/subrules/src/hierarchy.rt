@@ -78,6 +78,7 @@ fn extended_by<'a>(tree: Option<&'a WrittenType>) -> Option<&'a Text>
 }
 
 // The names of this list, each once.
+#[tactic(auto, unfolding(drl_sight::specs::EntryPoints::with_names))]
 fn each_once(alloc: Global, names: &[Text]) -> Result<Places, NoMemory>
     ensures { IfOk result (λ once. once ≡ with_names [] names.now) }
 {
@@ -151,6 +152,7 @@ impl<'a> Hierarchy<'a> {
     }
 
     /// The types above a type, the nearest first. It costs a look-up for each.
+    #[tactic(auto, unfolding(crate::specs::Hierarchy::ancestors))]
     pub(crate) fn above(
         &self,
         alloc: Global,
@@ -173,6 +175,7 @@ impl<'a> Hierarchy<'a> {
     }
 
     /// Whether the way upward from a type goes in a circle. It costs a look-up for each step. Takes no memory.
+    #[tactic(auto, unfolding(crate::specs::Hierarchy::ancestors))]
     pub(crate) fn goes_round(&self, tree: &WrittenType) -> bool
         ensures { result ≡ goes_round self.now tree.now }
     {
@@ -187,6 +190,7 @@ impl<'a> Hierarchy<'a> {
     }
 
     // Whether a type of this name stands above the type of another one.
+    #[tactic(auto, unfolding(crate::specs::Hierarchy::ancestors))]
     fn is_below(&self, over: &Text, name: &Text) -> bool
         ensures { result ≡ is_below self.now over.now name.now }
     {

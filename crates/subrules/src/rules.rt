@@ -41,6 +41,7 @@ fn numbered_name(alloc: Global, name: &Text, number: u64) -> Result<Text, NoMemo
 }
 
 // The rules of several ways, numbered from 1.
+#[tactic(auto, unfolding(crate::specs::Expanded::numbered_rules))]
 fn numbered(
     alloc: Global,
     rule: &WrittenRule,

@@ -178,6 +178,7 @@ fn take_piece(
     }
 }
 
+#[tactic(auto, unfolding(crate::specs::Sizes::all_measured))]
 fn measure(alloc: Global, types: &Hierarchy, pieces: &[Piece]) -> Result<Size, NoMemory>
     ensures { IfOk result (λ size. size ≡ all_size (all_measured types.now at_no_piece pieces.now).inner) }
 {

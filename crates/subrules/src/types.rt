@@ -34,16 +34,24 @@ fn has_word_of(metas: &[Meta], meta: &Meta) -> bool
     false
 }
 
+// Those of other annotations whose word none of these has.
+fn new_ones(alloc: Global, metas: &[Meta], others: &[Meta]) -> Result<Vec<Meta>, NoMemory>
+    ensures { IfOk result (λ new. new.items ≡ filter (λ m. not (has_word metas.now m)) others.now) }
+{
+    let mut new = Vec::new(alloc);
+    for meta in others {
+        if !has_word_of(metas, meta) {
+            new.push(meta.copied(alloc)?)?;
+        }
+    }
+    Ok(new)
+}
+
 // Annotations, and behind them those of others whose word none of them has.
 fn with_others(alloc: Global, metas: Vec<Meta>, others: &[Meta]) -> Result<Vec<Meta>, NoMemory>
     ensures { IfOk result (λ all. all.items ≡ metas.items ++ filter (λ m. not (has_word metas.items m)) others.now) }
 {
-    let mut new = Vec::new(alloc);
-    for meta in others {
-        if !has_word_of(&metas, meta) {
-            new.push(meta.copied(alloc)?)?;
-        }
-    }
+    let new = new_ones(alloc, &metas, others)?;
     let mut all = metas;
     for meta in new {
         all.push(meta)?;
@@ -52,6 +60,7 @@ fn with_others(alloc: Global, metas: Vec<Meta>, others: &[Meta]) -> Result<Vec<M
 }
 
 // The annotations of a type, and those that it inherits.
+#[tactic(auto, unfolding(crate::specs::Expanded::inherited_metas))]
 fn all_metas(alloc: Global, own: &Seq<Meta>, above: &[&WrittenType]) -> Result<Seq<Meta>, NoMemory>
     ensures { IfOk result (λ metas. metas ≡ inherited_metas own.now (map (λ t. t.now) above.now)) }
 {
@@ -78,6 +87,7 @@ fn behind_fields(
 }
 
 // The fields that a type inherits, and its own behind them.
+#[tactic(auto, unfolding(crate::specs::Expanded::inherited_fields))]
 fn all_fields(
     alloc: Global,
     own: &Seq<(Text, Text)>,

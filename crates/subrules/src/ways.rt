@@ -244,7 +244,7 @@ fn take_piece(alloc: Global, types: &Hierarchy, walk: Walk, piece: &Piece) -> Re
 }
 
 /// The ways in which what a rule asks for can be met. It costs what they are to be written out.
-#[tactic(auto, unfolding(crate::specs::Ways::ways_of))]
+#[tactic(auto, unfolding(crate::specs::Ways::ways_of, crate::specs::Ways::walked))]
 pub(crate) fn ways_in(
     alloc: Global,
     types: &Hierarchy,

@@ -1,7 +1,7 @@
-use Rattle.std.proofs.Common.{◌≡◌, ◌++◌, not, drop}
+use Rattle.std.proofs.Common.{◌≡◌, ◌++◌, not}
 use Rattle.std.specs.List.{filter}
 use Rattle.subrules.specs.Expanded.{has_word}
 use Rattle.subrules.proofs.types.with_others.Given as goal
 
 abbrev pub invariant-loop-meta : goal.invariant-loop-meta
-invariant-loop-meta l = l.new.items ++ filter (λ m. not (has_word l.metas.items m)) (drop l.meta-index l.others) ≡ filter (λ m. not (has_word l.metas.items m)) l.others
+invariant-loop-meta l = l.all.items ++ l.meta-iterator.rest.items ≡ l.fn.metas.items ++ filter (λ m. not (has_word l.fn.metas.items m)) l.others
