@@ -9,13 +9,14 @@ use Rattle.drl_lex.specs.declared.token.Mark.TheVariants.{OpenParenthesis, Close
 use Rattle.drl_expr.specs.Exact.{Phrase}
 use Rattle.drl_grammar.specs.Shapes as shapes
 use Rattle.drl_grammar.specs.Items as g
-use Rattle.drl_grammar.specs.Items.{IsStep, IsPath, IsStar, IsMeta, IsField, IsType, IsLateness, IsEntry, IsSalience, IsAttr, IsRule}
-use Rattle.drl_grammar.specs.declared.file.TypeTree.{TypeTree}
-use Rattle.drl_grammar.specs.declared.file.RuleTree.{RuleTree}
-use Rattle.drl_show.specs.Canonical.{each, maybe, number_tokens, name_tokens, path_tokens, star_tokens, meta_tokens, field_tokens, type_tokens, lateness_tokens, entry_tokens, attr_tokens, condition_tokens, action_tokens, rule_tokens}
+use Rattle.drl_grammar.specs.Items.{IsStep, IsPath, IsStar, IsMeta, IsField, IsParent, IsType, IsLateness, IsEntry, IsSalience, IsAttr, IsRule}
+use Rattle.drl_grammar.specs.declared.written.WrittenType.{WrittenType}
+use Rattle.drl_grammar.specs.declared.written.WrittenRule.{WrittenRule}
+use Rattle.drl_show.specs.Canonical.{each, maybe, number_tokens, name_tokens, path_tokens, star_tokens, meta_tokens, field_tokens, parent_tokens, type_tokens, lateness_tokens, entry_tokens, attr_tokens, piece_tokens, action_tokens, rule_tokens}
 use Rattle.drl_show.proofs.Fine.{AllGood, fine, fine_word, fine_number, fine_text, fine_append}
-use Rattle.drl_show.proofs.AgainShapes.{Agains, regroup, many_again, nonempty_again, maybe_again, optional_good}
-use Rattle.drl_show.proofs.AgainConditions.{negative_fine, span_again, name_again, condition_again}
+use Rattle.drl_show.proofs.AgainShapes.{Agains, regroup, many_again, maybe_again, optional_good}
+use Rattle.drl_show.proofs.AgainConditions.{negative_fine, span_again, name_again}
+use Rattle.drl_show.proofs.AgainChoices.{asked_again}
 use Rattle.drl_show.proofs.AgainActions.{action_again}
 
 -- ---- names with dots
@@ -60,16 +61,25 @@ pub record Block {A : Type 0} (Is : Phrase A) (x : A) (tokens : List TokenKind) 
   pub same : tokens ≡ inner ++ (Word (codes "end") ∷ [])
   pub is_fine : list_all fine inner ≡ true
 
-pub type_block : (t : TypeTree) (ts : List TokenKind) → IsType t ts [] → AllGood ts → Block IsType t (type_tokens t)
+parent_again : Agains IsParent IsParent parent_tokens
+unfolding begins_word is_word_byte
+parent_again x ts rest (g.parent {ty} h) good = record { stands = λ k. g.parent h; is_fine = fine_word ty [] h good.1.0 refl; behind = good.1.1 }
+
+pub type_block : (t : WrittenType) (ts : List TokenKind) → IsType t ts [] → AllGood ts → Block IsType t (type_tokens t)
 unfolding type_tokens
-type_block t ts (g.type_of {ty} {ms} {fs} {ts = inner} {middle} h hms hfs) good =
-    let a = many_again meta_again ms inner middle hms good.1 in
+type_block t ts (g.type_of {ty} {above} {ms} {fs} {ts = inner} {behind_parent} {middle} h ha hms hfs) good =
+    let p = maybe_again parent_again above inner behind_parent ha good.1 in
+    let a = many_again meta_again ms behind_parent middle hms p.behind in
     let b = many_again field_again fs middle (Word (codes "end") ∷ []) hfs a.behind in
+    let front = maybe parent_tokens above in
+    let metas = each meta_tokens ms in
+    let fields = each field_tokens fs in
+    let end : List TokenKind = Word (codes "end") ∷ [] in
     record {
-      stands = g.type_of h (a.stands (each field_tokens fs ++ (Word (codes "end") ∷ []))) (b.stands (Word (codes "end") ∷ []));
-      inner = Word ty ∷ (each meta_tokens ms ++ each field_tokens fs);
-      same = ap (λ (back : List TokenKind). Word ty ∷ back) (sym (append_assoc (each meta_tokens ms) (each field_tokens fs) (Word (codes "end") ∷ [])));
-      is_fine = fine_word ty (each meta_tokens ms ++ each field_tokens fs) h good.0 (fine_append (each meta_tokens ms) (each field_tokens fs) a.is_fine b.is_fine);
+      stands = g.type_of h (p.stands (metas ++ (fields ++ end))) (a.stands (fields ++ end)) (b.stands end);
+      inner = Word ty ∷ (front ++ (metas ++ fields));
+      same = ap (λ (back : List TokenKind). Word ty ∷ back) (ap (λ (back : List TokenKind). front ++ back) (sym (append_assoc metas fields end)) ∙ sym (append_assoc front (metas ++ fields) end));
+      is_fine = fine_word ty (front ++ (metas ++ fields)) h good.0 (fine_append front (metas ++ fields) p.is_fine (fine_append metas fields a.is_fine b.is_fine));
     }
 
 lateness_again : Agains IsLateness IsLateness lateness_tokens
@@ -115,20 +125,20 @@ attr_again x ts rest (g.dialect {s} {middle} ho) good =
 rule_order : (a b c d : List TokenKind) (t u : TokenKind) → a ++ (t ∷ (b ++ (u ∷ (c ++ d)))) ≡ (a ++ (t ∷ (b ++ (u ∷ c)))) ++ d
 rule_order a b c d t u = sym (append_assoc a (t ∷ (b ++ (u ∷ c))) d ∙ ap (λ (back : List TokenKind). a ++ (t ∷ back)) (append_assoc b (u ∷ c) d))
 
-pub rule_block : (r : RuleTree) (ts : List TokenKind) → IsRule r ts [] → AllGood ts → Block IsRule r (rule_tokens r)
+pub rule_block : (r : WrittenRule) (ts : List TokenKind) → IsRule r ts [] → AllGood ts → Block IsRule r (rule_tokens r)
 unfolding rule_tokens begins_word is_word_byte
-rule_block r ts (g.rule {s} {attrs} {cs} {acts} {ts = inner} {behind_name} {conditions} {actions} hs ha hc hact) good =
+rule_block r ts (g.rule {s} {attrs} {ps} {acts} {ts = inner} {behind_name} {asked} {actions} hs ha hc hact) good =
     let a = name_again s inner behind_name hs good in
-    let b = many_again attr_again attrs behind_name (Word (codes "when") ∷ conditions) ha a.behind in
-    let c = nonempty_again condition_again cs conditions (Word (codes "then") ∷ actions) hc b.behind.1 in
+    let b = many_again attr_again attrs behind_name (Word (codes "when") ∷ asked) ha a.behind in
+    let c = asked_again ps asked (Word (codes "then") ∷ actions) hc b.behind.1 in
     let d = many_again action_again acts actions (Word (codes "end") ∷ []) hact c.behind.1 in
     record {
-      stands = g.rule (a.stands (each attr_tokens attrs ++ (Word (codes "when") ∷ (each condition_tokens cs ++ (Word (codes "then") ∷ (each action_tokens acts ++ (Word (codes "end") ∷ [])))))))
-          (b.stands (Word (codes "when") ∷ (each condition_tokens cs ++ (Word (codes "then") ∷ (each action_tokens acts ++ (Word (codes "end") ∷ []))))))
+      stands = g.rule (a.stands (each attr_tokens attrs ++ (Word (codes "when") ∷ (each piece_tokens ps ++ (Word (codes "then") ∷ (each action_tokens acts ++ (Word (codes "end") ∷ [])))))))
+          (b.stands (Word (codes "when") ∷ (each piece_tokens ps ++ (Word (codes "then") ∷ (each action_tokens acts ++ (Word (codes "end") ∷ []))))))
           (c.stands (Word (codes "then") ∷ (each action_tokens acts ++ (Word (codes "end") ∷ [])))) (d.stands (Word (codes "end") ∷ []));
-      inner = Text s ∷ (each attr_tokens attrs ++ (Word (codes "when") ∷ (each condition_tokens cs ++ (Word (codes "then") ∷ each action_tokens acts))));
-      same = ap (λ (back : List TokenKind). Text s ∷ back) (rule_order (each attr_tokens attrs) (each condition_tokens cs) (each action_tokens acts) (Word (codes "end") ∷ []) (Word (codes "when")) (Word (codes "then")));
-      is_fine = fine_append (Text s ∷ []) (each attr_tokens attrs ++ (Word (codes "when") ∷ (each condition_tokens cs ++ (Word (codes "then") ∷ each action_tokens acts)))) a.is_fine
-          (fine_append (each attr_tokens attrs) (Word (codes "when") ∷ (each condition_tokens cs ++ (Word (codes "then") ∷ each action_tokens acts))) b.is_fine
-          (fine_append (each condition_tokens cs) (Word (codes "then") ∷ each action_tokens acts) c.is_fine d.is_fine));
+      inner = Text s ∷ (each attr_tokens attrs ++ (Word (codes "when") ∷ (each piece_tokens ps ++ (Word (codes "then") ∷ each action_tokens acts))));
+      same = ap (λ (back : List TokenKind). Text s ∷ back) (rule_order (each attr_tokens attrs) (each piece_tokens ps) (each action_tokens acts) (Word (codes "end") ∷ []) (Word (codes "when")) (Word (codes "then")));
+      is_fine = fine_append (Text s ∷ []) (each attr_tokens attrs ++ (Word (codes "when") ∷ (each piece_tokens ps ++ (Word (codes "then") ∷ each action_tokens acts)))) a.is_fine
+          (fine_append (each attr_tokens attrs) (Word (codes "when") ∷ (each piece_tokens ps ++ (Word (codes "then") ∷ each action_tokens acts))) b.is_fine
+          (fine_append (each piece_tokens ps) (Word (codes "then") ∷ each action_tokens acts) c.is_fine d.is_fine));
     }

@@ -7,7 +7,7 @@ use Rattle.drl_lex.specs.declared.token.TokenKind.TheVariants.{Mark}
 use Rattle.drl_lex.specs.declared.token.Mark.{Mark as MarkData}
 use Rattle.drl_lex.specs.declared.token.Mark.TheVariants.{Comma, CloseParenthesis}
 use Rattle.drl_expr.specs.Exact.{Phrase}
-use Rattle.drl_grammar.specs.Shapes.{Maybe, left_out, written, Optional, absent, present, Many, nothing, further, NonEmpty, begun, Separated, single, more, Listed, empty, members}
+use Rattle.drl_grammar.specs.Shapes.{Maybe, left_out, written, Optional, absent, present, Many, nothing, further, Separated, single, more, Listed, empty, members}
 use Rattle.drl_show.specs.Canonical.{each, parted, maybe, listed}
 use Rattle.drl_show.proofs.Fine.{AllGood, fine, fine_append}
 
@@ -33,16 +33,6 @@ module _ {A : Type 0} {From Is : Phrase A} {tokens : A → List TokenKind} (elem
       let all = many_again others middle rest hs one.behind in
       record {
         stands = λ k. regroup (Many Is) (x ∷ others) (tokens x) (each tokens others) k (further (one.stands (each tokens others ++ k)) (all.stands k));
-        is_fine = fine_append (tokens x) (each tokens others) one.is_fine all.is_fine;
-        behind = all.behind;
-      }
-
-  pub nonempty_again : Agains (NonEmpty From) (NonEmpty Is) (each tokens)
-  nonempty_again xs ts rest (begun {x} {xs = others} {middle} h hs) good =
-      let one = element x ts middle h good in
-      let all = many_again others middle rest hs one.behind in
-      record {
-        stands = λ k. regroup (NonEmpty Is) (x ∷ others) (tokens x) (each tokens others) k (begun (one.stands (each tokens others ++ k)) (all.stands k));
         is_fine = fine_append (tokens x) (each tokens others) one.is_fine all.is_fine;
         behind = all.behind;
       }

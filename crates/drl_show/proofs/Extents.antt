@@ -42,7 +42,7 @@ no_item false false false false false r s u h = refl
 pub ident_calm : (w : List ℕ) → IsIdent w → begins_item (Word w) ≡ false
 unfolding is_ident begins_item
 ident_calm w h = no_item (bytes_eq w (codes "package")) (bytes_eq w (codes "import")) (bytes_eq w (codes "dialect")) (bytes_eq w (codes "declare")) (bytes_eq w (codes "rule"))
-    (is_among (codes "when" ∷ codes "then" ∷ codes "end" ∷ codes "salience" ∷ []) w) (is_among condition_words w) (is_among value_words w) h
+    (is_among (codes "when" ∷ codes "then" ∷ codes "end" ∷ codes "salience" ∷ codes "extends" ∷ []) w) (is_among condition_words w) (is_among value_words w) h
 
 pub calm_append : (test : TokenKind → Bool) (xs ys : List TokenKind) → Calm test xs → Calm test ys → Calm test (xs ++ ys)
 calm_append test [] ys hx hy = hy

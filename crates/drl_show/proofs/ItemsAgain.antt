@@ -12,8 +12,8 @@ use Rattle.drl_grammar.specs.Shapes.{Many}
 use Rattle.drl_grammar.specs.Items as g
 use Rattle.drl_grammar.specs.Items.{IsStep, IsPath, IsStar, IsType, IsEntry, IsRule, IsItem}
 use Rattle.drl_grammar.specs.Files.{opens_block, begins_item, extent}
-use Rattle.drl_grammar.specs.declared.file.Body.{Body}
-use Rattle.drl_grammar.specs.declared.file.Body.TheVariants as body
+use Rattle.drl_grammar.specs.declared.written.WrittenBody.{WrittenBody}
+use Rattle.drl_grammar.specs.declared.written.WrittenBody.TheVariants as body
 use Rattle.drl_show.specs.Canonical.{each, name_tokens, path_tokens, star_tokens, type_tokens, entry_tokens, rule_tokens, item_word, behind_word, tokens_of_item}
 use Rattle.drl_show.specs.Texts.{token_text}
 use Rattle.drl_show.proofs.Fine.{AllGood, fine_text, fine_append}
@@ -21,14 +21,14 @@ use Rattle.drl_show.proofs.AgainItems.{path_again, star_again, type_block, entry
 use Rattle.drl_show.proofs.Spellings.{AllSpelled, fine_spelled, spelled_append}
 use Rattle.drl_show.proofs.Extents.{Calm, StartsWith, ident_calm, calm_append, open_extent, block_extent}
 
-pub record ItemAgain (b : Body) : Type 0 where
+pub record ItemAgain (b : WrittenBody) : Type 0 where
   pub stands : IsItem b (tokens_of_item b) []
   pub spelled : AllSpelled (tokens_of_item b)
   pub extent_is : (more : List TokenKind) → StartsWith begins_item more → extent (Word (item_word b)) (behind_word b ++ more) ≡ length (behind_word b)
 
 -- ---- words that items begin and end with
 
-first_spelled : (b : Body) → Spells (Word (item_word b)) (token_text (Word (item_word b)))
+first_spelled : (b : WrittenBody) → Spells (Word (item_word b)) (token_text (Word (item_word b)))
 unfolding token_text begins_word is_word_byte
 first_spelled (body.Package path) = (refl, refl, refl)
 first_spelled (body.Import path all) = (refl, refl, refl)
@@ -41,7 +41,7 @@ end_spelled : Spells (Word (codes "end")) (token_text (Word (codes "end")))
 unfolding token_text begins_word is_word_byte
 end_spelled = (refl, refl, refl)
 
-pub first_begins : (b : Body) → begins_item (Word (item_word b)) ≡ true
+pub first_begins : (b : WrittenBody) → begins_item (Word (item_word b)) ≡ true
 unfolding begins_item
 first_begins (body.Package path) = refl
 first_begins (body.Import path all) = refl
@@ -94,7 +94,7 @@ text_calm s = (refl, tt)
 block_spelled : (tokens inner : List TokenKind) → tokens ≡ inner ++ (Word (codes "end") ∷ []) → AllSpelled inner → AllSpelled tokens
 block_spelled tokens inner same h = subst AllSpelled (sym same) (spelled_append inner (Word (codes "end") ∷ []) h (end_spelled, tt))
 
-pub item_again : (b : Body) (ts : List TokenKind) → IsItem b ts [] → AllGood ts → ItemAgain b
+pub item_again : (b : WrittenBody) (ts : List TokenKind) → IsItem b ts [] → AllGood ts → ItemAgain b
 item_again b ts (g.package_item {path} {ts = inner} {middle} hp ho) good =
     let a = path_again path inner middle hp good.1 in
     record {

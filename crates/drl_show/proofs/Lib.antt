@@ -1,5 +1,6 @@
 pub mod Added
 pub mod AgainActions
+pub mod AgainChoices
 pub mod AgainConditions
 pub mod AgainExpressions
 pub mod AgainItems

@@ -14,9 +14,9 @@ use Rattle.drl_lex.specs.declared.token.TokenKind.TheVariants.{Word}
 use Rattle.drl_grammar.specs.Files as files
 use Rattle.drl_grammar.specs.Files.{extent, begins_item, line_at, lines_at, AreItems}
 use Rattle.drl_grammar.specs.Items.{IsItem}
-use Rattle.drl_grammar.specs.declared.file.File.{File}
-use Rattle.drl_grammar.specs.declared.file.Item.{Item}
-use Rattle.drl_grammar.specs.declared.file.Body.{Body}
+use Rattle.drl_grammar.specs.declared.written.Written.{Written}
+use Rattle.drl_grammar.specs.declared.written.WrittenItem.{WrittenItem}
+use Rattle.drl_grammar.specs.declared.written.WrittenBody.{WrittenBody}
 use Rattle.drl_show.specs.Canonical.{each, item_word, behind_word, tokens_of_item}
 use Rattle.drl_show.specs.Shown.{shown_items, shown, StandsInGrammar, InGrammar, IsReadAgain}
 use Rattle.drl_show.specs.Texts.{token_text, spaced}
@@ -68,18 +68,18 @@ spaced_says (t ∷ ts) said rest h more at = skipped at 32 (t ∷ (ts ++ said)) 
 
 -- ---- the items
 
-abbrev AllAgain : List Item → Type 0
+abbrev AllAgain : List WrittenItem → Type 0
 AllAgain [] = Unit {0}
 AllAgain (item ∷ items) = ItemAgain item.body × AllAgain items
 
-all_again : (items : List Item) → All (λ item. StandsInGrammar item.body) items → AllAgain items
+all_again : (items : List WrittenItem) → All (λ item. StandsInGrammar item.body) items → AllAgain items
 all_again [] all = tt
 all_again (item ∷ items) all = let first = all 0 item (omega arith) in (item_again item.body first.tokens first.stands (all_good first.tokens first.spelled), all_again items (λ k d lt. all (suc k) d (omega arith)))
 
-abbrev all_tokens : List Item → List TokenKind
+abbrev all_tokens : List WrittenItem → List TokenKind
 all_tokens items = each (λ item. tokens_of_item item.body) items
 
-items_say : (items : List Item) → AllAgain items → (at : ℕ) → Says at (all_tokens items) (shown_items items)
+items_say : (items : List WrittenItem) → AllAgain items → (at : ℕ) → Says at (all_tokens items) (shown_items items)
 items_say [] all at = record { tokens = []; end = at; same = refl; reads = p.done }
 items_say (item ∷ items) all at =
     let is = all.0.spelled in
@@ -87,12 +87,12 @@ items_say (item ∷ items) all at =
     (spaced_says (behind_word item.body) (all_tokens items) (shown_items items) is.1 (items_say items all.1) (at + length (token_text (Word (item_word item.body)))))
 
 -- items with these bodies stand for the tokens
-record Stand (items : List Item) (lines : List ℕ) : Type 0 where
-  found : List Item
+record Stand (items : List WrittenItem) (lines : List ℕ) : Type 0 where
+  found : List WrittenItem
   same : map (λ item. item.body) found ≡ map (λ item. item.body) items
   stand : AreItems found (all_tokens items) lines
 
-one_item : (b : Body) (items : List Item) (t : TokenKind) (behind others : List TokenKind) (line : ℕ) (lines : List ℕ) → extent t (behind ++ others) ≡ length behind → IsItem b (t ∷ behind) []
+one_item : (b : WrittenBody) (items : List WrittenItem) (t : TokenKind) (behind others : List TokenKind) (line : ℕ) (lines : List ℕ) → extent t (behind ++ others) ≡ length behind → IsItem b (t ∷ behind) []
     → AreItems items others (drop (length behind) lines) → AreItems (record { line = line; body = b } ∷ items) (t ∷ (behind ++ others)) (line ∷ lines)
 one_item b items t behind others line lines ext is more =
     let front : take (extent t (behind ++ others)) (behind ++ others) ≡ behind = rw ext (take-append_seam behind others) in
@@ -101,11 +101,11 @@ one_item b items t behind others line lines ext is more =
     files.next_item (subst (λ (ts : List TokenKind). IsItem b (t ∷ ts) []) (sym front) is)
     (subst (λ (ts : List TokenKind). AreItems items ts (drop (extent t (behind ++ others)) lines)) (sym back) (subst (λ (ls : List ℕ). AreItems items others ls) (sym rest) more))
 
-items_start : (items : List Item) → StartsWith begins_item (all_tokens items)
+items_start : (items : List WrittenItem) → StartsWith begins_item (all_tokens items)
 items_start [] = tt
 items_start (item ∷ items) = first_begins item.body
 
-items_stand : (items : List Item) → AllAgain items → (lines : List ℕ) → length lines ≡ length (all_tokens items) → Stand items lines
+items_stand : (items : List WrittenItem) → AllAgain items → (lines : List ℕ) → length lines ≡ length (all_tokens items) → Stand items lines
 items_stand [] all [] e = record { found = []; same = refl; stand = files.no_items }
 items_stand [] all (line ∷ lines) e = absurd (omega arith)
 items_stand (item ∷ items) all [] e = absurd (omega arith)
@@ -115,11 +115,11 @@ items_stand (item ∷ items) all (line ∷ lines) e =
     let more = items_stand items all.1 (drop (length (behind_word item.body)) lines) enough in
     record {
       found = record { line = line; body = item.body } ∷ more.found;
-      same = ap (λ (bs : List Body). item.body ∷ bs) more.same;
+      same = ap (λ (bs : List WrittenBody). item.body ∷ bs) more.same;
       stand = one_item item.body more.found (Word (item_word item.body)) (behind_word item.body) (all_tokens items) line lines (all.0.extent_is (all_tokens items) (items_start items)) all.0.stands more.stand;
     }
 
-pub read_again : (file : File) → InGrammar file → IsReadAgain file (shown file)
+pub read_again : (file : Written) → InGrammar file → IsReadAgain file (shown file)
 unfolding shown
 read_again file all =
     let again = all_again file.items all.items in

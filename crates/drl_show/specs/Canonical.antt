@@ -28,10 +28,12 @@ use Rattle.drl_grammar.specs.declared.file.Attr.{Attr}
 use Rattle.drl_grammar.specs.declared.file.Attr.TheVariants as attr
 use Rattle.drl_grammar.specs.declared.file.Meta.{Meta}
 use Rattle.drl_grammar.specs.declared.file.Meta.TheVariants as meta
-use Rattle.drl_grammar.specs.declared.file.TypeTree.{TypeTree}
-use Rattle.drl_grammar.specs.declared.file.RuleTree.{RuleTree}
-use Rattle.drl_grammar.specs.declared.file.Body.{Body}
-use Rattle.drl_grammar.specs.declared.file.Body.TheVariants as body
+use Rattle.drl_grammar.specs.declared.written.Piece.{Piece}
+use Rattle.drl_grammar.specs.declared.written.Piece.TheVariants as piece
+use Rattle.drl_grammar.specs.declared.written.WrittenType.{WrittenType}
+use Rattle.drl_grammar.specs.declared.written.WrittenRule.{WrittenRule}
+use Rattle.drl_grammar.specs.declared.written.WrittenBody.{WrittenBody}
+use Rattle.drl_grammar.specs.declared.written.WrittenBody.TheVariants as body
 
 -- ---- shapes
 
@@ -134,6 +136,14 @@ condition_tokens (condition.Negated s) = Word (codes "not") ∷ group_tokens s
 condition_tokens (condition.Existing s) = Word (codes "exists") ∷ group_tokens s
 condition_tokens (condition.Folded result s word arg tests) = binding_tokens result ++ (Word (codes "Number") ∷ Mark OpenParenthesis ∷ (listed test_tokens tests ++ accumulate_tokens s word arg))
 
+-- ---- what a rule asks for
+
+abbrev pub piece_tokens : Piece → List TokenKind
+piece_tokens (piece.One c) = condition_tokens c
+piece_tokens piece.Open = Mark OpenParenthesis ∷ []
+piece_tokens piece.Or = Word (codes "or") ∷ []
+piece_tokens piece.Close = Mark CloseParenthesis ∷ []
+
 -- ---- expressions
 
 -- whether two operands are joined
@@ -209,8 +219,12 @@ meta_tokens meta.Reference = bare_annotation_tokens (codes "reference")
 abbrev pub field_tokens : List ℕ × List ℕ → List TokenKind
 field_tokens (f, k) = Word f ∷ Mark Colon ∷ Word k ∷ []
 
-unfoldable pub type_tokens : TypeTree → List TokenKind
-type_tokens t = Word t.name ∷ (each meta_tokens t.metas ++ (each field_tokens t.fields ++ (Word (codes "end") ∷ [])))
+-- the type that a type extends
+abbrev pub parent_tokens : List ℕ → List TokenKind
+parent_tokens ty = Word (codes "extends") ∷ Word ty ∷ []
+
+unfoldable pub type_tokens : WrittenType → List TokenKind
+type_tokens t = Word t.name ∷ (maybe parent_tokens t.parent ++ (each meta_tokens t.metas ++ (each field_tokens t.fields ++ (Word (codes "end") ∷ []))))
 
 abbrev pub lateness_tokens : ℤ → List TokenKind
 lateness_tokens = span_annotation_tokens (codes "lateness")
@@ -224,13 +238,13 @@ abbrev pub attr_tokens : Attr → List TokenKind
 attr_tokens (attr.Salience n) = Word (codes "salience") ∷ number_tokens n
 attr_tokens (attr.Dialect s) = Word (codes "dialect") ∷ Text s ∷ []
 
-unfoldable pub rule_tokens : RuleTree → List TokenKind
-rule_tokens r = Text r.name ∷ (each attr_tokens r.attrs ++ (Word (codes "when") ∷ (each condition_tokens r.conditions ++ (Word (codes "then") ∷ (each action_tokens r.actions ++ (Word (codes "end") ∷ []))))))
+unfoldable pub rule_tokens : WrittenRule → List TokenKind
+rule_tokens r = Text r.name ∷ (each attr_tokens r.attrs ++ (Word (codes "when") ∷ (each piece_tokens r.pieces ++ (Word (codes "then") ∷ (each action_tokens r.actions ++ (Word (codes "end") ∷ []))))))
 
 -- ---- items
 
 -- the word that an item begins with
-abbrev pub item_word : Body → List ℕ
+abbrev pub item_word : WrittenBody → List ℕ
 item_word (body.Package path) = codes "package"
 item_word (body.Import path all) = codes "import"
 item_word (body.Dialect s) = codes "dialect"
@@ -239,7 +253,7 @@ item_word (body.Entry name late) = codes "declare"
 item_word (body.Rule r) = codes "rule"
 
 -- what stands behind it
-abbrev pub behind_word : Body → List TokenKind
+abbrev pub behind_word : WrittenBody → List TokenKind
 behind_word (body.Package path) = path_tokens path
 behind_word (body.Import path all) = path_tokens path ++ star_tokens all
 behind_word (body.Dialect s) = Text s ∷ []
@@ -247,5 +261,5 @@ behind_word (body.Declare t) = type_tokens t
 behind_word (body.Entry name late) = entry_tokens name late
 behind_word (body.Rule r) = rule_tokens r
 
-abbrev pub tokens_of_item : Body → List TokenKind
+abbrev pub tokens_of_item : WrittenBody → List TokenKind
 tokens_of_item b = Word (item_word b) ∷ behind_word b

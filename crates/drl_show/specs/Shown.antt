@@ -3,20 +3,20 @@ use Rattle.std.specs.Prelude.{◌≡◌, ℕ, List, [], ◌∷◌, ◌++◌, map
 use Rattle.std.specs.List.{All}
 use Rattle.drl_lex.specs.declared.token.TokenKind.{TokenKind}
 use Rattle.drl_lex.specs.Tokens.{Spells}
-use Rattle.drl_grammar.specs.declared.file.File.{File}
-use Rattle.drl_grammar.specs.declared.file.Item.{Item}
-use Rattle.drl_grammar.specs.declared.file.Body.{Body}
+use Rattle.drl_grammar.specs.declared.written.Written.{Written}
+use Rattle.drl_grammar.specs.declared.written.WrittenItem.{WrittenItem}
+use Rattle.drl_grammar.specs.declared.written.WrittenBody.{WrittenBody}
 use Rattle.drl_grammar.specs.Items.{IsItem}
 use Rattle.drl_grammar.specs.Files.{IsFile}
 use Rattle.drl_show.specs.Canonical.{tokens_of_item}
 use Rattle.drl_show.specs.Texts.{joined}
 
 -- each item in a line of its own
-abbrev pub shown_items : List Item → List ℕ
+abbrev pub shown_items : List WrittenItem → List ℕ
 shown_items [] = []
 shown_items (item ∷ items) = joined (tokens_of_item item.body) ++ (codes "\n" ++ shown_items items)
 
-unfoldable pub shown : File → List ℕ
+unfoldable pub shown : Written → List ℕ
 shown file = shown_items file.items
 
 -- some bytes are the token
@@ -24,20 +24,20 @@ abbrev pub CanBeSpelled : TokenKind → Type 0
 CanBeSpelled kind = (text : List ℕ) × Spells kind text
 
 -- some tokens that can be spelled stand for the body
-pub record StandsInGrammar (body : Body) : Type 0 where
+pub record StandsInGrammar (body : WrittenBody) : Type 0 where
   pub tokens : List TokenKind
   pub spelled : All CanBeSpelled tokens
   pub stands : IsItem body tokens []
 
 -- each item stands in the grammar
-pub record InGrammar (file : File) : Type 0 where
+pub record InGrammar (file : Written) : Type 0 where
   pub items : All (λ item. StandsInGrammar item.body) file.items
 
-abbrev pub bodies : File → List Body
+abbrev pub bodies : Written → List WrittenBody
 bodies file = map (λ item. item.body) file.items
 
 -- the bytes are a file that says the same, item by item
-pub record IsReadAgain (file : File) (bytes : List ℕ) : Type 0 where
-  pub again : File
+pub record IsReadAgain (file : Written) (bytes : List ℕ) : Type 0 where
+  pub again : Written
   pub same : bodies again ≡ bodies file
   pub is_read : IsFile again bytes

@@ -1,4 +1,4 @@
-use crate::shapes::{Written, write_listed, write_parted};
+use crate::shapes::{Printed, write_listed, write_parted};
 use crate::tokens::{mark, variable, word};
 use drl_expr::ExprTree;
 use drl_grammar::ActTree;
@@ -7,7 +7,7 @@ use fx_base::{NoMemory, Text};
 use std::alloc::Global;
 
 /// A field and its new value.
-impl Written for (Text, ExprTree) {
+impl Printed for (Text, ExprTree) {
     ghost use Rattle.drl_show.specs.Canonical.{assign_tokens};
 
     ghost tokens = { assign_tokens };
@@ -19,7 +19,7 @@ impl Written for (Text, ExprTree) {
     }
 }
 
-impl Written for ActTree {
+impl Printed for ActTree {
     ghost use Rattle.drl_show.specs.Canonical.{action_tokens};
 
     ghost tokens = { action_tokens };

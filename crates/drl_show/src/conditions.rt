@@ -4,15 +4,15 @@ ghost use Rattle.drl_show.specs.Canonical.{group_tokens, function_tokens, accumu
 ghost use Rattle.drl_show.specs.Texts.{added};
 
 use crate::patterns::binding;
-use crate::shapes::{Written, write_listed};
+use crate::shapes::{Printed, write_listed};
 use crate::tokens::{mark, variable, word};
-use drl_grammar::{CondTree, FoldWord, Operand, SourceTree};
+use drl_grammar::{CondTree, FoldWord, Operand, Piece, SourceTree};
 use drl_lex::{Mark, Rel};
 use fx_base::NoMemory;
 use std::alloc::Global;
 
 /// A test of the result of an accumulate.
-impl Written for (Rel, Operand) {
+impl Printed for (Rel, Operand) {
     ghost use Rattle.drl_show.specs.Canonical.{test_tokens};
 
     ghost tokens = { test_tokens };
@@ -77,7 +77,7 @@ fn accumulate(
     function(out, kind, arg)
 }
 
-impl Written for CondTree {
+impl Printed for CondTree {
     ghost use Rattle.drl_show.specs.Canonical.{condition_tokens};
 
     ghost tokens = { condition_tokens };
@@ -107,6 +107,21 @@ impl Written for CondTree {
                 write_listed(alloc, out, tests.as_slice())?;
                 accumulate(alloc, out, source, *kind, arg.as_str())
             }
+        }
+    }
+}
+
+impl Printed for Piece {
+    ghost use Rattle.drl_show.specs.Canonical.{piece_tokens};
+
+    ghost tokens = { piece_tokens };
+
+    fn write(&self, alloc: Global, out: &mut Vec<u8>) -> Result<(), NoMemory> {
+        match self {
+            Piece::One(condition) => condition.write(alloc, out),
+            Piece::Open => mark(out, Mark::OpenParenthesis),
+            Piece::Or => word(out, "or"),
+            Piece::Close => mark(out, Mark::CloseParenthesis),
         }
     }
 }

@@ -3,7 +3,7 @@ ghost use Rattle.drl_lex.specs.declared.token.TokenKind.TheVariants.{Mark as Mar
 ghost use Rattle.drl_show.specs.Canonical.{joins, expr_tokens, enclosed_tokens};
 ghost use Rattle.drl_show.specs.Texts.{added};
 
-use crate::shapes::Written;
+use crate::shapes::Printed;
 use crate::tokens::{mark, variable, word};
 use drl_expr::{ExprTree, Node};
 use drl_lex::Mark;
@@ -74,7 +74,7 @@ fn pair(
     operand(alloc, out, right)
 }
 
-impl Written for ExprTree {
+impl Printed for ExprTree {
     ghost use Rattle.drl_show.specs.Canonical.{expr_tokens};
 
     ghost tokens = { expr_tokens };

@@ -1,16 +1,16 @@
 ghost use Rattle.std.specs.Prelude.{◌≡◌, OnOk};
-ghost use Rattle.drl_show.specs.Canonical.{annotation_tokens, bare_annotation_tokens, entry_tokens, lateness_tokens, maybe, role_word, span_annotation_tokens, star_tokens};
+ghost use Rattle.drl_show.specs.Canonical.{annotation_tokens, bare_annotation_tokens, entry_tokens, lateness_tokens, maybe, parent_tokens, role_word, span_annotation_tokens, star_tokens};
 ghost use Rattle.drl_show.specs.Texts.{added};
 
-use crate::shapes::{Written, write_each};
+use crate::shapes::{Printed, write_each};
 use crate::tokens::{mark, number, text, word};
-use drl_grammar::{Attr, Meta, RuleTree, TypeTree};
+use drl_grammar::{Attr, Meta, WrittenRule, WrittenType};
 use drl_lex::Mark;
 use fx_base::{NoMemory, Text};
 use std::alloc::Global;
 
 /// A name, as a word.
-impl Written for Text {
+impl Printed for Text {
     ghost use Rattle.drl_show.specs.Canonical.{name_tokens};
 
     ghost tokens = { name_tokens };
@@ -57,7 +57,7 @@ fn span_annotation(alloc: Global, out: &mut Vec<u8>, name: &str, span: i64) -> R
     mark(out, Mark::CloseParenthesis)
 }
 
-impl Written for Meta {
+impl Printed for Meta {
     ghost use Rattle.drl_show.specs.Canonical.{meta_tokens};
 
     ghost tokens = { meta_tokens };
@@ -74,7 +74,7 @@ impl Written for Meta {
 }
 
 /// A field and the word of its kind.
-impl Written for (Text, Text) {
+impl Printed for (Text, Text) {
     ghost use Rattle.drl_show.specs.Canonical.{field_tokens};
 
     ghost tokens = { field_tokens };
@@ -86,7 +86,20 @@ impl Written for (Text, Text) {
     }
 }
 
-impl Written for TypeTree {
+// The type that a type extends.
+fn parent(out: &mut Vec<u8>, extended: &Option<Text>) -> Result<(), NoMemory>
+    ensures { OnOk result (out.new.items ≡ added out.old.items (maybe parent_tokens extended.now)) }
+{
+    match extended {
+        None => Ok(()),
+        Some(name) => {
+            word(out, "extends")?;
+            word(out, name.as_str())
+        }
+    }
+}
+
+impl Printed for WrittenType {
     ghost use Rattle.drl_show.specs.Canonical.{type_tokens};
 
     ghost tokens = { type_tokens };
@@ -94,6 +107,7 @@ impl Written for TypeTree {
     #[tactic(auto, using(crate::proofs::Added::added_append), unfolding(crate::specs::Canonical::type_tokens))]
     fn write(&self, alloc: Global, out: &mut Vec<u8>) -> Result<(), NoMemory> {
         word(out, self.name.as_str())?;
+        parent(out, &self.parent)?;
         write_each(alloc, out, self.metas.as_slice())?;
         write_each(alloc, out, self.fields.as_slice())?;
         word(out, "end")
@@ -138,7 +152,7 @@ pub(crate) fn star(out: &mut Vec<u8>, all: bool) -> Result<(), NoMemory>
     mark(out, Mark::Star)
 }
 
-impl Written for Attr {
+impl Printed for Attr {
     ghost use Rattle.drl_show.specs.Canonical.{attr_tokens};
 
     ghost tokens = { attr_tokens };
@@ -157,7 +171,7 @@ impl Written for Attr {
     }
 }
 
-impl Written for RuleTree {
+impl Printed for WrittenRule {
     ghost use Rattle.drl_show.specs.Canonical.{rule_tokens};
 
     ghost tokens = { rule_tokens };
@@ -167,7 +181,7 @@ impl Written for RuleTree {
         text(out, self.name.as_str())?;
         write_each(alloc, out, self.attrs.as_slice())?;
         word(out, "when")?;
-        write_each(alloc, out, self.conditions.as_slice())?;
+        write_each(alloc, out, self.pieces.as_slice())?;
         word(out, "then")?;
         write_each(alloc, out, self.actions.as_slice())?;
         word(out, "end")

@@ -3,7 +3,7 @@ ghost use Rattle.drl_grammar.specs.Conditions.{op_text};
 ghost use Rattle.drl_show.specs.Canonical.{param_tokens, binding_tokens, place_tokens, counted_window, maybe};
 ghost use Rattle.drl_show.specs.Texts.{added};
 
-use crate::shapes::{Written, write_listed, write_maybe, write_parted};
+use crate::shapes::{Printed, write_listed, write_maybe, write_parted};
 use crate::tokens::{mark, number, text, variable, word};
 use drl_grammar::{Cmp, Part, SourceTree, WindowTree};
 use drl_lex::Mark;
@@ -11,7 +11,7 @@ use fx_base::{NoMemory, Seq, Text};
 use std::alloc::Global;
 use temporal_ops::OpWord;
 
-impl Written for Cmp {
+impl Printed for Cmp {
     ghost use Rattle.drl_show.specs.Canonical.{cmp_tokens};
 
     ghost tokens = { cmp_tokens };
@@ -37,7 +37,7 @@ impl Written for Cmp {
     }
 }
 
-impl Written for Seq<Cmp> {
+impl Printed for Seq<Cmp> {
     ghost use Rattle.drl_show.specs.Canonical.{conj_tokens};
 
     ghost tokens = { conj_tokens };
@@ -80,7 +80,7 @@ fn params(alloc: Global, out: &mut Vec<u8>, params: &[i64]) -> Result<(), NoMemo
     mark(out, Mark::CloseBracket)
 }
 
-impl Written for Part {
+impl Printed for Part {
     ghost use Rattle.drl_show.specs.Canonical.{part_tokens};
 
     ghost tokens = { part_tokens };
@@ -122,7 +122,7 @@ fn window(alloc: Global, out: &mut Vec<u8>, counted: &str, measure: &i64) -> Res
     mark(out, Mark::CloseParenthesis)
 }
 
-impl Written for WindowTree {
+impl Printed for WindowTree {
     ghost use Rattle.drl_show.specs.Canonical.{window_tokens};
 
     ghost tokens = { window_tokens };
@@ -163,7 +163,7 @@ pub(crate) fn binding(out: &mut Vec<u8>, var: &Option<Text>) -> Result<(), NoMem
     }
 }
 
-impl Written for SourceTree {
+impl Printed for SourceTree {
     ghost use Rattle.drl_show.specs.Canonical.{source_tokens};
 
     ghost tokens = { source_tokens };

@@ -9,8 +9,8 @@ use drl_lex::Mark;
 use fx_base::NoMemory;
 use std::alloc::Global;
 
-/// What is written as tokens.
-pub(crate) trait Written {
+/// What is printed as tokens.
+pub(crate) trait Printed {
     ghost tokens: { Self → List TokenKind_data };
 
     /// Appends the tokens, each with a space before it.
@@ -20,7 +20,7 @@ pub(crate) trait Written {
 
 /// Appends each, one behind the other.
 #[tactic(auto, using(crate::proofs::Added::added_append))]
-pub(crate) fn write_each<T: Written>(
+pub(crate) fn write_each<T: Printed>(
     alloc: Global,
     out: &mut Vec<u8>,
     items: &[T],
@@ -35,7 +35,7 @@ pub(crate) fn write_each<T: Written>(
 
 // Appends each with the mark before it.
 #[tactic(auto, using(crate::proofs::Added::added_append))]
-fn write_behind<T: Written>(
+fn write_behind<T: Printed>(
     alloc: Global,
     out: &mut Vec<u8>,
     separator: Mark,
@@ -52,7 +52,7 @@ fn write_behind<T: Written>(
 
 /// Appends each, with the mark between two.
 #[tactic(auto, using(crate::proofs::Added::added_append))]
-pub(crate) fn write_parted<T: Written>(
+pub(crate) fn write_parted<T: Printed>(
     alloc: Global,
     out: &mut Vec<u8>,
     separator: Mark,
@@ -71,7 +71,7 @@ pub(crate) fn write_parted<T: Written>(
 
 /// Appends each, with commas between them, and a closing parenthesis.
 #[tactic(auto, using(crate::proofs::Added::added_append))]
-pub(crate) fn write_listed<T: Written>(
+pub(crate) fn write_listed<T: Printed>(
     alloc: Global,
     out: &mut Vec<u8>,
     items: &[T],
@@ -83,7 +83,7 @@ pub(crate) fn write_listed<T: Written>(
 }
 
 /// Appends it, where it is there.
-pub(crate) fn write_maybe<T: Written>(
+pub(crate) fn write_maybe<T: Printed>(
     alloc: Global,
     out: &mut Vec<u8>,
     item: &Option<T>,

@@ -4,47 +4,47 @@ ghost use Rattle.drl_show.specs.Shown.{shown};
 ghost use Rattle.drl_show.specs.Texts.{added, joined};
 
 use crate::items::{entry, star};
-use crate::shapes::{Written, write_parted};
+use crate::shapes::{Printed, write_parted};
 use crate::tokens::text;
-use drl_grammar::{Body, File};
+use drl_grammar::{Written, WrittenBody};
 use drl_lex::Mark;
 use fx_base::NoMemory;
 use std::alloc::Global;
 
 // The word that an item begins with.
-fn first_word(body: &Body) -> &'static [u8]
+fn first_word(body: &WrittenBody) -> &'static [u8]
     ensures { result.now ≡ item_word body.now }
 {
     match body {
-        Body::Package(_) => b"package",
-        Body::Import { .. } => b"import",
-        Body::Dialect(_) => b"dialect",
-        Body::Declare(_) | Body::Entry { .. } => b"declare",
-        Body::Rule(_) => b"rule",
+        WrittenBody::Package(_) => b"package",
+        WrittenBody::Import { .. } => b"import",
+        WrittenBody::Dialect(_) => b"dialect",
+        WrittenBody::Declare(_) | WrittenBody::Entry { .. } => b"declare",
+        WrittenBody::Rule(_) => b"rule",
     }
 }
 
 // What stands behind the word.
 #[tactic(auto, using(crate::proofs::Added::added_append))]
-fn behind_first(alloc: Global, out: &mut Vec<u8>, body: &Body) -> Result<(), NoMemory>
+fn behind_first(alloc: Global, out: &mut Vec<u8>, body: &WrittenBody) -> Result<(), NoMemory>
     ensures { OnOk result (out.new.items ≡ added out.old.items (behind_word body.now)) }
 {
     match body {
-        Body::Package(path) => write_parted(alloc, out, Mark::Dot, path.as_slice()),
-        Body::Import { path, star: all } => {
+        WrittenBody::Package(path) => write_parted(alloc, out, Mark::Dot, path.as_slice()),
+        WrittenBody::Import { path, star: all } => {
             write_parted(alloc, out, Mark::Dot, path.as_slice())?;
             star(out, *all)
         }
-        Body::Dialect(dialect) => text(out, dialect.as_str()),
-        Body::Declare(declared) => declared.write(alloc, out),
-        Body::Entry { name, lateness } => entry(alloc, out, name, lateness),
-        Body::Rule(rule) => rule.write(alloc, out),
+        WrittenBody::Dialect(dialect) => text(out, dialect.as_str()),
+        WrittenBody::Declare(declared) => declared.write(alloc, out),
+        WrittenBody::Entry { name, lateness } => entry(alloc, out, name, lateness),
+        WrittenBody::Rule(rule) => rule.write(alloc, out),
     }
 }
 
 // An item in a line of its own.
 #[tactic(auto, using(crate::proofs::Added::line_is))]
-fn line(alloc: Global, out: &mut Vec<u8>, body: &Body) -> Result<(), NoMemory>
+fn line(alloc: Global, out: &mut Vec<u8>, body: &WrittenBody) -> Result<(), NoMemory>
     ensures { OnOk result (out.new.items ≡ out.old.items ++ (joined (tokens_of_item body.now) ++ codes "\n")) }
 {
     out.extend_from_slice(first_word(body))?;
@@ -56,7 +56,7 @@ fn line(alloc: Global, out: &mut Vec<u8>, body: &Body) -> Result<(), NoMemory>
 /// The text of a file: each item in a line of its own, its tokens with one space between two. Spans are in milliseconds.
 /// It takes time in the length of the text; an expression takes stack in its height.
 #[tactic(auto, unfolding(crate::specs::Shown::shown))]
-pub fn show(alloc: Global, file: &File) -> Result<Vec<u8>, NoMemory>
+pub fn show(alloc: Global, file: &Written) -> Result<Vec<u8>, NoMemory>
     ensures text { IfOk result (λ bytes. bytes.items ≡ shown file.now) }
 {
     let mut out = Vec::new(alloc);

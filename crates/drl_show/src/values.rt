@@ -1,7 +1,7 @@
 ghost use Rattle.std.specs.Prelude.{◌≡◌, OnOk};
 ghost use Rattle.drl_show.specs.Canonical.{truth_word};
 
-use crate::shapes::Written;
+use crate::shapes::Printed;
 use crate::tokens::{mark, number, text, variable, word};
 use drl_expr::LitTree;
 use drl_grammar::Operand;
@@ -10,7 +10,7 @@ use fx_base::NoMemory;
 use std::alloc::Global;
 
 /// A span in milliseconds, or another number.
-impl Written for i64 {
+impl Printed for i64 {
     ghost use Rattle.drl_show.specs.Canonical.{number_tokens};
 
     ghost tokens = { number_tokens };
@@ -26,7 +26,7 @@ fn truth(value: bool) -> &'static str
     if value { "true" } else { "false" }
 }
 
-impl Written for LitTree {
+impl Printed for LitTree {
     ghost use Rattle.drl_show.specs.Canonical.{literal_tokens};
 
     ghost tokens = { literal_tokens };
@@ -40,7 +40,7 @@ impl Written for LitTree {
     }
 }
 
-impl Written for Operand {
+impl Printed for Operand {
     ghost use Rattle.drl_show.specs.Canonical.{operand_tokens};
 
     ghost tokens = { operand_tokens };
