@@ -15,7 +15,7 @@ use Rattle.subrules.specs.declared.sizes.SizeWalk.{SizeWalk}
 use Rattle.subrules.specs.declared.ways.Alternatives.{Alternatives}
 use Rattle.subrules.specs.declared.ways.Walk.{Walk}
 use Rattle.subrules.specs.Hierarchy.{first_names, has_subtypes, is_below, kinds_of}
-use Rattle.subrules.specs.Ways.{Way, times, over_type, choices, all_ways, asks, closed_in, taken, walked, at_begin, ways_of}
+use Rattle.subrules.specs.Ways.{Way, each_behind, times, over_type, choices, all_ways, asks, closed_in, taken, walked, at_begin, ways_of}
 use Rattle.subrules.specs.Sizes.{longest, sized, size_of, nothing, free_size, begun_size, size_times, size_plus, size_of_choices, all_size, asks_size, closed_size, measured, all_measured, at_no_piece, size_of_all, size_of_walk, passes_limits}
 use Rattle.subrules.specs.Faults.{are_too_many}
 
@@ -26,26 +26,31 @@ longest_append [] ys = Prim.grind arith
 longest_append (a ∷ xs) ys = let e = longest_append xs ys in Prim.grind arith
 
 abbrev behind : Way → List Way → List Way
-behind a ys = map (λ (b : Way). a ++ b) ys
+behind a ys = each_behind ys a
 
 many_behind : (a : Way) (ys : List Way) → length (behind a ys) ≡ length ys
+unfolding each_behind
 many_behind a ys = length-map ys (λ (b : Way). a ++ b)
 
 longest_behind : (a : Way) (b : Way) (ys : List Way) → longest (behind a (b ∷ ys)) ≡ length a + longest (b ∷ ys)
+unfolding each_behind
 longest_behind a b [] = let l = length-append a b in Prim.grind arith
 longest_behind a b (c ∷ ys) = let l = length-append a b in let e = longest_behind a c ys in Prim.grind arith
 
 many_times : (xs ys : List Way) → length (times xs ys) ≡ length xs * length ys
+unfolding each_behind
 many_times [] ys = Prim.grind arith
 many_times (a ∷ xs) ys = length-append (behind a ys) (times xs ys) ∙ ap (λ n. n + length (times xs ys)) (many_behind a ys) ∙ ap (λ n. length ys + n) (many_times xs ys) ∙ Prim.grind arith
 
 longest_times : (a b : Way) (xs ys : List Way) → longest (times (a ∷ xs) (b ∷ ys)) ≡ longest (a ∷ xs) + longest (b ∷ ys)
+unfolding each_behind
 longest_times a b [] ys = longest_append (behind a (b ∷ ys)) [] ∙ ap (λ n. max n 0) (longest_behind a b ys) ∙ Prim.grind arith
 longest_times a b (c ∷ xs) ys =
     longest_append (behind a (b ∷ ys)) (times (c ∷ xs) (b ∷ ys)) ∙ ap (λ n. max n (longest (times (c ∷ xs) (b ∷ ys)))) (longest_behind a b ys)
     ∙ ap (λ n. max (length a + longest (b ∷ ys)) n) (longest_times c b xs ys) ∙ Prim.grind arith
 
 times_nothing : (xs : List Way) → times xs [] ≡ []
+unfolding each_behind
 times_nothing [] = refl
 times_nothing (a ∷ xs) = times_nothing xs
 
@@ -73,21 +78,19 @@ both_capped a b one two = by_cases (nat_lt a 257) (nat_lt b 257) refl refl
     by_cases false y e f = full (min 257 a) (min 257 b) (Prim.grind arith) (Prim.grind arith) ∙ sym (full a b (Prim.grind arith) two)
     by_cases true false e f = swapped (min 257 a) (min 257 b) (Prim.grind arith) (Prim.grind arith) ∙ sym (swapped a b one (Prim.grind arith))
 
-product_of : (a b : ℕ) (c d : ℕ) → 1 ≤ a → 1 ≤ b → size_times (sized a c) (sized b d) ≡ sized (a * b) (c + d)
-product_of (suc a) (suc b) c d one two =
-    not_none (suc a) (suc b) one two ∙ ap (λ n. sized n (min 9 c + min 9 d)) refl ∙ both (both_capped (suc a) (suc b) one two) (capped_sum c d)
-  where
-    both : {m n k l : ℕ} → min 257 m ≡ min 257 n → min 9 k ≡ min 9 l → sized m k ≡ sized n l
-    both e f = ap (λ x. record { count = x; longest = _ }) e ∙ ap (λ x. record { count = _; longest = x }) f
+some_is : (m : ℕ) → 1 ≤ m → nat_eq (min 257 m) 0 ≡ false
+some_is m some = Prim.grind arith
 
-    capped_sum : (c d : ℕ) → min 9 (min 9 c + min 9 d) ≡ min 9 (c + d)
-    capped_sum c d = Prim.grind arith
+not_none : (m n c d : ℕ) → 1 ≤ m → 1 ≤ n → size_times (sized m c) (sized n d) ≡ sized (min 257 m * min 257 n) (min 9 c + min 9 d)
+not_none m n c d some more = rw (some_is m some) (rw (some_is n more) refl)
 
-    not_none : (m n : ℕ) → 1 ≤ m → 1 ≤ n → size_times (sized m c) (sized n d) ≡ sized (min 257 m * min 257 n) (min 9 c + min 9 d)
-    not_none m n some more = rw (some_is m some) (rw (some_is n more) refl)
+capped_sum : (c d : ℕ) → min 9 (min 9 c + min 9 d) ≡ min 9 (c + d)
+capped_sum c d = Prim.grind arith
 
-    some_is : (m : ℕ) → 1 ≤ m → nat_eq (min 257 m) 0 ≡ false
-    some_is m some = Prim.grind arith
+product_of : (a b c d : ℕ) → 1 ≤ a → 1 ≤ b → size_times (sized a c) (sized b d) ≡ sized (a * b) (c + d)
+product_of a b c d one two =
+    not_none a b c d one two ∙ ap (λ (x : ℕ). record { count = x; longest = min 9 (min 9 c + min 9 d) }) (both_capped a b one two)
+    ∙ ap (λ (x : ℕ). record { count = min 257 (a * b); longest = x }) (capped_sum c d)
 
 size_of_times : (xs ys : List Way) → size_of (times xs ys) ≡ size_times (size_of xs) (size_of ys)
 size_of_times [] ys = refl

@@ -1,5 +1,5 @@
 -- Which types extend which. A name that is declared twice means its first declaration.
-use Rattle.std.specs.Prelude.{ℕ, zero, suc, nat_eq, cond, Bool, List, [], ◌∷◌, map, length, Option, Some, None, slice_get, option_and_then, option_to_list}
+use Rattle.std.specs.Prelude.{ℕ, zero, suc, cond, Bool, true, false, List, [], ◌∷◌, map, length, Option, Some, None, slice_get, option_and_then, option_to_list}
 use Rattle.std.specs.List.{filter, flat_map, list_any}
 use Rattle.std.specs.Str.{bytes_eq}
 use Rattle.drl_sight.specs.EntryPoints.{with_names}
@@ -41,18 +41,23 @@ parent_of types t = option_and_then (type_named types) t.parent
 
 -- its parent, the parent of that, and so on upward: so many at most
 unfoldable pub ancestors : List WrittenType → ℕ → Option WrittenType → List WrittenType
-ancestors types zero up = []
-ancestors types (suc n) None = []
+ancestors types n None = []
+ancestors types zero (Some u) = []
 ancestors types (suc n) (Some u) = u ∷ ancestors types n (parent_of types u)
 
 -- All types above a type. Where parents do not go in a circle, it has at most as many as there are types.
 abbrev pub above : List WrittenType → WrittenType → List WrittenType
 above types t = ancestors types (length types) (parent_of types t)
 
--- Whether the way upward from a type goes in a circle: one step further than there are types it still has not ended. So the type or
--- one above it is above itself.
+-- whether there is still a type so many steps further upward
+unfoldable pub goes_on : List WrittenType → ℕ → Option WrittenType → Bool
+goes_on types n None = false
+goes_on types zero (Some u) = true
+goes_on types (suc n) (Some u) = goes_on types n (parent_of types u)
+
+-- Whether the way upward from a type goes in a circle: it has more types than there are. So the type or one above it is above itself.
 abbrev pub goes_round : List WrittenType → WrittenType → Bool
-goes_round types t = nat_eq (length (ancestors types (suc (length types)) (parent_of types t))) (suc (length types))
+goes_round types t = goes_on types (length types) (parent_of types t)
 
 -- whether the type of one name stands below that of another
 abbrev pub is_below : List WrittenType → List ℕ → List ℕ → Bool

@@ -15,9 +15,13 @@ use Rattle.subrules.specs.Hierarchy.{kinds_of}
 abbrev pub Way : Type 0
 Way = List CondTree
 
+-- a way with each of these behind it
+unfoldable pub each_behind : List Way → Way → List Way
+each_behind seconds first = map (λ (second : Way). first ++ second) seconds
+
 -- one of the first and one of the second, the first varying slowest
 abbrev pub times : List Way → List Way → List Way
-times firsts seconds = flat_map (λ (first : Way). map (λ (second : Way). first ++ second) seconds) firsts
+times firsts seconds = flat_map (each_behind seconds) firsts
 
 abbrev pub over_type : SourceTree → List ℕ → SourceTree
 over_type s name = record { var = s.var; ty = name; parts = s.parts; window = s.window; entry = s.entry }

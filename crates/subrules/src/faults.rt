@@ -35,6 +35,7 @@ fn lacks_parent(types: &Hierarchy, tree: &WrittenType) -> bool
 }
 
 // Whether a type that extends one has more than 32 fields.
+#[tactic(auto, using(crate::proofs::FieldLaws::fields_counted))]
 fn has_many_fields(alloc: Global, types: &Hierarchy, tree: &WrittenType) -> Result<bool, NoMemory>
     ensures { IfOk result (λ many. many ≡ has_many_fields types.now tree.now) }
 {

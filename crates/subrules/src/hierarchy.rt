@@ -2,7 +2,7 @@ ghost use Rattle.std.specs.Prelude.{◌≡◌, ◌++◌, [], map, option_map, op
 ghost use Rattle.std.specs.List.{filter, flat_map};
 ghost use Rattle.drl_sight.specs.EntryPoints.{with_names};
 ghost use Rattle.drl_sight.specs.Names.{is_among};
-ghost use Rattle.subrules.specs.Hierarchy.{types_of, type_names, first_names, type_named, parent_of, above, goes_round, is_below, extended_by as extended_by_name, has_subtypes, kinds_of};
+ghost use Rattle.subrules.specs.Hierarchy.{types_of, type_names, first_names, type_named, parent_of, above, is_named, goes_round, is_below, extended_by as extended_by_name, has_subtypes, kinds_of};
 
 use drl_grammar::{WrittenBody, WrittenItem, WrittenType};
 use drl_sight::Places;
@@ -65,6 +65,13 @@ fn named<'a>(types: &[&'a WrittenType], names: &Places, name: &Text) -> Option<&
         Some(place) => types.get(place).copied(),
         None => None,
     }
+}
+
+// Whether a type has this name.
+fn is_named(tree: &WrittenType, name: &Text) -> bool
+    ensures { result ≡ is_named name.now tree.now }
+{
+    tree.name == *name
 }
 
 // The name that a type extends, where there is the type.
@@ -168,14 +175,14 @@ impl<'a> Hierarchy<'a> {
                     found.push(next)?;
                     up = self.parent(next);
                 }
-                None => {}
+                None => return Ok(found),
             }
         }
         Ok(found)
     }
 
     /// Whether the way upward from a type goes in a circle. It costs a look-up for each step. Takes no memory.
-    #[tactic(auto, unfolding(crate::specs::Hierarchy::ancestors))]
+    #[tactic(auto, unfolding(crate::specs::Hierarchy::goes_on))]
     pub(crate) fn goes_round(&self, tree: &WrittenType) -> bool
         ensures { result ≡ goes_round self.now tree.now }
     {
@@ -198,7 +205,7 @@ impl<'a> Hierarchy<'a> {
         for _ in 0..self.types.len() {
             match up {
                 Some(next) => {
-                    if next.name == *over {
+                    if is_named(next, over) {
                         return true;
                     }
                     up = self.parent(next);

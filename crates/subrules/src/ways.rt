@@ -1,7 +1,7 @@
 ghost use Rattle.std.specs.Prelude.{◌≡◌, ◌++◌, ◌∷◌, ◌-◌, [], length, take, map, slice_get, IfOk, OnOk};
 ghost use Rattle.drl_grammar.specs.declared.condition.CondTree.TheVariants.{Plain as PlainTree, Negated as NegatedTree};
 ghost use Rattle.subrules.specs.Hierarchy.{kinds_of};
-ghost use Rattle.subrules.specs.Ways.{times, over_type as pattern_over, choices, begun, all_ways, asks, closed_in, taken, walked, at_begin, ways_of};
+ghost use Rattle.subrules.specs.Ways.{each_behind, times, over_type as pattern_over, choices, begun, all_ways, asks, closed_in, taken, walked, at_begin, ways_of};
 
 use crate::copying::{Copied, over_type};
 use crate::hierarchy::Hierarchy;
@@ -127,13 +127,14 @@ fn joined(
 }
 
 // Adds a way with each of the second ones behind it.
+#[tactic(auto, unfolding(crate::specs::Ways::each_behind))]
 fn add_joined(
     alloc: Global,
     ways: &mut Vec<Seq<CondTree>>,
     first: &Seq<CondTree>,
     seconds: &[Seq<CondTree>],
 ) -> Result<(), NoMemory>
-    ensures { OnOk result (ways.new.items ≡ ways.old.items ++ map (λ second. first.now ++ second) seconds.now) }
+    ensures { OnOk result (ways.new.items ≡ ways.old.items ++ each_behind seconds.now first.now) }
 {
     for second in seconds {
         ways.push(joined(alloc, first, second)?)?;

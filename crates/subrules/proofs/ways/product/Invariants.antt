@@ -1,7 +1,7 @@
-use Rattle.std.proofs.Common.{◌≡◌, ◌++◌, map, drop}
+use Rattle.std.proofs.Common.{◌≡◌, ◌++◌, drop}
 use Rattle.std.specs.List.{flat_map}
-use Rattle.subrules.specs.Ways.{times}
+use Rattle.subrules.specs.Ways.{each_behind, times}
 use Rattle.subrules.proofs.ways.product.Given as goal
 
 abbrev pub invariant-loop-first : goal.invariant-loop-first
-invariant-loop-first l = l.ways.items ++ flat_map (λ first. map (λ second. first ++ second) l.seconds) (drop l.first-index l.firsts) ≡ times l.firsts l.seconds
+invariant-loop-first l = l.ways.items ++ flat_map (each_behind l.seconds) (drop l.first-index l.firsts) ≡ times l.firsts l.seconds
