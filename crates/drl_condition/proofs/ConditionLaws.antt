@@ -12,13 +12,12 @@ use Rattle.drl_grammar.specs.declared.condition.CondTree.{CondTree}
 use Rattle.drl_grammar.specs.Conditions as g
 use Rattle.drl_grammar.specs.Conditions.{IsBinding, IsSource, IsGroup, IsFolded, IsCondition}
 use Rattle.drl_phrase.specs.Exact.{binds, Exact}
-use Rattle.drl_phrase.specs.Reading.{ident}
 use Rattle.drl_phrase.proofs.ShapeLaws.{then, same_bytes, Begins}
 use Rattle.drl_phrase.proofs.Carried.{ident_binds}
 use Rattle.drl_condition.specs.declared.words.Form.{Form}
 use Rattle.drl_condition.specs.declared.words.Form.TheVariants as form
 use Rattle.drl_condition.specs.Words.{word_form}
-use Rattle.drl_condition.specs.Reading.{source_at, group_at, number_at, accumulate_at, form_at, formed_at, condition_at, pattern_at, binding_at}
+use Rattle.drl_condition.specs.Reading.{source_at, group_at, number_at, accumulate_at, form_at, formed_at, condition_at}
 use Rattle.drl_condition.proofs.WordLaws.{ident_differs, name_form}
 use Rattle.drl_condition.proofs.PatternLaws.{source_exact, group_exact}
 use Rattle.drl_condition.proofs.FoldLaws.{number_sound, number_again, accumulate_sound, accumulate_again, folded_shorter}
