@@ -1,5 +1,5 @@
 -- What is kept is seen alike in two stores that have the same facts at the tags that are kept.
-use Rattle.std.proofs.Common.{◌≡◌, ◌∙◌, sym, ap, refl, subst, ℕ, zero, suc, List, [], ◌∷◌, Bool, true, false, cond, Option, Some, None}
+use Rattle.std.proofs.Common.{◌≡◌, ◌∙◌, sym, ap, refl, subst, ℕ, zero, suc, List, [], ◌∷◌, map, Bool, true, false, cond, Option, Some, None}
 use Rattle.std.specs.Option.{is_some, option_map, option_and_then}
 use Rattle.fx_base.specs.declared.value.Value.{Value}
 use Rattle.fx_base.specs.declared.fact.Fact.{Fact}
@@ -16,7 +16,7 @@ use Rattle.join_tests.specs.declared.key.JoinKey.{JoinKey}
 use Rattle.join_tests.specs.declared.key.JoinSide.{JoinSide}
 use Rattle.join_tests.specs.declared.key.JoinSide.TheVariants.{Field, Accumulated}
 use Rattle.join_tests.specs.Joins.{Look, is_version, version_at, versions_at, tuple_at, passes_given, joins}
-use Rattle.join_tests.specs.Keys.{join_keys, earlier_value, given_or_true, row_part, as_one, row_value, candidate_value}
+use Rattle.join_tests.specs.Keys.{join_keys, earlier_value, given_or_true, as_one, row_value, candidate_value}
 use Rattle.alpha_memory.specs.JoinIndex.{at}
 use Rattle.pair_memory.specs.Memories.{has_left, has_right}
 use Rattle.pair_memory.specs.Standing.{AlikeOn, MoveLaw}
@@ -33,7 +33,7 @@ module _ (look other : Look) where
 
   row_value_alike : (keys : List JoinKey) (row : Row) → AlikeOn look other row.facts → row_value keys look row ≡ row_value keys other row
   unfolding row_value
-  row_value_alike keys row h = ap as_one (map-ext (row_part look row) (row_part other row) (λ key. ap given_or_true (side_alike key.side row h)) keys)
+  row_value_alike keys row h = λ i. as_one (map (λ (key : JoinKey). given_or_true (side_alike key.side row h i)) keys)
 
   candidate_value_alike : (keys : List JoinKey) (who : Named) → look who.tag ≡ other who.tag → candidate_value keys look who ≡ candidate_value keys other who
   unfolding candidate_value
