@@ -14,7 +14,7 @@ use row_delta::{Named, Row};
 use rule_model::Pattern;
 use std::marker::Model;
 
-/// A pattern, with its join key at hand, where it is one. Contracts see the pattern.
+/// A pattern, with its equality at hand, where it asks for one alone. Contracts see the pattern.
 #[derive(Drop)]
 pub struct KeyedPattern {
     pattern: Pattern,
@@ -56,14 +56,16 @@ impl KeyedPattern {
         &self.pattern
     }
 
-    /// The value by which a row finds its candidates. Takes no memory.
+    /// The value by which a row finds its candidates. It takes no memory, and costs a look-up for each equality, and where there
+    /// are several a walk over the tests.
     pub fn row_value<'a, F: Facts>(&self, row: &Row, facts: &'a F) -> JoinValue<'a>
         ensures { shown result ≡ row_value (join_keys self.now) (F.map facts.now) row.now }
     {
         value_of(self.keying, &self.pattern, Partner::OfRow(row), facts)
     }
 
-    /// The value by which a candidate finds its rows. Takes no memory.
+    /// The value by which a candidate finds its rows. It takes no memory, and costs a look-up where there are equalities, and
+    /// where there are several a walk over the tests.
     pub fn candidate_value<'a, F: Facts>(&self, who: Named, facts: &'a F) -> JoinValue<'a>
         ensures { shown result ≡ candidate_value (join_keys self.now) (F.map facts.now) who }
     {
@@ -85,6 +87,7 @@ impl KeyedPattern {
     }
 }
 
+/// The join value of a row or a candidate, for a pattern whose equalities are counted.
 fn value_of<'a, F: Facts>(
     keying: Keying,
     pattern: &Pattern,

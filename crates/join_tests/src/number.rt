@@ -13,11 +13,7 @@ use std::hash::{FoldHasher, Hash, Hasher};
 /// The number for the values of all equalities that a pattern asks for. It takes no memory, and costs a walk over the tests,
 /// and for a row a look-up for each equality.
 #[tactic(auto, unfolding(crate::specs::Keys::join_keys, crate::specs::Keys::number_for))]
-pub(crate) fn number_of<F: Facts>(
-    pattern: &Pattern,
-    partner: Partner<'_, '_>,
-    facts: &F,
-) -> Value
+pub(crate) fn number_of<F: Facts>(pattern: &Pattern, partner: Partner<'_, '_>, facts: &F) -> Value
     ensures { result ≡ Value.Int (number_for (map (part (F.map facts.now) partner.entry) (join_keys pattern.now))) }
 {
     let mut state = FoldHasher::default();
@@ -25,12 +21,7 @@ pub(crate) fn number_of<F: Facts>(
     Value::Int(state.finish().cast_signed())
 }
 
-fn feed_tests<F: Facts>(
-    tests: &[Test],
-    partner: Partner<'_, '_>,
-    facts: &F,
-    state: &mut FoldHasher,
-)
+fn feed_tests<F: Facts>(tests: &[Test], partner: Partner<'_, '_>, facts: &F, state: &mut FoldHasher)
     ensures { state.new ≡ fed_with state.old (map (part (F.map facts.now) partner.entry) (keys_of_tests tests.now)) }
 {
     for test in tests {
