@@ -1,7 +1,7 @@
 -- A candidate that joins a row has the row's join value.
-use Rattle.std.proofs.Common.{◌≡◌, ◌∙◌, sym, ap, refl, subst, ℕ, List, [], ◌∷◌, Bool, true, false, ◌&&◌, ◌||◌, Option, Some, None, slice_get}
+use Rattle.std.proofs.Common.{◌≡◌, ◌∙◌, sym, ap, refl, subst, ℕ, List, [], ◌∷◌, ◌++◌, map, Bool, true, false, ◌&&◌, ◌||◌, Option, Some, None, slice_get}
 use Rattle.std.specs.List.{list_any}
-use Rattle.std.specs.Option.{option_map, option_or}
+use Rattle.std.specs.Option.{option_map}
 use Rattle.fx_base.specs.declared.value.Value.{Value}
 use Rattle.fx_base.specs.Values.{same_value}
 use Rattle.fx_base.specs.SameValues.{equal_values}
@@ -21,7 +21,7 @@ use Rattle.rule_model.specs.Tuples.{Bindings, bound_by}
 use Rattle.rule_model.proofs.Naming.{bound_named}
 use Rattle.join_tests.specs.declared.key.JoinKey.{JoinKey}
 use Rattle.join_tests.specs.Joins.{Look, version_at, versions_at, passes_given, joins}
-use Rattle.join_tests.specs.Keys.{key_of_side, key_of_sides, key_of_compare, key_of_compares, key_of_choices, key_of_tests, join_key, earlier_value, given_or_true, row_value, candidate_value}
+use Rattle.join_tests.specs.Keys.{key_of_side, key_of_sides, key_of_compare, in_front, keys_of_compares, keys_of_choices, keys_of_tests, join_keys, earlier_value, given_or_true, row_part, candidate_part, as_one, row_value, candidate_value}
 use Rattle.join_tests.proofs.Versions.{version_is, versions_are, row_is}
 
 -- both of two that hold
@@ -38,10 +38,15 @@ one_of true e = refl
 one_of false e = e
 
 module _ (bound : Bindings) (f : Fact) where
-  -- the two values of a key are the same
+  -- the two values of an equality are the same
   abbrev Meets : Option JoinKey → Type 0
   Meets None = Unit {0}
   Meets (Some key) = given_or_true (earlier_value bound key.side) ≡ given_or_true (slice_get f.fields key.field)
+
+  -- those of each are
+  abbrev Meet : List JoinKey → Type 0
+  Meet [] = Unit {0}
+  Meet (key ∷ keys) = Meets (Some key) × Meet keys
 
   module _ (rel : RelTag) (same : (a b : Value) → related rel a b ≡ same_value a b) where
     given_meet : (left right : Option Value) → related_given rel left right ≡ true → given_or_true right ≡ given_or_true left
@@ -69,44 +74,54 @@ module _ (bound : Bindings) (f : Fact) where
   compare_meets Greater field sides e = tt
   compare_meets GreaterOrEqual field sides e = tt
 
-  either_meets : (a b : Option JoinKey) → Meets a → Meets b → Meets (option_or a b)
-  either_meets None b p q = q
-  either_meets (Some key) b p q = p
+  in_front_meet : (key : Option JoinKey) (keys : List JoinKey) → Meets key → Meet keys → Meet (in_front key keys)
+  in_front_meet None keys meets meet = meet
+  in_front_meet (Some key) keys meets meet = (meets, meet)
 
-  compares_meet : (cs : List Compare) → compares_hold bound f cs ≡ true → Meets (key_of_compares cs)
+  both_meet : (keys more : List JoinKey) → Meet keys → Meet more → Meet (keys ++ more)
+  both_meet [] more p q = q
+  both_meet (key ∷ keys) more p q = (p.0, both_meet keys more p.1 q)
+
+  compares_meet : (cs : List Compare) → compares_hold bound f cs ≡ true → Meet (keys_of_compares cs)
   compares_meet [] e = tt
   compares_meet (c ∷ cs) e =
-      either_meets (key_of_compare c.rel c.field c.against) (key_of_compares cs) (compare_meets c.rel c.field c.against (first_of _ (compares_hold bound f cs) e))
+      in_front_meet (key_of_compare c.rel c.field c.against) (keys_of_compares cs) (compare_meets c.rel c.field c.against (first_of _ (compares_hold bound f cs) e))
       (compares_meet cs (rest_of (compare_holds bound f c) _ e))
 
-  choices_meet : (choices : List (List Compare)) → list_any (compares_hold bound f) choices ≡ true → Meets (key_of_choices choices)
+  choices_meet : (choices : List (List Compare)) → list_any (compares_hold bound f) choices ≡ true → Meet (keys_of_choices choices)
   choices_meet [] e = tt
   choices_meet (choice ∷ []) e = compares_meet choice (one_of _ e)
   choices_meet (choice ∷ (other ∷ choices)) e = tt
 
-  tests_meet : (tests : List Test) → tests_hold bound f tests ≡ true → Meets (key_of_tests tests)
+  tests_meet : (tests : List Test) → tests_hold bound f tests ≡ true → Meet (keys_of_tests tests)
   tests_meet [] e = tt
   tests_meet (test ∷ tests) e =
-      either_meets (key_of_choices test.choices) (key_of_tests tests) (choices_meet test.choices (first_of _ (tests_hold bound f tests) e)) (tests_meet tests (rest_of (test_holds bound f test) _ e))
+      both_meet (keys_of_choices test.choices) (keys_of_tests tests) (choices_meet test.choices (first_of _ (tests_hold bound f tests) e)) (tests_meet tests (rest_of (test_holds bound f test) _ e))
 
-values_meet : (look : Look) (row : Row) (who : Named) (f : Fact) (key : Option JoinKey) → look who.tag ≡ Some f → Meets (bound_in look row) f key → row_value key look row ≡ candidate_value key look who
-unfolding row_value candidate_value
-values_meet look row who f None is meets = refl
-values_meet look row who f (Some key) is meets = meets ∙ ap (λ found. given_or_true (field_of found key.field)) (sym is)
+parts_meet : (look : Look) (row : Row) (who : Named) (f : Fact) → look who.tag ≡ Some f → (keys : List JoinKey) → Meet (bound_in look row) f keys → map (row_part look row) keys ≡ map (candidate_part look who) keys
+parts_meet look row who f is [] meet = refl
+parts_meet look row who f is (key ∷ keys) meet =
+    ap (λ v. v ∷ map (row_part look row) keys) (meet.0 ∙ ap (λ found. given_or_true (field_of found key.field)) (sym is))
+    ∙ ap (λ values. candidate_part look who key ∷ values) (parts_meet look row who f is keys meet.1)
 
 found_meet : (p : Pattern) (look : Look) (row : Row) (who : Named) (all : Option (List Fact)) → versions_at look row.facts ≡ all → (o : Option Fact) → version_at look who ≡ o
-    → passes_given p (option_map (λ facts. tuple_of facts row.values) all) o ≡ true → row_value (join_key p) look row ≡ candidate_value (join_key p) look who
-unfolding join_key
+    → passes_given p (option_map (λ facts. tuple_of facts row.values) all) o ≡ true → map (row_part look row) (join_keys p) ≡ map (candidate_part look who) (join_keys p)
+unfolding join_keys
 found_meet p look row who None is o found e = let f : false ≡ true = e in cc
 found_meet p look row who (Some facts) is None found e = let f : false ≡ true = e in cc
 found_meet p look row who (Some facts) is (Some f) found e =
     let tuple = tuple_of facts row.values in
     let bound : bound_in look row ≡ bound_by tuple = bound_named look row tuple (row_is look row facts is) (versions_are look row.facts facts is).1 in
     let holds : tests_hold (bound_by tuple) f p.joined ≡ true = first_of _ (times_hold (bound_by tuple) f.times p.times) e in
-    values_meet look row who f (key_of_tests p.joined) (version_is look who f found).0
+    parts_meet look row who f (version_is look who f found).0 (keys_of_tests p.joined)
     (tests_meet (bound_in look row) f p.joined (subst (λ (b : Bindings). tests_hold b f p.joined ≡ true) (sym bound) holds))
 
--- a candidate that joins a row has its join value
-pub keys_meet : (p : Pattern) (look : Look) (row : Row) (who : Named) → joins p look row who ≡ true → row_value (join_key p) look row ≡ candidate_value (join_key p) look who
+-- a candidate that joins a row has what the row has of each equality
+pub each_meets : (p : Pattern) (look : Look) (row : Row) (who : Named) → joins p look row who ≡ true → map (row_part look row) (join_keys p) ≡ map (candidate_part look who) (join_keys p)
 unfolding joins
-keys_meet p look row who e = found_meet p look row who (versions_at look row.facts) refl (version_at look who) refl e
+each_meets p look row who e = found_meet p look row who (versions_at look row.facts) refl (version_at look who) refl e
+
+-- and so its join value
+pub keys_meet : (p : Pattern) (look : Look) (row : Row) (who : Named) → joins p look row who ≡ true → row_value (join_keys p) look row ≡ candidate_value (join_keys p) look who
+unfolding row_value candidate_value
+keys_meet p look row who e = ap as_one (each_meets p look row who e)

@@ -1,8 +1,12 @@
--- The equality of a pattern by which rows and candidates find each other, and the two values that it compares.
-use Rattle.std.specs.Prelude.{ℕ, true, List, [], ◌∷◌, Option, Some, None}
-use Rattle.std.specs.Option.{option_or}
+-- The equalities of a pattern by which rows and candidates find each other, and the values that they compare.
+use Rattle.std.specs.Prelude.{ℕ, ℤ, true, List, [], ◌∷◌, ◌++◌, map, fold, Option, Some, None}
+use Rattle.std.specs.Int.{w64, cast_signed}
+use Rattle.std.specs.Hash as fed
+use Rattle.std.specs.Hash.{HashWrites}
+use Rattle.std.specs.Hash.FoldHasher as hasher
+use Rattle.std.specs.declared.hash.FoldHasher.{FoldHasher}
 use Rattle.fx_base.specs.declared.value.Value.{Value}
-use Rattle.fx_base.specs.declared.value.Value.TheVariants.{Bool as Flag}
+use Rattle.fx_base.specs.declared.value.Value.TheVariants.{Int, Bool as Flag, Text}
 use Rattle.row_delta.specs.declared.row.Named.{Named}
 use Rattle.row_delta.specs.declared.row.Row.{Row}
 use Rattle.rule_model.specs.declared.test.RelTag.{RelTag}
@@ -20,7 +24,7 @@ use Rattle.join_tests.specs.declared.key.JoinSide.TheVariants.{Field, Accumulate
 use Rattle.join_tests.specs.declared.key.JoinKey.{JoinKey}
 use Rattle.join_tests.specs.Joins.{Look}
 
--- ---- the key
+-- ---- the keys
 
 abbrev key_with : ℕ → JoinSide → JoinKey
 key_with field side = record { field = field; side = side }
@@ -47,25 +51,29 @@ key_of_compare LessOrEqual field sides = None
 key_of_compare Greater field sides = None
 key_of_compare GreaterOrEqual field sides = None
 
--- the first equality of comparisons that must all hold
-abbrev pub key_of_compares : List Compare → Option JoinKey
-key_of_compares [] = None
-key_of_compares (c ∷ compares) = option_or (key_of_compare c.rel c.field c.against) (key_of_compares compares)
+-- in front of others, where it is one
+abbrev pub in_front : Option JoinKey → List JoinKey → List JoinKey
+in_front None keys = keys
+in_front (Some key) keys = key ∷ keys
 
--- that of a test which leaves no choice
-abbrev pub key_of_choices : List (List Compare) → Option JoinKey
-key_of_choices [] = None
-key_of_choices (choice ∷ []) = key_of_compares choice
-key_of_choices (choice ∷ (other ∷ choices)) = None
+-- the equalities of comparisons that must all hold
+abbrev pub keys_of_compares : List Compare → List JoinKey
+keys_of_compares [] = []
+keys_of_compares (c ∷ compares) = in_front (key_of_compare c.rel c.field c.against) (keys_of_compares compares)
 
--- the first of tests, wherever it stands
-abbrev pub key_of_tests : List Test → Option JoinKey
-key_of_tests [] = None
-key_of_tests (test ∷ tests) = option_or (key_of_choices test.choices) (key_of_tests tests)
+-- those of a test which leaves no choice
+abbrev pub keys_of_choices : List (List Compare) → List JoinKey
+keys_of_choices [] = []
+keys_of_choices (choice ∷ []) = keys_of_compares choice
+keys_of_choices (choice ∷ (other ∷ choices)) = []
 
--- the first equality that a candidate must have with a row; nothing where the pattern asks for none
-unfoldable pub join_key : Pattern → Option JoinKey
-join_key p = key_of_tests p.joined
+abbrev pub keys_of_tests : List Test → List JoinKey
+keys_of_tests [] = []
+keys_of_tests (test ∷ tests) = keys_of_choices test.choices ++ keys_of_tests tests
+
+-- the equalities that a candidate must have with a row, in the order of the text
+unfoldable pub join_keys : Pattern → List JoinKey
+join_keys p = keys_of_tests p.joined
 
 -- ---- the values
 
@@ -79,12 +87,41 @@ abbrev pub given_or_true : Option Value → Value
 given_or_true None = Flag true
 given_or_true (Some v) = v
 
--- the join value of a row; where the pattern asks for no equality, that of all rows is the same
-unfoldable pub row_value : Option JoinKey → Look → Row → Value
-row_value None look row = Flag true
-row_value (Some key) look row = given_or_true (earlier_value (bound_in look row) key.side)
+-- what a row has of an equality
+abbrev pub row_part : Look → Row → JoinKey → Value
+row_part look row key = given_or_true (earlier_value (bound_in look row) key.side)
+
+-- what a candidate has of it
+abbrev pub candidate_part : Look → Named → JoinKey → Value
+candidate_part look who key = given_or_true (field_of (look who.tag) key.field)
+
+-- ---- one value for all of them
+
+-- what a value gives a hash; the kind is left out, since both sides of an equality have the same
+abbrev pub writes : Value → HashWrites
+writes (Int n) = fed.i64 n
+writes (Flag b) = fed.bool b
+writes (Text t) = fed.str t
+
+-- a hash, fed with values one after another
+abbrev pub fed_with : FoldHasher → List Value → FoldHasher
+fed_with state [] = state
+fed_with state (v ∷ values) = fed_with (fold hasher.write state (writes v)) values
+
+-- the number that stands for several values: equal values have the same, and seldom others
+unfoldable pub number_for : List Value → ℤ
+number_for values = cast_signed w64 (hasher.finish (fed_with hasher.initial values))
+
+-- no value, one value or several as one value, by which they are looked up; where the pattern asks for no equality, it is always the same
+abbrev pub as_one : List Value → Value
+as_one [] = Flag true
+as_one (v ∷ []) = v
+as_one (v ∷ (other ∷ values)) = Int (number_for (v ∷ (other ∷ values)))
+
+-- the join value of a row
+unfoldable pub row_value : List JoinKey → Look → Row → Value
+row_value keys look row = as_one (map (row_part look row) keys)
 
 -- the join value of a candidate
-unfoldable pub candidate_value : Option JoinKey → Look → Named → Value
-candidate_value None look who = Flag true
-candidate_value (Some key) look who = given_or_true (field_of (look who.tag) key.field)
+unfoldable pub candidate_value : List JoinKey → Look → Named → Value
+candidate_value keys look who = as_one (map (candidate_part look who) keys)

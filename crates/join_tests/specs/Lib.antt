@@ -1,3 +1,4 @@
 pub mod Joins
 pub mod Keys
+pub mod Keying
 pub mod JoinValues

@@ -1,5 +1,6 @@
 ghost use Rattle.std.specs.Prelude.{◌≡◌};
-ghost use Rattle.join_tests.specs.Keys.{key_of_side, key_of_sides, key_of_compare, key_of_compares, key_of_choices, key_of_tests};
+ghost use Rattle.join_tests.specs.Keys.{key_of_side, key_of_sides, key_of_compare, keys_of_compares, keys_of_choices, keys_of_tests};
+ghost use Rattle.join_tests.specs.Keying.{and_one, and_more, keying_of};
 
 use fx_base::Seq;
 use rule_model::{Compare, RelTag, Side, Test};
@@ -20,45 +21,65 @@ pub struct JoinKey {
     pub side: JoinSide,
 }
 
-/// The first equality that tests ask for. Takes no memory.
-pub(crate) fn key_of_tests(tests: &[Test]) -> Option<JoinKey>
-    ensures { result ≡ key_of_tests tests.now }
-{
-    for test in tests {
-        match key_of_choices(test.choices.as_slice()) {
-            Some(key) => return Some(key),
-            None => {}
-        }
-    }
-    None
+/// How many equalities a pattern asks for: none, this one, or several, which its tests tell.
+#[derive(Clone, Copy, Debug, PartialEq, Eq)]
+pub(crate) enum Keying {
+    Nothing,
+    One(JoinKey),
+    Several,
 }
 
-fn key_of_choices(choices: &[Seq<Compare>]) -> Option<JoinKey>
-    ensures { result ≡ key_of_choices choices.now }
+impl Keying {
+    fn and(self, key: JoinKey) -> Keying
+        ensures { result ≡ and_one self key }
+    {
+        match self {
+            Keying::Nothing => Keying::One(key),
+            Keying::One(_) => Keying::Several,
+            Keying::Several => Keying::Several,
+        }
+    }
+}
+
+/// The equalities that tests ask for. Takes no memory.
+pub(crate) fn keying_of_tests(tests: &[Test]) -> Keying
+    ensures { result ≡ keying_of (keys_of_tests tests.now) }
+{
+    let mut keying = Keying::Nothing;
+    for test in tests {
+        keying = with_choices(keying, test.choices.as_slice());
+    }
+    keying
+}
+
+fn with_choices(before: Keying, choices: &[Seq<Compare>]) -> Keying
+    ensures { result ≡ and_more before (keys_of_choices choices.now) }
 {
     match choices {
-        [choice] => key_of_compares(choice.as_slice()),
-        _ => None,
+        [choice] => with_compares(before, choice.as_slice()),
+        _ => before,
     }
 }
 
-fn key_of_compares(compares: &[Compare]) -> Option<JoinKey>
-    ensures { result ≡ key_of_compares compares.now }
+fn with_compares(before: Keying, compares: &[Compare]) -> Keying
+    ensures { result ≡ and_more before (keys_of_compares compares.now) }
 {
+    let mut keying = before;
     for compare in compares {
-        match key_of_compare(compare.rel, compare.field, compare.against.as_slice()) {
-            Some(key) => return Some(key),
-            None => {}
-        }
+        keying = match key_of_compare(compare) {
+            Some(key) => keying.and(key),
+            None => keying,
+        };
     }
-    None
+    keying
 }
 
-fn key_of_compare(rel: RelTag, field: u8, sides: &[Side]) -> Option<JoinKey>
-    ensures { result ≡ key_of_compare rel field sides.now }
+/// The equality that a comparison is, or nothing where it is none. Takes no memory.
+pub(crate) fn key_of_compare(compare: &Compare) -> Option<JoinKey>
+    ensures { result ≡ key_of_compare compare.now.rel compare.now.field compare.now.against }
 {
-    match rel {
-        RelTag::OneOf | RelTag::Equal => key_of_sides(field, sides),
+    match compare.rel {
+        RelTag::OneOf | RelTag::Equal => key_of_sides(compare.field, compare.against.as_slice()),
         _ => None,
     }
 }

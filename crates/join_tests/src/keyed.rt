@@ -1,24 +1,24 @@
-ghost use Rattle.std.specs.Prelude.{◌≡◌, option_map};
-ghost use Rattle.rule_model.specs.Lent.{bound_in};
-ghost use Rattle.rule_model.specs.Tests.{number_given};
+ghost use Rattle.std.specs.Prelude.{◌≡◌, map};
 ghost use Rattle.join_tests.specs.Joins.{joins};
-ghost use Rattle.join_tests.specs.Keys.{join_key, earlier_value, given_or_true, row_value, candidate_value};
+ghost use Rattle.join_tests.specs.Keys.{join_keys, as_one, row_value, candidate_value};
+ghost use Rattle.join_tests.specs.Keying.{keying_of, part};
 ghost use Rattle.join_tests.specs.JoinValues.{shown};
 
 use crate::join_value::JoinValue;
 use crate::joins::does_join;
-use crate::key::{JoinKey, JoinSide, key_of_tests};
-use crate::row_facts::{field_value, named_fact};
+use crate::key::{Keying, keying_of_tests};
+use crate::number::number_of;
+use crate::part::{Partner, part_of};
 use fx_base::{Facts, Value};
 use row_delta::{Named, Row};
 use rule_model::Pattern;
 use std::marker::Model;
 
-/// A pattern, with its join key at hand. Contracts see the pattern.
+/// A pattern, with its equality at hand, where it asks for one alone. Contracts see the pattern.
 #[derive(Drop)]
 pub struct KeyedPattern {
     pattern: Pattern,
-    key: Option<JoinKey>,
+    keying: Keying,
 }
 
 impl Model for KeyedPattern {
@@ -33,19 +33,20 @@ impl Model for KeyedPattern {
     ghost view = { λ k. k.pattern };
 
     ghost use Rattle.std.specs.Prelude.{◌≡◌};
-    ghost use Rattle.join_tests.specs.Keys.{join_key};
+    ghost use Rattle.join_tests.specs.Keys.{join_keys};
+    ghost use Rattle.join_tests.specs.Keying.{keying_of};
 
-    ghost invariant = { λ k. k.key ≡ join_key k.pattern };
+    ghost invariant = { λ k. k.keying ≡ keying_of (join_keys k.pattern) };
 }
 
 impl KeyedPattern {
-    /// The pattern, for which its key is found once. Takes no memory.
-    #[tactic(auto, unfolding(crate::specs::Keys::join_key))]
+    /// The pattern, whose equalities are counted once. Takes no memory.
+    #[tactic(auto, unfolding(crate::specs::Keys::join_keys))]
     pub fn new(pattern: Pattern) -> KeyedPattern
         ensures { result ≡ pattern }
     {
-        let key = key_of_tests(pattern.joined.as_slice());
-        KeyedPattern { pattern, key }
+        let keying = keying_of_tests(pattern.joined.as_slice());
+        KeyedPattern { pattern, keying }
     }
 
     /// The pattern. Takes no memory.
@@ -55,18 +56,26 @@ impl KeyedPattern {
         &self.pattern
     }
 
-    /// The value by which a row finds its candidates. Takes no memory.
+    /// The value by which a row finds its candidates. It takes no memory, and costs a look-up for each equality, and where there
+    /// are several a walk over the tests.
     pub fn row_value<'a, F: Facts>(&self, row: &Row, facts: &'a F) -> JoinValue<'a>
-        ensures { shown result ≡ row_value (join_key self.now) (F.map facts.now) row.now }
+        ensures { shown result ≡ row_value (join_keys self.now) (F.map facts.now) row.now }
     {
-        row_value(self.key, row, facts)
+        value_of(self.keying, &self.pattern, Partner::OfRow(row), facts)
     }
 
-    /// The value by which a candidate finds its rows. Takes no memory.
+    /// The value by which a candidate finds its rows. It takes no memory, and costs a look-up where there are equalities, and
+    /// where there are several a walk over the tests.
     pub fn candidate_value<'a, F: Facts>(&self, who: Named, facts: &'a F) -> JoinValue<'a>
-        ensures { shown result ≡ candidate_value (join_key self.now) (F.map facts.now) who }
+        ensures { shown result ≡ candidate_value (join_keys self.now) (F.map facts.now) who }
     {
-        candidate_value(self.key, who, facts)
+        match self.keying {
+            Keying::Nothing => JoinValue::Made(Value::Bool(true)),
+            keying => {
+                let fact = facts.fact(who.tag);
+                value_of(keying, &self.pattern, Partner::OfCandidate(fact), facts)
+            }
+        }
     }
 
     /// Whether the candidate that is named joins a row, by the facts that are at hand. It takes no memory, and costs the
@@ -78,53 +87,19 @@ impl KeyedPattern {
     }
 }
 
-#[tactic(auto, unfolding(crate::specs::Keys::row_value))]
-fn row_value<'a, F: Facts>(key: Option<JoinKey>, row: &Row, facts: &'a F) -> JoinValue<'a>
-    ensures { shown result ≡ row_value key (F.map facts.now) row.now }
+/// The join value of a row or a candidate, for a pattern whose equalities are counted.
+fn value_of<'a, F: Facts>(
+    keying: Keying,
+    pattern: &Pattern,
+    partner: Partner<'_, 'a>,
+    facts: &'a F,
+) -> JoinValue<'a>
+    requires { keying ≡ keying_of (join_keys pattern.now) }
+    ensures { shown result ≡ as_one (map (part (F.map facts.now) partner.entry) (join_keys pattern.now)) }
 {
-    match key {
-        Some(key) => side_value(key.side, row, facts),
-        None => JoinValue::Made(Value::Bool(true)),
-    }
-}
-
-#[tactic(auto, unfolding(crate::specs::Keys::candidate_value))]
-fn candidate_value<'a, F: Facts>(key: Option<JoinKey>, who: Named, facts: &'a F) -> JoinValue<'a>
-    ensures { shown result ≡ candidate_value key (F.map facts.now) who }
-{
-    match key {
-        Some(key) => lent_or_true(field_value(facts.fact(who.tag), key.field)),
-        None => JoinValue::Made(Value::Bool(true)),
-    }
-}
-
-fn side_value<'a, F: Facts>(side: JoinSide, row: &Row, facts: &'a F) -> JoinValue<'a>
-    ensures { shown result ≡ given_or_true (earlier_value (bound_in (F.map facts.now) row.now) side) }
-{
-    match side {
-        JoinSide::Field { fact, field } => {
-            lent_or_true(field_value(named_fact(row, fact, facts), field))
-        }
-        JoinSide::Accumulated(place) => {
-            JoinValue::Made(number_or_true(row.values.as_slice().get(place as usize).copied()))
-        }
-    }
-}
-
-fn lent_or_true<'a>(value: Option<&'a Value>) -> JoinValue<'a>
-    ensures { shown result ≡ given_or_true (option_map (λ v. v.now) value.entry) }
-{
-    match value {
-        Some(value) => JoinValue::Lent(value),
-        None => JoinValue::Made(Value::Bool(true)),
-    }
-}
-
-fn number_or_true(number: Option<i64>) -> Value
-    ensures { result ≡ given_or_true (number_given number) }
-{
-    match number {
-        Some(number) => Value::Int(number),
-        None => Value::Bool(true),
+    match keying {
+        Keying::Nothing => JoinValue::Made(Value::Bool(true)),
+        Keying::One(key) => part_of(partner, key, facts),
+        Keying::Several => JoinValue::Made(number_of(pattern, partner, facts)),
     }
 }

@@ -1,4 +1,4 @@
-//! When a candidate joins a row, and the equality by which the two find each other.
+//! When a candidate joins a row, and the equalities by which the two find each other.
 //! It stands on facts, rows and the tests of patterns, and assumes nothing of the outside.
 #![tactic(auto)]
 
@@ -7,6 +7,8 @@ mod joins;
 mod key;
 mod keyed;
 pub mod laws;
+mod number;
+mod part;
 mod row_facts;
 
 pub use join_value::JoinValue;

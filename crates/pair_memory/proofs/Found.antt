@@ -14,7 +14,7 @@ use Rattle.row_delta.specs.Rows.{row_cmp}
 use Rattle.row_delta.specs.NameOrder.{name_cmp}
 use Rattle.alpha_memory.specs.JoinIndex.{bucket_at, at}
 use Rattle.join_tests.specs.Joins.{Look, joins}
-use Rattle.join_tests.specs.Keys.{join_key, row_value, candidate_value}
+use Rattle.join_tests.specs.Keys.{join_keys, row_value, candidate_value}
 use Rattle.join_tests.proofs.Meeting.{keys_meet}
 use Rattle.pair_memory.specs.declared.memories.Memories.{Memories}
 use Rattle.pair_memory.specs.Memories.{has_left, has_right}
@@ -53,7 +53,7 @@ stands_in order bucket k = is_some (option_and_then (lookup (is_at (order k))) b
 
 module _ {S : Type 0} (m : Memories S) (look : Look) where
   -- the left rows that a candidate joins stand in the bucket of its value
-  module _ (who : Named) (value : Value) (is : value ≡ candidate_value (join_key m.pattern) look who) (bucket : Option (List (Row × S))) (found : bucket ≡ bucket_at same_value m.left value) where
+  module _ (who : Named) (value : Value) (is : value ≡ candidate_value (join_keys m.pattern) look who) (bucket : Option (List (Row × S))) (found : bucket ≡ bucket_at same_value m.left value) where
     row_in : (l : Row) → joins m.pattern look l who ≡ true → stands_in row_cmp bucket l ≡ has_left m look l
     row_in l e =
         ap (λ b. stands_in row_cmp b l) found
@@ -69,7 +69,7 @@ module _ {S : Type 0} (m : Memories S) (look : Look) where
     partners_in_bucket r = where_and (stands_in row_cmp bucket r) (has_left m look r) (joins m.pattern look r who) (row_in r)
 
   -- the candidates that join a row stand in the bucket of its value
-  module _ (row : Row) (value : Value) (is : value ≡ row_value (join_key m.pattern) look row) (bucket : Option (List (Named × Unit {0}))) (found : bucket ≡ bucket_at same_value m.right value) where
+  module _ (row : Row) (value : Value) (is : value ≡ row_value (join_keys m.pattern) look row) (bucket : Option (List (Named × Unit {0}))) (found : bucket ≡ bucket_at same_value m.right value) where
     name_in : (c : Named) → joins m.pattern look row c ≡ true → stands_in name_cmp bucket c ≡ has_right m look c
     name_in c e =
         ap (λ b. stands_in name_cmp b c) found

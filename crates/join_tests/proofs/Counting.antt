@@ -1,0 +1,70 @@
+-- How equalities are counted, and fed to a hash, one after another.
+use Rattle.std.proofs.Common.{◌≡◌, ◌∙◌, sym, ap, refl, ℕ, ◌+◌, ◌<◌, List, [], ◌∷◌, ◌++◌, map, length, get_or, drop, Option}
+use Rattle.std.specs.Borrow.{Bor}
+use Rattle.std.specs.Option.{option_map}
+use Rattle.std.proofs.lemmas.List.{at_drop_more}
+use Rattle.std.specs.declared.hash.FoldHasher.{FoldHasher}
+use Rattle.fx_base.specs.declared.value.Value.{Value}
+use Rattle.fx_base.specs.declared.value.Value.TheVariants.{Int}
+use Rattle.fx_base.specs.declared.fact.Fact.{Fact}
+use Rattle.row_delta.specs.declared.row.Named.{Named}
+use Rattle.row_delta.specs.declared.row.Row.{Row}
+use Rattle.rule_model.specs.declared.test.Compare.{Compare}
+use Rattle.rule_model.specs.declared.test.Test.{Test}
+use Rattle.rule_model.specs.Tests.{field_of}
+use Rattle.join_tests.specs.declared.key.JoinKey.{JoinKey}
+use Rattle.join_tests.specs.declared.key.Keying.{Keying}
+use Rattle.join_tests.specs.declared.key.Keying.TheVariants.{Nothing, One, Several}
+use Rattle.join_tests.specs.declared.part.Partner.TheVariants.{OfRow, OfCandidate}
+use Rattle.join_tests.specs.Joins.{Look}
+use Rattle.join_tests.specs.Keys.{keys_of_choices, keys_of_tests, given_or_true, fed_with, number_for, as_one, row_value, candidate_value}
+use Rattle.join_tests.specs.Keying.{and_one, and_more, part}
+
+pub and_both : (keying : Keying) (keys more : List JoinKey) → and_more keying (keys ++ more) ≡ and_more (and_more keying keys) more
+and_both keying [] more = refl
+and_both keying (key ∷ keys) more = and_both (and_one keying key) keys more
+
+several_stay : (keys : List JoinKey) → and_more Several keys ≡ Several
+several_stay [] = refl
+several_stay (key ∷ keys) = several_stay keys
+
+-- what the count says
+pub are_none : (keys : List JoinKey) → Nothing ≡ and_more Nothing keys → keys ≡ []
+are_none [] e = refl
+are_none (key ∷ []) e = cc
+are_none (key ∷ (other ∷ keys)) e = let f : Nothing ≡ Several = e ∙ several_stay keys in cc
+
+pub are_one : (keys : List JoinKey) (key : JoinKey) → One key ≡ and_more Nothing keys → keys ≡ key ∷ []
+are_one [] key e = cc
+are_one (first ∷ []) key e = let f : key ≡ first = cc in ap (λ k. k ∷ []) (sym f)
+are_one (first ∷ (other ∷ keys)) key e = let f : One key ≡ Several = e ∙ several_stay keys in cc
+
+pub are_several : (f : JoinKey → Value) (keys : List JoinKey) → Several ≡ and_more Nothing keys → as_one (map f keys) ≡ Int (number_for (map f keys))
+are_several f [] e = cc
+are_several f (first ∷ []) e = cc
+are_several f (first ∷ (other ∷ keys)) e = refl
+
+pub fed_both : (f : JoinKey → Value) (state : FoldHasher) (keys more : List JoinKey) → fed_with state (map f (keys ++ more)) ≡ fed_with (fed_with state (map f keys)) (map f more)
+fed_both f state [] more = refl
+fed_both f state (key ∷ keys) more = fed_both f (fed_with state (map f (key ∷ []))) keys more
+
+-- a walk over tests that goes on with the equalities of each: what it makes of those so far and of those to come is what it makes of all
+pub next_test : {S : Type 0} (with : S → List JoinKey → S) (both : (state : S) (keys more : List JoinKey) → with state (keys ++ more) ≡ with (with state keys) more)
+    → (tests : List Test) (i : ℕ) (test : Test) (choices : List (List Compare)) (state next all : S) → i < length tests → test ≡ get_or tests i test → choices ≡ test.choices
+    → next ≡ with state (keys_of_choices choices) → with state (keys_of_tests (drop i tests)) ≡ all → with next (keys_of_tests (drop (i + 1) tests)) ≡ all
+next_test with both tests i test choices state next all lt is of added so =
+    ap (λ s. with s (keys_of_tests (drop (i + 1) tests))) (added ∙ ap (λ cs. with state (keys_of_choices cs)) of)
+    ∙ sym (both state (keys_of_choices test.choices) (keys_of_tests (drop (i + 1) tests)))
+    ∙ ap (λ (t : Test). with state (keys_of_tests (t ∷ drop (i + 1) tests))) is
+    ∙ sym (at_drop_more (λ rest. with state (keys_of_tests rest)) tests i test lt)
+    ∙ so
+
+-- what a partner has of equalities is the join value of the row, or of the candidate
+pub of_row : (look : Look) (row : Bor Row) (keys : List JoinKey) → as_one (map (part look (OfRow row)) keys) ≡ row_value keys look row.now
+unfolding row_value
+of_row look row keys = refl
+
+pub of_candidate : (look : Look) (who : Named) (fact : Option (Bor Fact)) (keys : List JoinKey) → option_map (λ f. f.now) fact ≡ look who.tag
+    → as_one (map (part look (OfCandidate fact)) keys) ≡ candidate_value keys look who
+unfolding candidate_value
+of_candidate look who fact keys is = ap (λ found. as_one (map (λ (key : JoinKey). given_or_true (field_of found key.field)) keys)) is

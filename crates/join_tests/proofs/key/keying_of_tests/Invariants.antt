@@ -1,0 +1,8 @@
+use Rattle.std.proofs.Common.{◌≡◌, drop}
+use Rattle.join_tests.specs.declared.key.Keying.TheVariants.{Nothing}
+use Rattle.join_tests.specs.Keys.{keys_of_tests}
+use Rattle.join_tests.specs.Keying.{and_more}
+use Rattle.join_tests.proofs.key.keying_of_tests.Given as goal
+
+abbrev pub invariant-loop-test : goal.invariant-loop-test
+invariant-loop-test l = and_more l.keying (keys_of_tests (drop l.test-index l.tests)) ≡ and_more Nothing (keys_of_tests l.tests)

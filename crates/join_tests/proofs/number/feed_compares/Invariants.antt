@@ -1,0 +1,9 @@
+use Rattle.std.proofs.Common.{◌≡◌, drop, map}
+use Rattle.join_tests.specs.Keys.{keys_of_compares, fed_with}
+use Rattle.join_tests.specs.Keying.{part}
+use Rattle.join_tests.proofs.number.feed_compares.Given as goal
+
+abbrev pub invariant-loop-compare : goal.invariant-loop-compare
+invariant-loop-compare g l =
+    fed_with l.state (map (part (g.F.Facts.map l.facts) l.partner) (keys_of_compares (drop l.compare-index l.compares)))
+    ≡ fed_with l.initial.state (map (part (g.F.Facts.map l.facts) l.partner) (keys_of_compares l.compares))
