@@ -72,14 +72,15 @@ none_counted p world s next rows rows_now left (Folded a) = none_stay (joins a.p
 
 -- ---- the floor
 
--- of two floors the one that is not less is the later one; a floor is not above what it is not above at two steps
+-- of two floors the one that is not less is the later one
 pub later_is : (a b : ℤ) → a ≤ℤ b → later a b ≡ b
 later_is a b h = grind (arith, ints)
 
+-- floors one above the other
 pub not_above : (a b c : ℤ) → a ≤ℤ b → b ≤ℤ c → a ≤ℤ c
 not_above a b c h k = omega (arith, ints)
 
--- a node whose floor is that of the snapshot
+-- a `not` whose floor is that of the snapshot
 pub waits_on_time : (p : Program) (waiting : NotNode) (look : Look) (s : Snapshot) (rows : Row → Bool) (forgotten : Named → Bool) → Counts counts_blockers p waiting.tally.memories look s rows forgotten → IsInStep p look waiting
     → waiting.ripening.floor ≡ floor p s waiting.tally.memories.pattern.entry.0 → WaitsFor p waiting look s rows forgotten
 waits_on_time p waiting look s rows forgotten counts in_step is =
