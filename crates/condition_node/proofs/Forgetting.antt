@@ -1,5 +1,5 @@
 -- A node that has dropped what is old stands for the same with more facts forgotten, and what it dropped names an old fact.
-use Rattle.std.proofs.Common.{◌≡◌, ◌∙◌, sym, ap, refl, subst, cond, Bool, true, false, not, ◌&&◌, ◌||◌, List, [], ◌∷◌, length, ◌==◌, None, arith}
+use Rattle.std.proofs.Common.{◌≡◌, ◌∙◌, sym, ap, refl, subst, cond, ℤ, ◌≤ℤ◌, Bool, true, false, not, ◌&&◌, ◌||◌, List, [], ◌∷◌, length, ◌==◌, None, arith}
 use mathlib.Core.Path.{fun_ext}
 use Rattle.std.proofs.lemmas.Bool.Decides.{Decides-eqb}
 use Rattle.std.specs.List.{list_any}
@@ -31,7 +31,9 @@ use Rattle.tally_node.specs.declared.node.TallyNode.{TallyNode}
 use Rattle.tally_node.proofs.Lawful.{forget_law as tally_forgets, drop_law, itself_facts, without_value_facts}
 use Rattle.not_node.specs.declared.node.NotNode.{NotNode}
 use Rattle.not_node.specs.Rows.{IsInStep, not_rows}
+use Rattle.not_node.specs.Waiting.{NoneDue}
 use Rattle.not_node.proofs.Lawful.{drop_law as not_drops}
+use Rattle.not_node.proofs.Quiet.{dropped_none_due}
 use Rattle.condition_rows.specs.Lines.{line}
 use Rattle.condition_rows.specs.Sets.{held, candidates_of}
 use Rattle.condition_node.specs.declared.node.FoldNode.{FoldNode}
@@ -115,7 +117,10 @@ module _ (p : Program) (look : Look) (old : Named → Bool) (dropped gone : List
       stands = λ s left forgotten is. record {
         counts = counts_on counts_blockers m.tally.memories n.tally.memories kept alone s left forgotten is.rows is.stands.counts;
         in_step = in_step is.stands.in_step;
-        floor = same_floor ∙ is.stands.floor ∙ ap (λ (q : Pattern). floor p s q.entry.0) (sym kept.pattern);
+        none_due = subst (λ (q : Pattern). NoneDue n.ripening.waiting.keys (floor p s q.entry.0)) (sym kept.pattern)
+            (dropped_none_due p m n look dropped (floor p s m.tally.memories.pattern.entry.0) is.stands.in_step (in_step is.stands.in_step) kept.pattern same_floor alone is.stands.none_due);
+        floor = subst (λ (q : Pattern). n.ripening.floor ≤ℤ floor p s q.entry.0) (sym kept.pattern)
+            (subst (λ (now : ℤ). now ≤ℤ floor p s m.tally.memories.pattern.entry.0) (sym same_floor) is.stands.floor);
       };
       drops = λ s left forgotten is row e.
           not_drops p m n look left (candidates_of p m.tally.memories.pattern s) forgotten old dropped gone is.stands.counts.stands is.rows kept.pattern same_floor alone (told is.stands.in_step) row

@@ -57,6 +57,7 @@ module _ (p : Program) (look other : Look) (s : Snapshot) (rows : Row → Bool) 
       record {
         counts = counts_move counts_blockers m waits.counts;
         in_step = (not_moves p waiting look other waits.counts.stands.agrees (kept_alike m waits.counts.stands)).1 waits.in_step;
+        none_due = waits.none_due;
         floor = waits.floor;
       }
   node_moves (node.Exists tally) counts = counts_move counts_witnesses tally.memories counts

@@ -1,24 +1,20 @@
 -- How long the nodes of each kind are quiet.
-use Rattle.std.proofs.Common.{◌≡◌, ◌∙◌, sym, ap, subst, ℕ, ℤ, pos, ◌+ℤ◌, ◌-ℤ◌, ◌≤ℤ◌, ◌<ℤ◌, ◌^◌, int_lt, arith, true, false, not, ◌&&◌, Option, Some, None, IfSome}
+use Rattle.std.proofs.Common.{◌≡◌, ℕ, ℤ, pos, ◌+ℤ◌, ◌-ℤ◌, ◌≤ℤ◌, ◌<ℤ◌, ◌^◌, int_lt, arith, true, false, Option, Some, None, IfSome}
 use Rattle.std.proofs.lemmas.Int.{ints, clamps}
 use Rattle.row_delta.specs.declared.row.Row.{Row}
 use Rattle.rule_model.specs.declared.program.Program.{Program}
 use Rattle.rule_model.specs.Snapshots.{Snapshot, floor}
 use Rattle.rule_model.specs.Types.{lateness_of}
-use Rattle.rule_model.proofs.Listed.{both_of}
 use Rattle.beta_join.specs.declared.join.BetaJoin.{BetaJoin}
 use Rattle.tally_node.specs.declared.count.Witnesses.{Witnesses}
 use Rattle.tally_node.specs.declared.node.TallyNode.{TallyNode}
 use Rattle.not_node.specs.declared.node.NotNode.{NotNode}
-use Rattle.not_node.specs.Moments.{moment_at}
-use Rattle.not_node.specs.Rows.{unblocked}
-use Rattle.not_node.specs.Waiting.{waits, is_moment, mature}
-use Rattle.not_node.proofs.Pairs.{int_same}
+use Rattle.not_node.specs.Waiting.{waits}
 use Rattle.condition_node.specs.declared.node.FoldNode.{FoldNode}
 use Rattle.condition_node.specs.declared.node.Node.TheVariants as node
 use Rattle.condition_node.specs.Quiet.{at_clock, IsBefore, IsQuiet, IsDue}
-use Rattle.condition_node.proofs.Knowing.{not_of}
 use Rattle.condition_node.proofs.Staying.{join_stays, exists_stays, fold_stays, not_stays, not_ripens}
+use Rattle.condition_node.proofs.Turning.{not_above}
 use Rattle.rule_model.proofs.Floors.{clock_below_floor, floor_on}
 
 itself : (a : ℤ) → a ≤ℤ a
@@ -29,10 +25,6 @@ not_below at least x e h = grind (arith, ints)
 
 least_low : (least c l : ℤ) → int_lt least (c -ℤ l) ≡ false → pos 0 ≤ℤ c → pos 0 ≤ℤ (least +ℤ l)
 least_low least c l e h = grind (arith, ints)
-
-own_moment : (at : ℤ) (o : Option ℤ) → is_moment o at ≡ true → o ≡ Some at
-own_moment at None e = absurd (let n : false ≡ true = e in cc)
-own_moment at (Some x) e = ap Some (int_same x at e)
 
 -- the floor at a later clock is not before
 floor_later : (p : Program) (s : Snapshot) (clock : ℤ) (entry : ℕ) → s.clock ≤ℤ clock → floor p s entry ≤ℤ floor p (at_clock s clock) entry
@@ -64,39 +56,24 @@ module _ (p : Program) (waiting : NotNode) where
   none_due none look s rows forgotten clock tags known named stands begun later low before same =
       let entry = waiting.tally.memories.pattern.entry.0 in
       not_stays p look s rows forgotten clock tags known named waiting same stands
-      (subst (λ (now : ℤ). now ≤ℤ floor p (at_clock s clock) entry) (sym stands.floor) (floor_later p s clock entry later)) (λ at row e. absurd (none at row e))
+      (not_above waiting.ripening.floor (floor p s entry) (floor p (at_clock s clock) entry) stands.floor (floor_later p s clock entry later)) (λ at row e. absurd (none at row e))
 
   pub due_at : (until : Option ℤ) (least : ℤ) (first : Row) → waits waiting.ripening.waiting.keys least first ≡ true → ((at : ℤ) (row : Row) → waits waiting.ripening.waiting.keys at row ≡ true → int_lt at least ≡ false)
       → ((clock : ℤ) → pos 0 ≤ℤ (least +ℤ lateness_of p waiting.tally.memories.pattern.entry.0) → clock <ℤ pos (2 ^ 63) → IsBefore until clock → (clock -ℤ lateness_of p waiting.tally.memories.pattern.entry.0) ≤ℤ least)
       → IsQuiet p (node.Not waiting) until
   due_at until least first there over reaches look s rows forgotten clock tags known named stands begun later low before same =
-      let m = waiting.tally.memories in
-      let entry = m.pattern.entry.0 in
-      let late = lateness_of p entry in
-      let x = unblocked m look first && is_moment (moment_at p m.pattern look first) least in
-      let due : int_lt least waiting.ripening.floor ≡ false = not_of (int_lt least waiting.ripening.floor) (both_of x (not (int_lt least waiting.ripening.floor)) (sym (stands.in_step least first) ∙ there)).1 in
-      let due_still = ap (int_lt least) (sym stands.floor) ∙ due in
-      let reached = reaches clock (least_low least s.clock late (not_late p s least entry due_still) begun) low before in
+      let entry = waiting.tally.memories.pattern.entry.0 in
+      let due = stands.none_due least first there in
+      let reached = reaches clock (least_low least s.clock (lateness_of p entry) (not_late p s least entry due) begun) low before in
       not_stays p look s rows forgotten clock tags known named waiting same stands
-      (subst (λ (now : ℤ). now ≤ℤ floor p (at_clock s clock) entry) (sym stands.floor) (floor_later p s clock entry later))
-      (λ at row e. not_below at least (floor p (at_clock s clock) entry) (over at row e) (floor_within p s clock least entry due_still reached))
+      (not_above waiting.ripening.floor (floor p s entry) (floor p (at_clock s clock) entry) stands.floor (floor_later p s clock entry later))
+      (λ at row e. not_below at least (floor p (at_clock s clock) entry) (over at row e) (floor_within p s clock least entry due reached))
 
   -- from the least moment on a row that waits for it is there
   pub comes_then : (moment least : ℤ) (first : Row) → waits waiting.ripening.waiting.keys least first ≡ true → moment ≡ (least +ℤ lateness_of p waiting.tally.memories.pattern.entry.0) +ℤ pos 1
       → IsDue p (node.Not waiting) moment
   comes_then moment least first there is look s rows forgotten tags known named stands same =
-      let m = waiting.tally.memories in
-      let entry = m.pattern.entry.0 in
-      let free = unblocked m look first in
-      let own = is_moment (moment_at p m.pattern look first) least in
-      let now = floor p (at_clock s moment) entry in
-      let waits = both_of (free && own) (not (int_lt least waiting.ripening.floor)) (sym (stands.in_step least first) ∙ there) in
-      let meant = both_of free own waits.0 in
-      let meant_at = own_moment least (moment_at p m.pattern look first) meant.1 in
-      let made =
-      not_ripens p look s rows forgotten moment tags known named waiting same stands first meant.0
-      (ap (mature waiting.ripening.floor) meant_at ∙ not_of (int_lt least waiting.ripening.floor) waits.1)
-      (ap (mature now) meant_at ∙ past_floor p s moment least entry is) in
+      let made = not_ripens p look s rows forgotten moment tags known named waiting same stands least first there (past_floor p s moment least waiting.tally.memories.pattern.entry.0 is) in
       (first, made.0, made.1)
 
   pub if_due : (least : ℤ) (first : Row) → waits waiting.ripening.waiting.keys least first ≡ true → (until : Option ℤ)

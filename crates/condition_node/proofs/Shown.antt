@@ -1,5 +1,5 @@
 -- The rows of a node are what the line of its condition makes of the rows before it, without those that name a forgotten fact.
-use Rattle.std.proofs.Common.{◌≡◌, ◌∙◌, sym, ap, refl, subst, ℤ, Bool, true, false, not, ◌&&◌}
+use Rattle.std.proofs.Common.{◌≡◌, ◌∙◌, sym, ap, refl, subst, ℤ, int_lt, Bool, true, false, not, ◌&&◌}
 use mathlib.Core.Path.{fun_ext}
 use Rattle.std.proofs.Math.Bool.{and-true, and-false, and_assoc}
 use Rattle.std.specs.List.{list_any}
@@ -25,10 +25,13 @@ use Rattle.tally_node.specs.Origins.{itself, shows_any}
 use Rattle.tally_node.specs.Tallies.{shown}
 use Rattle.tally_node.proofs.Lawful.{witnesses_shown}
 use Rattle.not_node.specs.declared.node.NotNode.{NotNode}
-use Rattle.not_node.specs.Rows.{not_rows}
-use Rattle.not_node.specs.Waiting.{mature}
+use Rattle.not_node.specs.Laws.{with_floor}
+use Rattle.not_node.specs.Moments.{moment_at}
+use Rattle.not_node.specs.Rows.{IsInStep, not_rows}
+use Rattle.not_node.specs.Waiting.{mature, waits}
 use Rattle.not_node.proofs.Lawful.{not_law}
 use Rattle.not_node.proofs.Maturing.{row_mature, moment_alike}
+use Rattle.not_node.proofs.Quiet.{quiet_law, waits_own}
 use Rattle.condition_rows.specs.Lines.{is_ripe, line}
 use Rattle.condition_rows.specs.Looks.{HasAllOf, NameHeld}
 use Rattle.condition_rows.specs.Sets.{held, candidates_of, candidate_names, has_partner}
@@ -88,4 +91,21 @@ module _ (p : Program) (look : Look) (s : Snapshot) (rows : Row → Bool) (forgo
         (λ e. ap (λ b. not (list_any (pass row) names) && b) (ripe_alike q now told row e))
 
     pub not_shown : (waiting : NotNode) → WaitsFor p waiting look s rows forgotten → (row : Row) → not_rows p look waiting row ≡ cleaned (line p s (Negated waiting.tally.memories.pattern) rows) forgotten row
-    not_shown waiting waits row = not_shown_at waiting waits.counts waits.floor row
+    not_shown waiting waits row =
+        let now = floor p s waiting.tally.memories.pattern.entry.0 in
+        sym ((quiet_law p waiting look now waits.in_step waits.floor waits.none_due).1 row) ∙ not_shown_at (with_floor waiting now) waits.counts refl row
+
+    -- a row that waits for a moment is not there
+    pub not_early : (waiting : NotNode) → WaitsFor p waiting look s rows forgotten → (at : ℤ) (row : Row) → waits waiting.ripening.waiting.keys at row ≡ true
+        → cleaned (line p s (Negated waiting.tally.memories.pattern) rows) forgotten row ≡ false
+    not_early waiting stands at row there =
+        let is = waits_own p waiting look stands.in_step at row there in
+        sym (not_shown waiting stands row) ∙ ap (λ b. b && mature waiting.ripening.floor (moment_at p waiting.tally.memories.pattern look row)) is.0 ∙ ap (mature waiting.ripening.floor) is.1 ∙ is.2
+
+    -- and is there once the floor is beyond it
+    pub not_ripe : (waiting : NotNode) → IsInStep p look waiting → Counts counts_blockers p waiting.tally.memories look s rows forgotten → (at : ℤ) (row : Row) → waits waiting.ripening.waiting.keys at row ≡ true
+        → int_lt at (floor p s waiting.tally.memories.pattern.entry.0) ≡ true → cleaned (line p s (Negated waiting.tally.memories.pattern) rows) forgotten row ≡ true
+    not_ripe waiting in_step counts at row there due =
+        let now = floor p s waiting.tally.memories.pattern.entry.0 in
+        let is = waits_own p waiting look in_step at row there in
+        sym (not_shown_at (with_floor waiting now) counts refl row) ∙ ap (λ b. b && mature now (moment_at p waiting.tally.memories.pattern look row)) is.0 ∙ ap (mature now) is.1 ∙ due

@@ -1,5 +1,5 @@
 -- Where the clock alone changes neither the candidates nor what is mature, the line of a condition stays as it is.
-use Rattle.std.proofs.Common.{◌≡◌, ◌∙◌, sym, ap, refl, subst, ℤ, ◌≤ℤ◌, int_lt, Bool, true, false, ◌&&◌}
+use Rattle.std.proofs.Common.{◌≡◌, ◌∙◌, sym, ap, refl, subst, ℤ, ◌≤ℤ◌, int_lt, Bool, true, false}
 use mathlib.Core.Path.{fun_ext}
 use Rattle.std.specs.Option.{is_some}
 use Rattle.row_delta.specs.declared.row.Named.{Named}
@@ -19,11 +19,7 @@ use Rattle.tally_node.specs.Counts.{counts_blockers, counts_witnesses}
 use Rattle.tally_node.specs.Gathers.{gathers}
 use Rattle.tally_node.specs.Laws.{StandsCounted}
 use Rattle.not_node.specs.declared.node.NotNode.{NotNode}
-use Rattle.not_node.specs.Laws.{with_floor}
-use Rattle.not_node.specs.Moments.{moment_at}
-use Rattle.not_node.specs.Rows.{unblocked}
-use Rattle.not_node.specs.Waiting.{mature, waits}
-use Rattle.not_node.proofs.Quiet.{quiet_law}
+use Rattle.not_node.specs.Waiting.{NoneDue, waits}
 use Rattle.condition_rows.specs.Lines.{line}
 use Rattle.condition_rows.specs.Looks.{HasAllOf, NameHeld}
 use Rattle.condition_rows.specs.Sets.{held, candidates_of}
@@ -33,7 +29,7 @@ use Rattle.condition_node.specs.declared.node.Node.TheVariants as node
 use Rattle.condition_node.specs.Nodes.{condition_of, Counts, WaitsFor, FoldsFor, NodeStands}
 use Rattle.condition_node.specs.Quiet.{at_clock}
 use Rattle.condition_node.proofs.Folding.{fold_shown}
-use Rattle.condition_node.proofs.Shown.{join_shown, exists_shown, not_shown, not_shown_at}
+use Rattle.condition_node.proofs.Shown.{join_shown, exists_shown, not_shown, not_early, not_ripe}
 
 -- a snapshot holds the same versions at another clock
 held_alike : (s : Snapshot) (clock : ℤ) → held s ≡ held (at_clock s clock)
@@ -82,24 +78,17 @@ module _ (p : Program) (look : Look) (s : Snapshot) (rows : Row → Bool) (forgo
       sym (fold_shown p look next rows forgotten known_next named_next tags fold folds_next row) ∙ fold_shown p look s rows forgotten known named tags fold folds row
 
   pub not_stays : (waiting : NotNode) → SameCandidates waiting.tally.memories.pattern → NodeStands p (node.Not waiting) look s rows forgotten
-      → waiting.ripening.floor ≤ℤ floor p next waiting.tally.memories.pattern.entry.0
-      → ((at : ℤ) (row : Row) → waits waiting.ripening.waiting.keys at row ≡ true → int_lt at (floor p next waiting.tally.memories.pattern.entry.0) ≡ false) → LineStays (node.Not waiting)
-  not_stays waiting same waits later quiet row =
-      let m = waiting.tally.memories in
-      let now = floor p next m.pattern.entry.0 in
-      let stays = quiet_law p waiting look now waits.in_step later quiet in
-      let risen : WaitsFor p (with_floor waiting now) look next rows forgotten = record { counts = counts_on counts_blockers m same waits.counts; in_step = stays.0; floor = refl } in
-      sym (not_shown p look next rows forgotten known_next named_next tags (with_floor waiting now) risen row) ∙ stays.1 row ∙ not_shown p look s rows forgotten known named tags waiting waits row
+      → waiting.ripening.floor ≤ℤ floor p next waiting.tally.memories.pattern.entry.0 → NoneDue waiting.ripening.waiting.keys (floor p next waiting.tally.memories.pattern.entry.0) → LineStays (node.Not waiting)
+  not_stays waiting same stands later quiet row =
+      let still : WaitsFor p waiting look next rows forgotten =
+      record { counts = counts_on counts_blockers waiting.tally.memories same stands.counts; in_step = stands.in_step; none_due = quiet; floor = later } in
+      sym (not_shown p look next rows forgotten known_next named_next tags waiting still row) ∙ not_shown p look s rows forgotten known named tags waiting stands row
 
-  -- a row for which no candidate passes comes where its moment is past
+  -- a row that waits comes where its moment is past
   pub not_ripens : (waiting : NotNode) → SameCandidates waiting.tally.memories.pattern → NodeStands p (node.Not waiting) look s rows forgotten
-      → (row : Row) → unblocked waiting.tally.memories look row ≡ true → mature waiting.ripening.floor (moment_at p waiting.tally.memories.pattern look row) ≡ false
-      → mature (floor p next waiting.tally.memories.pattern.entry.0) (moment_at p waiting.tally.memories.pattern look row) ≡ true
+      → (at : ℤ) (row : Row) → waits waiting.ripening.waiting.keys at row ≡ true → int_lt at (floor p next waiting.tally.memories.pattern.entry.0) ≡ true
       → (cleaned (line p s (Negated waiting.tally.memories.pattern) rows) forgotten row ≡ false) × (cleaned (line p next (Negated waiting.tally.memories.pattern) rows) forgotten row ≡ true)
-  not_ripens waiting same waits row none early ripe =
-      let m = waiting.tally.memories in
-      let moment = moment_at p m.pattern look row in
-      let now = floor p next m.pattern.entry.0 in (
-        sym (not_shown p look s rows forgotten known named tags waiting waits row) ∙ ap (λ b. b && mature waiting.ripening.floor moment) none ∙ early,
-        sym (not_shown_at p look next rows forgotten known_next named_next tags (with_floor waiting now) (counts_on counts_blockers m same waits.counts) refl row) ∙ ap (λ b. b && mature now moment) none ∙ ripe,
-      )
+  not_ripens waiting same stands at row there past = (
+    not_early p look s rows forgotten known named tags waiting stands at row there,
+    not_ripe p look next rows forgotten known_next named_next tags waiting stands.in_step (counts_on counts_blockers waiting.tally.memories same stands.counts) at row there past,
+  )

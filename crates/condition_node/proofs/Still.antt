@@ -1,32 +1,40 @@
--- Where nothing changes in the rows before it and in its candidates, the node of a condition that is no `not` stays as it is.
-use Rattle.std.proofs.Common.{◌≡◌, ◌∙◌, sym, ap, refl, Bool, true, false, not, ◌&&◌, ◌||◌, List, [], ◌∷◌}
+-- Where nothing changes in the rows before it and in its candidates, the node of a condition stays as it is; that of a `not` as long as no
+-- row is due.
+use Rattle.std.proofs.Common.{◌≡◌, ◌∙◌, sym, ap, refl, subst, ℤ, int_lt, Bool, true, false, not, ◌&&◌, ◌||◌, List, [], ◌∷◌}
 use Rattle.row_delta.specs.declared.delta.Delta.{Delta}
 use Rattle.row_delta.specs.declared.row.Named.{Named}
 use Rattle.row_delta.specs.declared.row.Row.{Row}
 use Rattle.row_delta.specs.Rows.{has}
 use Rattle.row_change.specs.Changes.{are_none, changes_nothing}
 use Rattle.rule_model.specs.declared.program.Program.{Program}
-use Rattle.rule_model.specs.Snapshots.{Snapshot}
+use Rattle.rule_model.specs.declared.condition.Condition.TheVariants.{Negated}
+use Rattle.rule_model.specs.declared.moment.Moment.{Moment}
+use Rattle.rule_model.specs.Moments.{IsAt}
+use Rattle.rule_model.specs.Snapshots.{Snapshot, floor}
 use Rattle.join_tests.specs.Joins.{Look}
 use Rattle.pair_memory.specs.declared.memories.Memories.{Memories}
 use Rattle.pair_memory.specs.Inputs.{row_naming, IsStepped}
 use Rattle.pair_memory.specs.Memories.{has_left, has_right}
 use Rattle.pair_memory.specs.Standing.{cleaned}
 use Rattle.beta_join.specs.declared.join.BetaJoin.{BetaJoin}
-use Rattle.tally_node.specs.Counts.{counts_witnesses}
+use Rattle.tally_node.specs.Counts.{counts_blockers, counts_witnesses}
 use Rattle.tally_node.specs.Gathers.{gathers}
 use Rattle.tally_node.specs.declared.count.Witnesses.{Witnesses}
 use Rattle.tally_node.specs.declared.node.TallyNode.{TallyNode}
 use Rattle.tally_node.proofs.Stepping.{no_step}
+use Rattle.not_node.specs.declared.node.NotNode.{NotNode}
+use Rattle.not_node.specs.Waiting.{NoneDue, waits}
 use Rattle.condition_rows.specs.Lines.{line}
 use Rattle.condition_node.specs.declared.node.FoldNode.{FoldNode}
 use Rattle.condition_node.specs.declared.node.Node.{Node}
 use Rattle.condition_node.specs.declared.node.Node.TheVariants as node
-use Rattle.condition_node.specs.Nodes.{condition_of, NodeStands}
+use Rattle.condition_node.specs.Nodes.{condition_of, Counts, NodeStands}
 use Rattle.condition_node.specs.Turns.{IsTurn}
 use Rattle.condition_node.proofs.Folding.{fold_shown}
-use Rattle.condition_node.proofs.Shown.{join_shown, exists_shown}
+use Rattle.condition_node.proofs.Knowing.{blockers_ask}
+use Rattle.condition_node.proofs.Shown.{join_shown, exists_shown, not_shown, not_early, not_ripe}
 use Rattle.condition_node.proofs.Telling.{join_turns, exists_turns, fold_turns}
+use Rattle.condition_node.proofs.Turning.{counts_next, not_above}
 
 neither : (gone come : List Row) → are_none gone come ≡ true → (row : Row) → (has gone row ≡ false) × (has come row ≡ false)
 neither [] [] e row = (refl, refl)
@@ -45,37 +53,80 @@ kept_still m look left right e f = record {
   agrees = λ agrees. agrees;
 }
 
-module _ (p : Program) (look world : Look) (s next : Snapshot) (rows rows_now : Row → Bool) (forgotten : Named → Bool) (left right : Delta) (none : changes_nothing left ≡ true) (none_right : changes_nothing right ≡ true) where
-  abbrev Turns : Node → Type 0
-  Turns n = IsTurn p (condition_of n) look world s next rows rows_now forgotten left right
+module _ (p : Program) (moment : Moment) where
+  -- for each step at this moment in which nothing changes before the node
+  abbrev WhereNothingChanges : Node → (Look → Snapshot → Snapshot → (Row → Bool) → (Row → Bool) → (Named → Bool) → Type 0) → Type 0
+  WhereNothingChanges n claim = (look world : Look) (s next : Snapshot) (rows rows_now : Row → Bool) (forgotten : Named → Bool) (left right : Delta) → changes_nothing left ≡ true → changes_nothing right ≡ true
+      → NodeStands p n look s rows forgotten → IsAt next moment → IsTurn p (condition_of n) look world s next rows rows_now forgotten left right → claim look s next rows rows_now forgotten
 
-  abbrev Stays : Node → Type 0
-  Stays n = NodeStands p n look s rows forgotten → Turns n → NodeStands p n look next rows_now forgotten
+  -- the node stays as it is
+  abbrev pub Stays : Node → Type 0
+  Stays n = WhereNothingChanges n (λ look s next rows rows_now forgotten. NodeStands p n look next rows_now forgotten)
 
-  abbrev Tells : Node → Type 0
-  Tells n = NodeStands p n look s rows forgotten → Turns n → (row : Row) → cleaned (line p next (condition_of n) rows_now) forgotten row ≡ cleaned (line p s (condition_of n) rows) forgotten row
+  -- its condition makes the same rows
+  abbrev pub TellsNothing : Node → Type 0
+  TellsNothing n = WhereNothingChanges n (λ look s next rows rows_now forgotten. (row : Row) → cleaned (line p next (condition_of n) rows_now) forgotten row ≡ cleaned (line p s (condition_of n) rows) forgotten row)
+
+  -- it makes one more
+  abbrev pub TellsOne : Node → Type 0
+  TellsOne n = WhereNothingChanges n (λ look s next rows rows_now forgotten. (row : Row) × (cleaned (line p s (condition_of n) rows) forgotten row ≡ false) × (cleaned (line p next (condition_of n) rows_now) forgotten row ≡ true))
 
   pub join_still : (m : BetaJoin) → Stays (node.Join m)
-  join_still m stands turn = join_turns p (λ next. Unit {0}) look left right m m (kept_still m.memories look left right none none_right) world s next rows rows_now forgotten stands tt turn
+  join_still m look world s next rows rows_now forgotten left right none none_right stands at turn =
+      join_turns p (λ next. Unit {0}) look left right m m (kept_still m.memories look left right none none_right) world s next rows rows_now forgotten stands tt turn
 
-  pub join_tells_none : (m : BetaJoin) → Tells (node.Join m)
-  join_tells_none m stands turn row =
-      sym (join_shown p look next rows_now forgotten turn.at_hand_now turn.named_now m.memories (join_still m stands turn) row) ∙ join_shown p look s rows forgotten turn.at_hand turn.named m.memories stands row
+  pub join_tells_nothing : (m : BetaJoin) → TellsNothing (node.Join m)
+  join_tells_nothing m look world s next rows rows_now forgotten left right none none_right stands at turn row =
+      sym (join_shown p look next rows_now forgotten turn.at_hand_now turn.named_now m.memories (join_still m look world s next rows rows_now forgotten left right none none_right stands at turn) row)
+      ∙ join_shown p look s rows forgotten turn.at_hand turn.named m.memories stands row
 
   pub exists_still : (m : TallyNode Witnesses) → Stays (node.Exists m)
-  exists_still m stands turn =
+  exists_still m look world s next rows rows_now forgotten left right none none_right stands at turn =
       exists_turns p (λ next. Unit {0}) look left right m m (kept_still m.memories look left right none none_right) (no_step counts_witnesses look m.memories left right none) world s next rows rows_now forgotten stands tt turn
 
-  pub exists_tells_none : (m : TallyNode Witnesses) → Tells (node.Exists m)
-  exists_tells_none m stands turn row =
-      sym (exists_shown p look next rows_now forgotten turn.at_hand_now turn.named_now turn.tags_now m.memories (exists_still m stands turn) row)
+  pub exists_tells_nothing : (m : TallyNode Witnesses) → TellsNothing (node.Exists m)
+  exists_tells_nothing m look world s next rows rows_now forgotten left right none none_right stands at turn row =
+      sym (exists_shown p look next rows_now forgotten turn.at_hand_now turn.named_now turn.tags_now m.memories (exists_still m look world s next rows rows_now forgotten left right none none_right stands at turn) row)
       ∙ exists_shown p look s rows forgotten turn.at_hand turn.named turn.tags m.memories stands row
 
   pub fold_still : (m : FoldNode) → Stays (node.Fold m)
-  fold_still m stands turn =
+  fold_still m look world s next rows rows_now forgotten left right none none_right stands at turn =
       let t = m.tally.memories in
       fold_turns p (λ next. Unit {0}) look left right m m refl (kept_still t look left right none none_right) (no_step (gathers m.accumulate) look t left right none) world s next rows rows_now forgotten stands tt turn
 
-  pub fold_tells_none : (m : FoldNode) → Tells (node.Fold m)
-  fold_tells_none m stands turn row =
-      sym (fold_shown p look next rows_now forgotten turn.at_hand_now turn.named_now turn.tags_now m (fold_still m stands turn) row) ∙ fold_shown p look s rows forgotten turn.at_hand turn.named turn.tags m stands row
+  pub fold_tells_nothing : (m : FoldNode) → TellsNothing (node.Fold m)
+  fold_tells_nothing m look world s next rows rows_now forgotten left right none none_right stands at turn row =
+      sym (fold_shown p look next rows_now forgotten turn.at_hand_now turn.named_now turn.tags_now m (fold_still m look world s next rows rows_now forgotten left right none none_right stands at turn) row)
+      ∙ fold_shown p look s rows forgotten turn.at_hand turn.named turn.tags m stands row
+
+  -- a `not` by this floor, which is that of the moment
+  module _ (m : NotNode) (told : ℤ) (told_is : (next : Snapshot) → IsAt next moment → told ≡ floor p next m.tally.memories.pattern.entry.0) where
+    counts_still : WhereNothingChanges (node.Not m) (λ look s next rows rows_now forgotten. Counts counts_blockers p m.tally.memories look next rows_now forgotten)
+    counts_still look world s next rows rows_now forgotten left right none none_right stands at turn =
+        let t = m.tally.memories in
+        counts_next p t t look world s next rows rows_now forgotten left right (Negated t.pattern) turn (kept_still t look left right none none_right) refl counts_blockers blockers_ask turn.stay stands.counts
+        (no_step counts_blockers look t left right none)
+
+    pub not_still : NoneDue m.ripening.waiting.keys told → Stays (node.Not m)
+    not_still quiet look world s next rows rows_now forgotten left right none none_right stands at turn =
+        let entry = m.tally.memories.pattern.entry.0 in
+        record {
+          counts = counts_still look world s next rows rows_now forgotten left right none none_right stands at turn;
+          in_step = stands.in_step;
+          none_due = subst (NoneDue m.ripening.waiting.keys) (told_is next at) quiet;
+          floor = not_above m.ripening.floor (floor p s entry) (floor p next entry) stands.floor (turn.floors entry);
+        }
+
+    pub not_tells_nothing : NoneDue m.ripening.waiting.keys told → TellsNothing (node.Not m)
+    not_tells_nothing quiet look world s next rows rows_now forgotten left right none none_right stands at turn row =
+        sym (not_shown p look next rows_now forgotten turn.at_hand_now turn.named_now turn.tags_now m (not_still quiet look world s next rows rows_now forgotten left right none none_right stands at turn) row)
+        ∙ not_shown p look s rows forgotten turn.at_hand turn.named turn.tags m stands row
+
+    -- where a row is due it comes
+    pub not_tells_one : (at : ℤ) (row : Row) → waits m.ripening.waiting.keys at row ≡ true → int_lt at told ≡ true → TellsOne (node.Not m)
+    not_tells_one moment row there due look world s next rows rows_now forgotten left right none none_right stands at turn = (
+      row,
+      not_early p look s rows forgotten turn.at_hand turn.named turn.tags m stands moment row there,
+      not_ripe p look next rows_now forgotten turn.at_hand_now turn.named_now turn.tags_now m stands.in_step
+          (counts_still look world s next rows rows_now forgotten left right none none_right stands at turn) moment row there (sym (ap (int_lt moment) (told_is next at)) ∙ due),
+    )

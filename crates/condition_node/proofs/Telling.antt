@@ -34,7 +34,7 @@ use Rattle.condition_node.specs.Turns.{IsTurn}
 use Rattle.condition_node.proofs.Folding.{fold_shown}
 use Rattle.condition_node.proofs.Knowing.{blockers_ask, witnesses_ask, gathers_ask}
 use Rattle.condition_node.proofs.Shown.{join_shown, exists_shown, not_shown}
-use Rattle.condition_node.proofs.Turning.{stands_next, counts_next, later_is}
+use Rattle.condition_node.proofs.Turning.{stands_next, counts_next, later_is, not_above, waits_on_time}
 
 -- from rows and candidates for which the one node stands it turns to the other, for each turn with these differences
 abbrev pub TurnsTo : Program → (Snapshot → Type 0) → Look → Node → Node → Delta → Delta → Type 0
@@ -78,14 +78,12 @@ module _ (p : Program) (At : Snapshot → Type 0) (look : Look) (left right : De
     pub not_turns : TurnsTo p At look (node.Not m) (node.Not n) left right
     not_turns world s next rows rows_now forgotten waits at turn =
         let entry = m.tally.memories.pattern.entry.0 in
-        record {
-          counts = counts_next p m.tally.memories n.tally.memories look world s next rows rows_now forgotten left right (Negated m.tally.memories.pattern) turn stepped refl counts_blockers blockers_ask turn.stay waits.counts step;
-          in_step = in_step waits.in_step;
-          floor = risen ∙ ap (λ a. later a told) waits.floor
-              ∙ ap (later (floor p s entry)) (told_is next at)
-              ∙ later_is (floor p s entry) (floor p next entry) (turn.floors entry)
-              ∙ ap (λ (q : Pattern). floor p next q.entry.0) (sym stepped.pattern);
-        }
+        waits_on_time p n look next rows_now forgotten
+        (counts_next p m.tally.memories n.tally.memories look world s next rows rows_now forgotten left right (Negated m.tally.memories.pattern) turn stepped refl counts_blockers blockers_ask turn.stay waits.counts step)
+        (in_step waits.in_step)
+        (risen ∙ ap (later m.ripening.floor) (told_is next at)
+        ∙ later_is m.ripening.floor (floor p next entry) (not_above m.ripening.floor (floor p s entry) (floor p next entry) waits.floor (turn.floors entry))
+        ∙ ap (λ (q : Pattern). floor p next q.entry.0) (sym stepped.pattern))
 
     pub not_tells : (delta : Delta) → (IsInStep p look m → IsDifference (not_rows p look m) (not_rows p look n) delta) → Tells p At look (node.Not m) left right delta
     not_tells delta is world s next rows rows_now forgotten waits at turn =

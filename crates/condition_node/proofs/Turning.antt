@@ -1,6 +1,7 @@
 -- After a turn a node stands for the new rows and candidates.
 use Rattle.std.proofs.Common.{◌≡◌, ◌∙◌, sym, ap, subst, ℤ, ◌≤ℤ◌, Bool, true, false, arith}
 use Rattle.std.proofs.lemmas.Int.{ints}
+use Rattle.std.specs.Int.Signed.{≤ℤ_refl}
 use Rattle.row_delta.specs.declared.delta.Delta.{Delta}
 use Rattle.row_delta.specs.declared.row.Named.{Named}
 use Rattle.row_delta.specs.declared.row.Row.{Row}
@@ -15,12 +16,16 @@ use Rattle.pair_memory.specs.declared.memories.Memories.{Memories}
 use Rattle.pair_memory.specs.Inputs.{IsNameDifference, IsStepped}
 use Rattle.pair_memory.specs.Standing.{no_names, remembered, StandsFor}
 use Rattle.pair_memory.proofs.Steps.{steps_law}
+use Rattle.tally_node.specs.Counts.{counts_blockers}
 use Rattle.tally_node.specs.Laws.{ForgottenStay, StandsCounted}
 use Rattle.tally_node.specs.Tallies.{TallyStep}
 use Rattle.tally_node.proofs.Lawful.{tally_law}
+use Rattle.not_node.specs.declared.node.NotNode.{NotNode}
+use Rattle.not_node.specs.Rows.{IsInStep}
 use Rattle.not_node.specs.Waiting.{later}
+use Rattle.not_node.proofs.Quiet.{none_due}
 use Rattle.condition_rows.specs.Sets.{held, candidates_of}
-use Rattle.condition_node.specs.Nodes.{Counts}
+use Rattle.condition_node.specs.Nodes.{Counts, WaitsFor}
 use Rattle.condition_node.specs.Turns.{CountedStay, IsTurn}
 use Rattle.condition_node.proofs.Knowing.{held_known, known_too, joining_alike, seen_alike, AsksOfSet, counted_alike}
 use Rattle.rule_model.specs.Moments.{IsAt, snapshot_at}
@@ -70,6 +75,17 @@ none_counted p world s next rows rows_now left (Folded a) = none_stay (joins a.p
 -- of two floors the one that is not less is the later one
 pub later_is : (a b : ℤ) → a ≤ℤ b → later a b ≡ b
 later_is a b h = grind (arith, ints)
+
+-- floors one above the other
+pub not_above : (a b c : ℤ) → a ≤ℤ b → b ≤ℤ c → a ≤ℤ c
+not_above a b c h k = omega (arith, ints)
+
+-- a `not` whose floor is that of the snapshot
+pub waits_on_time : (p : Program) (waiting : NotNode) (look : Look) (s : Snapshot) (rows : Row → Bool) (forgotten : Named → Bool) → Counts counts_blockers p waiting.tally.memories look s rows forgotten → IsInStep p look waiting
+    → waiting.ripening.floor ≡ floor p s waiting.tally.memories.pattern.entry.0 → WaitsFor p waiting look s rows forgotten
+waits_on_time p waiting look s rows forgotten counts in_step is =
+    let now = floor p s waiting.tally.memories.pattern.entry.0 in
+    record { counts = counts; in_step = in_step; none_due = none_due p waiting look now in_step is; floor = subst (λ (told : ℤ). told ≤ℤ now) (sym is) (≤ℤ_refl now) }
 
 -- the floor by a moment is that of each snapshot of the moment
 pub floor_told : (p : Program) (m : Moment) (asked q : Pattern) (told : ℤ) → asked ≡ q → told ≡ floor p (snapshot_at m) asked.entry.0 → (next : Snapshot) → IsAt next m → told ≡ floor p next q.entry.0

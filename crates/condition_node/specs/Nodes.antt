@@ -1,5 +1,5 @@
 -- Of which condition a node is, and for which rows it stands.
-use Rattle.std.specs.Prelude.{◌≡◌, Bool, true, false}
+use Rattle.std.specs.Prelude.{◌≡◌, ◌≤ℤ◌, Bool, true, false}
 use Rattle.row_delta.specs.declared.row.Named.{Named}
 use Rattle.row_delta.specs.declared.row.Row.{Row}
 use Rattle.rule_model.specs.declared.condition.Condition.{Condition}
@@ -14,6 +14,7 @@ use Rattle.tally_node.specs.Gathers.{gathers}
 use Rattle.tally_node.specs.Laws.{StandsCounted}
 use Rattle.not_node.specs.declared.node.NotNode.{NotNode}
 use Rattle.not_node.specs.Rows.{IsInStep}
+use Rattle.not_node.specs.Waiting.{NoneDue}
 use Rattle.condition_rows.specs.Sets.{held, candidates_of}
 use Rattle.condition_node.specs.declared.node.FoldNode.{FoldNode}
 use Rattle.condition_node.specs.declared.node.Node.{Node}
@@ -38,11 +39,13 @@ abbrev pub Counts : {T : Type 0} → (T → Look → (Named → Bool) → Type 0
 Counts holds p m look s rows forgotten =
     StandsCounted holds m look (held s) (joins m.pattern (held s)) rows (candidates_of p m.pattern s) forgotten
 
--- the node of a `not` also waits for the moments of its rows, and its floor is the one of the snapshot
+-- The node of a `not` also waits for the moments of its rows. Its floor is not above the one of the snapshot, and no row that waits has its
+-- moment from the one to below the other: by both it has the same rows.
 pub record WaitsFor (p : Program) (waiting : NotNode) (look : Look) (s : Snapshot) (rows : Row → Bool) (forgotten : Named → Bool) : Type 0 where
   pub counts : Counts counts_blockers p waiting.tally.memories look s rows forgotten
   pub in_step : IsInStep p look waiting
-  pub floor : waiting.ripening.floor ≡ floor p s waiting.tally.memories.pattern.entry.0
+  pub none_due : NoneDue waiting.ripening.waiting.keys (floor p s waiting.tally.memories.pattern.entry.0)
+  pub floor : waiting.ripening.floor ≤ℤ floor p s waiting.tally.memories.pattern.entry.0
 
 -- the node of an accumulate looks at the facts of its pattern
 pub record FoldsFor (p : Program) (fold : FoldNode) (look : Look) (s : Snapshot) (rows : Row → Bool) (forgotten : Named → Bool) : Type 0 where

@@ -194,21 +194,29 @@ impl Node {
         }
     }
 
-    /// Whether the node stays as it is, and with it what its condition makes, whatever the clock, where nothing changes in the
-    /// rows before it and in its candidates. So it is but for a `not`, for which a row may become mature. Takes no memory.
-    pub fn is_still(&self) -> bool
-        ensures exact { result ≡ not (is_negated (condition_of self.now)) }
-        ensures stands { IsTrue result → (p : Program) (look world : Look) (s next : Snapshot) (rows rows_now : Row → Bool) (forgotten : Named → Bool) (left right : Delta)
+    /// Whether the node stays as it is, and with it what its condition makes, at this moment, where nothing changes in the rows
+    /// before it and in its candidates. So it is but for a `not` with a row that waits and is mature then. It costs a look at the
+    /// least moment for which a row waits. Takes no memory.
+    pub fn is_still(&self, program: &Program, moment: &Moment) -> bool
+        ensures others { is_negated (condition_of self.now) ≡ false → result ≡ true }
+        ensures stands { IsTrue result → (look world : Look) (s next : Snapshot) (rows rows_now : Row → Bool) (forgotten : Named → Bool) (left right : Delta)
             → changes_nothing left ≡ true → changes_nothing right ≡ true
-            → NodeStands p self.now look s rows forgotten → IsTurn p (condition_of self.now) look world s next rows rows_now forgotten left right
-            → NodeStands p self.now look next rows_now forgotten }
-        ensures rows { IsTrue result → (p : Program) (look world : Look) (s next : Snapshot) (rows rows_now : Row → Bool) (forgotten : Named → Bool) (left right : Delta)
+            → NodeStands program.now self.now look s rows forgotten → IsAt next moment.now → IsTurn program.now (condition_of self.now) look world s next rows rows_now forgotten left right
+            → NodeStands program.now self.now look next rows_now forgotten }
+        ensures rows { IsTrue result → (look world : Look) (s next : Snapshot) (rows rows_now : Row → Bool) (forgotten : Named → Bool) (left right : Delta)
             → changes_nothing left ≡ true → changes_nothing right ≡ true
-            → NodeStands p self.now look s rows forgotten → IsTurn p (condition_of self.now) look world s next rows rows_now forgotten left right
-            → (row : Row) → cleaned (line p next (condition_of self.now) rows_now) forgotten row ≡ cleaned (line p s (condition_of self.now) rows) forgotten row }
+            → NodeStands program.now self.now look s rows forgotten → IsAt next moment.now → IsTurn program.now (condition_of self.now) look world s next rows rows_now forgotten left right
+            → (row : Row) → cleaned (line program.now next (condition_of self.now) rows_now) forgotten row ≡ cleaned (line program.now s (condition_of self.now) rows) forgotten row }
+        ensures due { result ≡ false → (look world : Look) (s next : Snapshot) (rows rows_now : Row → Bool) (forgotten : Named → Bool) (left right : Delta)
+            → changes_nothing left ≡ true → changes_nothing right ≡ true
+            → NodeStands program.now self.now look s rows forgotten → IsAt next moment.now → IsTurn program.now (condition_of self.now) look world s next rows rows_now forgotten left right
+            → (row : Row) × (cleaned (line program.now s (condition_of self.now) rows) forgotten row ≡ false) × (cleaned (line program.now next (condition_of self.now) rows_now) forgotten row ≡ true) }
     {
         match self {
-            Node::Not(_) => false,
+            Node::Not(waiting) => {
+                let floor = moment.floor(program, waiting.pattern().entry);
+                waiting.is_still(floor)
+            }
             Node::Join(_) => true,
             Node::Exists(_) => true,
             Node::Fold(_) => true,

@@ -1,12 +1,20 @@
 -- With a later floor that no row's moment is below, the same rows wait, and the same rows are mature.
-use Rattle.std.proofs.Common.{◌≡◌, ◌∙◌, sym, ap, refl, ℤ, ◌≤ℤ◌, int_lt, arith, Bool, true, false, not, ◌&&◌, Option, Some, None, List}
+use Rattle.std.proofs.Common.{◌≡◌, ◌∙◌, sym, ap, refl, ℤ, ◌≤ℤ◌, int_lt, arith, cond, Bool, true, false, not, ◌&&◌, Option, Some, None, List}
 use Rattle.std.proofs.lemmas.Int.{ints}
 use Rattle.row_delta.specs.declared.row.Row.{Row}
+use Rattle.row_delta.specs.Rows.{has}
+use Rattle.rule_model.specs.declared.condition.Pattern.{Pattern}
+use Rattle.rule_model.specs.declared.program.Program.{Program}
+use Rattle.rule_model.proofs.Listed.{both_of}
+use Rattle.join_tests.specs.Joins.{Look}
+use Rattle.pair_memory.specs.Memories.{left_at}
+use Rattle.not_node.specs.declared.node.NotNode.{NotNode}
 use Rattle.not_node.specs.Laws.{QuietLaw}
 use Rattle.not_node.specs.Moments.{moment_at}
-use Rattle.not_node.specs.Rows.{unblocked}
-use Rattle.not_node.specs.Waiting.{waits, is_moment, mature, ripe, Awaits}
-use Rattle.not_node.proofs.Pairs.{int_itself}
+use Rattle.not_node.specs.Rows.{IsInStep, unblocked}
+use Rattle.not_node.specs.Waiting.{waits, is_moment, mature, ripe, Awaits, NoneDue}
+use Rattle.not_node.proofs.Lawful.{none_comes}
+use Rattle.not_node.proofs.Pairs.{int_itself, int_same}
 
 below_too : (at old floor : ℤ) → old ≤ℤ floor → int_lt at old ≡ true → int_lt at floor ≡ true
 below_too at old floor h e = grind (arith, ints)
@@ -43,3 +51,45 @@ quiet_law p node look floor awaits later quiet =
     let old = node.ripening.floor in
     let pairs = node.ripening.waiting.keys in
     (awaits_on moment old floor rows pairs awaits later quiet, ripe_alike moment old floor rows pairs awaits later quiet)
+
+-- ---- what is not due
+
+not_of : (b : Bool) → not b ≡ true → b ≡ false
+not_of true e = sym e
+not_of false e = refl
+
+own_moment : (at : ℤ) (o : Option ℤ) → is_moment o at ≡ true → o ≡ Some at
+own_moment at None e = absurd (let n : false ≡ true = e in cc)
+own_moment at (Some x) e = ap Some (int_same x at e)
+
+-- for a row that waits no candidate passes, the moment is its own, and not below the floor
+pub waits_own : (p : Program) (node : NotNode) (look : Look) → IsInStep p look node → (at : ℤ) (row : Row) → waits node.ripening.waiting.keys at row ≡ true
+    → (unblocked node.tally.memories look row ≡ true) × (moment_at p node.tally.memories.pattern look row ≡ Some at) × (int_lt at node.ripening.floor ≡ false)
+waits_own p node look awaits at row there =
+    let free = unblocked node.tally.memories look row in
+    let moment = moment_at p node.tally.memories.pattern look row in
+    let is = both_of (free && is_moment moment at) (not (int_lt at node.ripening.floor)) (sym (awaits at row) ∙ there) in
+    let own = both_of free (is_moment moment at) is.0 in
+    (own.0, own_moment at moment own.1, not_of (int_lt at node.ripening.floor) is.1)
+
+-- no row that waits has its moment below the node's own floor
+pub none_due : (p : Program) (node : NotNode) (look : Look) (floor : ℤ) → IsInStep p look node → node.ripening.floor ≡ floor → NoneDue node.ripening.waiting.keys floor
+none_due p node look floor awaits is at row e = ap (int_lt at) (sym is) ∙ (waits_own p node look awaits at row e).2
+
+-- u and v that the row is there before and after, i that the moment is its own, b that it is below the floor
+waits_before : (u v i b : Bool) → false ≡ (v && not u) → ((v && i) && not b) ≡ true → ((u && i) && not b) ≡ true
+waits_before true true i b h e = e
+waits_before false true i b h e = absurd (let n : false ≡ true = h in cc)
+waits_before u false i b h e = absurd (let n : false ≡ true = e in cc)
+
+-- where left rows are dropped, no other row waits than before
+pub dropped_none_due : (p : Program) (m n : NotNode) (look : Look) (dropped : List Row) (floor : ℤ) → IsInStep p look m → IsInStep p look n → n.tally.memories.pattern ≡ m.tally.memories.pattern → n.ripening.floor ≡ m.ripening.floor
+    → ((row : Row) → left_at n.tally.memories look row ≡ cond (has dropped row) None (left_at m.tally.memories look row)) → NoneDue m.ripening.waiting.keys floor → NoneDue n.ripening.waiting.keys floor
+dropped_none_due p m n look dropped floor awaits awaits_now same_pattern same_floor left quiet at row e =
+    let there = unblocked m.tally.memories look row in
+    let there_now = unblocked n.tally.memories look row in
+    let own = is_moment (moment_at p m.tally.memories.pattern look row) at in
+    let was : waits n.ripening.waiting.keys at row ≡ ((there_now && own) && not (int_lt at m.ripening.floor)) =
+    awaits_now at row ∙ ap (λ (q : Pattern). (there_now && is_moment (moment_at p q look row) at) && not (int_lt at n.ripening.floor)) same_pattern
+    ∙ ap (λ now. (there_now && own) && not (int_lt at now)) same_floor in
+    quiet at row (awaits at row ∙ waits_before there there_now own (int_lt at m.ripening.floor) (none_comes m.tally.memories n.tally.memories look (has dropped) left row) (sym was ∙ e))

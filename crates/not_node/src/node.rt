@@ -1,4 +1,4 @@
-ghost use Rattle.std.specs.Prelude.{◌≡◌, ◌&&◌, not, cond, None, Bool, IfOk, OnOk, ℤ, Option, IfSome, true};
+ghost use Rattle.std.specs.Prelude.{◌≡◌, ◌&&◌, not, cond, None, Bool, IfOk, OnOk, IsTrue, ℤ, int_lt, Option, IfSome, true, false};
 ghost use Rattle.row_delta.specs.declared.row.Row.{Row};
 ghost use Rattle.row_delta.specs.declared.row.Named.{Named};
 ghost use Rattle.row_delta.specs.Rows.{has, InOrder};
@@ -12,7 +12,7 @@ ghost use Rattle.pair_memory.specs.Inputs.{IsStepped};
 ghost use Rattle.tally_node.specs.Counts.{counts_blockers};
 ghost use Rattle.tally_node.specs.Tallies.{TallyStep};
 ghost use Rattle.not_node.specs.Rows.{IsInStep, not_rows};
-ghost use Rattle.not_node.specs.Waiting.{waits, IsFrom, later};
+ghost use Rattle.not_node.specs.Waiting.{waits, IsFrom, NoneDue, later};
 
 use crate::ripening::Ripening;
 use fx_base::{Facts, NoMemory, Seq};
@@ -57,6 +57,18 @@ impl NotNode {
         ensures least { (at : ℤ) (row : Row) → waits self.now.ripening.waiting.keys at row ≡ true → IsFrom result at }
     {
         self.ripening.next_moment()
+    }
+
+    /// Whether no row that waits has its moment below this floor, in milliseconds: as long as nothing changes before the node, its
+    /// rows by a floor up to this one are those that it has. It costs a look at the least moment. Takes no memory.
+    pub fn is_still(&self, floor: i128) -> bool
+        ensures quiet { IsTrue result → NoneDue self.now.ripening.waiting.keys floor }
+        ensures due { result ≡ false → (at : ℤ) × (row : Row) × (waits self.now.ripening.waiting.keys at row ≡ true) × (int_lt at floor ≡ true) }
+    {
+        match self.next_moment() {
+            Some(at) => floor <= at,
+            None => true,
+        }
     }
 
     /// Takes what has changed in the rows of the conditions before this one and in its candidates, and a new floor, and answers

@@ -1,5 +1,5 @@
 -- What leads from one snapshot to the next is a step that the window takes.
-use Rattle.std.proofs.Common.{◌≡◌, ◌∙◌, sym, ap, refl, subst, inl, ℤ, pos, ◌≤ℤ◌, List, [], ◌∷◌, ◌++◌, map, Bool, true, false, not, ◌&&◌, ◌||◌, ◌==◌, Option, Some, None, IfSome, int_le, arith}
+use Rattle.std.proofs.Common.{◌≡◌, ◌∙◌, sym, ap, refl, subst, inl, ℤ, pos, ◌≤ℤ◌, ◌<ℤ◌, List, [], ◌∷◌, ◌++◌, map, Bool, true, false, not, ◌&&◌, ◌||◌, ◌==◌, Option, Some, None, IfSome, int_le, int_lt, arith}
 use Rattle.std.specs.Option.{option_to_list}
 use Rattle.std.proofs.lemmas.Bool.Decides.{Decides-eqb}
 use Rattle.std.proofs.lemmas.Int.{ints}
@@ -26,14 +26,11 @@ use Rattle.rule_world.specs.Events.{most_millis}
 use Rattle.rule_world.specs.Programs.{is_window}
 use Rattle.pair_memory.specs.Inputs.{row_naming, IsNameDifference}
 use Rattle.condition_rows.specs.Sets.{candidates_of}
-use Rattle.window_gate.specs.Standing.{LeavesAt, TagsDiffer, Stands, Keeps, MayPass, MayStart, most, window_of, window_kept}
-use Rattle.window_gate.specs.Windows.{Arrival, inside, rows_inside, named_of, single}
+use Rattle.window_gate.specs.Standing.{LeavesAt, Stands, MayPass, MayStart, most, window_of}
+use Rattle.window_gate.specs.Windows.{Arrival, inside, rows_inside}
 use Rattle.window_gate.specs.declared.change.WindowKind.{WindowKind}
-use Rattle.window_gate.specs.declared.gate.Kept.{Kept}
-use Rattle.window_gate.specs.declared.gate.Kept.TheVariants as kept
-use Rattle.window_gate.proofs.Insides.{inside_whole}
 use Rattle.pattern_gate.specs.declared.gate.PatternGate.{PatternGate}
-use Rattle.pattern_gate.specs.Gates.{arrival_of, arrivals, kind_of, has_good_window, GateStands}
+use Rattle.pattern_gate.specs.Gates.{arrival_of, arrivals, kind_of, has_good_window, GateStands, LeavesBy}
 use Rattle.pattern_gate.specs.Moves.{IsOrderly, Moves, at_clock}
 use Rattle.pattern_gate.specs.Turns.{is_meant, is_one_meant, less_facts, more_fact, LetsAllGo, LetsCome, TakesStep}
 use Rattle.pattern_gate.proofs.Arriving.{filter_among, rising, left, meant, less_all, lets_all, more_one, lets_come, none_meant}
@@ -148,41 +145,9 @@ module _ (p : Program) (q : Pattern) (s next : Snapshot) (gone : List Fact) (com
           (subst (λ (k : WindowKind). IsDifference (has (rows_inside k s.clock (arrivals p q s))) (has (rows_inside k clock (more_fact q (less_facts q (arrivals p q s) gone) come))) delta) stands.window
           (steps (arrivals p q s) s.clock stands.stands step_taken))))
 
-  -- ---- without a window, where no fact is meant
-
-  module _ (whole : is_whole q.window ≡ true) (none : is_one_meant q gone come ≡ false) where
-    same_arrivals : arrivals p q s ≡ arrivals p q next
-    same_arrivals = sym (none_meant q gone come (arrivals p q s) none) ∙ arrived
-
-    keeps_whole : (w : WindowTag) → is_whole w ≡ true → (k : Kept) → window_kept k ≡ kind_of w → (list : List Arrival) (now : ℤ) → Keeps k list now
-    keeps_whole w e kept.Whole is list now = tt
-    keeps_whole Whole e (kept.Time window) is list now = absurd cc
-    keeps_whole (Time span) e (kept.Time window) is list now = absurd (let n : false ≡ true = e in cc)
-    keeps_whole (Length count) e (kept.Time window) is list now = absurd (let n : false ≡ true = e in cc)
-    keeps_whole Whole e (kept.Length window) is list now = absurd cc
-    keeps_whole (Time span) e (kept.Length window) is list now = absurd (let n : false ≡ true = e in cc)
-    keeps_whole (Length count) e (kept.Length window) is list now = absurd (let n : false ≡ true = e in cc)
-
-    pub still_stands : (gate : PatternGate) → GateStands p q gate s → GateStands p q gate next
-    still_stands gate stands = record {
-      window = stands.window;
-      stands = record {
-        tags = subst (λ list. TagsDiffer (map named_of list)) same_arrivals stands.stands.tags;
-        keeps = keeps_whole q.window whole gate.gate.kept stands.window (arrivals p q next) next.clock;
-      };
-    }
-
-    rows_whole : (w : WindowTag) → is_whole w ≡ true → (was now : ℤ) (list : List Arrival) → rows_inside (kind_of w) was list ≡ rows_inside (kind_of w) now list
-    rows_whole Whole e was now list = ap (λ (xs : List Arrival). map single (map named_of xs)) (inside_whole was list ∙ sym (inside_whole now list))
-    rows_whole (Time span) e was now list = absurd (let n : false ≡ true = e in cc)
-    rows_whole (Length count) e was now list = absurd (let n : false ≡ true = e in cc)
-
-    pub candidates_still : (who : Named) → candidates_of p q next who ≡ candidates_of p q s who
-    candidates_still who =
-        sym (rows_named p q next moves.after.in_order who)
-        ∙ ap (λ (rows : List Row). has rows (row_naming who))
-        (sym (rows_whole q.window whole s.clock next.clock (arrivals p q s) ∙ ap (rows_inside (kind_of q.window) next.clock) same_arrivals))
-        ∙ rows_named p q s moves.before.in_order who
+  -- where no fact is meant
+  pub same_arrivals : is_one_meant q gone come ≡ false → arrivals p q s ≡ arrivals p q next
+  same_arrivals none = sym (none_meant q gone come (arrivals p q s) none) ∙ arrived
 
 -- where the candidates are the same, nothing goes and nothing comes
 pub nothing_differs : (names names_now : Named → Bool) → ((who : Named) → names_now who ≡ names who) → (delta : Delta) → ((rows : Row → Bool) → IsDifference rows rows delta) → IsNameDifference names names_now delta
@@ -191,25 +156,27 @@ nothing_differs names names_now same delta nothing = record {
   comes = λ who. let is = nothing (λ row. names who) in is.leads.comes (row_naming who) ∙ ap (λ b. b && not (names who)) (sym (same who));
 }
 
--- ---- the clock alone
+-- ---- the same arrivals
 
-module _ (p : Program) (q : Pattern) (s : Snapshot) (clock : ℤ) (was : IsOrderly p s) (is : IsOrderly p (at_clock s clock)) where
-  arrivals_still : arrivals p q s ≡ arrivals p q (at_clock s clock)
-  arrivals_still = arrivals_meant p q s was ∙ sym (arrivals_meant p q (at_clock s clock) is)
+-- where the clock alone moves
+pub arrivals_still : (p : Program) (q : Pattern) (s : Snapshot) (clock : ℤ) → IsOrderly p s → IsOrderly p (at_clock s clock) → arrivals p q s ≡ arrivals p q (at_clock s clock)
+arrivals_still p q s clock was is = arrivals_meant p q s was ∙ sym (arrivals_meant p q (at_clock s clock) is)
 
-  module _ (gate : PatternGate) (stands : GateStands p q gate s) where
-    pub stands_still : Stands gate.gate (arrivals p q s) clock → GateStands p q gate (at_clock s clock)
-    stands_still now = record { window = stands.window; stands = subst (λ list. Stands gate.gate list clock) arrivals_still now }
+module _ (p : Program) (q : Pattern) (s next : Snapshot) (was : IsOrderly p s) (is : IsOrderly p next) (same : arrivals p q s ≡ arrivals p q next) (gate : PatternGate) (stands : GateStands p q gate s) where
+  pub stands_still : Stands gate.gate (arrivals p q s) next.clock → GateStands p q gate next
+  stands_still now = record { window = stands.window; stands = subst (λ list. Stands gate.gate list next.clock) same now }
 
-    pub same_candidates : ((row : Row) → has (rows_inside (window_of gate.gate) clock (arrivals p q s)) row ≡ has (rows_inside (window_of gate.gate) s.clock (arrivals p q s)) row)
-        → (who : Named) → candidates_of p q (at_clock s clock) who ≡ candidates_of p q s who
-    same_candidates same who =
-        sym (rows_named p q (at_clock s clock) is.in_order who)
-        ∙ ap (λ list. has (rows_inside (kind_of q.window) clock list) (row_naming who)) (sym arrivals_still)
-        ∙ ap (λ (k : WindowKind). has (rows_inside k clock (arrivals p q s)) (row_naming who)) (sym stands.window)
-        ∙ same (row_naming who)
-        ∙ ap (λ (k : WindowKind). has (rows_inside k s.clock (arrivals p q s)) (row_naming who)) stands.window
-        ∙ rows_named p q s was.in_order who
+  pub same_candidates : ((row : Row) → has (rows_inside (window_of gate.gate) next.clock (arrivals p q s)) row ≡ has (rows_inside (window_of gate.gate) s.clock (arrivals p q s)) row)
+      → (who : Named) → candidates_of p q next who ≡ candidates_of p q s who
+  same_candidates inside who =
+      sym (rows_named p q next is.in_order who)
+      ∙ ap (λ list. has (rows_inside (kind_of q.window) next.clock list) (row_naming who)) (sym same)
+      ∙ ap (λ (k : WindowKind). has (rows_inside k next.clock (arrivals p q s)) (row_naming who)) (sym stands.window)
+      ∙ inside (row_naming who)
+      ∙ ap (λ (k : WindowKind). has (rows_inside k s.clock (arrivals p q s)) (row_naming who)) stands.window
+      ∙ rows_named p q s was.in_order who
+
+-- ---- what leaves
 
 -- an arrival that leaves is that of a candidate
 pub candidate_leaves : (p : Program) (q : Pattern) (s : Snapshot) → IsOrderly p s → (gate : PatternGate) → GateStands p q gate s → (first : Option ℤ)
@@ -220,3 +187,21 @@ candidate_leaves p q s is gate stands (Some at) leaves =
     let r = subst (λ (k : WindowKind). (arrival : Arrival) × In arrival (inside k s.clock (arrivals p q s)) × LeavesAt k arrival at) stands.window leaves in
     let f = of_map arrival_of r.0 (candidates p q s) (subst (λ (list : List Arrival). In r.0 list) (inside_are p q s is.in_order q.window) r.1) in
     (f.0, f.1, subst (λ (a : Arrival). LeavesAt (kind_of q.window) a at) (sym f.2) r.2)
+
+-- a clock that is not before the moment is behind it
+not_before : (first : Option ℤ) (clock : ℤ) → (IfSome first (λ at. clock <ℤ at) → ⊥) → (at : ℤ) × (first ≡ Some at) × (at ≤ℤ clock)
+not_before None clock late = absurd (late tt)
+not_before (Some at) clock late = (at, refl, by (int_lt clock at) refl)
+  where
+    by : (b : Bool) → int_lt clock at ≡ b → at ≤ℤ clock
+    by true e = absurd (late (grind (arith, ints)))
+    by false e = grind (arith, ints)
+
+-- then a candidate has left
+pub leaves_by : (p : Program) (q : Pattern) (s : Snapshot) → IsOrderly p s → (gate : PatternGate) → GateStands p q gate s → (first : Option ℤ) (clock : ℤ) → (IfSome first (λ at. clock <ℤ at) → ⊥)
+    → IfSome first (λ at. (arrival : Arrival) × In arrival (inside (window_of gate.gate) s.clock (arrivals p q s)) × LeavesAt (window_of gate.gate) arrival at)
+    → LeavesBy p q s clock
+leaves_by p q s is gate stands first clock late leaves =
+    let moment = not_before first clock late in
+    let left = subst (λ (o : Option ℤ). IfSome o (λ at. (f : Fact) × In f (candidates p q s) × LeavesAt (kind_of q.window) (arrival_of f) at)) moment.1 (candidate_leaves p q s is gate stands first leaves) in
+    record { moment = moment.0; candidate = left.0; among = left.1; leaves = left.2; due = moment.2 }

@@ -1,12 +1,13 @@
 -- For which facts of a snapshot the gate of a pattern stands.
-use Rattle.std.specs.Prelude.{◌≡◌, ◌&&◌, ◌||◌, Bool, List, map}
+use Rattle.std.specs.Prelude.{◌≡◌, ◌≤ℤ◌, ◌&&◌, ◌||◌, ℤ, Bool, List, map}
 use Rattle.std.specs.List.{filter}
+use Rattle.fx_base.specs.Lists.{In}
 use Rattle.fx_base.specs.declared.fact.Fact.{Fact}
 use Rattle.rule_model.specs.declared.condition.Pattern.{Pattern}
 use Rattle.rule_model.specs.declared.condition.WindowTag.{WindowTag}
 use Rattle.rule_model.specs.declared.condition.WindowTag.TheVariants as tag
 use Rattle.rule_model.specs.declared.program.Program.{Program}
-use Rattle.rule_model.specs.Candidates.{fits}
+use Rattle.rule_model.specs.Candidates.{fits, candidates}
 use Rattle.rule_model.specs.Simple.{is_whole}
 use Rattle.rule_model.specs.Snapshots.{Snapshot}
 use Rattle.rule_model.specs.Tuples.{name_of}
@@ -15,7 +16,7 @@ use Rattle.rule_world.specs.Programs.{is_window}
 use Rattle.window_gate.specs.declared.change.WindowKind.{WindowKind}
 use Rattle.window_gate.specs.declared.change.WindowKind.TheVariants as kind
 use Rattle.window_gate.specs.Windows.{Arrival}
-use Rattle.window_gate.specs.Standing.{Stands, window_of}
+use Rattle.window_gate.specs.Standing.{LeavesAt, Stands, window_of}
 use Rattle.pattern_gate.specs.declared.gate.PatternGate.{PatternGate}
 
 abbrev pub arrival_of : Fact → Arrival
@@ -38,3 +39,11 @@ has_good_window p pattern = is_whole pattern.window || is_event p pattern.ty.0 &
 pub record GateStands (p : Program) (pattern : Pattern) (gate : PatternGate) (s : Snapshot) : Type 0 where
   pub window : window_of gate.gate ≡ kind_of pattern.window
   pub stands : Stands gate.gate (arrivals p pattern s) s.clock
+
+-- the clock lets a candidate leave the window of the pattern, at this moment or before it
+pub record LeavesBy (p : Program) (pattern : Pattern) (s : Snapshot) (clock : ℤ) : Type 0 where
+  pub moment : ℤ
+  pub candidate : Fact
+  pub among : In candidate (candidates p pattern s)
+  pub leaves : LeavesAt (kind_of pattern.window) (arrival_of candidate) moment
+  pub due : moment ≤ℤ clock

@@ -1,4 +1,4 @@
-ghost use Rattle.std.specs.Prelude.{◌≡◌, ◌&&◌, not, Bool, true, ℤ, ◌≤ℤ◌, ◌<ℤ◌, List, option_map, IfOk, OnOk, IfSome, IsTrue};
+ghost use Rattle.std.specs.Prelude.{◌≡◌, ◌↔◌, Bool, true, false, ℤ, ◌≤ℤ◌, ◌<ℤ◌, List, option_map, IfOk, OnOk, IfSome, IsTrue};
 ghost use Rattle.std.specs.List.{list_any};
 ghost use Rattle.fx_base.specs.Lists.{In};
 ghost use Rattle.fx_base.specs.declared.fact.Fact.{Fact};
@@ -10,7 +10,6 @@ ghost use Rattle.rule_model.specs.declared.condition.Pattern.{Pattern};
 ghost use Rattle.rule_model.specs.declared.program.Program.{Program};
 ghost use Rattle.rule_model.specs.Candidates.{candidates};
 ghost use Rattle.rule_model.specs.Lent.{lent};
-ghost use Rattle.rule_model.specs.Simple.{is_whole};
 ghost use Rattle.rule_model.specs.Snapshots.{Snapshot};
 ghost use Rattle.rule_model.specs.Tuples.{name_of};
 ghost use Rattle.pair_memory.specs.Inputs.{IsNameDifference};
@@ -20,7 +19,7 @@ ghost use Rattle.window_gate.specs.declared.change.WindowKind.{WindowKind};
 ghost use Rattle.window_gate.specs.Windows.{Arrival, after, rows_inside};
 ghost use Rattle.window_gate.specs.Standing.{LeavesAt, Stands, Takes, window_of};
 ghost use Rattle.pattern_gate.specs.Moves.{IsOrderly, Moves, at_clock};
-ghost use Rattle.pattern_gate.specs.Gates.{GateStands, arrival_of, has_good_window, kind_of};
+ghost use Rattle.pattern_gate.specs.Gates.{GateStands, LeavesBy, arrival_of, has_good_window, kind_of};
 ghost use Rattle.pattern_gate.specs.Turns.{is_meant, is_given_meant, is_one_meant, less_fact, less_facts, more_fact, LetsGo, LetsAllGo, LetsCome, TakesStep, Reaches};
 
 use fx_base::{Fact, Millis, NoMemory};
@@ -61,17 +60,25 @@ impl PatternGate {
         self.gate.quiet_until()
     }
 
-    /// Whether the gate stays as it is, and with it the candidates, whatever the clock, where these facts go and this one comes,
-    /// if one does: the pattern has no window, and none of these facts is meant. Of each fact it costs the constant tests. Takes
-    /// no memory.
-    pub fn is_still(&self, pattern: &Pattern, gone: &[&Fact], come: Option<&Fact>) -> bool
-        ensures exact { result ≡ (is_whole pattern.now.window && not (is_one_meant pattern.now (lent gone.now) (option_map (λ f. f.now) come.entry))) }
+    /// Whether the gate stays as it is, and with it the candidates, at this clock in milliseconds, where these facts go and this
+    /// one comes, if one does: none of them is meant, and no candidate leaves the window by the clock. It costs a look at the
+    /// least moment due, and of each fact the constant tests. Takes no memory.
+    pub fn is_still(
+        &self,
+        pattern: &Pattern,
+        gone: &[&Fact],
+        come: Option<&Fact>,
+        clock: Millis,
+    ) -> bool
+        ensures meant { IsTrue result → is_one_meant pattern.now (lent gone.now) (option_map (λ f. f.now) come.entry) ≡ false }
         ensures stands { IsTrue result → (p : Program) (s next : Snapshot) → GateStands p pattern.now self.now s
-            → Moves p s next (lent gone.now) (option_map (λ f. f.now) come.entry) → GateStands p pattern.now self.now next }
-        ensures candidates { IsTrue result → (p : Program) (s next : Snapshot)
-            → Moves p s next (lent gone.now) (option_map (λ f. f.now) come.entry) → (who : Named) → candidates_of p pattern.now next who ≡ candidates_of p pattern.now s who }
+            → Moves p s next (lent gone.now) (option_map (λ f. f.now) come.entry) → next.clock ≡ clock → GateStands p pattern.now self.now next }
+        ensures candidates { IsTrue result → (p : Program) (s next : Snapshot) → GateStands p pattern.now self.now s
+            → Moves p s next (lent gone.now) (option_map (λ f. f.now) come.entry) → next.clock ≡ clock → (who : Named) → candidates_of p pattern.now next who ≡ candidates_of p pattern.now s who }
+        ensures leaves { result ≡ false → is_one_meant pattern.now (lent gone.now) (option_map (λ f. f.now) come.entry) ≡ false
+            → (p : Program) (s : Snapshot) → GateStands p pattern.now self.now s → IsOrderly p s → LeavesBy p pattern.now s clock }
     {
-        pattern.window.is_whole() && !is_one_meant(pattern, gone, come)
+        is_before(clock, self.gate.quiet_until()) && !is_one_meant(pattern, gone, come)
     }
 
     /// Takes the facts that go and the one that comes, if one does, and the clock in milliseconds, and answers what has changed
@@ -93,7 +100,7 @@ impl PatternGate {
             → Moves program.now s next (lent gone.now) (option_map (λ f. f.now) come.entry) → next.clock ≡ clock
             → IsNameDifference (candidates_of program.now pattern.now s) (candidates_of program.now pattern.now next) delta) }
     {
-        if self.is_still(pattern, gone, come) {
+        if self.is_still(pattern, gone, come, clock) {
             let delta = Change::none(alloc).delta(alloc)?;
             return Ok(delta);
         }
@@ -207,6 +214,16 @@ impl PatternGate {
         change.leave(alloc, gone.into_vec())?;
         change.arrive(alloc, come.into_vec())?;
         Ok(())
+    }
+}
+
+/// Whether the clock is before a moment, where there is one.
+fn is_before(clock: Millis, moment: Option<Millis>) -> bool
+    ensures { IsTrue result ↔ IfSome moment (λ at. clock <ℤ at) }
+{
+    match moment {
+        Some(at) => clock < at,
+        None => true,
     }
 }
 

@@ -187,18 +187,16 @@ module _ (p : Program) (s : Snapshot) (f : Fact) (forgotten : Named → Bool) (k
     moved : (n : Node) → NodeStands p n (held s) s rows forgotten → NodeStands p n (held less) s rows forgotten
     moved n stands = node_moves p (held s) (held less) s rows forgotten (held_known s forgotten) (less_known p s f forgotten d d_less there known) named n stands
 
-    floor_same : (entry : ℕ) → floor p s entry ≡ floor p less entry
-    unfolding floor
-    floor_same entry = refl
-
     node_less : (n : Node) → Unobserved f (condition_of n) → NodeStands p n (held s) s rows forgotten → NodeStands p n (held less) less rows_less forgotten
+    unfolding floor
     node_less (node.Join join) u stands = stands_less (condition_of (node.Join join)) u join.memories (moved (node.Join join) stands)
     node_less (node.Not waiting) (of_other is) stands =
         let now = moved (node.Not waiting) stands in
         record {
           counts = counts_less counts_blockers blockers_ask (Negated waiting.tally.memories.pattern) (of_other is) is waiting.tally.memories now.counts;
           in_step = now.in_step;
-          floor = now.floor ∙ floor_same waiting.tally.memories.pattern.entry.0;
+          none_due = now.none_due;
+          floor = now.floor;
         }
     node_less (node.Not waiting) (of_binding q at short) stands = absurd cc
     node_less (node.Exists tally) (of_other is) stands =

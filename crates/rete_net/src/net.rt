@@ -69,7 +69,7 @@ impl Rete {
     /// Takes the facts that go and the one that comes, if one does, and the moment, and answers of the rules
     /// whose rows change, in their order, what has changed in them, but for rows that name a forgotten fact; no rule may need one.
     /// `facts` has those that stay and are not forgotten, those that go and the one that comes. A node that nothing reaches costs the constant tests of each of these facts and a look, and takes no memory: one
-    /// before whose condition no row changes, whose pattern no such fact fits, and that has neither a window nor a `not`. The
+    /// before whose condition no row changes, whose pattern no such fact fits, and in which nothing is due. The
     /// others cost what their gates and nodes say, and a change is copied once for each rule that has it.
     pub fn advance<F: Facts>(
         &mut self,

@@ -1,8 +1,6 @@
 ghost use Rattle.std.specs.Prelude.{◌≡◌, true, option_map, IfOk, IsTrue};
 ghost use Rattle.row_delta.specs.declared.delta.Delta.{Delta as DeltaData};
 ghost use Rattle.row_change.specs.Changes.{changes_nothing};
-ghost use Rattle.rule_model.specs.declared.moment.Moment.{Moment as MomentData};
-ghost use Rattle.rule_model.specs.declared.program.Program.{Program as ProgramData};
 ghost use Rattle.rule_model.specs.Lent.{lent};
 ghost use Rattle.join_tests.specs.Joins.{Look};
 ghost use Rattle.pair_memory.specs.Joined.{has_name};
@@ -62,7 +60,7 @@ impl NetNode {
     ) -> Result<Delta, NoMemory>
         ensures { IfOk result (λ delta. NodeStep program.now (F.map facts.now) (lent gone.now) (option_map (λ f. f.now) come.entry) moment.now self.old self.new left.now delta) }
     {
-        if changes_nothing(left) && self.is_still(gone, come) {
+        if changes_nothing(left) && self.is_still(program, gone, come, moment) {
             return Ok(no_change(alloc));
         }
         let right = self.gate.advance(
@@ -79,13 +77,23 @@ impl NetNode {
         Ok(delta)
     }
 
-    /// Whether it stays as it is, whatever the moment, where these facts go and this one comes, if one does, and nothing changes in
-    /// the rows before it. Of each fact it costs the constant tests. Takes no memory.
-    fn is_still(&self, gone: &[&Fact], come: Option<&Fact>) -> bool
-        ensures { IsTrue result → (p : ProgramData) (look : Look) (moment : MomentData) (left : DeltaData) → changes_nothing left ≡ true
-            → NodeStep p look (lent gone.now) (option_map (λ f. f.now) come.entry) moment self.now self.now left no_change }
+    /// Whether it stays as it is at this moment, where these facts go and this one comes, if one does, and nothing changes in the
+    /// rows before it: none of these facts is meant, and nothing is due in the gate or the node. It costs a look at what is due
+    /// first in each of them, and of each fact the constant tests. Takes no memory.
+    fn is_still(
+        &self,
+        program: &Program,
+        gone: &[&Fact],
+        come: Option<&Fact>,
+        moment: &Moment,
+    ) -> bool
+        ensures { IsTrue result → (look : Look) (left : DeltaData) → changes_nothing left ≡ true
+            → NodeStep program.now look (lent gone.now) (option_map (λ f. f.now) come.entry) moment.now self.now self.now left no_change }
     {
-        self.node.is_still() && self.gate.is_still(self.node.pattern(), gone, come)
+        self.node.is_still(program, moment)
+            && self
+                .gate
+                .is_still(self.node.pattern(), gone, come, moment.clock)
     }
 
     /// Drops those of the rows before it that name an old fact, which are these, and the old candidates, and answers the rows of its

@@ -1,42 +1,48 @@
-use Rattle.std.proofs.Common.{◌≡◌, sym, subst}
-use Rattle.row_delta.specs.declared.row.Row.{Row}
-use Rattle.pair_memory.specs.Standing.{cleaned}
-use Rattle.condition_rows.specs.Lines.{line}
-use Rattle.condition_node.specs.declared.node.Node.{Node}
-use Rattle.condition_node.specs.Nodes.{condition_of, NodeStands}
-use Rattle.condition_node.specs.Turns.{IsTurn}
-use Rattle.condition_node.proofs.Still.{join_still, join_tells_none, exists_still, exists_tells_none, fold_still, fold_tells_none}
+use Rattle.std.proofs.Common.{◌≡◌, sym, subst, SFits, to_z-of_z}
+use Rattle.std.specs.Int.{w128}
+use Rattle.rule_model.specs.Moments.{IsAt}
+use Rattle.rule_model.specs.Snapshots.{Snapshot, floor}
+use Rattle.condition_node.proofs.Still.{Stays, TellsNothing, TellsOne, join_still, join_tells_nothing, exists_still, exists_tells_nothing, fold_still, fold_tells_nothing, not_still, not_tells_nothing, not_tells_one}
+use Rattle.condition_node.proofs.Turning.{floor_told}
 use Rattle.condition_node.proofs.node.Node.is_still.Goals as goal
 
+-- the floor that is told is that of each snapshot of the moment
+told_is : (c : goal.After-is_still) (next : Snapshot) → IsAt next c.args.moment.now → c.floor-floor.result ≡ floor c.args.program.now next c.in-Not.waiting.tally.memories.pattern.entry.0
+told_is c = floor_told c.args.program.now c.args.moment.now c.pattern.result.now c.in-Not.waiting.tally.memories.pattern c.floor-floor.result c.pattern.ensures c.floor-floor.ensures
+
+pub returns-in-Not-clause-stands : goal.returns-in-Not-clause-stands
+returns-in-Not-clause-stands c told =
+    let fits : SFits w128 c.floor-floor.result = search in
+    let quiet = simp to_z-of_z at c.is_still.ensures.quiet in
+    subst (Stays c.args.program.now c.args.moment.now) (sym c.in-Not.is) (not_still c.args.program.now c.args.moment.now c.in-Not.waiting c.floor-floor.result (told_is c) (quiet told))
+
+pub returns-in-Not-clause-rows : goal.returns-in-Not-clause-rows
+returns-in-Not-clause-rows c told =
+    let fits : SFits w128 c.floor-floor.result = search in
+    let quiet = simp to_z-of_z at c.is_still.ensures.quiet in
+    subst (TellsNothing c.args.program.now c.args.moment.now) (sym c.in-Not.is) (not_tells_nothing c.args.program.now c.args.moment.now c.in-Not.waiting c.floor-floor.result (told_is c) (quiet told))
+
+pub returns-in-Not-clause-due : goal.returns-in-Not-clause-due
+returns-in-Not-clause-due c told =
+    let fits : SFits w128 c.floor-floor.result = search in
+    let due = simp to_z-of_z at c.is_still.ensures.due in
+    let first = due told in
+    subst (TellsOne c.args.program.now c.args.moment.now) (sym c.in-Not.is) (not_tells_one c.args.program.now c.args.moment.now c.in-Not.waiting c.floor-floor.result (told_is c) first.0 first.1 first.2 first.3)
+
 pub returns-in-Join-clause-stands : goal.returns-in-Join-clause-stands
-returns-in-Join-clause-stands c told p look world s next rows rows_now forgotten left right none none_right =
-    subst (λ (n : Node). NodeStands p n look s rows forgotten → IsTurn p (condition_of n) look world s next rows rows_now forgotten left right → NodeStands p n look next rows_now forgotten) (sym c.in-Join.is)
-    (join_still p look world s next rows rows_now forgotten left right none none_right c.in-Join.field-0)
+returns-in-Join-clause-stands c told = subst (Stays c.args.program.now c.args.moment.now) (sym c.in-Join.is) (join_still c.args.program.now c.args.moment.now c.in-Join.field-0)
 
 pub returns-in-Join-clause-rows : goal.returns-in-Join-clause-rows
-returns-in-Join-clause-rows c told p look world s next rows rows_now forgotten left right none none_right =
-    subst (λ (n : Node). NodeStands p n look s rows forgotten → IsTurn p (condition_of n) look world s next rows rows_now forgotten left right
-    → (row : Row) → cleaned (line p next (condition_of n) rows_now) forgotten row ≡ cleaned (line p s (condition_of n) rows) forgotten row) (sym c.in-Join.is)
-    (join_tells_none p look world s next rows rows_now forgotten left right none none_right c.in-Join.field-0)
+returns-in-Join-clause-rows c told = subst (TellsNothing c.args.program.now c.args.moment.now) (sym c.in-Join.is) (join_tells_nothing c.args.program.now c.args.moment.now c.in-Join.field-0)
 
 pub returns-in-Exists-clause-stands : goal.returns-in-Exists-clause-stands
-returns-in-Exists-clause-stands c told p look world s next rows rows_now forgotten left right none none_right =
-    subst (λ (n : Node). NodeStands p n look s rows forgotten → IsTurn p (condition_of n) look world s next rows rows_now forgotten left right → NodeStands p n look next rows_now forgotten) (sym c.in-Exists.is)
-    (exists_still p look world s next rows rows_now forgotten left right none none_right c.in-Exists.field-0)
+returns-in-Exists-clause-stands c told = subst (Stays c.args.program.now c.args.moment.now) (sym c.in-Exists.is) (exists_still c.args.program.now c.args.moment.now c.in-Exists.field-0)
 
 pub returns-in-Exists-clause-rows : goal.returns-in-Exists-clause-rows
-returns-in-Exists-clause-rows c told p look world s next rows rows_now forgotten left right none none_right =
-    subst (λ (n : Node). NodeStands p n look s rows forgotten → IsTurn p (condition_of n) look world s next rows rows_now forgotten left right
-    → (row : Row) → cleaned (line p next (condition_of n) rows_now) forgotten row ≡ cleaned (line p s (condition_of n) rows) forgotten row) (sym c.in-Exists.is)
-    (exists_tells_none p look world s next rows rows_now forgotten left right none none_right c.in-Exists.field-0)
+returns-in-Exists-clause-rows c told = subst (TellsNothing c.args.program.now c.args.moment.now) (sym c.in-Exists.is) (exists_tells_nothing c.args.program.now c.args.moment.now c.in-Exists.field-0)
 
 pub returns-in-Fold-clause-stands : goal.returns-in-Fold-clause-stands
-returns-in-Fold-clause-stands c told p look world s next rows rows_now forgotten left right none none_right =
-    subst (λ (n : Node). NodeStands p n look s rows forgotten → IsTurn p (condition_of n) look world s next rows rows_now forgotten left right → NodeStands p n look next rows_now forgotten) (sym c.in-Fold.is)
-    (fold_still p look world s next rows rows_now forgotten left right none none_right c.in-Fold.field-0)
+returns-in-Fold-clause-stands c told = subst (Stays c.args.program.now c.args.moment.now) (sym c.in-Fold.is) (fold_still c.args.program.now c.args.moment.now c.in-Fold.field-0)
 
 pub returns-in-Fold-clause-rows : goal.returns-in-Fold-clause-rows
-returns-in-Fold-clause-rows c told p look world s next rows rows_now forgotten left right none none_right =
-    subst (λ (n : Node). NodeStands p n look s rows forgotten → IsTurn p (condition_of n) look world s next rows rows_now forgotten left right
-    → (row : Row) → cleaned (line p next (condition_of n) rows_now) forgotten row ≡ cleaned (line p s (condition_of n) rows) forgotten row) (sym c.in-Fold.is)
-    (fold_tells_none p look world s next rows rows_now forgotten left right none none_right c.in-Fold.field-0)
+returns-in-Fold-clause-rows c told = subst (TellsNothing c.args.program.now c.args.moment.now) (sym c.in-Fold.is) (fold_tells_nothing c.args.program.now c.args.moment.now c.in-Fold.field-0)

@@ -2,10 +2,12 @@ use Rattle.std.proofs.Common.{◌∙◌, sym, ap, SFits, to_z-of_z}
 use Rattle.std.specs.Int.{w128}
 use Rattle.rule_model.specs.declared.condition.Accumulate.{Accumulate}
 use Rattle.rule_model.specs.declared.condition.Pattern.{Pattern}
+use Rattle.pair_memory.specs.Standing.{no_rows}
 use Rattle.tally_node.specs.Counts.{counts_blockers, counts_witnesses}
 use Rattle.tally_node.specs.Gathers.{gathers}
 use Rattle.condition_rows.specs.Looks.{empty_snapshot}
 use Rattle.condition_node.proofs.Moved.{stands_empty, counts_empty}
+use Rattle.condition_node.proofs.Turning.{waits_on_time}
 use Rattle.condition_node.proofs.node.Node.new.Goals as goal
 use Rattle.rule_model.specs.Snapshots.{floor}
 
@@ -18,11 +20,8 @@ returns-in_ok-pattern-in-Negated-clause-stands c look forgotten =
     let new = c.new-in-Negated in
     let fits : SFits w128 c.first_floor-floor.result = search in
     let floor_is = simp to_z-of_z at new.ensures.floor in
-    record {
-      counts = counts_empty counts_blockers p new.result.tally.memories look forgotten (new.ensures.nothing look forgotten);
-      in_step = new.ensures.in_step p look;
-      floor = floor_is ∙ c.first_floor-floor.ensures ∙ ap (λ (q : Pattern). floor p empty_snapshot q.entry.0) (sym new.ensures.pattern);
-    }
+    waits_on_time p new.result look empty_snapshot no_rows forgotten (counts_empty counts_blockers p new.result.tally.memories look forgotten (new.ensures.nothing look forgotten)) (new.ensures.in_step p look)
+    (floor_is ∙ c.first_floor-floor.ensures ∙ ap (λ (q : Pattern). floor p empty_snapshot q.entry.0) (sym new.ensures.pattern))
 
 pub returns-in_ok-pattern-in-Existing-clause-stands : goal.returns-in_ok-pattern-in-Existing-clause-stands
 returns-in_ok-pattern-in-Existing-clause-stands c look forgotten =

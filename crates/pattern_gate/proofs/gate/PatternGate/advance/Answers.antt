@@ -8,12 +8,15 @@ use Rattle.pattern_gate.proofs.Moving.{gate_stands, candidates_differ, nothing_d
 use Rattle.pattern_gate.proofs.gate.PatternGate.advance.Goals as goal
 
 pub returns-then-is_still-clause-stands : goal.returns-then-is_still-clause-stands
-returns-then-is_still-clause-stands c s next good stands moves is = c.is_still.ensures.stands c.if-is_still.true c.args.program.now s next stands moves
+returns-then-is_still-clause-stands c s next good stands moves is =
+    let fits = c.ranges.clock in
+    (simp to_z-of_z at c.is_still.ensures.stands) c.if-is_still.true c.args.program.now s next stands moves is
 
 pub returns-then-is_still-clause-difference : goal.returns-then-is_still-clause-difference
 returns-then-is_still-clause-difference c s next good stands moves is =
+    let fits = c.ranges.clock in
     nothing_differs (candidates_of c.args.program.now c.args.pattern.now s) (candidates_of c.args.program.now c.args.pattern.now next)
-    (c.is_still.ensures.candidates c.if-is_still.true c.args.program.now s next moves) c.in_ok-delta.delta (λ rows. c.in_ok-delta.ensures rows rows (c.none.ensures rows))
+    ((simp to_z-of_z at c.is_still.ensures.candidates) c.if-is_still.true c.args.program.now s next stands moves is) c.in_ok-delta.delta (λ rows. c.in_ok-delta.ensures rows rows (c.none.ensures rows))
 
 pub returns-clause-stands : goal.returns-clause-stands
 returns-clause-stands c s next good stands moves is =

@@ -16,7 +16,7 @@ returns-then-is_still g c =
     let node = c.args.self.now in
     let left = c.args.left.now in
     subst (λ (delta : Delta). NodeStep p look gone come c.args.moment.now node node left delta) (sym c.no_change.ensures)
-    (c.is_still.ensures c.if-is_still.true p look c.args.moment.now left (sym c.changes_nothing.ensures ∙ c.if-changes_nothing.true))
+    (c.is_still.ensures c.if-is_still.true look left (sym c.changes_nothing.ensures ∙ c.if-changes_nothing.true))
 
 pub returns : goal.returns
 returns g c =

@@ -1,24 +1,24 @@
-use Rattle.std.proofs.Common.{◌≡◌, subst, option_map}
-use Rattle.rule_model.specs.declared.condition.Pattern.{Pattern}
-use Rattle.rule_model.specs.declared.program.Program.{Program}
+use Rattle.std.proofs.Common.{subst, option_map, to_z, of_z, to_z-of_z, w64, SFits, ◌≡◌, ℤ}
 use Rattle.rule_model.specs.Lent.{lent}
-use Rattle.rule_model.specs.Snapshots.{Snapshot}
-use Rattle.row_delta.specs.declared.row.Named.{Named}
-use Rattle.condition_rows.specs.Sets.{candidates_of}
-use Rattle.pattern_gate.specs.Gates.{GateStands}
-use Rattle.pattern_gate.specs.Moves.{Moves}
-use Rattle.rete_net.proofs.Skipping.{skipped}
+use Rattle.rule_model.specs.declared.condition.Pattern.{Pattern}
+use Rattle.rule_model.specs.Rows.{pattern_of}
+use Rattle.condition_node.specs.Nodes.{condition_of}
+use Rattle.rete_net.proofs.Skipping.{GateStays, skipped}
 use Rattle.rete_net.proofs.node.NetNode.is_still.Goals as goal
 
 pub returns-then-is_still : goal.returns-then-is_still
-returns-then-is_still c told p look moment left none =
+returns-then-is_still c told look left none =
+    let p = c.args.program.now in
     let gone = lent c.args.gone.now in
     let come = option_map (λ f. f.now) c.args.come in
     let gate = c.args.self.now.gate in
-    skipped p look gone come moment c.args.self.now left (record {
-      gate = subst (λ (q : Pattern). (p : Program) (s next : Snapshot) → GateStands p q gate s → Moves p s next gone come → GateStands p q gate next) c.pattern.ensures (c.is_still-then-is_still.ensures.stands told);
-      candidates = subst (λ (q : Pattern). (p : Program) (s next : Snapshot) → Moves p s next gone come → (who : Named) → candidates_of p q next who ≡ candidates_of p q s who) c.pattern.ensures
-          (c.is_still-then-is_still.ensures.candidates told);
-      node = c.is_still.ensures.stands c.if-is_still.true;
-      rows = c.is_still.ensures.rows c.if-is_still.true;
-    }) none
+    let clock = c.args.moment.now.clock in
+    let fits : SFits w64 clock = search in
+    let whole : to_z w64 (of_z w64 clock) ≡ clock = to_z-of_z fits in
+    skipped p look gone come c.args.moment.now c.args.self.now left
+    (subst (λ (at : ℤ). GateStays p (pattern_of (condition_of c.args.self.now.node)) gate gone come at) whole
+    (subst (λ (q : Pattern). GateStays p q gate gone come (to_z w64 (of_z w64 clock))) c.pattern.ensures (record {
+      stands = c.is_still-then-is_still.ensures.stands told p;
+      candidates = c.is_still-then-is_still.ensures.candidates told p;
+    })))
+    (c.is_still.ensures.stands c.if-is_still.true) (c.is_still.ensures.rows c.if-is_still.true) none
