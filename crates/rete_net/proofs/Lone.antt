@@ -24,11 +24,11 @@ use Rattle.rete_net.specs.Indexes.{IsLeftAlone}
 use Rattle.rete_net.specs.Steps.{no_change, NodeStep}
 use Rattle.rete_net.proofs.Skipping.{skipped}
 
-neither_left : (a b : Bool) → (a || b) ≡ false → a ≡ false
+pub neither_left : (a b : Bool) → (a || b) ≡ false → a ≡ false
 neither_left true b e = e
 neither_left false b e = refl
 
-neither_right : (a b : Bool) → (a || not b) ≡ false → b ≡ true
+pub neither_right : (a b : Bool) → (a || not b) ≡ false → b ≡ true
 neither_right true b e = absurd (let no : true ≡ false = e in cc)
 neither_right false true e = refl
 neither_right false false e = sym e

@@ -5,8 +5,8 @@ ghost use Rattle.rete_net.specs.declared.changes.RuleChange.{RuleChange as RuleC
 ghost use Rattle.rete_net.specs.Answers.{answer_in, AreRuled};
 ghost use Rattle.rete_net.specs.Steps.{change_at, changes_from, delta_at, no_change};
 
-use crate::due::first_below;
 use crate::answered::Answered;
+use crate::due::first_below;
 use fx_base::{Copies, NoMemory, RuleId};
 use row_change::changes_nothing;
 use row_delta::Delta;

@@ -34,13 +34,7 @@ pub(crate) fn first_below(set: &BTreeSet<usize, Global>, from: usize, end: usize
     ensures none { IsNone result → (k : ℕ) → from ≤ k → k < end → has_place set.now.keys k ≡ false }
 {
     match set.range(from..).next() {
-        Some(place) => {
-            if *place < end {
-                Some(*place)
-            } else {
-                None
-            }
-        }
+        Some(place) => { if *place < end { Some(*place) } else { None } }
         None => None,
     }
 }

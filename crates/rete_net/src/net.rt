@@ -201,7 +201,7 @@ impl Rete {
         facts: &F,
     ) -> Result<Vec<RuleChange>, NoMemory>
         ensures ends { OnOk result (self.new.ends.items ≡ self.old.ends.items) }
-        ensures quiet { OnOk result (AreQuiet program.now self.new.nodes.items self.new.quiet_until) }
+        ensures quiet { OnOk result (IsIndexOf self.old.nodes.items self.old.ends.items self.old.index → AreQuiet program.now self.new.nodes.items self.new.quiet_until) }
         ensures replaced { OnOk result (IsReplaced self.old.nodes.items self.new.nodes.items) }
         ensures indexed { OnOk result (IsIndexOf self.old.nodes.items self.old.ends.items self.old.index → IsIndexOf self.new.nodes.items self.new.ends.items self.new.index) }
         ensures rules { length self.old.ends.items < 2 ^ 16 → IfOk result (λ changes. (c : RuleChangeData) → In c changes.items → c.rule.0 < length self.old.ends.items) }
@@ -209,7 +209,7 @@ impl Rete {
             → NetStep program.now (F.map facts.now) (lent gone.now) (option_map (λ f. f.now) come.entry) moment.now first.now self.old.nodes.items self.new.nodes.items self.old.ends.items changes.items) }
     {
         let answered = self.walk(alloc, program, first, gone, come, moment, facts)?;
-        self.quiet_until = quiet_until(&self.nodes, program);
+        self.quiet_until = quiet_until(&self.nodes, self.index.timed(), program);
         let changes = changes_of(alloc, &answered, &self.ends)?;
         Ok(changes)
     }

@@ -25,7 +25,7 @@ wired g c s forgotten stands = wired_of c.args.program.now c.args.self.now.nodes
 pub returns-clause-stands : goal.returns-clause-stands
 returns-clause-stands g c s next forgotten runnable stands moves at apart has has_now =
     net_stands c.args.program.now (g.F.Facts.map c.args.facts.now) s next (lent c.args.gone.now) (option_map (λ f. f.now) c.args.come) c.args.moment.now forgotten c.args.self.now c.step.new.self c.in_ok-changes.changes.items
-    moves at apart has has_now stands c.in_ok-changes.ensures.ends (step g c (wired g c s forgotten stands)) c.in_ok-changes.ensures.quiet
+    moves at apart has has_now stands c.in_ok-changes.ensures.ends (step g c (wired g c s forgotten stands)) (c.in_ok-changes.ensures.quiet stands.nodes.indexed)
     (c.in_ok-changes.ensures.indexed stands.nodes.indexed)
 
 pub returns-clause-differences : goal.returns-clause-differences

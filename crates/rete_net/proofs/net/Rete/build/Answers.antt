@@ -32,7 +32,7 @@ returns-clause-stands c runnable =
     let built = c.in_ok-net.ensures.built runnable in
     let first = step c (wired c runnable) in
     built_stands c.args.program.now c.in_ok-net.net built.0 built.1 built.2 built.3 built.4 built.5 first.0 first.1 c.step.new.self c.in_ok-changes.changes.items c.in_ok-changes.ensures.ends first.2
-    c.in_ok-changes.ensures.quiet (c.in_ok-changes.ensures.indexed c.in_ok-net.ensures.indexed)
+    (c.in_ok-changes.ensures.quiet c.in_ok-net.ensures.indexed) (c.in_ok-changes.ensures.indexed c.in_ok-net.ensures.indexed)
 
 pub returns-clause-first : goal.returns-clause-first
 returns-clause-first c runnable =

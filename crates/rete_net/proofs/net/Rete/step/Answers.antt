@@ -1,9 +1,10 @@
-use Rattle.std.proofs.Common.{◌∙◌, ap, subst, ℕ, List, length, ◌<◌, ◌^◌}
+use Rattle.std.proofs.Common.{◌∙◌, sym, ap, slice_get, subst, ℕ, List, length, ◌<◌, ◌^◌}
 use Rattle.std.specs.Option.{option_map}
 use Rattle.fx_base.specs.Lists.{In}
 use Rattle.rule_model.specs.Lent.{lent}
 use Rattle.rete_net.specs.declared.changes.RuleChange.{RuleChange}
 use Rattle.rete_net.specs.declared.node.NetNode.{NetNode}
+use Rattle.rete_net.specs.Indexes.{is_in}
 use Rattle.rete_net.specs.Quiet.{AreQuiet}
 use Rattle.rete_net.proofs.Frames.{index_again}
 use Rattle.rete_net.proofs.Turns.{net_step}
@@ -23,7 +24,11 @@ returns-clause-stepped g c wired =
     wired walked.replaced.many (c.deref-2.ensures.value ∙ ap (λ ends. ends.items) walked.ends) (walked.answered wired) c.in_ok-changes.ensures.changes
 
 pub returns-clause-quiet : goal.returns-clause-quiet
-returns-clause-quiet g c = subst (λ (nodes : List NetNode). AreQuiet c.args.program.now nodes c.quiet_until-self.result) c.deref.ensures.value c.quiet_until-self.ensures
+returns-clause-quiet g c indexed =
+    let found = (returns-clause-indexed g c indexed).found in
+    subst (λ (nodes : List NetNode). AreQuiet c.args.program.now nodes c.quiet_until-self.result) c.deref.ensures.value
+    (c.quiet_until-self.ensures (λ k n e timed.
+    ap (λ list. is_in list k) c.timed.ensures ∙ (found k n (ap (λ (nodes : List NetNode). slice_get nodes k) (sym c.deref.ensures.value) ∙ e)).timed timed))
 
 pub returns-clause-rules : goal.returns-clause-rules
 returns-clause-rules g c =
