@@ -1,12 +1,11 @@
 -- The changes of rules, out of what their last nodes answered.
-use Rattle.std.proofs.Common.{◌≡◌, ◌∙◌, sym, ap, refl, ℕ, zero, suc, ◌+◌, ◌<◌, ◌≤◌, ◌^◌, inl, inr, ◌==◌, length, arith, ◌&&◌, not, Bool, true, false, cond, List, [], ◌∷◌, ◌++◌, map, Option, Some, None, slice_get}
+use Rattle.std.proofs.Common.{◌≡◌, ◌∙◌, sym, ap, refl, ℕ, zero, suc, ◌+◌, ◌<◌, ◌^◌, ◌==◌, length, arith, ◌&&◌, not, Bool, true, false, cond, List, [], ◌∷◌, ◌++◌, map, Option, Some, None, slice_get}
 use Rattle.std.specs.declared.cmp.Ordering.TheVariants.{Less}
 use Rattle.std.specs.Cmp.{nat_cmp_is}
 use Rattle.std.specs.List.{AllByRecursion}
 use Rattle.std.specs.List.Sorted.{IsStrictlySortedBy}
 use Rattle.std.specs.Ordering.{nat_cmp}
 use Rattle.std.proofs.lemmas.Bool.Decides.{nat_tests}
-use Rattle.fx_base.specs.Lists.{In}
 use Rattle.row_delta.specs.declared.delta.Delta.{Delta}
 use Rattle.row_delta.specs.declared.row.Row.{Row}
 use Rattle.row_delta.specs.Differences.{IsBetween}
@@ -129,16 +128,3 @@ module _ (none : Delta) (deltas : List Delta) where
           → IsStrictlySortedBy nat_cmp (places (cond t [] (one from (delta_at none deltas end) ∷ []) ++ from_here (from + 1) ends))
       by true rest = rest
       by false rest = (later from (from + 1) ends (omega arith), rest)
-
-  -- each of them is the change of a rule whose last node stands among these
-  first_or_later : (from : ℕ) (delta : Delta) (rest : List RuleChange) (rules : ℕ) → from < rules → ((c : RuleChange) → In c rest → c.rule.0 < rules) → (c : RuleChange) → In c (change_at from delta ++ rest) → c.rule.0 < rules
-  first_or_later from delta rest rules h later c i = by (changes_nothing delta) i
-    where
-      by : (t : Bool) → In c (cond t [] (one from delta ∷ []) ++ rest) → c.rule.0 < rules
-      by true i = later c i
-      by false (inl e) = let same : c.rule.0 ≡ from = ap (λ (z : RuleChange). z.rule.0) e in omega (arith, same)
-      by false (inr i) = later c i
-
-  pub within_rules : (from : ℕ) (ends : List ℕ) (rules : ℕ) → from + length ends ≤ rules → (c : RuleChange) → In c (from_here from ends) → c.rule.0 < rules
-  within_rules from [] rules h c i = absurd i
-  within_rules from (end ∷ ends) rules h c i = first_or_later from (delta_at none deltas end) (from_here (from + 1) ends) rules (omega arith) (within_rules (from + 1) ends rules (omega arith)) c i

@@ -28,6 +28,7 @@ use Rattle.rete_net.specs.declared.forgetting.RuleRows.{RuleRows}
 use Rattle.rete_net.specs.declared.net.Rete.{Rete}
 use Rattle.rete_net.specs.declared.node.NetNode.{NetNode}
 use Rattle.rete_net.specs.Dropped.{AreOld, IsForgetting, NodeForgets, dropped_at, dropped_before, ForgotBelow, AllForget, rows_for, AreDropped}
+use Rattle.rete_net.specs.Indexes.{IsIndexOf}
 use Rattle.rete_net.specs.Nets.{NetNodeStands, HaveSame, NodesStand, NetStands}
 use Rattle.rete_net.specs.Shapes.{before, EndsAt}
 use Rattle.rete_net.proofs.Advancing.{first_row, rows_made}
@@ -184,19 +185,20 @@ module _ (p : Program) (look : Look) (s : Snapshot) (forgotten old : Named → B
         subst (λ (c : Condition). candidates_of p (pattern_of c) a who ≡ candidates_of p (pattern_of c) b who) (sym o.2) (is.same_candidates k o.0 o.1 who);
   }
 
-  abbrev nodes_now : NodesStand p new was (either forgotten old)
-  nodes_now = record {
+  abbrev nodes_now : IsIndexOf new.nodes.items new.ends.items new.index → NodesStand p new was (either forgotten old)
+  nodes_now indexed = record {
     shape = net_again p net.nodes.items new.nodes.items net.ends.items new.ends.items ends (forgetting_nodes p look old net.nodes.items new.nodes.items dropped (record { nodes = same; forgot = forgot })) stands.nodes.shape;
+    indexed = indexed;
     nodes = now.stand;
   }
 
-  pub net_forgets : NetStands p new s (either forgotten old)
-  net_forgets = record {
+  pub net_forgets : IsIndexOf new.nodes.items new.ends.items new.index → NetStands p new s (either forgotten old)
+  net_forgets indexed = record {
     seen = stands.seen;
     begun = stands.begun;
     later = stands.later;
     kept = stands.kept;
-    nodes = nodes_now;
+    nodes = nodes_now indexed;
     unchanged = still_same s was stands.unchanged;
     quiet = λ clock later low before kept. still_same (at_clock s clock) was (stands.quiet clock later low (subst (λ (at : Option ℤ). IsBefore at clock) until before) kept);
   }

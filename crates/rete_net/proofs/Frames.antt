@@ -1,5 +1,5 @@
 -- The shape of a network, which each step of its nodes keeps.
-use Rattle.std.proofs.Common.{◌≡◌, ◌∙◌, sym, ap, subst, ℕ, ◌<◌, arith, Bool, true, List, ◌∷◌, ◌++◌, [], length, Option, Some, slice_get}
+use Rattle.std.proofs.Common.{◌≡◌, ◌∙◌, sym, ap, subst, ℕ, ◌<◌, arith, not, ◌||◌, Bool, true, List, ◌∷◌, ◌++◌, [], length, Option, Some, slice_get}
 use Rattle.std.proofs.lemmas.Option.{slice_get_within}
 use Rattle.fx_base.specs.declared.fact.Fact.{Fact}
 use Rattle.row_delta.specs.declared.delta.Delta.{Delta}
@@ -10,20 +10,18 @@ use Rattle.rule_model.specs.declared.program.Program.{Program}
 use Rattle.rule_model.specs.Rows.{pattern_of}
 use Rattle.join_tests.specs.Joins.{Look}
 use Rattle.pattern_gate.specs.Gates.{has_good_window}
-use Rattle.condition_node.specs.Nodes.{condition_of}
+use Rattle.condition_node.specs.Nodes.{condition_of, is_negated}
 use Rattle.rete_net.specs.declared.changes.RuleChange.{RuleChange}
 use Rattle.rete_net.specs.declared.node.NetNode.{NetNode}
 use Rattle.rete_net.specs.Dropped.{AllForget}
 use Rattle.rete_net.specs.Shapes.{before, EndsAt, IsNetOf}
 use Rattle.rete_net.specs.Steps.{NetStep}
-use Rattle.rete_net.proofs.Growing.{has_at}
+use Rattle.rete_net.specs.Indexes.{is_listed, IsFound, IsIndexOf}
+use Rattle.rete_net.specs.Walks.{IsReplaced, IsWired}
+use Rattle.rete_net.specs.declared.index.Index.{Index}
+use Rattle.rule_model.specs.Simple.{is_whole}
+use Rattle.rete_net.proofs.Growing.{has_at, both_at}
 use Rattle.rule_model.specs.declared.moment.Moment.{Moment}
-
--- nodes in the places of others: as many, each with the parent and the condition of the one that was there
-pub record IsReplaced (old new : List NetNode) : Type 0 where
-  pub many : length new ≡ length old
-  pub parent : (k : ℕ) (a b : NetNode) → slice_get old k ≡ Some a → slice_get new k ≡ Some b → b.parent ≡ a.parent
-  pub condition : (k : ℕ) (a b : NetNode) → slice_get old k ≡ Some a → slice_get new k ≡ Some b → condition_of b.node ≡ condition_of a.node
 
 pub stepped_nodes : (p : Program) (look : Look) (gone : List Fact) (come : Option Fact) (moment : Moment) (first : Delta) (old new : List NetNode) (ends : List ℕ) (answers : List RuleChange)
     → NetStep p look gone come moment first old new ends answers → IsReplaced old new
@@ -79,3 +77,40 @@ module _ (p : Program) (old new : List NetNode) (ends ends_now : List ℕ) (same
         let o = was k n e in
         subst (λ (c : Condition). has_good_window p (pattern_of c) ≡ true) (sym (replaced.condition k o.0 n o.1 e)) (net.windows k o.0 o.1);
   }
+
+-- ---- the index
+
+found_again : (index : Index) (k : ℕ) (old new : NetNode) → new.parent ≡ old.parent → condition_of new.node ≡ condition_of old.node → IsFound index k old → IsFound index k new
+found_again index k old new parent condition was = record {
+  typed = ap (λ (c : Condition). is_listed index.by_type (pattern_of c).ty.0 k) condition ∙ was.typed;
+  timed = λ e. was.timed (ap (λ (c : Condition). is_negated c || not (is_whole (pattern_of c).window)) (sym condition) ∙ e);
+  first = λ e. was.first (sym parent ∙ e);
+  child = λ q e. was.child q (sym parent ∙ e);
+}
+
+-- the index finds the nodes still
+pub index_again : (old new : List NetNode) (ends ends_now : List ℕ) (index index_now : Index) → IsReplaced old new → ends_now ≡ ends → index_now ≡ index → IsIndexOf old ends index → IsIndexOf new ends_now index_now
+index_again old new ends ends_now index index_now replaced same same_index indexed =
+    subst (λ (i : Index). IsIndexOf new ends_now i) (sym same_index)
+    (subst (λ (es : List ℕ). IsIndexOf new es index) (sym same) (record {
+      found = λ k n e.
+          let many = replaced.many in
+          let within : k < length new = slice_get_within new k n e in
+          let o = has_at old k (omega arith) in
+          found_again index k o.0 n (replaced.parent k o.0 n o.1 e) (replaced.condition k o.0 n o.1 e) (indexed.found k o.0 o.1);
+      ended = indexed.ended;
+    }))
+
+-- a program's network with its index
+pub wired_of : (p : Program) (nodes : List NetNode) (ends : List ℕ) (index : Index) → IsNetOf p nodes ends → IsIndexOf nodes ends index → IsWired nodes ends index
+wired_of p nodes ends index net indexed = record {
+  indexed = indexed;
+  parents = net.shaped.parents;
+  lasts = λ rule end e.
+      let count = net.count in
+      let within : rule < length ends = slice_get_within ends rule end e in
+      let r = has_at p.rules rule (omega (arith, count)) in
+      let last = net.lasts rule r.0 r.1 in
+      let same : last.last ≡ end = both_at (slice_get ends rule) last.last end last.found e in
+      subst (λ (i : ℕ). i < length nodes) same (slice_get_within nodes last.last last.node last.there);
+}

@@ -122,7 +122,7 @@ pub has_at : {A : Type 0} (xs : List A) (k : ℕ) → k < length xs → (x : A) 
 has_at [] k h = absurd (omega arith)
 has_at (x ∷ xs) k h = (get_or (x ∷ xs) k x, slice_get-get_or (x ∷ xs) k x h)
 
-both_at : {A : Type 0} (o : Option A) (x y : A) → o ≡ Some x → o ≡ Some y → x ≡ y
+pub both_at : {A : Type 0} (o : Option A) (x y : A) → o ≡ Some x → o ≡ Some y → x ≡ y
 both_at o x y e f = let same : Some x ≡ Some y = sym e ∙ f in cc
 
 -- ---- one node more among distinct ones

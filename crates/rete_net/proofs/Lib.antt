@@ -18,3 +18,9 @@ mod Fewer
 pub mod Unmissed
 mod Answering
 mod Skipping
+mod Places
+mod Listed
+mod Lone
+mod Walking
+mod Steady
+mod Telling

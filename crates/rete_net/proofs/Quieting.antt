@@ -1,5 +1,5 @@
 -- How long the nodes of a network are quiet, and the network with them.
-use Rattle.std.proofs.Common.{◌≡◌, ◌∙◌, sym, ap, refl, subst, inl, inr, ℕ, zero, suc, ◌+◌, ℤ, pos, ◌<◌, ◌≤ℤ◌, ◌<ℤ◌, ◌^◌, arith, Bool, List, length, get_or, Option, Some, None, slice_get, IfSome}
+use Rattle.std.proofs.Common.{◌≡◌, ◌∙◌, sym, ap, refl, subst, inl, inr, ℕ, zero, suc, ◌+◌, ℤ, pos, ◌<◌, ◌≤ℤ◌, ◌<ℤ◌, ◌^◌, arith, Bool, List, length, get_or, Option, Some, None, slice_get, IfSome, true, false, not, ◌||◌, ◌==◌, take, map, ◌⊎◌, nat_eq}
 use mathlib.Core.Path.{fun_ext}
 use Rattle.std.specs.Int.Signed.{≤ℤ_refl}
 use Rattle.std.proofs.lemmas.Option.{slice_get_within, slice_get-get_or}
@@ -13,9 +13,9 @@ use Rattle.rule_model.specs.Snapshots.{Snapshot}
 use Rattle.pair_memory.specs.Standing.{cleaned}
 use Rattle.condition_rows.specs.Lines.{line}
 use Rattle.condition_rows.specs.Sets.{held, candidates_of, rows_of}
-use Rattle.pattern_gate.specs.Gates.{GateStands}
+use Rattle.pattern_gate.specs.Gates.{GateStands, arrivals, kind_of}
 use Rattle.pattern_gate.specs.Moves.{IsOrderly, at_clock}
-use Rattle.condition_node.specs.Nodes.{condition_of}
+use Rattle.condition_node.specs.Nodes.{condition_of, is_negated}
 use Rattle.condition_node.specs.Quiet.{IsBefore, IsQuiet}
 use Rattle.rete_net.specs.declared.net.Rete.{Rete}
 use Rattle.rete_net.specs.declared.node.NetNode.{NetNode}
@@ -26,7 +26,22 @@ use Rattle.rete_net.proofs.Advancing.{same_first, rows_made}
 use Rattle.rete_net.proofs.Chaining.{AreMade}
 use Rattle.rete_net.proofs.Cleaning.{line_cleaned}
 use Rattle.rete_net.proofs.Turning.{held_has, rising}
-use Rattle.rete_net.proofs.Turns.{below_or_at}
+use Rattle.rete_net.proofs.Lone.{neither_left, neither_right}
+use Rattle.std.proofs.lemmas.Bool.Decides.{Decides-eqb}
+use Rattle.std.proofs.lemmas.List.Folds.{list_any_more}
+use Rattle.rule_model.specs.Simple.{is_whole}
+use Rattle.rule_model.specs.declared.condition.WindowTag.{WindowTag}
+use Rattle.rule_model.specs.declared.condition.WindowTag.TheVariants.{Whole, Time, Length}
+use Rattle.row_delta.specs.Rows.{has}
+use Rattle.window_gate.specs.Windows.{Arrival, rows_inside, named_of, single}
+use Rattle.window_gate.specs.declared.change.WindowKind.{WindowKind}
+use Rattle.window_gate.proofs.Insides.{inside_whole}
+use Rattle.pattern_gate.specs.declared.gate.PatternGate.{PatternGate}
+use Rattle.pattern_gate.proofs.Moving.{same_candidates}
+use Rattle.condition_node.specs.declared.node.Node.{Node}
+use Rattle.condition_node.specs.declared.node.Node.TheVariants as node
+use Rattle.condition_node.proofs.Quietness.{join_quiet, exists_quiet, fold_quiet}
+use Rattle.rete_net.specs.Indexes.{is_in, is_timed}
 
 -- ---- one node
 
@@ -53,19 +68,53 @@ node_quiet p n window moment until gate node least s rows forgotten clock stands
 pub node_quieter : (p : Program) (n : NetNode) (until sooner : Option ℤ) → ((clock : ℤ) → IsBefore sooner clock → IsBefore until clock) → IsNodeQuiet p n until → IsNodeQuiet p n sooner
 node_quieter p n until sooner weaker quiet s rows forgotten clock stands named kept kept_now begun later low before = quiet s rows forgotten clock stands named kept kept_now begun later low (weaker clock before)
 
--- ---- the nodes before a place, and one more
+-- ---- a node that the clock alone does not change
 
-abbrev pub AreQuietBelow : Program → List NetNode → Option ℤ → ℕ → Type 0
-AreQuietBelow p nodes until i = (k : ℕ) (n : NetNode) → k < i → slice_get nodes k ≡ Some n → IsNodeQuiet p n until
+rows_whole : (w : WindowTag) → is_whole w ≡ true → (was now : ℤ) (list : List Arrival) → rows_inside (kind_of w) was list ≡ rows_inside (kind_of w) now list
+rows_whole Whole e was now list = ap (λ (xs : List Arrival). map single (map named_of xs)) (inside_whole was list ∙ sym (inside_whole now list))
+rows_whole (Time span) e was now list = absurd (let n : false ≡ true = e in cc)
+rows_whole (Length count) e was now list = absurd (let n : false ≡ true = e in cc)
 
-pub quiet_more : (p : Program) (nodes : List NetNode) (least moment now : Option ℤ) (i : ℕ) (node : NetNode) → AreQuietBelow p nodes least i → slice_get nodes i ≡ Some node → IsNodeQuiet p node moment
-    → ((clock : ℤ) → IsBefore now clock → IsBefore least clock × IsBefore moment clock) → AreQuietBelow p nodes now (i + 1)
-quiet_more p nodes least moment now i node below found quiet both k n h e = elim (below_or_at k i h) [
-  | inl lt ↦ node_quieter p n least now (λ clock b. (both clock b).0) (below k n lt e)
-  | inr at ↦
-      let known : Some node ≡ Some n = sym found ∙ ap (slice_get nodes) (sym at) ∙ e in
-      let same : node ≡ n = cc in
-      node_quieter p n moment now (λ clock b. (both clock b).1) (subst (λ (m : NetNode). IsNodeQuiet p m moment) same quiet)
+gate_still : (p : Program) (q : Pattern) (s : Snapshot) (clock : ℤ) (gate : PatternGate) → is_whole q.window ≡ true → GateStands p q gate s → IsOrderly p s → IsOrderly p (at_clock s clock)
+    → (who : Named) → candidates_of p q (at_clock s clock) who ≡ candidates_of p q s who
+gate_still p q s clock gate whole stands kept kept_now =
+    same_candidates p q s clock kept kept_now gate stands
+    (λ row. ap (λ (rows : List Row). has rows row)
+    (subst (λ (k : WindowKind). rows_inside k clock (arrivals p q s) ≡ rows_inside k s.clock (arrivals p q s)) (sym stands.window) (rows_whole q.window whole clock s.clock (arrivals p q s))))
+
+node_still : (p : Program) (n : Node) (until : Option ℤ) → is_negated (condition_of n) ≡ false → IsQuiet p n until
+node_still p (node.Join join) until e = join_quiet p join until
+node_still p (node.Not waiting) until e = absurd (let no : true ≡ false = e in cc)
+node_still p (node.Exists tally) until e = exists_quiet p tally until
+node_still p (node.Fold fold) until e = fold_quiet p fold until
+
+pub untimed_quiet : (p : Program) (n : NetNode) (until : Option ℤ) → is_timed n ≡ false → IsNodeQuiet p n until
+untimed_quiet p n until untimed s rows forgotten clock stands named kept kept_now begun later low before =
+    let q = pattern_of (condition_of n.node) in
+    let same = gate_still p q s clock n.gate (neither_right (is_negated (condition_of n.node)) (is_whole q.window) untimed) stands.gate kept kept_now in
+    record {
+      same_candidates = same;
+      same_line = node_still p n.node until (neither_left (is_negated (condition_of n.node)) (not (is_whole q.window)) untimed)
+          (held s) s rows forgotten clock (rising s.facts kept.in_order) (held_has s forgotten) named stands.node begun later low before same;
+    }
+
+-- ---- the nodes in some places, and one more
+
+abbrev pub AreQuietAmong : Program → List NetNode → Option ℤ → List ℕ → Type 0
+AreQuietAmong p nodes until places = (k : ℕ) (n : NetNode) → is_in places k ≡ true → slice_get nodes k ≡ Some n → IsNodeQuiet p n until
+
+or_else : (a b : Bool) → (a || b) ≡ true → (a ≡ true) ⊎ (b ≡ true)
+or_else true b e = inl refl
+or_else false b e = inr e
+
+pub quiet_more : (p : Program) (nodes : List NetNode) (least moment now : Option ℤ) (places : List ℕ) (i : ℕ) → i < length places → AreQuietAmong p nodes least (take i places)
+    → ((n : NetNode) → slice_get nodes (get_or places i 0) ≡ Some n → IsNodeQuiet p n moment)
+    → ((clock : ℤ) → IsBefore now clock → IsBefore least clock × IsBefore moment clock) → AreQuietAmong p nodes now (take (i + 1) places)
+quiet_more p nodes least moment now places i lt below quiet both k n there e = elim (or_else (is_in (take i places) k) (k == get_or places i 0) (sym (list_any_more (nat_eq k) places i 0 lt) ∙ there)) [
+  | inl before ↦ node_quieter p n least now (λ clock b. (both clock b).0) (below k n before e)
+  | inr here ↦
+      let same : k ≡ get_or places i 0 = (Decides-eqb k (get_or places i 0)).0 here in
+      node_quieter p n moment now (λ clock b. (both clock b).1) (quiet n (ap (slice_get nodes) (sym same) ∙ e))
 ]
 
 -- ---- all nodes

@@ -33,6 +33,7 @@ use Rattle.rule_world.specs.Programs.{IsRunnable}
 use Rattle.rete_net.specs.declared.changes.RuleChange.{RuleChange}
 use Rattle.rete_net.specs.declared.net.Rete.{Rete}
 use Rattle.rete_net.specs.declared.node.NetNode.{NetNode}
+use Rattle.rete_net.specs.Indexes.{IsIndexOf}
 use Rattle.rete_net.specs.Nets.{NodesStand, NetStands, AreBetween}
 use Rattle.rete_net.specs.Forgetting.{CountsNone}
 use Rattle.rete_net.specs.Quiet.{AreQuiet}
@@ -138,9 +139,8 @@ beside p forgotten c behind = record {
 
 -- ---- what was built
 
-module _ (p : Program) (moment : Moment) (is_at : IsAt empty_snapshot moment) (net new : Rete) (all : List (List Condition)) (answers : List RuleChange) (built : AreBuilt p net.nodes.items all)
-    (ends : HaveEnds all net.ends.items p.rules (length p.rules)) (fronts_are : AreFronts p all) (distinct : AreDistinct all) (count : length net.ends.items ≡ length p.rules) (same : new.ends.items ≡ net.ends.items)
-    (step : NetStep p no_facts [] None moment empty_row_comes net.nodes.items new.nodes.items net.ends.items answers) where
+module _ (p : Program) (net : Rete) (all : List (List Condition)) (built : AreBuilt p net.nodes.items all)
+    (ends : HaveEnds all net.ends.items p.rules (length p.rules)) (fronts_are : AreFronts p all) (distinct : AreDistinct all) (count : length net.ends.items ≡ length p.rules) where
   abbrev conditions : ℕ → List Condition
   conditions k = get_or all k []
 
@@ -191,23 +191,28 @@ module _ (p : Program) (moment : Moment) (is_at : IsAt empty_snapshot moment) (n
   abbrev shape : IsNetOf p net.nodes.items net.ends.items
   shape = record { conditions = conditions; shaped = record { parents = earlier; own = own }; once = once; lasts = end_at; count = count; fronts = fronts; windows = built.windows }
 
-  nodes_now : (forgotten : Named → Bool) → NodesStand p new empty_snapshot forgotten
-  nodes_now forgotten =
-      stands_now p no_facts empty_snapshot empty_snapshot [] None moment forgotten empty_row_comes nothing (λ rule. []) net new shape answers (starts p moment is_at forgotten) (nothing_made p empty_snapshot) (first_comes p forgotten)
-      (standing forgotten) (λ k n e. beside p forgotten (condition_of n.node) (before conditions n.parent)) same step (λ place rule e. refl)
+  pub built_shape : IsNetOf p net.nodes.items net.ends.items
+  built_shape = shape
 
-  pub built_net : IsNetOf p new.nodes.items new.ends.items
-  built_net =
-      shape_now p no_facts empty_snapshot empty_snapshot [] None moment no_names empty_row_comes nothing (λ rule. []) net new shape answers (starts p moment is_at no_names) (nothing_made p empty_snapshot) (first_comes p no_names)
-      (standing no_names) (λ k n e. beside p no_names (condition_of n.node) (before conditions n.parent)) same step (λ place rule e. refl)
+  module _ (moment : Moment) (is_at : IsAt empty_snapshot moment) (new : Rete) (answers : List RuleChange) (same : new.ends.items ≡ net.ends.items)
+      (step : NetStep p no_facts [] None moment empty_row_comes net.nodes.items new.nodes.items net.ends.items answers) where
+    nodes_now : IsIndexOf new.nodes.items new.ends.items new.index → (forgotten : Named → Bool) → NodesStand p new empty_snapshot forgotten
+    nodes_now indexed forgotten =
+        stands_now p no_facts empty_snapshot empty_snapshot [] None moment forgotten empty_row_comes nothing (λ rule. []) net new shape answers (starts p moment is_at forgotten) (nothing_made p empty_snapshot) (first_comes p forgotten)
+        (standing forgotten) (λ k n e. beside p forgotten (condition_of n.node) (before conditions n.parent)) same step (λ place rule e. refl) indexed
 
-  pub built_stands : AreQuiet p new.nodes.items new.quiet_until → (forgotten : Named → Bool) → NetStands p new empty_snapshot forgotten
-  built_stands quiet forgotten =
-      seen_now p new empty_snapshot forgotten (nodes_now forgotten) (kept p) (standstill (pos 0)) quiet
+    pub built_net : IsNetOf p new.nodes.items new.ends.items
+    built_net =
+        shape_now p no_facts empty_snapshot empty_snapshot [] None moment no_names empty_row_comes nothing (λ rule. []) net new shape answers (starts p moment is_at no_names) (nothing_made p empty_snapshot) (first_comes p no_names)
+        (standing no_names) (λ k n e. beside p no_names (condition_of n.node) (before conditions n.parent)) same step (λ place rule e. refl)
 
-  pub built_between : IsRunnable p → AreBetween p (λ rule. []) (λ rule. rows p empty_snapshot rule.conditions) answers
-  built_between runnable =
-      subst (λ (lists : Rule → List Row). AreBetween p (λ rule. []) lists answers) (fun_ext (λ rule. all_clean (rows p empty_snapshot rule.conditions)))
-      (between_now p no_facts empty_snapshot empty_snapshot [] None moment no_names empty_row_comes nothing (λ rule. []) net new shape answers (starts p moment is_at no_names) (nothing_made p empty_snapshot) (first_comes p no_names)
-      (standing no_names) (λ k n e. beside p no_names (condition_of n.node) (before conditions n.parent)) same step (λ place rule e. refl)
-      (few_ends p net.ends.items count runnable))
+    pub built_stands : AreQuiet p new.nodes.items new.quiet_until → IsIndexOf new.nodes.items new.ends.items new.index → (forgotten : Named → Bool) → NetStands p new empty_snapshot forgotten
+    built_stands quiet indexed forgotten =
+        seen_now p new empty_snapshot forgotten (nodes_now indexed forgotten) (kept p) (standstill (pos 0)) quiet
+
+    pub built_between : IsRunnable p → AreBetween p (λ rule. []) (λ rule. rows p empty_snapshot rule.conditions) answers
+    built_between runnable =
+        subst (λ (lists : Rule → List Row). AreBetween p (λ rule. []) lists answers) (fun_ext (λ rule. all_clean (rows p empty_snapshot rule.conditions)))
+        (between_now p no_facts empty_snapshot empty_snapshot [] None moment no_names empty_row_comes nothing (λ rule. []) net new shape answers (starts p moment is_at no_names) (nothing_made p empty_snapshot) (first_comes p no_names)
+        (standing no_names) (λ k n e. beside p no_names (condition_of n.node) (before conditions n.parent)) same step (λ place rule e. refl)
+        (few_ends p net.ends.items count runnable))

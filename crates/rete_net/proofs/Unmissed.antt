@@ -272,6 +272,7 @@ module _ (p : Program) (net : Rete) (s : Snapshot) (forgotten : Named → Bool) 
   abbrev nodes_less : NodesStand p net (at_clock (less_fact s f) stands.seen) forgotten
   nodes_less = record {
     shape = stands.nodes.shape;
+    indexed = stands.nodes.indexed;
     nodes = node_now;
   }
 

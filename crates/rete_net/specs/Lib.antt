@@ -1,7 +1,11 @@
 pub mod Shapes
+pub mod Places
+pub mod Indexes
 pub mod Nets
 pub mod Quiet
 pub mod Forgetting
 pub mod Dropped
 pub mod Steps
+pub mod Answers
+pub mod Walks
 pub mod Building

@@ -24,6 +24,7 @@ use Rattle.condition_node.specs.Quiet.{IsBefore}
 use Rattle.rete_net.specs.declared.changes.RuleChange.{RuleChange}
 use Rattle.rete_net.specs.declared.node.NetNode.{NetNode}
 use Rattle.rete_net.specs.declared.net.Rete.{Rete}
+use Rattle.rete_net.specs.Indexes.{IsIndexOf}
 use Rattle.rete_net.specs.Shapes.{before, IsNetOf}
 
 -- A node and its gate stand for the rows of the conditions before it, in a snapshot. The node has dropped what was forgotten; the gate
@@ -36,9 +37,10 @@ pub record NetNodeStands (p : Program) (n : NetNode) (s : Snapshot) (rows : Row 
 abbrev pub IsFresh : Program → NetNode → Type 0
 IsFresh p n = (forgotten : Named → Bool) → NetNodeStands p n empty_snapshot no_rows forgotten
 
--- The nodes of a program's network stand for a snapshot: each for the rows of the conditions before it.
+-- The nodes of a program's network, which its index finds, stand for a snapshot: each for the rows of the conditions before it.
 pub record NodesStand (p : Program) (net : Rete) (s : Snapshot) (forgotten : Named → Bool) : Type 0 where
   pub shape : IsNetOf p net.nodes.items net.ends.items
+  pub indexed : IsIndexOf net.nodes.items net.ends.items net.index
   pub nodes : (k : ℕ) (n : NetNode) → slice_get net.nodes.items k ≡ Some n → NetNodeStands p n s (rows_of p s (before shape.conditions n.parent)) forgotten
 
 -- The nodes have the same before them in both snapshots: the conditions of each have the same rows that name no forgotten fact, and its

@@ -1,7 +1,12 @@
-ghost use Rattle.std.specs.Prelude.{◌≡◌, ◌++◌, ◌<◌, ◌^◌, length, IfOk, OnOk};
-ghost use Rattle.rete_net.specs.Steps.{change_at, changes_from};
+ghost use Rattle.std.specs.Prelude.{◌≡◌, ◌++◌, ◌<◌, ◌^◌, ℕ, List, Some, length, slice_get, IfOk, OnOk};
+ghost use Rattle.fx_base.specs.Lists.{In};
+ghost use Rattle.row_delta.specs.declared.delta.Delta.{Delta as DeltaData};
+ghost use Rattle.rete_net.specs.declared.changes.RuleChange.{RuleChange as RuleChangeData};
+ghost use Rattle.rete_net.specs.Answers.{answer_in, AreRuled};
+ghost use Rattle.rete_net.specs.Steps.{change_at, changes_from, delta_at, no_change};
 
-use crate::steps::delta_at;
+use crate::answered::Answered;
+use crate::due::first_below;
 use fx_base::{Copies, NoMemory, RuleId};
 use row_change::changes_nothing;
 use row_delta::Delta;
@@ -43,19 +48,24 @@ fn put_change(
     Ok(())
 }
 
-/// The changes of the rules whose last nodes stand in these places, in their order. It copies the differences that have a row.
-pub(crate) fn changes_at(
+/// The changes of the rules, in their order, out of what their last nodes, which stand in these places, answered. It costs the logarithm of the answers for each
+/// rule that ends at a node that answered, and copies the difference.
+pub(crate) fn changes_of(
     alloc: Global,
-    none: &Delta,
-    deltas: &[Delta],
+    answered: &Answered<Delta>,
     ends: &[usize],
 ) -> Result<Vec<RuleChange>, NoMemory>
-    ensures { IfOk result (λ changes. length ends.now < 2 ^ 16 → changes.items ≡ changes_from none.now deltas.now 0 ends.now) }
+    ensures changes { IfOk result (λ changes. length ends.now < 2 ^ 16 → (first : DeltaData) (deltas : List DeltaData) → answered.now.none ≡ no_change → AreRuled answered.now ends.now
+        → ((rule end : ℕ) → slice_get ends.now rule ≡ Some end → delta_at first deltas end ≡ answer_in answered.now end)
+        → changes.items ≡ changes_from first deltas 0 ends.now) }
+    ensures rules { IfOk result (λ changes. length ends.now < 2 ^ 16 → (c : RuleChangeData) → In c changes.items → c.rule.0 < length ends.now) }
 {
     let mut changes = Vec::new(alloc);
-    for (place, end) in ends.iter().enumerate() {
-        let delta = delta_at(none, deltas, *end);
+    let mut next = 0;
+    'rules: while let Some(place) = first_below(answered.rules(), next, ends.len()) {
+        let delta = answered.answer(ends[place]);
         put_change(&mut changes, alloc, rule_in(place), delta)?;
+        next = place + 1;
     }
     Ok(changes)
 }

@@ -3,10 +3,14 @@
 //! outside.
 #![tactic(auto)]
 
+mod answered;
 mod build;
 mod changes;
+mod due;
 mod forgetting;
+mod index;
 pub mod laws;
+mod lists;
 mod net;
 mod node;
 mod quiet;

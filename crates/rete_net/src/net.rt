@@ -19,30 +19,36 @@ ghost use Rattle.condition_node.specs.Quiet.{IsBefore};
 ghost use Rattle.rete_net.specs.declared.changes.RuleChange.{RuleChange as RuleChangeData};
 ghost use Rattle.rete_net.specs.Dropped.{AllForget, AreDropped, AreListed};
 ghost use Rattle.rete_net.specs.Forgetting.{AreNotNeeded};
+ghost use Rattle.rete_net.specs.Indexes.{IsIndexOf};
 ghost use Rattle.rete_net.specs.Nets.{NetStands, clean_rows, AreBetween};
 ghost use Rattle.rete_net.specs.Building.{AreBuilt, AreDistinct, AreFronts, HaveEnds};
 ghost use Rattle.rete_net.specs.Quiet.{AreQuiet};
 ghost use Rattle.rete_net.specs.Shapes.{CountsFronts, IsNetOf};
 ghost use Rattle.rete_net.specs.Steps.{NetStep};
+ghost use Rattle.rete_net.specs.Walks.{HasAnswered, IsReplaced, IsWired};
 
+use crate::answered::Answered;
 use crate::build::{Builder, NoFacts, empty_row_comes, no_change};
-use crate::changes::{RuleChange, changes_at};
+use crate::changes::{RuleChange, changes_of};
+use crate::due::{first_below, reached};
 use crate::forgetting::{RuleRows, forget_all, rows_of_rules};
+use crate::index::Index;
 use crate::node::NetNode;
 use crate::quiet::is_before;
-use crate::steps::{quiet_until, step_all};
+use crate::steps::{put_delta, quiet_until};
 use fx_base::{Fact, Facts, Millis, NoMemory, Seq};
 use row_delta::{Delta, Named, Row};
 use rule_model::{Moment, Program};
 use std::alloc::Global;
 
-/// The network of a program: its nodes, each behind its parent, the last node of each rule by the rule's place, and the moment of
+/// The network of a program: its nodes, each behind its parent, the last node of each rule by the rule's place, by what both are found, and the moment of
 /// the clock, in milliseconds, from which something is due in a gate or a node. Until then a move of the clock alone changes
 /// nothing; without such a moment it never does. After a call that was refused memory it is to be given up.
 #[derive(Drop)]
 pub struct Rete {
     nodes: Vec<NetNode>,
     ends: Vec<usize>,
+    index: Index,
     quiet_until: Option<i128>,
 }
 
@@ -68,9 +74,11 @@ impl Rete {
 
     /// Takes the facts that go and the one that comes, if one does, and the moment, and answers of the rules
     /// whose rows change, in their order, what has changed in them, but for rows that name a forgotten fact; no rule may need one.
-    /// `facts` has those that stay and are not forgotten, those that go and the one that comes. A node that nothing reaches costs the constant tests of each of these facts and a look, and takes no memory: one
-    /// before whose condition no row changes, whose pattern no such fact fits, and in which nothing is due. The
-    /// others cost what their gates and nodes say, and a change is copied once for each rule that has it.
+    /// `facts` has those that stay and are not forgotten, those that go and the one that comes. It asks the nodes whose candidates are of
+    /// the types of these facts, at the cost of the constant tests of each, and those with a window or a `not`, at the cost of a look where
+    /// nothing reaches them and nothing is due; and behind each node that answers a change it takes its children. What no such way
+    /// leads to costs nothing: neither another node nor its rules. The others cost what their gates and nodes say, the logarithm of
+    /// their number, and a change is copied once for each rule that has it.
     pub fn advance<F: Facts>(
         &mut self,
         alloc: Global,
@@ -144,7 +152,8 @@ impl Rete {
 
     /// The nodes of all rules, which keep nothing.
     fn of_rules(alloc: Global, program: &Program) -> Result<Rete, NoMemory>
-        ensures { IfOk result (λ net. IsRunnable program.now → (all : List (List Condition)) × AreBuilt program.now net.nodes.items all × HaveEnds all net.ends.items program.now.rules (length program.now.rules)
+        ensures indexed { IfOk result (λ net. IsIndexOf net.nodes.items net.ends.items net.index) }
+        ensures built { IfOk result (λ net. IsRunnable program.now → (all : List (List Condition)) × AreBuilt program.now net.nodes.items all × HaveEnds all net.ends.items program.now.rules (length program.now.rules)
             × AreFronts program.now all × AreDistinct all × (length net.ends.items ≡ length program.now.rules)) }
     {
         let mut builder = Builder::new(alloc);
@@ -153,9 +162,11 @@ impl Rete {
             let last = builder.put_chain(alloc, program, rule)?;
             ends.push(last.unwrap_or(0))?;
         }
+        let index = Index::of(alloc, &builder.nodes, &ends)?;
         Ok(Rete {
             nodes: builder.nodes,
             ends,
+            index,
             quiet_until: None,
         })
     }
@@ -170,13 +181,14 @@ impl Rete {
     ) -> Result<Vec<Seq<Row>>, NoMemory>
         ensures ends { OnOk result (self.new.ends.items ≡ self.old.ends.items) }
         ensures quiet { OnOk result (self.new.quiet_until ≡ self.old.quiet_until) }
+        ensures indexed { OnOk result (IsIndexOf self.old.nodes.items self.old.ends.items self.old.index → IsIndexOf self.new.nodes.items self.new.ends.items self.new.index) }
         ensures forgot { IfOk result (λ dropped. AllForget program.now (F.map facts.now) (has_name old.now) self.old.nodes.items self.new.nodes.items dropped.items) }
     {
         let dropped = forget_all(&mut self.nodes, alloc, program, old, facts)?;
         Ok(dropped)
     }
 
-    /// Lets all nodes take their step, and answers what the last nodes of the rules answer. `first` comes to the nodes without a
+    /// Lets the nodes that the step reaches take it, and answers what the last nodes of the rules answer. `first` comes to the nodes without a
     /// parent.
     fn step<F: Facts>(
         &mut self,
@@ -189,21 +201,47 @@ impl Rete {
         facts: &F,
     ) -> Result<Vec<RuleChange>, NoMemory>
         ensures ends { OnOk result (self.new.ends.items ≡ self.old.ends.items) }
-        ensures quiet { OnOk result (AreQuiet program.now self.new.nodes.items self.new.quiet_until) }
-        ensures stepped { IfOk result (λ changes. NetStep program.now (F.map facts.now) (lent gone.now) (option_map (λ f. f.now) come.entry) moment.now first.now self.old.nodes.items self.new.nodes.items self.old.ends.items changes.items) }
+        ensures quiet { OnOk result (IsIndexOf self.old.nodes.items self.old.ends.items self.old.index → AreQuiet program.now self.new.nodes.items self.new.quiet_until) }
+        ensures replaced { OnOk result (IsReplaced self.old.nodes.items self.new.nodes.items) }
+        ensures indexed { OnOk result (IsIndexOf self.old.nodes.items self.old.ends.items self.old.index → IsIndexOf self.new.nodes.items self.new.ends.items self.new.index) }
+        ensures rules { length self.old.ends.items < 2 ^ 16 → IfOk result (λ changes. (c : RuleChangeData) → In c changes.items → c.rule.0 < length self.old.ends.items) }
+        ensures stepped { IfOk result (λ changes. IsWired self.old.nodes.items self.old.ends.items self.old.index
+            → NetStep program.now (F.map facts.now) (lent gone.now) (option_map (λ f. f.now) come.entry) moment.now first.now self.old.nodes.items self.new.nodes.items self.old.ends.items changes.items) }
     {
-        let deltas = step_all(
-            &mut self.nodes,
-            alloc,
-            program,
-            first,
-            gone,
-            come,
-            moment,
-            facts,
-        )?;
-        self.quiet_until = quiet_until(&self.nodes, program);
-        let changes = changes_at(alloc, first, &deltas, &self.ends)?;
+        let answered = self.walk(alloc, program, first, gone, come, moment, facts)?;
+        self.quiet_until = quiet_until(&self.nodes, self.index.timed(), program);
+        let changes = changes_of(alloc, &answered, &self.ends)?;
         Ok(changes)
+    }
+
+    /// Lets the nodes that the step reaches take it, each after its parent, and answers what they answer. `first` comes to the nodes
+    /// without a parent.
+    fn walk<F: Facts>(
+        &mut self,
+        alloc: Global,
+        program: &Program,
+        first: &Delta,
+        gone: &[&Fact],
+        come: Option<&Fact>,
+        moment: &Moment,
+        facts: &F,
+    ) -> Result<Answered<Delta>, NoMemory>
+        ensures ends { OnOk result (self.new.ends ≡ self.old.ends) }
+        ensures index { OnOk result (self.new.index ≡ self.old.index) }
+        ensures replaced { OnOk result (IsReplaced self.old.nodes.items self.new.nodes.items) }
+        ensures answered { IfOk result (λ a. IsWired self.old.nodes.items self.old.ends.items self.old.index
+            → HasAnswered program.now (F.map facts.now) (lent gone.now) (option_map (λ f. f.now) come.entry) moment.now first.now self.old.nodes.items self.new.nodes.items self.old.ends.items a) }
+    {
+        let mut due = reached(alloc, &self.nodes, &self.index, first, gone, come)?;
+        let mut answered = Answered::new(alloc, no_change(alloc));
+        let mut next = 0;
+        'walk: while let Some(place) = first_below(&due, next, self.nodes.len()) {
+            let node = &mut self.nodes[place];
+            let left = answered.left(first, node.parent);
+            let delta = node.advance(alloc, program, left, gone, come, moment, facts)?;
+            put_delta(&mut answered, &mut due, &self.index, place, delta)?;
+            next = place + 1;
+        }
+        Ok(answered)
     }
 }

@@ -4,8 +4,11 @@ ghost use Rattle.row_change.specs.Changes.{changes_nothing};
 ghost use Rattle.rule_model.specs.Lent.{lent};
 ghost use Rattle.join_tests.specs.Joins.{Look};
 ghost use Rattle.pair_memory.specs.Joined.{has_name};
-ghost use Rattle.condition_node.specs.Nodes.{condition_of};
+ghost use Rattle.rule_model.specs.Rows.{pattern_of};
+ghost use Rattle.pattern_gate.specs.Turns.{is_meant};
+ghost use Rattle.condition_node.specs.Nodes.{condition_of, is_negated};
 ghost use Rattle.rete_net.specs.Dropped.{NodeForgets};
+ghost use Rattle.rete_net.specs.Indexes.{is_timed, type_of};
 ghost use Rattle.rete_net.specs.Nets.{IsFresh};
 ghost use Rattle.rete_net.specs.Quiet.{IsNodeQuiet};
 ghost use Rattle.rete_net.specs.Steps.{no_change, NodeStep};
@@ -13,7 +16,7 @@ ghost use Rattle.rete_net.specs.Steps.{no_change, NodeStep};
 use crate::build::no_change;
 use crate::quiet::{earlier, widened};
 use condition_node::Node;
-use fx_base::{Fact, Facts, NoMemory, Seq};
+use fx_base::{Fact, Facts, NoMemory, Seq, TypeId};
 use pattern_gate::PatternGate;
 use row_change::changes_nothing;
 use row_delta::{Delta, Named, Row};
@@ -96,6 +99,28 @@ impl NetNode {
                 .is_still(self.node.pattern(), gone, come, moment.clock)
     }
 
+    /// The type of its candidates. Takes no memory.
+    pub(crate) fn ty(&self) -> TypeId
+        ensures { result.0 ≡ type_of self.now }
+    {
+        self.node.pattern().ty
+    }
+
+    /// Whether the clock alone may change something here: a `not` waits, and candidates leave a window. Takes no memory.
+    pub(crate) fn is_timed(&self) -> bool
+        ensures { result ≡ is_timed self.now }
+    {
+        is_not(&self.node) || !self.node.pattern().window.is_whole()
+    }
+
+    /// Whether a fact is of its pattern's type and entry point, and passes the constant tests. Takes no memory.
+    pub(crate) fn means(&self, fact: &Fact) -> bool
+        ensures { result ≡ is_meant (pattern_of (condition_of self.now.node)) fact.now }
+    {
+        let pattern = self.node.pattern();
+        fact.ty == pattern.ty && fact.entry == pattern.entry && pattern.passes_alone(fact)
+    }
+
     /// Drops those of the rows before it that name an old fact, which are these, and the old candidates, and answers the rows of its
     /// condition that go with them, in order. The gate stands for the whole snapshot, and keeps them.
     pub(crate) fn forget<F: Facts>(
@@ -120,5 +145,17 @@ impl NetNode {
         let window = widened(self.gate.quiet_until());
         let moment = self.node.quiet_until(program);
         earlier(window, moment)
+    }
+}
+
+// Whether the node is that of a `not`.
+fn is_not(node: &Node) -> bool
+    ensures { result ≡ is_negated (condition_of node.now) }
+{
+    match node {
+        Node::Not(_) => true,
+        Node::Join(_) => false,
+        Node::Exists(_) => false,
+        Node::Fold(_) => false,
     }
 }

@@ -1,66 +1,55 @@
-ghost use Rattle.std.specs.Prelude.{◌≡◌, option_map, IfOk, length};
-ghost use Rattle.rule_model.specs.Lent.{lent};
-ghost use Rattle.rete_net.specs.Quiet.{AreQuiet};
-ghost use Rattle.rete_net.specs.Steps.{delta_at, left_delta, SteppedBelow};
+ghost use Rattle.std.specs.Prelude.{◌≡◌, ℕ, Some, true, slice_get, OnOk};
+ghost use Rattle.rete_net.specs.Answers.{IsPut};
+ghost use Rattle.rete_net.specs.Indexes.{is_in, is_timed};
+ghost use Rattle.rete_net.specs.Quiet.{AreQuiet, IsNodeQuiet};
+ghost use Rattle.rete_net.specs.declared.node.NetNode.{NetNode as NetNodeData};
+ghost use Rattle.rete_net.specs.Steps.{no_change};
 
+use crate::answered::Answered;
+use crate::index::Index;
 use crate::node::NetNode;
 use crate::quiet::earlier;
-use fx_base::{Fact, Facts, NoMemory};
+use fx_base::NoMemory;
+use row_change::changes_nothing;
 use row_delta::Delta;
-use rule_model::{Moment, Program};
+use rule_model::Program;
 use std::alloc::Global;
+use std::collections::BTreeSet;
 
-/// The difference in a place, or `none` past the end.
-pub(crate) fn delta_at<'d>(none: &'d Delta, deltas: &'d [Delta], place: usize) -> &'d Delta
-    ensures { result.now ≡ delta_at none.now deltas.now place }
+/// Puts what the node in a place answers, where it has a row.
+pub(crate) fn put_delta(
+    answered: &mut Answered<Delta>,
+    due: &mut BTreeSet<usize, Global>,
+    index: &Index,
+    place: usize,
+    delta: Delta,
+) -> Result<(), NoMemory>
+    ensures { OnOk result (answered.old.none ≡ no_change → IsPut index.now place delta answered.old answered.new due.old.keys due.new.keys) }
 {
-    match deltas.get(place) {
-        Some(delta) => delta,
-        None => none,
+    if changes_nothing(&delta) {
+        return Ok(());
     }
+    answered.put(due, index, place, delta)
 }
 
-// What comes to a node: what the node before it answered, or what comes to the first nodes.
-fn left_delta<'d>(first: &'d Delta, deltas: &'d [Delta], parent: Option<usize>) -> &'d Delta
-    ensures { result.now ≡ left_delta first.now deltas.now parent }
-{
-    match parent {
-        Some(parent) => delta_at(first, deltas, parent),
-        None => first,
-    }
-}
-
-/// Lets each node take its step, in order, and answers what has changed in the rows of each. `first` comes to the nodes without
-/// a parent.
-pub(crate) fn step_all<F: Facts>(
-    nodes: &mut [NetNode],
-    alloc: Global,
-    program: &Program,
-    first: &Delta,
-    gone: &[&Fact],
-    come: Option<&Fact>,
-    moment: &Moment,
-    facts: &F,
-) -> Result<Vec<Delta>, NoMemory>
-    ensures { IfOk result (λ deltas. SteppedBelow program.now (F.map facts.now) (lent gone.now) (option_map (λ f. f.now) come.entry) moment.now first.now nodes.old nodes.new deltas.items (length nodes.old)) }
-{
-    let mut deltas = Vec::with_capacity(alloc, nodes.len())?;
-    for i in 0..nodes.len() {
-        let node = &mut nodes[i];
-        let left = left_delta(first, &deltas, node.parent);
-        let delta = node.advance(alloc, program, left, gone, come, moment, facts)?;
-        deltas.push(delta)?;
-    }
-    Ok(deltas)
-}
-
-/// The least moment of the clock, in milliseconds, from which something is due in one of the nodes.
-pub(crate) fn quiet_until(nodes: &[NetNode], program: &Program) -> Option<i128>
-    ensures { AreQuiet program.now nodes.now result }
+/// The least moment of the clock, in milliseconds, from which something is due in one of the nodes. It looks at these, which are those
+/// that the clock alone may change.
+pub(crate) fn quiet_until(nodes: &[NetNode], timed: &[usize], program: &Program) -> Option<i128>
+    ensures { ((k : ℕ) (n : NetNodeData) → slice_get nodes.now k ≡ Some n → is_timed n ≡ true → is_in timed.now k ≡ true) → AreQuiet program.now nodes.now result }
 {
     let mut least = None;
-    for node in nodes {
-        least = earlier(least, node.quiet_until(program));
+    for place in timed {
+        least = earlier(least, quiet_at(nodes, *place, program));
     }
     least
+}
+
+// The moment of the node in a place.
+fn quiet_at(nodes: &[NetNode], place: usize, program: &Program) -> Option<i128>
+    ensures { (n : NetNodeData) → slice_get nodes.now place ≡ Some n → IsNodeQuiet program.now n result }
+{
+    match nodes.get(place) {
+        Some(node) => node.quiet_until(program),
+        None => None,
+    }
 }

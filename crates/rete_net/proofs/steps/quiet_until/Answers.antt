@@ -1,18 +1,18 @@
-use Rattle.std.proofs.Common.{◌∙◌, sym, ap, ◌<◌, length, arith, Some}
-use Rattle.std.proofs.lemmas.Option.{slice_get_within, slice_get-get_or}
-use Rattle.rete_net.proofs.Quieting.{quiet_more}
+use Rattle.std.proofs.Common.{◌≡◌, ◌∙◌, ap, refl, Bool, true, false, arith}
+use Rattle.std.proofs.lemmas.List.{take_all}
+use Rattle.rete_net.specs.Indexes.{is_in, is_timed}
+use Rattle.rete_net.specs.Quiet.{IsNodeQuiet}
+use Rattle.rete_net.proofs.Quieting.{quiet_more, untimed_quiet}
 use Rattle.rete_net.proofs.steps.quiet_until.Goals as goal
 
-pub loop-node-preserved : goal.loop-node-preserved
-loop-node-preserved c =
-    let nodes = c.args.nodes.now in
-    let i = c.loop-node.node-index in
-    let within : c.loop-node.node-index < length c.args.nodes.now = omega arith in
-    quiet_more c.args.program.now nodes c.loop-node.least c.quiet_until.result c.earlier-least.result i c.node-item.result
-    c.loop-node.invariant (slice_get-get_or nodes i c.node-item.result within ∙ ap Some (sym c.node-item.is)) c.quiet_until.ensures (λ clock. (c.earlier-least.ensures clock).0)
+pub loop-place-preserved : goal.loop-place-preserved
+loop-place-preserved c =
+    quiet_more c.args.program.now c.args.nodes.now c.loop-place.least c.quiet_at.result c.earlier-least.result c.args.timed.now c.loop-place.place-index c.loop-place-test.true
+    c.loop-place.invariant c.quiet_at.ensures (λ clock. (c.earlier-least.ensures clock).0)
 
 pub returns : goal.returns
-returns c k n e =
-    let within : k < length c.args.nodes.now = slice_get_within c.args.nodes.now k n e in
-    let lt : k < c.loop-node.node-index = omega arith in
-    c.loop-node.invariant k n lt e
+returns c all k n e = by (is_timed n) refl
+  where
+    by : (t : Bool) → is_timed n ≡ t → IsNodeQuiet c.args.program.now n c.loop-place.least
+    by true timed = c.loop-place.invariant k n (ap (λ list. is_in list k) (take_all c.loop-place.place-index c.args.timed.now (omega arith)) ∙ all k n e timed) e
+    by false untimed = untimed_quiet c.args.program.now n c.loop-place.least untimed

@@ -9,7 +9,7 @@ pub returns-clause-stands : goal.returns-clause-stands
 returns-clause-stands g c s forgotten stands has_all =
     let told = c.in_ok-dropped.ensures in
     net_forgets c.args.program.now (g.F.Facts.map c.args.facts.now) s forgotten (has_name c.args.old.now) c.args.self.now c.forget_nodes.new.self c.in_ok-dropped.dropped.items stands has_all
-    told.ends told.quiet told.forgot.nodes told.forgot.forgot
+    told.ends told.quiet told.forgot.nodes told.forgot.forgot (told.indexed stands.nodes.indexed)
 
 pub returns-clause-dropped : goal.returns-clause-dropped
 returns-clause-dropped g c s forgotten stands has_all =

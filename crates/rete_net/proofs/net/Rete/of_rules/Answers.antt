@@ -7,6 +7,8 @@ use Rattle.rule_model.proofs.Listed.{both_of}
 use Rattle.rule_model.proofs.RuleOf.{in_place}
 use Rattle.rule_world.specs.Programs.{IsRunnable, has_conditions, has_windows}
 use Rattle.rete_net.specs.Building.{AreGrown, HaveEnds}
+use Rattle.rete_net.specs.declared.node.NetNode.{NetNode}
+use Rattle.rete_net.specs.Indexes.{IsIndexOf}
 use Rattle.rete_net.proofs.Growing.{passes_at, ends_more}
 use Rattle.rete_net.proofs.net.Rete.of_rules.Goals as goal
 
@@ -46,8 +48,13 @@ loop-rule-preserved c = record { count = let e = c.loop-rule.invariant.count in 
               (both_of (nat_le 1 (length rule.conditions)) (nat_le (length rule.conditions) 8) some).0),
         )
 
-pub returns : goal.returns
-returns c runnable =
+pub returns-clause-indexed : goal.returns-clause-indexed
+returns-clause-indexed c =
+    subst (λ (ends : List ℕ). IsIndexOf c.loop-rule.builder.nodes.items ends c.in_ok-index.index) c.deref-2.ensures.value
+    (subst (λ (nodes : List NetNode). IsIndexOf nodes c.deref-2.result.now c.in_ok-index.index) c.deref.ensures.value c.in_ok-index.ensures)
+
+pub returns-clause-built : goal.returns-clause-built
+returns-clause-built c runnable =
     let was = c.loop-rule.invariant.built runnable in
     let rules : length c.as_slice-rule-items.result.now ≡ length c.args.program.now.rules = ap (λ (rs : List Rule). length rs) c.as_slice-rule-items.ensures in
     let count = c.loop-rule.invariant.count in

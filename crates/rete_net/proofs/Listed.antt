@@ -1,0 +1,47 @@
+-- Lists of places by number: what they have stays where more is put.
+use Rattle.std.proofs.Common.{◌≡◌, ◌∙◌, sym, ap, refl, ℕ, zero, suc, arith, ◌||◌, Bool, true, false, List, [], ◌∷◌, ◌++◌, Some, None, slice_get, nat_eq}
+use Rattle.std.proofs.Math.ListN.{set}
+use Rattle.std.specs.Global.{Vec}
+use Rattle.std.specs.List.{list_any}
+use Rattle.rete_net.specs.Indexes.{items_of}
+
+or_on : (a b c : Bool) → (b ≡ true → c ≡ true) → (a || b) ≡ true → (a || c) ≡ true
+or_on true b c h e = refl
+or_on false b c h e = h e
+
+any_left : {A : Type 0} (p : A → Bool) (xs ys : List A) → list_any p xs ≡ true → list_any p (xs ++ ys) ≡ true
+any_left p [] ys h = absurd (let no : false ≡ true = h in cc)
+any_left p (x ∷ xs) ys h = or_on (p x) (list_any p xs) (list_any p (xs ++ ys)) (any_left p xs ys) h
+
+or_right : (a b : Bool) → b ≡ true → (a || b) ≡ true
+or_right true b e = refl
+or_right false b e = e
+
+any_last : (xs : List ℕ) (x : ℕ) → list_any (nat_eq x) (xs ++ x ∷ []) ≡ true
+any_last [] x = same x
+  where
+    same : (n : ℕ) → (nat_eq n n || false) ≡ true
+    same n = grind arith
+any_last (y ∷ xs) x = or_right (nat_eq x y) (list_any (nat_eq x) (xs ++ x ∷ [])) (any_last xs x)
+
+abbrev Has : List (Vec ℕ) → ℕ → ℕ → Type 0
+Has lists n k = list_any (nat_eq k) (items_of (slice_get lists n)) ≡ true
+
+pub empty_more : (lists : List (Vec ℕ)) (list : Vec ℕ) (n k : ℕ) → Has lists n k → Has (lists ++ list ∷ []) n k
+empty_more [] list n k h = absurd (let no : false ≡ true = h in cc)
+empty_more (l ∷ lists) list zero k h = h
+empty_more (l ∷ lists) list (suc n) k h = empty_more lists list n k h
+
+pub put_kept : (lists : List (Vec ℕ)) (i : ℕ) (was now : Vec ℕ) (place n k : ℕ) → slice_get lists i ≡ Some was → now.items ≡ was.items ++ place ∷ [] → Has lists n k → Has (set lists i now) n k
+put_kept [] i was now place n k at is h = absurd (let no : false ≡ true = h in cc)
+put_kept (l ∷ lists) zero was now place zero k at is h =
+    let same : l ≡ was = cc in
+    ap (list_any (nat_eq k)) is ∙ any_left (nat_eq k) was.items (place ∷ []) (ap (λ (v : Vec ℕ). list_any (nat_eq k) v.items) (sym same) ∙ h)
+put_kept (l ∷ lists) zero was now place (suc n) k at is h = h
+put_kept (l ∷ lists) (suc i) was now place zero k at is h = h
+put_kept (l ∷ lists) (suc i) was now place (suc n) k at is h = put_kept lists i was now place n k at is h
+
+pub put_here : (lists : List (Vec ℕ)) (i : ℕ) (was now : Vec ℕ) (place : ℕ) → slice_get lists i ≡ Some was → now.items ≡ was.items ++ place ∷ [] → Has (set lists i now) i place
+put_here [] i was now place at is = absurd (let no : None ≡ Some was = at in cc)
+put_here (l ∷ lists) zero was now place at is = ap (list_any (nat_eq place)) is ∙ any_last was.items place
+put_here (l ∷ lists) (suc i) was now place at is = put_here lists i was now place at is

@@ -1,0 +1,59 @@
+-- Sets of places: what is put, and which comes first.
+use Rattle.std.proofs.Common.{◌≡◌, ◌∙◌, sym, ap, refl, subst, ℕ, ◌+◌, ◌<◌, ◌≤◌, ◌==◌, ◌||◌, Bool, true, false, cond, List, [], ◌∷◌, take, length, get_or, arith, nat_eq}
+use Rattle.std.specs.Prelude.{IfSome, slice_get}
+use Rattle.std.specs.List.{list_any}
+use Rattle.std.specs.Ordering.{nat_cmp, eq_by_cmp, is_gt}
+use Rattle.std.specs.declared.ops.Bound.TheVariants.{Included, Unbounded}
+use Rattle.std.specs.BTreeSet.{BTreeSet, IsKeyRangeOf}
+use Rattle.std.proofs.Math.Bool.{or-true, or-false}
+use Rattle.std.proofs.lemmas.Bool.Decides.{nat_tests}
+use Rattle.std.proofs.lemmas.List.Folds.{list_any_more}
+use Rattle.rete_net.specs.Places.{has_place}
+
+tie : (a b : ℕ) → eq_by_cmp nat_cmp a b ≡ (b == a)
+tie a b = grind (arith, nat_tests)
+
+put_one : (old t : Bool) → cond t true old ≡ (old || t)
+put_one old true = sym (or-true old)
+put_one old false = sym (or-false old)
+
+or_assoc : (a b c : Bool) → ((a || b) || c) ≡ (a || (b || c))
+or_assoc true b c = refl
+or_assoc false b c = refl
+
+pub put_more : (k : ℕ) (places : List ℕ) (i : ℕ) (old mid now : Bool) → i < length places → mid ≡ (old || list_any (nat_eq k) (take i places))
+    → now ≡ cond (eq_by_cmp nat_cmp (get_or places i 0) k) true mid → now ≡ (old || list_any (nat_eq k) (take (i + 1) places))
+put_more k places i old mid now lt before after =
+    after ∙ ap (λ t. cond t true mid) (tie (get_or places i 0) k) ∙ put_one mid (k == get_or places i 0) ∙ ap (λ b. b || (k == get_or places i 0)) before
+    ∙ or_assoc old (list_any (nat_eq k) (take i places)) (k == get_or places i 0) ∙ ap (λ b. old || b) (sym (list_any_more (nat_eq k) places i 0 lt))
+
+-- what is put in a place is there, and the rest stays
+pub put_stays : (place k : ℕ) (old now : Bool) → now ≡ cond (eq_by_cmp nat_cmp place k) true old → old ≡ true → now ≡ true
+put_stays place k old now is was = by (eq_by_cmp nat_cmp place k) is
+  where
+    by : (t : Bool) → now ≡ cond t true old → now ≡ true
+    by true e = e
+    by false e = e ∙ was
+
+pub put_there : (place : ℕ) (old now : Bool) → now ≡ cond (eq_by_cmp nat_cmp place place) true old → now ≡ true
+put_there place old now is = is ∙ ap (λ t. cond t true old) (tie place place ∙ same place)
+  where
+    same : (n : ℕ) → (n == n) ≡ true
+    same n = grind (arith, nat_tests)
+
+module _ (set : BTreeSet ℕ) (from : ℕ) where
+  abbrev pub From : List ℕ → Type 0
+  From range = IsKeyRangeOf nat_cmp (Included from) Unbounded set range
+
+  not_true : (b : Bool) → (b ≡ true → ⊥) → b ≡ false
+  not_true true h = absurd (h refl)
+  not_true false h = refl
+
+  pub before_first : (range rest : List ℕ) (place : ℕ) → From range → range ≡ place ∷ rest → (k : ℕ) → from ≤ k → k < place → has_place set.keys k ≡ false
+  before_first range rest place is e k low lt =
+      not_true (has_place set.keys k) (λ held.
+      let least : is_gt (nat_cmp place k) ≡ false = subst (λ r. IfSome (slice_get r 0) (λ v. is_gt (nat_cmp v k) ≡ false)) e (is.2 k (grind arith, tt) held) in
+      grind arith)
+
+  pub none_from : (range : List ℕ) → From range → range ≡ [] → (k : ℕ) → from ≤ k → has_place set.keys k ≡ false
+  none_from range is e k low = is.5 e k (grind arith, tt)

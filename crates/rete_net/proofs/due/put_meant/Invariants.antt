@@ -1,0 +1,15 @@
+use Rattle.std.proofs.Common.{◌≡◌, ℕ, Some, true, take, slice_get}
+use Rattle.rule_model.specs.Rows.{pattern_of}
+use Rattle.pattern_gate.specs.Turns.{is_meant}
+use Rattle.condition_node.specs.Nodes.{condition_of}
+use Rattle.rete_net.specs.Indexes.{is_in}
+use Rattle.rete_net.specs.Places.{has_place}
+use Rattle.rete_net.specs.declared.node.NetNode.{NetNode}
+use Rattle.rete_net.proofs.due.put_meant.Given as goal
+
+abbrev pub invariant-loop-place : goal.invariant-loop-place
+invariant-loop-place l = record {
+  kept : (k : ℕ) → has_place l.initial.due.keys k ≡ true → has_place l.due.keys k ≡ true;
+  put : (k : ℕ) (n : NetNode) → slice_get l.nodes k ≡ Some n → is_in (take l.place-index l.places) k ≡ true
+      → is_meant (pattern_of (condition_of n.node)) l.fact ≡ true → has_place l.due.keys k ≡ true;
+}

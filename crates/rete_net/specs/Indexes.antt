@@ -1,0 +1,58 @@
+-- By what the nodes and the rules of a network are found.
+use Rattle.std.specs.Prelude.{◌≡◌, ◌||◌, not, ℕ, Bool, true, false, List, [], Option, Some, None, nat_eq, slice_get}
+use Rattle.std.specs.List.{list_any}
+use Rattle.std.specs.Global.{Vec}
+use Rattle.fx_base.specs.declared.fact.Fact.{Fact}
+use Rattle.row_delta.specs.declared.delta.Delta.{Delta}
+use Rattle.row_change.specs.Changes.{changes_nothing}
+use Rattle.rule_model.specs.Rows.{pattern_of}
+use Rattle.rule_model.specs.Simple.{is_whole}
+use Rattle.pattern_gate.specs.Turns.{is_one_meant}
+use Rattle.condition_node.specs.Nodes.{condition_of, is_negated}
+use Rattle.rete_net.specs.declared.index.Index.{Index}
+use Rattle.rete_net.specs.declared.lists.Lists.{Lists}
+use Rattle.rete_net.specs.declared.node.NetNode.{NetNode}
+
+-- ---- lists of places
+
+-- whether a place is in a list
+abbrev pub is_in : List ℕ → ℕ → Bool
+is_in places place = list_any (nat_eq place) places
+
+-- the places of a list, where it is there
+abbrev pub items_of : Option (Vec ℕ) → List ℕ
+items_of None = []
+items_of (Some list) = list.items
+
+-- whether the list of a number has a place
+abbrev pub is_listed : Lists → ℕ → ℕ → Bool
+is_listed lists number place = is_in (items_of (slice_get lists.lists.items number)) place
+
+-- ---- nodes
+
+-- the type of a node's candidates
+abbrev pub type_of : NetNode → ℕ
+type_of n = (pattern_of (condition_of n.node)).ty.0
+
+-- a node that the clock alone may change: of a `not`, or with a window
+abbrev pub is_timed : NetNode → Bool
+is_timed n = is_negated (condition_of n.node) || not (is_whole (pattern_of (condition_of n.node)).window)
+
+-- the node in a place is found by its type, by its parent, and as one that the clock may change
+pub record IsFound (index : Index) (k : ℕ) (n : NetNode) : Type 0 where
+  pub typed : is_listed index.by_type (type_of n) k ≡ true
+  pub timed : is_timed n ≡ true → is_in index.timed.items k ≡ true
+  pub first : n.parent ≡ None → is_in index.firsts.items k ≡ true
+  pub child : (parent : ℕ) → n.parent ≡ Some parent → is_listed index.children parent k ≡ true
+
+-- all nodes are found, and each rule by its last node
+pub record IsIndexOf (nodes : List NetNode) (ends : List ℕ) (index : Index) : Type 0 where
+  pub found : (k : ℕ) (n : NetNode) → slice_get nodes k ≡ Some n → IsFound index k n
+  pub ended : (rule end : ℕ) → slice_get ends rule ≡ Some end → is_listed index.rules end rule ≡ true
+
+-- A step does not reach the node but by what changes in the rows of its parent: no fact that goes or comes is meant, the clock alone changes
+-- nothing, and nothing comes to it where it has no parent.
+pub record IsLeftAlone (n : NetNode) (first : Delta) (gone : List Fact) (come : Option Fact) : Type 0 where
+  pub unmeant : is_one_meant (pattern_of (condition_of n.node)) gone come ≡ false
+  pub untimed : is_timed n ≡ false
+  pub begun : n.parent ≡ None → changes_nothing first ≡ true

@@ -1,0 +1,140 @@
+ghost use Rattle.std.specs.Prelude.{◌≡◌, ◌≤◌, ◌<◌, ◌||◌, ℕ, Some, true, false, nat_eq, option_map, slice_get, IfOk, IfSome, IsNone, OnOk};
+ghost use Rattle.std.specs.List.{list_any};
+ghost use Rattle.rule_model.specs.Lent.{lent};
+ghost use Rattle.rule_model.specs.Rows.{pattern_of};
+ghost use Rattle.pattern_gate.specs.Turns.{is_meant};
+ghost use Rattle.condition_node.specs.Nodes.{condition_of};
+ghost use Rattle.rete_net.specs.Indexes.{is_in, IsFound, IsLeftAlone};
+ghost use Rattle.rete_net.specs.Places.{has_place};
+ghost use Rattle.rete_net.specs.declared.node.NetNode.{NetNode as NetNodeData};
+
+use crate::index::Index;
+use crate::node::NetNode;
+use fx_base::{Fact, NoMemory};
+use row_change::changes_nothing;
+use row_delta::Delta;
+use std::alloc::Global;
+use std::collections::BTreeSet;
+
+/// Puts these places into the set. It costs the logarithm of the set for each.
+pub(crate) fn put_all(set: &mut BTreeSet<usize, Global>, places: &[usize]) -> Result<(), NoMemory>
+    ensures { OnOk result ((k : ℕ) → has_place set.new.keys k ≡ (has_place set.old.keys k || is_in places.now k)) }
+{
+    for place in places {
+        set.insert(*place)?;
+    }
+    Ok(())
+}
+
+/// The first place of the set from this one on and below an end. It costs the logarithm of the set. Takes no memory.
+pub(crate) fn first_below(set: &BTreeSet<usize, Global>, from: usize, end: usize) -> Option<usize>
+    ensures from { IfSome result (λ place. from ≤ place) }
+    ensures below { IfSome result (λ place. place < end) }
+    ensures first { IfSome result (λ place. (k : ℕ) → from ≤ k → k < place → has_place set.now.keys k ≡ false) }
+    ensures none { IsNone result → (k : ℕ) → from ≤ k → k < end → has_place set.now.keys k ≡ false }
+{
+    match set.range(from..).next() {
+        Some(place) => { if *place < end { Some(*place) } else { None } }
+        None => None,
+    }
+}
+
+/// Puts those of these places whose node means the fact.
+fn put_meant(
+    due: &mut BTreeSet<usize, Global>,
+    nodes: &[NetNode],
+    places: &[usize],
+    fact: &Fact,
+) -> Result<(), NoMemory>
+    ensures kept { OnOk result ((k : ℕ) → has_place due.old.keys k ≡ true → has_place due.new.keys k ≡ true) }
+    ensures put { OnOk result ((k : ℕ) (n : NetNodeData) → slice_get nodes.now k ≡ Some n → is_in places.now k ≡ true
+        → is_meant (pattern_of (condition_of n.node)) fact.now ≡ true → has_place due.new.keys k ≡ true) }
+{
+    for place in places {
+        put_if_meant(due, nodes, *place, fact)?;
+    }
+    Ok(())
+}
+
+// Puts a place if its node means the fact.
+fn put_if_meant(
+    due: &mut BTreeSet<usize, Global>,
+    nodes: &[NetNode],
+    place: usize,
+    fact: &Fact,
+) -> Result<(), NoMemory>
+    ensures kept { OnOk result ((k : ℕ) → has_place due.old.keys k ≡ true → has_place due.new.keys k ≡ true) }
+    ensures put { OnOk result ((n : NetNodeData) → slice_get nodes.now place ≡ Some n → is_meant (pattern_of (condition_of n.node)) fact.now ≡ true → has_place due.new.keys place ≡ true) }
+{
+    if !does_mean(nodes, place, fact) {
+        return Ok(());
+    }
+    due.insert(place)?;
+    Ok(())
+}
+
+// Whether the node in a place means the fact.
+fn does_mean(nodes: &[NetNode], place: usize, fact: &Fact) -> bool
+    ensures { (n : NetNodeData) → slice_get nodes.now place ≡ Some n → result ≡ is_meant (pattern_of (condition_of n.node)) fact.now }
+{
+    match nodes.get(place) {
+        Some(node) => node.means(fact),
+        None => false,
+    }
+}
+
+/// Puts the nodes that mean a fact. It asks those of its type.
+fn put_fact(
+    due: &mut BTreeSet<usize, Global>,
+    nodes: &[NetNode],
+    index: &Index,
+    fact: &Fact,
+) -> Result<(), NoMemory>
+    ensures kept { OnOk result ((k : ℕ) → has_place due.old.keys k ≡ true → has_place due.new.keys k ≡ true) }
+    ensures put { OnOk result ((k : ℕ) (n : NetNodeData) → slice_get nodes.now k ≡ Some n → IsFound index.now k n
+        → is_meant (pattern_of (condition_of n.node)) fact.now ≡ true → has_place due.new.keys k ≡ true) }
+{
+    put_meant(due, nodes, index.of_type(fact.ty), fact)
+}
+
+/// Puts the nodes that mean one of these facts.
+fn put_facts(
+    due: &mut BTreeSet<usize, Global>,
+    nodes: &[NetNode],
+    index: &Index,
+    facts: &[&Fact],
+) -> Result<(), NoMemory>
+    ensures kept { OnOk result ((k : ℕ) → has_place due.old.keys k ≡ true → has_place due.new.keys k ≡ true) }
+    ensures put { OnOk result ((k : ℕ) (n : NetNodeData) → slice_get nodes.now k ≡ Some n → IsFound index.now k n
+        → list_any (is_meant (pattern_of (condition_of n.node))) (lent facts.now) ≡ true → has_place due.new.keys k ≡ true) }
+{
+    for fact in facts {
+        put_fact(due, nodes, index, fact)?;
+    }
+    Ok(())
+}
+
+/// The nodes that a step reaches where nothing changes in the rows of their parents: those that mean a fact that goes or comes, those
+/// that the moment may concern, and the first ones where something comes to them. It asks the nodes of the types of these facts.
+pub(crate) fn reached(
+    alloc: Global,
+    nodes: &[NetNode],
+    index: &Index,
+    first: &Delta,
+    gone: &[&Fact],
+    come: Option<&Fact>,
+) -> Result<BTreeSet<usize, Global>, NoMemory>
+    ensures { IfOk result (λ due. (k : ℕ) (n : NetNodeData) → slice_get nodes.now k ≡ Some n → IsFound index.now k n → has_place due.keys k ≡ false
+        → IsLeftAlone n first.now (lent gone.now) (option_map (λ f. f.now) come.entry)) }
+{
+    let mut due = BTreeSet::new(alloc);
+    put_all(&mut due, index.timed())?;
+    if !changes_nothing(first) {
+        put_all(&mut due, index.firsts())?;
+    }
+    put_facts(&mut due, nodes, index, gone)?;
+    if let Some(fact) = come {
+        put_fact(&mut due, nodes, index, fact)?;
+    }
+    Ok(due)
+}
