@@ -1,6 +1,7 @@
 pub mod Hierarchy
 pub mod Indexed
 pub mod Ways
+pub mod Nesting
 pub mod Sizes
 pub mod Expanded
 pub mod Faults

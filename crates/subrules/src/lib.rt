@@ -8,6 +8,7 @@ mod expanding;
 mod fault;
 mod faults;
 mod hierarchy;
+pub mod laws;
 mod rules;
 mod sizes;
 mod types;
