@@ -5,15 +5,15 @@ use drl_check::check;
 use drl_parse::parse;
 use rule_model::Program;
 use std::alloc::Global;
+use subrules::expand;
 
 /// The program of a rule file, if it is accepted.
 pub(crate) fn program(alloc: Global, rules: &str) -> Option<Program>
     ensures { IfSome result IsRunnable }
 {
-    match parse(alloc, rules.as_bytes()) {
-        Ok(file) => check(alloc, &file).ok(),
-        Err(_) => None,
-    }
+    let file = parse(alloc, rules.as_bytes()).ok()?;
+    let expanded = expand(alloc, &file).ok()?;
+    check(alloc, &expanded.file).ok()
 }
 
 /// Whether a rule file is accepted and has so many types and rules.

@@ -3,7 +3,7 @@ use Rattle.std.proofs.Common.{◌≡◌, Option, Some, None, Result, Ok, Err, re
 use Rattle.gen_load.specs.Rules.{rules_text}
 use Rattle.drl_grammar.specs.declared.file.File.{File}
 use Rattle.drl_grammar.specs.declared.written.Written.{Written}
-use Rattle.subrules.specs.declared.faults.Obstacle.{Obstacle}
+use Rattle.subrules.specs.declared.fault.Obstacle.{Obstacle}
 use Rattle.subrules.specs.Expanded.{expanded}
 use Rattle.subrules.specs.Faults.{obstacle}
 use Rattle.drl_parse.specs.Parsed.{Parsed, is_file, outside, too_long, lexical, parsed}

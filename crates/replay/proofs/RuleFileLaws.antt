@@ -6,7 +6,7 @@ use Rattle.drl_grammar.specs.declared.written.Written.{Written}
 use Rattle.drl_grammar.specs.Files.{IsFile, IsOutside}
 use Rattle.drl_parse.specs.Parsed.{Parsed, IsLexical, file_limit, is_file, outside, too_long, lexical, parsed}
 use Rattle.drl_program.specs.Programs.{program_of}
-use Rattle.subrules.specs.declared.faults.Obstacle.{Obstacle}
+use Rattle.subrules.specs.declared.fault.Obstacle.{Obstacle}
 use Rattle.subrules.specs.Faults.{obstacle}
 use Rattle.drl_check.specs.Checks.{Failure, failure_of}
 use Rattle.drl_check.specs.Outcomes.{checked, checked_by}

@@ -6,7 +6,7 @@ use Rattle.drl_parse.specs.Parsed.{Parsed, is_file, outside, too_long, lexical, 
 use Rattle.drl_grammar.specs.declared.file.File.{File}
 use Rattle.drl_grammar.specs.declared.written.Written.{Written}
 use Rattle.subrules.specs.declared.fault.ExpandCode.{ExpandCode}
-use Rattle.subrules.specs.declared.faults.Obstacle.{Obstacle}
+use Rattle.subrules.specs.declared.fault.Obstacle.{Obstacle}
 use Rattle.subrules.specs.CodeNames.{expand_code_name}
 use Rattle.subrules.specs.Expanded.{expanded, origins, titles}
 use Rattle.subrules.specs.Faults.{obstacle}

@@ -16,7 +16,7 @@ use Rattle.drl_grammar.specs.declared.written.WrittenRule.{WrittenRule}
 use Rattle.drl_grammar.specs.declared.written.WrittenType.{WrittenType}
 use Rattle.subrules.specs.declared.fault.ExpandCode.{ExpandCode}
 use Rattle.subrules.specs.declared.fault.ExpandCode.TheVariants.{UnknownType, BadExtends, HasSubtypes, LimitPassed}
-use Rattle.subrules.specs.declared.faults.Obstacle.{Obstacle}
+use Rattle.subrules.specs.declared.fault.Obstacle.{Obstacle}
 use Rattle.subrules.specs.Hierarchy.{type_names, types_of, above, goes_round, has_subtypes}
 use Rattle.subrules.specs.Ways.{Way, ways_of}
 use Rattle.subrules.specs.Expanded.{inherited_fields}

@@ -32,6 +32,14 @@ impl ExpandCode {
     }
 }
 
+/// An item that cannot be written out: its number, counted from 1, its line, and the first code that it has.
+#[derive(Clone, Copy, Debug, PartialEq, Eq)]
+pub struct Obstacle {
+    pub number: u64,
+    pub line: u32,
+    pub code: ExpandCode,
+}
+
 /// Why a file is not written out.
 #[derive(Clone, Copy, Debug, PartialEq, Eq, Error)]
 pub enum ExpandFault {

@@ -3,7 +3,7 @@ ghost use Rattle.std.specs.Prelude.{◌≡◌, ◌+◌, map, nat_lt, IfOk};
 ghost use Rattle.std.specs.List.{list_any};
 ghost use Rattle.subrules.specs.Faults.{lacks_parent, has_many_fields, fault_of_type, is_length, looks_at_many, is_over_subtypes, is_varied, fault_of_rule, fault_of, obstacle_from, fields_in};
 
-use crate::fault::ExpandCode;
+use crate::fault::{ExpandCode, Obstacle};
 use crate::hierarchy::Hierarchy;
 use crate::sizes::are_too_many;
 use drl_grammar::{
@@ -15,14 +15,6 @@ use std::alloc::Global;
 
 /// The most fields that a type may have with those that it inherits.
 const FIELDS_MAX: usize = 32;
-
-/// An item that cannot be written out: its number, its line, and why.
-#[derive(Clone, Copy, Debug, PartialEq, Eq)]
-pub(crate) struct Obstacle {
-    pub(crate) number: u64,
-    pub(crate) line: u32,
-    pub(crate) code: ExpandCode,
-}
 
 // Whether a type extends one that is not declared.
 fn lacks_parent(types: &Hierarchy, tree: &WrittenType) -> bool

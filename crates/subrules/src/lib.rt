@@ -15,4 +15,4 @@ mod types;
 mod ways;
 
 pub use expanding::{Expanded, expand};
-pub use fault::{ExpandCode, ExpandFault};
+pub use fault::{ExpandCode, ExpandFault, Obstacle};
