@@ -33,6 +33,10 @@ const SHOWN: &[(&str, &str)] = &[
         "declare entry - point \"the end\" end\ndeclare entry - point \"late\" @ lateness ( 2500 ) end\n",
     ),
     (
+        "declare T extends U @role(event) v : long end rule r when A() (B() or (not C() D() or exists E())) then end",
+        "declare T extends U @ role ( event ) v : long end\nrule \"r\" when A ( ) ( B ( ) or ( not ( C ( ) ) D ( ) or exists ( E ( ) ) ) ) then end\n",
+    ),
+    (
         "rule \"the end\" when A() then end rule r salience -5, dialect \"java\" salience 007 when A() B() then end",
         "rule \"the end\" when A ( ) then end\nrule \"r\" salience - 5 dialect \"java\" salience 7 when A ( ) B ( ) then end\n",
     ),
