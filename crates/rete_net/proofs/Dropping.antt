@@ -1,6 +1,5 @@
 -- The nodes of a network forget, one after those before it.
-use Rattle.std.proofs.Common.{◌≡◌, ◌∙◌, sym, ap, refl, subst, inl, inr, ℕ, zero, suc, ℤ, ◌+◌, ◌<◌, ◌≤◌, ◌&&◌, not, Bool, true, false, List, [], ◌∷◌, ◌++◌, take, length, arith, Option, Some, None, slice_get}
-use Rattle.std.proofs.Math.ListN.{set}
+use Rattle.std.proofs.Common.{◌≡◌, ◌∙◌, sym, ap, refl, subst, inl, inr, ℕ, zero, suc, ℤ, ◌<◌, ◌&&◌, not, Bool, true, false, List, [], ◌∷◌, ◌++◌, take, length, arith, Option, Some, None, slice_get}
 use Rattle.std.proofs.lemmas.List.{get_or-take}
 use Rattle.std.proofs.lemmas.Option.{slice_get_within}
 use Rattle.std.specs.List.Sorted.{IsStrictlySortedBy}
@@ -27,19 +26,19 @@ use Rattle.condition_node.specs.Quiet.{IsBefore}
 use Rattle.rete_net.specs.declared.forgetting.RuleRows.{RuleRows}
 use Rattle.rete_net.specs.declared.net.Rete.{Rete}
 use Rattle.rete_net.specs.declared.node.NetNode.{NetNode}
-use Rattle.rete_net.specs.Dropped.{AreOld, IsForgetting, NodeForgets, dropped_at, dropped_before, ForgotBelow, AllForget, rows_for, AreDropped}
+use Rattle.rete_net.specs.Dropped.{AreOld, IsForgetting, NodeForgets, dropped_at, dropped_before, ForgotBelow, rows_for, AreDropped}
+use Rattle.rete_net.specs.declared.answered.Answered.{Answered}
+use Rattle.rete_net.specs.Answers.{given as kept, some_answer, answer_in}
 use Rattle.rete_net.specs.Indexes.{IsIndexOf}
 use Rattle.rete_net.specs.Nets.{NetNodeStands, HaveSame, NodesStand, NetStands}
 use Rattle.rete_net.specs.Shapes.{before, EndsAt}
 use Rattle.rete_net.proofs.Advancing.{first_row, rows_made}
-use Rattle.rete_net.proofs.Along.{one_more}
 use Rattle.rete_net.proofs.Chaining.{AreMade, AreStanding}
 use Rattle.rete_net.proofs.Cleaning.{cleaned_either}
-use Rattle.rete_net.proofs.Frames.{forgetting_nodes, net_again}
+use Rattle.rete_net.proofs.Frames.{forgetting_nodes, net_again, wired_of}
 use Rattle.rete_net.proofs.Growing.{has_at}
 use Rattle.rete_net.proofs.Seen.{at_hand_at}
 use Rattle.rete_net.proofs.Turning.{rising}
-use Rattle.rete_net.proofs.Turns.{whole_again}
 
 module _ (p : Program) (look : Look) (s : Snapshot) (sets : List Condition → Row → Bool) (forgotten old : Named → Bool) (nodes nodes_now : List NetNode) (conditions : ℕ → List Condition) (dropped : List (List Row))
     (tags : HaveDistinctTags s.facts) (at_hand : HasAllOf look s forgotten) (made : AreMade p s sets) (none : AreOld (cleaned (sets []) forgotten) old [])
@@ -112,24 +111,6 @@ module _ (p : Program) (look : Look) (s : Snapshot) (sets : List Condition → R
       let is = now_at at.last at.node at.there in
       record { last = at.last; node = is.0; found = at.found; there = is.1; all = at.all }
 
--- ---- one node more
-
-pub forgot_more : (p : Program) (look : Look) (old : Named → Bool) (before now : List NetNode) (dropped : List (List Row)) (i : ℕ) (node new_node : NetNode) (rows gone : List Row) (lent_dropped dropped_now : List (List Row))
-    → length dropped ≡ i → ((k : ℕ) → i ≤ k → slice_get now k ≡ slice_get before k) → ForgotBelow p look old before now dropped i → slice_get now i ≡ Some node
-    → rows ≡ dropped_before lent_dropped node.parent → lent_dropped ≡ dropped → dropped_now ≡ dropped ++ gone ∷ [] → NodeForgets p look old node new_node rows gone
-    → ForgotBelow p look old before (set now i new_node) dropped_now (i + 1)
-forgot_more p look old before now dropped i node new_node rows gone lent_dropped dropped_now done rest below is left same more forgets =
-    subst (λ (all : List (List Row)). ForgotBelow p look old before (set now i new_node) all (i + 1)) (sym more)
-    (one_more (NodeForgets p look old) dropped_before [] before now dropped i node new_node gone done rest below is
-    (subst (λ (rs : List Row). NodeForgets p look old node new_node rs gone) (left ∙ ap (λ (all : List (List Row)). dropped_before all node.parent) same) forgets))
-
--- the nodes of a network, out of those of a slice of it
-pub all_forget : (p : Program) (look : Look) (old : Named → Bool) (before given now rest : List NetNode) (n : ℕ) (dropped : List (List Row)) → given ≡ before → length now ≡ length given → n ≡ length before
-    → ForgotBelow p look old given now dropped (length given) → AllForget p look old before (take n (now ++ rest)) dropped
-all_forget p look old before given now rest n dropped e long count forgot =
-    subst (λ (after : List NetNode). AllForget p look old before after dropped) (sym (whole_again n now rest (long ∙ ap length e ∙ sym count)))
-    (record { nodes = long ∙ ap length e; forgot = subst (λ (nodes : List NetNode). ForgotBelow p look old nodes now dropped (length nodes)) e forgot })
-
 -- ---- a network
 
 gone_no_more : (a k c : Bool) → (a ≡ true → c ≡ true) → false ≡ ((a && k) && not c)
@@ -187,7 +168,7 @@ module _ (p : Program) (look : Look) (s : Snapshot) (forgotten old : Named → B
 
   abbrev nodes_now : IsIndexOf new.nodes.items new.ends.items new.index → NodesStand p new was (either forgotten old)
   nodes_now indexed = record {
-    shape = net_again p net.nodes.items new.nodes.items net.ends.items new.ends.items ends (forgetting_nodes p look old net.nodes.items new.nodes.items dropped (record { nodes = same; forgot = forgot })) stands.nodes.shape;
+    shape = net_again p net.nodes.items new.nodes.items net.ends.items new.ends.items ends (forgetting_nodes p look old net.nodes.items new.nodes.items dropped same forgot) stands.nodes.shape;
     indexed = indexed;
     nodes = now.stand;
   }
@@ -216,9 +197,10 @@ module _ (p : Program) (look : Look) (s : Snapshot) (forgotten old : Named → B
       )
 
   -- what the entries say where they have for each rule what its last node dropped
-  pub rules_drop : (answers : List RuleRows) (lent_dropped : List (List Row)) (lent_ends : List ℕ) → lent_dropped ≡ dropped → lent_ends ≡ net.ends.items
-      → ((place end : ℕ) → slice_get lent_ends place ≡ Some end → rows_for answers place ≡ dropped_at lent_dropped end) → AreDropped p s forgotten old answers
-  rules_drop answers lent_dropped lent_ends same_dropped same_ends told place rule e =
+  pub rules_drop : (answers : List RuleRows) (a : Answered (List Row)) (lent_ends : List ℕ) → a.none ≡ [] → ((k : ℕ) → k < length net.nodes.items → dropped_at dropped k ≡ kept [] (some_answer a k)) → lent_ends ≡ net.ends.items
+      → ((place end : ℕ) → slice_get lent_ends place ≡ Some end → rows_for answers place ≡ answer_in a end) → AreDropped p s forgotten old answers
+  rules_drop answers a lent_ends none known same_ends told place rule e =
       let drops = rule_drops place rule e in
+      let within = (wired_of p net.nodes.items net.ends.items net.index stands.nodes.shape stands.nodes.indexed).lasts place drops.0 drops.1 in
       subst (AreOld (cleaned (rows_of p s rule.conditions) forgotten) old)
-      (sym (told place drops.0 (ap (λ (places : List ℕ). slice_get places place) same_ends ∙ drops.1) ∙ ap (λ (all : List (List Row)). dropped_at all drops.0) same_dropped)) drops.2
+      (known drops.0 within ∙ ap (λ rows. kept rows (some_answer a drops.0)) (sym none) ∙ sym (told place drops.0 (ap (λ (places : List ℕ). slice_get places place) same_ends ∙ drops.1))) drops.2

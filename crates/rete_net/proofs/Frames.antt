@@ -13,7 +13,7 @@ use Rattle.pattern_gate.specs.Gates.{has_good_window}
 use Rattle.condition_node.specs.Nodes.{condition_of, is_negated}
 use Rattle.rete_net.specs.declared.changes.RuleChange.{RuleChange}
 use Rattle.rete_net.specs.declared.node.NetNode.{NetNode}
-use Rattle.rete_net.specs.Dropped.{AllForget}
+use Rattle.rete_net.specs.Dropped.{ForgotBelow}
 use Rattle.rete_net.specs.Shapes.{before, EndsAt, IsNetOf}
 use Rattle.rete_net.specs.Steps.{NetStep}
 use Rattle.rete_net.specs.Indexes.{is_listed, IsFound, IsIndexOf}
@@ -31,11 +31,11 @@ stepped_nodes p look gone come moment first old new ends answers step = record {
   condition = λ k a b e f. (step.stepped k (slice_get_within old k a e) a b e f).condition;
 }
 
-pub forgetting_nodes : (p : Program) (look : Look) (names : Named → Bool) (old new : List NetNode) (dropped : List (List Row)) → AllForget p look names old new dropped → IsReplaced old new
-forgetting_nodes p look names old new dropped forgets = record {
-  many = forgets.nodes;
-  parent = λ k a b e f. (forgets.forgot k (slice_get_within old k a e) a b e f).parent;
-  condition = λ k a b e f. (forgets.forgot k (slice_get_within old k a e) a b e f).condition;
+pub forgetting_nodes : (p : Program) (look : Look) (names : Named → Bool) (old new : List NetNode) (dropped : List (List Row)) → length new ≡ length old → ForgotBelow p look names old new dropped (length old) → IsReplaced old new
+forgetting_nodes p look names old new dropped many forgot = record {
+  many = many;
+  parent = λ k a b e f. (forgot k (slice_get_within old k a e) a b e f).parent;
+  condition = λ k a b e f. (forgot k (slice_get_within old k a e) a b e f).condition;
 }
 
 module _ (p : Program) (old new : List NetNode) (ends ends_now : List ℕ) (same : ends_now ≡ ends) (replaced : IsReplaced old new) (net : IsNetOf p old ends) where

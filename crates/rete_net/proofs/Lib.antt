@@ -1,6 +1,5 @@
 mod Turning
 mod Turns
-mod Along
 pub mod Cleaning
 mod Chaining
 mod Beside
@@ -12,6 +11,8 @@ mod Quieting
 mod Seen
 mod Starting
 mod Forgets
+mod Sparing
+mod Fading
 mod Dropping
 mod Listing
 mod Fewer

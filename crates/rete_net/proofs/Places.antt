@@ -1,13 +1,16 @@
 -- Sets of places: what is put, and which comes first.
-use Rattle.std.proofs.Common.{◌≡◌, ◌∙◌, sym, ap, refl, subst, ℕ, ◌+◌, ◌<◌, ◌≤◌, ◌==◌, ◌||◌, Bool, true, false, cond, List, [], ◌∷◌, take, length, get_or, arith, nat_eq}
-use Rattle.std.specs.Prelude.{IfSome, slice_get}
+use Rattle.std.proofs.Common.{◌≡◌, ◌∙◌, sym, ap, refl, subst, ℕ, ◌+◌, ◌<◌, ◌≤◌, ◌==◌, ◌||◌, Bool, true, false, cond, List, [], ◌∷◌, take, length, get_or, arith, nat_eq, slice_get}
+use Rattle.std.specs.Prelude.{IfSome}
 use Rattle.std.specs.List.{list_any}
 use Rattle.std.specs.Ordering.{nat_cmp, eq_by_cmp, is_gt}
 use Rattle.std.specs.declared.ops.Bound.TheVariants.{Included, Unbounded}
 use Rattle.std.specs.BTreeSet.{BTreeSet, IsKeyRangeOf}
 use Rattle.std.proofs.Math.Bool.{or-true, or-false}
-use Rattle.std.proofs.lemmas.Bool.Decides.{nat_tests}
+use Rattle.std.proofs.lemmas.Bool.Decides.{nat_tests, Decides-eqb}
 use Rattle.std.proofs.lemmas.List.Folds.{list_any_more}
+use Rattle.rete_net.specs.declared.index.Index.{Index}
+use Rattle.rete_net.specs.Dropped.{AreDue}
+use Rattle.rete_net.specs.Indexes.{is_in, is_listed, items_of}
 use Rattle.rete_net.specs.Places.{has_place}
 
 tie : (a b : ℕ) → eq_by_cmp nat_cmp a b ≡ (b == a)
@@ -57,3 +60,15 @@ module _ (set : BTreeSet ℕ) (from : ℕ) where
 
   pub none_from : (range : List ℕ) → From range → range ≡ [] → (k : ℕ) → from ≤ k → has_place set.keys k ≡ false
   none_from range is e k low = is.5 e k (grind arith, tt)
+
+-- with a type more its nodes are due
+pub due_more : (index : Index) (types types_now due due_now : List ℕ) (ty : ℕ) (places : List ℕ) → places ≡ items_of (slice_get index.by_type.lists.items ty)
+    → ((other : ℕ) → has_place types_now other ≡ cond (eq_by_cmp nat_cmp ty other) true (has_place types other)) → ((k : ℕ) → has_place due_now k ≡ (has_place due k || is_in places k))
+    → AreDue index types due → AreDue index types_now due_now
+due_more index types types_now due due_now ty places is put more was other k there listed = by (eq_by_cmp nat_cmp ty other) refl
+  where
+    by : (t : Bool) → eq_by_cmp nat_cmp ty other ≡ t → has_place due_now k ≡ true
+    by true e =
+        let same : other ≡ ty = (Decides-eqb other ty).0 (sym (tie ty other) ∙ e) in
+        more k ∙ ap (λ b. has_place due k || b) (ap (λ (list : List ℕ). is_in list k) is ∙ ap (λ n. is_listed index.by_type n k) (sym same) ∙ listed) ∙ or-true (has_place due k)
+    by false e = more k ∙ ap (λ b. b || is_in places k) (was other k (sym (put other ∙ ap (λ t. cond t true (has_place types other)) e) ∙ there) listed)

@@ -55,7 +55,7 @@ module _ (first : Delta) (deltas : List Delta) (ends : List ℕ) where
   pub past_end : (place : ℕ) → length ends ≤ place → From place ≡ []
   past_end place h = ap (changes_from first deltas place) (drop_of_length-le ends h)
 
-in_append : {A : Type 0} (x : A) (xs ys : List A) → In x (xs ++ ys) → In x xs ⊎ In x ys
+pub in_append : {A : Type 0} (x : A) (xs ys : List A) → In x (xs ++ ys) → In x xs ⊎ In x ys
 in_append x [] ys i = inr i
 in_append x (y ∷ xs) ys (inl e) = inl (inl e)
 in_append x (y ∷ xs) ys (inr i) = elim (in_append x xs ys i) [

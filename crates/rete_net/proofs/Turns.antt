@@ -1,7 +1,6 @@
 -- One node after the others.
-use Rattle.std.proofs.Common.{◌≡◌, ◌∙◌, sym, ap, refl, subst, ℕ, zero, suc, ◌+◌, ◌<◌, ◌^◌, List, [], ◌∷◌, ◌++◌, length, take, arith, Option, Some, slice_get, ◌⊎◌}
+use Rattle.std.proofs.Common.{◌≡◌, ◌∙◌, sym, ap, refl, subst, ℕ, zero, suc, ◌+◌, ◌<◌, ◌^◌, List, [], ◌∷◌, length, arith, Option, Some, slice_get, ◌⊎◌}
 use Rattle.std.proofs.Math.ListN.{set}
-use Rattle.std.proofs.Math.Seq.{take-append_seam}
 use Rattle.fx_base.specs.declared.fact.Fact.{Fact}
 use Rattle.row_delta.specs.declared.delta.Delta.{Delta}
 use Rattle.rule_model.specs.declared.program.Program.{Program}
@@ -31,9 +30,6 @@ pub below_or_at : (k i : ℕ) → k < i + 1 → (k < i) ⊎ (k ≡ i)
 below_or_at k i h = grind arith
 
 -- ---- the step of a network, out of that of its nodes
-
-pub whole_again : {A : Type 0} (n : ℕ) (xs ys : List A) → length xs ≡ n → take n (xs ++ ys) ≡ xs
-whole_again n xs ys e = ap (λ m. take m (xs ++ ys)) (sym e) ∙ take-append_seam xs ys
 
 -- the nodes answered, and the changes are what the last nodes of the rules answered
 pub net_step : (p : Program) (look : Look) (gone : List Fact) (come : Option Fact) (moment : Moment) (first : Delta) (before after : List NetNode) (ends : List ℕ) (index : Index) (a : Answered Delta) (answers : List RuleChange) (lent_ends : List ℕ)

@@ -1,5 +1,5 @@
 -- What is dropped where facts are forgotten.
-use Rattle.std.specs.Prelude.{◌≡◌, ◌<◌, ◌==◌, ◌&&◌, not, ℕ, Bool, cond, List, [], ◌∷◌, ◌++◌, length, take, Option, Some, None, slice_get, slice_index_or}
+use Rattle.std.specs.Prelude.{◌≡◌, ◌<◌, ◌==◌, ◌&&◌, not, ℕ, Bool, true, cond, List, [], ◌∷◌, ◌++◌, length, take, Option, Some, None, slice_get, slice_index_or}
 use Rattle.row_delta.specs.declared.row.Named.{Named}
 use Rattle.row_delta.specs.declared.row.Row.{Row}
 use Rattle.row_delta.specs.Rows.{has, InOrder}
@@ -15,7 +15,13 @@ use Rattle.condition_rows.specs.Sets.{rows_of}
 use Rattle.condition_node.specs.Nodes.{condition_of}
 use Rattle.rete_net.specs.declared.forgetting.RuleRows.{RuleRows}
 use Rattle.rete_net.specs.declared.node.NetNode.{NetNode}
+use Rattle.fx_base.specs.declared.fact.Fact.{Fact}
+use Rattle.rete_net.specs.declared.answered.Answered.{Answered}
+use Rattle.rete_net.specs.declared.index.Index.{Index}
+use Rattle.rete_net.specs.Answers.{given, some_answer, AreRuled}
+use Rattle.rete_net.specs.Indexes.{is_listed, type_of}
 use Rattle.rete_net.specs.Nets.{NetNodeStands}
+use Rattle.rete_net.specs.Places.{has_place}
 
 -- these rows, in order, are those of a set that name an old fact
 pub record AreOld (rows : Row → Bool) (old : Named → Bool) (dropped : List Row) : Type 0 where
@@ -59,10 +65,21 @@ ForgotBelow p look old before after dropped n =
     (k : ℕ) → k < n → (was is : NetNode) → slice_get before k ≡ Some was → slice_get after k ≡ Some is
     → NodeForgets p look old was is (dropped_before (take k dropped) was.parent) (dropped_at dropped k)
 
--- the nodes of a network forgot
-pub record AllForget (p : Program) (look : Look) (old : Named → Bool) (before after : List NetNode) (dropped : List (List Row)) : Type 0 where
-  pub nodes : length after ≡ length before
+-- no old fact that is at hand is of the type of the node's candidates
+abbrev pub HasNoOld : Look → (Named → Bool) → NetNode → Type 0
+HasNoOld look old n = (who : Named) (f : Fact) → old who ≡ true → look who.tag ≡ Some f → type_of n ≡ f.ty.0 → ⊥
+
+-- the nodes of these types are due
+abbrev pub AreDue : Index → List ℕ → List ℕ → Type 0
+AreDue index types due = (ty k : ℕ) → has_place types ty ≡ true → is_listed index.by_type ty k ≡ true → has_place due k ≡ true
+
+-- the nodes of a network forgot, and these are the rows that they dropped, where there are some
+pub record HaveForgotten (p : Program) (look : Look) (old : Named → Bool) (before after : List NetNode) (ends : List ℕ) (a : Answered (List Row)) : Type 0 where
+  pub nothing : a.none ≡ []
+  pub dropped : List (List Row)
   pub forgot : ForgotBelow p look old before after dropped (length before)
+  pub known : (k : ℕ) → k < length before → dropped_at dropped k ≡ given [] (some_answer a k)
+  pub ruled : AreRuled a ends
 
 -- ---- the rules
 

@@ -4,8 +4,8 @@ pub mod Indexes
 pub mod Nets
 pub mod Quiet
 pub mod Forgetting
+pub mod Answers
 pub mod Dropped
 pub mod Steps
-pub mod Answers
 pub mod Walks
 pub mod Building

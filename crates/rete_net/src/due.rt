@@ -114,6 +114,13 @@ fn put_facts(
     Ok(())
 }
 
+/// Puts the nodes that the moment of a step may concern: all that the clock alone may change.
+fn put_timed(due: &mut BTreeSet<usize, Global>, index: &Index) -> Result<(), NoMemory>
+    ensures { OnOk result ((k : ℕ) → has_place due.new.keys k ≡ (has_place due.old.keys k || is_in index.now.timed.items k)) }
+{
+    put_all(due, index.timed())
+}
+
 /// The nodes that a step reaches where nothing changes in the rows of their parents: those that mean a fact that goes or comes, those
 /// that the moment may concern, and the first ones where something comes to them. It asks the nodes of the types of these facts.
 pub(crate) fn reached(
@@ -128,7 +135,7 @@ pub(crate) fn reached(
         → IsLeftAlone n first.now (lent gone.now) (option_map (λ f. f.now) come.entry)) }
 {
     let mut due = BTreeSet::new(alloc);
-    put_all(&mut due, index.timed())?;
+    put_timed(&mut due, index)?;
     if !changes_nothing(first) {
         put_all(&mut due, index.firsts())?;
     }

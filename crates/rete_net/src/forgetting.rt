@@ -1,12 +1,19 @@
-ghost use Rattle.std.specs.Prelude.{◌≡◌, ℕ, [], length, Some, slice_get, IfOk, OnOk};
+ghost use Rattle.std.specs.Prelude.{◌≡◌, ℕ, [], false, true, length, Some, slice_get, IfOk, OnOk};
 ghost use Rattle.pair_memory.specs.Joined.{has_name};
-ghost use Rattle.rete_net.specs.Dropped.{AreListed, dropped_at, dropped_before, rows_for, with_rows, ForgotBelow};
+ghost use Rattle.rete_net.specs.Answers.{answer_in, AreRuled, IsPut};
+ghost use Rattle.rete_net.specs.Dropped.{rows_for, with_rows, AreDue, AreListed, HasNoOld};
+ghost use Rattle.rete_net.specs.Indexes.{IsFound};
+ghost use Rattle.rete_net.specs.Places.{has_place};
+ghost use Rattle.fx_base.specs.declared.fact.Fact.{Fact as FactData};
+ghost use Rattle.rete_net.specs.declared.node.NetNode.{NetNode as NetNodeData};
 
-use crate::node::NetNode;
-use fx_base::{Copies, Facts, NoMemory, Seq};
+use crate::answered::Answered;
+use crate::due::{first_below, put_all};
+use crate::index::Index;
+use fx_base::{Copies, Facts, NoMemory, Seq, TypeId};
 use row_delta::{Named, Row};
-use rule_model::Program;
 use std::alloc::Global;
+use std::collections::BTreeSet;
 
 /// Rows of the rule in a place of the program, in order.
 #[derive(Drop)]
@@ -15,50 +22,74 @@ pub struct RuleRows {
     pub rows: Seq<Row>,
 }
 
-// What the node in a place dropped, or `none` past the end.
-fn dropped_at<'d>(none: &'d Seq<Row>, dropped: &'d [Seq<Row>], place: usize) -> &'d Seq<Row>
-    ensures { none.now ≡ [] → result.now ≡ dropped_at dropped.now place }
-{
-    match dropped.get(place) {
-        Some(rows) => rows,
-        None => none,
-    }
-}
-
-// What is dropped of the rows before a node: what its parent dropped; before the first condition `none`.
-fn dropped_before<'d>(
-    none: &'d Seq<Row>,
-    dropped: &'d [Seq<Row>],
-    parent: Option<usize>,
-) -> &'d Seq<Row>
-    ensures { none.now ≡ [] → result.now ≡ dropped_before dropped.now parent }
-{
-    match parent {
-        None => none,
-        Some(parent) => dropped_at(none, dropped, parent),
-    }
-}
-
-/// Lets all nodes drop what is old, each after its parent, and answers for each, by its place, the rows of its condition that it
-/// dropped.
-pub(crate) fn forget_all<F: Facts>(
-    nodes: &mut [NetNode],
+/// The nodes of the types of the old facts. It costs a look at each of these, and for each type its nodes.
+pub(crate) fn with_old<F: Facts>(
     alloc: Global,
-    program: &Program,
+    index: &Index,
     old: &[Named],
     facts: &F,
-) -> Result<Vec<Seq<Row>>, NoMemory>
-    ensures { IfOk result (λ dropped. ForgotBelow program.now (F.map facts.now) (has_name old.now) nodes.old nodes.new dropped.items (length nodes.old)) }
+) -> Result<BTreeSet<usize, Global>, NoMemory>
+    ensures { IfOk result (λ due. (k : ℕ) (n : NetNodeData) → IsFound index.now k n → has_place due.keys k ≡ false → HasNoOld (F.map facts.now) (has_name old.now) n) }
 {
-    let none = Seq::from_vec(Vec::new(alloc));
-    let mut dropped = Vec::with_capacity(alloc, nodes.len())?;
-    for i in 0..nodes.len() {
-        let node = &mut nodes[i];
-        let rows = dropped_before(&none, &dropped, node.parent);
-        let gone = node.forget(alloc, program, rows.as_slice(), old, facts)?;
-        dropped.push(gone)?;
+    let mut due = BTreeSet::new(alloc);
+    let mut types = BTreeSet::new(alloc);
+    for named in old {
+        put_old(&mut due, &mut types, index, *named, facts)?;
     }
-    Ok(dropped)
+    Ok(due)
+}
+
+// Puts the nodes of the type of an old fact that is at hand.
+fn put_old<F: Facts>(
+    due: &mut BTreeSet<usize, Global>,
+    types: &mut BTreeSet<usize, Global>,
+    index: &Index,
+    named: Named,
+    facts: &F,
+) -> Result<(), NoMemory>
+    ensures put { OnOk result (AreDue index.now types.old.keys due.old.keys → AreDue index.now types.new.keys due.new.keys) }
+    ensures kept { OnOk result ((ty : ℕ) → has_place types.old.keys ty ≡ true → has_place types.new.keys ty ≡ true) }
+    ensures there { OnOk result ((f : FactData) → F.map facts.now named.tag ≡ Some f → has_place types.new.keys f.ty.0 ≡ true) }
+{
+    match facts.fact(named.tag) {
+        Some(fact) => put_type(due, types, index, fact.ty),
+        None => Ok(()),
+    }
+}
+
+// Puts a type, and its nodes if it was not there.
+fn put_type(
+    due: &mut BTreeSet<usize, Global>,
+    types: &mut BTreeSet<usize, Global>,
+    index: &Index,
+    ty: TypeId,
+) -> Result<(), NoMemory>
+    ensures put { OnOk result (AreDue index.now types.old.keys due.old.keys → AreDue index.now types.new.keys due.new.keys) }
+    ensures kept { OnOk result ((other : ℕ) → has_place types.old.keys other ≡ true → has_place types.new.keys other ≡ true) }
+    ensures there { OnOk result (has_place types.new.keys ty.0 ≡ true) }
+{
+    let fresh = types.insert(usize::from(ty.0))?;
+    if !fresh {
+        return Ok(());
+    }
+    put_all(due, index.of_type(ty))?;
+    Ok(())
+}
+
+/// Puts the rows that the node in a place dropped, where there are some.
+pub(crate) fn put_dropped(
+    dropped: &mut Answered<Seq<Row>>,
+    due: &mut BTreeSet<usize, Global>,
+    index: &Index,
+    place: usize,
+    rows: Seq<Row>,
+) -> Result<(), NoMemory>
+    ensures { OnOk result (dropped.old.none ≡ [] → IsPut index.now place rows dropped.old dropped.new due.old.keys due.new.keys) }
+{
+    if rows.as_slice().is_empty() {
+        return Ok(());
+    }
+    dropped.put(due, index, place, rows)
 }
 
 // Puts the entry of a rule, where rows of it were dropped.
@@ -81,17 +112,19 @@ fn put_rows(
 /// The rows that the last nodes of the rules dropped, for the rules of which rows were dropped, in their order.
 pub(crate) fn rows_of_rules(
     alloc: Global,
-    dropped: &[Seq<Row>],
+    dropped: &Answered<Seq<Row>>,
     ends: &[usize],
 ) -> Result<Vec<RuleRows>, NoMemory>
     ensures listed { IfOk result (λ answers. AreListed answers.items (length ends.now)) }
-    ensures rows { IfOk result (λ answers. (place end : ℕ) → slice_get ends.now place ≡ Some end → rows_for answers.items place ≡ dropped_at dropped.now end) }
+    ensures rows { IfOk result (λ answers. dropped.now.none ≡ [] → AreRuled dropped.now ends.now
+        → (place end : ℕ) → slice_get ends.now place ≡ Some end → rows_for answers.items place ≡ answer_in dropped.now end) }
 {
-    let none = Seq::from_vec(Vec::new(alloc));
     let mut answers = Vec::new(alloc);
-    for place in 0..ends.len() {
-        let rows = dropped_at(&none, dropped, ends[place]);
+    let mut next = 0;
+    'rules: while let Some(place) = first_below(dropped.rules(), next, ends.len()) {
+        let rows = dropped.answer(ends[place]);
         put_rows(&mut answers, alloc, place, rows)?;
+        next = place + 1;
     }
     Ok(answers)
 }

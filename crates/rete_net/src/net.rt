@@ -17,7 +17,7 @@ ghost use Rattle.condition_rows.specs.Sets.{rows_of};
 ghost use Rattle.pattern_gate.specs.Moves.{IsOrderly, Moves, at_clock};
 ghost use Rattle.condition_node.specs.Quiet.{IsBefore};
 ghost use Rattle.rete_net.specs.declared.changes.RuleChange.{RuleChange as RuleChangeData};
-ghost use Rattle.rete_net.specs.Dropped.{AllForget, AreDropped, AreListed};
+ghost use Rattle.rete_net.specs.Dropped.{AreDropped, AreListed, HaveForgotten};
 ghost use Rattle.rete_net.specs.Forgetting.{AreNotNeeded};
 ghost use Rattle.rete_net.specs.Indexes.{IsIndexOf};
 ghost use Rattle.rete_net.specs.Nets.{NetStands, clean_rows, AreBetween};
@@ -31,7 +31,7 @@ use crate::answered::Answered;
 use crate::build::{Builder, NoFacts, empty_row_comes, no_change};
 use crate::changes::{RuleChange, changes_of};
 use crate::due::{first_below, reached};
-use crate::forgetting::{RuleRows, forget_all, rows_of_rules};
+use crate::forgetting::{RuleRows, put_dropped, rows_of_rules, with_old};
 use crate::index::Index;
 use crate::node::NetNode;
 use crate::quiet::is_before;
@@ -129,8 +129,8 @@ impl Rete {
 
     /// Drops these old facts from what the nodes keep, and answers for each rule of which rows go with them those rows, in order, and
     /// the rules in their order. What nodes count or gather beside rows that stay is left as it is, old facts included, and `facts`
-    /// still has them. It costs what a step costs in which these rows and candidates go, a comparison for each node that has nothing
-    /// to drop, and a copy of the rows that are answered.
+    /// still has them. It takes the nodes whose candidates are of the types of these facts, and those behind a node that drops rows. These
+    /// cost what a step costs in which these rows and candidates go, and a copy of the rows that are answered; the others nothing.
     pub fn forget<F: Facts>(
         &mut self,
         alloc: Global,
@@ -171,20 +171,32 @@ impl Rete {
         })
     }
 
-    /// Lets all nodes drop what is old, and answers what each dropped.
+    /// Lets the nodes that have something old drop it, each after its parent, and answers what they drop.
     fn forget_nodes<F: Facts>(
         &mut self,
         alloc: Global,
         program: &Program,
         old: &[Named],
         facts: &F,
-    ) -> Result<Vec<Seq<Row>>, NoMemory>
-        ensures ends { OnOk result (self.new.ends.items ≡ self.old.ends.items) }
+    ) -> Result<Answered<Seq<Row>>, NoMemory>
+        ensures ends { OnOk result (self.new.ends ≡ self.old.ends) }
+        ensures index { OnOk result (self.new.index ≡ self.old.index) }
         ensures quiet { OnOk result (self.new.quiet_until ≡ self.old.quiet_until) }
-        ensures indexed { OnOk result (IsIndexOf self.old.nodes.items self.old.ends.items self.old.index → IsIndexOf self.new.nodes.items self.new.ends.items self.new.index) }
-        ensures forgot { IfOk result (λ dropped. AllForget program.now (F.map facts.now) (has_name old.now) self.old.nodes.items self.new.nodes.items dropped.items) }
+        ensures replaced { OnOk result (IsReplaced self.old.nodes.items self.new.nodes.items) }
+        ensures forgot { IfOk result (λ a. IsWired self.old.nodes.items self.old.ends.items self.old.index
+            → HaveForgotten program.now (F.map facts.now) (has_name old.now) self.old.nodes.items self.new.nodes.items self.old.ends.items a) }
     {
-        let dropped = forget_all(&mut self.nodes, alloc, program, old, facts)?;
+        let mut due = with_old(alloc, &self.index, old, facts)?;
+        let none = Seq::from_vec(Vec::new(alloc));
+        let mut dropped = Answered::new(alloc, Seq::from_vec(Vec::new(alloc)));
+        let mut next = 0;
+        'walk: while let Some(place) = first_below(&due, next, self.nodes.len()) {
+            let node = &mut self.nodes[place];
+            let rows = dropped.left(&none, node.parent);
+            let gone = node.forget(alloc, program, rows.as_slice(), old, facts)?;
+            put_dropped(&mut dropped, &mut due, &self.index, place, gone)?;
+            next = place + 1;
+        }
         Ok(dropped)
     }
 

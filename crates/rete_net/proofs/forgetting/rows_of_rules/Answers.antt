@@ -1,29 +1,32 @@
-use Rattle.std.proofs.Common.{◌≡◌, ◌∙◌, sym, subst, ◌+◌, ◌<◌, length, arith, get_or, List}
+use Rattle.std.proofs.Common.{◌∙◌, sym, ap, refl, subst, ◌+◌, ◌<◌, length, arith, get_or, List}
 use Rattle.std.proofs.lemmas.Option.{slice_get_within, slice_get-get_or}
 use Rattle.rete_net.specs.declared.forgetting.RuleRows.{RuleRows}
-use Rattle.rete_net.specs.Dropped.{AreListed}
-use Rattle.rete_net.proofs.Listing.{AreListedBelow, none_listed, listed_more}
+use Rattle.rete_net.specs.Dropped.{rows_for, AreListed}
+use Rattle.rete_net.specs.Places.{has_place}
+use Rattle.rete_net.proofs.Listing.{listed_far, listed_more, rows_more, rows_passed}
 use Rattle.rete_net.proofs.forgetting.rows_of_rules.Goals as goal
 
-pub loop-place-preserved : goal.loop-place-preserved
-loop-place-preserved c =
-    let within : c.loop-place.place < length c.args.ends.now = omega arith in
-    subst (λ (answers : List RuleRows). AreListedBelow c.args.dropped.now c.args.ends.now answers (c.loop-place.place + 1)) (sym c.in_ok-put_rows.ensures)
-    (listed_more c.args.dropped.now c.args.ends.now c.loop-place.answers.items c.loop-place.place (get_or c.args.ends.now c.loop-place.place 0)
-    c.loop-place.invariant (slice_get-get_or c.args.ends.now c.loop-place.place 0 within)
-    c.dropped_at-rows.result.now (c.dropped_at-rows.ensures (c.from_vec-none.ensures ∙ c.new.ensures.items)))
-
-pub returns-clause-listed : goal.returns-clause-listed
-returns-clause-listed c =
-    let all : c.loop-place.place ≡ length c.args.ends.now = omega arith in
-    subst (AreListed c.loop-place.answers.items) all c.loop-place.invariant.listed
+pub rules-preserved : goal.rules-preserved
+rules-preserved c =
+    let was = c.rules.invariant in
+    let ends = c.args.ends.now in
+    let place = c.in-Some.place in
+    let rows = c.answer-rows.result.now in
+    let within : c.in-Some.place < length c.args.ends.now = c.in-Some.ensures.below in
+    record {
+      within = omega (arith, within);
+      listed = subst (λ (list : List RuleRows). AreListed list (place + 1)) (sym c.in_ok-put_rows.ensures)
+          (listed_more c.rules.answers.items place (listed_far c.rules.answers.items c.rules.next place c.in-Some.ensures.from was.listed) rows);
+      rows = λ none ruled k end lt e.
+          ap (λ (list : List RuleRows). rows_for list k) c.in_ok-put_rows.ensures
+          ∙ rows_more c.args.dropped.now ends c.rules.answers.items c.rules.next place none ruled was.listed (was.rows none ruled)
+          (λ j le less. ap (λ set. has_place set.keys j) (sym c.rules-in-rules.ensures) ∙ c.in-Some.ensures.first j le less)
+          rows (get_or ends place 0) (slice_get-get_or ends place 0 within) c.answer-rows.ensures c.in-Some.ensures.from k end lt e;
+    }
 
 pub returns-clause-rows : goal.returns-clause-rows
-returns-clause-rows c place end e =
-    let within : place < length c.args.ends.now = slice_get_within c.args.ends.now place end e in
-    let lt : place < c.loop-place.place = omega arith in
-    c.loop-place.invariant.rows place end lt e
-
-pub loop-place-init : goal.loop-place-init
-loop-place-init c =
-    subst (λ (answers : List RuleRows). AreListedBelow c.args.dropped.now c.args.ends.now answers 0) (sym c.new-answers.ensures.items) (none_listed c.args.dropped.now c.args.ends.now)
+returns-clause-rows c none ruled place end e =
+    let was = c.rules.invariant in
+    rows_passed c.args.dropped.now c.args.ends.now c.rules.answers.items c.rules.next (length c.args.ends.now) none ruled was.listed (was.rows none ruled)
+    (λ j le less. ap (λ set. has_place set.keys j) (sym c.rules-in-rules.ensures) ∙ c.in_default.ensures.none refl j le less)
+    place end (slice_get_within c.args.ends.now place end e) e

@@ -1,5 +1,14 @@
-use Rattle.rete_net.proofs.Listing.{AreListedBelow}
+use Rattle.std.proofs.Common.{◌≡◌, ◌<◌, ◌≤◌, ◌-◌, ℕ, [], Some, length, slice_get}
+use Rattle.rete_net.specs.Answers.{answer_in, AreRuled}
+use Rattle.rete_net.specs.Dropped.{rows_for, AreListed}
 use Rattle.rete_net.proofs.forgetting.rows_of_rules.Given as goal
 
-abbrev pub invariant-loop-place : goal.invariant-loop-place
-invariant-loop-place l = AreListedBelow l.dropped l.ends l.answers.items l.place
+abbrev pub invariant-rules : goal.invariant-rules
+invariant-rules l = record {
+  within : l.next ≤ length l.ends;
+  listed : AreListed l.answers.items l.next;
+  rows : l.dropped.none ≡ [] → AreRuled l.dropped l.ends → (place end : ℕ) → place < l.next → slice_get l.ends place ≡ Some end → rows_for l.answers.items place ≡ answer_in l.dropped end;
+}
+
+abbrev pub decreases-rules : goal.decreases-rules
+decreases-rules l = length l.ends - l.next

@@ -1,18 +1,56 @@
-use Rattle.std.proofs.Common.{length, drop, refl}
+use Rattle.std.proofs.Common.{◌≡◌, ◌∙◌, sym, ap, refl, subst, ◌<◌, length, arith, Some, slice_get, List, []}
+use Rattle.std.proofs.lemmas.Option.{slice_get-get_or}
+use Rattle.row_delta.specs.declared.row.Row.{Row}
 use Rattle.pair_memory.specs.Joined.{has_name}
-use Rattle.rete_net.proofs.Dropping.{all_forget}
-use Rattle.rete_net.proofs.Frames.{forgetting_nodes, index_again}
+use Rattle.rete_net.specs.declared.index.Index.{Index}
+use Rattle.rete_net.specs.Answers.{left_given, IsPut}
+use Rattle.rete_net.proofs.Fading.{set_off, forget_at, come_to_end}
+use Rattle.rete_net.proofs.Walking.{not_replaced, replaced_more}
 use Rattle.rete_net.proofs.net.Rete.forget_nodes.Goals as goal
 
-pub returns-clause-forgot : goal.returns-clause-forgot
-returns-clause-forgot g c =
-    let nodes = c.args.self.now.nodes in
-    all_forget c.args.program.now (g.F.Facts.map c.args.facts.now) (has_name c.args.old.now)
-    nodes.items c.deref_mut.result.now c.forget_all.new.nodes (drop (length c.forget_all.new.nodes) nodes.items) nodes.len c.in_ok-dropped.dropped.items
-    c.deref_mut.ensures.value c.forget_all.auto.nodes nodes.ok.0 c.in_ok-dropped.ensures
+pub walk-init : goal.walk-init
+walk-init g c = record {
+  ends = refl;
+  index = refl;
+  quiet = refl;
+  replaced = not_replaced c.args.self.now.nodes.items;
+  within = omega arith;
+  way = λ wired.
+      set_off c.args.program.now (g.F.Facts.map c.args.facts.now) (has_name c.args.old.now) c.args.self.now.nodes.items c.args.self.now.ends.items c.args.self.now.index wired
+      c.in_ok-due.due.keys c.new-dropped.result (c.new-dropped.ensures.none ∙ c.from_vec.ensures ∙ c.new-2.ensures.items) c.new-dropped.ensures.answers (λ k n e found out. c.in_ok-due.ensures k n found out);
+}
 
-pub returns-clause-indexed : goal.returns-clause-indexed
-returns-clause-indexed g c =
-    let self = c.args.self.now in
-    index_again self.nodes.items _ self.ends.items self.ends.items self.index self.index
-    (forgetting_nodes c.args.program.now (g.F.Facts.map c.args.facts.now) (has_name c.args.old.now) self.nodes.items _ c.in_ok-dropped.dropped.items (returns-clause-forgot g c)) refl refl
+pub walk-preserved : goal.walk-preserved
+walk-preserved g c =
+    let was = c.walk.invariant in
+    let nodes = c.walk.self.nodes.items in
+    let place = c.in-Some.place in
+    let n = c.index_mut-node.result.now in
+    let many = was.replaced.many in
+    let below = c.in-Some.ensures.below in
+    let len = c.len.ensures ∙ c.walk.self.nodes.ok.0 in
+    let within : c.in-Some.place < length c.walk.self.nodes.items = omega (arith, below, len) in
+    let at : slice_get c.walk.self.nodes.items c.in-Some.place ≡ Some c.index_mut-node.result.now = slice_get-get_or nodes place n within ∙ ap Some (sym c.index_mut-node.ensures.value) in
+    let none : c.from_vec-none.result ≡ [] = c.from_vec-none.ensures ∙ c.new.ensures.items in
+    record {
+      ends = was.ends;
+      index = was.index;
+      quiet = was.quiet;
+      replaced = replaced_more c.args.self.now.nodes.items nodes place n c.forget.new.self was.replaced at c.in_ok-gone.ensures.parent c.in_ok-gone.ensures.condition;
+      within = omega (arith, many, within);
+      way = λ wired.
+          forget_at c.args.program.now (g.F.Facts.map c.args.facts.now) (has_name c.args.old.now)
+          c.args.self.now.nodes.items c.args.self.now.ends.items c.args.self.now.index wired nodes c.walk.due.keys c.walk.dropped c.walk.next (was.way wired)
+          place n c.forget.new.self c.as_slice.result.now c.in_ok-gone.gone c.put_dropped.new.dropped c.put_dropped.new.due.keys c.in-Some.ensures.from (omega (arith, many, within)) c.in-Some.ensures.first
+          at c.in_ok-gone.ensures (c.as_slice.ensures ∙ c.left-rows.ensures ∙ ap (λ (rows : List Row). left_given rows c.walk.dropped n.parent) none)
+          (λ nothing. subst (λ (i : Index). IsPut i place c.in_ok-gone.gone c.walk.dropped c.put_dropped.new.dropped c.walk.due.keys c.put_dropped.new.due.keys) was.index (c.in_ok-put_dropped.ensures nothing));
+    }
+
+pub returns-clause-forgot : goal.returns-clause-forgot
+returns-clause-forgot g c wired =
+    let was = c.walk.invariant in
+    let many = was.replaced.many in
+    let len = c.len.ensures ∙ c.walk.self.nodes.ok.0 in
+    come_to_end c.args.program.now (g.F.Facts.map c.args.facts.now) (has_name c.args.old.now)
+    c.args.self.now.nodes.items c.args.self.now.ends.items c.args.self.now.index wired c.walk.self.nodes.items c.walk.due.keys c.walk.dropped c.walk.next (was.way wired)
+    was.within (λ k le lt. c.in_default.ensures.none refl k le (omega (arith, many, len, lt)))

@@ -1,0 +1,19 @@
+use Rattle.std.proofs.Common.{◌≡◌, ◌≤◌, ◌-◌, length}
+use Rattle.pair_memory.specs.Joined.{has_name}
+use Rattle.rete_net.specs.Walks.{IsReplaced, IsWired}
+use Rattle.rete_net.proofs.Fading.{IsUnderWay}
+use Rattle.rete_net.proofs.net.Rete.forget_nodes.Given as goal
+
+abbrev pub invariant-walk : goal.invariant-walk
+invariant-walk g l = record {
+  ends : l.self.ends ≡ l.fn.self.ends;
+  index : l.self.index ≡ l.fn.self.index;
+  quiet : l.self.quiet_until ≡ l.fn.self.quiet_until;
+  replaced : IsReplaced l.fn.self.nodes.items l.self.nodes.items;
+  within : l.next ≤ length l.fn.self.nodes.items;
+  way : IsWired l.fn.self.nodes.items l.fn.self.ends.items l.fn.self.index
+      → IsUnderWay l.program (g.F.Facts.map l.facts) (has_name l.old) l.fn.self.nodes.items l.fn.self.ends.items l.self.nodes.items l.due.keys l.dropped l.next;
+}
+
+abbrev pub decreases-walk : goal.decreases-walk
+decreases-walk g l = length l.fn.self.nodes.items - l.next
