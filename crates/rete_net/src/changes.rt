@@ -48,8 +48,8 @@ fn put_change(
     Ok(())
 }
 
-/// The changes of the rules, in their order, out of what their last nodes, which stand in these places, answered. It costs the logarithm of the answers for each
-/// rule that ends at a node that answered, and copies the difference.
+/// The changes of the rules, in their order, out of what their last nodes, which stand in these places, answered. For each rule that
+/// ends at a node that answered it costs the logarithm of the answers, and a copy of the difference.
 pub(crate) fn changes_of(
     alloc: Global,
     answered: &Answered<Delta>,

@@ -41,9 +41,9 @@ use row_delta::{Delta, Named, Row};
 use rule_model::{Moment, Program};
 use std::alloc::Global;
 
-/// The network of a program: its nodes, each behind its parent, the last node of each rule by the rule's place, by what both are found, and the moment of
-/// the clock, in milliseconds, from which something is due in a gate or a node. Until then a move of the clock alone changes
-/// nothing; without such a moment it never does. After a call that was refused memory it is to be given up.
+/// The network of a program: its nodes, each behind its parent, the last node of each rule by the rule's place, by what nodes and
+/// rules are found, and the moment of the clock, in milliseconds, from which something is due in a gate or a node. Until then a move
+/// of the clock alone changes nothing; without such a moment it never does. After a call that was refused memory it is to be given up.
 #[derive(Drop)]
 pub struct Rete {
     nodes: Vec<NetNode>,
