@@ -1,28 +1,36 @@
 -- A node that a step does not reach stays as it is, and nothing changes in the rows of its condition.
-use Rattle.std.proofs.Common.{◌≡◌, sym, refl, ◌||◌, not, Bool, true, false, List, Option}
+use Rattle.std.proofs.Common.{◌≡◌, ◌∙◌, sym, ap, refl, subst, ◌||◌, not, Bool, true, false, ℤ, List, map, Option}
 use Rattle.fx_base.specs.declared.fact.Fact.{Fact}
 use Rattle.row_delta.specs.declared.delta.Delta.{Delta}
 use Rattle.row_delta.specs.declared.row.Row.{Row}
-use Rattle.row_delta.specs.declared.row.Named.{Named}
+use Rattle.row_delta.specs.Rows.{has}
 use Rattle.row_change.specs.Changes.{changes_nothing}
 use Rattle.rule_model.specs.declared.program.Program.{Program}
 use Rattle.rule_model.specs.declared.moment.Moment.{Moment}
 use Rattle.rule_model.specs.Rows.{pattern_of}
 use Rattle.rule_model.specs.Simple.{is_whole}
-use Rattle.rule_model.specs.Snapshots.{Snapshot}
+use Rattle.rule_model.specs.declared.condition.Pattern.{Pattern}
+use Rattle.rule_model.specs.declared.condition.WindowTag.{WindowTag}
+use Rattle.rule_model.specs.declared.condition.WindowTag.TheVariants.{Whole, Time, Length}
 use Rattle.join_tests.specs.Joins.{Look}
-use Rattle.pair_memory.specs.Standing.{cleaned}
-use Rattle.condition_rows.specs.Lines.{line}
-use Rattle.pattern_gate.proofs.Moving.{still_stands, candidates_still}
+use Rattle.window_gate.specs.Standing.{Keeps, window_kept, window_of}
+use Rattle.window_gate.specs.Windows.{Arrival, rows_inside, named_of, single}
+use Rattle.window_gate.specs.declared.change.WindowKind.{WindowKind}
+use Rattle.window_gate.specs.declared.gate.Kept.{Kept}
+use Rattle.window_gate.specs.declared.gate.Kept.TheVariants as kept
+use Rattle.window_gate.proofs.Insides.{inside_whole}
+use Rattle.pattern_gate.specs.Gates.{arrivals, kind_of}
+use Rattle.pattern_gate.specs.Turns.{is_one_meant}
+use Rattle.pattern_gate.specs.declared.gate.PatternGate.{PatternGate}
+use Rattle.pattern_gate.proofs.Moving.{same_arrivals, stands_still, same_candidates}
 use Rattle.condition_node.specs.declared.node.Node.{Node}
 use Rattle.condition_node.specs.declared.node.Node.TheVariants as node
-use Rattle.condition_node.specs.Nodes.{condition_of, is_negated, NodeStands}
-use Rattle.condition_node.specs.Turns.{IsTurn}
-use Rattle.condition_node.proofs.Still.{join_still, join_tells_none, exists_still, exists_tells_none, fold_still, fold_tells_none}
+use Rattle.condition_node.specs.Nodes.{condition_of, is_negated}
+use Rattle.condition_node.proofs.Still.{Stays, TellsNothing, join_still, join_tells_nothing, exists_still, exists_tells_nothing, fold_still, fold_tells_nothing}
 use Rattle.rete_net.specs.declared.node.NetNode.{NetNode}
 use Rattle.rete_net.specs.Indexes.{IsLeftAlone}
 use Rattle.rete_net.specs.Steps.{no_change, NodeStep}
-use Rattle.rete_net.proofs.Skipping.{skipped}
+use Rattle.rete_net.proofs.Skipping.{GateStays, skipped}
 
 pub neither_left : (a b : Bool) → (a || b) ≡ false → a ≡ false
 neither_left true b e = e
@@ -33,22 +41,52 @@ neither_right true b e = absurd (let no : true ≡ false = e in cc)
 neither_right false true e = refl
 neither_right false false e = sym e
 
-module _ (p : Program) (look world : Look) (s next : Snapshot) (rows rows_now : Row → Bool) (forgotten : Named → Bool) (left right : Delta) (none : changes_nothing left ≡ true) (none_right : changes_nothing right ≡ true) where
-  abbrev Turn : Node → Type 0
-  Turn n = IsTurn p (condition_of n) look world s next rows rows_now forgotten left right
+-- ---- without a window, where no fact is meant
 
-  stays : (n : Node) → is_negated (condition_of n) ≡ false → NodeStands p n look s rows forgotten → Turn n → NodeStands p n look next rows_now forgotten
-  stays (node.Join join) e = join_still p look world s next rows rows_now forgotten left right none none_right join
+keeps_whole : (w : WindowTag) → is_whole w ≡ true → (k : Kept) → window_kept k ≡ kind_of w → (list : List Arrival) (now : ℤ) → Keeps k list now
+keeps_whole w e kept.Whole is list now = tt
+keeps_whole Whole e (kept.Time window) is list now = absurd cc
+keeps_whole (Time span) e (kept.Time window) is list now = absurd (let n : false ≡ true = e in cc)
+keeps_whole (Length count) e (kept.Time window) is list now = absurd (let n : false ≡ true = e in cc)
+keeps_whole Whole e (kept.Length window) is list now = absurd cc
+keeps_whole (Time span) e (kept.Length window) is list now = absurd (let n : false ≡ true = e in cc)
+keeps_whole (Length count) e (kept.Length window) is list now = absurd (let n : false ≡ true = e in cc)
+
+rows_whole : (w : WindowTag) → is_whole w ≡ true → (was now : ℤ) (list : List Arrival) → rows_inside (kind_of w) was list ≡ rows_inside (kind_of w) now list
+rows_whole Whole e was now list = ap (λ (xs : List Arrival). map single (map named_of xs)) (inside_whole was list ∙ sym (inside_whole now list))
+rows_whole (Time span) e was now list = absurd (let n : false ≡ true = e in cc)
+rows_whole (Length count) e was now list = absurd (let n : false ≡ true = e in cc)
+
+-- what is inside does not depend on the clock
+pub inside_still : (q : Pattern) (gate : PatternGate) → is_whole q.window ≡ true → window_of gate.gate ≡ kind_of q.window → (was now : ℤ) (list : List Arrival) (row : Row)
+    → has (rows_inside (window_of gate.gate) now list) row ≡ has (rows_inside (window_of gate.gate) was list) row
+inside_still q gate whole window was now list row =
+    ap (λ (rows : List Row). has rows row) (subst (λ (k : WindowKind). rows_inside k now list ≡ rows_inside k was list) (sym window) (rows_whole q.window whole now was list))
+
+gate_stays : (p : Program) (q : Pattern) (gate : PatternGate) (gone : List Fact) (come : Option Fact) (clock : ℤ) → is_whole q.window ≡ true → is_one_meant q gone come ≡ false → GateStays p q gate gone come clock
+gate_stays p q gate gone come clock whole none = record {
+  stands = λ s next stands moves at. stands_still p q s next moves.before moves.after (same_arrivals p q s next gone come moves none) gate stands (record {
+    tags = stands.stands.tags;
+    keeps = keeps_whole q.window whole gate.gate.kept stands.window (arrivals p q s) next.clock;
+  });
+  candidates = λ s next stands moves at. same_candidates p q s next moves.before moves.after (same_arrivals p q s next gone come moves none) gate stands
+      (inside_still q gate whole stands.window s.clock next.clock (arrivals p q s));
+}
+
+-- ---- nodes that are no `not`
+
+module _ (p : Program) (moment : Moment) where
+  stays : (n : Node) → is_negated (condition_of n) ≡ false → Stays p moment n
+  stays (node.Join join) e = join_still p moment join
   stays (node.Not waiting) e = absurd (let no : true ≡ false = e in cc)
-  stays (node.Exists tally) e = exists_still p look world s next rows rows_now forgotten left right none none_right tally
-  stays (node.Fold fold) e = fold_still p look world s next rows rows_now forgotten left right none none_right fold
+  stays (node.Exists tally) e = exists_still p moment tally
+  stays (node.Fold fold) e = fold_still p moment fold
 
-  tells_none : (n : Node) → is_negated (condition_of n) ≡ false → NodeStands p n look s rows forgotten → Turn n
-      → (row : Row) → cleaned (line p next (condition_of n) rows_now) forgotten row ≡ cleaned (line p s (condition_of n) rows) forgotten row
-  tells_none (node.Join join) e = join_tells_none p look world s next rows rows_now forgotten left right none none_right join
-  tells_none (node.Not waiting) e = absurd (let no : true ≡ false = e in cc)
-  tells_none (node.Exists tally) e = exists_tells_none p look world s next rows rows_now forgotten left right none none_right tally
-  tells_none (node.Fold fold) e = fold_tells_none p look world s next rows rows_now forgotten left right none none_right fold
+  tells_nothing : (n : Node) → is_negated (condition_of n) ≡ false → TellsNothing p moment n
+  tells_nothing (node.Join join) e = join_tells_nothing p moment join
+  tells_nothing (node.Not waiting) e = absurd (let no : true ≡ false = e in cc)
+  tells_nothing (node.Exists tally) e = exists_tells_nothing p moment tally
+  tells_nothing (node.Fold fold) e = fold_tells_nothing p moment fold
 
 pub alone_stays : (p : Program) (look : Look) (gone : List Fact) (come : Option Fact) (moment : Moment) (first : Delta) (n : NetNode) (left : Delta) → IsLeftAlone n first gone come → changes_nothing left ≡ true
     → NodeStep p look gone come moment n n left no_change
@@ -56,9 +94,4 @@ alone_stays p look gone come moment first n left alone none =
     let q = pattern_of (condition_of n.node) in
     let joins : is_negated (condition_of n.node) ≡ false = neither_left (is_negated (condition_of n.node)) (not (is_whole q.window)) alone.untimed in
     let whole : is_whole q.window ≡ true = neither_right (is_negated (condition_of n.node)) (is_whole q.window) alone.untimed in
-    skipped p look gone come moment n left (record {
-      gate = λ p s next stands moves. still_stands p q s next gone come moves whole alone.unmeant n.gate stands;
-      candidates = λ p s next moves. candidates_still p q s next gone come moves whole alone.unmeant;
-      node = λ p look world s next rows rows_now forgotten left right none none_right. stays p look world s next rows rows_now forgotten left right none none_right n.node joins;
-      rows = λ p look world s next rows rows_now forgotten left right none none_right. tells_none p look world s next rows rows_now forgotten left right none none_right n.node joins;
-    }) none
+    skipped p look gone come moment n left (gate_stays p q n.gate gone come moment.clock whole alone.unmeant) (stays p moment n.node joins) (tells_nothing p moment n.node joins) none

@@ -26,18 +26,12 @@ use Rattle.rete_net.proofs.Advancing.{same_first, rows_made}
 use Rattle.rete_net.proofs.Chaining.{AreMade}
 use Rattle.rete_net.proofs.Cleaning.{line_cleaned}
 use Rattle.rete_net.proofs.Turning.{held_has, rising}
-use Rattle.rete_net.proofs.Lone.{neither_left, neither_right}
+use Rattle.rete_net.proofs.Lone.{inside_still, neither_left, neither_right}
 use Rattle.std.proofs.lemmas.Bool.Decides.{Decides-eqb}
 use Rattle.std.proofs.lemmas.List.Folds.{list_any_more}
 use Rattle.rule_model.specs.Simple.{is_whole}
-use Rattle.rule_model.specs.declared.condition.WindowTag.{WindowTag}
-use Rattle.rule_model.specs.declared.condition.WindowTag.TheVariants.{Whole, Time, Length}
-use Rattle.row_delta.specs.Rows.{has}
-use Rattle.window_gate.specs.Windows.{Arrival, rows_inside, named_of, single}
-use Rattle.window_gate.specs.declared.change.WindowKind.{WindowKind}
-use Rattle.window_gate.proofs.Insides.{inside_whole}
 use Rattle.pattern_gate.specs.declared.gate.PatternGate.{PatternGate}
-use Rattle.pattern_gate.proofs.Moving.{same_candidates}
+use Rattle.pattern_gate.proofs.Moving.{arrivals_still, same_candidates}
 use Rattle.condition_node.specs.declared.node.Node.{Node}
 use Rattle.condition_node.specs.declared.node.Node.TheVariants as node
 use Rattle.condition_node.proofs.Quietness.{join_quiet, exists_quiet, fold_quiet}
@@ -70,17 +64,10 @@ node_quieter p n until sooner weaker quiet s rows forgotten clock stands named k
 
 -- ---- a node that the clock alone does not change
 
-rows_whole : (w : WindowTag) → is_whole w ≡ true → (was now : ℤ) (list : List Arrival) → rows_inside (kind_of w) was list ≡ rows_inside (kind_of w) now list
-rows_whole Whole e was now list = ap (λ (xs : List Arrival). map single (map named_of xs)) (inside_whole was list ∙ sym (inside_whole now list))
-rows_whole (Time span) e was now list = absurd (let n : false ≡ true = e in cc)
-rows_whole (Length count) e was now list = absurd (let n : false ≡ true = e in cc)
-
 gate_still : (p : Program) (q : Pattern) (s : Snapshot) (clock : ℤ) (gate : PatternGate) → is_whole q.window ≡ true → GateStands p q gate s → IsOrderly p s → IsOrderly p (at_clock s clock)
     → (who : Named) → candidates_of p q (at_clock s clock) who ≡ candidates_of p q s who
 gate_still p q s clock gate whole stands kept kept_now =
-    same_candidates p q s clock kept kept_now gate stands
-    (λ row. ap (λ (rows : List Row). has rows row)
-    (subst (λ (k : WindowKind). rows_inside k clock (arrivals p q s) ≡ rows_inside k s.clock (arrivals p q s)) (sym stands.window) (rows_whole q.window whole clock s.clock (arrivals p q s))))
+    same_candidates p q s (at_clock s clock) kept kept_now (arrivals_still p q s clock kept kept_now) gate stands (inside_still q gate whole stands.window s.clock clock (arrivals p q s))
 
 node_still : (p : Program) (n : Node) (until : Option ℤ) → is_negated (condition_of n) ≡ false → IsQuiet p n until
 node_still p (node.Join join) until e = join_quiet p join until

@@ -104,7 +104,7 @@ module _ (p : Program) (look : Look) (s : Snapshot) (rows : Row → Bool) (forgo
 
   node_stands : (m : Node) → condition_of m ≡ c → (other : Look) → NodeStands p m other s rows forgotten → NodeStands p m other s rows (either forgotten old)
   node_stands (node.Join join) at other stands = memories_stand join.memories other join.memories.pattern (ap pattern_of at) stands
-  node_stands (node.Not waiting) at other stands = record { counts = counted counts_blockers waiting.tally.memories other (ap pattern_of at) stands.counts; in_step = stands.in_step; floor = stands.floor }
+  node_stands (node.Not waiting) at other stands = record { counts = counted counts_blockers waiting.tally.memories other (ap pattern_of at) stands.counts; in_step = stands.in_step; none_due = stands.none_due; floor = stands.floor }
   node_stands (node.Exists tally) at other stands = counted counts_witnesses tally.memories other (ap pattern_of at) stands
   node_stands (node.Fold fold) at other stands = record { counts = counted (gathers fold.accumulate) fold.tally.memories other (stands.pattern ∙ ap pattern_of at) stands.counts; pattern = stands.pattern }
 

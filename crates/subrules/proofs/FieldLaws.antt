@@ -1,5 +1,5 @@
 -- How many fields a type has with those that it inherits.
-use Rattle.std.proofs.Common.{◌≡◌, ◌+◌, ℕ, List, [], ◌∷◌, ◌++◌, length, sym, ap, ◌∙◌, arith}
+use Rattle.std.proofs.Common.{◌≡◌, ◌+◌, ℕ, List, [], ◌∷◌, ◌++◌, length, ap, ◌∙◌, arith}
 use Rattle.std.proofs.lemmas.List.{length-append}
 use Rattle.drl_grammar.specs.declared.written.WrittenType.{WrittenType}
 use Rattle.subrules.specs.Expanded.{inherited_fields}

@@ -1,22 +1,22 @@
 -- The walk over the pieces of a rule finds the ways that the nesting of its alternatives says.
-use Rattle.std.proofs.Common.{◌≡◌, ◌+◌, ◌-◌, ℕ, List, [], ◌∷◌, ◌++◌, length, map, take, Some, slice_get, refl, sym, ap, ◌∙◌, append_assoc, arith}
-use Rattle.std.specs.List.{flat_map}
-use Rattle.std.proofs.lemmas.List.{append-nil}
+use Rattle.std.proofs.Common.{◌≡◌, ◌+◌, ◌-◌, ℕ, List, [], ◌∷◌, ◌++◌, length, take, Some, slice_get, refl, sym, ap, ◌∙◌, append_assoc, arith}
+use Rattle.std.proofs.Math.Seq.{take-append_seam}
+use Rattle.std.proofs.lemmas.List.{append-nil, length-append}
 use Rattle.drl_lex.specs.declared.token.TokenKind.{TokenKind}
 use Rattle.drl_grammar.specs.declared.written.Piece.{Piece}
-use Rattle.drl_grammar.specs.declared.written.Piece.TheVariants.{One, Open, Or, Close}
+use Rattle.drl_grammar.specs.declared.written.Piece.TheVariants.{Open, Or, Close}
 use Rattle.drl_grammar.specs.declared.written.WrittenType.{WrittenType}
 use Rattle.drl_grammar.specs.Conditions.{IsChoice, AreAll, AreAny}
-use Rattle.drl_grammar.specs.Conditions.IsChoice as choice
-use Rattle.drl_grammar.specs.Conditions.AreAll as all
-use Rattle.drl_grammar.specs.Conditions.AreAny as any
+use Rattle.drl_grammar.specs.Conditions.IsChoice.{one as choice_one, alternatives as choice_alternatives}
+use Rattle.drl_grammar.specs.Conditions.AreAll.{last as all_last, further as all_further}
+use Rattle.drl_grammar.specs.Conditions.AreAny.{only as any_only, or_else as any_or_else}
 use Rattle.subrules.specs.declared.ways.Alternatives.{Alternatives}
 use Rattle.subrules.specs.declared.ways.Walk.{Walk}
 use Rattle.subrules.specs.Ways.{Way, each_behind, times, choices, begun, all_ways, asks, closed_in, taken, walked, at_begin, ways_of}
 use Rattle.subrules.specs.Nesting.{OneHas, AllHave, AnyHas}
-use Rattle.subrules.specs.Nesting.OneHas as one
-use Rattle.subrules.specs.Nesting.AllHave as every
-use Rattle.subrules.specs.Nesting.AnyHas as some
+use Rattle.subrules.specs.Nesting.OneHas.{condition, alternatives}
+use Rattle.subrules.specs.Nesting.AllHave.{last, further}
+use Rattle.subrules.specs.Nesting.AnyHas.{only, or_else}
 
 -- ---- products of ways
 
@@ -60,15 +60,24 @@ unfolding walked
 walked_on types w [] qs = refl
 walked_on types w (p ∷ ps) qs = walked_on types (taken types w p) ps qs
 
-with_inner : Walk → Alternatives → Walk
+abbrev with_inner : Walk → Alternatives → Walk
 with_inner w a = record { inner = a; outer = w.outer }
 
+one_less : (outer : List Alternatives) (a : Alternatives) → length (outer ++ a ∷ []) - 1 ≡ length outer
+one_less outer a = ap (λ n. n - 1) (length-append outer (a ∷ [])) ∙ more_less (length outer)
+  where
+    more_less : (n : ℕ) → (n + 1) - 1 ≡ n
+    more_less n = Prim.grind arith
+
+at_end : (outer : List Alternatives) (a : Alternatives) → slice_get (outer ++ a ∷ []) (length outer) ≡ Some a
+at_end [] a = refl
+at_end (b ∷ outer) a = at_end outer a
+
 last_is : (outer : List Alternatives) (a : Alternatives) → slice_get (outer ++ a ∷ []) (length (outer ++ a ∷ []) - 1) ≡ Some a
-last_is [] a = refl
-last_is (b ∷ outer) a = Prim.grind arith
+last_is outer a = ap (slice_get (outer ++ a ∷ [])) (one_less outer a) ∙ at_end outer a
 
 front_is : (outer : List Alternatives) (a : Alternatives) → take (length (outer ++ a ∷ []) - 1) (outer ++ a ∷ []) ≡ outer
-front_is outer a = Prim.grind arith
+front_is outer a = ap (λ n. take n (outer ++ a ∷ [])) (one_less outer a) ∙ take-append_seam outer (a ∷ [])
 
 closing : (types : List WrittenType) (w v : Walk) (ways : List Way) → v.outer ≡ w.outer ++ w.inner ∷ [] → all_ways v.inner ≡ ways
     → taken types v Close ≡ with_inner w (asks w.inner ways)
@@ -85,10 +94,11 @@ behind_free : (a : Alternatives) (ways : List Way) → a.here ≡ [] ∷ [] → 
 behind_free a ways free = ap (λ ws. a.done ++ times ws ways) free ∙ ap (λ ws. a.done ++ ws) (free_times ways)
 
 mutual
-  one_walked : (types : List WrittenType) {ps : List Piece} {ways : List Way} → OneHas types ps ways → (w : Walk) → walked types w ps ≡ with_inner w (asks w.inner ways)
   unfolding walked
-  one_walked types one.condition w = refl
-  one_walked types (one.alternatives {ps} {qs} {first} {others} a b) w =
+
+  one_walked : (types : List WrittenType) {ps : List Piece} {ways : List Way} → OneHas types ps ways → (w : Walk) → walked types w ps ≡ with_inner w (asks w.inner ways)
+  one_walked types condition w = refl
+  one_walked types (alternatives {ps} {qs} {first} {others} a b) w =
       let opened : Walk = record { inner = begun; outer = w.outer ++ w.inner ∷ [] } in
       let parted : Walk = record { inner = record { done = all_ways (asks begun first); here = [] ∷ [] }; outer = w.outer ++ w.inner ∷ [] } in
       let inside : walked types w ((Open ∷ ps) ++ (Or ∷ qs)) ≡ walked types parted qs =
@@ -98,16 +108,16 @@ mutual
       ∙ closing types w (walked types parted qs) (first ++ others) r.1 (r.0 ∙ ap (λ ws. ws ++ others) (behind_free begun first refl))
 
   all_walked : (types : List WrittenType) {ps : List Piece} {ways : List Way} → AllHave types ps ways → (w : Walk) → walked types w ps ≡ with_inner w (asks w.inner ways)
-  all_walked types (every.last a) w = one_walked types a w
-  all_walked types (every.further {ps} {qs} {first} {others} a b) w =
+  all_walked types (last a) w = one_walked types a w
+  all_walked types (further {ps} {qs} {first} {others} a b) w =
       walked_on types w ps qs ∙ ap (λ v. walked types v qs) (one_walked types a w) ∙ all_walked types b (with_inner w (asks w.inner first))
       ∙ ap (with_inner w) (asks_twice w.inner first others)
 
   any_walked : (types : List WrittenType) {ps : List Piece} {ways : List Way} → AnyHas types ps ways → (w : Walk) → w.inner.here ≡ [] ∷ []
       → (all_ways (walked types w ps).inner ≡ w.inner.done ++ ways) × ((walked types w ps).outer ≡ w.outer)
-  any_walked types (some.only {ps} {ways} a) w free =
+  any_walked types (only {ps} {ways} a) w free =
       (ap (λ v. all_ways v.inner) (all_walked types a w) ∙ behind_free w.inner ways free, ap (λ v. v.outer) (all_walked types a w))
-  any_walked types (some.or_else {ps} {qs} {first} {others} a b) w free =
+  any_walked types (or_else {ps} {qs} {first} {others} a b) w free =
       let parted : Walk = record { inner = record { done = all_ways (asks w.inner first); here = [] ∷ [] }; outer = w.outer } in
       let same : walked types w (ps ++ Or ∷ qs) ≡ walked types parted qs = walked_on types w ps (Or ∷ qs) ∙ ap (λ v. walked types v (Or ∷ qs)) (all_walked types a w) in
       let r = any_walked types b parted refl in
@@ -121,13 +131,13 @@ walk_finds types pieces ways h = ap (λ w. all_ways w.inner) (all_walked types h
 
 mutual
   one_has : (types : List WrittenType) {d : ℕ} {ps : List Piece} {ts rest : List TokenKind} → IsChoice d ps ts rest → (ways : List Way) × OneHas types ps ways
-  one_has types (choice.one {d} {c} is) = (choices types c, one.condition)
-  one_has types (choice.alternatives a b) = let x = all_have types a in let y = any_have types b in (x.0 ++ y.0, one.alternatives x.1 y.1)
+  one_has types (choice_one {d} {c} is) = (choices types c, condition)
+  one_has types (choice_alternatives a b) = let x = all_have types a in let y = any_have types b in (x.0 ++ y.0, alternatives x.1 y.1)
 
   pub all_have : (types : List WrittenType) {d : ℕ} {ps : List Piece} {ts rest : List TokenKind} → AreAll d ps ts rest → (ways : List Way) × AllHave types ps ways
-  all_have types (all.last a) = let x = one_has types a in (x.0, every.last x.1)
-  all_have types (all.further a b) = let x = one_has types a in let y = all_have types b in (times x.0 y.0, every.further x.1 y.1)
+  all_have types (all_last a) = let x = one_has types a in (x.0, last x.1)
+  all_have types (all_further a b) = let x = one_has types a in let y = all_have types b in (times x.0 y.0, further x.1 y.1)
 
   any_have : (types : List WrittenType) {d : ℕ} {ps : List Piece} {ts rest : List TokenKind} → AreAny d ps ts rest → (ways : List Way) × AnyHas types ps ways
-  any_have types (any.only a) = let x = all_have types a in (x.0, some.only x.1)
-  any_have types (any.or_else a b) = let x = all_have types a in let y = any_have types b in (x.0 ++ y.0, some.or_else x.1 y.1)
+  any_have types (any_only a) = let x = all_have types a in (x.0, only x.1)
+  any_have types (any_or_else a b) = let x = all_have types a in let y = any_have types b in (x.0 ++ y.0, or_else x.1 y.1)

@@ -1,4 +1,4 @@
-use Rattle.std.proofs.Common.{◌≡◌, ◌+◌, ◌≤◌, nat_lt, map, drop}
+use Rattle.std.proofs.Common.{◌≡◌, ◌+◌, nat_lt, map, drop}
 use Rattle.subrules.specs.Faults.{fields_in}
 use Rattle.subrules.proofs.faults.exceed.Given as goal
 
