@@ -64,6 +64,6 @@ walked types w (p ∷ pieces) = walked types (taken types w p) pieces
 abbrev pub at_begin : Walk
 at_begin = record { inner = begun; outer = [] }
 
--- The ways of a rule, by one walk over its pieces. By the nesting of alternatives: `AreWays` below.
+-- The ways of a rule, by one walk over its pieces. By the nesting of its alternatives: `AllHave` in `Nesting.antt`.
 unfoldable pub ways_of : List WrittenType → List Piece → List Way
 ways_of types pieces = all_ways (walked types at_begin pieces).inner
