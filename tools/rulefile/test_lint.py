@@ -29,6 +29,8 @@ declare entry-point "ATM" @lateness( 2s ) end
 RULES = [
     ('rule r when Draw() from entry-point "ATM" then end', []),
     ('rule r when Draw() from entry-point "AMT" then end', ["undeclared-entry"]),
+    ('rule r when ( Call() or Draw() from entry-point "AMT" or Draw() from entry-point "AMT" ) then end', ["undeclared-entry"]),
+    ('declare Loud extends Call volume : long end rule r when $a : Call() Call( card == $a.card, this after[0s,9s] $a ) then end', ["pairs-itself"]),
     ('rule r when $a : Draw( $c : card ) Draw( card == $c, this after[1ms,9s] $a ) from entry-point "ATM" then end', ["no-from"]),
     ('rule r when $a : Draw( $c : card ) from entry-point "ATM" not( Draw( card == $c, this before[0s,9s] $a ) from entry-point "ATM" ) then end',
      ["meets-itself"]),

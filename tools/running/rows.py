@@ -92,8 +92,9 @@ def meant(test: object, f: Fact, row: Row) -> str:
 
 @dataclass
 class Inspection:
-    """A rule in a world, with the text of its conditions."""
+    """A rule in a world, with its place among the rules and the text of its conditions."""
     item: ReadItem
+    place: int
     rule: Rule
     world: World
     text: Text
@@ -226,10 +227,9 @@ def told_of_rule(inspection: Inspection, history: History) -> Iterator[str]:
 
 def told_of_matches(found: list[Row], inspection: Inspection, history: History) -> Iterator[str]:
     """Which matches are pending, and since when the others have fired."""
-    place = inspection.world.program.rules.index(inspection.rule)
     lines = []
     for row in found:
-        key = (place, row.tags, row.values)
+        key = (inspection.place, row.tags, row.values)
         state = f"fired at line {history.fired.get(key)}, and stands since" if key in inspection.world.fired else "pending"
         lines.append(f"  {shown_row(row)}: {state}")
     yield from some(lines, "matches")
