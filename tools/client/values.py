@@ -42,15 +42,11 @@ class Rules:
             self.known_lives[type_name] = None if life == self.infinite else life
         return self.known_lives[type_name]
 
-    def fired(self, title: str, facts: list[Fact], results: list[int]) -> Optional[tuple[Names, list]]:
-        """What the variables of a rule stand for, and the step of each action; None where that is not known. A rule of several ways fires
-        in each of them under its one name: the way is one that these facts pass, and is not known where two of them do other things."""
-        found = []
-        for rule in self.rules.get(title, []):
-            names = self.names(rule, facts, results)
-            if names is not None:
-                found.append((names, self.steps(rule, names)))
-        return found[0] if found and all(other == found[0] for other in found) else None
+    def ways(self, title: str, facts: list[Fact], results: list[int]) -> list[tuple[Names, list]]:
+        """What the variables of a rule stand for, and the step of each action, in each way of it that finds these facts: a rule of several
+        ways fires in each of them under its one name."""
+        named = [(rule, self.names(rule, facts, results)) for rule in self.rules.get(title, [])]
+        return [(names, self.steps(rule, names)) for rule, names in named if names is not None]
 
     def names(self, rule: Any, facts: list[Fact], results: list[int]) -> Optional[Names]:
         """What the variables of a rule stand for, by the facts and results of its firing; None where the patterns find no such facts."""
@@ -146,11 +142,21 @@ class Book:
         facts = [self.facts.get(number, Fact(number, "?")) for number in numbers]
         firing = Firing(rule, line, self.clock, facts, results)
         known = self.rules is not None and all(fact.values is not None for fact in facts)
-        found = self.rules.fired(rule, facts, results) if known else None
-        if found is None:
+        ways = self.rules.ways(rule, facts, results) if known else []
+        if not ways:
             return firing, Actions(self, firing, [])
-        firing.names, steps = found
+        first, steps = ways[0]
+        firing.names = {name: value for name, value in first.items() if all(names.get(name) == value for names, _ in ways)}
+        if any(other != steps for _, other in ways):
+            self.doubt([step for _, other in ways for step in other])
+            return firing, Actions(self, firing, [])
         return firing, Actions(self, firing, steps)
+
+    def doubt(self, steps: list) -> None:
+        """Some of these steps are done, and it is not known which: nor are the values of the facts that they change."""
+        for step in steps:
+            if isinstance(step, (self.rules.meaning.Modification, self.rules.meaning.Retraction)) and step.id in self.facts:
+                self.facts[step.id] = replace(self.facts[step.id], values=None)
 
 
 class Actions:
