@@ -67,7 +67,33 @@ class Case(unittest.TestCase):
         return session
 
 
+WAYS = """declare Tank id : long end
+declare Reading tank : long end
+declare Level extends Reading high : long end
+declare Flow extends Reading litres : long end
+declare Alarm tank : long size : long end
+rule "alarm" when
+  Tank( $t : id ) ( Level( tank == $t, $v : high, high > 9 ) or Flow( tank == $t, $v : litres, litres > 5 ) )
+then insert( new Alarm( $t, $v ) ); end
+rule "both" when ( Level( $v : tank ) or Level( $v : high ) ) then insert( new Alarm( 0, $v ) ); end
+rule "higher" when $a : Alarm( tank == 1, size == 6 ) ( Flow( $w : litres ) or Flow( $w : tank ) ) then modify( $a ) { size = $w + 10 } end
+"""
+
+
 class Values(Case):
+    def test_ways(self):
+        """The facts of a firing say in which way it came, where only one finds them."""
+        session = self.session(WAYS)
+        session.insert("Tank", {"id": 1})
+        session.insert("Flow", {"tank": 1, "litres": 6})
+        flow = session.fire().firings[0]
+        self.assertEqual((flow.rule, flow.names, [fact.id for fact in flow.made]), ("alarm", {"t": 1, "v": 6}, [3]))
+        self.assertEqual([fact.values for fact in session.facts if fact.type == "Alarm"], [None])
+        session.insert("Level", {"tank": 2, "high": 2})
+        self.assertEqual([fact.values for it in session.fire().firings for fact in it.made], [{"tank": 0, "size": 2}] * 2)
+        session.insert("Level", {"tank": 2, "high": 3})
+        self.assertEqual([fact.values for it in session.fire().firings for fact in it.made], [None, None])
+
     def test_what_actions_give(self):
         session = self.session(BILLS)
         order = session.insert("Order", {"number": 1, "cents": 5, "paid": False}).fact

@@ -30,7 +30,9 @@ class Rules:
             raise ValueError(program)
         self.types, self.latenesses = program.types, program.latenesses
         self.world = self.meaning.World(program)
-        self.rules = {rule.name: rule for rule in program.rules}
+        self.rules: dict[str, list] = {}
+        for k, rule in enumerate(program.rules):
+            self.rules.setdefault(program.title(k), []).append(rule)
         self.known_lives: dict[str, Optional[int]] = {}
 
     def life(self, type_name: str) -> Optional[int]:
@@ -40,21 +42,36 @@ class Rules:
             self.known_lives[type_name] = None if life == self.infinite else life
         return self.known_lives[type_name]
 
-    def names(self, rule: str, facts: list[Fact], results: list[int]) -> Names:
-        """What the variables of a rule stand for, by the facts and results of its firing."""
+    def ways(self, title: str, facts: list[Fact], results: list[int]) -> list[tuple[Names, list]]:
+        """What the variables of a rule stand for, and the step of each action, in each way of it that finds these facts: a rule of several
+        ways fires in each of them under its one name."""
+        named = [(rule, self.names(rule, facts, results)) for rule in self.rules.get(title, [])]
+        return [(names, self.steps(rule, names)) for rule, names in named if names is not None]
+
+    def names(self, rule: Any, facts: list[Fact], results: list[int]) -> Optional[Names]:
+        """What the variables of a rule stand for, by the facts and results of its firing; None where the patterns find no such facts."""
         facts, results, names = list(facts), list(results), {}
-        for condition in self.rules[rule].conditions:
+        for condition in rule.conditions:
             if isinstance(condition, self.trees.Plain):
+                if not facts or not self.finds(condition.source, facts[0], names):
+                    return None
                 names.update(self.meaning.bound_by(condition.source, facts.pop(0)))
             elif isinstance(condition, self.trees.Folded):
+                if not results:
+                    return None
                 result = results.pop(0)
                 names.update({} if condition.result is None else {condition.result: result})
-        return names
+        return None if facts or results else names
 
-    def steps(self, rule: str, names: Names) -> list:
+    def finds(self, source: Any, fact: Fact, names: Names) -> bool:
+        """Whether a pattern finds the fact, as far as its type and its comparisons say."""
+        tests = source.constant_tests + source.joined_tests
+        return source.type == fact.type and all(self.meaning.test_holds(test, fact, names) for test in tests)
+
+    def steps(self, rule: Any, names: Names) -> list:
         """The step of each action, None where an expression of it overflows."""
         row = self.meaning.Row((), names)
-        return [self.meaning.planned(action, row, self.world) for action in self.rules[rule].actions]
+        return [self.meaning.planned(action, row, self.world) for action in rule.actions]
 
     def span(self, fact: Fact, clock: int) -> tuple[int, int]:
         """The start and the end of an event that is inserted at this clock."""
@@ -124,11 +141,22 @@ class Book:
         """A firing, and what its actions are still to do."""
         facts = [self.facts.get(number, Fact(number, "?")) for number in numbers]
         firing = Firing(rule, line, self.clock, facts, results)
-        known = self.rules is not None and rule in self.rules.rules and all(fact.values is not None for fact in facts)
-        if not known:
+        known = self.rules is not None and all(fact.values is not None for fact in facts)
+        ways = self.rules.ways(rule, facts, results) if known else []
+        if not ways:
             return firing, Actions(self, firing, [])
-        firing.names = self.rules.names(rule, facts, results)
-        return firing, Actions(self, firing, self.rules.steps(rule, firing.names))
+        first, steps = ways[0]
+        firing.names = {name: value for name, value in first.items() if all(names.get(name) == value for names, _ in ways)}
+        if any(other != steps for _, other in ways):
+            self.doubt([step for _, other in ways for step in other])
+            return firing, Actions(self, firing, [])
+        return firing, Actions(self, firing, steps)
+
+    def doubt(self, steps: list) -> None:
+        """Some of these steps are done, and it is not known which: nor are the values of the facts that they change."""
+        for step in steps:
+            if isinstance(step, (self.rules.meaning.Modification, self.rules.meaning.Retraction)) and step.id in self.facts:
+                self.facts[step.id] = replace(self.facts[step.id], values=None)
 
 
 class Actions:

@@ -139,8 +139,8 @@ def life_of(program: Program, name: str) -> dict[str, str]:
         return {"type": name, "life": f"explicit {info.expires}", "why": "its @expires, from the start of the event"}
     life = lives.life_of_type(program, name)
     reasons = kept.reasons(program, name)[:3] if kept else []
-    said = [f'rule "{program.rules[it.rule].name}", condition {it.condition + 1}: {it.why}' for it in reasons]
-    return {"type": name, "life": "infinite" if life == INFINITE else str(life), "why": "\n".join(said)}
+    said = [f'rule "{program.title(it.rule)}", condition {it.condition + 1}: {it.why}' for it in reasons]
+    return {"type": name, "life": "infinite" if life == INFINITE else str(life), "why": "\n".join(dict.fromkeys(said))}
 
 
 def life_reasons(program: Program) -> list[dict[str, str]]:

@@ -151,7 +151,7 @@ def types_shown(program: Program) -> list[dict]:
 
 
 def run(asked: dict, rules: bytes, script: bytes, program: Program) -> None:
-    say(kind="accepted", types=types_shown(program), rules=[rule.name for rule in program.rules], program=program_said(asked.get("program")))
+    say(kind="accepted", types=types_shown(program), rules=list(dict.fromkeys(program.title(k) for k in range(len(program.rules)))), program=program_said(asked.get("program")))
     say(kind="lives", lives=life_reasons(program))
     say(kind="advice", findings=advice(rules))
     output = "".join(line + "\n" for line in printed(program, rules, script)).encode("utf-8")

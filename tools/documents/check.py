@@ -24,9 +24,9 @@ from pages import Page, pages_of
 from tree import Tree
 
 # The greatest number of words, by page, and of all together; programs and what they print are not counted.
-LIMITS = {"README": 700, "RULES": 7000, "SCRIPT": 2200, "LIVE": 2600, "EXAMPLES": 2400, "COMING-FROM": 2800, "TOOLS": 1500, "RECIPES": 700,
-          "PROVED": 3620, "MAP": 2500, "DECISIONS": 2000, "PERFORMANCE": 1500, "CHANGING": 2200, "PROOF-NOTES": 3200}
-ALL_WORDS = 32760
+LIMITS = {"README": 700, "RULES": 7400, "SCRIPT": 2200, "LIVE": 2600, "EXAMPLES": 2500, "COMING-FROM": 2840, "TOOLS": 1500, "RECIPES": 700,
+          "PROVED": 3730, "MAP": 2500, "DECISIONS": 2100, "PERFORMANCE": 1500, "CHANGING": 2310, "PROOF-NOTES": 3200}
+ALL_WORDS = 34120
 LONG = 40
 # Pages that speak of the code alone: a name of code that stands nowhere is a fault there.
 OF_CODE = {"PROVED", "MAP", "DECISIONS", "CHANGING", "PROOF-NOTES"}

@@ -14,7 +14,7 @@ HERE = Path(__file__).resolve().parent
 TOP = HERE.parents[1]
 sys.path.insert(0, str(TOP / "tools" / "reference"))
 
-from reader import FUNCTIONS, RESERVED  # noqa: E402
+from reader import FUNCTIONS, RESERVED, RESERVED_LATER  # noqa: E402
 from temporal import OPERATORS  # noqa: E402
 from trees import Annotation  # noqa: E402
 
@@ -36,8 +36,8 @@ def alternatives(scope: str) -> set:
 
 class Words(unittest.TestCase):
     def test_reserved_words(self):
-        self.assertEqual(keywords("drlReserved", "drlBoolean"), RESERVED)
-        self.assertEqual(alternatives("keyword.control.drl") | alternatives("constant.language.drl"), RESERVED)
+        self.assertEqual(keywords("drlReserved", "drlBoolean"), RESERVED | RESERVED_LATER)
+        self.assertEqual(alternatives("keyword.control.drl") | alternatives("constant.language.drl"), RESERVED | RESERVED_LATER)
 
     def test_functions_and_operators(self):
         self.assertEqual((keywords("drlFunction"), keywords("drlOperator")), (set(FUNCTIONS), set(OPERATORS)))

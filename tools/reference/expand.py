@@ -9,7 +9,7 @@ from __future__ import annotations
 from dataclasses import replace
 from itertools import product
 from math import prod
-from typing import Optional
+from typing import Callable, Optional
 
 from program import type_declarations
 from reader import Refused
@@ -18,6 +18,8 @@ from trees import Alternatives, Condition, Existing, Folded, Item, LengthWindow,
 MOST_SUBRULES, MOST_CONDITIONS, MOST_FIELDS = 256, 8, 32
 
 Way = tuple[Condition, ...]
+# a condition with another type
+OverType = Callable[[Condition, str], Condition]
 
 
 class Types:
@@ -69,19 +71,19 @@ def on_kind(c: Condition, name: str) -> Condition:
     return replace(c, source=replace(c.source, type=name))
 
 
-def ways(c: Condition, types: Types) -> list[Way]:
+def ways(c: Condition, types: Types, over: OverType = on_kind) -> list[Way]:
     """What a condition is written out to: one list of conditions for each choice."""
     if isinstance(c, Alternatives):
-        return [way for choice in c.choices for way in ways_of_all(choice, types)]
+        return [way for choice in c.choices for way in ways_of_all(choice, types, over)]
     if isinstance(c, Plain):
-        return [(on_kind(c, name),) for name in types.kinds(c.source.type)]
+        return [(over(c, name),) for name in types.kinds(c.source.type)]
     if isinstance(c, Negated):
-        return [tuple(on_kind(c, name) for name in types.kinds(c.source.type))]
+        return [tuple(over(c, name) for name in types.kinds(c.source.type))]
     return [(c,)]
 
 
-def ways_of_all(conditions: Way, types: Types) -> list[Way]:
-    return [tuple(c for way in chosen for c in way) for chosen in product(*(ways(c, types) for c in conditions))]
+def ways_of_all(conditions: Way, types: Types, over: OverType = on_kind) -> list[Way]:
+    return [tuple(c for way in chosen for c in way) for chosen in product(*(ways(c, types, over) for c in conditions))]
 
 
 def count_of_ways(c: Condition, types: Types) -> int:

@@ -9,17 +9,19 @@ from dataclasses import dataclass
 from typing import Iterator, Optional
 
 from tolerant import Complaint, ReadItem  # first: it finds tools/reference
+from written import half_known, outside_writing, type_token, written_out
 
 import checks
 import temporal
 from checks import (NO_VALUE, TIME_END, comparison_misfits, comparisons, expressions_of, kind_of_leaf, leaves_of, size,
                     variables_of)
+from expand import plain_conditions
 from forms import NO_EVAL, close_to
 from lives import network_of_positives, positive_events
 from program import (KINDS, FactMeant, Sight, TypeInfo, ValueMeant, entries_of_item, known_entries, observed_types,
                      sight_of_actions, sight_of_source, sights, types_by_name)
 from tokens import Token
-from trees import (INT, Binary, Compare, Condition, Duration, EntryDeclaration, Expires, Expr, FieldOf, Folded, Insert, Item,
+from trees import (INT, Alternatives, Binary, Compare, Condition, Duration, EntryDeclaration, Expires, Expr, FieldOf, Folded, Insert, Item,
                    LengthWindow, Literal, Modify, Negate, OneOf, Own, Plain, Reference, Retract, Role, Rule, Salience, Source,
                    TimeWindow, Timestamp, TypeDeclaration, Variable, operands_of)
 
@@ -36,10 +38,14 @@ class FileRead:
     half: set[str]
 
 
-def file_of(items: list[ReadItem]) -> FileRead:
+def half_read(items: list[ReadItem]) -> set[str]:
+    """The names of items that could not be read whole."""
+    return {str(item.tokens[1].value) for item in items if len(item.tokens) > 1 and (item.body is None or item.unclear)}
+
+
+def file_of(items: list[ReadItem], half: set[str]) -> FileRead:
     bodies = [Item(k, item.body) for k, item in enumerate(items) if item.body is not None]
     types = types_by_name(bodies)
-    half = {str(item.tokens[1].value) for item in items if len(item.tokens) > 1 and (item.body is None or item.unclear)}
     return FileRead(items, bodies, types, observed_types([b.body for b in bodies if isinstance(b.body, Rule)], types), half)
 
 
@@ -72,12 +78,13 @@ def twice_in_file(file: FileRead) -> Iterator[Complaint]:
 
 def repeated(code: str, pairs: list[tuple[object, Token]], what: str) -> Iterator[Complaint]:
     """Of each name that stands twice, those behind the first."""
-    seen = set()
+    seen: dict[object, Token] = {}
     for name, token in pairs:
         if name in seen:
             shown = name if isinstance(name, str) else name.__name__.lower()
-            yield said(code, token, what.format(shown))
-        seen.add(name)
+            once = "a `not` on a type with subtypes is one for each, so it binds nothing" if seen[name].at == token.at else ""
+            yield said(code, token, what.format(shown), once)
+        seen[name] = token
 
 
 def binding_tokens(item: ReadItem, rule: Rule) -> list[tuple[str, Token]]:
@@ -190,12 +197,6 @@ def limits_of(item: ReadItem) -> Iterator[Complaint]:
 # ---- names that are not known
 
 
-def type_token(item: ReadItem, source: Source) -> Token:
-    """The type in a pattern, behind its variable."""
-    tokens = item.tokens_of(source)
-    return tokens[2] if source.variable is not None and len(tokens) > 2 else tokens[0]
-
-
 def unknown_type(file: FileRead, name: str, token: Token) -> Iterator[Complaint]:
     if name not in file.types and name not in file.half:
         instead = NO_EVAL if name == "eval" else close_to(name, list(file.types))
@@ -283,8 +284,17 @@ def unknown_fields(file: FileRead, item: ReadItem) -> Iterator[Complaint]:
                 yield from unknown_field(file, sight[action.variable].type, assigned[0], item.tokens_of(assigned)[0])
 
 
-def why_unseen(rule: Rule, name: str, condition: Optional[Condition], sight: Sight) -> str:
+def bound_in_some_way(rule: Optional[Rule]) -> set[str]:
+    """The variables that patterns within the alternatives of a rule bind."""
+    patterns = [c.source for some in rule.conditions if isinstance(some, Alternatives) for c in plain_conditions((some,))
+                if isinstance(c, Plain)] if rule is not None else []
+    return {b.variable for source in patterns for b in source.binds} | {source.variable for source in patterns}
+
+
+def why_unseen(rule: Rule, written: Optional[Rule], name: str, condition: Optional[Condition], sight: Sight) -> str:
     """Why a variable that the rule binds is not in sight, or which other was meant."""
+    if name in bound_in_some_way(written):
+        return "some of its alternatives bind it, and the rule is for each: bind it in all of them"
     for k, c in enumerate(rule.conditions):
         bound = {c.source.variable} | {b.variable for b in c.source.binds}
         if name in bound and c is condition:
@@ -298,7 +308,7 @@ def why_unseen(rule: Rule, name: str, condition: Optional[Condition], sight: Sig
 
 def unknown_variable(item: ReadItem, name: str, token: Token, condition: Optional[Condition], sight: Sight) -> Iterator[Complaint]:
     if name not in sight and name not in item.unclear:
-        why = why_unseen(item.body, name, condition, sight)
+        why = why_unseen(item.body, item.as_written, name, condition, sight)
         yield said("UnknownVariable", token, f"`${name}` is bound by no earlier condition", why)
 
 
@@ -567,9 +577,10 @@ NAMES = [twice_in_item, unknown_types, unknown_fields, unknown_variables, misfit
 
 def complaints_of(items: list[ReadItem]) -> list[Complaint]:
     """All that the checks complain of, of all items that could be read."""
-    file = file_of(items)
-    found = list(twice_in_file(file)) + list(counts_of_file(file))
-    for item in items:
+    half = half_read(items)
+    file = file_of(written_out(items), half | half_known(items, half))
+    found = list(outside_writing(items, half)) + list(twice_in_file(file)) + list(counts_of_file(file))
+    for item in file.items:
         if item.body is None:
             found += unknown_types(file, item)
             continue

@@ -26,7 +26,8 @@ ARGUMENT = "the argument is a variable that the source binds: `accumulate( Draw(
 LEFT_OUT = "leave it out: a rule has `salience` and `dialect` alone"
 ONCE = "leave it out: let a field say that it is done, `$a : Item( done == false )` and `modify( $a ) { done = true }`"
 PHASE = "leave it out: a fact can say which phase it is, `Phase( number == 2 )`"
-JOINED = "conditions stand one below the other, with no mark between; for `or` write two rules"
+JOINED = "conditions stand one below the other, with no mark between"
+CHOICE = "alternatives stand in parentheses, with `or` between: `( A() or B() )`"
 INSERTED = "`insert( new Alert( $c ) );` alone, with no variable for it"
 TEXT_TESTS = "there is none: a truth value, set where the script is made"
 KNOWN = "the annotations are `@role( event )`, `@timestamp( field )`, `@duration( field )`, `@expires( 10s )`, `@reference`"
@@ -52,8 +53,9 @@ FORMS = [Form(*row) for row in (
     ("item", 0, "entrypoint", '`declare entry-point "ATM" end`'),
     ("field", 2, "type W W", "`declare A`, without `type`"),
     ("field", 2, "window W", "a window stands behind its pattern: `Tick() over window:time( 10s )`"),
-    ("field", 1, "extends W", "a type has its own fields alone: write all of them"),
-    ("field", 0, "extends", "a type has its own fields alone: write all of them"),
+    ("declaration", 0, "extends", "`extends` stands behind the name: `declare Level extends Reading`"),
+    ("field", 0, "extends", "`extends` stands behind the name: `declare Level extends Reading`"),
+    ("field", 2, "extends W ,", "a type extends one other"),
     ("field", 1, "reference (", "`@reference` alone, without parentheses"),
     ("field", 0, "@", "annotations stand between the name and the fields"),
     ("field", 0, ",", "no mark between fields"),
@@ -97,10 +99,13 @@ FORMS = [Form(*row) for row in (
     ("condition", 1, "$ =", "`$a : Account( .. )`"),
     ("condition", 1, "W :", "a variable begins with `$`: `$a : Account( .. )`"),
     ("condition", 0, "and", JOINED),
-    ("condition", 0, "or", JOINED),
+    ("condition", 0, "or", CHOICE),
     ("condition", 0, "& &", JOINED),
     ("condition", 0, "&&", JOINED),
-    ("condition", 0, "||", JOINED),
+    ("condition", 0, "||", CHOICE),
+    ("alternatives", 0, ")", "leave the parentheses out, or write a second alternative: `( A() or B() )`"),
+    ("alternatives", 0, "then", "`)` is missing"),
+    ("alternatives", 0, "(", "alternatives are nested at most 16 deep"),
     ("condition", 0, ",", JOINED),
     ("condition", 0, ";", JOINED),
     ("condition", 0, ".", "a type has no package: `Case( .. )`"),
@@ -286,7 +291,8 @@ def is_inside(word: str, tokens: Sequence[Token], place: int) -> bool:
 def is_reserved_name(production: str, tokens: Sequence[Token], place: int) -> bool:
     """Whether a reserved word stands where a name is expected."""
     return (production in ("field", "declaration") and place < len(tokens) and tokens[place].kind == "word"
-            and tokens[place].value in reader.RESERVED and tokens[place].value != "end" and not stands(tokens, place - 1, "default"))
+            and not reader.is_ident(str(tokens[place].value)) and tokens[place].value != "end" and not stands(tokens, place - 1, "default")
+            and not stands(tokens, place, "extends W"))
 
 
 def is_kind_first(production: str, tokens: Sequence[Token], place: int) -> bool:

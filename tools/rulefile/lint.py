@@ -17,6 +17,7 @@ from pathlib import Path
 from typing import Iterator, Optional
 
 from where import TODAY, read_tolerantly, report, shown  # first: it finds tools/reference
+from written import written_out
 
 import kept
 import temporal
@@ -529,7 +530,7 @@ LINTS = [undeclared_entries, missing_from, unseen_entries, same_moment, bare_num
 def desk_of(data: bytes) -> Desk:
     """An accepted rule file."""
     items, _ = read_tolerantly(data)
-    return Desk(items, check([Item(0, item.body) for item in items], TODAY))
+    return Desk(written_out(items, numbered=False), check([Item(0, item.body) for item in items], TODAY))
 
 
 def warnings_of(data: bytes) -> list[Complaint]:

@@ -29,6 +29,8 @@ declare entry-point "ATM" @lateness( 2s ) end
 RULES = [
     ('rule r when Draw() from entry-point "ATM" then end', []),
     ('rule r when Draw() from entry-point "AMT" then end', ["undeclared-entry"]),
+    ('rule r when ( Call() or Draw() from entry-point "AMT" or Draw() from entry-point "AMT" ) then end', ["undeclared-entry"]),
+    ('declare Loud extends Call volume : long end rule r when $a : Call() Call( card == $a.card, this after[0s,9s] $a ) then end', ["pairs-itself"]),
     ('rule r when $a : Draw( $c : card ) Draw( card == $c, this after[1ms,9s] $a ) from entry-point "ATM" then end', ["no-from"]),
     ('rule r when $a : Draw( $c : card ) from entry-point "ATM" not( Draw( card == $c, this before[0s,9s] $a ) from entry-point "ATM" ) then end',
      ["meets-itself"]),
@@ -80,7 +82,7 @@ OF_EXAMPLES = {
     "parcels.drl": ["26 for-ever", "27 for-ever", "27 undeclared-entry"],
     "coming-from/differs.drl": ["16 pairs-itself", "23 undeclared-entry"],
     "coming-from/esper.drl": ["18 for-ever", "19 for-ever", "26 for-ever", "56 for-ever", "61 for-ever"],
-    "coming-from/flink.drl": ["11 for-ever", "13 for-ever", "16 for-ever", "18 for-ever", "39 for-ever", "49 for-ever"],
+    "coming-from/flink.drl": ["11 for-ever", "13 for-ever", "16 for-ever", "18 for-ever", "39 for-ever", "53 for-ever"],
 }
 
 

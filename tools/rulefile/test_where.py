@@ -89,6 +89,40 @@ MISTAKES = [
     ("declare Case account", "declare Room @reference @reference account : String end declare Case account", "4:26 TwiceDeclared", "`@reference` stands a second time"),
 ]
 
+# A file of alternatives and subtypes.
+WATER = """declare Reading @role( event ) @expires( 1h ) tank : String value : long end
+declare Level extends Reading end
+declare Pressure extends Reading valve : String end
+declare Pump @reference name : String tank : String end
+declare Told tank : String end
+
+rule "alarm" when
+  Pump( $n : name, $t : tank )
+  ( Level( tank == $t, $v : value, value > 90 ) or $p : Pressure( tank == $t, $v : value, value > 50 ) )
+  not( Told( tank == $t ) )
+then
+  insert( new Told( $t ) );
+end
+rule "silent" when $r : Reading( $t : tank ) not( Reading( tank == $t, this after[1ms,5s] $r ) ) then end
+"""
+
+MISTAKES_IN_WATER = [
+    ("Level extends Reading", "Level extends Readin", "2:23 UnknownType", "`Reading`?"),
+    ("Reading @role( event ) @expires", "Reading extends Level @role( event ) @expires", "1:25 BadExtends", "in a circle"),
+    ("Level extends Reading end", "Level @role( event ) extends Reading end", "2:30 Syntax", "behind the name"),
+    ("Level extends Reading end", "Level extends Reading, Pump end", "2:30 Syntax", "one other"),
+    ("Level extends Reading end", "Level extends Reading tank : String end", "2:31 TwiceDeclared", "`tank`"),
+    ("name : String tank", "or : String tank", "4:25 Syntax", "a reserved word"),
+    (" or $p : Pressure( tank == $t, $v : value, value > 50 ) )", " )", "9:49 Syntax", "a second alternative"),
+    (" or $p", " || $p", "9:49 Syntax", "( A() or B() )"),
+    ("value > 50 ) )", "value > 50 )", "11:1 Syntax", "`)` is missing"),
+    ("Level( tank == $t,", "Level( tank = $t,", "9:17 Syntax", "`==`"),
+    ("new Told( $t )", "new Told( $p.tank )", "12:21 UnknownVariable", "some of its alternatives"),
+    ("value > 90", "level > 90", "9:36 UnknownField", "`Level` has no field `level`"),
+    ("not( Reading( tank", "exists( Reading( tank", "14:54 HasSubtypes", "`Level`, `Pressure`"),
+    ("not( Reading( tank == $t, this", "not( Reading( tank == $t, $v : value, this", "14:72 TwiceDeclared", "one for each"),
+]
+
 DROOLS = """import java.util.List;
 declare Transaction @role( event ) @timestamp( ts ) ts : long card : String amount : double end
 rule "Velocity"
@@ -127,6 +161,24 @@ class Where(unittest.TestCase):
             if "open = 0" not in new and "“" not in new:
                 with self.subTest(new):
                     self.assertEqual(len(places(report("f", DESK.replace(old, new, 1).encode()))), 1)
+
+    def test_alternatives_and_subtypes(self):
+        self.assertEqual(report("f", WATER.encode()), "")
+        for old, new, place, part in MISTAKES_IN_WATER:
+            with self.subTest(new):
+                self.assertIn(old, WATER)
+                text = report("f", WATER.replace(old, new, 1).encode())
+                line, code = place.split()
+                self.assertIn(f"f:{line}: {code}: ", text)
+                self.assertIn(part, text)
+
+    def test_too_many_ways(self):
+        """They are told, and not written out."""
+        choice = "( " + " or ".join(["Told()"] * 16) + " )"
+        text = report("f", WATER.replace("Pump( $n : name, $t : tank )", "Pump( $n : name, $t : tank )" + choice * 12).encode())
+        self.assertEqual(places(text), ["7 LimitPassed"])
+        deep = "( Told() or " * 17 + "Told()" + " )" * 17
+        self.assertIn("at most 16 deep", report("f", WATER.replace("not( Told( tank == $t ) )", deep).encode()))
 
     def test_a_rule_for_drools(self):
         """All its mistakes at once."""

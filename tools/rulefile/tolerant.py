@@ -17,9 +17,9 @@ sys.path.insert(0, str(Path(__file__).resolve().parent.parent / "reference"))
 
 import temporal  # noqa: E402
 from forms import instead_of  # noqa: E402
-from reader import FIRST_WORDS, RELATIONS, OutsideGrammar, Reader, T, field_of_setter, is_ident, items_of_tokens  # noqa: E402
+from reader import FIRST_WORDS, NESTED_ALTERNATIVES, RELATIONS, OutsideGrammar, Reader, T, field_of_setter, is_ident, items_of_tokens  # noqa: E402
 from tokens import RUN, UNITS, LexicalFault, Token, tokens_of  # noqa: E402
-from trees import (AnyOf, Bind, Body, DialectAttribute, EntryDeclaration, Insert, Literal, Modify, Plain, Role, Rule,  # noqa: E402
+from trees import (Alternatives, AnyOf, Bind, Body, Condition, DialectAttribute, EntryDeclaration, Insert, Literal, Modify, Plain, Role, Rule,  # noqa: E402
                    Source, TypeDeclaration)
 
 MOST_FAULTS = 50
@@ -48,13 +48,15 @@ class Complaint:
 
 @dataclass
 class ReadItem:
-    """An item as far as it could be read: its tokens, the tokens of each node, and the words that were skipped."""
+    """An item as far as it could be read: its tokens, the tokens of each node, the words that were skipped; of a rule that was written
+    out, the one in the file."""
     tokens: list[Token]
     body: Optional[Body] = None
     places: dict[int, list[Token]] = field(default_factory=dict)
     unclear: set[str] = field(default_factory=set)
     complaints: list[Complaint] = field(default_factory=list)
     new_types: list[Token] = field(default_factory=list)
+    as_written: Optional[Rule] = None
 
     def tokens_of(self, node: object) -> list[Token]:
         """The tokens of a node; those of the item where they are not known."""
@@ -252,6 +254,10 @@ class TolerantReader(Reader):
     def kept(self, nodes: tuple) -> tuple:
         return tuple(node for node in nodes if id(node) not in self.nothing)
 
+    def kept_conditions(self, conditions: tuple[Condition, ...]) -> tuple[Condition, ...]:
+        return tuple(self.same_place(c, Alternatives(tuple(map(self.kept_conditions, c.choices)))) if isinstance(c, Alternatives) else c
+                     for c in self.kept(conditions))
+
     # ---- items
 
     def item(self) -> Body:
@@ -274,7 +280,8 @@ class TolerantReader(Reader):
 
     def declaration(self) -> TypeDeclaration:
         found = self.labelled("declaration", super().declaration)
-        whole = TypeDeclaration(found.name, self.kept(found.annotations), tuple(f for f in found.fields if f is not NO_FIELD))
+        whole = TypeDeclaration(found.name, self.kept(found.annotations), tuple(f for f in found.fields if f is not NO_FIELD),
+                               found.parent)
         return self.same_place(found, whole)
 
     def entry_point(self) -> EntryDeclaration:
@@ -309,7 +316,7 @@ class TolerantReader(Reader):
 
     def rule(self) -> Rule:
         found = super().rule()
-        return Rule(found.name, self.kept(found.attributes), self.kept(found.conditions), self.kept(found.actions))
+        return Rule(found.name, self.kept(found.attributes), self.kept_conditions(found.conditions), self.kept(found.actions))
 
     def attribute(self):
         found = self.attempt("attribute", super().attribute)
@@ -326,34 +333,76 @@ class TolerantReader(Reader):
 
     # ---- conditions
 
-    def condition(self):
-        while (self.is_token(self.place, "&&", "||", ",", ";", ".")
-               or self.is_token(self.place, "and", "or") and not self.is_token(self.place + 1, "(")):
+    def condition(self, depth: int = 0):
+        while (self.is_token(self.place, "&&", "||", ",", ";", ".", "and")
+               or self.is_token(self.place, "or") and (depth or not self.is_token(self.place + 1, "("))
+               or self.is_token(self.place, "or") and self.is_token(self.place - 1, ")")):
             self.tell("condition", self.place)
             self.skip()
         start = self.place
-        if self.is_token(start, "then") and start and not self.is_token(start - 1, "when"):
-            return self.nothing_of(Plain(Source(None, "", (), None, None)))
-        found = self.attempt("condition", super().condition)
+        if self.is_token(start, "then") and start and not self.is_token(start - 1, "when") or depth and self.ends_choice():
+            return self.no_condition()
+        found = self.attempt("condition", lambda: super(TolerantReader, self).condition(depth))
         if found is not None:
             return found
         if self.place == start and self.begins_action(start) or self.is_token(self.place, "end"):
             self.make_up("word", "then")
         if not self.is_token(self.place, "then"):
-            self.go_on_with_conditions(start)
-        if not self.is_token(self.place, "then", "end"):
-            return self.condition()
+            self.go_on_with_conditions(start, depth)
+        if not self.is_token(self.place, "then", "end") and not (depth and self.ends_choice()):
+            return self.condition(depth)
         if self.is_token(self.place, "end"):
             self.make_up("word", "then")
+        return self.no_condition()
+
+    def no_condition(self) -> Plain:
         return self.nothing_of(Plain(Source(None, "", (), None, None)))
 
-    def go_on_with_conditions(self, start: int) -> None:
-        """Skips to where the next condition may begin."""
+    def ends_choice(self) -> bool:
+        return self.peek() is None or self.is_token(self.place, "or", ")", "then", "end")
+
+    def alternatives(self, depth: int) -> Alternatives:
+        """One alternative alone, and a parenthesis that is missing, are told, and reading goes on."""
+        if depth > NESTED_ALTERNATIVES:
+            self.failed_in = "alternatives"
+            raise OutsideGrammar("alternatives too deep")
+        self.mark("(")
+        choices = [self.choice(depth)]
+        while self.is_token(self.place, "or"):
+            self.word("or")
+            choices.append(self.choice(depth))
+        self.asked, self.asked_at = [], self.place
+        self.failed_in = "alternatives"
+        if not self.is_token(self.place, ")"):
+            self.ask("`or`")
+            self.ask("`)`")
+            self.tell("alternatives")
+            self.make_up("mark", ")")
+        elif len(choices) == 1:
+            self.ask("`or`")
+            self.tell("alternatives")
+        self.mark(")")
+        return Alternatives(tuple(choices))
+
+    def choice(self, depth: int) -> tuple[Condition, ...]:
+        """At least one condition; what stands in the place of the first is told."""
+        if self.is_token(self.place, ")", "then", "end"):
+            self.failed_in = None
+            self.ask("a condition")
+            self.tell("condition")
+            return ()
+        conditions = [self.condition(depth)]
+        while not self.ends_choice():
+            conditions.append(self.condition(depth))
+        return tuple(conditions)
+
+    def go_on_with_conditions(self, start: int, nested: int) -> None:
+        """Skips to where the next condition may begin, or to the end of the alternative."""
         self.forget(start)
-        depth = self.depth_since(start)
         if self.place == start:
             self.skip()
-        self.skip_while(depth, lambda k: self.begins_condition(k) or self.begins_action(k))
+        depth = self.depth_since(start)
+        self.skip_while(depth, lambda k: self.begins_condition(k) or self.begins_action(k) or nested > 0 and self.is_token(k, "or", ")"))
         if self.begins_action(self.place):
             self.tell("condition", self.place)
             self.make_up("word", "then")

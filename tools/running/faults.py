@@ -105,9 +105,9 @@ def absent(type_name: str, number: int, history: History) -> str:
 
 def observers(type_name: str, history: History) -> str:
     """The rules because of which events of a type are not retracted."""
-    found = [f'"{rule.name}", condition {k}' for rule in history.program.rules for k, c in enumerate(rule.conditions, start=1)
+    found = [f'"{history.program.title(place)}", condition {k}' for place, rule in enumerate(history.program.rules) for k, c in enumerate(rule.conditions, start=1)
              if c.source.type == type_name and (not isinstance(c, Plain) or isinstance(c.source.window, LengthWindow))]
-    return f"`{type_name}` stands in a `not`, an `exists`, an accumulate or a window of length: {'; '.join(found)}"
+    return f"`{type_name}` stands in a `not`, an `exists`, an accumulate or a window of length: {'; '.join(dict.fromkeys(found))}"
 
 
 def reference_fixed(command, history: History) -> str:

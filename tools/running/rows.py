@@ -19,6 +19,7 @@ from program import DEFAULT
 from tokens import Token
 from tolerant import ReadItem
 from trees import AnyOf, Condition, Existing, Folded, Literal, Negated, Plain, Rule, Source, TimeWindow, operands_of
+from written import type_token
 
 MOST_SHOWN = 8
 
@@ -92,11 +93,16 @@ def meant(test: object, f: Fact, row: Row) -> str:
 
 @dataclass
 class Inspection:
-    """A rule in a world, with the text of its conditions."""
+    """A rule in a world, with its place among the rules and the text of its conditions."""
     item: ReadItem
+    place: int
     rule: Rule
     world: World
     text: Text
+
+    def kind(self, source: Source) -> str:
+        """The type that a way looks at, where another stands in the file."""
+        return "" if type_token(self.item, source).value == source.type else f", here `{source.type}`"
 
     def sending(self, source: Source, f: Fact, row: Row) -> Optional[str]:
         """What sends a fact away from a pattern, with what was found before; None where it passes."""
@@ -207,7 +213,7 @@ def told_of_rule(inspection: Inspection, history: History) -> Iterator[str]:
     """Condition by condition how many rows go on, what keeps the others back, and what the matches are."""
     w, found = inspection.world, [Row((), {})]
     for number, condition in enumerate(inspection.rule.conditions, start=1):
-        yield f"  {number}  {inspection.text.of(inspection.item, condition)}"
+        yield f"  {number}  {inspection.text.of(inspection.item, condition)}{inspection.kind(condition.source)}"
         behind, back = [], []
         for row in found:
             longer = grown(condition, row, w)
@@ -226,10 +232,9 @@ def told_of_rule(inspection: Inspection, history: History) -> Iterator[str]:
 
 def told_of_matches(found: list[Row], inspection: Inspection, history: History) -> Iterator[str]:
     """Which matches are pending, and since when the others have fired."""
-    place = inspection.world.program.rules.index(inspection.rule)
     lines = []
     for row in found:
-        key = (place, row.tags, row.values)
+        key = (inspection.place, row.tags, row.values)
         state = f"fired at line {history.fired.get(key)}, and stands since" if key in inspection.world.fired else "pending"
         lines.append(f"  {shown_row(row)}: {state}")
     yield from some(lines, "matches")

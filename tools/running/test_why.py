@@ -178,6 +178,14 @@ class Why(unittest.TestCase):
         text = "\n".join(told(argparse.Namespace(line=None, rule="r", fact=[1]), rules, b'{"do":"insert","type":"A","fields":{}}'))
         self.assertIn("fails `this after $a`: it is at 0, and $a, #1, at 0, so that `coincides` and `meets` and `metby` holds", text)
 
+    def test_ways(self):
+        """Each way of a rule, with the type that it looks at."""
+        rules = b"""declare R n : long end declare L extends R end declare F n : long end
+rule r when ( R( n == 1 ) or $f : F( n == 2 ) ) then end"""
+        text = "\n".join(told(argparse.Namespace(line=None, rule="r", fact=[]), rules, b'{"do":"insert","type":"L","fields":{"n":1}}'))
+        self.assertEqual([line for line in text.splitlines() if line.startswith('rule "r"')], [f'rule "r", way {k} of 3' for k in (1, 2, 3)])
+        self.assertIn("  1  R( n == 1 ), here `L`\n     1 fact to look at; rows: 1 come, 1 go on\n  #1: pending", text)
+
     def test_what_has_fired(self):
         self.assertIn("#2 =5000: pending", lines(20, "gone"))
         rules = RULES.replace(b"modify( $c ) { open = false }", b"")

@@ -56,10 +56,14 @@ def told_of_world(history: History) -> Iterator[str]:
 
 
 def told_of_named_rule(name: str, data: bytes, desk: Desk, history: History, numbers: list[int]) -> Iterator[str]:
-    """The conditions of a rule one by one, and facts that are asked for."""
-    item, rule = next((item, rule) for item, rule in desk.rules if rule.name == name)
-    inspection = Inspection(item, rule, history.world, Text(data, desk))
-    yield f'rule "{name}"'
+    """The conditions of a rule one by one, of each way of its alternatives, and facts that are asked for."""
+    ways = [(place, item, rule) for place, (item, rule) in enumerate(desk.rules) if rule.name == name]
+    for number, (place, item, rule) in enumerate(ways, start=1):
+        yield f'rule "{name}"' + (f", way {number} of {len(ways)}" if len(ways) > 1 else "")
+        yield from told_of_way(Inspection(item, place, rule, history.world, Text(data, desk)), history, numbers)
+
+
+def told_of_way(inspection: Inspection, history: History, numbers: list[int]) -> Iterator[str]:
     yield from told_of_rule(inspection, history)
     for number in numbers:
         told = history.facts.get(number)
@@ -83,7 +87,7 @@ def told(asked: argparse.Namespace, data: bytes, script: bytes) -> Iterator[str]
     if asked.rule is None:
         return
     if asked.rule not in names:
-        yield f"there is no rule \"{asked.rule}\"; the rules are " + ", ".join(f'"{name}"' for name in names)
+        yield f"there is no rule \"{asked.rule}\"; the rules are " + ", ".join(f'"{name}"' for name in dict.fromkeys(names))
         return
     yield from told_of_named_rule(asked.rule, data, desk, history, asked.fact)
 

@@ -175,11 +175,13 @@ class Recorder:
 
     def __init__(self, program: Program, output: list[str]):
         self.program = program
-        self.rules = {quoted(rule.name): rule for rule in program.rules}
+        self.rules: dict[str, list[int]] = {}
+        for k in range(len(program.rules)):
+            self.rules.setdefault(quoted(program.title(k)), []).append(k)
         self.output = output
         self.worlds = [World(program)]
         self.fired: dict[tuple, int] = {}
-        self.recording = Recording([rule.name for rule in program.rules])
+        self.recording = Recording(list(dict.fromkeys(program.title(k) for k in range(len(program.rules)))))
 
     @property
     def world(self) -> World:
@@ -280,36 +282,37 @@ class Recorder:
     def fire(self, line: int, most: Optional[int]) -> None:
         done = 0
         while (most is None or done < most) and (found := FIRE_LINE.fullmatch(self.next_output)):
-            rule = self.rules.get(found[1])
             cells = tuple((sign, int(number)) for sign, number in CELL.findall(found[2]))
-            row = rule and self.pending_row(rule, cells)
-            if row is None:
+            pending = next(((k, row) for k in self.rules.get(found[1], []) if (row := self.pending_row(k, cells)) is not None), None)
+            if pending is None:
                 return
-            self.firing(rule, row, cells, line)
+            self.firing(*pending, cells, line)
             done += 1
 
-    def pending_row(self, rule: Rule, cells: tuple[Cell, ...]) -> Optional[Row]:
+    def pending_row(self, k: int, cells: tuple[Cell, ...]) -> Optional[Row]:
         """The row where it is a match that has not fired, or has ceased since it did."""
+        rule = self.program.rules[k]
         row = row_of(rule, cells, self.world)
         if row is None:
             return None
-        fired = self.fired.get((rule.name, row.tags, row.values))
+        fired = self.fired.get((k, row.tags, row.values))
         keeps_mark = fired is not None and all(row_of(rule, cells, w) for w in self.worlds[fired:])
         return None if keeps_mark else row
 
-    def firing(self, rule: Rule, row: Row, cells: tuple[Cell, ...], line: int) -> None:
+    def firing(self, k: int, row: Row, cells: tuple[Cell, ...], line: int) -> None:
         """Notes a firing, and does its actions."""
         self.take(line)
-        self.fired[rule.name, row.tags, row.values] = len(self.worlds) - 1
+        rule, title = self.program.rules[k], self.program.title(k)
+        self.fired[k, row.tags, row.values] = len(self.worlds) - 1
         waiting = longest_waiting(rule, row, self.recording.lives, self.program, self.world.clock)
         values = {fact.id: fact.values for fact in row.facts}
         variables = {name: value for name, value in row.names.items() if not isinstance(value, Fact)}
-        firing = Firing(len(self.recording.firings) + 1, rule.name, cells, self.world.clock, line, waiting, values, variables)
+        firing = Firing(len(self.recording.firings) + 1, title, cells, self.world.clock, line, waiting, values, variables)
         self.recording.firings.append(firing)
         for step in [planned(action, row, self.world) for action in rule.actions]:
             code = "Overflow" if step is None else step_fault(step, self.world)
             if code:
-                self.fault(line, code, f"an action of {rule.name}", firing)
+                self.fault(line, code, f"an action of {title}", firing)
             else:
                 self.step(step, line, firing)
 

@@ -35,6 +35,12 @@ class Desks(unittest.TestCase):
         self.assertEqual(kinds(desk("alarm")), {EVENTS: 18, FACTS: 6, FIRINGS: 17, FAULTS: 3})
         self.assertEqual(kinds(desk("plant")), {EVENTS: 24, FACTS: 6, FIRINGS: 18, FAULTS: 4})
 
+    def test_alternatives(self):
+        """A rule of several ways has one lane, and its firings its name."""
+        water = desk("desks/water")
+        self.assertEqual([(f.rule, f.facts) for f in water.firings][:3], [("runs over", [1, 5]), ("no such station", [7]), ("foul", [8, 9])])
+        self.assertEqual(water.rules, ["runs over", "silent", "foul", "no such station"])
+
     def test_waiting(self):
         """`silent` of the fraud desk waits for calls up to 202500, and fires at the line that moves the clock on."""
         silent = next(firing for firing in desk("fraud").firings if firing.rule == "silent")

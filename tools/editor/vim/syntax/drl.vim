@@ -2,7 +2,7 @@
 if exists("b:current_syntax")
   finish
 endif
-syntax keyword drlReserved package import dialect declare rule when then end salience not exists accumulate from over in this new insert modify retract Number
+syntax keyword drlReserved package import dialect declare rule when then end salience not exists accumulate from over in this or extends new insert modify retract Number
 syntax keyword drlBoolean true false
 syntax keyword drlKind int long Integer Long boolean Boolean String
 syntax keyword drlFunction count sum min max average
