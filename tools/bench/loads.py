@@ -305,6 +305,25 @@ def cascade(n: int, rng: Random) -> Load:
     return Load(types(H="k", M="k l", L="l") + rule("x", "H( $k : k ) M( k == $k, $l : l ) L( l == $l )"), script())
 
 
+@load
+def modified(n: int, rng: Random) -> Load:
+    """n/2 facts, each modified once; one of ten passes then. One fire at the end."""
+    def script() -> Iterator[str]:
+        yield from (insert("Item", price=0) for _ in range(n // 2))
+        yield from (modify("Item", i + 1, price=rng.randrange(1000)) for i in range(n // 2 - 1))
+        yield FIRE
+    return Load(types(Item="price") + rule("dear", "Item( price > 900 )"), script())
+
+
+@load
+def retracted(n: int, rng: Random) -> Load:
+    """n/2 facts, of ten one passes, each retracted once, the oldest first."""
+    def script() -> Iterator[str]:
+        yield from (insert("Item", price=rng.randrange(1000)) for _ in range(n // 2))
+        yield from (retract("Item", i + 1) for i in range(n // 2))
+    return Load(types(Item="price") + rule("dear", "Item( price > 900 )"), script())
+
+
 # ---- many rules
 
 
@@ -531,6 +550,21 @@ def endless_table(n: int, rng: Random) -> Load:
 def endless_reference(n: int, rng: Random) -> Load:
     """The same, the table marked `@reference`: events are forgotten."""
     return endless_behind_table("@reference ", n, rng)
+
+
+@load
+def expiring(n: int, rng: Random) -> Load:
+    """Events that expire after 1 s by their type, the clock moves by 1 ms with each."""
+    rules = "declare Beat @role( event ) @expires( 1s ) host : long end\n" + rule("x", "Beat( host > 1000 )")
+    return Load(rules, stream(n, lambda: (insert("Beat", host=rng.randrange(1000)), advance(1)), 1000))
+
+
+@load
+def expiring_pairs(n: int, rng: Random) -> Load:
+    """Events of two types that expire after 1 s, within 1 s by a key of 50 values, the clock moves by 10 ms, a fire behind each 50 of them."""
+    rules = "".join(f"declare {kind} @role( event ) @expires( 1s ) k : long end\n" for kind in "AB")
+    rules += rule("ab", "$a : A( $k : k ) B( k == $k, this after[0s,1s] $a )")
+    return Load(rules, stream(n, lambda: (insert(rng.choice("AB"), k=rng.randrange(50)), advance(10)), 50))
 
 
 @load

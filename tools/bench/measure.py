@@ -204,7 +204,8 @@ def growth(before: Spent, after: Spent) -> str:
 
 def beside(ours: Spent, theirs: Spent) -> str:
     ratio = f"  ratio {ours.seconds / theirs.seconds:.2f}" if theirs.seconds else ""
-    return f"  | CLIPS {theirs.seconds:.3f} s  {theirs.mebibytes:.1f} MiB  fired {theirs.fired}{ratio}"
+    often = "" if theirs.fired == ours.fired else ", not as often"
+    return f"  | CLIPS {theirs.seconds:.3f} s  {theirs.mebibytes:.1f} MiB  fired {theirs.fired}{often}{ratio}"
 
 
 def by_callgrind(program: str, folder: Path, name: str, n: int, files: Files) -> str:
