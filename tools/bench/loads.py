@@ -387,6 +387,7 @@ def many_nots_one(n: int, rng: Random) -> Load:
 
 
 def three_joined(ends: int, n: int, rng: Random) -> Iterator[str]:
+    """Facts of a chain of two keys, in mixed order, the last of a chain with a number below `ends`; one fire at the end."""
     span = max(1, n // 3)
     for _ in range(n - 1):
         a, b = rng.randrange(span), rng.randrange(span)
