@@ -164,6 +164,7 @@ fn check_refusal(fault: CheckFault, origins: &[u64]) -> Result<Refusal, NoMemory
 }
 
 // The program with these names of rules.
+#[tactic(auto, using(crate::proofs::Titles::is_runnable))]
 fn with_titles(alloc: Global, program: Program, titles: &[Text]) -> Result<Program, NoMemory>
     ensures named { IfOk result (λ p. p ≡ with_titles titles.now program) }
     ensures runnable { IsRunnable program → IfOk result IsRunnable }
@@ -180,6 +181,8 @@ fn with_titles(alloc: Global, program: Program, titles: &[Text]) -> Result<Progr
     })
 }
 
+// Rules under these names, as far as there are some.
+#[tactic(auto, unfolding(crate::specs::Titles::renamed))]
 fn renamed(alloc: Global, rules: Vec<Rule>, titles: &[Text]) -> Result<Vec<Rule>, NoMemory>
     ensures { IfOk result (λ named. named.items ≡ renamed titles.now rules.items) }
 {

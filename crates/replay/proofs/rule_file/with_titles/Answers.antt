@@ -1,2 +1,0 @@
-use Rattle.replay.proofs.Titles.{is_runnable}
-use Rattle.replay.proofs.rule_file.with_titles.Goals as goal
