@@ -9,9 +9,6 @@ use Rattle.rule_world.specs.Programs.{IsRunnable, UseOperators, NameEarlier, has
 use Rattle.rule_world.specs.Typed.{is_typed, rule_fits}
 use Rattle.replay.specs.Titles.{first_or, renamed, with_titles}
 
-
-
-
 same_length : (titles : List (List ℕ)) (rules : List Rule) → length (renamed titles rules) ≡ length rules
 unfolding renamed
 same_length titles [] = refl
@@ -33,8 +30,8 @@ any_same test blind titles (r ∷ rules) =
 
 same_operators : (titles : List (List ℕ)) (rules : List Rule) → UseOperators rules → UseOperators (renamed titles rules)
 unfolding renamed
-same_operators titles [] use = use
-same_operators titles (r ∷ rules) use = (use.0, same_operators (drop 1 titles) rules use.1)
+same_operators titles [] all = all
+same_operators titles (r ∷ rules) all = (all.0, same_operators (drop 1 titles) rules all.1)
 
 same_names : (titles : List (List ℕ)) (rules : List Rule) → All (λ (rule : Rule). NameEarlier rule.conditions) rules → All (λ (rule : Rule). NameEarlier rule.conditions) (renamed titles rules)
 unfolding renamed
