@@ -1,6 +1,7 @@
 -- Under other names of rules a program is one that engines run.
-use Rattle.std.proofs.Common.{◌≡◌, ◌≤◌, ◌+◌, ◌&&◌, ◌||◌, ℕ, Bool, List, [], ◌∷◌, length, drop, refl, sym, ap, ◌∙◌, subst}
+use Rattle.std.proofs.Common.{◌≡◌, ◌≤◌, ◌&&◌, ◌||◌, ℕ, suc, Bool, List, [], ◌∷◌, length, drop, refl, sym, ap, ◌∙◌, subst}
 use Rattle.std.specs.List.{All, list_all, list_any}
+use Rattle.std.proofs.lemmas.List.Elements.{All-cons, All-head, All-tail}
 use Rattle.rule_model.specs.declared.program.Program.{Program}
 use Rattle.rule_model.specs.declared.program.Rule.{Rule}
 use Rattle.rule_model.specs.Simple.{observes_type}
@@ -12,7 +13,7 @@ use Rattle.replay.specs.Titles.{first_or, renamed, with_titles}
 same_length : (titles : List (List ℕ)) (rules : List Rule) → length (renamed titles rules) ≡ length rules
 unfolding renamed
 same_length titles [] = refl
-same_length titles (r ∷ rules) = ap (λ n. 1 + n) (same_length (drop 1 titles) rules)
+same_length titles (r ∷ rules) = ap suc (same_length (drop 1 titles) rules)
 
 all_same : (test : Rule → Bool) → ((r : Rule) (name : List ℕ) → test (record r { name = name }) ≡ test r) → (titles : List (List ℕ)) (rules : List Rule)
     → list_all test (renamed titles rules) ≡ list_all test rules
@@ -36,7 +37,9 @@ same_operators titles (r ∷ rules) all = (all.0, same_operators (drop 1 titles)
 same_names : (titles : List (List ℕ)) (rules : List Rule) → All (λ (rule : Rule). NameEarlier rule.conditions) rules → All (λ (rule : Rule). NameEarlier rule.conditions) (renamed titles rules)
 unfolding renamed
 same_names titles [] all = all
-same_names titles (r ∷ rules) all = (all.0, same_names (drop 1 titles) rules all.1)
+same_names titles (r ∷ rules) all =
+    All-cons (λ (rule : Rule). NameEarlier rule.conditions) (record r { name = first_or r.name titles }) (renamed (drop 1 titles) rules)
+    (All-head (λ (rule : Rule). NameEarlier rule.conditions) r rules all) (same_names (drop 1 titles) rules (All-tail (λ (rule : Rule). NameEarlier rule.conditions) r rules all))
 
 pub is_runnable : (titles : List (List ℕ)) (p : Program) → IsRunnable p → IsRunnable (with_titles titles p)
 unfolding is_event is_observed is_reference is_typed
