@@ -4,6 +4,7 @@ pub mod Reports
 pub mod LoadFile
 pub mod RuleFileLaws
 pub mod Titles
+pub mod Expanding
 pub mod Tables
 pub mod LivesText
 pub mod Calls
