@@ -37,6 +37,7 @@ two_before xs ys k t u = append_assoc xs (t ∷ (ys ++ (u ∷ []))) k ∙ ap (λ
 
 mutual
   unfolding begins_word is_word_byte
+
   choice_again : (d : ℕ) → Agains (IsChoice d) (IsChoice d) told
   choice_again d x ts rest (g.one {c} h) good =
       let one = condition_again c ts rest h good in
