@@ -1,23 +1,25 @@
 -- How equalities are counted, and fed to a hash, one after another.
-use Rattle.std.proofs.Common.{◌≡◌, ◌∙◌, sym, ap, refl, ℕ, ◌+◌, ◌<◌, List, [], ◌∷◌, ◌++◌, map, length, get_or, drop, Option}
+use Rattle.std.proofs.Common.{◌≡◌, ◌≢◌, ◌∙◌, sym, ap, refl, ℕ, ◌+◌, ◌<◌, ◌⊎◌, inl, inr, List, [], ◌∷◌, ◌++◌, map, length, get_or, drop, Option}
 use Rattle.std.specs.Borrow.{Bor}
 use Rattle.std.specs.Option.{option_map}
 use Rattle.std.proofs.lemmas.List.{at_drop_more}
+use Rattle.std.specs.Int.{w64, cast_signed}
+use Rattle.std.specs.Hash.FoldHasher as hasher
 use Rattle.std.specs.declared.hash.FoldHasher.{FoldHasher}
 use Rattle.fx_base.specs.declared.value.Value.{Value}
 use Rattle.fx_base.specs.declared.value.Value.TheVariants.{Int}
 use Rattle.fx_base.specs.declared.fact.Fact.{Fact}
 use Rattle.row_delta.specs.declared.row.Named.{Named}
-use Rattle.row_delta.specs.declared.row.Row.{Row}
 use Rattle.rule_model.specs.declared.test.Compare.{Compare}
 use Rattle.rule_model.specs.declared.test.Test.{Test}
 use Rattle.rule_model.specs.Tests.{field_of}
 use Rattle.join_tests.specs.declared.key.JoinKey.{JoinKey}
 use Rattle.join_tests.specs.declared.key.Keying.{Keying}
 use Rattle.join_tests.specs.declared.key.Keying.TheVariants.{Nothing, One, Several}
-use Rattle.join_tests.specs.declared.part.Partner.TheVariants.{OfRow, OfCandidate}
+use Rattle.join_tests.specs.declared.part.Partner.TheVariants.{OfCandidate}
 use Rattle.join_tests.specs.Joins.{Look}
-use Rattle.join_tests.specs.Keys.{keys_of_choices, keys_of_tests, given_or_true, fed_with, number_for, as_one, row_value, candidate_value}
+use Rattle.join_tests.specs.Keys.{keys_of_choices, keys_of_tests, given_or_true, candidate_part, fed_with, number_for, as_one}
+use Rattle.join_tests.specs.Kept.{with_slot}
 use Rattle.join_tests.specs.Keying.{and_one, and_more, part}
 
 pub and_both : (keying : Keying) (keys more : List JoinKey) → and_more keying (keys ++ more) ≡ and_more (and_more keying keys) more
@@ -59,12 +61,37 @@ next_test with both tests i test choices state next all lt is of added so =
     ∙ sym (at_drop_more (λ rest. with state (keys_of_tests rest)) tests i test lt)
     ∙ so
 
--- what a partner has of equalities is the join value of the row, or of the candidate
-pub of_row : (look : Look) (row : Bor Row) (keys : List JoinKey) → as_one (map (part look (OfRow row)) keys) ≡ row_value keys look row.now
-unfolding row_value
-of_row look row keys = refl
-
+-- what a candidate that is looked up has of equalities
 pub of_candidate : (look : Look) (who : Named) (fact : Option (Bor Fact)) (keys : List JoinKey) → option_map (λ f. f.now) fact ≡ look who.tag
-    → as_one (map (part look (OfCandidate fact)) keys) ≡ candidate_value keys look who
-unfolding candidate_value
-of_candidate look who fact keys is = ap (λ found. as_one (map (λ (key : JoinKey). given_or_true (field_of found key.field)) keys)) is
+    → map (part look (OfCandidate fact)) keys ≡ map (candidate_part look who) keys
+of_candidate look who fact keys is = ap (λ found. map (λ (key : JoinKey). given_or_true (field_of found key.field)) keys) is
+
+fed_more : (state : FoldHasher) (values more : List Value) → fed_with state (values ++ more) ≡ fed_with (fed_with state values) more
+fed_more state [] more = refl
+fed_more state (v ∷ values) more = fed_more (fed_with state (v ∷ [])) values more
+
+-- values with a slot behind them are several
+slot_behind : (v : Value) (values : List Value) (slot : Value) → Int (number_for ((v ∷ values) ++ slot ∷ [])) ≡ with_slot (v ∷ values) slot
+slot_behind v [] slot = refl
+slot_behind v (other ∷ values) slot = refl
+
+pub number_behind : (v : Value) (values : List Value) (slot : Value)
+    → Int (cast_signed w64 (hasher.finish (fed_with (fed_with hasher.initial (v ∷ values)) (slot ∷ [])))) ≡ with_slot (v ∷ values) slot
+unfolding number_for
+number_behind v values slot =
+    ap (λ state. Int (cast_signed w64 (hasher.finish state))) (sym (fed_more hasher.initial (v ∷ values) (slot ∷ []))) ∙ slot_behind v values slot
+
+-- so is the number for the equalities, fed with the slot
+pub with_keys : (f : JoinKey → Value) (keys : List JoinKey) (slot : Value) → Nothing ≢ and_more Nothing keys
+    → Int (cast_signed w64 (hasher.finish (fed_with (fed_with hasher.initial (map f keys)) (slot ∷ [])))) ≡ with_slot (map f keys) slot
+with_keys f [] slot some = absurd (some refl)
+with_keys f (key ∷ keys) slot some = number_behind (f key) (map f keys) slot
+
+-- one equality, or several, are not none
+pub not_none : (keying : Keying) (keys : List JoinKey) → ((key : JoinKey) × (keying ≡ One key)) ⊎ (keying ≡ Several) → keying ≡ and_more Nothing keys → Nothing ≢ and_more Nothing keys
+not_none keying keys (inl one) is none = let f : Nothing ≡ One one.0 = none ∙ sym is ∙ one.1 in cc
+not_none keying keys (inr several) is none = let f : Nothing ≡ Several = none ∙ sym is ∙ several in cc
+
+pub number_fed : (state : FoldHasher) (f : JoinKey → Value) (keys : List JoinKey) (slot : Value) → state ≡ fed_with hasher.initial (map f keys) → Nothing ≢ and_more Nothing keys
+    → Int (cast_signed w64 (hasher.finish (fed_with state (slot ∷ [])))) ≡ with_slot (map f keys) slot
+number_fed state f keys slot is some = ap (λ fed. Int (cast_signed w64 (hasher.finish (fed_with fed (slot ∷ []))))) is ∙ with_keys f keys slot some

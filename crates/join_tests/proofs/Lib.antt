@@ -1,3 +1,6 @@
 pub mod Versions
 pub mod Counting
+pub mod Neighbours
+pub mod Ranges
+pub mod Slotting
 pub mod Meeting

@@ -1,7 +1,8 @@
--- A candidate that joins a row has the row's join value.
-use Rattle.std.proofs.Common.{◌≡◌, ◌∙◌, sym, ap, refl, subst, ℕ, List, [], ◌∷◌, ◌++◌, map, Bool, true, false, ◌&&◌, ◌||◌, Option, Some, None, slice_get}
+-- The join value of a row is among those that are sought for a candidate which joins it, and the candidate's among those for the row.
+use Rattle.std.proofs.Common.{◌≡◌, ◌∙◌, sym, ap, refl, subst, arith, ℕ, ℤ, pos, ◌+ℤ◌, ◌≤ℤ◌, List, [], ◌∷◌, ◌++◌, map, Bool, true, false, ◌&&◌, ◌||◌, Option, Some, None, slice_get}
 use Rattle.std.specs.List.{list_any}
 use Rattle.std.specs.Option.{option_map}
+use Rattle.std.proofs.lemmas.Int.{ints}
 use Rattle.fx_base.specs.declared.value.Value.{Value}
 use Rattle.fx_base.specs.Values.{same_value}
 use Rattle.fx_base.specs.SameValues.{equal_values}
@@ -21,7 +22,13 @@ use Rattle.rule_model.specs.Tuples.{Bindings, bound_by}
 use Rattle.rule_model.proofs.Naming.{bound_named}
 use Rattle.join_tests.specs.declared.key.JoinKey.{JoinKey}
 use Rattle.join_tests.specs.Joins.{Look, version_at, versions_at, passes_given, joins}
-use Rattle.join_tests.specs.Keys.{key_of_side, key_of_sides, key_of_compare, in_front, keys_of_compares, keys_of_choices, keys_of_tests, join_keys, earlier_value, given_or_true, row_part, candidate_part, as_one, row_value, candidate_value}
+use Rattle.join_tests.specs.Keys.{key_of_side, key_of_sides, key_of_compare, in_front, keys_of_compares, keys_of_choices, keys_of_tests, join_keys, earlier_value, given_or_true, row_part, candidate_part, as_one}
+use Rattle.join_tests.specs.declared.time_key.TimeKey.{TimeKey}
+use Rattle.join_tests.specs.TimeKeys.{time_key}
+use Rattle.join_tests.specs.Slots.{point_of, moment_at, row_moment, candidate_moment, first_event, last_event, first_candidate, last_candidate}
+use Rattle.join_tests.specs.Kept.{kept_under, row_value, candidate_value, rows_sought, candidates_sought, is_among}
+use Rattle.join_tests.proofs.Neighbours.{found_among}
+use Rattle.join_tests.proofs.Ranges.{Fits, fits_times}
 use Rattle.join_tests.proofs.Versions.{version_is, versions_are, row_is}
 
 -- both of two that hold
@@ -104,6 +111,13 @@ parts_meet look row who f is (key ∷ keys) meet =
     ap (λ v. v ∷ map (row_part look row) keys) (meet.0 ∙ ap (λ found. given_or_true (field_of found key.field)) (sym is))
     ∙ ap (λ values. candidate_part look who key ∷ values) (parts_meet look row who f is keys meet.1)
 
+-- moments that fit lie between the first and the last that are sought
+events_lie : (key : TimeKey) (x y : ℤ) → Fits key x y → (first_event key x ≤ℤ y) × (y ≤ℤ last_event key x) × (last_event key x ≡ (first_event key x +ℤ pos key.span))
+events_lie key x y fits = (omega (arith, ints, fits.1), fits.0, omega (arith, ints))
+
+candidates_lie : (key : TimeKey) (x y : ℤ) → Fits key x y → (first_candidate key y ≤ℤ x) × (x ≤ℤ last_candidate key y) × (last_candidate key y ≡ (first_candidate key y +ℤ pos key.span))
+candidates_lie key x y fits = (omega (arith, ints, fits.0), fits.1, refl)
+
 found_meet : (p : Pattern) (look : Look) (row : Row) (who : Named) (all : Option (List Fact)) → versions_at look row.facts ≡ all → (o : Option Fact) → version_at look who ≡ o
     → passes_given p (option_map (λ facts. tuple_of facts row.values) all) o ≡ true → map (row_part look row) (join_keys p) ≡ map (candidate_part look who) (join_keys p)
 unfolding join_keys
@@ -116,12 +130,52 @@ found_meet p look row who (Some facts) is (Some f) found e =
     parts_meet look row who f (version_is look who f found).0 (keys_of_tests p.joined)
     (tests_meet (bound_in look row) f p.joined (subst (λ (b : Bindings). tests_hold b f p.joined ≡ true) (sym bound) holds))
 
+found_fits : (p : Pattern) (look : Look) (row : Row) (who : Named) (key : TimeKey) → time_key p ≡ Some key → (all : Option (List Fact)) → versions_at look row.facts ≡ all
+    → (o : Option Fact) → version_at look who ≡ o → passes_given p (option_map (λ facts. tuple_of facts row.values) all) o ≡ true
+    → Fits key (candidate_moment key look who) (row_moment key look row)
+unfolding time_key
+found_fits p look row who key timed None is o found e = let f : false ≡ true = e in cc
+found_fits p look row who key timed (Some facts) is None found e = let f : false ≡ true = e in cc
+found_fits p look row who key timed (Some facts) is (Some f) found e =
+    let tuple = tuple_of facts row.values in
+    let bound : bound_in look row ≡ bound_by tuple = bound_named look row tuple (row_is look row facts is) (versions_are look row.facts facts is).1 in
+    let holds : times_hold (bound_by tuple) f.times p.times ≡ true = rest_of (tests_hold (bound_by tuple) f p.joined) _ e in
+    let fits = fits_times (bound_in look row) f.times key p.times (subst (λ (b : Bindings). times_hold b f.times p.times ≡ true) (sym bound) holds) timed in
+    subst (λ (found : Option Fact). Fits key (moment_at key.own found) (row_moment key look row)) (sym (version_is look who f found).0) (
+    subst (λ (found : Option Fact). Fits key (point_of key.own f.times) (moment_at key.event found)) (sym fits.1) fits.2
+    )
+
+-- the moments of a candidate and of a row that it joins fit
+moments_fit : (p : Pattern) (look : Look) (row : Row) (who : Named) → joins p look row who ≡ true → (key : TimeKey) → time_key p ≡ Some key
+    → Fits key (candidate_moment key look who) (row_moment key look row)
+unfolding joins
+moments_fit p look row who e key timed = found_fits p look row who key timed (versions_at look row.facts) refl (version_at look who) refl e
+
 -- a candidate that joins a row has what the row has of each equality
 pub each_meets : (p : Pattern) (look : Look) (row : Row) (who : Named) → joins p look row who ≡ true → map (row_part look row) (join_keys p) ≡ map (candidate_part look who) (join_keys p)
 unfolding joins
 each_meets p look row who e = found_meet p look row who (versions_at look row.facts) refl (version_at look who) refl e
 
--- and so its join value
-pub keys_meet : (p : Pattern) (look : Look) (row : Row) (who : Named) → joins p look row who ≡ true → row_value (join_keys p) look row ≡ candidate_value (join_keys p) look who
+-- and so, where there is no range of time, its join value
+pub values_meet : (p : Pattern) (look : Look) (row : Row) (who : Named) → joins p look row who ≡ true → time_key p ≡ None → row_value p look row ≡ candidate_value p look who
 unfolding row_value candidate_value
-keys_meet p look row who e = ap as_one (each_meets p look row who e)
+values_meet p look row who e timeless =
+    ap (λ time. kept_under (map (row_part look row) (join_keys p)) time (λ key. row_moment key look row)) timeless
+    ∙ ap as_one (each_meets p look row who e)
+    ∙ ap (λ time. kept_under (map (candidate_part look who) (join_keys p)) time (λ key. candidate_moment key look who)) (sym timeless)
+
+-- the row's value is sought for the candidate
+pub row_sought : (p : Pattern) (look : Look) (row : Row) (who : Named) → joins p look row who ≡ true → is_among (rows_sought p look who) (row_value p look row) ≡ true
+unfolding row_value rows_sought
+row_sought p look row who e =
+    found_among (map (row_part look row) (join_keys p)) (map (candidate_part look who) (join_keys p)) (λ key. first_event key (candidate_moment key look who))
+    (λ key. last_event key (candidate_moment key look who)) (λ key. row_moment key look row) (time_key p) (each_meets p look row who e)
+    (λ key timed. events_lie key (candidate_moment key look who) (row_moment key look row) (moments_fit p look row who e key timed))
+
+-- and the candidate's for the row
+pub candidate_sought : (p : Pattern) (look : Look) (row : Row) (who : Named) → joins p look row who ≡ true → is_among (candidates_sought p look row) (candidate_value p look who) ≡ true
+unfolding candidate_value candidates_sought
+candidate_sought p look row who e =
+    found_among (map (candidate_part look who) (join_keys p)) (map (row_part look row) (join_keys p)) (λ key. first_candidate key (row_moment key look row))
+    (λ key. last_candidate key (row_moment key look row)) (λ key. candidate_moment key look who) (time_key p) (sym (each_meets p look row who e))
+    (λ key timed. candidates_lie key (candidate_moment key look who) (row_moment key look row) (moments_fit p look row who e key timed))

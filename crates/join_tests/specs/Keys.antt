@@ -1,5 +1,5 @@
 -- The equalities of a pattern by which rows and candidates find each other, and the values that they compare.
-use Rattle.std.specs.Prelude.{ℕ, ℤ, true, List, [], ◌∷◌, ◌++◌, map, fold, Option, Some, None}
+use Rattle.std.specs.Prelude.{ℕ, ℤ, true, List, [], ◌∷◌, ◌++◌, fold, Option, Some, None}
 use Rattle.std.specs.Int.{w64, cast_signed}
 use Rattle.std.specs.Hash as fed
 use Rattle.std.specs.Hash.{HashWrites}
@@ -117,11 +117,3 @@ abbrev pub as_one : List Value → Value
 as_one [] = Flag true
 as_one (v ∷ []) = v
 as_one (v ∷ (other ∷ values)) = Int (number_for (v ∷ (other ∷ values)))
-
--- the join value of a row
-unfoldable pub row_value : List JoinKey → Look → Row → Value
-row_value keys look row = as_one (map (row_part look row) keys)
-
--- the join value of a candidate
-unfoldable pub candidate_value : List JoinKey → Look → Named → Value
-candidate_value keys look who = as_one (map (candidate_part look who) keys)

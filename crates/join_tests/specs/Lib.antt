@@ -2,3 +2,6 @@ pub mod Joins
 pub mod Keys
 pub mod Keying
 pub mod JoinValues
+pub mod TimeKeys
+pub mod Slots
+pub mod Kept

@@ -1,14 +1,22 @@
 //! A law of joins: the function's contract is the law, and its body is empty.
-ghost use Rattle.std.specs.Prelude.{◌≡◌, true, map};
+ghost use Rattle.std.specs.Prelude.{◌≡◌, true, map, None};
 ghost use Rattle.row_delta.specs.declared.row.Named.{Named};
 ghost use Rattle.row_delta.specs.declared.row.Row.{Row};
 ghost use Rattle.rule_model.specs.declared.condition.Pattern.{Pattern};
 ghost use Rattle.join_tests.specs.Joins.{Look, joins};
-ghost use Rattle.join_tests.specs.Keys.{join_keys, row_part, candidate_part, row_value, candidate_value};
+ghost use Rattle.join_tests.specs.Keys.{join_keys, row_part, candidate_part};
+ghost use Rattle.join_tests.specs.TimeKeys.{time_key};
+ghost use Rattle.join_tests.specs.Kept.{row_value, candidate_value, rows_sought, candidates_sought, is_among};
 
-/// A candidate that joins a row has what the row has of each equality, and so the row's join value.
+/// A candidate that joins a row has what the row has of each equality, and so, where no range of time is asked for, the row's join
+/// value. The row's value is among those that are sought for the candidate, and the candidate's among those for the row.
 pub fn what_joins_has_equal_values()
     ensures each { (p : Pattern) (look : Look) (row : Row) (who : Named) → joins p look row who ≡ true
         → map (row_part look row) (join_keys p) ≡ map (candidate_part look who) (join_keys p) }
-    ensures joined { (p : Pattern) (look : Look) (row : Row) (who : Named) → joins p look row who ≡ true → row_value (join_keys p) look row ≡ candidate_value (join_keys p) look who }
+    ensures joined { (p : Pattern) (look : Look) (row : Row) (who : Named) → joins p look row who ≡ true → time_key p ≡ None
+        → row_value p look row ≡ candidate_value p look who }
+    ensures rows { (p : Pattern) (look : Look) (row : Row) (who : Named) → joins p look row who ≡ true
+        → is_among (rows_sought p look who) (row_value p look row) ≡ true }
+    ensures candidates { (p : Pattern) (look : Look) (row : Row) (who : Named) → joins p look row who ≡ true
+        → is_among (candidates_sought p look row) (candidate_value p look who) ≡ true }
 {}

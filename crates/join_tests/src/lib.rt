@@ -1,4 +1,4 @@
-//! When a candidate joins a row, and the equalities by which the two find each other.
+//! When a candidate joins a row, and the equalities and the range of time by which the two find each other.
 //! It stands on facts, rows and the tests of patterns, and assumes nothing of the outside.
 #![tactic(auto)]
 
@@ -10,9 +10,14 @@ pub mod laws;
 mod number;
 mod part;
 mod row_facts;
+mod slot;
+mod sought;
+mod time_key;
 
 pub use join_value::JoinValue;
 pub use joins::does_join;
 pub use key::{JoinKey, JoinSide};
 pub use keyed::KeyedPattern;
 pub use row_facts::{field_value, named_fact};
+pub use sought::Sought;
+pub use time_key::{Point, TimeKey};

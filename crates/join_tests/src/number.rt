@@ -1,5 +1,6 @@
 //! The number by which rows and candidates find each other, where a pattern asks for several equalities.
-ghost use Rattle.std.specs.Prelude.{◌≡◌, map, fold};
+ghost use Rattle.std.specs.Prelude.{◌≡◌, [], ◌∷◌, map, fold};
+ghost use Rattle.std.specs.Int.{w64, cast_signed};
 ghost use Rattle.std.specs.Hash.FoldHasher as hasher;
 ghost use Rattle.join_tests.specs.Keys.{keys_of_compares, keys_of_choices, keys_of_tests, join_keys, writes, fed_with, number_for};
 ghost use Rattle.join_tests.specs.Keying.{part};
@@ -12,12 +13,33 @@ use std::hash::{FoldHasher, Hash, Hasher};
 
 /// The number for the values of all equalities that a pattern asks for. It takes no memory, and costs a walk over the tests,
 /// and for a row a look-up for each equality.
-#[tactic(auto, unfolding(crate::specs::Keys::join_keys, crate::specs::Keys::number_for))]
+#[tactic(auto, unfolding(crate::specs::Keys::number_for))]
 pub(crate) fn number_of<F: Facts>(pattern: &Pattern, partner: Partner<'_, '_>, facts: &F) -> Value
     ensures { result ≡ Value.Int (number_for (map (part (F.map facts.now) partner.entry) (join_keys pattern.now))) }
 {
+    Value::Int(parts_fed(pattern, partner, facts).finish().cast_signed())
+}
+
+/// A hash that is fed with these values. It costs the same.
+#[tactic(auto, unfolding(crate::specs::Keys::join_keys))]
+pub(crate) fn parts_fed<F: Facts>(
+    pattern: &Pattern,
+    partner: Partner<'_, '_>,
+    facts: &F,
+) -> FoldHasher
+    ensures { result ≡ fed_with hasher.initial (map (part (F.map facts.now) partner.entry) (join_keys pattern.now)) }
+{
     let mut state = FoldHasher::default();
     feed_tests(pattern.joined.as_slice(), partner, facts, &mut state);
+    state
+}
+
+/// The number of a hash that is fed with one value more. Takes no memory.
+pub(crate) fn number_with(fed: FoldHasher, value: &Value) -> Value
+    ensures { result ≡ Value.Int (cast_signed w64 (hasher.finish (fed_with fed (value.now ∷ [])))) }
+{
+    let mut state = fed;
+    feed(value, &mut state);
     Value::Int(state.finish().cast_signed())
 }
 

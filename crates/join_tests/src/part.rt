@@ -55,7 +55,7 @@ fn lent_or_true<'a>(value: Option<&'a Value>) -> JoinValue<'a>
     }
 }
 
-fn number_or_true(number: Option<i64>) -> Value
+pub(crate) fn number_or_true(number: Option<i64>) -> Value
     ensures { result ≡ given_or_true (number_given number) }
 {
     match number {

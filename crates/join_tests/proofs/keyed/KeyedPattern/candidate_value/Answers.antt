@@ -1,19 +1,32 @@
-use Rattle.std.proofs.Common.{◌∙◌, sym, ap, List}
+use Rattle.std.proofs.Common.{SFits, w64, rules, to_z-of_z, ◌∙◌, sym, ap, List, map}
+use Rattle.fx_base.specs.declared.value.Value.{Value}
 use Rattle.rule_model.specs.declared.condition.Pattern.{Pattern}
-use Rattle.join_tests.specs.declared.key.JoinKey.{JoinKey}
-use Rattle.join_tests.specs.Keys.{join_keys, candidate_value}
-use Rattle.join_tests.proofs.Counting.{are_none, of_candidate}
+use Rattle.join_tests.specs.Keys.{join_keys, candidate_part}
+use Rattle.join_tests.specs.Slots.{slot_value, moment_at, candidate_moment}
+use Rattle.join_tests.specs.TimeKeys.{time_key}
+use Rattle.join_tests.specs.Kept.{with_slot, candidate_value}
+use Rattle.join_tests.proofs.Counting.{of_candidate}
+use Rattle.join_tests.proofs.Slotting.{kept_timeless, kept_slotted}
 use Rattle.join_tests.proofs.keyed.KeyedPattern.candidate_value.Goals as goal
 
-pub returns-in-Nothing : goal.returns-in-Nothing
+pub returns-in-None : goal.returns-in-None
 unfolding candidate_value
-returns-in-Nothing g c =
+returns-in-None g c =
     let look = g.F.Facts.map c.args.facts.now in
-    ap (λ (keys : List JoinKey). candidate_value keys look c.args.who) (sym (are_none (join_keys c.self.inside.pattern) (sym c.in-Nothing.is ∙ c.self.invariant)))
-    ∙ ap (λ (p : Pattern). candidate_value (join_keys p) look c.args.who) c.self.view_is
+    c.equal_to_candidate.ensures
+    ∙ kept_timeless (map (candidate_part look c.args.who) (join_keys c.args.self.now)) (time_key c.args.self.now) (λ key. candidate_moment key look c.args.who)
+    (sym (ap time_key c.self.view_is) ∙ sym c.self.invariant.1 ∙ c.in-None.is)
 
-pub returns-in_default : goal.returns-in_default
-returns-in_default g c =
+pub returns-in-Some : goal.returns-in-Some
+unfolding candidate_value
+returns-in-Some g c =
     let look = g.F.Facts.map c.args.facts.now in
-    c.value_of.ensures ∙ of_candidate look c.args.who c.fact-fact.result (join_keys c.self.inside.pattern) c.fact-fact.ensures
-    ∙ ap (λ (p : Pattern). candidate_value (join_keys p) look c.args.who) c.self.view_is
+    let p = c.self.inside.pattern in
+    let key = c.in-Some.key in
+    let fits : SFits w64 c.moment_at.result = search rules in
+    let slot = simp to_z-of_z at c.slot-slot.ensures in
+    c.slotted.ensures
+    ∙ ap (λ (values : List Value). with_slot values c.slot-slot.result) (of_candidate look c.args.who c.fact-fact.result (join_keys p) c.fact-fact.ensures)
+    ∙ kept_slotted (map (candidate_part look c.args.who) (join_keys p)) (time_key p) key (sym c.self.invariant.1 ∙ c.in-Some.is) (λ key. candidate_moment key look c.args.who) c.slot-slot.result
+    (slot ∙ ap (slot_value key.span) (c.moment_at.ensures ∙ ap (moment_at key.own) c.fact-fact.ensures))
+    ∙ ap (λ (p : Pattern). candidate_value p look c.args.who) c.self.view_is

@@ -1,10 +1,30 @@
-use Rattle.std.proofs.Common.{◌∙◌, ap}
+use Rattle.std.proofs.Common.{SFits, w64, rules, to_z-of_z, ◌∙◌, sym, ap, map}
 use Rattle.rule_model.specs.declared.condition.Pattern.{Pattern}
-use Rattle.join_tests.specs.Keys.{join_keys, row_value}
-use Rattle.join_tests.proofs.Counting.{of_row}
+use Rattle.join_tests.specs.Keys.{join_keys, row_part}
+use Rattle.join_tests.specs.Slots.{slot_value, moment_at, row_moment}
+use Rattle.join_tests.specs.TimeKeys.{time_key}
+use Rattle.join_tests.specs.Kept.{row_value}
+use Rattle.join_tests.proofs.Slotting.{kept_timeless, kept_slotted}
 use Rattle.join_tests.proofs.keyed.KeyedPattern.row_value.Goals as goal
 
-pub returns : goal.returns
-returns g c =
+pub returns-in-None : goal.returns-in-None
+unfolding row_value
+returns-in-None g c =
     let look = g.F.Facts.map c.args.facts.now in
-    c.value_of.ensures ∙ of_row look c.args.row (join_keys c.self.inside.pattern) ∙ ap (λ (p : Pattern). row_value (join_keys p) look c.args.row.now) c.self.view_is
+    let p = c.self.inside.pattern in
+    c.value_of.ensures
+    ∙ kept_timeless (map (row_part look c.args.row.now) (join_keys p)) (time_key p) (λ key. row_moment key look c.args.row.now) (sym c.self.invariant.1 ∙ c.in-None.is)
+    ∙ ap (λ (p : Pattern). row_value p look c.args.row.now) c.self.view_is
+
+pub returns-in-Some : goal.returns-in-Some
+unfolding row_value
+returns-in-Some g c =
+    let look = g.F.Facts.map c.args.facts.now in
+    let p = c.self.inside.pattern in
+    let key = c.in-Some.key in
+    let fits : SFits w64 c.moment_at-moment.result = search rules in
+    let slot = simp to_z-of_z at c.slot-slot.ensures in
+    c.slotted.ensures
+    ∙ kept_slotted (map (row_part look c.args.row.now) (join_keys p)) (time_key p) key (sym c.self.invariant.1 ∙ c.in-Some.is) (λ key. row_moment key look c.args.row.now) c.slot-slot.result
+    (slot ∙ ap (slot_value key.span) (c.moment_at-moment.ensures ∙ ap (moment_at key.event) c.named_fact.ensures))
+    ∙ ap (λ (p : Pattern). row_value p look c.args.row.now) c.self.view_is

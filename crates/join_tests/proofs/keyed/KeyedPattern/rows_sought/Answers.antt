@@ -1,0 +1,38 @@
+use Rattle.std.proofs.Common.{SFits, w64, rules, to_z-of_z, ◌∙◌, sym, ap, List, [], ◌∷◌, map}
+use Rattle.fx_base.specs.declared.value.Value.{Value}
+use Rattle.rule_model.specs.declared.condition.Pattern.{Pattern}
+use Rattle.join_tests.specs.Keys.{join_keys, candidate_part}
+use Rattle.join_tests.specs.Slots.{slot_value, moment_at, candidate_moment, first_event, last_event}
+use Rattle.join_tests.specs.TimeKeys.{time_key}
+use Rattle.join_tests.specs.Kept.{with_slot, once, rows_sought}
+use Rattle.join_tests.proofs.Counting.{of_candidate}
+use Rattle.join_tests.proofs.Slotting.{sought_timeless, sought_slotted}
+use Rattle.join_tests.proofs.keyed.KeyedPattern.rows_sought.Goals as goal
+
+pub returns-in-None : goal.returns-in-None
+unfolding rows_sought
+returns-in-None g c =
+    let look = g.F.Facts.map c.args.facts.now in
+    let who = c.args.who in
+    ap (λ (v : Value). v ∷ []) c.equal_to_candidate.ensures
+    ∙ sought_timeless (map (candidate_part look who) (join_keys c.args.self.now)) (time_key c.args.self.now)
+    (λ key. first_event key (candidate_moment key look who)) (λ key. last_event key (candidate_moment key look who))
+    (sym (ap time_key c.self.view_is) ∙ sym c.self.invariant.1 ∙ c.in-None.is)
+
+pub returns-in-Some : goal.returns-in-Some
+unfolding rows_sought
+returns-in-Some g c =
+    let look = g.F.Facts.map c.args.facts.now in
+    let who = c.args.who in
+    let p = c.self.inside.pattern in
+    let key = c.in-Some.key in
+    let fits : SFits w64 c.moment_at.result = search rules in
+    let first = simp to_z-of_z at c.event_slots-first.ensures.first in
+    let last = simp to_z-of_z at c.event_slots-first.ensures.last in
+    let moment = c.moment_at.ensures ∙ ap (moment_at key.own) c.fact-fact.ensures in
+    c.both_slotted.ensures
+    ∙ ap (λ (values : List Value). once (with_slot values c.event_slots-first.result.0) (with_slot values c.event_slots-first.result.1)) (of_candidate look who c.fact-fact.result (join_keys p) c.fact-fact.ensures)
+    ∙ sought_slotted (map (candidate_part look who) (join_keys p)) (time_key p) key (sym c.self.invariant.1 ∙ c.in-Some.is)
+    (λ key. first_event key (candidate_moment key look who)) (λ key. last_event key (candidate_moment key look who)) c.event_slots-first.result.0 c.event_slots-first.result.1
+    (first ∙ ap (λ m. slot_value key.span (first_event key m)) moment) (last ∙ ap (λ m. slot_value key.span (last_event key m)) moment)
+    ∙ ap (λ (p : Pattern). rows_sought p look who) c.self.view_is
