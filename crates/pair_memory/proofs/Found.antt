@@ -1,88 +1,164 @@
--- What joins a row or a candidate is found under its join value.
-use Rattle.std.proofs.Common.{◌≡◌, ◌∙◌, sym, ap, refl, subst, List, [], Bool, true, false, ◌&&◌, Option}
-use Rattle.std.specs.Option.{is_some, option_and_then}
+-- What joins a row or a candidate is found under the join values that are sought for it.
+use Rattle.std.proofs.Common.{◌≡◌, ◌∙◌, sym, ap, refl, subst, List, [], ◌∷◌, Bool, true, false, ◌&&◌, ◌||◌, Some, None}
+use Rattle.std.specs.Option.{is_some}
 use Rattle.std.specs.declared.cmp.Ordering.{Ordering}
-use Rattle.std.specs.BTreeMap.{is_at}
-use Rattle.std.specs.Map.{lookup}
 use Rattle.std.specs.Ordering.{eq_by_cmp}
 use Rattle.std.specs.List.Sorted.{IsStrictlySortedBy}
 use Rattle.fx_base.specs.declared.value.Value.{Value}
 use Rattle.fx_base.specs.Values.{same_value}
+use Rattle.fx_base.specs.SameValues.{equal_values}
 use Rattle.row_delta.specs.declared.row.Named.{Named}
 use Rattle.row_delta.specs.declared.row.Row.{Row}
 use Rattle.row_delta.specs.Rows.{row_cmp}
 use Rattle.row_delta.specs.NameOrder.{name_cmp}
 use Rattle.alpha_memory.specs.JoinIndex.{bucket_at, at}
 use Rattle.join_tests.specs.Joins.{Look, joins}
-use Rattle.join_tests.specs.Keys.{join_keys, row_value, candidate_value}
-use Rattle.join_tests.proofs.Meeting.{keys_meet}
+use Rattle.join_tests.specs.Kept.{row_value, candidate_value, rows_sought, candidates_sought, is_among}
+use Rattle.join_tests.proofs.Meeting.{row_sought, candidate_sought}
 use Rattle.pair_memory.specs.declared.memories.Memories.{Memories}
 use Rattle.pair_memory.specs.Memories.{has_left, has_right}
 use Rattle.pair_memory.specs.Joined.{unjoined, joined}
-use Rattle.pair_memory.proofs.Joining.{row_decides, name_decides, splits_alike}
+use Rattle.pair_memory.specs.Under.{row_joins, name_joins, stands_in}
+use Rattle.pair_memory.proofs.Joining.{row_decides, name_decides, splits_alike, splits_or}
 
-where_left : (a b x q : Bool) → (x ≡ true → q ≡ true → a ≡ b) → (a && (x && q)) ≡ (b && (x && q))
-where_left a b true true h = ap (λ c. c && true) (h refl refl)
-where_left true true true false h = refl
-where_left true false true false h = refl
-where_left false true true false h = refl
-where_left false false true false h = refl
-where_left true true false q h = refl
-where_left true false false q h = refl
-where_left false true false q h = refl
-where_left false false false q h = refl
+and_nothing : (a : Bool) → (a && false) ≡ false
+and_nothing true = refl
+and_nothing false = refl
 
-where_right : (x a b q : Bool) → (x ≡ true → q ≡ true → a ≡ b) → (x && (a && q)) ≡ (x && (b && q))
-where_right false a b q h = refl
-where_right true a b true h = ap (λ c. c && true) (h refl refl)
-where_right true true true false h = refl
-where_right true true false false h = refl
-where_right true false true false h = refl
-where_right true false false false h = refl
+and_true : (a : Bool) → (a && true) ≡ a
+and_true true = refl
+and_true false = refl
 
-where_and : (a b q : Bool) → (q ≡ true → a ≡ b) → (a && q) ≡ (b && q)
-where_and a b true h = ap (λ x. x && true) (h refl)
-where_and true true false h = refl
-where_and true false false h = refl
-where_and false true false h = refl
-where_and false false false h = refl
+or_nothing : (a : Bool) → (a || false) ≡ a
+or_nothing true = refl
+or_nothing false = refl
 
--- whether a bucket has a key
-abbrev pub stands_in : {K S : Type 0} → (K → K → Ordering) → Option (List (K × S)) → K → Bool
-stands_in order bucket k = is_some (option_and_then (lookup (is_at (order k))) bucket)
+or_same : (a : Bool) → (a || a) ≡ a
+or_same true = refl
+or_same false = refl
+
+-- one value: h is whether something is kept, a whether it stands under the value, j whether it joins
+
+alone : (a h j : Bool) → (j ≡ true → a ≡ h) → (a && (j && true)) ≡ (h && j)
+alone a h true is = ap (λ x. x && true) (is refl)
+alone a h false is = and_nothing a ∙ sym (and_nothing h)
+
+alone_left : (a h x j : Bool) → (x ≡ true → j ≡ true → a ≡ h) → (a && (x && (j && true))) ≡ (h && (x && j))
+alone_left a h true j is = alone a h j (is refl)
+alone_left a h false j is = and_nothing a ∙ sym (and_nothing h)
+
+alone_right : (x a h j : Bool) → (x ≡ true → j ≡ true → a ≡ h) → (x && (a && (j && true))) ≡ (x && (h && j))
+alone_right true a h j is = alone a h j (is refl)
+alone_right false a h j is = refl
+
+-- two values: a and b are whether it stands under the one and the other, p and q whether they are its join value
+
+both : (a b h j p q : Bool) → (p ≡ true → a ≡ h) → (q ≡ true → b ≡ h) → (j ≡ true → (p || (q || false)) ≡ true) → ((a && (j && p)) || (b && (j && q))) ≡ (h && j)
+both a b h false p q first second some = ap (λ x. x || (b && false)) (and_nothing a) ∙ and_nothing b ∙ sym (and_nothing h)
+both a b h true true true first second some = ap (λ x. (x && true) || (b && true)) (first refl) ∙ ap (λ x. (h && true) || (x && true)) (second refl) ∙ or_same (h && true)
+both a b h true true false first second some = ap (λ x. (a && true) || x) (and_nothing b) ∙ or_nothing (a && true) ∙ ap (λ x. x && true) (first refl)
+both a b h true false true first second some = ap (λ x. x || (b && true)) (and_nothing a) ∙ ap (λ x. x && true) (second refl)
+both a b h true false false first second some = let f : false ≡ true = some refl in cc
+
+both_left : (a b h x j p q : Bool) → (p ≡ true → a ≡ h) → (q ≡ true → b ≡ h) → (x ≡ true → j ≡ true → (p || (q || false)) ≡ true)
+    → ((a && (x && (j && p))) || (b && (x && (j && q)))) ≡ (h && (x && j))
+both_left a b h true j p q first second some = both a b h j p q first second (some refl)
+both_left a b h false j p q first second some = ap (λ x. x || (b && false)) (and_nothing a) ∙ and_nothing b ∙ sym (and_nothing h)
+
+both_right : (x a b h j p q : Bool) → (p ≡ true → a ≡ h) → (q ≡ true → b ≡ h) → (x ≡ true → j ≡ true → (p || (q || false)) ≡ true)
+    → ((x && (a && (j && p))) || (x && (b && (j && q)))) ≡ (x && (h && j))
+both_right true a b h j p q first second some = both a b h j p q first second (some refl)
+both_right false a b h j p q first second some = refl
 
 module _ {S : Type 0} (m : Memories S) (look : Look) where
-  -- the left rows that a candidate joins stand in the bucket of its value
-  module _ (who : Named) (value : Value) (is : value ≡ candidate_value (join_keys m.pattern) look who) (bucket : Option (List (Row × S))) (found : bucket ≡ bucket_at same_value m.left value) where
-    row_in : (l : Row) → joins m.pattern look l who ≡ true → stands_in row_cmp bucket l ≡ has_left m look l
-    row_in l e =
-        ap (λ b. stands_in row_cmp b l) found
-        ∙ ap (λ v. is_some (at same_value row_cmp m.left v l)) (is ∙ sym (keys_meet m.pattern look l who e))
+  -- ---- the left rows that a candidate joins
 
-    pub rows_in_bucket : (r : Row) → joined (joins m.pattern look) (stands_in row_cmp bucket) (eq_by_cmp name_cmp who) r ≡ joined (joins m.pattern look) (has_left m look) (eq_by_cmp name_cmp who) r
-    unfolding joined
-    rows_in_bucket r =
-        splits_alike _ _ (λ l c. where_left (stands_in row_cmp bucket l) (has_left m look l) (eq_by_cmp name_cmp who c) (joins m.pattern look l c)
-        (λ x q. row_in l (ap (joins m.pattern look l) ((name_decides who c).0 x) ∙ q))) (unjoined r)
+  -- a row stands under its join value where it is kept
+  row_here : (v : Value) (l : Row) → same_value (row_value m.pattern look l) v ≡ true → stands_in row_cmp (bucket_at same_value m.left v) l ≡ has_left m look l
+  row_here v l e = ap (λ w. is_some (at same_value row_cmp m.left w l)) (sym (equal_values (row_value m.pattern look l) v e))
 
-    pub partners_in_bucket : (r : Row) → (stands_in row_cmp bucket r && joins m.pattern look r who) ≡ (has_left m look r && joins m.pattern look r who)
-    partners_in_bucket r = where_and (stands_in row_cmp bucket r) (has_left m look r) (joins m.pattern look r who) (row_in r)
+  module _ (who : Named) where
+    among_rows : (values : List Value) → rows_sought m.pattern look who ≡ values → (l : Row) → joins m.pattern look l who ≡ true → is_among values (row_value m.pattern look l) ≡ true
+    among_rows values is l e = subst (λ vs. is_among vs (row_value m.pattern look l) ≡ true) is (row_sought m.pattern look l who e)
 
-  -- the candidates that join a row stand in the bucket of its value
-  module _ (row : Row) (value : Value) (is : value ≡ row_value (join_keys m.pattern) look row) (bucket : Option (List (Named × Unit {0}))) (found : bucket ≡ bucket_at same_value m.right value) where
-    name_in : (c : Named) → joins m.pattern look row c ≡ true → stands_in name_cmp bucket c ≡ has_right m look c
-    name_in c e =
-        ap (λ b. stands_in name_cmp b c) found
-        ∙ ap (λ v. is_some (at same_value name_cmp m.right v c)) (is ∙ keys_meet m.pattern look row c e)
+    -- for the version that is compared with the candidate
+    joins_who : (l : Row) (c : Named) → eq_by_cmp name_cmp who c ≡ true → joins m.pattern look l c ≡ true → joins m.pattern look l who ≡ true
+    joins_who l c x e = ap (joins m.pattern look l) ((name_decides who c).0 x) ∙ e
 
-    pub names_in_bucket : (r : Row) → joined (joins m.pattern look) (eq_by_cmp row_cmp row) (stands_in name_cmp bucket) r ≡ joined (joins m.pattern look) (eq_by_cmp row_cmp row) (has_right m look) r
-    unfolding joined
-    names_in_bucket r =
-        splits_alike _ _ (λ l c. where_right (eq_by_cmp row_cmp row l) (stands_in name_cmp bucket c) (has_right m look c) (joins m.pattern look l c)
-        (λ x q. name_in c (ap (λ r. joins m.pattern look r c) ((row_decides row l).0 x) ∙ q))) (unjoined r)
+    module _ (v : Value) (is : rows_sought m.pattern look who ≡ v ∷ []) where
+      row_in : (l : Row) → joins m.pattern look l who ≡ true → stands_in row_cmp (bucket_at same_value m.left v) l ≡ has_left m look l
+      row_in l e = row_here v l (sym (or_nothing (same_value (row_value m.pattern look l) v)) ∙ among_rows (v ∷ []) is l e)
 
-    pub passing_in_bucket : (c : Named) → (stands_in name_cmp bucket c && joins m.pattern look row c) ≡ (has_right m look c && joins m.pattern look row c)
-    passing_in_bucket c = where_and (stands_in name_cmp bucket c) (has_right m look c) (joins m.pattern look row c) (name_in c)
+      pub rows_alone : (r : Row) → joined (row_joins m.pattern look None) (stands_in row_cmp (bucket_at same_value m.left v)) (eq_by_cmp name_cmp who) r
+          ≡ joined (joins m.pattern look) (has_left m look) (eq_by_cmp name_cmp who) r
+      unfolding joined
+      rows_alone r =
+          splits_alike _ _ (λ l c. alone_left (stands_in row_cmp (bucket_at same_value m.left v) l) (has_left m look l) (eq_by_cmp name_cmp who c) (joins m.pattern look l c)
+          (λ x e. row_in l (joins_who l c x e))) (unjoined r)
+
+      pub partners_alone : (l : Row) → (stands_in row_cmp (bucket_at same_value m.left v) l && row_joins m.pattern look None l who) ≡ (has_left m look l && joins m.pattern look l who)
+      partners_alone l = alone (stands_in row_cmp (bucket_at same_value m.left v) l) (has_left m look l) (joins m.pattern look l who) (row_in l)
+
+    module _ (v w : Value) (is : rows_sought m.pattern look who ≡ v ∷ w ∷ []) where
+      pub rows_both : (r : Row) → (joined (row_joins m.pattern look (Some v)) (stands_in row_cmp (bucket_at same_value m.left v)) (eq_by_cmp name_cmp who) r
+          || joined (row_joins m.pattern look (Some w)) (stands_in row_cmp (bucket_at same_value m.left w)) (eq_by_cmp name_cmp who) r)
+          ≡ joined (joins m.pattern look) (has_left m look) (eq_by_cmp name_cmp who) r
+      unfolding joined
+      rows_both r =
+          sym (splits_or _ _ (unjoined r))
+          ∙ splits_alike _ _ (λ l c. both_left (stands_in row_cmp (bucket_at same_value m.left v) l) (stands_in row_cmp (bucket_at same_value m.left w) l) (has_left m look l) (eq_by_cmp name_cmp who c)
+          (joins m.pattern look l c) (same_value (row_value m.pattern look l) v) (same_value (row_value m.pattern look l) w) (row_here v l) (row_here w l)
+          (λ x e. among_rows (v ∷ w ∷ []) is l (joins_who l c x e))) (unjoined r)
+
+      pub partners_both : (l : Row) → ((stands_in row_cmp (bucket_at same_value m.left v) l && row_joins m.pattern look (Some v) l who)
+          || (stands_in row_cmp (bucket_at same_value m.left w) l && row_joins m.pattern look (Some w) l who)) ≡ (has_left m look l && joins m.pattern look l who)
+      partners_both l =
+          both (stands_in row_cmp (bucket_at same_value m.left v) l) (stands_in row_cmp (bucket_at same_value m.left w) l) (has_left m look l) (joins m.pattern look l who)
+          (same_value (row_value m.pattern look l) v) (same_value (row_value m.pattern look l) w) (row_here v l) (row_here w l) (among_rows (v ∷ w ∷ []) is l)
+
+  -- ---- the candidates that join a row
+
+  -- a candidate stands under its join value where it is kept
+  name_here : (v : Value) (c : Named) → same_value (candidate_value m.pattern look c) v ≡ true → stands_in name_cmp (bucket_at same_value m.right v) c ≡ has_right m look c
+  name_here v c e = ap (λ w. is_some (at same_value name_cmp m.right w c)) (sym (equal_values (candidate_value m.pattern look c) v e))
+
+  module _ (row : Row) where
+    among_names : (values : List Value) → candidates_sought m.pattern look row ≡ values → (c : Named) → joins m.pattern look row c ≡ true → is_among values (candidate_value m.pattern look c) ≡ true
+    among_names values is c e = subst (λ vs. is_among vs (candidate_value m.pattern look c) ≡ true) is (candidate_sought m.pattern look row c e)
+
+    joins_row : (l : Row) (c : Named) → eq_by_cmp row_cmp row l ≡ true → joins m.pattern look l c ≡ true → joins m.pattern look row c ≡ true
+    joins_row l c x e = ap (λ r. joins m.pattern look r c) ((row_decides row l).0 x) ∙ e
+
+    module _ (v : Value) (is : candidates_sought m.pattern look row ≡ v ∷ []) where
+      name_in : (c : Named) → joins m.pattern look row c ≡ true → stands_in name_cmp (bucket_at same_value m.right v) c ≡ has_right m look c
+      name_in c e = name_here v c (sym (or_nothing (same_value (candidate_value m.pattern look c) v)) ∙ among_names (v ∷ []) is c e)
+
+      pub names_alone : (r : Row) → joined (name_joins m.pattern look None) (eq_by_cmp row_cmp row) (stands_in name_cmp (bucket_at same_value m.right v)) r
+          ≡ joined (joins m.pattern look) (eq_by_cmp row_cmp row) (has_right m look) r
+      unfolding joined
+      names_alone r =
+          splits_alike _ _ (λ l c. alone_right (eq_by_cmp row_cmp row l) (stands_in name_cmp (bucket_at same_value m.right v) c) (has_right m look c) (joins m.pattern look l c)
+          (λ x e. name_in c (joins_row l c x e))) (unjoined r)
+
+      pub passing_alone : (c : Named) → (stands_in name_cmp (bucket_at same_value m.right v) c && name_joins m.pattern look None row c) ≡ (has_right m look c && joins m.pattern look row c)
+      passing_alone c = alone (stands_in name_cmp (bucket_at same_value m.right v) c) (has_right m look c) (joins m.pattern look row c) (name_in c)
+
+    module _ (v w : Value) (is : candidates_sought m.pattern look row ≡ v ∷ w ∷ []) where
+      pub names_both : (r : Row) → (joined (name_joins m.pattern look (Some v)) (eq_by_cmp row_cmp row) (stands_in name_cmp (bucket_at same_value m.right v)) r
+          || joined (name_joins m.pattern look (Some w)) (eq_by_cmp row_cmp row) (stands_in name_cmp (bucket_at same_value m.right w)) r)
+          ≡ joined (joins m.pattern look) (eq_by_cmp row_cmp row) (has_right m look) r
+      unfolding joined
+      names_both r =
+          sym (splits_or _ _ (unjoined r))
+          ∙ splits_alike _ _ (λ l c. both_right (eq_by_cmp row_cmp row l) (stands_in name_cmp (bucket_at same_value m.right v) c) (stands_in name_cmp (bucket_at same_value m.right w) c) (has_right m look c)
+          (joins m.pattern look l c) (same_value (candidate_value m.pattern look c) v) (same_value (candidate_value m.pattern look c) w) (name_here v c) (name_here w c)
+          (λ x e. among_names (v ∷ w ∷ []) is c (joins_row l c x e))) (unjoined r)
+
+      pub passing_both : (c : Named) → ((stands_in name_cmp (bucket_at same_value m.right v) c && name_joins m.pattern look (Some v) row c)
+          || (stands_in name_cmp (bucket_at same_value m.right w) c && name_joins m.pattern look (Some w) row c)) ≡ (has_right m look c && joins m.pattern look row c)
+      passing_both c =
+          both (stands_in name_cmp (bucket_at same_value m.right v) c) (stands_in name_cmp (bucket_at same_value m.right w) c) (has_right m look c) (joins m.pattern look row c)
+          (same_value (candidate_value m.pattern look c) v) (same_value (candidate_value m.pattern look c) w) (name_here v c) (name_here w c) (among_names (v ∷ w ∷ []) is c)
 
 pub nothing_sorted : {K : Type 0} (c : K → K → Ordering) (xs : List K) → xs ≡ [] → IsStrictlySortedBy c xs
 unfolding IsStrictlySortedBy

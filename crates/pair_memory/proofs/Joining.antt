@@ -75,7 +75,7 @@ pub splits_alike : (t u : Row → Named → Bool) → ((l : Row) (c : Named) →
 splits_alike t u h None = refl
 splits_alike t u h (Some p) = h p.0 p.1
 
-splits_or : (t u : Row → Named → Bool) (o : Option (Row × Named)) → splits (λ l c. t l c || u l c) o ≡ (splits t o || splits u o)
+pub splits_or : (t u : Row → Named → Bool) (o : Option (Row × Named)) → splits (λ l c. t l c || u l c) o ≡ (splits t o || splits u o)
 splits_or t u None = refl
 splits_or t u (Some p) = refl
 

@@ -13,7 +13,7 @@ use Rattle.rule_model.specs.declared.condition.Pattern.{Pattern}
 use Rattle.alpha_memory.specs.declared.join_index.JoinIndex.{JoinIndex}
 use Rattle.alpha_memory.specs.JoinIndex.{at}
 use Rattle.join_tests.specs.Joins.{Look, joins}
-use Rattle.join_tests.specs.Keys.{join_keys, row_value, candidate_value}
+use Rattle.join_tests.specs.Kept.{row_value, candidate_value}
 use Rattle.pair_memory.specs.declared.memories.Memories.{Memories}
 use Rattle.pair_memory.specs.Joined.{joined}
 use Rattle.pair_memory.specs.Memories.{left_at, has_left, has_right, made, Keeps}
@@ -75,11 +75,11 @@ with_left m index = record { pattern = m.pattern; left = index; right = m.right 
 abbrev pub with_right : {S : Type 0} → Memories S → JoinIndex Value Named (Unit {0}) → Memories S
 with_right m index = record { pattern = m.pattern; left = m.left; right = index }
 
-module _ {S : Type 0} (m : Memories S) (look : Look) (row : Row) (value : Value) (is : value ≡ row_value (join_keys m.pattern) look row) (w : Option S) (index : JoinIndex Value Row S)
+module _ {S : Type 0} (m : Memories S) (look : Look) (row : Row) (value : Value) (is : value ≡ row_value m.pattern look row) (w : Option S) (index : JoinIndex Value Row S)
     (changed : (v : Value) (r : Row) → at same_value row_cmp index v r ≡ cond (same_value value v && eq_by_cmp row_cmp row r) w (at same_value row_cmp m.left v r)) where
   -- what is kept for left rows after a change at one
   pub left_changed : (r : Row) → left_at (with_left m index) look r ≡ cond (eq_by_cmp row_cmp row r) w (left_at m look r)
-  left_changed = at_changed (eq_by_cmp row_cmp) (λ a b. (row_decides a b).0) (row_value (join_keys m.pattern) look) row value (at same_value row_cmp m.left) (at same_value row_cmp index) w is changed
+  left_changed = at_changed (eq_by_cmp row_cmp) (λ a b. (row_decides a b).0) (row_value m.pattern look) row value (at same_value row_cmp m.left) (at same_value row_cmp index) w is changed
 
   pub left_keeps : (left : Row → Bool) → ((r : Row) → is_some (cond (eq_by_cmp row_cmp row r) w (left_at m look r)) ≡ left r) → Keeps m (with_left m index) look left (has_right m look)
   left_keeps left h = record {
@@ -87,23 +87,23 @@ module _ {S : Type 0} (m : Memories S) (look : Look) (row : Row) (value : Value)
     rows = λ r. ap is_some (left_changed r) ∙ h r;
     names = λ who. refl;
     agrees = λ before. record {
-      rows = agrees_changed (eq_by_cmp row_cmp) (λ a b. (row_decides a b).0) (row_value (join_keys m.pattern) look) row value (at same_value row_cmp m.left) (at same_value row_cmp index) w is changed before.rows;
+      rows = agrees_changed (eq_by_cmp row_cmp) (λ a b. (row_decides a b).0) (row_value m.pattern look) row value (at same_value row_cmp m.left) (at same_value row_cmp index) w is changed before.rows;
       names = before.names;
     };
   }
 
-module _ {S : Type 0} (m : Memories S) (look : Look) (who : Named) (value : Value) (is : value ≡ candidate_value (join_keys m.pattern) look who) (w : Option (Unit {0})) (index : JoinIndex Value Named (Unit {0}))
+module _ {S : Type 0} (m : Memories S) (look : Look) (who : Named) (value : Value) (is : value ≡ candidate_value m.pattern look who) (w : Option (Unit {0})) (index : JoinIndex Value Named (Unit {0}))
     (changed : (v : Value) (c : Named) → at same_value name_cmp index v c ≡ cond (same_value value v && eq_by_cmp name_cmp who c) w (at same_value name_cmp m.right v c)) where
   -- the candidates that are kept after a change at one
   pub right_keeps : (right : Named → Bool)
-      → ((c : Named) → is_some (cond (eq_by_cmp name_cmp who c) w (at same_value name_cmp m.right (candidate_value (join_keys m.pattern) look c) c)) ≡ right c) → Keeps m (with_right m index) look (has_left m look) right
+      → ((c : Named) → is_some (cond (eq_by_cmp name_cmp who c) w (at same_value name_cmp m.right (candidate_value m.pattern look c) c)) ≡ right c) → Keeps m (with_right m index) look (has_left m look) right
   right_keeps right h = record {
     pattern = refl;
     rows = λ r. refl;
-    names = λ c. ap is_some (at_changed (eq_by_cmp name_cmp) (λ a b. (name_decides a b).0) (candidate_value (join_keys m.pattern) look) who value (at same_value name_cmp m.right) (at same_value name_cmp index) w is changed c) ∙ h c;
+    names = λ c. ap is_some (at_changed (eq_by_cmp name_cmp) (λ a b. (name_decides a b).0) (candidate_value m.pattern look) who value (at same_value name_cmp m.right) (at same_value name_cmp index) w is changed c) ∙ h c;
     agrees = λ before. record {
       rows = before.rows;
-      names = agrees_changed (eq_by_cmp name_cmp) (λ a b. (name_decides a b).0) (candidate_value (join_keys m.pattern) look) who value (at same_value name_cmp m.right) (at same_value name_cmp index) w is changed before.names;
+      names = agrees_changed (eq_by_cmp name_cmp) (λ a b. (name_decides a b).0) (candidate_value m.pattern look) who value (at same_value name_cmp m.right) (at same_value name_cmp index) w is changed before.names;
     };
   }
 

@@ -16,7 +16,11 @@ use Rattle.join_tests.specs.declared.key.JoinKey.{JoinKey}
 use Rattle.join_tests.specs.declared.key.JoinSide.{JoinSide}
 use Rattle.join_tests.specs.declared.key.JoinSide.TheVariants.{Field, Accumulated}
 use Rattle.join_tests.specs.Joins.{Look, is_version, version_at, versions_at, tuple_at, passes_given, joins}
-use Rattle.join_tests.specs.Keys.{join_keys, earlier_value, given_or_true, as_one, row_value, candidate_value}
+use Rattle.join_tests.specs.declared.time_key.TimeKey.{TimeKey}
+use Rattle.join_tests.specs.Keys.{join_keys, earlier_value, given_or_true}
+use Rattle.join_tests.specs.TimeKeys.{time_key}
+use Rattle.join_tests.specs.Slots.{moment_at}
+use Rattle.join_tests.specs.Kept.{kept_under, row_value, candidate_value}
 use Rattle.alpha_memory.specs.JoinIndex.{at}
 use Rattle.pair_memory.specs.Memories.{has_left, has_right}
 use Rattle.pair_memory.specs.Standing.{AlikeOn, MoveLaw}
@@ -31,13 +35,15 @@ module _ (look other : Look) where
   side_alike (Field fact of) row h = ap (λ found. field_of found of) (named_alike row.facts h fact)
   side_alike (Accumulated place) row h = refl
 
-  row_value_alike : (keys : List JoinKey) (row : Row) → AlikeOn look other row.facts → row_value keys look row ≡ row_value keys other row
+  row_value_alike : (p : Pattern) (row : Row) → AlikeOn look other row.facts → row_value p look row ≡ row_value p other row
   unfolding row_value
-  row_value_alike keys row h = λ i. as_one (map (λ (key : JoinKey). given_or_true (side_alike key.side row h i)) keys)
+  row_value_alike p row h =
+      λ i. kept_under (map (λ (key : JoinKey). given_or_true (side_alike key.side row h i)) (join_keys p)) (time_key p) (λ (key : TimeKey). moment_at key.event (named_alike row.facts h key.fact i))
 
-  candidate_value_alike : (keys : List JoinKey) (who : Named) → look who.tag ≡ other who.tag → candidate_value keys look who ≡ candidate_value keys other who
+  candidate_value_alike : (p : Pattern) (who : Named) → look who.tag ≡ other who.tag → candidate_value p look who ≡ candidate_value p other who
   unfolding candidate_value
-  candidate_value_alike keys who h = ap (λ found. as_one (map (λ (key : JoinKey). given_or_true (field_of found key.field)) keys)) h
+  candidate_value_alike p who h =
+      ap (λ found. kept_under (map (λ (key : JoinKey). given_or_true (field_of found key.field)) (join_keys p)) (time_key p) (λ (key : TimeKey). moment_at key.own found)) h
 
   version_alike : (named : Named) → look named.tag ≡ other named.tag → version_at look named ≡ version_at other named
   version_alike named h = ap (option_and_then (λ (f : Fact). cond (is_version named f) (Some f) None)) h
@@ -80,14 +86,14 @@ module _ {K S : Type 0} (kept : Value → K → Option S) (f g : K → Value) (a
 
 pub move_law : (S : Type 0) → MoveLaw S
 move_law S m look other agrees alike =
-    let keys = join_keys m.pattern in
-    let rows_alike : (row : Row) → has_left m look row ≡ true → row_value keys look row ≡ row_value keys other row = λ row e. row_value_alike look other keys row (alike.rows row e) in
-    let names_alike : (who : Named) → has_right m look who ≡ true → candidate_value keys look who ≡ candidate_value keys other who = λ who e. candidate_value_alike look other keys who (alike.names who e) in (
+    let p = m.pattern in
+    let rows_alike : (row : Row) → has_left m look row ≡ true → row_value p look row ≡ row_value p other row = λ row e. row_value_alike look other p row (alike.rows row e) in
+    let names_alike : (who : Named) → has_right m look who ≡ true → candidate_value p look who ≡ candidate_value p other who = λ who e. candidate_value_alike look other p who (alike.names who e) in (
       record {
-        rows = agrees_too (at same_value row_cmp m.left) (row_value keys look) (row_value keys other) agrees.rows rows_alike;
-        names = agrees_too (at same_value name_cmp m.right) (candidate_value keys look) (candidate_value keys other) agrees.names names_alike;
+        rows = agrees_too (at same_value row_cmp m.left) (row_value p look) (row_value p other) agrees.rows rows_alike;
+        names = agrees_too (at same_value name_cmp m.right) (candidate_value p look) (candidate_value p other) agrees.names names_alike;
       },
-      same_kept (at same_value row_cmp m.left) (row_value keys look) (row_value keys other) agrees.rows rows_alike,
-      (λ who. ap is_some (same_kept (at same_value name_cmp m.right) (candidate_value keys look) (candidate_value keys other) agrees.names names_alike who)),
+      same_kept (at same_value row_cmp m.left) (row_value p look) (row_value p other) agrees.rows rows_alike,
+      (λ who. ap is_some (same_kept (at same_value name_cmp m.right) (candidate_value p look) (candidate_value p other) agrees.names names_alike who)),
       (λ row who e f. sym (joins_alike look other m.pattern row who (alike.rows row e) (alike.names who f))),
     )

@@ -9,13 +9,13 @@ use Rattle.row_delta.specs.Rows.{row_cmp}
 use Rattle.row_delta.specs.NameOrder.{name_cmp}
 use Rattle.alpha_memory.specs.JoinIndex.{at}
 use Rattle.join_tests.specs.Joins.{Look, joins}
-use Rattle.join_tests.specs.Keys.{join_keys, row_value, candidate_value}
+use Rattle.join_tests.specs.Kept.{row_value, candidate_value}
 use Rattle.pair_memory.specs.Joined.{joined}
 use Rattle.pair_memory.specs.declared.memories.Memories.{Memories}
 
 -- what is kept beside a left row, looked up under the join value that the row has by these facts
 abbrev pub left_at : {S : Type 0} → Memories S → Look → Row → Option S
-left_at m look row = at same_value row_cmp m.left (row_value (join_keys m.pattern) look row) row
+left_at m look row = at same_value row_cmp m.left (row_value m.pattern look row) row
 
 -- the left row is kept
 abbrev pub has_left : {S : Type 0} → Memories S → Look → Row → Bool
@@ -23,12 +23,12 @@ has_left m look row = is_some (left_at m look row)
 
 -- the candidate is kept
 abbrev pub has_right : {S : Type 0} → Memories S → Look → Named → Bool
-has_right m look who = is_some (at same_value name_cmp m.right (candidate_value (join_keys m.pattern) look who) who)
+has_right m look who = is_some (at same_value name_cmp m.right (candidate_value m.pattern look who) who)
 
 -- what is kept stands under the join value that it has by these facts
 pub record Agrees {S : Type 0} (m : Memories S) (look : Look) : Type 0 where
-  pub rows : (value : Value) (row : Row) → is_some (at same_value row_cmp m.left value row) ≡ true → same_value (row_value (join_keys m.pattern) look row) value ≡ true
-  pub names : (value : Value) (who : Named) → is_some (at same_value name_cmp m.right value who) ≡ true → same_value (candidate_value (join_keys m.pattern) look who) value ≡ true
+  pub rows : (value : Value) (row : Row) → is_some (at same_value row_cmp m.left value row) ≡ true → same_value (row_value m.pattern look row) value ≡ true
+  pub names : (value : Value) (who : Named) → is_some (at same_value name_cmp m.right value who) ≡ true → same_value (candidate_value m.pattern look who) value ≡ true
 
 -- the rows that the pattern makes of what is kept
 abbrev pub made : {S : Type 0} → Memories S → Look → Row → Bool

@@ -6,6 +6,7 @@
 mod inputs;
 pub mod laws;
 mod memories;
+mod merge;
 mod partners;
 
 pub use inputs::names_alone;

@@ -10,18 +10,23 @@ ghost use Rattle.join_tests.specs.Joins.{Look, joins};
 ghost use Rattle.pair_memory.specs.Joined.{joined, has_name};
 ghost use Rattle.pair_memory.specs.Memories.{left_at, has_left, has_right, Keeps};
 ghost use Rattle.pair_memory.specs.Standing.{no_rows, no_names, StandsFor};
+ghost use Rattle.pair_memory.specs.Under.{row_joins, name_joins, stands_in};
+ghost use Rattle.fx_base.specs.Values.{same_value};
+ghost use Rattle.alpha_memory.specs.JoinIndex.{bucket_at};
 
+use crate::merge::merged;
 use crate::partners::{names_passed, rows_passed, with_names, with_rows};
 use alpha_memory::JoinIndex;
 use fx_base::{Facts, NoMemory, Value};
-use join_tests::KeyedPattern;
+use join_tests::{KeyedPattern, Sought};
 use row_delta::{Named, Row};
 use rule_model::Pattern;
 use std::alloc::Global;
 
 /// The rows of the conditions before a node, each with what the node keeps for it, and the candidates of its pattern. What is
-/// kept is looked up under the join value that it has by the facts of the call. A call costs a hash, and the logarithm of
-/// what has the same join value. After a call that was refused memory the memories keep part of what they should.
+/// kept is looked up under the join value that it has by the facts of the call, and for the other side under the one or two
+/// values that are sought. A call costs a hash for each value, and the logarithm of what has the same join value. After a call
+/// that was refused memory the memories keep part of what they should.
 #[derive(Drop)]
 pub struct Memories<S> {
     pattern: KeyedPattern,
@@ -131,7 +136,7 @@ impl<S: Drop> Memories<S> {
     }
 
     /// The rows that a candidate makes with the left rows that are kept, whether it is kept or not. It costs a test of each
-    /// left row with its join value.
+    /// left row with a join value that is sought for it.
     pub fn with_candidate<F: Facts>(
         &self,
         alloc: Global,
@@ -141,15 +146,14 @@ impl<S: Drop> Memories<S> {
         ensures { IfOk result (λ found. (row : Row) → has found.items row
             ≡ joined (joins self.now.pattern (F.map facts.now)) (has_left self.now (F.map facts.now)) (eq_by_cmp name_cmp who) row) }
     {
-        let value = self.pattern.candidate_value(who, facts);
-        match self.left.bucket(value.value()) {
-            Some(bucket) => with_rows(alloc, bucket, &self.pattern, who, facts),
-            None => Ok(Vec::new(alloc)),
+        match self.pattern.rows_sought(who, facts) {
+            Sought::One(value) => self.rows_under(alloc, value.value(), None, who, facts),
+            Sought::Two(first, second) => self.rows_of_both(alloc, &first, &second, who, facts),
         }
     }
 
     /// The rows that a left row makes with the candidates that are kept, whether it is kept or not. It costs a test of each
-    /// candidate with its join value.
+    /// candidate with a join value that is sought for it.
     pub fn with_row<F: Facts>(
         &self,
         alloc: Global,
@@ -159,14 +163,14 @@ impl<S: Drop> Memories<S> {
         ensures { IfOk result (λ found. (r : Row) → has found.items r
             ≡ joined (joins self.now.pattern (F.map facts.now)) (eq_by_cmp row_cmp row.now) (has_right self.now (F.map facts.now)) r) }
     {
-        let value = self.pattern.row_value(row, facts);
-        match self.right.bucket(value.value()) {
-            Some(bucket) => with_names(alloc, bucket, &self.pattern, row, facts),
-            None => Ok(Vec::new(alloc)),
+        match self.pattern.candidates_sought(row, facts) {
+            Sought::One(value) => self.names_under(alloc, value.value(), None, row, facts),
+            Sought::Two(first, second) => self.names_of_both(alloc, &first, &second, row, facts),
         }
     }
 
-    /// The left rows for which a candidate passes, in order. It costs a test of each left row with its join value.
+    /// The left rows for which a candidate passes, in order. It costs a test of each left row with a join value that is sought
+    /// for it, and where two are, the logarithm of what passes.
     pub fn partners<F: Facts>(
         &self,
         alloc: Global,
@@ -176,14 +180,14 @@ impl<S: Drop> Memories<S> {
         ensures rows { IfOk result (λ found. (row : Row) → has found.items row ≡ (has_left self.now (F.map facts.now) row && joins self.now.pattern (F.map facts.now) row who)) }
         ensures in_order { IfOk result (λ found. InOrder found.items) }
     {
-        let value = self.pattern.candidate_value(who, facts);
-        match self.left.bucket(value.value()) {
-            Some(bucket) => rows_passed(alloc, bucket, &self.pattern, who, facts),
-            None => Ok(Vec::new(alloc)),
+        match self.pattern.rows_sought(who, facts) {
+            Sought::One(value) => self.partners_under(alloc, value.value(), None, who, facts),
+            Sought::Two(first, second) => self.partners_of_both(alloc, &first, &second, who, facts),
         }
     }
 
-    /// The candidates that pass for a row, in order. It costs a test of each candidate with its join value.
+    /// The candidates that pass for a row, in order. It costs a test of each candidate with a join value that is sought for it,
+    /// and where two are, the logarithm of what passes.
     pub fn passing<F: Facts>(
         &self,
         alloc: Global,
@@ -193,10 +197,175 @@ impl<S: Drop> Memories<S> {
         ensures names { IfOk result (λ found. (who : Named) → has_name found.items who ≡ (has_right self.now (F.map facts.now) who && joins self.now.pattern (F.map facts.now) row.now who)) }
         ensures in_order { IfOk result (λ found. IsStrictlySortedBy name_cmp found.items) }
     {
-        let value = self.pattern.row_value(row, facts);
-        match self.right.bucket(value.value()) {
-            Some(bucket) => names_passed(alloc, bucket, &self.pattern, row, facts),
+        match self.pattern.candidates_sought(row, facts) {
+            Sought::One(value) => self.passing_under(alloc, value.value(), None, row, facts),
+            Sought::Two(first, second) => self.passing_of_both(alloc, &first, &second, row, facts),
+        }
+    }
+
+    /// The rows that a candidate makes with the left rows that stand under a value, of which those are taken that have the join
+    /// value that is asked for.
+    fn rows_under<F: Facts>(
+        &self,
+        alloc: Global,
+        value: &Value,
+        under: Option<&Value>,
+        who: Named,
+        facts: &F,
+    ) -> Result<Vec<Row>, NoMemory>
+        ensures { IfOk result (λ found. (row : Row) → has found.items row
+            ≡ joined (row_joins self.now.pattern (F.map facts.now) (option_map (λ v. v.now) under.entry))
+            (stands_in row_cmp (bucket_at same_value self.now.left value.now)) (eq_by_cmp name_cmp who) row) }
+    {
+        match self.left.bucket(value) {
+            Some(bucket) => with_rows(alloc, bucket, &self.pattern, who, facts, under),
             None => Ok(Vec::new(alloc)),
         }
+    }
+
+    /// The same for two values, each of which its rows have for their join value.
+    fn rows_of_both<F: Facts>(
+        &self,
+        alloc: Global,
+        first: &Value,
+        second: &Value,
+        who: Named,
+        facts: &F,
+    ) -> Result<Vec<Row>, NoMemory>
+        ensures { IfOk result (λ found. (row : Row) → has found.items row
+            ≡ (joined (row_joins self.now.pattern (F.map facts.now) (Some first.now))
+            (stands_in row_cmp (bucket_at same_value self.now.left first.now)) (eq_by_cmp name_cmp who) row
+            || joined (row_joins self.now.pattern (F.map facts.now) (Some second.now))
+            (stands_in row_cmp (bucket_at same_value self.now.left second.now)) (eq_by_cmp name_cmp who) row)) }
+    {
+        let mut rows = self.rows_under(alloc, first, Some(first), who, facts)?;
+        let mut more = self.rows_under(alloc, second, Some(second), who, facts)?;
+        rows.append(&mut more)?;
+        Ok(rows)
+    }
+
+    /// The rows that a row makes with the candidates that stand under a value, of which those are taken that have the join value
+    /// that is asked for.
+    fn names_under<F: Facts>(
+        &self,
+        alloc: Global,
+        value: &Value,
+        under: Option<&Value>,
+        row: &Row,
+        facts: &F,
+    ) -> Result<Vec<Row>, NoMemory>
+        ensures { IfOk result (λ found. (r : Row) → has found.items r
+            ≡ joined (name_joins self.now.pattern (F.map facts.now) (option_map (λ v. v.now) under.entry))
+            (eq_by_cmp row_cmp row.now) (stands_in name_cmp (bucket_at same_value self.now.right value.now)) r) }
+    {
+        match self.right.bucket(value) {
+            Some(bucket) => with_names(alloc, bucket, &self.pattern, row, facts, under),
+            None => Ok(Vec::new(alloc)),
+        }
+    }
+
+    /// The same for two values, each of which its candidates have for their join value.
+    fn names_of_both<F: Facts>(
+        &self,
+        alloc: Global,
+        first: &Value,
+        second: &Value,
+        row: &Row,
+        facts: &F,
+    ) -> Result<Vec<Row>, NoMemory>
+        ensures { IfOk result (λ found. (r : Row) → has found.items r
+            ≡ (joined (name_joins self.now.pattern (F.map facts.now) (Some first.now))
+            (eq_by_cmp row_cmp row.now) (stands_in name_cmp (bucket_at same_value self.now.right first.now)) r
+            || joined (name_joins self.now.pattern (F.map facts.now) (Some second.now))
+            (eq_by_cmp row_cmp row.now) (stands_in name_cmp (bucket_at same_value self.now.right second.now)) r)) }
+    {
+        let mut rows = self.names_under(alloc, first, Some(first), row, facts)?;
+        let mut more = self.names_under(alloc, second, Some(second), row, facts)?;
+        rows.append(&mut more)?;
+        Ok(rows)
+    }
+
+    /// The left rows that stand under a value for which a candidate passes, in order, of which those are taken that have the join
+    /// value that is asked for.
+    fn partners_under<F: Facts>(
+        &self,
+        alloc: Global,
+        value: &Value,
+        under: Option<&Value>,
+        who: Named,
+        facts: &F,
+    ) -> Result<Vec<Row>, NoMemory>
+        ensures rows { IfOk result (λ found. (row : Row) → has found.items row
+            ≡ (stands_in row_cmp (bucket_at same_value self.now.left value.now) row
+            && row_joins self.now.pattern (F.map facts.now) (option_map (λ v. v.now) under.entry) row who)) }
+        ensures in_order { IfOk result (λ found. InOrder found.items) }
+    {
+        match self.left.bucket(value) {
+            Some(bucket) => rows_passed(alloc, bucket, &self.pattern, who, facts, under),
+            None => Ok(Vec::new(alloc)),
+        }
+    }
+
+    /// The same for two values, each of which its rows have for their join value.
+    fn partners_of_both<F: Facts>(
+        &self,
+        alloc: Global,
+        first: &Value,
+        second: &Value,
+        who: Named,
+        facts: &F,
+    ) -> Result<Vec<Row>, NoMemory>
+        ensures rows { IfOk result (λ found. (row : Row) → has found.items row
+            ≡ ((stands_in row_cmp (bucket_at same_value self.now.left first.now) row
+            && row_joins self.now.pattern (F.map facts.now) (Some first.now) row who)
+            || (stands_in row_cmp (bucket_at same_value self.now.left second.now) row
+            && row_joins self.now.pattern (F.map facts.now) (Some second.now) row who))) }
+        ensures in_order { IfOk result (λ found. InOrder found.items) }
+    {
+        let rows = self.partners_under(alloc, first, Some(first), who, facts)?;
+        let more = self.partners_under(alloc, second, Some(second), who, facts)?;
+        merged(alloc, rows, more)
+    }
+
+    /// The candidates that stand under a value and pass for a row, in order, of which those are taken that have the join value
+    /// that is asked for.
+    fn passing_under<F: Facts>(
+        &self,
+        alloc: Global,
+        value: &Value,
+        under: Option<&Value>,
+        row: &Row,
+        facts: &F,
+    ) -> Result<Vec<Named>, NoMemory>
+        ensures names { IfOk result (λ found. (who : Named) → has_name found.items who
+            ≡ (stands_in name_cmp (bucket_at same_value self.now.right value.now) who
+            && name_joins self.now.pattern (F.map facts.now) (option_map (λ v. v.now) under.entry) row.now who)) }
+        ensures in_order { IfOk result (λ found. IsStrictlySortedBy name_cmp found.items) }
+    {
+        match self.right.bucket(value) {
+            Some(bucket) => names_passed(alloc, bucket, &self.pattern, row, facts, under),
+            None => Ok(Vec::new(alloc)),
+        }
+    }
+
+    /// The same for two values, each of which its candidates have for their join value.
+    fn passing_of_both<F: Facts>(
+        &self,
+        alloc: Global,
+        first: &Value,
+        second: &Value,
+        row: &Row,
+        facts: &F,
+    ) -> Result<Vec<Named>, NoMemory>
+        ensures names { IfOk result (λ found. (who : Named) → has_name found.items who
+            ≡ ((stands_in name_cmp (bucket_at same_value self.now.right first.now) who
+            && name_joins self.now.pattern (F.map facts.now) (Some first.now) row.now who)
+            || (stands_in name_cmp (bucket_at same_value self.now.right second.now) who
+            && name_joins self.now.pattern (F.map facts.now) (Some second.now) row.now who))) }
+        ensures in_order { IfOk result (λ found. IsStrictlySortedBy name_cmp found.items) }
+    {
+        let names = self.passing_under(alloc, first, Some(first), row, facts)?;
+        let more = self.passing_under(alloc, second, Some(second), row, facts)?;
+        merged(alloc, names, more)
     }
 }

@@ -1,4 +1,4 @@
-ghost use Rattle.std.specs.Prelude.{◌≡◌, ◌&&◌, ◌||◌, ◌++◌, [], ◌∷◌, filter, IfOk, OnOk};
+ghost use Rattle.std.specs.Prelude.{◌≡◌, ◌&&◌, ◌||◌, ◌++◌, [], ◌∷◌, filter, cond, option_map, IfOk, OnOk};
 ghost use Rattle.std.specs.Option.{is_some};
 ghost use Rattle.std.specs.Ordering.{eq_by_cmp};
 ghost use Rattle.row_delta.specs.declared.row.Row.{Row};
@@ -6,15 +6,72 @@ ghost use Rattle.row_delta.specs.declared.row.Named.{Named};
 ghost use Rattle.row_delta.specs.Rows.{has, row_cmp};
 ghost use Rattle.row_delta.specs.NameOrder.{name_cmp};
 ghost use Rattle.alpha_memory.specs.Bucket.{found};
-ghost use Rattle.join_tests.specs.Joins.{joins};
+ghost use Rattle.join_tests.specs.Kept.{row_value, candidate_value};
 ghost use Rattle.pair_memory.specs.Joined.{with_name, joined, has_name};
+ghost use Rattle.pair_memory.specs.Under.{is_under, row_joins, name_joins};
 ghost use Rattle.std.specs.List.Sorted.{IsStrictlySortedBy};
 
 use alpha_memory::Bucket;
-use fx_base::{Copies, Facts, NoMemory, Seq};
+use fx_base::{Copies, Facts, NoMemory, Seq, Value};
 use join_tests::KeyedPattern;
 use row_delta::{Named, Row};
 use std::alloc::Global;
+
+/// Whether a row has the join value that is asked for, where one is. Takes no memory.
+fn is_row_under<F: Facts>(
+    pattern: &KeyedPattern,
+    row: &Row,
+    facts: &F,
+    under: Option<&Value>,
+) -> bool
+    ensures { result ≡ is_under (option_map (λ v. v.now) under.entry) (row_value pattern.now (F.map facts.now) row.now) }
+{
+    match under {
+        Some(under) => pattern.row_value(row, facts).value().same(under),
+        None => true,
+    }
+}
+
+/// Whether a candidate has the join value that is asked for, where one is. Takes no memory.
+fn is_name_under<F: Facts>(
+    pattern: &KeyedPattern,
+    who: Named,
+    facts: &F,
+    under: Option<&Value>,
+) -> bool
+    ensures { result ≡ is_under (option_map (λ v. v.now) under.entry) (candidate_value pattern.now (F.map facts.now) who) }
+{
+    match under {
+        Some(under) => pattern.candidate_value(who, facts).value().same(under),
+        None => true,
+    }
+}
+
+/// Whether a candidate joins a row that has the join value which is asked for.
+fn does_row_join<F: Facts>(
+    pattern: &KeyedPattern,
+    row: &Row,
+    who: Named,
+    facts: &F,
+    under: Option<&Value>,
+) -> bool
+    ensures { result ≡ row_joins pattern.now (F.map facts.now) (option_map (λ v. v.now) under.entry) row.now who }
+{
+    pattern.joins(row, who, facts) && is_row_under(pattern, row, facts, under)
+}
+
+/// Whether a candidate that has the join value which is asked for joins a row.
+fn does_name_join<F: Facts>(
+    pattern: &KeyedPattern,
+    row: &Row,
+    who: Named,
+    facts: &F,
+    under: Option<&Value>,
+) -> bool
+    ensures { result ≡ name_joins pattern.now (F.map facts.now) (option_map (λ v. v.now) under.entry) row.now who }
+{
+    pattern.joins(row, who, facts) && is_name_under(pattern, who, facts, under)
+}
 
 /// The row with one fact more.
 fn row_with(alloc: Global, row: &Row, who: Named) -> Result<Row, NoMemory>
@@ -30,63 +87,71 @@ fn row_with(alloc: Global, row: &Row, who: Named) -> Result<Row, NoMemory>
 }
 
 /// Adds the row with one fact more to these rows, where the fact joins it.
-fn add_row<F: Facts>(
+fn add_row(
     rows: &mut Vec<Row>,
     alloc: Global,
-    pattern: &KeyedPattern,
     row: &Row,
     who: Named,
-    facts: &F,
+    joins: bool,
 ) -> Result<(), NoMemory>
-    ensures { OnOk result ((r : Row) → has rows.new.items r
-        ≡ (has rows.old.items r || (eq_by_cmp row_cmp r (with_name row.now who) && joins pattern.now (F.map facts.now) row.now who))) }
+    ensures { OnOk result ((r : Row) → has rows.new.items r ≡ (has rows.old.items r || (eq_by_cmp row_cmp r (with_name row.now who) && joins))) }
 {
-    if pattern.joins(row, who, facts) {
+    if joins {
         rows.push(row_with(alloc, row, who)?)?;
     }
     Ok(())
 }
 
-/// The rows that a candidate makes with the rows of a bucket.
+/// The rows that a candidate makes with the rows of a bucket which have the join value that is asked for.
 pub(crate) fn with_rows<S, F: Facts>(
     alloc: Global,
     bucket: &Bucket<Row, S>,
     pattern: &KeyedPattern,
     who: Named,
     facts: &F,
+    under: Option<&Value>,
 ) -> Result<Vec<Row>, NoMemory>
     ensures { IfOk result (λ rows. (row : Row) → has rows.items row
-        ≡ joined (joins pattern.now (F.map facts.now)) (λ l. is_some (found row_cmp bucket.now l)) (eq_by_cmp name_cmp who) row) }
+        ≡ joined (row_joins pattern.now (F.map facts.now) (option_map (λ v. v.now) under.entry)) (λ l. is_some (found row_cmp bucket.now l)) (eq_by_cmp name_cmp who) row) }
 {
     let mut rows = Vec::new(alloc);
     match bucket {
-        Bucket::One(row, _) => add_row(&mut rows, alloc, pattern, row, who, facts)?,
+        Bucket::One(row, _) => {
+            let joins = does_row_join(pattern, row, who, facts, under);
+            add_row(&mut rows, alloc, row, who, joins)?;
+        }
         Bucket::Many(ordered) => {
             for row in ordered.keys() {
-                add_row(&mut rows, alloc, pattern, row, who, facts)?;
+                let joins = does_row_join(pattern, row, who, facts, under);
+                add_row(&mut rows, alloc, row, who, joins)?;
             }
         }
     }
     Ok(rows)
 }
 
-/// The rows that a row makes with the candidates of a bucket.
+/// The rows that a row makes with the candidates of a bucket which have the join value that is asked for.
 pub(crate) fn with_names<F: Facts>(
     alloc: Global,
     bucket: &Bucket<Named, ()>,
     pattern: &KeyedPattern,
     row: &Row,
     facts: &F,
+    under: Option<&Value>,
 ) -> Result<Vec<Row>, NoMemory>
     ensures { IfOk result (λ rows. (r : Row) → has rows.items r
-        ≡ joined (joins pattern.now (F.map facts.now)) (eq_by_cmp row_cmp row.now) (λ c. is_some (found name_cmp bucket.now c)) r) }
+        ≡ joined (name_joins pattern.now (F.map facts.now) (option_map (λ v. v.now) under.entry)) (eq_by_cmp row_cmp row.now) (λ c. is_some (found name_cmp bucket.now c)) r) }
 {
     let mut rows = Vec::new(alloc);
     match bucket {
-        Bucket::One(who, ()) => add_row(&mut rows, alloc, pattern, row, *who, facts)?,
+        Bucket::One(who, ()) => {
+            let joins = does_name_join(pattern, row, *who, facts, under);
+            add_row(&mut rows, alloc, row, *who, joins)?;
+        }
         Bucket::Many(ordered) => {
             for who in ordered.keys() {
-                add_row(&mut rows, alloc, pattern, row, *who, facts)?;
+                let joins = does_name_join(pattern, row, *who, facts, under);
+                add_row(&mut rows, alloc, row, *who, joins)?;
             }
         }
     }
@@ -94,39 +159,38 @@ pub(crate) fn with_names<F: Facts>(
 }
 
 /// Adds a copy of the row to these rows, where a candidate passes for it.
-fn add_passed<F: Facts>(
-    rows: &mut Vec<Row>,
-    alloc: Global,
-    pattern: &KeyedPattern,
-    row: &Row,
-    who: Named,
-    facts: &F,
-) -> Result<(), NoMemory>
-    ensures { OnOk result (rows.new.items ≡ rows.old.items ++ filter (λ r. joins pattern.now (F.map facts.now) r who) (row.now ∷ [])) }
+fn add_passed(rows: &mut Vec<Row>, alloc: Global, row: &Row, joins: bool) -> Result<(), NoMemory>
+    ensures { OnOk result (rows.new.items ≡ rows.old.items ++ cond joins (row.now ∷ []) []) }
 {
-    if pattern.joins(row, who, facts) {
+    if joins {
         rows.push(row.copy(alloc)?)?;
     }
     Ok(())
 }
 
-/// The rows of a bucket for which a candidate passes.
+/// The rows of a bucket for which a candidate passes, and which have the join value that is asked for.
 pub(crate) fn rows_passed<S, F: Facts>(
     alloc: Global,
     bucket: &Bucket<Row, S>,
     pattern: &KeyedPattern,
     who: Named,
     facts: &F,
+    under: Option<&Value>,
 ) -> Result<Vec<Row>, NoMemory>
-    ensures rows { IfOk result (λ rows. (row : Row) → has rows.items row ≡ (is_some (found row_cmp bucket.now row) && joins pattern.now (F.map facts.now) row who)) }
+    ensures rows { IfOk result (λ rows. (row : Row) → has rows.items row
+        ≡ (is_some (found row_cmp bucket.now row) && row_joins pattern.now (F.map facts.now) (option_map (λ v. v.now) under.entry) row who)) }
     ensures in_order { IfOk result (λ rows. IsStrictlySortedBy row_cmp rows.items) }
 {
     let mut rows = Vec::new(alloc);
     match bucket {
-        Bucket::One(row, _) => add_passed(&mut rows, alloc, pattern, row, who, facts)?,
+        Bucket::One(row, _) => {
+            let joins = does_row_join(pattern, row, who, facts, under);
+            add_passed(&mut rows, alloc, row, joins)?;
+        }
         Bucket::Many(ordered) => {
             for row in ordered.keys() {
-                add_passed(&mut rows, alloc, pattern, row, who, facts)?;
+                let joins = does_row_join(pattern, row, who, facts, under);
+                add_passed(&mut rows, alloc, row, joins)?;
             }
         }
     }
@@ -134,38 +198,38 @@ pub(crate) fn rows_passed<S, F: Facts>(
 }
 
 /// Adds the candidate to these candidates, where it passes for a row.
-fn add_passing<F: Facts>(
-    names: &mut Vec<Named>,
-    pattern: &KeyedPattern,
-    row: &Row,
-    who: Named,
-    facts: &F,
-) -> Result<(), NoMemory>
-    ensures { OnOk result (names.new.items ≡ names.old.items ++ filter (joins pattern.now (F.map facts.now) row.now) (who ∷ [])) }
+fn add_passing(names: &mut Vec<Named>, who: Named, joins: bool) -> Result<(), NoMemory>
+    ensures { OnOk result (names.new.items ≡ names.old.items ++ cond joins (who ∷ []) []) }
 {
-    if pattern.joins(row, who, facts) {
+    if joins {
         names.push(who)?;
     }
     Ok(())
 }
 
-/// The candidates of a bucket that pass for a row.
+/// The candidates of a bucket that pass for a row, and have the join value that is asked for.
 pub(crate) fn names_passed<F: Facts>(
     alloc: Global,
     bucket: &Bucket<Named, ()>,
     pattern: &KeyedPattern,
     row: &Row,
     facts: &F,
+    under: Option<&Value>,
 ) -> Result<Vec<Named>, NoMemory>
-    ensures names { IfOk result (λ names. (who : Named) → has_name names.items who ≡ (is_some (found name_cmp bucket.now who) && joins pattern.now (F.map facts.now) row.now who)) }
+    ensures names { IfOk result (λ names. (who : Named) → has_name names.items who
+        ≡ (is_some (found name_cmp bucket.now who) && name_joins pattern.now (F.map facts.now) (option_map (λ v. v.now) under.entry) row.now who)) }
     ensures in_order { IfOk result (λ names. IsStrictlySortedBy name_cmp names.items) }
 {
     let mut names = Vec::new(alloc);
     match bucket {
-        Bucket::One(who, ()) => add_passing(&mut names, pattern, row, *who, facts)?,
+        Bucket::One(who, ()) => {
+            let joins = does_name_join(pattern, row, *who, facts, under);
+            add_passing(&mut names, *who, joins)?;
+        }
         Bucket::Many(ordered) => {
             for who in ordered.keys() {
-                add_passing(&mut names, pattern, row, *who, facts)?;
+                let joins = does_name_join(pattern, row, *who, facts, under);
+                add_passing(&mut names, *who, joins)?;
             }
         }
     }

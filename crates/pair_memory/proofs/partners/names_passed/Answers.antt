@@ -1,28 +1,30 @@
-use Rattle.std.proofs.Common.{◌≡◌, ◌∙◌, sym, ap, subst, arith, List, [], ◌∷◌, ◌++◌, ◌&&◌, Vec, Global}
+use Rattle.std.proofs.Common.{cond, ◌≡◌, ◌∙◌, sym, ap, subst, arith, List, [], ◌∷◌, ◌++◌, ◌&&◌, Vec, Global}
 use Rattle.std.proofs.lemmas.Grind.{common_steps}
 use Rattle.std.proofs.lemmas.List.Kept.{IsStrictlySortedBy-filter}
 use Rattle.std.proofs.lemmas.Map.Made.{is_member-filter, is_some-lookup}
 use Rattle.std.specs.BTreeMap.{is_at}
 use Rattle.std.specs.List.{filter}
+use Rattle.std.specs.Option.{option_map}
 use Rattle.std.specs.List.Sorted.{IsStrictlySortedBy}
 use Rattle.std.specs.Map.{keys_of}
 use Rattle.row_delta.specs.declared.row.Named.{Named}
 use Rattle.row_delta.specs.NameOrder.{name_cmp, name_equiv}
 use Rattle.alpha_memory.specs.Bucket.{entries}
 use Rattle.alpha_memory.specs.declared.bucket.Bucket.{Bucket}
-use Rattle.join_tests.specs.Joins.{joins}
+use Rattle.pair_memory.specs.Under.{name_joins}
 use Rattle.pair_memory.specs.Joined.{has_name}
 use Rattle.pair_memory.proofs.Joining.{name_decides}
 use Rattle.pair_memory.proofs.partners.names_passed.Goals as goal
 use Rattle.pair_memory.proofs.partners.names_passed.Goals.{in-One+in_ok-add_passing-in-One, in-Many+in-None}
 
-all : (g : _) (c : goal.Joined-bucket g) → c.match-bucket.names.items ≡ filter (joins c.args.pattern.now (g.F.Facts.map c.args.facts.now) c.args.row.now) (keys_of (entries c.args.bucket.now))
+all : (g : _) (c : goal.Joined-bucket g) → c.match-bucket.names.items ≡ filter (name_joins c.args.pattern.now (g.F.Facts.map c.args.facts.now) (option_map (λ v. v.now) c.args.under) c.args.row.now) (keys_of (entries c.args.bucket.now))
 all g c =
-    let test = (joins c.args.pattern.now (g.F.Facts.map c.args.facts.now) c.args.row.now) in
+    let test = (name_joins c.args.pattern.now (g.F.Facts.map c.args.facts.now) (option_map (λ v. v.now) c.args.under) c.args.row.now) in
     elim c.match-bucket.branch [
       | in-One+in_ok-add_passing-in-One w ↦
           ap (λ (v : Vec Named Global). v.items) w.names-is
           ∙ w.in_ok-add_passing-in-One.ensures
+          ∙ ap (λ joins. c.new-names.result.items ++ cond joins (w.in-One.who ∷ []) []) w.does_name_join-joins.ensures
           ∙ ap (λ (names : List Named). names ++ filter test (w.in-One.who ∷ [])) c.new-names.ensures.items
           ∙ ap (λ (b : Bucket Named (Unit {0})). filter test (keys_of (entries b))) (sym w.in-One.is)
       | in-Many+in-None w ↦ grind (arith, common_steps)
@@ -38,7 +40,7 @@ keys_sorted g c =
 
 pub returns-clause-names : goal.returns-clause-names
 returns-clause-names g c who =
-    let test = (joins c.args.pattern.now (g.F.Facts.map c.args.facts.now) c.args.row.now) in
+    let test = (name_joins c.args.pattern.now (g.F.Facts.map c.args.facts.now) (option_map (λ v. v.now) c.args.under) c.args.row.now) in
     ap (λ (list : List Named). has_name list who) (all g c)
     ∙ is_member-filter name_equiv test who (λ x e. ap test ((name_decides who x).0 e)) (keys_of (entries c.args.bucket.now))
     ∙ ap (λ b. b && test who) (sym (is_some-lookup (is_at (name_cmp who)) (entries c.args.bucket.now)))
@@ -46,4 +48,4 @@ returns-clause-names g c who =
 pub returns-clause-in_order : goal.returns-clause-in_order
 returns-clause-in_order g c =
     subst (IsStrictlySortedBy name_cmp) (sym (all g c))
-    (IsStrictlySortedBy-filter name_cmp (joins c.args.pattern.now (g.F.Facts.map c.args.facts.now) c.args.row.now) (keys_of (entries c.args.bucket.now)) (keys_sorted g c))
+    (IsStrictlySortedBy-filter name_cmp (name_joins c.args.pattern.now (g.F.Facts.map c.args.facts.now) (option_map (λ v. v.now) c.args.under) c.args.row.now) (keys_of (entries c.args.bucket.now)) (keys_sorted g c))

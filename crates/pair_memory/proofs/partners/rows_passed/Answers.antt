@@ -1,9 +1,10 @@
-use Rattle.std.proofs.Common.{◌≡◌, ◌∙◌, sym, ap, subst, arith, List, [], ◌∷◌, ◌++◌, ◌&&◌, Vec, Global}
+use Rattle.std.proofs.Common.{cond, ◌≡◌, ◌∙◌, sym, ap, subst, arith, List, [], ◌∷◌, ◌++◌, ◌&&◌, Vec, Global}
 use Rattle.std.proofs.lemmas.Grind.{common_steps}
 use Rattle.std.proofs.lemmas.List.Kept.{IsStrictlySortedBy-filter}
 use Rattle.std.proofs.lemmas.Map.Made.{is_member-filter, is_some-lookup}
 use Rattle.std.specs.BTreeMap.{is_at}
 use Rattle.std.specs.List.{filter}
+use Rattle.std.specs.Option.{option_map}
 use Rattle.std.specs.List.Sorted.{IsStrictlySortedBy}
 use Rattle.std.specs.Map.{keys_of}
 use Rattle.row_delta.specs.declared.row.Row.{Row}
@@ -11,18 +12,19 @@ use Rattle.row_delta.specs.Rows.{row_cmp, has}
 use Rattle.row_delta.specs.RowOrder.{same_equiv}
 use Rattle.alpha_memory.specs.Bucket.{entries}
 use Rattle.alpha_memory.specs.declared.bucket.Bucket.{Bucket}
-use Rattle.join_tests.specs.Joins.{joins}
+use Rattle.pair_memory.specs.Under.{row_joins}
 use Rattle.pair_memory.proofs.Joining.{row_decides}
 use Rattle.pair_memory.proofs.partners.rows_passed.Goals as goal
 use Rattle.pair_memory.proofs.partners.rows_passed.Goals.{in-One+in_ok-add_passed-in-One, in-Many+in-None}
 
-all : (g : _) (c : goal.Joined-bucket g) → c.match-bucket.rows.items ≡ filter (λ (r : Row). joins c.args.pattern.now (g.F.Facts.map c.args.facts.now) r c.args.who) (keys_of (entries c.args.bucket.now))
+all : (g : _) (c : goal.Joined-bucket g) → c.match-bucket.rows.items ≡ filter (λ (r : Row). row_joins c.args.pattern.now (g.F.Facts.map c.args.facts.now) (option_map (λ v. v.now) c.args.under) r c.args.who) (keys_of (entries c.args.bucket.now))
 all g c =
-    let test = (λ (r : Row). joins c.args.pattern.now (g.F.Facts.map c.args.facts.now) r c.args.who) in
+    let test = (λ (r : Row). row_joins c.args.pattern.now (g.F.Facts.map c.args.facts.now) (option_map (λ v. v.now) c.args.under) r c.args.who) in
     elim c.match-bucket.branch [
       | in-One+in_ok-add_passed-in-One w ↦
           ap (λ (v : Vec Row Global). v.items) w.rows-is
           ∙ w.in_ok-add_passed-in-One.ensures
+          ∙ ap (λ joins. c.new-rows.result.items ++ cond joins (w.in-One.row ∷ []) []) w.does_row_join-joins.ensures
           ∙ ap (λ (rows : List Row). rows ++ filter test (w.in-One.row ∷ [])) c.new-rows.ensures.items
           ∙ ap (λ (b : Bucket Row g.row.S.Denot). filter test (keys_of (entries b))) (sym w.in-One.is)
       | in-Many+in-None w ↦ grind (arith, common_steps)
@@ -38,7 +40,7 @@ keys_sorted g c =
 
 pub returns-clause-rows : goal.returns-clause-rows
 returns-clause-rows g c row =
-    let test = (λ (r : Row). joins c.args.pattern.now (g.F.Facts.map c.args.facts.now) r c.args.who) in
+    let test = (λ (r : Row). row_joins c.args.pattern.now (g.F.Facts.map c.args.facts.now) (option_map (λ v. v.now) c.args.under) r c.args.who) in
     ap (λ (list : List Row). has list row) (all g c)
     ∙ is_member-filter same_equiv test row (λ x e. ap test ((row_decides row x).0 e)) (keys_of (entries c.args.bucket.now))
     ∙ ap (λ b. b && test row) (sym (is_some-lookup (is_at (row_cmp row)) (entries c.args.bucket.now)))
@@ -46,4 +48,4 @@ returns-clause-rows g c row =
 pub returns-clause-in_order : goal.returns-clause-in_order
 returns-clause-in_order g c =
     subst (IsStrictlySortedBy row_cmp) (sym (all g c))
-    (IsStrictlySortedBy-filter row_cmp (λ (r : Row). joins c.args.pattern.now (g.F.Facts.map c.args.facts.now) r c.args.who) (keys_of (entries c.args.bucket.now)) (keys_sorted g c))
+    (IsStrictlySortedBy-filter row_cmp (λ (r : Row). row_joins c.args.pattern.now (g.F.Facts.map c.args.facts.now) (option_map (λ v. v.now) c.args.under) r c.args.who) (keys_of (entries c.args.bucket.now)) (keys_sorted g c))

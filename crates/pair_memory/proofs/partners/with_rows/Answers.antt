@@ -1,12 +1,12 @@
 use Rattle.std.proofs.Common.{◌∙◌, sym, ap, List, Vec, Global, ◌&&◌, ◌||◌}
-use Rattle.std.specs.Option.{is_some}
+use Rattle.std.specs.Option.{is_some, option_map}
 use Rattle.std.specs.Ordering.{eq_by_cmp}
 use Rattle.row_delta.specs.declared.row.Row.{Row}
 use Rattle.row_delta.specs.Rows.{has, row_cmp}
 use Rattle.row_delta.specs.NameOrder.{name_cmp}
 use Rattle.alpha_memory.specs.Bucket.{found}
 use Rattle.alpha_memory.specs.declared.bucket.Bucket.{Bucket}
-use Rattle.join_tests.specs.Joins.{joins}
+use Rattle.pair_memory.specs.Under.{row_joins}
 use Rattle.pair_memory.specs.Joined.{with_name, joined}
 use Rattle.pair_memory.proofs.Joining.{more_rows, one_more, one_row, rows_begin, rows_end}
 use Rattle.pair_memory.proofs.partners.with_rows.Goals as goal
@@ -14,25 +14,28 @@ use Rattle.pair_memory.proofs.partners.with_rows.Goals.{in-One+in_ok-add_row-in-
 
 pub loop-row-init : goal.loop-row-init
 loop-row-init g c r =
-    rows_begin (joins c.args.pattern.now (g.F.Facts.map c.args.facts.now)) c.new-rows.result.items r c.into_iter-row-iterator.result _ (eq_by_cmp name_cmp c.args.who) c.new-rows.ensures.items
+    rows_begin (row_joins c.args.pattern.now (g.F.Facts.map c.args.facts.now) (option_map (λ v. v.now) c.args.under)) c.new-rows.result.items r c.into_iter-row-iterator.result _ (eq_by_cmp name_cmp c.args.who) c.new-rows.ensures.items
     (λ q.
     ap (λ (b : Bucket Row g.row.S.Denot). is_some (found row_cmp b q)) c.in-Many.is
     ∙ c.keys-row-items.ensures.has q ∙ ap (λ (rows : List Row). has rows q) (sym c.into_iter-row-iterator.ensures.into_iter_gives))
 
 pub loop-row-preserved : goal.loop-row-preserved
 loop-row-preserved g c r =
-    let pass = joins c.args.pattern.now (g.F.Facts.map c.args.facts.now) in
+    let pass = row_joins c.args.pattern.now (g.F.Facts.map c.args.facts.now) (option_map (λ v. v.now) c.args.under) in
     one_more _ _ _ _ _ _
     (ap (λ (rows : List Row). joined pass (has rows) (eq_by_cmp name_cmp c.args.who) r) c.in-Some.ensures.steps ∙ more_rows pass c.in-Some.row.now c.next.new.self c.args.who r)
-    (c.loop-row.invariant r) (c.in_ok-add_row-in-Many.ensures r)
+    (c.loop-row.invariant r)
+    (c.in_ok-add_row-in-Many.ensures r
+    ∙ ap (λ joins. has c.loop-row.rows.items r || (eq_by_cmp row_cmp r (with_name c.in-Some.row.now c.args.who) && joins)) c.does_row_join-joins-in-loop-row.ensures)
 
 pub returns : goal.returns
 returns g c r =
-    let pass = joins c.args.pattern.now (g.F.Facts.map c.args.facts.now) in
+    let pass = row_joins c.args.pattern.now (g.F.Facts.map c.args.facts.now) (option_map (λ v. v.now) c.args.under) in
     elim c.match-bucket.branch [
       | in-One+in_ok-add_row-in-One w ↦
           ap (λ (v : Vec Row Global). has v.items r) w.rows-is
           ∙ w.in_ok-add_row-in-One.ensures r
+          ∙ ap (λ joins. has c.new-rows.result.items r || (eq_by_cmp row_cmp r (with_name w.in-One.row c.args.who) && joins)) w.does_row_join-joins.ensures
           ∙ ap (λ (rows : List Row). has rows r || (eq_by_cmp row_cmp r (with_name w.in-One.row c.args.who) && pass w.in-One.row c.args.who)) c.new-rows.ensures.items
           ∙ one_row pass w.in-One.row c.args.who _ r
           ∙ ap (λ (b : Bucket Row g.row.S.Denot). joined pass (λ l. is_some (found row_cmp b l)) (eq_by_cmp name_cmp c.args.who) r) (sym w.in-One.is)

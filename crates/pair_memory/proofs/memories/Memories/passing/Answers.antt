@@ -1,24 +1,16 @@
-use Rattle.std.proofs.Common.{◌∙◌, ap, List, None, Some}
+use Rattle.std.proofs.Common.{◌∙◌, sym, ap, [], ◌∷◌}
 use Rattle.std.proofs.lemmas.Result.{IfOk-weaker}
-use Rattle.row_delta.specs.declared.row.Named.{Named}
-use Rattle.row_delta.specs.NameOrder.{name_cmp}
-use Rattle.alpha_memory.specs.Bucket.{entries}
-use Rattle.pair_memory.specs.Joined.{has_name}
-use Rattle.pair_memory.proofs.Found.{passing_in_bucket, nothing_sorted}
+use Rattle.fx_base.specs.declared.value.Value.{Value}
+use Rattle.join_tests.specs.Kept.{all_sought}
+use Rattle.pair_memory.proofs.Found.{passing_alone, passing_both}
 use Rattle.pair_memory.proofs.memories.Memories.passing.Goals as goal
 
-pub returns-in-Some-clause-names : goal.returns-in-Some-clause-names
-returns-in-Some-clause-names g c =
-    IfOk-weaker c.names_passed.result _ _
-    (λ found h n.
-    h n
-    ∙ passing_in_bucket c.args.self.now (g.F.Facts.map c.args.facts.now) c.args.row.now c.value.result.now (c.value.ensures ∙ c.row_value-value.ensures) (Some (entries c.in-Some.bucket.now)) c.in-Some.ensures n)
-    c.names_passed.ensures.names
+pub returns-in-One-clause-names : goal.returns-in-One-clause-names
+returns-in-One-clause-names g c =
+    let is = sym c.candidates_sought.ensures ∙ ap all_sought c.in-One.is ∙ ap (λ (v : Value). v ∷ []) (sym c.value.ensures) in
+    IfOk-weaker c.passing_under.result _ _ (λ found h k. h k ∙ passing_alone c.args.self.now (g.F.Facts.map c.args.facts.now) c.args.row.now c.value.result.now is k) c.passing_under.ensures.names
 
-pub returns-clause-names : goal.returns-clause-names
-returns-clause-names g c n =
-    ap (λ (list : List Named). has_name list n) c.new.ensures.items
-    ∙ passing_in_bucket c.args.self.now (g.F.Facts.map c.args.facts.now) c.args.row.now c.value.result.now (c.value.ensures ∙ c.row_value-value.ensures) None c.in-None.ensures n
-
-pub returns-clause-in_order : goal.returns-clause-in_order
-returns-clause-in_order g c = nothing_sorted name_cmp c.new.result.items c.new.ensures.items
+pub returns-in-Two-clause-names : goal.returns-in-Two-clause-names
+returns-in-Two-clause-names g c =
+    let is = sym c.candidates_sought.ensures ∙ ap all_sought c.in-Two.is in
+    IfOk-weaker c.passing_of_both.result _ _ (λ found h k. h k ∙ passing_both c.args.self.now (g.F.Facts.map c.args.facts.now) c.args.row.now c.in-Two.first c.in-Two.second is k) c.passing_of_both.ensures.names

@@ -1,25 +1,16 @@
-use Rattle.std.proofs.Common.{◌∙◌, sym, ap, refl, false, List, None, Some}
-use Rattle.std.specs.Ordering.{eq_by_cmp}
+use Rattle.std.proofs.Common.{◌∙◌, sym, ap, [], ◌∷◌}
 use Rattle.std.proofs.lemmas.Result.{IfOk-weaker}
-use Rattle.row_delta.specs.declared.row.Row.{Row}
-use Rattle.row_delta.specs.Rows.{row_cmp, has}
-use Rattle.join_tests.specs.Joins.{joins}
-use Rattle.alpha_memory.specs.Bucket.{entries}
-use Rattle.pair_memory.proofs.Joining.{none_right}
-use Rattle.pair_memory.proofs.Found.{names_in_bucket}
+use Rattle.fx_base.specs.declared.value.Value.{Value}
+use Rattle.join_tests.specs.Kept.{all_sought}
+use Rattle.pair_memory.proofs.Found.{names_alone, names_both}
 use Rattle.pair_memory.proofs.memories.Memories.with_row.Goals as goal
 
-pub returns-in-Some : goal.returns-in-Some
-returns-in-Some g c =
-    IfOk-weaker c.with_names.result _ _
-    (λ found h r.
-    h r
-    ∙ names_in_bucket c.args.self.now (g.F.Facts.map c.args.facts.now) c.args.row.now c.value.result.now (c.value.ensures ∙ c.row_value-value.ensures) (Some (entries c.in-Some.bucket.now)) c.in-Some.ensures r)
-    c.with_names.ensures
+pub returns-in-One : goal.returns-in-One
+returns-in-One g c =
+    let is = sym c.candidates_sought.ensures ∙ ap all_sought c.in-One.is ∙ ap (λ (v : Value). v ∷ []) (sym c.value.ensures) in
+    IfOk-weaker c.names_under.result _ _ (λ found h k. h k ∙ names_alone c.args.self.now (g.F.Facts.map c.args.facts.now) c.args.row.now c.value.result.now is k) c.names_under.ensures
 
-pub returns : goal.returns
-returns g c r =
-    let look = g.F.Facts.map c.args.facts.now in
-    ap (λ (rows : List Row). has rows r) c.new.ensures.items
-    ∙ sym (none_right (joins c.args.self.now.pattern look) (eq_by_cmp row_cmp c.args.row.now) (λ n. false) (λ n. refl) r)
-    ∙ names_in_bucket c.args.self.now look c.args.row.now c.value.result.now (c.value.ensures ∙ c.row_value-value.ensures) None c.in-None.ensures r
+pub returns-in-Two : goal.returns-in-Two
+returns-in-Two g c =
+    let is = sym c.candidates_sought.ensures ∙ ap all_sought c.in-Two.is in
+    IfOk-weaker c.names_of_both.result _ _ (λ found h k. h k ∙ names_both c.args.self.now (g.F.Facts.map c.args.facts.now) c.args.row.now c.in-Two.first c.in-Two.second is k) c.names_of_both.ensures

@@ -1,0 +1,36 @@
+//! Lists that are merged into one.
+ghost use Rattle.std.specs.Prelude.{◌≡◌, ◌||◌, IfOk, OnOk};
+ghost use Rattle.std.specs.List.{list_any};
+ghost use Rattle.std.specs.Ordering.{eq_by_cmp};
+ghost use Rattle.std.specs.List.Sorted.{IsStrictlySortedBy};
+
+use fx_base::NoMemory;
+use std::alloc::Global;
+use std::collections::BTreeSet;
+
+/// The elements of two lists, in order, each once. It costs the logarithm of their number for each.
+pub(crate) fn merged<K: Ord + Drop>(
+    alloc: Global,
+    first: Vec<K>,
+    second: Vec<K>,
+) -> Result<Vec<K>, NoMemory>
+    ensures members { IfOk result (λ all. (k : K) → list_any (eq_by_cmp K.cmp k) all.items
+        ≡ (list_any (eq_by_cmp K.cmp k) first.items || list_any (eq_by_cmp K.cmp k) second.items)) }
+    ensures in_order { IfOk result (λ all. IsStrictlySortedBy K.cmp all.items) }
+{
+    let mut all = BTreeSet::new(alloc);
+    put_all(&mut all, first)?;
+    put_all(&mut all, second)?;
+    let merged: Vec<K> = all.into_iter().collect(alloc)?;
+    Ok(merged)
+}
+
+fn put_all<K: Ord + Drop>(all: &mut BTreeSet<K, Global>, keys: Vec<K>) -> Result<(), NoMemory>
+    ensures { OnOk result ((k : K) → list_any (eq_by_cmp K.cmp k) all.new.keys
+        ≡ (list_any (eq_by_cmp K.cmp k) all.old.keys || list_any (eq_by_cmp K.cmp k) keys.items)) }
+{
+    for key in keys {
+        all.insert(key)?;
+    }
+    Ok(())
+}
