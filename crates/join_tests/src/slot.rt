@@ -1,7 +1,5 @@
 //! The slots of time in which rows and candidates are kept and sought.
 ghost use Rattle.std.specs.Prelude.{◌≡◌, option_map};
-ghost use Rattle.rule_model.specs.Tests.{number_given};
-ghost use Rattle.join_tests.specs.Keys.{given_or_true};
 ghost use Rattle.join_tests.specs.Slots.{slot_value, moment_at, first_event, last_event, first_candidate, last_candidate};
 
 use crate::part::number_or_true;
