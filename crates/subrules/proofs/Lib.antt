@@ -1,3 +1,4 @@
 pub mod FieldLaws
 pub mod SizeLaws
 pub mod NestingLaws
+pub mod HierarchyLaws
