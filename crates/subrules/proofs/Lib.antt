@@ -2,3 +2,4 @@ pub mod FieldLaws
 pub mod SizeLaws
 pub mod NestingLaws
 pub mod HierarchyLaws
+pub mod KindLaws
