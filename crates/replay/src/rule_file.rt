@@ -129,10 +129,10 @@ fn expand_refusal(fault: ExpandFault) -> Result<Refusal, NoMemory>
     ensures told { IfOk result (λ refusal. (file : WrittenFile) → IsRefusal file fault → of_obstacle file (obstacle file.items) ≡ Refused refusal) }
 {
     match fault {
-        ExpandFault::Refused { item, line, code } => Ok(Refusal {
-            item,
-            line: u64::from(line),
-            code: RefusalCode::Expanded(code),
+        ExpandFault::Refused(obstacle) => Ok(Refusal {
+            item: obstacle.number,
+            line: u64::from(obstacle.line),
+            code: RefusalCode::Expanded(obstacle.code),
         }),
         ExpandFault::NoMemory => Err(NoMemory),
     }

@@ -1,3 +1,5 @@
 pub mod FieldLaws
 pub mod SizeLaws
 pub mod NestingLaws
+pub mod HierarchyLaws
+pub mod KindLaws

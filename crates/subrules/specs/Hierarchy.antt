@@ -1,5 +1,5 @@
 -- Which types extend which. A name that is declared twice means its first declaration.
-use Rattle.std.specs.Prelude.{ℕ, zero, suc, cond, Bool, true, false, List, [], ◌∷◌, map, length, Option, Some, None, slice_get, option_and_then, option_to_list}
+use Rattle.std.specs.Prelude.{◌≡◌, ℕ, zero, suc, cond, Bool, true, false, List, [], ◌∷◌, map, length, Option, Some, None, slice_get, option_and_then, option_to_list}
 use Rattle.std.specs.List.{filter, flat_map, list_any}
 use Rattle.std.specs.Str.{bytes_eq}
 use Rattle.drl_sight.specs.EntryPoints.{with_names}
@@ -38,6 +38,13 @@ is_named name t = bytes_eq t.name name
 -- the type that a type extends
 abbrev pub parent_of : List WrittenType → WrittenType → Option WrittenType
 parent_of types t = option_and_then (type_named types) t.parent
+
+-- the types above a type: its parent, and of each type above it the parent
+pub data IsAbove (types : List WrittenType) : WrittenType → WrittenType → Type 0 where
+  parent : {u t : WrittenType} → parent_of types t ≡ Some u → IsAbove types u t
+  further : {u v t : WrittenType} → IsAbove types u t → parent_of types u ≡ Some v → IsAbove types v t
+
+-- ---- The same as functions, by which types are written out. `laws` in the code says that both agree.
 
 -- its parent, the parent of that, and so on upward: so many at most
 unfoldable pub ancestors : List WrittenType → ℕ → Option WrittenType → List WrittenType

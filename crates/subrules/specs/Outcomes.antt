@@ -14,7 +14,7 @@ pub record IsExpanded (file : Written) (e : Expanded) : Type 0 where
   pub origins_of_items : e.origins ≡ origins file.items
   pub titles_of_rules : e.titles ≡ titles file.items
 
--- this item is the first that cannot be written out, and this the first code that it has
+-- this is the first item that cannot be written out, with the first code that it has
 abbrev pub IsRefusal : Written → ExpandFault → Type 0
-IsRefusal file (Refused item line code) = obstacle file.items ≡ Some (record { number = item; line = line; code = code })
+IsRefusal file (Refused found) = obstacle file.items ≡ Some found
 IsRefusal file NoMemory = Unit {0}

@@ -156,11 +156,7 @@ pub fn expand(alloc: Global, file: &Written) -> Result<Expanded, ExpandFault>
     let items = file.items.as_slice();
     let types = Hierarchy::of(alloc, items)?;
     match first_obstacle(alloc, &types, items)? {
-        Some(found) => Err(ExpandFault::Refused {
-            item: found.number,
-            line: found.line,
-            code: found.code,
-        }),
+        Some(obstacle) => Err(ExpandFault::Refused(obstacle)),
         None => Ok(written_out(alloc, &types, items)?),
     }
 }

@@ -43,13 +43,9 @@ pub struct Obstacle {
 /// Why a file is not written out.
 #[derive(Clone, Copy, Debug, PartialEq, Eq, Error)]
 pub enum ExpandFault {
-    /// The first item that cannot be written out, by its number counted from 1, its line, and the first code that it has.
-    #[error("item {item} in line {line}: {code:?}")]
-    Refused {
-        item: u64,
-        line: u32,
-        code: ExpandCode,
-    },
+    /// The first item that cannot be written out.
+    #[error("item {number} in line {line}: {code:?}", number = .0.number, line = .0.line, code = .0.code)]
+    Refused(Obstacle),
     #[error("memory was refused")]
     NoMemory,
 }
