@@ -11,6 +11,8 @@ ghost use Rattle.pair_memory.specs.Joined.{joined, has_name};
 ghost use Rattle.pair_memory.specs.Memories.{left_at, has_left, has_right, Keeps};
 ghost use Rattle.pair_memory.specs.Standing.{no_rows, no_names, StandsFor};
 
+mod listing;
+
 use crate::partners::{names_passed, rows_passed, with_names, with_rows};
 use alpha_memory::JoinIndex;
 use fx_base::{Facts, NoMemory, Value};
