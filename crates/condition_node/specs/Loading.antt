@@ -1,0 +1,131 @@
+-- What a node stands for once it is loaded with what is kept, and with extras of what is forgotten; and what it counts of what is forgotten.
+use Rattle.std.specs.Prelude.{◌≡◌, ◌≤ℤ◌, ◌<◌, ◌&&◌, ◌||◌, ◌++◌, ◌↔◌, not, ℕ, ℤ, Bool, true, List, [], map, length, Option, Some, None}
+use Rattle.std.specs.List.{filter}
+use Rattle.std.specs.Option.{is_some}
+use Rattle.fx_base.specs.Lists.{In}
+use Rattle.fx_base.specs.declared.fact.Fact.{Fact}
+use Rattle.fx_base.specs.declared.ids.RuleId.{RuleId}
+use Rattle.fold_fn.specs.Order.{in_rising_order}
+use Rattle.fold_fn.specs.Results.{fold_result}
+use Rattle.row_delta.specs.declared.extra.Extra.{Extra}
+use Rattle.row_delta.specs.declared.row.Named.{Named}
+use Rattle.row_delta.specs.declared.row.Row.{Row}
+use Rattle.row_delta.specs.Rows.{has, InOrder}
+use Rattle.rule_model.specs.declared.condition.Accumulate.{Accumulate}
+use Rattle.rule_model.specs.declared.condition.Condition.{Condition}
+use Rattle.rule_model.specs.declared.condition.Condition.TheVariants.{Plain, Negated, Existing, Folded}
+use Rattle.rule_model.specs.declared.condition.Pattern.{Pattern}
+use Rattle.rule_model.specs.declared.program.Program.{Program}
+use Rattle.rule_model.specs.Distinct.{HaveDistinctTags}
+use Rattle.rule_model.specs.Lent.{bound_in}
+use Rattle.rule_model.specs.Rows.{argument, pattern_of}
+use Rattle.rule_model.specs.Snapshots.{Snapshot, floor}
+use Rattle.rule_model.specs.Tests.{results_hold}
+use Rattle.rule_model.specs.Tuples.{name_of}
+use Rattle.join_tests.specs.Joins.{Look, joins}
+use Rattle.pair_memory.specs.declared.memories.Memories.{Memories}
+use Rattle.pair_memory.specs.Joined.{joined, has_name}
+use Rattle.pair_memory.specs.Standing.{cleaned, no_names, StandsFor}
+use Rattle.pair_memory.specs.Valued.{valued}
+use Rattle.tally_node.specs.Counts.{counts_blockers, counts_witnesses}
+use Rattle.tally_node.specs.Extras.{blockers_laden, witnesses_laden, gathered_laden, rows_of_extras}
+use Rattle.tally_node.specs.Gathers.{gathers}
+use Rattle.tally_node.specs.Laws.{StandsLaden}
+use Rattle.not_node.specs.declared.node.NotNode.{NotNode}
+use Rattle.not_node.specs.Rows.{IsInStep}
+use Rattle.not_node.specs.Waiting.{NoneDue}
+use Rattle.condition_rows.specs.Lines.{is_ripe, is_result}
+use Rattle.condition_rows.specs.Looks.{empty_snapshot, HasAllOf, NameHeld}
+use Rattle.condition_rows.specs.Sets.{held, candidates_of, has_partner, partners}
+use Rattle.condition_node.specs.declared.node.FoldNode.{FoldNode}
+use Rattle.condition_node.specs.declared.node.Node.{Node}
+use Rattle.condition_node.specs.declared.node.Node.TheVariants as node
+
+-- ---- a loaded node
+
+-- the tallies are those of the candidates that pass for each row, and of its extra
+abbrev pub CountsLaden : {T : Type 0} → (T → Look → (Named → Bool) → Type 0) → (T → Look → (Named → Bool) → Extra → Type 0) → Program → Memories T → Look → Look → Snapshot → (Row → Bool) → (Row → Option Extra) → Type 0
+CountsLaden holds laden p m look world s rows extra =
+    StandsLaden holds laden m look world (joins m.pattern (held s)) rows (candidates_of p m.pattern s) extra
+
+-- the node of a `not` waits as one that stands for a snapshot does
+pub record WaitsLaden (p : Program) (waiting : NotNode) (look world : Look) (s : Snapshot) (rows : Row → Bool) (extra : Row → Option Extra) : Type 0 where
+  pub counts : CountsLaden counts_blockers blockers_laden p waiting.tally.memories look world s rows extra
+  pub in_step : IsInStep p look waiting
+  pub none_due : NoneDue waiting.ripening.waiting.keys (floor p s waiting.tally.memories.pattern.entry.0)
+  pub floor : waiting.ripening.floor ≤ℤ floor p s waiting.tally.memories.pattern.entry.0
+
+pub record FoldsLaden (p : Program) (fold : FoldNode) (look world : Look) (s : Snapshot) (rows : Row → Bool) (extra : Row → Option Extra) : Type 0 where
+  pub counts : CountsLaden (gathers fold.accumulate) (gathered_laden fold.accumulate) p fold.tally.memories look world s rows extra
+  pub pattern : fold.tally.memories.pattern ≡ fold.accumulate.pattern
+
+-- The node keeps these rows and the candidates of the snapshot, nothing of which is forgotten; and what it counts or gathers beside each row
+-- is of the candidates, as a world knows them, and of the row's extra.
+abbrev pub Laden : Program → Node → Look → Look → Snapshot → (Row → Bool) → (Row → Option Extra) → Type 0
+Laden p (node.Join join) look world s rows extra = StandsFor join.memories look rows (candidates_of p join.memories.pattern s) no_names
+Laden p (node.Not waiting) look world s rows extra = WaitsLaden p waiting look world s rows extra
+Laden p (node.Exists tally) look world s rows extra = CountsLaden counts_witnesses witnesses_laden p tally.memories look world s rows extra
+Laden p (node.Fold fold) look world s rows extra = FoldsLaden p fold look world s rows extra
+
+-- What is loaded: the rows before the condition, the candidates of the snapshot, which the store has, and extras in the order of their
+-- rows, each of which counts something. `world` has what the store has.
+pub record IsLoad (p : Program) (condition : Condition) (look world : Look) (s : Snapshot) (before : Row → Bool) (left : List Row) (right : List Named) (extras : List Extra) : Type 0 where
+  pub tags : HaveDistinctTags s.facts
+  pub floors : (entry : ℕ) → floor p empty_snapshot entry ≤ℤ floor p s entry
+  pub at_hand : HasAllOf look s no_names
+  pub known : HasAllOf world s no_names
+  pub named : NameHeld s before
+  pub rows : (row : Row) → has left row ≡ before row
+  pub candidates : (who : Named) → has_name right who ≡ candidates_of p (pattern_of condition) s who
+  pub in_order : InOrder (rows_of_extras extras)
+  pub some : (e : Extra) → In e extras → 0 < e.count
+
+-- ---- its rows
+
+-- what an extra gathers
+abbrev pub values_of : Option Extra → List ℤ
+values_of None = []
+values_of (Some e) = e.values
+
+-- the value is the result of the function over the candidates that join the row and these further values, and its tests hold
+unfoldable pub laden_gives : Program → Accumulate → Snapshot → List ℤ → Row → ℤ → Bool
+laden_gives p a s more row v = is_result (fold_result a.kind (map (argument a.arg) (partners p a.pattern s row) ++ more)) v && results_hold (bound_in (held s) row) v a.tests
+
+-- The rows with one condition more, of the rows without it, as `line` of condition_rows has them, where the condition counts and gathers
+-- beside each row what its extra says, beyond the candidates of the snapshot.
+abbrev pub laden_line : Program → Snapshot → (Row → Option Extra) → Condition → (Row → Bool) → Row → Bool
+laden_line p s beyond (Plain pattern) left row = joined (joins pattern (held s)) left (candidates_of p pattern s) row
+laden_line p s beyond (Negated pattern) left row = left row && (not (has_partner p pattern s row || is_some (beyond row)) && is_ripe p pattern s row)
+laden_line p s beyond (Existing pattern) left row = left row && (has_partner p pattern s row || is_some (beyond row))
+laden_line p s beyond (Folded a) left row = valued (λ without v. left without && laden_gives p a s (values_of (beyond without)) without v) row
+
+-- ---- what is counted of forgotten facts
+
+-- the forgotten candidates of a pattern that join a row
+abbrev pub lost_partners : Program → Snapshot → (Named → Bool) → Pattern → Row → List Fact
+lost_partners p s forgotten pattern row = filter (λ (f : Fact). forgotten (name_of f)) (partners p pattern s row)
+
+-- what a condition gathers of facts, rising; one that is no accumulate gathers nothing
+abbrev pub values_gathered : Condition → List Fact → List ℤ
+values_gathered (Folded a) facts = in_rising_order (map (argument a.arg) facts)
+values_gathered c facts = []
+
+-- a condition that binds no fact, and so may count forgotten ones
+abbrev pub IsAside : Condition → Type 0
+IsAside (Plain pattern) = ⊥
+IsAside c = Unit {0}
+
+-- In a snapshot a condition counts forgotten facts beside a row before it that names none: their number, and what it gathers of them.
+pub record IsExtraBeside (p : Program) (of : Condition) (s : Snapshot) (rows : Row → Bool) (forgotten : Named → Bool) (under : RuleId) (place : ℕ) (e : Extra) : Type 0 where
+  pub rule : e.rule ≡ under
+  pub condition : e.condition ≡ place
+  pub aside : IsAside of
+  pub there : cleaned rows forgotten e.row ≡ true
+  pub some : 0 < e.count
+  pub counted : e.count ≡ length (lost_partners p s forgotten (pattern_of of) e.row)
+  pub gathered : e.values ≡ values_gathered of (lost_partners p s forgotten (pattern_of of) e.row)
+
+-- these are all of them, in the order of their rows
+pub record AreExtrasBeside (p : Program) (condition : Condition) (s : Snapshot) (rows : Row → Bool) (forgotten : Named → Bool) (under : RuleId) (place : ℕ) (extras : List Extra) : Type 0 where
+  pub in_order : InOrder (rows_of_extras extras)
+  pub exact : (e : Extra) → In e extras ↔ IsExtraBeside p condition s rows forgotten under place e
