@@ -1,5 +1,5 @@
 -- What is counted beside one left row.
-use Rattle.std.specs.Prelude.{◌≡◌, ◌<◌, ℕ, ℤ, Bool, true, List, Option, IfSome}
+use Rattle.std.specs.Prelude.{◌≡◌, ◌<◌, ℕ, ℤ, Bool, true, List, [], ◌∷◌, Option, Some, None, IfSome}
 use Rattle.fx_base.specs.declared.ids.RuleId.{RuleId}
 use Rattle.row_delta.specs.declared.extra.Extra.{Extra}
 use Rattle.row_delta.specs.declared.row.Named.{Named}
@@ -20,3 +20,8 @@ pub record IsOf (under : RuleId) (place : ℕ) (beside : Row) (e : Extra) : Type
 pub record IsBeside {T : Type 0} (holds : T → Look → (Named → Bool) → Type 0) (gathered : Look → List Named → List ℤ) (m : Memories T) (look : Look) (under : RuleId) (place : ℕ) (beside : Row) (found : Option Extra) : Type 0 where
   pub own : IfSome found (IsOf under place beside)
   pub exact : (world : Look) (others : Row → Named → Bool) → CountsOthers holds m look world others → has_left m look beside ≡ true → IsExtraFor gathered world (others beside) found
+
+-- the extra, where there is one
+abbrev pub one_or_none : Option Extra → List Extra
+one_or_none None = []
+one_or_none (Some e) = e ∷ []

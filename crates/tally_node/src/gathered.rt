@@ -100,6 +100,12 @@ impl Gathered {
     }
 }
 
+fn is_same(a: i64, b: i64) -> bool
+    ensures { result ≡ int_eq a b }
+{
+    a == b
+}
+
 /// The values of a rising list that a rising part of it leaves.
 fn values_beyond(alloc: Global, values: &[i64], part: &[i64]) -> Result<Vec<i64>, NoMemory>
     ensures { IfOk result (λ rest. (xs ys : List ℤ) → values.now ≡ in_rising_order (xs ++ ys) → part.now ≡ in_rising_order xs → rest.items ≡ in_rising_order ys) }
@@ -107,7 +113,7 @@ fn values_beyond(alloc: Global, values: &[i64], part: &[i64]) -> Result<Vec<i64>
     let mut rest = Vec::new(alloc);
     let mut next = 0;
     for value in values {
-        if next < part.len() && part[next] == *value {
+        if next < part.len() && is_same(part[next], *value) {
             next += 1;
         } else {
             rest.push(*value)?;

@@ -1,4 +1,4 @@
-ghost use Rattle.std.specs.Prelude.{◌≡◌, ◌||◌, Option, None, Some, option_map, IfOk, IfSome, OnOk, true};
+ghost use Rattle.std.specs.Prelude.{◌≡◌, ◌||◌, ◌++◌, Option, None, Some, option_map, IfOk, IfSome, OnOk, true};
 ghost use Rattle.std.specs.Ordering.{eq_by_cmp};
 ghost use Rattle.row_delta.specs.declared.extra.Extra.{Extra};
 ghost use Rattle.row_delta.specs.declared.row.Row.{Row};
@@ -12,7 +12,7 @@ ghost use Rattle.pair_memory.specs.Joined.{has_name};
 ghost use Rattle.pair_memory.specs.Memories.{has_left, has_right, Keeps};
 ghost use Rattle.tally_node.specs.Extras.{extra_for, rows_of_extras, IsLaden, AllLaden, AreExtrasOf};
 ghost use Rattle.tally_node.specs.Parts.{PartStep, AllLoaded};
-ghost use Rattle.tally_node.specs.Beside.{IsBeside};
+ghost use Rattle.tally_node.specs.Beside.{IsBeside, one_or_none};
 ghost use Rattle.tally_node.specs.Tallies.{shown, SeeAlike};
 
 use super::{TallyNode, note, tally_of};
@@ -31,6 +31,16 @@ fn extra_of<'e>(extras: &'e [Extra], row: &Row) -> Option<&'e Extra>
         Ok(place) => Some(&extras[place]),
         Err(_) => None,
     }
+}
+
+/// Adds an extra, where there is one.
+fn add_extra(extras: &mut Vec<Extra>, found: Option<Extra>) -> Result<(), NoMemory>
+    ensures { OnOk result (extras.new.items ≡ extras.old.items ++ one_or_none found) }
+{
+    if let Some(extra) = found {
+        extras.push(extra)?;
+    }
+    Ok(())
 }
 
 /// The tally of these candidates, with what an extra counts more, where there is one.
@@ -137,10 +147,9 @@ impl<T: Tally> TallyNode<T> {
     {
         let rows = self.memories.left_rows(alloc)?;
         let mut extras = Vec::new(alloc);
-        for row in rows.as_slice() {
-            if let Some(extra) = self.extra_beside(alloc, plan, rule, condition, row, facts)? {
-                extras.push(extra)?;
-            }
+        for row in &rows {
+            let found = self.extra_beside(alloc, plan, rule, condition, row, facts)?;
+            add_extra(&mut extras, found)?;
         }
         Ok(extras)
     }
