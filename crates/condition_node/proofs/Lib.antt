@@ -8,3 +8,4 @@ pub mod Staying
 pub mod Quietness
 pub mod Still
 pub mod Forgetting
+pub mod Beyond
