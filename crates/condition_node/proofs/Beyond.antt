@@ -18,7 +18,7 @@ use Rattle.row_delta.specs.Rows.{row_cmp, InOrder}
 use Rattle.row_delta.specs.RowOrder.{same_equiv}
 use Rattle.rule_model.specs.declared.condition.Accumulate.{Accumulate}
 use Rattle.rule_model.specs.declared.condition.Condition.{Condition}
-use Rattle.rule_model.specs.declared.condition.Condition.TheVariants.{Folded}
+use Rattle.rule_model.specs.declared.condition.Condition.TheVariants.{Negated, Existing, Folded}
 use Rattle.rule_model.specs.declared.condition.Pattern.{Pattern}
 use Rattle.rule_model.specs.declared.program.Program.{Program}
 use Rattle.rule_model.specs.Distinct.{HaveDistinctTags}
@@ -33,17 +33,24 @@ use Rattle.pair_memory.specs.declared.memories.Memories.{Memories}
 use Rattle.pair_memory.specs.Joined.{has_name}
 use Rattle.pair_memory.specs.Standing.{cleaned}
 use Rattle.pair_memory.proofs.Joining.{row_decides}
-use Rattle.tally_node.specs.Counts.{AreDistinct}
-use Rattle.tally_node.specs.Gathers.{argument_given, argument_of}
+use Rattle.beta_join.specs.declared.join.BetaJoin.{BetaJoin}
+use Rattle.tally_node.specs.declared.count.Witnesses.{Witnesses}
+use Rattle.tally_node.specs.declared.node.TallyNode.{TallyNode}
+use Rattle.tally_node.specs.Counts.{AreDistinct, counts_blockers, counts_witnesses}
+use Rattle.tally_node.specs.Gathers.{argument_given, argument_of, gathers}
 use Rattle.tally_node.specs.Extras.{IsBeyond, IsExtraFor, AreExtrasOf, CountsOthers, extra_for, rows_of_extras, nothing_gathered, arguments_gathered}
 use Rattle.tally_node.specs.Laws.{lost_passing}
 use Rattle.tally_node.proofs.Gathering.{same_values}
 use Rattle.tally_node.proofs.Resuming.{others_law}
+use Rattle.not_node.specs.declared.node.NotNode.{NotNode}
 use Rattle.condition_rows.specs.Looks.{HasAllOf, NameHeld}
 use Rattle.condition_rows.specs.Sets.{held, candidates_of, partners}
 use Rattle.condition_rows.proofs.Holding.{held_all}
 use Rattle.condition_node.specs.Loading.{lost_partners, values_gathered, IsAside, IsExtraBeside, AreExtrasBeside}
-use Rattle.condition_node.specs.Nodes.{Counts}
+use Rattle.condition_node.specs.declared.node.FoldNode.{FoldNode}
+use Rattle.condition_node.specs.declared.node.Node.{Node}
+use Rattle.condition_node.specs.declared.node.Node.TheVariants as node
+use Rattle.condition_node.specs.Nodes.{condition_of, Counts, NodeStands}
 use Rattle.condition_node.proofs.Folding.{distinct, named_where, partner_in, partners_once, partners_named}
 use Rattle.condition_node.proofs.Knowing.{held_known, joining_alike, remembered_alike}
 
@@ -170,3 +177,32 @@ arguments_are a world (f ∷ facts) h = ap (λ o. argument_given a.arg o ∷ map
 
 pub arguments_told : (a : Accumulate) (s : Snapshot) (facts : List Fact) → Holds (held s) facts → arguments_gathered a (held s) (map name_of facts) ≡ values_gathered (Folded a) facts
 arguments_told a s facts h = ap in_rising_order (arguments_are a (held s) facts h)
+
+-- ---- a node of each kind
+-- these are what the node counts of forgotten facts, whatever it stands for
+abbrev pub TellsBeyond : Look → RuleId → ℕ → List Extra → Node → Type 0
+TellsBeyond look under place extras n = (p : Program) (s : Snapshot) (rows : Row → Bool) (forgotten : Named → Bool)
+    → HaveDistinctTags s.facts → HasAllOf look s forgotten → NameHeld s rows → NodeStands p n look s rows forgotten → AreExtrasBeside p (condition_of n) s rows forgotten under place extras
+
+module _ (look : Look) (under : RuleId) (place : ℕ) (extras : List Extra) where
+  pub join_beyond : (join : BetaJoin) → extras ≡ [] → TellsBeyond look under place extras (node.Join join)
+  unfolding IsStrictlySortedBy
+  join_beyond join none p s rows forgotten tags known named stands = record {
+    in_order = subst (λ (es : List Extra). InOrder (rows_of_extras es)) (sym none) tt;
+    exact = λ e. (λ h. absurd (subst (In e) none h), λ is. absurd is.aside);
+  }
+
+  pub exists_beyond : (tally : TallyNode Witnesses) → AreExtrasOf counts_witnesses nothing_gathered tally.memories look under place extras → TellsBeyond look under place extras (node.Exists tally)
+  exists_beyond tally are p s rows forgotten tags known named counts =
+      extras_beside p look s rows forgotten tags known named counts_witnesses nothing_gathered (Existing tally.memories.pattern) tally.memories refl tt (λ xs ys dx dy same. refl) (nothing_told s) counts under place extras are
+
+  pub not_beyond : (waiting : NotNode) → AreExtrasOf counts_blockers nothing_gathered waiting.tally.memories look under place extras → TellsBeyond look under place extras (node.Not waiting)
+  not_beyond waiting are p s rows forgotten tags known named waits =
+      let m = waiting.tally.memories in
+      extras_beside p look s rows forgotten tags known named counts_blockers nothing_gathered (Negated m.pattern) m refl tt (λ xs ys dx dy same. refl) (nothing_told s) waits.counts under place extras are
+
+  pub fold_beyond : (fold : FoldNode) → AreExtrasOf (gathers fold.accumulate) (arguments_gathered fold.accumulate) fold.tally.memories look under place extras → TellsBeyond look under place extras (node.Fold fold)
+  fold_beyond fold are p s rows forgotten tags known named folds =
+      let a = fold.accumulate in
+      extras_beside p look s rows forgotten tags known named (gathers a) (arguments_gathered a) (Folded a) fold.tally.memories folds.pattern tt
+      (λ xs ys dx dy same. same_values (argument_of a (held s)) xs ys dx dy same) (arguments_told a s) folds.counts under place extras are

@@ -9,3 +9,4 @@ pub mod Quietness
 pub mod Still
 pub mod Forgetting
 pub mod Beyond
+pub mod Loading

@@ -1,32 +1,26 @@
 -- What a node stands for once it is loaded with what is kept, and with extras of what is forgotten; and what it counts of what is forgotten.
-use Rattle.std.specs.Prelude.{◌≡◌, ◌≤ℤ◌, ◌<◌, ◌&&◌, ◌||◌, ◌++◌, ◌↔◌, not, ℕ, ℤ, Bool, true, List, [], map, length, Option, Some, None}
+use Rattle.std.specs.Prelude.{◌≡◌, ◌≤ℤ◌, ◌<◌, ◌↔◌, ℕ, ℤ, Bool, true, List, [], map, length, Option}
 use Rattle.std.specs.List.{filter}
-use Rattle.std.specs.Option.{is_some}
 use Rattle.fx_base.specs.Lists.{In}
 use Rattle.fx_base.specs.declared.fact.Fact.{Fact}
 use Rattle.fx_base.specs.declared.ids.RuleId.{RuleId}
 use Rattle.fold_fn.specs.Order.{in_rising_order}
-use Rattle.fold_fn.specs.Results.{fold_result}
 use Rattle.row_delta.specs.declared.extra.Extra.{Extra}
 use Rattle.row_delta.specs.declared.row.Named.{Named}
 use Rattle.row_delta.specs.declared.row.Row.{Row}
 use Rattle.row_delta.specs.Rows.{has, InOrder}
-use Rattle.rule_model.specs.declared.condition.Accumulate.{Accumulate}
 use Rattle.rule_model.specs.declared.condition.Condition.{Condition}
-use Rattle.rule_model.specs.declared.condition.Condition.TheVariants.{Plain, Negated, Existing, Folded}
+use Rattle.rule_model.specs.declared.condition.Condition.TheVariants.{Plain, Folded}
 use Rattle.rule_model.specs.declared.condition.Pattern.{Pattern}
 use Rattle.rule_model.specs.declared.program.Program.{Program}
 use Rattle.rule_model.specs.Distinct.{HaveDistinctTags}
-use Rattle.rule_model.specs.Lent.{bound_in}
 use Rattle.rule_model.specs.Rows.{argument, pattern_of}
 use Rattle.rule_model.specs.Snapshots.{Snapshot, floor}
-use Rattle.rule_model.specs.Tests.{results_hold}
 use Rattle.rule_model.specs.Tuples.{name_of}
 use Rattle.join_tests.specs.Joins.{Look, joins}
 use Rattle.pair_memory.specs.declared.memories.Memories.{Memories}
-use Rattle.pair_memory.specs.Joined.{joined, has_name}
+use Rattle.pair_memory.specs.Joined.{has_name}
 use Rattle.pair_memory.specs.Standing.{cleaned, no_names, StandsFor}
-use Rattle.pair_memory.specs.Valued.{valued}
 use Rattle.tally_node.specs.Counts.{counts_blockers, counts_witnesses}
 use Rattle.tally_node.specs.Extras.{blockers_laden, witnesses_laden, gathered_laden, rows_of_extras}
 use Rattle.tally_node.specs.Gathers.{gathers}
@@ -34,9 +28,8 @@ use Rattle.tally_node.specs.Laws.{StandsLaden}
 use Rattle.not_node.specs.declared.node.NotNode.{NotNode}
 use Rattle.not_node.specs.Rows.{IsInStep}
 use Rattle.not_node.specs.Waiting.{NoneDue}
-use Rattle.condition_rows.specs.Lines.{is_ripe, is_result}
 use Rattle.condition_rows.specs.Looks.{empty_snapshot, HasAllOf, NameHeld}
-use Rattle.condition_rows.specs.Sets.{held, candidates_of, has_partner, partners}
+use Rattle.condition_rows.specs.Sets.{held, candidates_of, partners}
 use Rattle.condition_node.specs.declared.node.FoldNode.{FoldNode}
 use Rattle.condition_node.specs.declared.node.Node.{Node}
 use Rattle.condition_node.specs.declared.node.Node.TheVariants as node
@@ -68,7 +61,7 @@ Laden p (node.Exists tally) look world s rows extra = CountsLaden counts_witness
 Laden p (node.Fold fold) look world s rows extra = FoldsLaden p fold look world s rows extra
 
 -- What is loaded: the rows before the condition, the candidates of the snapshot, which the store has, and extras in the order of their
--- rows, each of which counts something. `world` has what the store has.
+-- rows. `world` has what the store has.
 pub record IsLoad (p : Program) (condition : Condition) (look world : Look) (s : Snapshot) (before : Row → Bool) (left : List Row) (right : List Named) (extras : List Extra) : Type 0 where
   pub tags : HaveDistinctTags s.facts
   pub floors : (entry : ℕ) → floor p empty_snapshot entry ≤ℤ floor p s entry
@@ -78,26 +71,6 @@ pub record IsLoad (p : Program) (condition : Condition) (look world : Look) (s :
   pub rows : (row : Row) → has left row ≡ before row
   pub candidates : (who : Named) → has_name right who ≡ candidates_of p (pattern_of condition) s who
   pub in_order : InOrder (rows_of_extras extras)
-  pub some : (e : Extra) → In e extras → 0 < e.count
-
--- ---- its rows
-
--- what an extra gathers
-abbrev pub values_of : Option Extra → List ℤ
-values_of None = []
-values_of (Some e) = e.values
-
--- the value is the result of the function over the candidates that join the row and these further values, and its tests hold
-unfoldable pub laden_gives : Program → Accumulate → Snapshot → List ℤ → Row → ℤ → Bool
-laden_gives p a s more row v = is_result (fold_result a.kind (map (argument a.arg) (partners p a.pattern s row) ++ more)) v && results_hold (bound_in (held s) row) v a.tests
-
--- The rows with one condition more, of the rows without it, as `line` of condition_rows has them, where the condition counts and gathers
--- beside each row what its extra says, beyond the candidates of the snapshot.
-abbrev pub laden_line : Program → Snapshot → (Row → Option Extra) → Condition → (Row → Bool) → Row → Bool
-laden_line p s beyond (Plain pattern) left row = joined (joins pattern (held s)) left (candidates_of p pattern s) row
-laden_line p s beyond (Negated pattern) left row = left row && (not (has_partner p pattern s row || is_some (beyond row)) && is_ripe p pattern s row)
-laden_line p s beyond (Existing pattern) left row = left row && (has_partner p pattern s row || is_some (beyond row))
-laden_line p s beyond (Folded a) left row = valued (λ without v. left without && laden_gives p a s (values_of (beyond without)) without v) row
 
 -- ---- what is counted of forgotten facts
 
