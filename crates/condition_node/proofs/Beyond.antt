@@ -46,7 +46,7 @@ use Rattle.not_node.specs.declared.node.NotNode.{NotNode}
 use Rattle.condition_rows.specs.Looks.{HasAllOf, NameHeld}
 use Rattle.condition_rows.specs.Sets.{held, candidates_of, partners}
 use Rattle.condition_rows.proofs.Holding.{held_all}
-use Rattle.condition_node.specs.Loading.{lost_partners, values_gathered, IsAside, IsExtraBeside, AreExtrasBeside}
+use Rattle.condition_node.specs.Loading.{lost_partners, values_gathered, IsAside, IsLost, IsExtraBeside, AreExtrasBeside}
 use Rattle.condition_node.specs.declared.node.FoldNode.{FoldNode}
 use Rattle.condition_node.specs.declared.node.Node.{Node}
 use Rattle.condition_node.specs.declared.node.Node.TheVariants as node
@@ -106,6 +106,19 @@ module _ (p : Program) (look : Look) (s : Snapshot) (rows : Row → Bool) (forgo
 
     lost_named : (who : Named) → has_name (map name_of (lost_partners p s forgotten q row)) who ≡ lost_passing (joins q (held s)) (candidates_of p q s) forgotten row who
     lost_named who = named_where forgotten who (partners p q s row) ∙ ap (λ b. b && forgotten who) (partners_named p s tags q row who)
+
+  -- an extra tells of the forgotten candidates that pass what it tells of the forgotten facts that join
+  pub tells_passing : (gathered : Look → List Named → List ℤ) (c : Condition) (q : Pattern) → q ≡ pattern_of c → ((facts : List Fact) → Holds (held s) facts → gathered (held s) (map name_of facts) ≡ values_gathered c facts)
+      → (row : Row) (o : Option Extra) → IsLost c (lost_partners p s forgotten (pattern_of c) row) o → IsExtraFor gathered (held s) (lost_passing (joins q (held s)) (candidates_of p q s) forgotten row) o
+  tells_passing gathered c q meant told_values row None none who =
+      sym (lost_named q row who) ∙ ap (λ (facts : List Fact). has_name (map name_of facts) who) (ap (λ (r : Pattern). lost_partners p s forgotten r row) meant ∙ none)
+  tells_passing gathered c q meant told_values row (Some e) is = record {
+    names = map name_of (lost_partners p s forgotten q row);
+    distinct = lost_distinct q row;
+    all = lost_named q row;
+    count = length-map (lost_partners p s forgotten q row) name_of ∙ ap (λ (r : Pattern). length (lost_partners p s forgotten r row)) meant ∙ sym is.0;
+    values = is.1 ∙ sym (told_values (lost_partners p s forgotten q row) (lost_held q row) ∙ ap (λ (r : Pattern). values_gathered c (lost_partners p s forgotten r row)) meant);
+  }
 
   -- ---- the extras of a node
   module _ {T : Type 0} (holds : T → Look → (Named → Bool) → Type 0) (gathered : Look → List Named → List ℤ) (c : Condition) (m : Memories T) (meant : m.pattern ≡ pattern_of c) (aside : IsAside c)

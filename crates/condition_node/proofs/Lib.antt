@@ -10,3 +10,4 @@ pub mod Still
 pub mod Forgetting
 pub mod Beyond
 pub mod Loading
+pub mod Resuming

@@ -52,7 +52,7 @@ LoadsTo p At look left right extras old new = (world : Look) (s : Snapshot) (row
 nothing_kept : {T : Type 0} (p : Program) (m : Memories T) (look : Look) → StandsFor m look no_rows (candidates_of p m.pattern empty_snapshot) no_names → StandsFor m look no_rows no_names no_names
 nothing_kept p m look stands = subst (λ (names : Named → Bool). StandsFor m look no_rows names no_names) (fun_ext (λ who. sym (no_candidates p m.pattern who))) stands
 
-all_clean : (rows : Row → Bool) (row : Row) → rows row ≡ cleaned rows no_names row
+pub all_clean : (rows : Row → Bool) (row : Row) → rows row ≡ cleaned rows no_names row
 all_clean rows row = sym (and_true (rows row)) ∙ ap (λ b. rows row && not b) (sym (none row.facts))
   where
     and_true : (b : Bool) → (b && true) ≡ b
@@ -63,7 +63,7 @@ all_clean rows row = sym (and_true (rows row)) ∙ ap (λ b. rows row && not b) 
     none [] = refl
     none (n ∷ names) = none names
 
-all_remembered : (b : Bool) → b ≡ (b && not false)
+pub all_remembered : (b : Bool) → b ≡ (b && not false)
 all_remembered true = refl
 all_remembered false = refl
 

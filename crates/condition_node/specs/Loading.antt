@@ -1,5 +1,5 @@
 -- What a node stands for once it is loaded with what is kept, and with extras of what is forgotten; and what it counts of what is forgotten.
-use Rattle.std.specs.Prelude.{◌≡◌, ◌≤ℤ◌, ◌<◌, ◌↔◌, ℕ, ℤ, Bool, true, List, [], map, length, Option}
+use Rattle.std.specs.Prelude.{◌≡◌, ◌≤ℤ◌, ◌<◌, ◌↔◌, ℕ, ℤ, Bool, true, List, [], map, length, Option, Some, None}
 use Rattle.std.specs.List.{filter}
 use Rattle.fx_base.specs.Lists.{In}
 use Rattle.fx_base.specs.declared.fact.Fact.{Fact}
@@ -20,7 +20,7 @@ use Rattle.rule_model.specs.Tuples.{name_of}
 use Rattle.join_tests.specs.Joins.{Look, joins}
 use Rattle.pair_memory.specs.declared.memories.Memories.{Memories}
 use Rattle.pair_memory.specs.Joined.{has_name}
-use Rattle.pair_memory.specs.Standing.{cleaned, no_names, StandsFor}
+use Rattle.pair_memory.specs.Standing.{cleaned, remembered, no_names, StandsFor}
 use Rattle.tally_node.specs.Counts.{counts_blockers, counts_witnesses}
 use Rattle.tally_node.specs.Extras.{blockers_laden, witnesses_laden, gathered_laden, rows_of_extras}
 use Rattle.tally_node.specs.Gathers.{gathers}
@@ -33,6 +33,7 @@ use Rattle.condition_rows.specs.Sets.{held, candidates_of, partners}
 use Rattle.condition_node.specs.declared.node.FoldNode.{FoldNode}
 use Rattle.condition_node.specs.declared.node.Node.{Node}
 use Rattle.condition_node.specs.declared.node.Node.TheVariants as node
+use Rattle.condition_node.specs.Nodes.{condition_of, NodeStands}
 
 -- ---- a loaded node
 
@@ -102,3 +103,26 @@ pub record IsExtraBeside (p : Program) (of : Condition) (s : Snapshot) (rows : R
 pub record AreExtrasBeside (p : Program) (condition : Condition) (s : Snapshot) (rows : Row → Bool) (forgotten : Named → Bool) (under : RuleId) (place : ℕ) (extras : List Extra) : Type 0 where
   pub in_order : InOrder (rows_of_extras extras)
   pub exact : (e : Extra) → In e extras ↔ IsExtraBeside p condition s rows forgotten under place e
+
+-- ---- what is kept, and all of it
+
+-- an extra tells of lost facts how many they are, and what a condition gathers of them; where there is none, none is lost
+abbrev pub IsLost : Condition → List Fact → Option Extra → Type 0
+IsLost c lost None = lost ≡ []
+IsLost c lost (Some e) = (e.count ≡ length lost) × (e.values ≡ values_gathered c lost)
+
+-- One snapshot has what is not forgotten of another, at its floors; of the rows before the condition those are kept that name no forgotten
+-- fact, and the extras of a condition that binds no fact tell of the forgotten candidates that join them.
+pub record IsResumed (p : Program) (c : Condition) (s t : Snapshot) (before kept : Row → Bool) (forgotten : Named → Bool) (extra : Row → Option Extra) : Type 0 where
+  pub tags : HaveDistinctTags s.facts
+  pub named : NameHeld s before
+  pub at_hand : HasAllOf (held t) s forgotten
+  pub rows : (row : Row) → kept row ≡ cleaned before forgotten row
+  pub candidates : (who : Named) → candidates_of p (pattern_of c) t who ≡ remembered (candidates_of p (pattern_of c) s) forgotten who
+  pub floors : (entry : ℕ) → floor p t entry ≡ floor p s entry
+  pub extras : IsAside c → (row : Row) → cleaned before forgotten row ≡ true → IsLost c (lost_partners p s forgotten (pattern_of c) row) (extra row)
+
+-- A node that is loaded with what is kept, and with these extras, stands for all of it.
+abbrev pub ResumesLaw : Type 0
+ResumesLaw = (p : Program) (n : Node) (look : Look) (s t : Snapshot) (before kept : Row → Bool) (forgotten : Named → Bool) (extra : Row → Option Extra)
+    → IsResumed p (condition_of n) s t before kept forgotten extra → Laden p n look (held s) t kept extra → NodeStands p n look s before forgotten
