@@ -3,3 +3,4 @@ mod Numbers
 mod Listed
 mod Agreeing
 mod Answering
+pub mod Keys

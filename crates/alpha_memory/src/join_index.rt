@@ -1,10 +1,11 @@
-ghost use Rattle.std.specs.Prelude.{◌≡◌, ◌≢◌, ◌&&◌, [], true, false, None, Some, cond, is_some, option_map, IfOk, IfErr, IfSome, OnOk, OnErr};
+ghost use Rattle.std.specs.Prelude.{◌≡◌, ◌≢◌, ◌&&◌, ◌++◌, [], true, false, None, Some, cond, is_some, option_map, IfOk, IfErr, IfSome, OnOk, OnErr};
 ghost use Rattle.std.specs.BTreeMap.{is_at};
+ghost use Rattle.std.specs.Map.{keys_of};
 ghost use Rattle.alpha_memory.specs.Bucket.{entries, found};
-ghost use Rattle.alpha_memory.specs.JoinIndex.{at, bucket_at};
+ghost use Rattle.alpha_memory.specs.JoinIndex.{at, bucket_at, AreKeys};
 
 use crate::bucket::Bucket;
-use fx_base::NoMemory;
+use fx_base::{Copies, NoMemory};
 use indexmap::IndexMap;
 use std::alloc::Global;
 use std::hash::Hash;
@@ -114,6 +115,38 @@ impl<J: Eq + Hash + Drop, K: Ord + Drop, S: Drop> JoinIndex<J, K, S> {
             None => (None, false),
         }
     }
+}
+
+impl<J: Eq + Hash + Drop, K: Ord + Copies + Drop, S: Drop> JoinIndex<J, K, S> {
+    /// Copies of the keys of all join values, those of one join value in order. It costs a copy of each.
+    pub fn keys(&self, alloc: Global) -> Result<Vec<K>, NoMemory>
+        ensures { IfOk result (λ keys. AreKeys J.eq K.cmp self.now keys.items) }
+    {
+        let mut keys = Vec::new(alloc);
+        for (_, bucket) in self.buckets.iter() {
+            add_keys(alloc, &mut keys, bucket)?;
+        }
+        Ok(keys)
+    }
+}
+
+/// Adds copies of the keys of a bucket to these keys.
+fn add_keys<K: Ord + Copies + Drop, S: Drop>(
+    alloc: Global,
+    keys: &mut Vec<K>,
+    bucket: &Bucket<K, S>,
+) -> Result<(), NoMemory>
+    ensures { OnOk result (keys.new.items ≡ keys.old.items ++ keys_of (entries bucket.now)) }
+{
+    match bucket {
+        Bucket::One(key, _) => keys.push(key.copy(alloc)?)?,
+        Bucket::Many(ordered) => {
+            for key in ordered.keys() {
+                keys.push(key.copy(alloc)?)?;
+            }
+        }
+    }
+    Ok(())
 }
 
 /// Puts a key into a bucket, with what is kept beside it, and answers what was kept before. Where memory is refused, the

@@ -50,7 +50,7 @@ absent : (b : Bool) → (b ≡ true → ⊥) → b ≡ false
 absent true h = absurd (h refl)
 absent false h = refl
 
-distinct : (names : List Named) → EachOnce names → AreDistinct names
+pub distinct : (names : List Named) → EachOnce names → AreDistinct names
 distinct [] once = tt
 distinct (n ∷ names) once = (absent (has_name names n) (λ e. once.0 (name_in n names e)), distinct names once.1)
 
@@ -73,7 +73,7 @@ module _ (test : Named → Bool) (who : Named) where
       rest ∙ kept_none (eq_by_cmp name_cmp who (name_of f)) h (test who) (λ e. ap test ((name_decides who (name_of f)).0 e) ∙ is)
 
   -- the names of the facts whose names pass a test are the names that pass it
-  named_where : (facts : List Fact) → has_name (map name_of (filter (λ (f : Fact). test (name_of f)) facts)) who ≡ (has_name (map name_of facts) who && test who)
+  pub named_where : (facts : List Fact) → has_name (map name_of (filter (λ (f : Fact). test (name_of f)) facts)) who ≡ (has_name (map name_of facts) who && test who)
   named_where [] = refl
   named_where (f ∷ facts) = named_step (test (name_of f)) f (filter (λ (f : Fact). test (name_of f)) facts) (has_name (map name_of facts) who) refl (named_where facts)
 
@@ -82,19 +82,19 @@ module _ (p : Program) (s : Snapshot) (tags : HaveDistinctTags s.facts) (q : Pat
   unfolding partners
   partner_in f i = of_filter (is_candidate p q s) f s.facts (of_filter (λ (g : Fact). joins q (held s) row (name_of g)) f (candidates p q s) i)
 
-  partners_held : Holds (held s) (partners p q s row)
+  pub partners_held : Holds (held s) (partners p q s row)
   partners_held = held_all s tags (partners p q s row) partner_in
 
   pub partners_once : EachOnce (partners p q s row)
   unfolding partners
   partners_once = once_filter (λ (g : Fact). joins q (held s) row (name_of g)) (candidates p q s) (once_filter (is_candidate p q s) s.facts (once_facts s.facts tags))
 
-  partners_distinct : AreDistinct (map name_of (partners p q s row))
+  pub partners_distinct : AreDistinct (map name_of (partners p q s row))
   partners_distinct =
       distinct (map name_of (partners p q s row))
       (once_map name_of (partners p q s row) partners_once (λ f g i j e. one_fact s.facts tags f g (partner_in f i) (partner_in g j) (ap (λ (n : Named). n.tag) e)))
 
-  partners_named : (who : Named) → has_name (map name_of (partners p q s row)) who ≡ all_passing (joins q (held s)) (candidates_of p q s) row who
+  pub partners_named : (who : Named) → has_name (map name_of (partners p q s row)) who ≡ all_passing (joins q (held s)) (candidates_of p q s) row who
   unfolding partners
   partners_named who =
       named_where (joins q (held s) row) who (candidates p q s) ∙ ap (λ b. b && joins q (held s) row who) (candidates_named p s tags q who)

@@ -8,3 +8,6 @@ pub mod Staying
 pub mod Quietness
 pub mod Still
 pub mod Forgetting
+pub mod Beyond
+pub mod Loading
+pub mod Resuming

@@ -24,7 +24,7 @@ use Rattle.condition_node.specs.Nodes.{Counts, NodeStands}
 use Rattle.condition_node.proofs.Knowing.{looks_alike}
 
 -- ---- a new node
-no_candidates : (p : Program) (q : Pattern) (who : Named) → no_names who ≡ candidates_of p q empty_snapshot who
+pub no_candidates : (p : Program) (q : Pattern) (who : Named) → no_names who ≡ candidates_of p q empty_snapshot who
 unfolding candidates_of held
 no_candidates p q who = refl
 

@@ -2,3 +2,4 @@ pub mod Nodes
 pub mod Turns
 pub mod Quiet
 pub mod Forgetting
+pub mod Loading

@@ -18,6 +18,8 @@ ghost use Rattle.condition_node.specs.Nodes.{condition_of, is_negated, NodeStand
 ghost use Rattle.condition_node.specs.Quiet.{IsBefore, IsDue, IsQuiet};
 ghost use Rattle.condition_node.specs.Turns.{IsTurn};
 
+mod loading;
+
 use crate::copying::Copied;
 use beta_join::BetaJoin;
 use fx_base::{EntryId, Facts, Millis, NoMemory, Seq};

@@ -1,4 +1,4 @@
-ghost use Rattle.std.specs.Prelude.{◌≡◌, ◌&&◌, not, cond, None, Bool, IfOk, OnOk, IsTrue, ℤ, int_lt, Option, IfSome, true, false};
+ghost use Rattle.std.specs.Prelude.{◌≡◌, ◌&&◌, ◌||◌, not, cond, None, Bool, IfOk, OnOk, IsTrue, ℤ, int_lt, Option, IfSome, true, false};
 ghost use Rattle.row_delta.specs.declared.row.Row.{Row};
 ghost use Rattle.row_delta.specs.declared.row.Named.{Named};
 ghost use Rattle.row_delta.specs.Rows.{has, InOrder};
@@ -10,13 +10,14 @@ ghost use Rattle.pair_memory.specs.Memories.{left_at, has_left, has_right, Keeps
 ghost use Rattle.pair_memory.specs.Standing.{no_rows, no_names, StandsFor};
 ghost use Rattle.pair_memory.specs.Inputs.{IsStepped};
 ghost use Rattle.tally_node.specs.Counts.{counts_blockers};
+ghost use Rattle.tally_node.specs.Extras.{AllLaden, AreExtrasOf, blockers_laden, nothing_gathered};
 ghost use Rattle.tally_node.specs.Tallies.{TallyStep};
 ghost use Rattle.not_node.specs.Rows.{IsInStep, not_rows};
 ghost use Rattle.not_node.specs.Waiting.{waits, IsFrom, NoneDue, later};
 
 use crate::ripening::Ripening;
-use fx_base::{Facts, NoMemory, Seq};
-use row_delta::{Delta, Named, Row};
+use fx_base::{Facts, NoMemory, RuleId, Seq};
+use row_delta::{Delta, Extra, Named, Row};
 use rule_model::{Pattern, Program};
 use std::alloc::Global;
 use tally_node::{Blockers, TallyNode};
@@ -102,6 +103,54 @@ impl NotNode {
             facts,
         )?;
         Ok(delta)
+    }
+
+    /// Takes rows of the conditions before this one, candidates, and extras in the order of their rows, which are of these rows, into a
+    /// node that keeps nothing, and a floor, and answers the rows that the node has then. It costs what a step costs in which these
+    /// rows and candidates come, and for each row the logarithm of the extras.
+    pub fn load<F: Facts>(
+        &mut self,
+        alloc: Global,
+        program: &Program,
+        left: &[Row],
+        right: &[Named],
+        extras: &[Extra],
+        floor: i128,
+        facts: &F,
+    ) -> Result<Delta, NoMemory>
+        ensures kept { OnOk result (Keeps self.old.tally.memories self.new.tally.memories (F.map facts.now)
+            (λ r. has_left self.old.tally.memories (F.map facts.now) r || has left.now r) (λ c. has_right self.old.tally.memories (F.map facts.now) c || has_name right.now c)) }
+        ensures laden { OnOk result (AllLaden counts_blockers blockers_laden (F.map facts.now) extras.now (has left.now) self.old.tally.memories self.new.tally.memories) }
+        ensures floor { OnOk result (self.new.ripening.floor ≡ later self.old.ripening.floor floor) }
+        ensures in_step { OnOk result (IsInStep program.now (F.map facts.now) self.old → IsInStep program.now (F.map facts.now) self.new) }
+        ensures difference { IfOk result (λ delta. IsInStep program.now (F.map facts.now) self.old
+            → IsDifference (not_rows program.now (F.map facts.now) self.old) (not_rows program.now (F.map facts.now) self.new) delta) }
+    {
+        let blocked = self.tally.load(alloc, &(), left, right, extras, facts)?;
+        let delta = self.ripening.advance(
+            alloc,
+            &blocked,
+            floor,
+            program,
+            self.tally.pattern(),
+            facts,
+        )?;
+        Ok(delta)
+    }
+
+    /// What is counted beside each left row beyond the candidates that are kept and pass there, where that is something, in the
+    /// order of the rows, each under this rule and condition.
+    pub fn extras<F: Facts>(
+        &self,
+        alloc: Global,
+        rule: RuleId,
+        condition: u8,
+        facts: &F,
+    ) -> Result<Vec<Extra>, NoMemory>
+        ensures { IfOk result (λ extras. AreExtrasOf counts_blockers nothing_gathered self.now.tally.memories (F.map facts.now) rule condition extras.items) }
+    {
+        let extras = self.tally.extras(alloc, &(), rule, condition, facts)?;
+        Ok(extras)
     }
 
     /// Drops left rows and candidates whose facts are forgotten, and answers the rows that go with them, in order. The counts of

@@ -7,3 +7,4 @@ pub mod Found
 pub mod Worlds
 pub mod Steps
 pub mod Moving
+pub mod Listing

@@ -14,6 +14,8 @@ ghost use Rattle.pair_memory.specs.Under.{row_joins, name_joins, stands_in};
 ghost use Rattle.fx_base.specs.Values.{same_value};
 ghost use Rattle.alpha_memory.specs.JoinIndex.{bucket_at};
 
+mod listing;
+
 use crate::merge::merged;
 use crate::partners::{names_passed, rows_passed, with_names, with_rows};
 use alpha_memory::JoinIndex;

@@ -6,3 +6,9 @@ pub mod Counting
 pub mod Gathering
 pub mod Knowing
 pub mod Lawful
+pub mod Extras
+pub mod Leaving
+pub mod Searching
+pub mod Loading
+pub mod Beside
+pub mod Resuming

@@ -1,13 +1,14 @@
 -- What a step, forgetting and a change of the store are for the whole sets of rows and candidates that a node stands for, and which
 -- rows the node then has.
-use Rattle.std.specs.Prelude.{◌≡◌, ◌&&◌, not, true, false, cond, map, Bool, List, Option, Some, None, ℤ}
+use Rattle.std.specs.Prelude.{◌≡◌, ◌&&◌, ◌||◌, not, true, false, cond, map, Bool, List, Option, Some, None, ℤ}
 use Rattle.std.specs.List.{list_any}
 use Rattle.fx_base.specs.declared.fact.Fact.{Fact}
 use Rattle.fold_fn.specs.Held.{Held}
+use Rattle.row_delta.specs.declared.extra.Extra.{Extra}
 use Rattle.row_delta.specs.declared.row.Named.{Named}
 use Rattle.row_delta.specs.declared.row.Row.{Row}
 use Rattle.row_delta.specs.declared.delta.Delta.{Delta}
-use Rattle.row_delta.specs.Rows.{has}
+use Rattle.row_delta.specs.Rows.{has, InOrder}
 use Rattle.row_change.specs.Changes.{Leads}
 use Rattle.rule_model.specs.declared.condition.Accumulate.{Accumulate}
 use Rattle.rule_model.specs.Lent.{Holds, bound_in}
@@ -21,6 +22,7 @@ use Rattle.pair_memory.specs.Standing.{clean, cleaned, either, remembered, no_ro
 use Rattle.pair_memory.specs.Inputs.{IsNameDifference, IsStepped}
 use Rattle.pair_memory.specs.Valued.{without_value, shows_value, valued}
 use Rattle.tally_node.specs.Counts.{AreDistinct}
+use Rattle.tally_node.specs.Extras.{AreApart, IsExtraFor, IsLaden, extra_for, rows_of_extras, AllLaden, CountsOthers}
 use Rattle.tally_node.specs.Gathers.{gathers, tested, result_for, is_result}
 use Rattle.tally_node.specs.Origins.{itself, shows_any}
 use Rattle.tally_node.specs.Tallies.{TallyStep, shown, SeeAlike}
@@ -96,3 +98,45 @@ GatheredLaw a = (m : Memories Held) (look world : Look) (pass : Row → Named �
     → ((row : Row) (who : Named) → has_name (map name_of (of row)) who ≡ all_passing pass names row who)
     → (row : Row) → shown without_value shows_value (result_for a) m look row
     ≡ valued (λ left v. cleaned rows forgotten left && is_result (tested a (bound_in look left) (result_of a (of left))) v) row
+
+-- ---- extras
+
+-- the forgotten ones of the candidates that pass for a row
+abbrev pub lost_passing : (Row → Named → Bool) → (Named → Bool) → (Named → Bool) → Row → Named → Bool
+lost_passing pass names forgotten row who = all_passing pass names row who && forgotten who
+
+-- The memories stand for left rows and candidates, of which nothing is forgotten, and the tally of each left row is that of the candidates
+-- that pass and of what the row's extra counts more.
+pub record StandsLaden {T : Type 0} (holds : T → Look → (Named → Bool) → Type 0) (laden : T → Look → (Named → Bool) → Extra → Type 0) (m : Memories T) (look world : Look) (pass : Row → Named → Bool) (rows : Row → Bool) (names : Named → Bool) (extra : Row → Option Extra) : Type 0 where
+  pub stands : StandsFor m look rows names no_names
+  pub counts : (row : Row) (t : T) → left_at m look row ≡ Some t → IsLaden holds laden t world (all_passing pass names row) (extra row)
+
+-- Where an extra tells of candidates that are not counted, the tally that counts it more is that of all of them.
+abbrev pub LadenLaw : (T : Type 0) → (T → Look → (Named → Bool) → Type 0) → (T → Look → (Named → Bool) → Extra → Type 0) → (Look → List Named → List ℤ) → Type 0
+LadenLaw T holds laden gathered = (t : T) (world : Look) (set others : Named → Bool) (extra : Option Extra)
+    → IsLaden holds laden t world set extra → AreApart set others → IsExtraFor gathered world others extra → holds t world (either set others)
+
+-- A node that kept nothing stands after a load for the rows and candidates, with the extras.
+abbrev pub LoadLaw : (T : Type 0) → (T → Look → (Named → Bool) → Type 0) → (T → Look → (Named → Bool) → Extra → Type 0) → Type 0
+LoadLaw T holds laden = (m n : Memories T) (look world : Look) (pass : Row → Named → Bool) (rows : Row → Bool) (names : Named → Bool) (left : List Row) (right : List Named) (extras : List Extra)
+    → StandsFor m look no_rows no_names no_names → PassesAlike m.pattern look pass rows names no_names → SeeAlike names look world
+    → ((row : Row) → has left row ≡ rows row) → ((who : Named) → has_name right who ≡ names who) → InOrder (rows_of_extras extras)
+    → Keeps m n look (λ row. has_left m look row || has left row) (λ who. has_right m look who || has_name right who)
+    → AllLaden holds laden look extras (has left) m n
+    → StandsLaden holds laden n look world pass rows names (extra_for extras)
+
+-- Where what is kept is what is not forgotten of rows and candidates, and the extras tell of the forgotten candidates that pass, the node
+-- stands for all of them.
+abbrev pub ResumeLaw : (T : Type 0) → (T → Look → (Named → Bool) → Type 0) → (T → Look → (Named → Bool) → Extra → Type 0) → (Look → List Named → List ℤ) → Type 0
+ResumeLaw T holds laden gathered = (m : Memories T) (look world : Look) (pass_kept pass : Row → Named → Bool) (rows_kept rows : Row → Bool) (names_kept names forgotten : Named → Bool) (extra : Row → Option Extra)
+    → StandsLaden holds laden m look world pass_kept rows_kept names_kept extra
+    → ((row : Row) → rows_kept row ≡ cleaned rows forgotten row) → ((who : Named) → names_kept who ≡ remembered names forgotten who)
+    → ((row : Row) (who : Named) → rows_kept row ≡ true → names_kept who ≡ true → pass_kept row who ≡ pass row who)
+    → ((row : Row) → cleaned rows forgotten row ≡ true → IsExtraFor gathered world (lost_passing pass names forgotten row) (extra row))
+    → StandsCounted holds m look world pass rows names forgotten
+
+-- Beside the kept candidates the tallies of a node that stands for rows and candidates count the forgotten ones that pass.
+abbrev pub OthersLaw : (T : Type 0) → (T → Look → (Named → Bool) → Type 0) → Type 0
+OthersLaw T holds = (m : Memories T) (look world : Look) (pass : Row → Named → Bool) (rows : Row → Bool) (names forgotten : Named → Bool)
+    → StandsCounted holds m look world pass rows names forgotten → PassesAlike m.pattern look pass rows names forgotten → SeeAlike (remembered names forgotten) look world
+    → CountsOthers holds m look world (lost_passing pass names forgotten)

@@ -1,5 +1,6 @@
 -- What a part of a step does to a node: to what it keeps, to its tallies and to what has changed so far.
-use Rattle.std.specs.Prelude.{◌≡◌, cond, Bool, true, None}
+use Rattle.std.specs.Prelude.{◌≡◌, cond, Bool, true, Option, None}
+use Rattle.row_delta.specs.declared.extra.Extra.{Extra}
 use Rattle.row_delta.specs.declared.row.Named.{Named}
 use Rattle.row_delta.specs.declared.row.Row.{Row}
 use Rattle.row_change.specs.declared.change.Change.{Change}
@@ -7,6 +8,7 @@ use Rattle.row_change.specs.Changes.{Leads}
 use Rattle.join_tests.specs.Joins.{Look, joins}
 use Rattle.pair_memory.specs.declared.memories.Memories.{Memories}
 use Rattle.pair_memory.specs.Memories.{left_at, has_right, Keeps}
+use Rattle.tally_node.specs.Extras.{IsLaden}
 use Rattle.tally_node.specs.Tallies.{TurnedIf, Steps, SeeAlike, Follows, Arrives, passing}
 
 -- The memories then keep these rows and candidates, their tallies have become what the relation says, and what has changed so far leads
@@ -36,6 +38,15 @@ AllDropped look gone before after = (r : Row) → left_at after look r ≡ cond 
 abbrev pub AllArrive : {T : Type 0} → (T → Look → (Named → Bool) → Type 0) → Look → (Row → Bool) → Memories T → Memories T → Type 0
 AllArrive holds look come before after = (world : Look) → SeeAlike (has_right before look) look world → (r : Row)
     → Arrives (come r) holds world (passing before.pattern look (has_right before look) r) (left_at before look r) (left_at after look r)
+
+-- the same, where the tally of each row is to hold of its own
+abbrev pub AllArriveAt : {T : Type 0} → (Row → T → Look → (Named → Bool) → Type 0) → Look → (Row → Bool) → Memories T → Memories T → Type 0
+AllArriveAt holds look come before after = (world : Look) → SeeAlike (has_right before look) look world → (r : Row)
+    → Arrives (come r) (holds r) world (passing before.pattern look (has_right before look) r) (left_at before look r) (left_at after look r)
+
+-- those of these rows begin with the kept candidates that pass and with their extras, where the row was not kept, and the others stay
+abbrev pub AllLoaded : {T : Type 0} → (T → Look → (Named → Bool) → Type 0) → (T → Look → (Named → Bool) → Extra → Type 0) → Look → (Row → Option Extra) → (Row → Bool) → Memories T → Memories T → Type 0
+AllLoaded holds laden look extra come = AllArriveAt (λ r t world set. IsLaden holds laden t world set (extra r)) look come
 
 -- all stay
 abbrev pub AllStay : {T : Type 0} → Look → Memories T → Memories T → Type 0

@@ -1,15 +1,18 @@
-ghost use Rattle.std.specs.Prelude.{◌≡◌, ◌&&◌, Bool, true, false, ℤ, IfOk};
+ghost use Rattle.std.specs.Prelude.{◌≡◌, ◌&&◌, ◌+◌, Bool, true, false, ℤ, IfOk};
 ghost use Rattle.std.specs.Ordering.{eq_by_cmp};
 ghost use Rattle.row_delta.specs.declared.row.Named.{Named};
 ghost use Rattle.row_delta.specs.declared.row.Row.{Row};
 ghost use Rattle.row_delta.specs.Rows.{row_cmp};
+ghost use Rattle.join_tests.specs.Joins.{Look};
+ghost use Rattle.pair_memory.specs.Standing.{either};
 ghost use Rattle.tally_node.specs.Counts.{IsNumber, zero_where};
+ghost use Rattle.tally_node.specs.Extras.{AreApart, IsBeyond, nothing_gathered};
 ghost use Rattle.tally_node.specs.Origins.{is_from, itself, shows_any};
 ghost use Rattle.tally_node.specs.Tallies.{with_one, less_one};
 
-use crate::Tally;
-use fx_base::{Copies, Facts, NoMemory};
-use row_delta::{Named, Row};
+use crate::{Beyond, Tally};
+use fx_base::{Copies, Facts, NoMemory, Seq};
+use row_delta::{Extra, Named, Row};
 use std::alloc::Global;
 
 /// The tally of a `not`: how many candidates pass. The left row is a row of the node where none does.
@@ -37,6 +40,27 @@ fn one_less(count: u64) -> u64
     count.saturating_sub(1)
 }
 
+/// So many candidates more; a number that is full is refused memory.
+fn with_more(count: u64, more: u64) -> Result<u64, NoMemory>
+    ensures { IfOk result (λ now. now ≡ count + more) }
+{
+    match count.checked_add(more) {
+        Some(now) => Ok(now),
+        None => Err(NoMemory),
+    }
+}
+
+/// How many candidates are counted beyond a part of them.
+fn beyond(alloc: Global, count: u64, part: u64) -> Beyond
+    ensures { (world : Look) (set others : Named → Bool) → AreApart set others → IsNumber (either set others) count → IsNumber set part
+        → IsBeyond nothing_gathered world others result.count result.values }
+{
+    Beyond {
+        count: count.saturating_sub(part),
+        values: Seq::from_vec(Vec::new(alloc)),
+    }
+}
+
 /// That a left row is a row of the node as it is, or none.
 fn zero_where(shows: bool) -> Option<i64>
     ensures { result ≡ zero_where shows }
@@ -55,6 +79,7 @@ fn itself(alloc: Global, row: &Row) -> Result<Row, NoMemory>
 impl Tally for Blockers {
     ghost use Rattle.tally_node.specs.Counts.{counts_blockers, where_unblocked};
     ghost use Rattle.tally_node.specs.Origins.{itself, shows_any};
+    ghost use Rattle.tally_node.specs.Extras.{blockers_laden, nothing_gathered};
 
     type Plan = ();
 
@@ -65,6 +90,10 @@ impl Tally for Blockers {
     ghost origin = { itself };
 
     ghost gives = { shows_any };
+
+    ghost laden = { λ plan. blockers_laden };
+
+    ghost gathered = { λ plan. nothing_gathered };
 
     fn none(_alloc: Global, _plan: &()) -> Blockers {
         Blockers(0)
@@ -91,6 +120,15 @@ impl Tally for Blockers {
         Ok(Blockers(one_less(self.0)))
     }
 
+    fn with_extra(self, _plan: &(), extra: &Extra) -> Result<Blockers, NoMemory> {
+        let count = with_more(self.0, extra.count)?;
+        Ok(Blockers(count))
+    }
+
+    fn beyond(&self, alloc: Global, _plan: &(), part: &Blockers) -> Result<Beyond, NoMemory> {
+        Ok(beyond(alloc, self.0, part.0))
+    }
+
     fn output<F: Facts>(&self, _plan: &(), _row: &Row, _facts: &F) -> Option<i64> {
         zero_where(self.0 == 0)
     }
@@ -104,6 +142,7 @@ impl Tally for Blockers {
 impl Tally for Witnesses {
     ghost use Rattle.tally_node.specs.Counts.{counts_witnesses, where_witnessed};
     ghost use Rattle.tally_node.specs.Origins.{itself, shows_any};
+    ghost use Rattle.tally_node.specs.Extras.{witnesses_laden, nothing_gathered};
 
     type Plan = ();
 
@@ -114,6 +153,10 @@ impl Tally for Witnesses {
     ghost origin = { itself };
 
     ghost gives = { shows_any };
+
+    ghost laden = { λ plan. witnesses_laden };
+
+    ghost gathered = { λ plan. nothing_gathered };
 
     fn none(_alloc: Global, _plan: &()) -> Witnesses {
         Witnesses(0)
@@ -138,6 +181,15 @@ impl Tally for Witnesses {
         _facts: &F,
     ) -> Result<Witnesses, NoMemory> {
         Ok(Witnesses(one_less(self.0)))
+    }
+
+    fn with_extra(self, _plan: &(), extra: &Extra) -> Result<Witnesses, NoMemory> {
+        let count = with_more(self.0, extra.count)?;
+        Ok(Witnesses(count))
+    }
+
+    fn beyond(&self, alloc: Global, _plan: &(), part: &Witnesses) -> Result<Beyond, NoMemory> {
+        Ok(beyond(alloc, self.0, part.0))
     }
 
     fn output<F: Facts>(&self, _plan: &(), _row: &Row, _facts: &F) -> Option<i64> {

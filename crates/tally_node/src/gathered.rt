@@ -1,17 +1,17 @@
-ghost use Rattle.std.specs.Prelude.{◌≡◌, ◌+◌, ◌^◌, ◌<◌, ℤ, List, IfOk, OnOk};
+ghost use Rattle.std.specs.Prelude.{◌≡◌, ◌+◌, ◌++◌, ◌^◌, ◌<◌, ℤ, List, IfOk, OnOk};
 ghost use Rattle.rule_model.specs.Rows.{argument};
 ghost use Rattle.std.specs.HashMap.{get};
 ghost use Rattle.std.specs.Map.{count_at};
 ghost use Rattle.std.specs.Ordering.{int_eq};
 ghost use Rattle.fold_fn.specs.Held.{HasOneMore};
-ghost use Rattle.fold_fn.specs.Order.{insert_rising};
+ghost use Rattle.fold_fn.specs.Order.{insert_rising, in_rising_order};
 ghost use Rattle.tally_node.specs.Gathers.{argument_of};
 
-use crate::Tally;
+use crate::{Beyond, Tally};
 use crate::result_tests::do_hold;
 use fold_fn::{AnyFold, Fold};
 use fx_base::{Copies, Fact, Facts, NoMemory, Seq, Value};
-use row_delta::{Named, Row};
+use row_delta::{Extra, Named, Row};
 use rule_model::Accumulate;
 use std::alloc::Global;
 use std::collections::HashMap;
@@ -65,6 +65,18 @@ impl Gathered {
         })
     }
 
+    /// These values more; a fold that is full is refused memory.
+    fn with_values(self, values: &[i64]) -> Result<Gathered, NoMemory>
+        ensures kind { IfOk result (λ now. now.kind ≡ self.kind) }
+        ensures values { IfOk result (λ now. (held : List ℤ) → self.values ≡ in_rising_order held → now.values ≡ in_rising_order (held ++ values.now)) }
+    {
+        let mut now = self;
+        for value in values {
+            now = now.with_value(*value)?;
+        }
+        Ok(now)
+    }
+
     /// One value less, where it holds it.
     fn without_value(self, value: i64) -> Gathered
         ensures kind { result.kind ≡ self.kind }
@@ -86,6 +98,28 @@ impl Gathered {
             count: count - 1,
         }
     }
+}
+
+fn is_same(a: i64, b: i64) -> bool
+    ensures { result ≡ int_eq a b }
+{
+    a == b
+}
+
+/// The values of a rising list that a rising part of it leaves.
+fn values_beyond(alloc: Global, values: &[i64], part: &[i64]) -> Result<Vec<i64>, NoMemory>
+    ensures { IfOk result (λ rest. (xs ys : List ℤ) → values.now ≡ in_rising_order (xs ++ ys) → part.now ≡ in_rising_order xs → rest.items ≡ in_rising_order ys) }
+{
+    let mut rest = Vec::new(alloc);
+    let mut next = 0;
+    for value in values {
+        if next < part.len() && is_same(part[next], *value) {
+            next += 1;
+        } else {
+            rest.push(*value)?;
+        }
+    }
+    Ok(rest)
 }
 
 /// How often a value is counted.
@@ -144,6 +178,7 @@ fn taken_in(field: Option<u8>, fact: &Fact) -> i64
 
 impl Tally for Gathered {
     ghost use Rattle.tally_node.specs.Gathers.{gathers, result_for};
+    ghost use Rattle.tally_node.specs.Extras.{gathered_laden, arguments_gathered};
     ghost use Rattle.pair_memory.specs.Valued.{without_value, shows_value};
 
     type Plan = Accumulate;
@@ -155,6 +190,10 @@ impl Tally for Gathered {
     ghost origin = { without_value };
 
     ghost gives = { shows_value };
+
+    ghost laden = { gathered_laden };
+
+    ghost gathered = { arguments_gathered };
 
     fn none(alloc: Global, plan: &Accumulate) -> Gathered {
         Gathered {
@@ -183,6 +222,26 @@ impl Tally for Gathered {
         facts: &F,
     ) -> Result<Gathered, NoMemory> {
         Ok(self.without_value(taken_of(plan, who, facts)))
+    }
+
+    fn with_extra(self, _plan: &Accumulate, extra: &Extra) -> Result<Gathered, NoMemory> {
+        let now = self.with_values(extra.values.as_slice())?;
+        Ok(now)
+    }
+
+    fn beyond(
+        &self,
+        alloc: Global,
+        _plan: &Accumulate,
+        part: &Gathered,
+    ) -> Result<Beyond, NoMemory> {
+        let values = self.fold.values(alloc)?;
+        let kept = part.fold.values(alloc)?;
+        let rest = values_beyond(alloc, values.as_slice(), kept.as_slice())?;
+        Ok(Beyond {
+            count: rest.len() as u64,
+            values: Seq::from_vec(rest),
+        })
     }
 
     fn output<F: Facts>(&self, plan: &Accumulate, row: &Row, facts: &F) -> Option<i64> {

@@ -7,8 +7,9 @@ ghost use Rattle.tally_node.specs.declared.count.Blockers.{Blockers};
 ghost use Rattle.tally_node.specs.declared.count.Witnesses.{Witnesses};
 ghost use Rattle.tally_node.specs.Counts.{counts_blockers, counts_witnesses, where_unblocked, where_witnessed};
 ghost use Rattle.tally_node.specs.Gathers.{gathers, result_for};
+ghost use Rattle.tally_node.specs.Extras.{blockers_laden, witnesses_laden, nothing_gathered, gathered_laden, arguments_gathered};
 ghost use Rattle.tally_node.specs.Origins.{itself, shows_any};
-ghost use Rattle.tally_node.specs.Laws.{StartLaw, TallyLaw, ForgetLaw, DropLaw, MoveLaw, ShownLaw, GatheredLaw};
+ghost use Rattle.tally_node.specs.Laws.{StartLaw, TallyLaw, ForgetLaw, DropLaw, MoveLaw, ShownLaw, GatheredLaw, LadenLaw, LoadLaw, ResumeLaw, OthersLaw};
 
 /// A node that keeps nothing counts nothing.
 pub fn a_new_node_counts_nothing()
@@ -54,4 +55,32 @@ pub fn counts_show_as_the_conditions_say()
 /// A left row is shown with the result over all candidates that pass.
 pub fn results_show_as_the_conditions_say()
     ensures { (a : Accumulate) → GatheredLaw a }
+{}
+
+/// A tally with the extra of candidates that it does not count is that of all of them.
+pub fn extras_make_up_for_candidates()
+    ensures blockers { LadenLaw Blockers counts_blockers blockers_laden nothing_gathered }
+    ensures witnesses { LadenLaw Witnesses counts_witnesses witnesses_laden nothing_gathered }
+    ensures gathered { (a : Accumulate) → LadenLaw Held (gathers a) (gathered_laden a) (arguments_gathered a) }
+{}
+
+/// A node that kept nothing stands after a load for what was loaded.
+pub fn a_load_leads_to_what_is_loaded()
+    ensures blockers { LoadLaw Blockers counts_blockers blockers_laden }
+    ensures witnesses { LoadLaw Witnesses counts_witnesses witnesses_laden }
+    ensures gathered { (a : Accumulate) → LoadLaw Held (gathers a) (gathered_laden a) }
+{}
+
+/// A node that was loaded with what is kept, and with extras of what is forgotten, stands for both.
+pub fn what_is_loaded_stands_for_what_is_forgotten()
+    ensures blockers { ResumeLaw Blockers counts_blockers blockers_laden nothing_gathered }
+    ensures witnesses { ResumeLaw Witnesses counts_witnesses witnesses_laden nothing_gathered }
+    ensures gathered { (a : Accumulate) → ResumeLaw Held (gathers a) (gathered_laden a) (arguments_gathered a) }
+{}
+
+/// Beside the kept candidates the tallies count the forgotten ones that pass.
+pub fn tallies_count_forgotten_candidates_beside_the_kept()
+    ensures blockers { OthersLaw Blockers counts_blockers }
+    ensures witnesses { OthersLaw Witnesses counts_witnesses }
+    ensures gathered { (a : Accumulate) → OthersLaw Held (gathers a) }
 {}

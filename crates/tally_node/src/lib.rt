@@ -13,4 +13,4 @@ mod tally;
 pub use count::{Blockers, Witnesses};
 pub use gathered::Gathered;
 pub use node::TallyNode;
-pub use tally::Tally;
+pub use tally::{Beyond, Tally};

@@ -15,6 +15,8 @@ ghost use Rattle.tally_node.specs.Tallies.{Turned, offers, shown, changed_at, Se
 ghost use Rattle.tally_node.specs.Parts.{PartStep, AllTurned, AllFollow, AllDropped, AllArrive, AllStay};
 ghost use Rattle.tally_node.specs.Origins.{is_from};
 
+mod loading;
+
 use crate::Tally;
 use fx_base::{Copies, Facts, NoMemory, Seq};
 use pair_memory::{Memories, names_alone};

@@ -1,0 +1,127 @@
+-- What the node of each kind stands for after a load.
+use Rattle.std.proofs.Common.{◌≡◌, ◌∙◌, sym, ap, refl, subst, ℤ, ◌≤ℤ◌, List, [], ◌∷◌, Bool, true, false, not, ◌&&◌, ◌||◌}
+use mathlib.Core.Path.{fun_ext}
+use Rattle.std.specs.Int.Signed.{≤ℤ_refl}
+use Rattle.std.specs.List.{list_any}
+use Rattle.row_delta.specs.declared.delta.Delta.{Delta}
+use Rattle.row_delta.specs.declared.extra.Extra.{Extra}
+use Rattle.row_delta.specs.declared.row.Named.{Named}
+use Rattle.row_delta.specs.declared.row.Row.{Row}
+use Rattle.row_delta.specs.Rows.{has}
+use Rattle.rule_model.specs.declared.condition.Accumulate.{Accumulate}
+use Rattle.rule_model.specs.declared.condition.Condition.{Condition}
+use Rattle.rule_model.specs.declared.condition.Condition.TheVariants.{Plain, Negated, Existing, Folded}
+use Rattle.rule_model.specs.declared.condition.Pattern.{Pattern}
+use Rattle.rule_model.specs.declared.program.Program.{Program}
+use Rattle.rule_model.specs.Rows.{pattern_of}
+use Rattle.rule_model.specs.Snapshots.{Snapshot, floor}
+use Rattle.join_tests.specs.Joins.{Look, joins}
+use Rattle.pair_memory.specs.declared.memories.Memories.{Memories}
+use Rattle.pair_memory.specs.Inputs.{IsStepped, row_naming}
+use Rattle.pair_memory.specs.Joined.{has_name}
+use Rattle.pair_memory.specs.Memories.{has_left, has_right, Keeps}
+use Rattle.pair_memory.specs.Standing.{cleaned, no_rows, no_names, StandsFor}
+use Rattle.beta_join.specs.declared.join.BetaJoin.{BetaJoin}
+use Rattle.tally_node.specs.declared.count.Witnesses.{Witnesses}
+use Rattle.tally_node.specs.declared.node.TallyNode.{TallyNode}
+use Rattle.tally_node.specs.Counts.{counts_blockers, counts_witnesses}
+use Rattle.tally_node.specs.Extras.{AllLaden, extra_for, blockers_laden, witnesses_laden, gathered_laden}
+use Rattle.tally_node.specs.Gathers.{gathers}
+use Rattle.tally_node.specs.Laws.{StandsLaden}
+use Rattle.tally_node.proofs.Resuming.{load_law}
+use Rattle.not_node.specs.declared.node.NotNode.{NotNode}
+use Rattle.not_node.specs.Rows.{IsInStep}
+use Rattle.not_node.specs.Waiting.{later}
+use Rattle.not_node.proofs.Quiet.{none_due}
+use Rattle.condition_rows.specs.Looks.{empty_snapshot}
+use Rattle.condition_rows.specs.Sets.{held, candidates_of}
+use Rattle.condition_node.specs.declared.node.FoldNode.{FoldNode}
+use Rattle.condition_node.specs.declared.node.Node.{Node}
+use Rattle.condition_node.specs.declared.node.Node.TheVariants as node
+use Rattle.condition_node.specs.Loading.{CountsLaden, IsLoad, Laden}
+use Rattle.condition_node.specs.Nodes.{condition_of, NodeStands}
+use Rattle.condition_node.proofs.Knowing.{held_known, joining_alike, candidate_alike}
+use Rattle.condition_node.proofs.Moved.{no_candidates}
+use Rattle.condition_node.proofs.Turning.{later_is, not_above}
+
+-- from a node that keeps nothing a load leads to the other, whatever is loaded so
+abbrev pub LoadsTo : Program → (Snapshot → Type 0) → Look → List Row → List Named → List Extra → Node → Node → Type 0
+LoadsTo p At look left right extras old new = (world : Look) (s : Snapshot) (rows : Row → Bool)
+    → NodeStands p old look empty_snapshot no_rows no_names → At s → IsLoad p (condition_of old) look world s rows left right extras → Laden p new look world s rows (extra_for extras)
+
+nothing_kept : {T : Type 0} (p : Program) (m : Memories T) (look : Look) → StandsFor m look no_rows (candidates_of p m.pattern empty_snapshot) no_names → StandsFor m look no_rows no_names no_names
+nothing_kept p m look stands = subst (λ (names : Named → Bool). StandsFor m look no_rows names no_names) (fun_ext (λ who. sym (no_candidates p m.pattern who))) stands
+
+pub all_clean : (rows : Row → Bool) (row : Row) → rows row ≡ cleaned rows no_names row
+all_clean rows row = sym (and_true (rows row)) ∙ ap (λ b. rows row && not b) (sym (none row.facts))
+  where
+    and_true : (b : Bool) → (b && true) ≡ b
+    and_true true = refl
+    and_true false = refl
+
+    none : (names : List Named) → list_any no_names names ≡ false
+    none [] = refl
+    none (n ∷ names) = none names
+
+pub all_remembered : (b : Bool) → b ≡ (b && not false)
+all_remembered true = refl
+all_remembered false = refl
+
+module _ (p : Program) (At : Snapshot → Type 0) (look : Look) (left : List Row) (right : List Named) (extras : List Extra) where
+  counts_loaded : {T : Type 0} (holds : T → Look → (Named → Bool) → Type 0) (laden : T → Look → (Named → Bool) → Extra → Type 0) (m n : Memories T) (c : Condition) → m.pattern ≡ pattern_of c
+      → Keeps m n look (λ row. has_left m look row || has left row) (λ who. has_right m look who || has_name right who) → AllLaden holds laden look extras (has left) m n
+      → (world : Look) (s : Snapshot) (rows : Row → Bool) → StandsFor m look no_rows (candidates_of p m.pattern empty_snapshot) no_names → IsLoad p c look world s rows left right extras
+      → CountsLaden holds laden p n look world s rows (extra_for extras)
+  counts_loaded holds laden m n c meant keeps loaded world s rows stands load =
+      let q = m.pattern in
+      subst (λ (r : Pattern). StandsLaden holds laden n look world (joins r (held s)) rows (candidates_of p r s) (extra_for extras)) (sym keeps.pattern)
+      (load_law holds laden m n look world (joins q (held s)) rows (candidates_of p q s) left right extras (nothing_kept p m look stands)
+      (joining_alike look (held s) s no_names load.at_hand (held_known s no_names) p q rows load.named)
+      (λ who e. candidate_alike world look s no_names load.known load.at_hand p q who e refl)
+      load.rows (λ who. load.candidates who ∙ ap (λ (r : Pattern). candidates_of p r s who) (sym meant)) load.in_order keeps loaded)
+
+  pub join_loads : (m n : BetaJoin) (rows_in names_in : Delta) → rows_in.come ≡ left → ((who : Named) → has names_in.come (row_naming who) ≡ has_name right who) → IsStepped m.memories n.memories look rows_in names_in
+      → LoadsTo p At look left right extras (node.Join m) (node.Join n)
+  join_loads m n rows_in names_in rows_are names_are stepped world s rows stands at load =
+      let nothing = nothing_kept p m.memories look stands in
+      subst (λ (q : Pattern). StandsFor n.memories look rows (candidates_of p q s) no_names) (sym stepped.pattern)
+      (record {
+        rows = λ row.
+            stepped.rows row ∙ ap (λ b. (b && not (has rows_in.gone row)) || has rows_in.come row) (nothing.rows row) ∙ ap (λ (rs : List Row). has rs row) rows_are ∙ load.rows row ∙ all_clean rows row;
+        names = λ who.
+            stepped.names who ∙ ap (λ b. (b && not (has names_in.gone (row_naming who))) || has names_in.come (row_naming who)) (nothing.names who) ∙ names_are who ∙ load.candidates who
+            ∙ all_remembered (candidates_of p m.memories.pattern s who);
+        agrees = stepped.agrees nothing.agrees;
+      })
+
+  pub exists_loads : (m n : TallyNode Witnesses) → Keeps m.memories n.memories look (λ row. has_left m.memories look row || has left row) (λ who. has_right m.memories look who || has_name right who)
+      → AllLaden counts_witnesses witnesses_laden look extras (has left) m.memories n.memories → LoadsTo p At look left right extras (node.Exists m) (node.Exists n)
+  exists_loads m n keeps loaded world s rows counts at load =
+      counts_loaded counts_witnesses witnesses_laden m.memories n.memories (Existing m.memories.pattern) refl keeps loaded world s rows counts.stands load
+
+  pub not_loads : (m n : NotNode) → Keeps m.tally.memories n.tally.memories look (λ row. has_left m.tally.memories look row || has left row) (λ who. has_right m.tally.memories look who || has_name right who)
+      → AllLaden counts_blockers blockers_laden look extras (has left) m.tally.memories n.tally.memories
+      → (told : ℤ) → ((s : Snapshot) → At s → told ≡ floor p s m.tally.memories.pattern.entry.0) → n.ripening.floor ≡ later m.ripening.floor told → (IsInStep p look m → IsInStep p look n)
+      → LoadsTo p At look left right extras (node.Not m) (node.Not n)
+  not_loads m n keeps loaded told told_is risen in_step world s rows waits at load =
+      let entry = m.tally.memories.pattern.entry.0 in
+      let floor_is : n.ripening.floor ≡ floor p s n.tally.memories.pattern.entry.0 =
+      risen ∙ ap (later m.ripening.floor) (told_is s at)
+      ∙ later_is m.ripening.floor (floor p s entry) (not_above m.ripening.floor (floor p empty_snapshot entry) (floor p s entry) waits.floor (load.floors entry))
+      ∙ ap (λ (q : Pattern). floor p s q.entry.0) (sym keeps.pattern) in
+      let now = floor p s n.tally.memories.pattern.entry.0 in
+      record {
+        counts = counts_loaded counts_blockers blockers_laden m.tally.memories n.tally.memories (Negated m.tally.memories.pattern) refl keeps loaded world s rows waits.counts.stands load;
+        in_step = in_step waits.in_step;
+        none_due = none_due p n look now (in_step waits.in_step) floor_is;
+        floor = subst (λ (z : ℤ). z ≤ℤ now) (sym floor_is) (≤ℤ_refl now);
+      }
+
+  pub fold_loads : (m n : FoldNode) → n.accumulate ≡ m.accumulate → Keeps m.tally.memories n.tally.memories look (λ row. has_left m.tally.memories look row || has left row) (λ who. has_right m.tally.memories look who || has_name right who)
+      → AllLaden (gathers m.accumulate) (gathered_laden m.accumulate) look extras (has left) m.tally.memories n.tally.memories → LoadsTo p At look left right extras (node.Fold m) (node.Fold n)
+  fold_loads m n same keeps loaded world s rows folds at load = record {
+    counts =
+        subst (λ (a : Accumulate). CountsLaden (gathers a) (gathered_laden a) p n.tally.memories look world s rows (extra_for extras)) (sym same)
+        (counts_loaded (gathers m.accumulate) (gathered_laden m.accumulate) m.tally.memories n.tally.memories (Folded m.accumulate) folds.pattern keeps loaded world s rows folds.counts.stands load);
+    pattern = keeps.pattern ∙ folds.pattern ∙ ap (λ (a : Accumulate). a.pattern) (sym same);
+  }

@@ -1,0 +1,26 @@
+-- The left rows as a list.
+use Rattle.std.proofs.Common.{◌≡◌, ◌∙◌, sym, ap, refl, List, Bool, true, false}
+use Rattle.std.specs.Option.{is_some}
+use Rattle.fx_base.specs.declared.value.Value.{Value}
+use Rattle.fx_base.specs.SameValues.{equal_values}
+use Rattle.fx_base.specs.Values.{same_value}
+use Rattle.row_delta.specs.declared.row.Row.{Row}
+use Rattle.row_delta.specs.Rows.{row_cmp, has}
+use Rattle.alpha_memory.specs.JoinIndex.{at, AreKeys}
+use Rattle.join_tests.specs.Joins.{Look}
+use Rattle.pair_memory.specs.declared.memories.Memories.{Memories}
+use Rattle.pair_memory.specs.Memories.{has_left, Agrees}
+
+same_either : (a b : Bool) → (a ≡ true → b ≡ true) → (b ≡ true → a ≡ true) → a ≡ b
+same_either true b f g = sym (f refl)
+same_either false true f g = g refl
+same_either false false f g = refl
+
+-- where each row stands under its own join value, the keys are the rows that are kept
+pub keys_kept : {S : Type 0} (m : Memories S) (look : Look) (rows : List Row) → AreKeys same_value row_cmp m.left rows → Agrees m look → (row : Row) → has rows row ≡ has_left m look row
+keys_kept m look rows keys agrees row =
+    same_either (has rows row) (has_left m look row)
+    (λ e.
+    let found = (keys row).0 e in
+    ap (λ (value : Value). is_some (at same_value row_cmp m.left value row)) (equal_values _ _ (agrees.rows found.0 row found.1)) ∙ found.1)
+    (λ e. (keys row).1 (_, e))

@@ -1,0 +1,23 @@
+use Rattle.std.proofs.Common.{◌≡◌, ◌∙◌, sym, ap, rules, List}
+use Rattle.std.proofs.lemmas.List.{map-id}
+use Rattle.std.proofs.lemmas.Iterator.{items_from_drains}
+use Rattle.std.proofs.lemmas.Iterator.Adapters.{YieldsList-from_vec}
+use Rattle.row_delta.specs.declared.row.Row.{Row}
+use Rattle.row_delta.specs.Rows.{has}
+use Rattle.pair_memory.proofs.Listing.{keys_kept}
+use Rattle.pair_memory.proofs.memories.Memories.left_rows.Goals as goal
+use Rattle.pair_memory.proofs.memories.Memories.left_rows.Goals.{In_ok-collect}
+
+-- the items that the set was made of
+items : (g : _) (c : In_ok-collect g) → c.in_ok-rows.ensures.ran.0 ≡ c.in_ok-keys.keys.items
+items g c =
+    sym (map-id c.in_ok-rows.ensures.ran.0)
+    ∙ items_from_drains c.in_ok-rows.ensures.ran.0 c.in_ok-rows.ensures.ran.1 (YieldsList-from_vec c.in_ok-keys.keys.items (cc) (cc))
+
+pub returns-clause-rows : goal.returns-clause-rows
+returns-clause-rows g c look agrees row =
+    let all : c.in_ok-collect.field-0.items ≡ c.in_ok-rows.rows.keys = search rules in
+    ap (λ (rows : List Row). has rows row) all
+    ∙ c.in_ok-rows.ensures.ran.2.0 row
+    ∙ ap (λ (rows : List Row). has rows row) (items g c)
+    ∙ keys_kept c.args.self.now look c.in_ok-keys.keys.items c.in_ok-keys.ensures agrees row

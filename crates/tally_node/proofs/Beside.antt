@@ -1,0 +1,70 @@
+-- What is counted beside left rows.
+use Rattle.std.proofs.Common.{◌≡◌, ◌∙◌, sym, ap, refl, subst, ℕ, zero, suc, ◌<◌, arith, List, [], ◌∷◌, length, Bool, true, false, ◌&&◌, ◌||◌, Option, Some, None, ℤ}
+use mathlib.Core.Path.{fun_ext}
+use Rattle.std.specs.Option.{is_some}
+use Rattle.fx_base.specs.declared.ids.RuleId.{RuleId}
+use Rattle.fx_base.specs.Lists.{In}
+use Rattle.row_delta.specs.declared.extra.Extra.{Extra}
+use Rattle.row_delta.specs.declared.row.Named.{Named}
+use Rattle.row_delta.specs.declared.row.Row.{Row}
+use Rattle.row_delta.specs.Rows.{has, InOrder}
+use Rattle.join_tests.specs.Joins.{Look, joins}
+use Rattle.pair_memory.specs.declared.memories.Memories.{Memories}
+use Rattle.pair_memory.specs.Joined.{has_name}
+use Rattle.pair_memory.specs.Memories.{left_at, has_left, has_right, Agrees}
+use Rattle.pair_memory.specs.Standing.{either}
+use Rattle.tally_node.specs.Beside.{IsOf, IsBeside}
+use Rattle.tally_node.specs.Extras.{AreApart, IsBeyond, IsExtraFor, CountsOthers, AreExtrasOf, IsAmong, extra_for}
+use Rattle.tally_node.specs.Tallies.{SeeAlike, passing}
+use Rattle.tally_node.proofs.Following.{first_of}
+use Rattle.tally_node.proofs.Searching.{AreListed, listed_in_order, listed_own, listed_for}
+
+-- where none is counted, the set has none
+pub none_beyond : (gathered : Look → List Named → List ℤ) (world : Look) (set : Named → Bool) (n : ℕ) (values : List ℤ) → IsBeyond gathered world set n values → n ≡ 0 → (who : Named) → set who ≡ false
+none_beyond gathered world set n values is e who = sym (is.all who) ∙ by is.names (is.count ∙ e)
+  where
+    by : (names : List Named) → length names ≡ 0 → has_name names who ≡ false
+    by [] f = refl
+    by (x ∷ xs) f = absurd (omega arith)
+
+pub positive : (n : ℕ) → (n ≡ 0 → ⊥) → 0 < n
+positive zero h = absurd (h refl)
+positive (suc n) h = omega arith
+
+module _ {T : Type 0} (holds : T → Look → (Named → Bool) → Type 0) (gathered : Look → List Named → List ℤ) (m : Memories T) (look world : Look) (others : Row → Named → Bool) (counts : CountsOthers holds m look world others)
+    (row : Row) (kept part : T) (there : left_at m look row ≡ Some kept) (names : List Named) (named : (who : Named) → has_name names who ≡ passing m.pattern look (has_right m look) row who)
+    (partial : (w : Look) → SeeAlike (has_name names) look w → holds part w (has_name names)) where
+  of_part : holds part world (has_name names)
+  of_part = partial world (λ who e. counts.alike who (first_of (has_right m look who) (joins m.pattern look row who) (sym (named who) ∙ e)))
+
+  -- what the tally counts beyond the kept candidates is what it counts of others
+  pub beyond_is : (n : ℕ) (values : List ℤ)
+      → ((w : Look) (set rest : Named → Bool) → AreApart set rest → holds kept w (either set rest) → holds part w set → IsBeyond gathered w rest n values) → IsBeyond gathered world (others row) n values
+  beyond_is n values more =
+      more world (has_name names) (others row) (λ who e. counts.apart row (ap is_some there) who (sym (named who) ∙ e))
+      (subst (holds kept world) (fun_ext (λ who. ap (λ b. b || others row who) (sym (named who)))) (counts.tallies row kept there)) of_part
+
+-- what is not there is not kept
+pub not_kept : {T : Type 0} (o : Option T) → None ≡ o → is_some o ≡ true → ⊥
+not_kept None e h = let f : false ≡ true = h in cc
+not_kept (Some t) e h = let f : None ≡ Some t = e in cc
+
+-- the extras of all rows in their order
+pub extras_of : {T : Type 0} (holds : T → Look → (Named → Bool) → Type 0) (gathered : Look → List Named → List ℤ) (m : Memories T) (look : Look) (under : RuleId) (place : ℕ) (rows : List Row) (extras : List Extra)
+    → InOrder rows → ((l : Look) → Agrees m l → (row : Row) → has rows row ≡ has_left m l row) → AreListed (IsBeside holds gathered m look under place) rows extras
+    → AreExtrasOf holds gathered m look under place extras
+extras_of holds gathered m look under place rows extras sorted kept are =
+    let beside = IsBeside holds gathered m look under place in
+    record {
+      in_order = listed_in_order under place beside (λ row o is. is.own) rows extras are sorted;
+      among = λ agrees e h.
+          let own = listed_own under place beside (λ row o is. is.own) rows extras are e h in
+          record {
+            rule = own.2.rule;
+            condition = own.2.condition;
+            kept = ap (has_left m look) own.2.row ∙ sym (kept look agrees own.0) ∙ own.1;
+            some = own.2.some;
+          };
+      exact = λ world others counts row there.
+          (listed_for under place beside (λ row o is. is.own) rows extras are sorted row (kept look counts.agrees row ∙ there)).exact world others counts there;
+    }

@@ -1,0 +1,14 @@
+use Rattle.tally_node.specs.Counts.{counts_blockers, counts_witnesses}
+use Rattle.tally_node.specs.Gathers.{gathers}
+use Rattle.tally_node.specs.Extras.{blockers_laden, witnesses_laden, gathered_laden, nothing_gathered, arguments_gathered}
+use Rattle.tally_node.proofs.Resuming.{resume_law, blockers_made_up, witnesses_made_up, gathered_made_up}
+use Rattle.tally_node.proofs.laws.what_is_loaded_stands_for_what_is_forgotten.Goals as goal
+
+pub returns-clause-blockers : goal.returns-clause-blockers
+returns-clause-blockers c = resume_law counts_blockers blockers_laden nothing_gathered blockers_made_up
+
+pub returns-clause-witnesses : goal.returns-clause-witnesses
+returns-clause-witnesses c = resume_law counts_witnesses witnesses_laden nothing_gathered witnesses_made_up
+
+pub returns-clause-gathered : goal.returns-clause-gathered
+returns-clause-gathered c a = resume_law (gathers a) (gathered_laden a) (arguments_gathered a) (gathered_made_up a)

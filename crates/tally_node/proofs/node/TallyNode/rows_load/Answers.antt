@@ -1,0 +1,40 @@
+use Rattle.std.proofs.Common.{◌∙◌, sym, ap, subst, ◌+◌, ◌||◌, take, Bor}
+use Rattle.std.specs.Ordering.{eq_by_cmp}
+use Rattle.std.specs.Option.{option_map}
+use Rattle.row_delta.specs.declared.extra.Extra.{Extra}
+use Rattle.row_delta.specs.Rows.{has, row_cmp, InOrder}
+use Rattle.row_delta.specs.RowOrder.{same_equiv}
+use Rattle.pair_memory.specs.Memories.{has_left, has_right}
+use Rattle.pair_memory.proofs.Joining.{row_decides}
+use Rattle.pair_memory.proofs.Turning.{more_more}
+use Rattle.tally_node.specs.Extras.{extra_for, rows_of_extras}
+use Rattle.tally_node.specs.Parts.{PartStep, AllLoaded}
+use Rattle.tally_node.specs.Tallies.{shown}
+use Rattle.tally_node.proofs.Following.{rows_more, take_all}
+use Rattle.tally_node.proofs.Loading.{load_then}
+use Rattle.tally_node.proofs.Parts.{part_then}
+use Rattle.tally_node.proofs.node.TallyNode.rows_load.Goals as goal
+
+pub loop-row-preserved : goal.loop-row-preserved
+loop-row-preserved g c =
+    let look = g.F.Facts.map c.args.facts.now in
+    let m = c.args.self.now.memories in
+    let n = c.loop-row.self.memories in
+    let z = c.row_loads.new.self.memories in
+    let rows = c.args.rows.now in
+    let i = c.loop-row.row-index in
+    let row = c.row-item.result in
+    part_then _ _ _ m n z look _ _ _ _ _ _ _ _ _ c.loop-row.invariant c.in_ok-row_loads.ensures
+    (λ r. more_more (eq_by_cmp row_cmp) same_equiv.symm rows i c.loop-row-test.true row row c.row-item.is r (has_left m look r) (has_left n look r) (c.loop-row.invariant.keeps.rows r))
+    c.loop-row.invariant.keeps.names
+    (λ p q sorted.
+    load_then (g.T.Tally.holds c.args.plan.now) (g.T.Tally.laden c.args.plan.now) look m n z (extra_for c.args.extras.now) _ c.loop-row.invariant.keeps (has (take i rows)) (eq_by_cmp row_cmp row) (has (take (i + 1) rows)) (rows_more rows i row c.loop-row-test.true c.row-item.is)
+    (option_map (λ (e : Bor Extra). e.now) c.extra_of-extra.result) (λ r e. c.extra_of-extra.ensures sorted ∙ ap (extra_for c.args.extras.now) ((row_decides row r).0 e)) (p sorted) q)
+
+pub returns : goal.returns
+returns g c =
+    let look = g.F.Facts.map c.args.facts.now in
+    let first = c.args.self.now.memories in
+    subst (λ rows. PartStep (shown g.T.Tally.origin g.T.Tally.gives (g.T.Tally.output c.args.plan.now)) (λ m n. InOrder (rows_of_extras c.args.extras.now) → AllLoaded (g.T.Tally.holds c.args.plan.now) (g.T.Tally.laden c.args.plan.now) look (extra_for c.args.extras.now) (has rows) m n) first c.loop-row.self.memories look
+    (λ r. has_left first look r || has rows r) (has_right first look) c.args.change.now c.loop-row.change)
+    (take_all c.args.rows.now c.loop-row.row-index c.loop-row-test.false) c.loop-row.invariant
