@@ -83,7 +83,6 @@ module _ (p : Program) (old new : List NetNode) (ends ends_now : List ℕ) (same
 found_again : (index : Index) (k : ℕ) (old new : NetNode) → new.parent ≡ old.parent → condition_of new.node ≡ condition_of old.node → IsFound index k old → IsFound index k new
 found_again index k old new parent condition was = record {
   typed = ap (λ (c : Condition). is_listed index.by_type (pattern_of c).ty.0 k) condition ∙ was.typed;
-  timed = λ e. was.timed (ap (λ (c : Condition). is_negated c || not (is_whole (pattern_of c).window)) (sym condition) ∙ e);
   first = λ e. was.first (sym parent ∙ e);
   child = λ q e. was.child q (sym parent ∙ e);
 }
