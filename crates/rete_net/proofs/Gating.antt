@@ -1,5 +1,5 @@
 -- A gate stays as it is until something is due in it, whatever goes and comes that is not meant.
-use Rattle.std.proofs.Common.{◌≡◌, ◌∙◌, sym, ap, refl, subst, ℤ, ◌≤ℤ◌, ◌<ℤ◌, ◌&&◌, not, ◌||◌, Bool, true, false, List, [], map, Option, Some, None, IfSome}
+use Rattle.std.proofs.Common.{◌≡◌, ◌∙◌, sym, ap, refl, subst, ℕ, ℤ, ◌≤ℤ◌, ◌<ℤ◌, ◌-ℤ◌, ◌&&◌, not, ◌||◌, Bool, true, false, List, [], map, Option, Some, None, IfSome}
 use Rattle.std.specs.List.Sorted.{IsStrictlySortedBy}
 use Rattle.std.specs.Ordering.{nat_cmp}
 use Rattle.fx_base.specs.declared.fact.Fact.{Fact}
@@ -27,13 +27,13 @@ use Rattle.rete_net.specs.Schedules.{IsGateStill}
 abbrev plain : Program
 plain = record { types = []; entries = []; rules = [] }
 
-no_event : (ty : _) → is_event plain ty ≡ false
+no_event : (ty : ℕ) → is_event plain ty ≡ false
 unfolding is_event
 no_event ty = refl
 
 always_present : (clock : ℤ) (f : Fact) → is_present plain clock f ≡ true
 unfolding is_present
-always_present clock f = ap (λ event. not event || is_within (expiry_of plain f.ty.0) _) (no_event f.ty.0)
+always_present clock f = ap (λ event. not event || is_within (expiry_of plain f.ty.0) (clock -ℤ f.times.start)) (no_event f.ty.0)
 
 plainly : (s : Snapshot) → IsStrictlySortedBy nat_cmp (map (λ (f : Fact). f.tag.0) s.facts) → IsOrderly plain s
 plainly s in_order = record {

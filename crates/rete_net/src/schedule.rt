@@ -1,4 +1,4 @@
-ghost use Rattle.std.specs.Prelude.{◌≡◌, ℕ, ℤ, Option, Some, false, true, slice_get, IfOk, IfSome, OnOk};
+ghost use Rattle.std.specs.Prelude.{◌≡◌, ◌+ℤ◌, pos, ℕ, ℤ, Option, Some, false, true, slice_get, IfOk, IfSome, OnOk};
 ghost use Rattle.rule_model.specs.declared.program.Program.{Program as ProgramData};
 ghost use Rattle.rule_model.specs.Moments.{snapshot_at};
 ghost use Rattle.rule_model.specs.Snapshots.{floor};
@@ -37,9 +37,7 @@ impl EntryTimers {
         ensures kept { OnOk result ((k : ℕ) → has_place due.old.keys k ≡ true → has_place due.new.keys k ≡ true) }
         ensures put { OnOk result ((k : ℕ) (up_to : Option ℤ) → IsSet self.now.timers k up_to → has_place due.new.keys k ≡ false → IsFrom (floor program.now (snapshot_at moment.now) self.now.entry.0) up_to) }
     {
-        let places = self
-            .timers
-            .below(alloc, moment.floor(program, self.entry))?;
+        let places = self.timers.below(alloc, moment.floor(program, self.entry))?;
         put_all(due, &places)
     }
 }
@@ -121,6 +119,19 @@ impl Schedule {
         }
     }
 
+    // Puts the nodes whose moment of the clock has come.
+    fn put_past(
+        &self,
+        due: &mut BTreeSet<usize, Global>,
+        alloc: Global,
+        moment: &Moment,
+    ) -> Result<(), NoMemory>
+        ensures { OnOk result ((k : ℕ) (until : Option ℤ) → IsSet self.now.clock k until → has_place due.new.keys k ≡ false → IsFrom (moment.now.clock +ℤ pos 1) until) }
+    {
+        let places = self.clock.below(alloc, i128::from(moment.clock) + 1)?;
+        put_all(due, &places)
+    }
+
     /// The nodes in which something is due at a moment. It costs the logarithm of the nodes that stand here for each of them, and a look
     /// at each entry point.
     pub(crate) fn due(
@@ -132,8 +143,7 @@ impl Schedule {
         ensures { IfOk result (λ due. (k : ℕ) (n : NetNodeData) → IsScheduled program.now self.now k n → has_place due.keys k ≡ false → IsUndue program.now n moment.now) }
     {
         let mut due = BTreeSet::new(alloc);
-        let places = self.clock.below(alloc, i128::from(moment.clock) + 1)?;
-        put_all(&mut due, &places)?;
+        self.put_past(&mut due, alloc, moment)?;
         for line in self.floors.as_slice() {
             line.put_due(&mut due, alloc, program, moment)?;
         }

@@ -18,8 +18,8 @@ pub returns-clause-stepped : goal.returns-clause-stepped
 returns-clause-stepped g c wired scheduled =
     let walked = c.in_ok-answered.ensures in
     net_step c.args.program.now (g.F.Facts.map c.args.facts.now) (lent c.args.gone.now) (option_map (λ f. f.now) c.args.come) c.args.moment.now c.args.first.now
-    c.args.self.now.nodes.items c.walk.new.self.nodes.items c.args.self.now.ends.items c.args.self.now.index c.in_ok-answered.answered c.in_ok-changes.changes.items c.deref-2.result.now
-    wired walked.replaced.many (c.deref-2.ensures.value ∙ ap (λ ends. ends.items) walked.ends) (walked.answered wired scheduled) c.in_ok-changes.ensures.changes
+    c.args.self.now.nodes.items c.walk.new.self.nodes.items c.args.self.now.ends.items c.args.self.now.index c.in_ok-answered.answered c.in_ok-changes.changes.items c.deref.result.now
+    wired walked.replaced.many (c.deref.ensures.value ∙ ap (λ ends. ends.items) walked.ends) (walked.answered wired scheduled) c.in_ok-changes.ensures.changes
 
 pub returns-clause-quiet : goal.returns-clause-quiet
 returns-clause-quiet g c scheduled =
@@ -28,4 +28,4 @@ returns-clause-quiet g c scheduled =
 pub returns-clause-rules : goal.returns-clause-rules
 returns-clause-rules g c =
     subst (λ (ends : List ℕ). length ends < 2 ^ 16 → (change : RuleChange) → In change c.in_ok-changes.changes.items → change.rule.0 < length ends)
-    (c.deref-2.ensures.value ∙ ap (λ ends. ends.items) c.in_ok-answered.ensures.ends) c.in_ok-changes.ensures.rules
+    (c.deref.ensures.value ∙ ap (λ ends. ends.items) c.in_ok-answered.ensures.ends) c.in_ok-changes.ensures.rules
