@@ -1,5 +1,5 @@
 -- A gate stays as it is until something is due in it, whatever goes and comes that is not meant.
-use Rattle.std.proofs.Common.{◌≡◌, ◌∙◌, sym, ap, refl, subst, ℕ, ℤ, ◌≤ℤ◌, ◌<ℤ◌, ◌-ℤ◌, ◌&&◌, not, ◌||◌, Bool, true, false, List, [], map, Option, Some, None, IfSome}
+use Rattle.std.proofs.Common.{◌≡◌, ◌∙◌, sym, ap, refl, subst, ℕ, ℤ, ◌≤ℤ◌, ◌<ℤ◌, ◌-ℤ◌, ◌&&◌, not, ◌||◌, true, false, List, [], map, Option, IfSome}
 use Rattle.std.specs.List.Sorted.{IsStrictlySortedBy}
 use Rattle.std.specs.Ordering.{nat_cmp}
 use Rattle.fx_base.specs.declared.fact.Fact.{Fact}

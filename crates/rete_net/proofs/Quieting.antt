@@ -1,5 +1,5 @@
 -- How long the nodes of a network are quiet, and the network with them.
-use Rattle.std.proofs.Common.{◌≡◌, ◌∙◌, sym, ap, refl, subst, ℕ, zero, suc, ◌+◌, ℤ, pos, ◌<◌, ◌≤ℤ◌, ◌<ℤ◌, ◌^◌, arith, Bool, List, length, get_or, Option, Some, None, slice_get, IfSome, true, false, not}
+use Rattle.std.proofs.Common.{◌≡◌, ◌∙◌, sym, ap, refl, subst, ℕ, zero, suc, ℤ, pos, ◌<◌, ◌≤ℤ◌, ◌<ℤ◌, ◌^◌, arith, Bool, List, length, get_or, Option, Some, None, slice_get, IfSome, true, false, not}
 use mathlib.Core.Path.{fun_ext}
 use Rattle.std.specs.Int.Signed.{≤ℤ_refl}
 use Rattle.std.proofs.lemmas.Option.{slice_get_within, slice_get-get_or}
@@ -13,7 +13,7 @@ use Rattle.rule_model.specs.Snapshots.{Snapshot}
 use Rattle.pair_memory.specs.Standing.{cleaned}
 use Rattle.condition_rows.specs.Lines.{line}
 use Rattle.condition_rows.specs.Sets.{held, candidates_of, rows_of}
-use Rattle.pattern_gate.specs.Gates.{GateStands, arrivals, kind_of}
+use Rattle.pattern_gate.specs.Gates.{GateStands, arrivals}
 use Rattle.pattern_gate.specs.Moves.{IsOrderly, at_clock}
 use Rattle.condition_node.specs.Nodes.{condition_of, is_negated}
 use Rattle.condition_node.specs.Quiet.{IsBefore, IsQuiet}

@@ -1,5 +1,5 @@
 -- The schedule of the nodes, as one of them is put anew.
-use Rattle.std.proofs.Common.{◌≡◌, ◌∙◌, sym, ap, refl, subst, ℕ, ℤ, ◌+ℤ◌, ◌≤ℤ◌, ◌<ℤ◌, pos, List, Option, Some, None, true, false, slice_get, inl, inr, arith, int_lt}
+use Rattle.std.proofs.Common.{◌≡◌, ◌∙◌, sym, ap, refl, subst, ℕ, ℤ, ◌+ℤ◌, ◌≤ℤ◌, pos, List, Option, Some, None, true, false, slice_get, inl, inr, arith, int_lt}
 use Rattle.std.proofs.Math.ListN.{set}
 use Rattle.std.proofs.lemmas.Int.{ints}
 use Rattle.row_delta.specs.declared.row.Row.{Row}
@@ -14,7 +14,7 @@ use Rattle.rete_net.specs.declared.schedule.EntryTimers.{EntryTimers}
 use Rattle.rete_net.specs.declared.schedule.Schedule.{Schedule}
 use Rattle.rete_net.specs.Indexes.{is_timed}
 use Rattle.rete_net.specs.Quiet.{IsNodeQuiet}
-use Rattle.rete_net.specs.Schedules.{entry_of, AreScheduled, IsScheduled, IsStillAt, IsUndue}
+use Rattle.rete_net.specs.Schedules.{entry_of, AreScheduled, IsScheduled, IsUndue}
 use Rattle.rete_net.specs.Timers.{IsFrom, IsSet}
 use Rattle.rete_net.proofs.Growing.{both_at}
 use Rattle.rete_net.proofs.Quieting.{node_quieter}

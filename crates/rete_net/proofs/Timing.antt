@@ -1,5 +1,5 @@
 -- Places that wait for moments: what is put, and which are in front.
-use Rattle.std.proofs.Common.{◌≡◌, ◌∙◌, sym, ap, refl, subst, ℕ, ℤ, ◌≤ℤ◌, ◌<ℤ◌, List, [], ◌∷◌, map as list_map, take, suc, ◌+◌, ◌<◌, length, Bool, true, false, cond, ◌||◌, Option, Some, None, int_lt, arith}
+use Rattle.std.proofs.Common.{◌≡◌, ◌∙◌, sym, ap, refl, subst, ℕ, ℤ, ◌≤ℤ◌, ◌<ℤ◌, List, [], ◌∷◌, map as list_map, take, suc, ◌+◌, Bool, true, false, cond, ◌||◌, Option, Some, None, int_lt, arith}
 use Rattle.std.specs.Prelude.{take_while, nat_eq}
 use Rattle.std.specs.declared.cmp.Ordering.{Ordering}
 use Rattle.std.specs.declared.cmp.Ordering.TheVariants.{Less, Equal, Greater}

@@ -1,4 +1,4 @@
-use Rattle.std.proofs.Common.{◌≡◌, sym, subst}
+use Rattle.std.proofs.Common.{sym, subst}
 use Rattle.condition_node.specs.declared.node.Node.{Node}
 use Rattle.rete_net.specs.Schedules.{IsStillAt}
 use Rattle.rete_net.proofs.Scheduling.{none_below}
