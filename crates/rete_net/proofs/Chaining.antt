@@ -23,7 +23,7 @@ use Rattle.pattern_gate.specs.Moves.{Moves}
 use Rattle.condition_node.specs.Nodes.{condition_of}
 use Rattle.condition_node.specs.Turns.{CountedStay}
 use Rattle.rete_net.specs.declared.node.NetNode.{NetNode}
-use Rattle.rete_net.specs.Nets.{NetNodeStands}
+use Rattle.rete_net.specs.Standing.{NetNodeStands}
 use Rattle.rete_net.specs.Shapes.{before, IsShaped, EndsAt}
 use Rattle.rete_net.specs.Steps.{delta_at, left_delta, IsNodeTurn, NodeStep, SteppedBelow}
 use Rattle.rule_model.specs.declared.moment.Moment.{Moment}

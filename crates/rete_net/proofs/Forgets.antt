@@ -18,7 +18,7 @@ use Rattle.condition_node.specs.Forgetting.{ForgetsIn}
 use Rattle.condition_node.specs.Nodes.{condition_of, NodeStands}
 use Rattle.rete_net.specs.declared.node.NetNode.{NetNode}
 use Rattle.rete_net.specs.Dropped.{IsForgetting, NodeForgets}
-use Rattle.rete_net.specs.Nets.{NetNodeStands}
+use Rattle.rete_net.specs.Standing.{NetNodeStands}
 use Rattle.rete_net.proofs.Turning.{MoveLaw, held_has}
 
 neither : (a b : Bool) → (a || b) ≡ false → a ≡ false

@@ -1,5 +1,5 @@
 -- The shape of a network, which each step of its nodes keeps.
-use Rattle.std.proofs.Common.{◌≡◌, ◌∙◌, sym, ap, subst, ℕ, ◌<◌, arith, not, ◌||◌, Bool, true, List, ◌∷◌, ◌++◌, [], length, Option, Some, slice_get}
+use Rattle.std.proofs.Common.{◌≡◌, ◌∙◌, sym, ap, subst, ℕ, ◌<◌, arith, Bool, true, List, ◌∷◌, ◌++◌, [], length, Option, Some, slice_get}
 use Rattle.std.proofs.lemmas.Option.{slice_get_within}
 use Rattle.fx_base.specs.declared.fact.Fact.{Fact}
 use Rattle.row_delta.specs.declared.delta.Delta.{Delta}
@@ -10,7 +10,7 @@ use Rattle.rule_model.specs.declared.program.Program.{Program}
 use Rattle.rule_model.specs.Rows.{pattern_of}
 use Rattle.join_tests.specs.Joins.{Look}
 use Rattle.pattern_gate.specs.Gates.{has_good_window}
-use Rattle.condition_node.specs.Nodes.{condition_of, is_negated}
+use Rattle.condition_node.specs.Nodes.{condition_of}
 use Rattle.rete_net.specs.declared.changes.RuleChange.{RuleChange}
 use Rattle.rete_net.specs.declared.node.NetNode.{NetNode}
 use Rattle.rete_net.specs.Dropped.{ForgotBelow}
@@ -19,7 +19,6 @@ use Rattle.rete_net.specs.Steps.{NetStep}
 use Rattle.rete_net.specs.Indexes.{is_listed, IsFound, IsIndexOf}
 use Rattle.rete_net.specs.Walks.{IsReplaced, IsWired}
 use Rattle.rete_net.specs.declared.index.Index.{Index}
-use Rattle.rule_model.specs.Simple.{is_whole}
 use Rattle.rete_net.proofs.Growing.{has_at, both_at}
 use Rattle.rule_model.specs.declared.moment.Moment.{Moment}
 
@@ -83,7 +82,6 @@ module _ (p : Program) (old new : List NetNode) (ends ends_now : List ℕ) (same
 found_again : (index : Index) (k : ℕ) (old new : NetNode) → new.parent ≡ old.parent → condition_of new.node ≡ condition_of old.node → IsFound index k old → IsFound index k new
 found_again index k old new parent condition was = record {
   typed = ap (λ (c : Condition). is_listed index.by_type (pattern_of c).ty.0 k) condition ∙ was.typed;
-  timed = λ e. was.timed (ap (λ (c : Condition). is_negated c || not (is_whole (pattern_of c).window)) (sym condition) ∙ e);
   first = λ e. was.first (sym parent ∙ e);
   child = λ q e. was.child q (sym parent ∙ e);
 }

@@ -16,7 +16,7 @@ use Rattle.pattern_gate.specs.Gates.{has_good_window}
 use Rattle.condition_node.specs.Nodes.{condition_of}
 use Rattle.rete_net.specs.declared.build.Origin.{Origin}
 use Rattle.rete_net.specs.declared.node.NetNode.{NetNode}
-use Rattle.rete_net.specs.Nets.{IsFresh}
+use Rattle.rete_net.specs.Standing.{IsFresh}
 use Rattle.rete_net.specs.Shapes.{IsFront}
 use Rattle.rule_world.specs.Programs.{has_window}
 use Rattle.rete_net.specs.Building.{IsParent, IsBehind, AreBuilt, HaveEnds, AreDistinct, IsFrom, AreGrown}

@@ -22,6 +22,9 @@ mod Skipping
 mod Places
 mod Listed
 mod Lone
+mod Gating
+mod Timing
+mod Scheduling
 mod Walking
 mod Steady
 mod Telling

@@ -7,7 +7,10 @@ use Rattle.row_delta.specs.Rows.{has}
 use Rattle.row_change.specs.Changes.{changes_nothing}
 use Rattle.rule_model.specs.declared.program.Program.{Program}
 use Rattle.rule_model.specs.declared.moment.Moment.{Moment}
+use Rattle.rule_model.specs.Moments.{IsAt, snapshot_at}
 use Rattle.rule_model.specs.Rows.{pattern_of}
+use Rattle.rule_model.specs.Snapshots.{Snapshot, floor}
+use Rattle.not_node.specs.declared.node.NotNode.{NotNode}
 use Rattle.rule_model.specs.Simple.{is_whole}
 use Rattle.rule_model.specs.declared.condition.Pattern.{Pattern}
 use Rattle.rule_model.specs.declared.condition.WindowTag.{WindowTag}
@@ -26,9 +29,11 @@ use Rattle.pattern_gate.proofs.Moving.{same_arrivals, stands_still, same_candida
 use Rattle.condition_node.specs.declared.node.Node.{Node}
 use Rattle.condition_node.specs.declared.node.Node.TheVariants as node
 use Rattle.condition_node.specs.Nodes.{condition_of, is_negated}
-use Rattle.condition_node.proofs.Still.{Stays, TellsNothing, join_still, join_tells_nothing, exists_still, exists_tells_nothing, fold_still, fold_tells_nothing}
+use Rattle.condition_node.proofs.Still.{Stays, TellsNothing, join_still, join_tells_nothing, exists_still, exists_tells_nothing, fold_still, fold_tells_nothing, not_still, not_tells_nothing}
+use Rattle.condition_node.proofs.Turning.{floor_told}
 use Rattle.rete_net.specs.declared.node.NetNode.{NetNode}
-use Rattle.rete_net.specs.Indexes.{IsLeftAlone}
+use Rattle.rete_net.specs.Indexes.{is_timed}
+use Rattle.rete_net.specs.Schedules.{IsLeftAlone, IsStillAt, IsUndue}
 use Rattle.rete_net.specs.Steps.{no_change, NodeStep}
 use Rattle.rete_net.proofs.Skipping.{GateStays, skipped}
 
@@ -88,10 +93,48 @@ module _ (p : Program) (moment : Moment) where
   tells_nothing (node.Exists tally) e = exists_tells_nothing p moment tally
   tells_nothing (node.Fold fold) e = fold_tells_nothing p moment fold
 
-pub alone_stays : (p : Program) (look : Look) (gone : List Fact) (come : Option Fact) (moment : Moment) (first : Delta) (n : NetNode) (left : Delta) → IsLeftAlone n first gone come → changes_nothing left ≡ true
-    → NodeStep p look gone come moment n n left no_change
-alone_stays p look gone come moment first n left alone none =
-    let q = pattern_of (condition_of n.node) in
-    let joins : is_negated (condition_of n.node) ≡ false = neither_left (is_negated (condition_of n.node)) (not (is_whole q.window)) alone.untimed in
-    let whole : is_whole q.window ≡ true = neither_right (is_negated (condition_of n.node)) (is_whole q.window) alone.untimed in
-    skipped p look gone come moment n left (gate_stays p q n.gate gone come moment.clock whole alone.unmeant) (stays p moment n.node joins) (tells_nothing p moment n.node joins) none
+-- ---- nodes of any kind by a floor
+
+module _ (p : Program) (moment : Moment) where
+  abbrev told : Node → ℤ
+  told n = floor p (snapshot_at moment) (pattern_of (condition_of n)).entry.0
+
+  told_is : (waiting : NotNode) (next : Snapshot) → IsAt next moment → told (node.Not waiting) ≡ floor p next waiting.tally.memories.pattern.entry.0
+  told_is waiting next at = floor_told p moment waiting.tally.memories.pattern waiting.tally.memories.pattern (told (node.Not waiting)) refl refl next at
+
+  stays_at : (n : Node) → IsStillAt n (told n) → Stays p moment n
+  stays_at (node.Join join) still = join_still p moment join
+  stays_at (node.Not waiting) still = not_still p moment waiting (told (node.Not waiting)) (told_is waiting) still
+  stays_at (node.Exists tally) still = exists_still p moment tally
+  stays_at (node.Fold fold) still = fold_still p moment fold
+
+  tells_nothing_at : (n : Node) → IsStillAt n (told n) → TellsNothing p moment n
+  tells_nothing_at (node.Join join) still = join_tells_nothing p moment join
+  tells_nothing_at (node.Not waiting) still = not_tells_nothing p moment waiting (told (node.Not waiting)) (told_is waiting) still
+  tells_nothing_at (node.Exists tally) still = exists_tells_nothing p moment tally
+  tells_nothing_at (node.Fold fold) still = fold_tells_nothing p moment fold
+
+module _ (p : Program) (look : Look) (gone : List Fact) (come : Option Fact) (moment : Moment) (first : Delta) (n : NetNode) (left : Delta) (alone : IsLeftAlone p n first gone come moment) (none : changes_nothing left ≡ true) where
+  abbrev asked : Pattern
+  asked = pattern_of (condition_of n.node)
+
+  by_time : IsUndue p n moment → NodeStep p look gone come moment n n left no_change
+  by_time undue =
+      skipped p look gone come moment n left (record {
+        stands = λ s next stands moves at. undue.gate.stands p asked s next gone come alone.unreached.unmeant stands moves at;
+        candidates = λ s next stands moves at. undue.gate.candidates p asked s next gone come alone.unreached.unmeant stands moves at;
+      })
+      (stays_at p moment n.node undue.node) (tells_nothing_at p moment n.node undue.node) none
+
+  untimed : is_timed n ≡ false → NodeStep p look gone come moment n n left no_change
+  untimed e =
+      let joins : is_negated (condition_of n.node) ≡ false = neither_left (is_negated (condition_of n.node)) (not (is_whole asked.window)) e in
+      let whole : is_whole asked.window ≡ true = neither_right (is_negated (condition_of n.node)) (is_whole asked.window) e in
+      skipped p look gone come moment n left (gate_stays p asked n.gate gone come moment.clock whole alone.unreached.unmeant) (stays p moment n.node joins) (tells_nothing p moment n.node joins) none
+
+  pub alone_stays : NodeStep p look gone come moment n n left no_change
+  alone_stays = by (is_timed n) refl
+    where
+      by : (t : Bool) → is_timed n ≡ t → NodeStep p look gone come moment n n left no_change
+      by true e = by_time (alone.undue e)
+      by false e = untimed e

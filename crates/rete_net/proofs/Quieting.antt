@@ -1,5 +1,5 @@
 -- How long the nodes of a network are quiet, and the network with them.
-use Rattle.std.proofs.Common.{◌≡◌, ◌∙◌, sym, ap, refl, subst, inl, inr, ℕ, zero, suc, ◌+◌, ℤ, pos, ◌<◌, ◌≤ℤ◌, ◌<ℤ◌, ◌^◌, arith, Bool, List, length, get_or, Option, Some, None, slice_get, IfSome, true, false, not, ◌||◌, ◌==◌, take, map, ◌⊎◌, nat_eq}
+use Rattle.std.proofs.Common.{◌≡◌, ◌∙◌, sym, ap, refl, subst, ℕ, zero, suc, ℤ, pos, ◌<◌, ◌≤ℤ◌, ◌<ℤ◌, ◌^◌, arith, Bool, List, length, get_or, Option, Some, None, slice_get, IfSome, true, false, not}
 use mathlib.Core.Path.{fun_ext}
 use Rattle.std.specs.Int.Signed.{≤ℤ_refl}
 use Rattle.std.proofs.lemmas.Option.{slice_get_within, slice_get-get_or}
@@ -13,7 +13,7 @@ use Rattle.rule_model.specs.Snapshots.{Snapshot}
 use Rattle.pair_memory.specs.Standing.{cleaned}
 use Rattle.condition_rows.specs.Lines.{line}
 use Rattle.condition_rows.specs.Sets.{held, candidates_of, rows_of}
-use Rattle.pattern_gate.specs.Gates.{GateStands, arrivals, kind_of}
+use Rattle.pattern_gate.specs.Gates.{GateStands, arrivals}
 use Rattle.pattern_gate.specs.Moves.{IsOrderly, at_clock}
 use Rattle.condition_node.specs.Nodes.{condition_of, is_negated}
 use Rattle.condition_node.specs.Quiet.{IsBefore, IsQuiet}
@@ -27,15 +27,15 @@ use Rattle.rete_net.proofs.Chaining.{AreMade}
 use Rattle.rete_net.proofs.Cleaning.{line_cleaned}
 use Rattle.rete_net.proofs.Turning.{held_has, rising}
 use Rattle.rete_net.proofs.Lone.{inside_still, neither_left, neither_right}
-use Rattle.std.proofs.lemmas.Bool.Decides.{Decides-eqb}
-use Rattle.std.proofs.lemmas.List.Folds.{list_any_more}
 use Rattle.rule_model.specs.Simple.{is_whole}
 use Rattle.pattern_gate.specs.declared.gate.PatternGate.{PatternGate}
 use Rattle.pattern_gate.proofs.Moving.{arrivals_still, same_candidates}
 use Rattle.condition_node.specs.declared.node.Node.{Node}
 use Rattle.condition_node.specs.declared.node.Node.TheVariants as node
 use Rattle.condition_node.proofs.Quietness.{join_quiet, exists_quiet, fold_quiet}
-use Rattle.rete_net.specs.Indexes.{is_in, is_timed}
+use Rattle.rete_net.specs.Indexes.{is_timed}
+use Rattle.rete_net.specs.Schedules.{AreScheduled, IsScheduled}
+use Rattle.rete_net.specs.declared.schedule.Schedule.{Schedule}
 
 -- ---- one node
 
@@ -44,7 +44,7 @@ abbrev pub IsGateQuiet : Program → NetNode → Option ℤ → Type 0
 IsGateQuiet p n until = (pattern : Pattern) (s : Snapshot) (clock : ℤ) → GateStands p pattern n.gate s → IsOrderly p s → IsOrderly p (at_clock s clock)
     → s.clock ≤ℤ clock → IfSome until (λ at. clock <ℤ at) → (who : Named) → candidates_of p pattern (at_clock s clock) who ≡ candidates_of p pattern s who
 
-if_before : (until : Option ℤ) (clock : ℤ) → IsBefore until clock → IfSome until (λ at. clock <ℤ at)
+pub if_before : (until : Option ℤ) (clock : ℤ) → IsBefore until clock → IfSome until (λ at. clock <ℤ at)
 if_before None clock h = tt
 if_before (Some at) clock h = h
 
@@ -85,26 +85,15 @@ untimed_quiet p n until untimed s rows forgotten clock stands named kept kept_no
           (held s) s rows forgotten clock (rising s.facts kept.in_order) (held_has s forgotten) named stands.node begun later low before same;
     }
 
--- ---- the nodes in some places, and one more
-
-abbrev pub AreQuietAmong : Program → List NetNode → Option ℤ → List ℕ → Type 0
-AreQuietAmong p nodes until places = (k : ℕ) (n : NetNode) → is_in places k ≡ true → slice_get nodes k ≡ Some n → IsNodeQuiet p n until
-
-or_else : (a b : Bool) → (a || b) ≡ true → (a ≡ true) ⊎ (b ≡ true)
-or_else true b e = inl refl
-or_else false b e = inr e
-
-pub quiet_more : (p : Program) (nodes : List NetNode) (least moment now : Option ℤ) (places : List ℕ) (i : ℕ) → i < length places → AreQuietAmong p nodes least (take i places)
-    → ((n : NetNode) → slice_get nodes (get_or places i 0) ≡ Some n → IsNodeQuiet p n moment)
-    → ((clock : ℤ) → IsBefore now clock → IsBefore least clock × IsBefore moment clock) → AreQuietAmong p nodes now (take (i + 1) places)
-quiet_more p nodes least moment now places i lt below quiet both k n there e = elim (or_else (is_in (take i places) k) (k == get_or places i 0) (sym (list_any_more (nat_eq k) places i 0 lt) ∙ there)) [
-  | inl before ↦ node_quieter p n least now (λ clock b. (both clock b).0) (below k n before e)
-  | inr here ↦
-      let same : k ≡ get_or places i 0 = (Decides-eqb k (get_or places i 0)).0 here in
-      node_quieter p n moment now (λ clock b. (both clock b).1) (quiet n (ap (slice_get nodes) (sym same) ∙ e))
-]
-
 -- ---- all nodes
+
+-- until the least moment of the schedule all nodes are quiet
+pub all_quiet : (p : Program) (nodes : List NetNode) (schedule : Schedule) (first : Option ℤ) → AreScheduled p nodes schedule → ((k : ℕ) (n : NetNode) → IsScheduled p schedule k n → IsNodeQuiet p n first) → AreQuiet p nodes first
+all_quiet p nodes schedule first scheduled told k n e = by (is_timed n) refl
+  where
+    by : (t : Bool) → is_timed n ≡ t → IsNodeQuiet p n first
+    by true timed = told k n (scheduled k n e timed)
+    by false untimed = untimed_quiet p n first untimed
 
 module _ (p : Program) (net : Rete) (s : Snapshot) (forgotten : Named → Bool) (nodes : NodesStand p net s forgotten) (kept : IsOrderly p s) (begun : pos 0 ≤ℤ s.clock) (quiet : AreQuiet p net.nodes.items net.quiet_until) where
   module _ (clock : ℤ) (later : s.clock ≤ℤ clock) (low : clock <ℤ pos (2 ^ 63)) (before_due : IsBefore net.quiet_until clock) (kept_now : IsOrderly p (at_clock s clock)) where

@@ -10,7 +10,8 @@ use Rattle.rete_net.specs.declared.index.Index.{Index}
 use Rattle.rete_net.specs.declared.node.NetNode.{NetNode}
 use Rattle.rete_net.specs.declared.answered.Answered.{Answered}
 use Rattle.rete_net.specs.Answers.{left_given, some_answer, IsPut}
-use Rattle.rete_net.specs.Indexes.{IsFound, IsLeftAlone}
+use Rattle.rete_net.specs.Indexes.{IsFound}
+use Rattle.rete_net.specs.Schedules.{IsLeftAlone}
 use Rattle.rete_net.specs.Places.{has_place}
 use Rattle.row_change.specs.Changes.{changes_nothing}
 use Rattle.row_delta.specs.declared.row.Row.{Row}
@@ -30,14 +31,14 @@ nothing_is d h = by d.gone d.come h
 
 module _ (p : Program) (look : Look) (gone : List Fact) (come : Option Fact) (moment : Moment) (first : Delta) (before : List NetNode) (ends : List ℕ) where
   abbrev Alone : NetNode → Type 0
-  Alone n = IsLeftAlone n first gone come
+  Alone n = IsLeftAlone p n first gone come moment
 
   abbrev pub IsUnderWay : List NetNode → List ℕ → Answered Delta → ℕ → Type 0
   IsUnderWay now due a next = walking.IsUnderWay (NodeStep p look gone come moment) (left_delta first) first no_change Alone before ends now due a next
 
   module _ (index : Index) (wired : IsWired before ends index) where
     begun : (n : NetNode) → Alone n → n.parent ≡ None → first ≡ no_change
-    begun n alone e = nothing_is first (alone.begun e)
+    begun n alone e = nothing_is first (alone.unreached.begun e)
 
     stays : (n : NetNode) → Alone n → NodeStep p look gone come moment n n no_change no_change
     stays n alone = alone_stays p look gone come moment first n no_change alone refl

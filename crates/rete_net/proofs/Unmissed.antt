@@ -65,7 +65,8 @@ use Rattle.condition_node.proofs.Moved.{node_moves}
 use Rattle.rete_net.specs.declared.net.Rete.{Rete}
 use Rattle.rete_net.specs.declared.node.NetNode.{NetNode}
 use Rattle.rete_net.specs.Forgetting.{less_fact, IsUnmissed}
-use Rattle.rete_net.specs.Nets.{HaveSame, NetNodeStands, NodesStand, NetStands, clean_rows}
+use Rattle.rete_net.specs.Nets.{HaveSame, NodesStand, NetStands, clean_rows}
+use Rattle.rete_net.specs.Standing.{NetNodeStands}
 use Rattle.rete_net.specs.Shapes.{before, IsFront}
 use Rattle.rete_net.proofs.Beside.{at_end}
 use Rattle.rete_net.proofs.Cleaning.{has_clean}
@@ -273,6 +274,7 @@ module _ (p : Program) (net : Rete) (s : Snapshot) (forgotten : Named → Bool) 
   nodes_less = record {
     shape = stands.nodes.shape;
     indexed = stands.nodes.indexed;
+    scheduled = stands.nodes.scheduled;
     nodes = node_now;
   }
 

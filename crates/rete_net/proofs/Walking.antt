@@ -52,11 +52,11 @@ module _ {D : Type 0} (Turn : NetNode → NetNode → D → D → Type 0) (given
       | inr at ↦ here k at
     ]
 
-not_true : (b : Bool) → (b ≡ true → ⊥) → b ≡ false
+pub not_true : (b : Bool) → (b ≡ true → ⊥) → b ≡ false
 not_true true h = absurd (h refl)
 not_true false h = refl
 
-equal_or_not : (j k : ℕ) → (j ≡ k) ⊎ (j ≡ k → ⊥)
+pub equal_or_not : (j k : ℕ) → (j ≡ k) ⊎ (j ≡ k → ⊥)
 equal_or_not zero zero = inl refl
 equal_or_not zero (suc k) = inr (λ e. absurd (omega arith))
 equal_or_not (suc j) zero = inr (λ e. absurd (omega arith))

@@ -8,7 +8,7 @@ use Rattle.pattern_gate.specs.Gates.{has_good_window}
 use Rattle.condition_node.specs.Nodes.{condition_of}
 use Rattle.rete_net.specs.declared.node.NetNode.{NetNode}
 use Rattle.rete_net.specs.declared.build.Origin.{Origin}
-use Rattle.rete_net.specs.Nets.{IsFresh}
+use Rattle.rete_net.specs.Standing.{IsFresh}
 use Rattle.rete_net.specs.Shapes.{IsFront}
 
 -- a parent, of nodes with these conditions, is the node of those conditions; without one there is no condition

@@ -20,7 +20,7 @@ use Rattle.rete_net.specs.declared.answered.Answered.{Answered}
 use Rattle.rete_net.specs.declared.index.Index.{Index}
 use Rattle.rete_net.specs.Answers.{given, some_answer, AreRuled}
 use Rattle.rete_net.specs.Indexes.{is_listed, type_of}
-use Rattle.rete_net.specs.Nets.{NetNodeStands}
+use Rattle.rete_net.specs.Standing.{NetNodeStands}
 use Rattle.rete_net.specs.Places.{has_place}
 
 -- these rows, in order, are those of a set that name an old fact

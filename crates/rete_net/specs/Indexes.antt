@@ -38,10 +38,9 @@ type_of n = (pattern_of (condition_of n.node)).ty.0
 abbrev pub is_timed : NetNode → Bool
 is_timed n = is_negated (condition_of n.node) || not (is_whole (pattern_of (condition_of n.node)).window)
 
--- the node in a place is found by its type, by its parent, and as one that the clock may change
+-- the node in a place is found by its type and by its parent
 pub record IsFound (index : Index) (k : ℕ) (n : NetNode) : Type 0 where
   pub typed : is_listed index.by_type (type_of n) k ≡ true
-  pub timed : is_timed n ≡ true → is_in index.timed.items k ≡ true
   pub first : n.parent ≡ None → is_in index.firsts.items k ≡ true
   pub child : (parent : ℕ) → n.parent ≡ Some parent → is_listed index.children parent k ≡ true
 
@@ -50,9 +49,7 @@ pub record IsIndexOf (nodes : List NetNode) (ends : List ℕ) (index : Index) : 
   pub found : (k : ℕ) (n : NetNode) → slice_get nodes k ≡ Some n → IsFound index k n
   pub ended : (rule end : ℕ) → slice_get ends rule ≡ Some end → is_listed index.rules end rule ≡ true
 
--- A step does not reach the node but by what changes in the rows of its parent: no fact that goes or comes is meant, the clock alone changes
--- nothing, and nothing comes to it where it has no parent.
-pub record IsLeftAlone (n : NetNode) (first : Delta) (gone : List Fact) (come : Option Fact) : Type 0 where
+-- A step does not reach the node by facts: none that goes or comes is meant, and nothing comes to it where it has no parent.
+pub record IsUnreached (n : NetNode) (first : Delta) (gone : List Fact) (come : Option Fact) : Type 0 where
   pub unmeant : is_one_meant (pattern_of (condition_of n.node)) gone come ≡ false
-  pub untimed : is_timed n ≡ false
   pub begun : n.parent ≡ None → changes_nothing first ≡ true

@@ -1,8 +1,11 @@
 pub mod Shapes
 pub mod Places
 pub mod Indexes
-pub mod Nets
+pub mod Standing
 pub mod Quiet
+pub mod Timers
+pub mod Schedules
+pub mod Nets
 pub mod Forgetting
 pub mod Answers
 pub mod Dropped

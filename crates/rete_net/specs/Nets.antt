@@ -14,33 +14,24 @@ use Rattle.rule_model.specs.declared.program.Program.{Program}
 use Rattle.rule_model.specs.declared.program.Rule.{Rule}
 use Rattle.rule_model.specs.Rows.{pattern_of, rows}
 use Rattle.rule_model.specs.Snapshots.{Snapshot}
-use Rattle.pair_memory.specs.Standing.{clean, cleaned, no_rows}
-use Rattle.condition_rows.specs.Looks.{empty_snapshot}
-use Rattle.condition_rows.specs.Sets.{held, candidates_of, rows_of}
-use Rattle.pattern_gate.specs.Gates.{GateStands}
+use Rattle.pair_memory.specs.Standing.{clean, cleaned}
+use Rattle.condition_rows.specs.Sets.{candidates_of, rows_of}
 use Rattle.pattern_gate.specs.Moves.{IsOrderly, at_clock}
-use Rattle.condition_node.specs.Nodes.{condition_of, NodeStands}
+use Rattle.condition_node.specs.Nodes.{condition_of}
 use Rattle.condition_node.specs.Quiet.{IsBefore}
 use Rattle.rete_net.specs.declared.changes.RuleChange.{RuleChange}
 use Rattle.rete_net.specs.declared.node.NetNode.{NetNode}
 use Rattle.rete_net.specs.declared.net.Rete.{Rete}
 use Rattle.rete_net.specs.Indexes.{IsIndexOf}
+use Rattle.rete_net.specs.Schedules.{AreScheduled}
+use Rattle.rete_net.specs.Standing.{NetNodeStands}
 use Rattle.rete_net.specs.Shapes.{before, IsNetOf}
 
--- A node and its gate stand for the rows of the conditions before it, in a snapshot. The node has dropped what was forgotten; the gate
--- stands for the whole snapshot, since a gate without a window keeps nothing.
-pub record NetNodeStands (p : Program) (n : NetNode) (s : Snapshot) (rows : Row → Bool) (forgotten : Named → Bool) : Type 0 where
-  pub gate : GateStands p (pattern_of (condition_of n.node)) n.gate s
-  pub node : NodeStands p n.node (held s) s rows forgotten
-
--- a new node stands where there is nothing, whatever is called forgotten
-abbrev pub IsFresh : Program → NetNode → Type 0
-IsFresh p n = (forgotten : Named → Bool) → NetNodeStands p n empty_snapshot no_rows forgotten
-
--- The nodes of a program's network, which its index finds, stand for a snapshot: each for the rows of the conditions before it.
+-- The nodes of a program's network, which its index and its schedule find, stand for a snapshot: each for the rows of the conditions before it.
 pub record NodesStand (p : Program) (net : Rete) (s : Snapshot) (forgotten : Named → Bool) : Type 0 where
   pub shape : IsNetOf p net.nodes.items net.ends.items
   pub indexed : IsIndexOf net.nodes.items net.ends.items net.index
+  pub scheduled : AreScheduled p net.nodes.items net.schedule
   pub nodes : (k : ℕ) (n : NetNode) → slice_get net.nodes.items k ≡ Some n → NetNodeStands p n s (rows_of p s (before shape.conditions n.parent)) forgotten
 
 -- The nodes have the same before them in both snapshots: the conditions of each have the same rows that name no forgotten fact, and its

@@ -13,7 +13,7 @@ use Rattle.pattern_gate.specs.Moves.{IsOrderly, at_clock}
 use Rattle.condition_node.specs.Nodes.{condition_of}
 use Rattle.condition_node.specs.Quiet.{IsBefore}
 use Rattle.rete_net.specs.declared.node.NetNode.{NetNode}
-use Rattle.rete_net.specs.Nets.{NetNodeStands}
+use Rattle.rete_net.specs.Standing.{NetNodeStands}
 
 -- the clock alone changes nothing in the candidates of a node, nor in what its condition makes of rows before it, of what is not forgotten
 pub record StaysAt (p : Program) (n : NetNode) (s : Snapshot) (rows : Row → Bool) (forgotten : Named → Bool) (clock : ℤ) : Type 0 where

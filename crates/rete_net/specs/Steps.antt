@@ -20,7 +20,7 @@ use Rattle.condition_node.specs.Nodes.{condition_of}
 use Rattle.condition_node.specs.Turns.{CountedStay}
 use Rattle.rete_net.specs.declared.changes.RuleChange.{RuleChange}
 use Rattle.rete_net.specs.declared.node.NetNode.{NetNode}
-use Rattle.rete_net.specs.Nets.{NetNodeStands}
+use Rattle.rete_net.specs.Standing.{NetNodeStands}
 use Rattle.rule_model.specs.Moments.{IsAt}
 use Rattle.rule_model.specs.declared.moment.Moment.{Moment}
 

@@ -4,7 +4,7 @@ ghost use Rattle.rule_model.specs.Lent.{lent};
 ghost use Rattle.rule_model.specs.Rows.{pattern_of};
 ghost use Rattle.pattern_gate.specs.Turns.{is_meant};
 ghost use Rattle.condition_node.specs.Nodes.{condition_of};
-ghost use Rattle.rete_net.specs.Indexes.{is_in, IsFound, IsLeftAlone};
+ghost use Rattle.rete_net.specs.Indexes.{is_in, IsFound, IsUnreached};
 ghost use Rattle.rete_net.specs.Places.{has_place};
 ghost use Rattle.rete_net.specs.declared.node.NetNode.{NetNode as NetNodeData};
 
@@ -114,34 +114,26 @@ fn put_facts(
     Ok(())
 }
 
-/// Puts the nodes that the moment of a step may concern: all that the clock alone may change.
-fn put_timed(due: &mut BTreeSet<usize, Global>, index: &Index) -> Result<(), NoMemory>
-    ensures { OnOk result ((k : ℕ) → has_place due.new.keys k ≡ (has_place due.old.keys k || is_in index.now.timed.items k)) }
-{
-    put_all(due, index.timed())
-}
-
-/// The nodes that a step reaches where nothing changes in the rows of their parents: those that mean a fact that goes or comes, those
-/// that the moment may concern, and the first ones where something comes to them. It asks the nodes of the types of these facts.
-pub(crate) fn reached(
-    alloc: Global,
+/// Puts the nodes that a step reaches by facts: those that mean one that goes or comes, and the first ones where something comes to them.
+/// It asks the nodes of the types of these facts.
+pub(crate) fn put_reached(
+    due: &mut BTreeSet<usize, Global>,
     nodes: &[NetNode],
     index: &Index,
     first: &Delta,
     gone: &[&Fact],
     come: Option<&Fact>,
-) -> Result<BTreeSet<usize, Global>, NoMemory>
-    ensures { IfOk result (λ due. (k : ℕ) (n : NetNodeData) → slice_get nodes.now k ≡ Some n → IsFound index.now k n → has_place due.keys k ≡ false
-        → IsLeftAlone n first.now (lent gone.now) (option_map (λ f. f.now) come.entry)) }
+) -> Result<(), NoMemory>
+    ensures kept { OnOk result ((k : ℕ) → has_place due.old.keys k ≡ true → has_place due.new.keys k ≡ true) }
+    ensures put { OnOk result ((k : ℕ) (n : NetNodeData) → slice_get nodes.now k ≡ Some n → IsFound index.now k n → has_place due.new.keys k ≡ false
+        → IsUnreached n first.now (lent gone.now) (option_map (λ f. f.now) come.entry)) }
 {
-    let mut due = BTreeSet::new(alloc);
-    put_timed(&mut due, index)?;
     if !changes_nothing(first) {
-        put_all(&mut due, index.firsts())?;
+        put_all(due, index.firsts())?;
     }
-    put_facts(&mut due, nodes, index, gone)?;
+    put_facts(due, nodes, index, gone)?;
     if let Some(fact) = come {
-        put_fact(&mut due, nodes, index, fact)?;
+        put_fact(due, nodes, index, fact)?;
     }
-    Ok(due)
+    Ok(())
 }

@@ -7,12 +7,11 @@ use crate::node::NetNode;
 use fx_base::{NoMemory, TypeId};
 use std::alloc::Global;
 
-/// By what the nodes of a network are found, by their places: by the type of their candidates, as nodes that the clock alone may
-/// change, as nodes without a parent, and by their parents; and the rules by the places of their last nodes.
+/// By what the nodes of a network are found, by their places: by the type of their candidates, as nodes without a parent, and by their
+/// parents; and the rules by the places of their last nodes.
 #[derive(Drop)]
 pub(crate) struct Index {
     by_type: Lists,
-    timed: Vec<usize>,
     firsts: Vec<usize>,
     children: Lists,
     rules: Lists,
@@ -25,7 +24,6 @@ impl Index {
     {
         let mut index = Index {
             by_type: Lists::new(alloc),
-            timed: Vec::new(alloc),
             firsts: Vec::new(alloc),
             children: Lists::new(alloc),
             rules: Lists::new(alloc),
@@ -44,9 +42,6 @@ impl Index {
         ensures kept { OnOk result ((k : ℕ) (n : NetNodeData) → IsFound self.old k n → IsFound self.new k n) }
     {
         self.by_type.put(alloc, usize::from(node.ty().0), place)?;
-        if node.is_timed() {
-            self.timed.push(place)?;
-        }
         match node.parent {
             Some(parent) => self.children.put(alloc, parent, place)?,
             None => self.firsts.push(place)?,
@@ -68,13 +63,6 @@ impl Index {
         ensures { result.now ≡ items_of (slice_get self.now.by_type.lists.items ty.0) }
     {
         self.by_type.list(usize::from(ty.0))
-    }
-
-    /// The nodes that the clock alone may change. Takes no memory.
-    pub(crate) fn timed(&self) -> &[usize]
-        ensures { result.now ≡ self.now.timed.items }
-    {
-        &self.timed
     }
 
     /// The nodes without a parent. Takes no memory.

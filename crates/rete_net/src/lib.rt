@@ -15,7 +15,9 @@ mod net;
 mod node;
 mod quiet;
 mod sameness;
+mod schedule;
 mod steps;
+mod timers;
 
 pub use changes::RuleChange;
 pub use forgetting::RuleRows;

@@ -23,6 +23,7 @@ ghost use Rattle.rete_net.specs.Indexes.{IsIndexOf};
 ghost use Rattle.rete_net.specs.Nets.{NetStands, clean_rows, AreBetween};
 ghost use Rattle.rete_net.specs.Building.{AreBuilt, AreDistinct, AreFronts, HaveEnds};
 ghost use Rattle.rete_net.specs.Quiet.{AreQuiet};
+ghost use Rattle.rete_net.specs.Schedules.{AreScheduled};
 ghost use Rattle.rete_net.specs.Shapes.{CountsFronts, IsNetOf};
 ghost use Rattle.rete_net.specs.Steps.{NetStep};
 ghost use Rattle.rete_net.specs.Walks.{HasAnswered, IsReplaced, IsWired};
@@ -30,25 +31,27 @@ ghost use Rattle.rete_net.specs.Walks.{HasAnswered, IsReplaced, IsWired};
 use crate::answered::Answered;
 use crate::build::{Builder, NoFacts, empty_row_comes, no_change};
 use crate::changes::{RuleChange, changes_of};
-use crate::due::{first_below, reached};
+use crate::due::{first_below, put_reached};
 use crate::forgetting::{RuleRows, put_dropped, rows_of_rules, with_old};
 use crate::index::Index;
 use crate::node::NetNode;
 use crate::quiet::is_before;
-use crate::steps::{put_delta, quiet_until};
+use crate::schedule::Schedule;
+use crate::steps::put_delta;
 use fx_base::{Fact, Facts, Millis, NoMemory, Seq};
 use row_delta::{Delta, Named, Row};
 use rule_model::{Moment, Program};
 use std::alloc::Global;
 
 /// The network of a program: its nodes, each behind its parent, the last node of each rule by the rule's place, by what nodes and
-/// rules are found, and the moment of the clock, in milliseconds, from which something is due in a gate or a node. Until then a move
-/// of the clock alone changes nothing; without such a moment it never does. After a call that was refused memory it is to be given up.
+/// rules are found, the moments at which time alone may change a node, and the moment of the clock, in milliseconds, from which
+/// something is due in a gate or a node. Until then a move of the clock alone changes nothing; without such a moment it never does. After a call that was refused memory it is to be given up.
 #[derive(Drop)]
 pub struct Rete {
     nodes: Vec<NetNode>,
     ends: Vec<usize>,
     index: Index,
+    schedule: Schedule,
     quiet_until: Option<i128>,
 }
 
@@ -75,10 +78,10 @@ impl Rete {
     /// Takes the facts that go and the one that comes, if one does, and the moment, and answers of the rules
     /// whose rows change, in their order, what has changed in them, but for rows that name a forgotten fact; no rule may need one.
     /// `facts` has those that stay and are not forgotten, those that go and the one that comes. It asks the nodes whose candidates are of
-    /// the types of these facts, at the cost of the constant tests of each, and those with a window or a `not`, at the cost of a look where
-    /// nothing reaches them and nothing is due; and behind each node that answers a change it takes its children. What no such way
-    /// leads to costs nothing: neither another node nor its rules. The others cost what their gates and nodes say, the logarithm of
-    /// their number, and a change is copied once for each rule that has it.
+    /// the types of these facts, at the cost of the constant tests of each, and takes those with a window or a `not` in which something is
+    /// due; and behind each node that answers a change it takes its children. What no such way leads to costs nothing: neither another
+    /// node nor its rules, and what is due next costs a look for each entry point. The others cost what their gates and nodes say, the
+    /// logarithm of their number, and a change is copied once for each rule that has it.
     pub fn advance<F: Facts>(
         &mut self,
         alloc: Global,
@@ -153,6 +156,7 @@ impl Rete {
     /// The nodes of all rules, which keep nothing.
     fn of_rules(alloc: Global, program: &Program) -> Result<Rete, NoMemory>
         ensures indexed { IfOk result (λ net. IsIndexOf net.nodes.items net.ends.items net.index) }
+        ensures scheduled { IfOk result (λ net. AreScheduled program.now net.nodes.items net.schedule) }
         ensures built { IfOk result (λ net. IsRunnable program.now → (all : List (List Condition)) × AreBuilt program.now net.nodes.items all × HaveEnds all net.ends.items program.now.rules (length program.now.rules)
             × AreFronts program.now all × AreDistinct all × (length net.ends.items ≡ length program.now.rules)) }
     {
@@ -163,10 +167,12 @@ impl Rete {
             ends.push(last.unwrap_or(0))?;
         }
         let index = Index::of(alloc, &builder.nodes, &ends)?;
+        let schedule = Schedule::of(alloc, program, &builder.nodes)?;
         Ok(Rete {
             nodes: builder.nodes,
             ends,
             index,
+            schedule,
             quiet_until: None,
         })
     }
@@ -183,6 +189,7 @@ impl Rete {
         ensures index { OnOk result (self.new.index ≡ self.old.index) }
         ensures quiet { OnOk result (self.new.quiet_until ≡ self.old.quiet_until) }
         ensures replaced { OnOk result (IsReplaced self.old.nodes.items self.new.nodes.items) }
+        ensures scheduled { OnOk result (AreScheduled program.now self.old.nodes.items self.old.schedule → AreScheduled program.now self.new.nodes.items self.new.schedule) }
         ensures forgot { IfOk result (λ a. IsWired self.old.nodes.items self.old.ends.items self.old.index
             → HaveForgotten program.now (F.map facts.now) (has_name old.now) self.old.nodes.items self.new.nodes.items self.old.ends.items a) }
     {
@@ -194,6 +201,7 @@ impl Rete {
             let node = &mut self.nodes[place];
             let rows = dropped.left(&none, node.parent);
             let gone = node.forget(alloc, program, rows.as_slice(), old, facts)?;
+            self.schedule.put(alloc, program, place, node)?;
             put_dropped(&mut dropped, &mut due, &self.index, place, gone)?;
             next = place + 1;
         }
@@ -213,15 +221,16 @@ impl Rete {
         facts: &F,
     ) -> Result<Vec<RuleChange>, NoMemory>
         ensures ends { OnOk result (self.new.ends.items ≡ self.old.ends.items) }
-        ensures quiet { OnOk result (IsIndexOf self.old.nodes.items self.old.ends.items self.old.index → AreQuiet program.now self.new.nodes.items self.new.quiet_until) }
+        ensures quiet { OnOk result (AreScheduled program.now self.old.nodes.items self.old.schedule → AreQuiet program.now self.new.nodes.items self.new.quiet_until) }
+        ensures scheduled { OnOk result (AreScheduled program.now self.old.nodes.items self.old.schedule → AreScheduled program.now self.new.nodes.items self.new.schedule) }
         ensures replaced { OnOk result (IsReplaced self.old.nodes.items self.new.nodes.items) }
         ensures indexed { OnOk result (IsIndexOf self.old.nodes.items self.old.ends.items self.old.index → IsIndexOf self.new.nodes.items self.new.ends.items self.new.index) }
         ensures rules { length self.old.ends.items < 2 ^ 16 → IfOk result (λ changes. (c : RuleChangeData) → In c changes.items → c.rule.0 < length self.old.ends.items) }
-        ensures stepped { IfOk result (λ changes. IsWired self.old.nodes.items self.old.ends.items self.old.index
+        ensures stepped { IfOk result (λ changes. IsWired self.old.nodes.items self.old.ends.items self.old.index → AreScheduled program.now self.old.nodes.items self.old.schedule
             → NetStep program.now (F.map facts.now) (lent gone.now) (option_map (λ f. f.now) come.entry) moment.now first.now self.old.nodes.items self.new.nodes.items self.old.ends.items changes.items) }
     {
         let answered = self.walk(alloc, program, first, gone, come, moment, facts)?;
-        self.quiet_until = quiet_until(&self.nodes, self.index.timed(), program);
+        self.quiet_until = self.schedule.first();
         let changes = changes_of(alloc, &answered, &self.ends)?;
         Ok(changes)
     }
@@ -241,16 +250,19 @@ impl Rete {
         ensures ends { OnOk result (self.new.ends ≡ self.old.ends) }
         ensures index { OnOk result (self.new.index ≡ self.old.index) }
         ensures replaced { OnOk result (IsReplaced self.old.nodes.items self.new.nodes.items) }
-        ensures answered { IfOk result (λ a. IsWired self.old.nodes.items self.old.ends.items self.old.index
+        ensures scheduled { OnOk result (AreScheduled program.now self.old.nodes.items self.old.schedule → AreScheduled program.now self.new.nodes.items self.new.schedule) }
+        ensures answered { IfOk result (λ a. IsWired self.old.nodes.items self.old.ends.items self.old.index → AreScheduled program.now self.old.nodes.items self.old.schedule
             → HasAnswered program.now (F.map facts.now) (lent gone.now) (option_map (λ f. f.now) come.entry) moment.now first.now self.old.nodes.items self.new.nodes.items self.old.ends.items a) }
     {
-        let mut due = reached(alloc, &self.nodes, &self.index, first, gone, come)?;
+        let mut due = self.schedule.due(alloc, program, moment)?;
+        put_reached(&mut due, &self.nodes, &self.index, first, gone, come)?;
         let mut answered = Answered::new(alloc, no_change(alloc));
         let mut next = 0;
         'walk: while let Some(place) = first_below(&due, next, self.nodes.len()) {
             let node = &mut self.nodes[place];
             let left = answered.left(first, node.parent);
             let delta = node.advance(alloc, program, left, gone, come, moment, facts)?;
+            self.schedule.put(alloc, program, place, node)?;
             put_delta(&mut answered, &mut due, &self.index, place, delta)?;
             next = place + 1;
         }

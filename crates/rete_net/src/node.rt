@@ -1,4 +1,4 @@
-ghost use Rattle.std.specs.Prelude.{◌≡◌, true, option_map, IfOk, IsTrue};
+ghost use Rattle.std.specs.Prelude.{◌≡◌, ℤ, true, option_map, IfOk, IsTrue};
 ghost use Rattle.row_delta.specs.declared.delta.Delta.{Delta as DeltaData};
 ghost use Rattle.row_change.specs.Changes.{changes_nothing};
 ghost use Rattle.rule_model.specs.Lent.{lent};
@@ -7,16 +7,19 @@ ghost use Rattle.pair_memory.specs.Joined.{has_name};
 ghost use Rattle.rule_model.specs.Rows.{pattern_of};
 ghost use Rattle.pattern_gate.specs.Turns.{is_meant};
 ghost use Rattle.condition_node.specs.Nodes.{condition_of, is_negated};
+ghost use Rattle.condition_node.specs.Quiet.{IsBefore};
 ghost use Rattle.rete_net.specs.Dropped.{NodeForgets};
 ghost use Rattle.rete_net.specs.Indexes.{is_timed, type_of};
-ghost use Rattle.rete_net.specs.Nets.{IsFresh};
+ghost use Rattle.rete_net.specs.Standing.{IsFresh};
 ghost use Rattle.rete_net.specs.Quiet.{IsNodeQuiet};
+ghost use Rattle.rete_net.specs.Schedules.{entry_of, IsGateStill, IsStillAt};
+ghost use Rattle.rete_net.specs.Timers.{IsFrom};
 ghost use Rattle.rete_net.specs.Steps.{no_change, NodeStep};
 
 use crate::build::no_change;
 use crate::quiet::{earlier, widened};
 use condition_node::Node;
-use fx_base::{Fact, Facts, NoMemory, Seq, TypeId};
+use fx_base::{EntryId, Fact, Facts, NoMemory, Seq, TypeId};
 use pattern_gate::PatternGate;
 use row_change::changes_nothing;
 use row_delta::{Delta, Named, Row};
@@ -106,7 +109,14 @@ impl NetNode {
         self.node.pattern().ty
     }
 
-    /// Whether the clock alone may change something here: a `not` waits, and candidates leave a window. Takes no memory.
+    /// The entry point of its candidates. Takes no memory.
+    pub(crate) fn entry(&self) -> EntryId
+        ensures { result.0 ≡ entry_of self.now }
+    {
+        self.node.pattern().entry
+    }
+
+    /// Whether time alone may change something here: a `not` waits, and candidates leave a window. Takes no memory.
     pub(crate) fn is_timed(&self) -> bool
         ensures { result ≡ is_timed self.now }
     {
@@ -138,13 +148,27 @@ impl NetNode {
     }
 
     /// The moment of the clock, in milliseconds, from which something is due in the gate or the node: until then a move of the
-    /// clock alone changes nothing in the rows of its condition, where it does not change the rows before it.
+    /// clock alone changes nothing in the rows of its condition, where it does not change the rows before it. Takes no memory.
     pub(crate) fn quiet_until(&self, program: &Program) -> Option<i128>
-        ensures { IsNodeQuiet program.now self.now result }
+        ensures quiet { IsNodeQuiet program.now self.now result }
+        ensures gate { (clock : ℤ) → IsBefore result clock → IsGateStill self.now.gate clock }
     {
         let window = widened(self.gate.quiet_until());
         let moment = self.node.quiet_until(program);
         earlier(window, moment)
+    }
+
+    /// The least moment, in milliseconds, for which a row of a `not` waits: it comes where the floor of the entry point is above. Takes
+    /// no memory.
+    pub(crate) fn waits_up_to(&self) -> Option<i128>
+        ensures { (floor : ℤ) → IsFrom floor result → IsStillAt self.now.node floor }
+    {
+        match &self.node {
+            Node::Not(waiting) => waiting.next_moment(),
+            Node::Join(_) => None,
+            Node::Exists(_) => None,
+            Node::Fold(_) => None,
+        }
     }
 }
 

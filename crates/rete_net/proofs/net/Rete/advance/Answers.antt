@@ -4,6 +4,7 @@ use Rattle.rule_model.specs.Lent.{lent}
 use Rattle.row_delta.specs.declared.row.Named.{Named}
 use Rattle.rule_model.specs.Snapshots.{Snapshot}
 use Rattle.rete_net.specs.Nets.{NetStands}
+use Rattle.rete_net.specs.Schedules.{AreScheduled}
 use Rattle.rete_net.specs.Steps.{no_change, NetStep}
 use Rattle.rete_net.specs.Walks.{IsWired}
 use Rattle.rete_net.proofs.Frames.{net_again, wired_of}
@@ -13,11 +14,11 @@ use Rattle.rete_net.proofs.net.Rete.advance.Given.{Over}
 use Rattle.rete_net.proofs.net.Rete.advance.Goals as goal
 
 -- the step of the nodes, at the moment that was given, where nothing comes to the first of them
-step : (g : Over) (c : goal.After-drop-none-3 g) → IsWired c.args.self.now.nodes.items c.args.self.now.ends.items c.args.self.now.index
+step : (g : Over) (c : goal.After-drop-none-3 g) → IsWired c.args.self.now.nodes.items c.args.self.now.ends.items c.args.self.now.index → AreScheduled c.args.program.now c.args.self.now.nodes.items c.args.self.now.schedule
     → NetStep c.args.program.now (g.F.Facts.map c.args.facts.now) (lent c.args.gone.now) (option_map (λ f. f.now) c.args.come) c.args.moment.now no_change c.args.self.now.nodes.items c.step.new.self.nodes.items c.args.self.now.ends.items c.in_ok-changes.changes.items
-step g c wired =
+step g c wired scheduled =
     settled c.args.program.now (g.F.Facts.map c.args.facts.now) (lent c.args.gone.now) (option_map (λ f. f.now) c.args.come) c.args.moment.now c.no_change-none.result no_change
-    c.args.self.now.nodes.items c.step.new.self.nodes.items c.args.self.now.ends.items c.in_ok-changes.changes.items c.no_change-none.ensures (c.in_ok-changes.ensures.stepped wired)
+    c.args.self.now.nodes.items c.step.new.self.nodes.items c.args.self.now.ends.items c.in_ok-changes.changes.items c.no_change-none.ensures (c.in_ok-changes.ensures.stepped wired scheduled)
 
 wired : (g : Over) (c : goal.After-drop-none-3 g) (s : Snapshot) (forgotten : Named → Bool) → NetStands c.args.program.now c.args.self.now s forgotten → IsWired c.args.self.now.nodes.items c.args.self.now.ends.items c.args.self.now.index
 wired g c s forgotten stands = wired_of c.args.program.now c.args.self.now.nodes.items c.args.self.now.ends.items c.args.self.now.index stands.nodes.shape stands.nodes.indexed
@@ -25,13 +26,13 @@ wired g c s forgotten stands = wired_of c.args.program.now c.args.self.now.nodes
 pub returns-clause-stands : goal.returns-clause-stands
 returns-clause-stands g c s next forgotten runnable stands moves at apart has has_now =
     net_stands c.args.program.now (g.F.Facts.map c.args.facts.now) s next (lent c.args.gone.now) (option_map (λ f. f.now) c.args.come) c.args.moment.now forgotten c.args.self.now c.step.new.self c.in_ok-changes.changes.items
-    moves at apart has has_now stands c.in_ok-changes.ensures.ends (step g c (wired g c s forgotten stands)) (c.in_ok-changes.ensures.quiet stands.nodes.indexed)
-    (c.in_ok-changes.ensures.indexed stands.nodes.indexed)
+    moves at apart has has_now stands c.in_ok-changes.ensures.ends (step g c (wired g c s forgotten stands) stands.nodes.scheduled) (c.in_ok-changes.ensures.quiet stands.nodes.scheduled)
+    (c.in_ok-changes.ensures.indexed stands.nodes.indexed) (c.in_ok-changes.ensures.scheduled stands.nodes.scheduled)
 
 pub returns-clause-differences : goal.returns-clause-differences
 returns-clause-differences g c s next forgotten runnable stands moves at apart has has_now =
     net_between c.args.program.now (g.F.Facts.map c.args.facts.now) s next (lent c.args.gone.now) (option_map (λ f. f.now) c.args.come) c.args.moment.now forgotten c.args.self.now c.step.new.self c.in_ok-changes.changes.items
-    moves at apart has has_now stands c.in_ok-changes.ensures.ends (step g c (wired g c s forgotten stands)) runnable
+    moves at apart has has_now stands c.in_ok-changes.ensures.ends (step g c (wired g c s forgotten stands) stands.nodes.scheduled) runnable
 
 pub returns-clause-net : goal.returns-clause-net
 returns-clause-net g c p net =

@@ -18,7 +18,7 @@ step c wired = (
   _,
   record { clock = refl; reached = refl },
   settled c.args.program.now no_facts [] None _ c.in_ok-first.first empty_row_comes c.in_ok-net.net.nodes.items c.step.new.self.nodes.items c.in_ok-net.net.ends.items c.in_ok-changes.changes.items
-      c.in_ok-first.ensures (c.in_ok-changes.ensures.stepped wired),
+      c.in_ok-first.ensures (c.in_ok-changes.ensures.stepped wired c.in_ok-net.ensures.scheduled),
 )
 
 wired : (c : goal.After-drop-first-3) → IsRunnable c.args.program.now → IsWired c.in_ok-net.net.nodes.items c.in_ok-net.net.ends.items c.in_ok-net.net.index
@@ -32,7 +32,7 @@ returns-clause-stands c runnable =
     let built = c.in_ok-net.ensures.built runnable in
     let first = step c (wired c runnable) in
     built_stands c.args.program.now c.in_ok-net.net built.0 built.1 built.2 built.3 built.4 built.5 first.0 first.1 c.step.new.self c.in_ok-changes.changes.items c.in_ok-changes.ensures.ends first.2
-    (c.in_ok-changes.ensures.quiet c.in_ok-net.ensures.indexed) (c.in_ok-changes.ensures.indexed c.in_ok-net.ensures.indexed)
+    (c.in_ok-changes.ensures.quiet c.in_ok-net.ensures.scheduled) (c.in_ok-changes.ensures.indexed c.in_ok-net.ensures.indexed) (c.in_ok-changes.ensures.scheduled c.in_ok-net.ensures.scheduled)
 
 pub returns-clause-first : goal.returns-clause-first
 returns-clause-first c runnable =

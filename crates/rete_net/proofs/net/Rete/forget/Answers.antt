@@ -15,6 +15,7 @@ returns-clause-stands g c s forgotten stands has_all =
     let ends = ap (λ ends. ends.items) told.ends in
     net_forgets c.args.program.now (g.F.Facts.map c.args.facts.now) s forgotten (has_name c.args.old.now) was now forgot.dropped stands has_all ends told.quiet told.replaced.many forgot.forgot
     (index_again was.nodes.items now.nodes.items was.ends.items now.ends.items was.index now.index told.replaced ends told.index stands.nodes.indexed)
+    (told.scheduled stands.nodes.scheduled)
 
 pub returns-clause-dropped : goal.returns-clause-dropped
 returns-clause-dropped g c s forgotten stands has_all =

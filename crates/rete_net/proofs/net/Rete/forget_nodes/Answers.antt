@@ -5,6 +5,7 @@ use Rattle.pair_memory.specs.Joined.{has_name}
 use Rattle.rete_net.specs.declared.index.Index.{Index}
 use Rattle.rete_net.specs.Answers.{left_given, IsPut}
 use Rattle.rete_net.proofs.Fading.{set_off, forget_at, come_to_end}
+use Rattle.rete_net.proofs.Scheduling.{scheduled_more}
 use Rattle.rete_net.proofs.Walking.{not_replaced, replaced_more}
 use Rattle.rete_net.proofs.net.Rete.forget_nodes.Goals as goal
 
@@ -14,6 +15,7 @@ walk-init g c = record {
   index = refl;
   quiet = refl;
   replaced = not_replaced c.args.self.now.nodes.items;
+  scheduled = λ scheduled. scheduled;
   within = omega arith;
   way = λ wired.
       set_off c.args.program.now (g.F.Facts.map c.args.facts.now) (has_name c.args.old.now) c.args.self.now.nodes.items c.args.self.now.ends.items c.args.self.now.index wired
@@ -37,6 +39,7 @@ walk-preserved g c =
       index = was.index;
       quiet = was.quiet;
       replaced = replaced_more c.args.self.now.nodes.items nodes place n c.forget.new.self was.replaced at c.in_ok-gone.ensures.parent c.in_ok-gone.ensures.condition;
+      scheduled = λ all. scheduled_more c.args.program.now nodes place n c.forget.new.self c.walk.self.schedule c.put.new.self at c.in_ok-put.ensures.put c.in_ok-put.ensures.others (was.scheduled all);
       within = omega (arith, many, within);
       way = λ wired.
           forget_at c.args.program.now (g.F.Facts.map c.args.facts.now) (has_name c.args.old.now)

@@ -1,5 +1,6 @@
 use Rattle.std.proofs.Common.{◌≡◌, ◌≤◌, ◌-◌, length}
 use Rattle.pair_memory.specs.Joined.{has_name}
+use Rattle.rete_net.specs.Schedules.{AreScheduled}
 use Rattle.rete_net.specs.Walks.{IsReplaced, IsWired}
 use Rattle.rete_net.proofs.Fading.{IsUnderWay}
 use Rattle.rete_net.proofs.net.Rete.forget_nodes.Given as goal
@@ -10,6 +11,7 @@ invariant-walk g l = record {
   index : l.self.index ≡ l.fn.self.index;
   quiet : l.self.quiet_until ≡ l.fn.self.quiet_until;
   replaced : IsReplaced l.fn.self.nodes.items l.self.nodes.items;
+  scheduled : AreScheduled l.program l.fn.self.nodes.items l.fn.self.schedule → AreScheduled l.program l.self.nodes.items l.self.schedule;
   within : l.next ≤ length l.fn.self.nodes.items;
   way : IsWired l.fn.self.nodes.items l.fn.self.ends.items l.fn.self.index
       → IsUnderWay l.program (g.F.Facts.map l.facts) (has_name l.old) l.fn.self.nodes.items l.fn.self.ends.items l.self.nodes.items l.due.keys l.dropped l.next;

@@ -9,6 +9,7 @@ use Rattle.rule_world.specs.Programs.{IsRunnable, has_conditions, has_windows}
 use Rattle.rete_net.specs.Building.{AreGrown, HaveEnds}
 use Rattle.rete_net.specs.declared.node.NetNode.{NetNode}
 use Rattle.rete_net.specs.Indexes.{IsIndexOf}
+use Rattle.rete_net.specs.Schedules.{AreScheduled}
 use Rattle.rete_net.proofs.Growing.{passes_at, ends_more}
 use Rattle.rete_net.proofs.net.Rete.of_rules.Goals as goal
 
@@ -52,6 +53,9 @@ pub returns-clause-indexed : goal.returns-clause-indexed
 returns-clause-indexed c =
     subst (λ (ends : List ℕ). IsIndexOf c.loop-rule.builder.nodes.items ends c.in_ok-index.index) c.deref-2.ensures.value
     (subst (λ (nodes : List NetNode). IsIndexOf nodes c.deref-2.result.now c.in_ok-index.index) c.deref.ensures.value c.in_ok-index.ensures)
+
+pub returns-clause-scheduled : goal.returns-clause-scheduled
+returns-clause-scheduled c = subst (λ (nodes : List NetNode). AreScheduled c.args.program.now nodes c.in_ok-schedule.schedule) c.deref-3.ensures.value c.in_ok-schedule.ensures
 
 pub returns-clause-built : goal.returns-clause-built
 returns-clause-built c runnable =

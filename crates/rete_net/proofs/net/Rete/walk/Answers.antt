@@ -1,13 +1,13 @@
-use Rattle.std.proofs.Common.{◌≡◌, ◌∙◌, sym, ap, refl, subst, ℕ, false, ◌<◌, length, arith, option_map, Some, slice_get, List}
+use Rattle.std.proofs.Common.{◌≡◌, ◌∙◌, sym, ap, refl, subst, true, false, ◌<◌, length, arith, option_map, Some, slice_get, List}
 use Rattle.std.proofs.lemmas.Option.{slice_get-get_or}
 use Rattle.rule_model.specs.Lent.{lent}
 use Rattle.rete_net.specs.declared.index.Index.{Index}
 use Rattle.rete_net.specs.declared.node.NetNode.{NetNode}
-use Rattle.rete_net.specs.Indexes.{IsFound, IsLeftAlone}
 use Rattle.rete_net.specs.Places.{has_place}
 use Rattle.rete_net.specs.Answers.{IsPut}
 use Rattle.rete_net.proofs.Steady.{set_off, step_at, come_to_end}
-use Rattle.rete_net.proofs.Walking.{not_replaced, replaced_more}
+use Rattle.rete_net.proofs.Scheduling.{scheduled_more}
+use Rattle.rete_net.proofs.Walking.{not_replaced, not_true, replaced_more}
 use Rattle.rete_net.proofs.net.Rete.walk.Goals as goal
 
 pub walk-init : goal.walk-init
@@ -16,13 +16,17 @@ walk-init g c = record {
   index = refl;
   replaced = not_replaced c.args.self.now.nodes.items;
   within = omega arith;
-  way = λ wired.
+  scheduled = λ scheduled. scheduled;
+  way = λ wired scheduled.
       let gone = lent c.args.gone.now in
       let come = option_map (λ f. f.now) c.args.come in
       set_off c.args.program.now (g.F.Facts.map c.args.facts.now) gone come c.args.moment.now c.args.first.now c.args.self.now.nodes.items c.args.self.now.ends.items c.args.self.now.index wired
-      c.in_ok-due.due.keys c.new-answered.result (c.new-answered.ensures.none ∙ c.no_change.ensures) c.new-answered.ensures.answers
-      (subst (λ (nodes : List NetNode). (k : ℕ) (n : NetNode) → slice_get nodes k ≡ Some n → IsFound c.args.self.now.index k n → has_place c.in_ok-due.due.keys k ≡ false → IsLeftAlone n c.args.first.now gone come)
-      c.deref.ensures.value c.in_ok-due.ensures);
+      c.put_reached.new.due.keys c.new-answered.result (c.new-answered.ensures.none ∙ c.no_change.ensures) c.new-answered.ensures.answers
+      (λ k n e found out. record {
+        unreached = c.in_ok-put_reached.ensures.put k n (ap (λ (nodes : List NetNode). slice_get nodes k) c.deref.ensures.value ∙ e) found out;
+        undue = λ timed.
+            c.in_ok-due.ensures k n (scheduled k n e timed) (not_true (has_place c.in_ok-due.due.keys k) (λ there. let no : true ≡ false = sym (c.in_ok-put_reached.ensures.kept k there) ∙ out in cc));
+      });
 }
 
 pub walk-preserved : goal.walk-preserved
@@ -41,19 +45,20 @@ walk-preserved g c =
       index = was.index;
       replaced = replaced_more c.args.self.now.nodes.items nodes place n c.advance.new.self was.replaced at c.in_ok-delta.ensures.parent c.in_ok-delta.ensures.condition;
       within = omega (arith, many, within);
-      way = λ wired.
+      scheduled = λ all. scheduled_more c.args.program.now nodes place n c.advance.new.self c.walk.self.schedule c.put.new.self at c.in_ok-put.ensures.put c.in_ok-put.ensures.others (was.scheduled all);
+      way = λ wired scheduled.
           step_at c.args.program.now (g.F.Facts.map c.args.facts.now) (lent c.args.gone.now) (option_map (λ f. f.now) c.args.come) c.args.moment.now c.args.first.now
-          c.args.self.now.nodes.items c.args.self.now.ends.items c.args.self.now.index wired nodes c.walk.due.keys c.walk.answered c.walk.next (was.way wired)
+          c.args.self.now.nodes.items c.args.self.now.ends.items c.args.self.now.index wired nodes c.walk.due.keys c.walk.answered c.walk.next (was.way wired scheduled)
           place n c.advance.new.self c.left-left.result.now c.in_ok-delta.delta c.put_delta.new.answered c.put_delta.new.due.keys c.in-Some.ensures.from (omega (arith, many, within)) c.in-Some.ensures.first
           at c.in_ok-delta.ensures c.left-left.ensures
           (λ nothing. subst (λ (i : Index). IsPut i place c.in_ok-delta.delta c.walk.answered c.put_delta.new.answered c.walk.due.keys c.put_delta.new.due.keys) was.index (c.in_ok-put_delta.ensures nothing));
     }
 
 pub returns-clause-answered : goal.returns-clause-answered
-returns-clause-answered g c wired =
+returns-clause-answered g c wired scheduled =
     let was = c.walk.invariant in
     let many = was.replaced.many in
     let len = c.len.ensures ∙ c.walk.self.nodes.ok.0 in
     come_to_end c.args.program.now (g.F.Facts.map c.args.facts.now) (lent c.args.gone.now) (option_map (λ f. f.now) c.args.come) c.args.moment.now c.args.first.now
-    c.args.self.now.nodes.items c.args.self.now.ends.items c.args.self.now.index wired c.walk.self.nodes.items c.walk.due.keys c.walk.answered c.walk.next (was.way wired)
+    c.args.self.now.nodes.items c.args.self.now.ends.items c.args.self.now.index wired c.walk.self.nodes.items c.walk.due.keys c.walk.answered c.walk.next (was.way wired scheduled)
     was.within (λ k le lt. c.in_default.ensures.none refl k le (omega (arith, many, len, lt)))

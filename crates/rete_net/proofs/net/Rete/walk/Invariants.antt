@@ -1,5 +1,6 @@
 use Rattle.std.proofs.Common.{◌≡◌, ◌≤◌, ◌-◌, length, option_map}
 use Rattle.rule_model.specs.Lent.{lent}
+use Rattle.rete_net.specs.Schedules.{AreScheduled}
 use Rattle.rete_net.specs.Walks.{IsReplaced, IsWired}
 use Rattle.rete_net.proofs.Steady.{IsUnderWay}
 use Rattle.rete_net.proofs.net.Rete.walk.Given as goal
@@ -10,7 +11,8 @@ invariant-walk g l = record {
   index : l.self.index ≡ l.fn.self.index;
   replaced : IsReplaced l.fn.self.nodes.items l.self.nodes.items;
   within : l.next ≤ length l.fn.self.nodes.items;
-  way : IsWired l.fn.self.nodes.items l.fn.self.ends.items l.fn.self.index
+  scheduled : AreScheduled l.program l.fn.self.nodes.items l.fn.self.schedule → AreScheduled l.program l.self.nodes.items l.self.schedule;
+  way : IsWired l.fn.self.nodes.items l.fn.self.ends.items l.fn.self.index → AreScheduled l.program l.fn.self.nodes.items l.fn.self.schedule
       → IsUnderWay l.program (g.F.Facts.map l.facts) (lent l.gone) (option_map (λ f. f.now) l.fn.come) l.moment l.first l.fn.self.nodes.items l.fn.self.ends.items
       l.self.nodes.items l.due.keys l.answered l.next;
 }

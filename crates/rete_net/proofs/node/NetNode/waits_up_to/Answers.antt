@@ -1,0 +1,18 @@
+use Rattle.std.proofs.Common.{sym, subst}
+use Rattle.condition_node.specs.declared.node.Node.{Node}
+use Rattle.rete_net.specs.Schedules.{IsStillAt}
+use Rattle.rete_net.proofs.Scheduling.{none_below}
+use Rattle.rete_net.proofs.node.NetNode.waits_up_to.Goals as goal
+
+pub returns-in-Not : goal.returns-in-Not
+returns-in-Not c floor low =
+    subst (λ (n : Node). IsStillAt n floor) (sym c.in-Not.is) (none_below c.in-Not.waiting.ripening.waiting.keys c.next_moment.result floor c.next_moment.ensures.least low)
+
+pub returns-in-Join : goal.returns-in-Join
+returns-in-Join c floor low = subst (λ (n : Node). IsStillAt n floor) (sym c.in-Join.is) tt
+
+pub returns-in-Exists : goal.returns-in-Exists
+returns-in-Exists c floor low = subst (λ (n : Node). IsStillAt n floor) (sym c.in-Exists.is) tt
+
+pub returns-in-Fold : goal.returns-in-Fold
+returns-in-Fold c floor low = subst (λ (n : Node). IsStillAt n floor) (sym c.in-Fold.is) tt

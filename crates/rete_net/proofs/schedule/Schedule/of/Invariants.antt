@@ -1,0 +1,8 @@
+use Rattle.std.proofs.Common.{◌≡◌, ◌<◌, ℕ, Some, true, slice_get}
+use Rattle.rete_net.specs.Indexes.{is_timed}
+use Rattle.rete_net.specs.Schedules.{IsScheduled}
+use Rattle.rete_net.specs.declared.node.NetNode.{NetNode}
+use Rattle.rete_net.proofs.schedule.Schedule.of.Given as goal
+
+abbrev pub invariant-loop-place : goal.invariant-loop-place
+invariant-loop-place l = (k : ℕ) (n : NetNode) → k < l.place → slice_get l.nodes k ≡ Some n → is_timed n ≡ true → IsScheduled l.program l.schedule k n

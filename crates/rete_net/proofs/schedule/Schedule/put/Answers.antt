@@ -1,0 +1,46 @@
+use Rattle.std.proofs.Common.{◌≡◌, ◌∙◌, ◌<◌, sym, ap, refl, subst, Some, slice_get, length}
+use Rattle.std.proofs.lemmas.Option.{slice_get_within, slice_get-get_or}
+use Rattle.rete_net.specs.declared.schedule.EntryTimers.{EntryTimers}
+use Rattle.rete_net.specs.declared.timers.Timers.{Timers}
+use Rattle.rete_net.specs.Timers.{IsSet}
+use Rattle.rete_net.proofs.Growing.{both_at}
+use Rattle.rete_net.proofs.Scheduling.{kept_beside, scheduled_still}
+use Rattle.rete_net.proofs.Turns.{set_same}
+use Rattle.rete_net.proofs.schedule.Schedule.put.Goals as goal
+
+-- the timers of the entry point as they were
+at : (c : goal.In_ok-put-2) → slice_get c.line.new.self.floors.items c.in_ok-line.line ≡ Some c.index_mut.result.now
+at c =
+    let line = c.in_ok-line.ensures.line in
+    let within : c.in_ok-line.line < length c.line.new.self.floors.items = slice_get_within c.line.new.self.floors.items c.in_ok-line.line line.0 line.1 in
+    slice_get-get_or c.line.new.self.floors.items c.in_ok-line.line c.index_mut.result.now within ∙ ap Some (sym c.index_mut.ensures.value)
+
+abbrev after : goal.In_ok-put-2 → EntryTimers
+after c = record { entry = c.index_mut.result.now.entry; timers = c.put-2.new.self }
+
+pub returns-clause-put : goal.returns-clause-put
+returns-clause-put c timed =
+    let line = c.in_ok-line.ensures.line in
+    let same : line.0 ≡ c.index_mut.result.now = both_at (slice_get c.line.new.self.floors.items c.in_ok-line.line) line.0 c.index_mut.result.now line.1 (at c) in
+    record {
+      until = c.quiet_until.result;
+      set = c.in_ok-put.ensures.put;
+      quiet = c.quiet_until.ensures.quiet;
+      gate = c.quiet_until.ensures.gate;
+      line = c.in_ok-line.line;
+      timers = after c;
+      found = set_same c.line.new.self.floors.items c.in_ok-line.line (after c) c.index_mut.result.now (at c);
+      entry = ap (λ (t : EntryTimers). t.entry.0) (sym same) ∙ line.2 ∙ c.entry.ensures;
+      up_to = c.waits_up_to.result;
+      waits = c.in_ok-put-2.ensures.put;
+      still = c.waits_up_to.ensures;
+    }
+
+pub returns-clause-others : goal.returns-clause-others
+returns-clause-others c p k n other was =
+    scheduled_still p c.args.self.now _ k n
+    (λ until set. c.in_ok-put.ensures.others k until other (subst (λ (t : Timers). IsSet t k until) (sym c.in_ok-line.ensures.clock) set))
+    (λ line timers e.
+    kept_beside c.line.new.self.floors.items c.in_ok-line.line k c.index_mut.result.now (after c) (at c) refl (λ up_to set. c.in_ok-put-2.ensures.others k up_to other set)
+    line timers (c.in_ok-line.ensures.kept line timers e))
+    was

@@ -1,0 +1,74 @@
+-- Until when the nodes that time alone may change stay as they are.
+use Rattle.std.specs.Prelude.{◌≡◌, ℕ, ℤ, true, false, List, Option, Some, slice_get}
+use Rattle.fx_base.specs.declared.fact.Fact.{Fact}
+use Rattle.row_delta.specs.declared.delta.Delta.{Delta}
+use Rattle.row_delta.specs.declared.row.Named.{Named}
+use Rattle.rule_model.specs.declared.condition.Pattern.{Pattern}
+use Rattle.rule_model.specs.declared.program.Program.{Program}
+use Rattle.rule_model.specs.declared.moment.Moment.{Moment}
+use Rattle.rule_model.specs.Moments.{snapshot_at}
+use Rattle.rule_model.specs.Rows.{pattern_of}
+use Rattle.rule_model.specs.Snapshots.{Snapshot, floor}
+use Rattle.condition_rows.specs.Sets.{candidates_of}
+use Rattle.not_node.specs.Waiting.{NoneDue}
+use Rattle.pattern_gate.specs.declared.gate.PatternGate.{PatternGate}
+use Rattle.pattern_gate.specs.Gates.{GateStands}
+use Rattle.pattern_gate.specs.Moves.{Moves}
+use Rattle.pattern_gate.specs.Turns.{is_one_meant}
+use Rattle.condition_node.specs.Nodes.{condition_of}
+use Rattle.condition_node.specs.Quiet.{IsBefore}
+use Rattle.condition_node.specs.declared.node.Node.{Node}
+use Rattle.condition_node.specs.declared.node.Node.TheVariants as node
+use Rattle.rete_net.specs.declared.node.NetNode.{NetNode}
+use Rattle.rete_net.specs.declared.schedule.EntryTimers.{EntryTimers}
+use Rattle.rete_net.specs.declared.schedule.Schedule.{Schedule}
+use Rattle.rete_net.specs.Indexes.{is_timed, IsUnreached}
+use Rattle.rete_net.specs.Quiet.{IsNodeQuiet}
+use Rattle.rete_net.specs.Timers.{IsFrom, IsSet}
+
+-- the place of the entry point of a node's candidates
+abbrev pub entry_of : NetNode → ℕ
+entry_of n = (pattern_of (condition_of n.node)).entry.0
+
+-- a gate stays as it is at this clock, and with it the candidates, where no fact that goes or comes is meant
+pub record IsGateStill (gate : PatternGate) (clock : ℤ) : Type 0 where
+  pub stands : (p : Program) (q : Pattern) (s next : Snapshot) (gone : List Fact) (come : Option Fact) → is_one_meant q gone come ≡ false → GateStands p q gate s → Moves p s next gone come → next.clock ≡ clock
+      → GateStands p q gate next
+  pub candidates : (p : Program) (q : Pattern) (s next : Snapshot) (gone : List Fact) (come : Option Fact) → is_one_meant q gone come ≡ false → GateStands p q gate s → Moves p s next gone come → next.clock ≡ clock
+      → (who : Named) → candidates_of p q next who ≡ candidates_of p q s who
+
+-- no row of a `not` waits for a moment below this floor
+abbrev pub IsStillAt : Node → ℤ → Type 0
+IsStillAt (node.Join join) floor = Unit {0}
+IsStillAt (node.Not waiting) floor = NoneDue waiting.ripening.waiting.keys floor
+IsStillAt (node.Exists tally) floor = Unit {0}
+IsStillAt (node.Fold fold) floor = Unit {0}
+
+-- nothing is due in a node at this moment
+pub record IsUndue (p : Program) (n : NetNode) (moment : Moment) : Type 0 where
+  pub gate : IsGateStill n.gate moment.clock
+  pub node : IsStillAt n.node (floor p (snapshot_at moment) (entry_of n))
+
+-- a step does not reach the node but by what changes in the rows of its parent
+pub record IsLeftAlone (p : Program) (n : NetNode) (first : Delta) (gone : List Fact) (come : Option Fact) (moment : Moment) : Type 0 where
+  pub unreached : IsUnreached n first gone come
+  pub undue : is_timed n ≡ true → IsUndue p n moment
+
+-- the node in a place stands under a moment of the clock until which it is quiet, and under one up to which the floor of its entry point
+-- lets no row come
+pub record IsScheduled (p : Program) (schedule : Schedule) (k : ℕ) (n : NetNode) : Type 0 where
+  pub until : Option ℤ
+  pub set : IsSet schedule.clock k until
+  pub quiet : IsNodeQuiet p n until
+  pub gate : (clock : ℤ) → IsBefore until clock → IsGateStill n.gate clock
+  pub line : ℕ
+  pub timers : EntryTimers
+  pub found : slice_get schedule.floors.items line ≡ Some timers
+  pub entry : timers.entry.0 ≡ entry_of n
+  pub up_to : Option ℤ
+  pub waits : IsSet timers.timers k up_to
+  pub still : (floor : ℤ) → IsFrom floor up_to → IsStillAt n.node floor
+
+-- so does each node that time alone may change
+abbrev pub AreScheduled : Program → List NetNode → Schedule → Type 0
+AreScheduled p nodes schedule = (k : ℕ) (n : NetNode) → slice_get nodes k ≡ Some n → is_timed n ≡ true → IsScheduled p schedule k n
