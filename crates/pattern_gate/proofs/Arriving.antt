@@ -6,7 +6,7 @@ use Rattle.std.specs.List.Sorted.{IsStrictlySortedBy}
 use Rattle.std.specs.Ordering.{nat_cmp}
 use Rattle.std.specs.declared.cmp.Ordering.TheVariants.{Less}
 use Rattle.std.proofs.lemmas.Bool.Decides.{Decides-eqb, nat_tests}
-use Rattle.std.proofs.lemmas.List.{append-nil, map-append}
+use Rattle.std.proofs.lemmas.List.{append_assoc, append-nil, map-append}
 use Rattle.std.proofs.lemmas.List.Elements.{filter-append}
 use Rattle.fx_base.specs.Lists.{In}
 use Rattle.fx_base.specs.declared.fact.Fact.{Fact}
@@ -14,7 +14,7 @@ use Rattle.fx_base.specs.declared.ids.Tag.{Tag}
 use Rattle.rule_model.specs.Distinct.{HaveDistinctTags}
 use Rattle.rule_model.specs.Tuples.{name_of}
 use Rattle.rule_model.specs.declared.condition.Pattern.{Pattern}
-use Rattle.rule_model.proofs.Listed.{in_map, of_map, in_right}
+use Rattle.rule_model.proofs.Listed.{in_map, of_map, in_left, in_right}
 use Rattle.rule_model.proofs.Named.{AllOf, of_filter}
 use Rattle.rule_model.proofs.Once.{one_fact}
 use Rattle.rule_model.proofs.Order.{in_filter, passed}
@@ -28,7 +28,7 @@ use Rattle.window_gate.specs.declared.change.WindowKind.{WindowKind}
 use Rattle.window_gate.specs.declared.change.WindowKind.TheVariants.{Whole, Time, Length}
 use Rattle.pattern_gate.specs.Gates.{arrival_of}
 use Rattle.pattern_gate.specs.Moves.{shares_tag}
-use Rattle.pattern_gate.specs.Turns.{is_meant, is_given_meant, is_one_meant, less_fact, less_facts, more_fact, LetsAllGo, LetsCome}
+use Rattle.pattern_gate.specs.Turns.{is_meant, is_given_meant, is_one_meant, less_fact, less_facts, more_fact, more_facts, LetsAllGo, LetsCome, LetsAllCome}
 
 -- ---- filters
 
@@ -119,6 +119,15 @@ apart f g h = by (f.tag.0 == g.tag.0) refl
 -- the facts that do not go
 abbrev pub left : List Fact → List Fact → List Fact
 left facts gone = filter (λ (g : Fact). not (shares_tag gone g)) facts
+
+-- the first of facts with distinct tags have distinct tags
+distinct_front : (facts others : List Fact) → HaveDistinctTags (facts ++ others) → HaveDistinctTags facts
+distinct_front [] others d = tt
+distinct_front (f ∷ facts) others d = (
+  λ i. d.0 (let r = of_map (λ (g : Fact). g.tag) f.tag facts i in
+      subst (λ (t : Tag). In t (map (λ (g : Fact). g.tag) (facts ++ others))) r.2 (in_map (λ (g : Fact). g.tag) r.0 (facts ++ others) (in_left r.0 facts others r.1))),
+  distinct_front facts others d.1,
+)
 
 module _ (q : Pattern) where
   -- the arrivals of the facts that are meant
@@ -212,6 +221,23 @@ module _ (q : Pattern) where
   pub lets_come : (kind : WindowKind) (clock : ℤ) → MayPass kind clock clock → (facts : List Fact) (f : Fact) → HaveDistinctTags (facts ++ f ∷ []) → (is_meant q f ≡ true → MayStart kind f.times.start)
       → LetsCome kind q clock (meant facts) (Some f)
   lets_come kind clock pass facts f d starts e = record { passes = pass; changes = (new_tag facts f d, starts e) }
+
+  -- ---- facts come, one after the other
+
+  pub more_all : (done facts : List Fact) → more_facts q (meant done) facts ≡ meant (done ++ facts)
+  more_all done [] = ap meant (sym (append-nil done))
+  more_all done (f ∷ facts) =
+      ap (λ arrivals. more_facts q arrivals facts) (more_one done (Some f)) ∙ more_all (done ++ f ∷ []) facts ∙ ap meant (append_assoc done (f ∷ []) facts)
+
+  pub lets_all_come : (kind : WindowKind) (clock : ℤ) → MayPass kind clock clock → (done facts : List Fact) → HaveDistinctTags (done ++ facts)
+      → ((f : Fact) → In f facts → is_meant q f ≡ true → MayStart kind f.times.start) → LetsAllCome kind q clock (meant done) facts
+  lets_all_come kind clock pass done [] d starts = tt
+  lets_all_come kind clock pass done (f ∷ facts) d starts =
+      let behind : HaveDistinctTags ((done ++ f ∷ []) ++ facts) = subst (λ (all : List Fact). HaveDistinctTags all) (sym (append_assoc done (f ∷ []) facts)) d in (
+        lets_come kind clock pass done f (distinct_front (done ++ f ∷ []) facts behind) (starts f (inl refl)),
+        subst (λ arrivals. LetsAllCome kind q clock arrivals facts) (sym (more_one done (Some f)))
+            (lets_all_come kind clock pass (done ++ f ∷ []) facts behind (λ g i. starts g (inr i))),
+      )
 
   -- ---- nothing that is meant goes or comes
 

@@ -25,6 +25,7 @@ use Rattle.rule_model.proofs.Listed.{both_of, in_right, of_map}
 use Rattle.rule_world.specs.Events.{most_millis}
 use Rattle.rule_world.specs.Programs.{is_window}
 use Rattle.pair_memory.specs.Inputs.{row_naming, IsNameDifference}
+use Rattle.pair_memory.specs.Standing.{no_names, no_rows}
 use Rattle.condition_rows.specs.Sets.{candidates_of}
 use Rattle.window_gate.specs.Standing.{LeavesAt, Stands, MayPass, MayStart, most, window_of}
 use Rattle.window_gate.specs.Windows.{Arrival, inside, rows_inside}
@@ -32,8 +33,8 @@ use Rattle.window_gate.specs.declared.change.WindowKind.{WindowKind}
 use Rattle.pattern_gate.specs.declared.gate.PatternGate.{PatternGate}
 use Rattle.pattern_gate.specs.Gates.{arrival_of, arrivals, kind_of, has_good_window, GateStands, LeavesBy}
 use Rattle.pattern_gate.specs.Moves.{IsOrderly, Moves, at_clock}
-use Rattle.pattern_gate.specs.Turns.{is_meant, is_one_meant, less_facts, more_fact, LetsAllGo, LetsCome, TakesStep}
-use Rattle.pattern_gate.proofs.Arriving.{filter_among, rising, left, meant, less_all, lets_all, more_one, lets_come, none_meant}
+use Rattle.pattern_gate.specs.Turns.{is_meant, is_one_meant, less_facts, more_fact, more_facts, LetsAllGo, LetsCome, LetsAllCome, TakesStep}
+use Rattle.pattern_gate.proofs.Arriving.{filter_among, rising, left, meant, less_all, lets_all, more_one, more_all, lets_come, lets_all_come, none_meant}
 use Rattle.pattern_gate.proofs.Inside.{inside_are, rows_named}
 
 -- ---- windows
@@ -92,6 +93,34 @@ names_differ p q s next is also delta differs =
       comes = λ who. differs.leads.comes (row_naming who)
           ∙ ap (λ b. b && not (has (rows_inside (kind_of q.window) s.clock (arrivals p q s)) (row_naming who))) (now who) ∙ ap (λ b. candidates_of p q next who && not b) (was who);
     }
+
+-- ---- all facts of a snapshot come
+
+module _ (p : Program) (q : Pattern) (s : Snapshot) (is : IsOrderly p s) (good : has_good_window p q ≡ true) (facts : List Fact) (of : s.facts ≡ facts) (clock : ℤ) (at : s.clock ≡ clock) where
+  pub all_may_come : LetsAllCome (kind_of q.window) q clock [] facts
+  all_may_come = subst (λ now. LetsAllCome (kind_of q.window) q now [] facts) at (subst (λ (all : List Fact). LetsAllCome (kind_of q.window) q s.clock [] all) of
+      (lets_all_come q (kind_of q.window) s.clock (may_pass p q good s.clock s.clock (omega (arith, ints))) [] s.facts (rising s.facts is.in_order) (may_start p q good s is)))
+
+  all_arrive : more_facts q [] facts ≡ arrivals p q s
+  all_arrive = ap (more_facts q []) (sym of) ∙ more_all q [] s.facts ∙ sym (arrivals_meant p q s is)
+
+  -- a gate to which they came stands for the snapshot
+  pub stands_for_all : (gate : PatternGate) → window_of gate.gate ≡ kind_of q.window → Stands gate.gate (more_facts q [] facts) clock → GateStands p q gate s
+  stands_for_all gate same stands = record {
+    window = same;
+    stands = subst (λ now. Stands gate.gate (arrivals p q s) now) (sym at) (subst (λ list. Stands gate.gate list clock) all_arrive stands);
+  }
+
+  -- and what has come inside are the candidates
+  pub candidates_come : (delta : Delta) → IsDifference no_rows (has (rows_inside (kind_of q.window) clock (more_facts q [] facts))) delta → IsNameDifference no_names (candidates_of p q s) delta
+  candidates_come delta differs =
+      let is_theirs : IsDifference no_rows (has (rows_inside (kind_of q.window) s.clock (arrivals p q s))) delta =
+          subst (λ now. IsDifference no_rows (has (rows_inside (kind_of q.window) now (arrivals p q s))) delta) (sym at)
+          (subst (λ list. IsDifference no_rows (has (rows_inside (kind_of q.window) clock list)) delta) all_arrive differs) in
+      record {
+        goes = λ who. is_theirs.leads.goes (row_naming who);
+        comes = λ who. is_theirs.leads.comes (row_naming who) ∙ ap (λ b. b && true) (rows_named p q s is.in_order who);
+      }
 
 -- ---- one after the other
 

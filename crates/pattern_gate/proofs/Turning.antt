@@ -1,5 +1,5 @@
 -- What a turn does to what has changed so far, and to what is left of the facts that go.
-use Rattle.std.proofs.Common.{◌≡◌, ◌∙◌, sym, ap, refl, subst, ℕ, ◌+◌, ◌<◌, ◌≤◌, ℤ, List, [], ◌∷◌, length, drop, get_or, Bool, true, false, not, ◌&&◌, ◌||◌}
+use Rattle.std.proofs.Common.{◌≡◌, ◌∙◌, sym, ap, refl, subst, ℕ, ◌+◌, ◌<◌, ◌≤◌, ℤ, List, [], ◌∷◌, length, drop, get_or, Bool, true, false, not, Some, ◌&&◌, ◌||◌}
 use Rattle.std.specs.Borrow.{Bor}
 use Rattle.std.specs.List.{list_any}
 use Rattle.std.proofs.lemmas.List.{at_drop_more, at_drop_all}
@@ -14,10 +14,13 @@ use Rattle.row_change.specs.declared.change.Change.{Change}
 use Rattle.row_change.proofs.Alike.{leads_alike}
 use Rattle.rule_model.specs.Lent.{lent}
 use Rattle.rule_model.specs.declared.condition.Pattern.{Pattern}
-use Rattle.window_gate.specs.Windows.{Arrival}
+use Rattle.pair_memory.specs.Standing.{no_rows}
+use Rattle.window_gate.specs.Standing.{Stands, window_of}
+use Rattle.window_gate.specs.Windows.{Arrival, rows_inside}
 use Rattle.window_gate.specs.declared.change.WindowKind.{WindowKind}
+use Rattle.window_gate.specs.declared.change.WindowKind.TheVariants.{Whole, Time, Length}
 use Rattle.pattern_gate.specs.declared.gate.PatternGate.{PatternGate}
-use Rattle.pattern_gate.specs.Turns.{is_meant, less_fact, less_facts, LetsGo, LetsAllGo, Reaches}
+use Rattle.pattern_gate.specs.Turns.{is_meant, less_fact, less_facts, more_fact, more_facts, LetsGo, LetsAllGo, LetsCome, LetsAllCome, Reaches}
 
 -- without what is in the first alone, and with what is in the second alone, it is the second
 led : (a b : Bool) → ((a && not (a && not b)) || (b && not a)) ≡ b
@@ -80,6 +83,60 @@ pub all_went : (old : Row → Bool) (kind : WindowKind) (pattern : Pattern) (clo
 all_went old kind pattern clock gate change gone end i over left =
     let done = subst (λ (facts : List Fact). IsLeft old kind pattern clock gate change facts end) (at_drop_all lent gone i over) left in
     subst (λ (arrivals : List Arrival). Reaches old kind gate change arrivals clock) done.ends done.reaches
+
+-- ---- the facts that come
+
+-- while facts come: for some arrivals so far the gate stands, and with those that are still to come it ends at the same
+pub record IsExpected (old : Row → Bool) (kind : WindowKind) (pattern : Pattern) (clock : ℤ) (gate : PatternGate) (change : Change) (come : List Fact) (end : List Arrival) : Type 0 where
+  pub arrivals : List Arrival
+  pub reaches : Reaches old kind gate change arrivals clock
+  pub comes : LetsAllCome kind pattern clock arrivals come
+  pub ends : more_facts pattern arrivals come ≡ end
+
+-- one of them comes
+coming : (old : Row → Bool) (kind : WindowKind) (pattern : Pattern) (clock : ℤ) (gate gate_now : PatternGate) (change change_now : Change) (f : Fact) (come : List Fact) (end : List Arrival)
+    → ((old : Row → Bool) (kind : WindowKind) (arrivals : List Arrival) → Reaches old kind gate change arrivals clock → LetsCome kind pattern clock arrivals (Some f)
+    → Reaches old kind gate_now change_now (more_fact pattern arrivals (Some f)) clock)
+    → IsExpected old kind pattern clock gate change (f ∷ come) end → IsExpected old kind pattern clock gate_now change_now come end
+coming old kind pattern clock gate gate_now change change_now f come end comes left = record {
+  arrivals = more_fact pattern left.arrivals (Some f);
+  reaches = comes old kind left.arrivals left.reaches left.comes.0;
+  comes = left.comes.1;
+  ends = left.ends;
+}
+
+pub one_comes : (old : Row → Bool) (kind : WindowKind) (pattern : Pattern) (clock : ℤ) (gate gate_now : PatternGate) (change change_now : Change) (f : Bor Fact) (come : List (Bor Fact)) (end : List Arrival)
+    (i : ℕ) → i < length come → f ≡ get_or come i f
+    → ((old : Row → Bool) (kind : WindowKind) (arrivals : List Arrival) → Reaches old kind gate change arrivals clock → LetsCome kind pattern clock arrivals (Some f.now)
+    → Reaches old kind gate_now change_now (more_fact pattern arrivals (Some f.now)) clock)
+    → IsExpected old kind pattern clock gate change (lent (drop i come)) end → IsExpected old kind pattern clock gate_now change_now (lent (drop (i + 1) come)) end
+one_comes old kind pattern clock gate gate_now change change_now f come end i lt is comes left =
+    let cut : lent (drop i come) ≡ f.now ∷ lent (drop (i + 1) come) = at_drop_more lent come i f lt ∙ ap (λ (g : Bor Fact). g.now ∷ lent (drop (i + 1) come)) (sym is) in
+    coming old kind pattern clock gate gate_now change change_now f.now (lent (drop (i + 1) come)) end comes
+    (subst (λ (facts : List Fact). IsExpected old kind pattern clock gate change facts end) cut left)
+
+-- all of them came
+pub all_came : (old : Row → Bool) (kind : WindowKind) (pattern : Pattern) (clock : ℤ) (gate : PatternGate) (change : Change) (come : List (Bor Fact)) (end : List Arrival) (i : ℕ) → length come ≤ i
+    → IsExpected old kind pattern clock gate change (lent (drop i come)) end → Reaches old kind gate change end clock
+all_came old kind pattern clock gate change come end i over left =
+    let done = subst (λ (facts : List Fact). IsExpected old kind pattern clock gate change facts end) (at_drop_all lent come i over) left in
+    subst (λ (arrivals : List Arrival). Reaches old kind gate change arrivals clock) done.ends done.reaches
+
+-- ---- a gate without arrivals
+
+nothing_inside : (kind : WindowKind) (now : ℤ) (row : Row) → false ≡ has (rows_inside kind now []) row
+nothing_inside Whole now row = refl
+nothing_inside (Time millis) now row = refl
+nothing_inside (Length size) now row = refl
+
+-- where nothing has changed, the gate has none of the rows
+pub reaches_nothing : (kind : WindowKind) (gate : PatternGate) (change : Change) (now : ℤ) → window_of gate.gate ≡ kind → Stands gate.gate [] now
+    → ((rows : Row → Bool) → Leads rows rows change.gone.keys change.come.keys) → Reaches no_rows kind gate change [] now
+reaches_nothing kind gate change now is stands leads = record {
+  window = is;
+  stands = stands;
+  leads = leads_alike no_rows no_rows (has (rows_inside kind now [])) change.gone.keys change.come.keys (leads no_rows) (nothing_inside kind now);
+}
 
 -- ---- which are meant
 

@@ -44,6 +44,11 @@ abbrev pub more_fact : Pattern → List Arrival → Option Fact → List Arrival
 more_fact pattern arrivals None = arrivals
 more_fact pattern arrivals (Some f) = cond (is_meant pattern f) (after arrivals (Come (name_of f) f.times.start)) arrivals
 
+-- what is there where facts come, one after the other
+abbrev pub more_facts : Pattern → List Arrival → List Fact → List Arrival
+more_facts pattern arrivals [] = arrivals
+more_facts pattern arrivals (f ∷ come) = more_facts pattern (more_fact pattern arrivals (Some f)) come
+
 -- ---- what a window takes
 
 -- a fact that is meant may go
@@ -59,6 +64,11 @@ LetsAllGo window pattern clock arrivals (f ∷ gone) = LetsGo window pattern clo
 abbrev pub LetsCome : WindowKind → Pattern → ℤ → List Arrival → Option Fact → Type 0
 LetsCome window pattern clock arrivals None = Unit {0}
 LetsCome window pattern clock arrivals (Some f) = is_meant pattern f ≡ true → Takes window arrivals clock (Come (name_of f) f.times.start) clock
+
+-- so may these, one after the other
+abbrev pub LetsAllCome : WindowKind → Pattern → ℤ → List Arrival → List Fact → Type 0
+LetsAllCome window pattern clock arrivals [] = Unit {0}
+LetsAllCome window pattern clock arrivals (f ∷ come) = LetsCome window pattern clock arrivals (Some f) × LetsAllCome window pattern clock (more_fact pattern arrivals (Some f)) come
 
 -- a step: the clock moves, then facts go, then one comes
 pub record TakesStep (window : WindowKind) (pattern : Pattern) (arrivals : List Arrival) (was : ℤ) (gone : List Fact) (come : Option Fact) (clock : ℤ) : Type 0 where

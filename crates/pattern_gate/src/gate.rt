@@ -13,6 +13,7 @@ ghost use Rattle.rule_model.specs.Lent.{lent};
 ghost use Rattle.rule_model.specs.Snapshots.{Snapshot};
 ghost use Rattle.rule_model.specs.Tuples.{name_of};
 ghost use Rattle.pair_memory.specs.Inputs.{IsNameDifference};
+ghost use Rattle.pair_memory.specs.Standing.{no_names};
 ghost use Rattle.condition_rows.specs.Sets.{candidates_of};
 ghost use Rattle.condition_rows.specs.Looks.{empty_snapshot};
 ghost use Rattle.window_gate.specs.declared.change.WindowKind.{WindowKind};
@@ -20,7 +21,7 @@ ghost use Rattle.window_gate.specs.Windows.{Arrival, after, rows_inside};
 ghost use Rattle.window_gate.specs.Standing.{LeavesAt, Stands, Takes, window_of};
 ghost use Rattle.pattern_gate.specs.Moves.{IsOrderly, Moves, at_clock};
 ghost use Rattle.pattern_gate.specs.Gates.{GateStands, LeavesBy, arrival_of, has_good_window, kind_of};
-ghost use Rattle.pattern_gate.specs.Turns.{is_meant, is_given_meant, is_one_meant, less_fact, less_facts, more_fact, LetsGo, LetsAllGo, LetsCome, TakesStep, Reaches};
+ghost use Rattle.pattern_gate.specs.Turns.{is_meant, is_given_meant, is_one_meant, less_fact, less_facts, more_fact, more_facts, LetsGo, LetsAllGo, LetsCome, LetsAllCome, TakesStep, Reaches};
 
 use fx_base::{Fact, Millis, NoMemory};
 use row_change::Change;
@@ -45,6 +46,28 @@ impl PatternGate {
         PatternGate {
             gate: Gate::new(alloc, kind_of(pattern.window)),
         }
+    }
+
+    /// The gate of a pattern over these facts, in the order of their tags, at this clock in milliseconds, and the candidates of the pattern,
+    /// each as a row of its own that comes. It costs the constant tests of each fact, and for those that fit the logarithm of their number.
+    pub fn load(
+        alloc: Global,
+        pattern: &Pattern,
+        facts: &[&Fact],
+        clock: Millis,
+    ) -> Result<(PatternGate, Delta), NoMemory>
+        ensures stands { IfOk result (λ loaded. (p : Program) (s : Snapshot) → has_good_window p pattern.now ≡ true → IsOrderly p s → s.facts ≡ lent facts.now → s.clock ≡ clock
+            → GateStands p pattern.now loaded.0 s) }
+        ensures candidates { IfOk result (λ loaded. (p : Program) (s : Snapshot) → has_good_window p pattern.now ≡ true → IsOrderly p s → s.facts ≡ lent facts.now → s.clock ≡ clock
+            → IsNameDifference no_names (candidates_of p pattern.now s) loaded.1) }
+    {
+        let mut gate = PatternGate {
+            gate: Gate::new(alloc, kind_of(pattern.window)),
+        };
+        let mut change = Change::none(alloc);
+        gate.facts_come(alloc, &mut change, pattern, facts, clock)?;
+        let delta = change.delta(alloc)?;
+        Ok((gate, delta))
     }
 
     /// The moment of the clock from which a candidate leaves the window: until then a move of the clock alone changes nothing.
@@ -168,6 +191,24 @@ impl PatternGate {
             return Ok(());
         }
         self.turn(alloc, change, &GateChange::Gone(name_of(fact)), clock)
+    }
+
+    fn facts_come(
+        &mut self,
+        alloc: Global,
+        change: &mut Change,
+        pattern: &Pattern,
+        come: &[&Fact],
+        clock: Millis,
+    ) -> Result<(), NoMemory>
+        ensures window { OnOk result (window_of self.new.gate ≡ window_of self.old.gate) }
+        ensures reaches { OnOk result ((old : Row → Bool) (window : WindowKind) (arrivals : List Arrival) → Reaches old window self.old change.old arrivals clock
+            → LetsAllCome window pattern.now clock arrivals (lent come.now) → Reaches old window self.new change.new (more_facts pattern.now arrivals (lent come.now)) clock) }
+    {
+        for fact in come {
+            self.fact_comes(alloc, change, pattern, Some(fact), clock)?;
+        }
+        Ok(())
     }
 
     fn fact_comes(
