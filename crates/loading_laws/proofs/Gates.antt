@@ -1,5 +1,5 @@
 -- A gate that stands for what its window needs of a snapshot stands for all of it.
-use Rattle.std.proofs.Common.{◌≡◌, ◌∙◌, ◌⊎◌, inl, inr, sym, ap, refl, subst, ℕ, ℤ, pos, ◌-ℤ◌, ◌+ℤ◌, ◌==◌, ◌&&◌, ◌||◌, int_lt, List, [], ◌∷◌, map, Bool, true, false, cond, Option, option_map}
+use Rattle.std.proofs.Common.{◌≡◌, ◌∙◌, ◌⊎◌, inl, inr, sym, ap, refl, subst, ℕ, ℤ, pos, ◌-ℤ◌, ◌+ℤ◌, ◌==◌, ◌&&◌, ◌||◌, int_lt, List, [], ◌∷◌, map, Bool, true, false, cond, option_map}
 use Rattle.std.specs.List.{filter, list_any, AllByRecursion}
 use Rattle.std.specs.List.Sorted.{IsStrictlySortedBy}
 use Rattle.std.specs.Ordering.{nat_cmp}
@@ -12,22 +12,19 @@ use Rattle.rule_model.specs.declared.condition.Pattern.{Pattern}
 use Rattle.rule_model.specs.declared.condition.WindowTag.{WindowTag}
 use Rattle.rule_model.specs.declared.condition.WindowTag.TheVariants as tag
 use Rattle.rule_model.specs.declared.program.Program.{Program}
-use Rattle.rule_model.specs.Candidates.{fits, is_inside, is_candidate}
+use Rattle.rule_model.specs.Candidates.{fits, is_inside}
 use Rattle.rule_model.specs.Distinct.{HaveDistinctTags}
 use Rattle.rule_model.specs.Snapshots.{Snapshot}
-use Rattle.rule_model.specs.Tuples.{name_of}
-use Rattle.rule_model.proofs.Listed.{in_map}
 use Rattle.rule_model.proofs.Named.{of_filter}
-use Rattle.rule_model.proofs.Order.{Same, in_filter, passed}
+use Rattle.rule_model.proofs.Order.{in_filter, passed}
 use Rattle.rule_world.proofs.Fresh.{distinct_filtered}
-use Rattle.window_gate.specs.Standing.{Stands, KeepsTime, KeepsLength, Keeps, TagsDiffer, window_kept, with_tag, numbered}
+use Rattle.window_gate.specs.Standing.{KeepsTime, KeepsLength, Keeps, TagsDiffer, window_kept, with_tag}
 use Rattle.window_gate.specs.Windows.{Arrival, named_of, has_tag, inside}
 use Rattle.window_gate.specs.declared.change.WindowKind.{WindowKind}
 use Rattle.window_gate.specs.declared.change.WindowKind.TheVariants as kind
 use Rattle.window_gate.specs.declared.gate.Kept.{Kept}
 use Rattle.window_gate.specs.declared.gate.Kept.TheVariants as kept
 use Rattle.window_gate.specs.declared.time_window.TimeWindow.{TimeWindow}
-use Rattle.window_gate.specs.declared.length_window.LengthWindow.{LengthWindow}
 use Rattle.pattern_gate.specs.declared.gate.PatternGate.{PatternGate}
 use Rattle.pattern_gate.specs.Gates.{GateStands, arrival_of, arrivals, kind_of}
 use Rattle.pattern_gate.proofs.Arriving.{rising}
@@ -35,7 +32,7 @@ use Rattle.pattern_gate.proofs.Inside.{inside_are}
 use Rattle.loading_laws.specs.Gates.{IsAside, HasInFront}
 use Rattle.image_laws.specs.Images.{tag_cmp}
 use Rattle.image_laws.proofs.Imaged.{tag_total}
-use Rattle.image_laws.proofs.Sorted.{below_each, sorted_same}
+use Rattle.image_laws.proofs.Sorted.{sorted_same}
 
 -- ---- lists in the order of their tags
 
@@ -57,20 +54,20 @@ by_tags (f ∷ facts) rise = (all_mapped f.tag.0 facts rise.0, by_tags facts ris
 -- those that pass a test keep their order
 all_filtered : (P : Fact → Type 0) (test : Fact → Bool) (facts : List Fact) → AllByRecursion P facts → AllByRecursion P (filter test facts)
 all_filtered P test [] all = tt
-all_filtered P test (f ∷ facts) all = by (test f)
+all_filtered P test (f ∷ facts) all = by (test f) (all_filtered P test facts all.1)
   where
-    by : (b : Bool) → AllByRecursion P (cond b (f ∷ filter test facts) (filter test facts))
-    by true = (all.0, all_filtered P test facts all.1)
-    by false = all_filtered P test facts all.1
+    by : (b : Bool) → AllByRecursion P (filter test facts) → AllByRecursion P (cond b (f ∷ filter test facts) (filter test facts))
+    by true rest = (all.0, rest)
+    by false rest = rest
 
 sorted_filtered : (test : Fact → Bool) (facts : List Fact) → IsStrictlySortedBy tag_cmp facts → IsStrictlySortedBy tag_cmp (filter test facts)
 unfolding IsStrictlySortedBy
 sorted_filtered test [] s = s
-sorted_filtered test (f ∷ facts) s = by (test f)
+sorted_filtered test (f ∷ facts) s = by (test f) (sorted_filtered test facts s.1)
   where
-    by : (b : Bool) → IsStrictlySortedBy tag_cmp (cond b (f ∷ filter test facts) (filter test facts))
-    by true = (all_filtered (λ (g : Fact). tag_cmp f g ≡ Less) test facts s.0, sorted_filtered test facts s.1)
-    by false = sorted_filtered test facts s.1
+    by : (b : Bool) → IsStrictlySortedBy tag_cmp (filter test facts) → IsStrictlySortedBy tag_cmp (cond b (f ∷ filter test facts) (filter test facts))
+    by true rest = (all_filtered (λ (g : Fact). tag_cmp f g ≡ Less) test facts s.0, rest)
+    by false rest = rest
 
 -- two lists have the same facts that pass, where what only the first has does not
 pub same_passed : (test : Fact → Bool) (xs ys : List Fact) → Rise xs → Rise ys → ((f : Fact) → In f ys → In f xs) → ((f : Fact) → In f xs → In f ys ⊎ (test f ≡ false))
@@ -87,11 +84,14 @@ same_passed test xs ys rise also among others =
 
 -- ---- tags
 
+abbrev tag_numbered : ℕ → Tag
+tag_numbered n = record { 0 = n }
+
 apart : (f g : Fact) → (f.tag ≡ g.tag → ⊥) → (f.tag.0 == g.tag.0) ≡ false
 apart f g h = by (f.tag.0 == g.tag.0) refl
   where
     by : (b : Bool) → (f.tag.0 == g.tag.0) ≡ b → b ≡ false
-    by true e = absurd (h (ap (λ n. (record { 0 = n } : Tag)) ((Decides-eqb f.tag.0 g.tag.0).0 e)))
+    by true e = absurd (h (ap tag_numbered ((Decides-eqb f.tag.0 g.tag.0).0 e)))
     by false e = refl
 
 none_has : (f : Fact) (facts : List Fact) → (In f.tag (map (λ (g : Fact). g.tag) facts) → ⊥) → list_any (has_tag f.tag.0) (map named_of (map arrival_of facts)) ≡ false
@@ -143,10 +143,10 @@ module _ (p : Program) (q : Pattern) (s t : Snapshot) (rise : Rise s.facts) (als
   same_inside span window =
       inside_are p q s rise (tag.Time span)
       ∙ ap (map arrival_of) (same_passed (λ f. fits p q s.clock f && is_inside p q (tag.Time span) s.clock s.facts f) s.facts t.facts rise also has.among (λ f i.
-        elim (has.others f i) [
-          | inl j ↦ inl j
-          | inr aside ↦ inr (ap (λ w. fits p q s.clock f && is_inside p q w s.clock s.facts f) (sym window) ∙ subst (λ w. IsAside w p q s f) window aside)
-        ]))
+      elim (has.others f i) [
+        | inl j ↦ inl j
+        | inr aside ↦ inr (ap (λ w. fits p q s.clock f && is_inside p q w s.clock s.facts f) (sym window) ∙ subst (λ w. IsAside w p q s f) window aside)
+      ]))
       ∙ ap (λ now. map arrival_of (filter (λ f. fits p q now f && int_lt (now -ℤ f.times.start) span) t.facts)) (sym has.clock)
       ∙ sym (inside_are p q t also (tag.Time span))
 
@@ -154,10 +154,10 @@ module _ (p : Program) (q : Pattern) (s t : Snapshot) (rise : Rise s.facts) (als
   same_arrivals : (count : ℕ) → q.window ≡ tag.Length count → arrivals p q s ≡ arrivals p q t
   same_arrivals count window =
       ap (map arrival_of) (same_passed (fits p q s.clock) s.facts t.facts rise also has.among (λ f i.
-        elim (has.others f i) [
-          | inl j ↦ inl j
-          | inr aside ↦ inr (subst (λ w. IsAside w p q s f) window aside)
-        ]))
+      elim (has.others f i) [
+        | inl j ↦ inl j
+        | inr aside ↦ inr (subst (λ w. IsAside w p q s f) window aside)
+      ]))
       ∙ ap (λ now. map arrival_of (filter (fits p q now) t.facts)) (sym has.clock)
 
   keeps_time : (window : TimeWindow) → q.window ≡ tag.Time window.millis → KeepsTime window (arrivals p q t) t.clock → KeepsTime window (arrivals p q s) s.clock

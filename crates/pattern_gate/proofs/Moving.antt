@@ -115,8 +115,8 @@ module _ (p : Program) (q : Pattern) (s : Snapshot) (is : IsOrderly p s) (good :
   pub candidates_come : (delta : Delta) → IsDifference no_rows (has (rows_inside (kind_of q.window) clock (more_facts q [] facts))) delta → IsNameDifference no_names (candidates_of p q s) delta
   candidates_come delta differs =
       let is_theirs : IsDifference no_rows (has (rows_inside (kind_of q.window) s.clock (arrivals p q s))) delta =
-          subst (λ now. IsDifference no_rows (has (rows_inside (kind_of q.window) now (arrivals p q s))) delta) (sym at)
-          (subst (λ list. IsDifference no_rows (has (rows_inside (kind_of q.window) clock list)) delta) all_arrive differs) in
+      subst (λ now. IsDifference no_rows (has (rows_inside (kind_of q.window) now (arrivals p q s))) delta) (sym at)
+      (subst (λ list. IsDifference no_rows (has (rows_inside (kind_of q.window) clock list)) delta) all_arrive differs) in
       record {
         goes = λ who. is_theirs.leads.goes (row_naming who);
         comes = λ who. is_theirs.leads.comes (row_naming who) ∙ ap (λ b. b && true) (rows_named p q s is.in_order who);
