@@ -110,8 +110,8 @@ module _ (p : Program) (look : Look) (s : Snapshot) (rows : Row → Bool) (forgo
   -- an extra tells of the forgotten candidates that pass what it tells of the forgotten facts that join
   pub tells_passing : (gathered : Look → List Named → List ℤ) (c : Condition) (q : Pattern) → q ≡ pattern_of c → ((facts : List Fact) → Holds (held s) facts → gathered (held s) (map name_of facts) ≡ values_gathered c facts)
       → (row : Row) (o : Option Extra) → IsLost c (lost_partners p s forgotten (pattern_of c) row) o → IsExtraFor gathered (held s) (lost_passing (joins q (held s)) (candidates_of p q s) forgotten row) o
-  tells_passing gathered c q meant told_values row None none who =
-      sym (lost_named q row who) ∙ ap (λ (facts : List Fact). has_name (map name_of facts) who) (ap (λ (r : Pattern). lost_partners p s forgotten r row) meant ∙ none)
+  tells_passing gathered c q meant told_values row None none =
+      λ who. sym (lost_named q row who) ∙ ap (λ (facts : List Fact). has_name (map name_of facts) who) (ap (λ (r : Pattern). lost_partners p s forgotten r row) meant ∙ none)
   tells_passing gathered c q meant told_values row (Some e) is = record {
     names = map name_of (lost_partners p s forgotten q row);
     distinct = lost_distinct q row;

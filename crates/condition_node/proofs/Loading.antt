@@ -1,13 +1,16 @@
 -- What the node of each kind stands for after a load.
-use Rattle.std.proofs.Common.{◌≡◌, ◌∙◌, sym, ap, refl, subst, ℤ, ◌≤ℤ◌, List, [], ◌∷◌, Bool, true, false, not, ◌&&◌, ◌||◌}
+use Rattle.std.proofs.Common.{◌≡◌, ◌∙◌, sym, ap, refl, subst, ℤ, ◌≤ℤ◌, List, [], ◌∷◌, map, Bool, true, false, not, ◌&&◌, ◌||◌}
 use mathlib.Core.Path.{fun_ext}
 use Rattle.std.specs.Int.Signed.{≤ℤ_refl}
 use Rattle.std.specs.List.{list_any}
+use Rattle.std.specs.Ordering.{eq_by_cmp}
+use Rattle.std.proofs.lemmas.Bool.Decides.{same_from_decides}
 use Rattle.row_delta.specs.declared.delta.Delta.{Delta}
 use Rattle.row_delta.specs.declared.extra.Extra.{Extra}
 use Rattle.row_delta.specs.declared.row.Named.{Named}
 use Rattle.row_delta.specs.declared.row.Row.{Row}
-use Rattle.row_delta.specs.Rows.{has}
+use Rattle.row_delta.specs.NameOrder.{name_cmp}
+use Rattle.row_delta.specs.Rows.{has, row_cmp}
 use Rattle.rule_model.specs.declared.condition.Accumulate.{Accumulate}
 use Rattle.rule_model.specs.declared.condition.Condition.{Condition}
 use Rattle.rule_model.specs.declared.condition.Condition.TheVariants.{Plain, Negated, Existing, Folded}
@@ -20,6 +23,7 @@ use Rattle.pair_memory.specs.declared.memories.Memories.{Memories}
 use Rattle.pair_memory.specs.Inputs.{IsStepped, row_naming}
 use Rattle.pair_memory.specs.Joined.{has_name}
 use Rattle.pair_memory.specs.Memories.{has_left, has_right, Keeps}
+use Rattle.pair_memory.proofs.Joining.{row_decides, name_decides}
 use Rattle.pair_memory.specs.Standing.{cleaned, no_rows, no_names, StandsFor}
 use Rattle.beta_join.specs.declared.join.BetaJoin.{BetaJoin}
 use Rattle.tally_node.specs.declared.count.Witnesses.{Witnesses}
@@ -67,6 +71,21 @@ pub all_remembered : (b : Bool) → b ≡ (b && not false)
 all_remembered true = refl
 all_remembered false = refl
 
+-- rows that name candidates alone are the same where the candidates are
+named_same : (a b : Named) → eq_by_cmp row_cmp (row_naming a) (row_naming b) ≡ eq_by_cmp name_cmp a b
+named_same a b = same_from_decides _ _ (row_decides (row_naming a) (row_naming b)) (λ e. ap (λ (n : Named). row_naming n) ((name_decides a b).0 e), λ e. (name_decides a b).1 (first_same e))
+  where
+    first : List Named → Named
+    first [] = b
+    first (n ∷ names) = n
+
+    first_same : row_naming a ≡ row_naming b → a ≡ b
+    first_same e = ap (λ (row : Row). first row.facts) e
+
+has_naming : (names : List Named) (who : Named) → has (map row_naming names) (row_naming who) ≡ has_name names who
+has_naming [] who = refl
+has_naming (n ∷ names) who = ap (λ b. b || has (map row_naming names) (row_naming who)) (named_same who n) ∙ ap (λ b. eq_by_cmp name_cmp who n || b) (has_naming names who)
+
 module _ (p : Program) (At : Snapshot → Type 0) (look : Look) (left : List Row) (right : List Named) (extras : List Extra) where
   counts_loaded : {T : Type 0} (holds : T → Look → (Named → Bool) → Type 0) (laden : T → Look → (Named → Bool) → Extra → Type 0) (m n : Memories T) (c : Condition) → m.pattern ≡ pattern_of c
       → Keeps m n look (λ row. has_left m look row || has left row) (λ who. has_right m look who || has_name right who) → AllLaden holds laden look extras (has left) m n
@@ -80,7 +99,7 @@ module _ (p : Program) (At : Snapshot → Type 0) (look : Look) (left : List Row
       (λ who e. candidate_alike world look s no_names load.known load.at_hand p q who e refl)
       load.rows (λ who. load.candidates who ∙ ap (λ (r : Pattern). candidates_of p r s who) (sym meant)) load.in_order keeps loaded)
 
-  pub join_loads : (m n : BetaJoin) (rows_in names_in : Delta) → rows_in.come ≡ left → ((who : Named) → has names_in.come (row_naming who) ≡ has_name right who) → IsStepped m.memories n.memories look rows_in names_in
+  pub join_loads : (m n : BetaJoin) (rows_in names_in : Delta) → rows_in.come ≡ left → names_in.come ≡ map row_naming right → IsStepped m.memories n.memories look rows_in names_in
       → LoadsTo p At look left right extras (node.Join m) (node.Join n)
   join_loads m n rows_in names_in rows_are names_are stepped world s rows stands at load =
       let nothing = nothing_kept p m.memories look stands in
@@ -89,7 +108,7 @@ module _ (p : Program) (At : Snapshot → Type 0) (look : Look) (left : List Row
         rows = λ row.
             stepped.rows row ∙ ap (λ b. (b && not (has rows_in.gone row)) || has rows_in.come row) (nothing.rows row) ∙ ap (λ (rs : List Row). has rs row) rows_are ∙ load.rows row ∙ all_clean rows row;
         names = λ who.
-            stepped.names who ∙ ap (λ b. (b && not (has names_in.gone (row_naming who))) || has names_in.come (row_naming who)) (nothing.names who) ∙ names_are who ∙ load.candidates who
+            stepped.names who ∙ ap (λ b. (b && not (has names_in.gone (row_naming who))) || has names_in.come (row_naming who)) (nothing.names who) ∙ ap (λ (rs : List Row). has rs (row_naming who)) names_are ∙ has_naming right who ∙ load.candidates who
             ∙ all_remembered (candidates_of p m.memories.pattern s who);
         agrees = stepped.agrees nothing.agrees;
       })

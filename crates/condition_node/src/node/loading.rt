@@ -1,14 +1,12 @@
-ghost use Rattle.std.specs.Prelude.{◌≡◌, Bool, [], IfOk, OnOk};
+ghost use Rattle.std.specs.Prelude.{◌≡◌, Bool, [], map, IfOk, OnOk};
 ghost use Rattle.row_delta.specs.declared.row.Named.{Named};
 ghost use Rattle.row_delta.specs.declared.row.Row.{Row};
-ghost use Rattle.row_delta.specs.Rows.{has};
 ghost use Rattle.rule_model.specs.declared.program.Program.{Program};
 ghost use Rattle.rule_model.specs.Moments.{IsAt};
 ghost use Rattle.rule_model.specs.Distinct.{HaveDistinctTags};
 ghost use Rattle.rule_model.specs.Snapshots.{Snapshot};
 ghost use Rattle.join_tests.specs.Joins.{Look};
 ghost use Rattle.pair_memory.specs.Inputs.{row_naming};
-ghost use Rattle.pair_memory.specs.Joined.{has_name};
 ghost use Rattle.pair_memory.specs.Standing.{no_rows, no_names};
 ghost use Rattle.tally_node.specs.Extras.{extra_for};
 ghost use Rattle.condition_rows.specs.Looks.{empty_snapshot, HasAllOf, NameHeld};
@@ -39,7 +37,7 @@ fn coming(alloc: Global, rows: &[Row]) -> Result<Delta, NoMemory>
 /// These candidates come, each named by a row of its own.
 fn naming(alloc: Global, names: &[Named]) -> Result<Delta, NoMemory>
     ensures gone { IfOk result (λ delta. delta.gone ≡ []) }
-    ensures come { IfOk result (λ delta. (who : Named) → has delta.come (row_naming who) ≡ has_name names.now who) }
+    ensures come { IfOk result (λ delta. delta.come ≡ map row_naming names.now) }
 {
     let mut come = Vec::with_capacity(alloc, names.len())?;
     for who in names {

@@ -1,0 +1,6 @@
+use Rattle.std.proofs.Common.{◌≡◌, map, take}
+use Rattle.pair_memory.specs.Inputs.{row_naming}
+use Rattle.condition_node.proofs.node.loading.naming.Given as goal
+
+abbrev pub invariant-loop-who : goal.invariant-loop-who
+invariant-loop-who l = l.come.items ≡ map row_naming (take l.who-index l.names)
