@@ -57,7 +57,8 @@ use Rattle.keeping.specs.Kept.{is_alive, is_named, is_kept, is_forgotten}
 use Rattle.keeping.proofs.Decided.{is_tested}
 use Rattle.keeping.proofs.Members.{passing_one, none_passes}
 use Rattle.keeping.proofs.Staying.{not_alive}
-use Rattle.image_laws.specs.Extras.{lost_partners, values_gathered, IsExtraIn}
+use Rattle.condition_node.specs.Loading.{lost_partners, values_gathered}
+use Rattle.image_laws.specs.Extras.{IsExtraIn}
 use Rattle.image_laws.specs.Fitting.{world_of, IsSmall, CanGather, IsPlaced, IsLaden, IsLadenMatch, IsNeeded, Fits}
 use Rattle.image_laws.specs.Images.{tag_cmp, match_fired, snapshot_of, IsImageOf}
 use Rattle.image_laws.specs.Laden.{AreOwners, laden}

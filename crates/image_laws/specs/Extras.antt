@@ -22,6 +22,7 @@ use Rattle.rule_model.specs.Tuples.{name_of}
 use Rattle.rule_lives.specs.Networks.{binds}
 use Rattle.pair_memory.specs.Standing.{clean}
 use Rattle.condition_rows.specs.Sets.{rows_of, partners}
+use Rattle.condition_node.specs.Loading.{lost_partners, values_gathered}
 
 -- ---- prefixes that rules share
 
@@ -33,15 +34,6 @@ pub record IsFirstWith (p : Program) (n : ℕ) (conditions : List Condition) (pl
   pub earlier : (k : ℕ) (other : Rule) → k < place → slice_get p.rules k ≡ Some other → take n other.conditions ≡ take n conditions → ⊥
 
 -- ---- what is counted of forgotten facts
-
--- the forgotten candidates of a pattern that join a row
-abbrev pub lost_partners : Program → Snapshot → (Named → Bool) → Pattern → Row → List Fact
-lost_partners p s forgotten pattern row = filter (λ (f : Fact). forgotten (name_of f)) (partners p pattern s row)
-
--- what a condition gathers of facts, rising; one that is no accumulate gathers nothing
-abbrev pub values_gathered : Condition → List Fact → List ℤ
-values_gathered (Folded a) facts = in_rising_order (map (argument a.arg) facts)
-values_gathered c facts = []
 
 -- In a snapshot a condition that binds no fact counts forgotten facts beside a row that names none: their number, and what it gathers of
 -- them. Of rules that share the conditions up to this one the first is named.
