@@ -35,7 +35,6 @@ is_none None e = refl
 is_none (Some t) e = let f : true ≡ false = e in cc
 
 module _ {T : Type 0} (holds : T → Look → (Named → Bool) → Type 0) (laden : T → Look → (Named → Bool) → Extra → Type 0) (look : Look) (m n z : Memories T) (extra : Row → Option Extra) where
-
   pub load_then : (left : Row → Bool) → Keeps m n look left (has_right m look) → (a b all : Row → Bool) → ((r : Row) → (a r || b r) ≡ all r) → (o : Option Extra) → ((r : Row) → b r ≡ true → o ≡ extra r)
       → AllLoaded holds laden look extra a m n → AllLoaded holds laden look (λ r. o) b n z → AllLoaded holds laden look extra all m z
   load_then left keeps a b all is o same_extra p q world alike r =

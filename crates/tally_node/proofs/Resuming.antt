@@ -60,8 +60,6 @@ kept_not_lost true true j p e = let g : false ≡ true = e in cc
 kept_not_lost true false j true e = refl
 kept_not_lost true false j false e = refl
 
-
-
 module _ {T : Type 0} (holds : T → Look → (Named → Bool) → Type 0) (laden : T → Look → (Named → Bool) → Extra → Type 0) where
   pub load_law : LoadLaw T holds laden
   load_law m n look world pass rows names left right extras nothing alike seen rows_are names_are sorted keeps loaded = record {

@@ -73,8 +73,7 @@ listed_more R [] extras now row o are is more = (o, [], is, more ∙ ap (λ (es 
     alone None = refl
     alone (Some e) = refl
 listed_more R (r ∷ rs) extras now row o are is more =
-    let rest = are.1 in
-    (
+    let rest = are.1 in (
       are.0,
       rest ++ one_or_none o,
       are.2,

@@ -7,8 +7,8 @@ ghost use Rattle.fold_fn.specs.Held.{HasOneMore};
 ghost use Rattle.fold_fn.specs.Order.{insert_rising, in_rising_order};
 ghost use Rattle.tally_node.specs.Gathers.{argument_of};
 
-use crate::{Beyond, Tally};
 use crate::result_tests::do_hold;
+use crate::{Beyond, Tally};
 use fold_fn::{AnyFold, Fold};
 use fx_base::{Copies, Fact, Facts, NoMemory, Seq, Value};
 use row_delta::{Extra, Named, Row};

@@ -133,8 +133,9 @@ impl Node {
                 Ok(extras)
             }
             Node::Fold(fold) => {
-                let extras =
-                    fold.tally.extras(alloc, &fold.accumulate, rule, condition, facts)?;
+                let extras = fold
+                    .tally
+                    .extras(alloc, &fold.accumulate, rule, condition, facts)?;
                 Ok(extras)
             }
         }

@@ -27,7 +27,11 @@ use std::cmp::Ordering;
 fn extra_of<'e>(extras: &'e [Extra], row: &Row) -> Option<&'e Extra>
     ensures { InOrder (rows_of_extras extras.now) → option_map (λ e. e.now) result ≡ extra_for extras.now row.now }
 {
-    match extras.binary_search_by(|extra: &Extra| -> Ordering ensures { result ≡ row_cmp extra.now.row row.entry.now } { extra.row.cmp(row) }) {
+    match extras.binary_search_by(
+        |extra: &Extra| -> Ordering
+            ensures { result ≡ row_cmp extra.now.row row.entry.now }
+        { extra.row.cmp(row) },
+    ) {
         Ok(place) => Some(&extras[place]),
         Err(_) => None,
     }

@@ -3,7 +3,6 @@ use Rattle.tally_node.proofs.Leaving.{leaves, leave_end, leave_here, leave_not, 
 use Rattle.tally_node.proofs.gathered.values_beyond.Goals as goal
 use Rattle.tally_node.proofs.gathered.values_beyond.Goals.{then-next-part+then-is_same, else-next-part+in_ok-push, else-next-part-via-then-next-part+else-is_same, else-next-part-via-else-next-part}
 
-
 pub loop-value-preserved : goal.loop-value-preserved
 loop-value-preserved c =
     let values = c.args.values.now in

@@ -13,8 +13,7 @@ loop-value-preserved c =
     let values = c.args.values.now in
     let i = c.loop-value.value-index in
     let v = get_or values i (pos 0) in
-    let fits : SFits w64 v = search rules in
-    (
+    let fits : SFits w64 v = search rules in (
       c.in_ok-now.ensures.kind ∙ c.loop-value.invariant.0,
       λ held is.
           (simp to_z-of_z at c.in_ok-now.ensures.values)
