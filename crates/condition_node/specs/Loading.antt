@@ -20,13 +20,17 @@ use Rattle.rule_model.specs.Tuples.{name_of}
 use Rattle.join_tests.specs.Joins.{Look, joins}
 use Rattle.pair_memory.specs.declared.memories.Memories.{Memories}
 use Rattle.pair_memory.specs.Joined.{has_name}
+use Rattle.pair_memory.specs.Memories.{made}
 use Rattle.pair_memory.specs.Standing.{cleaned, remembered, no_names, StandsFor}
-use Rattle.tally_node.specs.Counts.{counts_blockers, counts_witnesses}
+use Rattle.pair_memory.specs.Valued.{without_value, shows_value}
+use Rattle.tally_node.specs.Counts.{counts_blockers, counts_witnesses, where_witnessed}
 use Rattle.tally_node.specs.Extras.{blockers_laden, witnesses_laden, gathered_laden, rows_of_extras}
-use Rattle.tally_node.specs.Gathers.{gathers}
+use Rattle.tally_node.specs.Gathers.{gathers, result_for}
 use Rattle.tally_node.specs.Laws.{StandsLaden}
 use Rattle.not_node.specs.declared.node.NotNode.{NotNode}
-use Rattle.not_node.specs.Rows.{IsInStep}
+use Rattle.tally_node.specs.Origins.{itself, shows_any}
+use Rattle.tally_node.specs.Tallies.{shown}
+use Rattle.not_node.specs.Rows.{IsInStep, not_rows}
 use Rattle.not_node.specs.Waiting.{NoneDue}
 use Rattle.condition_rows.specs.Looks.{empty_snapshot, HasAllOf, NameHeld}
 use Rattle.condition_rows.specs.Sets.{held, candidates_of, partners}
@@ -72,6 +76,13 @@ pub record IsLoad (p : Program) (condition : Condition) (look world : Look) (s :
   pub rows : (row : Row) → has left row ≡ before row
   pub candidates : (who : Named) → has_name right who ≡ candidates_of p (pattern_of condition) s who
   pub in_order : InOrder (rows_of_extras extras)
+
+-- the rows of a node, by what it keeps
+abbrev pub node_rows : Program → Look → Node → Row → Bool
+node_rows p look (node.Join join) = made join.memories look
+node_rows p look (node.Not waiting) = not_rows p look waiting
+node_rows p look (node.Exists tally) = shown itself shows_any where_witnessed tally.memories look
+node_rows p look (node.Fold fold) = shown without_value shows_value (result_for fold.accumulate) fold.tally.memories look
 
 -- ---- what is counted of forgotten facts
 

@@ -1,6 +1,7 @@
 ghost use Rattle.std.specs.Prelude.{◌≡◌, Bool, [], map, IfOk, OnOk};
 ghost use Rattle.row_delta.specs.declared.row.Named.{Named};
 ghost use Rattle.row_delta.specs.declared.row.Row.{Row};
+ghost use Rattle.row_change.specs.Changes.{IsDifference};
 ghost use Rattle.rule_model.specs.declared.program.Program.{Program};
 ghost use Rattle.rule_model.specs.Moments.{IsAt};
 ghost use Rattle.rule_model.specs.Distinct.{HaveDistinctTags};
@@ -10,7 +11,7 @@ ghost use Rattle.pair_memory.specs.Inputs.{row_naming};
 ghost use Rattle.pair_memory.specs.Standing.{no_rows, no_names};
 ghost use Rattle.tally_node.specs.Extras.{extra_for};
 ghost use Rattle.condition_rows.specs.Looks.{empty_snapshot, HasAllOf, NameHeld};
-ghost use Rattle.condition_node.specs.Loading.{AreExtrasBeside, IsLoad, Laden};
+ghost use Rattle.condition_node.specs.Loading.{AreExtrasBeside, IsLoad, Laden, node_rows};
 ghost use Rattle.condition_node.specs.Nodes.{condition_of, NodeStands};
 
 use super::{FoldNode, Node};
@@ -80,6 +81,8 @@ impl Node {
             → NodeStands program.now self.old (F.map facts.now) empty_snapshot no_rows no_names → IsAt s moment.now
             → IsLoad program.now (condition_of self.old) (F.map facts.now) world s rows left.now right.now extras.now
             → Laden program.now self.new (F.map facts.now) world s rows (extra_for extras.now)) }
+        ensures difference { IfOk result (λ delta. NodeStands program.now self.old (F.map facts.now) empty_snapshot no_rows no_names
+            → IsDifference (node_rows program.now (F.map facts.now) self.old) (node_rows program.now (F.map facts.now) self.new) delta) }
     {
         match self {
             Node::Join(join) => {

@@ -1,6 +1,11 @@
 use Rattle.std.proofs.Common.{sym, refl, subst, SFits, to_z-of_z}
 use Rattle.std.specs.Int.{w128}
+use Rattle.row_change.specs.Changes.{IsDifference}
 use Rattle.rule_model.specs.Moments.{IsAt}
+use Rattle.pair_memory.specs.Standing.{no_rows, no_names}
+use Rattle.condition_rows.specs.Looks.{empty_snapshot}
+use Rattle.condition_node.specs.Loading.{node_rows}
+use Rattle.condition_node.specs.Nodes.{NodeStands}
 use Rattle.condition_node.specs.declared.node.FoldNode.{FoldNode}
 use Rattle.condition_node.specs.declared.node.Node.{Node}
 use Rattle.condition_node.specs.declared.node.Node.TheVariants as node
@@ -58,3 +63,36 @@ returns-in_ok-delta-in-Fold-clause-laden g c =
     let new : FoldNode = record { accumulate = old.accumulate; tally = c.load-in-Fold.new.self } in
     subst (λ (before : Node). LoadsTo p (λ s. IsAt s c.args.moment.now) look left right extras before (node.Fold new)) (sym c.in-Fold.is)
     (fold_loads p (λ s. IsAt s c.args.moment.now) look left right extras old new refl told.kept told.laden)
+
+pub returns-in_ok-delta-in-Join-clause-difference : goal.returns-in_ok-delta-in-Join-clause-difference
+returns-in_ok-delta-in-Join-clause-difference g c =
+    let p = c.args.program.now in
+    let look = g.F.Facts.map c.args.facts.now in
+    let new = c.advance.new.self in
+    let told = c.in_ok-delta-in-Join.ensures in
+    subst (λ (old : Node). NodeStands p old look empty_snapshot no_rows no_names → IsDifference (node_rows p look old) (node_rows p look (node.Join new)) c.in_ok-delta-in-Join.delta) (sym c.in-Join.is) (λ stands. told.difference)
+
+pub returns-in_ok-delta-in-Not-clause-difference : goal.returns-in_ok-delta-in-Not-clause-difference
+returns-in_ok-delta-in-Not-clause-difference g c =
+    let p = c.args.program.now in
+    let look = g.F.Facts.map c.args.facts.now in
+    let new = c.load.new.self in
+    let told = c.in_ok-delta-in-Not.ensures in
+    subst (λ (old : Node). NodeStands p old look empty_snapshot no_rows no_names → IsDifference (node_rows p look old) (node_rows p look (node.Not new)) c.in_ok-delta-in-Not.delta) (sym c.in-Not.is) (λ stands. told.difference stands.in_step)
+
+pub returns-in_ok-delta-in-Exists-clause-difference : goal.returns-in_ok-delta-in-Exists-clause-difference
+returns-in_ok-delta-in-Exists-clause-difference g c =
+    let p = c.args.program.now in
+    let look = g.F.Facts.map c.args.facts.now in
+    let new = c.load-in-Exists.new.self in
+    let told = c.in_ok-delta-in-Exists.ensures in
+    subst (λ (old : Node). NodeStands p old look empty_snapshot no_rows no_names → IsDifference (node_rows p look old) (node_rows p look (node.Exists new)) c.in_ok-delta-in-Exists.delta) (sym c.in-Exists.is) (λ stands. told.difference)
+
+pub returns-in_ok-delta-in-Fold-clause-difference : goal.returns-in_ok-delta-in-Fold-clause-difference
+returns-in_ok-delta-in-Fold-clause-difference g c =
+    let p = c.args.program.now in
+    let look = g.F.Facts.map c.args.facts.now in
+    let old = c.in-Fold.fold in
+    let told = c.in_ok-delta-in-Fold.ensures in
+    let new : FoldNode = record { accumulate = old.accumulate; tally = c.load-in-Fold.new.self } in
+    subst (λ (before : Node). NodeStands p before look empty_snapshot no_rows no_names → IsDifference (node_rows p look before) (node_rows p look (node.Fold new)) c.in_ok-delta-in-Fold.delta) (sym c.in-Fold.is) (λ stands. told.difference)
