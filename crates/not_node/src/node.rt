@@ -126,10 +126,10 @@ impl NotNode {
         ensures difference { IfOk result (λ delta. IsInStep program.now (F.map facts.now) self.old
             → IsDifference (not_rows program.now (F.map facts.now) self.old) (not_rows program.now (F.map facts.now) self.new) delta) }
     {
-        let blocked = self.tally.load(alloc, &(), left, right, extras, facts)?;
+        let counted = self.tally.load(alloc, &(), left, right, extras, facts)?;
         let delta = self.ripening.advance(
             alloc,
-            &blocked,
+            &counted,
             floor,
             program,
             self.tally.pattern(),
