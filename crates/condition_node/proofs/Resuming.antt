@@ -1,5 +1,5 @@
 -- A node that is loaded with what is kept stands for all of it.
-use Rattle.std.proofs.Common.{◌≡◌, ◌∙◌, sym, ap, refl, subst, ℤ, ◌≤ℤ◌, List, map, Bool, true, false, Option}
+use Rattle.std.proofs.Common.{◌≡◌, ◌∙◌, sym, refl, subst, ℤ, ◌≤ℤ◌, List, map, Bool, Option}
 use Rattle.row_delta.specs.declared.extra.Extra.{Extra}
 use Rattle.row_delta.specs.declared.row.Named.{Named}
 use Rattle.row_delta.specs.declared.row.Row.{Row}

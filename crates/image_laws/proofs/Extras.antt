@@ -24,9 +24,9 @@ use Rattle.rule_model.proofs.Listed.{both, both_of}
 use Rattle.rule_lives.specs.Networks.{binds}
 use Rattle.pair_memory.specs.Standing.{clean, cleaned}
 use Rattle.condition_rows.specs.Sets.{rows_of}
-use Rattle.condition_node.specs.Loading.{lost_partners, values_gathered, values_of}
+use Rattle.condition_node.specs.Loading.{lost_partners, values_gathered}
 use Rattle.image_laws.specs.Extras.{IsFirstWith, AreExtras}
-use Rattle.image_laws.specs.Laden.{count_of, is_extra_at, extra_at, AreOwners}
+use Rattle.image_laws.specs.Laden.{values_of, count_of, is_extra_at, extra_at, AreOwners}
 
 one_number : (m n : ℕ) → (m == n) ≡ true → m ≡ n
 one_number m n e = grind (arith, nat_tests)

@@ -51,9 +51,9 @@ use Rattle.condition_node.proofs.Folding.{valued_clean, partners_once}
 use Rattle.condition_node.proofs.Knowing.{held_known, joining_alike, row_alike}
 use Rattle.condition_node.proofs.Shown.{asked_first}
 use Rattle.keeping.proofs.Members.{some_passes, passing_one}
-use Rattle.condition_node.specs.Loading.{laden_gives, laden_line, lost_partners, values_of}
+use Rattle.condition_node.specs.Loading.{lost_partners}
 use Rattle.image_laws.specs.Extras.{AreExtras}
-use Rattle.image_laws.specs.Laden.{count_of, laden_with, extra_at, AreOwners, laden, IsKeptOf}
+use Rattle.image_laws.specs.Laden.{values_of, count_of, laden_gives, laden_line, laden_with, extra_at, AreOwners, laden, IsKeptOf}
 use Rattle.image_laws.proofs.Extras.{to_extra, of_extra, extra_values, extra_count}
 use Rattle.image_laws.proofs.Gathered.{parted_values}
 use Rattle.image_laws.proofs.Kept.{known, to_kept, from_kept, candidates_kept, joins_same, partners_kept, partners_once_kept}

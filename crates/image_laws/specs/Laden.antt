@@ -28,15 +28,31 @@ use Rattle.pair_memory.specs.Joined.{joined}
 use Rattle.pair_memory.specs.Valued.{valued}
 use Rattle.condition_rows.specs.Sets.{held, candidates_of, has_partner, partners}
 use Rattle.condition_rows.specs.Lines.{is_ripe, is_result, is_empty_row}
-use Rattle.condition_node.specs.Loading.{laden_line}
 use Rattle.image_laws.specs.Extras.{IsFirstWith}
 
 -- ---- one condition
+
+-- what an extra gathers
+abbrev pub values_of : Option Extra → List ℤ
+values_of None = []
+values_of (Some e) = e.values
 
 -- how many facts an extra counts
 abbrev pub count_of : Option Extra → ℕ
 count_of None = 0
 count_of (Some e) = e.count
+
+-- the value is the result of the function over the candidates that join the row and these further values, and its tests hold
+unfoldable pub laden_gives : Program → Accumulate → Snapshot → List ℤ → Row → ℤ → Bool
+laden_gives p a s more row v = is_result (fold_result a.kind (map (argument a.arg) (partners p a.pattern s row) ++ more)) v && results_hold (bound_in (held s) row) v a.tests
+
+-- The rows with one condition more, of the rows without it, as `line` of condition_rows has them, where the condition counts and gathers
+-- at a row what an extra says beyond the candidates.
+abbrev pub laden_line : Program → Snapshot → (Row → Option Extra) → Condition → (Row → Bool) → Row → Bool
+laden_line p s beyond (Plain pattern) left row = joined (joins pattern (held s)) left (candidates_of p pattern s) row
+laden_line p s beyond (Negated pattern) left row = left row && (not (has_partner p pattern s row || is_some (beyond row)) && is_ripe p pattern s row)
+laden_line p s beyond (Existing pattern) left row = left row && (has_partner p pattern s row || is_some (beyond row))
+laden_line p s beyond (Folded a) left row = valued (λ without v. left without && laden_gives p a s (values_of (beyond without)) without v) row
 
 -- ---- conditions one after the other
 

@@ -21,11 +21,10 @@ ghost use Rattle.rule_lives.specs.Networks.{binds};
 ghost use Rattle.pair_memory.specs.Standing.{cleaned};
 ghost use Rattle.condition_rows.specs.Sets.{rows_of, partners};
 ghost use Rattle.keeping.specs.Kept.{is_forgotten};
-ghost use Rattle.condition_node.specs.Loading.{values_of};
 ghost use Rattle.image_laws.specs.Extras.{AreExtras};
 ghost use Rattle.image_laws.specs.Fitting.{IsSmall, Fits};
 ghost use Rattle.image_laws.specs.Images.{IsImageOf, snapshot_of};
-ghost use Rattle.image_laws.specs.Laden.{AreOwners, laden, extra_at, count_of, IsKeptOf};
+ghost use Rattle.image_laws.specs.Laden.{AreOwners, laden, extra_at, count_of, values_of, IsKeptOf};
 
 /// Over the kept facts of a snapshot, with what conditions count of the forgotten ones, the rows of the first conditions of a rule, however
 /// many, are those of the whole snapshot that name no forgotten fact. Beside such a row the candidates and what an extra counts are

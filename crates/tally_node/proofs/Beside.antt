@@ -1,9 +1,8 @@
 -- What is counted beside left rows.
-use Rattle.std.proofs.Common.{◌≡◌, ◌∙◌, sym, ap, refl, subst, ℕ, zero, suc, ◌<◌, arith, List, [], ◌∷◌, length, Bool, true, false, ◌&&◌, ◌||◌, Option, Some, None, ℤ}
+use Rattle.std.proofs.Common.{◌≡◌, ◌∙◌, sym, ap, refl, subst, ℕ, zero, suc, ◌<◌, arith, List, [], ◌∷◌, length, Bool, true, false, ◌||◌, Option, Some, None, ℤ}
 use mathlib.Core.Path.{fun_ext}
 use Rattle.std.specs.Option.{is_some}
 use Rattle.fx_base.specs.declared.ids.RuleId.{RuleId}
-use Rattle.fx_base.specs.Lists.{In}
 use Rattle.row_delta.specs.declared.extra.Extra.{Extra}
 use Rattle.row_delta.specs.declared.row.Named.{Named}
 use Rattle.row_delta.specs.declared.row.Row.{Row}
@@ -13,8 +12,8 @@ use Rattle.pair_memory.specs.declared.memories.Memories.{Memories}
 use Rattle.pair_memory.specs.Joined.{has_name}
 use Rattle.pair_memory.specs.Memories.{left_at, has_left, has_right, Agrees}
 use Rattle.pair_memory.specs.Standing.{either}
-use Rattle.tally_node.specs.Beside.{IsOf, IsBeside}
-use Rattle.tally_node.specs.Extras.{AreApart, IsBeyond, IsExtraFor, CountsOthers, AreExtrasOf, IsAmong, extra_for}
+use Rattle.tally_node.specs.Beside.{IsBeside}
+use Rattle.tally_node.specs.Extras.{AreApart, IsBeyond, CountsOthers, AreExtrasOf}
 use Rattle.tally_node.specs.Tallies.{SeeAlike, passing}
 use Rattle.tally_node.proofs.Following.{first_of}
 use Rattle.tally_node.proofs.Searching.{AreListed, listed_in_order, listed_own, listed_for}

@@ -1,5 +1,5 @@
 -- Tallies of two sets that have no candidate in common.
-use Rattle.std.proofs.Common.{◌≡◌, ◌∙◌, sym, ap, refl, subst, int_lt, ℕ, ◌+◌, ◌-◌, ℤ, pos, arith, List, [], ◌∷◌, ◌++◌, map, length, Bool, true, false, cond, not, ◌&&◌, ◌||◌, Option, Some, None}
+use Rattle.std.proofs.Common.{◌≡◌, ◌∙◌, sym, ap, refl, subst, int_lt, ℕ, ◌+◌, ◌-◌, ℤ, pos, arith, List, [], ◌∷◌, ◌++◌, map, length, Bool, true, false, cond, not, ◌&&◌, ◌||◌}
 use mathlib.Core.Path.{fun_ext}
 use Rattle.std.specs.List.{filter}
 use Rattle.std.specs.Ordering.{eq_by_cmp}
@@ -21,7 +21,7 @@ use Rattle.pair_memory.specs.Standing.{either}
 use Rattle.pair_memory.proofs.Joining.{name_decides}
 use Rattle.tally_node.specs.Counts.{AreDistinct, IsNumber}
 use Rattle.tally_node.specs.Gathers.{argument_of, Gathers}
-use Rattle.tally_node.specs.Extras.{AreApart, IsBeyond, IsExtraFor, IsLaden, counts_more, nothing_gathered, GathersMore, gathered_laden, arguments_gathered}
+use Rattle.tally_node.specs.Extras.{AreApart, IsBeyond, counts_more, nothing_gathered, gathered_laden, arguments_gathered}
 use Rattle.tally_node.proofs.Gathering.{same_values}
 
 -- ---- two lists of candidates
