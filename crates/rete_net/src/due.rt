@@ -4,8 +4,10 @@ ghost use Rattle.rule_model.specs.Lent.{lent};
 ghost use Rattle.rule_model.specs.Rows.{pattern_of};
 ghost use Rattle.pattern_gate.specs.Turns.{is_meant};
 ghost use Rattle.condition_node.specs.Nodes.{condition_of};
-ghost use Rattle.rete_net.specs.Indexes.{is_in, IsFound, IsUnreached};
+ghost use Rattle.rete_net.specs.Indexes.{is_in, is_listed, IsFound, IsUnreached};
+ghost use Rattle.fx_base.specs.declared.value.Value.{Value as ValueData};
 ghost use Rattle.rete_net.specs.Places.{has_place};
+ghost use Rattle.rete_net.specs.Selectors.{slot_of};
 ghost use Rattle.rete_net.specs.declared.node.NetNode.{NetNode as NetNodeData};
 
 use crate::index::Index;
@@ -83,7 +85,8 @@ fn does_mean(nodes: &[NetNode], place: usize, fact: &Fact) -> bool
     }
 }
 
-/// Puts the nodes that mean a fact. It asks those of its type.
+/// Puts the nodes that mean a fact. Of those of its type it asks the ones that are told apart by a value that the fact has, and the ones
+/// that are not told apart.
 fn put_fact(
     due: &mut BTreeSet<usize, Global>,
     nodes: &[NetNode],
@@ -94,7 +97,29 @@ fn put_fact(
     ensures put { OnOk result ((k : ℕ) (n : NetNodeData) → slice_get nodes.now k ≡ Some n → IsFound index.now k n
         → is_meant (pattern_of (condition_of n.node)) fact.now ≡ true → has_place due.new.keys k ≡ true) }
 {
-    put_meant(due, nodes, index.of_type(fact.ty), fact)
+    put_meant(due, nodes, index.others(fact.ty), fact)?;
+    for field in index.fields(fact.ty) {
+        put_told(due, nodes, index, *field, fact)?;
+    }
+    Ok(())
+}
+
+// Puts the nodes that mean a fact, of those that are told apart by what it has in a field.
+fn put_told(
+    due: &mut BTreeSet<usize, Global>,
+    nodes: &[NetNode],
+    index: &Index,
+    field: usize,
+    fact: &Fact,
+) -> Result<(), NoMemory>
+    ensures kept { OnOk result ((k : ℕ) → has_place due.old.keys k ≡ true → has_place due.new.keys k ≡ true) }
+    ensures put { OnOk result ((k : ℕ) (n : NetNodeData) (value : ValueData) → slice_get nodes.now k ≡ Some n → slice_get fact.now.fields field ≡ Some value
+        → is_listed index.now.constants (slot_of fact.now.ty.0 field value) k ≡ true → is_meant (pattern_of (condition_of n.node)) fact.now ≡ true → has_place due.new.keys k ≡ true) }
+{
+    match fact.fields.as_slice().get(field) {
+        Some(value) => put_meant(due, nodes, index.constants(fact.ty, field, value), fact),
+        None => Ok(()),
+    }
 }
 
 /// Puts the nodes that mean one of these facts.

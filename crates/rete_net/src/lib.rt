@@ -16,6 +16,7 @@ mod node;
 mod quiet;
 mod sameness;
 mod schedule;
+mod selector;
 mod steps;
 mod timers;
 
