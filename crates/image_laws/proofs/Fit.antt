@@ -59,7 +59,7 @@ use Rattle.keeping.proofs.Members.{passing_one, none_passes}
 use Rattle.keeping.proofs.Staying.{not_alive}
 use Rattle.condition_node.specs.Loading.{lost_partners, values_gathered}
 use Rattle.image_laws.specs.Extras.{IsExtraIn}
-use Rattle.image_laws.specs.Fitting.{world_of, IsSmall, CanGather, IsPlaced, IsLaden, IsLadenMatch, IsNeeded, Fits}
+use Rattle.image_laws.specs.Fitting.{world_of, IsNextNumber, IsSmall, CanGather, IsPlaced, IsLaden, IsLadenMatch, IsNeeded, Fits}
 use Rattle.image_laws.specs.Images.{tag_cmp, match_fired, snapshot_of, IsImageOf}
 use Rattle.image_laws.specs.Laden.{AreOwners, laden}
 use Rattle.image_laws.proofs.Extras.{first_of_some}
@@ -307,7 +307,7 @@ module _ (p : Program) (table : LifeTable) (w : World) (image : Image) (safe : A
         from_second true b h k = absurd (let n : true ≡ false = k in cc)
         from_second false b h k = h
 
-  pub image_fits : IsSmall image.next_id → IsSmall image.next_tag → IsSmall image.run.lines → IsSmall image.run.firings → Fits p table image
+  pub image_fits : IsNextNumber image.next_id → IsNextNumber image.next_tag → IsSmall image.run.lines → IsSmall image.run.firings → Fits p table image
   image_fits ids tags lines firings = record {
     last_starts = is.last_starts.as_many;
     promises = is.promises.as_many;
@@ -319,7 +319,7 @@ module _ (p : Program) (table : LifeTable) (w : World) (image : Image) (safe : A
     facts_in_order = is.facts_in_order;
     fired_in_order = is.fired_in_order;
     extras_in_order = is.extras.in_order;
-    placed = λ e i. is_placed e ((is.extras.exact e).0 i) tags;
+    placed = λ e i. is_placed e ((is.extras.exact e).0 i) tags.1;
     rows = λ owners own e i. extra_laden owners own e ((is.extras.exact e).0 i);
     fired = λ owners own m i. fired_laden owners own m i;
     needed = λ owners own f i. fact_needed owners own f i;

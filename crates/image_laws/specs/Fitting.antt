@@ -42,6 +42,10 @@ world_of image = record {
 abbrev pub IsSmall : ℕ → Type 0
 IsSmall n = n ≤ 2 ^ 61
 
+-- the number of a next fact or version: from 1 to 2^61
+abbrev pub IsNextNumber : ℕ → Type 0
+IsNextNumber n = (1 ≤ n) × IsSmall n
+
 -- what a condition may gather: an accumulate as many values as it counts facts, rising, and another none
 abbrev pub CanGather : Condition → Extra → Type 0
 CanGather (Folded a) e = (length e.values ≡ e.count) × IsSorted int_cmp e.values
@@ -82,8 +86,8 @@ IsNeeded p table image owners f =
 pub record Fits (p : Program) (table : LifeTable) (image : Image) : Type 0 where
   pub last_starts : length image.last_starts ≡ length p.entries
   pub promises : length image.promises ≡ length p.entries
-  pub next_id : IsSmall image.next_id
-  pub next_tag : IsSmall image.next_tag
+  pub next_id : IsNextNumber image.next_id
+  pub next_tag : IsNextNumber image.next_tag
   pub lines : IsSmall image.run.lines
   pub firings : IsSmall image.run.firings
   -- the facts, the clock, the moments and the next numbers are those of a lawful world

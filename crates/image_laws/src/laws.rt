@@ -22,7 +22,7 @@ ghost use Rattle.pair_memory.specs.Standing.{cleaned};
 ghost use Rattle.condition_rows.specs.Sets.{rows_of, partners};
 ghost use Rattle.keeping.specs.Kept.{is_forgotten};
 ghost use Rattle.image_laws.specs.Extras.{AreExtras};
-ghost use Rattle.image_laws.specs.Fitting.{IsSmall, Fits};
+ghost use Rattle.image_laws.specs.Fitting.{IsNextNumber, IsSmall, Fits};
 ghost use Rattle.image_laws.specs.Images.{IsImageOf, snapshot_of};
 ghost use Rattle.image_laws.specs.Laden.{AreOwners, laden, extra_at, count_of, values_of, IsKeptOf};
 
@@ -67,9 +67,9 @@ pub fn a_world_has_one_image()
         → a.run ≡ b.run → a ≡ b }
 {}
 
-/// The image of a lawful world fits, where its next numbers, lines and firings are small.
+/// The image of a lawful world fits, where its next numbers are from 1 on, and they, its lines and its firings are small.
 pub fn the_image_of_a_world_fits()
     ensures { (p : Program) (table : LifeTable) (w : World) (image : Image) → AreSafe p table → IsLawful p w → IsImageOf p table w image
-        → IsSmall image.next_id → IsSmall image.next_tag → IsSmall image.run.lines → IsSmall image.run.firings
+        → IsNextNumber image.next_id → IsNextNumber image.next_tag → IsSmall image.run.lines → IsSmall image.run.firings
         → Fits p table image }
 {}
