@@ -1,5 +1,12 @@
-use Rattle.std.proofs.Common.{◌≡◌, ◌≤ℤ◌, ◌∙◌, ℤ, [], sym, subst, ap, to_z, of_z, w64}
+use Rattle.std.proofs.Common.{◌≡◌, ◌≤ℤ◌, ◌∙◌, ℕ, ℤ, Bool, List, [], Some, slice_get, sym, subst, ap, to_z, of_z, w64}
 use Rattle.std.proofs.lemmas.Result.{IfOk-weaker}
+use Rattle.fx_base.specs.declared.fact.Fact.{Fact}
+use Rattle.row_delta.specs.declared.row.Named.{Named}
+use Rattle.row_delta.specs.declared.row.Row.{Row}
+use Rattle.pair_memory.specs.Standing.{cleaned}
+use Rattle.condition_rows.specs.Sets.{rows_of}
+use Rattle.rete_net.specs.Nets.{NetStands}
+use Rattle.rule_model.specs.declared.program.Rule.{Rule}
 use Rattle.fact_store.specs.Held.{HeldFacts, facts_of}
 use Rattle.rule_model.specs.declared.step.Step.TheVariants.{At}
 use Rattle.rule_world.specs.Worlds.{stepped}
@@ -21,6 +28,12 @@ use Rattle.pattern_gate.specs.Moves.{IsOrderly}
 -- facts in order at a clock are so whatever entry points have reached
 orderly : (p : Program) (held : HeldFacts) (clock : ℤ) (reached : Reached) → IsOrderly p (at_clock held clock) → IsOrderly p (over (facts_of held) clock reached)
 orderly p held clock reached kept = record { in_order = kept.in_order; present = kept.present; low = kept.low; high = kept.high }
+
+-- the rules have the same rows at two clocks, of those that name no forgotten fact
+abbrev SameRows : Program → List Fact → ℤ → Reached → (Named → Bool) → ℤ → Type 0
+SameRows p facts before reached forgotten clock =
+    (place : ℕ) (rule : Rule) → slice_get p.rules place ≡ Some rule
+    → (row : Row) → cleaned (rows_of p (over facts clock reached) rule.conditions) forgotten row ≡ cleaned (rows_of p (over facts before reached) rule.conditions) forgotten row
 
 -- where nothing is due
 pub invariant_of-state : goal.invariant_of-state
@@ -45,8 +58,14 @@ returns-then-is_quiet-clause-stands c = IfOk-weaker c.settled.result _ _ (λ t s
     let out = none_gone here.seen.all due none_due in
     let leads = later_leads s m k w here c.requires.runs c.args.clock moves none lawful c.take_due.new.self due takes k.facts left here.seen.all out k.agenda in
     let before = over (facts_of here.seen.all) k.clock (reached_of k) in
-    let stands = (simp same at c.is_quiet.ensures.stands) c.if-is_quiet.true s.program before here.seen.forgotten here.seen.stands moves (orderly s.program here.seen.all c.args.clock (reached_of k) leads.kept_behind) in
-    let clean = (simp same at c.is_quiet.ensures.rows) c.if-is_quiet.true s.program before here.seen.forgotten here.seen.stands moves (orderly s.program here.seen.all c.args.clock (reached_of k) leads.kept_behind) in
+    let later : k.clock ≤ℤ to_z w64 (of_z w64 c.args.clock) = subst (λ (z : ℤ). k.clock ≤ℤ z) (sym same) moves in
+    let kept : IsOrderly s.program (over (facts_of here.seen.all) (to_z w64 (of_z w64 c.args.clock)) (reached_of k)) =
+    subst (λ (z : ℤ). IsOrderly s.program (over (facts_of here.seen.all) z (reached_of k))) (sym same) (orderly s.program here.seen.all c.args.clock (reached_of k) leads.kept_behind) in
+    let stands : NetStands s.program m.net (over (facts_of here.seen.all) c.args.clock (reached_of k)) here.seen.forgotten =
+    subst (λ (z : ℤ). NetStands s.program m.net (over (facts_of here.seen.all) z (reached_of k)) here.seen.forgotten) same
+    (c.is_quiet.ensures.stands c.if-is_quiet.true s.program before here.seen.forgotten here.seen.stands later kept) in
+    let clean = subst (SameRows s.program (facts_of here.seen.all) k.clock (reached_of k) here.seen.forgotten) same
+    (c.is_quiet.ensures.rows c.if-is_quiet.true s.program before here.seen.forgotten here.seen.stands later kept) in
     let next = stepped s.program w (At c.args.clock) in
     settled next
     (subst (λ (z : ℤ). Awaits s m (contents k.facts c.take_due.new.self z k.course k.agenda k.next_id k.next_tag) (is_among []) next) (sym same)
