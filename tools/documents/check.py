@@ -25,8 +25,8 @@ from tree import Tree
 
 # The greatest number of words, by page, and of all together; programs and what they print are not counted.
 LIMITS = {"README": 700, "RULES": 7400, "SCRIPT": 2200, "LIVE": 2600, "EXAMPLES": 2500, "COMING-FROM": 2840, "TOOLS": 1500, "RECIPES": 700,
-          "PROVED": 3730, "MAP": 2500, "DECISIONS": 2150, "PERFORMANCE": 1620, "CHANGING": 2370, "PROOF-NOTES": 3200}
-ALL_WORDS = 34450
+          "PROVED": 3730, "MAP": 2500, "DECISIONS": 2150, "PERFORMANCE": 1660, "CHANGING": 2370, "PROOF-NOTES": 3200}
+ALL_WORDS = 34500
 LONG = 40
 # Pages that speak of the code alone: a name of code that stands nowhere is a fault there.
 OF_CODE = {"PROVED", "MAP", "DECISIONS", "CHANGING", "PROOF-NOTES"}
