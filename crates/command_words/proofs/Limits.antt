@@ -5,8 +5,8 @@ use Rattle.clap.specs.Words.{Row, Text, first_of}
 use Rattle.std.proofs.lemmas.Bool.Decides.{nat_tests}
 use Rattle.command_words.specs.declared.asking.Asked.TheVariants.{Load}
 use Rattle.command_words.specs.declared.asking.Mode.{Mode}
-use Rattle.command_words.specs.declared.asking.Mode.TheVariants.{Run, Check, Lives, Proof}
-use Rattle.command_words.specs.Asked.{IsLimit, IsLoadNumber, IsWithinBounds, asks_parts, asked_rows, given_or, limit_of, limited, load_number_of, load_numbered, mode_of, number_of}
+use Rattle.command_words.specs.declared.asking.Mode.TheVariants.{Run, Check, Lives, Proof, Save}
+use Rattle.command_words.specs.Asked.{IsLimit, IsLoadNumber, IsWithinBounds, asks_file, asks_resumed, asks_load, asks_parts, asked_rows, given_or, limit_of, limited, load_number_of, load_numbered, mode_of, number_of}
 
 limited_within : (n : ℕ) → IfSome (limited n) IsLimit
 limited_within n = search rules
@@ -34,23 +34,43 @@ load_within : (number : Option ℕ) (limit : ℕ) → IfSome number IsLoadNumber
 load_within None limit is within = tt
 load_within (Some k) limit is within = (is, within)
 
-parts_within : (mode : Option Mode) (limit : Option ℕ) (name text : Option Text) → IfSome limit IsLimit → IfSome (asks_parts mode limit name text) IsWithinBounds
-parts_within None limit name text within = tt
-parts_within (Some mode) None name text within = tt
-parts_within (Some mode) (Some limit) (Some name) None within = within
-parts_within (Some mode) (Some limit) (Some name) (Some text) within = tt
-parts_within (Some Run) (Some limit) None None within = tt
-parts_within (Some Check) (Some limit) None None within = tt
-parts_within (Some Lives) (Some limit) None None within = tt
-parts_within (Some Proof) (Some limit) None None within = tt
-parts_within (Some Run) (Some limit) None (Some text) within = load_within (load_number_of text) limit (load_number_within text) within
-parts_within (Some Check) (Some limit) None (Some text) within = tt
-parts_within (Some Lives) (Some limit) None (Some text) within = tt
-parts_within (Some Proof) (Some limit) None (Some text) within = tt
+file_within : (mode : Option Mode) (limit : Option ℕ) (name : Option Text) → IfSome limit IsLimit → IfSome (asks_file mode limit name) IsWithinBounds
+file_within None limit name within = tt
+file_within (Some mode) None name within = tt
+file_within (Some mode) (Some limit) None within = tt
+file_within (Some mode) (Some limit) (Some name) within = within
+
+resumed_within : (mode : Option Mode) (limit : Option ℕ) (name : Option Text) (image : Text) → IfSome limit IsLimit → IfSome (asks_resumed mode limit name image) IsWithinBounds
+resumed_within None limit name image within = tt
+resumed_within (Some Run) None name image within = tt
+resumed_within (Some Run) (Some limit) None image within = tt
+resumed_within (Some Run) (Some limit) (Some name) image within = within
+resumed_within (Some Save) None name image within = tt
+resumed_within (Some Save) (Some limit) None image within = tt
+resumed_within (Some Save) (Some limit) (Some name) image within = within
+resumed_within (Some Check) limit name image within = tt
+resumed_within (Some Lives) limit name image within = tt
+resumed_within (Some Proof) limit name image within = tt
+
+numbered_within : (mode : Option Mode) (limit : Option ℕ) (name : Option Text) (text : Text) → IfSome limit IsLimit → IfSome (asks_load mode limit name text) IsWithinBounds
+numbered_within None limit name text within = tt
+numbered_within (Some Run) None name text within = tt
+numbered_within (Some Run) (Some limit) None text within = load_within (load_number_of text) limit (load_number_within text) within
+numbered_within (Some Run) (Some limit) (Some name) text within = tt
+numbered_within (Some Check) limit name text within = tt
+numbered_within (Some Lives) limit name text within = tt
+numbered_within (Some Proof) limit name text within = tt
+numbered_within (Some Save) limit name text within = tt
+
+parts_within : (text image : Option Text) (mode : Option Mode) (limit : Option ℕ) (name : Option Text) → IfSome limit IsLimit → IfSome (asks_parts text image mode limit name) IsWithinBounds
+parts_within None None mode limit name within = file_within mode limit name within
+parts_within None (Some image) mode limit name within = resumed_within mode limit name image within
+parts_within (Some text) None mode limit name within = numbered_within mode limit name text within
+parts_within (Some text) (Some image) mode limit name within = tt
 
 -- what arguments ask for
 pub rows_within : (rows : List Row) → IfSome (asked_rows rows) IsWithinBounds
 unfolding asked_rows
 rows_within rows =
-    parts_within (mode_of (given_or (codes "mode") (codes "run") rows)) _ (first_of (codes "rules") rows) (first_of (codes "gen") rows)
+    parts_within (first_of (codes "gen") rows) (first_of (codes "resume") rows) (mode_of (given_or (codes "mode") (codes "run") rows)) _ (first_of (codes "rules") rows)
     (limit_within (given_or (codes "limit") (codes "100000") rows))

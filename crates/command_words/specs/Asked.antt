@@ -9,7 +9,7 @@ use Rattle.clap.specs.Words.{Row, Text, first_of}
 use Rattle.command_words.specs.declared.asking.Asked.{Asked}
 use Rattle.command_words.specs.declared.asking.Asked.TheVariants.{RuleFile, Load}
 use Rattle.command_words.specs.declared.asking.Mode.{Mode}
-use Rattle.command_words.specs.declared.asking.Mode.TheVariants.{Run, Check, Lives, Proof}
+use Rattle.command_words.specs.declared.asking.Mode.TheVariants.{Run, Check, Lives, Proof, Save}
 use Rattle.command_words.specs.Command.{matched}
 
 -- the mode of this name
@@ -17,7 +17,8 @@ abbrev pub mode_of : Text → Option Mode
 mode_of name = if bytes_eq name (codes "run") then Some Run
     else (if bytes_eq name (codes "check") then Some Check
     else (if bytes_eq name (codes "lives") then Some Lives
-    else (if bytes_eq name (codes "proof") then Some Proof else None)))
+    else (if bytes_eq name (codes "proof") then Some Proof
+    else (if bytes_eq name (codes "save") then Some Save else None))))
 
 -- from 1 to so many decimal digits
 abbrev pub is_numeral : ℕ → Text → Bool
@@ -57,21 +58,39 @@ given_or name default rows = unwrap_or (first_of name rows) default
 
 -- the limit and the number of a load are within their bounds
 abbrev pub IsWithinBounds : Asked → Type 0
-IsWithinBounds (RuleFile name m n) = IsLimit n
+IsWithinBounds (RuleFile name m n image) = IsLimit n
 IsWithinBounds (Load k n) = IsLoadNumber k × IsLimit n
 
--- a mode, a limit, and either the name of a rule file or, in the mode `run`, the number of a load; of all else nothing
-abbrev pub asks_parts : Option Mode → Option ℕ → Option Text → Option Text → Option Asked
-asks_parts (Some m) (Some n) (Some name) None = Some (RuleFile name m n)
-asks_parts (Some Run) (Some n) None (Some text) = option_map (λ k. Load k n) (load_number_of text)
-asks_parts _ _ _ _ = None
+-- a mode, a limit and the name of a rule file
+abbrev pub asks_file : Option Mode → Option ℕ → Option Text → Option Asked
+asks_file (Some m) (Some n) (Some name) = Some (RuleFile name m n None)
+asks_file _ _ _ = None
+
+-- the same in the modes `run` and `save`, to go on from an image
+abbrev pub asks_resumed : Option Mode → Option ℕ → Option Text → Text → Option Asked
+asks_resumed (Some Run) (Some n) (Some name) image = Some (RuleFile name Run n (Some image))
+asks_resumed (Some Save) (Some n) (Some name) image = Some (RuleFile name Save n (Some image))
+asks_resumed _ _ _ image = None
+
+-- the number of a load, in the mode `run` and without a rule file
+abbrev pub asks_load : Option Mode → Option ℕ → Option Text → Text → Option Asked
+asks_load (Some Run) (Some n) None text = option_map (λ k. Load k n) (load_number_of text)
+asks_load _ _ _ text = None
+
+-- by the number of a load and the name of an image, which exclude each other
+abbrev pub asks_parts : Option Text → Option Text → Option Mode → Option ℕ → Option Text → Option Asked
+asks_parts None None m n name = asks_file m n name
+asks_parts None (Some image) m n name = asks_resumed m n name image
+asks_parts (Some text) None m n name = asks_load m n name text
+asks_parts (Some text) (Some image) m n name = None
 
 -- what the arguments ask for
 unfoldable pub asked_rows : List Row → Option Asked
-asked_rows rows = asks_parts (mode_of (given_or (codes "mode") (codes "run") rows))
+asked_rows rows = asks_parts (first_of (codes "gen") rows)
+    (first_of (codes "resume") rows)
+    (mode_of (given_or (codes "mode") (codes "run") rows))
     (limit_of (given_or (codes "limit") (codes "100000") rows))
     (first_of (codes "rules") rows)
-    (first_of (codes "gen") rows)
 
 -- what words with these bytes ask for, or nothing where they are refused
 unfoldable pub asked_words : List Text → Option Asked

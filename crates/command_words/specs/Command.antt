@@ -12,13 +12,14 @@ option_rule name = record (new_rule name) { long = Some name; action = Some Set 
 abbrev pub positional_rule : Text → Rule
 positional_rule name = record (new_rule name) { action = Some Set }
 
--- `replay [--mode MODE] [--limit LIMIT] [--gen GEN] [RULES]`, of words that do not begin with the program's own name
+-- `replay [--mode MODE] [--limit LIMIT] [--gen GEN] [--resume RESUME] [RULES]`, of words that do not begin with the program's own name
 unfoldable pub replay_app : App
 replay_app =
-    with_rule (with_rule (with_rule (with_rule (on_top (λ s. record s { no_binary_name = true }) (new_app (codes "replay")))
+    with_rule (with_rule (with_rule (with_rule (with_rule (on_top (λ s. record s { no_binary_name = true }) (new_app (codes "replay")))
     (option_rule (codes "mode")))
     (option_rule (codes "limit")))
     (option_rule (codes "gen")))
+    (option_rule (codes "resume")))
     (positional_rule (codes "rules"))
 
 -- nothing where there is a fault

@@ -29,6 +29,7 @@ fn command<'a>(alloc: Global) -> Result<Command<'a>, NoMemory>
         .arg(option(alloc, "mode"))?
         .arg(option(alloc, "limit"))?
         .arg(option(alloc, "gen"))?
+        .arg(option(alloc, "resume"))?
         .arg(positional(alloc, "rules"))?;
     Ok(command)
 }

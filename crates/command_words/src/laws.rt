@@ -7,17 +7,21 @@ use crate::Mode;
 
 /// The defaults, the options in both forms and in any place, and what else is the name of a rule file; a load.
 pub fn words_ask_for_what_they_say()
-    ensures defaults { asked_words (codes "RULES" ∷ []) ≡ Some (RuleFile (codes "RULES") Mode.Run 100000) }
+    ensures defaults { asked_words (codes "RULES" ∷ []) ≡ Some (RuleFile (codes "RULES") Mode.Run 100000 None) }
     ensures options { asked_words (codes "--mode" ∷ codes "check" ∷ codes "--limit" ∷ codes "0000003" ∷ codes "r" ∷ [])
-        ≡ Some (RuleFile (codes "r") Mode.Check 3) }
+        ≡ Some (RuleFile (codes "r") Mode.Check 3 None) }
     ensures equals_signs { asked_words (codes "r" ∷ codes "--limit=1000000" ∷ codes "--mode=lives" ∷ [])
-        ≡ Some (RuleFile (codes "r") Mode.Lives 1000000) }
-    ensures after_dashes { asked_words (codes "--" ∷ codes "--mode" ∷ []) ≡ Some (RuleFile (codes "--mode") Mode.Run 100000) }
-    ensures dash { asked_words (codes "-" ∷ []) ≡ Some (RuleFile (codes "-") Mode.Run 100000) }
-    ensures empty { asked_words ([] ∷ []) ≡ Some (RuleFile [] Mode.Run 100000) }
+        ≡ Some (RuleFile (codes "r") Mode.Lives 1000000 None) }
+    ensures after_dashes { asked_words (codes "--" ∷ codes "--mode" ∷ []) ≡ Some (RuleFile (codes "--mode") Mode.Run 100000 None) }
+    ensures dash { asked_words (codes "-" ∷ []) ≡ Some (RuleFile (codes "-") Mode.Run 100000 None) }
+    ensures empty { asked_words ([] ∷ []) ≡ Some (RuleFile [] Mode.Run 100000 None) }
     ensures load { asked_words (codes "--gen" ∷ codes "0" ∷ []) ≡ Some (Load 0 100000) }
     ensures load_with_options { asked_words (codes "--limit=5" ∷ codes "--gen=2147483647" ∷ codes "--mode" ∷ codes "run" ∷ [])
         ≡ Some (Load 2147483647 5) }
+    ensures save { asked_words (codes "--mode=save" ∷ codes "r" ∷ []) ≡ Some (RuleFile (codes "r") Mode.Save 100000 None) }
+    ensures resume { asked_words (codes "--resume" ∷ codes "i" ∷ codes "r" ∷ []) ≡ Some (RuleFile (codes "r") Mode.Run 100000 (Some (codes "i"))) }
+    ensures resume_and_save { asked_words (codes "r" ∷ codes "--resume=i" ∷ codes "--mode" ∷ codes "save" ∷ [])
+        ≡ Some (RuleFile (codes "r") Mode.Save 100000 (Some (codes "i"))) }
 {}
 
 /// Words that are refused.
@@ -33,5 +37,9 @@ pub fn other_words_are_refused()
     ensures load_and_rules { asked_words (codes "--gen" ∷ codes "1" ∷ codes "r" ∷ []) ≡ None }
     ensures load_checked { asked_words (codes "--gen" ∷ codes "1" ∷ codes "--mode" ∷ codes "check" ∷ []) ≡ None }
     ensures load_above { asked_words (codes "--gen" ∷ codes "2147483648" ∷ []) ≡ None }
+    ensures load_saved { asked_words (codes "--gen" ∷ codes "1" ∷ codes "--mode" ∷ codes "save" ∷ []) ≡ None }
+    ensures load_resumed { asked_words (codes "--gen" ∷ codes "1" ∷ codes "--resume" ∷ codes "i" ∷ []) ≡ None }
+    ensures resume_checked { asked_words (codes "--resume" ∷ codes "i" ∷ codes "--mode" ∷ codes "check" ∷ codes "r" ∷ []) ≡ None }
+    ensures resume_alone { asked_words (codes "--resume" ∷ codes "i" ∷ []) ≡ None }
     ensures load_digits { asked_words (codes "--gen" ∷ codes "00000000001" ∷ []) ≡ None }
 {}

@@ -1,7 +1,6 @@
 ghost use Rattle.std.specs.Prelude.{◌≡◌, option_map, IfOk, IfSome};
 ghost use Rattle.clap.specs.Words.{found_of, rows_of, first_of};
-ghost use Rattle.command_words.specs.Asked.{IsWithinBounds, mode_of, given_or, load_number_of, asked_rows, asked_by};
-ghost use Rattle.command_words.specs.declared.asking.Asked.TheVariants.{Load};
+ghost use Rattle.command_words.specs.Asked.{IsWithinBounds, mode_of, given_or, asks_file, asks_resumed, asks_load, asked_rows, asked_by};
 
 use crate::command::parse;
 use crate::numbers::{limit_of, load_number_of};
@@ -24,6 +23,7 @@ fn mode_of(name: &str) -> Option<Mode>
         "check" => Some(Mode::Check),
         "lives" => Some(Mode::Lives),
         "proof" => Some(Mode::Proof),
+        "save" => Some(Mode::Save),
         _ => None,
     }
 }
@@ -40,11 +40,64 @@ fn given_or<'a>(matches: &ArgMatches<'a>, name: &str, default: &'a str) -> &'a s
     given(matches, name).unwrap_or(default)
 }
 
-fn load(text: &str, limit: u64) -> Option<Asked>
-    ensures { result ≡ option_map (λ number. Load number limit) (load_number_of text.now) }
+// A rule file, in each mode.
+fn rule_file(
+    alloc: Global,
+    mode: Option<Mode>,
+    limit: Option<u64>,
+    name: Option<&str>,
+) -> Result<Option<Asked>, NoMemory>
+    ensures { IfOk result (λ asked. asked ≡ asks_file mode limit (option_map (λ text. text.now) name.entry)) }
 {
-    let number = load_number_of(text)?;
-    Some(Asked::Load { number, limit })
+    match (mode, limit, name) {
+        (Some(mode), Some(limit), Some(name)) => Ok(Some(Asked::RuleFile {
+            name: Text::new(alloc, name)?,
+            mode,
+            limit,
+            image: None,
+        })),
+        _ => Ok(None),
+    }
+}
+
+// A rule file and an image, in a mode that runs a script.
+fn resumed(
+    alloc: Global,
+    mode: Option<Mode>,
+    limit: Option<u64>,
+    name: Option<&str>,
+    image: &str,
+) -> Result<Option<Asked>, NoMemory>
+    ensures { IfOk result (λ asked. asked ≡ asks_resumed mode limit (option_map (λ text. text.now) name.entry) image.now) }
+{
+    match (mode, limit, name) {
+        (Some(Mode::Run), Some(limit), Some(name)) => Ok(Some(Asked::RuleFile {
+            name: Text::new(alloc, name)?,
+            mode: Mode::Run,
+            limit,
+            image: Some(Text::new(alloc, image)?),
+        })),
+        (Some(Mode::Save), Some(limit), Some(name)) => Ok(Some(Asked::RuleFile {
+            name: Text::new(alloc, name)?,
+            mode: Mode::Save,
+            limit,
+            image: Some(Text::new(alloc, image)?),
+        })),
+        _ => Ok(None),
+    }
+}
+
+// The run over a load, without a rule file.
+fn load(mode: Option<Mode>, limit: Option<u64>, name: Option<&str>, text: &str) -> Option<Asked>
+    ensures { result ≡ asks_load mode limit (option_map (λ text. text.now) name.entry) text.now }
+{
+    match (mode, limit, name) {
+        (Some(Mode::Run), Some(limit), None) => {
+            let number = load_number_of(text)?;
+            Some(Asked::Load { number, limit })
+        }
+        _ => None,
+    }
 }
 
 #[tactic(auto, unfolding(crate::specs::Asked::asked_rows))]
@@ -53,14 +106,11 @@ fn asked_of(alloc: Global, matches: &ArgMatches) -> Result<Option<Asked>, NoMemo
 {
     let mode = mode_of(given_or(matches, "mode", MODE_DEFAULT));
     let limit = limit_of(given_or(matches, "limit", LIMIT_DEFAULT));
-    match (mode, limit, given(matches, "rules"), given(matches, "gen")) {
-        (Some(mode), Some(limit), Some(name), None) => Ok(Some(Asked::RuleFile {
-            name: Text::new(alloc, name)?,
-            mode,
-            limit,
-        })),
-        (Some(Mode::Run), Some(limit), None, Some(text)) => Ok(load(text, limit)),
-        _ => Ok(None),
+    match (given(matches, "gen"), given(matches, "resume")) {
+        (None, None) => rule_file(alloc, mode, limit, given(matches, "rules")),
+        (None, Some(image)) => resumed(alloc, mode, limit, given(matches, "rules"), image),
+        (Some(text), None) => Ok(load(mode, limit, given(matches, "rules"), text)),
+        (Some(_), Some(_)) => Ok(None),
     }
 }
 

@@ -1,16 +1,21 @@
-ghost use Rattle.std.specs.Prelude.{◌≡◌, ◌+◌, ◌≤◌, ◌<◌, ◌^◌, ℕ, true, List, Option, IfOk, is_some};
+ghost use Rattle.std.specs.Prelude.{◌≡◌, ◌+◌, ◌≤◌, ◌<◌, ◌^◌, ℕ, true, List, Option, IfOk, OnOk, IsErrOf, is_some};
 ghost use Rattle.rule_model.specs.declared.life.LifeTable.{LifeTable as LifeTableData};
 ghost use Rattle.rule_model.specs.declared.program.Program.{Program as ProgramData};
 ghost use Rattle.rule_lives.specs.Keeping.{IsSafeTable};
+ghost use Rattle.rule_world.specs.Lawful.{IsLawful};
 ghost use Rattle.rule_world.specs.Programs.{IsRunnable};
 ghost use Rattle.rule_world.specs.Worlds.{World, empty_world};
 ghost use Rattle.script_read.specs.declared.asked.Change.{Change as ChangeData};
+ghost use Rattle.image_laws.specs.Fitting.{Fits};
+ghost use Rattle.image_laws.specs.Images.{IsImageOf};
 ghost use Rattle.engine.specs.declared.lines.OutLine.{OutLine as OutLineData};
 ghost use Rattle.engine.specs.Known.{are_known, is_known_firing};
 ghost use Rattle.engine.specs.Answers.{FiringAnswers};
 ghost use Rattle.engine.specs.Counts.{HasEach};
 
 use crate::lines::{Fired, Lines};
+use crate::resuming::ResumeFault;
+use checkpoint::{Image, RunPart};
 use fx_base::NoMemory;
 use rule_model::{LifeTable, Program};
 use script_read::Change;
@@ -82,4 +87,28 @@ pub trait Engine: Sized + Drop {
     /// The program that the engine was made with. Takes no memory.
     fn program(&self) -> &Program
         ensures { result.now ≡ made_with self.now };
+
+    /// The image of each world that the engine stands for, with this part of the run. It holds what the engine keeps; time and memory grow
+    /// with that. The engine stays as it is.
+    fn save(&self, alloc: Global, run: RunPart) -> Result<Image, NoMemory>
+        ensures run { IfOk result (λ image. image.run ≡ run) }
+        ensures lawful { (w : World) → stands self.now w → IsLawful (made_with self.now) w }
+        ensures image { IfOk result (λ image. (w : World) → stands self.now w → IsImageOf (made_with self.now) (table self.now) w image) };
+
+    /// An engine of a program, with a safe table of lives, in each lawful world of which the image is that; it has given the tags below the
+    /// image's next one. `Unfit`: exactly where the image does not fit. Program and table are given up then.
+    fn resume(
+        alloc: Global,
+        program: Program,
+        lives: LifeTable,
+        image: &Image,
+    ) -> Result<Self, ResumeFault>
+        requires runnable { IsRunnable program }
+        requires table { IsSafeTable program lives }
+        ensures stands { IfOk result (λ e. (w : World) → IsLawful program w → IsImageOf program lives w image.now → stands e w) }
+        ensures program { IfOk result (λ e. made_with e ≡ program) }
+        ensures table { IfOk result (λ e. table e ≡ lives) }
+        ensures tags { IfOk result (λ e. tags e + 1 ≡ image.now.next_tag) }
+        ensures fits { OnOk result (Fits program lives image.now) }
+        ensures unfit { IsErrOf result ResumeFault.Unfit → Fits program lives image.now → ⊥ };
 }

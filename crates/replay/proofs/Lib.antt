@@ -8,3 +8,4 @@ pub mod Expanding
 pub mod Tables
 pub mod LivesText
 pub mod Calls
+pub mod Runs

@@ -10,12 +10,19 @@ use Rattle.rule_model.specs.declared.program.Program.{Program}
 use Rattle.script_run.specs.Firings.{Gives, Fires, Counts}
 use Rattle.replay.specs.declared.refusal.RefusalCode.TheVariants.{Missing}
 use Rattle.replay.specs.declared.refusal.Refusal.{Refusal}
+use Rattle.replay.specs.declared.refused_checkpoint.CheckpointCode.TheVariants.{Missing as NoImage}
+use Rattle.replay.specs.Checkpoints.{checkpoint_in, checkpoint_of, image_limit, is_refused, rules_of}
 use Rattle.replay.specs.declared.rule_file.Reading.{Reading}
 use Rattle.replay.specs.declared.rule_file.Reading.TheVariants.{Refused}
 use Rattle.replay.specs.Refusals.{reading, whole_file, IsRefused}
-use Rattle.replay.specs.Report.{Report, IsDefinite, IsFront, IsFrontOfEach, IsReport}
-use Rattle.replay.specs.Wanted.{Wanted, Files, usage_line, refuses, runs, accepts, tells_lives, proves, sums_up, wanted_by_name, wanted_by_number, wanted_by_file, wanted_by_reading, IsRefusedFile, HasRefused}
-use Rattle.replay.proofs.Tables.{one_report}
+use Rattle.fx_io.specs.Lines.{lines_of}
+use Rattle.rule_model.specs.declared.life.LifeTable.{LifeTable}
+use Rattle.rule_world.specs.Worlds.{World}
+use Rattle.script_run.specs.Parts.{run_on}
+use Rattle.script_run.specs.Run.{setting_of}
+use Rattle.replay.specs.Report.{Report, IsBehind, IsDefinite, IsFront, IsFrontOfEach, IsReport, IsRunBehind, IsRunStatus, IsSavedBehind, IsSaveStatus}
+use Rattle.replay.specs.Wanted.{Wanted, Files, usage_line, refuses, refuses_checkpoint, runs, resumes, saves, saves_on, accepts, tells_lives, proves, sums_up, wanted_by_name, wanted_by_number, wanted_by_file, wanted_by_reading, rules_in, IsRefusedFile, HasRefused}
+use Rattle.replay.proofs.Tables.{behind_one, by_table, one_report, one_saved}
 
 -- what is wanted of a load, by what its rule file is
 pub a_load : (number limit : ℕ) (found : Reading) → reading rules_text ≡ found → wanted_by_number number limit ≡ wanted_by_reading (sums_up number limit) found
@@ -31,7 +38,16 @@ pub front_by : (gives : Gives) (fires : Fires) (counts : Counts) (w : Wanted) (s
     → AppendsFront before after q.bytes → IsFront gives fires counts w script before after
 front_by gives fires counts usage_line script q before after is front = front_of gives fires counts usage_line script q before after tt is front
 front_by gives fires counts (refuses refusal) script q before after is front = front_of gives fires counts (refuses refusal) script q before after tt is front
+front_by gives fires counts (refuses_checkpoint code) script q before after is front = front_of gives fires counts (refuses_checkpoint code) script q before after tt is front
 front_by gives fires counts (runs limit p) script q before after is front = front_of gives fires counts (runs limit p) script q before after tt is front
+front_by gives fires counts (resumes limit image p) script q before after is front = λ table are r some.
+    let h = by_table p (λ (t : LifeTable). IsBehind p t image IsRunStatus (IsRunBehind gives fires counts limit p t image script) q) is.0 table is.1 are is.2 in
+    rw (behind_one p table image IsRunStatus (IsRunBehind gives fires counts limit p table image script) (λ w a b h k. h ∙ sym k) q r h some) front
+front_by gives fires counts (saves limit rules p) script q before after is front = front_of gives fires counts (saves limit rules p) script q before after tt is front
+front_by gives fires counts (saves_on limit image p) script q before after is front = λ table are r some.
+    let h = by_table p (λ (t : LifeTable). IsBehind p t image IsSaveStatus (IsSavedBehind gives fires counts limit p t image script) q) is.0 table is.1 are is.2 in
+    rw (behind_one p table image IsSaveStatus (IsSavedBehind gives fires counts limit p table image script)
+    (λ w a b h k. one_saved p table limit image.run (run_on (setting_of gives fires counts limit p table) w image.run (lines_of script)).comes_to a b h k) q r h some) front
 front_by gives fires counts (accepts p) script q before after is front = front_of gives fires counts (accepts p) script q before after tt is front
 front_by gives fires counts (tells_lives p) script q before after is front = front_of gives fires counts (tells_lives p) script q before after tt is front
 front_by gives fires counts (proves p) script q before after is front = inr (q, is, front)
@@ -42,7 +58,11 @@ pub front_none : (gives : Gives) (fires : Fires) (counts : Counts) (w : Wanted) 
     → IsFront gives fires counts w script before before
 front_none gives fires counts usage_line script before none = λ r is. none r.bytes
 front_none gives fires counts (refuses refusal) script before none = λ r is. none r.bytes
+front_none gives fires counts (refuses_checkpoint code) script before none = λ r is. none r.bytes
 front_none gives fires counts (runs limit p) script before none = λ r is. none r.bytes
+front_none gives fires counts (resumes limit image p) script before none = λ table are r some. none r.bytes
+front_none gives fires counts (saves limit rules p) script before none = λ r is. none r.bytes
+front_none gives fires counts (saves_on limit image p) script before none = λ table are r some. none r.bytes
 front_none gives fires counts (accepts p) script before none = λ r is. none r.bytes
 front_none gives fires counts (tells_lives p) script before none = λ r is. none r.bytes
 front_none gives fires counts (proves p) script before none = inl refl
@@ -66,6 +86,43 @@ taken_by true file e = rw (long_taken file_limit file e, e) refl
 -- one byte more than a file may have tells whether it has too many
 pub within_taken : (file : List ℕ) → reading (take (file_limit + 1) file) ≡ reading file
 within_taken file = taken_by (nat_lt file_limit (length file)) file refl
+
+-- the text of the rules too
+rules_by : (long : Bool) (file : List ℕ) → nat_lt file_limit (length file) ≡ long → rules_of (take (file_limit + 1) file) ≡ rules_of file
+unfolding parsed parsed_by rules_of
+rules_by false file e = ap rules_of (take_all (file_limit + 1) file (short_file file_limit (length file) e))
+rules_by true file e = rw (long_taken file_limit file e, e) refl
+
+rules_in_read : (o : Option (List ℕ)) (read : List ℕ) → (o ≢ None) → IfSome o (λ file. read ≡ take (file_limit + 1) file) → rules_in o ≡ rules_of read
+rules_in_read None read found h = absurd (found refl)
+rules_in_read (Some file) read found h = sym (ap rules_of h ∙ rules_by (nat_lt file_limit (length file)) file refl)
+
+pub rules_found : (name : List ℕ) (told : Option Files) (files : Files) (read : List ℕ) → told ≡ Some files → IsFound told name → IfSome (file_told told name) (λ file. read ≡ take (file_limit + 1) file)
+    → rules_in (files name) ≡ rules_of read
+rules_found name told files read e there h =
+    let is_found : files name ≢ None = rw e at there in
+    let whole : IfSome (files name) (λ file. read ≡ take (file_limit + 1) file) = rw e at h in
+    rules_in_read (files name) read is_found whole
+
+-- one byte more than an image may have tells whether it has too many
+image_by : (long : Bool) (rules file : List ℕ) → nat_lt image_limit (length file) ≡ long → checkpoint_of rules (take (image_limit + 1) file) ≡ checkpoint_of rules file
+unfolding checkpoint_of
+image_by false rules file e = ap (checkpoint_of rules) (take_all (image_limit + 1) file (short_file image_limit (length file) e))
+image_by true rules file e = rw (long_taken image_limit file e, e) refl
+
+image_in_read : (rules : List ℕ) (o : Option (List ℕ)) (read : List ℕ) → (o ≢ None) → IfSome o (λ file. read ≡ take (image_limit + 1) file) → checkpoint_in rules o ≡ checkpoint_of rules read
+image_in_read rules None read found h = absurd (found refl)
+image_in_read rules (Some file) read found h = sym (ap (checkpoint_of rules) h ∙ image_by (nat_lt image_limit (length file)) rules file refl)
+
+pub image_found : (rules name : List ℕ) (told : Option Files) (files : Files) (read : List ℕ) → told ≡ Some files → IsFound told name → IfSome (file_told told name) (λ file. read ≡ take (image_limit + 1) file)
+    → checkpoint_in rules (files name) ≡ checkpoint_of rules read
+image_found rules name told files read e there h =
+    let is_found : files name ≢ None = rw e at there in
+    let whole : IfSome (files name) (λ file. read ≡ take (image_limit + 1) file) = rw e at h in
+    image_in_read rules (files name) read is_found whole
+
+pub image_missing : (rules name : List ℕ) (told : Option Files) (files : Files) → told ≡ Some files → IsMissing told name → checkpoint_in rules (files name) ≡ is_refused NoImage
+image_missing rules name told files e gone = let none : files name ≡ None = rw e at gone in ap (checkpoint_in rules) none
 
 found_reading : (o : Option (List ℕ)) (read : List ℕ) → (o ≢ None) → IfSome o (λ file. read ≡ take (file_limit + 1) file) → (file : List ℕ) × (o ≡ Some file) × (reading file ≡ reading read)
 found_reading None read found h = absurd (found refl)

@@ -13,10 +13,15 @@ use Rattle.rule_lives.specs.Keeping.{IsLifeOf, AreLives}
 use Rattle.rule_lives.specs.Lifetimes.{IsLife, PatternLife}
 use Rattle.rule_lives.specs.Reach.{Limit, finite, infinite, Below}
 use Rattle.script_run.specs.Firings.{Gives, Fires, Counts}
-use Rattle.script_run.specs.Run.{setting_of, whole_run}
-use Rattle.replay.specs.Report.{Report, IsDefinite, IsReport, outcome_report, summary_report}
+use Rattle.script_run.specs.Run.{RunState, setting_of, whole_run}
+use Rattle.checkpoint.specs.declared.image.Image.{Image}
+use Rattle.checkpoint.specs.declared.image.RunPart.{RunPart}
+use Rattle.image_laws.proofs.One.{one_image}
+use Rattle.rule_world.specs.Worlds.{World}
+use Rattle.script_run.specs.Parts.{first_part}
+use Rattle.replay.specs.Report.{Report, IsBehind, IsBehindSome, IsDefinite, IsReport, IsSaved, image_report, outcome_report, summary_report}
 use Rattle.replay.specs.Notices.{lives_text}
-use Rattle.replay.specs.Wanted.{Wanted, usage_line, refuses, runs, accepts, tells_lives, proves, sums_up}
+use Rattle.replay.specs.Wanted.{Wanted, usage_line, refuses, refuses_checkpoint, runs, resumes, saves, saves_on, accepts, tells_lives, proves, sums_up}
 
 int_same : (a b : ℤ) → a ≤ℤ b → b ≤ℤ a → a ≡ b
 int_same a b h k = omega (arith, ints)
@@ -96,10 +101,32 @@ by_table p P a b h k holds = subst P (one_table p a b h k) holds
 pub same_lives_text : (p : Program) (a b : LifeTable) → AreLives p a → AreLives p b → lives_text p.types a.lives ≡ lives_text p.types b.lives
 same_lives_text p a b h k = ap (λ (table : LifeTable). lives_text p.types table.lives) (one_table p a b h k)
 
+-- a run that is saved has at most one report: a world has one image
+pub one_saved : (p : Program) (table : LifeTable) (limit : ℕ) (first : RunPart) (o : Option RunState) (r q : Report) → IsSaved p table limit first o r → IsSaved p table limit first o q → r ≡ q
+one_saved p table limit first None r q h k = h ∙ sym k
+one_saved p table limit first (Some s) r q h k = h.3 ∙ ap image_report (one_image p table s.world h.0 k.0 h.1 k.1 (h.2 ∙ sym k.2)) ∙ sym k.3
+
+-- what is written behind an image is what is written in a world of it
+pub behind_one : (p : Program) (table : LifeTable) (image : Image) (Ends : ℕ → Type 0) (Says : World → Report → Type 0) → ((w : World) (r q : Report) → Says w r → Says w q → r ≡ q)
+    → (q r : Report) → IsBehind p table image Ends Says q → IsBehindSome p table image Says r → r ≡ q
+behind_one p table image Ends Says one q r (inl h) (inl k) = k.1 ∙ sym h.1
+behind_one p table image Ends Says one q r (inl h) (inr k) = absurd (h.0 k.0)
+behind_one p table image Ends Says one q r (inr h) (inl k) = absurd (k.0 h.0)
+behind_one p table image Ends Says one q r (inr h) (inr k) = one k.1 r q k.4 (h.2 k.1 k.2 k.3)
+
 -- what is wanted has at most one report
 pub one_report : (gives : Gives) (fires : Fires) (counts : Counts) (w : Wanted) (script : List ℕ) (r q : Report) → IsDefinite w → IsReport gives fires counts w script r → IsReport gives fires counts w script q → r ≡ q
 one_report gives fires counts usage_line script r q definite h k = h ∙ sym k
 one_report gives fires counts (refuses refusal) script r q definite h k = h ∙ sym k
+one_report gives fires counts (refuses_checkpoint code) script r q definite h k = h ∙ sym k
+one_report gives fires counts (resumes limit image program) script r q definite h k = absurd definite
+one_report gives fires counts (saves limit rules program) script r q definite h k =
+    one_saved program h.0 limit (first_part rules) (comes_to h.0) r q h.2
+    (by_table program (λ (table : LifeTable). IsSaved program table limit (first_part rules) (comes_to table) q) k.0 h.0 k.1 h.1 k.2)
+  where
+    comes_to : LifeTable → Option RunState
+    comes_to table = (whole_run (setting_of gives fires counts limit program table) (lines_of script)).comes_to
+one_report gives fires counts (saves_on limit image program) script r q definite h k = absurd definite
 one_report gives fires counts (runs limit program) script r q definite h k = h.2 ∙ ap run_report (one_table program h.0 k.0 h.1 k.1) ∙ sym k.2
   where
     run_report : LifeTable → Report

@@ -1,15 +1,13 @@
 -- What a call of the program does with the outside, by what it is asked for.
 use Rattle.std.specs.Prelude.{◌≡◌, ◌⊎◌, ◌<◌, ◌≤◌, ◌^◌, ℕ, List, [], length, Option, Some, None, option_map, IfSome}
-use Rattle.fx_io.specs.Outside.{Rose, append, count_after}
+use Rattle.fx_io.specs.Outside.{Rose, append, AppendsFront, count_after}
 use Rattle.command_words.specs.declared.asking.Asked.{Asked}
 use Rattle.command_words.specs.declared.asking.Asked.TheVariants.{RuleFile, Load}
-use Rattle.command_words.specs.declared.asking.Mode.{Mode}
-use Rattle.command_words.specs.declared.asking.Mode.TheVariants.{Run}
 use Rattle.script_run.specs.Firings.{Gives, Fires, Counts}
 use Rattle.replay.specs.Notices.{usage}
 use Rattle.replay.specs.Refusals.{refusal_text}
-use Rattle.replay.specs.Report.{IsWritten, IsLong, IsStopped, TakesFor}
-use Rattle.replay.specs.Wanted.{Wanted, Files, runs, usage_line, wanted_of, wanted_by_name, wanted_by_number, IfRefuses, RunsScript, IsUnfit}
+use Rattle.replay.specs.Report.{Report, Reports, IsWritten, IsLong, IsStopped, TakesFor}
+use Rattle.replay.specs.Wanted.{Wanted, Files, runs, resumes, saves, saves_on, usage_line, wanted_from, rules_in, wanted_by_name, wanted_by_number, IfRefuses, RunsScript, IsUnfit, ReadFails, MayRefuse}
 
 -- ---- what is seen of the outside
 
@@ -47,21 +45,28 @@ seen shelf left given read_faults written write_faults = record {
 -- what is wanted, as far as the shelf tells its files
 abbrev pub wanted_told : Option Asked → Option Files → Option Wanted
 wanted_told None told = Some usage_line
-wanted_told (Some (RuleFile name mode limit)) told = option_map (λ files. wanted_by_name (wanted_of mode limit) files name) told
+wanted_told (Some (RuleFile name mode limit image)) told = option_map (λ files. wanted_by_name (wanted_from mode limit image files (rules_in (files name))) files name) told
 wanted_told (Some (Load number limit)) told = Some (wanted_by_number number limit)
 
 -- where a run is wanted, the script tells these bytes
 abbrev pub TellsScript : Wanted → Option (List ℕ) → List ℕ → Type 0
 TellsScript (runs limit program) told script = told ≡ Some script
+TellsScript (resumes limit image program) told script = told ≡ Some script
+TellsScript (saves limit rules program) told script = told ≡ Some script
+TellsScript (saves_on limit image program) told script = told ≡ Some script
 TellsScript _ told script = Unit {0}
 
 -- the statuses that a call may end with
 abbrev pub MayEnd : Option Asked → ℕ → Type 0
 MayEnd None status = (status ≡ 2) ⊎ ((6 ≤ status) × (status ≤ 7))
-MayEnd (Some (RuleFile name mode limit)) status = (status ≤ 1) ⊎ ((3 ≤ status) × (status ≤ 8))
+MayEnd (Some (RuleFile name mode limit image)) status = (status ≤ 1) ⊎ ((3 ≤ status) × (status ≤ 9))
 MayEnd (Some (Load number limit)) status = (status ≤ 1) ⊎ (status ≡ 4) ⊎ ((6 ≤ status) × (status ≤ 7))
 
 -- ---- a call
+
+-- a report was said, or a front of it was written
+abbrev pub Says : Option (List ℕ) → Option (List ℕ) → ℕ → Report → Type 0
+Says before after status r = ((status ≤ 4) ⊎ (status ≡ 9) → Reports before after status r) × (5 ≤ status → AppendsFront before after r.bytes)
 
 -- What a call does that is asked for this, where this is wanted, if that is told, with the outside before and behind it and the status.
 pub record RunOf (gives : Gives) (fires : Fires) (counts : Counts) (asked : Option Asked) (wanted : Option Wanted) (before after : Outside) (status : ℕ) : Type 0 where
@@ -75,8 +80,8 @@ pub record RunOf (gives : Gives) (fires : Fires) (counts : Counts) (asked : Opti
   -- why it ends so
   pub ends : MayEnd asked status
   pub file : status ≡ 3 → IfSome asked (IsUnfit before.shelf.files before.shelf.misses after.shelf.misses)
-  pub read : status ≡ 5 → (name : List ℕ) × (mode : Mode) × (limit : ℕ) × (asked ≡ Some (RuleFile name mode limit))
-      × (Rose (before.shelf.faults name) (after.shelf.faults name) ⊎ ((mode ≡ Run) × Rose before.read_faults after.read_faults))
+  pub read : status ≡ 5 → (it : Asked) × (asked ≡ Some it) × ReadFails before.shelf.faults after.shelf.faults before.read_faults after.read_faults it
+  pub checkpoint : status ≡ 9 → (it : Asked) × (asked ≡ Some it) × MayRefuse before.shelf.files before.shelf.misses after.shelf.misses it
   pub write : status ≡ 6 → Rose before.write_faults after.write_faults
   pub over : status ≡ 8 → IfSome asked RunsScript × IfSome before.left (λ script. 2 ^ 30 < length script)
   -- what is taken of the script, and left

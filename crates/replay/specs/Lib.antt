@@ -3,6 +3,8 @@ pub mod Summary
 pub mod Certificates
 pub mod Titles
 pub mod Refusals
+pub mod Checkpoints
+pub mod Beginnings
 pub mod RuleFiles
 pub mod Wanted
 pub mod Report

@@ -9,7 +9,7 @@ use Rattle.rule_model.specs.declared.program.TypeInfo.{TypeInfo}
 
 -- where the words are refused
 abbrev pub usage : List ℕ
-usage = codes "usage: replay [--mode run|check|lives|proof] [--limit N] RULES | replay [--limit N] --gen N" ++ 10 ∷ []
+usage = codes "usage: replay [--mode run|check|lives|save|proof] [--limit N] [--resume NAME] RULES | replay [--limit N] --gen N" ++ 10 ∷ []
 
 -- the rule file is accepted, with so many types and rules
 abbrev pub accepted_text : Program → List ℕ

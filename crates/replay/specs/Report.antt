@@ -1,5 +1,5 @@
 -- What the program writes, and its status, with an engine of these meanings.
-use Rattle.std.specs.Prelude.{◌≡◌, ◌⊎◌, ◌<◌, ◌≤◌, ◌+◌, ◌^◌, ℕ, true, false, List, Option}
+use Rattle.std.specs.Prelude.{◌≡◌, ◌⊎◌, ◌<◌, ◌≤◌, ◌+◌, ◌^◌, ℕ, true, false, List, length, nat_lt, Option, Some, None, if◌then◌else◌}
 use Rattle.fx_io.specs.Outside.{append, AppendsFront}
 use Rattle.fx_io.specs.Lines.{lines_of}
 use Rattle.rule_model.specs.declared.life.LifeTable.{LifeTable}
@@ -10,15 +10,28 @@ use Rattle.script_run.specs.declared.fault.RunFault.TheVariants.{ReadFault, Writ
 use Rattle.script_run.specs.declared.turn.Ended.{Ended}
 use Rattle.script_run.specs.declared.turn.Ended.TheVariants.{Script, Limit}
 use Rattle.script_run.specs.Firings.{Gives, Fires, Counts}
-use Rattle.script_run.specs.Run.{Outcome, setting_of, whole_run}
+use Rattle.script_run.specs.Parts.{first_part, part_at, run_on}
+use Rattle.script_run.specs.Run.{Outcome, RunState, setting_of, whole_run}
+use Rattle.script_run.specs.Texts.{limit_text}
 use Rattle.script_run.specs.Unfinished.{Long, StoppedAtRead}
+use Rattle.checkpoint.specs.declared.image.Image.{Image}
+use Rattle.checkpoint.specs.declared.image.RunPart.{RunPart}
+use Rattle.checkpoint.specs.Bytes.{image_bytes}
+use Rattle.image_laws.specs.Fitting.{Fits}
+use Rattle.image_laws.specs.Images.{IsImageOf}
+use Rattle.rule_model.specs.declared.program.Program.{Program}
+use Rattle.rule_world.specs.Lawful.{IsLawful}
+use Rattle.rule_world.specs.Worlds.{World}
+use Rattle.replay.specs.declared.refused_checkpoint.CheckpointCode.{CheckpointCode}
+use Rattle.replay.specs.declared.refused_checkpoint.CheckpointCode.TheVariants.{TooLong, Unfit}
+use Rattle.replay.specs.Checkpoints.{can_go_on, checkpoint_text, image_limit}
 use Rattle.replay.specs.Refusals.{refusal_text}
 use Rattle.life_proof.specs.declared.part.Proof.{Proof}
 use Rattle.life_proof.specs.Good.{IsGood}
 use Rattle.replay.specs.Certificates.{proof_text}
 use Rattle.replay.specs.Summary.{summary_text}
 use Rattle.replay.specs.Notices.{usage, accepted_text, lives_text}
-use Rattle.replay.specs.Wanted.{Wanted, usage_line, refuses, runs, accepts, tells_lives, proves, sums_up}
+use Rattle.replay.specs.Wanted.{Wanted, usage_line, refuses, refuses_checkpoint, runs, resumes, saves, saves_on, accepts, tells_lives, proves, sums_up}
 
 -- what is written, and the status
 pub record Report : Type 0 where
@@ -43,12 +56,64 @@ outcome_report outcome = record { bytes = outcome.bytes; status = run_status out
 abbrev pub summary_report : ℕ → Outcome → Report
 summary_report number outcome = record { bytes = summary_text number outcome.bytes; status = run_status outcome.ended }
 
+abbrev pub checkpoint_report : CheckpointCode → Report
+checkpoint_report code = record { bytes = checkpoint_text code; status = 9 }
+
+-- an image that is written: it has at most 1 GiB, and a run can go on from it
+abbrev pub image_report : Image → Report
+image_report image = if nat_lt image_limit (length (image_bytes image)) then checkpoint_report TooLong
+    else (if can_go_on image then record { bytes = image_bytes image; status = run_status (Script image.run.faulty) } else checkpoint_report Unfit)
+
+-- What is written of a run of which the image is wanted: the line of the limit, where that was met, or else the image of the world that the
+-- run comes to, with what it says of the run that began behind this part.
+abbrev pub IsSaved : Program → LifeTable → ℕ → RunPart → Option RunState → Report → Type 0
+IsSaved p table limit first None r = r ≡ record { bytes = limit_text limit; status = 4 }
+IsSaved p table limit first (Some s) r = (image : Image) × IsImageOf p table s.world image × (image.run ≡ part_at limit first s.progress) × (r ≡ image_report image)
+
+-- the statuses of a run, and of one that is saved
+abbrev pub IsRunStatus : ℕ → Type 0
+IsRunStatus status = (status ≤ 1) ⊎ (status ≡ 4)
+
+abbrev pub IsSaveStatus : ℕ → Type 0
+IsSaveStatus status = IsRunStatus status ⊎ (status ≡ 9)
+
+-- What is written behind an image: that it does not fit, or what is said of each lawful world of which it is the image. Of an image of no
+-- world nothing is said but the status.
+abbrev pub IsBehind : Program → LifeTable → Image → (ℕ → Type 0) → (World → Report → Type 0) → Report → Type 0
+IsBehind p table image Ends Says r =
+    ((Fits p table image → ⊥) × (r ≡ checkpoint_report Unfit))
+    ⊎ (Fits p table image × Ends r.status × ((w : World) → IsLawful p w → IsImageOf p table w image → Says w r))
+
+-- what is written behind the image of some world
+abbrev pub IsBehindSome : Program → LifeTable → Image → (World → Report → Type 0) → Report → Type 0
+IsBehindSome p table image Says r =
+    ((Fits p table image → ⊥) × (r ≡ checkpoint_report Unfit))
+    ⊎ (Fits p table image × (w : World) × IsLawful p w × IsImageOf p table w image × Says w r)
+
+-- the lines behind an image, in a world of it
+abbrev pub IsRunBehind : Gives → Fires → Counts → ℕ → Program → LifeTable → Image → List ℕ → World → Report → Type 0
+IsRunBehind gives fires counts limit p table image script w r =
+    r ≡ outcome_report (run_on (setting_of gives fires counts limit p table) w image.run (lines_of script))
+
+-- the image of the run behind an image, in a world of it
+abbrev pub IsSavedBehind : Gives → Fires → Counts → ℕ → Program → LifeTable → Image → List ℕ → World → Report → Type 0
+IsSavedBehind gives fires counts limit p table image script w r =
+    IsSaved p table limit image.run (run_on (setting_of gives fires counts limit p table) w image.run (lines_of script)).comes_to r
+
 -- What is written where this is wanted, and the status: the usage line; the refusal; the run of the script, by the table of the lives of
--- the program's types; the numbers of types and rules of the program; the lives of its types, by the table that has them; good
+-- the program's types; that behind an image; the image that either comes to; the numbers of types and rules of the program; the lives of its types, by the table that has them; good
 -- certificates of these lives; the summary of the run of the script of a load, by such a table.
 abbrev pub IsReport : Gives → Fires → Counts → Wanted → List ℕ → Report → Type 0
 IsReport gives fires counts usage_line script r = r ≡ record { bytes = usage; status = 2 }
 IsReport gives fires counts (refuses refusal) script r = r ≡ record { bytes = refusal_text refusal; status = 3 }
+IsReport gives fires counts (refuses_checkpoint code) script r = r ≡ checkpoint_report code
+IsReport gives fires counts (resumes limit image program) script r =
+    (table : LifeTable) × AreLives program table × IsBehind program table image IsRunStatus (IsRunBehind gives fires counts limit program table image script) r
+IsReport gives fires counts (saves limit rules program) script r =
+    (table : LifeTable) × AreLives program table
+    × IsSaved program table limit (first_part rules) (whole_run (setting_of gives fires counts limit program table) (lines_of script)).comes_to r
+IsReport gives fires counts (saves_on limit image program) script r =
+    (table : LifeTable) × AreLives program table × IsBehind program table image IsSaveStatus (IsSavedBehind gives fires counts limit program table image script) r
 IsReport gives fires counts (runs limit program) script r =
     (table : LifeTable) × AreLives program table × (r ≡ outcome_report (whole_run (setting_of gives fires counts limit program table) (lines_of script)))
 IsReport gives fires counts (accepts program) script r = r ≡ record { bytes = accepted_text program; status = 0 }
@@ -64,11 +129,15 @@ IsReport gives fires counts (sums_up number limit program) script r =
 abbrev pub Reports : Option (List ℕ) → Option (List ℕ) → ℕ → Report → Type 0
 Reports before after status r = (after ≡ append before r.bytes) × (status ≡ r.status)
 
--- what is wanted has one report: certificates have several
+-- what is wanted has one report: certificates have several, and of an image of no world nothing is said
 abbrev pub IsDefinite : Wanted → Type 0
 IsDefinite usage_line = Unit {0}
 IsDefinite (refuses refusal) = Unit {0}
+IsDefinite (refuses_checkpoint code) = Unit {0}
 IsDefinite (runs limit program) = Unit {0}
+IsDefinite (resumes limit image program) = ⊥
+IsDefinite (saves limit rules program) = Unit {0}
+IsDefinite (saves_on limit image program) = ⊥
 IsDefinite (accepts program) = Unit {0}
 IsDefinite (tells_lives program) = Unit {0}
 IsDefinite (proves program) = ⊥
@@ -78,10 +147,18 @@ IsDefinite (sums_up number limit program) = Unit {0}
 abbrev pub IsFrontOfEach : Gives → Fires → Counts → Wanted → List ℕ → Option (List ℕ) → Option (List ℕ) → Type 0
 IsFrontOfEach gives fires counts wanted script before after = (r : Report) → IsReport gives fires counts wanted script r → AppendsFront before after r.bytes
 
--- the front of the report; of certificates nothing, or the front of some of the reports
+-- the front of the report, behind an image of that of each of its worlds; of certificates nothing, or the front of some of the reports
 abbrev pub IsFront : Gives → Fires → Counts → Wanted → List ℕ → Option (List ℕ) → Option (List ℕ) → Type 0
 IsFront gives fires counts usage_line script before after = IsFrontOfEach gives fires counts usage_line script before after
 IsFront gives fires counts (refuses refusal) script before after = IsFrontOfEach gives fires counts (refuses refusal) script before after
+IsFront gives fires counts (refuses_checkpoint code) script before after = IsFrontOfEach gives fires counts (refuses_checkpoint code) script before after
+IsFront gives fires counts (resumes limit image program) script before after =
+    (table : LifeTable) → AreLives program table → (r : Report) → IsBehindSome program table image (IsRunBehind gives fires counts limit program table image script) r
+    → AppendsFront before after r.bytes
+IsFront gives fires counts (saves limit rules program) script before after = IsFrontOfEach gives fires counts (saves limit rules program) script before after
+IsFront gives fires counts (saves_on limit image program) script before after =
+    (table : LifeTable) → AreLives program table → (r : Report) → IsBehindSome program table image (IsSavedBehind gives fires counts limit program table image script) r
+    → AppendsFront before after r.bytes
 IsFront gives fires counts (runs limit program) script before after = IsFrontOfEach gives fires counts (runs limit program) script before after
 IsFront gives fires counts (accepts program) script before after = IsFrontOfEach gives fires counts (accepts program) script before after
 IsFront gives fires counts (tells_lives program) script before after = IsFrontOfEach gives fires counts (tells_lives program) script before after
@@ -89,17 +166,28 @@ IsFront gives fires counts (proves program) script before after =
     (after ≡ before) ⊎ ((r : Report) × IsReport gives fires counts (proves program) script r × AppendsFront before after r.bytes)
 IsFront gives fires counts (sums_up number limit program) script before after = IsFrontOfEach gives fires counts (sums_up number limit program) script before after
 
--- what is written with a status where this is wanted: with one up to 4 exactly a report, else a front of it
+-- what is written with a status where this is wanted: with one up to 4, and with 9, exactly a report, else a front of it
 pub record IsWritten (gives : Gives) (fires : Fires) (counts : Counts) (wanted : Wanted) (script : List ℕ) (before after : Option (List ℕ)) (status : ℕ) : Type 0 where
   pub exact : status ≤ 4 → (r : Report) × IsReport gives fires counts wanted script r × Reports before after status r
+  pub refused : status ≡ 9 → (r : Report) × IsReport gives fires counts wanted script r × Reports before after status r
   pub front : 5 ≤ status → IsFront gives fires counts wanted script before after
 
 -- ---- runs that stop before the end of the script
+
+-- the same of a run behind an image, in each of its worlds
+abbrev pub IsLongBehind : Gives → Fires → Counts → ℕ → Program → Image → List ℕ → Type 0
+IsLongBehind gives fires counts limit p image script =
+    (table : LifeTable) × AreLives p table
+    × ((w : World) → IsLawful p w → IsImageOf p table w image → Long (run_on (setting_of gives fires counts limit p table) w image.run) script)
 
 -- a run is wanted, and its script is one of more than 1 GiB that did not meet the limit before
 abbrev pub IsLong : Gives → Fires → Counts → Wanted → List ℕ → Type 0
 IsLong gives fires counts (runs limit program) script =
     (table : LifeTable) × AreLives program table × Long (whole_run (setting_of gives fires counts limit program table)) script
+IsLong gives fires counts (saves limit rules program) script =
+    (table : LifeTable) × AreLives program table × Long (whole_run (setting_of gives fires counts limit program table)) script
+IsLong gives fires counts (resumes limit image program) script = IsLongBehind gives fires counts limit program image script
+IsLong gives fires counts (saves_on limit image program) script = IsLongBehind gives fires counts limit program image script
 IsLong gives fires counts _ script = ⊥
 
 -- a read failed, or the script is too long: of a run, what was written is what the lines print that were taken with their ends, or all lines
@@ -107,6 +195,9 @@ IsLong gives fires counts _ script = ⊥
 abbrev pub IsStopped : Gives → Fires → Counts → Wanted → List ℕ → Option (List ℕ) → Option (List ℕ) → Option (List ℕ) → Type 0
 IsStopped gives fires counts (runs limit program) script left before after =
     (table : LifeTable) → AreLives program table → StoppedAtRead (whole_run (setting_of gives fires counts limit program table)) script left before after
+IsStopped gives fires counts (resumes limit image program) script left before after =
+    (table : LifeTable) → AreLives program table → (w : World) → IsLawful program w → IsImageOf program table w image
+    → StoppedAtRead (run_on (setting_of gives fires counts limit program table) w image.run) script left before after
 IsStopped gives fires counts _ script left before after = after ≡ before
 
 -- how many bytes of the script are taken for this status: never more than one beyond 1 GiB

@@ -1,14 +1,21 @@
 //! The program: it reads a rule file and replays a script over it, and writes what fires and what is faulty. In other modes it writes
-//! whether the file is accepted, or how long the events of its types matter. It also runs over a generated load, and writes a summary.
+//! whether the file is accepted, how long the events of its types matter, or the image of a run, from which another run goes on. It also runs
+//! over a generated load, and writes a summary.
 //! It knows the outside by its traits alone, so that its answer is a matter of proof.
 #![tactic(auto)]
 
+mod beginning;
+mod checkpoint_file;
 pub mod laws;
 mod load;
 mod modes;
+mod nowhere;
 mod proving;
 mod refusal;
+mod refused_checkpoint;
 mod rule_file;
+mod running;
+mod saving;
 mod saying;
 mod status;
 mod summing;

@@ -5,7 +5,6 @@ ghost use Rattle.fx_io.specs.Outside.{Rose, append};
 ghost use Rattle.rule_lives.specs.Keeping.{AreLives};
 ghost use Rattle.rule_model.specs.declared.life.LifeTable.{LifeTable as TableOfLives};
 ghost use Rattle.rule_world.specs.Programs.{IsRunnable};
-ghost use Rattle.script_run.specs.Texts.{quoted_byte, rule_name};
 ghost use Rattle.life_edges.specs.Tails.{limit_of};
 ghost use Rattle.life_proof.specs.declared.part.Proof.{Proof as Certificate};
 ghost use Rattle.life_proof.specs.Good.{tail_at, IsGood};
@@ -18,34 +17,9 @@ use fx_base::{Bound, NoMemory, RuleId};
 use fx_io::Sink;
 use life_proof::{Part, Proof, certify, confirm, tail_at_place, total};
 use rule_model::{Condition, LifeTable, Program};
-use script_run::{push_number, push_signed};
+use script_run::{name_of_rule, push_number, push_quoted, push_signed};
 use std::alloc::Global;
 use temporal_net::NetEdge;
-
-fn push_quoted(text: &mut Vec<u8>, name: &[u8]) -> Result<(), NoMemory>
-    ensures { OnOk result (text.new.items ≡ text.old.items ++ flat_map quoted_byte name.now) }
-{
-    for b in name {
-        match *b {
-            b'\\' => text.extend_from_slice(b"\\\\")?,
-            b'"' => text.extend_from_slice(b"\\\"")?,
-            b'\n' => text.extend_from_slice(b"\\n")?,
-            b'\t' => text.extend_from_slice(b"\\t")?,
-            b'\r' => text.extend_from_slice(b"\\r")?,
-            other => text.push(other)?,
-        }
-    }
-    Ok(())
-}
-
-fn name_of(program: &Program, rule: RuleId) -> &str
-    ensures { result.now ≡ rule_name (slice_get program.now.rules rule.0) }
-{
-    match program.rules.as_slice().get(rule.0 as usize) {
-        Some(rule) => rule.name.as_str(),
-        None => "",
-    }
-}
 
 fn conditions_of(program: &Program, rule: RuleId) -> &[Condition]
     ensures { result.now ≡ conditions_in (slice_get program.now.rules rule.0) }
@@ -152,7 +126,8 @@ fn push_head(
     ensures { OnOk result (text.new.items ≡ text.old.items ++ head_text (slice_get program.now.rules part.now.rule.0) part.now) }
 {
     text.extend_from_slice(b"proof \"")?;
-    push_quoted(text, name_of(program, part.rule).as_bytes())?;
+    let name = name_of_rule(program.rules.as_slice(), part.rule.0 as usize);
+    push_quoted(text, name.as_bytes())?;
     text.extend_from_slice(b"\" ")?;
     push_number(text, alloc, u64::from(part.from) + 1)?;
     text.extend_from_slice(b" ")?;

@@ -81,6 +81,10 @@ pub(crate) fn read_whole<F: Shelf>(
     ensures missing { IsErrOf result FileFault.Missing → IsMissing (F.files shelf.old) name.now }
     ensures cause { IsErrOf result FileFault.ReadFault → Rose (F.faults shelf.old name.now) (F.faults shelf.new name.now) }
     ensures miss { IsErrOf result FileFault.Missing → Rose (F.misses shelf.old name.now) (F.misses shelf.new name.now) }
+    ensures failed_found { IsErrOf result FileFault.ReadFault → IsFound (F.files shelf.old) name.now }
+    ensures files { F.files shelf.new ≡ F.files shelf.old }
+    ensures counts { (other : List ℕ) → F.faults shelf.old other ≤ F.faults shelf.new other }
+    ensures miss_counts { (other : List ℕ) → F.misses shelf.old other ≤ F.misses shelf.new other }
 {
     let mut bytes = Vec::new(alloc);
     let mut buffer = [0u8; 4096];

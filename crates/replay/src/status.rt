@@ -1,8 +1,10 @@
 //! The statuses of the program.
 ghost use Rattle.std.specs.Prelude.{◌≡◌, ◌⊎◌, ◌≤◌};
+ghost use Rattle.script_run.specs.Turns.{ended_as};
 ghost use Rattle.replay.specs.Report.{run_status, fault_status};
 
-use script_run::{Ended, RunFault};
+use engine::Engine;
+use script_run::{Ended, Progress, RunFault};
 
 /// Of a run of which no call failed.
 pub(crate) fn status_of(ended: Ended) -> u8
@@ -13,6 +15,16 @@ pub(crate) fn status_of(ended: Ended) -> u8
         Ended::Script(false) => 0,
         Ended::Script(true) => 1,
         Ended::Limit => 4,
+    }
+}
+
+/// Of a run that left this, or met the limit of firings.
+pub(crate) fn status_found<E: Engine>(found: Option<(E, Progress)>) -> u8
+    ensures { result ≡ run_status (ended_as found) }
+{
+    match found {
+        Some((_, at)) => status_of(Ended::Script(at.faulted)),
+        None => status_of(Ended::Limit),
     }
 }
 

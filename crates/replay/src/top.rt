@@ -1,30 +1,33 @@
 //! The calls of the program: what is done with a program, with a rule file, and with what the words ask for.
-ghost use Rattle.std.specs.Prelude.{◌≡◌, ◌≢◌, ◌⊎◌, ◌<◌, ◌≤◌, ◌^◌, [], List, Option, ℕ, length, Some, None, IfSome};
+ghost use Rattle.std.specs.Prelude.{◌≡◌, ◌≢◌, ◌⊎◌, ◌<◌, ◌≤◌, ◌^◌, [], List, Option, ℕ, length, option_map, Some, None, IfSome};
 ghost use Rattle.fx_io.specs.Outside.{Rose, append, count_after};
 ghost use Rattle.command_words.specs.declared.asking.Asked.TheVariants.{RuleFile};
-ghost use Rattle.command_words.specs.declared.asking.Mode.{Mode as ModeAsked};
+ghost use Rattle.command_words.specs.declared.asking.Asked.{Asked as AskedFor};
 ghost use Rattle.command_words.specs.Asked.{asked_by, IsWithinBounds};
-ghost use Rattle.rule_lives.specs.Keeping.{AreLives, IsSafeTable};
 ghost use Rattle.rule_world.specs.Programs.{IsRunnable};
+ghost use Rattle.replay.specs.Beginnings.{IsBeginningFor, RunsIn};
 ghost use Rattle.replay.specs.Calls.{ShelfSeen, seen_of_shelf, seen, wanted_told, RunOf};
 ghost use Rattle.replay.specs.Notices.{usage};
 ghost use Rattle.replay.specs.Refusals.{refusal_text};
 ghost use Rattle.replay.specs.Report.{Report, IsFront, IsReport, Reports, IsWritten, IsStopped, TakesFor, IsLong};
-ghost use Rattle.replay.specs.Wanted.{Files, runs, wanted, wanted_of, wanted_by_name, IfRefuses, ReadsFile, RunsScript, HasRefused, IsUnfit};
+ghost use Rattle.replay.specs.Wanted.{Files, runs, wanted, wanted_at, wanted_by_name, IfRefuses, ReadsFile, RunsScript, SavesRun, HasRefused, IsUnfit, ReadFails, MayRefuse};
 
+use crate::beginning::Beginning;
+use crate::checkpoint_file::{CheckpointFault, beginning};
 use crate::load::run_load;
 use crate::modes::{accept, tell_lives};
 use crate::proving::tell_proof;
 use crate::refusal::{RefusalCode, whole_file};
+use crate::refused_checkpoint::refuse_checkpoint;
 use crate::rule_file::{FileFault, Reading, read_whole, reading_of};
+use crate::running::run_program;
+use crate::saving::save_program;
 use crate::saying::{refuse, say};
-use crate::status::{status_of, status_of_fault};
 use command_words::{Asked, Mode, asked};
 use engine::Engine;
-use expiry_infer::lives;
+use fx_base::Text;
 use fx_io::{Shelf, Sink, Source};
-use rule_model::{LifeTable, Program};
-use script_run::run;
+use rule_model::Program;
 use std::alloc::Global;
 
 /// The most bytes that a rule file may have.
@@ -32,91 +35,60 @@ const FILE_MAX: usize = 1_048_576;
 
 /// What is written where the words are refused.
 const USAGE: &[u8] =
-    b"usage: replay [--mode run|check|lives|proof] [--limit N] RULES | replay [--limit N] --gen N\n";
+    b"usage: replay [--mode run|check|lives|save|proof] [--limit N] [--resume NAME] RULES | replay [--limit N] --gen N\n";
 
-// Runs a program with the table of its lives over a script.
-fn run_with_lives<E: Engine, S: Source, K: Sink>(
-    alloc: Global,
-    program: Program,
-    lives: LifeTable,
-    limit: u64,
-    script: &mut S,
-    out: &mut K,
-) -> u8
-    requires runnable { IsRunnable program }
-    requires lives { AreLives program lives }
-    requires table { IsSafeTable program lives }
-    requires low { limit ≤ 1000000 }
-    ensures { (name : List ℕ) (first last : ShelfSeen) → RunOf E.gives E.fires E.counts (Some (RuleFile name Mode.Run limit)) (Some (runs limit program))
-        (seen first (S.left script.old) (S.given script.old) (S.faults script.old) (K.written out.old) (K.faults out.old))
-        (seen last (S.left script.new) (S.given script.new) (S.faults script.new) (K.written out.new) (K.faults out.new)) result }
-{
-    match run::<E, S, K>(alloc, program, lives, limit, script, out) {
-        Ok(ended) => status_of(ended),
-        Err(fault) => status_of_fault(fault),
-    }
-}
-
-// Runs a program over a script, by the lives that are inferred of its types.
-fn run_program<E: Engine, S: Source, K: Sink>(
-    alloc: Global,
-    program: Program,
-    limit: u64,
-    script: &mut S,
-    out: &mut K,
-) -> u8
-    requires runnable { IsRunnable program }
-    requires low { limit ≤ 1000000 }
-    ensures { (name : List ℕ) (first last : ShelfSeen) → RunOf E.gives E.fires E.counts (Some (RuleFile name Mode.Run limit)) (Some (runs limit program))
-        (seen first (S.left script.old) (S.given script.old) (S.faults script.old) (K.written out.old) (K.faults out.old))
-        (seen last (S.left script.new) (S.given script.new) (S.faults script.new) (K.written out.new) (K.faults out.new)) result }
-{
-    match lives(alloc, &program) {
-        Ok(lives) => run_with_lives::<E, S, K>(alloc, program, lives, limit, script, out),
-        Err(_) => 7,
-    }
-}
-
-// Does with the program of an accepted file what the mode asks for.
-fn do_mode<E: Engine, S: Source, K: Sink>(
-    alloc: Global,
+/// What is done with a rule file, with at most so many firings.
+#[derive(Clone, Copy)]
+struct Plan {
     mode: Mode,
     limit: u64,
+}
+
+// Does with the program of an accepted file what the mode asks for, where a run has this beginning.
+fn do_mode<E: Engine, S: Source, K: Sink>(
+    alloc: Global,
+    plan: Plan,
     program: Program,
+    beginning: Beginning,
     script: &mut S,
     out: &mut K,
 ) -> u8
     requires runnable { IsRunnable program }
-    requires low { limit ≤ 1000000 }
-    ensures run { (name : List ℕ) (first last : ShelfSeen) → RunOf E.gives E.fires E.counts (Some (RuleFile name mode limit)) (Some (wanted_of mode limit program))
+    requires low { plan.limit ≤ 1000000 }
+    ensures run { (name : List ℕ) (image : Option (List ℕ)) (first last : ShelfSeen) → IsBeginningFor first.files plan.mode image beginning
+        → RunOf E.gives E.fires E.counts (Some (RuleFile name plan.mode plan.limit image)) (Some (wanted_at plan.mode plan.limit beginning program))
         (seen first (S.left script.old) (S.given script.old) (S.faults script.old) (K.written out.old) (K.faults out.old))
         (seen last (S.left script.new) (S.given script.new) (S.faults script.new) (K.written out.new) (K.faults out.new)) result }
-    ensures no_run { mode ≢ Mode.Run → script.new ≡ script.old }
+    ensures no_run { (RunsIn plan.mode → ⊥) → script.new ≡ script.old }
+    ensures untouched { plan.mode ≢ Mode.Save → result ≡ 9 → script.new ≡ script.old }
 {
-    match mode {
-        Mode::Run => run_program::<E, S, K>(alloc, program, limit, script, out),
+    match plan.mode {
+        Mode::Run => run_program::<E, S, K>(alloc, program, beginning, plan.limit, script, out),
         Mode::Check => accept(alloc, &program, out),
         Mode::Lives => tell_lives(alloc, &program, out),
         Mode::Proof => tell_proof(alloc, &program, out),
+        Mode::Save => save_program::<E, S, K>(alloc, program, beginning, plan.limit, script, out),
     }
 }
 
-// Does with the rule file of this name what the mode asks for.
+// Does with the rule file of this name what the mode asks for, behind the checkpoint that is named, if one is.
 fn answer<E: Engine, F: Shelf, S: Source, K: Sink>(
     alloc: Global,
-    mode: Mode,
-    limit: u64,
+    plan: Plan,
     name: &str,
+    image: Option<&str>,
     shelf: &mut F,
     script: &mut S,
     out: &mut K,
 ) -> u8
-    requires { limit ≤ 1000000 }
-    ensures run { RunOf E.gives E.fires E.counts (Some (RuleFile name.now mode limit)) (wanted_told (Some (RuleFile name.now mode limit)) (F.files shelf.old))
+    requires { plan.limit ≤ 1000000 }
+    ensures run { let asked = Some (RuleFile name.now plan.mode plan.limit (option_map (λ it. it.now) image.entry)) in
+        RunOf E.gives E.fires E.counts asked (wanted_told asked (F.files shelf.old))
         (seen (seen_of_shelf (F.files shelf.old) (F.faults shelf.old) (F.misses shelf.old)) (S.left script.old) (S.given script.old) (S.faults script.old) (K.written out.old) (K.faults out.old))
         (seen (seen_of_shelf (F.files shelf.new) (F.faults shelf.new) (F.misses shelf.new)) (S.left script.new) (S.given script.new) (S.faults script.new) (K.written out.new) (K.faults out.new)) result }
     ensures untouched { result ≡ 3 → script.new ≡ script.old }
-    ensures no_run { mode ≢ Mode.Run → script.new ≡ script.old }
+    ensures unresumed { plan.mode ≢ Mode.Save → result ≡ 9 → script.new ≡ script.old }
+    ensures no_run { (RunsIn plan.mode → ⊥) → script.new ≡ script.old }
 {
     let file = match read_whole(alloc, shelf, name, FILE_MAX + 1) {
         Ok(file) => file,
@@ -124,12 +96,25 @@ fn answer<E: Engine, F: Shelf, S: Source, K: Sink>(
         Err(FileFault::ReadFault) => return 5,
         Err(FileFault::NoMemory) => return 7,
     };
-    match reading_of(alloc, &file) {
-        Ok(Reading::Accepted(program)) => {
-            do_mode::<E, S, K>(alloc, mode, limit, program, script, out)
-        }
-        Ok(Reading::Refused(refusal)) => refuse(alloc, out, refusal),
-        Err(_) => 7,
+    let program = match reading_of(alloc, &file) {
+        Ok(Reading::Accepted(program)) => program,
+        Ok(Reading::Refused(refusal)) => return refuse(alloc, out, refusal),
+        Err(_) => return 7,
+    };
+    match beginning(alloc, plan.mode, image, &file, shelf) {
+        Ok(beginning) => do_mode::<E, S, K>(alloc, plan, program, beginning, script, out),
+        Err(CheckpointFault::Refused(code)) => refuse_checkpoint(alloc, out, code),
+        Err(CheckpointFault::ReadFault) => 5,
+        Err(CheckpointFault::NoMemory) => 7,
+    }
+}
+
+fn lent(name: &Option<Text>) -> Option<&str>
+    ensures { option_map (λ it. it.now) result ≡ name.now }
+{
+    match name {
+        Some(name) => Some(name.as_str()),
+        None => None,
     }
 }
 
@@ -146,12 +131,21 @@ fn do_asked<E: Engine, F: Shelf, S: Source, K: Sink>(
         (seen (seen_of_shelf (F.files shelf.old) (F.faults shelf.old) (F.misses shelf.old)) (S.left script.old) (S.given script.old) (S.faults script.old) (K.written out.old) (K.faults out.old))
         (seen (seen_of_shelf (F.files shelf.new) (F.faults shelf.new) (F.misses shelf.new)) (S.left script.new) (S.given script.new) (S.faults script.new) (K.written out.new) (K.faults out.new)) result }
     ensures untouched { (result ≡ 2) ⊎ (result ≡ 3) → script.new ≡ script.old }
+    ensures unresumed { result ≡ 9 → IfSome asked (λ it. ¬ SavesRun it) → script.new ≡ script.old }
     ensures no_run { IfSome asked (λ it. ¬ RunsScript it) → script.new ≡ script.old }
     ensures no_file { IfSome asked (λ it. ¬ ReadsFile it) → shelf.new ≡ shelf.old }
 {
     match asked {
-        Some(Asked::RuleFile { name, mode, limit }) => {
-            answer::<E, F, S, K>(alloc, mode, limit, name.as_str(), shelf, script, out)
+        Some(
+            Asked::RuleFile {
+                name,
+                mode,
+                limit,
+                image,
+            },
+        ) => {
+            let plan = Plan { mode, limit };
+            answer::<E, F, S, K>(alloc, plan, name.as_str(), lent(&image), shelf, script, out)
         }
         Some(Asked::Load { number, limit }) => run_load::<E, K>(alloc, number, limit, out),
         None => say(out, USAGE, 2),
@@ -206,22 +200,29 @@ pub fn run_rules<E: Engine, F: Shelf, S: Source, K: Sink>(
     ensures untouched { result ≡ 3 → script.new ≡ script.old }
     ensures nothing_left { result ≤ 1 → IfSome (S.left script.new) (λ bytes. bytes ≡ []) }
 {
-    answer::<E, F, S, K>(alloc, Mode::Run, limit, name, shelf, script, out)
+    let plan = Plan {
+        mode: Mode::Run,
+        limit,
+    };
+    answer::<E, F, S, K>(alloc, plan, name, None, shelf, script, out)
 }
 
 /// Does all that the program does for the words behind its own name, with an engine of this type, and answers the status.
-/// In the mode `run` it runs the script over the rule file, as [`run_rules`] does, with the limit of firings of the words.
-/// In the mode `check` it writes that the rule file is accepted, in the mode `lives` how long, in milliseconds, the events
-/// of its types matter, and in the mode `proof` certificates of that, which were confirmed: these leave the script alone, and the limit means
-/// nothing to them. Where the words ask for the load of a number,
-/// it runs the load's script over the load's rule file, with the limit of the words, prints nothing of that, and writes how many lines
-/// it would print, and how many of these say what fires and what is faulty: the shelf and the script are left alone.
+/// In the mode `run` it runs the script over the rule file, as [`run_rules`] does, with the limit of firings of the words. In the mode `save` it does the same, and
+/// writes the image of what the run comes to in place of its lines, or the line of the limit, where that was met. Both go on from the image of
+/// a checkpoint, where one is named: the lines, their numbers, the limit and the status are those of the whole script, of which the lines
+/// before the image were read already (law `script_run::laws::a_run_goes_on_behind_its_first_lines`). In the mode `check` it writes that the
+/// rule file is accepted, in the mode `lives` how long, in milliseconds, the events of its types matter, and in the mode `proof` certificates
+/// of that, which were confirmed: these leave the script alone, and the limit means nothing to them. Where the words ask for the load of a
+/// number, it runs the load's script over the load's rule file, with the limit of the words, prints nothing of that, and writes how many
+/// lines it would print, and how many of these say what fires and what is faulty: the shelf and the script are left alone.
 ///
-/// The status is 0 where the script was read to its end, or the rule file of another mode is accepted, 1 where a line of the
-/// script was a fault, 2 where the words are refused, 3 where the rule file is missing or refused, 4 where a match was pending
-/// when no firing was left, 5 where a read failed, 6 where a write failed, 7 where memory was refused, and 8 where the script has
-/// more than 1 GiB. Of these the modes other than `run` have 0, 3, 5, 6 and 7, and a load has those of its run, 0, 1 and 4, besides
-/// 6 and 7: its rule file is accepted.
+/// The status is 0 where the script was read to its end, or the rule file of another mode is accepted, 1 where a line of the script
+/// was a fault, 2 where the words are refused, 3 where the rule file is missing or refused, 4 where a match was pending when no firing
+/// was left, 5 where a read failed, 6 where a write failed, 7 where memory was refused, 8 where the script has more than 1 GiB, and 9 where a
+/// checkpoint is refused: the one that is named, which is missing, too long, no image, one of other rules, or one that does not fit them, or
+/// the one to be written, which is too long, or from whose numbers no run could go on. Of these the modes that run no script have 0, 3, 5, 6
+/// and 7, and a load has those of its run, 0, 1 and 4, besides 6 and 7: its rule file is accepted.
 pub fn replay<E: Engine, F: Shelf, S: Source, K: Sink>(
     alloc: Global,
     words: &[String],
@@ -229,8 +230,10 @@ pub fn replay<E: Engine, F: Shelf, S: Source, K: Sink>(
     script: &mut S,
     out: &mut K,
 ) -> u8
-    // Where the shelf and the script tell their bytes: with a status up to 4 exactly the report, else a front of it.
+    // Where the shelf and the script tell their bytes: with a status up to 4, and with 9, exactly the report, else a front of it.
     ensures exact { (files : Files) (bytes : List ℕ) → F.files shelf.old ≡ Some files → S.left script.old ≡ Some bytes → result ≤ 4
+        → (r : Report) × IsReport E.gives E.fires E.counts (wanted words.now files) bytes r × Reports (K.written out.old) (K.written out.new) result r }
+    ensures checkpoint { (files : Files) (bytes : List ℕ) → F.files shelf.old ≡ Some files → S.left script.old ≡ Some bytes → result ≡ 9
         → (r : Report) × IsReport E.gives E.fires E.counts (wanted words.now files) bytes r × Reports (K.written out.old) (K.written out.new) result r }
     ensures front { (files : Files) (bytes : List ℕ) → F.files shelf.old ≡ Some files → S.left script.old ≡ Some bytes → 5 ≤ result
         → IsFront E.gives E.fires E.counts (wanted words.now files) bytes (K.written out.old) (K.written out.new) }
@@ -253,30 +256,34 @@ pub fn replay<E: Engine, F: Shelf, S: Source, K: Sink>(
     ensures refusal { (files : Files) → F.files shelf.old ≡ Some files → result ≡ 3
         → IfRefuses (wanted words.now files) (λ refusal. K.written out.new ≡ append (K.written out.old) (refusal_text refusal)) }
 
-    // Where nothing of the outside failed and the script has at most 1 GiB, the report is done, or memory was refused.
+    // Where nothing of the outside failed and the script has at most 1 GiB, the report is done, or memory was refused. A checkpoint is refused,
+    // with 9, where one is asked for alone (`refused_checkpoint`).
     ensures completes { (bytes : List ℕ) → S.left script.old ≡ Some bytes → length bytes ≤ 2 ^ 30
         → ((name : List ℕ) → Rose (F.faults shelf.old name) (F.faults shelf.new name) → ⊥)
         → (Rose (S.faults script.old) (S.faults script.new) → ⊥) → (Rose (K.faults out.old) (K.faults out.new) → ⊥)
-        → (result ≤ 4) ⊎ (result ≡ 7) }
+        → (result ≤ 4) ⊎ (result ≡ 7) ⊎ (result ≡ 9) }
     ensures no_script_completes { IfSome (asked_by words.now) (λ asked. ¬ RunsScript asked)
         → ((name : List ℕ) → Rose (F.faults shelf.old name) (F.faults shelf.new name) → ⊥) → (Rose (K.faults out.old) (K.faults out.new) → ⊥)
         → (result ≤ 4) ⊎ (result ≡ 7) }
     ensures load_completes { IfSome (asked_by words.now) (λ asked. ¬ ReadsFile asked) → (Rose (K.faults out.old) (K.faults out.new) → ⊥)
         → (result ≤ 2) ⊎ (result ≡ 4) ⊎ (result ≡ 7) }
-    ensures answers { result ≤ 8 }
+    ensures answers { result ≤ 9 }
 
     // The causes of the answers, of whatever shelf, script and sink.
     ensures words { result ≡ 2 → asked_by words.now ≡ None }
     ensures not_words { asked_by words.now ≡ None → (result ≡ 2) ⊎ ((6 ≤ result) × (result ≤ 7)) }
     ensures file { result ≡ 3 → IfSome (asked_by words.now) (IsUnfit (F.files shelf.old) (F.misses shelf.old) (F.misses shelf.new)) }
-    ensures read { result ≡ 5 → (name : List ℕ) × (mode : ModeAsked) × (limit : ℕ) × (asked_by words.now ≡ Some (RuleFile name mode limit))
-        × (Rose (F.faults shelf.old name) (F.faults shelf.new name) ⊎ ((mode ≡ Mode.Run) × Rose (S.faults script.old) (S.faults script.new))) }
+    ensures read { result ≡ 5 → (it : AskedFor) × (asked_by words.now ≡ Some it)
+        × ReadFails (F.faults shelf.old) (F.faults shelf.new) (S.faults script.old) (S.faults script.new) it }
+    ensures refused_checkpoint { result ≡ 9 → (it : AskedFor) × (asked_by words.now ≡ Some it)
+        × MayRefuse (F.files shelf.old) (F.misses shelf.old) (F.misses shelf.new) it }
     ensures write { result ≡ 6 → Rose (K.faults out.old) (K.faults out.new) }
     ensures taken { (n : ℕ) × (S.given script.new ≡ count_after (S.given script.old) n) × TakesFor result n }
 
-    // The script is left alone where it is not run, and read to its end where its run comes there; the shelf, where no rule file of it
-    // is asked for.
+    // The script is left alone where it is not run, as behind an image that is refused, and read to its end where its run comes there; the
+    // shelf, where no rule file of it is asked for.
     ensures untouched { (result ≡ 2) ⊎ (result ≡ 3) → script.new ≡ script.old }
+    ensures unresumed { result ≡ 9 → IfSome (asked_by words.now) (λ asked. ¬ SavesRun asked) → script.new ≡ script.old }
     ensures no_run { IfSome (asked_by words.now) (λ asked. ¬ RunsScript asked) → script.new ≡ script.old }
     ensures nothing_left { result ≤ 1 → IfSome (asked_by words.now) (λ asked. RunsScript asked
         → IfSome (S.left script.new) (λ bytes. bytes ≡ [])) }

@@ -25,6 +25,7 @@ use Rattle.rete_net.specs.declared.net.Rete.{Rete}
 use Rattle.rete_net.specs.declared.node.NetNode.{NetNode}
 use Rattle.condition_node.specs.Nodes.{condition_of}
 use Rattle.rete_net.specs.Indexes.{IsIndexOf}
+use Rattle.rete_net.specs.Owners.{AreOwners}
 use Rattle.rete_net.specs.Nets.{NodesStand, clean_rows, change_of, IsChange, AreBetween}
 use Rattle.rete_net.specs.Schedules.{AreScheduled}
 use Rattle.rete_net.specs.Shapes.{before, IsNetOf}
@@ -71,11 +72,13 @@ module _ (p : Program) (look : Look) (s next : Snapshot) (gone : List Fact) (com
   pub shape_now : IsNetOf p new.nodes.items new.ends.items
   shape_now = net_again p old.nodes.items new.nodes.items old.ends.items new.ends.items same (stepped_nodes p look gone come moment first old.nodes.items new.nodes.items old.ends.items answers step) shape
 
-  pub stands_now : IsIndexOf new.nodes.items new.ends.items new.index → AreScheduled p new.nodes.items new.schedule → NodesStand p new next forgotten
-  stands_now indexed scheduled = record {
+  pub stands_now : IsIndexOf new.nodes.items new.ends.items new.index → AreScheduled p new.nodes.items new.schedule → AreOwners p shape.conditions (length new.nodes.items) new.owners.items
+      → NodesStand p new next forgotten
+  stands_now indexed scheduled owned = record {
     shape = net_again p old.nodes.items new.nodes.items old.ends.items new.ends.items same (stepped_nodes p look gone come moment first old.nodes.items new.nodes.items old.ends.items answers step) shape;
     indexed = indexed;
     scheduled = scheduled;
+    owned = owned;
     nodes =
         (standing_now p look s next gone come moment forgotten first was (rows_of p next) old.nodes.items new.nodes.items shape.conditions step.deltas given made (rows_made p next distinct_now) leads standing beside step.nodes step.stepped).stand;
   }

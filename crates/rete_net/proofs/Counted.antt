@@ -76,7 +76,7 @@ module _ (p : Program) (nodes : List NetNode) (ends : List ℕ) (net : IsNetOf p
   Before k q = (parent : ℕ) → (up : (n : NetNode) × (slice_get nodes parent ≡ Some n)) → parent < k → (take q (net.conditions parent) ≡ [] → ⊥) → Listed (take q (net.conditions parent))
 
   -- each front of a node's conditions is that of a node, unless it is empty
-  fronts_within : (bound k q : ℕ) (n : NetNode) → k < bound → slice_get nodes k ≡ Some n → (take q (net.conditions k) ≡ [] → ⊥)
+  pub fronts_within : (bound k q : ℕ) (n : NetNode) → k < bound → slice_get nodes k ≡ Some n → (take q (net.conditions k) ≡ [] → ⊥)
       → (j : ℕ) × (j < length nodes) × (net.conditions j ≡ take q (net.conditions k))
   fronts_within zero k q n h e some = absurd (omega arith)
   fronts_within (suc bound) k q n h e some = by (λ parent up lt none. fronts_within bound parent q up.0 (omega (arith, lt)) up.1 none) (nat_lt q (length (net.conditions k))) refl

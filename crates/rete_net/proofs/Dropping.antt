@@ -30,6 +30,7 @@ use Rattle.rete_net.specs.Dropped.{AreOld, IsForgetting, NodeForgets, dropped_at
 use Rattle.rete_net.specs.declared.answered.Answered.{Answered}
 use Rattle.rete_net.specs.Answers.{given as kept, some_answer, answer_in}
 use Rattle.rete_net.specs.Indexes.{IsIndexOf}
+use Rattle.rete_net.specs.Owners.{AreOwners}
 use Rattle.rete_net.specs.Nets.{HaveSame, NodesStand, NetStands}
 use Rattle.rete_net.specs.Standing.{NetNodeStands}
 use Rattle.rete_net.specs.Schedules.{AreScheduled}
@@ -168,21 +169,24 @@ module _ (p : Program) (look : Look) (s : Snapshot) (forgotten old : Named → B
         subst (λ (c : Condition). candidates_of p (pattern_of c) a who ≡ candidates_of p (pattern_of c) b who) (sym o.2) (is.same_candidates k o.0 o.1 who);
   }
 
-  abbrev nodes_now : IsIndexOf new.nodes.items new.ends.items new.index → AreScheduled p new.nodes.items new.schedule → NodesStand p new was (either forgotten old)
-  nodes_now indexed scheduled = record {
+  abbrev nodes_now : IsIndexOf new.nodes.items new.ends.items new.index → AreScheduled p new.nodes.items new.schedule
+      → AreOwners p stands.nodes.shape.conditions (length new.nodes.items) new.owners.items → NodesStand p new was (either forgotten old)
+  nodes_now indexed scheduled owned = record {
     shape = net_again p net.nodes.items new.nodes.items net.ends.items new.ends.items ends (forgetting_nodes p look old net.nodes.items new.nodes.items dropped same forgot) stands.nodes.shape;
     indexed = indexed;
     scheduled = scheduled;
+    owned = owned;
     nodes = now.stand;
   }
 
-  pub net_forgets : IsIndexOf new.nodes.items new.ends.items new.index → AreScheduled p new.nodes.items new.schedule → NetStands p new s (either forgotten old)
-  net_forgets indexed scheduled = record {
+  pub net_forgets : IsIndexOf new.nodes.items new.ends.items new.index → AreScheduled p new.nodes.items new.schedule
+      → AreOwners p stands.nodes.shape.conditions (length new.nodes.items) new.owners.items → NetStands p new s (either forgotten old)
+  net_forgets indexed scheduled owned = record {
     seen = stands.seen;
     begun = stands.begun;
     later = stands.later;
     kept = stands.kept;
-    nodes = nodes_now indexed scheduled;
+    nodes = nodes_now indexed scheduled owned;
     unchanged = still_same s was stands.unchanged;
     quiet = λ clock later low before kept. still_same (at_clock s clock) was (stands.quiet clock later low (subst (λ (at : Option ℤ). IsBefore at clock) until before) kept);
   }

@@ -230,16 +230,6 @@ module _ (p : Program) (nodes : List NetNode) (origins : List Origin) (all more 
     passes_at (has_window p) rule.conditions i condition windows (slice_get-get_or rule.conditions i condition within ∙ ap Some (sym item)),
   )
 
-  pub chain_on : (yet : List (List Condition)) → i < length rule.conditions → condition ≡ get_or rule.conditions i condition
-      → AreGrown p nodes origins ((all ++ more) ++ yet) → slice_get ((all ++ more) ++ yet) place ≡ Some (take i rule.conditions ++ condition ∷ [])
-      → (x : List (List Condition)) × AreGrown p nodes origins (all ++ x) × IsParent (all ++ x) (Some place) (take (i + 1) rule.conditions)
-  chain_on yet within item grown at = (
-    more ++ yet,
-    subst (AreGrown p nodes origins) (append_assoc all more yet) grown,
-    ap (λ (xs : List (List Condition)). slice_get xs place) (sym (append_assoc all more yet)) ∙ at
-        ∙ ap Some (ap (λ (c : Condition). take i rule.conditions ++ c ∷ []) item ∙ sym (take_more rule.conditions i condition within)),
-  )
-
 -- ---- one rule more
 
 module _ (all more : List (List Condition)) (ends : List ℕ) (rules : List Rule) (rule : Rule) (last : Option ℕ) (i : ℕ) (have : HaveEnds all ends rules i) (count : length ends ≡ i)

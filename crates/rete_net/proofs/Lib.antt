@@ -28,3 +28,5 @@ mod Scheduling
 mod Walking
 mod Steady
 mod Telling
+pub mod Owning
+pub mod Counting

@@ -25,6 +25,7 @@ use Rattle.rete_net.specs.declared.net.Rete.{Rete}
 use Rattle.rete_net.specs.declared.node.NetNode.{NetNode}
 use Rattle.rete_net.specs.Forgetting.{AreNotNeeded}
 use Rattle.rete_net.specs.Indexes.{IsIndexOf}
+use Rattle.rete_net.specs.Owners.{AreOwners}
 use Rattle.rete_net.specs.Nets.{HaveSame, NodesStand, NetStands, clean_rows, AreBetween}
 use Rattle.rete_net.specs.Quiet.{AreQuiet}
 use Rattle.rete_net.specs.Steps.{no_change, NetStep}
@@ -125,11 +126,12 @@ module _ (p : Program) (look : Look) (s next : Snapshot) (gone : List Fact) (com
   listed : (place : ℕ) (rule : Rule) → slice_get p.rules place ≡ Some rule → cleaned (rows_of p was rule.conditions) forgotten ≡ has (clean_rows p s forgotten rule)
   listed place rule e = sym (rule_rows p old was s was forgotten stands.nodes stands.unchanged place rule e) ∙ sym (has_clean (rows p s rule.conditions) forgotten)
 
-  pub net_stands : AreQuiet p new.nodes.items new.quiet_until → IsIndexOf new.nodes.items new.ends.items new.index → AreScheduled p new.nodes.items new.schedule → NetStands p new next forgotten
-  net_stands quiet indexed scheduled =
+  pub net_stands : AreQuiet p new.nodes.items new.quiet_until → IsIndexOf new.nodes.items new.ends.items new.index → AreScheduled p new.nodes.items new.schedule
+      → AreOwners p stands.nodes.shape.conditions (length new.nodes.items) new.owners.items → NetStands p new next forgotten
+  net_stands quiet indexed scheduled owned =
       seen_now p new next forgotten
       (stands_now p look was next gone come moment forgotten no_change (rows_of p was) (clean_rows p s forgotten) old new stands.nodes.shape answers from_seen made (first_stays p was next forgotten) standing beside
-      same step listed indexed scheduled)
+      same step listed indexed scheduled owned)
       moves.after (onward (pos 0) stands.seen next.clock stands.begun from_seen.moves.clock) quiet
 
   pub net_between : IsRunnable p → AreBetween p (clean_rows p s forgotten) (clean_rows p next forgotten) answers

@@ -36,6 +36,7 @@ use Rattle.rete_net.specs.declared.node.NetNode.{NetNode}
 use Rattle.rete_net.specs.Indexes.{IsIndexOf}
 use Rattle.rete_net.specs.Nets.{NodesStand, NetStands, AreBetween}
 use Rattle.rete_net.specs.Forgetting.{CountsNone}
+use Rattle.rete_net.specs.Owners.{AreOwners, AreOwnedSoFar}
 use Rattle.rete_net.specs.Quiet.{AreQuiet}
 use Rattle.rete_net.specs.Schedules.{AreScheduled}
 use Rattle.rete_net.specs.Shapes.{before, EndsAt, IsFront, IsNetOf, StandOnce}
@@ -195,21 +196,34 @@ module _ (p : Program) (net : Rete) (all : List (List Condition)) (built : AreBu
   pub built_shape : IsNetOf p net.nodes.items net.ends.items
   built_shape = shape
 
+  pub built_owned : (rules : ℕ) → AreOwnedSoFar p all net.owners.items rules [] 0 → AreOwners p conditions (length net.nodes.items) net.owners.items
+  built_owned rules so = record {
+    count = so.count ∙ sym built.length;
+    each = λ k o e.
+        let within : k < length net.owners.items = slice_get_within net.owners.items k o e in
+        let count = so.count in
+        let many = built.length in
+        so.each k (conditions k) o (listed k (omega arith)) e;
+    rising = so.rising;
+  }
+
   module _ (moment : Moment) (is_at : IsAt empty_snapshot moment) (new : Rete) (answers : List RuleChange) (same : new.ends.items ≡ net.ends.items)
       (step : NetStep p no_facts [] None moment empty_row_comes net.nodes.items new.nodes.items net.ends.items answers) where
-    nodes_now : IsIndexOf new.nodes.items new.ends.items new.index → AreScheduled p new.nodes.items new.schedule → (forgotten : Named → Bool) → NodesStand p new empty_snapshot forgotten
-    nodes_now indexed scheduled forgotten =
+    nodes_now : IsIndexOf new.nodes.items new.ends.items new.index → AreScheduled p new.nodes.items new.schedule
+        → AreOwners p conditions (length new.nodes.items) new.owners.items → (forgotten : Named → Bool) → NodesStand p new empty_snapshot forgotten
+    nodes_now indexed scheduled owned forgotten =
         stands_now p no_facts empty_snapshot empty_snapshot [] None moment forgotten empty_row_comes nothing (λ rule. []) net new shape answers (starts p moment is_at forgotten) (nothing_made p empty_snapshot) (first_comes p forgotten)
-        (standing forgotten) (λ k n e. beside p forgotten (condition_of n.node) (before conditions n.parent)) same step (λ place rule e. refl) indexed scheduled
+        (standing forgotten) (λ k n e. beside p forgotten (condition_of n.node) (before conditions n.parent)) same step (λ place rule e. refl) indexed scheduled owned
 
     pub built_net : IsNetOf p new.nodes.items new.ends.items
     built_net =
         shape_now p no_facts empty_snapshot empty_snapshot [] None moment no_names empty_row_comes nothing (λ rule. []) net new shape answers (starts p moment is_at no_names) (nothing_made p empty_snapshot) (first_comes p no_names)
         (standing no_names) (λ k n e. beside p no_names (condition_of n.node) (before conditions n.parent)) same step (λ place rule e. refl)
 
-    pub built_stands : AreQuiet p new.nodes.items new.quiet_until → IsIndexOf new.nodes.items new.ends.items new.index → AreScheduled p new.nodes.items new.schedule → (forgotten : Named → Bool) → NetStands p new empty_snapshot forgotten
-    built_stands quiet indexed scheduled forgotten =
-        seen_now p new empty_snapshot forgotten (nodes_now indexed scheduled forgotten) (kept p) (standstill (pos 0)) quiet
+    pub built_stands : AreQuiet p new.nodes.items new.quiet_until → IsIndexOf new.nodes.items new.ends.items new.index → AreScheduled p new.nodes.items new.schedule
+        → AreOwners p conditions (length new.nodes.items) new.owners.items → (forgotten : Named → Bool) → NetStands p new empty_snapshot forgotten
+    built_stands quiet indexed scheduled owned forgotten =
+        seen_now p new empty_snapshot forgotten (nodes_now indexed scheduled owned forgotten) (kept p) (standstill (pos 0)) quiet
 
     pub built_between : IsRunnable p → AreBetween p (λ rule. []) (λ rule. rows p empty_snapshot rule.conditions) answers
     built_between runnable =

@@ -275,6 +275,7 @@ module _ (p : Program) (net : Rete) (s : Snapshot) (forgotten : Named → Bool) 
     shape = stands.nodes.shape;
     indexed = stands.nodes.indexed;
     scheduled = stands.nodes.scheduled;
+    owned = stands.nodes.owned;
     nodes = node_now;
   }
 

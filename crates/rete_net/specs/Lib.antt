@@ -5,6 +5,7 @@ pub mod Standing
 pub mod Quiet
 pub mod Timers
 pub mod Schedules
+pub mod Owners
 pub mod Nets
 pub mod Forgetting
 pub mod Answers

@@ -1,5 +1,5 @@
 -- For which snapshot a network stands, where some facts have been forgotten, and what it answers.
-use Rattle.std.specs.Prelude.{◌≡◌, ◌==◌, ◌≤ℤ◌, ◌<ℤ◌, ◌^◌, pos, ℕ, ℤ, Bool, false, cond, List, [], ◌∷◌, map, Option, Some, None, slice_get}
+use Rattle.std.specs.Prelude.{◌≡◌, ◌==◌, ◌≤ℤ◌, ◌<ℤ◌, ◌^◌, pos, ℕ, ℤ, Bool, false, cond, List, [], ◌∷◌, map, length, Option, Some, None, slice_get}
 use Rattle.std.specs.List.{filter}
 use Rattle.std.specs.List.Sorted.{IsStrictlySortedBy}
 use Rattle.std.specs.Ordering.{nat_cmp}
@@ -23,6 +23,7 @@ use Rattle.rete_net.specs.declared.changes.RuleChange.{RuleChange}
 use Rattle.rete_net.specs.declared.node.NetNode.{NetNode}
 use Rattle.rete_net.specs.declared.net.Rete.{Rete}
 use Rattle.rete_net.specs.Indexes.{IsIndexOf}
+use Rattle.rete_net.specs.Owners.{AreOwners}
 use Rattle.rete_net.specs.Schedules.{AreScheduled}
 use Rattle.rete_net.specs.Standing.{NetNodeStands}
 use Rattle.rete_net.specs.Shapes.{before, IsNetOf}
@@ -32,6 +33,7 @@ pub record NodesStand (p : Program) (net : Rete) (s : Snapshot) (forgotten : Nam
   pub shape : IsNetOf p net.nodes.items net.ends.items
   pub indexed : IsIndexOf net.nodes.items net.ends.items net.index
   pub scheduled : AreScheduled p net.nodes.items net.schedule
+  pub owned : AreOwners p shape.conditions (length net.nodes.items) net.owners.items
   pub nodes : (k : ℕ) (n : NetNode) → slice_get net.nodes.items k ≡ Some n → NetNodeStands p n s (rows_of p s (before shape.conditions n.parent)) forgotten
 
 -- The nodes have the same before them in both snapshots: the conditions of each have the same rows that name no forgotten fact, and its

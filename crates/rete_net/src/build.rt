@@ -1,6 +1,5 @@
-ghost use Rattle.std.specs.Prelude.{◌≡◌, ◌↔◌, ◌∷◌, ◌++◌, ℕ, true, IfOk, IfSome, IsNone, IsTrue, List, [], Some, slice_get};
+ghost use Rattle.std.specs.Prelude.{◌≡◌, ◌↔◌, ◌∷◌, ◌++◌, ◌+◌, ◌<◌, ◌≤◌, ℕ, true, length, IfOk, IfSome, IsNone, IsTrue, List, [], Some, slice_get};
 ghost use Rattle.std.specs.List.{list_all};
-ghost use Rattle.fx_base.specs.Lists.{In};
 ghost use Rattle.row_delta.specs.declared.delta.Delta.{Delta};
 ghost use Rattle.rule_model.specs.declared.condition.Condition.{Condition};
 ghost use Rattle.rule_model.specs.declared.program.Program.{Program as ProgramData};
@@ -8,12 +7,13 @@ ghost use Rattle.rule_model.specs.Rows.{pattern_of};
 ghost use Rattle.rule_world.specs.Programs.{IsRunnable, has_window};
 ghost use Rattle.rete_net.specs.declared.build.Origin.{Origin as OriginData};
 ghost use Rattle.rete_net.specs.Building.{AreGrown, IsParent};
+ghost use Rattle.rete_net.specs.Owners.{AreOwnedSoFar, PutsOwner};
 ghost use Rattle.rete_net.specs.Shapes.{IsFront};
 ghost use Rattle.rete_net.specs.Steps.{no_change, empty_row_comes};
 
 use crate::node::NetNode;
 use crate::sameness::Same;
-use fx_base::{Fact, Facts, NoMemory, Seq, Tag};
+use fx_base::{Fact, Facts, NoMemory, RuleId, Seq, Tag};
 use row_delta::{Delta, Row};
 use rule_model::{Condition, Program, Rule};
 use std::alloc::Global;
@@ -72,10 +72,32 @@ impl Origin<'_> {
     }
 }
 
-/// The nodes of a network that is being built, each behind its parent, and where each comes from.
+/// Under which rule, and at which of its conditions, what a node counts beyond its candidates is told: of the rules that share the
+/// conditions up to that one the first.
+#[derive(Clone, Copy)]
+pub(crate) struct Owner {
+    pub(crate) rule: RuleId,
+    pub(crate) condition: u8,
+}
+
+impl Owner {
+    // The next condition of the rule. Takes no memory.
+    fn next(self) -> Owner
+        ensures rule { result.rule ≡ self.rule }
+        ensures condition { self.condition < 255 → result.condition ≡ self.condition + 1 }
+    {
+        Owner {
+            rule: self.rule,
+            condition: self.condition.saturating_add(1),
+        }
+    }
+}
+
+/// The nodes of a network that is being built, each behind its parent, their owners, and where each comes from.
 #[derive(Drop)]
 pub(crate) struct Builder<'p> {
     pub(crate) nodes: Vec<NetNode>,
+    pub(crate) owners: Vec<Owner>,
     origins: Vec<Origin<'p>>,
 }
 
@@ -96,45 +118,57 @@ fn place_of(origins: &[Origin], parent: Option<usize>, condition: &Condition) ->
 impl<'p> Builder<'p> {
     /// No nodes. Takes no memory.
     pub(crate) fn new(alloc: Global) -> Builder<'p>
-        ensures { (p : ProgramData) → AreGrown p result.nodes.items result.origins.items [] }
+        ensures grown { (p : ProgramData) → AreGrown p result.nodes.items result.origins.items [] }
+        ensures owned { (p : ProgramData) → AreOwnedSoFar p [] result.owners.items 0 [] 0 }
     {
         Builder {
             nodes: Vec::new(alloc),
+            owners: Vec::new(alloc),
             origins: Vec::new(alloc),
         }
     }
 
-    /// Puts the nodes of a rule's conditions, each behind the one before it, and answers the last one; `None` where there is no
+    /// Puts the nodes of the conditions of the rule in a place, each behind the one before it, and answers the last one; `None` where there is no
     /// condition. Of first conditions that are there it takes the nodes that are there. For each condition it looks at all nodes.
     pub(crate) fn put_chain(
         &mut self,
         alloc: Global,
         program: &Program,
         rule: &'p Rule,
+        place: RuleId,
     ) -> Result<Option<usize>, NoMemory>
         ensures { IfOk result (λ last. (all : List (List Condition)) → AreGrown program.now self.old.nodes.items self.old.origins.items all
-            → In rule.now program.now.rules → list_all (has_window program.now) rule.now.conditions ≡ true
-            → (more : List (List Condition)) × AreGrown program.now self.new.nodes.items self.new.origins.items (all ++ more) × IsParent (all ++ more) last rule.now.conditions) }
+            → slice_get program.now.rules place.0 ≡ Some rule.now → length rule.now.conditions ≤ 8 → list_all (has_window program.now) rule.now.conditions ≡ true
+            → AreOwnedSoFar program.now all self.old.owners.items place.0 [] 0
+            → (more : List (List Condition)) × AreGrown program.now self.new.nodes.items self.new.origins.items (all ++ more) × IsParent (all ++ more) last rule.now.conditions
+            × AreOwnedSoFar program.now (all ++ more) self.new.owners.items place.0 rule.now.conditions (length rule.now.conditions)) }
     {
         let mut last = None;
+        let mut owner = Owner {
+            rule: place,
+            condition: 0,
+        };
         for condition in rule.conditions.as_slice() {
-            let place = self.put(alloc, program, last, condition)?;
+            let place = self.put(alloc, program, last, condition, owner)?;
             last = Some(place);
+            owner = owner.next();
         }
         Ok(last)
     }
 
-    // The place of the node of a condition behind a parent: of the one that is there, or else of a new one.
+    // The place of the node of a condition behind a parent: of the one that is there, or else of a new one with this owner.
     fn put(
         &mut self,
         alloc: Global,
         program: &Program,
         parent: Option<usize>,
         condition: &'p Condition,
+        owner: Owner,
     ) -> Result<usize, NoMemory>
         ensures { IfOk result (λ place. (all : List (List Condition)) (front : List Condition) → AreGrown program.now self.old.nodes.items self.old.origins.items all
             → IsParent all parent front → IsFront program.now (front ++ condition.now ∷ []) → has_window program.now condition.now ≡ true
-            → (more : List (List Condition)) × AreGrown program.now self.new.nodes.items self.new.origins.items (all ++ more) × (slice_get (all ++ more) place ≡ Some (front ++ condition.now ∷ []))) }
+            → (more : List (List Condition)) × AreGrown program.now self.new.nodes.items self.new.origins.items (all ++ more) × (slice_get (all ++ more) place ≡ Some (front ++ condition.now ∷ []))
+            × PutsOwner all more (front ++ condition.now ∷ []) owner self.old.owners.items self.new.owners.items) }
     {
         match place_of(&self.origins, parent, condition) {
             Some(place) => Ok(place),
@@ -142,6 +176,7 @@ impl<'p> Builder<'p> {
                 let place = self.nodes.len();
                 let node = NetNode::new(alloc, program, parent, condition)?;
                 self.nodes.push(node)?;
+                self.owners.push(owner)?;
                 self.origins.push(Origin { parent, condition })?;
                 Ok(place)
             }

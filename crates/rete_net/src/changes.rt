@@ -19,8 +19,8 @@ pub struct RuleChange {
     pub delta: Delta,
 }
 
-// The rule in a place.
-fn rule_in(place: usize) -> RuleId
+/// The rule in a place. Takes no memory.
+pub(crate) fn rule_in(place: usize) -> RuleId
     ensures { place < 2 ^ 16 → result.0 ≡ place }
 {
     RuleId(u16::try_from(place).unwrap_or(u16::MAX))

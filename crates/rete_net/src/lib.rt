@@ -7,6 +7,7 @@ mod answered;
 mod build;
 mod changes;
 mod due;
+mod extras;
 mod forgetting;
 mod index;
 pub mod laws;

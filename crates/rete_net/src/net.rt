@@ -22,6 +22,7 @@ ghost use Rattle.rete_net.specs.Forgetting.{AreNotNeeded};
 ghost use Rattle.rete_net.specs.Indexes.{IsIndexOf};
 ghost use Rattle.rete_net.specs.Nets.{NetStands, clean_rows, AreBetween};
 ghost use Rattle.rete_net.specs.Building.{AreBuilt, AreDistinct, AreFronts, HaveEnds};
+ghost use Rattle.rete_net.specs.Owners.{AreOwnedSoFar};
 ghost use Rattle.rete_net.specs.Quiet.{AreQuiet};
 ghost use Rattle.rete_net.specs.Schedules.{AreScheduled};
 ghost use Rattle.rete_net.specs.Shapes.{CountsFronts, IsNetOf};
@@ -29,8 +30,8 @@ ghost use Rattle.rete_net.specs.Steps.{NetStep};
 ghost use Rattle.rete_net.specs.Walks.{HasAnswered, IsReplaced, IsWired};
 
 use crate::answered::Answered;
-use crate::build::{Builder, NoFacts, empty_row_comes, no_change};
-use crate::changes::{RuleChange, changes_of};
+use crate::build::{Builder, NoFacts, Owner, empty_row_comes, no_change};
+use crate::changes::{RuleChange, changes_of, rule_in};
 use crate::due::{first_below, put_reached};
 use crate::forgetting::{RuleRows, put_dropped, rows_of_rules, with_old};
 use crate::index::Index;
@@ -48,8 +49,9 @@ use std::alloc::Global;
 /// something is due in a gate or a node. Until then a move of the clock alone changes nothing; without such a moment it never does. After a call that was refused memory it is to be given up.
 #[derive(Drop)]
 pub struct Rete {
-    nodes: Vec<NetNode>,
+    pub(crate) nodes: Vec<NetNode>,
     ends: Vec<usize>,
+    pub(crate) owners: Vec<Owner>,
     index: Index,
     schedule: Schedule,
     quiet_until: Option<i128>,
@@ -158,12 +160,13 @@ impl Rete {
         ensures indexed { IfOk result (λ net. IsIndexOf net.nodes.items net.ends.items net.index) }
         ensures scheduled { IfOk result (λ net. AreScheduled program.now net.nodes.items net.schedule) }
         ensures built { IfOk result (λ net. IsRunnable program.now → (all : List (List Condition)) × AreBuilt program.now net.nodes.items all × HaveEnds all net.ends.items program.now.rules (length program.now.rules)
-            × AreFronts program.now all × AreDistinct all × (length net.ends.items ≡ length program.now.rules)) }
+            × AreFronts program.now all × AreDistinct all × (length net.ends.items ≡ length program.now.rules)
+            × AreOwnedSoFar program.now all net.owners.items (length program.now.rules) [] 0) }
     {
         let mut builder = Builder::new(alloc);
         let mut ends = Vec::with_capacity(alloc, program.rules.as_slice().len())?;
         for rule in program.rules.as_slice() {
-            let last = builder.put_chain(alloc, program, rule)?;
+            let last = builder.put_chain(alloc, program, rule, rule_in(ends.len()))?;
             ends.push(last.unwrap_or(0))?;
         }
         let index = Index::of(alloc, &builder.nodes, &ends)?;
@@ -171,6 +174,7 @@ impl Rete {
         Ok(Rete {
             nodes: builder.nodes,
             ends,
+            owners: builder.owners,
             index,
             schedule,
             quiet_until: None,
@@ -186,6 +190,7 @@ impl Rete {
         facts: &F,
     ) -> Result<Answered<Seq<Row>>, NoMemory>
         ensures ends { OnOk result (self.new.ends ≡ self.old.ends) }
+        ensures owners { OnOk result (self.new.owners ≡ self.old.owners) }
         ensures index { OnOk result (self.new.index ≡ self.old.index) }
         ensures quiet { OnOk result (self.new.quiet_until ≡ self.old.quiet_until) }
         ensures replaced { OnOk result (IsReplaced self.old.nodes.items self.new.nodes.items) }
@@ -221,6 +226,7 @@ impl Rete {
         facts: &F,
     ) -> Result<Vec<RuleChange>, NoMemory>
         ensures ends { OnOk result (self.new.ends.items ≡ self.old.ends.items) }
+        ensures owners { OnOk result (self.new.owners ≡ self.old.owners) }
         ensures quiet { OnOk result (AreScheduled program.now self.old.nodes.items self.old.schedule → AreQuiet program.now self.new.nodes.items self.new.quiet_until) }
         ensures scheduled { OnOk result (AreScheduled program.now self.old.nodes.items self.old.schedule → AreScheduled program.now self.new.nodes.items self.new.schedule) }
         ensures replaced { OnOk result (IsReplaced self.old.nodes.items self.new.nodes.items) }
@@ -248,6 +254,7 @@ impl Rete {
         facts: &F,
     ) -> Result<Answered<Delta>, NoMemory>
         ensures ends { OnOk result (self.new.ends ≡ self.old.ends) }
+        ensures owners { OnOk result (self.new.owners ≡ self.old.owners) }
         ensures index { OnOk result (self.new.index ≡ self.old.index) }
         ensures replaced { OnOk result (IsReplaced self.old.nodes.items self.new.nodes.items) }
         ensures scheduled { OnOk result (AreScheduled program.now self.old.nodes.items self.old.schedule → AreScheduled program.now self.new.nodes.items self.new.schedule) }

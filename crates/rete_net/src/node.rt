@@ -1,12 +1,19 @@
-ghost use Rattle.std.specs.Prelude.{◌≡◌, ℤ, true, option_map, IfOk, IsTrue};
+ghost use Rattle.std.specs.Prelude.{◌≡◌, ℤ, Bool, true, option_map, IfOk, IsTrue};
 ghost use Rattle.row_delta.specs.declared.delta.Delta.{Delta as DeltaData};
+ghost use Rattle.row_delta.specs.declared.row.Named.{Named as NamedData};
+ghost use Rattle.row_delta.specs.declared.row.Row.{Row as RowData};
 ghost use Rattle.row_change.specs.Changes.{changes_nothing};
+ghost use Rattle.rule_model.specs.declared.program.Program.{Program as ProgramData};
+ghost use Rattle.rule_model.specs.Distinct.{HaveDistinctTags};
+ghost use Rattle.rule_model.specs.Snapshots.{Snapshot};
 ghost use Rattle.rule_model.specs.Lent.{lent};
 ghost use Rattle.join_tests.specs.Joins.{Look};
 ghost use Rattle.pair_memory.specs.Joined.{has_name};
 ghost use Rattle.rule_model.specs.Rows.{pattern_of};
 ghost use Rattle.pattern_gate.specs.Turns.{is_meant};
-ghost use Rattle.condition_node.specs.Nodes.{condition_of, is_negated};
+ghost use Rattle.condition_rows.specs.Looks.{HasAllOf, NameHeld};
+ghost use Rattle.condition_node.specs.Loading.{AreExtrasBeside};
+ghost use Rattle.condition_node.specs.Nodes.{condition_of, is_negated, NodeStands};
 ghost use Rattle.condition_node.specs.Quiet.{IsBefore};
 ghost use Rattle.rete_net.specs.Dropped.{NodeForgets};
 ghost use Rattle.rete_net.specs.Indexes.{is_timed, type_of};
@@ -16,13 +23,13 @@ ghost use Rattle.rete_net.specs.Schedules.{entry_of, IsGateStill, IsStillAt};
 ghost use Rattle.rete_net.specs.Timers.{IsFrom};
 ghost use Rattle.rete_net.specs.Steps.{no_change, NodeStep};
 
-use crate::build::no_change;
+use crate::build::{Owner, no_change};
 use crate::quiet::{earlier, widened};
 use condition_node::Node;
 use fx_base::{EntryId, Fact, Facts, NoMemory, Seq, TypeId};
 use pattern_gate::PatternGate;
 use row_change::changes_nothing;
-use row_delta::{Delta, Named, Row};
+use row_delta::{Delta, Extra, Named, Row};
 use rule_model::{Condition, Moment, Program};
 use std::alloc::Global;
 
@@ -145,6 +152,21 @@ impl NetNode {
     {
         let gone = self.node.forget(alloc, program, rows, old, facts)?;
         Ok(gone)
+    }
+
+    /// What it counts or gathers of forgotten facts beside rows before it that name none, under this owner, in the order of the rows.
+    pub(crate) fn extras<F: Facts>(
+        &self,
+        alloc: Global,
+        owner: Owner,
+        facts: &F,
+    ) -> Result<Vec<Extra>, NoMemory>
+        ensures { IfOk result (λ extras. (p : ProgramData) (s : Snapshot) (rows : RowData → Bool) (forgotten : NamedData → Bool)
+            → HaveDistinctTags s.facts → HasAllOf (F.map facts.now) s forgotten → NameHeld s rows → NodeStands p self.now.node (F.map facts.now) s rows forgotten
+            → AreExtrasBeside p (condition_of self.now.node) s rows forgotten owner.rule owner.condition extras.items) }
+    {
+        let extras = self.node.extras(alloc, owner.rule, owner.condition, facts)?;
+        Ok(extras)
     }
 
     /// The moment of the clock, in milliseconds, from which something is due in the gate or the node: until then a move of the

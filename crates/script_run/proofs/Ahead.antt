@@ -1,5 +1,5 @@
 -- The outcome of the lines ahead, line by line, against what was written and what is gathered.
-use Rattle.std.proofs.Common.{◌≡◌, ◌≢◌, ◌⊎◌, inl, inr, ◌<◌, ◌≤◌, ◌+◌, ◌^◌, ◌++◌, ◌||◌, ℕ, Bool, List, [], ◌∷◌, length, take, drop, Option, Some, None, Result, Ok, Err, option_map, refl, sym, ap, subst, ◌∙◌, append_assoc, arith}
+use Rattle.std.proofs.Common.{◌≡◌, ◌≢◌, ◌⊎◌, inl, inr, ◌<◌, ◌≤◌, ◌+◌, ◌^◌, ◌++◌, ◌||◌, ℕ, Bool, List, [], ◌∷◌, length, take, drop, Option, Some, None, Result, Ok, Err, option_map, refl, sym, ap, ap₂, subst, ◌∙◌, append_assoc, arith}
 use Rattle.std.specs.Prelude.{IfSome, OnErr}
 use Rattle.std.proofs.lemmas.Grind.{flat_map-append}
 use Rattle.std.proofs.lemmas.List.{append-nil, length-append, take_at, take-append-drop}
@@ -12,9 +12,10 @@ use Rattle.fx_io.proofs.Told.{append-append, prepend-prepend, prepend-nil}
 use Rattle.fx_io.proofs.Ahead.{answers_ahead}
 use Rattle.rule_world.specs.Worlds.{World}
 use Rattle.script_run.specs.declared.turn.Turn.TheVariants.{Goes, Stops}
+use Rattle.script_run.specs.declared.turn.Progress.{Progress}
 use Rattle.script_run.specs.declared.turn.Ended.{Ended}
 use Rattle.script_run.specs.declared.turn.Ended.TheVariants.{Script, Limit}
-use Rattle.script_run.specs.Run.{RunSetting, Outcome, Done, LineEffect, goes_on, stops, run, then_run, at_limit, line_step}
+use Rattle.script_run.specs.Run.{RunSetting, RunState, Outcome, Done, LineEffect, goes_on, stops, run, then_run, at_limit, at_end, state_in, state_after, progress_after, step_in}
 use Rattle.script_run.specs.Turns.{Does, Flushes}
 use Rattle.script_run.specs.Unfinished.{Long, StoppedAtRead, ended_lines}
 
@@ -22,40 +23,33 @@ use Rattle.script_run.specs.Unfinished.{Long, StoppedAtRead, ended_lines}
 abbrev pub Rest : Type 0
 Rest = List (List ℕ) → Outcome
 
-abbrev made : Ended → List ℕ → Outcome
-made ended bytes = record { bytes = bytes; ended = ended }
-
-then_run-then_run : (a b : List ℕ) (o : Outcome) → then_run a (then_run b o) ≡ then_run (a ++ b) o
-then_run-then_run a b o = ap (made o.ended) (sym (append_assoc a b o.bytes))
+pub then_run-then_run : (a b : List ℕ) (o : Outcome) → then_run a (then_run b o) ≡ then_run (a ++ b) o
+then_run-then_run a b o = ap (λ (bytes : List ℕ). record o { bytes = bytes }) (sym (append_assoc a b o.bytes))
 
 -- no line
-pub run_ended : (setting : RunSetting) (number left : ℕ) (w : World) (faulted : Bool)
-    → run setting number left w faulted [] ≡ record { bytes = []; ended = Script faulted }
+pub run_ended : (setting : RunSetting) (s : RunState) → run setting s [] ≡ at_end s
 unfolding run
-run_ended setting number left w faulted = refl
+run_ended setting s = refl
 
 -- a line after which the run goes on
-run_goes : (setting : RunSetting) (number left : ℕ) (w : World) (faulted : Bool) (line : List ℕ) (done : Done)
-    → line_step setting number left w line ≡ goes_on done → (more : List (List ℕ))
-    → run setting number left w faulted (line ∷ more) ≡ then_run done.text (run setting (number + 1) done.left done.world (faulted || done.faulty) more)
+pub run_goes : (setting : RunSetting) (s : RunState) (line : List ℕ) (done : Done) → step_in setting s line ≡ goes_on done → (more : List (List ℕ))
+    → run setting s (line ∷ more) ≡ then_run done.text (run setting (state_after s done) more)
 unfolding run
-run_goes setting number left w faulted line done e more = rw e refl
+run_goes setting s line done e more = rw e refl
 
 -- a line at which the run ends
-run_stops : (setting : RunSetting) (number left : ℕ) (w : World) (faulted : Bool) (line text : List ℕ)
-    → line_step setting number left w line ≡ stops text → (more : List (List ℕ))
-    → run setting number left w faulted (line ∷ more) ≡ then_run text at_limit
+pub run_stops : (setting : RunSetting) (s : RunState) (line text : List ℕ) → step_in setting s line ≡ stops text → (more : List (List ℕ))
+    → run setting s (line ∷ more) ≡ then_run text at_limit
 unfolding run
-run_stops setting number left w faulted line text e more = rw e refl
+run_stops setting s line text e more = rw e refl
 
 some_is : {A : Type 0} (x y : A) → Some x ≡ Some y → x ≡ y
 some_is x y e = cc
 
 -- what is known of the run so far: the lines that were done, the front that was written, and behind it what is gathered; of the script the
 -- bytes ahead are left, and the lines were taken with their ends, or no line is ahead
-pub record SoFar (all now : Rest) (script ahead : Option (List ℕ)) (first written : Option (List ℕ)) (gathered : List ℕ) : Type 0 where
+pub record SoFar (all now : Rest) (script ahead : Option (List ℕ)) (first written : Option (List ℕ)) (front gathered : List ℕ) : Type 0 where
   pub done : List (List ℕ)
-  pub front : List ℕ
   pub written-is : written ≡ append first front
   pub script-is : option_map lines_of script ≡ option_map (λ more. done ++ more) (option_map lines_of ahead)
   pub ends : (script ≡ prepend (ended_lines done) ahead) ⊎ (option_map lines_of ahead ≡ Some [])
@@ -85,21 +79,20 @@ more_ends done line script before after e (inr over) (inl is) = inr over
 more_ends done line script before after e moved (inr over) = absurd (not_over line (option_map lines_of after) (sym over ∙ e))
 
 -- a line was done
-turned : {all now next : Rest} {script before after : Option (List ℕ)} {first written : Option (List ℕ)} (line text gathered gathered' : List ℕ)
-    → SoFar all now script before first written gathered
+turned : {all now next : Rest} {script before after : Option (List ℕ)} {first written : Option (List ℕ)} {front : List ℕ} (line text gathered gathered' : List ℕ)
+    → SoFar all now script before first written front gathered
     → option_map lines_of before ≡ with_line line (option_map lines_of after) → MovesOn line before after → gathered' ≡ gathered ++ text
     → ((more : List (List ℕ)) → now (line ∷ more) ≡ then_run text (next more))
-    → SoFar all next script after first written gathered'
-turned {all} {now} {next} {script} {before} {after} line text gathered gathered' h e moved g step = record {
+    → SoFar all next script after first written front gathered'
+turned {all} {now} {next} {script} {before} {after} {front = front} line text gathered gathered' h e moved g step = record {
   done = h.done ++ line ∷ [];
-  front = h.front;
   written-is = h.written-is;
   script-is = h.script-is ∙ ap (option_map (λ more. h.done ++ more)) e ∙ one_more h.done line (option_map lines_of after);
   ends = more_ends h.done line script before after e moved h.ends;
   all-is = λ more.
-      ap all (append_assoc h.done (line ∷ []) more) ∙ h.all-is (line ∷ more) ∙ ap (then_run (h.front ++ gathered)) (step more)
-      ∙ then_run-then_run (h.front ++ gathered) text (next more)
-      ∙ ap (λ (z : List ℕ). then_run z (next more)) (append_assoc h.front gathered text ∙ ap (λ (z : List ℕ). h.front ++ z) (sym g));
+      ap all (append_assoc h.done (line ∷ []) more) ∙ h.all-is (line ∷ more) ∙ ap (then_run (front ++ gathered)) (step more)
+      ∙ then_run-then_run (front ++ gathered) text (next more)
+      ∙ ap (λ (z : List ℕ). then_run z (next more)) (append_assoc front gathered text ∙ ap (λ (z : List ℕ). front ++ z) (sym g));
 }
 
 -- what a turn says: the line was done, and the engine stands for the world after it
@@ -119,80 +112,82 @@ stops_of stands (goes_on done) before after h = absurd (let e : Stops ≡ Goes d
 stops_of stands (stops text) before after h = (text, refl, h.0)
 
 -- the run goes on behind a line
-pub goes_further : {all : Rest} {script before after : Option (List ℕ)} {first written : Option (List ℕ)} (setting : RunSetting) (number left : ℕ) (w : World)
-    (faulted bad faulted' : Bool) (more : ℕ) (line gathered gathered' : List ℕ) (stands : World → Type 0)
-    → SoFar all (run setting number left w faulted) script before first written gathered
+pub goes_further : {all : Rest} {script before after : Option (List ℕ)} {first written : Option (List ℕ)} {front : List ℕ} (setting : RunSetting) (s : RunState) (bad : Bool) (left : ℕ)
+    (behind : Progress) (line gathered gathered' : List ℕ) (stands : World → Type 0)
+    → SoFar all (run setting s) script before first written front gathered
     → option_map lines_of before ≡ with_line line (option_map lines_of after) → MovesOn line before after
-    → Does stands (line_step setting number left w line) gathered gathered' (Goes bad more) → faulted' ≡ (faulted || bad)
-    → (v : World) × stands v × SoFar all (run setting (number + 1) more v faulted') script after first written gathered'
-goes_further {all} {script} {before} {after} {first} {written} setting number left w faulted bad faulted' more line gathered gathered' stands h e moved d f =
-    let g = goes_of stands (line_step setting number left w line) gathered gathered' bad more d in
-    let next : SoFar all (run setting (number + 1) g.0.left g.0.world (faulted || g.0.faulty)) script after first written gathered' =
-    turned line g.0.text gathered gathered' h e moved g.2 (run_goes setting number left w faulted line g.0 g.1) in
-    let same : (faulted || g.0.faulty) ≡ faulted' = ap (λ (b : Bool). faulted || b) (sym g.4) ∙ sym f in (
-      g.0.world,
-      g.3,
-      subst (λ (b : Bool). SoFar all (run setting (number + 1) more g.0.world b) script after first written gathered') same
-          (subst (λ (n : ℕ). SoFar all (run setting (number + 1) n g.0.world (faulted || g.0.faulty)) script after first written gathered') (sym g.5) next),
-    )
+    → Does stands (step_in setting s line) gathered gathered' (Goes bad left) → behind ≡ progress_after s.progress bad left
+    → (v : World) × stands v × SoFar all (run setting (state_in v behind)) script after first written front gathered'
+goes_further {all} {script} {before} {after} {first} {written} {front} setting s bad left behind line gathered gathered' stands h e moved d is =
+    let g = goes_of stands (step_in setting s line) gathered gathered' bad left d in
+    let next : SoFar all (run setting (state_after s g.0)) script after first written front gathered' =
+    turned line g.0.text gathered gathered' h e moved g.2 (run_goes setting s line g.0 g.1) in
+    let same : progress_after s.progress g.0.faulty g.0.left ≡ behind = ap₂ (progress_after s.progress) (sym g.4) (sym g.5) ∙ sym is in
+    (g.0.world, g.3, subst (λ (p : Progress). SoFar all (run setting (state_in g.0.world p)) script after first written front gathered') same next)
 
 -- the limit was met at a line: nothing more is done
-pub ends_there : {all : Rest} {script before after : Option (List ℕ)} {first written : Option (List ℕ)} (setting : RunSetting) (number left : ℕ) (w : World)
-    (faulted : Bool) (line gathered gathered' : List ℕ) (stands : World → Type 0)
-    → SoFar all (run setting number left w faulted) script before first written gathered
+pub ends_there : {all : Rest} {script before after : Option (List ℕ)} {first written : Option (List ℕ)} {front : List ℕ} (setting : RunSetting) (s : RunState)
+    (line gathered gathered' : List ℕ) (stands : World → Type 0)
+    → SoFar all (run setting s) script before first written front gathered
     → option_map lines_of before ≡ with_line line (option_map lines_of after) → MovesOn line before after
-    → Does stands (line_step setting number left w line) gathered gathered' Stops
-    → SoFar all (λ more. at_limit) script after first written gathered'
-ends_there setting number left w faulted line gathered gathered' stands h e moved d =
-    let g = stops_of stands (line_step setting number left w line) gathered gathered' d in
-    turned line g.0 gathered gathered' h e moved g.2 (run_stops setting number left w faulted line g.0 g.1)
+    → Does stands (step_in setting s line) gathered gathered' Stops
+    → SoFar all (λ more. at_limit) script after first written front gathered'
+ends_there setting s line gathered gathered' stands h e moved d =
+    let g = stops_of stands (step_in setting s line) gathered gathered' d in
+    turned line g.0 gathered gathered' h e moved g.2 (run_stops setting s line g.0 g.1)
 
 -- a front of what is gathered was written
-pub flushed : {all now : Rest} {script ahead : Option (List ℕ)} {first written : Option (List ℕ)} {gathered : List ℕ} (written' : Option (List ℕ)) (gathered' : List ℕ)
-    → SoFar all now script ahead first written gathered → Flushes written gathered written' gathered'
-    → SoFar all now script ahead first written' gathered'
-flushed {all} {now} {script} {ahead} {first} {written} {gathered} written' gathered' h f = record {
+pub flushed : {all now : Rest} {script ahead : Option (List ℕ)} {first written : Option (List ℕ)} {front gathered : List ℕ} (written' : Option (List ℕ)) (gathered' : List ℕ)
+    → SoFar all now script ahead first written front gathered → (f : Flushes written gathered written' gathered')
+    → SoFar all now script ahead first written' (front ++ take f.0 gathered) gathered'
+flushed {all} {now} {script} {ahead} {first} {written} {front} {gathered} written' gathered' h f = record {
   done = h.done;
-  front = h.front ++ take f.0 gathered;
-  written-is = f.2 ∙ ap (λ (z : Option (List ℕ)). append z (take f.0 gathered)) h.written-is ∙ append-append first h.front (take f.0 gathered);
+  written-is = f.2 ∙ ap (λ (z : Option (List ℕ)). append z (take f.0 gathered)) h.written-is ∙ append-append first front (take f.0 gathered);
   script-is = h.script-is;
   ends = h.ends;
   all-is = λ more. h.all-is more ∙ ap (λ (z : List ℕ). then_run z (now more))
-      (ap (λ (z : List ℕ). h.front ++ z) (sym (take-append-drop f.0 gathered)) ∙ sym (append_assoc h.front (take f.0 gathered) (drop f.0 gathered)) ∙ ap (λ (z : List ℕ). (h.front ++ take f.0 gathered) ++ z) (sym f.3));
+      (ap (λ (z : List ℕ). front ++ z) (sym (take-append-drop f.0 gathered)) ∙ sym (append_assoc front (take f.0 gathered) (drop f.0 gathered)) ∙ ap (λ (z : List ℕ). (front ++ take f.0 gathered) ++ z) (sym f.3));
 }
 
+-- what was written in two pieces
+pub written_then : (first written : Option (List ℕ)) (front : List ℕ) → written ≡ append first front → (more : List ℕ) → append written more ≡ append first (front ++ more)
+written_then first written front e more = ap (λ (z : Option (List ℕ)). append z more) e ∙ append-append first front more
+
+pub flushed_front : (first : Option (List ℕ)) {written written' : Option (List ℕ)} (front : List ℕ) {gathered gathered' : List ℕ} → written ≡ append first front → (f : Flushes written gathered written' gathered')
+    → written' ≡ append first (front ++ take f.0 gathered)
+flushed_front first {written} {written'} front {gathered} e f = f.2 ∙ written_then first written front e (take f.0 gathered)
+
 -- the lines that are ahead make the rest of the run
-whole : {all now : Rest} {script ahead : Option (List ℕ)} {first written : Option (List ℕ)} {gathered : List ℕ} (bytes : List ℕ)
-    → (h : SoFar all now script ahead first written gathered) → script ≡ Some bytes
-    → (more : List ℕ) × (ahead ≡ Some more) × (lines_of bytes ≡ h.done ++ lines_of more) × (all (lines_of bytes) ≡ then_run (h.front ++ gathered) (now (lines_of more)))
-whole {all} {now} {script} {ahead} {first} {written} {gathered} bytes h e = here ahead (ap (option_map lines_of) (sym e) ∙ h.script-is)
+whole : {all now : Rest} {script ahead : Option (List ℕ)} {first written : Option (List ℕ)} {front gathered : List ℕ} (bytes : List ℕ)
+    → (h : SoFar all now script ahead first written front gathered) → script ≡ Some bytes
+    → (more : List ℕ) × (ahead ≡ Some more) × (lines_of bytes ≡ h.done ++ lines_of more) × (all (lines_of bytes) ≡ then_run (front ++ gathered) (now (lines_of more)))
+whole {all} {now} {script} {ahead} {first} {written} {front} {gathered} bytes h e = here ahead (ap (option_map lines_of) (sym e) ∙ h.script-is)
   where
     here : (o : Option (List ℕ)) → Some (lines_of bytes) ≡ option_map (λ more. h.done ++ more) (option_map lines_of o)
-        → (more : List ℕ) × (o ≡ Some more) × (lines_of bytes ≡ h.done ++ lines_of more) × (all (lines_of bytes) ≡ then_run (h.front ++ gathered) (now (lines_of more)))
+        → (more : List ℕ) × (o ≡ Some more) × (lines_of bytes ≡ h.done ++ lines_of more) × (all (lines_of bytes) ≡ then_run (front ++ gathered) (now (lines_of more)))
     here None k = absurd cc
     here (Some more) k = let is = some_is _ _ k in (more, refl, is, ap all is ∙ h.all-is (lines_of more))
 
 -- nothing more is printed, and what was gathered is written: that is the outcome
-pub all_done : {all now : Rest} {ahead : Option (List ℕ)} {first written : Option (List ℕ)} {gathered : List ℕ} (script written' : Option (List ℕ)) (ended : Ended)
-    → SoFar all now script ahead first written gathered
-    → IfSome (option_map lines_of ahead) (λ more. now more ≡ record { bytes = []; ended = ended }) → written' ≡ append written gathered
-    → IfSome script (λ bytes. (ended ≡ (all (lines_of bytes)).ended) × (written' ≡ append first (all (lines_of bytes)).bytes))
-all_done None written' ended h over e = tt
-all_done {all} {now} {ahead} {first} {written} {gathered} (Some bytes) written' ended h over e =
+pub all_done : {all now : Rest} {ahead : Option (List ℕ)} {first written : Option (List ℕ)} {front gathered : List ℕ} (script : Option (List ℕ)) (last : Outcome) → last.bytes ≡ []
+    → SoFar all now script ahead first written front gathered
+    → IfSome (option_map lines_of ahead) (λ more. now more ≡ last)
+    → IfSome script (λ bytes. (front ++ gathered ≡ (all (lines_of bytes)).bytes) × (last.ended ≡ (all (lines_of bytes)).ended) × (last.comes_to ≡ (all (lines_of bytes)).comes_to))
+all_done None last none h over = tt
+all_done {all} {now} {ahead} {first} {written} {front} {gathered} (Some bytes) last none h over =
     let r = whole bytes h refl in
-    let last : now (lines_of r.0) ≡ record { bytes = []; ended = ended } = rw r.1 at over in
-    let is : all (lines_of bytes) ≡ record { bytes = (h.front ++ gathered) ++ []; ended = ended } = r.3 ∙ ap (then_run (h.front ++ gathered)) last in (
-      sym (ap (λ (o : Outcome). o.ended) is),
-      e ∙ ap (λ (z : Option (List ℕ)). append z gathered) h.written-is ∙ append-append first h.front gathered ∙ ap (append first) (sym (append-nil (h.front ++ gathered)) ∙ sym (ap (λ (o : Outcome). o.bytes) is)),
-    )
+    let over_so : now (lines_of r.0) ≡ last = rw r.1 at over in
+    let is : all (lines_of bytes) ≡ then_run (front ++ gathered) last = r.3 ∙ ap (then_run (front ++ gathered)) over_so in
+    let bytes_are : (all (lines_of bytes)).bytes ≡ front ++ gathered = ap (λ (o : Outcome). o.bytes) is ∙ ap (λ (z : List ℕ). (front ++ gathered) ++ z) none ∙ append-nil (front ++ gathered) in
+    (sym bytes_are, sym (ap (λ (o : Outcome). o.ended) is), sym (ap (λ (o : Outcome). o.comes_to) is))
 
 -- there was no line more
-pub no_line : (setting : RunSetting) (number left : ℕ) (w : World) (faulted : Bool) (ahead : Option (List (List ℕ))) → IfSome ahead (λ lines. lines ≡ [])
-    → IfSome ahead (λ more. run setting number left w faulted more ≡ record { bytes = []; ended = Script faulted })
-no_line setting number left w faulted None h = tt
-no_line setting number left w faulted (Some lines) h = ap (run setting number left w faulted) h ∙ run_ended setting number left w faulted
+pub no_line : (setting : RunSetting) (s : RunState) (ahead : Option (List (List ℕ))) → IfSome ahead (λ lines. lines ≡ [])
+    → IfSome ahead (λ more. run setting s more ≡ at_end s)
+no_line setting s None h = tt
+no_line setting s (Some lines) h = ap (run setting s) h ∙ run_ended setting s
 
-pub no_more : (ahead : Option (List (List ℕ))) → IfSome ahead (λ more. at_limit ≡ record { bytes = []; ended = Limit })
+pub no_more : (ahead : Option (List (List ℕ))) → IfSome ahead (λ more. at_limit ≡ at_limit)
 no_more None = tt
 no_more (Some more) = refl
 
@@ -200,17 +195,17 @@ front_is : (first written : Option (List ℕ)) (front back bytes : List ℕ) →
 front_is first written front back bytes e parts = (length front, rw parts (omega (arith, length-append front back)), e ∙ ap (append first) (sym (rw parts (take_at front back (length front) refl))))
 
 -- the run stops: a front of its bytes was written
-pub stopped : {all now : Rest} {ahead : Option (List ℕ)} {first written : Option (List ℕ)} {gathered : List ℕ} (script : Option (List ℕ))
-    → SoFar all now script ahead first written gathered
+pub stopped : {all now : Rest} {ahead : Option (List ℕ)} {first written : Option (List ℕ)} {front gathered : List ℕ} (script : Option (List ℕ))
+    → SoFar all now script ahead first written front gathered
     → IfSome script (λ bytes. AppendsFront first written (all (lines_of bytes)).bytes)
 stopped None h = tt
-stopped {all} {now} {ahead} {first} {written} {gathered} (Some bytes) h =
+stopped {all} {now} {ahead} {first} {written} {front} {gathered} (Some bytes) h =
     let r = whole bytes h refl in
-    front_is first written h.front (gathered ++ (now (lines_of r.0)).bytes) _ h.written-is (ap (λ (o : Outcome). o.bytes) r.3 ∙ append_assoc h.front gathered (now (lines_of r.0)).bytes)
+    front_is first written front (gathered ++ (now (lines_of r.0)).bytes) _ h.written-is (ap (λ (o : Outcome). o.bytes) r.3 ∙ append_assoc front gathered (now (lines_of r.0)).bytes)
 
 -- the run stops in a write: a front of its bytes was written
-pub stopped_in : {all now : Rest} {ahead : Option (List ℕ)} {first written : Option (List ℕ)} {gathered : List ℕ} (script written' : Option (List ℕ))
-    → SoFar all now script ahead first written gathered → AppendsFront written written' gathered
+pub stopped_in : {all now : Rest} {ahead : Option (List ℕ)} {first written : Option (List ℕ)} {front gathered : List ℕ} (script written' : Option (List ℕ))
+    → SoFar all now script ahead first written front gathered → AppendsFront written written' gathered
     → IfSome script (λ bytes. AppendsFront first written' (all (lines_of bytes)).bytes)
 stopped_in {gathered = gathered} script written' h part = stopped script (flushed written' (drop part.0 gathered) h (part.0, part.1, part.2, refl))
 
@@ -219,21 +214,20 @@ told_after a b script None e lt = absurd cc
 told_after a b script (Some rest) e lt = let is : 0 + length script ≡ a + length rest = some_is _ _ e in (rest, refl, omega arith)
 
 -- the outcome of the lines that were done
-done_alone : {all now : Rest} {script ahead : Option (List ℕ)} {first written : Option (List ℕ)} {gathered : List ℕ} (ended : Ended)
-    → (h : SoFar all now script ahead first written gathered) → now [] ≡ record { bytes = []; ended = ended }
-    → all h.done ≡ record { bytes = (h.front ++ gathered) ++ []; ended = ended }
-done_alone {all} {gathered = gathered} ended h e = ap all (sym (append-nil h.done)) ∙ h.all-is [] ∙ ap (then_run (h.front ++ gathered)) e
+done_alone : {all now : Rest} {script ahead : Option (List ℕ)} {first written : Option (List ℕ)} {front gathered : List ℕ} (s : RunState)
+    → (h : SoFar all now script ahead first written front gathered) → now [] ≡ at_end s → all h.done ≡ then_run (front ++ gathered) (at_end s)
+done_alone {all} {front = front} {gathered = gathered} s h e = ap all (sym (append-nil h.done)) ∙ h.all-is [] ∙ ap (then_run (front ++ gathered)) e
 
 goes_on_there : {faulted : Bool} {ended : Ended} → ended ≡ Script faulted → ended ≢ Limit
 goes_on_there {faulted} e met = let k : Script faulted ≡ Limit = sym e ∙ met in absurd cc
 
 -- more than 1 GiB was taken, and the limit was not met before
-pub long_run : {all now : Rest} {ahead : Option (List ℕ)} {first written : Option (List ℕ)} {gathered : List ℕ} (script after : Option (List ℕ)) (faulted : Bool) (taken : ℕ)
-    → SoFar all now script ahead first written gathered → now [] ≡ record { bytes = []; ended = Script faulted }
+pub long_run : {all now : Rest} {ahead : Option (List ℕ)} {first written : Option (List ℕ)} {front gathered : List ℕ} (script after : Option (List ℕ)) (s : RunState) (taken : ℕ)
+    → SoFar all now script ahead first written front gathered → now [] ≡ at_end s
     → (front : List ℕ) × HasNoEnd front × (ahead ≡ prepend front after) → total_told 0 script ≡ total_told taken after → 2 ^ 30 < taken
     → IfSome script (Long all)
-long_run None after faulted taken h e stop total many = tt
-long_run (Some bytes) after faulted taken h e stop total many =
+long_run None after s taken h e stop total many = tt
+long_run (Some bytes) after s taken h e stop total many =
     let r = whole bytes h refl in
     let t = told_after taken (2 ^ 30) bytes after total many in
     let ahead : r.0 ≡ stop.0 ++ t.0 = some_is _ _ (sym r.1 ∙ stop.2 ∙ ap (prepend stop.0) t.1) in
@@ -244,7 +238,7 @@ long_run (Some bytes) after faulted taken h e stop total many =
       parts = r.2 ∙ ap (λ (more : List ℕ). h.done ++ lines_of more) ahead;
       no_end = stop.1;
       many = t.2;
-      not_met = goes_on_there (ap (λ (o : Outcome). o.ended) (done_alone (Script faulted) h e));
+      not_met = goes_on_there (ap (λ (o : Outcome). o.ended) (done_alone s h e));
     }
 
 left_of : (front more : List ℕ) (after : Option (List ℕ)) → Some more ≡ prepend front after → (rest : List ℕ) × (after ≡ Some rest) × (more ≡ front ++ rest)
@@ -258,15 +252,15 @@ ends_of done bytes more piece rest is parts (inl e) = inl (some_is _ _ e ∙ ap 
 ends_of done bytes more piece rest is parts (inr over) = inr (sym (append-nil done) ∙ ap (λ (z : List (List ℕ)). done ++ z) (sym (some_is _ _ over)) ∙ sym parts)
 
 -- the run stops at a read, and everything that was gathered is written
-pub stopped_at_read : {all now : Rest} {ahead : Option (List ℕ)} {first written : Option (List ℕ)} {gathered : List ℕ} (script after : Option (List ℕ)) (faulted : Bool)
-    → SoFar all now script ahead first written gathered → gathered ≡ [] → now [] ≡ record { bytes = []; ended = Script faulted }
+pub stopped_at_read : {all now : Rest} {ahead : Option (List ℕ)} {first written : Option (List ℕ)} {front gathered : List ℕ} (script after : Option (List ℕ)) (s : RunState)
+    → SoFar all now script ahead first written front gathered → gathered ≡ [] → now [] ≡ at_end s
     → (front : List ℕ) × HasNoEnd front × (ahead ≡ prepend front after)
     → IfSome script (λ bytes. StoppedAtRead all bytes after first written)
-stopped_at_read None after faulted h none e stop = tt
-stopped_at_read {all} {now} {ahead} {first} {written} {gathered} (Some bytes) after faulted h none e stop =
+stopped_at_read None after s h none e stop = tt
+stopped_at_read {all} {now} {ahead} {first} {written} {front} {gathered} (Some bytes) after s h none e stop =
     let r = whole bytes h refl in
     let left = left_of stop.0 r.0 after (sym r.1 ∙ stop.2) in
-    let alone = done_alone (Script faulted) h e in
+    let alone = done_alone s h e in
     let ends : (Some bytes ≡ prepend (ended_lines h.done) (Some r.0)) ⊎ (Some (lines_of r.0) ≡ Some []) = rw r.1 at h.ends in
     record {
       lines = h.done;
@@ -277,13 +271,17 @@ stopped_at_read {all} {now} {ahead} {first} {written} {gathered} (Some bytes) af
       no_end = stop.1;
       is_left = left.1;
       not_met = goes_on_there (ap (λ (o : Outcome). o.ended) alone);
-      is_written = h.written-is ∙ ap (append first) (sym (append-nil h.front) ∙ ap (λ (z : List ℕ). h.front ++ z) (sym none) ∙ sym (append-nil (h.front ++ gathered)) ∙ sym (ap (λ (o : Outcome). o.bytes) alone));
+      is_written = h.written-is ∙ ap (append first) (sym (append-nil front) ∙ ap (λ (z : List ℕ). front ++ z) (sym none) ∙ sym (append-nil (front ++ gathered)) ∙ sym (ap (λ (o : Outcome). o.bytes) alone));
     }
 
 pub told_err : {A T E : Type 0} (o : Option A) (r : Result T E) (P : A → Type 0) → IfSome o P → IfSome o (λ x. OnErr r (P x))
 told_err None r P h = tt
 told_err (Some x) (Ok y) P h = tt
 told_err (Some x) (Err e) P h = h
+
+pub if_told : {A : Type 0} {P Q : A → Type 0} (o : Option A) → ((x : A) → P x → Q x) → IfSome o P → IfSome o Q
+if_told None f h = tt
+if_told (Some x) f h = f x h
 
 -- nothing was written
 pub append_nothing : (written : Option (List ℕ)) → append written [] ≡ written
@@ -296,10 +294,9 @@ nothing_done (Some lines) = refl
 
 -- nothing has been read or written
 pub at_start : {all : Rest} (script first : Option (List ℕ)) (kept gathered : List ℕ) → kept ≡ [] → gathered ≡ []
-    → SoFar all all script (prepend kept script) first first gathered
+    → SoFar all all script (prepend kept script) first first [] gathered
 at_start script first kept gathered kept-is gathered-is = rw (kept-is, gathered-is, prepend-nil script) (record {
   done = [];
-  front = [];
   written-is = sym (append_nothing first);
   script-is = nothing_done (option_map lines_of script);
   ends = inl (sym (prepend-nil script));

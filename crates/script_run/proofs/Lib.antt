@@ -3,3 +3,4 @@ pub mod Steps
 pub mod Ahead
 pub mod Stops
 pub mod HeldText
+pub mod Joined

@@ -17,8 +17,15 @@ use Rattle.script_run.specs.declared.turn.Ended.{Ended}
 use Rattle.script_run.specs.Turns.{Takes, HasAtMost}
 
 -- how a run answers a fault
-abbrev pub the_err : RunFault → Result Ended RunFault
+abbrev pub the_err : {T : Type 0} → RunFault → Result T RunFault
 the_err fault = Err fault
+
+-- a fault is the same beside any answer
+pub err_as : {S T : Type 0} (fault other : RunFault) → the_err {T = S} fault ≡ the_err other → the_err {T = T} fault ≡ the_err other
+err_as {S} fault other e = ap the_err (fault_is e)
+  where
+    fault_is : the_err {T = S} fault ≡ the_err other → fault ≡ other
+    fault_is e = cc
 
 -- the only error
 pub err_of : {T E : Type 0} (r : Result T E) (x : E) → IsErr r → IsErrAnd r (λ e. e ≡ x) → r ≡ Err x
@@ -46,22 +53,22 @@ pub exhausted : (most total : ℕ) (line : Line) (bytes kept : List ℕ) (taken 
 exhausted most total line bytes kept taken left e h = let k : Gives most total (Ok End) bytes kept taken left = rw e at h in k.2
 
 -- the run says that the script is too long where the reader does
-pub long_taken : (fault : LineFault) (found : RunFault) (bytes : List ℕ) (taken most : ℕ) → found ≡ run_fault fault → (the_err found) ≡ the_err TooLong → Stops fault bytes taken most → most < taken
-long_taken ReadFault found bytes taken most e is h = absurd (let k : the_err RunReadFault ≡ the_err TooLong = ap the_err (sym e) ∙ is in cc)
+pub long_taken : {T : Type 0} (fault : LineFault) (found : RunFault) (bytes : List ℕ) (taken most : ℕ) → found ≡ run_fault fault → the_err {T = T} found ≡ the_err TooLong → Stops fault bytes taken most → most < taken
+long_taken {T} ReadFault found bytes taken most e is h = absurd (let k : the_err {T = T} RunReadFault ≡ the_err TooLong = ap the_err (sym e) ∙ is in cc)
 long_taken ScriptLong found bytes taken most e is h = h.1
-long_taken NoMemory found bytes taken most e is h = absurd (let k : the_err RunNoMemory ≡ the_err TooLong = ap the_err (sym e) ∙ is in cc)
+long_taken {T} NoMemory found bytes taken most e is h = absurd (let k : the_err {T = T} RunNoMemory ≡ the_err TooLong = ap the_err (sym e) ∙ is in cc)
 
-pub long_stop : (fault : LineFault) (found : RunFault) (before after : Option (List ℕ)) → found ≡ run_fault fault → the_err found ≡ the_err TooLong → LeavesNoEnd fault before after
+pub long_stop : {T : Type 0} (fault : LineFault) (found : RunFault) (before after : Option (List ℕ)) → found ≡ run_fault fault → the_err {T = T} found ≡ the_err TooLong → LeavesNoEnd fault before after
     → (front : List ℕ) × HasNoEnd front × (before ≡ prepend front after)
 long_stop ReadFault found before after e is h = h
 long_stop ScriptLong found before after e is h = h
-long_stop NoMemory found before after e is h = absurd (let k : the_err RunNoMemory ≡ the_err TooLong = ap the_err (sym e) ∙ is in cc)
+long_stop {T} NoMemory found before after e is h = absurd (let k : the_err {T = T} RunNoMemory ≡ the_err TooLong = ap the_err (sym e) ∙ is in cc)
 
-pub read_stop : (fault : LineFault) (found : RunFault) (before after : Option (List ℕ)) → found ≡ run_fault fault → the_err found ≡ the_err RunReadFault → LeavesNoEnd fault before after
+pub read_stop : {T : Type 0} (fault : LineFault) (found : RunFault) (before after : Option (List ℕ)) → found ≡ run_fault fault → the_err {T = T} found ≡ the_err RunReadFault → LeavesNoEnd fault before after
     → (front : List ℕ) × HasNoEnd front × (before ≡ prepend front after)
 read_stop ReadFault found before after e is h = h
-read_stop ScriptLong found before after e is h = absurd (let k : the_err TooLong ≡ the_err RunReadFault = ap the_err (sym e) ∙ is in cc)
-read_stop NoMemory found before after e is h = absurd (let k : the_err RunNoMemory ≡ the_err RunReadFault = ap the_err (sym e) ∙ is in cc)
+read_stop {T} ScriptLong found before after e is h = absurd (let k : the_err {T = T} TooLong ≡ the_err RunReadFault = ap the_err (sym e) ∙ is in cc)
+read_stop {T} NoMemory found before after e is h = absurd (let k : the_err {T = T} RunNoMemory ≡ the_err RunReadFault = ap the_err (sym e) ∙ is in cc)
 
 -- what is answered as a whole line has not too many bytes
 pub has_at_most : (most : ℕ) (line : Line) (before after : Option (List (List ℕ))) → Answers most line before after → HasAtMost most line
@@ -75,11 +82,11 @@ stops_mid_line ReadFault found bytes taken most e is h = h.0
 stops_mid_line ScriptLong found bytes taken most e is h = h.0
 stops_mid_line NoMemory found bytes taken most e is h = absurd (is e)
 
-pub no_memory_at_read : (found : RunFault) → the_err found ≡ the_err RunReadFault → found ≢ RunNoMemory
-no_memory_at_read found is e = let k : the_err RunNoMemory ≡ the_err RunReadFault = ap the_err (sym e) ∙ is in cc
+pub no_memory_at_read : {T : Type 0} (found : RunFault) → the_err {T = T} found ≡ the_err RunReadFault → found ≢ RunNoMemory
+no_memory_at_read {T} found is e = let k : the_err {T = T} RunNoMemory ≡ the_err RunReadFault = ap the_err (sym e) ∙ is in cc
 
-pub no_memory_at_length : (found : RunFault) → the_err found ≡ the_err TooLong → found ≢ RunNoMemory
-no_memory_at_length found is e = let k : the_err RunNoMemory ≡ the_err TooLong = ap the_err (sym e) ∙ is in cc
+pub no_memory_at_length : {T : Type 0} (found : RunFault) → the_err {T = T} found ≡ the_err TooLong → found ≢ RunNoMemory
+no_memory_at_length {T} found is e = let k : the_err {T = T} RunNoMemory ≡ the_err TooLong = ap the_err (sym e) ∙ is in cc
 
 -- no line ends in the bytes that were kept
 pub none_kept : (kept read : List ℕ) → HasNoEnd (kept ++ read) → has_end kept ≡ false

@@ -10,10 +10,11 @@ use Rattle.script_run.specs.declared.fault.RunFault.{RunFault}
 use Rattle.script_run.specs.declared.fault.RunFault.TheVariants.{ReadFault, WriteFault, NoMemory, ScriptLong}
 use Rattle.script_run.specs.declared.turn.Turn.{Turn}
 use Rattle.script_run.specs.declared.turn.Turn.TheVariants.{Goes, Stops}
+use Rattle.script_run.specs.declared.turn.Progress.{Progress}
 use Rattle.script_run.specs.declared.turn.Ended.{Ended}
 use Rattle.script_run.specs.declared.turn.Ended.TheVariants.{Script, Limit}
 use Rattle.script_run.specs.Texts.{limit_text}
-use Rattle.script_run.specs.Run.{LineEffect, goes_on, stops}
+use Rattle.script_run.specs.Run.{RunState, LineEffect, goes_on, stops}
 
 -- a step was done: its text was gathered, and the engine stands for its world, or the limit was met
 abbrev pub Does : (World → Type 0) → LineEffect → List ℕ → List ℕ → Turn → Type 0
@@ -60,6 +61,22 @@ Smaller (Some turn) before after = after < before
 abbrev pub Flushes : Option (List ℕ) → List ℕ → Option (List ℕ) → List ℕ → Type 0
 Flushes written gathered written' gathered' =
     (n : ℕ) × (n ≤ length gathered) × (written' ≡ append written (take n gathered)) × (gathered' ≡ drop n gathered)
+
+-- how a run ended that left an engine and how far it has come, or met the limit
+abbrev pub ended_as : {E : Type 0} → Option (E × Progress) → Ended
+ended_as None = Limit
+ended_as (Some found) = Script found.1.faulted
+
+abbrev pub as_ended : {E : Type 0} → Result (Option (E × Progress)) RunFault → Result Ended RunFault
+as_ended (Ok found) = Ok (ended_as found)
+as_ended (Err fault) = Err fault
+
+-- the engine that a run left stands for the world that the run comes to
+abbrev pub Reaches : {E : Type 0} → (E → World → Type 0) → Option RunState → Option (E × Progress) → Type 0
+Reaches stands None None = Unit {0}
+Reaches stands (Some s) (Some found) = (found.1 ≡ s.progress) × stands found.0 s.world
+Reaches stands None (Some found) = ⊥
+Reaches stands (Some s) None = ⊥
 
 -- the run came to the end of the script
 abbrev pub AtEnd : Ended → Type 0 → Type 0

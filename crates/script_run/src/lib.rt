@@ -6,12 +6,13 @@ mod counting;
 mod fault;
 mod firing;
 mod gathered;
+pub mod laws;
 mod obeying;
 mod running;
 mod text;
 mod turn;
 
 pub use fault::RunFault;
-pub use running::run;
-pub use text::{push_number, push_signed};
-pub use turn::Ended;
+pub use running::{run, run_from};
+pub use text::{name_of_rule, push_limit, push_number, push_quoted, push_signed};
+pub use turn::{Ended, Progress};

@@ -1,4 +1,4 @@
-ghost use Rattle.std.specs.Prelude.{◌≡◌, ◌+◌, ◌*◌, ◌<◌, ◌≤◌, ◌^◌, ℕ, List, Option, length, IfOk};
+ghost use Rattle.std.specs.Prelude.{◌≡◌, ◌+◌, ◌*◌, ◌<◌, ◌≤◌, ◌^◌, ℕ, List, Option, None, length, IfOk};
 ghost use Rattle.fx_io.specs.Answers.{Answers, GoesOn};
 ghost use Rattle.rule_world.specs.Worlds.{World};
 ghost use Rattle.script_run.specs.Run.{setting_of, printed, command_step, line_step};
@@ -8,7 +8,7 @@ use crate::counting::push_kept;
 use crate::fault::LineCode;
 use crate::firing::fire_all;
 use crate::text::{push_fault, push_lines};
-use crate::turn::Turn;
+use crate::turn::{Progress, Turn};
 use engine::Engine;
 use fx_base::NoMemory;
 use fx_io::Line;
@@ -70,35 +70,36 @@ fn obey<E: Engine>(
 fn obey_line<E: Engine>(
     alloc: Global,
     engine: E,
-    number: u64,
+    at: Progress,
     limit: u64,
-    left: u64,
     line: &[u8],
     scratch: &mut Scratch,
     text: &mut Vec<u8>,
 ) -> Result<(E, Turn), NoMemory>
-    requires few { E.tags engine + 16 * left < 2 ^ 62 }
+    requires few { E.tags engine + 16 * at.left < 2 ^ 62 }
+    requires counted { at.lines + 1 < 2 ^ 64 }
     requires short { length line.now ≤ 65536 }
     ensures done { IfOk result (λ r. (w : World) → E.stands engine w
-        → Does (E.stands r.0) (line_step (setting_of E.gives E.fires E.counts limit (E.made_with engine) (E.table engine)) number left w line.now)
+        → Does (E.stands r.0) (line_step (setting_of E.gives E.fires E.counts limit (E.made_with engine) (E.table engine)) (at.lines + 1) at.left w line.now)
         text.old.items text.new.items r.1) }
     ensures program { IfOk result (λ r. E.made_with r.0 ≡ E.made_with engine) }
     ensures table { IfOk result (λ r. E.table r.0 ≡ E.table engine) }
-    ensures tags { IfOk result (λ r. Within (E.tags engine + 16 * left + 16) (E.tags r.0) r.1) }
+    ensures tags { IfOk result (λ r. Within (E.tags engine + 16 * at.left + 16) (E.tags r.0) r.1) }
 {
     if is_blank(line) {
-        return Ok((engine, Turn::Goes(false, left)));
+        return Ok((engine, Turn::Goes(false, at.left)));
     }
+    let number = at.lines + 1;
     match command_with(alloc, line, scratch) {
-        Ok(wanted) => obey(alloc, engine, number, limit, left, &wanted, text),
+        Ok(wanted) => obey(alloc, engine, number, limit, at.left, &wanted, text),
         Err(CommandFault::NoMemory) => Err(NoMemory),
         Err(CommandFault::BadJson) => {
             push_fault(text, alloc, number, LineCode::BadJson)?;
-            Ok((engine, Turn::Goes(true, left)))
+            Ok((engine, Turn::Goes(true, at.left)))
         }
         Err(CommandFault::BadCommand) => {
             push_fault(text, alloc, number, LineCode::BadCommand)?;
-            Ok((engine, Turn::Goes(true, left)))
+            Ok((engine, Turn::Goes(true, at.left)))
         }
     }
 }
@@ -107,41 +108,34 @@ fn obey_line<E: Engine>(
 pub(crate) fn take_turn<E: Engine>(
     alloc: Global,
     engine: E,
-    number: u64,
+    at: Progress,
     limit: u64,
-    left: u64,
     line: Line,
     scratch: &mut Scratch,
     text: &mut Vec<u8>,
 ) -> Result<(E, Option<Turn>), NoMemory>
-    requires few { E.tags engine + 16 * left < 2 ^ 62 }
+    requires few { E.tags engine + 16 * at.left < 2 ^ 62 }
+    requires counted { at.lines + 1 < 2 ^ 64 }
     requires short { HasAtMost 65536 line }
     ensures turn { IfOk result (λ r. (w : World) (ahead behind : Option (List (List ℕ))) → E.stands engine w → Answers 65536 line ahead behind
-        → Turns (E.stands r.0) (line_step (setting_of E.gives E.fires E.counts limit (E.made_with engine) (E.table engine)) number left w)
+        → Turns (E.stands r.0) (line_step (setting_of E.gives E.fires E.counts limit (E.made_with engine) (E.table engine)) (at.lines + 1) at.left w)
         text.old.items text.new.items ahead behind r.1) }
     ensures program { IfOk result (λ r. E.made_with r.0 ≡ E.made_with engine) }
     ensures table { IfOk result (λ r. E.table r.0 ≡ E.table engine) }
-    ensures tags { IfOk result (λ r. AllWithin (E.tags engine + 16 * left + 16) (E.tags r.0) r.1) }
+    ensures tags { IfOk result (λ r. AllWithin (E.tags engine + 16 * at.left + 16) (E.tags r.0) r.1) }
     ensures ends { IfOk result (λ r. EndsAt line r.1) }
+    ensures stays { IfOk result (λ r. r.1 ≡ None → r.0 ≡ engine) }
     ensures smaller { IfOk result (λ r. (before after : ℕ) → GoesOn line before after → Smaller r.1 before after) }
 {
     match line {
         Line::End => Ok((engine, None)),
         Line::Long => {
-            push_fault(text, alloc, number, LineCode::LineLong)?;
-            Ok((engine, Some(Turn::Goes(true, left))))
+            push_fault(text, alloc, at.lines + 1, LineCode::LineLong)?;
+            Ok((engine, Some(Turn::Goes(true, at.left))))
         }
         Line::Whole(bytes) => {
-            let (next, turn) = obey_line(
-                alloc,
-                engine,
-                number,
-                limit,
-                left,
-                bytes.as_slice(),
-                scratch,
-                text,
-            )?;
+            let line = bytes.as_slice();
+            let (next, turn) = obey_line(alloc, engine, at, limit, line, scratch, text)?;
             Ok((next, Some(turn)))
         }
     }

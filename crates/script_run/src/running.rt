@@ -3,14 +3,15 @@ ghost use Rattle.fx_io.specs.Outside.{Rose, append, AppendsFront, count_after};
 ghost use Rattle.fx_io.specs.Lines.{lines_of};
 ghost use Rattle.rule_lives.specs.Keeping.{IsSafeTable};
 ghost use Rattle.rule_world.specs.Programs.{IsRunnable};
-ghost use Rattle.script_run.specs.Run.{setting_of, whole_run};
-ghost use Rattle.script_run.specs.Turns.{Takes, AtEnd};
+ghost use Rattle.rule_world.specs.Worlds.{World};
+ghost use Rattle.script_run.specs.Run.{setting_of, state_in, run as run_lines, whole_run};
+ghost use Rattle.script_run.specs.Turns.{Takes, AtEnd, Reaches, ended_as, as_ended};
 ghost use Rattle.script_run.specs.Unfinished.{Long, StoppedAtRead};
 
 use crate::fault::{RunFault, of_line_fault};
 use crate::gathered::flush;
 use crate::obeying::take_turn;
-use crate::turn::{Ended, Turn};
+use crate::turn::{Ended, Progress, Turn};
 use engine::Engine;
 use fx_base::limits::LINE_MAX;
 use fx_io::{LineReader, Sink, Source, write_all};
@@ -24,8 +25,86 @@ const SCRIPT_MAX: u64 = 1_073_741_824;
 /// So many gathered bytes are written though the next line is at hand.
 const PIECE: usize = 65_536;
 
-/// Runs a script to its end or to the limit of firings, by a table of the lives of the program's types. What lines print is gathered, and written before the next read
-/// of the script.
+/// Runs a script with an engine, from where the run has come so far, to its end or to the limit of firings. At the end of the script it
+/// hands back the engine and how far the run has come, so that it can go on; at the limit nothing. What lines print is gathered, and
+/// written before the next read of the script.
+pub fn run_from<E: Engine, S: Source, K: Sink>(
+    alloc: Global,
+    engine: E,
+    at: Progress,
+    limit: u64,
+    script: &mut S,
+    out: &mut K,
+) -> Result<Option<(E, Progress)>, RunFault>
+    requires tags { E.tags engine ≤ 2 ^ 61 }
+    requires counted { at.lines ≤ 2 ^ 61 }
+    requires low { at.left ≤ 1000000 }
+    ensures done { IfOk result (λ found. (text : List ℕ) × (K.written out.new ≡ append (K.written out.old) text)
+        × ((w : World) → E.stands engine w → IfSome (S.left script.old) (λ bytes.
+        let outcome = run_lines (setting_of E.gives E.fires E.counts limit (E.made_with engine) (E.table engine)) (state_in w at) (lines_of bytes) in
+        (text ≡ outcome.bytes) × (ended_as found ≡ outcome.ended) × Reaches E.stands outcome.comes_to found))) }
+    ensures program { IfOk result (λ found. IfSome found (λ it. E.made_with it.0 ≡ E.made_with engine)) }
+    ensures table { IfOk result (λ found. IfSome found (λ it. E.table it.0 ≡ E.table engine)) }
+    ensures front { (w : World) → E.stands engine w → IfSome (S.left script.old) (λ bytes. OnErr result
+        (AppendsFront (K.written out.old) (K.written out.new)
+        (run_lines (setting_of E.gives E.fires E.counts limit (E.made_with engine) (E.table engine)) (state_in w at) (lines_of bytes)).bytes)) }
+    ensures taken { (n : ℕ) × (S.given script.new ≡ count_after (S.given script.old) n) × Takes (as_ended result) n × (n ≤ 2 ^ 30 + 1) }
+    ensures read { IsErrOf result RunFault.ReadFault → Rose (S.faults script.old) (S.faults script.new) }
+    ensures write { IsErrOf result RunFault.WriteFault → Rose (K.faults out.old) (K.faults out.new) }
+    ensures long { (w : World) → E.stands engine w → IsErrOf result RunFault.ScriptLong → IfSome (S.left script.old)
+        (Long (run_lines (setting_of E.gives E.fires E.counts limit (E.made_with engine) (E.table engine)) (state_in w at))) }
+    ensures over { IsErrOf result RunFault.ScriptLong → IfSome (S.left script.old) (λ bytes. 2 ^ 30 < length bytes) }
+    ensures stopped_at_read { (w : World) → E.stands engine w → IsErrOf result RunFault.ReadFault → IfSome (S.left script.old) (λ bytes.
+        StoppedAtRead (run_lines (setting_of E.gives E.fires E.counts limit (E.made_with engine) (E.table engine)) (state_in w at))
+        bytes (S.left script.new) (K.written out.old) (K.written out.new)) }
+    ensures stopped_at_length { (w : World) → E.stands engine w → IsErrOf result RunFault.ScriptLong → IfSome (S.left script.old) (λ bytes.
+        StoppedAtRead (run_lines (setting_of E.gives E.fires E.counts limit (E.made_with engine) (E.table engine)) (state_in w at))
+        bytes (S.left script.new) (K.written out.old) (K.written out.new)) }
+    ensures nothing_left { IfOk result (λ found. AtEnd (ended_as found) (IfSome (S.left script.new) (λ bytes. bytes ≡ []))) }
+    ensures script_counts { S.faults script.old ≤ S.faults script.new }
+    ensures out_counts { K.faults out.old ≤ K.faults out.new }
+{
+    let mut reader = LineReader::new(alloc, LINE_MAX, SCRIPT_MAX)?;
+    let mut scratch = Scratch::new(alloc);
+    let mut text = Vec::new(alloc);
+    let mut engine = engine;
+    let mut at = at;
+    loop {
+        let wanted = !reader.is_ready() || text.len() >= PIECE;
+        flush(out, &mut text, wanted)?;
+        let line = match reader.next_line(script) {
+            Ok(line) => line,
+            Err(fault) => return Err(of_line_fault(fault)),
+        };
+        let (next, turn) = take_turn(alloc, engine, at, limit, line, &mut scratch, &mut text)?;
+        match turn {
+            None => {
+                write_all(out, &text)?;
+                return Ok(Some((next, at)));
+            }
+            Some(Turn::Stops) => {
+                write_all(out, &text)?;
+                return Ok(None);
+            }
+            Some(Turn::Goes(bad, left)) => {
+                engine = next;
+                at = at.next(bad, left);
+            }
+        }
+    }
+}
+
+fn ending<E: Engine>(found: Option<(E, Progress)>) -> Ended
+    ensures { result ≡ ended_as found }
+{
+    match found {
+        Some((_, at)) => Ended::Script(at.faulted),
+        None => Ended::Limit,
+    }
+}
+
+/// Runs a script to its end or to the limit of firings, by a table of the lives of the program's types. What lines print is gathered, and
+/// written before the next read of the script.
 pub fn run<E: Engine, S: Source, K: Sink>(
     alloc: Global,
     program: Program,
@@ -55,45 +134,9 @@ pub fn run<E: Engine, S: Source, K: Sink>(
     ensures script_counts { S.faults script.old ≤ S.faults script.new }
     ensures out_counts { K.faults out.old ≤ K.faults out.new }
 {
-    let mut reader = LineReader::new(alloc, LINE_MAX, SCRIPT_MAX)?;
-    let mut engine = E::new(alloc, program, lives)?;
-    let mut scratch = Scratch::new(alloc);
-    let mut text = Vec::new(alloc);
-    let mut faulted = false;
-    let mut number = 1;
-    let mut left = limit;
-    loop {
-        let wanted = !reader.is_ready() || text.len() >= PIECE;
-        flush(out, &mut text, wanted)?;
-        let line = match reader.next_line(script) {
-            Ok(line) => line,
-            Err(fault) => return Err(of_line_fault(fault)),
-        };
-        let (next, turn) = take_turn(
-            alloc,
-            engine,
-            number,
-            limit,
-            left,
-            line,
-            &mut scratch,
-            &mut text,
-        )?;
-        match turn {
-            None => {
-                write_all(out, &text)?;
-                return Ok(Ended::Script(faulted));
-            }
-            Some(Turn::Stops) => {
-                write_all(out, &text)?;
-                return Ok(Ended::Limit);
-            }
-            Some(Turn::Goes(bad, more)) => {
-                engine = next;
-                faulted = faulted || bad;
-                number += 1;
-                left = more;
-            }
-        }
+    let engine = E::new(alloc, program, lives)?;
+    match run_from(alloc, engine, Progress::first(limit), limit, script, out) {
+        Ok(found) => Ok(ending(found)),
+        Err(fault) => Err(fault),
     }
 }

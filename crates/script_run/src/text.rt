@@ -18,7 +18,8 @@ fn name_of_type(types: &[TypeInfo], place: usize) -> &str
     }
 }
 
-fn name_of_rule(rules: &[Rule], place: usize) -> &str
+/// The name of the rule in a place, or nothing where there is none.
+pub fn name_of_rule(rules: &[Rule], place: usize) -> &str
     ensures { result.now ≡ rule_name (slice_get rules.now place) }
 {
     match rules.get(place) {
@@ -27,7 +28,8 @@ fn name_of_rule(rules: &[Rule], place: usize) -> &str
     }
 }
 
-fn push_quoted(text: &mut Vec<u8>, name: &[u8]) -> Result<(), NoMemory>
+/// Appends the bytes of a text between quotes: `\`, `"`, newline, tab and carriage return by their escapes.
+pub fn push_quoted(text: &mut Vec<u8>, name: &[u8]) -> Result<(), NoMemory>
     ensures { OnOk result (text.new.items ≡ text.old.items ++ flat_map quoted_byte name.now) }
 {
     for b in name {
@@ -103,7 +105,7 @@ pub(crate) fn push_fault(
 }
 
 /// Appends the line of the limit of firings.
-pub(crate) fn push_limit(text: &mut Vec<u8>, alloc: Global, limit: u64) -> Result<(), NoMemory>
+pub fn push_limit(text: &mut Vec<u8>, alloc: Global, limit: u64) -> Result<(), NoMemory>
     ensures { OnOk result (text.new.items ≡ text.old.items ++ limit_text limit) }
 {
     text.extend_from_slice(b"limit ")?;

@@ -11,4 +11,5 @@ returns c =
     let mode_is = c.in_ok-arg.ensures.shape c.option.ensures.local ∙ ap₂ with_rule bare_is c.option.ensures.rule in
     let limit_is = c.in_ok-arg-2.ensures.shape c.option-2.ensures.local ∙ ap₂ with_rule mode_is c.option-2.ensures.rule in
     let gen_is = c.in_ok-arg-3.ensures.shape c.option-3.ensures.local ∙ ap₂ with_rule limit_is c.option-3.ensures.rule in
-    c.in_ok-command.ensures.shape c.positional.ensures.local ∙ ap₂ with_rule gen_is c.positional.ensures.rule
+    let resume_is = c.in_ok-arg-4.ensures.shape c.option-4.ensures.local ∙ ap₂ with_rule gen_is c.option-4.ensures.rule in
+    c.in_ok-command.ensures.shape c.positional.ensures.local ∙ ap₂ with_rule resume_is c.positional.ensures.rule

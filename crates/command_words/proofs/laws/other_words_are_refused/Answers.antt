@@ -18,5 +18,9 @@ returns c = record {
   load_and_rules = refl;
   load_checked = refl;
   load_above = refl;
+  load_saved = refl;
+  load_resumed = refl;
+  resume_checked = refl;
+  resume_alone = refl;
   load_digits = refl;
 }

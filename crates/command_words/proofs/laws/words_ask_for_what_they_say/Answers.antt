@@ -15,4 +15,7 @@ returns c = record {
   empty = refl;
   load = refl;
   load_with_options = refl;
+  save = refl;
+  resume = refl;
+  resume_and_save = refl;
 }

@@ -2,7 +2,7 @@ use Rattle.replay.proofs.Calls.{usage_done}
 use Rattle.replay.proofs.top.do_asked.Goals as goal
 
 pub returns-in-Some-RuleFile-clause-run : goal.returns-in-Some-RuleFile-clause-run
-returns-in-Some-RuleFile-clause-run g c = rw (c.in-Some-RuleFile.is, c.in-Some-RuleFile.field-0-is) (rw c.as_str.ensures at c.answer.ensures.run)
+returns-in-Some-RuleFile-clause-run g c = rw (c.in-Some-RuleFile.is, c.in-Some-RuleFile.field-0-is) (rw (c.as_str.ensures, c.lent.ensures) at c.answer.ensures.run)
 
 pub returns-in-Some-Load-clause-run : goal.returns-in-Some-Load-clause-run
 returns-in-Some-Load-clause-run g c = rw (c.in-Some-Load.is, c.in-Some-Load.field-0-is) (c.run_load.ensures _ _ _ _ _)

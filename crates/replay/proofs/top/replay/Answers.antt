@@ -6,6 +6,11 @@ returns-in-Ok-clause-exact g c files bytes told tells low =
     let run = rw c.in-Ok.ensures.asks at c.do_asked.ensures.run in
     rw (wanted_is c.args.words.now files) ((written_told run files bytes told tells).exact low)
 
+pub returns-in-Ok-clause-checkpoint : goal.returns-in-Ok-clause-checkpoint
+returns-in-Ok-clause-checkpoint g c files bytes told tells nine =
+    let run = rw c.in-Ok.ensures.asks at c.do_asked.ensures.run in
+    rw (wanted_is c.args.words.now files) ((written_told run files bytes told tells).refused nine)
+
 pub returns-in-Ok-clause-front : goal.returns-in-Ok-clause-front
 returns-in-Ok-clause-front g c files bytes told tells high =
     let run = rw c.in-Ok.ensures.asks at c.do_asked.ensures.run in
@@ -65,6 +70,11 @@ pub returns-in-Ok-clause-read : goal.returns-in-Ok-clause-read
 returns-in-Ok-clause-read g c =
     let run = rw c.in-Ok.ensures.asks at c.do_asked.ensures.run in
     run.read
+
+pub returns-in-Ok-clause-refused_checkpoint : goal.returns-in-Ok-clause-refused_checkpoint
+returns-in-Ok-clause-refused_checkpoint g c =
+    let run = rw c.in-Ok.ensures.asks at c.do_asked.ensures.run in
+    run.checkpoint
 
 pub returns-in-Ok-clause-write : goal.returns-in-Ok-clause-write
 returns-in-Ok-clause-write g c =

@@ -1,6 +1,6 @@
-use Rattle.std.proofs.Common.{inl, inr, refl}
+use Rattle.std.proofs.Common.{inl, refl}
 use Rattle.command_words.specs.declared.asking.Mode.TheVariants.{Run}
-use Rattle.replay.proofs.Calls.{written_told, long_told, stopped_told, refusal_told, read_of_file, completes_file}
+use Rattle.replay.proofs.Calls.{written_told, long_told, stopped_told, refusal_told, read_of_file, completes_file, ends_of_file}
 use Rattle.replay.proofs.top.run_rules.Goals as goal
 
 pub returns-clause-exact : goal.returns-clause-exact
@@ -19,16 +19,16 @@ pub returns-clause-refusal : goal.returns-clause-refusal
 returns-clause-refusal g c files told three = refusal_told c.answer.ensures.run files told three
 
 pub returns-clause-completes : goal.returns-clause-completes
-returns-clause-completes g c bytes tells short shelf read write = completes_file c.answer.ensures.run c.args.name.now Run c.args.limit refl bytes tells short shelf read write
+returns-clause-completes g c bytes tells short shelf read write = completes_file c.answer.ensures.run c.args.name.now c.args.limit refl bytes tells short shelf read write
 
 pub returns-clause-answers : goal.returns-clause-answers
-returns-clause-answers g c = c.answer.ensures.run.ends
+returns-clause-answers g c = ends_of_file c.answer.ensures.run c.args.name.now c.args.limit refl
 
 pub returns-clause-file : goal.returns-clause-file
 returns-clause-file g c = c.answer.ensures.run.file
 
 pub returns-clause-read : goal.returns-clause-read
-returns-clause-read g c five = elim (read_of_file c.answer.ensures.run c.args.name.now Run c.args.limit refl five) [ inl rose ↦ inl rose | inr rose ↦ inr rose.1 ]
+returns-clause-read g c five = read_of_file c.answer.ensures.run c.args.name.now Run c.args.limit refl five
 
 pub returns-clause-write : goal.returns-clause-write
 returns-clause-write g c = c.answer.ensures.run.write
@@ -37,4 +37,4 @@ pub returns-clause-taken : goal.returns-clause-taken
 returns-clause-taken g c = c.answer.ensures.run.taken
 
 pub returns-clause-nothing_left : goal.returns-clause-nothing_left
-returns-clause-nothing_left g c low = c.answer.ensures.run.nothing_left low refl
+returns-clause-nothing_left g c low = c.answer.ensures.run.nothing_left low (inl refl)

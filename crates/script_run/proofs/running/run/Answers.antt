@@ -1,237 +1,29 @@
-use Rattle.std.proofs.Common.{◌≡◌, ◌^◌, ◌||◌, true, false, not, [], arith, sym, ap, ◌∙◌, refl}
-use Rattle.fx_io.specs.Outside.{append, AppendsFront}
-use Rattle.fx_io.specs.Lines.{lines_of, lines_ahead}
-use Rattle.fx_io.specs.Reader.{Reader}
+use Rattle.std.proofs.Common.{ap, ◌∙◌}
+use Rattle.fx_io.specs.Outside.{append}
 use Rattle.rule_world.specs.Worlds.{empty_world}
-use Rattle.script_run.specs.declared.fault.RunFault.TheVariants.{NoMemory, WriteFault}
-use Rattle.script_run.specs.declared.turn.Ended.TheVariants.{Script, Limit}
-use Rattle.script_run.specs.declared.turn.Turn.TheVariants.{Goes, Stops}
-use Rattle.script_run.specs.Run.{setting_of, whole_run}
-use Rattle.script_run.proofs.Ahead.{goes_further, ends_there, flushed, all_done, no_line, no_more, run_ended, stopped, stopped_in, stopped_at_read, long_run, told_err, at_start, moves_on}
-use Rattle.script_run.proofs.Fired.{or_first, or_second}
-use Rattle.script_run.proofs.Stops.{err_of, given_since, takes_stop, long_stop, read_stop, long_taken, exhausted, none_given, stops_mid_line, no_memory_at_read, no_memory_at_length, none_kept, has_at_most}
+use Rattle.script_run.proofs.Ahead.{if_told}
+use Rattle.script_run.proofs.Stops.{err_as}
 use Rattle.script_run.proofs.running.run.Goals as goal
-use Rattle.script_run.proofs.running.run.Goals.{then-not-is_ready, else-not-is_ready, then-faulted, else-faulted}
 
-pub returns-in_err-flush-clause-front : goal.returns-in_err-flush-clause-front
-returns-in_err-flush-clause-front g c =
-    let setting = setting_of g.E.Engine.gives g.E.Engine.fires g.E.Engine.counts c.args.limit c.args.program c.args.lives in
-    told_err (g.S.Source.left c.args.script.now) c.from_residual-in_err-flush.result (λ bytes. AppendsFront (g.K.Sink.written c.args.out.now) (g.K.Sink.written c.flush.new.out) (whole_run setting (lines_of bytes)).bytes)
-    (stopped_in (g.S.Source.left c.args.script.now) (g.K.Sink.written c.flush.new.out) c.loop-text.invariant.so_far.2 c.in_err-flush.ensures.err)
+pub returns-in-Ok-clause-done : goal.returns-in-Ok-clause-done
+returns-in-Ok-clause-done g c =
+    let done = rw (c.in_ok-engine.ensures.program, c.in_ok-engine.ensures.table, c.first.ensures) at c.in-Ok.ensures.done in
+    if_told (g.S.Source.left c.args.script.now) (λ bytes d. (c.ending.ensures ∙ d.1, done.1 ∙ ap (append (g.K.Sink.written c.args.out.now)) d.0)) (done.2 empty_world c.in_ok-engine.ensures.stands)
+
+pub returns-in-Ok-clause-taken : goal.returns-in-Ok-clause-taken
+returns-in-Ok-clause-taken g c = rw c.ending.ensures c.in-Ok.ensures.taken
+
+pub returns-in-Ok-clause-nothing_left : goal.returns-in-Ok-clause-nothing_left
+returns-in-Ok-clause-nothing_left g c = rw c.ending.ensures c.in-Ok.ensures.nothing_left
 
 pub returns-in-Err-clause-front : goal.returns-in-Err-clause-front
-returns-in-Err-clause-front g c =
-    let inv = c.loop-text.invariant in
-    let now = flushed (g.K.Sink.written c.flush.new.out) c.flush.new.text.items inv.so_far.2 c.in_ok-flush.ensures.ok in
-    stopped (g.S.Source.left c.args.script.now) now
-
-pub returns-in-Err-clause-taken : goal.returns-in-Err-clause-taken
-returns-in-Err-clause-taken g c =
-    let inv = c.loop-text.invariant in
-    let most = rw inv.total_max at c.next_line.ensures.at_most in
-    let all = given_since (g.S.Source.given c.args.script.now) c.loop-text.reader.taken c.next_line.new.self.taken _ _ c.next_line.ensures.taken inv.given c.next_line.ensures.together in
-    let gives = c.in-Err.ensures.gives inv.fault in
-    let stops = rw inv.total_max at gives.2 in
-    (c.next_line.new.self.taken, all, rw c.of_line_fault.ensures (takes_stop c.in-Err.fault _ c.next_line.new.self.taken stops), most)
+returns-in-Err-clause-front g c = rw (c.in_ok-engine.ensures.program, c.in_ok-engine.ensures.table, c.first.ensures) at (c.in-Err.ensures.front empty_world c.in_ok-engine.ensures.stands)
 
 pub returns-in-Err-clause-long : goal.returns-in-Err-clause-long
-returns-in-Err-clause-long g c is =
-    let setting = setting_of g.E.Engine.gives g.E.Engine.fires g.E.Engine.counts c.args.limit c.args.program c.args.lives in
-    let inv = c.loop-text.invariant in
-    let now = flushed (g.K.Sink.written c.flush.new.out) c.flush.new.text.items inv.so_far.2 c.in_ok-flush.ensures.ok in
-    let gives = c.in-Err.ensures.gives inv.fault in
-    let stops = rw inv.total_max at gives.2 in
-    let taken = long_taken c.in-Err.fault c.of_line_fault.result _ c.next_line.new.self.taken (2 ^ 30) c.of_line_fault.ensures is stops in
-    let stop = long_stop c.in-Err.fault c.of_line_fault.result _ _ c.of_line_fault.ensures is (c.in-Err.ensures.stops inv.fault) in
-    long_run (g.S.Source.left c.args.script.now) (g.S.Source.left c.next_line.new.source) c.loop-text.faulted c.next_line.new.self.taken now
-    (run_ended setting c.loop-text.number c.loop-text.left inv.so_far.0 c.loop-text.faulted) stop (inv.total ∙ c.next_line.ensures.total) taken
+returns-in-Err-clause-long g c is = rw (c.in_ok-engine.ensures.program, c.in_ok-engine.ensures.table, c.first.ensures) at (c.in-Err.ensures.long empty_world c.in_ok-engine.ensures.stands (err_as _ _ is))
 
 pub returns-in-Err-clause-stopped_at_read : goal.returns-in-Err-clause-stopped_at_read
-returns-in-Err-clause-stopped_at_read g c is =
-    let setting = setting_of g.E.Engine.gives g.E.Engine.fires g.E.Engine.counts c.args.limit c.args.program c.args.lives in
-    let inv = c.loop-text.invariant in
-    let now = flushed (g.K.Sink.written c.flush.new.out) c.flush.new.text.items inv.so_far.2 c.in_ok-flush.ensures.ok in
-    let gives = c.in-Err.ensures.gives inv.fault in
-    let stop = read_stop c.in-Err.fault c.of_line_fault.result _ _ c.of_line_fault.ensures is (c.in-Err.ensures.stops inv.fault) in
-    let mid = stops_mid_line c.in-Err.fault c.of_line_fault.result _ _ _ c.of_line_fault.ensures (no_memory_at_read c.of_line_fault.result is) gives.2 in
-    let not_ready = none_kept c.loop-text.reader.kept gives.0 mid in
-    let none : c.flush.new.text.items ≡ [] = elim c.if-not-is_ready.branch [
-      | then-not-is_ready w ↦ c.in_ok-flush.ensures.all (w.wanted-is ∙ ap not w.if-not-is_ready.true)
-      | else-not-is_ready w ↦ absurd (let both : true ≡ false = sym w.if-not-is_ready.false ∙ c.is_ready.ensures ∙ not_ready in cc)
-    ] in
-    stopped_at_read (g.S.Source.left c.args.script.now) (g.S.Source.left c.next_line.new.source) c.loop-text.faulted now none (run_ended setting c.loop-text.number c.loop-text.left inv.so_far.0 c.loop-text.faulted) stop
+returns-in-Err-clause-stopped_at_read g c is = rw (c.in_ok-engine.ensures.program, c.in_ok-engine.ensures.table, c.first.ensures) at (c.in-Err.ensures.stopped_at_read empty_world c.in_ok-engine.ensures.stands (err_as _ _ is))
 
 pub returns-in-Err-clause-stopped_at_length : goal.returns-in-Err-clause-stopped_at_length
-returns-in-Err-clause-stopped_at_length g c is =
-    let setting = setting_of g.E.Engine.gives g.E.Engine.fires g.E.Engine.counts c.args.limit c.args.program c.args.lives in
-    let inv = c.loop-text.invariant in
-    let now = flushed (g.K.Sink.written c.flush.new.out) c.flush.new.text.items inv.so_far.2 c.in_ok-flush.ensures.ok in
-    let gives = c.in-Err.ensures.gives inv.fault in
-    let stop = long_stop c.in-Err.fault c.of_line_fault.result _ _ c.of_line_fault.ensures is (c.in-Err.ensures.stops inv.fault) in
-    let mid = stops_mid_line c.in-Err.fault c.of_line_fault.result _ _ _ c.of_line_fault.ensures (no_memory_at_length c.of_line_fault.result is) gives.2 in
-    let not_ready = none_kept c.loop-text.reader.kept gives.0 mid in
-    let none : c.flush.new.text.items ≡ [] = elim c.if-not-is_ready.branch [
-      | then-not-is_ready w ↦ c.in_ok-flush.ensures.all (w.wanted-is ∙ ap not w.if-not-is_ready.true)
-      | else-not-is_ready w ↦ absurd (let both : true ≡ false = sym w.if-not-is_ready.false ∙ c.is_ready.ensures ∙ not_ready in cc)
-    ] in
-    stopped_at_read (g.S.Source.left c.args.script.now) (g.S.Source.left c.next_line.new.source) c.loop-text.faulted now none (run_ended setting c.loop-text.number c.loop-text.left inv.so_far.0 c.loop-text.faulted) stop
-
-pub returns-in_err-next-clause-front : goal.returns-in_err-next-clause-front
-returns-in_err-next-clause-front g c =
-    let setting = setting_of g.E.Engine.gives g.E.Engine.fires g.E.Engine.counts c.args.limit c.args.program c.args.lives in
-    let inv = c.loop-text.invariant in
-    let now = flushed (g.K.Sink.written c.flush.new.out) c.flush.new.text.items inv.so_far.2 c.in_ok-flush.ensures.ok in
-    told_err (g.S.Source.left c.args.script.now) c.from_residual-in_err-next.result (λ bytes. AppendsFront (g.K.Sink.written c.args.out.now) (g.K.Sink.written c.flush.new.out) (whole_run setting (lines_of bytes)).bytes)
-    (stopped (g.S.Source.left c.args.script.now) now)
-
-pub returns-in_err-next-clause-taken : goal.returns-in_err-next-clause-taken
-returns-in_err-next-clause-taken g c =
-    let inv = c.loop-text.invariant in
-    let most = rw inv.total_max at c.next_line.ensures.at_most in
-    let all = given_since (g.S.Source.given c.args.script.now) c.loop-text.reader.taken c.next_line.new.self.taken _ _ c.next_line.ensures.taken inv.given c.next_line.ensures.together in
-    rw (err_of c.from_residual-in_err-next.result NoMemory c.from_residual-in_err-next.ensures.0 c.from_residual-in_err-next.ensures.1) (c.next_line.new.self.taken, all, tt, most)
-
-pub returns-in_err-write_all-in-None-clause-front : goal.returns-in_err-write_all-in-None-clause-front
-returns-in_err-write_all-in-None-clause-front g c =
-    let setting = setting_of g.E.Engine.gives g.E.Engine.fires g.E.Engine.counts c.args.limit c.args.program c.args.lives in
-    let inv = c.loop-text.invariant in
-    let now = flushed (g.K.Sink.written c.flush.new.out) c.flush.new.text.items inv.so_far.2 c.in_ok-flush.ensures.ok in
-    let answers = rw inv.line_max at c.in-Ok.ensures.line in
-    let ended = rw c.in-None.is at (c.in_ok-next.ensures.turn inv.so_far.0 _ _ inv.so_far.1 answers) in
-    let part : AppendsFront (g.K.Sink.written c.flush.new.out) (g.K.Sink.written c.write_all.new.sink) c.flush.new.text.items =
-    rw (sym ended.1, sym c.deref.ensures.value) c.in_err-write_all-in-None.ensures.err in
-    told_err (g.S.Source.left c.args.script.now) c.from_residual-in_err-write_all-in-None.result (λ bytes. AppendsFront (g.K.Sink.written c.args.out.now) (g.K.Sink.written c.write_all.new.sink) (whole_run setting (lines_of bytes)).bytes)
-    (stopped_in (g.S.Source.left c.args.script.now) (g.K.Sink.written c.write_all.new.sink) now part)
-
-pub returns-in_err-write_all-in-None-clause-taken : goal.returns-in_err-write_all-in-None-clause-taken
-returns-in_err-write_all-in-None-clause-taken g c =
-    let inv = c.loop-text.invariant in
-    let most = rw inv.total_max at c.next_line.ensures.at_most in
-    let all = given_since (g.S.Source.given c.args.script.now) c.loop-text.reader.taken c.next_line.new.self.taken _ _ c.next_line.ensures.taken inv.given c.next_line.ensures.together in
-    rw (err_of c.from_residual-in_err-write_all-in-None.result WriteFault c.from_residual-in_err-write_all-in-None.ensures.0 c.from_residual-in_err-write_all-in-None.ensures.1) (c.next_line.new.self.taken, all, tt, most)
-
-pub returns-in-None-clause-done : goal.returns-in-None-clause-done
-returns-in-None-clause-done g c =
-    let setting = setting_of g.E.Engine.gives g.E.Engine.fires g.E.Engine.counts c.args.limit c.args.program c.args.lives in
-    let inv = c.loop-text.invariant in
-    let now = flushed (g.K.Sink.written c.flush.new.out) c.flush.new.text.items inv.so_far.2 c.in_ok-flush.ensures.ok in
-    let answers = rw inv.line_max at c.in-Ok.ensures.line in
-    let ended = rw c.in-None.is at (c.in_ok-next.ensures.turn inv.so_far.0 _ _ inv.so_far.1 answers) in
-    let all : g.K.Sink.written c.write_all.new.sink ≡ append (g.K.Sink.written c.flush.new.out) c.flush.new.text.items = c.in_ok-write_all-in-None.ensures.ok ∙ ap (append (g.K.Sink.written c.flush.new.out)) (c.deref.ensures.value ∙ ended.1) in
-    all_done (g.S.Source.left c.args.script.now) (g.K.Sink.written c.write_all.new.sink) (Script c.loop-text.faulted) now
-    (no_line setting c.loop-text.number c.loop-text.left inv.so_far.0 c.loop-text.faulted (lines_ahead c.loop-text.reader.kept (g.S.Source.left c.loop-text.script)) ended.0) all
-
-pub returns-in-None-clause-taken : goal.returns-in-None-clause-taken
-returns-in-None-clause-taken g c =
-    let inv = c.loop-text.invariant in
-    let most = rw inv.total_max at c.next_line.ensures.at_most in
-    let all = given_since (g.S.Source.given c.args.script.now) c.loop-text.reader.taken c.next_line.new.self.taken _ _ c.next_line.ensures.taken inv.given c.next_line.ensures.together in
-    let line = rw c.in-None.is at c.in_ok-next.ensures.ends in
-    let gives = c.in-Ok.ensures.gives inv.fault in
-    let over = exhausted _ _ c.in-Ok.line _ _ _ _ line gives.2 in
-    (c.next_line.new.self.taken, all, rw inv.total_max at over.0, most)
-
-pub returns-in-None-clause-nothing_left : goal.returns-in-None-clause-nothing_left
-returns-in-None-clause-nothing_left g c =
-    let inv = c.loop-text.invariant in
-    let line = rw c.in-None.is at c.in_ok-next.ensures.ends in
-    let gives = c.in-Ok.ensures.gives inv.fault in
-    let over = exhausted _ _ c.in-Ok.line _ _ _ _ line gives.2 in
-    over.1
-
-pub returns-in_err-write_all-in-Some-Stops-clause-front : goal.returns-in_err-write_all-in-Some-Stops-clause-front
-returns-in_err-write_all-in-Some-Stops-clause-front g c =
-    let setting = setting_of g.E.Engine.gives g.E.Engine.fires g.E.Engine.counts c.args.limit c.args.program c.args.lives in
-    let inv = c.loop-text.invariant in
-    let now = flushed (g.K.Sink.written c.flush.new.out) c.flush.new.text.items inv.so_far.2 c.in_ok-flush.ensures.ok in
-    let answers = rw inv.line_max at c.in-Ok.ensures.line in
-    let is : c.in-Some-Stops.field-0 ≡ Stops = rw c.in-Some-Stops.is at c.in-Some-Stops.field-0-is in
-    let turn = rw (c.in-Some-Stops.is, is, inv.program, inv.table) at (c.in_ok-next.ensures.turn inv.so_far.0 _ _ inv.so_far.1 answers) in
-    let gives = c.in-Ok.ensures.gives inv.fault in
-    let moved = moves_on _ _ c.in-Ok.line turn.0 c.loop-text.reader.kept gives.0 c.next_line.new.self.kept _ _ _ _ _ _ gives.1 gives.2 turn.1 in
-    let there = ends_there setting c.loop-text.number c.loop-text.left inv.so_far.0 c.loop-text.faulted turn.0 c.flush.new.text.items c.take_turn.new.text.items (g.E.Engine.stands c.in_ok-next.next) now turn.1 moved turn.2 in
-    let part : AppendsFront (g.K.Sink.written c.flush.new.out) (g.K.Sink.written c.write_all-in-Some-Stops.new.sink) c.take_turn.new.text.items = rw (sym c.deref-in-Some-Stops.ensures.value) c.in_err-write_all-in-Some-Stops.ensures.err in
-    told_err (g.S.Source.left c.args.script.now) c.from_residual-in_err-write_all-in-Some-Stops.result (λ bytes. AppendsFront (g.K.Sink.written c.args.out.now) (g.K.Sink.written c.write_all-in-Some-Stops.new.sink) (whole_run setting (lines_of bytes)).bytes)
-    (stopped_in (g.S.Source.left c.args.script.now) (g.K.Sink.written c.write_all-in-Some-Stops.new.sink) there part)
-
-pub returns-in_err-write_all-in-Some-Stops-clause-taken : goal.returns-in_err-write_all-in-Some-Stops-clause-taken
-returns-in_err-write_all-in-Some-Stops-clause-taken g c =
-    let inv = c.loop-text.invariant in
-    let most = rw inv.total_max at c.next_line.ensures.at_most in
-    let all = given_since (g.S.Source.given c.args.script.now) c.loop-text.reader.taken c.next_line.new.self.taken _ _ c.next_line.ensures.taken inv.given c.next_line.ensures.together in
-    rw (err_of c.from_residual-in_err-write_all-in-Some-Stops.result WriteFault c.from_residual-in_err-write_all-in-Some-Stops.ensures.0 c.from_residual-in_err-write_all-in-Some-Stops.ensures.1) (c.next_line.new.self.taken, all, tt, most)
-
-pub returns-in-Some-Stops-clause-done : goal.returns-in-Some-Stops-clause-done
-returns-in-Some-Stops-clause-done g c =
-    let setting = setting_of g.E.Engine.gives g.E.Engine.fires g.E.Engine.counts c.args.limit c.args.program c.args.lives in
-    let inv = c.loop-text.invariant in
-    let now = flushed (g.K.Sink.written c.flush.new.out) c.flush.new.text.items inv.so_far.2 c.in_ok-flush.ensures.ok in
-    let answers = rw inv.line_max at c.in-Ok.ensures.line in
-    let is : c.in-Some-Stops.field-0 ≡ Stops = rw c.in-Some-Stops.is at c.in-Some-Stops.field-0-is in
-    let turn = rw (c.in-Some-Stops.is, is, inv.program, inv.table) at (c.in_ok-next.ensures.turn inv.so_far.0 _ _ inv.so_far.1 answers) in
-    let gives = c.in-Ok.ensures.gives inv.fault in
-    let moved = moves_on _ _ c.in-Ok.line turn.0 c.loop-text.reader.kept gives.0 c.next_line.new.self.kept _ _ _ _ _ _ gives.1 gives.2 turn.1 in
-    let there = ends_there setting c.loop-text.number c.loop-text.left inv.so_far.0 c.loop-text.faulted turn.0 c.flush.new.text.items c.take_turn.new.text.items (g.E.Engine.stands c.in_ok-next.next) now turn.1 moved turn.2 in
-    let all : g.K.Sink.written c.write_all-in-Some-Stops.new.sink ≡ append (g.K.Sink.written c.flush.new.out) c.take_turn.new.text.items = c.in_ok-write_all-in-Some-Stops.ensures.ok ∙ ap (append (g.K.Sink.written c.flush.new.out)) c.deref-in-Some-Stops.ensures.value in
-    all_done (g.S.Source.left c.args.script.now) (g.K.Sink.written c.write_all-in-Some-Stops.new.sink) Limit there (no_more (lines_ahead c.next_line.new.self.kept (g.S.Source.left c.next_line.new.source))) all
-
-pub returns-in-Some-Stops-clause-taken : goal.returns-in-Some-Stops-clause-taken
-returns-in-Some-Stops-clause-taken g c =
-    let inv = c.loop-text.invariant in
-    let most = rw inv.total_max at c.next_line.ensures.at_most in
-    let all = given_since (g.S.Source.given c.args.script.now) c.loop-text.reader.taken c.next_line.new.self.taken _ _ c.next_line.ensures.taken inv.given c.next_line.ensures.together in
-    (c.next_line.new.self.taken, all, tt, most)
-
-pub loop-text-init : goal.loop-text-init
-loop-text-init g c =
-    let setting = setting_of g.E.Engine.gives g.E.Engine.fires g.E.Engine.counts c.args.limit c.args.program c.args.lives in
-    let reader = c.in_ok-reader.ensures in
-    let kept : c.in_ok-reader.reader.kept ≡ [] = ap (λ (r : Reader). r.kept) reader in
-    let taken : c.in_ok-reader.reader.taken ≡ 0 = ap (λ (r : Reader). r.taken) reader in
-    record {
-      so_far = (empty_world, c.in_ok-engine.ensures.stands, at_start {all = whole_run setting} (g.S.Source.left c.args.script.now) (g.K.Sink.written c.args.out.now) c.in_ok-reader.reader.kept c.new-text.result.items kept c.new-text.ensures.items);
-      program = c.in_ok-engine.ensures.program;
-      table = c.in_ok-engine.ensures.table;
-      tags = omega (arith, c.in_ok-engine.ensures.tags);
-      total = rw taken refl;
-      given = rw taken (none_given (g.S.Source.given c.args.script.now));
-      line_max = ap (λ (r : Reader). r.line_max) reader;
-      total_max = ap (λ (r : Reader). r.total_max) reader;
-      fault = ap (λ (r : Reader). r.fault) reader;
-      few = rw (kept, taken) (omega arith);
-      script_counts = omega arith;
-      out_counts = omega arith;
-    }
-
-pub loop-text-preserved : goal.loop-text-preserved
-loop-text-preserved g c =
-    let setting = setting_of g.E.Engine.gives g.E.Engine.fires g.E.Engine.counts c.args.limit c.args.program c.args.lives in
-    let inv = c.loop-text.invariant in
-    let now = flushed (g.K.Sink.written c.flush.new.out) c.flush.new.text.items inv.so_far.2 c.in_ok-flush.ensures.ok in
-    let answers = rw inv.line_max at c.in-Ok.ensures.line in
-    let is : c.in-Some-Goes.field-0 ≡ Goes c.in-Some-Goes.bad c.in-Some-Goes.more = rw c.in-Some-Goes.is at c.in-Some-Goes.field-0-is in
-    let turn = rw (c.in-Some-Goes.is, is, inv.program, inv.table) at (c.in_ok-next.ensures.turn inv.so_far.0 _ _ inv.so_far.1 answers) in
-    let gives = c.in-Ok.ensures.gives inv.fault in
-    let moved = moves_on _ _ c.in-Ok.line turn.0 c.loop-text.reader.kept gives.0 c.next_line.new.self.kept _ _ _ _ _ _ gives.1 gives.2 turn.1 in
-    let tags = rw (c.in-Some-Goes.is, is) at c.in_ok-next.ensures.tags in
-    let goes_on = rw inv.total_max at c.in-Ok.ensures.goes_on in
-    let less = rw c.in-Some-Goes.is at (c.in_ok-next.ensures.smaller _ _ goes_on) in
-    let faulted : c.if-faulted.faulted ≡ (c.loop-text.faulted || c.in-Some-Goes.bad) = elim c.if-faulted.branch [ then-faulted w ↦ or_first _ _ _ w.if-faulted.true w.faulted-is | else-faulted w ↦ or_second _ _ _ w.if-faulted.false w.faulted-is ] in
-    record {
-      so_far = goes_further setting c.loop-text.number c.loop-text.left inv.so_far.0 c.loop-text.faulted c.in-Some-Goes.bad c.if-faulted.faulted c.in-Some-Goes.more turn.0 c.flush.new.text.items c.take_turn.new.text.items (g.E.Engine.stands c.in_ok-next.next)
-          now turn.1 moved turn.2 faulted;
-      program = c.in_ok-next.ensures.program ∙ inv.program;
-      table = c.in_ok-next.ensures.table ∙ inv.table;
-      tags = omega (arith, tags, inv.tags);
-      total = inv.total ∙ c.next_line.ensures.total;
-      given = given_since (g.S.Source.given c.args.script.now) c.loop-text.reader.taken c.next_line.new.self.taken _ _ c.next_line.ensures.taken inv.given c.next_line.ensures.together;
-      line_max = c.next_line.ensures.line_max ∙ inv.line_max;
-      total_max = c.next_line.ensures.total_max ∙ inv.total_max;
-      fault = c.in-Ok.ensures.none;
-      few = omega (arith, less, inv.few, c.next_line.ensures.total_max, inv.total_max);
-      script_counts = omega (arith, c.next_line.ensures.counts);
-      out_counts = omega (arith, c.flush.ensures.counts);
-    }
-
-pub take_turn-requires-clause-short : goal.take_turn-requires-clause-short
-take_turn-requires-clause-short g c = has_at_most 65536 c.in-Ok.line _ _ (rw c.loop-text.invariant.line_max at c.in-Ok.ensures.line)
+returns-in-Err-clause-stopped_at_length g c is = rw (c.in_ok-engine.ensures.program, c.in_ok-engine.ensures.table, c.first.ensures) at (c.in-Err.ensures.stopped_at_length empty_world c.in_ok-engine.ensures.stands (err_as _ _ is))

@@ -1,4 +1,4 @@
-use Rattle.std.proofs.Common.{Bool}
+use Rattle.std.proofs.Common.{Bool, length}
 use Rattle.std.specs.Option.{option_map}
 use Rattle.rule_model.specs.Lent.{lent}
 use Rattle.row_delta.specs.declared.row.Named.{Named}
@@ -7,6 +7,7 @@ use Rattle.rete_net.specs.Nets.{NetStands}
 use Rattle.rete_net.specs.Schedules.{AreScheduled}
 use Rattle.rete_net.specs.Steps.{no_change, NetStep}
 use Rattle.rete_net.specs.Walks.{IsWired}
+use Rattle.rete_net.proofs.Owning.{owned_again}
 use Rattle.rete_net.proofs.Frames.{net_again, wired_of}
 use Rattle.rete_net.proofs.Seen.{net_stands, net_between}
 use Rattle.rete_net.proofs.Turns.{settled}
@@ -28,6 +29,8 @@ returns-clause-stands g c s next forgotten runnable stands moves at apart has ha
     net_stands c.args.program.now (g.F.Facts.map c.args.facts.now) s next (lent c.args.gone.now) (option_map (λ f. f.now) c.args.come) c.args.moment.now forgotten c.args.self.now c.step.new.self c.in_ok-changes.changes.items
     moves at apart has has_now stands c.in_ok-changes.ensures.ends (step g c (wired g c s forgotten stands) stands.nodes.scheduled) (c.in_ok-changes.ensures.quiet stands.nodes.scheduled)
     (c.in_ok-changes.ensures.indexed stands.nodes.indexed) (c.in_ok-changes.ensures.scheduled stands.nodes.scheduled)
+    (owned_again c.args.program.now stands.nodes.shape.conditions (length c.args.self.now.nodes.items) (length c.step.new.self.nodes.items) c.args.self.now.owners c.step.new.self.owners
+    c.in_ok-changes.ensures.replaced.many c.in_ok-changes.ensures.owners stands.nodes.owned)
 
 pub returns-clause-differences : goal.returns-clause-differences
 returns-clause-differences g c s next forgotten runnable stands moves at apart has has_now =

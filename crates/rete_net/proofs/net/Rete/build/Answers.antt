@@ -1,11 +1,12 @@
-use Rattle.std.proofs.Common.{[], None, refl}
+use Rattle.std.proofs.Common.{[], None, refl, length}
 use Rattle.rule_model.specs.declared.moment.Moment.{Moment}
 use Rattle.rule_model.specs.Moments.{IsAt}
 use Rattle.condition_rows.specs.Looks.{empty_snapshot}
 use Rattle.rete_net.specs.Steps.{empty_row_comes, NetStep}
-use Rattle.rete_net.proofs.Starting.{no_facts, built_shape, built_stands, built_net, built_between}
+use Rattle.rete_net.proofs.Starting.{no_facts, built_owned, built_shape, built_stands, built_net, built_between}
 use Rattle.rule_world.specs.Programs.{IsRunnable}
 use Rattle.rete_net.specs.Walks.{IsWired}
+use Rattle.rete_net.proofs.Owning.{owned_again}
 use Rattle.rete_net.proofs.Frames.{wired_of}
 use Rattle.rete_net.proofs.Turns.{settled}
 use Rattle.rete_net.proofs.net.Rete.build.Goals as goal
@@ -33,6 +34,9 @@ returns-clause-stands c runnable =
     let first = step c (wired c runnable) in
     built_stands c.args.program.now c.in_ok-net.net built.0 built.1 built.2 built.3 built.4 built.5 first.0 first.1 c.step.new.self c.in_ok-changes.changes.items c.in_ok-changes.ensures.ends first.2
     (c.in_ok-changes.ensures.quiet c.in_ok-net.ensures.scheduled) (c.in_ok-changes.ensures.indexed c.in_ok-net.ensures.indexed) (c.in_ok-changes.ensures.scheduled c.in_ok-net.ensures.scheduled)
+    (owned_again c.args.program.now (built_shape c.args.program.now c.in_ok-net.net built.0 built.1 built.2 built.3 built.4 built.5).conditions (length c.in_ok-net.net.nodes.items) (length c.step.new.self.nodes.items)
+    c.in_ok-net.net.owners c.step.new.self.owners c.in_ok-changes.ensures.replaced.many c.in_ok-changes.ensures.owners
+    (built_owned c.args.program.now c.in_ok-net.net built.0 built.1 built.2 built.3 built.4 built.5 (length c.args.program.now.rules) built.6))
 
 pub returns-clause-first : goal.returns-clause-first
 returns-clause-first c runnable =

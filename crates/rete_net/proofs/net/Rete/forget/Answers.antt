@@ -3,6 +3,7 @@ use Rattle.pair_memory.specs.Joined.{has_name}
 use Rattle.rete_net.specs.Answers.{AreRuled}
 use Rattle.rete_net.specs.Dropped.{AreListed}
 use Rattle.rete_net.proofs.Dropping.{net_forgets, rules_drop}
+use Rattle.rete_net.proofs.Owning.{owned_again}
 use Rattle.rete_net.proofs.Frames.{index_again, net_again, wired_of}
 use Rattle.rete_net.proofs.net.Rete.forget.Goals as goal
 
@@ -16,6 +17,7 @@ returns-clause-stands g c s forgotten stands has_all =
     net_forgets c.args.program.now (g.F.Facts.map c.args.facts.now) s forgotten (has_name c.args.old.now) was now forgot.dropped stands has_all ends told.quiet told.replaced.many forgot.forgot
     (index_again was.nodes.items now.nodes.items was.ends.items now.ends.items was.index now.index told.replaced ends told.index stands.nodes.indexed)
     (told.scheduled stands.nodes.scheduled)
+    (owned_again c.args.program.now stands.nodes.shape.conditions (length was.nodes.items) (length now.nodes.items) was.owners now.owners told.replaced.many told.owners stands.nodes.owned)
 
 pub returns-clause-dropped : goal.returns-clause-dropped
 returns-clause-dropped g c s forgotten stands has_all =

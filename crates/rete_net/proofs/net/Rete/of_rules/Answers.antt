@@ -1,22 +1,24 @@
-use Rattle.std.proofs.Common.{◌≡◌, ◌∙◌, sym, ap, subst, ℕ, ◌+◌, ◌<◌, nat_le, arith, List, [], ◌∷◌, ◌++◌, length, length-append, Some, slice_get}
+use Rattle.std.proofs.Common.{◌≡◌, ◌∙◌, sym, ap, subst, ℕ, ◌+◌, ◌<◌, ◌≤◌, nat_le, arith, List, [], ◌∷◌, ◌++◌, length, length-append, Some, slice_get}
+use Rattle.std.proofs.lemmas.Bool.Decides.{nat_tests}
 use Rattle.std.proofs.lemmas.Option.{slice_get-get_or}
 use Rattle.std.specs.Option.{unwrap_or}
 use Rattle.rule_model.specs.declared.condition.Condition.{Condition}
 use Rattle.rule_model.specs.declared.program.Rule.{Rule}
 use Rattle.rule_model.proofs.Listed.{both_of}
-use Rattle.rule_model.proofs.RuleOf.{in_place}
 use Rattle.rule_world.specs.Programs.{IsRunnable, has_conditions, has_windows}
 use Rattle.rete_net.specs.Building.{AreGrown, HaveEnds}
+use Rattle.rete_net.specs.Owners.{AreOwnedSoFar}
 use Rattle.rete_net.specs.declared.node.NetNode.{NetNode}
 use Rattle.rete_net.specs.Indexes.{IsIndexOf}
 use Rattle.rete_net.specs.Schedules.{AreScheduled}
 use Rattle.rete_net.proofs.Growing.{passes_at, ends_more}
+use Rattle.rete_net.proofs.Owning.{rule_owned}
 use Rattle.rete_net.proofs.net.Rete.of_rules.Goals as goal
 
 pub loop-rule-init : goal.loop-rule-init
 loop-rule-init c = record {
   count = ap length c.in_ok-ends.ensures.items;
-  built = λ runnable. ([], c.new-builder.ensures c.args.program.now, λ place rule lt e. absurd (omega arith));
+  built = λ runnable. ([], c.new-builder.ensures.grown c.args.program.now, λ place rule lt e. absurd (omega arith), c.new-builder.ensures.owned c.args.program.now);
 }
 
 pub loop-rule-preserved : goal.loop-rule-preserved
@@ -33,20 +35,37 @@ loop-rule-preserved c = record { count = let e = c.loop-rule.invariant.count in 
     ends_are : c.push.new.self.items ≡ c.loop-rule.ends.items ++ unwrap_or c.in_ok-last.last 0 ∷ []
     ends_are = c.in_ok-push.ensures.items ∙ ap (λ (end : ℕ). c.loop-rule.ends.items ++ end ∷ []) c.unwrap_or.ensures
 
+    -- the rule's number
+    number : IsRunnable c.args.program.now → c.rule_in.result.0 ≡ c.loop-rule.rule-index
+    number runnable =
+        let many : length c.as_slice-rule-items.result.now ≡ length c.args.program.now.rules = ap (λ (rs : List Rule). length rs) c.as_slice-rule-items.ensures in
+        let few = runnable.few_rules in
+        let count = c.loop-rule.invariant.count in
+        let at : c.len.result ≡ c.loop-rule.rule-index = c.len.ensures ∙ c.loop-rule.ends.ok.0 ∙ count in
+        c.rule_in.ensures (omega (arith, many, few, at, within)) ∙ at
+
     built : IsRunnable c.args.program.now → (all : List (List Condition)) × AreGrown c.args.program.now c.put_chain.new.self.nodes.items c.put_chain.new.self.origins.items all × HaveEnds all c.push.new.self.items c.args.program.now.rules (c.loop-rule.rule-index + 1)
+        × AreOwnedSoFar c.args.program.now all c.put_chain.new.self.owners.items (c.loop-rule.rule-index + 1) [] 0
     built runnable =
         let p = c.args.program.now in
         let rule = c.rule-item.result in
         let was = c.loop-rule.invariant.built runnable in
         let windows = passes_at (has_windows p) p.rules c.loop-rule.rule-index rule runnable.windows found in
         let some = passes_at has_conditions p.rules c.loop-rule.rule-index rule runnable.conditions found in
-        let more = c.in_ok-last.ensures was.0 was.1 (in_place p.rules c.loop-rule.rule-index rule found) windows in (
+        let conditions = both_of (nat_le 1 (length rule.conditions)) (nat_le (length rule.conditions) 8) some in
+        let few : length rule.conditions ≤ 8 = (let le = conditions.1 in grind (arith, nat_tests)) in
+        let stands : slice_get p.rules c.rule_in.result.0 ≡ Some rule = ap (slice_get p.rules) (number runnable) ∙ found in
+        let owned : AreOwnedSoFar p was.0 c.loop-rule.builder.owners.items c.rule_in.result.0 [] 0 =
+            subst (λ n. AreOwnedSoFar p was.0 c.loop-rule.builder.owners.items n [] 0) (sym (number runnable)) was.3 in
+        let more = c.in_ok-last.ensures was.0 was.1 stands few windows owned in (
           was.0 ++ more.0,
           more.1,
           subst (λ (ends : List ℕ). HaveEnds (was.0 ++ more.0) ends p.rules (c.loop-rule.rule-index + 1)) (sym ends_are)
               (ends_more was.0 more.0 c.loop-rule.ends.items p.rules rule c.in_ok-last.last c.loop-rule.rule-index was.2 c.loop-rule.invariant.count found
               more.2
-              (both_of (nat_le 1 (length rule.conditions)) (nat_le (length rule.conditions) 8) some).0),
+              conditions.0),
+          subst (λ n. AreOwnedSoFar p (was.0 ++ more.0) c.put_chain.new.self.owners.items (n + 1) [] 0) (number runnable)
+              (rule_owned p (was.0 ++ more.0) c.put_chain.new.self.owners.items c.rule_in.result.0 rule stands more.3),
         )
 
 pub returns-clause-indexed : goal.returns-clause-indexed
@@ -62,4 +81,12 @@ returns-clause-built c runnable =
     let was = c.loop-rule.invariant.built runnable in
     let rules : length c.as_slice-rule-items.result.now ≡ length c.args.program.now.rules = ap (λ (rs : List Rule). length rs) c.as_slice-rule-items.ensures in
     let count = c.loop-rule.invariant.count in
-    (was.0, was.1.built, λ place rule lt e. was.2 place rule (omega (arith, rules)) e, was.1.fronts, was.1.distinct, omega (arith, rules, count))
+    let all_rules : c.loop-rule.rule-index ≡ length c.args.program.now.rules = omega (arith, rules) in (
+      was.0,
+      was.1.built,
+      λ place rule lt e. was.2 place rule (omega (arith, rules)) e,
+      was.1.fronts,
+      was.1.distinct,
+      omega (arith, rules, count),
+      subst (λ n. AreOwnedSoFar c.args.program.now was.0 c.loop-rule.builder.owners.items n [] 0) all_rules was.3,
+    )

@@ -1,0 +1,102 @@
+//! A run over a program, from its beginning.
+ghost use Rattle.std.specs.Prelude.{◌≡◌, ◌⊎◌, ◌≤◌, ◌^◌, List, Option, ℕ, Some, IfOk, OnOk, IsErrOf};
+ghost use Rattle.command_words.specs.declared.asking.Asked.TheVariants.{RuleFile};
+ghost use Rattle.rule_lives.specs.Keeping.{AreLives, IsSafeTable};
+ghost use Rattle.rule_world.specs.Programs.{IsRunnable};
+ghost use Rattle.rule_world.specs.Worlds.{World};
+ghost use Rattle.script_run.specs.Turns.{ended_as};
+ghost use Rattle.replay.specs.Beginnings.{BeginsIn, CanBegin, IsBeginningFor, part_of};
+ghost use Rattle.replay.specs.Calls.{ShelfSeen, seen, RunOf};
+ghost use Rattle.replay.specs.Report.{run_status};
+ghost use Rattle.replay.specs.Wanted.{wanted_at};
+
+use crate::beginning::Beginning;
+use crate::refused_checkpoint::{CheckpointCode, refuse_checkpoint};
+use crate::status::{status_found, status_of_fault};
+use command_words::Mode;
+use engine::{Engine, ResumeFault};
+use expiry_infer::lives;
+use fx_io::{Sink, Source};
+use rule_model::{LifeTable, Program};
+use script_run::{Progress, run_from};
+use std::alloc::Global;
+
+/// An engine in each world of the beginning.
+pub(crate) fn begun<E: Engine>(
+    alloc: Global,
+    program: Program,
+    lives: LifeTable,
+    beginning: &Beginning,
+) -> Result<E, ResumeFault>
+    requires runnable { IsRunnable program }
+    requires table { IsSafeTable program lives }
+    ensures stands { IfOk result (λ e. (w : World) → BeginsIn program lives beginning.now w → E.stands e w) }
+    ensures program { IfOk result (λ e. E.made_with e ≡ program) }
+    ensures table { IfOk result (λ e. E.table e ≡ lives) }
+    ensures tags { IfOk result (λ e. E.tags e ≤ 2 ^ 61) }
+    ensures lines { OnOk result ((part_of beginning.now).lines ≤ 2 ^ 61) }
+    ensures fits { OnOk result (CanBegin program lives beginning.now) }
+    ensures unfit { IsErrOf result ResumeFault.Unfit → CanBegin program lives beginning.now → ⊥ }
+{
+    match beginning {
+        Beginning::First(_) => Ok(E::new(alloc, program, lives)?),
+        Beginning::Behind(image) => E::resume(alloc, program, lives, image),
+    }
+}
+
+// Runs a program with the table of its lives over a script, from the beginning.
+fn run_with_lives<E: Engine, S: Source, K: Sink>(
+    alloc: Global,
+    program: Program,
+    lives: LifeTable,
+    beginning: Beginning,
+    limit: u64,
+    script: &mut S,
+    out: &mut K,
+) -> u8
+    requires runnable { IsRunnable program }
+    requires lives { AreLives program lives }
+    requires table { IsSafeTable program lives }
+    requires low { limit ≤ 1000000 }
+    ensures run { (name : List ℕ) (image : Option (List ℕ)) (first last : ShelfSeen) → IsBeginningFor first.files Mode.Run image beginning
+        → RunOf E.gives E.fires E.counts (Some (RuleFile name Mode.Run limit image)) (Some (wanted_at Mode.Run limit beginning program))
+        (seen first (S.left script.old) (S.given script.old) (S.faults script.old) (K.written out.old) (K.faults out.old))
+        (seen last (S.left script.new) (S.given script.new) (S.faults script.new) (K.written out.new) (K.faults out.new)) result }
+    ensures untouched { result ≡ 9 → script.new ≡ script.old }
+{
+    let engine = match begun::<E>(alloc, program, lives, &beginning) {
+        Ok(engine) => engine,
+        Err(ResumeFault::Unfit) => return refuse_checkpoint(alloc, out, CheckpointCode::Unfit),
+        Err(ResumeFault::NoMemory) => return 7,
+    };
+    let at = Progress::behind(&beginning.part(), limit);
+    match run_from::<E, S, K>(alloc, engine, at, limit, script, out) {
+        Ok(found) => status_found(found),
+        Err(fault) => status_of_fault(fault),
+    }
+}
+
+/// Runs a program over a script, from the beginning, by the lives that are inferred of its types.
+pub(crate) fn run_program<E: Engine, S: Source, K: Sink>(
+    alloc: Global,
+    program: Program,
+    beginning: Beginning,
+    limit: u64,
+    script: &mut S,
+    out: &mut K,
+) -> u8
+    requires runnable { IsRunnable program }
+    requires low { limit ≤ 1000000 }
+    ensures run { (name : List ℕ) (image : Option (List ℕ)) (first last : ShelfSeen) → IsBeginningFor first.files Mode.Run image beginning
+        → RunOf E.gives E.fires E.counts (Some (RuleFile name Mode.Run limit image)) (Some (wanted_at Mode.Run limit beginning program))
+        (seen first (S.left script.old) (S.given script.old) (S.faults script.old) (K.written out.old) (K.faults out.old))
+        (seen last (S.left script.new) (S.given script.new) (S.faults script.new) (K.written out.new) (K.faults out.new)) result }
+    ensures untouched { result ≡ 9 → script.new ≡ script.old }
+{
+    match lives(alloc, &program) {
+        Ok(lives) => {
+            run_with_lives::<E, S, K>(alloc, program, lives, beginning, limit, script, out)
+        }
+        Err(_) => 7,
+    }
+}

@@ -1,0 +1,8 @@
+use Rattle.std.proofs.Common.{sym, subst, List, []}
+use Rattle.rete_net.specs.Owners.{AreOwnedSoFar}
+use Rattle.rete_net.specs.declared.build.Owner.{Owner}
+use Rattle.rete_net.proofs.Owning.{none_owned}
+use Rattle.rete_net.proofs.build.Builder.new.Goals as goal
+
+pub returns-clause-owned : goal.returns-clause-owned
+returns-clause-owned c p = subst (λ (owners : List Owner). AreOwnedSoFar p [] owners 0 [] 0) (sym c.new-2.ensures.items) (none_owned p)

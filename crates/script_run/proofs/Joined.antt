@@ -1,0 +1,163 @@
+-- The run of a script in two parts.
+use Rattle.std.proofs.Common.{◌≡◌, ◌⊎◌, inl, inr, ◌≤◌, ◌+◌, ◌-◌, ◌++◌, ◌==◌, ℕ, zero, suc, Bool, true, false, List, [], ◌∷◌, length, nat_lt, Option, Some, None, refl, sym, ap, ◌∙◌, arith}
+use Rattle.std.specs.Prelude.{if◌then◌else◌}
+use Rattle.fx_io.specs.Lines.{lines_of, onto_first}
+use Rattle.checkpoint.specs.declared.image.RunPart.{RunPart}
+use Rattle.rule_model.specs.declared.program.Program.{Program}
+use Rattle.rule_world.specs.Worlds.{World, empty_world}
+use Rattle.script_read.specs.Asked.{Asked, asks, bad_json, bad_command, asked}
+use Rattle.script_read.specs.Blank.{is_blank}
+use Rattle.script_read.specs.declared.asked.Command.{Command}
+use Rattle.script_read.specs.declared.asked.Command.TheVariants.{Change, Fire, Held}
+use Rattle.engine.specs.declared.lines.OutLine.{OutLine}
+use Rattle.script_run.specs.declared.turn.Progress.{Progress}
+use Rattle.script_run.specs.Firings.{Fires, Firings, all_fired, limit_met, firings, none_left, onto_lines, then_fires, wants_one, one_less}
+use Rattle.script_run.specs.Parts.{EndsLine, first_part, part_at, progress_behind, run_on}
+use Rattle.script_run.specs.Run.{RunSetting, RunState, Outcome, Done, LineEffect, goes_on, stops, run, then_run, whole_run, first_state, state_in, state_after, step_in, line_step, fire_step, command_step, asked_step}
+use Rattle.script_run.proofs.Ahead.{run_goes, run_stops, then_run-then_run}
+
+some_is : {A : Type 0} (x y : A) → Some x ≡ Some y → x ≡ y
+some_is x y e = cc
+
+abbrev comes_of : Outcome → Option RunState
+comes_of o = o.comes_to
+
+abbrev bytes_of : Outcome → List ℕ
+bytes_of o = o.bytes
+
+-- ---- lines behind lines
+
+abbrev Joins : RunSetting → RunState → RunState → List (List ℕ) → List (List ℕ) → Type 0
+Joins setting s t xs ys = run setting s (xs ++ ys) ≡ then_run (run setting s xs).bytes (run setting t ys)
+
+no_more : (s t : RunState) → None ≡ Some t → ⊥
+no_more s t e = cc
+
+joined : (setting : RunSetting) (s t : RunState) (xs ys : List (List ℕ)) → (run setting s xs).comes_to ≡ Some t → Joins setting s t xs ys
+unfolding run
+joined setting s t [] ys e = ap (λ (u : RunState). run setting u ys) (some_is s t e)
+joined setting s t (x ∷ xs) ys e = here (step_in setting s x) refl (λ u h. joined setting u t xs ys h)
+  where
+    here : (step : LineEffect) → step_in setting s x ≡ step → ((u : RunState) → (run setting u xs).comes_to ≡ Some t → Joins setting u t xs ys) → Joins setting s t (x ∷ xs) ys
+    here (goes_on done) is rest =
+        let first = run_goes setting s x done is xs in
+        let comes : (run setting (state_after s done) xs).comes_to ≡ Some t = sym (ap comes_of first) ∙ e in
+        run_goes setting s x done is (xs ++ ys) ∙ ap (then_run done.text) (rest (state_after s done) comes)
+        ∙ then_run-then_run done.text (run setting (state_after s done) xs).bytes (run setting t ys) ∙ ap (λ (z : List ℕ). then_run z (run setting t ys)) (sym (ap bytes_of first))
+    here (stops text) is rest = absurd (no_more s t (sym (ap comes_of (run_stops setting s x text is xs)) ∙ e))
+
+-- ---- the firings that are left never rise
+
+abbrev FiresWithin : ℕ → Firings → Type 0
+FiresWithin most (all_fired lines w left) = left ≤ most
+FiresWithin most (limit_met lines) = Unit {0}
+
+none_within : (o : Option (List OutLine × World)) (w : World) → FiresWithin 0 (none_left o w)
+none_within None w = omega arith
+none_within (Some f) w = tt
+
+onto_within : (n : ℕ) (lines : List OutLine) (r : Firings) → FiresWithin n r → FiresWithin (suc n) (onto_lines lines r)
+onto_within n lines (all_fired more w left) h = omega (arith, h)
+onto_within n lines (limit_met more) h = tt
+
+then_within : (n : ℕ) (o : Option (List OutLine × World)) (w : World) (next : World → Firings) → ((v : World) → FiresWithin n (next v)) → FiresWithin (suc n) (then_fires o w (suc n) next)
+then_within n None w next h = omega arith
+then_within n (Some f) w next h = onto_within n f.0 (next f.1) (h f.1)
+
+if_fires : (n : ℕ) (flag : Bool) (a b : Firings) → FiresWithin n a → FiresWithin n b → FiresWithin n (if flag then a else b)
+if_fires n true a b h k = h
+if_fires n false a b h k = k
+
+firings_within : (fires : Fires) (p : Program) (most : Option ℕ) (n : ℕ) (w : World) → FiresWithin n (firings fires p most n w)
+unfolding firings
+firings_within fires p most zero w = if_fires 0 (wants_one most) (none_left (fires p w) w) (all_fired [] w zero) (none_within (fires p w) w) (omega arith)
+firings_within fires p most (suc n) w =
+    if_fires (suc n) (wants_one most) (then_fires (fires p w) w (suc n) (firings fires p (one_less most) n)) (all_fired [] w (suc n))
+    (then_within n (fires p w) w (firings fires p (one_less most) n) (λ v. firings_within fires p (one_less most) n v)) (omega arith)
+
+abbrev StepWithin : ℕ → LineEffect → Type 0
+StepWithin most (goes_on done) = done.left ≤ most
+StepWithin most (stops text) = Unit {0}
+
+if_step : (n : ℕ) (flag : Bool) (a b : LineEffect) → StepWithin n a → StepWithin n b → StepWithin n (if flag then a else b)
+if_step n true a b h k = h
+if_step n false a b h k = k
+
+fire_within : (setting : RunSetting) (number n : ℕ) (r : Firings) → FiresWithin n r → StepWithin n (fire_step setting number r)
+fire_within setting number n (all_fired lines w left) h = h
+fire_within setting number n (limit_met lines) h = tt
+
+command_within : (setting : RunSetting) (number n : ℕ) (w : World) (c : Command) → StepWithin n (command_step setting number n w c)
+command_within setting number n w (Change change) = omega arith
+command_within setting number n w (Fire most) = fire_within setting number n (firings setting.fires setting.program most n w) (firings_within setting.fires setting.program most n w)
+command_within setting number n w Held = omega arith
+
+asked_within : (setting : RunSetting) (number n : ℕ) (w : World) (a : Asked) → StepWithin n (asked_step setting number n w a)
+asked_within setting number n w (asks command) = command_within setting number n w command
+asked_within setting number n w bad_json = omega arith
+asked_within setting number n w bad_command = omega arith
+
+step_within : (setting : RunSetting) (number n : ℕ) (w : World) (line : List ℕ) → StepWithin n (line_step setting number n w line)
+unfolding line_step
+step_within setting number n w line =
+    if_step n (nat_lt 65536 (length line)) _ _ (omega arith) (if_step n (is_blank line) _ _ (omega arith) (asked_within setting number n w (asked line)))
+
+run_within : (setting : RunSetting) (s t : RunState) (xs : List (List ℕ)) → (run setting s xs).comes_to ≡ Some t → t.progress.left ≤ s.progress.left
+unfolding run
+run_within setting s t [] e = let is : s ≡ t = some_is s t e in rw is (omega arith)
+run_within setting s t (x ∷ xs) e =
+    here (step_in setting s x) refl (step_within setting (s.progress.lines + 1) s.progress.left s.world x) (λ u h. run_within setting u t xs h)
+  where
+    here : (step : LineEffect) → step_in setting s x ≡ step → StepWithin s.progress.left step → ((u : RunState) → (run setting u xs).comes_to ≡ Some t → t.progress.left ≤ u.progress.left)
+        → t.progress.left ≤ s.progress.left
+    here (goes_on done) is within rest = omega (arith, within, rest (state_after s done) (sym (ap comes_of (run_goes setting s x done is xs)) ∙ e))
+    here (stops text) is within rest = absurd (no_more s t (sym (ap comes_of (run_stops setting s x text is xs)) ∙ e))
+
+-- ---- what an image says of a run is where it goes on
+
+left_is : (limit before left : ℕ) → left ≤ limit - before → limit - (before + ((limit - before) - left)) ≡ left
+left_is limit before left h = grind (arith, h)
+
+goes_on_there : (limit : ℕ) (first : RunPart) (s : RunState) → s.progress.left ≤ limit - first.firings → state_in s.world (progress_behind limit (part_at limit first s.progress)) ≡ s
+goes_on_there limit first s h = ap with_left (left_is limit first.firings s.progress.left h)
+  where
+    with_left : ℕ → RunState
+    with_left n = state_in s.world (record { lines = s.progress.lines; left = n; faulted = s.progress.faulted })
+
+all_left : (limit : ℕ) → limit ≡ limit - 0
+all_left limit = omega arith
+
+-- a run begins behind the part of one that has not begun
+pub first_behind : (limit : ℕ) (rules : List ℕ) → first_state limit ≡ state_in empty_world (progress_behind limit (first_part rules))
+first_behind limit rules = ap with_left (all_left limit)
+  where
+    with_left : ℕ → RunState
+    with_left n = state_in empty_world (record { lines = 0; left = n; faulted = false })
+
+pub whole_behind : (setting : RunSetting) (rules : List ℕ) (lines : List (List ℕ)) → whole_run setting lines ≡ run_on setting empty_world (first_part rules) lines
+whole_behind setting rules lines = ap (λ (s : RunState). run setting s lines) (first_behind setting.limit rules)
+
+-- ---- the lines of a script in two parts
+
+-- a byte in front of lines, with and without others behind them
+in_front : (ends : Bool) (x : ℕ) (lines more : List (List ℕ)) (l : List ℕ) (ls behind : List (List ℕ)) → lines ≡ l ∷ ls → more ≡ l ∷ (ls ++ behind)
+    → (k : List ℕ) × (ks : List (List ℕ)) × ((if ends then [] ∷ lines else onto_first x lines) ≡ k ∷ ks) × ((if ends then [] ∷ more else onto_first x more) ≡ k ∷ (ks ++ behind))
+in_front true x lines more l ls behind e f = ([], lines, refl, ap (λ (z : List (List ℕ)). [] ∷ z) (f ∙ ap (λ (z : List (List ℕ)). z ++ behind) (sym e)))
+in_front false x lines more l ls behind e f = (x ∷ l, ls, ap (onto_first x) e, ap (onto_first x) f)
+
+front_lines : (front b : List ℕ) → (l : List ℕ) × (ls : List (List ℕ)) × (lines_of (front ++ 10 ∷ []) ≡ l ∷ ls) × (lines_of ((front ++ 10 ∷ []) ++ b) ≡ l ∷ (ls ++ lines_of b))
+unfolding lines_of
+front_lines [] b = ([], [], refl, refl)
+front_lines (x ∷ front) b = let r = front_lines front b in in_front (x == 10) x _ _ r.0 r.1 (lines_of b) r.2 r.3
+
+lines_joined : (a b : List ℕ) → EndsLine a → lines_of (a ++ b) ≡ lines_of a ++ lines_of b
+unfolding lines_of
+lines_joined a b (inl none) = rw none refl
+lines_joined a b (inr last) = let r = front_lines last.0 b in rw last.1 (r.3 ∙ ap (λ (z : List (List ℕ)). z ++ lines_of b) (sym r.2))
+
+pub script_joined : (setting : RunSetting) (w : World) (first : RunPart) (a b : List ℕ) (s : RunState) → EndsLine a → (run_on setting w first (lines_of a)).comes_to ≡ Some s
+    → run_on setting w first (lines_of (a ++ b)) ≡ then_run (run_on setting w first (lines_of a)).bytes (run_on setting s.world (part_at setting.limit first s.progress) (lines_of b))
+script_joined setting w first a b s ends comes =
+    let begin : RunState = state_in w (progress_behind setting.limit first) in
+    ap (run setting begin) (lines_joined a b ends) ∙ joined setting begin s (lines_of a) (lines_of b) comes
+    ∙ ap (λ (u : RunState). then_run (run setting begin (lines_of a)).bytes (run setting u (lines_of b))) (sym (goes_on_there setting.limit first s (run_within setting begin s (lines_of a) comes)))

@@ -1,0 +1,34 @@
+use Rattle.std.proofs.Common.{◌≡◌, ◌≤◌, ◌+◌, ◌*◌, ◌^◌, ℕ, List, None}
+use Rattle.fx_io.specs.Outside.{append, prepend, count_after}
+use Rattle.fx_io.specs.Lines.{total_told, to_come}
+use Rattle.rule_world.specs.Worlds.{World}
+use Rattle.script_run.specs.Run.{setting_of, state_in, run}
+use Rattle.script_run.proofs.Ahead.{SoFar}
+use Rattle.script_run.proofs.running.run_from.Given as goal
+
+-- the front was written, and behind it comes what is gathered; from each world that the first engine stands for, that is what the lines done
+-- so far print, and the engine stands for their world
+abbrev pub invariant-loop-text : goal.invariant-loop-text
+invariant-loop-text g l =
+    let stands = g.E.Engine.stands in
+    let left = g.S.Source.left in
+    let written = g.K.Sink.written in
+    let setting = setting_of g.E.Engine.gives g.E.Engine.fires g.E.Engine.counts l.fn.limit (g.E.Engine.made_with l.fn.engine) (g.E.Engine.table l.fn.engine) in
+    record {
+      so_far : (front : List ℕ) × (written l.out ≡ append (written l.fn.out) front) × ((w : World) → stands l.fn.engine w
+          → (v : World) × stands l.engine v × SoFar (run setting (state_in w l.fn.at)) (run setting (state_in v l.at)) (left l.fn.script) (prepend l.reader.kept (left l.script)) (written l.fn.out) (written l.out) front l.text.items);
+      program : g.E.Engine.made_with l.engine ≡ g.E.Engine.made_with l.fn.engine;
+      table : g.E.Engine.table l.engine ≡ g.E.Engine.table l.fn.engine;
+      tags : g.E.Engine.tags l.engine + 16 * l.at.left + 16 * to_come (2 ^ 30) l.reader.taken l.reader.kept ≤ g.E.Engine.tags l.fn.engine + 16 * l.fn.at.left + 16 * (2 ^ 30 + 1);
+      total : total_told 0 (left l.fn.script) ≡ total_told l.reader.taken (left l.script);
+      given : g.S.Source.given l.script ≡ count_after (g.S.Source.given l.fn.script) l.reader.taken;
+      line_max : l.reader.line_max ≡ 65536;
+      total_max : l.reader.total_max ≡ 2 ^ 30;
+      fault : l.reader.fault ≡ None;
+      few : l.at.lines + to_come (2 ^ 30) l.reader.taken l.reader.kept ≤ l.fn.at.lines + (2 ^ 30 + 1);
+      script_counts : g.S.Source.faults l.fn.script ≤ g.S.Source.faults l.script;
+      out_counts : g.K.Sink.faults l.fn.out ≤ g.K.Sink.faults l.out;
+    }
+
+abbrev pub decreases-loop-text : goal.decreases-loop-text
+decreases-loop-text g l = to_come (2 ^ 30) l.reader.taken l.reader.kept
