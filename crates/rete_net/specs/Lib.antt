@@ -13,3 +13,4 @@ pub mod Dropped
 pub mod Steps
 pub mod Walks
 pub mod Building
+pub mod Loading

@@ -12,10 +12,10 @@ ghost use Rattle.rete_net.specs.Shapes.{IsFront};
 ghost use Rattle.rete_net.specs.Steps.{no_change, empty_row_comes};
 
 use crate::node::NetNode;
-use crate::sameness::Same;
 use fx_base::{Fact, Facts, NoMemory, RuleId, Seq, Tag};
 use row_delta::{Delta, Row};
 use rule_model::{Condition, Program, Rule};
+use same_condition::Same;
 use std::alloc::Global;
 
 /// The store that holds nothing.

@@ -12,14 +12,15 @@ mod forgetting;
 mod index;
 pub mod laws;
 mod lists;
+mod load;
 mod net;
 mod node;
 mod quiet;
-mod sameness;
 mod schedule;
 mod steps;
 mod timers;
 
 pub use changes::RuleChange;
 pub use forgetting::RuleRows;
+pub use load::LoadFault;
 pub use net::Rete;

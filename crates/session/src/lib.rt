@@ -10,6 +10,7 @@ pub mod laws;
 mod moving;
 mod refreshing;
 mod running;
+mod saving;
 mod session;
 mod settling;
 mod state;

@@ -8,7 +8,8 @@ use crate::running::Running;
 use crate::state::State;
 use agenda::Agenda;
 use change_read::asked_step;
-use engine::{Engine, Fired, Lines};
+use checkpoint::{Image, RunPart};
+use engine::{Engine, Fired, Lines, ResumeFault};
 use fx_base::{Millis, NoMemory, Seq};
 use rete_net::Rete;
 use retention::Retention;
@@ -32,9 +33,9 @@ fn saliences_of(alloc: Global, rules: &[Rule]) -> Result<Vec<i64>, NoMemory>
 /// its rules, and the events whose lives end.
 #[derive(Drop)]
 pub struct Session {
-    setting: Running,
-    state: State,
-    memory: Box<Memory>,
+    pub(crate) setting: Running,
+    pub(crate) state: State,
+    pub(crate) memory: Box<Memory>,
     ghost sound: { ∥ IsSound setting.program memory.value state ∥₁ },
 }
 
@@ -224,5 +225,18 @@ impl Engine for Session {
 
     fn program(&self) -> &Program {
         Session::program(self)
+    }
+
+    fn save(&self, alloc: Global, run: RunPart) -> Result<Image, NoMemory> {
+        Session::save(self, alloc, run)
+    }
+
+    fn resume(
+        alloc: Global,
+        program: Program,
+        lives: LifeTable,
+        image: &Image,
+    ) -> Result<Session, ResumeFault> {
+        Session::resume(alloc, program, lives, image)
     }
 }

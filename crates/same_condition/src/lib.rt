@@ -1,3 +1,6 @@
+//! Whether two conditions are the same. It stands on the parts of conditions, and assumes nothing of the outside.
+#![tactic(auto)]
+
 ghost use Rattle.std.specs.Prelude.{◌≡◌, ◌↔◌, IsTrue};
 
 use fold_fn::FoldKind;
@@ -8,7 +11,7 @@ use rule_model::{
 use temporal_ops::{Op, OpEdge};
 
 /// What of a condition can be compared: it is the same exactly where it is equal. Takes no memory.
-pub(crate) trait Same {
+pub trait Same {
     fn is_same(&self, other: &Self) -> bool
         ensures { IsTrue result ↔ (self.now ≡ other.now) };
 }

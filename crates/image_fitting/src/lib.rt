@@ -1,0 +1,8 @@
+//! Which images fit a program with its lives, as far as it can be told before a network is loaded from one. It stands on the laws of
+//! images, and assumes nothing of the outside.
+#![tactic(auto)]
+
+mod fitting;
+pub mod laws;
+
+pub use fitting::fits_plainly;
