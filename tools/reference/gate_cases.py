@@ -20,6 +20,7 @@ from dataclasses import dataclass, field
 from typing import Iterator
 
 from compare import TOP
+from modes import image_answer
 from reader import FILE_END
 from replay import BadWords, asked, generated_run, mode_text, usage
 from run import program_or_refusal, run
@@ -48,6 +49,7 @@ class Case:
     line_lens: list[int] = field(default_factory=list)
     returns: bool = False
     ended: bool = True
+    cut: bool = False
     rules: bytes = b""
     script: bytes = b""
 
@@ -66,6 +68,8 @@ class Case:
             self.rules_len = int(words[2])
         elif words[:2] == ["blanks", "lines"]:
             self.line_lens = [int(word) for word in words[2:]]
+        elif words == ["cuts"]:
+            self.cut = True
         elif words in (["returns"], ["unended"]):
             self.returns, self.ended = self.returns or words == ["returns"], self.ended and words != ["unended"]
         else:
@@ -142,6 +146,13 @@ def all_calls(case: Case) -> tuple[list[Call], int]:
     program = program_or_refusal(case.rules[:FILE_END + 1], STAGE)
     if isinstance(program, str):
         return calls + writes(case, (program + "\n").encode()), 3
+    if a.image is not None:
+        # On the shelf stand the rule file and an empty file with the name IMAGE, neither of which is an image.
+        code = "BadImage" if a.image in ("RULES", "IMAGE") else "Missing"
+        return calls + writes(case, f"refused checkpoint {code}\n".encode()), 9
+    if a.mode == "save":
+        text, status = image_answer(run(program, case.script, a.limit))
+        return calls + [("script", case.script)] + writes(case, text), status
     if a.mode != "run":
         return calls + writes(case, mode_text(program, a.mode).encode()), 0
     more, status = run_calls(case, program, a.limit)
@@ -174,7 +185,8 @@ def printed(case: Case) -> bytes:
     written, status = ending(case, calls, status)
     counts = Counter(name for name, _ in calls)
     each = [f"=== each {name}: {counts[name]} calls, status {STATUS[name]}, prefixes\n" for name in case.each]
-    return written + f"=== status {status}\n".encode() + "".join(each).encode()
+    cuts = f"=== cuts: {case.script.count(10)}, the same\n" if case.cut else ""
+    return written + f"=== status {status}\n".encode() + "".join(each).encode() + cuts.encode()
 
 
 def expected_of(data: bytes) -> dict[bytes, bytes]:

@@ -7,17 +7,17 @@ import os
 FIRST_STAGE, LAST_STAGE = 2, 20
 
 # That of today's program.
-TODAY = 17
+TODAY = 20
 
 
 def has_proof(stage: int) -> bool:
-    """Whether there is the mode `proof`: from the stage 19 on, and in today's program, which had it before images."""
-    return stage >= 19 or stage == TODAY
+    """Whether there is the mode `proof`."""
+    return stage >= 19
 
 
 def has_alternatives(stage: int) -> bool:
-    """Whether there are alternatives and subtypes: from the stage 20 on, and in today's program, which had them before images."""
-    return stage >= 20 or stage == TODAY
+    """Whether there are alternatives and subtypes."""
+    return stage >= 20
 
 
 def stage_asked() -> int:

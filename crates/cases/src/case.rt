@@ -1,3 +1,4 @@
+use crate::cuts::try_cuts;
 use crate::each::try_each;
 use crate::running::run_once;
 use crate::settings::Settings;
@@ -94,6 +95,9 @@ impl Case {
         write_all(out, line.as_bytes())?;
         for object in case.settings.each.as_slice() {
             try_each(alloc, &case, *object, out)?;
+        }
+        if case.settings.is_cut {
+            try_cuts(alloc, &case, &ran, out)?;
         }
         Ok(())
     }

@@ -4,6 +4,7 @@
 #![tactic(auto)]
 
 mod case;
+mod cuts;
 mod each;
 mod failing;
 mod running;

@@ -44,18 +44,34 @@ pub(crate) fn run_once(
     failures: &Failures,
     script: &[u8],
 ) -> Result<Ran, Stopped> {
+    let words = case.settings.words.as_slice();
+    run_with(alloc, case, words, &[], failures, script)
+}
+
+/// The same with these words, and an image on the shelf.
+pub(crate) fn run_with(
+    alloc: Global,
+    case: &Case,
+    words: &[String],
+    image: &[u8],
+    failures: &Failures,
+    script: &[u8],
+) -> Result<Ran, Stopped> {
     let settings = &case.settings;
     let most = settings.most.max(1);
-    let file = (
+    let rules = (
         Text::new(alloc, "RULES")?,
         Seq::from_vec(case.rules.to_vec(alloc)?),
     );
-    let mut shelf = MemShelf::new(vec![in alloc; file]?, failures.shelf.to_vec(alloc)?);
+    let image = (
+        Text::new(alloc, "IMAGE")?,
+        Seq::from_vec(image.to_vec(alloc)?),
+    );
+    let mut shelf = MemShelf::new(vec![in alloc; rules, image]?, failures.shelf.to_vec(alloc)?);
     let source = ChunkSource::new(script.to_vec(alloc)?, most);
     let mut source = Failing::new(source, failures.script.to_vec(alloc)?);
     let sink = ChunkSink::new(alloc, settings.room.min(MOST), most)?;
     let mut sink = Failing::new(sink, failures.out.to_vec(alloc)?);
-    let words = settings.words.as_slice();
     let status = sozhipen::run(alloc, words, &mut shelf, &mut source, &mut sink);
     Ok(Ran {
         status,

@@ -87,6 +87,8 @@ pub(crate) struct Settings {
     pub(crate) is_ended: bool,
     /// The objects of which each call is to fail in a run of its own.
     pub(crate) each: Vec<Object>,
+    /// Whether the script is also run in two parts, cut behind each of its lines.
+    pub(crate) is_cut: bool,
 }
 
 impl Settings {
@@ -102,6 +104,7 @@ impl Settings {
             has_returns: false,
             is_ended: true,
             each: Vec::new(alloc),
+            is_cut: false,
         })
     }
 
@@ -127,6 +130,7 @@ impl Settings {
             ["blanks", "lines", lens @ ..] => self.line_lens = numbers(alloc, lens)?,
             ["returns"] => self.has_returns = true,
             ["unended"] => self.is_ended = false,
+            ["cuts"] => self.is_cut = true,
             _ => return Err(Stopped),
         }
         Ok(())

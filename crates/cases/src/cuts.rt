@@ -1,0 +1,81 @@
+use crate::case::Case;
+use crate::running::{Ran, run_with};
+use crate::settings::Failures;
+use crate::stopped::Stopped;
+use fx_io::{Sink, write_all};
+use std::alloc::Global;
+
+// The words of a case with further ones in front of them.
+fn words_with(alloc: Global, more: &[&str], words: &[String]) -> Result<Vec<String>, Stopped> {
+    let mut all = Vec::new(alloc);
+    for word in more {
+        all.push(String::from_str(alloc, word)?)?;
+    }
+    for word in words {
+        all.push(String::from_str(alloc, word.as_str())?)?;
+    }
+    Ok(all)
+}
+
+// Runs the case over a part of its script, with further words and an image on the shelf.
+fn run_part(
+    alloc: Global,
+    case: &Case,
+    more: &[&str],
+    image: &[u8],
+    script: &[u8],
+) -> Result<Ran, Stopped> {
+    let words = words_with(alloc, more, case.settings.words.as_slice())?;
+    run_with(
+        alloc,
+        case,
+        words.as_slice(),
+        image,
+        &Failures::none(alloc),
+        script,
+    )
+}
+
+// Whether the parts print what the whole does: the first one its front, and the second one, from the image behind the first, the rest, with
+// the status of the whole.
+fn goes_on(
+    alloc: Global,
+    case: &Case,
+    whole: &Ran,
+    first: &[u8],
+    rest: &[u8],
+) -> Result<bool, Stopped> {
+    let front = run_part(alloc, case, &[], &[], first)?;
+    let saved = run_part(alloc, case, &["--mode", "save"], &[], first)?;
+    let back = run_part(alloc, case, &["--resume", "IMAGE"], &saved.printed, rest)?;
+    Ok(saved.status == front.status
+        && back.status == whole.status
+        && whole.printed.starts_with(&front.printed)
+        && whole.printed[front.printed.len().min(whole.printed.len())..] == back.printed[..])
+}
+
+/// Runs a case in two parts, cut behind each line of its script, and writes a line: that the parts printed what the whole does, or the
+/// first cut where they did not.
+pub(crate) fn try_cuts<K: Sink>(
+    alloc: Global,
+    case: &Case,
+    whole: &Ran,
+    out: &mut K,
+) -> Result<(), Stopped> {
+    let script = case.script.as_slice();
+    let mut cuts: u64 = 0;
+    for place in 0..script.len() {
+        if script[place] == b'\n' {
+            cuts = cuts.saturating_add(1);
+            let (first, rest) = script.split_at(place + 1);
+            if !goes_on(alloc, case, whole, first, rest)? {
+                let line = format!(in alloc; "=== cuts: other behind line {cuts}\n")?;
+                write_all(out, line.as_bytes())?;
+                return Ok(());
+            }
+        }
+    }
+    let line = format!(in alloc; "=== cuts: {cuts}, the same\n")?;
+    write_all(out, line.as_bytes())?;
+    Ok(())
+}
