@@ -2,7 +2,7 @@
 """Measures a program that is called as `replay` is, over the loads of loads.py.
 
     python3 tools/bench/measure.py --list
-    python3 tools/bench/measure.py --replay PROGRAM [--runs N] [--clips] [--callgrind] [--latency] [--folder FOLDER] NAME:LINES[,LINES..] ..
+    python3 tools/bench/measure.py --replay PROGRAM [--runs N] [--clips] [--callgrind] [--latency] [--images] [--folder FOLDER] NAME:LINES[,LINES..] ..
 
 A row has the seconds of processor time, user and system, the least of N runs (3), the time of a line with its part of the start, the peak
 of memory, and the firings. `inserts:20000,40000` measures both, and says how the seconds grew: 2.00 is linear. The further words:
@@ -11,6 +11,8 @@ of memory, and the firings. `inserts:20000,40000` measures both, and says how th
              its own form, and the same rules. The ratio is the program's time by that of CLIPS
 --callgrind  instructions a line by valgrind: those of the script of 2n lines less those of n, so that the start falls out
 --latency    on a pipe, by the clock: how long a line and a mark behind it take to be answered, where the program waits for each
+--images     how much longer the run takes that saves an image in place of its lines, the image, and a run that goes on from it over no
+             lines; the peaks of memory are told by that of the run
 --folder     keeps the files of the loads there
 
 The status is 1 where a run ended by another status than 0, or CLIPS fired another number of times. It wants Linux, for the peaks.
@@ -181,6 +183,20 @@ def latency(program: str, files: Files) -> str:
     return f"  on a pipe {parts}  worst {times[worst] / 1000:.1f} µs (line {worst + 1})  a mark alone {share(marks, 0.5)} µs"
 
 
+# ---- images
+
+
+def images(program: str, files: Files, runs: int, ours: Spent) -> str:
+    folder = files.rules.parent
+    command = [program, "--limit", FIRINGS]
+    saved = min(ran([*command, "--mode", "save", str(files.rules)], files.script, folder) for _ in range(runs))
+    image = (folder / "printed").rename(folder / "image")
+    resumed = min(ran([*command, "--resume", str(image), str(files.rules)], Path(os.devnull), folder) for _ in range(runs))
+    told = f"  saved in {saved.seconds - ours.seconds:.3f} s, peak {saved.mebibytes / ours.mebibytes:.2f}  image {image.stat().st_size / 2**20:.1f} MiB"
+    told += f"  resumed in {resumed.seconds:.3f} s, peak {resumed.mebibytes / ours.mebibytes:.2f}"
+    return told + (f"  status {saved.status}, {resumed.status}" if saved.status or resumed.status else "")
+
+
 # ---- rows
 
 
@@ -226,6 +242,7 @@ def measured(asked: argparse.Namespace, folder: Path, load: Wanted) -> bool:
         row += growth(before, ours) if before else ""
         row += by_callgrind(asked.replay, folder, load.name, n, files) if asked.callgrind and not ours.status else ""
         row += latency(asked.replay, files) if asked.latency and not ours.status else ""
+        row += images(asked.replay, files, asked.runs, ours) if asked.images and not ours.status else ""
         row += beside(ours, theirs) if theirs else ""
         print(row, flush=True)
         good = good and not ours.status and (not theirs or theirs.fired == ours.fired)
@@ -241,6 +258,7 @@ def asked_for(given: list[str]) -> argparse.Namespace:
     parser.add_argument("--clips", action="store_true", help="beside CLIPS, where the load has a twin")
     parser.add_argument("--callgrind", action="store_true", help="instructions a line, by valgrind")
     parser.add_argument("--latency", action="store_true", help="how long a line takes on a pipe")
+    parser.add_argument("--images", action="store_true", help="how long an image takes, and a run that goes on from it")
     parser.add_argument("--folder", type=Path, help="keep the files there")
     parser.add_argument("loads", nargs="*", type=wanted, metavar="NAME:LINES[,LINES..]")
     asked = parser.parse_args(given)

@@ -67,6 +67,11 @@ class Loads(Case):
         self.assertEqual(spent.status, 0, (self.folder / "printed").read_text(encoding="utf-8")[:200])
         return spent.fired
 
+    def test_images_of_the_evaluator(self):
+        status, told = self.told("--replay", self.evaluator(), "--runs", "1", "--images", "inserts:40")
+        self.assertEqual(status, 0)
+        self.assertRegex(told, r"  saved in -?\d+\.\d{3} s, peak \d\.\d\d  image 0\.0 MiB  resumed in \d+\.\d{3} s, peak \d\.\d\d\n")
+
     def test_each_is_accepted_and_fires(self):
         for name in LOADS:
             with self.subTest(name):
