@@ -304,7 +304,7 @@ impl Run {
     fn load(&mut self, alloc: Global, program: &Program) -> Result<bool, NoMemory> {
         let mut kept = Vec::new(alloc);
         for fact in self.facts.facts(alloc)? {
-            kept.push(fact.copy(alloc)?)?;
+            kept.push(copied(alloc, fact)?)?;
         }
         let extras = self.net.extras(alloc, &self.facts)?;
         let moment = Moment {
@@ -519,6 +519,18 @@ impl Run {
     fn has_moved(&self) -> bool {
         self.rules.iter().all(|rule| rule.came && rule.went)
     }
+}
+
+/// A copy of a fact.
+fn copied(alloc: Global, fact: &Fact) -> Result<Fact, NoMemory> {
+    Ok(Fact {
+        id: fact.id,
+        ty: fact.ty,
+        entry: fact.entry,
+        fields: fact.fields.copy(alloc)?,
+        tag: fact.tag,
+        times: fact.times,
+    })
 }
 
 /// The next version of a fact, with another value in the field of this place.
