@@ -185,7 +185,7 @@ def printed(case: Case) -> bytes:
     written, status = ending(case, calls, status)
     counts = Counter(name for name, _ in calls)
     each = [f"=== each {name}: {counts[name]} calls, status {STATUS[name]}, prefixes\n" for name in case.each]
-    cuts = f"=== cuts: {case.script.count(10)}, the same\n" if case.cut else ""
+    cuts = f"=== cuts: {(case.script.count(10) + 1) // 3}, the same\n" if case.cut else ""
     return written + f"=== status {status}\n".encode() + "".join(each).encode() + cuts.encode()
 
 

@@ -48,14 +48,16 @@ fn goes_on(
     let front = run_part(alloc, case, &[], &[], first)?;
     let saved = run_part(alloc, case, &["--mode", "save"], &[], first)?;
     let back = run_part(alloc, case, &["--resume", "IMAGE"], &saved.printed, rest)?;
-    Ok(saved.status == front.status
-        && back.status == whole.status
-        && whole.printed.starts_with(&front.printed)
-        && whole.printed[front.printed.len().min(whole.printed.len())..] == back.printed[..])
+    Ok(
+        saved.status == front.status
+            && back.status == whole.status
+            && whole.printed.starts_with(&front.printed)
+            && whole.printed[front.printed.len().min(whole.printed.len())..] == back.printed[..],
+    )
 }
 
-/// Runs a case in two parts, cut behind each line of its script, and writes a line: that the parts printed what the whole does, or the
-/// first cut where they did not.
+/// Runs a case in two parts, cut behind each third line of its script from the second one on, and writes a line: that the parts printed
+/// what the whole does, or the first cut where they did not.
 pub(crate) fn try_cuts<K: Sink>(
     alloc: Global,
     case: &Case,
@@ -63,15 +65,19 @@ pub(crate) fn try_cuts<K: Sink>(
     out: &mut K,
 ) -> Result<(), Stopped> {
     let script = case.script.as_slice();
+    let mut lines: u64 = 0;
     let mut cuts: u64 = 0;
     for place in 0..script.len() {
         if script[place] == b'\n' {
-            cuts = cuts.saturating_add(1);
-            let (first, rest) = script.split_at(place + 1);
-            if !goes_on(alloc, case, whole, first, rest)? {
-                let line = format!(in alloc; "=== cuts: other behind line {cuts}\n")?;
-                write_all(out, line.as_bytes())?;
-                return Ok(());
+            lines = lines.saturating_add(1);
+            if lines % 3 == 2 {
+                cuts = cuts.saturating_add(1);
+                let (first, rest) = script.split_at(place + 1);
+                if !goes_on(alloc, case, whole, first, rest)? {
+                    let line = format!(in alloc; "=== cuts: other behind line {lines}\n")?;
+                    write_all(out, line.as_bytes())?;
+                    return Ok(());
+                }
             }
         }
     }

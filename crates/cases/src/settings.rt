@@ -87,7 +87,7 @@ pub(crate) struct Settings {
     pub(crate) is_ended: bool,
     /// The objects of which each call is to fail in a run of its own.
     pub(crate) each: Vec<Object>,
-    /// Whether the script is also run in two parts, cut behind each of its lines.
+    /// Whether the script is also run in two parts, cut behind each third line from the second one on.
     pub(crate) is_cut: bool,
 }
 
