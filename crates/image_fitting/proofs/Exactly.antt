@@ -16,7 +16,6 @@ use Rattle.fx_base.specs.declared.ids.Tag.{Tag}
 use Rattle.fx_base.specs.declared.times.Times.{Times}
 use Rattle.row_delta.specs.declared.extra.Extra.{Extra}
 use Rattle.checkpoint.specs.declared.image.Image.{Image}
-use Rattle.temporal_ops.specs.Possible.{IsEvent}
 use Rattle.rule_model.specs.declared.life.LifeTable.{LifeTable}
 use Rattle.rule_model.specs.declared.program.Program.{Program}
 use Rattle.rule_model.specs.Candidates.{is_present}
@@ -121,9 +120,9 @@ is_reached_at most moment e = let r = both_of (int_le (pos 0) moment) (int_le mo
 abbrev times_by : ℤ → ℤ → Times
 times_by start end = record { start = start; end = end }
 
-ends_is : (point : Bool) (times : Times) → IsEvent point times → ends_as_its_type point times ≡ true
-ends_is true times x = is_same times.end times.start (x.ends refl)
-ends_is false times x = refl
+ends_is : (point : Bool) (times : Times) → (point ≡ true → times.end ≡ times.start) → ends_as_its_type point times ≡ true
+ends_is true times h = is_same times.end times.start (h refl)
+ends_is false times h = refl
 
 is_ending : (point : Bool) (times : Times) → ends_as_its_type point times ≡ true → point ≡ true → times.end ≡ times.start
 is_ending true times e h = same_is times.end times.start e
@@ -138,7 +137,7 @@ module _ (p : Program) (image : Image) (f : Fact) where
       both (is_reached image.clock f.times.start) _ (reached_is image.clock f.times.start x.from_zero x.to_clock)
       (both (int_le f.times.start last) _ (most_is f.times.start last x.to_last)
       (both (int_le f.times.start f.times.end) _ (most_is f.times.start f.times.end x.event.ordered)
-      (both (ends_as_its_type (is_point p f.ty.0) f.times) (is_short f.times) (ends_is (is_point p f.ty.0) f.times x.event) (most_is f.times.end (f.times.start +ℤ most_millis) x.short))))
+      (both (ends_as_its_type (is_point p f.ty.0) f.times) (is_short f.times) (ends_is (is_point p f.ty.0) f.times x.event.ends) (most_is f.times.end (f.times.start +ℤ most_millis) x.short))))
 
   is_timed_at : is_timed (is_point p f.ty.0) image.clock last f.times ≡ true → IsTimed p (world_of image) f
   is_timed_at e =

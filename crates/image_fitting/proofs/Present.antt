@@ -39,7 +39,7 @@ use Rattle.join_tests.specs.Joins.{joins}
 use Rattle.pair_memory.specs.Joined.{joined}
 use Rattle.pair_memory.proofs.Joining.{joined_with, joined_from}
 use Rattle.pair_memory.proofs.Valued.{valued_from}
-use Rattle.condition_rows.specs.Lines.{is_ripe, empty_row}
+use Rattle.condition_rows.specs.Lines.{is_ripe, empty_row, is_empty_row}
 use Rattle.condition_rows.specs.Sets.{held, candidates_of, has_partner}
 use Rattle.condition_rows.proofs.Joined.{candidate_of}
 use Rattle.keeping.specs.Kept.{is_alive}
@@ -77,9 +77,12 @@ module _ (p : Program) (s : Snapshot) (d : HaveDistinctTags s.facts) where
       let r = valued_from (λ without v. left without && laden_gives p a s (values_of (beyond without)) without v) row e in
       h r.0 (both_of (left r.0) (laden_gives p a s (values_of (beyond r.0)) r.0 r.1) r.3).0 who (subst (λ (z : Row). In who z.facts) r.2 i)
 
+  empty_present : NamePresent is_empty_row
+  empty_present row e who i = absurd (subst (λ (z : Row). In who z.facts) (tells_apart row_exact row empty_row e) i)
+
   laden_present : (extras : List Extra) (owner : ℕ → ℕ) (conditions : List Condition) (n : ℕ) → NamePresent (laden p s extras owner conditions n)
   unfolding laden
-  laden_present extras owner conditions zero row e who i = absurd (subst (λ (z : Row). In who z.facts) (tells_apart row_exact row empty_row e) i)
+  laden_present extras owner conditions zero = empty_present
   laden_present extras owner conditions (suc n) = by (slice_get conditions n) (laden p s extras owner conditions n) (laden_present extras owner conditions n)
     where
       by : (o : Option Condition) (left : Row → Bool) → NamePresent left → NamePresent (laden_with p s (extra_at extras (owner n) n) o left)

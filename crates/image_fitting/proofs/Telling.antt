@@ -152,15 +152,15 @@ kinds_at fields vs k field v inside also is_field is_v =
 
 -- a field that has not its kind, in the middle
 pub kinds_end : (fields : List (List ℕ × Kind)) (vs : List Value) (k : ℕ) (field : List ℕ × Kind) (v : Value) (r : Bool) → k < length fields → k < length vs → field ≡ get_or fields k field → v ≡ get_or vs k v
-    → r ≡ has_kind (get_or fields k field).1 (get_or vs k v) → r ≡ false → have_kinds (drop k fields) (drop k vs) ≡ have_kinds fields vs → false ≡ have_kinds fields vs
+    → r ≡ has_kind (get_or fields k field).1 v → r ≡ false → have_kinds (drop k fields) (drop k vs) ≡ have_kinds fields vs → false ≡ have_kinds fields vs
 kinds_end fields vs k field v r inside also is_field is_v told fails so_far =
-    ap (λ b. b && have_kinds (drop (k + 1) fields) (drop (k + 1) vs)) (sym fails ∙ told ∙ sym (ap (λ (f : List ℕ × Kind). has_kind f.1 (get_or vs k v)) is_field) ∙ sym (ap (has_kind field.1) is_v)) ∙ sym (kinds_at fields vs k field v inside also is_field is_v) ∙ so_far
+    ap (λ b. b && have_kinds (drop (k + 1) fields) (drop (k + 1) vs)) (sym fails ∙ told ∙ sym (ap (λ (f : List ℕ × Kind). has_kind f.1 v) is_field)) ∙ sym (kinds_at fields vs k field v inside also is_field is_v) ∙ so_far
 
 -- one that has it
 pub kinds_on : (fields : List (List ℕ × Kind)) (vs : List Value) (k : ℕ) (field : List ℕ × Kind) (v : Value) (r : Bool) → k < length fields → k < length vs → field ≡ get_or fields k field → v ≡ get_or vs k v
-    → r ≡ has_kind (get_or fields k field).1 (get_or vs k v) → r ≡ true → have_kinds (drop k fields) (drop k vs) ≡ have_kinds fields vs → have_kinds (drop (k + 1) fields) (drop (k + 1) vs) ≡ have_kinds fields vs
+    → r ≡ has_kind (get_or fields k field).1 v → r ≡ true → have_kinds (drop k fields) (drop k vs) ≡ have_kinds fields vs → have_kinds (drop (k + 1) fields) (drop (k + 1) vs) ≡ have_kinds fields vs
 kinds_on fields vs k field v r inside also is_field is_v told holds so_far =
-    ap (λ b. b && have_kinds (drop (k + 1) fields) (drop (k + 1) vs)) (sym holds ∙ told ∙ sym (ap (λ (f : List ℕ × Kind). has_kind f.1 (get_or vs k v)) is_field) ∙ sym (ap (has_kind field.1) is_v)) ∙ sym (kinds_at fields vs k field v inside also is_field is_v) ∙ so_far
+    ap (λ b. b && have_kinds (drop (k + 1) fields) (drop (k + 1) vs)) (sym holds ∙ told ∙ sym (ap (λ (f : List ℕ × Kind). has_kind f.1 v) is_field)) ∙ sym (kinds_at fields vs k field v inside also is_field is_v) ∙ so_far
 
 pub kinds_over : (fields : List (List ℕ × Kind)) (vs : List Value) (k : ℕ) → length fields ≤ k → length vs ≤ k → have_kinds (drop k fields) (drop k vs) ≡ have_kinds fields vs → true ≡ have_kinds fields vs
 unfolding have_kinds

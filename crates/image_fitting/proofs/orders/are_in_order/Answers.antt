@@ -11,4 +11,4 @@ returns-then-ne g c =
     c.index-items-place.is c.index-items-place-in-loop-place.is c.rank.ensures (not_less c.rank.result (sym c.ne.ensures ∙ c.if-ne.true)))
 
 pub returns : goal.returns
-returns g c = always (in_order g.T.Ranked.order g.met.T.Ranked.total c.args.items.now c.loop-place.place c.loop-place-test.false c.loop-place.invariant)
+returns g c = always (in_order g.T.Ranked.order g.T.Ranked.total c.args.items.now c.loop-place.place c.loop-place-test.false c.loop-place.invariant)
