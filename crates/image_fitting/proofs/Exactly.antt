@@ -1,6 +1,6 @@
 -- An image fits plainly exactly where it does part by part.
-use Rattle.std.proofs.Common.{◌≡◌, ◌↔◌, ◌∙◌, ◌&&◌, ◌||◌, ◌==◌, not, ℕ, zero, suc, ◌<◌, ◌≤◌, ◌^◌, ℤ, pos, ◌+ℤ◌, ◌≤ℤ◌, Bool, true, false, if◌then◌else◌, List, [], ◌∷◌, length, replicate, IsTrue, refl, sym, ap, subst, arith, inl, inr}
-use Rattle.std.specs.Prelude.{nat_lt, nat_le, int_le, slice_get, slice_index_or}
+use Rattle.std.proofs.Common.{◌≡◌, ◌↔◌, ◌∙◌, ◌&&◌, ◌==◌, ℕ, zero, suc, ◌<◌, ◌≤◌, ◌^◌, ℤ, pos, ◌+ℤ◌, ◌≤ℤ◌, Bool, true, false, if◌then◌else◌, List, [], ◌∷◌, length, replicate, IsTrue, refl, sym, ap, subst, arith, inl, inr}
+use Rattle.std.specs.Prelude.{nat_lt, nat_le, int_le, slice_get}
 use Rattle.std.specs.declared.cmp.Ordering.TheVariants.{Less, Equal}
 use Rattle.std.specs.List.{All, list_all}
 use Rattle.std.specs.List.Sorted.{IsStrictlySortedBy}
@@ -14,12 +14,10 @@ use Rattle.fx_base.specs.Lists.{In}
 use Rattle.fx_base.specs.declared.fact.Fact.{Fact}
 use Rattle.fx_base.specs.declared.ids.Tag.{Tag}
 use Rattle.fx_base.specs.declared.times.Times.{Times}
-use Rattle.row_delta.specs.declared.extra.Extra.{Extra}
 use Rattle.checkpoint.specs.declared.image.Image.{Image}
 use Rattle.rule_model.specs.declared.life.LifeTable.{LifeTable}
 use Rattle.rule_model.specs.declared.program.Program.{Program}
 use Rattle.rule_model.specs.Candidates.{is_present}
-use Rattle.rule_model.specs.Distinct.{HaveDistinctTags}
 use Rattle.rule_model.specs.Moments.{moment_in}
 use Rattle.rule_model.specs.Types.{is_event, is_point}
 use Rattle.rule_model.proofs.Listed.{both, both_of}
@@ -28,14 +26,14 @@ use Rattle.rule_world.specs.Kinds.{values_fit, fact_fits}
 use Rattle.rule_world.specs.Lawful.{IsTimed, IsSound, EventsInOrder, IsLawful}
 use Rattle.rule_world.proofs.Fresh.{below_of, below_all}
 use Rattle.rule_world.proofs.Ids.{under_all, id_number, id_below}
-use Rattle.image_laws.specs.Fitting.{world_of, IsNextNumber, IsSmall, IsPlaced}
+use Rattle.image_laws.specs.Fitting.{world_of, IsNextNumber, IsPlaced}
 use Rattle.image_laws.specs.Images.{tag_cmp}
 use Rattle.image_laws.proofs.Sorted.{below_each, sorted_marked}
 use Rattle.image_fitting.specs.Orders.{tag_total}
 use Rattle.image_fitting.specs.Parts.{FitByParts}
 use Rattle.image_fitting.specs.Plain.{FitsPlainly}
-use Rattle.image_fitting.specs.Tests.{is_small, is_next, counts_fit, is_reached, moments_fit, ends_as_its_type, is_short, is_lasting, is_timed, times_fit, is_at_hand, come_in_turn}
-use Rattle.image_fitting.proofs.Turning.{StartsNotBehind, StartInTurn, StartFrom, turn_says, turn_holds}
+use Rattle.image_fitting.specs.Tests.{is_small, is_next, is_reached, ends_as_its_type, is_short, is_lasting, is_timed, times_fit, is_at_hand}
+use Rattle.image_fitting.proofs.Turning.{StartInTurn, StartFrom, turn_says, turn_holds}
 
 -- ---- tests of numbers
 
@@ -259,17 +257,22 @@ module _ (p : Program) (table : LifeTable) (image : Image) where
   to_parts x = record {
     distinct = x.lawful.ordered.ids;
     in_turn = turn_holds p zeros image.facts (starts p image.facts x.lawful.events) (starts_from_zero x.lawful);
-    alone = record { numbers = record { counts = both (is_next image.next_id) _ (next_is image.next_id x.next_id)
-        (both (is_next image.next_tag) _ (next_is image.next_tag x.next_tag)
-        (both (is_small image.run.lines) (is_small image.run.firings) (at_most_is image.run.lines (2 ^ 61) x.lines) (at_most_is image.run.firings (2 ^ 61) x.firings)));
-    moments = both (length image.last_starts == length p.entries) _ (is_number (length image.last_starts) (length p.entries) x.last_starts)
-        (both (length image.promises == length p.entries) _ (is_number (length image.promises) (length p.entries) x.promises)
-        (both (is_reached most_millis image.clock) _ (reached_is most_millis image.clock x.lawful.clock_low x.lawful.clock_high)
-        (both (list_all (is_reached image.clock) image.last_starts) (list_all (is_reached most_millis) image.promises)
-        (at_moment (is_reached image.clock) image.last_starts (λ k. reached_is image.clock (moment_in image.last_starts k) (x.lawful.last_low k) (x.lawful.last_high k)))
-        (at_moment (is_reached most_millis) image.promises (λ k. reached_is most_millis (moment_in image.promises k) (x.lawful.promise_low k) (x.lawful.promise_high k))))));
-    at_hand = at_all (is_at_hand p image) image.facts (λ f i. there_is p image f (fact_there x f i));
-    }; orders = record { facts = x.facts_in_order; fired = x.fired_in_order; extras = x.extras_in_order }; placed = all_in (IsPlaced p table) image.extras x.placed };
+    alone = record {
+      numbers = record {
+        counts = both (is_next image.next_id) _ (next_is image.next_id x.next_id)
+            (both (is_next image.next_tag) _ (next_is image.next_tag x.next_tag)
+            (both (is_small image.run.lines) (is_small image.run.firings) (at_most_is image.run.lines (2 ^ 61) x.lines) (at_most_is image.run.firings (2 ^ 61) x.firings)));
+        moments = both (length image.last_starts == length p.entries) _ (is_number (length image.last_starts) (length p.entries) x.last_starts)
+            (both (length image.promises == length p.entries) _ (is_number (length image.promises) (length p.entries) x.promises)
+            (both (is_reached most_millis image.clock) _ (reached_is most_millis image.clock x.lawful.clock_low x.lawful.clock_high)
+            (both (list_all (is_reached image.clock) image.last_starts) (list_all (is_reached most_millis) image.promises)
+            (at_moment (is_reached image.clock) image.last_starts (λ k. reached_is image.clock (moment_in image.last_starts k) (x.lawful.last_low k) (x.lawful.last_high k)))
+            (at_moment (is_reached most_millis) image.promises (λ k. reached_is most_millis (moment_in image.promises k) (x.lawful.promise_low k) (x.lawful.promise_high k))))));
+        at_hand = at_all (is_at_hand p image) image.facts (λ f i. there_is p image f (fact_there x f i));
+      };
+      orders = record { facts = x.facts_in_order; fired = x.fired_in_order; extras = x.extras_in_order };
+      placed = all_in (IsPlaced p table) image.extras x.placed;
+    };
   }
 
   module _ (x : FitByParts p table image) where

@@ -14,7 +14,7 @@ use Rattle.rule_model.specs.Rows.{pattern_of}
 use Rattle.image_laws.specs.Extras.{IsFirstWith}
 use Rattle.image_laws.specs.Fitting.{IsPlaced}
 use Rattle.image_laws.specs.Laden.{AreOwners}
-use Rattle.image_fitting.specs.Table.{AreFirsts, IsTable, first_at, is_place, is_first, is_finite, CanCount}
+use Rattle.image_fitting.specs.Table.{IsTable, first_at, is_place, is_first, is_finite, CanCount}
 
 number_is : (m n : ℕ) → (m == n) ≡ true → m ≡ n
 number_is m n e = grind (arith, nat_tests)

@@ -66,13 +66,6 @@ module _ (p : Program) (conditions : List Condition) where
     pub each : (k place : ℕ) → slice_get firsts k ≡ Some place → IsFirstWith p (suc k) conditions place
     pub others : (k place : ℕ) (rule : Rule) → length firsts ≤ k → k < length conditions → place < n → slice_get p.rules place ≡ Some rule → take (suc k) rule.conditions ≡ take (suc k) conditions → ⊥
 
-  pub none_so_far : AreSoFar [] 0
-  none_so_far = record {
-    within = omega arith;
-    each = λ k place e. absurd cc;
-    others = λ k place rule a b less stands e. absurd (omega arith);
-  }
-
   module _ (firsts : List ℕ) (n alike : ℕ) (theirs : List Condition) (stands : option_map conditions_in (slice_get p.rules n) ≡ Some theirs) (same : take alike theirs ≡ take alike conditions)
       (inside : alike ≤ length conditions) (most : (m : ℕ) → alike < m → m ≤ length conditions → take m theirs ≡ take m conditions → ⊥) (so_far : AreSoFar firsts n) where
     other : (k place : ℕ) (r : Rule) → length firsts ≤ k → alike ≤ k → k < length conditions → place < n + 1 → slice_get p.rules place ≡ Some r → take (suc k) r.conditions ≡ take (suc k) conditions → ⊥
@@ -135,9 +128,6 @@ last_filled p conditions firsts place is so_far rule stands =
 pub record IsTableOf (p : Program) (table : List (List ℕ)) (n : ℕ) : Type 0 where
   pub as_many : length table ≡ n
   pub each : (place : ℕ) (rule : Rule) → place < n → slice_get p.rules place ≡ Some rule → (firsts : List ℕ) × (slice_get table place ≡ Some firsts) × AreFirsts p rule.conditions firsts
-
-pub no_table : (p : Program) → IsTableOf p [] 0
-no_table p = record { as_many = refl; each = λ place rule less stands. absurd (omega arith) }
 
 pub one_rule_more : (p : Program) (table : List (List ℕ)) (n : ℕ) (firsts : List ℕ) → ((rule : Rule) → slice_get p.rules n ≡ Some rule → AreFirsts p rule.conditions firsts) → IsTableOf p table n
     → IsTableOf p (table ++ firsts ∷ []) (n + 1)

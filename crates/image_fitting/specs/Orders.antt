@@ -4,7 +4,6 @@ use Rattle.std.proofs.lemmas.Cmp.{on_total, then_total, nat_cmp_total}
 use Rattle.fx_base.specs.declared.fact.Fact.{Fact}
 use Rattle.row_delta.specs.declared.extra.Extra.{Extra}
 use Rattle.row_delta.specs.RowOrder.{row_total}
-use Rattle.checkpoint.specs.declared.image.FiredMatch.{FiredMatch}
 use Rattle.rule_model.specs.MatchOrders.{match_total}
 use Rattle.image_laws.specs.Extras.{extra_cmp}
 use Rattle.image_laws.specs.Images.{tag_cmp, match_fired, fired_cmp}

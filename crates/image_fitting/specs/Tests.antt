@@ -1,5 +1,5 @@
 -- The tests by which the code tells whether an image fits plainly.
-use Rattle.std.specs.Prelude.{ℕ, ◌^◌, ◌==◌, ◌&&◌, ◌||◌, not, Bool, true, false, nat_lt, nat_le, ℤ, pos, ◌+ℤ◌, int_le, List, [], ◌∷◌, length, replicate, Option, Some, None, slice_get, slice_index_or, slice_set, if◌then◌else◌}
+use Rattle.std.specs.Prelude.{ℕ, ◌^◌, ◌==◌, ◌&&◌, ◌||◌, not, Bool, true, nat_lt, nat_le, ℤ, pos, ◌+ℤ◌, int_le, List, [], ◌∷◌, length, slice_index_or, slice_set, if◌then◌else◌}
 use Rattle.std.specs.List.{list_all}
 use Rattle.std.specs.Ordering.{int_eq}
 use Rattle.fx_base.specs.declared.fact.Fact.{Fact}

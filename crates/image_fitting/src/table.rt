@@ -31,7 +31,7 @@ fn conditions_of(program: &Program, place: usize) -> &[Condition]
     program.rules.as_slice()[place].conditions.as_slice()
 }
 
-// Has a place in a list for each number up to one.
+// Fills a list up to a length with a place; what is as long stays.
 fn fill_up(firsts: &mut Vec<usize>, upto: usize, place: usize) -> Result<(), NoMemory>
     ensures { OnOk result (firsts.new.items ≡ firsts.old.items ++ replicate (upto - length firsts.old.items) place) }
 {

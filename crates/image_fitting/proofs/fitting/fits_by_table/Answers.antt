@@ -1,4 +1,4 @@
-use Rattle.std.proofs.Common.{◌≡◌, ◌↔◌, ◌∙◌, List, length, replicate, pos, true, IsTrue, refl, sym, ap, subst}
+use Rattle.std.proofs.Common.{◌↔◌, ◌∙◌, List, length, replicate, pos, IsTrue, refl, sym, ap, subst}
 use Rattle.std.proofs.lemmas.Result.{IfOk-weaker}
 use Rattle.fx_base.specs.declared.fact.Fact.{Fact}
 use Rattle.rule_model.specs.Distinct.{HaveDistinctIds}

@@ -1,4 +1,4 @@
-use Rattle.std.proofs.Common.{◌≡◌, ◌↔◌, Bool, Result, Ok, Err, IsTrue, OnOk, subst, sym}
+use Rattle.std.proofs.Common.{◌↔◌, Result, Ok, Err, IsTrue, OnOk, subst, sym}
 use Rattle.std.proofs.lemmas.Result.{IfOk-weaker}
 use Rattle.image_fitting.specs.Plain.{FitsPlainly}
 use Rattle.image_fitting.specs.Parts.{FitByParts}

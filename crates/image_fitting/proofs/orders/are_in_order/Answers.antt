@@ -1,5 +1,4 @@
-use Rattle.std.proofs.Common.{◌≡◌, ◌∙◌, ◌-◌, ◌<◌, ◌==◌, not, true, sym, arith}
-use Rattle.std.specs.Ordering.{ordering_index}
+use Rattle.std.proofs.Common.{◌∙◌, ◌-◌, ◌<◌, sym, arith}
 use Rattle.image_fitting.proofs.Telling.{always, never, in_order, not_in_order, not_less}
 use Rattle.image_fitting.proofs.orders.are_in_order.Goals as goal
 
