@@ -8,7 +8,7 @@ use crate::extras::are_placed;
 use crate::facts::{are_at_hand, come_in_turn, have_distinct_ids};
 use crate::numbers::{counts_fit, moments_fit};
 use crate::orders::are_in_order;
-use crate::table::table;
+use crate::table::first_rules;
 use checkpoint::Image;
 use fx_base::{NoMemory, Seq};
 use rule_model::{LifeTable, Program};
@@ -28,6 +28,7 @@ fn orders_fit(image: &Image) -> bool
         && are_in_order(image.extras.as_slice())
 }
 
+// What can be told without memory.
 fn fits_alone(program: &Program, lives: &LifeTable, table: &[Seq<usize>], image: &Image) -> bool
     ensures { IsTable program.now table.now → (IsTrue result ↔ FitsAlone program.now lives.now image.now) }
 {
@@ -36,7 +37,7 @@ fn fits_alone(program: &Program, lives: &LifeTable, table: &[Seq<usize>], image:
         && are_placed(program, lives, table, image.extras.as_slice())
 }
 
-// The same by a table of the first rules that have the conditions of each rule.
+// Whether an image fits, by the table of the first rules that have the conditions of each rule.
 fn fits_by_table(
     alloc: Global,
     program: &Program,
@@ -68,6 +69,6 @@ pub fn fits_plainly(
     ensures exact { IfOk result (λ yes. IsTrue yes ↔ FitsPlainly program.now lives.now image.now) }
     ensures owners { OnOk result ((owners : ℕ → ℕ → ℕ) × AreOwners program.now owners) }
 {
-    let table = table(alloc, program)?;
+    let table = first_rules(alloc, program)?;
     fits_by_table(alloc, program, lives, table.as_slice(), image)
 }

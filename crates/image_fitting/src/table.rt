@@ -56,8 +56,9 @@ fn firsts(alloc: Global, program: &Program, place: usize) -> Result<Seq<usize>, 
     Ok(Seq::from_vec(firsts))
 }
 
-/// The first rules for each condition of each rule. It compares the conditions of each rule with those of the rules before it.
-pub(crate) fn table(alloc: Global, program: &Program) -> Result<Vec<Seq<usize>>, NoMemory>
+/// The table: for each condition of each rule, by their places, the first rule that has its conditions up to that one. It compares the
+/// conditions of each rule with those of the rules before it.
+pub(crate) fn first_rules(alloc: Global, program: &Program) -> Result<Vec<Seq<usize>>, NoMemory>
     ensures { IfOk result (λ table. IsTable program.now table.items) }
 {
     let mut table = Vec::new(alloc);
