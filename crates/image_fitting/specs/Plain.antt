@@ -1,5 +1,5 @@
 -- What of an image can be told to fit before a network is loaded from it.
-use Rattle.std.specs.Prelude.{◌≡◌, ◌×◌, ◌↔◌, ℕ, true, length}
+use Rattle.std.specs.Prelude.{◌≡◌, ◌↔◌, ℕ, true, length}
 use Rattle.std.specs.List.Sorted.{IsStrictlySortedBy}
 use Rattle.fx_base.specs.Lists.{In}
 use Rattle.fx_base.specs.declared.fact.Fact.{Fact}

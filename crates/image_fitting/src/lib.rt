@@ -2,7 +2,12 @@
 //! images, and assumes nothing of the outside.
 #![tactic(auto)]
 
+mod extras;
+mod facts;
 mod fitting;
 pub mod laws;
+mod numbers;
+mod orders;
+mod table;
 
 pub use fitting::fits_plainly;
