@@ -118,7 +118,7 @@ sorted_by_rows o (e ∷ extras) s under = (all_later extras s.0 (λ f i. under f
 
 -- ---- conditions
 
-aside_of : (c : Condition) → IsAside c → binds c ≡ false
+pub aside_of : (c : Condition) → IsAside c → binds c ≡ false
 aside_of (Plain pattern) never = absurd never
 aside_of (Negated pattern) is = refl
 aside_of (Existing pattern) is = refl
@@ -134,7 +134,7 @@ abbrev rule_numbered : ℕ → RuleId
 rule_numbered n = record { 0 = n }
 
 -- the front of a rule with one condition more
-longer : (all : List Condition) (i : ℕ) → i < length all → (c : Condition) × (slice_get all i ≡ Some c) × (take (suc i) all ≡ take i all ++ c ∷ [])
+pub longer : (all : List Condition) (i : ℕ) → i < length all → (c : Condition) × (slice_get all i ≡ Some c) × (take (suc i) all ≡ take i all ++ c ∷ [])
 longer all i h =
     let at = has_at all i h in
     let more = get_more all i at.0 at.1 in

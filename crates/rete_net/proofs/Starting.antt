@@ -62,7 +62,7 @@ none_valued : (test : Row → ℤ → Bool) (o : Option (Row × ℤ)) → false 
 none_valued test None = refl
 none_valued test (Some q) = refl
 
-none_made : (p : Program) (s : Snapshot) (c : Condition) (row : Row) → false ≡ line p s c no_rows row
+pub none_made : (p : Program) (s : Snapshot) (c : Condition) (row : Row) → false ≡ line p s c no_rows row
 unfolding joined valued
 none_made p s (Plain q) row = none_joined (joins q (held s)) (candidates_of p q s) (unjoined row)
 none_made p s (Negated q) row = refl
