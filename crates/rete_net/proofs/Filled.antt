@@ -54,31 +54,31 @@ use Rattle.rete_net.proofs.Starting.{none_made}
 
 -- ---- facts of one type
 
+later_filtered : (test : Fact → Bool) (n : ℕ) (gs : List Fact) → AllByRecursion (λ m. nat_cmp n m ≡ Less) (map (λ (g : Fact). g.tag.0) gs) → AllByRecursion (λ m. nat_cmp n m ≡ Less) (map (λ (g : Fact). g.tag.0) (filter test gs))
+later_filtered test n [] all = tt
+later_filtered test n (g ∷ gs) all = here (test g) (later_filtered test n gs all.1)
+  where
+    here : (b : Bool) → AllByRecursion (λ m. nat_cmp n m ≡ Less) (map (λ (h : Fact). h.tag.0) (filter test gs)) → AllByRecursion (λ m. nat_cmp n m ≡ Less) (map (λ (h : Fact). h.tag.0) (cond b (g ∷ filter test gs) (filter test gs)))
+    here true rest = (all.0, rest)
+    here false rest = rest
+
 rise_filtered : (test : Fact → Bool) (facts : List Fact) → IsStrictlySortedBy nat_cmp (map (λ (f : Fact). f.tag.0) facts) → IsStrictlySortedBy nat_cmp (map (λ (f : Fact). f.tag.0) (filter test facts))
 unfolding IsStrictlySortedBy
 rise_filtered test [] rise = tt
-rise_filtered test (f ∷ facts) rise = by (test f)
+rise_filtered test (f ∷ facts) rise = by (test f) (rise_filtered test facts rise.1)
   where
-    later : (gs : List Fact) → AllByRecursion (λ n. nat_cmp f.tag.0 n ≡ Less) (map (λ (g : Fact). g.tag.0) gs) → AllByRecursion (λ n. nat_cmp f.tag.0 n ≡ Less) (map (λ (g : Fact). g.tag.0) (filter test gs))
-    later [] all = tt
-    later (g ∷ gs) all = here (test g)
-      where
-        here : (b : Bool) → AllByRecursion (λ n. nat_cmp f.tag.0 n ≡ Less) (map (λ (h : Fact). h.tag.0) (cond b (g ∷ filter test gs) (filter test gs)))
-        here true = (all.0, later gs all.1)
-        here false = later gs all.1
-
-    by : (b : Bool) → IsStrictlySortedBy nat_cmp (map (λ (g : Fact). g.tag.0) (cond b (f ∷ filter test facts) (filter test facts)))
-    by true = (later facts rise.0, rise_filtered test facts rise.1)
-    by false = rise_filtered test facts rise.1
+    by : (b : Bool) → IsStrictlySortedBy nat_cmp (map (λ (g : Fact). g.tag.0) (filter test facts)) → IsStrictlySortedBy nat_cmp (map (λ (g : Fact). g.tag.0) (cond b (f ∷ filter test facts) (filter test facts)))
+    by true rest = (later_filtered test f.tag.0 facts rise.0, rest)
+    by false rest = rest
 
 -- what passes the one test alone passes both
 filter_twice : (one two : Fact → Bool) (facts : List Fact) → ((f : Fact) → one f ≡ false → two f ≡ false) → filter two (filter one facts) ≡ filter two facts
 filter_twice one two [] h = refl
-filter_twice one two (f ∷ facts) h = by (one f) refl
+filter_twice one two (f ∷ facts) h = by (one f) refl (filter_twice one two facts h)
   where
-    by : (b : Bool) → one f ≡ b → filter two (cond b (f ∷ filter one facts) (filter one facts)) ≡ cond (two f) (f ∷ filter two facts) (filter two facts)
-    by true e = ap (λ rest. cond (two f) (f ∷ rest) rest) (filter_twice one two facts h)
-    by false e = filter_twice one two facts h ∙ sym (ap (λ b. cond b (f ∷ filter two facts) (filter two facts)) (h f e))
+    by : (b : Bool) → one f ≡ b → filter two (filter one facts) ≡ filter two facts → filter two (cond b (f ∷ filter one facts) (filter one facts)) ≡ cond (two f) (f ∷ filter two facts) (filter two facts)
+    by true e rest = ap (λ others. cond (two f) (f ∷ others) others) rest
+    by false e rest = rest ∙ sym (ap (λ b. cond b (f ∷ filter two facts) (filter two facts)) (h f e))
 
 of_none : (a b c : Bool) → b ≡ false → (a && (b && c)) ≡ false
 of_none true b c e = ap (λ x. x && c) e

@@ -1,5 +1,6 @@
 -- One node after the other is loaded.
-use Rattle.std.proofs.Common.{◌≡◌, ◌∙◌, sym, ap, refl, subst, inl, inr, ℕ, ◌+◌, ◌<◌, ◌≤◌, arith, Bool, true, false, List, [], ◌∷◌, length, Option, Some, None, slice_get}
+use Rattle.std.proofs.Common.{◌≡◌, ◌∙◌, sym, ap, refl, subst, inl, inr, ℕ, ◌+◌, ◌<◌, ◌≤◌, arith, Bool, true, false, List, [], ◌∷◌, length, Result, Ok, Err, Option, Some, None, slice_get}
+use Rattle.std.specs.Prelude.{IsErrAnd, IsErrOf}
 use Rattle.std.specs.List.{filter}
 use Rattle.std.proofs.Math.ListN.{set, length-set}
 use Rattle.fx_base.specs.Lists.{In}
@@ -10,7 +11,8 @@ use Rattle.row_delta.specs.declared.row.Row.{Row}
 use Rattle.row_delta.specs.Rows.{has, InOrder}
 use Rattle.rule_model.specs.declared.moment.Moment.{Moment}
 use Rattle.rule_model.specs.declared.program.Program.{Program}
-use Rattle.rule_model.proofs.Order.{in_filter}
+use Rattle.rule_model.proofs.Named.{of_filter}
+use Rattle.rule_model.proofs.Order.{in_filter, passed}
 use Rattle.join_tests.specs.Joins.{Look}
 use Rattle.rete_net.specs.declared.answered.Answered.{Answered}
 use Rattle.rete_net.specs.declared.build.Owner.{Owner}
@@ -18,13 +20,18 @@ use Rattle.rete_net.specs.declared.index.Index.{Index}
 use Rattle.rete_net.specs.declared.node.NetNode.{NetNode}
 use Rattle.rete_net.specs.Answers.{answer_in, given as kept_or, left_given, some_answer, AreRuled, IsPut}
 use Rattle.rete_net.specs.Indexes.{is_listed}
-use Rattle.rete_net.specs.Loads.{is_under, AreLoaded, HasRowsOf, NodeLoad}
+use Rattle.rete_net.specs.Loads.{is_under, AreLoaded, HasRowsOf, IsStuck, NodeLoad}
 use Rattle.rete_net.specs.Places.{has_place}
 use Rattle.rete_net.specs.Steps.{no_change}
 use Rattle.rete_net.specs.Walks.{IsWired}
 use Rattle.rete_net.proofs.Growing.{both_at}
 use Rattle.rete_net.proofs.Turns.{below_or_at, set_other, set_same}
 use Rattle.rete_net.proofs.Walking.{equal_or_not, not_true}
+
+-- a fault that is passed on is the one that there was
+pub same_fault : {T E : Type 0} (r : Result T E) (e x : E) → IsErrOf r x → IsErrAnd r (λ y. y ≡ e) → e ≡ x
+same_fault (Ok y) e x is told = absurd told
+same_fault (Err y) e x is told = let same : y ≡ x = cc in sym told ∙ same
 
 module _ (p : Program) (look : Look) (kept : List Fact) (extras : List Extra) (moment : Moment) (first : Delta) (before : List NetNode) (owners : List Owner) (ends : List ℕ) where
   abbrev pub Way : List NetNode → Answered Delta → ℕ → Type 0
@@ -39,6 +46,22 @@ module _ (p : Program) (look : Look) (kept : List Fact) (extras : List Extra) (m
     loaded = λ k lt. absurd (omega (arith, lt));
     there = λ k lt. absurd (omega (arith, lt));
     ruled = λ rule end e out. unanswered end;
+  }
+
+  -- the row of an extra is missing
+  pub stuck_at : (now : List NetNode) (a : Answered Delta) (place : ℕ) → Way now a place → (n : NetNode) → slice_get now place ≡ Some n → (own : List Extra) → ((o : Owner) → slice_get owners place ≡ Some o → own ≡ filter (is_under o) extras)
+      → (rows : List Row) → rows ≡ (left_given first a n.parent).come → (InOrder rows → (e : Extra) × In e own × (has rows e.row ≡ false)) → IsStuck p look kept extras moment first before owners ends
+  stuck_at now a place way n at own own_are rows rows_are missing = record {
+    now = now;
+    answered = a;
+    place = place;
+    loaded = way;
+    node = n;
+    there = sym (way.rest place (omega arith)) ∙ at;
+    missing = λ o is sorted.
+        let it = missing (subst InOrder (sym rows_are) sorted) in
+        let own_one = subst (In it.0) (own_are o is) it.1 in
+        (it.0, of_filter (is_under o) it.0 extras own_one, passed (is_under o) it.0 extras own_one, ap (λ (rs : List Row). has rs it.0.row) (sym rows_are) ∙ it.2);
   }
 
   module _ (index : Index) (wired : IsWired before ends index) (now : List NetNode) (a : Answered Delta) (place : ℕ) (way : Way now a place) (n new : NetNode) (at : slice_get now place ≡ Some n)

@@ -101,7 +101,7 @@ module _ (p : Program) (look : Look) (t : Snapshot) (kept : List Fact) (extras :
   left_rows : (k : ℕ) (old : NetNode) → slice_get nodes k ≡ Some old → ((q : ℕ) → q < k → Answers q) → (parent : Option ℕ) → old.parent ≡ parent
       → AreRows (has (left_given empty_row_comes a parent).come) (before net.conditions parent)
   unfolding laden
-  left_rows k old e rest None at place m rule stands le is row =
+  left_rows k old e rest None at = λ place m rule stands le is row.
       let none = none_begun m rule.conditions le is in
       empty_alone row ∙ ap (λ i. laden p t extras (owners place) rule.conditions i row) (sym none)
   left_rows k old e rest (Some q) at = rest q (net.shaped.parents k q old e at)
@@ -109,10 +109,7 @@ module _ (p : Program) (look : Look) (t : Snapshot) (kept : List Fact) (extras :
   -- the conditions of a node as those of a rule: those before it, and its own
   module _ (k : ℕ) (old : NetNode) (e : slice_get nodes k ≡ Some old) (place m : ℕ) (rule : Rule) (stands : slice_get p.rules place ≡ Some rule) (le : suc m ≤ length rule.conditions)
       (is : net.conditions k ≡ take (suc m) rule.conditions) where
-    abbrev parts_type : Type 0
-    parts_type = (before net.conditions old.parent ≡ take m rule.conditions) × (slice_get rule.conditions m ≡ Some (condition_of old.node))
-
-    parts : parts_type
+    pub parts : (before net.conditions old.parent ≡ take m rule.conditions) × (slice_get rule.conditions m ≡ Some (condition_of old.node))
     parts =
         let more = longer rule.conditions m (omega (arith, le)) in
         let both = parted (before net.conditions old.parent) (take m rule.conditions) (condition_of old.node) more.0 (sym (net.shaped.own k old e) ∙ is ∙ more.2) in
@@ -122,7 +119,7 @@ module _ (p : Program) (look : Look) (t : Snapshot) (kept : List Fact) (extras :
     owner_at o f = subst (λ (cs : List Condition). IsOwned p cs o) is (owned.each k o f)
 
     -- what is given to it
-    load_at : (o : Owner) → slice_get held_by k ≡ Some o → ((q : ℕ) → q < k → Answers q)
+    pub load_at : (o : Owner) → slice_get held_by k ≡ Some o → ((q : ℕ) → q < k → Answers q)
         → IsNodeLoad p look kept moment t (laden p t extras (owners place) rule.conditions m) old (left_given empty_row_comes a old.parent).come (filter (is_under o) extras)
     load_at o f rest = record {
       fresh = fresh k old e;
@@ -139,7 +136,7 @@ module _ (p : Program) (look : Look) (t : Snapshot) (kept : List Fact) (extras :
     }
 
     -- its extras are those of the condition
-    extras_at : (o : Owner) → slice_get held_by k ≡ Some o → extra_for (filter (is_under o) extras) ≡ extra_at extras (owners place m) m
+    pub extras_at : (o : Owner) → slice_get held_by k ≡ Some o → extra_for (filter (is_under o) extras) ≡ extra_at extras (owners place m) m
     extras_at o f =
         let it = owner_at o f in
         fun_ext (λ row. extra_of_owner o extras row ∙ ap (λ r. extra_at extras r o.condition row) (owner_rule p owners own place m rule stands (omega (arith, le)) o it)
@@ -153,10 +150,10 @@ module _ (p : Program) (look : Look) (t : Snapshot) (kept : List Fact) (extras :
         ∙ ap (λ beyond. laden_line p t beyond (condition_of old.node) (laden p t extras (owners place) rule.conditions m) row) (extras_at o f)
         ∙ ap (λ c. laden_with p t (extra_at extras (owners place m) m) c (laden p t extras (owners place) rule.conditions m) row) (sym parts.1)
 
-  now_at : (k : ℕ) → k < bound → (new : NetNode) × (slice_get now k ≡ Some new)
+  pub now_at : (k : ℕ) → k < bound → (new : NetNode) × (slice_get now k ≡ Some new)
   now_at k lt = let many = loaded.many in has_at now k (omega (arith, many, lt, within))
 
-  owner_there : (k : ℕ) → k < bound → (o : Owner) × (slice_get held_by k ≡ Some o)
+  pub owner_there : (k : ℕ) → k < bound → (o : Owner) × (slice_get held_by k ≡ Some o)
   owner_there k lt = let count = owned.count in has_at held_by k (omega (arith, count, lt, within))
 
   one : (k : ℕ) (old : NetNode) → slice_get nodes k ≡ Some old → k < bound → ((q : ℕ) → q < k → Answers q) → Answers k

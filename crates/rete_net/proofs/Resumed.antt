@@ -1,5 +1,5 @@
 -- For which snapshot a network stands that was loaded.
-use Rattle.std.proofs.Common.{◌≡◌, ◌∙◌, ◌⊎◌, inl, inr, sym, ap, refl, subst, ℕ, ℤ, zero, suc, pos, ◌≤ℤ◌, ◌<◌, ◌==◌, nat_lt, cond, arith, Bool, true, false, List, [], ◌∷◌, length, take, Option, Some, None, slice_get}
+use Rattle.std.proofs.Common.{◌≡◌, ◌∙◌, ◌⊎◌, inl, inr, sym, ap, refl, subst, ℕ, ℤ, zero, suc, pos, ◌≤ℤ◌, ◌<◌, ◌≤◌, ◌==◌, nat_lt, cond, arith, Bool, true, false, List, [], ◌∷◌, length, take, Option, Some, None, slice_get}
 use Rattle.std.proofs.lemmas.Bool.Decides.{nat_tests}
 use Rattle.std.proofs.lemmas.List.{length-take-le}
 use Rattle.std.proofs.lemmas.Option.{slice_get_within}
@@ -47,17 +47,27 @@ use Rattle.loading_laws.specs.Gates.{IsAside, HasInFront}
 use Rattle.loading_laws.proofs.Gates.{gate_of_all}
 use Rattle.rete_net.specs.declared.answered.Answered.{Answered}
 use Rattle.rete_net.specs.declared.build.Owner.{Owner}
+use Rattle.rete_net.specs.declared.net.Rete.{Rete}
 use Rattle.rete_net.specs.declared.node.NetNode.{NetNode}
+use Rattle.rete_net.specs.Answers.{left_given}
 use Rattle.rete_net.specs.Loading.{IsBehind, IsLoadable}
-use Rattle.rete_net.specs.Loads.{is_under, AreLoaded}
+use Rattle.rete_net.specs.Indexes.{IsIndexOf}
+use Rattle.rete_net.specs.Loads.{is_under, AreLoaded, IsNodeLoad}
+use Rattle.rete_net.specs.Nets.{NetStands}
 use Rattle.rete_net.specs.Owners.{AreOwners as HaveOwners, IsOwned}
+use Rattle.rete_net.specs.Quiet.{AreQuiet}
+use Rattle.rete_net.specs.Schedules.{AreScheduled}
 use Rattle.rete_net.specs.Shapes.{before, IsNetOf}
 use Rattle.rete_net.specs.Standing.{IsFresh, NetNodeStands}
 use Rattle.rete_net.specs.Steps.{empty_row_comes}
+use Rattle.rete_net.specs.Walks.{IsReplaced}
 use Rattle.rete_net.proofs.Counted.{fronts_within}
 use Rattle.rete_net.proofs.Counting.{aside_of}
+use Rattle.rete_net.proofs.Frames.{index_again, net_again}
 use Rattle.rete_net.proofs.Growing.{both_at, has_at}
-use Rattle.rete_net.proofs.Loaded.{answered, extras_at, load_at, now_at, owner_there, parts}
+use Rattle.rete_net.proofs.Owning.{owned_again}
+use Rattle.rete_net.proofs.Quieting.{seen_now}
+use Rattle.rete_net.proofs.Loaded.{answered, extras_at, load_at, owner_there, parts}
 
 -- ---- owners
 
@@ -130,8 +140,8 @@ is_lost c lost (Some x) e f = (e, f)
 
 -- what a snapshot holds under a tag has the tag
 passed_if : (b : Bool) (test : Fact → Bool) (x f : Fact) (rest : Option Fact) → test x ≡ b → (rest ≡ Some f → test f ≡ true) → cond b (Some x) rest ≡ Some f → test f ≡ true
-passed_if true test x f rest yes later e = let same : x ≡ f = cc in ap test (sym same) ∙ yes
-passed_if false test x f rest no later e = later e
+passed_if true test x f rest is later e = let same : x ≡ f = cc in ap test (sym same) ∙ is
+passed_if false test x f rest is later e = later e
 
 find_passes : (test : Fact → Bool) (facts : List Fact) (f : Fact) → find test facts ≡ Some f → test f ≡ true
 find_passes test [] f e = absurd (let torn : None ≡ Some f = e in cc)
@@ -192,10 +202,14 @@ module _ (p : Program) (look : Look) (t : Snapshot) (kept : List Fact) (extras :
     in_rules : In rule p.rules
     in_rules = in_place p.rules place rule theirs.stands
 
-    load = load_at p look t kept extras moment can owners own nodes ends net held_by owned fresh now a (length nodes) (omega arith) loaded k old e place m rule theirs.stands low theirs.own owner.0 owner.1
+    load : IsNodeLoad p look kept moment t (laden p t extras (owners place) rule.conditions m) old (left_given empty_row_comes a old.parent).come (filter (is_under owner.0) extras)
+    load =
+        load_at p look t kept extras moment can owners own nodes ends net held_by owned fresh now a (length nodes) (omega arith) loaded k old e place m rule theirs.stands low theirs.own owner.0 owner.1
         (λ q less. answered p look t kept extras moment can owners own nodes ends net held_by owned fresh now a (length nodes) (omega arith) loaded q (let h = lt in omega (arith, h, less)))
 
-    its_extras = extras_at p look t kept extras moment can owners own nodes ends net held_by owned fresh now a (length nodes) (omega arith) loaded k old e place m rule theirs.stands low theirs.own owner.0 owner.1
+    its_extras : extra_for (filter (is_under owner.0) extras) ≡ extra_at extras (owners place m) m
+    its_extras =
+        extras_at p look t kept extras moment can owners own nodes ends net held_by owned fresh now a (length nodes) (omega arith) loaded k old e place m rule theirs.stands low theirs.own owner.0 owner.1
 
     -- the gate
     in_front : HasInFront p (pattern_of (condition_of old.node)) s t
@@ -245,3 +259,28 @@ module _ (p : Program) (look : Look) (t : Snapshot) (kept : List Fact) (extras :
               (gate_of_all p (pattern_of (condition_of old.node)) s t is.orderly.in_order can.orderly.in_order in_front new.gate (told.gate t (laden p t extras (owners place) rule.conditions m) load));
           node = node_moves p look (held s) s (rows_of p s front) forgotten is.at_hand (held_known s forgotten) (rows_named p s tags front) new.node node;
         })
+
+-- ---- the network
+
+-- It stands for a snapshot, whose clock is from 0 on, with what is forgotten of it.
+pub loaded_stands : (p : Program) (look : Look) (t : Snapshot) (kept : List Fact) (extras : List Extra) (moment : Moment) (can : IsLoadable p t kept extras moment look) (was now : Rete)
+    (net : IsNetOf p was.nodes.items was.ends.items) (owned : HaveOwners p net.conditions (length was.nodes.items) was.owners.items)
+    (fresh : (k : ℕ) (n : NetNode) → slice_get was.nodes.items k ≡ Some n → IsFresh p n)
+    (a : Answered Delta) (loaded : AreLoaded p look kept extras moment empty_row_comes was.nodes.items now.nodes.items was.owners.items was.ends.items a (length was.nodes.items))
+    → IsReplaced was.nodes.items now.nodes.items → now.ends ≡ was.ends → now.owners ≡ was.owners → now.index ≡ was.index
+    → IsIndexOf was.nodes.items was.ends.items was.index → AreScheduled p now.nodes.items now.schedule → AreQuiet p now.nodes.items now.quiet_until
+    → (s : Snapshot) (forgotten : Named → Bool) → IsBehind p s t forgotten extras look → pos 0 ≤ℤ s.clock → NetStands p now s forgotten
+loaded_stands p look t kept extras moment can was now net owned fresh a loaded replaced ends owners index indexed scheduled quiet s forgotten is begun =
+    let own = are_owners p was.nodes.items was.ends.items net was.owners.items owned in
+    seen_now p now s forgotten (record {
+      shape = net_again p was.nodes.items now.nodes.items was.ends.items now.ends.items (ap (λ es. es.items) ends) replaced net;
+      indexed = index_again was.nodes.items now.nodes.items was.ends.items now.ends.items was.index now.index replaced (ap (λ es. es.items) ends) index indexed;
+      scheduled = scheduled;
+      owned = owned_again p net.conditions (length was.nodes.items) (length now.nodes.items) was.owners now.owners replaced.many owners owned;
+      nodes = λ k n e.
+          let many = replaced.many in
+          let within : k < length now.nodes.items = slice_get_within now.nodes.items k n e in
+          let old = has_at was.nodes.items k (omega (arith, within, many)) in
+          resumed_at p look t kept extras moment can (owners_of p was.nodes.items was.ends.items net was.owners.items owned) own was.nodes.items was.ends.items net was.owners.items owned fresh now.nodes.items a loaded s forgotten is
+          k old.0 n old.1 e;
+    }) is.orderly begun quiet

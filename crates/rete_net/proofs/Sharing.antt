@@ -1,5 +1,5 @@
 -- What a network answers as it is loaded, and which extras have their rows.
-use Rattle.std.proofs.Common.{◌≡◌, ◌∙◌, sym, ap, refl, subst, ℕ, zero, suc, ◌+◌, ◌<◌, ◌≤◌, ◌==◌, ◌&&◌, ◌^◌, zero-add, arith, cond, Bool, true, false, List, [], ◌∷◌, ◌++◌, length, length-append, take, Option, Some, None, slice_get}
+use Rattle.std.proofs.Common.{◌≡◌, ◌∙◌, sym, ap, refl, subst, inl, inr, ℕ, zero, suc, ◌+◌, ◌<◌, ◌≤◌, ◌==◌, ◌&&◌, ◌^◌, zero-add, arith, cond, Bool, true, false, List, [], ◌∷◌, ◌++◌, length, length-append, take, Option, Some, None, slice_get}
 use Rattle.std.specs.Prelude.{slice_index_or, map}
 use Rattle.std.specs.List.Sorted.{IsStrictlySortedBy}
 use Rattle.std.specs.Ordering.{nat_cmp}
@@ -44,7 +44,7 @@ use Rattle.rete_net.proofs.Turns.{below_or_at}
 
 -- ---- answers in a list
 
-told : (ℕ → Delta) → ℕ → List Delta
+abbrev told : (ℕ → Delta) → ℕ → List Delta
 told f zero = []
 told f (suc n) = told f n ++ f n ∷ []
 
@@ -137,7 +137,9 @@ module _ (p : Program) (look : Look) (t : Snapshot) (kept : List Fact) (extras :
           place (length rule.conditions) rule e (omega arith) (last.all ∙ sym (take_all (length rule.conditions) rule.conditions (omega arith))) row;
     }
 
-    -- ---- the rows of extras
+  -- ---- the rows of extras
+
+  module _ (now : List NetNode) (a : Answered Delta) (loaded : AreLoaded p look kept extras moment empty_row_comes nodes now held_by ends a (length nodes)) where
 
     not_begun : (n : ℕ) (cs : List Condition) → n < length cs → take (suc n) cs ≡ [] → ⊥
     not_begun n [] lt e = absurd (omega (arith, lt))

@@ -207,6 +207,10 @@ module _ (p : Program) (net : Rete) (all : List (List Condition)) (built : AreBu
     rising = so.rising;
   }
 
+  pub shape_owned : (rules : ℕ) → AreOwnedSoFar p all net.owners.items rules [] 0 → AreOwners p built_shape.conditions (length net.nodes.items) net.owners.items
+  unfolding built_shape
+  shape_owned rules so = built_owned rules so
+
   module _ (moment : Moment) (is_at : IsAt empty_snapshot moment) (new : Rete) (answers : List RuleChange) (same : new.ends.items ≡ net.ends.items)
       (step : NetStep p no_facts [] None moment empty_row_comes net.nodes.items new.nodes.items net.ends.items answers) where
     nodes_now : IsIndexOf new.nodes.items new.ends.items new.index → AreScheduled p new.nodes.items new.schedule

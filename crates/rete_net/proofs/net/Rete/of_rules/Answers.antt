@@ -90,3 +90,9 @@ returns-clause-built c runnable =
       omega (arith, rules, count),
       subst (λ n. AreOwnedSoFar c.args.program.now was.0 c.loop-rule.builder.owners.items n [] 0) all_rules was.3,
     )
+
+pub returns-clause-count : goal.returns-clause-count
+returns-clause-count c =
+    let rules : length c.as_slice-rule-items.result.now ≡ length c.args.program.now.rules = ap (λ (rs : List Rule). length rs) c.as_slice-rule-items.ensures in
+    let count = c.loop-rule.invariant.count in
+    omega (arith, rules, count)
