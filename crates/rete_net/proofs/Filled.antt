@@ -1,17 +1,15 @@
 -- What a load makes of one node.
-use Rattle.std.proofs.Common.{◌≡◌, ◌∙◌, ◌&&◌, ◌||◌, not, sym, ap, refl, subst, ℕ, ℤ, ◌≤ℤ◌, ◌<◌, ◌==◌, arith, cond, map, Bool, true, false, List, [], ◌∷◌, Option, Some, None}
+use Rattle.std.proofs.Common.{◌≡◌, ◌∙◌, ◌&&◌, ◌||◌, not, sym, ap, refl, subst, ℕ, ◌<◌, ◌==◌, cond, map, Bool, true, false, List, [], ◌∷◌, Some, None}
 use Rattle.std.specs.List.{AllByRecursion, filter, list_any}
 use Rattle.std.specs.List.Sorted.{IsStrictlySortedBy}
 use Rattle.std.specs.Ordering.{eq_by_cmp, nat_cmp}
 use Rattle.std.specs.declared.cmp.Ordering.TheVariants.{Less}
-use Rattle.std.proofs.lemmas.Bool.Decides.{nat_tests}
-use Rattle.fx_base.specs.Lists.{In}
 use Rattle.fx_base.specs.declared.fact.Fact.{Fact}
 use Rattle.row_delta.specs.declared.delta.Delta.{Delta}
 use Rattle.row_delta.specs.declared.extra.Extra.{Extra}
 use Rattle.row_delta.specs.declared.row.Named.{Named}
 use Rattle.row_delta.specs.declared.row.Row.{Row}
-use Rattle.row_delta.specs.Rows.{has, row_cmp, InOrder}
+use Rattle.row_delta.specs.Rows.{has, row_cmp}
 use Rattle.row_delta.specs.RowOrder.{same_equiv}
 use Rattle.row_change.specs.Changes.{IsDifference}
 use Rattle.rule_model.specs.declared.condition.Condition.{Condition}
@@ -27,9 +25,8 @@ use Rattle.rule_model.proofs.Named.{of_filter}
 use Rattle.join_tests.specs.Joins.{Look}
 use Rattle.pair_memory.specs.Inputs.{IsNameDifference, row_naming}
 use Rattle.pair_memory.specs.Joined.{has_name}
-use Rattle.pair_memory.specs.Standing.{cleaned, no_names, no_rows}
+use Rattle.pair_memory.specs.Standing.{no_names, no_rows}
 use Rattle.tally_node.specs.Extras.{extra_for}
-use Rattle.condition_rows.specs.Lines.{line}
 use Rattle.condition_rows.specs.Looks.{empty_snapshot, HasAllOf, NameHeld}
 use Rattle.condition_rows.specs.Sets.{held, candidates_of}
 use Rattle.window_gate.specs.Standing.{Stands}
@@ -136,7 +133,7 @@ module _ (p : Program) (look : Look) (kept : List Fact) (extras : List Extra) (m
     (names : (who : Named) → has_name right who ≡ has come.come (row_naming who))
     (same : condition_of node ≡ condition_of old.node)
     (laden : (world : Look) (s : Snapshot) (before : Row → Bool) → NodeStands p old.node look empty_snapshot no_rows no_names → IsAt s moment → IsLoad p (condition_of old.node) look world s before rows right extras
-      → Laden p node look world s before (extra_for extras))
+    → Laden p node look world s before (extra_for extras))
     (differs : NodeStands p old.node look empty_snapshot no_rows no_names → IsDifference (node_rows p look old.node) (node_rows p look node) delta) where
   abbrev q : Pattern
   q = pattern_of (condition_of old.node)

@@ -1,13 +1,11 @@
 -- The rows that the nodes of a network answer as it is loaded.
-use Rattle.std.proofs.Common.{◌≡◌, ◌∙◌, sym, ap, refl, subst, ℕ, ℤ, zero, suc, ◌+◌, ◌<◌, ◌≤◌, nat_lt, arith, Bool, true, false, ◌||◌, List, [], ◌∷◌, ◌++◌, length, take, Option, Some, None, slice_get}
+use Rattle.std.proofs.Common.{◌≡◌, ◌∙◌, sym, ap, refl, subst, ℕ, zero, suc, ◌+◌, ◌<◌, ◌≤◌, nat_lt, arith, Bool, true, false, ◌||◌, List, [], ◌∷◌, ◌++◌, length, take, Option, Some, None, slice_get}
 use mathlib.Core.Path.{fun_ext}
 use Rattle.std.specs.List.{filter}
 use Rattle.std.specs.List.Sorted.{IsStrictlySortedBy}
 use Rattle.std.specs.Ordering.{eq_by_cmp}
 use Rattle.std.proofs.lemmas.Bool.Decides.{nat_tests}
 use Rattle.std.proofs.lemmas.List.{length-take-le}
-use Rattle.std.proofs.lemmas.Option.{slice_get_within}
-use Rattle.fx_base.specs.Lists.{In}
 use Rattle.fx_base.specs.declared.fact.Fact.{Fact}
 use Rattle.row_delta.specs.declared.delta.Delta.{Delta}
 use Rattle.row_delta.specs.declared.extra.Extra.{Extra}
@@ -31,7 +29,7 @@ use Rattle.rete_net.specs.declared.build.Owner.{Owner}
 use Rattle.rete_net.specs.declared.node.NetNode.{NetNode}
 use Rattle.rete_net.specs.Answers.{answer_in, left_given}
 use Rattle.rete_net.specs.Loading.{IsLoadable}
-use Rattle.rete_net.specs.Loads.{is_under, AreLoaded, IsNodeLoad, NodeLoad}
+use Rattle.rete_net.specs.Loads.{is_under, AreLoaded, IsNodeLoad}
 use Rattle.rete_net.specs.Owners.{AreOwners as HaveOwners, IsOwned}
 use Rattle.rete_net.specs.Shapes.{before, IsNetOf}
 use Rattle.rete_net.specs.Standing.{IsFresh}

@@ -1,5 +1,5 @@
 -- For which snapshot a network stands that was loaded.
-use Rattle.std.proofs.Common.{◌≡◌, ◌∙◌, ◌⊎◌, inl, inr, sym, ap, refl, subst, ℕ, ℤ, zero, suc, pos, ◌≤ℤ◌, ◌<◌, ◌≤◌, ◌==◌, nat_lt, cond, arith, Bool, true, false, List, [], ◌∷◌, length, take, Option, Some, None, slice_get}
+use Rattle.std.proofs.Common.{◌≡◌, ◌∙◌, ◌⊎◌, inl, inr, sym, ap, refl, subst, ℕ, ℤ, suc, pos, ◌≤ℤ◌, ◌<◌, ◌≤◌, ◌==◌, nat_lt, cond, arith, Bool, true, false, List, [], ◌∷◌, length, take, Option, Some, None, slice_get}
 use Rattle.std.proofs.lemmas.Bool.Decides.{nat_tests}
 use Rattle.std.proofs.lemmas.List.{length-take-le}
 use Rattle.std.proofs.lemmas.Option.{slice_get_within}
@@ -10,9 +10,7 @@ use Rattle.fx_base.specs.declared.ids.Tag.{Tag}
 use Rattle.row_delta.specs.declared.delta.Delta.{Delta}
 use Rattle.row_delta.specs.declared.extra.Extra.{Extra}
 use Rattle.row_delta.specs.declared.row.Named.{Named}
-use Rattle.row_delta.specs.declared.row.Row.{Row}
 use Rattle.rule_model.specs.declared.condition.Condition.{Condition}
-use Rattle.rule_model.specs.declared.condition.Pattern.{Pattern}
 use Rattle.rule_model.specs.declared.condition.WindowTag.{WindowTag}
 use Rattle.rule_model.specs.declared.condition.WindowTag.TheVariants as tag
 use Rattle.rule_model.specs.declared.moment.Moment.{Moment}
@@ -27,14 +25,14 @@ use Rattle.rule_model.proofs.RuleOf.{in_place}
 use Rattle.join_tests.specs.Joins.{Look}
 use Rattle.pair_memory.specs.Standing.{cleaned, no_names}
 use Rattle.tally_node.specs.Extras.{extra_for}
-use Rattle.condition_rows.specs.Looks.{HasAllOf, NameHeld}
+use Rattle.condition_rows.specs.Looks.{HasAllOf}
 use Rattle.condition_rows.specs.Sets.{held, rows_of}
 use Rattle.condition_rows.proofs.Holding.{held_fact, held_in}
 use Rattle.condition_rows.proofs.Naming.{rows_named}
 use Rattle.pattern_gate.specs.Gates.{GateStands}
 use Rattle.pattern_gate.proofs.Arriving.{rising}
-use Rattle.condition_node.specs.Loading.{IsAside as BindsNone, IsLost, IsResumed, lost_partners, values_gathered}
-use Rattle.condition_node.specs.Nodes.{condition_of, NodeStands}
+use Rattle.condition_node.specs.Loading.{IsLost, IsResumed, lost_partners, values_gathered}
+use Rattle.condition_node.specs.Nodes.{condition_of}
 use Rattle.condition_node.proofs.Knowing.{held_known}
 use Rattle.condition_node.proofs.Moved.{node_moves}
 use Rattle.condition_node.proofs.Resuming.{resumes_law}
@@ -91,13 +89,15 @@ module _ (p : Program) (nodes : List NetNode) (ends : List ℕ) (net : IsNetOf p
       let theirs = owned.each node.0 o.0 o.1 in
       let same : take (suc o.0.condition) theirs.rule.conditions ≡ take (suc k) rule.conditions = sym theirs.own ∙ node.2 ∙ front in
       let at : o.0.condition ≡ k = same_length o.0.condition theirs.rule.conditions k rule.conditions theirs.within low same in
-      let first = theirs.first in
-      (o.0.rule.0, record {
-        rule = first.rule;
-        stands = first.stands;
-        begins = ap (λ i. take (suc i) first.rule.conditions) (sym at) ∙ first.begins ∙ same;
-        earlier = λ j other less there e. first.earlier j other less there (ap (λ i. take (suc i) other.conditions) at ∙ e ∙ sym same);
-      })
+      let first = theirs.first in (
+        o.0.rule.0,
+        record {
+          rule = first.rule;
+          stands = first.stands;
+          begins = ap (λ i. take (suc i) first.rule.conditions) (sym at) ∙ first.begins ∙ same;
+          earlier = λ j other less there e. first.earlier j other less there (ap (λ i. take (suc i) other.conditions) at ∙ e ∙ sym same);
+        },
+      )
     where
       same_length : (i : ℕ) (cs : List Condition) (j : ℕ) (ds : List Condition) → i < length cs → j < length ds → take (suc i) cs ≡ take (suc j) ds → i ≡ j
       same_length i cs j ds li lj e =
@@ -113,12 +113,14 @@ module _ (p : Program) (nodes : List NetNode) (ends : List ℕ) (net : IsNetOf p
       within rule stands true low =
           let it = found_in place k rule stands (grind (arith, nat_tests)) in
           (it.0, λ other there lt. subst (λ (r : Rule). IsFirstWith p (suc k) r.conditions it.0) (both_at (slice_get p.rules place) rule other stands there) it.1)
-      within rule stands false high =
-          (0, λ other there lt.
-          let same = both_at (slice_get p.rules place) rule other stands there in
-          let long : length rule.conditions ≡ length other.conditions = ap (λ (r : Rule). length r.conditions) same in
-          let torn : k < length rule.conditions = omega (arith, lt, long) in
-          absurd (let low : nat_lt k (length rule.conditions) ≡ true = grind (arith, nat_tests) in let no : true ≡ false = sym low ∙ high in cc))
+      within rule stands false high = (
+        0,
+        λ other there lt.
+            let same = both_at (slice_get p.rules place) rule other stands there in
+            let long : length rule.conditions ≡ length other.conditions = ap (λ (r : Rule). length r.conditions) same in
+            let torn : k < length rule.conditions = omega (arith, lt, long) in
+            absurd (let low : nat_lt k (length rule.conditions) ≡ true = grind (arith, nat_tests) in let no : true ≡ false = sym low ∙ high in cc),
+      )
 
       by : (o : Option Rule) → slice_get p.rules place ≡ o → Found place k
       by None none = (0, λ rule there lt. absurd (let torn : None ≡ Some rule = sym none ∙ there in cc))
@@ -251,8 +253,8 @@ module _ (p : Program) (look : Look) (t : Snapshot) (kept : List Fact) (extras :
         let told = loaded.loaded k lt old new owner.0 e g owner.1 in
         let c = told.condition in
         let node = resumes_law p new.node look s t (rows_of p s front) (laden p t extras (owners place) rule.conditions m) forgotten (extra_for (filter (is_under owner.0) extras))
-            (subst (λ x. IsResumed p x s t (rows_of p s front) (laden p t extras (owners place) rule.conditions m) forgotten (extra_for (filter (is_under owner.0) extras))) (sym c) resumed)
-            (told.laden (held s) t (laden p t extras (owners place) rule.conditions m) load at_hand_too) in
+        (subst (λ x. IsResumed p x s t (rows_of p s front) (laden p t extras (owners place) rule.conditions m) forgotten (extra_for (filter (is_under owner.0) extras))) (sym c) resumed)
+        (told.laden (held s) t (laden p t extras (owners place) rule.conditions m) load at_hand_too) in
         subst (λ (parent : Option ℕ). NetNodeStands p new s (rows_of p s (before net.conditions parent)) forgotten) (sym told.parent) (record {
           gate =
               subst (λ x. GateStands p (pattern_of x) new.gate s) (sym c)

@@ -1,8 +1,8 @@
 -- The extras under an owner, of extras in their order, and rows that are in order.
-use Rattle.std.proofs.Common.{◌≡◌, ◌∙◌, ◌⊎◌, ◌&&◌, ◌||◌, not, sym, ap, refl, subst, inl, inr, ℕ, zero, suc, ◌+◌, ◌<◌, ◌≤◌, ◌==◌, add-one, nat_lt, is_lt, arith, cond, get_or, length, take, drop, Bool, true, false, List, [], ◌∷◌, ◌++◌, Bor, Option, Some, None, slice_get}
+use Rattle.std.proofs.Common.{◌≡◌, ◌∙◌, ◌⊎◌, ◌&&◌, ◌||◌, sym, ap, refl, inl, inr, ℕ, zero, suc, ◌+◌, ◌<◌, ◌≤◌, ◌==◌, add-one, nat_lt, is_lt, arith, cond, get_or, length, take, drop, Bool, true, false, List, [], ◌∷◌, ◌++◌, Bor, Some, slice_get}
 use Rattle.std.specs.declared.cmp.Ordering.{Ordering}
 use Rattle.std.specs.declared.cmp.Ordering.TheVariants.{Less, Equal, Greater}
-use Rattle.std.specs.List.{AllByRecursion, AllWithin, filter, find}
+use Rattle.std.specs.List.{AllByRecursion, filter, find}
 use Rattle.std.specs.List.Sorted.{IsNonDecreasingBy, IsPartitionPoint, IsSortedBy, IsStrictlySortedBy}
 use Rattle.std.specs.Ordering.{eq_by_cmp, is_eq, nat_cmp, ordering_index, ordering_reverse, ordering_then}
 use Rattle.std.proofs.lemmas.List.Sorted.{searchable_from_sorted}

@@ -1,5 +1,5 @@
 -- What a network answers as it is loaded, and which extras have their rows.
-use Rattle.std.proofs.Common.{◌≡◌, ◌∙◌, sym, ap, refl, subst, inl, inr, ℕ, zero, suc, ◌+◌, ◌<◌, ◌≤◌, ◌==◌, ◌&&◌, ◌^◌, zero-add, arith, cond, Bool, true, false, List, [], ◌∷◌, ◌++◌, length, length-append, take, Option, Some, None, slice_get}
+use Rattle.std.proofs.Common.{◌≡◌, ◌∙◌, sym, ap, refl, subst, inl, inr, ℕ, zero, suc, ◌+◌, ◌<◌, ◌==◌, ◌&&◌, ◌^◌, zero-add, arith, cond, Bool, true, false, List, [], ◌∷◌, ◌++◌, length, length-append, take, Option, Some, None, slice_get}
 use Rattle.std.specs.Prelude.{slice_index_or, map}
 use Rattle.std.specs.List.Sorted.{IsStrictlySortedBy}
 use Rattle.std.specs.Ordering.{nat_cmp}
@@ -20,7 +20,6 @@ use Rattle.rule_model.specs.declared.program.Program.{Program}
 use Rattle.rule_model.specs.declared.program.Rule.{Rule}
 use Rattle.rule_model.specs.Snapshots.{Snapshot}
 use Rattle.rule_model.proofs.Listed.{both_of}
-use Rattle.rule_world.specs.Programs.{IsRunnable}
 use Rattle.join_tests.specs.Joins.{Look}
 use Rattle.image_laws.specs.Extras.{IsFirstWith}
 use Rattle.image_laws.specs.Laden.{AreOwners}
@@ -30,10 +29,10 @@ use Rattle.rete_net.specs.declared.changes.RuleChange.{RuleChange}
 use Rattle.rete_net.specs.declared.node.NetNode.{NetNode}
 use Rattle.rete_net.specs.Answers.{answer_in, AreRuled}
 use Rattle.rete_net.specs.Loading.{coming, AreLadenRows, IsLoadable, IsThere}
-use Rattle.rete_net.specs.Loads.{is_under, AreLoaded, IsStuck}
+use Rattle.rete_net.specs.Loads.{AreLoaded, IsStuck}
 use Rattle.rete_net.specs.Nets.{change_of}
 use Rattle.rete_net.specs.Owners.{AreOwners as HaveOwners, IsOwned}
-use Rattle.rete_net.specs.Shapes.{before, IsNetOf}
+use Rattle.rete_net.specs.Shapes.{IsNetOf}
 use Rattle.rete_net.specs.Standing.{IsFresh}
 use Rattle.rete_net.specs.Steps.{changes_from, delta_at, empty_row_comes, no_change}
 use Rattle.rete_net.proofs.Answering.{found_change, few_ends, in_order as changes_in_order, past_change}
@@ -140,7 +139,6 @@ module _ (p : Program) (look : Look) (t : Snapshot) (kept : List Fact) (extras :
   -- ---- the rows of extras
 
   module _ (now : List NetNode) (a : Answered Delta) (loaded : AreLoaded p look kept extras moment empty_row_comes nodes now held_by ends a (length nodes)) where
-
     not_begun : (n : ℕ) (cs : List Condition) → n < length cs → take (suc n) cs ≡ [] → ⊥
     not_begun n [] lt e = absurd (omega (arith, lt))
     not_begun n (c ∷ cs) lt e = absurd (let torn : c ∷ take n cs ≡ [] = e in cc)
@@ -164,9 +162,9 @@ module _ (p : Program) (look : Look) (t : Snapshot) (kept : List Fact) (extras :
         let theirs : IsOwned p (take (suc e.condition) rule.conditions) o.0 = subst (λ (cs : List Condition). IsOwned p cs o.0) is (owned.each node.0 o.0 o.1) in
         let at : o.0.condition ≡ e.condition = owner_place p owners own e.rule.0 e.condition rule stands low o.0 theirs in
         let of : o.0.rule.0 ≡ e.rule.0 =
-            one_first p (suc e.condition) theirs.rule.conditions placed.rule.conditions o.0.rule.0 e.rule.0
-            (subst (λ k. IsFirstWith p (suc k) theirs.rule.conditions o.0.rule.0) at theirs.first) placed.first
-            (ap (λ k. take (suc k) theirs.rule.conditions) (sym at) ∙ sym theirs.own ∙ ap (λ (r : Rule). take (suc e.condition) r.conditions) (sym same)) in
+        one_first p (suc e.condition) theirs.rule.conditions placed.rule.conditions o.0.rule.0 e.rule.0
+        (subst (λ k. IsFirstWith p (suc k) theirs.rule.conditions o.0.rule.0) at theirs.first) placed.first
+        (ap (λ k. take (suc k) theirs.rule.conditions) (sym at) ∙ sym theirs.own ∙ ap (λ (r : Rule). take (suc e.condition) r.conditions) (sym same)) in
         let sorted = in_order p look t kept extras moment can owners own nodes ends net held_by owned fresh now a (length nodes) (omega arith) loaded node.0 n.0 n.1 (omega (arith, lt)) in
         let two = parts p look t kept extras moment can owners own nodes ends net held_by owned fresh now a (length nodes) (omega arith) loaded node.0 n.0 n.1 e.rule.0 e.condition rule stands (omega (arith, low)) is in
         sym (come_to p look t kept extras moment can owners own nodes ends net held_by owned fresh now a (length nodes) (omega arith) loaded node.0 n.0 n.1 (omega (arith, lt))
@@ -181,21 +179,24 @@ module _ (p : Program) (look : Look) (t : Snapshot) (kept : List Fact) (extras :
       let count = owned.count in
       let o = has_at held_by k (omega (arith, count, inside)) in
       let sorted = in_order p look t kept extras moment can owners own nodes ends net held_by owned fresh stuck.now stuck.answered k (omega (arith, inside)) stuck.loaded k stuck.node stuck.there (omega arith) in
-      let it = stuck.missing o.0 o.1 sorted in
-      (it.0, it.1, λ rule stands.
-        let e = it.0 in
-        let theirs = owned.each k o.0 o.1 in
-        let two = both_of (e.rule.0 == o.0.rule.0) (e.condition == o.0.condition) it.2 in
-        let of : e.rule.0 ≡ o.0.rule.0 = one_number e.rule.0 o.0.rule.0 two.0 in
-        let at : e.condition ≡ o.0.condition = one_number e.condition o.0.condition two.1 in
-        let same : theirs.rule ≡ rule = both_at (slice_get p.rules o.0.rule.0) theirs.rule rule theirs.stands (ap (slice_get p.rules) (sym of) ∙ stands) in
-        let low : o.0.condition < length rule.conditions = subst (λ (r : Rule). o.0.condition < length r.conditions) same theirs.within in
-        let is : net.conditions k ≡ take (suc e.condition) rule.conditions = theirs.own ∙ ap (λ (r : Rule). take (suc o.0.condition) r.conditions) same ∙ ap (λ i. take (suc i) rule.conditions) (sym at) in
-        let front = parts p look t kept extras moment can owners own nodes ends net held_by owned fresh stuck.now stuck.answered k (omega (arith, inside)) stuck.loaded k stuck.node stuck.there
+      let it = stuck.missing o.0 o.1 sorted in (
+        it.0,
+        it.1,
+        λ rule stands.
+            let e = it.0 in
+            let theirs = owned.each k o.0 o.1 in
+            let two = both_of (e.rule.0 == o.0.rule.0) (e.condition == o.0.condition) it.2 in
+            let of : e.rule.0 ≡ o.0.rule.0 = one_number e.rule.0 o.0.rule.0 two.0 in
+            let at : e.condition ≡ o.0.condition = one_number e.condition o.0.condition two.1 in
+            let same : theirs.rule ≡ rule = both_at (slice_get p.rules o.0.rule.0) theirs.rule rule theirs.stands (ap (slice_get p.rules) (sym of) ∙ stands) in
+            let low : o.0.condition < length rule.conditions = subst (λ (r : Rule). o.0.condition < length r.conditions) same theirs.within in
+            let is : net.conditions k ≡ take (suc e.condition) rule.conditions = theirs.own ∙ ap (λ (r : Rule). take (suc o.0.condition) r.conditions) same ∙ ap (λ i. take (suc i) rule.conditions) (sym at) in
+            let front = parts p look t kept extras moment can owners own nodes ends net held_by owned fresh stuck.now stuck.answered k (omega (arith, inside)) stuck.loaded k stuck.node stuck.there
             e.rule.0 e.condition rule stands (omega (arith, low, at)) is in
-        sym (come_to p look t kept extras moment can owners own nodes ends net held_by owned fresh stuck.now stuck.answered k (omega (arith, inside)) stuck.loaded k stuck.node stuck.there (omega arith)
-        e.rule.0 e.condition rule stands (omega (arith, low, at)) front.0 e.row)
-        ∙ it.3)
+            sym (come_to p look t kept extras moment can owners own nodes ends net held_by owned fresh stuck.now stuck.answered k (omega (arith, inside)) stuck.loaded k stuck.node stuck.there (omega arith)
+            e.rule.0 e.condition rule stands (omega (arith, low, at)) front.0 e.row)
+            ∙ it.3,
+      )
     where
       one_number : (m n : ℕ) → (m == n) ≡ true → m ≡ n
       one_number m n e = grind (arith, nat_tests)

@@ -37,7 +37,9 @@ impl NetNode {
         let theirs = of_type(alloc, kept, self.ty())?;
         let (gate, come) = PatternGate::load(alloc, self.node.pattern(), &theirs, moment.clock)?;
         let candidates = names_alone(alloc, come.come.as_slice())?;
-        let delta = self.node.load(alloc, program, rows, &candidates, extras, moment, facts)?;
+        let delta = self
+            .node
+            .load(alloc, program, rows, &candidates, extras, moment, facts)?;
         self.gate = gate;
         Ok(delta)
     }

@@ -15,7 +15,11 @@ use row_delta::{Extra, Row};
 use std::alloc::Global;
 
 /// The facts of a type, in their order. It costs a look at each fact.
-pub(crate) fn of_type<'f>(alloc: Global, kept: &'f [Fact], ty: TypeId) -> Result<Vec<&'f Fact>, NoMemory>
+pub(crate) fn of_type<'f>(
+    alloc: Global,
+    kept: &'f [Fact],
+    ty: TypeId,
+) -> Result<Vec<&'f Fact>, NoMemory>
     ensures { IfOk result (λ facts. lent facts.items ≡ filter (is_of ty.0) kept.now) }
 {
     let mut facts = Vec::new(alloc);

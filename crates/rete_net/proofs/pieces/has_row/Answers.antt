@@ -1,4 +1,3 @@
-use Rattle.std.proofs.Common.{get_or}
 use Rattle.rete_net.proofs.Searched.{found_row, missing_row}
 use Rattle.rete_net.proofs.pieces.has_row.Goals as goal
 

@@ -1,4 +1,4 @@
-use Rattle.std.proofs.Common.{◌≡◌, ◌∙◌, ap, sym, cond, append-nil, ◌+◌, ◌<◌, ◌++◌, [], ◌∷◌, List, length, take, true, false}
+use Rattle.std.proofs.Common.{◌∙◌, ap, sym, cond, append-nil, ◌+◌, ◌++◌, [], ◌∷◌, List, take, true, false}
 use Rattle.std.proofs.lemmas.List.{take_all}
 use Rattle.std.specs.List.{filter}
 use Rattle.fx_base.specs.declared.fact.Fact.{Fact}

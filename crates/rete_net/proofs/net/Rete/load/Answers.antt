@@ -1,19 +1,16 @@
-use Rattle.std.proofs.Common.{◌≡◌, ◌∙◌, ap, refl, sym, subst, ℕ, ◌<◌, ◌^◌, length, List, Err, Some, slice_get}
+use Rattle.std.proofs.Common.{◌≡◌, ◌∙◌, ap, subst, ℕ, ◌<◌, ◌^◌, length, List, Err, Some, slice_get}
 use Rattle.fx_base.specs.Lists.{In}
 use Rattle.row_delta.specs.declared.delta.Delta.{Delta}
-use Rattle.rule_world.specs.Programs.{IsRunnable}
 use Rattle.rete_net.specs.declared.changes.RuleChange.{RuleChange}
 use Rattle.rete_net.specs.declared.load.LoadFault.TheVariants.{NoRow}
 use Rattle.rete_net.specs.Answers.{answer_in, AreRuled}
 use Rattle.rete_net.specs.Steps.{changes_from, delta_at, no_change}
-use Rattle.rete_net.specs.Walks.{IsWired}
 use Rattle.rete_net.proofs.Filling.{same_fault}
 use Rattle.rete_net.proofs.Frames.{net_again, wired_of}
 use Rattle.rete_net.proofs.Quieting.{all_quiet}
 use Rattle.rete_net.proofs.Resumed.{loaded_stands}
 use Rattle.rete_net.proofs.Sharing.{extra_missing, extras_there, laden_changes}
 use Rattle.rete_net.proofs.Starting.{built_shape, shape_owned}
-use Rattle.rete_net.proofs.net.Rete.load.Given.{Over}
 use Rattle.rete_net.proofs.net.Rete.load.Goals as goal
 
 pub returns-clause-net : goal.returns-clause-net
@@ -26,7 +23,7 @@ returns-clause-net g c runnable =
 pub returns-clause-rules : goal.returns-clause-rules
 returns-clause-rules g c few =
     let same : length c.deref.result.now ≡ length c.args.program.now.rules =
-        ap (λ (ends : List ℕ). length ends) (c.deref.ensures.value ∙ ap (λ ends. ends.items) c.in_ok-answered.ensures.ends) ∙ c.in_ok-net.ensures.count in
+    ap (λ (ends : List ℕ). length ends) (c.deref.ensures.value ∙ ap (λ ends. ends.items) c.in_ok-answered.ensures.ends) ∙ c.in_ok-net.ensures.count in
     subst (λ n. n < 2 ^ 16 → (change : RuleChange) → In change c.in_ok-changes.changes.items → change.rule.0 < n) same c.in_ok-changes.ensures.rules few
 
 pub returns-clause-rows : goal.returns-clause-rows

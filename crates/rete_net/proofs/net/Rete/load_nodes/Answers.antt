@@ -1,10 +1,8 @@
-use Rattle.std.proofs.Common.{◌≡◌, ◌∙◌, sym, ap, refl, subst, ◌<◌, ◌≤◌, ◌+◌, ℕ, length, arith, List, Err, Some, slice_get}
+use Rattle.std.proofs.Common.{◌≡◌, ◌∙◌, sym, ap, refl, subst, ◌<◌, length, arith, List, Err, Some, slice_get}
 use Rattle.std.proofs.lemmas.Option.{slice_get-get_or}
 use Rattle.row_delta.specs.declared.delta.Delta.{Delta}
-use Rattle.row_delta.specs.declared.row.Row.{Row}
 use Rattle.rete_net.specs.declared.build.Owner.{Owner}
 use Rattle.rete_net.specs.declared.index.Index.{Index}
-use Rattle.rete_net.specs.declared.node.NetNode.{NetNode}
 use Rattle.rete_net.specs.declared.load.LoadFault.TheVariants.{NoRow}
 use Rattle.rete_net.specs.Answers.{left_given, IsPut}
 use Rattle.rete_net.specs.Loads.{AreLoaded}
@@ -12,7 +10,6 @@ use Rattle.rete_net.specs.Steps.{empty_row_comes}
 use Rattle.rete_net.proofs.Filling.{same_fault, set_off, stuck_at, take_one}
 use Rattle.rete_net.proofs.Scheduling.{scheduled_more}
 use Rattle.rete_net.proofs.Walking.{not_replaced, replaced_more}
-use Rattle.rete_net.proofs.net.Rete.load_nodes.Given.{Over}
 use Rattle.rete_net.proofs.net.Rete.load_nodes.Goals as goal
 
 pub loop-place-init : goal.loop-place-init
