@@ -1,12 +1,12 @@
 -- What the nodes of a network count of forgotten facts.
-use Rattle.std.proofs.Common.{◌≡◌, ◌∙◌, ◌⊎◌, inl, inr, sym, ap, refl, subst, ℕ, ℤ, zero, suc, ◌+◌, ◌<◌, ◌≤◌, nat_lt, arith, Bool, true, false, ◌&&◌, List, [], ◌∷◌, ◌++◌, map, length, take, Option, Some, None, slice_get}
+use Rattle.std.proofs.Common.{◌≡◌, ◌∙◌, ◌⊎◌, inl, inr, sym, ap, refl, subst, ℕ, ℤ, zero, suc, ◌+◌, ◌<◌, ◌≤◌, nat_lt, arith, Bool, true, false, ◌&&◌, List, [], ◌∷◌, ◌++◌, length, take, Option, Some, None, slice_get}
 use Rattle.std.specs.declared.cmp.Ordering.{Ordering}
 use Rattle.std.specs.declared.cmp.Ordering.TheVariants.{Less}
 use Rattle.std.specs.List.{AllByRecursion, filter}
 use Rattle.std.specs.List.Sorted.{IsStrictlySortedBy}
 use Rattle.std.specs.Ordering.{nat_cmp, ordering_then}
 use Rattle.std.proofs.lemmas.Bool.Decides.{nat_tests}
-use Rattle.std.proofs.lemmas.List.{take_more, length-take-le}
+use Rattle.std.proofs.lemmas.List.{length-take-le}
 use Rattle.std.proofs.lemmas.Option.{slice_get_within}
 use Rattle.fx_base.specs.Lists.{In}
 use Rattle.fx_base.specs.declared.fact.Fact.{Fact}
@@ -118,7 +118,7 @@ sorted_by_rows o (e ∷ extras) s under = (all_later extras s.0 (λ f i. under f
 
 -- ---- conditions
 
-aside_of : (c : Condition) → IsAside c → binds c ≡ false
+pub aside_of : (c : Condition) → IsAside c → binds c ≡ false
 aside_of (Plain pattern) never = absurd never
 aside_of (Negated pattern) is = refl
 aside_of (Existing pattern) is = refl
@@ -134,7 +134,7 @@ abbrev rule_numbered : ℕ → RuleId
 rule_numbered n = record { 0 = n }
 
 -- the front of a rule with one condition more
-longer : (all : List Condition) (i : ℕ) → i < length all → (c : Condition) × (slice_get all i ≡ Some c) × (take (suc i) all ≡ take i all ++ c ∷ [])
+pub longer : (all : List Condition) (i : ℕ) → i < length all → (c : Condition) × (slice_get all i ≡ Some c) × (take (suc i) all ≡ take i all ++ c ∷ [])
 longer all i h =
     let at = has_at all i h in
     let more = get_more all i at.0 at.1 in
@@ -220,7 +220,7 @@ module _ (p : Program) (nodes : List NetNode) (ends : List ℕ) (net : IsNetOf p
         let lt = within in
         let here : length (take (suc e.condition) is.rule.conditions) ≡ suc e.condition = length-take-le (suc e.condition) is.rule.conditions (omega (arith, lt)) in
         let there : length (take (suc o.condition) owned_by.rule.conditions) ≡ suc o.condition =
-            (let low = owned_by.within in length-take-le (suc o.condition) owned_by.rule.conditions (omega (arith, low))) in
+        (let low = owned_by.within in length-take-le (suc o.condition) owned_by.rule.conditions (omega (arith, low))) in
         let long : length (take (suc e.condition) is.rule.conditions) ≡ length (take (suc o.condition) owned_by.rule.conditions) = ap (λ (cs : List Condition). length cs) owned_by.own in
         let same : o.condition ≡ e.condition = omega (arith, here, there, long) in (
           same_rule o owned_by.rule owned_by.stands (ap (λ m. take (suc m) owned_by.rule.conditions) (sym same) ∙ sym owned_by.own)
@@ -239,16 +239,25 @@ module _ (p : Program) (nodes : List NetNode) (ends : List ℕ) (net : IsNetOf p
         let own = owner_is o.0 (subst (λ (cs : List Condition). IsOwned p cs o.0) node.2 (owned.each node.0 o.0 o.1)) in
         let more = longer is.rule.conditions e.condition within in
         let parts = parted (before net.conditions n.0.parent) (take e.condition is.rule.conditions) (condition_of n.0.node) more.0 (sym (net.shaped.own node.0 n.0 n.1) ∙ node.2 ∙ more.2) in
-        let its : condition_of n.0.node ≡ is.condition = parts.1 ∙ both_at (slice_get is.rule.conditions e.condition) more.0 is.condition more.1 is.placed in
-        (node.0, node.1, (n.0, o.0, n.1, o.1, subst (λ c. IsExtraBeside p c s (rows_of p s (before net.conditions n.0.parent)) forgotten o.0.rule o.0.condition e) (sym its) (record {
-          rule = ap rule_numbered (sym own.0);
-          condition = sym own.1;
-          aside = is_aside is.condition is.aside;
-          there = ap (λ (cs : List Condition). cleaned (rows_of p s cs) forgotten e.row) parts.0 ∙ ap (λ b. b && clean forgotten e.row) is.there ∙ is.kept;
-          some = is.some;
-          counted = is.counted;
-          gathered = is.gathered;
-        })))
+        let its : condition_of n.0.node ≡ is.condition = parts.1 ∙ both_at (slice_get is.rule.conditions e.condition) more.0 is.condition more.1 is.placed in (
+          node.0,
+          node.1,
+          (
+            n.0,
+            o.0,
+            n.1,
+            o.1,
+            subst (λ c. IsExtraBeside p c s (rows_of p s (before net.conditions n.0.parent)) forgotten o.0.rule o.0.condition e) (sym its) (record {
+              rule = ap rule_numbered (sym own.0);
+              condition = sym own.1;
+              aside = is_aside is.condition is.aside;
+              there = ap (λ (cs : List Condition). cleaned (rows_of p s cs) forgotten e.row) parts.0 ∙ ap (λ b. b && clean forgotten e.row) is.there ∙ is.kept;
+              some = is.some;
+              counted = is.counted;
+              gathered = is.gathered;
+            }),
+          ),
+        )
 
   -- ---- one node after the other
 

@@ -30,3 +30,9 @@ mod Steady
 mod Telling
 pub mod Owning
 pub mod Counting
+mod Searched
+mod Loaded
+mod Sharing
+mod Resumed
+mod Filled
+mod Filling

@@ -162,7 +162,7 @@ rule_owned p all owners place rule stands was = record {
   count = was.count;
   each = was.each;
   rising = was.rising;
-  below = λ x j. inl (elim (was.below x j) [ | inl lt ↦ omega (arith, lt) | inr same ↦ (let is = same.0 in omega (arith, is)) ]);
+  below = λ x j. inl (elim (was.below x j) [ inl lt ↦ omega (arith, lt) | inr same ↦ (let is = same.0 in omega (arith, is)) ]);
   earlier = λ k other less there q some le. by k other there q some le (below_or_at k place less);
   own = λ q some le. absurd (omega (arith, some, le));
 }

@@ -62,7 +62,7 @@ none_valued : (test : Row → ℤ → Bool) (o : Option (Row × ℤ)) → false 
 none_valued test None = refl
 none_valued test (Some q) = refl
 
-none_made : (p : Program) (s : Snapshot) (c : Condition) (row : Row) → false ≡ line p s c no_rows row
+pub none_made : (p : Program) (s : Snapshot) (c : Condition) (row : Row) → false ≡ line p s c no_rows row
 unfolding joined valued
 none_made p s (Plain q) row = none_joined (joins q (held s)) (candidates_of p q s) (unjoined row)
 none_made p s (Negated q) row = refl
@@ -206,6 +206,10 @@ module _ (p : Program) (net : Rete) (all : List (List Condition)) (built : AreBu
         so.each k (conditions k) o (listed k (omega arith)) e;
     rising = so.rising;
   }
+
+  pub shape_owned : (rules : ℕ) → AreOwnedSoFar p all net.owners.items rules [] 0 → AreOwners p built_shape.conditions (length net.nodes.items) net.owners.items
+  unfolding built_shape
+  shape_owned rules so = built_owned rules so
 
   module _ (moment : Moment) (is_at : IsAt empty_snapshot moment) (new : Rete) (answers : List RuleChange) (same : new.ends.items ≡ net.ends.items)
       (step : NetStep p no_facts [] None moment empty_row_comes net.nodes.items new.nodes.items net.ends.items answers) where

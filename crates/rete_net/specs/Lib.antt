@@ -14,3 +14,4 @@ pub mod Steps
 pub mod Walks
 pub mod Building
 pub mod Loading
+pub mod Loads

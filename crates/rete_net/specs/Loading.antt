@@ -46,7 +46,7 @@ pub record IsLoadable (p : Program) (t : Snapshot) (kept : List Fact) (extras : 
 
 -- a row of the first conditions of a rule is there, over the facts of a snapshot with these extras
 abbrev pub IsThere : Program → Snapshot → List Extra → (ℕ → ℕ → ℕ) → Extra → Bool → Type 0
-IsThere p t extras owners e yes = (rule : Rule) → slice_get p.rules e.rule.0 ≡ Some rule → laden p t extras (owners e.rule.0) rule.conditions e.condition e.row ≡ yes
+IsThere p t extras owners e there = (rule : Rule) → slice_get p.rules e.rule.0 ≡ Some rule → laden p t extras (owners e.rule.0) rule.conditions e.condition e.row ≡ there
 
 -- the rows that come by a change, if there is one
 abbrev pub coming : Option Delta → List Row
@@ -71,5 +71,5 @@ pub record IsBehind (p : Program) (s t : Snapshot) (forgotten : Named → Bool) 
   pub orderly : IsOrderly p s
   pub kept : IsKeptOf p s forgotten t
   pub outside : AreOutsideOfTime p s forgotten
-  pub extras : AreExtras p s forgotten extras
+  pub lost : AreExtras p s forgotten extras
   pub at_hand : HasAllOf look s forgotten

@@ -1,22 +1,33 @@
 ghost use Rattle.std.specs.Prelude.{◌≡◌, ◌<◌, ◌^◌, ℕ, Bool, true, false, length, IfOk, OnOk, IsErrOf};
+ghost use Rattle.std.specs.List.Sorted.{IsStrictlySortedBy};
 ghost use Rattle.fx_base.specs.Lists.{In};
 ghost use Rattle.row_delta.specs.declared.extra.Extra.{Extra as ExtraData};
 ghost use Rattle.row_delta.specs.declared.row.Named.{Named as NamedData};
 ghost use Rattle.rule_model.specs.Snapshots.{Snapshot};
 ghost use Rattle.rule_world.specs.Programs.{IsRunnable};
+ghost use Rattle.image_laws.specs.Extras.{extra_cmp};
 ghost use Rattle.image_laws.specs.Laden.{AreOwners};
 ghost use Rattle.rete_net.specs.declared.changes.RuleChange.{RuleChange as RuleChangeData};
 ghost use Rattle.rete_net.specs.declared.load.LoadFault.TheVariants.{NoMemory as OutOfMemory};
 ghost use Rattle.rete_net.specs.Loading.{IsLoadable, IsThere, AreLadenRows, IsBehind};
+ghost use Rattle.rete_net.specs.Loads.{AreLoaded, IsStuck};
 ghost use Rattle.rete_net.specs.Nets.{NetStands};
+ghost use Rattle.rete_net.specs.Schedules.{AreScheduled};
 ghost use Rattle.rete_net.specs.Shapes.{IsNetOf};
+ghost use Rattle.rete_net.specs.Steps.{empty_row_comes};
+ghost use Rattle.rete_net.specs.Walks.{IsReplaced, IsWired};
 
-use crate::changes::RuleChange;
+use crate::answered::Answered;
+use crate::build::{empty_row_comes, no_change};
+use crate::changes::{RuleChange, changes_of};
 use crate::net::Rete;
+use crate::pieces::extras_of;
+use crate::steps::put_delta;
 use fx_base::{Fact, Facts, NoMemory};
-use row_delta::Extra;
+use row_delta::{Delta, Extra};
 use rule_model::{Moment, Program};
 use std::alloc::{AllocError, Global};
+use std::collections::BTreeSet;
 
 /// Why no network was loaded.
 #[derive(Clone, Copy, Debug, PartialEq, Eq)]
@@ -68,6 +79,45 @@ impl Rete {
         ensures no_row { IsErrOf result LoadFault.NoRow → (t : Snapshot) (owners : ℕ → ℕ → ℕ) → IsLoadable program.now t kept.now extras.now moment.now (F.map facts.now) → AreOwners program.now owners
             → (e : ExtraData) × In e extras.now × IsThere program.now t extras.now owners e false }
     {
-        Err(LoadFault::NoMemory)
+        let mut net = Rete::of_rules(alloc, program)?;
+        let answered = net.load_nodes(alloc, program, kept, extras, moment, facts)?;
+        net.quiet_until = net.schedule.first();
+        let changes = changes_of(alloc, &answered, &net.ends)?;
+        Ok((net, changes))
+    }
+
+    // Loads nodes that keep nothing, each with the rows that its parent answered, and answers what they answer.
+    fn load_nodes<F: Facts>(
+        &mut self,
+        alloc: Global,
+        program: &Program,
+        kept: &[Fact],
+        extras: &[Extra],
+        moment: &Moment,
+        facts: &F,
+    ) -> Result<Answered<Delta>, LoadFault>
+        ensures ends { OnOk result (self.new.ends ≡ self.old.ends) }
+        ensures owners { OnOk result (self.new.owners ≡ self.old.owners) }
+        ensures index { OnOk result (self.new.index ≡ self.old.index) }
+        ensures replaced { OnOk result (IsReplaced self.old.nodes.items self.new.nodes.items) }
+        ensures scheduled { OnOk result (AreScheduled program.now self.old.nodes.items self.old.schedule → AreScheduled program.now self.new.nodes.items self.new.schedule) }
+        ensures loaded { IfOk result (λ a. IsWired self.old.nodes.items self.old.ends.items self.old.index → IsStrictlySortedBy extra_cmp extras.now
+            → AreLoaded program.now (F.map facts.now) kept.now extras.now moment.now empty_row_comes self.old.nodes.items self.new.nodes.items self.old.owners.items self.old.ends.items a (length self.old.nodes.items)) }
+        ensures stuck { IsErrOf result LoadFault.NoRow → IsWired self.old.nodes.items self.old.ends.items self.old.index → IsStrictlySortedBy extra_cmp extras.now
+            → IsStuck program.now (F.map facts.now) kept.now extras.now moment.now empty_row_comes self.old.nodes.items self.old.owners.items self.old.ends.items }
+    {
+        let first = empty_row_comes(alloc)?;
+        let mut due = BTreeSet::new(alloc);
+        let mut answered = Answered::new(alloc, no_change(alloc));
+        for place in 0..self.nodes.len() {
+            let own = extras_of(extras, &self.owners, place);
+            let node = &mut self.nodes[place];
+            let left = answered.left(&first, node.parent);
+            let rows = left.come.as_slice();
+            let delta = node.load(alloc, program, rows, kept, own, moment, facts)?;
+            self.schedule.put(alloc, program, place, node)?;
+            put_delta(&mut answered, &mut due, &self.index, place, delta)?;
+        }
+        Ok(answered)
     }
 }

@@ -50,11 +50,11 @@ use std::alloc::Global;
 #[derive(Drop)]
 pub struct Rete {
     pub(crate) nodes: Vec<NetNode>,
-    ends: Vec<usize>,
+    pub(crate) ends: Vec<usize>,
     pub(crate) owners: Vec<Owner>,
-    index: Index,
-    schedule: Schedule,
-    quiet_until: Option<i128>,
+    pub(crate) index: Index,
+    pub(crate) schedule: Schedule,
+    pub(crate) quiet_until: Option<i128>,
 }
 
 impl Rete {
@@ -156,9 +156,11 @@ impl Rete {
     }
 
     /// The nodes of all rules, which keep nothing.
-    fn of_rules(alloc: Global, program: &Program) -> Result<Rete, NoMemory>
+    /// The nodes of all rules, which keep nothing.
+    pub(crate) fn of_rules(alloc: Global, program: &Program) -> Result<Rete, NoMemory>
         ensures indexed { IfOk result (λ net. IsIndexOf net.nodes.items net.ends.items net.index) }
         ensures scheduled { IfOk result (λ net. AreScheduled program.now net.nodes.items net.schedule) }
+        ensures count { IfOk result (λ net. length net.ends.items ≡ length program.now.rules) }
         ensures built { IfOk result (λ net. IsRunnable program.now → (all : List (List Condition)) × AreBuilt program.now net.nodes.items all × HaveEnds all net.ends.items program.now.rules (length program.now.rules)
             × AreFronts program.now all × AreDistinct all × (length net.ends.items ≡ length program.now.rules)
             × AreOwnedSoFar program.now all net.owners.items (length program.now.rules) [] 0) }

@@ -38,8 +38,8 @@ use std::alloc::Global;
 #[derive(Drop)]
 pub(crate) struct NetNode {
     pub(crate) parent: Option<usize>,
-    gate: PatternGate,
-    node: Node,
+    pub(crate) gate: PatternGate,
+    pub(crate) node: Node,
 }
 
 impl NetNode {

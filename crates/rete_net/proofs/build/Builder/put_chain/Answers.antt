@@ -56,8 +56,7 @@ returns c all grown stands few windows owned =
     let was = c.loop-condition.invariant all grown stands few windows owned in
     let cs = c.args.rule.now.conditions in
     let long : length c.as_slice-condition-items.result.now ≡ length c.args.rule.now.conditions = ap (λ (ds : List Condition). length ds) c.as_slice-condition-items.ensures in
-    let done : c.loop-condition.condition-index ≡ length c.args.rule.now.conditions = omega (arith, long) in
-    (
+    let done : c.loop-condition.condition-index ≡ length c.args.rule.now.conditions = omega (arith, long) in (
       was.0,
       was.1,
       subst (IsParent (all ++ was.0) c.loop-condition.last) (ap (λ n. take n cs) done ∙ take_all (length cs) cs (omega arith)) was.2,

@@ -1,4 +1,4 @@
-use Rattle.std.proofs.Common.{[], None, refl, length}
+use Rattle.std.proofs.Common.{[], None, get_or, refl, length}
 use Rattle.rule_model.specs.declared.moment.Moment.{Moment}
 use Rattle.rule_model.specs.Moments.{IsAt}
 use Rattle.condition_rows.specs.Looks.{empty_snapshot}
@@ -34,7 +34,7 @@ returns-clause-stands c runnable =
     let first = step c (wired c runnable) in
     built_stands c.args.program.now c.in_ok-net.net built.0 built.1 built.2 built.3 built.4 built.5 first.0 first.1 c.step.new.self c.in_ok-changes.changes.items c.in_ok-changes.ensures.ends first.2
     (c.in_ok-changes.ensures.quiet c.in_ok-net.ensures.scheduled) (c.in_ok-changes.ensures.indexed c.in_ok-net.ensures.indexed) (c.in_ok-changes.ensures.scheduled c.in_ok-net.ensures.scheduled)
-    (owned_again c.args.program.now (built_shape c.args.program.now c.in_ok-net.net built.0 built.1 built.2 built.3 built.4 built.5).conditions (length c.in_ok-net.net.nodes.items) (length c.step.new.self.nodes.items)
+    (owned_again c.args.program.now (λ k. get_or built.0 k []) (length c.in_ok-net.net.nodes.items) (length c.step.new.self.nodes.items)
     c.in_ok-net.net.owners c.step.new.self.owners c.in_ok-changes.ensures.replaced.many c.in_ok-changes.ensures.owners
     (built_owned c.args.program.now c.in_ok-net.net built.0 built.1 built.2 built.3 built.4 built.5 (length c.args.program.now.rules) built.6))
 

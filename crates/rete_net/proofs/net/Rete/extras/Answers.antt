@@ -40,9 +40,9 @@ loop-place-preserved g c p s forgotten stands has =
     let named = rows_named p was tags behind in
     let node = node_moves p (held was) look was (rows_of p was behind) forgotten (held_has was forgotten) at_hand named n.0.node (stands.nodes.nodes k n.0 n.1).node in
     let told = c.in_ok-extras.ensures n.0 o.0 (ap (λ (ns : List NetNode). slice_get ns k) c.deref.ensures.value ∙ n.1) (ap (λ (os : List Owner). slice_get os k) c.deref-in-loop-place.ensures.value ∙ o.1)
-        p was (rows_of p was behind) forgotten tags at_hand named node in
+    p was (rows_of p was behind) forgotten tags at_hand named node in
     let here = beside_seen p s stands.seen tags forgotten (condition_of n.0.node) behind (stands.unchanged.same_candidates k n.0 n.1)
-        (same_before p net.nodes.items net.ends.items stands.nodes.shape s was forgotten stands.unchanged k n.0 n.1) o.0.rule o.0.condition c.in_ok-extras.extras.items told in
+    (same_before p net.nodes.items net.ends.items stands.nodes.shape s was forgotten stands.unchanged k n.0 n.1) o.0.rule o.0.condition c.in_ok-extras.extras.items told in
     subst (λ (es : List Extra). AreFirst p net.nodes.items net.ends.items stands.nodes.shape net.owners.items owned s forgotten (k + 1) es) (sym c.in_ok-append.ensures.items)
     (one_more_first p net.nodes.items net.ends.items stands.nodes.shape net.owners.items owned s forgotten k n.0 o.0 n.1 o.1 c.loop-place.all.items c.in_ok-extras.extras.items
     (c.loop-place.invariant p s forgotten stands has) here)

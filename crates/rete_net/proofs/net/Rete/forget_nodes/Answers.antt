@@ -12,6 +12,7 @@ use Rattle.rete_net.proofs.net.Rete.forget_nodes.Goals as goal
 pub walk-init : goal.walk-init
 walk-init g c = record {
   ends = refl;
+  owners = refl;
   index = refl;
   quiet = refl;
   replaced = not_replaced c.args.self.now.nodes.items;
@@ -36,6 +37,7 @@ walk-preserved g c =
     let none : c.from_vec-none.result ≡ [] = c.from_vec-none.ensures ∙ c.new.ensures.items in
     record {
       ends = was.ends;
+      owners = was.owners;
       index = was.index;
       quiet = was.quiet;
       replaced = replaced_more c.args.self.now.nodes.items nodes place n c.forget.new.self was.replaced at c.in_ok-gone.ensures.parent c.in_ok-gone.ensures.condition;

@@ -8,6 +8,7 @@ use Rattle.rete_net.proofs.net.Rete.forget_nodes.Given as goal
 abbrev pub invariant-walk : goal.invariant-walk
 invariant-walk g l = record {
   ends : l.self.ends ≡ l.fn.self.ends;
+  owners : l.self.owners ≡ l.fn.self.owners;
   index : l.self.index ≡ l.fn.self.index;
   quiet : l.self.quiet_until ≡ l.fn.self.quiet_until;
   replaced : IsReplaced l.fn.self.nodes.items l.self.nodes.items;

@@ -56,7 +56,7 @@ loop-rule-preserved c = record { count = let e = c.loop-rule.invariant.count in 
         let few : length rule.conditions ≤ 8 = (let le = conditions.1 in grind (arith, nat_tests)) in
         let stands : slice_get p.rules c.rule_in.result.0 ≡ Some rule = ap (slice_get p.rules) (number runnable) ∙ found in
         let owned : AreOwnedSoFar p was.0 c.loop-rule.builder.owners.items c.rule_in.result.0 [] 0 =
-            subst (λ n. AreOwnedSoFar p was.0 c.loop-rule.builder.owners.items n [] 0) (sym (number runnable)) was.3 in
+        subst (λ n. AreOwnedSoFar p was.0 c.loop-rule.builder.owners.items n [] 0) (sym (number runnable)) was.3 in
         let more = c.in_ok-last.ensures was.0 was.1 stands few windows owned in (
           was.0 ++ more.0,
           more.1,
@@ -90,3 +90,9 @@ returns-clause-built c runnable =
       omega (arith, rules, count),
       subst (λ n. AreOwnedSoFar c.args.program.now was.0 c.loop-rule.builder.owners.items n [] 0) all_rules was.3,
     )
+
+pub returns-clause-count : goal.returns-clause-count
+returns-clause-count c =
+    let rules : length c.as_slice-rule-items.result.now ≡ length c.args.program.now.rules = ap (λ (rs : List Rule). length rs) c.as_slice-rule-items.ensures in
+    let count = c.loop-rule.invariant.count in
+    omega (arith, rules, count)

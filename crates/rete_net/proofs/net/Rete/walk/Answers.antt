@@ -13,6 +13,7 @@ use Rattle.rete_net.proofs.net.Rete.walk.Goals as goal
 pub walk-init : goal.walk-init
 walk-init g c = record {
   ends = refl;
+  owners = refl;
   index = refl;
   replaced = not_replaced c.args.self.now.nodes.items;
   within = omega arith;
@@ -42,6 +43,7 @@ walk-preserved g c =
     let at : slice_get c.walk.self.nodes.items c.in-Some.place ≡ Some c.index_mut-node.result.now = slice_get-get_or nodes place n within ∙ ap Some (sym c.index_mut-node.ensures.value) in
     record {
       ends = was.ends;
+      owners = was.owners;
       index = was.index;
       replaced = replaced_more c.args.self.now.nodes.items nodes place n c.advance.new.self was.replaced at c.in_ok-delta.ensures.parent c.in_ok-delta.ensures.condition;
       within = omega (arith, many, within);

@@ -8,6 +8,7 @@ use Rattle.rete_net.proofs.net.Rete.walk.Given as goal
 abbrev pub invariant-walk : goal.invariant-walk
 invariant-walk g l = record {
   ends : l.self.ends ≡ l.fn.self.ends;
+  owners : l.self.owners ≡ l.fn.self.owners;
   index : l.self.index ≡ l.fn.self.index;
   replaced : IsReplaced l.fn.self.nodes.items l.self.nodes.items;
   within : l.next ≤ length l.fn.self.nodes.items;

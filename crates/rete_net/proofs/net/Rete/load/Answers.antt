@@ -1,0 +1,78 @@
+use Rattle.std.proofs.Common.{◌≡◌, ◌∙◌, ap, subst, ℕ, ◌<◌, ◌^◌, length, List, Err, Some, slice_get}
+use Rattle.fx_base.specs.Lists.{In}
+use Rattle.row_delta.specs.declared.delta.Delta.{Delta}
+use Rattle.rete_net.specs.declared.changes.RuleChange.{RuleChange}
+use Rattle.rete_net.specs.declared.load.LoadFault.TheVariants.{NoRow}
+use Rattle.rete_net.specs.Answers.{answer_in, AreRuled}
+use Rattle.rete_net.specs.Steps.{changes_from, delta_at, no_change}
+use Rattle.rete_net.proofs.Filling.{same_fault}
+use Rattle.rete_net.proofs.Frames.{net_again, wired_of}
+use Rattle.rete_net.proofs.Quieting.{all_quiet}
+use Rattle.rete_net.proofs.Resumed.{loaded_stands}
+use Rattle.rete_net.proofs.Sharing.{extra_missing, extras_there, laden_changes}
+use Rattle.rete_net.proofs.Starting.{built_shape, shape_owned}
+use Rattle.rete_net.proofs.net.Rete.load.Goals as goal
+
+pub returns-clause-net : goal.returns-clause-net
+returns-clause-net g c runnable =
+    let built = c.in_ok-net.ensures.built runnable in
+    let told = c.in_ok-answered.ensures in
+    net_again c.args.program.now c.in_ok-net.net.nodes.items c.load_nodes.new.self.nodes.items c.in_ok-net.net.ends.items c.load_nodes.new.self.ends.items (ap (λ ends. ends.items) told.ends) told.replaced
+    (built_shape c.args.program.now c.in_ok-net.net built.0 built.1 built.2 built.3 built.4 built.5)
+
+pub returns-clause-rules : goal.returns-clause-rules
+returns-clause-rules g c few =
+    let same : length c.deref.result.now ≡ length c.args.program.now.rules =
+    ap (λ (ends : List ℕ). length ends) (c.deref.ensures.value ∙ ap (λ ends. ends.items) c.in_ok-answered.ensures.ends) ∙ c.in_ok-net.ensures.count in
+    subst (λ n. n < 2 ^ 16 → (change : RuleChange) → In change c.in_ok-changes.changes.items → change.rule.0 < n) same c.in_ok-changes.ensures.rules few
+
+pub returns-clause-rows : goal.returns-clause-rows
+returns-clause-rows g c t owners can own =
+    let p = c.args.program.now in
+    let net = c.in_ok-net.net in
+    let built = c.in_ok-net.ensures.built can.runnable in
+    let shape = built_shape p net built.0 built.1 built.2 built.3 built.4 built.5 in
+    let wired = wired_of p net.nodes.items net.ends.items net.index shape c.in_ok-net.ensures.indexed in
+    laden_changes p (g.F.Facts.map c.args.facts.now) t c.args.kept.now c.args.extras.now c.args.moment.now can owners own net.nodes.items net.ends.items shape net.owners.items
+    (shape_owned p net built.0 built.1 built.2 built.3 built.4 built.5 (length p.rules) built.6) (λ k n e. built.1.fresh k n e)
+    c.load_nodes.new.self.nodes.items c.in_ok-answered.answered (c.in_ok-answered.ensures.loaded wired can.in_order) c.in_ok-changes.changes.items
+    (subst (λ (ends : List ℕ). length ends < 2 ^ 16 → (first : Delta) (deltas : List Delta) → c.in_ok-answered.answered.none ≡ no_change → AreRuled c.in_ok-answered.answered ends
+    → ((rule end : ℕ) → slice_get ends rule ≡ Some end → delta_at first deltas end ≡ answer_in c.in_ok-answered.answered end) → c.in_ok-changes.changes.items ≡ changes_from first deltas 0 ends)
+    (c.deref.ensures.value ∙ ap (λ ends. ends.items) c.in_ok-answered.ensures.ends) c.in_ok-changes.ensures.changes)
+
+pub returns-clause-all_there : goal.returns-clause-all_there
+returns-clause-all_there g c t owners can own =
+    let p = c.args.program.now in
+    let net = c.in_ok-net.net in
+    let built = c.in_ok-net.ensures.built can.runnable in
+    let shape = built_shape p net built.0 built.1 built.2 built.3 built.4 built.5 in
+    let wired = wired_of p net.nodes.items net.ends.items net.index shape c.in_ok-net.ensures.indexed in
+    extras_there p (g.F.Facts.map c.args.facts.now) t c.args.kept.now c.args.extras.now c.args.moment.now can owners own net.nodes.items net.ends.items shape net.owners.items
+    (shape_owned p net built.0 built.1 built.2 built.3 built.4 built.5 (length p.rules) built.6) (λ k n e. built.1.fresh k n e)
+    c.load_nodes.new.self.nodes.items c.in_ok-answered.answered (c.in_ok-answered.ensures.loaded wired can.in_order)
+
+pub returns-clause-stands : goal.returns-clause-stands
+returns-clause-stands g c s t forgotten can behind =
+    let p = c.args.program.now in
+    let net = c.in_ok-net.net in
+    let built = c.in_ok-net.ensures.built can.runnable in
+    let shape = built_shape p net built.0 built.1 built.2 built.3 built.4 built.5 in
+    let wired = wired_of p net.nodes.items net.ends.items net.index shape c.in_ok-net.ensures.indexed in
+    let told = c.in_ok-answered.ensures in
+    let scheduled = told.scheduled c.in_ok-net.ensures.scheduled in
+    loaded_stands p (g.F.Facts.map c.args.facts.now) t c.args.kept.now c.args.extras.now c.args.moment.now can net _ shape
+    (shape_owned p net built.0 built.1 built.2 built.3 built.4 built.5 (length p.rules) built.6) (λ k n e. built.1.fresh k n e)
+    c.in_ok-answered.answered (told.loaded wired can.in_order) told.replaced told.ends told.owners told.index c.in_ok-net.ensures.indexed scheduled
+    (all_quiet p c.load_nodes.new.self.nodes.items c.load_nodes.new.self.schedule c.first-net.result scheduled (c.first-net.ensures p))
+    s forgotten behind ?
+
+pub returns-in_err-answered-clause-no_row : goal.returns-in_err-answered-clause-no_row
+returns-in_err-answered-clause-no_row g c fault t owners can own =
+    let p = c.args.program.now in
+    let net = c.in_ok-net.net in
+    let built = c.in_ok-net.ensures.built can.runnable in
+    let shape = built_shape p net built.0 built.1 built.2 built.3 built.4 built.5 in
+    let wired = wired_of p net.nodes.items net.ends.items net.index shape c.in_ok-net.ensures.indexed in
+    extra_missing p (g.F.Facts.map c.args.facts.now) t c.args.kept.now c.args.extras.now c.args.moment.now can owners own net.nodes.items net.ends.items shape net.owners.items
+    (shape_owned p net built.0 built.1 built.2 built.3 built.4 built.5 (length p.rules) built.6) (λ k n e. built.1.fresh k n e)
+    (c.in_err-answered.ensures.stuck (ap Err (same_fault c.from_residual-in_err-answered.result c.in_err-answered.field-0.0 NoRow fault c.from_residual-in_err-answered.ensures.1)) wired can.in_order)

@@ -1,0 +1,19 @@
+use Rattle.std.proofs.Common.{◌≡◌}
+use Rattle.std.specs.List.Sorted.{IsStrictlySortedBy}
+use Rattle.image_laws.specs.Extras.{extra_cmp}
+use Rattle.rete_net.specs.Loads.{AreLoaded}
+use Rattle.rete_net.specs.Schedules.{AreScheduled}
+use Rattle.rete_net.specs.Steps.{empty_row_comes}
+use Rattle.rete_net.specs.Walks.{IsReplaced, IsWired}
+use Rattle.rete_net.proofs.net.Rete.load_nodes.Given as goal
+
+abbrev pub invariant-loop-place : goal.invariant-loop-place
+invariant-loop-place g l = record {
+  ends : l.self.ends ≡ l.fn.self.ends;
+  owners : l.self.owners ≡ l.fn.self.owners;
+  index : l.self.index ≡ l.fn.self.index;
+  replaced : IsReplaced l.fn.self.nodes.items l.self.nodes.items;
+  scheduled : AreScheduled l.program l.fn.self.nodes.items l.fn.self.schedule → AreScheduled l.program l.self.nodes.items l.self.schedule;
+  way : IsWired l.fn.self.nodes.items l.fn.self.ends.items l.fn.self.index → IsStrictlySortedBy extra_cmp l.extras
+      → AreLoaded l.program (g.F.Facts.map l.facts) l.kept l.extras l.moment empty_row_comes l.fn.self.nodes.items l.self.nodes.items l.fn.self.owners.items l.fn.self.ends.items l.answered l.place;
+}

@@ -1,0 +1,101 @@
+-- How nodes are loaded, each behind its parent.
+use Rattle.std.specs.Prelude.{◌≡◌, ◌==◌, ◌<◌, ◌≤◌, ◌≤ℤ◌, ◌&&◌, ◌||◌, nat_lt, ℕ, Bool, true, false, List, [], Some, None, length, slice_get}
+use Rattle.std.specs.List.{filter}
+use Rattle.fx_base.specs.Lists.{In}
+use Rattle.fx_base.specs.declared.fact.Fact.{Fact}
+use Rattle.row_delta.specs.declared.delta.Delta.{Delta}
+use Rattle.row_delta.specs.declared.extra.Extra.{Extra}
+use Rattle.row_delta.specs.declared.row.Row.{Row}
+use Rattle.row_delta.specs.Rows.{has, InOrder}
+use Rattle.rule_model.specs.declared.moment.Moment.{Moment}
+use Rattle.rule_model.specs.declared.program.Program.{Program}
+use Rattle.rule_model.specs.Moments.{IsAt}
+use Rattle.rule_model.specs.Rows.{pattern_of}
+use Rattle.rule_model.specs.Snapshots.{Snapshot, floor}
+use Rattle.join_tests.specs.Joins.{Look}
+use Rattle.pair_memory.specs.Standing.{no_names}
+use Rattle.tally_node.specs.Extras.{extra_for, rows_of_extras}
+use Rattle.condition_rows.specs.Looks.{empty_snapshot, HasAllOf, NameHeld}
+use Rattle.pattern_gate.specs.Gates.{GateStands, has_good_window}
+use Rattle.pattern_gate.specs.Moves.{IsOrderly}
+use Rattle.condition_node.specs.Loading.{Laden}
+use Rattle.condition_node.specs.Nodes.{condition_of}
+use Rattle.image_laws.specs.Laden.{laden_line}
+use Rattle.rete_net.specs.declared.answered.Answered.{Answered}
+use Rattle.rete_net.specs.declared.build.Owner.{Owner}
+use Rattle.rete_net.specs.declared.node.NetNode.{NetNode}
+use Rattle.rete_net.specs.Answers.{answer_in, left_given, some_answer, AreRuled}
+use Rattle.rete_net.specs.Standing.{IsFresh}
+use Rattle.rete_net.specs.Steps.{no_change}
+
+-- a fact is of the type in a place
+abbrev pub is_of : ℕ → Fact → Bool
+is_of ty f = f.ty.0 == ty
+
+-- an extra stands under an owner
+abbrev pub is_under : Owner → Extra → Bool
+is_under o e = e.rule.0 == o.rule.0 && e.condition == o.condition
+
+-- an extra comes before an owner, or under it too
+abbrev pub comes_before : Bool → Owner → Extra → Bool
+comes_before under o e = nat_lt e.rule.0 o.rule.0 || (e.rule.0 == o.rule.0 && (nat_lt e.condition o.condition || (under && e.condition == o.condition)))
+
+-- ---- one node
+
+-- What a node that keeps nothing is loaded with: the facts of a snapshot at a moment, which a store has, the rows before its condition, and
+-- extras in the order of their rows, each of which counts something.
+pub record IsNodeLoad (p : Program) (look : Look) (kept : List Fact) (moment : Moment) (t : Snapshot) (before : Row → Bool) (n : NetNode) (rows : List Row) (extras : List Extra) : Type 0 where
+  pub fresh : IsFresh p n
+  pub window : has_good_window p (pattern_of (condition_of n.node)) ≡ true
+  pub orderly : IsOrderly p t
+  pub facts : t.facts ≡ kept
+  pub at : IsAt t moment
+  pub floors : (entry : ℕ) → floor p empty_snapshot entry ≤ℤ floor p t entry
+  pub at_hand : HasAllOf look t no_names
+  pub named : NameHeld t before
+  pub same_rows : (row : Row) → has rows row ≡ before row
+  pub in_order : InOrder (rows_of_extras extras)
+  pub some : (e : Extra) → In e extras → 0 < e.count
+
+-- What a load makes of a node: its gate stands for the snapshot, it keeps the rows, the candidates and what the extras count, and it
+-- answers the rows of its condition as they come.
+pub record NodeLoad (p : Program) (look : Look) (kept : List Fact) (extras : List Extra) (moment : Moment) (old new : NetNode) (rows : List Row) (delta : Delta) : Type 0 where
+  pub parent : new.parent ≡ old.parent
+  pub condition : condition_of new.node ≡ condition_of old.node
+  pub gate : (t : Snapshot) (before : Row → Bool) → IsNodeLoad p look kept moment t before old rows extras → GateStands p (pattern_of (condition_of old.node)) new.gate t
+  pub laden : (world : Look) (t : Snapshot) (before : Row → Bool) → IsNodeLoad p look kept moment t before old rows extras → HasAllOf world t no_names
+      → Laden p new.node look world t before (extra_for extras)
+  pub answer : (t : Snapshot) (before : Row → Bool) → IsNodeLoad p look kept moment t before old rows extras
+      → (row : Row) → has delta.come row ≡ laden_line p t (extra_for extras) (condition_of old.node) before row
+  pub none_gone : IsFresh p old → delta.gone ≡ []
+  pub in_order : IsFresh p old → InOrder delta.come
+
+-- ---- all nodes
+
+-- the rows of all extras under an owner are among these rows
+abbrev pub HasRowsOf : Owner → List Extra → List Row → Type 0
+HasRowsOf o extras rows = (e : Extra) → In e extras → is_under o e ≡ true → has rows e.row ≡ true
+
+-- The nodes before a place are loaded, each with what its parent answered and with the extras of its owner, whose rows are among those;
+-- `first` comes to those without a parent. The others are as they were.
+pub record AreLoaded (p : Program) (look : Look) (kept : List Fact) (extras : List Extra) (moment : Moment) (first : Delta) (before now : List NetNode) (owners : List Owner) (ends : List ℕ) (a : Answered Delta) (n : ℕ) : Type 0 where
+  pub many : length now ≡ length before
+  pub none : a.none ≡ no_change
+  pub ahead : (k : ℕ) → n ≤ k → some_answer a k ≡ None
+  pub rest : (k : ℕ) → n ≤ k → slice_get now k ≡ slice_get before k
+  pub loaded : (k : ℕ) → k < n → (old new : NetNode) (o : Owner) → slice_get before k ≡ Some old → slice_get now k ≡ Some new → slice_get owners k ≡ Some o
+      → NodeLoad p look kept (filter (is_under o) extras) moment old new (left_given first a old.parent).come (answer_in a k)
+  pub there : (k : ℕ) → k < n → (old : NetNode) (o : Owner) → slice_get before k ≡ Some old → slice_get owners k ≡ Some o → InOrder (left_given first a old.parent).come
+      → HasRowsOf o extras (left_given first a old.parent).come
+  pub ruled : AreRuled a ends
+
+-- Of the nodes before a place all are loaded, and the one in it cannot be: the row of an extra of its owner is none of those before it.
+pub record IsStuck (p : Program) (look : Look) (kept : List Fact) (extras : List Extra) (moment : Moment) (first : Delta) (before : List NetNode) (owners : List Owner) (ends : List ℕ) : Type 0 where
+  pub now : List NetNode
+  pub answered : Answered Delta
+  pub place : ℕ
+  pub loaded : AreLoaded p look kept extras moment first before now owners ends answered place
+  pub node : NetNode
+  pub there : slice_get before place ≡ Some node
+  pub missing : (o : Owner) → slice_get owners place ≡ Some o → InOrder (left_given first answered node.parent).come
+      → (e : Extra) × In e extras × (is_under o e ≡ true) × (has (left_given first answered node.parent).come e.row ≡ false)

@@ -1,0 +1,102 @@
+ghost use Rattle.std.specs.Prelude.{◌≡◌, ◌≤◌, ℕ, Some, length, nat_lt, slice_get, IfOk, IsTrue, true, false};
+ghost use Rattle.std.specs.List.{filter};
+ghost use Rattle.std.specs.List.Sorted.{IsStrictlySortedBy};
+ghost use Rattle.fx_base.specs.Lists.{In};
+ghost use Rattle.row_delta.specs.declared.extra.Extra.{Extra as ExtraData};
+ghost use Rattle.row_delta.specs.Rows.{has, InOrder};
+ghost use Rattle.rule_model.specs.Lent.{lent};
+ghost use Rattle.image_laws.specs.Extras.{extra_cmp};
+ghost use Rattle.rete_net.specs.declared.build.Owner.{Owner as OwnerData};
+ghost use Rattle.rete_net.specs.Loads.{is_of, is_under, comes_before};
+
+use crate::build::Owner;
+use fx_base::{Fact, NoMemory, TypeId};
+use row_delta::{Extra, Row};
+use std::alloc::Global;
+
+/// The facts of a type, in their order. It costs a look at each fact.
+pub(crate) fn of_type<'f>(
+    alloc: Global,
+    kept: &'f [Fact],
+    ty: TypeId,
+) -> Result<Vec<&'f Fact>, NoMemory>
+    ensures { IfOk result (λ facts. lent facts.items ≡ filter (is_of ty.0) kept.now) }
+{
+    let mut facts = Vec::new(alloc);
+    for fact in kept {
+        if fact.ty == ty {
+            facts.push(fact)?;
+        }
+    }
+    Ok(facts)
+}
+
+// Whether an extra comes before an owner, or under it too.
+fn comes_before(extra: &Extra, owner: Owner, under: bool) -> bool
+    ensures { result ≡ comes_before under owner extra.now }
+{
+    let rule = extra.rule.0;
+    let condition = extra.condition;
+    rule < owner.rule.0
+        || (rule == owner.rule.0
+            && (condition < owner.condition || (under && condition == owner.condition)))
+}
+
+// How many of these extras come before an owner, or under it too. It costs the logarithm of their number.
+fn count_before(extras: &[Extra], owner: Owner, under: bool) -> usize
+    ensures within { result ≤ length extras.now }
+    ensures parted { IsStrictlySortedBy extra_cmp extras.now → (k : ℕ) (e : ExtraData) → slice_get extras.now k ≡ Some e → comes_before under owner e ≡ nat_lt k result }
+{
+    let mut low = 0;
+    let mut high = extras.len();
+    'search: while low < high {
+        let middle = low + (high - low) / 2;
+        if comes_before(&extras[middle], owner, under) {
+            low = middle + 1;
+        } else {
+            high = middle;
+        }
+    }
+    low
+}
+
+// The extras under an owner, of extras in their order. It costs the logarithm of their number.
+fn extras_under(extras: &[Extra], owner: Owner) -> &[Extra]
+    ensures { IsStrictlySortedBy extra_cmp extras.now → result.now ≡ filter (is_under owner) extras.now }
+{
+    let from = &extras[count_before(extras, owner, false)..];
+    &from[..count_before(from, owner, true)]
+}
+
+/// The extras under the owner in a place, of extras in their order. It costs the logarithm of their number.
+pub(crate) fn extras_of<'e>(extras: &'e [Extra], owners: &[Owner], place: usize) -> &'e [Extra]
+    ensures { IsStrictlySortedBy extra_cmp extras.now → (o : OwnerData) → slice_get owners.now place ≡ Some o → result.now ≡ filter (is_under o) extras.now }
+{
+    match owners.get(place) {
+        Some(owner) => extras_under(extras, *owner),
+        None => &[],
+    }
+}
+
+// Whether a row is among rows that are in order. It costs the logarithm of their number.
+fn has_row(rows: &[Row], row: &Row) -> bool
+    ensures { InOrder rows.now → result ≡ has rows.now row.now }
+{
+    match rows.binary_search(row) {
+        Ok(_) => true,
+        Err(_) => false,
+    }
+}
+
+/// Whether the rows of these extras are all among rows that are in order. It costs for each extra the logarithm of the rows.
+pub(crate) fn have_rows(extras: &[Extra], rows: &[Row]) -> bool
+    ensures there { IsTrue result → InOrder rows.now → (e : ExtraData) → In e extras.now → has rows.now e.row ≡ true }
+    ensures missing { result ≡ false → InOrder rows.now → (e : ExtraData) × In e extras.now × (has rows.now e.row ≡ false) }
+{
+    for extra in extras {
+        if !has_row(rows, &extra.row) {
+            return false;
+        }
+    }
+    true
+}
