@@ -36,3 +36,4 @@ mod Sharing
 mod Resumed
 mod Filled
 mod Filling
+mod Grouped

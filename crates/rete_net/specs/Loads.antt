@@ -1,5 +1,7 @@
 -- How nodes are loaded, each behind its parent.
-use Rattle.std.specs.Prelude.{◌≡◌, ◌==◌, ◌<◌, ◌≤◌, ◌≤ℤ◌, ◌&&◌, ◌||◌, nat_lt, ℕ, Bool, true, false, List, [], Some, None, length, slice_get}
+use Rattle.std.specs.Prelude.{◌≡◌, ◌==◌, ◌<◌, ◌≤◌, ◌≤ℤ◌, ◌&&◌, ◌||◌, nat_lt, ℕ, Bool, true, false, List, Option, [], Some, None, length, slice_get}
+use Rattle.std.specs.Borrow.{Bor}
+use Rattle.std.specs.Global.{Vec}
 use Rattle.std.specs.List.{filter}
 use Rattle.fx_base.specs.Lists.{In}
 use Rattle.fx_base.specs.declared.fact.Fact.{Fact}
@@ -9,6 +11,7 @@ use Rattle.row_delta.specs.declared.row.Row.{Row}
 use Rattle.row_delta.specs.Rows.{has, InOrder}
 use Rattle.rule_model.specs.declared.moment.Moment.{Moment}
 use Rattle.rule_model.specs.declared.program.Program.{Program}
+use Rattle.rule_model.specs.Lent.{lent}
 use Rattle.rule_model.specs.Moments.{IsAt}
 use Rattle.rule_model.specs.Rows.{pattern_of}
 use Rattle.rule_model.specs.Snapshots.{Snapshot, floor}
@@ -31,6 +34,14 @@ use Rattle.rete_net.specs.Steps.{no_change}
 -- a fact is of the type in a place
 abbrev pub is_of : ℕ → Fact → Bool
 is_of ty f = f.ty.0 == ty
+
+-- the facts of a type in a place, of those by types
+abbrev pub given_facts : Option (Vec (Bor Fact)) → List Fact
+given_facts None = []
+given_facts (Some list) = lent list.items
+
+abbrev pub facts_at : List (Vec (Bor Fact)) → ℕ → List Fact
+facts_at groups ty = given_facts (slice_get groups ty)
 
 -- an extra stands under an owner
 abbrev pub is_under : Owner → Extra → Bool

@@ -21,7 +21,7 @@ use crate::answered::Answered;
 use crate::build::{empty_row_comes, no_change};
 use crate::changes::{RuleChange, changes_of};
 use crate::net::Rete;
-use crate::pieces::extras_of;
+use crate::pieces::{by_type, extras_of, of_type};
 use crate::steps::put_delta;
 use fx_base::{Fact, Facts, NoMemory};
 use row_delta::{Delta, Extra};
@@ -106,6 +106,8 @@ impl Rete {
         ensures stuck { IsErrOf result LoadFault.NoRow → IsWired self.old.nodes.items self.old.ends.items self.old.index → IsStrictlySortedBy extra_cmp extras.now
             → IsStuck program.now (F.map facts.now) kept.now extras.now moment.now empty_row_comes self.old.nodes.items self.old.owners.items self.old.ends.items }
     {
+        let groups = by_type(alloc, kept)?;
+        let none = Vec::new(alloc);
         let first = empty_row_comes(alloc)?;
         let mut due = BTreeSet::new(alloc);
         let mut answered = Answered::new(alloc, no_change(alloc));
@@ -114,7 +116,8 @@ impl Rete {
             let node = &mut self.nodes[place];
             let left = answered.left(&first, node.parent);
             let rows = left.come.as_slice();
-            let delta = node.load(alloc, program, rows, kept, own, moment, facts)?;
+            let theirs = of_type(&groups, &none, node.ty());
+            let delta = node.load(alloc, program, rows, theirs, own, moment, facts)?;
             self.schedule.put(alloc, program, place, node)?;
             put_delta(&mut answered, &mut due, &self.index, place, delta)?;
         }

@@ -1,4 +1,4 @@
-ghost use Rattle.std.specs.Prelude.{◌≡◌, ◌≤◌, ℕ, Some, length, nat_lt, slice_get, IfOk, IsTrue, true, false};
+ghost use Rattle.std.specs.Prelude.{◌≡◌, ◌<◌, ◌≤◌, ◌++◌, ◌∷◌, [], cond, ℕ, Some, length, nat_lt, slice_get, IfOk, OnOk, IsTrue, true, false};
 ghost use Rattle.std.specs.List.{filter};
 ghost use Rattle.std.specs.List.Sorted.{IsStrictlySortedBy};
 ghost use Rattle.fx_base.specs.Lists.{In};
@@ -7,28 +7,61 @@ ghost use Rattle.row_delta.specs.Rows.{has, InOrder};
 ghost use Rattle.rule_model.specs.Lent.{lent};
 ghost use Rattle.image_laws.specs.Extras.{extra_cmp};
 ghost use Rattle.rete_net.specs.declared.build.Owner.{Owner as OwnerData};
-ghost use Rattle.rete_net.specs.Loads.{is_of, is_under, comes_before};
+ghost use Rattle.rete_net.specs.Loads.{is_of, is_under, comes_before, facts_at};
 
 use crate::build::Owner;
 use fx_base::{Fact, NoMemory, TypeId};
 use row_delta::{Extra, Row};
 use std::alloc::Global;
 
-/// The facts of a type, in their order. It costs a look at each fact.
-pub(crate) fn of_type<'f>(
-    alloc: Global,
-    kept: &'f [Fact],
-    ty: TypeId,
-) -> Result<Vec<&'f Fact>, NoMemory>
-    ensures { IfOk result (λ facts. lent facts.items ≡ filter (is_of ty.0) kept.now) }
+// Puts empty lists at the end until there is one of this number.
+fn reach<'f>(groups: &mut Vec<Vec<&'f Fact>>, alloc: Global, number: usize) -> Result<(), NoMemory>
+    ensures reached { OnOk result (number < length groups.new.items) }
+    ensures kept { OnOk result ((ty : ℕ) → facts_at groups.new.items ty ≡ facts_at groups.old.items ty) }
 {
-    let mut facts = Vec::new(alloc);
-    for fact in kept {
-        if fact.ty == ty {
-            facts.push(fact)?;
-        }
+    'reach: while groups.len() <= number {
+        groups.push(Vec::new(alloc))?;
     }
-    Ok(facts)
+    Ok(())
+}
+
+// Puts a fact at the end of those of its type.
+fn put_fact<'f>(
+    groups: &mut Vec<Vec<&'f Fact>>,
+    alloc: Global,
+    fact: &'f Fact,
+) -> Result<(), NoMemory>
+    ensures { OnOk result ((ty : ℕ) → facts_at groups.new.items ty ≡ facts_at groups.old.items ty ++ cond (is_of ty fact.now) (fact.now ∷ []) []) }
+{
+    let number = usize::from(fact.ty.0);
+    reach(groups, alloc, number)?;
+    groups[number].push(fact)?;
+    Ok(())
+}
+
+/// The facts by the numbers of their types, those of a type in their order. It costs the facts and the types.
+pub(crate) fn by_type<'f>(alloc: Global, kept: &'f [Fact]) -> Result<Vec<Vec<&'f Fact>>, NoMemory>
+    ensures { IfOk result (λ groups. (ty : ℕ) → facts_at groups.items ty ≡ filter (is_of ty) kept.now) }
+{
+    let mut groups = Vec::new(alloc);
+    for fact in kept {
+        put_fact(&mut groups, alloc, fact)?;
+    }
+    Ok(groups)
+}
+
+/// The facts of a type, out of those by types, or these where it has none. Takes no memory.
+pub(crate) fn of_type<'g, 'f>(
+    groups: &'g [Vec<&'f Fact>],
+    none: &'g [&'f Fact],
+    ty: TypeId,
+) -> &'g [&'f Fact]
+    ensures { none.now ≡ [] → lent result.now ≡ facts_at groups.now ty.0 }
+{
+    match groups.get(usize::from(ty.0)) {
+        Some(facts) => facts.as_slice(),
+        None => none,
+    }
 }
 
 // Whether an extra comes before an owner, or under it too.

@@ -1,11 +1,14 @@
 use Rattle.std.proofs.Common.{◌≡◌, ◌∙◌, sym, ap, refl, subst, ◌<◌, length, arith, List, Err, Some, slice_get}
 use Rattle.std.proofs.lemmas.Option.{slice_get-get_or}
+use Rattle.std.specs.List.{filter}
 use Rattle.row_delta.specs.declared.delta.Delta.{Delta}
+use Rattle.rule_model.specs.Lent.{lent}
 use Rattle.rete_net.specs.declared.build.Owner.{Owner}
 use Rattle.rete_net.specs.declared.index.Index.{Index}
 use Rattle.rete_net.specs.declared.load.LoadFault.TheVariants.{NoRow}
 use Rattle.rete_net.specs.Answers.{left_given, IsPut}
-use Rattle.rete_net.specs.Loads.{AreLoaded}
+use Rattle.rete_net.specs.Indexes.{type_of}
+use Rattle.rete_net.specs.Loads.{facts_at, is_of, AreLoaded}
 use Rattle.rete_net.specs.Steps.{empty_row_comes}
 use Rattle.rete_net.proofs.Filling.{same_fault, set_off, stuck_at, take_one}
 use Rattle.rete_net.proofs.Scheduling.{scheduled_more}
@@ -35,7 +38,11 @@ loop-place-preserved g c =
     let len : c.len-place-end.result ≡ length c.args.self.now.nodes.items = c.len-place-end.ensures ∙ c.args.self.now.nodes.ok.0 in
     let within : c.loop-place.place < length c.loop-place.self.nodes.items = omega (arith, low, len, many) in
     let at : slice_get c.loop-place.self.nodes.items c.loop-place.place ≡ Some c.index_mut-node.result.now = slice_get-get_or nodes place n within ∙ ap Some (sym c.index_mut-node.ensures.value) in
-    let loads = c.in_ok-delta.ensures.loads in
+    let kept = c.args.kept.now in
+    let theirs : lent c.of_type-theirs.result.now ≡ filter (is_of (type_of c.index_mut-node.result.now)) c.args.kept.now =
+    c.of_type-theirs.ensures (c.deref-in-loop-place-2.ensures.value ∙ c.new-none.ensures.items)
+    ∙ ap (λ groups. facts_at groups c.ty.result.0) c.deref-in-loop-place.ensures.value ∙ c.in_ok-groups.ensures c.ty.result.0 ∙ ap (λ ty. filter (is_of ty) kept) c.ty.ensures in
+    let loads = c.in_ok-delta.ensures.loads kept theirs in
     record {
       ends = was.ends;
       owners = was.owners;

@@ -1,5 +1,4 @@
 use Rattle.std.proofs.Common.{◌≡◌, ◌∙◌, ap, sym, subst, true, List, to_z, of_z, to_z-of_z, w64, SFits}
-use Rattle.std.specs.List.{filter}
 use Rattle.row_delta.specs.declared.row.Named.{Named}
 use Rattle.row_delta.specs.declared.row.Row.{Row}
 use Rattle.row_delta.specs.Rows.{has}
@@ -12,25 +11,22 @@ use Rattle.pair_memory.specs.Standing.{no_names}
 use Rattle.condition_rows.specs.Sets.{candidates_of}
 use Rattle.pattern_gate.specs.Gates.{GateStands, has_good_window}
 use Rattle.pattern_gate.specs.Moves.{IsOrderly}
-use Rattle.rete_net.specs.Loads.{is_of}
 use Rattle.rete_net.proofs.Filled.{loads_node}
 use Rattle.rete_net.proofs.node.NetNode.load.Goals as goal
 
 pub returns-clause-loads : goal.returns-clause-loads
-returns-clause-loads g c =
+returns-clause-loads g c kept theirs_are =
     let p = c.args.program.now in
-    let kept = c.args.kept.now in
-    let theirs = lent c.deref.result.now in
+    let theirs = lent c.args.theirs.now in
     let clock = c.args.moment.now.clock in
     let gate = c.in_ok-gate.gate in
     let come = c.in_ok-gate.come in
     let fits : SFits w64 clock = search in
     let whole : to_z w64 (of_z w64 clock) ≡ clock = to_z-of_z fits in
-    loads_node p (g.F.Facts.map c.args.facts.now) kept c.args.extras.now c.args.moment.now c.args.self.now gate c.load-2.new.self c.args.rows.now c.in_ok-delta.delta come c.deref-2.result.now theirs
-    (ap lent c.deref.ensures.value ∙ c.in_ok-theirs.ensures ∙ ap (λ ty. filter (is_of ty) kept) c.ty.ensures)
+    loads_node p (g.F.Facts.map c.args.facts.now) kept c.args.extras.now c.args.moment.now c.args.self.now gate c.load-2.new.self c.args.rows.now c.in_ok-delta.delta come c.deref.result.now theirs theirs_are
     (subst (λ (q : Pattern). (s : Snapshot) → has_good_window p q ≡ true → IsOrderly p s → s.facts ≡ theirs → s.clock ≡ clock → GateStands p q gate s) c.pattern.ensures
     (λ s good orderly facts at. c.in_ok-gate.ensures.stands p s good orderly facts (at ∙ sym whole)))
     (subst (λ (q : Pattern). (s : Snapshot) → has_good_window p q ≡ true → IsOrderly p s → s.facts ≡ theirs → s.clock ≡ clock → IsNameDifference no_names (candidates_of p q s) come) c.pattern.ensures
     (λ s good orderly facts at. c.in_ok-gate.ensures.candidates p s good orderly facts (at ∙ sym whole)))
-    (λ who. ap (λ (names : List Named). has_name names who) c.deref-2.ensures.value ∙ c.in_ok-candidates.ensures who ∙ ap (λ (rows : List Row). has rows (row_naming who)) c.as_slice.ensures)
+    (λ who. ap (λ (names : List Named). has_name names who) c.deref.ensures.value ∙ c.in_ok-candidates.ensures who ∙ ap (λ (rows : List Row). has rows (row_naming who)) c.as_slice.ensures)
     c.in_ok-delta.ensures.condition c.in_ok-delta.ensures.laden c.in_ok-delta.ensures.difference

@@ -1,0 +1,9 @@
+use Rattle.std.proofs.Common.{◌≡◌, ℕ, ◌+◌, ◌-◌, length}
+use Rattle.rete_net.specs.Loads.{facts_at}
+use Rattle.rete_net.proofs.pieces.reach.Given as goal
+
+abbrev pub invariant-reach : goal.invariant-reach
+invariant-reach l = (ty : ℕ) → facts_at l.groups.items ty ≡ facts_at l.initial.groups.items ty
+
+abbrev pub decreases-reach : goal.decreases-reach
+decreases-reach l = (l.number + 1) - length l.groups.items
