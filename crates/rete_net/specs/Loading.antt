@@ -1,5 +1,5 @@
 -- What a network is loaded with, and what it answers then.
-use Rattle.std.specs.Prelude.{◌≡◌, ◌≤ℤ◌, ℕ, ℤ, Bool, true, false, List, [], map, length, Option, Some, None, slice_get}
+use Rattle.std.specs.Prelude.{◌≡◌, ◌≤ℤ◌, pos, ℕ, ℤ, Bool, true, false, List, [], map, length, Option, Some, None, slice_get}
 use Rattle.std.specs.List.Sorted.{IsStrictlySortedBy}
 use Rattle.std.specs.Ordering.{nat_cmp}
 use Rattle.fx_base.specs.Lists.{In}
@@ -37,6 +37,7 @@ pub record IsLoadable (p : Program) (t : Snapshot) (kept : List Fact) (extras : 
   pub runnable : IsRunnable p
   pub facts : t.facts ≡ kept
   pub at : IsAt t moment
+  pub begun : pos 0 ≤ℤ t.clock
   pub orderly : IsOrderly p t
   pub floors : (entry : ℕ) → floor p empty_snapshot entry ≤ℤ floor p t entry
   pub at_hand : HasAllOf look t no_names

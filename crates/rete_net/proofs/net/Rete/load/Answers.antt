@@ -1,4 +1,4 @@
-use Rattle.std.proofs.Common.{◌≡◌, ◌∙◌, ap, subst, ℕ, ◌<◌, ◌^◌, length, List, Err, Some, slice_get}
+use Rattle.std.proofs.Common.{◌≡◌, ◌∙◌, ap, subst, ℕ, ◌<◌, ◌^◌, length, List, Err, Some, slice_get, pos, ◌≤ℤ◌}
 use Rattle.fx_base.specs.Lists.{In}
 use Rattle.row_delta.specs.declared.delta.Delta.{Delta}
 use Rattle.rete_net.specs.declared.changes.RuleChange.{RuleChange}
@@ -64,7 +64,7 @@ returns-clause-stands g c s t forgotten can behind =
     (shape_owned p net built.0 built.1 built.2 built.3 built.4 built.5 (length p.rules) built.6) (λ k n e. built.1.fresh k n e)
     c.in_ok-answered.answered (told.loaded wired can.in_order) told.replaced told.ends told.owners told.index c.in_ok-net.ensures.indexed scheduled
     (all_quiet p c.load_nodes.new.self.nodes.items c.load_nodes.new.self.schedule c.first-net.result scheduled (c.first-net.ensures p))
-    s forgotten behind ?
+    s forgotten behind (subst (λ z. pos 0 ≤ℤ z) behind.kept.clock can.begun)
 
 pub returns-in_err-answered-clause-no_row : goal.returns-in_err-answered-clause-no_row
 returns-in_err-answered-clause-no_row g c fault t owners can own =
