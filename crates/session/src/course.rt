@@ -41,6 +41,26 @@ impl Course {
         }
     }
 
+    /// The course with these last starts and promises, in milliseconds, by the places of the entry points.
+    pub(crate) fn at(
+        alloc: Global,
+        last_starts: &[Millis],
+        promises: &[Millis],
+        begun: bool,
+    ) -> Result<Course, NoMemory>
+        ensures { IfOk result (λ c. c ≡ record { last_starts = last_starts.now; promises = promises.now; begun = begun }) }
+    {
+        let mut starts = Vec::with_capacity(alloc, last_starts.len())?;
+        starts.extend_from_slice(last_starts)?;
+        let mut promised = Vec::with_capacity(alloc, promises.len())?;
+        promised.extend_from_slice(promises)?;
+        Ok(Course {
+            last_starts: starts,
+            promises: promised,
+            begun,
+        })
+    }
+
     /// The moment at this clock. Takes no memory.
     pub(crate) fn moment<'c>(&'c self, clock: Millis) -> Moment<'c>
         ensures clock { result.clock ≡ clock }

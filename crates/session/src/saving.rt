@@ -1,18 +1,110 @@
-ghost use Rattle.std.specs.Prelude.{◌≡◌, ◌+◌, IfOk, OnOk, IsErrOf};
+ghost use Rattle.std.specs.Prelude.{◌≡◌, ◌+◌, ◌≤◌, ◌^◌, ℕ, true, false, IfOk, OnOk, IsErrOf};
 ghost use Rattle.rule_lives.specs.Keeping.{IsSafeTable};
 ghost use Rattle.rule_world.specs.Lawful.{IsLawful};
 ghost use Rattle.rule_world.specs.Programs.{IsRunnable};
 ghost use Rattle.rule_world.specs.Worlds.{World};
+ghost use Rattle.fx_base.specs.Lists.{In};
+ghost use Rattle.row_delta.specs.declared.extra.Extra.{Extra as ExtraData};
 ghost use Rattle.image_laws.specs.Fitting.{Fits};
-ghost use Rattle.image_laws.specs.Images.{IsImageOf};
+ghost use Rattle.image_laws.specs.Images.{IsImageOf, snapshot_of};
+ghost use Rattle.image_laws.specs.Laden.{AreOwners};
+ghost use Rattle.image_fitting.specs.Plain.{FitsPlainly, FitsByRows};
+ghost use Rattle.session_laws.specs.Restoring.{stored, IsMatched, IsRestored};
+ghost use Rattle.session_laws.specs.Standing.{Course as CourseData, Runs};
 ghost use Rattle.session.specs.Sessions.{Stands};
 
+use crate::boxed::{BoxedAgenda, BoxedFacts};
+use crate::course::Course;
+use crate::restoring::{Restored, agenda_of};
+use crate::running::Running;
 use crate::session::Session;
+use crate::state::State;
+use agenda::Agenda;
 use checkpoint::{Image, RunPart};
 use engine::ResumeFault;
 use fx_base::NoMemory;
+use image_fitting::fits_plainly;
+use rete_net::{LoadFault, Rete};
 use rule_model::{LifeTable, Program};
+use session_laws::{Memory, Setting};
 use std::alloc::Global;
+
+// The network of an image that fits by plain tests, and the agenda of its matches; `Unfit` where the row of an extra or a fired match is
+// not there.
+fn matched(
+    alloc: Global,
+    setting: &Setting,
+    image: &Image,
+    course: &Course,
+    facts: &BoxedFacts,
+) -> Result<(Rete, Agenda), ResumeFault>
+    requires runs { Runs setting.now }
+    requires plain { FitsPlainly setting.now.program setting.now.lives image.now }
+    requires course { course.now ≡ record { last_starts = image.now.last_starts; promises = image.now.promises; begun = image.now.begun } }
+    requires facts { facts.now ≡ stored image.now.facts }
+    ensures matched { IfOk result (λ r. IsMatched setting.now.program image.now r.0 r.1) }
+    ensures unfit { IsErrOf result ResumeFault.Unfit → (owners : ℕ → ℕ → ℕ) → AreOwners setting.now.program owners → FitsByRows setting.now.program setting.now.lives image.now owners → ⊥ }
+{
+    let program = &setting.program;
+    let moment = course.moment(image.clock);
+    match Rete::load(
+        alloc,
+        program,
+        image.facts.as_slice(),
+        image.extras.as_slice(),
+        &moment,
+        facts,
+    ) {
+        Ok((net, changes)) => {
+            let rules = program.rules.as_slice();
+            let agenda = agenda_of(alloc, rules, changes, image.fired.as_slice())?;
+            Ok((net, agenda))
+        }
+        Err(LoadFault::NoRow) => Err(ResumeFault::Unfit),
+        Err(LoadFault::NoMemory) => Err(ResumeFault::NoMemory),
+    }
+}
+
+// The state and the memory of a session, of an image that fits by plain tests; `Unfit` where it does not fit by its rows.
+fn restored(
+    alloc: Global,
+    setting: &Setting,
+    image: &Image,
+) -> Result<(State, Memory), ResumeFault>
+    requires runs { Runs setting.now }
+    requires plain { FitsPlainly setting.now.program setting.now.lives image.now }
+    ensures restored { (owners : ℕ → ℕ → ℕ) → AreOwners setting.now.program owners → IfOk result (λ r. IsRestored setting.now image.now owners r.1 r.0) }
+    ensures unfit { IsErrOf result ResumeFault.Unfit → (owners : ℕ → ℕ → ℕ) → AreOwners setting.now.program owners → FitsByRows setting.now.program setting.now.lives image.now owners → ⊥ }
+{
+    let kept = Restored::of(alloc, setting, image.facts.as_slice())?;
+    let course = Course::at(
+        alloc,
+        image.last_starts.as_slice(),
+        image.promises.as_slice(),
+        image.begun,
+    )?;
+    let (net, agenda) = matched(alloc, setting, image, &course, &kept.facts)?;
+    let agenda = BoxedAgenda::new(alloc, agenda)?;
+    let Restored {
+        facts,
+        expiries,
+        retention,
+    } = kept;
+    let (retention, old) = retention.past(alloc, image.clock, &[], agenda.agenda())?;
+    if !old.is_empty() {
+        return Err(ResumeFault::Unfit);
+    }
+    let state = State {
+        facts,
+        expiries,
+        clock: image.clock,
+        course,
+        agenda,
+        next_id: image.next_id,
+        next_tag: image.next_tag,
+    };
+    Ok((state, Memory { net, retention }))
+}
 
 impl Session {
     /// The image of each world that the session stands for, with this part of the run. It copies what is kept, the fired matches, and what
@@ -42,6 +134,16 @@ impl Session {
         ensures fits { OnOk result (Fits program lives image.now) }
         ensures unfit { IsErrOf result ResumeFault.Unfit → Fits program lives image.now → ⊥ }
     {
-        Err(ResumeFault::NoMemory)
+        if !fits_plainly(alloc, &program, &lives, image)? {
+            return Err(ResumeFault::Unfit);
+        }
+        let setting = Running::new(alloc, Setting { program, lives })?;
+        let (state, memory) = restored(alloc, setting.setting(), image)?;
+        let memory = Box::new(alloc, memory)?;
+        Ok(Session {
+            setting,
+            state,
+            memory,
+        })
     }
 }

@@ -6,3 +6,4 @@ pub mod Following
 pub mod Refreshed
 pub mod Places
 pub mod Counts
+pub mod Restoring
