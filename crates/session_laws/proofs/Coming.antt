@@ -47,11 +47,11 @@ none_later n (c ∷ changes) a m e =
 comes_one : (changes : List RuleChange) → IsStrictlySortedBy nat_cmp (rules_of changes) → (m : Match) → comes_by changes m ≡ has (coming (change_of changes m.rule.0)) m.row
 unfolding IsStrictlySortedBy
 comes_one [] s m = refl
-comes_one (c ∷ changes) s m = by (c.rule.0 == m.rule.0) refl
+comes_one (c ∷ changes) s m = by (c.rule.0 == m.rule.0) refl (comes_one changes s.1 m)
   where
-    by : (b : Bool) → (c.rule.0 == m.rule.0) ≡ b → ((b && has c.delta.come m.row) || comes_by changes m) ≡ has (coming (cond b (Some c.delta) (change_of changes m.rule.0))) m.row
-    by true e = ap (λ b. has c.delta.come m.row || b) (none_later c.rule.0 changes s.0 m (number_of c.rule.0 m.rule.0 e)) ∙ or_none (has c.delta.come m.row)
-    by false e = comes_one changes s.1 m
+    by : (b : Bool) → (c.rule.0 == m.rule.0) ≡ b → comes_by changes m ≡ has (coming (change_of changes m.rule.0)) m.row → ((b && has c.delta.come m.row) || comes_by changes m) ≡ has (coming (cond b (Some c.delta) (change_of changes m.rule.0))) m.row
+    by true e later = ap (λ b. has c.delta.come m.row || b) (none_later c.rule.0 changes s.0 m (number_of c.rule.0 m.rule.0 e)) ∙ or_none (has c.delta.come m.row)
+    by false e later = later
 
 later_than : (n : ℕ) (changes : List RuleChange) → AllByRecursion (λ k. nat_cmp n k ≡ Less) (rules_of changes) → (c : RuleChange) → In c changes → nat_cmp n c.rule.0 ≡ Less
 later_than n [] a c i = absurd i

@@ -1,5 +1,5 @@
 -- What conditions count of forgotten facts among the present facts of a world, which a map has, is what they count in the world.
-use Rattle.std.proofs.Common.{◌≡◌, ◌↔◌, ◌∙◌, not, ℕ, ℤ, Bool, true, false, List, [], ◌∷◌, map as list_map, length, inl, inr, refl, sym, ap, subst}
+use Rattle.std.proofs.Common.{◌≡◌, ◌↔◌, ◌∙◌, ◌||◌, not, ℕ, ℤ, Bool, true, false, List, [], ◌∷◌, map as list_map, length, inl, inr, refl, sym, ap, subst}
 use Rattle.std.specs.Prelude.{take}
 use Rattle.std.specs.FinMap as map
 use Rattle.std.specs.List.{filter, list_any}
@@ -39,7 +39,7 @@ use Rattle.session_laws.proofs.Needing.{distinct_here, here_candidates, of_world
 
 any_same : (a b : Named → Bool) (names : List Named) → ((n : Named) → In n names → a n ≡ b n) → list_any a names ≡ list_any b names
 any_same a b [] same = refl
-any_same a b (n ∷ names) same = grind (same n (inl refl), any_same a b names (λ k i. same k (inr i)))
+any_same a b (n ∷ names) same = ap (λ x. x || list_any a names) (same n (inl refl)) ∙ ap (λ x. b n || x) (any_same a b names (λ k i. same k (inr i)))
 
 same_gathered : (c : Condition) (xs ys : List Fact) → EachOnce xs → EachOnce ys → Same xs ys → values_gathered c xs ≡ values_gathered c ys
 same_gathered (Plain q) xs ys ox oy same = refl

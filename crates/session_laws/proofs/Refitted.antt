@@ -93,12 +93,12 @@ module _ (p : Program) (s : Snapshot) (d : HaveDistinctTags s.facts) where
 
   laden_named : (extras : List Extra) (owner : ℕ → ℕ) (conditions : List Condition) (n : ℕ) → NameFacts (laden p s extras owner conditions n)
   unfolding laden
-  laden_named extras owner conditions zero row e who i = absurd (subst (λ (z : Row). In who z.facts) (tells_apart row_exact row empty_row e) i)
-  laden_named extras owner conditions (suc n) = by (slice_get conditions n)
+  laden_named extras owner conditions zero = λ row e who i. absurd (subst (λ (z : Row). In who z.facts) (tells_apart row_exact row empty_row e) i)
+  laden_named extras owner conditions (suc n) = by (slice_get conditions n) (laden_named extras owner conditions n)
     where
-      by : (o : Option Condition) → NameFacts (laden_with p s (extra_at extras (owner n) n) o (laden p s extras owner conditions n))
-      by None = laden_named extras owner conditions n
-      by (Some c) = line_named (extra_at extras (owner n) n) c (laden p s extras owner conditions n) (laden_named extras owner conditions n)
+      by : (o : Option Condition) → NameFacts (laden p s extras owner conditions n) → NameFacts (laden_with p s (extra_at extras (owner n) n) o (laden p s extras owner conditions n))
+      by None before = before
+      by (Some c) before = line_named (extra_at extras (owner n) n) c (laden p s extras owner conditions n) before
 
 module _ (p : Program) (table : LifeTable) (image : Image) (owners : ℕ → ℕ → ℕ) (plain : FitsPlainly p table image) where
   -- ---- matches and the rows of extras
@@ -114,7 +114,7 @@ module _ (p : Program) (table : LifeTable) (image : Image) (owners : ℕ → ℕ
   match_laden m (rule, at, there) = ap (λ o. laden_by p image owners o m) at ∙ there
 
   abbrev IsThereAs : Bool → Extra → Type 0
-  IsThereAs yes e = IsThere p (snapshot_of image) image.extras owners e yes
+  IsThereAs so e = IsThere p (snapshot_of image) image.extras owners e so
 
   extra_laden : (e : Extra) → In e image.extras → IsThereAs true e → IsLaden p image owners e.rule.0 e.row e.condition
   extra_laden e i there =

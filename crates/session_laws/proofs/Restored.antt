@@ -127,33 +127,33 @@ module _ (p : Program) (table : LifeTable) (image : Image) (plain : FitsPlainly 
       let high : image.clock ≤ℤ most_millis = plain.lawful.clock_high in
       omega (arith, ints, low, high)
 
+  times : (f : Fact) → In f image.facts → (b : Bool) → is_event p f.ty.0 ≡ b → HasTimes f
+  unfolding most_millis
+  times f i true e =
+      let t = (plain.lawful.sound f i).timed e in
+      let low : pos 0 ≤ℤ f.times.start = t.from_zero in
+      let high : f.times.start ≤ℤ most_millis = event_high f i e in
+      let on : f.times.start ≤ℤ f.times.end = t.event.ordered in
+      let short = t.short in
+      record {
+        start_low = omega (arith, ints, low);
+        start_high = high;
+        end_low = omega (arith, ints, low, on);
+        end_high = omega (arith, ints, high, short);
+      }
+  times f i false e =
+      let none = (plain.lawful.sound f i).plain e in
+      let start : f.times.start ≡ pos 0 = ap (λ t. t.start) none in
+      let end : f.times.end ≡ pos 0 = ap (λ t. t.end) none in
+      record {
+        start_low = omega (arith, ints, start);
+        start_high = omega (arith, ints, start);
+        end_low = omega (arith, ints, end);
+        end_high = omega (arith, ints, end);
+      }
+
   pub storable : AreStorable image.facts
   storable = record { tags = plain.lawful.ordered.tags; times = λ f i. times f i (is_event p f.ty.0) refl }
-    where
-      times : (f : Fact) → In f image.facts → (b : Bool) → is_event p f.ty.0 ≡ b → HasTimes f
-      unfolding most_millis
-      times f i true e =
-          let t = (plain.lawful.sound f i).timed e in
-          let low : pos 0 ≤ℤ f.times.start = t.from_zero in
-          let high : f.times.start ≤ℤ most_millis = event_high f i e in
-          let on : f.times.start ≤ℤ f.times.end = t.event.ordered in
-          let short = t.short in
-          record {
-            start_low = omega (arith, ints, low);
-            start_high = high;
-            end_low = omega (arith, ints, low, on);
-            end_high = omega (arith, ints, high, short);
-          }
-      times f i false e =
-          let none = (plain.lawful.sound f i).plain e in
-          let start : f.times.start ≡ pos 0 = ap (λ t. t.start) none in
-          let end : f.times.end ≡ pos 0 = ap (λ t. t.end) none in
-          record {
-            start_low = omega (arith, ints, start);
-            start_high = omega (arith, ints, start);
-            end_low = omega (arith, ints, end);
-            end_high = omega (arith, ints, end);
-          }
 
   image_orderly : IsOrderly p here
   image_orderly = record {

@@ -81,9 +81,9 @@ abbrev pub has_marked : List FiredMatch → Match → Bool
 has_marked fired m = has_match (list_map match_fired fired) m
 
 -- pending is what comes, but for these matches, and these were fired
-pub record AreMarked (comes : Match → Bool) (fired : List FiredMatch) (marks : Marks) : Type 0 where
-  pub pending : (m : Match) → has_match marks.pending m ≡ (comes m && not (has_marked fired m))
-  pub fired : (m : Match) → has_match marks.fired m ≡ has_marked fired m
+pub record AreMarked (comes : Match → Bool) (marked : List FiredMatch) (marks : Marks) : Type 0 where
+  pub pending : (m : Match) → has_match marks.pending m ≡ (comes m && not (has_marked marked m))
+  pub fired : (m : Match) → has_match marks.fired m ≡ has_marked marked m
 
 -- a match is a row of its rule over the facts of an image, with its extras
 abbrev pub laden_by : Program → Image → (ℕ → ℕ → ℕ) → Option Rule → Match → Bool
