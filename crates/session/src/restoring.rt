@@ -30,8 +30,8 @@ use session_laws::Setting;
 use std::alloc::Global;
 use std::collections::BTreeSet;
 
-// A copy of a fact.
-fn copied(alloc: Global, fact: &Fact) -> Result<Fact, NoMemory>
+/// A copy of a fact.
+pub(crate) fn copied(alloc: Global, fact: &Fact) -> Result<Fact, NoMemory>
     ensures { IfOk result (λ f. f ≡ fact.now) }
 {
     Ok(Fact {

@@ -1,31 +1,33 @@
-ghost use Rattle.std.specs.Prelude.{◌≡◌, ◌+◌, ◌≤◌, ◌^◌, ℕ, true, false, IfOk, OnOk, IsErrOf};
+ghost use Rattle.std.specs.Prelude.{◌≡◌, ℕ, map as list_map, IfOk, OnOk, IsErrOf};
+ghost use Rattle.std.specs.List.Sorted.{IsStrictlySortedBy};
 ghost use Rattle.rule_lives.specs.Keeping.{IsSafeTable};
 ghost use Rattle.rule_world.specs.Lawful.{IsLawful};
 ghost use Rattle.rule_world.specs.Programs.{IsRunnable};
 ghost use Rattle.rule_world.specs.Worlds.{World};
-ghost use Rattle.fx_base.specs.Lists.{In};
-ghost use Rattle.row_delta.specs.declared.extra.Extra.{Extra as ExtraData};
+ghost use Rattle.fact_store.specs.Held.{facts_of};
+ghost use Rattle.rule_model.specs.Matches.{match_cmp};
 ghost use Rattle.image_laws.specs.Fitting.{Fits};
-ghost use Rattle.image_laws.specs.Images.{IsImageOf, snapshot_of};
+ghost use Rattle.image_laws.specs.Images.{IsImageOf, match_fired};
 ghost use Rattle.image_laws.specs.Laden.{AreOwners};
 ghost use Rattle.image_fitting.specs.Plain.{FitsPlainly, FitsByRows};
 ghost use Rattle.session_laws.specs.Restoring.{stored, IsMatched, IsRestored};
-ghost use Rattle.session_laws.specs.Standing.{Course as CourseData, Runs};
+ghost use Rattle.session_laws.specs.Saving.{IsSaved};
+ghost use Rattle.session_laws.specs.Standing.{Runs};
 ghost use Rattle.session.specs.Sessions.{Stands};
 
 use crate::boxed::{BoxedAgenda, BoxedFacts};
 use crate::course::Course;
-use crate::restoring::{Restored, agenda_of};
+use crate::restoring::{Restored, agenda_of, copied};
 use crate::running::Running;
 use crate::session::Session;
 use crate::state::State;
 use agenda::Agenda;
-use checkpoint::{Image, RunPart};
+use checkpoint::{FiredMatch, Image, RunPart};
 use engine::ResumeFault;
-use fx_base::NoMemory;
+use fx_base::{Fact, NoMemory, Seq};
 use image_fitting::fits_plainly;
 use rete_net::{LoadFault, Rete};
-use rule_model::{LifeTable, Program};
+use rule_model::{LifeTable, Match, Program};
 use session_laws::{Memory, Setting};
 use std::alloc::Global;
 
@@ -106,6 +108,64 @@ fn restored(
     Ok((state, Memory { net, retention }))
 }
 
+// Copies of facts, in the order of their tags.
+fn copies_of(alloc: Global, facts: &BoxedFacts) -> Result<Vec<Fact>, NoMemory>
+    ensures { IfOk result (λ copies. copies.items ≡ facts_of facts.now) }
+{
+    let held = facts.all(alloc)?;
+    let mut copies = Vec::with_capacity(alloc, held.len())?;
+    for fact in held {
+        copies.push(copied(alloc, fact)?)?;
+    }
+    Ok(copies)
+}
+
+// Copies of the fired matches of an agenda, by rule and row.
+fn fired_of(alloc: Global, agenda: &Agenda) -> Result<Vec<FiredMatch>, NoMemory>
+    ensures matches { IfOk result (λ fired. list_map match_fired fired.items ≡ agenda.now.fired) }
+    ensures order { IfOk result (λ fired. IsStrictlySortedBy match_cmp (list_map match_fired fired.items)) }
+{
+    let matches = agenda.fired(alloc)?;
+    let mut fired = Vec::with_capacity(alloc, matches.len())?;
+    for matched in matches {
+        let Match { rule, row } = matched;
+        fired.push(FiredMatch { rule, row })?;
+    }
+    Ok(fired)
+}
+
+impl State {
+    // The image of what is kept, with this part of the run, and with what so many entry points have reached.
+    fn saved(
+        &self,
+        alloc: Global,
+        run: RunPart,
+        entries: usize,
+        net: &Rete,
+    ) -> Result<Image, NoMemory>
+        ensures run { IfOk result (λ image. image.run ≡ run) }
+        ensures saved { IfOk result (IsSaved self.now entries net.now) }
+    {
+        let last_starts = self.course.first_last_starts(alloc, entries)?;
+        let promises = self.course.first_promises(alloc, entries)?;
+        let facts = copies_of(alloc, &self.facts)?;
+        let fired = fired_of(alloc, self.agenda.agenda())?;
+        let extras = net.extras(alloc, &self.facts)?;
+        Ok(Image {
+            run,
+            clock: self.clock,
+            begun: self.course.begun(),
+            last_starts: Seq::from_vec(last_starts),
+            promises: Seq::from_vec(promises),
+            next_id: self.next_id,
+            next_tag: self.next_tag,
+            facts: Seq::from_vec(facts),
+            fired: Seq::from_vec(fired),
+            extras: Seq::from_vec(extras),
+        })
+    }
+}
+
 impl Session {
     /// The image of each world that the session stands for, with this part of the run. It copies what is kept, the fired matches, and what
     /// conditions count beyond it, which costs the tallies of their rows.
@@ -114,7 +174,8 @@ impl Session {
         ensures lawful { (w : World) → Stands self.now w → IsLawful self.now.setting.program w }
         ensures image { IfOk result (λ image. (w : World) → Stands self.now w → IsImageOf self.now.setting.program self.now.setting.lives w image) }
     {
-        Err(NoMemory)
+        let entries = self.setting.setting().program.entries.len();
+        self.state.saved(alloc, run, entries, &self.memory.net)
     }
 
     /// A session of a program, with a safe table of lives, in each lawful world of which the image is that. `Unfit`: exactly where the image

@@ -54,16 +54,49 @@ pending_bits true true true h = refl
 pending_bits true true false h = refl
 pending_bits true false c h = ap (λ b. b && true) (h refl refl)
 
-fired_bits : (f c e : Bool) → (f ≡ true → c ≡ e) → (f && c) ≡ (f && e)
+pub fired_bits : (f c e : Bool) → (f ≡ true → c ≡ e) → (f && c) ≡ (f && e)
 fired_bits true c e h = h refl
 fired_bits false c e h = refl
 
-module _ (p : Program) (table : LifeTable) (w : World) (image : Image) (safe : AreSafe p table) (l : IsLawful p w) (is : IsImageOf p table w image) (once : HaveDistinctTags image.facts) where
+module _ (p : Program) (table : LifeTable) (w : World) (safe : AreSafe p table) (l : IsLawful p w) where
   abbrev lives : Lives
   lives = ends_by table
 
   abbrev sight : Sight
   sight = sight_of p w
+
+  -- ---- the matches of the world
+
+  lawful_sight : IsLawfulSight sight
+  lawful_sight = sight_law p w l.ordered
+
+  abbrev is_match : Match → Bool
+  is_match m = has_match (matches p (snapshot w)) m
+
+  abbrev is_clean_row : Match → Bool
+  is_clean_row m = clean (is_forgotten p table w) m.row
+
+  -- a match names what is kept alone where its row is clean
+  pub kept_each : (m : Match) → is_match m ≡ true → is_clean_row m ≡ each_tag (is_kept lives sight) m
+  kept_each m matched = sym (same_clean p table w safe l.ordered m matched) ∙ clean_is (λ tag. is_some (sight.facts tag)) (is_kept lives sight) m.row.facts (lawful_sight.names m matched)
+
+  clean_pending : (m : Match) → is_match m ≡ true → has_match w.fired m ≡ false → is_clean_row m ≡ true
+  clean_pending m matched unfired =
+      kept_each m matched
+      ∙ pending_kept lives sight lawful_sight m (has_pending p w m ∙ both (is_match m) (not (has_match w.fired m)) matched (ap not unfired))
+
+module _ (p : Program) (table : LifeTable) (w : World) (image : Image) (safe : AreSafe p table) (l : IsLawful p w) (is : IsImageOf p table w image) (once : HaveDistinctTags image.facts) where
+  abbrev lives_by : Lives
+  lives_by = ends_by table
+
+  abbrev seen_as : Sight
+  seen_as = sight_of p w
+
+  abbrev matches_world : Match → Bool
+  matches_world m = has_match (matches p (snapshot w)) m
+
+  abbrev names_kept : Match → Bool
+  names_kept m = clean (is_forgotten p table w) m.row
 
   abbrev store : HeldFacts
   store = stored image.facts
@@ -94,59 +127,39 @@ module _ (p : Program) (table : LifeTable) (w : World) (image : Image) (safe : A
           ap (map_of.get store) (sym i.1) ∙ image_holds.from g ((listed g).1 i.0) ∙ sym v
       by None None e v = e ∙ sym v
 
-  -- ---- the matches
-
-  lawful_sight : IsLawfulSight sight
-  lawful_sight = sight_law p w l.ordered
-
-  abbrev is_match : Match → Bool
-  is_match m = has_match (matches p (snapshot w)) m
-
-  abbrev is_clean_row : Match → Bool
-  is_clean_row m = clean (is_forgotten p table w) m.row
-
-  -- a match names what is kept alone where its row is clean
-  kept_each : (m : Match) → is_match m ≡ true → is_clean_row m ≡ each_tag (is_kept lives sight) m
-  kept_each m matched = sym (same_clean p table w safe l.ordered m matched) ∙ clean_is (λ tag. is_some (sight.facts tag)) (is_kept lives sight) m.row.facts (lawful_sight.names m matched)
-
   module _ (owners : ℕ → ℕ → ℕ) (own : AreOwners p owners) where
     abbrev rows_in : Rule → List Row
     rows_in rule = rows p (snapshot w) rule.conditions
 
-    pub laden_is : (m : Match) → is_laden p image owners m ≡ (is_match m && is_clean_row m)
+    pub laden_is : (m : Match) → is_laden p image owners m ≡ (matches_world m && names_kept m)
     laden_is m = by (slice_get p.rules m.rule.0) refl
       where
-        by : (o : Option Rule) → slice_get p.rules m.rule.0 ≡ o → laden_by p image owners o m ≡ (is_match m && is_clean_row m)
-        by None e = ap (λ b. b && is_clean_row m) (sym (is_found rows_in p.rules m ∙ ap (λ o. found_at rows_in o m.row) e))
+        by : (o : Option Rule) → slice_get p.rules m.rule.0 ≡ o → laden_by p image owners o m ≡ (matches_world m && names_kept m)
+        by None e = ap (λ b. b && names_kept m) (sym (is_found rows_in p.rules m ∙ ap (λ o. found_at rows_in o m.row) e))
         by (Some rule) e =
             let n : length rule.conditions ≤ length rule.conditions = omega arith in
             laden_rows p (snapshot w) (snapshot_of image) (is_forgotten p table w) image.extras owners l.ordered.tags (image_kept p table w image safe l is) is.extras own m.rule.0 rule e (length rule.conditions) m.row
             ∙ ap (λ cs. cleaned (rows_of p (snapshot w) cs) (is_forgotten p table w) m.row) (take_all (length rule.conditions) rule.conditions n)
-            ∙ ap (λ b. b && is_clean_row m) (sym (is_found rows_in p.rules m ∙ ap (λ o. found_at rows_in o m.row) e))
+            ∙ ap (λ b. b && names_kept m) (sym (is_found rows_in p.rules m ∙ ap (λ o. found_at rows_in o m.row) e))
 
     module _ (marks : Marks) (are : AreMarked (is_laden p image owners) image.fired marks) where
-      clean_pending : (m : Match) → is_match m ≡ true → has_match w.fired m ≡ false → is_clean_row m ≡ true
-      clean_pending m matched unfired =
-          kept_each m matched
-          ∙ pending_kept lives sight lawful_sight m (has_pending p w m ∙ both (is_match m) (not (has_match w.fired m)) matched (ap not unfired))
-
       pub pending_is : (m : Match) → has_match marks.pending m ≡ has_match (pending p w) m
       pending_is m =
           are.pending m
           ∙ ap (λ b. b && not (has_fired image m)) (laden_is m)
-          ∙ ap (λ b. (is_match m && is_clean_row m) && not b) (is.fired m)
-          ∙ pending_bits (is_match m) (has_match w.fired m) (is_clean_row m) (clean_pending m)
+          ∙ ap (λ b. (matches_world m && names_kept m) && not b) (is.fired m)
+          ∙ pending_bits (matches_world m) (has_match w.fired m) (names_kept m) (clean_pending p table w safe l m)
           ∙ sym (has_pending p w m)
 
-      fired_is : (m : Match) → has_match marks.fired m ≡ (has_match w.fired m && each_tag (is_kept lives sight) m)
-      fired_is m = are.fired m ∙ is.fired m ∙ fired_bits (has_match w.fired m) (is_clean_row m) (each_tag (is_kept lives sight) m) (λ f. kept_each m (l.ordered.fired m f))
+      fired_is : (m : Match) → has_match marks.fired m ≡ (has_match w.fired m && each_tag (is_kept lives_by seen_as) m)
+      fired_is m = are.fired m ∙ is.fired m ∙ fired_bits (has_match w.fired m) (names_kept m) (each_tag (is_kept lives_by seen_as) m) (λ f. kept_each p table w safe l m (l.ordered.fired m f))
 
       -- ---- the ends of lives
 
       module _ (expiries : Timers) (before after : Retention) (old : ℕ → Bool) (held : AreHeld p table store expiries before) (passes : Passes image.clock (is_among []) (is_named marks) before after old)
           (none : (tag : ℕ) → old tag ≡ false) where
         abbrev ends : Ends
-        ends = ends_of lives (map_of.get store)
+        ends = ends_of lives_by (map_of.get store)
 
         covers : Covers ends image.clock before
         covers = record {
@@ -154,16 +167,16 @@ module _ (p : Program) (table : LifeTable) (w : World) (image : Image) (safe : A
           past = λ tag e. absurd (let no : false ≡ true = sym (held.none tag) ∙ e in cc);
         }
 
-        watched : Watches ends image.clock (is_needed sight) after
+        watched : Watches ends image.clock (is_needed seen_as) after
         watched =
-            same_watched (without ends old) ends image.clock (is_named marks) (is_needed sight) after (λ tag. ap (λ b. cond b None (ends tag)) (none tag))
+            same_watched (without ends old) ends image.clock (is_named marks) (is_needed seen_as) after (λ tag. ap (λ b. cond b None (ends tag)) (none tag))
             (λ tag. any_alike (names_tag tag) marks.pending (pending p w) pending_is)
             (past_law ends image.clock (is_among []) (is_named marks) before after old covers (λ tag e. absurd (let no : false ≡ true = sym (held.none tag) ∙ e in cc)) passes).1
 
-        pub holds_kept_parts : HoldsKept lives sight (record { store = map_of.get store; retention = after; agenda = marks })
+        pub holds_kept_parts : HoldsKept lives_by seen_as (record { store = map_of.get store; retention = after; agenda = marks })
         holds_kept_parts = record {
           store = λ tag. store_is tag ∙ sym (same_kept p table w safe l.ordered tag);
-          watched = subst (λ clock. Watches ends clock (is_needed sight) after) is.clock watched;
+          watched = subst (λ clock. Watches ends clock (is_needed seen_as) after) is.clock watched;
           pending = pending_is;
           fired = fired_is;
         }

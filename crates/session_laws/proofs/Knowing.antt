@@ -111,7 +111,7 @@ before_code : (b : Bool) (code : Code) (front : Result Step Code) (s : Step) →
 before_code true code front s e = e
 before_code false code front s e = absurd cc
 
-is_step : (a s : Step) → Ok a ≡ Ok s → a ≡ s
+is_step : (a s : Step) → ◌≡◌ {A = Result Step Code} (Ok a) (Ok s) → a ≡ s
 is_step a s e = cc
 
 inserts : (p : Program) (ty entry : ℕ) (vs : Option (List Value)) (s : Step) → values_step ty entry vs ≡ Ok s → IsPromised p s
@@ -152,7 +152,7 @@ promise_promised p (Some entry) from s within e = subst (IsPromised p) (is_step 
 
 entry_there : (p : Program) (entry : Option (List ℕ)) (place : ℕ) → 1 ≤ length p.entries → entry_asked entry p.entries ≡ Some place → place < length p.entries
 entry_there p None place some e = let is : 0 ≡ place = cc in omega (arith, some, is)
-entry_there p (Some name) place some e = entry_within name p.entries 0 place e
+entry_there p (Some name) place some e = let within = entry_within name p.entries 0 place e in omega (arith, within)
 
 asked_promised : (p : Program) (begun : Bool) (present : ℕ → Option Fact) (change : Change) (s : Step) → 1 ≤ length p.entries → change_step p begun present change ≡ Ok s → IsPromised p s
 unfolding change_step

@@ -47,3 +47,4 @@ pub mod Kept_parts
 pub mod Refitted
 pub mod Restored
 pub mod Coming
+pub mod Saved

@@ -72,7 +72,7 @@ use Rattle.session_laws.specs.Refreshed.{over}
 use Rattle.session_laws.specs.Restoring.{stored, AreHeld, AreStorable, HasTimes, IsMatched}
 use Rattle.session_laws.specs.Standing.{AreForgotten, Contents, Course, Mirrors, Runs, Seen, Standing, Waits, expiry_at, with_facts}
 use Rattle.session_laws.proofs.Kept_parts.{holds_kept_parts, image_holds, store_is}
-use Rattle.session_laws.proofs.Looking.{same_version}
+use Rattle.session_laws.proofs.Forgotten.{same_version}
 use Rattle.session_laws.proofs.Members.{Holds, held_distinct, own_tags, version_found, versions}
 use Rattle.session_laws.proofs.Needing.{distinct_here, of_world}
 use Rattle.session_laws.proofs.Presented.{extras_here}

@@ -7,3 +7,4 @@ pub mod Refreshed
 pub mod Places
 pub mod Counts
 pub mod Restoring
+pub mod Saving
