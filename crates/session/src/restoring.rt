@@ -1,7 +1,6 @@
 //! Parts of a session that are made from what an image keeps.
-ghost use Rattle.std.specs.Prelude.{◌≡◌, ◌&&◌, ◌||◌, ◌==◌, not, ℕ, None, false, true, IfOk, OnOk, IsErrOf};
+ghost use Rattle.std.specs.Prelude.{◌≡◌, ◌&&◌, ◌||◌, ◌==◌, ℕ, None, false, true, IfOk, OnOk, IsErrOf};
 ghost use Rattle.std.specs.FinMap as map;
-ghost use Rattle.std.specs.Ordering.{eq_by_cmp};
 ghost use Rattle.fx_base.specs.Lists.{In};
 ghost use Rattle.row_delta.specs.Rows.{has};
 ghost use Rattle.checkpoint.specs.declared.image.FiredMatch.{FiredMatch as FiredMatchData};
@@ -11,7 +10,7 @@ ghost use Rattle.rule_model.specs.declared.program.Program.{Program as ProgramDa
 ghost use Rattle.rule_model.specs.Matches.{has_match, saliences as saliences_in};
 ghost use Rattle.image_laws.specs.Images.{match_fired};
 ghost use Rattle.retention.specs.Retentions.{lingers};
-ghost use Rattle.session_laws.specs.Restoring.{stored, AreHeld, HasTimes, AreStorable, comes_by, has_marked, NoneGo, AreMarked};
+ghost use Rattle.session_laws.specs.Restoring.{stored, AreHeld, HasTimes, AreStorable, comes_by, NoneGo, AreMarked, AreMarking};
 ghost use Rattle.session_laws.specs.Standing.{Runs};
 
 use crate::boxed::BoxedFacts;
@@ -116,10 +115,8 @@ fn add_matches(
     ensures { OnOk result ((m : MatchData) → has_match matches.new.keys m ≡ (has_match matches.old.keys m || (rule.0 == m.rule.0 && has rows.now m.row))) }
 {
     for row in rows {
-        matches.insert(Match {
-            rule,
-            row: row.copy(alloc)?,
-        })?;
+        let copy = row.copy(alloc)?;
+        matches.insert(Match { rule, row: copy })?;
     }
     Ok(())
 }
@@ -156,17 +153,15 @@ fn with_fired(
     came: &BTreeSet<Match, Global>,
     fired: &[FiredMatch],
 ) -> Result<Agenda, ResumeFault>
-    ensures saliences { IfOk result (λ a. a.saliences ≡ agenda.saliences) }
-    ensures pending { IfOk result (λ a. (m : MatchData) → has_match a.pending m ≡ (has_match agenda.pending m && not (has_marked fired.now m))) }
-    ensures fired { IfOk result (λ a. (m : MatchData) → has_match a.fired m ≡ (has_match agenda.fired m || has_marked fired.now m)) }
-    ensures came { OnOk result ((m : FiredMatchData) → In m fired.now → has_match came.now.keys (match_fired m) ≡ true) }
+    ensures marked { IfOk result (λ a. AreMarking came.now.keys agenda a fired.now) }
     ensures unfit { IsErrOf result ResumeFault.Unfit → (m : FiredMatchData) × In m fired.now × (has_match came.now.keys (match_fired m) ≡ false) }
 {
     let mut agenda = agenda;
     for matched in fired {
+        let copy = matched.row.copy(alloc)?;
         let wanted = Match {
             rule: matched.rule,
-            row: matched.row.copy(alloc)?,
+            row: copy,
         };
         if !came.contains(&wanted) {
             return Err(ResumeFault::Unfit);
@@ -186,7 +181,7 @@ pub(crate) fn agenda_of(
 ) -> Result<Agenda, ResumeFault>
     ensures saliences { IfOk result (λ a. a.saliences ≡ saliences_in rules.now) }
     ensures marked { NoneGo changes.items → IfOk result (AreMarked (comes_by changes.items) fired.now) }
-    ensures came { OnOk result ((m : FiredMatchData) → In m fired.now → comes_by changes.items (match_fired m) ≡ true) }
+    ensures came { IfOk result (λ _. (m : FiredMatchData) → In m fired.now → comes_by changes.items (match_fired m) ≡ true) }
     ensures unfit { IsErrOf result ResumeFault.Unfit → (m : FiredMatchData) × In m fired.now × (comes_by changes.items (match_fired m) ≡ false) }
 {
     let came = matches_of(alloc, changes.as_slice())?;

@@ -57,7 +57,8 @@ fn matched(
         &moment,
         facts,
     ) {
-        Ok((net, changes)) => {
+        Ok(loaded) => {
+            let (net, changes) = loaded;
             let rules = program.rules.as_slice();
             let agenda = agenda_of(alloc, rules, changes, image.fired.as_slice())?;
             Ok((net, agenda))
@@ -106,6 +107,13 @@ fn restored(
         next_tag: image.next_tag,
     };
     Ok((state, Memory { net, retention }))
+}
+
+// This memory in a box.
+fn boxed(alloc: Global, memory: Memory) -> Result<Box<Memory>, NoMemory>
+    ensures { IfOk result (λ b. b.value ≡ memory) }
+{
+    Ok(Box::new(alloc, memory)?)
 }
 
 // Copies of facts, in the order of their tags.
@@ -174,7 +182,7 @@ impl Session {
         ensures lawful { (w : World) → Stands self.now w → IsLawful self.now.setting.program w }
         ensures image { IfOk result (λ image. (w : World) → Stands self.now w → IsImageOf self.now.setting.program self.now.setting.lives w image) }
     {
-        let entries = self.setting.setting().program.entries.len();
+        let entries = self.setting.setting().program.entries.as_slice().len();
         self.state.saved(alloc, run, entries, &self.memory.net)
     }
 
@@ -200,7 +208,7 @@ impl Session {
         }
         let setting = Running::new(alloc, Setting { program, lives })?;
         let (state, memory) = restored(alloc, setting.setting(), image)?;
-        let memory = Box::new(alloc, memory)?;
+        let memory = boxed(alloc, memory)?;
         Ok(Session {
             setting,
             state,

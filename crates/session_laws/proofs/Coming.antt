@@ -1,5 +1,5 @@
 -- What comes of a network that was loaded are the rows of the rules over the facts of an image.
-use Rattle.std.proofs.Common.{◌≡◌, ◌∙◌, ◌==◌, ◌&&◌, ◌||◌, ℕ, ◌<◌, Bool, true, false, inl, inr, List, [], ◌∷◌, map as list_map, cond, Option, Some, None, refl, sym, ap, subst, arith}
+use Rattle.std.proofs.Common.{◌≡◌, ◌∙◌, ◌==◌, ◌&&◌, ◌||◌, not, ℕ, ◌<◌, Bool, true, false, inl, inr, List, [], ◌∷◌, map as list_map, cond, Option, Some, None, refl, sym, ap, subst, arith}
 use Rattle.std.specs.Prelude.{slice_get}
 use Rattle.std.specs.List.{AllByRecursion}
 use Rattle.std.specs.List.Sorted.{IsStrictlySortedBy}
@@ -17,7 +17,9 @@ use Rattle.image_laws.specs.Images.{snapshot_of}
 use Rattle.rete_net.specs.declared.changes.RuleChange.{RuleChange}
 use Rattle.rete_net.specs.Loading.{AreLadenRows, coming}
 use Rattle.rete_net.specs.Nets.{change_of}
-use Rattle.session_laws.specs.Restoring.{comes_by, laden_by, is_laden, NoneGo}
+use Rattle.agenda.specs.Agendas.{Marks}
+use Rattle.checkpoint.specs.declared.image.FiredMatch.{FiredMatch}
+use Rattle.session_laws.specs.Restoring.{comes_by, has_marked, laden_by, is_laden, AreMarked, NoneGo}
 
 abbrev rules_of : List RuleChange → List ℕ
 rules_of changes = list_map (λ (c : RuleChange). c.rule.0) changes
@@ -83,3 +85,10 @@ module _ (p : Program) (image : Image) (owners : ℕ → ℕ → ℕ) (changes :
       by : (o : Option Rule) → slice_get p.rules m.rule.0 ≡ o → has (coming (change_of changes m.rule.0)) m.row ≡ laden_by p image owners o m
       by None e = no_change m e (change_of changes m.rule.0) refl
       by (Some rule) e = are.rows m.rule.0 rule e m.row
+
+  -- so the agenda with the rows that come has the matches over the image
+  pub laden_marked : (marked : List FiredMatch) (marks : Marks) → AreMarked (comes_by changes) marked marks → AreMarked (is_laden p image owners) marked marks
+  laden_marked marked marks are = record {
+    pending = λ m. are.pending m ∙ ap (λ b. b && not (has_marked marked m)) (comes_laden m);
+    fired = are.fired;
+  }

@@ -48,3 +48,4 @@ pub mod Refitted
 pub mod Restored
 pub mod Coming
 pub mod Saved
+pub mod Adding

@@ -1,5 +1,5 @@
 -- What a session is made of from an image.
-use Rattle.std.specs.Prelude.{◌≡◌, ◌≤ℤ◌, ◌-ℤ◌, ◌+ℤ◌, ◌==◌, ◌&&◌, not, ℕ, ℤ, pos, Bool, true, false, List, [], ◌∷◌, map as list_map, length, Option, Some, None, slice_get}
+use Rattle.std.specs.Prelude.{◌≡◌, ◌≤ℤ◌, ◌-ℤ◌, ◌+ℤ◌, ◌==◌, ◌&&◌, ◌||◌, not, ℕ, ℤ, pos, Bool, true, false, List, [], ◌∷◌, map as list_map, length, Option, Some, None, slice_get}
 use Rattle.std.specs.FinMap as map
 use Rattle.std.specs.List.{list_any}
 use Rattle.fx_base.specs.Lists.{In}
@@ -84,6 +84,13 @@ has_marked fired m = has_match (list_map match_fired fired) m
 pub record AreMarked (comes : Match → Bool) (marked : List FiredMatch) (marks : Marks) : Type 0 where
   pub pending : (m : Match) → has_match marks.pending m ≡ (comes m && not (has_marked marked m))
   pub fired : (m : Match) → has_match marks.fired m ≡ has_marked marked m
+
+-- Of the matches of an agenda these were marked one after the other, and all of them are among those that came.
+pub record AreMarking (came : List Match) (first now : Marks) (taken : List FiredMatch) : Type 0 where
+  pub saliences : now.saliences ≡ first.saliences
+  pub pending : (m : Match) → has_match now.pending m ≡ (has_match first.pending m && not (has_marked taken m))
+  pub fired : (m : Match) → has_match now.fired m ≡ (has_match first.fired m || has_marked taken m)
+  pub there : (m : FiredMatch) → In m taken → has_match came (match_fired m) ≡ true
 
 -- a match is a row of its rule over the facts of an image, with its extras
 abbrev pub laden_by : Program → Image → (ℕ → ℕ → ℕ) → Option Rule → Match → Bool
