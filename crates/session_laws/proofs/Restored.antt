@@ -300,7 +300,7 @@ module _ (s : Setting) (runs : Runs s) (image : Image) (plain : FitsPlainly s.pr
     orderly = behind_orderly;
     kept = behind_kept;
     outside = outside;
-    extras =
+    lost =
         extras_here p w l.ordered.tags all image.clock is.clock (reached_in image.last_starts image.promises) reached_is all_at forgotten forgotten (λ f i. refl) image.extras is.extras;
     at_hand = at_hand;
   }
