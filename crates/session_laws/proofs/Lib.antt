@@ -49,3 +49,4 @@ pub mod Restored
 pub mod Coming
 pub mod Saved
 pub mod Adding
+pub mod Matched
