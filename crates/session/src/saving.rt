@@ -26,6 +26,7 @@ use checkpoint::{FiredMatch, Image, RunPart};
 use engine::ResumeFault;
 use fx_base::{Fact, NoMemory, Seq};
 use image_fitting::fits_plainly;
+use image_fitting::laws::an_image_fits_by_tests_and_rows;
 use rete_net::{LoadFault, Rete};
 use rule_model::{LifeTable, Match, Program};
 use session_laws::{Memory, Setting};
@@ -203,7 +204,9 @@ impl Session {
         ensures fits { OnOk result (Fits program lives image.now) }
         ensures unfit { IsErrOf result ResumeFault.Unfit → Fits program lives image.now → ⊥ }
     {
-        if !fits_plainly(alloc, &program, &lives, image)? {
+        an_image_fits_by_tests_and_rows();
+        let plain = fits_plainly(alloc, &program, &lives, image)?;
+        if !plain {
             return Err(ResumeFault::Unfit);
         }
         let setting = Running::new(alloc, Setting { program, lives })?;

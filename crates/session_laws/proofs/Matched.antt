@@ -1,5 +1,6 @@
 -- The parts of a session that are made from an image, as they are told one after the other.
-use Rattle.std.proofs.Common.{◌≡◌, ◌∙◌, ◌≤◌, ◌||◌, ℕ, ℤ, Bool, true, false, cond, List, [], ◌∷◌, length, inl, Some, None, refl, sym, ap, subst, arith}
+use Rattle.std.proofs.Common.{◌≡◌, ◌∙◌, ◌≤◌, ◌<◌, ◌≤ℤ◌, ◌||◌, not, ℕ, ℤ, pos, Bool, true, false, cond, List, [], ◌∷◌, length, Option, Some, None, Result, Ok, Err, refl, sym, ap, subst, arith}
+use Rattle.std.specs.Prelude.{IsErrAnd}
 use Rattle.std.specs.FinMap as map_of
 use Rattle.std.specs.Ordering.{eq_by_cmp, nat_cmp}
 use Rattle.std.proofs.Math.Logic.{∥∥₁_elim}
@@ -18,7 +19,11 @@ use Rattle.rule_model.specs.declared.moment.Moment.{Moment}
 use Rattle.rule_model.specs.declared.program.Program.{Program}
 use Rattle.rule_model.specs.Matches.{saliences}
 use Rattle.rule_model.specs.Snapshots.{Snapshot}
+use Rattle.rule_model.proofs.Listed.{both_of}
+use Rattle.rule_world.specs.Events.{most_millis}
 use Rattle.rule_world.specs.Programs.{IsRunnable}
+use Rattle.rule_world.proofs.Fresh.{below_of}
+use Rattle.std.proofs.lemmas.Option.{slice_get_within}
 use Rattle.join_tests.specs.Joins.{Look}
 use Rattle.agenda.specs.Agendas.{Marks}
 use Rattle.image_laws.specs.Images.{match_fired, snapshot_of}
@@ -34,16 +39,31 @@ use Rattle.rete_net.specs.declared.net.Rete.{Rete}
 use Rattle.rete_net.specs.Loading.{AreLadenRows, IsBehind, IsLoadable, IsThere}
 use Rattle.rete_net.specs.Nets.{NetStands}
 use Rattle.rete_net.specs.Shapes.{IsNetOf}
+use Rattle.engine.specs.declared.resuming.ResumeFault.{ResumeFault}
+use Rattle.engine.specs.declared.resuming.ResumeFault.TheVariants.{Unfit}
 use Rattle.session_laws.specs.declared.memory.Memory.{Memory}
-use Rattle.session_laws.specs.Restoring.{at_hand, comes_by, stored, AreHeld, AreMarked, IsMatched, NoneGo}
-use Rattle.session_laws.specs.Standing.{Contents, IsSound, ReachesNoMore, reached_of}
+use Rattle.session_laws.specs.declared.setting.Setting.{Setting}
+use Rattle.session_laws.specs.Places.{IsSafe}
+use Rattle.session_laws.specs.Restoring.{at_hand, comes_by, has_marked, is_laden, stored, AreHeld, AreMarked, IsMatched, IsRestored, NoneGo}
+use Rattle.session_laws.specs.Standing.{AreOfRules, Contents, Course, IsSound, ReachesNoMore, Runs, expiry_at, reached_of}
 use Rattle.session_laws.proofs.Coming.{comes_laden, laden_marked, none_go}
-use Rattle.session_laws.proofs.Refitted.{fired_unfit, no_row_unfit, old_unfit}
-use Rattle.session_laws.proofs.Restored.{loadable}
+use Rattle.session_laws.proofs.Refitted.{fired_unfit, laden_match, no_row_unfit, old_unfit, rows_fit}
+use Rattle.session_laws.proofs.Restored.{loadable, restored_stands}
+use Rattle.session_laws.proofs.Saved.{beyond_end}
+use Rattle.session_laws.proofs.Stands.{contents}
+use Rattle.session_laws.proofs.Storing.{stored_holds}
 
 -- what a ghost field tells of entry points
 pub merely_no_more : (p : Program) (m : Memory) (k : Contents) → ∥ IsSound p m k ∥₁ → ReachesNoMore p (reached_of k)
 merely_no_more p m k sound entry beyond = (∥∥₁_elim sound (ℤ_set _ _) (λ s. (s.reached entry beyond).0), ∥∥₁_elim sound (ℤ_set _ _) (λ s. (s.reached entry beyond).1))
+
+fault_of : {T : Type 0} (a b : ResumeFault) → ◌≡◌ {A = Result T ResumeFault} (Err a) (Err b) → a ≡ b
+fault_of a b e = cc
+
+-- what is passed on as unfit was unfit
+pub residual_unfit : {T : Type 0} (r : Result T ResumeFault) (x : ResumeFault) → IsErrAnd r (λ e. e ≡ x) → r ≡ Err Unfit → x ≡ Unfit
+residual_unfit (Ok y) x told e = absurd told
+residual_unfit (Err fault) x told e = sym told ∙ fault_of fault Unfit e
 
 -- ---- a network that is loaded, and the agenda of its rows
 
@@ -132,3 +152,72 @@ module _ (p : Program) (table : LifeTable) (image : Image) (facts : HeldFacts) (
 
   pub old_refuses : (net : Rete) → IsMatched p image net marks → FitsPlainly p table image → (tag : ℕ) × (old tag ≡ true) → (owners : ℕ → ℕ → ℕ) → AreOwners p owners → FitsByRows p table image owners → ⊥
   old_refuses net are plain some owners own fits = old_unfit p table image owners plain marks (are.marked owners own) some.0 (sym (told_old some.0) ∙ some.1) fits
+
+-- ---- a session that is made
+
+keys_none : (keys : List ℕ) → keys ≡ [] → (tag : ℕ) → has_tag keys tag ≡ false
+keys_none keys none tag = ap (λ ks. has_tag ks tag) none
+
+expires_none : (p : Program) (o : Option Fact) → o ≡ None → expiry_at p o ≡ None
+expires_none p o e = ap (expiry_at p) e
+
+pub image_safe : (p : Program) (table : LifeTable) (image : Image) → FitsPlainly p table image → (facts : HeldFacts) (expiries : Timers) (before : Retention) (clock : ℤ) → facts ≡ stored image.facts
+    → AreHeld p table facts expiries before → clock ≡ image.clock → IsSafe facts expiries clock image.next_id image.next_tag
+image_safe p table image plain facts expiries before clock is_stored held same = record {
+  fresh = fresh;
+  untimed = λ tag le. held.waits tag ∙ expires_none p (map_of.get facts tag) (fresh tag le);
+  ids = (let small = plain.next_id.1 in omega (arith, small));
+  clock_low = subst (λ z. pos 0 ≤ℤ z) (sym same) plain.lawful.clock_low;
+  clock_high = subst (λ z. z ≤ℤ most_millis) (sym same) plain.lawful.clock_high;
+}
+  where
+    fresh : (tag : ℕ) → image.next_tag ≤ tag → map_of.get facts tag ≡ None
+    fresh tag le = ap (λ m. map_of.get m tag) is_stored ∙ by (map_of.get (stored image.facts) tag) refl
+      where
+        by : (o : Option Fact) → map_of.get (stored image.facts) tag ≡ o → map_of.get (stored image.facts) tag ≡ None
+        by None e = e
+        by (Some f) e =
+            let i = (stored_holds image.facts plain.lawful.ordered.tags).to tag f e in
+            let low : f.tag.0 < image.next_tag = below_of image.next_tag image.facts plain.lawful.ordered.fresh f i.0 in
+            let at : f.tag.0 ≡ tag = i.1 in
+            absurd (omega (arith, low, at, le))
+
+abbrev course_of : Image → Course
+course_of image = record { last_starts = image.last_starts; promises = image.promises; begun = image.begun }
+
+module _ (s : Setting) (runs : Runs s) (image : Image) (plain : FitsPlainly s.program s.lives image) (owners : ℕ → ℕ → ℕ) (own : AreOwners s.program owners) (net : Rete) (expiries : Timers) (before after : Retention) (marks : Marks)
+    (old : List ℕ) (are : IsMatched s.program image net marks) (passes : Passes image.clock (is_among []) (is_named marks) before after (has_tag old)) (none : old ≡ []) where
+  abbrev state_of : Contents
+  state_of = contents (stored image.facts) expiries image.clock (course_of image) marks image.next_id image.next_tag
+
+  of_rules : AreOfRules (length s.program.rules) marks.pending
+  of_rules q e =
+      let laden_q = (both_of (is_laden s.program image owners q) (not (has_marked image.fired q)) (sym ((are.marked owners own).pending q) ∙ e)).0 in
+      let r = laden_match s.program s.lives image owners plain q laden_q in
+      slice_get_within s.program.rules q.rule.0 r.0 r.1
+
+  pub is_restored : AreHeld s.program s.lives (stored image.facts) expiries before → IsRestored s image owners (record { net = net; retention = after }) state_of
+  is_restored held = record {
+    stands = λ w l is. restored_stands s runs image plain w l is owners own net marks are expiries before after (has_tag old) held passes (keys_none old none);
+    sound = record {
+      net = are.net_of;
+      pending = of_rules;
+      reached = λ entry beyond. (
+          beyond_end image.last_starts entry (let n : length image.last_starts ≡ length s.program.entries = plain.last_starts in omega (arith, n, beyond)),
+          beyond_end image.promises entry (let n : length image.promises ≡ length s.program.entries = plain.promises in omega (arith, n, beyond)),
+      );
+    };
+    next = refl;
+    fits =
+        rows_fit s.program s.lives image owners plain marks (are.marked owners own) (are.there owners own) (are.came owners own)
+        (λ tag. sym (told_old s.program s.lives image (stored image.facts) expiries before after marks (has_tag old) refl held passes tag) ∙ keys_none old none tag);
+  }
+
+  -- the same with the parts as they are at hand
+  pub restored_is : (facts : HeldFacts) (clock : ℤ) (course : Course) → facts ≡ stored image.facts → AreHeld s.program s.lives facts expiries before → clock ≡ image.clock → course ≡ course_of image
+      → IsRestored s image owners (record { net = net; retention = after }) (contents facts expiries clock course marks image.next_id image.next_tag)
+  restored_is facts clock course is_stored held same course_is =
+      subst (λ (m : HeldFacts). IsRestored s image owners (record { net = net; retention = after }) (contents m expiries clock course marks image.next_id image.next_tag)) (sym is_stored)
+      (subst (λ (z : ℤ). IsRestored s image owners (record { net = net; retention = after }) (contents (stored image.facts) expiries z course marks image.next_id image.next_tag)) (sym same)
+      (subst (λ (c : Course). IsRestored s image owners (record { net = net; retention = after }) (contents (stored image.facts) expiries image.clock c marks image.next_id image.next_tag)) (sym course_is)
+      (is_restored (held_here s.program s.lives image facts expiries before after marks (has_tag old) is_stored held passes))))

@@ -103,7 +103,7 @@ module _ (p : Program) (s : Snapshot) (d : HaveDistinctTags s.facts) where
 module _ (p : Program) (table : LifeTable) (image : Image) (owners : ℕ → ℕ → ℕ) (plain : FitsPlainly p table image) where
   -- ---- matches and the rows of extras
 
-  laden_match : (m : Match) → is_laden p image owners m ≡ true → IsLadenMatch p image owners m.rule.0 m.row
+  pub laden_match : (m : Match) → is_laden p image owners m ≡ true → IsLadenMatch p image owners m.rule.0 m.row
   laden_match m e = by (slice_get p.rules m.rule.0) refl
     where
       by : (o : Option Rule) → slice_get p.rules m.rule.0 ≡ o → IsLadenMatch p image owners m.rule.0 m.row

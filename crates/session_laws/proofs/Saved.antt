@@ -51,7 +51,7 @@ unmapped c key (x ∷ xs) s = (unmapped_below c key x xs s.0, unmapped c key xs 
 
 -- ---- what entry points have reached
 
-beyond_end : (moments : List ℤ) (entry : ℕ) → length moments ≤ entry → moment_in moments entry ≡ pos 0
+pub beyond_end : (moments : List ℤ) (entry : ℕ) → length moments ≤ entry → moment_in moments entry ≡ pos 0
 beyond_end [] entry le = nothing_at entry
   where
     nothing_at : (k : ℕ) → slice_index_or [] k (pos 0) ≡ pos 0
