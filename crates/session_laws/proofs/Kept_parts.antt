@@ -1,5 +1,5 @@
 -- What a session that is made from the image of a world holds is exactly what is kept of that world.
-use Rattle.std.proofs.Common.{◌≡◌, ◌↔◌, ◌∙◌, ◌&&◌, not, ℕ, Bool, true, false, cond, is_some, List, [], map as list_map, length, Option, Some, None, refl, sym, ap, subst, arith}
+use Rattle.std.proofs.Common.{◌≡◌, ◌↔◌, ◌∙◌, ◌&&◌, not, ℕ, Bool, true, false, cond, is_some, List, [], length, Option, Some, None, refl, sym, ap, subst, arith}
 use Rattle.std.specs.Prelude.{◌≤◌, slice_get}
 use Rattle.std.specs.FinMap as map_of
 use Rattle.std.proofs.lemmas.List.{take_all}
@@ -36,7 +36,7 @@ use Rattle.retention.specs.Retentions.{is_among, is_named, Passes}
 use Rattle.retention.specs.Watching.{Ends, without, Covers, Watches}
 use Rattle.retention.proofs.Calls.{same_watched}
 use Rattle.retention.proofs.Past.{past_law}
-use Rattle.forgetting.specs.Sights.{Lives, Sight, Holding, HoldsKept, IsLawful as IsLawfulSight, ends_by, ends_of, only, kept, is_kept, is_needed, each_tag}
+use Rattle.forgetting.specs.Sights.{Lives, Sight, HoldsKept, IsLawful as IsLawfulSight, ends_by, ends_of, only, is_kept, is_needed, each_tag}
 use Rattle.forgetting.specs.WorldSights.{fact_at, sight_of}
 use Rattle.forgetting.proofs.Agreeing.{same_clean, same_kept}
 use Rattle.forgetting.proofs.Before.{pending_kept}

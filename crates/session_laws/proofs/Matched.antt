@@ -203,8 +203,8 @@ module _ (s : Setting) (runs : Runs s) (image : Image) (plain : FitsPlainly s.pr
       net = are.net_of;
       pending = of_rules;
       reached = λ entry beyond. (
-          beyond_end image.last_starts entry (let n : length image.last_starts ≡ length s.program.entries = plain.last_starts in omega (arith, n, beyond)),
-          beyond_end image.promises entry (let n : length image.promises ≡ length s.program.entries = plain.promises in omega (arith, n, beyond)),
+        beyond_end image.last_starts entry (let n : length image.last_starts ≡ length s.program.entries = plain.last_starts in omega (arith, n, beyond)),
+        beyond_end image.promises entry (let n : length image.promises ≡ length s.program.entries = plain.promises in omega (arith, n, beyond)),
       );
     };
     next = refl;

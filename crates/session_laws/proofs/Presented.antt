@@ -1,11 +1,10 @@
 -- What conditions count of forgotten facts among the present facts of a world, which a map has, is what they count in the world.
-use Rattle.std.proofs.Common.{◌≡◌, ◌↔◌, ◌∙◌, ◌||◌, not, ℕ, ℤ, Bool, true, false, List, [], ◌∷◌, map as list_map, length, inl, inr, refl, sym, ap, subst}
+use Rattle.std.proofs.Common.{◌≡◌, ◌∙◌, ◌||◌, not, ℕ, ℤ, Bool, true, List, [], ◌∷◌, map as list_map, length, inl, inr, refl, sym, ap, subst}
 use Rattle.std.specs.Prelude.{take}
 use Rattle.std.specs.FinMap as map
 use Rattle.std.specs.List.{filter, list_any}
 use Rattle.fx_base.specs.Lists.{In, EachOnce}
 use Rattle.fx_base.specs.declared.fact.Fact.{Fact}
-use Rattle.fold_fn.specs.Order.{in_rising_order}
 use Rattle.fold_fn.proofs.Rising.{rising_same}
 use Rattle.row_delta.specs.declared.extra.Extra.{Extra}
 use Rattle.row_delta.specs.declared.row.Named.{Named}

@@ -1,5 +1,5 @@
 -- A session that is made from the image of a lawful world stands for that world.
-use Rattle.std.proofs.Common.{◌≡◌, ◌∙◌, ◌==◌, not, ℕ, ℤ, pos, ◌≤ℤ◌, ◌<◌, Bool, true, false, cond, is_some, List, [], ◌∷◌, map as list_map, length, inl, inr, Option, Some, None, refl, sym, ap, subst, arith}
+use Rattle.std.proofs.Common.{◌≡◌, ◌∙◌, not, ℕ, ℤ, pos, ◌≤ℤ◌, ◌<◌, Bool, true, false, is_some, List, [], ◌∷◌, map as list_map, Option, Some, None, refl, sym, ap, arith}
 use Rattle.std.specs.Prelude.{slice_get}
 use Rattle.std.specs.FinMap as map_of
 use Rattle.std.specs.List.{AllByRecursion}
@@ -9,40 +9,33 @@ use Rattle.std.specs.declared.cmp.Ordering.TheVariants.{Less}
 use Rattle.std.proofs.lemmas.Int.{ints}
 use Rattle.fx_base.specs.Lists.{In}
 use Rattle.fx_base.specs.declared.fact.Fact.{Fact}
-use Rattle.row_delta.specs.declared.extra.Extra.{Extra}
 use Rattle.row_delta.specs.declared.row.Named.{Named}
 use Rattle.checkpoint.specs.declared.image.Image.{Image}
 use Rattle.due_queue.specs.Timers.{Timers}
 use Rattle.fact_store.specs.Held.{HeldFacts, facts_of, tag_of}
 use Rattle.fact_store.proofs.Members.{from_list, from_map}
-use Rattle.rule_model.specs.declared.condition.Condition.{Condition}
-use Rattle.rule_model.specs.declared.condition.WindowTag.TheVariants.{Time}
 use Rattle.rule_model.specs.declared.life.Life.{Life}
 use Rattle.rule_model.specs.declared.life.Life.TheVariants.{Plain, Explicit, Finite, Infinite}
 use Rattle.rule_model.specs.declared.life.LifeTable.{LifeTable}
 use Rattle.rule_model.specs.declared.moment.Moment.{Moment}
 use Rattle.rule_model.specs.declared.program.Program.{Program}
-use Rattle.rule_model.specs.declared.program.Rule.{Rule}
-use Rattle.rule_model.specs.Candidates.{is_candidate, is_present, fits}
+use Rattle.rule_model.specs.Candidates.{is_present, fits}
 use Rattle.rule_model.specs.Distinct.{HaveDistinctTags}
 use Rattle.rule_model.specs.Matches.{saliences}
-use Rattle.rule_model.specs.Moments.{IsAt, reached_in}
+use Rattle.rule_model.specs.Moments.{reached_in}
 use Rattle.rule_model.specs.Rows.{pattern_of}
 use Rattle.rule_model.specs.Snapshots.{Snapshot}
 use Rattle.rule_model.specs.Tuples.{name_of}
-use Rattle.rule_model.specs.Types.{is_event, is_point, expiry_of}
+use Rattle.rule_model.specs.Types.{is_event}
 use Rattle.rule_model.proofs.Floors.{floor_on}
 use Rattle.rule_model.proofs.Named.{of_filter}
 use Rattle.rule_model.proofs.Order.{in_filter, passed}
 use Rattle.rule_model.proofs.RuleOf.{in_place}
-use Rattle.rule_world.specs.Events.{end_by, most_millis, no_times}
+use Rattle.rule_world.specs.Events.{end_by, most_millis}
 use Rattle.rule_world.specs.Lawful.{IsLawful}
 use Rattle.rule_world.specs.Programs.{IsRunnable}
 use Rattle.rule_world.specs.Worlds.{World, snapshot, present, only_present}
 use Rattle.rule_world.proofs.Fresh.{below_of, distinct_filtered}
-use Rattle.rule_lives.specs.Keeping.{IsKept}
-use Rattle.join_tests.specs.Joins.{Look}
-use Rattle.pair_memory.specs.Standing.{no_names}
 use Rattle.condition_rows.specs.Looks.{empty_snapshot, HasAllOf}
 use Rattle.condition_rows.specs.Sets.{held}
 use Rattle.keeping.specs.Kept.{is_alive, is_kept, is_forgotten}
@@ -59,22 +52,19 @@ use Rattle.pattern_gate.specs.Moves.{IsOrderly}
 use Rattle.retention.specs.declared.retention.Retention.{Retention}
 use Rattle.retention.specs.Retentions.{is_among, is_named, Passes}
 use Rattle.forgetting.specs.Sights.{only}
-use Rattle.forgetting.specs.WorldSights.{fact_at}
 use Rattle.forgetting.proofs.Before.{chosen}
 use Rattle.forgetting.proofs.Seeing.{own_at}
 use Rattle.rete_net.specs.declared.net.Rete.{Rete}
 use Rattle.rete_net.specs.Loading.{AreOutsideOfTime, IsBehind, IsLoadable}
-use Rattle.rete_net.specs.Nets.{NetStands}
-use Rattle.session_laws.specs.declared.memory.Memory.{Memory}
 use Rattle.session_laws.specs.declared.setting.Setting.{Setting}
 use Rattle.session_laws.specs.Gives.{version_of}
 use Rattle.session_laws.specs.Refreshed.{over}
 use Rattle.session_laws.specs.Restoring.{stored, AreHeld, AreStorable, HasTimes, IsMatched}
-use Rattle.session_laws.specs.Standing.{AreForgotten, Contents, Course, Mirrors, Runs, Seen, Standing, Waits, expiry_at, with_facts}
+use Rattle.session_laws.specs.Standing.{AreForgotten, Contents, Course, Mirrors, Runs, Standing, expiry_at, with_facts}
 use Rattle.session_laws.proofs.Kept_parts.{holds_kept_parts, image_holds, store_is}
 use Rattle.session_laws.proofs.Forgotten.{same_version}
-use Rattle.session_laws.proofs.Members.{Holds, held_distinct, own_tags, version_found, versions}
-use Rattle.session_laws.proofs.Needing.{distinct_here, of_world}
+use Rattle.session_laws.proofs.Members.{Holds, own_tags, version_found, versions}
+use Rattle.session_laws.proofs.Needing.{distinct_here}
 use Rattle.session_laws.proofs.Presented.{extras_here}
 use Rattle.session_laws.proofs.Ready.{IsFit, kept_of}
 use Rattle.session_laws.proofs.Stands.{contents}
