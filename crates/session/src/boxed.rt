@@ -1,8 +1,8 @@
 //! The large parts of a state in boxes: who holds one moves no more than its address.
-ghost use Rattle.std.specs.Prelude.{◌≡◌, ◌<◌, ◌&&◌, ◌||◌, not, length, option_map, Some, None, IfOk, OnOk, IfSome, IfNone};
+ghost use Rattle.std.specs.Prelude.{◌≡◌, ◌<◌, ◌&&◌, ◌||◌, not, length, option_map, Some, None, IfOk, OnOk, IfSome, IfNone, map as list_map};
 ghost use Rattle.std.specs.FinMap as map;
 ghost use Rattle.std.specs.Ordering.{eq_by_cmp};
-ghost use Rattle.fact_store.specs.Held.{IsNewest, HoldsNone, CountsType};
+ghost use Rattle.fact_store.specs.Held.{IsNewest, HoldsNone, CountsType, facts_of};
 ghost use Rattle.rule_model.specs.Matches.{has_match, fire_cmp, match_cmp};
 ghost use Rattle.rule_model.specs.First.{first};
 ghost use Rattle.rule_model.specs.declared.matched.Match.{Match as MatchData};
@@ -67,6 +67,13 @@ impl BoxedFacts {
         ensures none { IfNone result (HoldsNone self.now id.0) }
     {
         self.inside.get(id)
+    }
+
+    /// The held facts, in the order of their tags, which it sorts.
+    pub(crate) fn all(&self, alloc: Global) -> Result<Vec<&Fact>, NoMemory>
+        ensures { IfOk result (λ facts. list_map (λ f. f.now) facts.items ≡ facts_of self.now) }
+    {
+        self.inside.facts(alloc)
     }
 
     /// How many ids have a held fact of this type. Takes no memory.

@@ -2,6 +2,7 @@ ghost use Rattle.std.specs.Prelude.{◌≡◌, ◌<◌, ◌||◌, ◌^◌, ℕ, 
 ghost use Rattle.rule_model.specs.Moments.{moment_in};
 ghost use Rattle.rule_model.specs.Types.{is_event};
 ghost use Rattle.rule_world.specs.Worlds.{last_start_with, promise_with};
+ghost use Rattle.session_laws.specs.Saving.{ArePadded};
 
 use fx_base::{EntryId, Fact, Millis, NoMemory};
 use rule_model::{Moment, Program};
@@ -39,6 +40,40 @@ impl Course {
             promises: Vec::new(alloc),
             begun: false,
         }
+    }
+
+    /// The course with these last starts and promises, in milliseconds, by the places of the entry points.
+    pub(crate) fn at(
+        alloc: Global,
+        last_starts: &[Millis],
+        promises: &[Millis],
+        begun: bool,
+    ) -> Result<Course, NoMemory>
+        ensures { IfOk result (λ c. c ≡ record { last_starts = last_starts.now; promises = promises.now; begun = begun }) }
+    {
+        let mut starts = Vec::with_capacity(alloc, last_starts.len())?;
+        starts.extend_from_slice(last_starts)?;
+        let mut promised = Vec::with_capacity(alloc, promises.len())?;
+        promised.extend_from_slice(promises)?;
+        Ok(Course {
+            last_starts: starts,
+            promises: promised,
+            begun,
+        })
+    }
+
+    /// The last starts of so many entry points, in milliseconds, by their places.
+    pub(crate) fn first_last_starts(&self, alloc: Global, many: usize) -> Result<Vec<Millis>, NoMemory>
+        ensures { IfOk result (λ first. ArePadded self.now.last_starts many first.items) }
+    {
+        padded(alloc, self.last_starts.as_slice(), many)
+    }
+
+    /// The promises of so many entry points, in milliseconds, by their places.
+    pub(crate) fn first_promises(&self, alloc: Global, many: usize) -> Result<Vec<Millis>, NoMemory>
+        ensures { IfOk result (λ first. ArePadded self.now.promises many first.items) }
+    {
+        padded(alloc, self.promises.as_slice(), many)
     }
 
     /// The moment at this clock. Takes no memory.
@@ -109,6 +144,17 @@ impl Course {
         course.begun = true;
         course
     }
+}
+
+// The first so many of these moments, and 0 for those beyond the end.
+fn padded(alloc: Global, moments: &[Millis], many: usize) -> Result<Vec<Millis>, NoMemory>
+    ensures many { IfOk result (λ first. length first.items ≡ many) }
+    ensures each { IfOk result (λ first. (entry : ℕ) → entry < many → moment_in first.items entry ≡ moment_in moments.now entry) }
+{
+    let mut first = Vec::with_capacity(alloc, moments.len())?;
+    first.extend_from_slice(moments)?;
+    first.resize(many, 0)?;
+    Ok(first)
 }
 
 // These moments with another one at an entry point.

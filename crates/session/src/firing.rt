@@ -146,7 +146,7 @@ impl State {
         ensures lines { OnOk result ((w : World) (m : MatchData) → Standing setting.now memory.old self w → Some m ≡ first (fire_cmp self.agenda.saliences) self.agenda.pending
             → AllFit setting.now.program w plan.items → lines.new.items ≡ lines.old.items ++ fire_line setting.now.program m ∷ [] ++ (does_all setting.now.program (marked w m) plan.items).0) }
         ensures tags { IfOk result (λ s. s.next_tag ≤ self.next_tag + length plan.items) }
-        ensures sound { IfOk result (λ s. StaysSound setting.now.program memory.old self memory.new s) }
+        ensures sound { AllWantKnown setting.now.program plan.items → IfOk result (λ s. StaysSound setting.now.program memory.old self memory.new s) }
         ensures known { IsSound setting.now.program memory.old self → AllWantKnown setting.now.program plan.items → OnOk result (StayKnown setting.now.program lines.old.items lines.new.items) }
     {
         let (state, fired) = self.mark(alloc, setting, memory)?;

@@ -9,6 +9,7 @@ mod firing;
 pub mod laws;
 mod moving;
 mod refreshing;
+mod restoring;
 mod running;
 mod saving;
 mod session;

@@ -1,4 +1,4 @@
-ghost use Rattle.std.specs.Prelude.{◌≡◌, ◌+◌, ◌<◌, ◌^◌, ◌≤ℤ◌, ◌+ℤ◌, ◌-ℤ◌, ◌==◌, ◌&&◌, not, ℕ, pos, true, false, None, Some, slice_get, is_some, cond, IfOk, OnOk};
+ghost use Rattle.std.specs.Prelude.{◌≡◌, ◌+◌, ◌<◌, ◌^◌, ◌≤ℤ◌, ◌+ℤ◌, ◌-ℤ◌, ◌==◌, ◌&&◌, not, ℕ, pos, true, false, None, Some, length, nat_lt, slice_get, is_some, cond, IfOk, OnOk};
 ghost use Rattle.rule_model.specs.Lives.{AreShort, IsShortLife};
 ghost use Rattle.rule_model.specs.declared.step.Step.TheVariants.{Insert, Modify, Retract, At, Promise, Begin};
 ghost use Rattle.rule_model.specs.Candidates.{is_present};
@@ -58,8 +58,8 @@ fn revised(
     })
 }
 
-// These facts and one more, whose tag is new.
-fn with_fact(facts: BoxedFacts, fact: Fact) -> Result<BoxedFacts, NoMemory>
+/// These facts and one more, whose tag is new.
+pub(crate) fn with_fact(facts: BoxedFacts, fact: Fact) -> Result<BoxedFacts, NoMemory>
     requires { map.get facts fact.tag.0 ≡ None }
     ensures { IfOk result (λ more. more ≡ map.insert facts fact.tag.0 fact) }
 {
@@ -68,8 +68,8 @@ fn with_fact(facts: BoxedFacts, fact: Fact) -> Result<BoxedFacts, NoMemory>
     Ok(facts)
 }
 
-// These timers and that of a fact, if it expires; its tag is new.
-fn timed(expiries: DueQueue, program: &Program, fact: &Fact) -> Result<DueQueue, NoMemory>
+/// These timers and that of a fact, if it expires; its tag is new.
+pub(crate) fn timed(expiries: DueQueue, program: &Program, fact: &Fact) -> Result<DueQueue, NoMemory>
     requires runnable { IsRunnable program.now }
     requires low { (pos 0 -ℤ most_millis) ≤ℤ fact.now.times.start }
     requires high { fact.now.times.start ≤ℤ most_millis }
@@ -122,8 +122,8 @@ fn past_from(life: &Life, fact: &Fact) -> Option<Millis>
     }
 }
 
-// The first moment at which an event is past its life, where that ends.
-fn life_end(lives: &LifeTable, fact: &Fact) -> Option<Millis>
+/// The first moment at which an event is past its life, where that ends.
+pub(crate) fn life_end(lives: &LifeTable, fact: &Fact) -> Option<Millis>
     requires short { AreShort lives.now }
     requires low { (pos 0 -ℤ most_millis) ≤ℤ fact.now.times.end }
     requires high { fact.now.times.end ≤ℤ (most_millis +ℤ most_millis) }
@@ -135,8 +135,8 @@ fn life_end(lives: &LifeTable, fact: &Fact) -> Option<Millis>
     }
 }
 
-// Holds a new event whose life ends until this moment.
-fn hold(retention: &mut Retention, tag: Tag, past_from: Option<Millis>) -> Result<(), NoMemory>
+/// Holds a new event whose life ends until this moment.
+pub(crate) fn hold(retention: &mut Retention, tag: Tag, past_from: Option<Millis>) -> Result<(), NoMemory>
     ensures due { OnOk result ((other : ℕ) → map.get retention.new.due other ≡ cond (other == tag.0 && is_some past_from) past_from (map.get retention.old.due other)) }
     ensures lingering { OnOk result ((other : ℕ) → lingers retention.new other ≡ (lingers retention.old other && not (other == tag.0 && is_some past_from))) }
 {
@@ -171,7 +171,7 @@ impl State {
         requires end_high { fact.times.end ≤ℤ (most_millis +ℤ most_millis) }
         ensures stands { IfOk result (λ s. Moves setting.now memory.old self (Insert fact.ty fact.entry fact.fields) memory.new s) }
         ensures tags { IfOk result (λ s. s.next_tag ≡ self.next_tag + 1) }
-        ensures sound { IfOk result (λ s. StaysSound setting.now.program memory.old self memory.new s) }
+        ensures sound { nat_lt fact.entry.0 (length setting.now.program.entries) ≡ true → IfOk result (λ s. StaysSound setting.now.program memory.old self memory.new s) }
     {
         if setting.program.is_present(self.clock, &fact) {
             self.with_present(alloc, setting, memory, fact)
@@ -200,7 +200,7 @@ impl State {
         requires present { is_present setting.now.program self.clock fact ≡ true }
         ensures stands { IfOk result (λ s. Moves setting.now memory.old self (Insert fact.ty fact.entry fact.fields) memory.new s) }
         ensures tags { IfOk result (λ s. s.next_tag ≡ self.next_tag + 1) }
-        ensures sound { IfOk result (λ s. StaysSound setting.now.program memory.old self memory.new s) }
+        ensures sound { nat_lt fact.entry.0 (length setting.now.program.entries) ≡ true → IfOk result (λ s. StaysSound setting.now.program memory.old self memory.new s) }
     {
         let mut state = self;
         let tag = fact.tag;
@@ -243,7 +243,7 @@ impl State {
         requires absent { is_present setting.now.program self.clock fact.now ≡ false }
         ensures stands { IfOk result (λ s. Moves setting.now memory.old self (Insert fact.now.ty fact.now.entry fact.now.fields) memory.new s) }
         ensures tags { IfOk result (λ s. s.next_tag ≡ self.next_tag + 1) }
-        ensures sound { IfOk result (λ s. StaysSound setting.now.program memory.old self memory.new s) }
+        ensures sound { nat_lt fact.now.entry.0 (length setting.now.program.entries) ≡ true → IfOk result (λ s. StaysSound setting.now.program memory.old self memory.new s) }
     {
         let mut state = self;
         state.course = state.course.with_new(&setting.program, fact)?;
@@ -374,7 +374,7 @@ impl State {
         requires runs { Runs setting.now }
         ensures stands { IfOk result (λ s. Moves setting.now memory.old self (Promise entry from) memory.new s) }
         ensures tags { IfOk result (λ s. s.next_tag ≡ self.next_tag) }
-        ensures sound { IfOk result (λ s. StaysSound setting.now.program memory.old self memory.new s) }
+        ensures sound { nat_lt entry.0 (length setting.now.program.entries) ≡ true → IfOk result (λ s. StaysSound setting.now.program memory.old self memory.new s) }
     {
         let mut state = self;
         state.course = state.course.with_promise(entry, from)?;

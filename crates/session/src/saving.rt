@@ -1,18 +1,179 @@
-ghost use Rattle.std.specs.Prelude.{◌≡◌, ◌+◌, IfOk, OnOk, IsErrOf};
+ghost use Rattle.std.specs.Prelude.{◌≡◌, ℕ, map as list_map, IfOk, OnOk, IsErrOf};
+ghost use Rattle.std.specs.List.Sorted.{IsStrictlySortedBy};
 ghost use Rattle.rule_lives.specs.Keeping.{IsSafeTable};
 ghost use Rattle.rule_world.specs.Lawful.{IsLawful};
 ghost use Rattle.rule_world.specs.Programs.{IsRunnable};
 ghost use Rattle.rule_world.specs.Worlds.{World};
+ghost use Rattle.fact_store.specs.Held.{facts_of};
+ghost use Rattle.rule_model.specs.Matches.{match_cmp};
 ghost use Rattle.image_laws.specs.Fitting.{Fits};
-ghost use Rattle.image_laws.specs.Images.{IsImageOf};
+ghost use Rattle.image_laws.specs.Images.{IsImageOf, match_fired};
+ghost use Rattle.image_laws.specs.Laden.{AreOwners};
+ghost use Rattle.image_fitting.specs.Plain.{FitsPlainly, FitsByRows};
+ghost use Rattle.session_laws.specs.Restoring.{stored, IsMatched, IsRestored};
+ghost use Rattle.session_laws.specs.Saving.{IsSaved};
+ghost use Rattle.session_laws.specs.Standing.{Runs};
 ghost use Rattle.session.specs.Sessions.{Stands};
 
+use crate::boxed::{BoxedAgenda, BoxedFacts};
+use crate::course::Course;
+use crate::restoring::{Restored, agenda_of, copied};
+use crate::running::Running;
 use crate::session::Session;
-use checkpoint::{Image, RunPart};
+use crate::state::State;
+use agenda::Agenda;
+use checkpoint::{FiredMatch, Image, RunPart};
 use engine::ResumeFault;
-use fx_base::NoMemory;
-use rule_model::{LifeTable, Program};
+use fx_base::{Fact, NoMemory, Seq};
+use image_fitting::fits_plainly;
+use image_fitting::laws::an_image_fits_by_tests_and_rows;
+use rete_net::{LoadFault, Rete};
+use rule_model::{LifeTable, Match, Program};
+use session_laws::{Memory, Setting};
 use std::alloc::Global;
+
+// The network of an image that fits by plain tests, and the agenda of its matches; `Unfit` where the row of an extra or a fired match is
+// not there.
+fn matched(
+    alloc: Global,
+    setting: &Setting,
+    image: &Image,
+    course: &Course,
+    facts: &BoxedFacts,
+) -> Result<(Rete, Agenda), ResumeFault>
+    requires runs { Runs setting.now }
+    requires plain { FitsPlainly setting.now.program setting.now.lives image.now }
+    requires course { course.now ≡ record { last_starts = image.now.last_starts; promises = image.now.promises; begun = image.now.begun } }
+    requires facts { facts.now ≡ stored image.now.facts }
+    ensures matched { IfOk result (λ r. IsMatched setting.now.program image.now r.0 r.1) }
+    ensures unfit { IsErrOf result ResumeFault.Unfit → (owners : ℕ → ℕ → ℕ) → AreOwners setting.now.program owners → FitsByRows setting.now.program setting.now.lives image.now owners → ⊥ }
+{
+    let program = &setting.program;
+    let moment = course.moment(image.clock);
+    match Rete::load(
+        alloc,
+        program,
+        image.facts.as_slice(),
+        image.extras.as_slice(),
+        &moment,
+        facts,
+    ) {
+        Ok(loaded) => {
+            let (net, changes) = loaded;
+            let rules = program.rules.as_slice();
+            let agenda = agenda_of(alloc, rules, changes, image.fired.as_slice())?;
+            Ok((net, agenda))
+        }
+        Err(LoadFault::NoRow) => Err(ResumeFault::Unfit),
+        Err(LoadFault::NoMemory) => Err(ResumeFault::NoMemory),
+    }
+}
+
+// The state and the memory of a session, of an image that fits by plain tests; `Unfit` where it does not fit by its rows.
+fn restored(
+    alloc: Global,
+    setting: &Setting,
+    image: &Image,
+) -> Result<(State, Memory), ResumeFault>
+    requires runs { Runs setting.now }
+    requires plain { FitsPlainly setting.now.program setting.now.lives image.now }
+    ensures restored { (owners : ℕ → ℕ → ℕ) → AreOwners setting.now.program owners → IfOk result (λ r. IsRestored setting.now image.now owners r.1 r.0) }
+    ensures unfit { IsErrOf result ResumeFault.Unfit → (owners : ℕ → ℕ → ℕ) → AreOwners setting.now.program owners → FitsByRows setting.now.program setting.now.lives image.now owners → ⊥ }
+{
+    let kept = Restored::of(alloc, setting, image.facts.as_slice())?;
+    let course = Course::at(
+        alloc,
+        image.last_starts.as_slice(),
+        image.promises.as_slice(),
+        image.begun,
+    )?;
+    let (net, agenda) = matched(alloc, setting, image, &course, &kept.facts)?;
+    let agenda = BoxedAgenda::new(alloc, agenda)?;
+    let Restored {
+        facts,
+        expiries,
+        retention,
+    } = kept;
+    let (retention, old) = retention.past(alloc, image.clock, &[], agenda.agenda())?;
+    if !old.is_empty() {
+        return Err(ResumeFault::Unfit);
+    }
+    let state = State {
+        facts,
+        expiries,
+        clock: image.clock,
+        course,
+        agenda,
+        next_id: image.next_id,
+        next_tag: image.next_tag,
+    };
+    Ok((state, Memory { net, retention }))
+}
+
+// This memory in a box.
+fn boxed(alloc: Global, memory: Memory) -> Result<Box<Memory>, NoMemory>
+    ensures { IfOk result (λ b. b.value ≡ memory) }
+{
+    Ok(Box::new(alloc, memory)?)
+}
+
+// Copies of facts, in the order of their tags.
+fn copies_of(alloc: Global, facts: &BoxedFacts) -> Result<Vec<Fact>, NoMemory>
+    ensures { IfOk result (λ copies. copies.items ≡ facts_of facts.now) }
+{
+    let held = facts.all(alloc)?;
+    let mut copies = Vec::with_capacity(alloc, held.len())?;
+    for fact in held {
+        copies.push(copied(alloc, fact)?)?;
+    }
+    Ok(copies)
+}
+
+// Copies of the fired matches of an agenda, by rule and row.
+fn fired_of(alloc: Global, agenda: &Agenda) -> Result<Vec<FiredMatch>, NoMemory>
+    ensures matches { IfOk result (λ fired. list_map match_fired fired.items ≡ agenda.now.fired) }
+    ensures order { IfOk result (λ fired. IsStrictlySortedBy match_cmp (list_map match_fired fired.items)) }
+{
+    let matches = agenda.fired(alloc)?;
+    let mut fired = Vec::with_capacity(alloc, matches.len())?;
+    for matched in matches {
+        let Match { rule, row } = matched;
+        fired.push(FiredMatch { rule, row })?;
+    }
+    Ok(fired)
+}
+
+impl State {
+    // The image of what is kept, with this part of the run, and with what so many entry points have reached.
+    fn saved(
+        &self,
+        alloc: Global,
+        run: RunPart,
+        entries: usize,
+        net: &Rete,
+    ) -> Result<Image, NoMemory>
+        ensures run { IfOk result (λ image. image.run ≡ run) }
+        ensures saved { IfOk result (IsSaved self.now entries net.now) }
+    {
+        let last_starts = self.course.first_last_starts(alloc, entries)?;
+        let promises = self.course.first_promises(alloc, entries)?;
+        let facts = copies_of(alloc, &self.facts)?;
+        let fired = fired_of(alloc, self.agenda.agenda())?;
+        let extras = net.extras(alloc, &self.facts)?;
+        Ok(Image {
+            run,
+            clock: self.clock,
+            begun: self.course.begun(),
+            last_starts: Seq::from_vec(last_starts),
+            promises: Seq::from_vec(promises),
+            next_id: self.next_id,
+            next_tag: self.next_tag,
+            facts: Seq::from_vec(facts),
+            fired: Seq::from_vec(fired),
+            extras: Seq::from_vec(extras),
+        })
+    }
+}
 
 impl Session {
     /// The image of each world that the session stands for, with this part of the run. It copies what is kept, the fired matches, and what
@@ -22,7 +183,8 @@ impl Session {
         ensures lawful { (w : World) → Stands self.now w → IsLawful self.now.setting.program w }
         ensures image { IfOk result (λ image. (w : World) → Stands self.now w → IsImageOf self.now.setting.program self.now.setting.lives w image) }
     {
-        Err(NoMemory)
+        let entries = self.setting.setting().program.entries.as_slice().len();
+        self.state.saved(alloc, run, entries, &self.memory.net)
     }
 
     /// A session of a program, with a safe table of lives, in each lawful world of which the image is that. `Unfit`: exactly where the image
@@ -42,6 +204,18 @@ impl Session {
         ensures fits { OnOk result (Fits program lives image.now) }
         ensures unfit { IsErrOf result ResumeFault.Unfit → Fits program lives image.now → ⊥ }
     {
-        Err(ResumeFault::NoMemory)
+        an_image_fits_by_tests_and_rows();
+        let plain = fits_plainly(alloc, &program, &lives, image)?;
+        if !plain {
+            return Err(ResumeFault::Unfit);
+        }
+        let setting = Running::new(alloc, Setting { program, lives })?;
+        let (state, memory) = restored(alloc, setting.setting(), image)?;
+        let memory = boxed(alloc, memory)?;
+        Ok(Session {
+            setting,
+            state,
+            memory,
+        })
     }
 }

@@ -18,7 +18,8 @@ use script_read::Change;
 use session_laws::{Memory, Setting};
 use std::alloc::Global;
 
-fn saliences_of(alloc: Global, rules: &[Rule]) -> Result<Vec<i64>, NoMemory>
+/// The saliences of rules, in their order.
+pub(crate) fn saliences_of(alloc: Global, rules: &[Rule]) -> Result<Vec<i64>, NoMemory>
     ensures { IfOk result (λ v. v.items ≡ saliences rules.now) }
 {
     let mut all = Vec::with_capacity(alloc, rules.len())?;

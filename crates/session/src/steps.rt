@@ -6,7 +6,7 @@ ghost use Rattle.rule_world.specs.Events.{most_millis, times_of};
 ghost use Rattle.rule_world.specs.Programs.{IsRunnable};
 ghost use Rattle.engine.specs.declared.lines.OutLine.{OutLine as OutLineData};
 ghost use Rattle.engine.specs.declared.lines.OutLine.TheVariants.{Fault};
-ghost use Rattle.session_laws.specs.Leading.{AllWantKnown, has_known_type, StandsAfter, StandsAfterAll, StayKnown, Tries, WantsKnown, Writes, WritesAll, WritesFor};
+ghost use Rattle.session_laws.specs.Leading.{AllWantKnown, has_known_places, StandsAfter, StandsAfterAll, StayKnown, Tries, WantsKnown, Writes, WritesAll, WritesFor};
 ghost use Rattle.session_laws.specs.Standing.{Runs, StaysSound};
 ghost use Rattle.session_laws.specs.Places.{insert_fault_in};
 
@@ -93,8 +93,8 @@ impl State {
         ensures stands { IfOk result (λ s. Tries setting.now memory.old self (Insert ty entry fields) memory.new s) }
         ensures lines { OnOk result (Writes setting.now memory.old self (Insert ty entry fields) lines.old.items lines.new.items) }
         ensures tags { IfOk result (λ s. s.next_tag ≤ self.next_tag + 1) }
-        ensures sound { IfOk result (λ s. StaysSound setting.now.program memory.old self memory.new s) }
-        ensures known { has_known_type setting.now.program (Insert ty entry fields) ≡ true → OnOk result (StayKnown setting.now.program lines.old.items lines.new.items) }
+        ensures sound { has_known_places setting.now.program (Insert ty entry fields) ≡ true → IfOk result (λ s. StaysSound setting.now.program memory.old self memory.new s) }
+        ensures known { has_known_places setting.now.program (Insert ty entry fields) ≡ true → OnOk result (StayKnown setting.now.program lines.old.items lines.new.items) }
     {
         match self.times_for(&setting.program, ty, entry, fields.as_slice()) {
             Ok(times) => {
@@ -131,7 +131,7 @@ impl State {
         ensures lines { OnOk result (Writes setting.now memory.old self (Modify id sets) lines.old.items lines.new.items) }
         ensures tags { IfOk result (λ s. s.next_tag ≤ self.next_tag + 1) }
         ensures sound { IfOk result (λ s. StaysSound setting.now.program memory.old self memory.new s) }
-        ensures known { has_known_type setting.now.program (Modify id sets) ≡ true → OnOk result (StayKnown setting.now.program lines.old.items lines.new.items) }
+        ensures known { has_known_places setting.now.program (Modify id sets) ≡ true → OnOk result (StayKnown setting.now.program lines.old.items lines.new.items) }
     {
         match self.modifiable(&setting.program, id) {
             Ok(tag) => self.with_sets(alloc, setting, memory, id, tag, sets),
@@ -154,7 +154,7 @@ impl State {
         ensures lines { OnOk result (Writes setting.now memory.old self (Retract ty id) lines.old.items lines.new.items) }
         ensures tags { IfOk result (λ s. s.next_tag ≡ self.next_tag) }
         ensures sound { IfOk result (λ s. StaysSound setting.now.program memory.old self memory.new s) }
-        ensures known { has_known_type setting.now.program (Retract ty id) ≡ true → OnOk result (StayKnown setting.now.program lines.old.items lines.new.items) }
+        ensures known { has_known_places setting.now.program (Retract ty id) ≡ true → OnOk result (StayKnown setting.now.program lines.old.items lines.new.items) }
     {
         if are_observed(&setting.program, ty) {
             return self.refuse(Code::EventObserved, lines);
@@ -185,7 +185,7 @@ impl State {
         ensures lines { OnOk result (Writes setting.now memory.old self (Advance by) lines.old.items lines.new.items) }
         ensures tags { IfOk result (λ s. s.next_tag ≡ self.next_tag) }
         ensures sound { IfOk result (λ s. StaysSound setting.now.program memory.old self memory.new s) }
-        ensures known { has_known_type setting.now.program (Advance by) ≡ true → OnOk result (StayKnown setting.now.program lines.old.items lines.new.items) }
+        ensures known { has_known_places setting.now.program (Advance by) ≡ true → OnOk result (StayKnown setting.now.program lines.old.items lines.new.items) }
     {
         match clock_after(self.clock, by) {
             Ok(clock) => self.with_clock(alloc, setting, memory, clock),
@@ -207,7 +207,7 @@ impl State {
         ensures lines { OnOk result (Writes setting.now memory.old self (At moment) lines.old.items lines.new.items) }
         ensures tags { IfOk result (λ s. s.next_tag ≡ self.next_tag) }
         ensures sound { IfOk result (λ s. StaysSound setting.now.program memory.old self memory.new s) }
-        ensures known { has_known_type setting.now.program (At moment) ≡ true → OnOk result (StayKnown setting.now.program lines.old.items lines.new.items) }
+        ensures known { has_known_places setting.now.program (At moment) ≡ true → OnOk result (StayKnown setting.now.program lines.old.items lines.new.items) }
     {
         match clock_at(self.clock, moment) {
             Ok(clock) => self.with_clock(alloc, setting, memory, clock),
@@ -229,8 +229,8 @@ impl State {
         ensures stands { IfOk result (λ s. Tries setting.now memory.old self (Promise entry from) memory.new s) }
         ensures lines { OnOk result (Writes setting.now memory.old self (Promise entry from) lines.old.items lines.new.items) }
         ensures tags { IfOk result (λ s. s.next_tag ≡ self.next_tag) }
-        ensures sound { IfOk result (λ s. StaysSound setting.now.program memory.old self memory.new s) }
-        ensures known { has_known_type setting.now.program (Promise entry from) ≡ true → OnOk result (StayKnown setting.now.program lines.old.items lines.new.items) }
+        ensures sound { has_known_places setting.now.program (Promise entry from) ≡ true → IfOk result (λ s. StaysSound setting.now.program memory.old self memory.new s) }
+        ensures known { has_known_places setting.now.program (Promise entry from) ≡ true → OnOk result (StayKnown setting.now.program lines.old.items lines.new.items) }
     {
         match promise_at(self.course.promise(entry), from) {
             Ok(from) => self.with_promise(alloc, setting, memory, entry, from),
@@ -263,8 +263,8 @@ impl State {
         ensures stands { IfOk result (λ s. Tries setting.now memory.old self step memory.new s) }
         ensures lines { OnOk result (Writes setting.now memory.old self step lines.old.items lines.new.items) }
         ensures tags { IfOk result (λ s. s.next_tag ≤ self.next_tag + 1) }
-        ensures sound { IfOk result (λ s. StaysSound setting.now.program memory.old self memory.new s) }
-        ensures known { has_known_type setting.now.program step ≡ true → OnOk result (StayKnown setting.now.program lines.old.items lines.new.items) }
+        ensures sound { has_known_places setting.now.program step ≡ true → IfOk result (λ s. StaysSound setting.now.program memory.old self memory.new s) }
+        ensures known { has_known_places setting.now.program step ≡ true → OnOk result (StayKnown setting.now.program lines.old.items lines.new.items) }
     {
         match step {
             Step::Insert { ty, entry, fields } => {
@@ -295,7 +295,7 @@ impl State {
         ensures stands { IfOk result (λ s. StandsAfter setting.now memory.old self wanted memory.new s) }
         ensures lines { OnOk result (WritesFor setting.now memory.old self wanted lines.old.items lines.new.items) }
         ensures tags { IfOk result (λ s. s.next_tag ≤ self.next_tag + 1) }
-        ensures sound { IfOk result (λ s. StaysSound setting.now.program memory.old self memory.new s) }
+        ensures sound { WantsKnown setting.now.program wanted → IfOk result (λ s. StaysSound setting.now.program memory.old self memory.new s) }
         ensures known { WantsKnown setting.now.program wanted → OnOk result (StayKnown setting.now.program lines.old.items lines.new.items) }
     {
         match wanted {
@@ -318,7 +318,7 @@ impl State {
         ensures stands { IfOk result (λ s. StandsAfterAll setting.now memory.old self plan.items memory.new s) }
         ensures lines { OnOk result (WritesAll setting.now memory.old self plan.items lines.old.items lines.new.items) }
         ensures tags { IfOk result (λ s. s.next_tag ≤ self.next_tag + length plan.items) }
-        ensures sound { IfOk result (λ s. StaysSound setting.now.program memory.old self memory.new s) }
+        ensures sound { AllWantKnown setting.now.program plan.items → IfOk result (λ s. StaysSound setting.now.program memory.old self memory.new s) }
         ensures known { AllWantKnown setting.now.program plan.items → OnOk result (StayKnown setting.now.program lines.old.items lines.new.items) }
     {
         let mut state = self;

@@ -239,7 +239,7 @@ safe_new facts more timers later clock id tag f moment safe at made timed = reco
   untimed = λ t le.
       let apart : t ≡ f.tag.0 → ⊥ = λ (e : t ≡ f.tag.0). absurd (omega (arith, e, at, le)) in
       ap (λ m. map.get m t) timed ∙ timer_apart timers f.tag.0 t moment apart ∙ safe.untimed t (omega (arith, le));
-  ids = let le : id ≤ tag = safe.ids in omega arith;
+  ids = let le : id ≤ tag + 2 ^ 61 = safe.ids in omega (arith, le);
   clock_low = safe.clock_low;
   clock_high = safe.clock_high;
 }
@@ -248,7 +248,7 @@ pub safe_numbers : (facts : HeldFacts) (timers : Timers) (clock : ℤ) (id tag :
 safe_numbers facts timers clock id tag safe = record {
   fresh = λ t le. safe.fresh t (omega (arith, le));
   untimed = λ t le. safe.untimed t (omega (arith, le));
-  ids = let le : id ≤ tag = safe.ids in omega arith;
+  ids = let le : id ≤ tag + 2 ^ 61 = safe.ids in omega (arith, le);
   clock_low = safe.clock_low;
   clock_high = safe.clock_high;
 }
@@ -283,7 +283,7 @@ safe_less facts less timers fewer clock id tag out safe made untimed =
 pub safe_again : (less more : HeldFacts) (timers : Timers) (clock : ℤ) (id tag : ℕ) (f : Fact) → IsSafe less timers clock id tag → f.tag.0 ≡ tag → more ≡ map.insert less f.tag.0 f → IsSafe more timers clock id (tag + 1)
 safe_again less more timers clock id tag f safe at made =
     let s = safe_new less more timers timers clock id tag f None safe at made refl in
-    record { fresh = s.fresh; untimed = s.untimed; ids = (let le : id ≤ tag = safe.ids in omega arith); clock_low = s.clock_low; clock_high = s.clock_high }
+    record { fresh = s.fresh; untimed = s.untimed; ids = (let le : id ≤ tag + 2 ^ 61 = safe.ids in omega (arith, le)); clock_low = s.clock_low; clock_high = s.clock_high }
 
 left_fresh : (b : Bool) (o : Option Fact) → o ≡ None → (if b then None else o) ≡ None
 left_fresh true o e = refl

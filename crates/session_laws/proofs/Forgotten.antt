@@ -59,7 +59,7 @@ use Rattle.std.specs.FinMap as map
 -- ---- names and lists
 
 -- the version of a snapshot with a tag
-same_version : (facts : List Fact) (tag : Tag) → find (λ (f : Fact). f.tag.0 == tag.0) facts ≡ version_of facts tag
+pub same_version : (facts : List Fact) (tag : Tag) → find (λ (f : Fact). f.tag.0 == tag.0) facts ≡ version_of facts tag
 unfolding version_of
 same_version [] tag = refl
 same_version (f ∷ facts) tag = ap (λ o. if f.tag.0 == tag.0 then Some f else o) (same_version facts tag)

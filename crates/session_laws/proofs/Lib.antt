@@ -41,3 +41,12 @@ pub mod Marking
 pub mod Counting_on
 pub mod Tallied
 pub mod Holding
+pub mod Storing
+pub mod Presented
+pub mod Kept_parts
+pub mod Refitted
+pub mod Restored
+pub mod Coming
+pub mod Saved
+pub mod Adding
+pub mod Matched

@@ -93,6 +93,13 @@ module _ (p : Program) (w : World) (d : HaveDistinctTags w.facts) (stored : Held
       (λ e. in_has row (rows p here cs) (rows_over p there here now same distinct_there distinct_here back cs row (has_in row (rows p there cs) e)))
       ∙ ap (λ rs. has rs row) (kept_rows p w cs)
 
+  -- a pattern has the same candidates
+  pub here_candidates : (q : Pattern) → Same (candidates p q here) (candidates p q (snapshot w))
+  here_candidates q f = (
+    λ i. subst (In f) (kept_candidates p w q) ((same_in_order p here there (sym now) (sym same) distinct_here distinct_there alike q f).0 i),
+    λ i. (same_in_order p here there (sym now) (sym same) distinct_here distinct_there alike q f).1 (subst (In f) (sym (kept_candidates p w q)) i),
+  )
+
   module _ (q : Pattern) (who : Named) where
     to_world : candidates_of p q here who ≡ true → candidates_of p q (snapshot w) who ≡ true
     to_world e =

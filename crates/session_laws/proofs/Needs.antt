@@ -119,7 +119,7 @@ module _ (s : Setting) (m : Memory) (k : Contents) (w : World) (st : Standing s 
   not_stored f i = st.seen.are.known f.tag.0 f (at_own f i)
 
   -- what is forgotten is forgotten of the world
-  lost_in_world : (f : Fact) → In f (facts_of all) → forgotten (name_of f) ≡ is_forgotten s.program s.lives w (name_of f)
+  pub lost_in_world : (f : Fact) → In f (facts_of all) → forgotten (name_of f) ≡ is_forgotten s.program s.lives w (name_of f)
   lost_in_world f i =
       let inside = in_world f i in
       let stored : map.get k.facts f.tag.0 ≡ cond (is_kept s.program s.lives w f) (Some f) None =

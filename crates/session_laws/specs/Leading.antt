@@ -1,5 +1,5 @@
 -- Contents of a session that lead from a world to the next, and what is written on the way.
-use Rattle.std.specs.Prelude.{◌≡◌, ◌++◌, Bool, true, false, nat_lt, List, length, Some, None, Result, Ok}
+use Rattle.std.specs.Prelude.{◌≡◌, ◌++◌, ◌&&◌, Bool, true, false, nat_lt, List, length, Some, None, Result, Ok}
 use Rattle.fx_base.specs.Lists.{In}
 use Rattle.fx_base.specs.declared.fact.Fact.{Fact}
 use Rattle.rule_model.specs.declared.program.Program.{Program}
@@ -77,22 +77,22 @@ WritesAll s m k plan before after = (w : World) → Standing s m k w → AllFit 
 
 -- ---- lines that name what the program has
 
--- an insertion has a type of the program
-abbrev pub has_known_type : Program → Step → Bool
-has_known_type p (Insert ty entry fields) = nat_lt ty.0 (length p.types)
-has_known_type p (Modify id sets) = true
-has_known_type p (Retract ty id) = true
-has_known_type p (Advance by) = true
-has_known_type p (At moment) = true
-has_known_type p (Promise entry from) = true
-has_known_type p Begin = true
+-- an insertion has a type and an entry point of the program, and a promise an entry point
+abbrev pub has_known_places : Program → Step → Bool
+has_known_places p (Insert ty entry fields) = nat_lt ty.0 (length p.types) && nat_lt entry.0 (length p.entries)
+has_known_places p (Modify id sets) = true
+has_known_places p (Retract ty id) = true
+has_known_places p (Advance by) = true
+has_known_places p (At moment) = true
+has_known_places p (Promise entry from) = nat_lt entry.0 (length p.entries)
+has_known_places p Begin = true
 
--- what is wanted has a type of the program, where it is an insertion
+-- what is wanted has places of the program, where it is a step
 abbrev pub WantsKnown : Program → Result Step Code → Type 0
-WantsKnown p wanted = (step : Step) → wanted ≡ Ok step → has_known_type p step ≡ true
+WantsKnown p wanted = (step : Step) → wanted ≡ Ok step → has_known_places p step ≡ true
 
 abbrev pub AllWantKnown : Program → List (Result Step Code) → Type 0
-AllWantKnown p plan = (step : Step) → In (Ok step) plan → has_known_type p step ≡ true
+AllWantKnown p plan = (step : Step) → In (Ok step) plan → has_known_places p step ≡ true
 
 -- where the lines before name types and rules of the program alone, those behind do
 abbrev pub StayKnown : Program → List OutLine → List OutLine → Type 0

@@ -6,3 +6,5 @@ pub mod Following
 pub mod Refreshed
 pub mod Places
 pub mod Counts
+pub mod Restoring
+pub mod Saving

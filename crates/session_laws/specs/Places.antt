@@ -1,5 +1,5 @@
 -- What is asked of the facts that a session has at their tags, and what its parts keep to.
-use Rattle.std.specs.Prelude.{◌≡◌, ◌≤◌, ◌&&◌, ℕ, zero, suc, ℤ, pos, ◌≤ℤ◌, List, map as list_map, Option, Some, None, Result, slice_get, if◌then◌else◌}
+use Rattle.std.specs.Prelude.{◌≡◌, ◌+◌, ◌≤◌, ◌^◌, ◌&&◌, ℕ, zero, suc, ℤ, pos, ◌≤ℤ◌, List, map as list_map, Option, Some, None, Result, slice_get, if◌then◌else◌}
 use Rattle.fx_base.specs.declared.ids.Tag.{Tag}
 use Rattle.fx_base.specs.declared.fact.Fact.{Fact}
 use Rattle.fx_base.specs.declared.value.Value.{Value}
@@ -37,11 +37,12 @@ pub record IsNewestTag (held : HeldFacts) (id : ℕ) (tag : Tag) : Type 0 where
   pub is_newest : IsNewest held id fact
   pub tagged : fact.tag ≡ tag
 
--- no fact stands at the next tag or behind it and none waits there, no id is ahead of the tags, and the clock is from 0 to 2^53
+-- no fact stands at the next tag or behind it and none waits there, no id is further ahead of the tags than 2^61, and the clock is from 0
+-- to 2^53
 pub record IsSafe (facts : HeldFacts) (expiries : Timers) (clock : ℤ) (next_id next_tag : ℕ) : Type 0 where
   pub fresh : (tag : ℕ) → next_tag ≤ tag → map.get facts tag ≡ None
   pub untimed : (tag : ℕ) → next_tag ≤ tag → map.get expiries tag ≡ None
-  pub ids : next_id ≤ next_tag
+  pub ids : next_id ≤ next_tag + 2 ^ 61
   pub clock_low : pos 0 ≤ℤ clock
   pub clock_high : clock ≤ℤ most_millis
 

@@ -1,5 +1,5 @@
 -- Which worlds a session stands for, where events are forgotten.
-use Rattle.std.specs.Prelude.{◌≡◌, ◌<◌, ℕ, ℤ, Bool, true, not, List, length, Option, Some, None, is_some}
+use Rattle.std.specs.Prelude.{◌≡◌, ◌<◌, ◌≤◌, ℕ, ℤ, pos, Bool, true, not, List, length, Option, Some, None, is_some}
 use Rattle.std.specs.FinMap as map
 use Rattle.row_delta.specs.declared.row.Named.{Named}
 use Rattle.fx_base.specs.declared.fact.Fact.{Fact}
@@ -126,11 +126,16 @@ pub record Runs (s : Setting) : Type 0 where
 abbrev pub AreOfRules : ℕ → List Match → Type 0
 AreOfRules rules found = (q : Match) → has_match found q ≡ true → q.rule.0 < rules
 
--- What a session keeps to, whatever it stands for: its network is that of its program, and what is pending are matches of the program's
--- rules.
+-- nothing is reached beyond the entry points of the program
+abbrev pub ReachesNoMore : Program → Reached → Type 0
+ReachesNoMore p reached = (entry : ℕ) → length p.entries ≤ entry → (reached.last_start entry ≡ pos 0) × (reached.promise entry ≡ pos 0)
+
+-- What a session keeps to, whatever it stands for: its network is that of its program, what is pending are matches of the program's rules,
+-- and only the program's entry points have reached anything.
 pub record IsSound (p : Program) (m : Memory) (k : Contents) : Type 0 where
   pub net : IsNetOf p m.net.nodes.items m.net.ends.items
   pub pending : AreOfRules (length p.rules) k.agenda.pending
+  pub reached : ReachesNoMore p (reached_of k)
 
 -- what is sound before is sound behind
 abbrev pub StaysSound : Program → Memory → Contents → Memory → Contents → Type 0

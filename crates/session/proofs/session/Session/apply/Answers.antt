@@ -46,8 +46,9 @@ invariant_of-result c =
     let k = c.args.self.state in
     let sound : ∥ IsSound c.args.self.setting.program m k ∥₁ = subst (λ (n : Memory). ∥ IsSound c.args.self.setting.program n k ∥₁) (sym c.deref_mut.ensures.value) c.args.self.sound in
     let same = c.setting-inside.ensures.same in
+    let known = asked_known c.setting-inside.result.now.program c.args.self.state.course.begun (newest c.args.self.state) c.args.change.now c.in_ok-asked.asked c.setting-inside.ensures.runs.runnable c.in_ok-asked.ensures in
     record {
       sound =
           subst (λ (x : Setting). ∥ IsSound x.program c.apply.new.memory c.in_ok-state.state ∥₁) same
-          (∥∥₁_map (subst (λ (x : Setting). ∥ IsSound x.program m k ∥₁) (sym same) sound) c.in_ok-state.ensures.sound);
+          (∥∥₁_map (subst (λ (x : Setting). ∥ IsSound x.program m k ∥₁) (sym same) sound) (c.in_ok-state.ensures.sound known));
     }

@@ -59,5 +59,5 @@ invariant_of-result c =
     record {
       sound =
           subst (λ (x : Setting). ∥ IsSound x.program c.fire.new.memory c.in_ok-state-in-Some.state ∥₁) same
-          (∥∥₁_map (subst (λ (x : Setting). ∥ IsSound x.program m k ∥₁) (sym same) sound) c.in_ok-state-in-Some.ensures.sound);
+          (∥∥₁_map (subst (λ (x : Setting). ∥ IsSound x.program m k ∥₁) (sym same) sound) (c.in_ok-state-in-Some.ensures.sound (top_known c.setting-inside.result.now.program c.args.self.state c.in-Some.plan.items c.setting-inside.ensures.runs.runnable (simp c.in-Some.is at c.in_ok-plan.ensures.plan))));
     }

@@ -5,7 +5,7 @@ use Rattle.session_laws.specs.Refreshed.{no_rows, rows_at}
 use Rattle.rule_world.specs.Worlds.{empty_world}
 use Rattle.session_laws.specs.declared.memory.Memory.{Memory}
 use Rattle.session_laws.specs.Standing.{Standing}
-use Rattle.session_laws.proofs.Knowing.{standing_sound}
+use Rattle.session_laws.proofs.Knowing.{none_more, standing_sound}
 use Rattle.session_laws.proofs.Sessions.{empty_stands, from_parts}
 use Rattle.session.proofs.session.Session.new.Goals as goal
 use Rattle.rule_model.specs.Snapshots.{nothing_reached}
@@ -29,5 +29,5 @@ invariant_of-result c =
     c.in_ok-setting.ensures (search rules) (c.in_ok-net.ensures.stands c.requires.runnable no_names) (c.in_ok-agenda.ensures.agenda p no_rows (rows_at p [] (pos 0) nothing_reached) (c.in_ok-net.ensures.first c.requires.runnable))
     c.new-retention.ensures.due c.new-retention.ensures.lingering parts) in
     record {
-      sound = merely (standing_sound c.in_ok-setting.setting c.in_ok-memory.memory.value c.in_ok-state.state empty_world stands);
+      sound = merely (standing_sound c.in_ok-setting.setting c.in_ok-memory.memory.value c.in_ok-state.state empty_world stands (none_more c.in_ok-setting.setting.program));
     }

@@ -11,8 +11,7 @@ loop-wanted-init c =
     let all : c.into_iter-wanted-iterator.result.rest.items ≡ c.args.plan.items = c.into_iter-wanted-iterator.ensures.into_iter_gives.0 in
     record {
       tags = omega (arith, ap length all);
-      sound = λ sound. sound;
-      known = λ plan. (subst (AllWantKnown c.args.setting.now.program) (sym all) plan, λ before. before);
+      known = λ plan. (subst (AllWantKnown c.args.setting.now.program) (sym all) plan, λ before. before, λ sound. sound);
       done = λ w st fit.
           subst (λ (rest : List (Result Step Code)). SoFar c.args.setting.now w c.args.plan.items c.args.lines.now.items c.args.lines.now.items c.args.memory.now c.args.self rest) (sym all)
           (none_done c.args.setting.now w c.args.plan.items c.args.lines.now.items c.args.memory.now c.args.self st fit);
@@ -23,11 +22,11 @@ loop-wanted-preserved c =
     let step : c.loop-wanted.wanted-iterator.rest.items ≡ c.in-Some.wanted ∷ c.next.new.self.rest.items = c.in-Some.ensures.steps.0 in
     record {
       tags = omega (arith, ap length step, c.loop-wanted.invariant.tags, c.in_ok-state.ensures.tags);
-      sound = λ sound. c.in_ok-state.ensures.sound (c.loop-wanted.invariant.sound sound);
       known = λ plan.
           let was = c.loop-wanted.invariant.known plan in (
             λ s i. was.0 s (subst (In (Ok s)) (sym step) (inr i)),
             λ before. c.in_ok-state.ensures.known (λ s e. was.0 s (subst (In (Ok s)) (sym step) (inl (sym e)))) (was.1 before),
+            λ sound. c.in_ok-state.ensures.sound (λ s e. was.0 s (subst (In (Ok s)) (sym step) (inl (sym e)))) (was.2 sound),
           );
       done = λ w st fit.
           one_done c.args.setting.now w c.args.plan.items c.args.lines.now.items c.loop-wanted.lines.items c.apply.new.lines.items c.loop-wanted.memory c.apply.new.memory c.loop-wanted.state c.in_ok-state.state c.in-Some.wanted
@@ -49,7 +48,7 @@ returns-clause-lines c w st fit =
     (subst (λ (rest : List (Result Step Code)). SoFar c.args.setting.now w c.args.plan.items c.args.lines.now.items c.loop-wanted.lines.items c.loop-wanted.memory c.loop-wanted.state rest) none (c.loop-wanted.invariant.done w st fit))
 
 pub returns-clause-sound : goal.returns-clause-sound
-returns-clause-sound c = c.loop-wanted.invariant.sound
+returns-clause-sound c plan = (c.loop-wanted.invariant.known plan).2
 
 pub returns-clause-known : goal.returns-clause-known
 returns-clause-known c plan = (c.loop-wanted.invariant.known plan).1

@@ -38,7 +38,7 @@ returns-clause-lines c =
     c.apply_all.ensures.lines
 
 pub returns-clause-sound : goal.returns-clause-sound
-returns-clause-sound c = IfOk-weaker c.apply_all.result _ _ (λ t stays sound. stays (c.in_ok-state.ensures.sound sound)) c.apply_all.ensures.sound
+returns-clause-sound c plan = IfOk-weaker c.apply_all.result _ _ (λ t stays sound. stays (c.in_ok-state.ensures.sound sound)) (c.apply_all.ensures.sound plan)
 
 pub returns-clause-known : goal.returns-clause-known
 returns-clause-known c sound plan =

@@ -1,4 +1,4 @@
-use Rattle.std.proofs.Common.{◌≡◌, Some, None, [], ◌∷◌, ◌++◌, subst, sym}
+use Rattle.std.proofs.Common.{◌≡◌, nat_lt, length, Some, None, [], ◌∷◌, ◌++◌, subst, sym}
 use Rattle.std.proofs.lemmas.Result.{IfOk-weaker}
 use Rattle.rule_model.specs.declared.step.Step.TheVariants.{Insert}
 use Rattle.engine.specs.declared.lines.OutLine.TheVariants.{New}
@@ -6,6 +6,7 @@ use Rattle.session_laws.specs.Standing.{Contents}
 use Rattle.session_laws.proofs.Faults.{insert_fault, insert_line}
 use Rattle.session_laws.proofs.Tried.{done_lines, on_ok, on_ok_weaker, refused_lines, refused_tries, tried_done}
 use Rattle.session_laws.specs.Leading.{StayKnown}
+use Rattle.rule_world.proofs.Fresh.{and_parts}
 use Rattle.session_laws.proofs.Knowing.{one_more_known}
 use Rattle.session.proofs.state.State.insert.Goals as goal
 
@@ -44,7 +45,11 @@ returns-in-Err-clause-lines c =
     (λ w st suits. insert_fault s m c.args.self w st c.args.ty c.args.entry c.args.fields (Some c.in-Err.code) fault) c.args.lines.now.items c.refuse.new.lines.items) c.refuse.ensures.lines
 
 pub returns-in_ok-push-in-Ok-clause-known : goal.returns-in_ok-push-in-Ok-clause-known
-returns-in_ok-push-in-Ok-clause-known c = λ known. on_ok c.with_new.result (subst (StayKnown c.args.setting.now.program c.args.lines.now.items) (sym c.in_ok-push-in-Ok.ensures.items) (one_more_known c.args.setting.now.program c.args.lines.now.items _ known))
+returns-in_ok-push-in-Ok-clause-known c = λ known. on_ok c.with_new.result (subst (StayKnown c.args.setting.now.program c.args.lines.now.items) (sym c.in_ok-push-in-Ok.ensures.items) (one_more_known c.args.setting.now.program c.args.lines.now.items _ (and_parts (nat_lt c.args.ty.0 (length c.args.setting.now.program.types)) (nat_lt c.args.entry.0 (length c.args.setting.now.program.entries)) known).0))
+
+pub returns-in_ok-push-in-Ok-clause-sound : goal.returns-in_ok-push-in-Ok-clause-sound
+returns-in_ok-push-in-Ok-clause-sound c = λ known.
+    c.with_new.ensures.sound (and_parts (nat_lt c.args.ty.0 (length c.args.setting.now.program.types)) (nat_lt c.args.entry.0 (length c.args.setting.now.program.entries)) known).1
 
 pub returns-in-Err-clause-known : goal.returns-in-Err-clause-known
 returns-in-Err-clause-known c = λ known. c.refuse.ensures.known c.args.setting.now.program

@@ -31,4 +31,4 @@ pub returns-clause-sound : goal.returns-clause-sound
 returns-clause-sound c sound =
     let here = subst (IsSound c.args.setting.now.program c.args.memory.now) (sym c.state.view_is) sound in
     c.in_ok-state.ensures.sound
-    (record { net = here.net; pending = λ q e. here.pending q (and_parts (has_match c.state.inside.agenda.pending q) (not (eq_by_cmp match_cmp c.in_ok-agenda.fired q)) (sym (c.in_ok-agenda.ensures.pending q) ∙ e)).0 })
+    (record { net = here.net; pending = λ q e. here.pending q (and_parts (has_match c.state.inside.agenda.pending q) (not (eq_by_cmp match_cmp c.in_ok-agenda.fired q)) (sym (c.in_ok-agenda.ensures.pending q) ∙ e)).0; reached = here.reached })

@@ -2,7 +2,7 @@ use Rattle.std.proofs.Common.{◌≡◌, ◌∙◌, ◌<◌, ◌^◌, true, List
 use Rattle.rule_model.specs.declared.matched.Match.{Match}
 use Rattle.rule_model.specs.Matches.{has_match}
 use Rattle.retention.specs.Retentions.{has_tag, is_among, is_named, Passes}
-use Rattle.session_laws.specs.Standing.{Awaits, Contents}
+use Rattle.session_laws.specs.Standing.{Awaits, Contents, ReachesNoMore, reached_of}
 use Rattle.session_laws.proofs.Forgotten.{no_keys, safe_fewer, stands_less, stands_same}
 use Rattle.session_laws.proofs.Olds.{named_at}
 use Rattle.session_laws.proofs.Stands.{contents}
@@ -52,4 +52,5 @@ returns-clause-sound c sound =
       pending = λ q e.
           sound.pending q
           (subst (λ (found : List Match). has_match found q ≡ true) (c.in_ok-agenda.ensures.pending ∙ ap (λ (z : Contents). z.agenda.pending) c.state.view_is) e);
+      reached = subst (λ (z : Contents). ReachesNoMore c.args.setting.now.program (reached_of z)) (sym c.state.view_is) sound.reached;
     }

@@ -4,7 +4,7 @@ use Rattle.rule_model.specs.declared.step.Step.TheVariants.{Begin}
 use Rattle.rule_world.specs.Worlds.{stepped}
 use Rattle.retention.specs.Retentions.{is_among}
 use Rattle.session_laws.specs.Leading.{Moves}
-use Rattle.session_laws.specs.Standing.{Awaits, Contents, Course, IsSound}
+use Rattle.session_laws.specs.Standing.{Awaits, Contents, Course, IsSound, ReachesNoMore, reached_by}
 use Rattle.session_laws.proofs.Beginning.{begin_awaits}
 use Rattle.session_laws.proofs.Stands.{contents}
 use Rattle.session.proofs.state.State.with_begin.Goals as goal
@@ -23,7 +23,7 @@ returns-clause-stands c =
 
 pub returns-clause-sound : goal.returns-clause-sound
 returns-clause-sound c = IfOk-weaker c.settled.result _ _
-    (λ s stays sound. let here = subst (IsSound c.args.setting.now.program c.args.memory.now) (sym c.state.view_is) sound in stays (record { net = here.net; pending = here.pending }))
+    (λ s stays sound. let here = subst (IsSound c.args.setting.now.program c.args.memory.now) (sym c.state.view_is) sound in stays (record { net = here.net; pending = here.pending; reached = subst (λ (z : Course). ReachesNoMore c.args.setting.now.program (reached_by z)) (sym c.with_begin.ensures) here.reached }))
     c.settled.ensures.sound
 
 pub returns-clause-tags : goal.returns-clause-tags

@@ -108,10 +108,10 @@ returns-clause-tags c = IfOk-weaker c.settled-2.result _ _ (λ s h. h ∙ ap (λ
 pub returns-clause-sound : goal.returns-clause-sound
 returns-clause-sound c = IfOk-weaker c.settled-2.result _ _
     (λ s stays sound. stays (followed_sound c.args.setting.now c.args.memory.now _ (contents c.state.inside.facts c.state.inside.expiries c.state.inside.clock c.state.inside.course c.state.inside.agenda c.state.inside.next_id c.state.inside.next_tag) _ c.requires.runs
-    (subst (IsSound c.args.setting.now.program c.args.memory.now) (sym c.state.view_is) sound) (c.in_ok-agenda.ensures.shape c.args.setting.now.program) c.in_ok-agenda.ensures.rules))
+    (subst (IsSound c.args.setting.now.program c.args.memory.now) (sym c.state.view_is) sound) (c.in_ok-agenda.ensures.shape c.args.setting.now.program) c.in_ok-agenda.ensures.rules (λ r. r)))
     c.settled-2.ensures.sound
 
 pub returns-then-is_quiet-clause-sound : goal.returns-then-is_quiet-clause-sound
 returns-then-is_quiet-clause-sound c = IfOk-weaker c.settled.result _ _
-    (λ s stays sound. let here = subst (IsSound c.args.setting.now.program c.args.memory.now) (sym c.state.view_is) sound in stays (record { net = here.net; pending = here.pending }))
+    (λ s stays sound. let here = subst (IsSound c.args.setting.now.program c.args.memory.now) (sym c.state.view_is) sound in stays (record { net = here.net; pending = here.pending; reached = here.reached }))
     c.settled.ensures.sound

@@ -13,7 +13,7 @@ use Rattle.session_laws.proofs.Inserting.{present_awaits}
 use Rattle.session_laws.proofs.Members.{got_new}
 use Rattle.session_laws.proofs.Stands.{contents, has_start}
 use Rattle.std.specs.FinMap as map
-use Rattle.session_laws.proofs.Knowing.{followed_sound}
+use Rattle.session_laws.proofs.Knowing.{followed_sound, new_no_more}
 use Rattle.session.proofs.state.State.with_present.Goals as goal
 
 pub invariant_of-state : goal.invariant_of-state
@@ -47,7 +47,9 @@ pub returns-clause-tags : goal.returns-clause-tags
 returns-clause-tags c = IfOk-weaker c.settled.result _ _ (λ s h. h ∙ ap (λ (k : Contents). k.next_tag + 1) c.state.view_is) c.settled.ensures.tags
 
 pub returns-clause-sound : goal.returns-clause-sound
-returns-clause-sound c = IfOk-weaker c.settled.result _ _
+returns-clause-sound c within = IfOk-weaker c.settled.result _ _
     (λ s stays sound. stays (followed_sound c.args.setting.now c.args.memory.now _ (contents c.state.inside.facts c.state.inside.expiries c.state.inside.clock c.state.inside.course c.state.inside.agenda c.state.inside.next_id c.state.inside.next_tag) _ c.requires.runs
-    (subst (IsSound c.args.setting.now.program c.args.memory.now) (sym c.state.view_is) sound) (c.in_ok-agenda.ensures.shape c.args.setting.now.program) c.in_ok-agenda.ensures.rules))
+    (subst (IsSound c.args.setting.now.program c.args.memory.now) (sym c.state.view_is) sound) (c.in_ok-agenda.ensures.shape c.args.setting.now.program) c.in_ok-agenda.ensures.rules
+    (new_no_more c.args.setting.now.program c.args.fact c.state.inside.course c.in_ok-state-inside.field-0
+    (has_start c.args.setting.now.program c.args.fact c.state.inside.course c.in_ok-state-inside.field-0 c.in_ok-state-inside.ensures.last_starts c.in_ok-state-inside.ensures.promises c.in_ok-state-inside.ensures.begun) within)))
     c.settled.ensures.sound

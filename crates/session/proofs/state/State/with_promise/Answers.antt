@@ -7,7 +7,7 @@ use Rattle.session_laws.specs.declared.memory.Memory.{Memory}
 use Rattle.session_laws.specs.Leading.{Moves}
 use Rattle.session_laws.specs.Standing.{Contents, IsSound}
 use Rattle.session_laws.proofs.Faults.{clock_same}
-use Rattle.session_laws.proofs.Knowing.{followed_sound}
+use Rattle.session_laws.proofs.Knowing.{followed_sound, promise_no_more}
 use Rattle.session_laws.proofs.Promising.{has_promise, promise_awaits}
 use Rattle.session_laws.proofs.Stands.{contents}
 use Rattle.session.proofs.state.State.with_promise.Goals as goal
@@ -30,7 +30,9 @@ returns-clause-stands c =
     c.settled.ensures.stands
 
 pub returns-clause-sound : goal.returns-clause-sound
-returns-clause-sound c = IfOk-weaker c.settled.result _ _
+returns-clause-sound c within = IfOk-weaker c.settled.result _ _
     (λ s stays sound. stays (followed_sound c.args.setting.now c.args.memory.now _ (contents c.state.inside.facts c.state.inside.expiries c.state.inside.clock c.state.inside.course c.state.inside.agenda c.state.inside.next_id c.state.inside.next_tag) _ c.requires.runs
-    (subst (IsSound c.args.setting.now.program c.args.memory.now) (sym c.state.view_is) sound) (c.in_ok-agenda.ensures.shape c.args.setting.now.program) c.in_ok-agenda.ensures.rules))
+    (subst (IsSound c.args.setting.now.program c.args.memory.now) (sym c.state.view_is) sound) (c.in_ok-agenda.ensures.shape c.args.setting.now.program) c.in_ok-agenda.ensures.rules
+    (promise_no_more c.args.setting.now.program c.args.entry.0 c.args.from c.state.inside.course c.in_ok-state-inside.field-0
+    (has_promise c.args.entry.0 c.args.from c.state.inside.course c.in_ok-state-inside.field-0 (simp (to_z-of_z c.ranges.from) at c.in_ok-state-inside.ensures.promises) c.in_ok-state-inside.ensures.last_starts c.in_ok-state-inside.ensures.begun) within)))
     c.settled.ensures.sound

@@ -1,0 +1,11 @@
+use Rattle.std.proofs.Common.{◌≡◌, ◌∙◌, List, sym, ap}
+use Rattle.std.proofs.lemmas.Result.{IfOk-weaker}
+use Rattle.image_laws.specs.Images.{match_fired}
+use Rattle.rete_net.specs.declared.changes.RuleChange.{RuleChange}
+use Rattle.session_laws.specs.Restoring.{comes_by}
+use Rattle.session.proofs.restoring.agenda_of.Goals as goal
+
+pub returns-clause-came : goal.returns-clause-came
+returns-clause-came c = IfOk-weaker c.with_fired.result _ _
+    (λ a are m i. sym (ap (λ (cs : List RuleChange). comes_by cs (match_fired m)) c.as_slice.ensures.value) ∙ sym (c.in_ok-came.ensures (match_fired m)) ∙ are.there m i)
+    c.with_fired.ensures.marked

@@ -1,0 +1,33 @@
+use Rattle.std.proofs.Common.{◌≡◌, ◌==◌, ◌&&◌, ◌||◌, not, true, false, List, take, sym, subst, rules}
+use Rattle.std.specs.Ordering.{eq_by_cmp}
+use Rattle.row_delta.specs.declared.row.Row.{Row}
+use Rattle.row_delta.specs.Rows.{row_cmp}
+use Rattle.checkpoint.specs.declared.image.FiredMatch.{FiredMatch}
+use Rattle.rule_model.specs.declared.matched.Match.{Match}
+use Rattle.rule_model.specs.Matches.{has_match}
+use Rattle.session_laws.specs.Restoring.{AreMarking}
+use Rattle.session_laws.proofs.Adding.{in_at, next_taken, one_marked}
+use Rattle.session.proofs.restoring.with_fired.Goals as goal
+
+pub returns-then-not-contains-clause-unfit : goal.returns-then-not-contains-clause-unfit
+returns-then-not-contains-clause-unfit c unfit =
+    let f : FiredMatch = c.matched-item.result in
+    let came = c.args.came.now.keys in
+    let out : has_match came (record { rule = f.rule; row = c.in_ok-copy.copy }) ≡ false = search rules in (
+      f,
+      in_at c.args.fired.now c.loop-matched.matched-index f c.loop-matched-test.true c.matched-item.is,
+      subst (λ (r : Row). has_match came (record { rule = f.rule; row = r }) ≡ false) c.in_ok-copy.ensures out,
+    )
+
+pub loop-matched-preserved : goal.loop-matched-preserved
+loop-matched-preserved c =
+    let f : FiredMatch = c.matched-item.result in
+    let came = c.args.came.now.keys in
+    let now = c.loop-matched.agenda in
+    let next = c.in_ok-agenda.agenda in
+    let there : has_match came (record { rule = f.rule; row = c.in_ok-copy.copy }) ≡ true = search rules in
+    subst (AreMarking came c.args.agenda next) (sym (next_taken c.args.fired.now c.loop-matched.matched-index f c.loop-matched-test.true c.matched-item.is))
+    (one_marked came c.args.agenda now next (take c.loop-matched.matched-index c.args.fired.now) f c.loop-matched.invariant
+    (subst (λ (r : Row). has_match came (record { rule = f.rule; row = r }) ≡ true) c.in_ok-copy.ensures there) c.in_ok-agenda.ensures.saliences
+    (subst (λ (r : Row). (m : Match) → has_match next.pending m ≡ (has_match now.pending m && not (f.rule.0 == m.rule.0 && eq_by_cmp row_cmp r m.row))) c.in_ok-copy.ensures c.in_ok-agenda.ensures.pending)
+    (subst (λ (r : Row). (m : Match) → has_match next.fired m ≡ (has_match now.fired m || (f.rule.0 == m.rule.0 && eq_by_cmp row_cmp r m.row))) c.in_ok-copy.ensures c.in_ok-agenda.ensures.fired))

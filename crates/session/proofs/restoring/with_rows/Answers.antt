@@ -1,0 +1,29 @@
+use Rattle.std.proofs.Common.{◌≡◌, ◌∙◌, refl}
+use Rattle.session_laws.proofs.Adding.{added_pending, added_turn, none_added}
+use Rattle.session_laws.proofs.Rules.{nothing_left}
+use Rattle.session.proofs.restoring.with_rows.Goals as goal
+
+pub loop-change-init : goal.loop-change-init
+loop-change-init c = record {
+  saliences = refl;
+  adding = none_added c.args.agenda c.args.changes.items c.into_iter-change-iterator.result.rest.items c.into_iter-change-iterator.ensures.into_iter_gives.0;
+}
+
+pub loop-change-preserved : goal.loop-change-preserved
+loop-change-preserved c = record {
+  saliences = c.in_ok-agenda.ensures.saliences ∙ c.loop-change.invariant.saliences;
+  adding = λ none.
+      added_turn c.args.agenda c.loop-change.agenda c.in_ok-agenda.agenda c.args.changes.items c.loop-change.change-iterator.rest.items c.next.new.self.rest.items c.in-Some.change c.in-Some.ensures.steps.0
+      c.in_ok-agenda.ensures (c.loop-change.invariant.adding none);
+}
+
+pub returns-clause-saliences : goal.returns-clause-saliences
+returns-clause-saliences c = c.loop-change.invariant.saliences
+
+pub returns-clause-pending : goal.returns-clause-pending
+returns-clause-pending c none =
+    let rest = c.loop-change.change-iterator.rest in
+    added_pending c.args.agenda c.loop-change.agenda c.args.changes.items rest.items (nothing_left rest.items rest.len rest.ok.0 c.in-None.ensures.steps.0) (c.loop-change.invariant.adding none)
+
+pub returns-clause-fired : goal.returns-clause-fired
+returns-clause-fired c none = (c.loop-change.invariant.adding none).fired

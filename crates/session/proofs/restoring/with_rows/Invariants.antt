@@ -1,0 +1,10 @@
+use Rattle.std.proofs.Common.{◌≡◌}
+use Rattle.session_laws.specs.Restoring.{NoneGo}
+use Rattle.session_laws.proofs.Adding.{AreAdding}
+use Rattle.session.proofs.restoring.with_rows.Given as goal
+
+abbrev pub invariant-loop-change : goal.invariant-loop-change
+invariant-loop-change l = record {
+  saliences : l.agenda.saliences ≡ l.fn.agenda.saliences;
+  adding : NoneGo l.fn.changes.items → AreAdding l.fn.agenda l.fn.changes.items l.agenda l.change-iterator.rest.items;
+}
