@@ -166,6 +166,7 @@ module _ (p : Program) (table : LifeTable) (image : Image) (plain : FitsPlainly 
       clock = sym clock;
       reached = sym (ap (λ ls. reached_in ls moment.promises.now) last_starts ∙ ap (reached_in image.last_starts) promises);
     };
+    begun = plain.lawful.clock_low;
     orderly = image_orderly;
     floors = λ entry. floor_on p empty_snapshot here entry plain.lawful.clock_low (plain.lawful.last_low entry) (plain.lawful.promise_low entry);
     at_hand = λ tag f e known. let i = held_there here tag.0 f e in ap (map_of.get (stored image.facts)) (sym i.1) ∙ image_held.from f i.0;
