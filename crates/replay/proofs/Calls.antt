@@ -1,7 +1,7 @@
 -- What a call does, by what its parts did.
 use Rattle.std.proofs.Common.{◌≡◌, ◌≢◌, ◌⊎◌, inl, inr, ◌<◌, ◌≤◌, ◌^◌, ℕ, List, [], length, Option, Some, None, option_map, refl, sym, ap, subst, ◌∙◌, arith, String, Global}
 use Rattle.std.specs.Prelude.{IfSome}
-use Rattle.fx_io.specs.Outside.{Rose, append, AppendsFront, count_after}
+use Rattle.fx_io.specs.Outside.{Rose, append, AppendsFront, count_after, IsFound}
 use Rattle.command_words.specs.declared.asking.Asked.{Asked}
 use Rattle.command_words.specs.declared.asking.Asked.TheVariants.{RuleFile, Load}
 use Rattle.command_words.specs.declared.asking.Mode.{Mode}
@@ -22,7 +22,7 @@ use Rattle.replay.specs.declared.refusal.Refusal.{Refusal}
 use Rattle.replay.specs.declared.refused_checkpoint.CheckpointCode.{CheckpointCode}
 use Rattle.replay.specs.declared.rule_file.Reading.{Reading}
 use Rattle.replay.specs.declared.rule_file.Reading.TheVariants.{Accepted, Refused}
-use Rattle.replay.specs.Beginnings.{RunsIn}
+use Rattle.replay.specs.Beginnings.{RefusesFor, RunsIn}
 use Rattle.replay.specs.Calls.{ShelfSeen, Outside, seen, wanted_told, TellsScript, MayEnd, RunOf, Says}
 use Rattle.replay.specs.Checkpoints.{checkpoint_text}
 use Rattle.replay.specs.Notices.{usage}
@@ -126,6 +126,19 @@ refusal_ends : (name : List ℕ) (mode : Mode) (limit : ℕ) (image : Option (Li
 refusal_ends name mode limit image s (inl three) = inr (omega (arith, three), omega (arith, three))
 refusal_ends name mode limit image s (inr both) = inr (omega (arith, both.0), omega (arith, both.1))
 
+-- what rose since a later count rose since an earlier one
+pub rose_since : {a b c : ℕ} → a ≤ b → Rose b c → Rose a c
+rose_since h (inl less) = inl (omega (arith, h, less))
+rose_since h (inr most) = inr most
+
+pub refuses_since : {told told' : Option Files} {before between after : List ℕ → ℕ} {mode : Mode} {name : Option (List ℕ)} → told' ≡ told → ((it : List ℕ) → before it ≤ between it)
+    → RefusesFor told' between after mode name → RefusesFor told before after mode name
+refuses_since {told} {told'} {before} {between} {after} {mode} {name} same counts (runs, it, named, cause) = (runs, it, named, here cause)
+  where
+    here : Rose (between it) (after it) ⊎ IsFound told' it → Rose (before it) (after it) ⊎ IsFound told it
+    here (inl rose) = inl (rose_since (counts it) rose)
+    here (inr found) = inr (subst (λ (t : Option Files). IsFound t it) same found)
+
 -- a rule file that is missing or refused
 pub refused_done : (gives : Gives) (fires : Fires) (counts : Counts) (name : List ℕ) (mode : Mode) (limit : ℕ) (image : Option (List ℕ)) (refusal : Refusal) (first last : ShelfSeen) (left : Option (List ℕ))
     (given faults : ℕ) (before after : Option (List ℕ)) (failed failed' s : ℕ) → (s ≤ 4 → (after ≡ append before (refusal_text refusal)) × (s ≡ 3)) → (5 ≤ s → AppendsFront before after (refusal_text refusal))
@@ -188,6 +201,9 @@ usage_done gives fires counts first last left given faults before after failed f
     other (inr six) (inl e) = omega (arith, six, e)
     other (inr six) (inr (inl e)) = omega (arith, six, e)
     other (inr six) (inr (inr e)) = omega (arith, six, e)
+
+pub load_not_nine : (s : ℕ) → (s ≤ 1) ⊎ (s ≡ 4) ⊎ ((6 ≤ s) × (s ≤ 7)) → s ≢ 9
+load_not_nine s answers nine = grind (arith, answers, nine)
 
 -- a load
 pub load_done : (gives : Gives) (fires : Fires) (counts : Counts) (number limit : ℕ) (w : Wanted) (first last : ShelfSeen) (left : Option (List ℕ)) (given faults : ℕ)
