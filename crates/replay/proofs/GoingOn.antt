@@ -11,9 +11,9 @@ use Rattle.script_run.specs.Firings.{Gives, Fires, Counts}
 use Rattle.script_run.specs.Parts.{first_part, part_at, run_on}
 use Rattle.script_run.specs.Run.{Outcome, RunSetting, RunState, setting_of, then_run, whole_run}
 use Rattle.script_run.proofs.Joined.{script_joined, whole_behind}
-use Rattle.replay.specs.Behind.{GoesOn, IsImageOfRun}
+use Rattle.replay.specs.Behind.{GoesOn, IsImageOfRun, IsRest}
 use Rattle.replay.specs.Report.{Report, Reports, IsBehind, IsReport, IsRunBehind, IsRunStatus, outcome_report, run_status}
-use Rattle.replay.specs.Wanted.{resumes}
+use Rattle.replay.specs.Wanted.{Wanted, usage_line, refuses, refuses_checkpoint, runs, resumes, saves, saves_on, accepts, tells_lives, proves, sums_up}
 use Rattle.replay.proofs.Tables.{by_table}
 
 module _ (gives : Gives) (fires : Fires) (counts : Counts) (limit : ℕ) (p : Program) (table : LifeTable) (first second : List ℕ) (image : Image)
@@ -37,7 +37,7 @@ module _ (gives : Gives) (fires : Fires) (counts : Counts) (limit : ℕ) (p : Pr
 
   by_report : (before after : Option (List ℕ)) (status : ℕ) (r : Report) → Reports before after status r → status ≤ 4
       → IsBehind p table image IsRunStatus (IsRunBehind gives fires counts limit p table image second) r
-      → GoesOn gives fires counts limit p table first second before after status
+      → IsRest gives fires counts limit p table first second before after status
   by_report before after status r said low (inl unfit) = absurd (let nine : r.status ≡ 9 = ap (λ (q : Report). q.status) unfit.1 in omega (arith, nine, low, said.1))
   by_report before after status r said low (inr fits) =
       let behind : r ≡ outcome_report rest = fits.2 is.state.world is.lawful is.is_image in
@@ -48,8 +48,23 @@ module _ (gives : Gives) (fires : Fires) (counts : Counts) (limit : ℕ) (p : Pr
         ends = said.1 ∙ ap (λ (q : Report). q.status) behind ∙ sym (ap (λ (o : Outcome). run_status o.ended) joined);
       }
 
-  pub goes_on : (before after : Option (List ℕ)) (status : ℕ) (r : Report) → AreLives p table → IsReport gives fires counts (resumes limit image p) second r → Reports before after status r → status ≤ 4
-      → GoesOn gives fires counts limit p table first second before after status
-  goes_on before after status r are report said low =
+  pub rest_so : (before after : Option (List ℕ)) (status : ℕ) (r : Report) → AreLives p table → IsReport gives fires counts (resumes limit image p) second r → Reports before after status r → status ≤ 4
+      → IsRest gives fires counts limit p table first second before after status
+  rest_so before after status r are report said low =
       by_report before after status r said low
       (by_table p (λ (t : LifeTable). IsBehind p t image IsRunStatus (IsRunBehind gives fires counts limit p t image second) r) report.0 table report.1 are report.2)
+
+pub goes_on : (gives : Gives) (fires : Fires) (counts : Counts) (w : Wanted) (first second : List ℕ) (before after : Option (List ℕ)) (status : ℕ) (r : Report)
+    → IsReport gives fires counts w second r → Reports before after status r → status ≤ 4 → GoesOn gives fires counts w first second before after status
+goes_on gives fires counts (resumes limit image p) first second before after status r report said low =
+    λ table are is. rest_so gives fires counts limit p table first second image is before after status r are report said low
+goes_on gives fires counts usage_line first second before after status r report said low = tt
+goes_on gives fires counts (refuses refusal) first second before after status r report said low = tt
+goes_on gives fires counts (refuses_checkpoint code) first second before after status r report said low = tt
+goes_on gives fires counts (runs limit p) first second before after status r report said low = tt
+goes_on gives fires counts (saves limit rules p) first second before after status r report said low = tt
+goes_on gives fires counts (saves_on limit image p) first second before after status r report said low = tt
+goes_on gives fires counts (accepts p) first second before after status r report said low = tt
+goes_on gives fires counts (tells_lives p) first second before after status r report said low = tt
+goes_on gives fires counts (proves p) first second before after status r report said low = tt
+goes_on gives fires counts (sums_up number limit p) first second before after status r report said low = tt

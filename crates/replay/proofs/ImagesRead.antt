@@ -10,11 +10,15 @@ use Rattle.checkpoint.proofs.Exact.{AreOctets}
 use Rattle.checkpoint.proofs.Whole.{decoded_takes, decoded_again}
 use Rattle.command_words.specs.declared.asking.Mode.{Mode}
 use Rattle.command_words.specs.declared.asking.Mode.TheVariants.{Run, Check, Lives, Proof, Save}
+use Rattle.rule_lives.specs.Keeping.{AreLives}
+use Rattle.rule_model.specs.declared.life.LifeTable.{LifeTable}
 use Rattle.rule_model.specs.declared.program.Program.{Program}
 use Rattle.replay.specs.declared.beginning.Beginning.TheVariants.{First, Behind}
+use Rattle.replay.specs.declared.beginning.Beginning.{Beginning}
 use Rattle.replay.specs.declared.refused_checkpoint.CheckpointCode.{CheckpointCode}
 use Rattle.replay.specs.declared.refused_checkpoint.CheckpointCode.TheVariants.{TooLong, BadImage, OtherRules}
-use Rattle.replay.specs.Beginnings.{RunsIn}
+use Rattle.replay.specs.Beginnings.{CanBegin, RunsIn}
+use Rattle.replay.specs.Behind.{IsUnread}
 use Rattle.replay.specs.Checkpoints.{Checkpoint, checkpoint_of, has_image, image_limit, is_refused, of_decoded}
 use Rattle.replay.specs.Wanted.{wanted_at, wanted_behind, refuses_checkpoint}
 
@@ -86,3 +90,13 @@ refused_is Lives limit found code p (inl run) is = absurd cc
 refused_is Lives limit found code p (inr save) is = absurd cc
 refused_is Proof limit found code p (inl run) is = absurd cc
 refused_is Proof limit found code p (inr save) is = absurd cc
+
+-- where the checkpoint that is named is refused, no run begins
+pub unread_at : (mode : Mode) (limit : ℕ) (b : Beginning) (p : Program) → IsUnread (wanted_at mode limit b p) → (table : LifeTable) → AreLives p table → CanBegin p table b → ⊥
+unread_at Run limit (First rules) p h = absurd h
+unread_at Run limit (Behind image) p h = h
+unread_at Save limit (First rules) p h = absurd h
+unread_at Save limit (Behind image) p h = h
+unread_at Check limit b p h = absurd h
+unread_at Lives limit b p h = absurd h
+unread_at Proof limit b p h = absurd h

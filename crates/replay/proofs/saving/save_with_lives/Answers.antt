@@ -10,8 +10,8 @@ use Rattle.replay.proofs.Calls.{checkpoint_done, nothing_done, says_low}
 use Rattle.replay.proofs.Runs.{ends_limited, ends_saved, failing, image_status, limited_so, may_save, none_rises, not_nine_limited, refused_so, save_done, save_failed, saved_so, unfit_save}
 use Rattle.replay.proofs.saving.save_with_lives.Goals as goal
 
-pub returns-in-Ok-None : goal.returns-in-Ok-None
-returns-in-Ok-None g c name image first last h =
+pub returns-in-Ok-None-clause-run : goal.returns-in-Ok-None-clause-run
+returns-in-Ok-None-clause-run g c name image first last h =
     let done = rw (c.in-Ok-None.field-0-is, c.in-Ok.ensures.program, c.in-Ok.ensures.table, c.behind.ensures, c.part.ensures) at c.in-Ok-None.ensures.done in
     save_done g.E.Engine.gives g.E.Engine.fires g.E.Engine.counts name image c.args.limit c.args.program c.args.lives c.args.beginning first last _ _ _ _ _ _ _ _ _ _ c.requires.lives c.in-Ok.ensures.fits Limit _
     (inl (
@@ -23,8 +23,8 @@ returns-in-Ok-None g c name image first last h =
     (ends_limited c.say_limit.ensures.answers) c.say_limit.ensures.cause (may_save _ _ _ name c.args.limit image c.args.beginning h)
     (rw c.in-Ok-None.field-0-is at c.in-Ok-None.ensures.taken) (rw c.in-Ok-None.field-0-is at c.in-Ok-None.ensures.nothing_left)
 
-pub returns-in-Ok-Some : goal.returns-in-Ok-Some
-returns-in-Ok-Some g c name image first last h =
+pub returns-in-Ok-Some-clause-run : goal.returns-in-Ok-Some-clause-run
+returns-in-Ok-Some-clause-run g c name image first last h =
     let done = rw (c.in-Ok-Some.field-0-is, c.in-Ok.ensures.program, c.in-Ok.ensures.table, c.behind.ensures, c.part.ensures) at c.in-Ok-Some.ensures.done in
     let program = rw (c.in-Ok-Some.field-0-is, c.in-Ok.ensures.program) at c.in-Ok-Some.ensures.program in
     let table = rw (c.in-Ok-Some.field-0-is, c.in-Ok.ensures.table) at c.in-Ok-Some.ensures.table in
@@ -43,21 +43,30 @@ returns-in-Ok-Some g c name image first last h =
     (ends_saved c.in-Ok-Some.at.faulted c.write_image.ensures.answers) c.write_image.ensures.cause (may_save _ _ _ name c.args.limit image c.args.beginning h)
     (rw c.in-Ok-Some.field-0-is at c.in-Ok-Some.ensures.taken) (rw c.in-Ok-Some.field-0-is at c.in-Ok-Some.ensures.nothing_left)
 
-pub returns-in-Err : goal.returns-in-Err
-returns-in-Err g c name image first last h =
+pub returns-in-Err-clause-run : goal.returns-in-Err-clause-run
+returns-in-Err-clause-run g c name image first last h =
     let long = rw (c.in-Ok.ensures.program, c.in-Ok.ensures.table, c.behind.ensures, c.part.ensures) at c.in-Err.ensures.long in
     rw c.status_of_fault.ensures (save_failed g.E.Engine.gives g.E.Engine.fires g.E.Engine.counts name image c.args.limit c.args.program c.args.lives c.args.beginning first last _ _ _ _ _ _ _ _ _ _ c.requires.lives c.in-Ok.ensures.fits c.in-Err.fault
     c.in-Err.ensures.taken (λ is. c.in-Err.ensures.read (ap failing is)) (λ is. none_rises (c.in-Err.ensures.write (ap failing is)))
     (λ w begins is. long w (c.in-Ok.ensures.stands w begins) (ap failing is)) (λ is. c.in-Err.ensures.over (ap failing is)))
 
-pub returns-in-Err-Unfit : goal.returns-in-Err-Unfit
-returns-in-Err-Unfit g c name image first last h =
+pub returns-in-Err-Unfit-clause-run : goal.returns-in-Err-Unfit-clause-run
+returns-in-Err-Unfit-clause-run g c name image first last h =
     let no = c.in-Err-Unfit.ensures.unfit (ap Err c.in-Err-Unfit.field-0-is) in
     checkpoint_done g.E.Engine.gives g.E.Engine.fires g.E.Engine.counts name Save c.args.limit image (wanted_at Save c.args.limit c.args.beginning c.args.program) Unfit first last _ _ _ _ _ _ _ _
     (unfit_save g.E.Engine.gives g.E.Engine.fires g.E.Engine.counts c.args.limit c.args.program c.args.lives c.args.beginning c.requires.lives no)
     c.refuse_checkpoint.ensures.said c.refuse_checkpoint.ensures.front c.refuse_checkpoint.ensures.answers c.refuse_checkpoint.ensures.cause
     (refused_so c.args.limit c.args.beginning c.args.program c.args.lives _ Save image _ _ name no h)
 
-pub returns-in-Err-NoMemory : goal.returns-in-Err-NoMemory
-returns-in-Err-NoMemory g c name image first last h =
+pub returns-in-Err-NoMemory-clause-run : goal.returns-in-Err-NoMemory-clause-run
+returns-in-Err-NoMemory-clause-run g c name image first last h =
     nothing_done g.E.Engine.gives g.E.Engine.fires g.E.Engine.counts _ _ first last _ _ _ _ _ 7 (inr (omega arith, omega arith)) (inl refl)
+
+pub returns-in-Ok-None-clause-unread : goal.returns-in-Ok-None-clause-unread
+returns-in-Ok-None-clause-unread g c no = absurd (no c.in-Ok.ensures.fits)
+
+pub returns-in-Ok-Some-clause-unread : goal.returns-in-Ok-Some-clause-unread
+returns-in-Ok-Some-clause-unread g c no = absurd (no c.in-Ok.ensures.fits)
+
+pub returns-in-Err-clause-unread : goal.returns-in-Err-clause-unread
+returns-in-Err-clause-unread g c no = absurd (no c.in-Ok.ensures.fits)

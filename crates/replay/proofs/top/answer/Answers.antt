@@ -7,7 +7,9 @@ use Rattle.replay.specs.Calls.{seen_of_shelf, wanted_told}
 use Rattle.replay.specs.Refusals.{reading}
 use Rattle.replay.specs.Wanted.{refuses, refuses_checkpoint, rules_in, wanted_at, wanted_from, wanted_by_name}
 use Rattle.replay.proofs.Calls.{by_told, told_is, refused_done, refuses_since, rose_since, checkpoint_done, nothing_done, not_refused}
-use Rattle.replay.proofs.Reports.{no_file, a_file, refused_file, rules_found}
+use Rattle.replay.proofs.Reports.{no_file, a_file, accepted_file, refused_file}
+use Rattle.replay.specs.Behind.{IsUnread}
+use Rattle.replay.proofs.ImagesRead.{unread_at}
 use Rattle.replay.proofs.top.answer.Goals as goal
 
 pub returns-in-Err-Missing-clause-run : goal.returns-in-Err-Missing-clause-run
@@ -54,9 +56,7 @@ returns-in-Ok-clause-run g c =
     (c.do_mode.ensures.run c.args.name.now image (seen_of_shelf (g.F.Shelf.files c.args.shelf.now) (g.F.Shelf.faults c.args.shelf.now) (g.F.Shelf.misses c.args.shelf.now)) _
     (rw same at c.in-Ok-2.ensures.asked))
     (told_is (g.F.Shelf.files c.args.shelf.now) (λ files. wanted_by_name (wanted_from mode limit image files (rules_in (files c.args.name.now))) files c.args.name.now) (wanted_at mode limit c.in-Ok-2.beginning p)
-    (λ files told. a_file (wanted_from mode limit image files (rules_in (files c.args.name.now))) c.args.name.now _ files bytes (Accepted p) told c.in-Ok.ensures.found c.in-Ok.ensures.bytes is
-    ∙ ap (λ (rules : List ℕ). wanted_from mode limit image files rules p) (rules_found c.args.name.now _ files bytes told c.in-Ok.ensures.found c.in-Ok.ensures.bytes)
-    ∙ c.in-Ok-2.ensures.found files (same ∙ told) limit p))
+    (λ files told. accepted_file mode limit image c.args.name.now _ files bytes p told c.in-Ok.ensures.found c.in-Ok.ensures.bytes is ∙ c.in-Ok-2.ensures.found files (same ∙ told) limit p))
 
 pub returns-in-Err-Refused-clause-run : goal.returns-in-Err-Refused-clause-run
 unfolding file_limit
@@ -75,9 +75,7 @@ returns-in-Err-Refused-clause-run g c =
     c.refuse_checkpoint.ensures.said c.refuse_checkpoint.ensures.front c.refuse_checkpoint.ensures.answers c.refuse_checkpoint.ensures.cause
     (inr (refuses_since same c.read_whole.ensures.miss_counts (c.in-Err-Refused.ensures.cause code is_code))))
     (told_is (g.F.Shelf.files c.args.shelf.now) (λ files. wanted_by_name (wanted_from mode limit image files (rules_in (files c.args.name.now))) files c.args.name.now) (refuses_checkpoint code)
-    (λ files told. a_file (wanted_from mode limit image files (rules_in (files c.args.name.now))) c.args.name.now _ files bytes (Accepted p) told c.in-Ok.ensures.found c.in-Ok.ensures.bytes is
-    ∙ ap (λ (rules : List ℕ). wanted_from mode limit image files rules p) (rules_found c.args.name.now _ files bytes told c.in-Ok.ensures.found c.in-Ok.ensures.bytes)
-    ∙ c.in-Err-Refused.ensures.refused code is_code files (same ∙ told) limit p))
+    (λ files told. accepted_file mode limit image c.args.name.now _ files bytes p told c.in-Ok.ensures.found c.in-Ok.ensures.bytes is ∙ c.in-Err-Refused.ensures.refused code is_code files (same ∙ told) limit p))
 
 pub returns-in-Err-ReadFault-2-clause-run : goal.returns-in-Err-ReadFault-2-clause-run
 returns-in-Err-ReadFault-2-clause-run g c =
@@ -93,3 +91,15 @@ returns-in-Ok-clause-untouched g c three =
     absurd (not_refused c.args.plan.mode c.args.plan.limit c.in-Ok-2.beginning c.in-Ok-Accepted.program
     (c.do_mode.ensures.run c.args.name.now (option_map (λ it. it.now) c.args.image) (seen_of_shelf (g.F.Shelf.files c.args.shelf.now) (g.F.Shelf.faults c.args.shelf.now) (g.F.Shelf.misses c.args.shelf.now))
     (seen_of_shelf (g.F.Shelf.files c.args.shelf.now) (g.F.Shelf.faults c.args.shelf.now) (g.F.Shelf.misses c.args.shelf.now)) (rw c.read_whole.ensures.files at c.in-Ok-2.ensures.asked)) three)
+
+pub returns-in-Ok-clause-unread : goal.returns-in-Ok-clause-unread
+unfolding file_limit
+returns-in-Ok-clause-unread g c files told refused =
+    let image = option_map (λ it. it.now) c.args.image in
+    let mode = c.args.plan.mode in
+    let limit = c.args.plan.limit in
+    let p = c.in-Ok-Accepted.program in
+    let bytes = c.in-Ok.file.items in
+    let is : reading bytes ≡ Accepted p = ap reading (sym c.deref.ensures.value) ∙ sym c.in-Ok-Accepted.ensures.reading ∙ c.in-Ok-Accepted.field-0-is in
+    c.do_mode.ensures.unread (unread_at mode limit c.in-Ok-2.beginning p (subst IsUnread
+    (accepted_file mode limit image c.args.name.now _ files bytes p told c.in-Ok.ensures.found c.in-Ok.ensures.bytes is ∙ c.in-Ok-2.ensures.found files (c.read_whole.ensures.files ∙ told) limit p) refused))

@@ -36,7 +36,7 @@ pub returns-in-Run-clause-untouched : goal.returns-in-Run-clause-untouched
 returns-in-Run-clause-untouched g c not_save nine = c.run_program.ensures.untouched nine
 
 pub returns-in-Save-clause-run : goal.returns-in-Save-clause-run
-returns-in-Save-clause-run g c name image first last h = rw c.in-Save.is (c.save_program.ensures name image first last (rw c.in-Save.is at h))
+returns-in-Save-clause-run g c name image first last h = rw c.in-Save.is (c.save_program.ensures.run name image first last (rw c.in-Save.is at h))
 
 pub returns-in-Save-clause-no_run : goal.returns-in-Save-clause-no_run
 returns-in-Save-clause-no_run g c no = absurd (no (inr c.in-Save.is))

@@ -1,6 +1,5 @@
-use Rattle.std.proofs.Common.{◌≡◌, sym, subst, ◌∙◌}
-use Rattle.replay.specs.Report.{IsReport}
-use Rattle.replay.specs.Wanted.{Wanted}
+use Rattle.std.proofs.Common.{subst}
+use Rattle.replay.specs.Behind.{IsUnread}
 use Rattle.replay.proofs.GoingOn.{goes_on}
 use Rattle.replay.proofs.Calls.{wanted_is, written_told, long_told, stopped_told, refusal_told, written_no_script, written_no_file, completes, completes_unread, completes_load}
 use Rattle.replay.proofs.top.replay.Goals as goal
@@ -96,8 +95,11 @@ returns-in-Ok-clause-nothing_left g c =
     run.nothing_left
 
 pub returns-in-Ok-clause-goes_on : goal.returns-in-Ok-clause-goes_on
-returns-in-Ok-clause-goes_on g c files first second limit image p table told tells wants are is low =
+returns-in-Ok-clause-goes_on g c files first second told tells low =
     let run = rw c.in-Ok.ensures.asks at c.do_asked.ensures.run in
     let written = (written_told run files second told tells).exact low in
-    let report = subst (λ (w : Wanted). IsReport g.E.Engine.gives g.E.Engine.fires g.E.Engine.counts w second written.0) (sym (wanted_is c.args.words.now files) ∙ wants) written.1 in
-    goes_on g.E.Engine.gives g.E.Engine.fires g.E.Engine.counts limit p table first second image is _ _ _ written.0 are report written.2 low
+    rw (wanted_is c.args.words.now files) (goes_on g.E.Engine.gives g.E.Engine.fires g.E.Engine.counts _ first second _ _ _ written.0 written.1 written.2 low)
+
+pub returns-in-Ok-clause-unread : goal.returns-in-Ok-clause-unread
+returns-in-Ok-clause-unread g c files told refused =
+    c.do_asked.ensures.unread files told (rw c.in-Ok.ensures.asks at (subst IsUnread (wanted_is c.args.words.now files) refused))
