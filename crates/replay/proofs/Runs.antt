@@ -113,8 +113,8 @@ tells_save limit (Behind image) p left script h = h
 -- an image that does not fit is refused
 pub refused_so : (limit : ℕ) (b : Beginning) (p : Program) (table : LifeTable) (told : Option (List ℕ → Option (List ℕ))) (mode : Mode) (image : Option (List ℕ)) (misses misses' : List ℕ → ℕ) (name : List ℕ)
     → (CanBegin p table b → ⊥) → IsBeginningFor told mode image b → MayRefuse told misses misses' (RuleFile name mode limit image)
-refused_so limit (First rules) p table told mode image misses misses' name no h = absurd (no tt)
-refused_so limit (Behind i) p table told mode image misses misses' name no h = inr (h.0, h.1, h.2, inr h.3)
+refused_so limit (First rules) p table told mode image misses misses' name never h = absurd (never tt)
+refused_so limit (Behind i) p table told mode image misses misses' name never h = inr (h.0, h.1, h.2, inr h.3)
 
 module _ (gives : Gives) (fires : Fires) (counts : Counts) (limit : ℕ) (p : Program) (table : LifeTable) (are : AreLives p table) (script : List ℕ) where
   pub run_report : (b : Beginning) (r : Report) → CanBegin p table b → IsRunStatus r.status
@@ -137,7 +137,7 @@ module _ (gives : Gives) (fires : Fires) (counts : Counts) (limit : ℕ) (p : Pr
       here : (t : LifeTable) (r : Report) → CanBegin p t (Behind image)
           → ((w : World) → BeginsIn p t (Behind image) w → AppendsFront before after (run_on (setting_of gives fires counts limit p t) w image.run (lines_of script)).bytes)
           → IsBehindSome p t image (IsRunBehind gives fires counts limit p t image script) r → AppendsFront before after r.bytes
-      here t r fits h (inl no) = absurd (no.0 fits)
+      here t r fits h (inl never) = absurd (never.0 fits)
       here t r fits h (inr some) = rw some.4 (h some.1 (some.2, some.3))
 
   pub save_report : (b : Beginning) (r : Report) → CanBegin p table b → IsSaveStatus r.status
@@ -337,8 +337,8 @@ module _ (gives : Gives) (fires : Fires) (counts : Counts) (name : List ℕ) (im
       not_limit low (inr others) = absurd (grind (arith, low, others))
 
       of_end : {P : Type 0} (ended : Ended) → ended ≢ Limit → AtEnd ended P → P
-      of_end (Script faulted) no h = h
-      of_end Limit no h = absurd (no refl)
+      of_end (Script faulted) never h = h
+      of_end Limit never h = absurd (never refl)
 
       at_end_so : {P : Type 0} → s ≤ 1 → AtEnd e P → P
       at_end_so low h = of_end e (not_limit low answers) h
@@ -383,24 +383,19 @@ module _ (gives : Gives) (fires : Fires) (counts : Counts) (name : List ℕ) (im
 -- an image does not fit
 pub unfit_run : (gives : Gives) (fires : Fires) (counts : Counts) (limit : ℕ) (p : Program) (table : LifeTable) (b : Beginning) → AreLives p table → (CanBegin p table b → ⊥)
     → (script : List ℕ) → IsReport gives fires counts (wanted_at Run limit b p) script (checkpoint_report Unfit)
-unfit_run gives fires counts limit p table (First rules) are no script = absurd (no tt)
-unfit_run gives fires counts limit p table (Behind image) are no script = (table, are, inl (no, refl))
+unfit_run gives fires counts limit p table (First rules) are never script = absurd (never tt)
+unfit_run gives fires counts limit p table (Behind image) are never script = (table, are, inl (never, refl))
 
 pub unfit_save : (gives : Gives) (fires : Fires) (counts : Counts) (limit : ℕ) (p : Program) (table : LifeTable) (b : Beginning) → AreLives p table → (CanBegin p table b → ⊥)
     → (script : List ℕ) → IsReport gives fires counts (wanted_at Save limit b p) script (checkpoint_report Unfit)
-unfit_save gives fires counts limit p table (First rules) are no script = absurd (no tt)
-unfit_save gives fires counts limit p table (Behind image) are no script = (table, are, inl (no, refl))
+unfit_save gives fires counts limit p table (First rules) are never script = absurd (never tt)
+unfit_save gives fires counts limit p table (Behind image) are never script = (table, are, inl (never, refl))
 
 -- a checkpoint may be refused where an image is to be written
 pub may_save : (told : Option (List ℕ → Option (List ℕ))) (misses misses' : List ℕ → ℕ) (name : List ℕ) (limit : ℕ) (image : Option (List ℕ)) (b : Beginning) → IsBeginningFor told Save image b
     → MayRefuse told misses misses' (RuleFile name Save limit image)
 may_save told misses misses' name limit image (First rules) h = inl (refl, h (inr refl))
 may_save told misses misses' name limit image (Behind i) h = inr (h.0, h.1, h.2, inr h.3)
-
--- of what is told of a run the text and the ending
-pub told_two : {A : Type 0} {P Q R : A → Type 0} {o : Option A} → IfSome o (λ x. P x × Q x × R x) → IfSome o (λ x. P x × Q x)
-told_two {o = None} h = tt
-told_two {o = Some x} h = (h.0, h.1)
 
 -- the statuses of a run that is saved
 pub ends_limited : {e : Ended} {s : ℕ} → (s ≡ 4) ⊎ ((6 ≤ s) × (s ≤ 7)) → ((s ≤ 1) × (e ≢ Limit)) ⊎ (s ≡ 4) ⊎ ((6 ≤ s) × (s ≤ 7)) ⊎ (s ≡ 9)
