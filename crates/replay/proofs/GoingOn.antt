@@ -18,11 +18,11 @@ use Rattle.replay.proofs.Tables.{by_table}
 
 module _ (gives : Gives) (fires : Fires) (counts : Counts) (limit : ℕ) (p : Program) (table : LifeTable) (first second : List ℕ) (image : Image)
     (is : IsImageOfRun gives fires counts limit p table first image) where
-  setting : RunSetting
+  abbrev setting : RunSetting
   setting = setting_of gives fires counts limit p table
 
   -- the second script behind the image
-  rest : Outcome
+  abbrev rest : Outcome
   rest = run_on setting is.state.world image.run (lines_of second)
 
   joined : whole_run setting (lines_of (first ++ second)) ≡ then_run (whole_run setting (lines_of first)).bytes rest

@@ -20,7 +20,7 @@ use Rattle.script_run.specs.declared.turn.Ended.TheVariants.{Script, Limit}
 use Rattle.script_run.specs.declared.turn.Progress.{Progress}
 use Rattle.script_run.specs.Firings.{Gives, Fires, Counts}
 use Rattle.script_run.specs.Parts.{part_at, run_on}
-use Rattle.script_run.specs.Run.{RunState, run as run_lines, setting_of, whole_run}
+use Rattle.script_run.specs.Run.{Outcome, RunState, run as run_lines, setting_of, whole_run}
 use Rattle.script_run.specs.Turns.{Takes, AtEnd, Reaches}
 use Rattle.script_run.specs.Unfinished.{Long, StoppedAtRead}
 use Rattle.script_run.specs.Texts.{limit_text}
@@ -198,18 +198,33 @@ pub limited_so : {E : Type 0} (p : Program) (table : LifeTable) (limit : ℕ) (f
 limited_so p table limit first stands None h = refl
 limited_so p table limit first stands (Some s) h = absurd h
 
+-- the same, as far as the script is told
+pub saved_told : {E : Type 0} (p : Program) (table : LifeTable) (limit : ℕ) (first : RunPart) (stands : E → World → Type 0) (e : E) (progress : Progress) (image : Image) (outcome : List ℕ → Outcome)
+    (left : Option (List ℕ)) (text : List ℕ) (ended : Ended) → image.run ≡ part_at limit first progress → ((w : World) → stands e w → IsImageOf p table w image)
+    → IfSome left (λ bytes. (text ≡ (outcome bytes).bytes) × (ended ≡ (outcome bytes).ended) × Reaches stands (outcome bytes).comes_to (Some (e, progress)))
+    → IfSome left (λ bytes. IsSaved p table limit first (outcome bytes).comes_to (image_report image))
+saved_told p table limit first stands e progress image outcome None text ended run is h = tt
+saved_told p table limit first stands e progress image outcome (Some bytes) text ended run is h = saved_so p table limit first stands e progress (outcome bytes).comes_to image h.2 run is
+
+pub limited_told : {E : Type 0} (p : Program) (table : LifeTable) (limit : ℕ) (first : RunPart) (stands : E → World → Type 0) (outcome : List ℕ → Outcome)
+    (left : Option (List ℕ)) (text : List ℕ) (ended : Ended)
+    → IfSome left (λ bytes. (text ≡ (outcome bytes).bytes) × (ended ≡ (outcome bytes).ended) × Reaches stands (outcome bytes).comes_to None)
+    → IfSome left (λ bytes. IsSaved p table limit first (outcome bytes).comes_to (record { bytes = limit_text limit; status = 4 }))
+limited_told p table limit first stands outcome None text ended h = tt
+limited_told p table limit first stands outcome (Some bytes) text ended h = limited_so p table limit first stands (outcome bytes).comes_to h.2
+
 -- ---- the run of a program
 
 module _ (gives : Gives) (fires : Fires) (counts : Counts) (name : List ℕ) (image : Option (List ℕ)) (limit : ℕ) (p : Program) (table : LifeTable) (b : Beginning) (first last : ShelfSeen)
     (left left' : Option (List ℕ)) (given given' faults faults' : ℕ) (before after : Option (List ℕ)) (failed failed' : ℕ) (are : AreLives p table) (can : CanBegin p table b) where
   -- the run came to the end of the script, or to the limit of firings
-  pub run_done : (e : Ended)
+  pub run_done : (More : World → List ℕ → Type 0) (e : Ended)
       → ((text : List ℕ) × (after ≡ append before text) × ((w : World) → BeginsIn p table b w → IfSome left (λ bytes.
-      (text ≡ (run_on (setting_of gives fires counts limit p table) w (part_of b) (lines_of bytes)).bytes) × (e ≡ (run_on (setting_of gives fires counts limit p table) w (part_of b) (lines_of bytes)).ended))))
+      (text ≡ (run_on (setting_of gives fires counts limit p table) w (part_of b) (lines_of bytes)).bytes) × (e ≡ (run_on (setting_of gives fires counts limit p table) w (part_of b) (lines_of bytes)).ended) × More w bytes)))
       → ((n : ℕ) × (given' ≡ count_after given n) × AtEnd e (n ≤ 2 ^ 30) × (n ≤ 2 ^ 30 + 1))
       → AtEnd e (IfSome left' (λ bytes. bytes ≡ []))
       → RunOf gives fires counts (Some (RuleFile name Run limit image)) (Some (wanted_at Run limit b p)) (seen first left given faults before failed) (seen last left' given' faults' after failed') (run_status e)
-  run_done e done taken over = record {
+  run_done More e done taken over = record {
     written = λ w script is tells. subst (λ (v : Wanted). IsWritten gives fires counts v script before after (run_status e)) (some_is is)
         (written_so script (tells_run limit b p left script (subst (λ (v : Wanted). TellsScript v left script) (sym (some_is is)) tells)));
     stopped = λ w script is tells stop. absurd (none_high.2 (at_least_5 (run_status e) stop));

@@ -1,6 +1,5 @@
 use Rattle.std.proofs.Common.{inl, inr, refl, ap, Err, arith}
 use Rattle.command_words.specs.declared.asking.Mode.TheVariants.{Run}
-use Rattle.script_run.proofs.Ahead.{if_told}
 use Rattle.replay.specs.declared.refused_checkpoint.CheckpointCode.TheVariants.{Unfit}
 use Rattle.replay.specs.Wanted.{wanted_at}
 use Rattle.replay.proofs.Calls.{checkpoint_done, nothing_done}
@@ -10,8 +9,8 @@ use Rattle.replay.proofs.running.run_with_lives.Goals as goal
 pub returns-in-Ok-run_from-clause-run : goal.returns-in-Ok-run_from-clause-run
 returns-in-Ok-run_from-clause-run g c name image first last h =
     let done = rw (c.in-Ok.ensures.program, c.in-Ok.ensures.table, c.behind-at.ensures, c.part.ensures) at c.in-Ok-run_from.ensures.done in
-    rw c.status_found.ensures (run_done g.E.Engine.gives g.E.Engine.fires g.E.Engine.counts name image c.args.limit c.args.program c.args.lives c.args.beginning first last _ _ _ _ _ _ _ _ _ _ c.requires.lives c.in-Ok.ensures.fits _
-    (done.0, done.1, λ w begins. if_told _ (λ bytes d. (d.0, d.1)) (done.2 w (c.in-Ok.ensures.stands w begins)))
+    rw c.status_found.ensures (run_done g.E.Engine.gives g.E.Engine.fires g.E.Engine.counts name image c.args.limit c.args.program c.args.lives c.args.beginning first last _ _ _ _ _ _ _ _ _ _ c.requires.lives c.in-Ok.ensures.fits _ _
+    (done.0, done.1, λ w begins. done.2 w (c.in-Ok.ensures.stands w begins))
     c.in-Ok-run_from.ensures.taken c.in-Ok-run_from.ensures.nothing_left)
 
 pub returns-in-Err-clause-run : goal.returns-in-Err-clause-run

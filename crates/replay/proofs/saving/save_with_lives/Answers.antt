@@ -1,13 +1,16 @@
-use Rattle.std.proofs.Common.{◌≡◌, inl, inr, Some, None, refl, ap, Err, arith}
+use Rattle.std.proofs.Common.{◌≡◌, ℕ, List, inl, inr, Some, None, refl, ap, Err, arith}
 use Rattle.command_words.specs.declared.asking.Mode.TheVariants.{Save}
 use Rattle.script_run.specs.declared.turn.Ended.TheVariants.{Script, Limit}
+use Rattle.script_run.specs.Parts.{run_on}
+use Rattle.script_run.specs.Run.{setting_of}
 use Rattle.script_run.specs.Texts.{limit_text}
-use Rattle.script_run.proofs.Ahead.{if_told}
+use Rattle.fx_io.specs.Lines.{lines_of}
+use Rattle.replay.specs.Beginnings.{part_of}
 use Rattle.replay.specs.declared.refused_checkpoint.CheckpointCode.TheVariants.{Unfit}
 use Rattle.replay.specs.Report.{image_report}
 use Rattle.replay.specs.Wanted.{wanted_at}
 use Rattle.replay.proofs.Calls.{checkpoint_done, nothing_done, says_low}
-use Rattle.replay.proofs.Runs.{ends_limited, ends_saved, failing, image_status, limited_so, may_save, none_rises, not_nine_limited, refused_so, save_done, save_failed, saved_so, unfit_save}
+use Rattle.replay.proofs.Runs.{ends_limited, ends_saved, failing, image_status, limited_told, may_save, none_rises, not_nine_limited, refused_so, save_done, save_failed, saved_told, unfit_save}
 use Rattle.replay.proofs.saving.save_with_lives.Goals as goal
 
 pub returns-in-Ok-None-clause-run : goal.returns-in-Ok-None-clause-run
@@ -17,7 +20,8 @@ returns-in-Ok-None-clause-run g c name image first last h =
     (inl (
       record { bytes = limit_text c.args.limit; status = 4 },
       inl (inr refl),
-      (λ w begins. if_told _ (λ bytes d. limited_so c.args.program c.args.lives c.args.limit _ g.E.Engine.stands _ d.2) (done.2 w (c.in-Ok.ensures.stands w begins))),
+      (λ w begins. limited_told c.args.program c.args.lives c.args.limit (part_of c.args.beginning) g.E.Engine.stands
+      (λ (bytes : List ℕ). run_on (setting_of g.E.Engine.gives g.E.Engine.fires g.E.Engine.counts c.args.limit c.args.program c.args.lives) w (part_of c.args.beginning) (lines_of bytes)) _ _ _ (done.2 w (c.in-Ok.ensures.stands w begins))),
       says_low _ _ _ _ c.say_limit.ensures.said c.say_limit.ensures.front (not_nine_limited _ c.say_limit.ensures.answers),
     ))
     (ends_limited c.say_limit.ensures.answers) c.say_limit.ensures.cause (may_save _ _ _ name c.args.limit image c.args.beginning h)
@@ -36,7 +40,8 @@ returns-in-Ok-Some-clause-run g c name image first last h =
       | inr it ↦ inl (
         image_report it.0,
         image_status it.0,
-        (λ w begins. if_told _ (λ bytes d. saved_so c.args.program c.args.lives c.args.limit _ g.E.Engine.stands c.in-Ok-Some.engine c.in-Ok-Some.at _ it.0 d.2 it.1 it.2) (done.2 w (c.in-Ok.ensures.stands w begins))),
+        (λ w begins. saved_told c.args.program c.args.lives c.args.limit (part_of c.args.beginning) g.E.Engine.stands c.in-Ok-Some.engine c.in-Ok-Some.at it.0
+        (λ (bytes : List ℕ). run_on (setting_of g.E.Engine.gives g.E.Engine.fires g.E.Engine.counts c.args.limit c.args.program c.args.lives) w (part_of c.args.beginning) (lines_of bytes)) _ _ _ it.1 it.2 (done.2 w (c.in-Ok.ensures.stands w begins))),
         it.3,
       )
     ])
@@ -46,7 +51,7 @@ returns-in-Ok-Some-clause-run g c name image first last h =
 pub returns-in-Err-clause-run : goal.returns-in-Err-clause-run
 returns-in-Err-clause-run g c name image first last h =
     let long = rw (c.in-Ok.ensures.program, c.in-Ok.ensures.table, c.behind-at.ensures, c.part-part.ensures) at c.in-Err.ensures.long in
-    rw c.status_of_fault.ensures (save_failed g.E.Engine.gives g.E.Engine.fires g.E.Engine.counts name image c.args.limit c.args.program c.args.lives c.args.beginning first last _ _ _ _ _ _ _ _ _ _ c.requires.lives c.in-Ok.ensures.fits c.in-Err.fault
+    rw c.status_of_fault.ensures (save_failed g.E.Engine.gives g.E.Engine.fires g.E.Engine.counts name image c.args.limit c.args.program c.args.lives c.args.beginning first last _ _ _ _ _ _ _ (g.K.Sink.written c.args.out.now) _ (g.K.Sink.faults c.args.out.now) c.requires.lives c.in-Ok.ensures.fits c.in-Err.fault
     c.in-Err.ensures.taken (λ is. c.in-Err.ensures.read (ap failing is)) (λ is. none_rises (c.in-Err.ensures.write (ap failing is)))
     (λ w begins is. long w (c.in-Ok.ensures.stands w begins) (ap failing is)) (λ is. c.in-Err.ensures.over (ap failing is)))
 

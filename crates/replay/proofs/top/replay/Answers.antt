@@ -1,4 +1,6 @@
-use Rattle.std.proofs.Common.{subst}
+use Rattle.std.proofs.Common.{Option, subst, sym}
+use Rattle.command_words.specs.declared.asking.Asked.{Asked}
+use Rattle.replay.specs.Wanted.{wanted_by}
 use Rattle.replay.specs.Behind.{IsUnread}
 use Rattle.replay.proofs.GoingOn.{goes_on}
 use Rattle.replay.proofs.Calls.{wanted_is, written_told, long_told, stopped_told, refusal_told, written_no_script, written_no_file, completes, completes_unread, completes_load}
@@ -102,4 +104,5 @@ returns-in-Ok-clause-goes_on g c files first second told tells low =
 
 pub returns-in-Ok-clause-unread : goal.returns-in-Ok-clause-unread
 returns-in-Ok-clause-unread g c files told refused =
-    c.do_asked.ensures.unread files told (rw c.in-Ok.ensures.asks at (subst IsUnread (wanted_is c.args.words.now files) refused))
+    c.do_asked.ensures.unread files told
+    (subst (λ (asked : Option Asked). IsUnread (wanted_by asked files)) (sym c.in-Ok.ensures.asks) (subst IsUnread (wanted_is c.args.words.now files) refused))
