@@ -1,5 +1,5 @@
 -- The run behind the image of an earlier one is the rest of the run of both scripts as one.
-use Rattle.std.proofs.Common.{◌≡◌, ◌⊎◌, inl, inr, ◌≤◌, ◌++◌, ℕ, List, Option, Some, refl, sym, ap, subst, ◌∙◌, arith}
+use Rattle.std.proofs.Common.{◌≡◌, inl, inr, ◌≤◌, ◌++◌, ℕ, List, Option, Some, sym, ap, ◌∙◌, arith}
 use Rattle.fx_io.specs.Lines.{lines_of}
 use Rattle.checkpoint.specs.declared.image.Image.{Image}
 use Rattle.checkpoint.specs.declared.image.RunPart.{RunPart}
@@ -9,7 +9,7 @@ use Rattle.rule_lives.specs.Keeping.{AreLives}
 use Rattle.rule_world.specs.Worlds.{empty_world}
 use Rattle.script_run.specs.Firings.{Gives, Fires, Counts}
 use Rattle.script_run.specs.Parts.{first_part, part_at, run_on}
-use Rattle.script_run.specs.Run.{Outcome, RunSetting, RunState, setting_of, then_run, whole_run}
+use Rattle.script_run.specs.Run.{Outcome, RunSetting, setting_of, then_run, whole_run}
 use Rattle.script_run.proofs.Joined.{script_joined, whole_behind}
 use Rattle.replay.specs.Behind.{GoesOn, IsImageOfRun, IsRest}
 use Rattle.replay.specs.Report.{Report, Reports, IsBehind, IsReport, IsRunBehind, IsRunStatus, outcome_report, run_status}

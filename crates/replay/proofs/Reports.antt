@@ -18,7 +18,6 @@ use Rattle.replay.specs.declared.rule_file.Reading.TheVariants.{Accepted, Refuse
 use Rattle.replay.specs.Refusals.{reading, whole_file, IsRefused}
 use Rattle.fx_io.specs.Lines.{lines_of}
 use Rattle.rule_model.specs.declared.life.LifeTable.{LifeTable}
-use Rattle.rule_world.specs.Worlds.{World}
 use Rattle.script_run.specs.Parts.{run_on}
 use Rattle.script_run.specs.Run.{setting_of}
 use Rattle.replay.specs.Report.{Report, IsBehind, IsDefinite, IsFront, IsFrontOfEach, IsReport, IsRunBehind, IsRunStatus, IsSavedBehind, IsSaveStatus}

@@ -28,11 +28,11 @@ use Rattle.script_run.proofs.Joined.{first_behind}
 use Rattle.replay.specs.declared.beginning.Beginning.{Beginning}
 use Rattle.replay.specs.declared.beginning.Beginning.TheVariants.{First, Behind}
 use Rattle.replay.specs.declared.refused_checkpoint.CheckpointCode.TheVariants.{TooLong, Unfit}
-use Rattle.replay.specs.Beginnings.{BeginsIn, CanBegin, IsBeginningFor, RunsIn, part_of}
+use Rattle.replay.specs.Beginnings.{BeginsIn, CanBegin, IsBeginningFor, part_of}
 use Rattle.checkpoint.specs.Bytes.{image_bytes}
 use Rattle.replay.specs.Checkpoints.{can_go_on, image_limit}
 use Rattle.replay.specs.Calls.{ShelfSeen, seen, TellsScript, MayEnd, RunOf, Says}
-use Rattle.replay.specs.Report.{Report, Reports, IsReport, IsWritten, IsFront, IsLong, IsRunStatus, IsBehindSome, IsRunBehind, IsSaved, IsSaveStatus, IsStopped, TakesFor, checkpoint_report, fault_status, image_report, outcome_report, run_status}
+use Rattle.replay.specs.Report.{Report, IsReport, IsWritten, IsFront, IsLong, IsRunStatus, IsBehindSome, IsRunBehind, IsSaved, IsSaveStatus, IsStopped, TakesFor, checkpoint_report, fault_status, image_report, outcome_report, run_status}
 use Rattle.replay.specs.Wanted.{Wanted, wanted_at, MayRefuse}
 use Rattle.replay.proofs.Calls.{some_is, written_as, none_written}
 use Rattle.replay.proofs.Reports.{front_none}

@@ -1,5 +1,5 @@
 //! Reads the checkpoint from which a run goes on.
-ghost use Rattle.std.specs.Prelude.{◌≡◌, ◌≤◌, ◌⊎◌, ℕ, List, Some, None, IfOk, IfErr, IsErrOf, option_map};
+ghost use Rattle.std.specs.Prelude.{◌≡◌, ◌⊎◌, ℕ, List, Some, None, IfOk, IfErr, IsErrOf, option_map};
 ghost use Rattle.fx_io.specs.Outside.{Rose, IsFound};
 ghost use Rattle.checkpoint.specs.declared.image.Image.{Image as ImageData};
 ghost use Rattle.rule_model.specs.declared.program.Program.{Program};

@@ -1,14 +1,12 @@
 //! A run over a program, from its beginning.
-ghost use Rattle.std.specs.Prelude.{◌≡◌, ◌⊎◌, ◌≤◌, ◌^◌, List, Option, ℕ, Some, IfOk, OnOk, IsErrOf};
+ghost use Rattle.std.specs.Prelude.{◌≡◌, ◌≤◌, ◌^◌, List, Option, ℕ, Some, IfOk, OnOk, IsErrOf};
 ghost use Rattle.command_words.specs.declared.asking.Asked.TheVariants.{RuleFile};
 ghost use Rattle.rule_lives.specs.Keeping.{AreLives, IsSafeTable};
 ghost use Rattle.rule_model.specs.declared.life.LifeTable.{LifeTable as TableOfLives};
 ghost use Rattle.rule_world.specs.Programs.{IsRunnable};
 ghost use Rattle.rule_world.specs.Worlds.{World};
-ghost use Rattle.script_run.specs.Turns.{ended_as};
 ghost use Rattle.replay.specs.Beginnings.{BeginsIn, CanBegin, IsBeginningFor, part_of};
 ghost use Rattle.replay.specs.Calls.{ShelfSeen, seen, RunOf};
-ghost use Rattle.replay.specs.Report.{run_status};
 ghost use Rattle.replay.specs.Wanted.{wanted_at};
 
 use crate::beginning::Beginning;

@@ -1,4 +1,4 @@
-use Rattle.std.proofs.Common.{◌≡◌, ℕ, List, inl, inr, Some, None, refl, ap, Err, arith}
+use Rattle.std.proofs.Common.{ℕ, List, inl, inr, refl, ap, Err, arith}
 use Rattle.command_words.specs.declared.asking.Mode.TheVariants.{Save}
 use Rattle.script_run.specs.declared.turn.Ended.TheVariants.{Script, Limit}
 use Rattle.script_run.specs.Parts.{run_on}
@@ -21,7 +21,7 @@ returns-in-Ok-None-clause-run g c name image first last h =
       record { bytes = limit_text c.args.limit; status = 4 },
       inl (inr refl),
       (λ w begins. limited_told c.args.program c.args.lives c.args.limit (part_of c.args.beginning) g.E.Engine.stands
-      (λ (bytes : List ℕ). run_on (setting_of g.E.Engine.gives g.E.Engine.fires g.E.Engine.counts c.args.limit c.args.program c.args.lives) w (part_of c.args.beginning) (lines_of bytes)) _ _ _ (done.2 w (c.in-Ok.ensures.stands w begins))),
+          (λ (bytes : List ℕ). run_on (setting_of g.E.Engine.gives g.E.Engine.fires g.E.Engine.counts c.args.limit c.args.program c.args.lives) w (part_of c.args.beginning) (lines_of bytes)) _ _ _ (done.2 w (c.in-Ok.ensures.stands w begins))),
       says_low _ _ _ _ c.say_limit.ensures.said c.say_limit.ensures.front (not_nine_limited _ c.say_limit.ensures.answers),
     ))
     (ends_limited c.say_limit.ensures.answers) c.say_limit.ensures.cause (may_save _ _ _ name c.args.limit image c.args.beginning h)
@@ -41,7 +41,7 @@ returns-in-Ok-Some-clause-run g c name image first last h =
         image_report it.0,
         image_status it.0,
         (λ w begins. saved_told c.args.program c.args.lives c.args.limit (part_of c.args.beginning) g.E.Engine.stands c.in-Ok-Some.engine c.in-Ok-Some.at it.0
-        (λ (bytes : List ℕ). run_on (setting_of g.E.Engine.gives g.E.Engine.fires g.E.Engine.counts c.args.limit c.args.program c.args.lives) w (part_of c.args.beginning) (lines_of bytes)) _ _ _ it.1 it.2 (done.2 w (c.in-Ok.ensures.stands w begins))),
+            (λ (bytes : List ℕ). run_on (setting_of g.E.Engine.gives g.E.Engine.fires g.E.Engine.counts c.args.limit c.args.program c.args.lives) w (part_of c.args.beginning) (lines_of bytes)) _ _ _ it.1 it.2 (done.2 w (c.in-Ok.ensures.stands w begins))),
         it.3,
       )
     ])

@@ -2,8 +2,8 @@ use Rattle.std.proofs.Common.{◌≡◌, ℕ, List, Some, Err, sym, subst, ap, �
 use Rattle.command_words.specs.declared.asking.Asked.TheVariants.{RuleFile}
 use Rattle.drl_parse.specs.Parsed.{file_limit}
 use Rattle.replay.specs.declared.rule_file.Reading.TheVariants.{Accepted, Refused}
-use Rattle.replay.specs.Beginnings.{IsBeginningFor}
 use Rattle.replay.specs.Calls.{seen_of_shelf, wanted_told}
+use Rattle.replay.specs.Checkpoints.{rules_of}
 use Rattle.replay.specs.Refusals.{reading}
 use Rattle.replay.specs.Wanted.{refuses, refuses_checkpoint, rules_in, wanted_at, wanted_from, wanted_by_name}
 use Rattle.replay.proofs.Calls.{by_told, told_is, refused_done, refuses_since, rose_since, checkpoint_done, nothing_done, not_refused}
@@ -56,7 +56,8 @@ returns-in-Ok-beginning-clause-run g c =
     (c.do_mode.ensures.run c.args.name.now image (seen_of_shelf (g.F.Shelf.files c.args.shelf.now) (g.F.Shelf.faults c.args.shelf.now) (g.F.Shelf.misses c.args.shelf.now)) _
     (rw same at c.in-Ok-beginning.ensures.asked))
     (told_is (g.F.Shelf.files c.args.shelf.now) (λ files. wanted_by_name (wanted_from mode limit image files (rules_in (files c.args.name.now))) files c.args.name.now) (wanted_at mode limit c.in-Ok-beginning.beginning p)
-    (λ files told. accepted_file mode limit image c.args.name.now _ files bytes p told c.in-Ok.ensures.found c.in-Ok.ensures.bytes is ∙ c.in-Ok-beginning.ensures.found files (same ∙ told) limit p))
+    (λ files told. accepted_file mode limit image c.args.name.now _ files bytes p told c.in-Ok.ensures.found c.in-Ok.ensures.bytes is
+    ∙ ap (λ (read : List ℕ). wanted_from mode limit image files (rules_of read) p) (sym c.deref-2.ensures.value) ∙ c.in-Ok-beginning.ensures.found files (same ∙ told) limit p))
 
 pub returns-in-Err-Refused-clause-run : goal.returns-in-Err-Refused-clause-run
 unfolding file_limit
@@ -77,7 +78,8 @@ returns-in-Err-Refused-clause-run g c =
     said front c.refuse_checkpoint.ensures.answers c.refuse_checkpoint.ensures.cause
     (inr (refuses_since same c.read_whole.ensures.miss_counts (c.in-Err-Refused.ensures.cause code is_code))))
     (told_is (g.F.Shelf.files c.args.shelf.now) (λ files. wanted_by_name (wanted_from mode limit image files (rules_in (files c.args.name.now))) files c.args.name.now) (refuses_checkpoint code)
-    (λ files told. accepted_file mode limit image c.args.name.now _ files bytes p told c.in-Ok.ensures.found c.in-Ok.ensures.bytes is ∙ c.in-Err-Refused.ensures.refused code is_code files (same ∙ told) limit p))
+    (λ files told. accepted_file mode limit image c.args.name.now _ files bytes p told c.in-Ok.ensures.found c.in-Ok.ensures.bytes is
+    ∙ ap (λ (read : List ℕ). wanted_from mode limit image files (rules_of read) p) (sym c.deref-2.ensures.value) ∙ c.in-Err-Refused.ensures.refused code is_code files (same ∙ told) limit p))
 
 pub returns-in-Err-ReadFault-beginning-clause-run : goal.returns-in-Err-ReadFault-beginning-clause-run
 returns-in-Err-ReadFault-beginning-clause-run g c =
@@ -107,4 +109,5 @@ returns-in-Ok-beginning-clause-unread g c files told refused =
     let bytes = c.in-Ok.file.items in
     let is : reading bytes ≡ Accepted p = ap reading (sym c.deref.ensures.value) ∙ sym c.in-Ok-Accepted.ensures.reading ∙ c.in-Ok-Accepted.field-0-is in
     c.do_mode.ensures.unread (unread_at mode limit c.in-Ok-beginning.beginning p (subst IsUnread
-    (accepted_file mode limit image c.args.name.now _ files bytes p told c.in-Ok.ensures.found c.in-Ok.ensures.bytes is ∙ c.in-Ok-beginning.ensures.found files (c.read_whole.ensures.files ∙ told) limit p) refused))
+    (accepted_file mode limit image c.args.name.now _ files bytes p told c.in-Ok.ensures.found c.in-Ok.ensures.bytes is
+    ∙ ap (λ (read : List ℕ). wanted_from mode limit image files (rules_of read) p) (sym c.deref-2.ensures.value) ∙ c.in-Ok-beginning.ensures.found files (c.read_whole.ensures.files ∙ told) limit p) refused))

@@ -1,6 +1,6 @@
 use Rattle.std.proofs.Common.{◌≡◌, ◌⊎◌, refl, inl, inr, ℕ, List, Option}
 use Rattle.command_words.specs.declared.asking.Mode.{Mode}
-use Rattle.command_words.specs.declared.asking.Mode.TheVariants.{Run, Check, Lives, Proof, Save}
+use Rattle.command_words.specs.declared.asking.Mode.TheVariants.{Check, Lives, Proof}
 use Rattle.rule_model.specs.declared.program.Program.{Program}
 use Rattle.script_run.specs.Firings.{Gives, Fires, Counts}
 use Rattle.replay.specs.Notices.{accepted_text}
