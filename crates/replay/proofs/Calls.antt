@@ -1,7 +1,7 @@
 -- What a call does, by what its parts did.
 use Rattle.std.proofs.Common.{◌≡◌, ◌≢◌, ◌⊎◌, inl, inr, ◌<◌, ◌≤◌, ◌^◌, ℕ, List, [], length, Option, Some, None, option_map, refl, sym, ap, subst, ◌∙◌, arith, String, Global}
 use Rattle.std.specs.Prelude.{IfSome}
-use Rattle.fx_io.specs.Outside.{Rose, append, AppendsFront, count_after}
+use Rattle.fx_io.specs.Outside.{Rose, append, AppendsFront, count_after, IsFound}
 use Rattle.command_words.specs.declared.asking.Asked.{Asked}
 use Rattle.command_words.specs.declared.asking.Asked.TheVariants.{RuleFile, Load}
 use Rattle.command_words.specs.declared.asking.Mode.{Mode}
@@ -22,7 +22,7 @@ use Rattle.replay.specs.declared.refusal.Refusal.{Refusal}
 use Rattle.replay.specs.declared.refused_checkpoint.CheckpointCode.{CheckpointCode}
 use Rattle.replay.specs.declared.rule_file.Reading.{Reading}
 use Rattle.replay.specs.declared.rule_file.Reading.TheVariants.{Accepted, Refused}
-use Rattle.replay.specs.Beginnings.{RunsIn}
+use Rattle.replay.specs.Beginnings.{RefusesFor, RunsIn}
 use Rattle.replay.specs.Calls.{ShelfSeen, Outside, seen, wanted_told, TellsScript, MayEnd, RunOf, Says}
 use Rattle.replay.specs.Checkpoints.{checkpoint_text}
 use Rattle.replay.specs.Notices.{usage}
@@ -46,9 +46,9 @@ written_as {gives} {fires} {counts} {w} {script} {before} {after} {status} q is 
 }
 
 -- a report with a status up to 4
-pub says_low : {before after : Option (List ℕ)} {status : ℕ} (q : Report) → (status ≤ 4 → (after ≡ append before q.bytes) × (status ≡ q.status)) → (5 ≤ status → AppendsFront before after q.bytes)
+pub says_low : (before after : Option (List ℕ)) (status : ℕ) (q : Report) → (status ≤ 4 → (after ≡ append before q.bytes) × (status ≡ q.status)) → (5 ≤ status → AppendsFront before after q.bytes)
     → status ≢ 9 → Says before after status q
-says_low {before} {after} {status} q said front not_9 = (so, front)
+says_low before after status q said front not_9 = (so, front)
   where
     so : (status ≤ 4) ⊎ (status ≡ 9) → Reports before after status q
     so (inl low) = said low
@@ -126,6 +126,19 @@ refusal_ends : (name : List ℕ) (mode : Mode) (limit : ℕ) (image : Option (Li
 refusal_ends name mode limit image s (inl three) = inr (omega (arith, three), omega (arith, three))
 refusal_ends name mode limit image s (inr both) = inr (omega (arith, both.0), omega (arith, both.1))
 
+-- what rose since a later count rose since an earlier one
+pub rose_since : {a b c : ℕ} → a ≤ b → Rose b c → Rose a c
+rose_since h (inl less) = inl (omega (arith, h, less))
+rose_since h (inr most) = inr most
+
+pub refuses_since : {told told' : Option Files} {before between after : List ℕ → ℕ} {mode : Mode} {name : Option (List ℕ)} → told' ≡ told → ((it : List ℕ) → before it ≤ between it)
+    → RefusesFor told' between after mode name → RefusesFor told before after mode name
+refuses_since {told} {told'} {before} {between} {after} {mode} {name} same counts (run, it, named, cause) = (run, it, named, here cause)
+  where
+    here : Rose (between it) (after it) ⊎ IsFound told' it → Rose (before it) (after it) ⊎ IsFound told it
+    here (inl rose) = inl (rose_since (counts it) rose)
+    here (inr found) = inr (subst (λ (t : Option Files). IsFound t it) same found)
+
 -- a rule file that is missing or refused
 pub refused_done : (gives : Gives) (fires : Fires) (counts : Counts) (name : List ℕ) (mode : Mode) (limit : ℕ) (image : Option (List ℕ)) (refusal : Refusal) (first last : ShelfSeen) (left : Option (List ℕ))
     (given faults : ℕ) (before after : Option (List ℕ)) (failed failed' s : ℕ) → (s ≤ 4 → (after ≡ append before (refusal_text refusal)) × (s ≡ 3)) → (5 ≤ s → AppendsFront before after (refusal_text refusal))
@@ -133,7 +146,7 @@ pub refused_done : (gives : Gives) (fires : Fires) (counts : Counts) (name : Lis
     → RunOf gives fires counts (Some (RuleFile name mode limit image)) (Some (refuses refusal)) (seen first left given faults before failed) (seen last left given faults after failed') s
 refused_done gives fires counts name mode limit image refusal first last left given faults before after failed failed' s said front answers write file =
     script_unread gives fires counts (Some (RuleFile name mode limit image)) (refuses refusal) first last left given faults before after failed failed' s
-    (λ script. written_as (record { bytes = refusal_text refusal; status = 3 }) refl (says_low _ said front (λ nine. other answers (inr (inr (inr nine))))))
+    (λ script. written_as (record { bytes = refusal_text refusal; status = 3 }) refl (says_low _ _ _ _ said front (λ nine. other answers (inr (inr (inr nine))))))
     (refusal_ends name mode limit image s answers) (λ five. other answers (inr (inl five))) (λ eight. other answers (inr (inr (inl eight)))) (λ three. (said (omega (arith, three))).0)
     (λ two. absurd (other answers (inl (omega (arith, two))))) file write (λ nine. absurd (other answers (inr (inr (inr nine))))) (λ low. absurd (other answers (inl (omega (arith, low)))))
   where
@@ -170,7 +183,7 @@ pub usage_done : (gives : Gives) (fires : Fires) (counts : Counts) (first last :
     → RunOf gives fires counts None (Some usage_line) (seen first left given faults before failed) (seen last left given faults after failed') s
 usage_done gives fires counts first last left given faults before after failed failed' s said front answers write =
     script_unread gives fires counts None usage_line first last left given faults before after failed failed' s
-    (λ script. written_as (record { bytes = usage; status = 2 }) refl (says_low _ said front not_9))
+    (λ script. written_as (record { bytes = usage; status = 2 }) refl (says_low _ _ _ _ said front not_9))
     (ends answers) (λ five. other answers (inl five)) (λ eight. other answers (inr (inl eight))) (λ three. absurd (other answers (inr (inr three))))
     (λ two. (said (omega (arith, two))).0) (λ three. tt) write (λ nine. absurd (not_9 nine)) (λ low. tt)
   where
@@ -188,6 +201,9 @@ usage_done gives fires counts first last left given faults before after failed f
     other (inr six) (inl e) = omega (arith, six, e)
     other (inr six) (inr (inl e)) = omega (arith, six, e)
     other (inr six) (inr (inr e)) = omega (arith, six, e)
+
+pub load_not_nine : (s : ℕ) → (s ≤ 1) ⊎ (s ≡ 4) ⊎ ((6 ≤ s) × (s ≤ 7)) → s ≢ 9
+load_not_nine s answers nine = grind (arith, answers, nine)
 
 -- a load
 pub load_done : (gives : Gives) (fires : Fires) (counts : Counts) (number limit : ℕ) (w : Wanted) (first last : ShelfSeen) (left : Option (List ℕ)) (given faults : ℕ)
@@ -441,7 +457,7 @@ module _ {gives : Gives} {fires : Fires} {counts : Counts} {asked : Option Asked
       here (subst (λ (it : Asked). MayRefuse before.shelf.files before.shelf.misses after.shelf.misses it) (some_is (sym cause.1 ∙ is)) cause.2)
     where
       here : MayRefuse before.shelf.files before.shelf.misses after.shelf.misses (RuleFile name Run limit None) → ⊥
-      here (inl saves) = let e : Run ≡ Save = saves.0 in cc
+      here (inl save) = let e : Run ≡ Save = save.0 in cc
       here (inr named) = let none : None ≡ Some named.1 = named.2 in cc
 
   -- the same, where no read of this rule file failed
@@ -470,7 +486,7 @@ module _ {gives : Gives} {fires : Fires} {counts : Counts} {asked : Option Asked
   not_9 none nine = let cause = run.checkpoint nine in here cause.0 (subst NoRun cause.1 none) cause.2
     where
       here : (it : Asked) → NoRun (Some it) → MayRefuse before.shelf.files before.shelf.misses after.shelf.misses it → ⊥
-      here (RuleFile name mode limit image) n (inl saves) = n (inr saves.0)
+      here (RuleFile name mode limit image) n (inl save) = n (inr save.0)
       here (RuleFile name mode limit image) n (inr named) = n named.0
       here (Load number limit) n none = none
 

@@ -9,3 +9,6 @@ pub mod Tables
 pub mod LivesText
 pub mod Calls
 pub mod Runs
+pub mod ImagesRead
+pub mod ImagesWritten
+pub mod GoingOn

@@ -6,6 +6,7 @@ use Rattle.std.proofs.lemmas.List.{take_all, length-take}
 use Rattle.fx_io.specs.Outside.{IsMissing, IsFound, file_told, AppendsFront}
 use Rattle.gen_load.specs.Rules.{rules_text}
 use Rattle.drl_parse.specs.Parsed.{file_limit, parsed, parsed_by}
+use Rattle.command_words.specs.declared.asking.Mode.{Mode}
 use Rattle.rule_model.specs.declared.program.Program.{Program}
 use Rattle.script_run.specs.Firings.{Gives, Fires, Counts}
 use Rattle.replay.specs.declared.refusal.RefusalCode.TheVariants.{Missing}
@@ -13,15 +14,14 @@ use Rattle.replay.specs.declared.refusal.Refusal.{Refusal}
 use Rattle.replay.specs.declared.refused_checkpoint.CheckpointCode.TheVariants.{Missing as NoImage}
 use Rattle.replay.specs.Checkpoints.{checkpoint_in, checkpoint_of, image_limit, is_refused, rules_of}
 use Rattle.replay.specs.declared.rule_file.Reading.{Reading}
-use Rattle.replay.specs.declared.rule_file.Reading.TheVariants.{Refused}
+use Rattle.replay.specs.declared.rule_file.Reading.TheVariants.{Accepted, Refused}
 use Rattle.replay.specs.Refusals.{reading, whole_file, IsRefused}
 use Rattle.fx_io.specs.Lines.{lines_of}
 use Rattle.rule_model.specs.declared.life.LifeTable.{LifeTable}
-use Rattle.rule_world.specs.Worlds.{World}
 use Rattle.script_run.specs.Parts.{run_on}
 use Rattle.script_run.specs.Run.{setting_of}
 use Rattle.replay.specs.Report.{Report, IsBehind, IsDefinite, IsFront, IsFrontOfEach, IsReport, IsRunBehind, IsRunStatus, IsSavedBehind, IsSaveStatus}
-use Rattle.replay.specs.Wanted.{Wanted, Files, usage_line, refuses, refuses_checkpoint, runs, resumes, saves, saves_on, accepts, tells_lives, proves, sums_up, wanted_by_name, wanted_by_number, wanted_by_file, wanted_by_reading, rules_in, IsRefusedFile, HasRefused}
+use Rattle.replay.specs.Wanted.{Wanted, Files, usage_line, refuses, refuses_checkpoint, runs, resumes, saves, saves_on, accepts, tells_lives, proves, sums_up, wanted_by_name, wanted_by_number, wanted_by_file, wanted_by_reading, wanted_from, rules_in, IsRefusedFile, HasRefused}
 use Rattle.replay.proofs.Tables.{behind_one, by_table, one_report, one_saved}
 
 -- what is wanted of a load, by what its rule file is
@@ -137,6 +137,14 @@ a_file of_program name told files read found e there h is =
     let whole : IfSome (files name) (λ file. read ≡ take (file_limit + 1) file) = rw e at h in
     let r = found_reading (files name) read is_found whole in
     ap (wanted_by_file of_program) r.1 ∙ ap (wanted_by_reading of_program) (r.2 ∙ is)
+
+-- the file that was read is accepted
+pub accepted_file : (mode : Mode) (limit : ℕ) (image : Option (List ℕ)) (name : List ℕ) (told : Option Files) (files : Files) (read : List ℕ) (p : Program) → told ≡ Some files → IsFound told name
+    → IfSome (file_told told name) (λ file. read ≡ take (file_limit + 1) file) → reading read ≡ Accepted p
+    → wanted_by_name (wanted_from mode limit image files (rules_in (files name))) files name ≡ wanted_from mode limit image files (rules_of read) p
+accepted_file mode limit image name told files read p e there h is =
+    a_file (wanted_from mode limit image files (rules_in (files name))) name told files read (Accepted p) e there h is
+    ∙ ap (λ (rules : List ℕ). wanted_from mode limit image files rules p) (rules_found name told files read e there h)
 
 -- the file that was read is refused
 pub refused_file : (name : List ℕ) (told : Option Files) (read : List ℕ) (refusal : Refusal) → IsFound told name → IfSome (file_told told name) (λ file. read ≡ take (file_limit + 1) file)

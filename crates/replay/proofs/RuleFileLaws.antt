@@ -12,7 +12,7 @@ use Rattle.drl_check.specs.Checks.{Failure, failure_of}
 use Rattle.drl_check.specs.Outcomes.{checked, checked_by}
 use Rattle.drl_check.proofs.Exact.{exact_none, is_first_failure, first_failure_is}
 use Rattle.replay.specs.declared.rule_file.Reading.{Reading}
-use Rattle.replay.specs.Refusals.{plain_file, obstacle_at, of_checked, of_obstacle, of_parsed, reading}
+use Rattle.replay.specs.Refusals.{plain_file, of_checked, of_obstacle, of_parsed, reading}
 use Rattle.replay.specs.RuleFiles.{IsReading}
 use Rattle.replay.specs.RuleFiles.IsReading.{is_too_long, is_no_tokens, has_no_item, is_not_expanded, fails_a_check, is_accepted}
 

@@ -20,7 +20,7 @@ use Rattle.script_run.specs.declared.turn.Ended.TheVariants.{Script, Limit}
 use Rattle.script_run.specs.declared.turn.Progress.{Progress}
 use Rattle.script_run.specs.Firings.{Gives, Fires, Counts}
 use Rattle.script_run.specs.Parts.{part_at, run_on}
-use Rattle.script_run.specs.Run.{RunState, run as run_lines, setting_of, whole_run}
+use Rattle.script_run.specs.Run.{Outcome, RunState, run as run_lines, setting_of, whole_run}
 use Rattle.script_run.specs.Turns.{Takes, AtEnd, Reaches}
 use Rattle.script_run.specs.Unfinished.{Long, StoppedAtRead}
 use Rattle.script_run.specs.Texts.{limit_text}
@@ -28,11 +28,11 @@ use Rattle.script_run.proofs.Joined.{first_behind}
 use Rattle.replay.specs.declared.beginning.Beginning.{Beginning}
 use Rattle.replay.specs.declared.beginning.Beginning.TheVariants.{First, Behind}
 use Rattle.replay.specs.declared.refused_checkpoint.CheckpointCode.TheVariants.{TooLong, Unfit}
-use Rattle.replay.specs.Beginnings.{BeginsIn, CanBegin, IsBeginningFor, RunsIn, part_of}
+use Rattle.replay.specs.Beginnings.{BeginsIn, CanBegin, IsBeginningFor, part_of}
 use Rattle.checkpoint.specs.Bytes.{image_bytes}
 use Rattle.replay.specs.Checkpoints.{can_go_on, image_limit}
 use Rattle.replay.specs.Calls.{ShelfSeen, seen, TellsScript, MayEnd, RunOf, Says}
-use Rattle.replay.specs.Report.{Report, Reports, IsReport, IsWritten, IsFront, IsLong, IsRunStatus, IsBehindSome, IsRunBehind, IsSaved, IsSaveStatus, IsStopped, TakesFor, checkpoint_report, fault_status, image_report, outcome_report, run_status}
+use Rattle.replay.specs.Report.{Report, IsReport, IsWritten, IsFront, IsLong, IsRunStatus, IsBehindSome, IsRunBehind, IsSaved, IsSaveStatus, IsStopped, TakesFor, checkpoint_report, fault_status, image_report, outcome_report, run_status}
 use Rattle.replay.specs.Wanted.{Wanted, wanted_at, MayRefuse}
 use Rattle.replay.proofs.Calls.{some_is, written_as, none_written}
 use Rattle.replay.proofs.Reports.{front_none}
@@ -113,8 +113,8 @@ tells_save limit (Behind image) p left script h = h
 -- an image that does not fit is refused
 pub refused_so : (limit : ℕ) (b : Beginning) (p : Program) (table : LifeTable) (told : Option (List ℕ → Option (List ℕ))) (mode : Mode) (image : Option (List ℕ)) (misses misses' : List ℕ → ℕ) (name : List ℕ)
     → (CanBegin p table b → ⊥) → IsBeginningFor told mode image b → MayRefuse told misses misses' (RuleFile name mode limit image)
-refused_so limit (First rules) p table told mode image misses misses' name no h = absurd (no tt)
-refused_so limit (Behind i) p table told mode image misses misses' name no h = inr (h.0, h.1, h.2, inr h.3)
+refused_so limit (First rules) p table told mode image misses misses' name never h = absurd (never tt)
+refused_so limit (Behind i) p table told mode image misses misses' name never h = inr (h.0, h.1, h.2, inr h.3)
 
 module _ (gives : Gives) (fires : Fires) (counts : Counts) (limit : ℕ) (p : Program) (table : LifeTable) (are : AreLives p table) (script : List ℕ) where
   pub run_report : (b : Beginning) (r : Report) → CanBegin p table b → IsRunStatus r.status
@@ -137,7 +137,7 @@ module _ (gives : Gives) (fires : Fires) (counts : Counts) (limit : ℕ) (p : Pr
       here : (t : LifeTable) (r : Report) → CanBegin p t (Behind image)
           → ((w : World) → BeginsIn p t (Behind image) w → AppendsFront before after (run_on (setting_of gives fires counts limit p t) w image.run (lines_of script)).bytes)
           → IsBehindSome p t image (IsRunBehind gives fires counts limit p t image script) r → AppendsFront before after r.bytes
-      here t r fits h (inl no) = absurd (no.0 fits)
+      here t r fits h (inl never) = absurd (never.0 fits)
       here t r fits h (inr some) = rw some.4 (h some.1 (some.2, some.3))
 
   pub save_report : (b : Beginning) (r : Report) → CanBegin p table b → IsSaveStatus r.status
@@ -198,18 +198,33 @@ pub limited_so : {E : Type 0} (p : Program) (table : LifeTable) (limit : ℕ) (f
 limited_so p table limit first stands None h = refl
 limited_so p table limit first stands (Some s) h = absurd h
 
+-- the same, as far as the script is told
+pub saved_told : {E : Type 0} (p : Program) (table : LifeTable) (limit : ℕ) (first : RunPart) (stands : E → World → Type 0) (e : E) (progress : Progress) (image : Image) (outcome : List ℕ → Outcome)
+    (left : Option (List ℕ)) (text : List ℕ) (ended : Ended) → image.run ≡ part_at limit first progress → ((w : World) → stands e w → IsImageOf p table w image)
+    → IfSome left (λ bytes. (text ≡ (outcome bytes).bytes) × (ended ≡ (outcome bytes).ended) × Reaches stands (outcome bytes).comes_to (Some (e, progress)))
+    → IfSome left (λ bytes. IsSaved p table limit first (outcome bytes).comes_to (image_report image))
+saved_told p table limit first stands e progress image outcome None text ended run is h = tt
+saved_told p table limit first stands e progress image outcome (Some bytes) text ended run is h = saved_so p table limit first stands e progress (outcome bytes).comes_to image h.2 run is
+
+pub limited_told : {E : Type 0} (p : Program) (table : LifeTable) (limit : ℕ) (first : RunPart) (stands : E → World → Type 0) (outcome : List ℕ → Outcome)
+    (left : Option (List ℕ)) (text : List ℕ) (ended : Ended)
+    → IfSome left (λ bytes. (text ≡ (outcome bytes).bytes) × (ended ≡ (outcome bytes).ended) × Reaches stands (outcome bytes).comes_to None)
+    → IfSome left (λ bytes. IsSaved p table limit first (outcome bytes).comes_to (record { bytes = limit_text limit; status = 4 }))
+limited_told p table limit first stands outcome None text ended h = tt
+limited_told p table limit first stands outcome (Some bytes) text ended h = limited_so p table limit first stands (outcome bytes).comes_to h.2
+
 -- ---- the run of a program
 
 module _ (gives : Gives) (fires : Fires) (counts : Counts) (name : List ℕ) (image : Option (List ℕ)) (limit : ℕ) (p : Program) (table : LifeTable) (b : Beginning) (first last : ShelfSeen)
     (left left' : Option (List ℕ)) (given given' faults faults' : ℕ) (before after : Option (List ℕ)) (failed failed' : ℕ) (are : AreLives p table) (can : CanBegin p table b) where
   -- the run came to the end of the script, or to the limit of firings
-  pub run_done : (e : Ended)
+  pub run_done : (More : World → List ℕ → Type 0) (e : Ended)
       → ((text : List ℕ) × (after ≡ append before text) × ((w : World) → BeginsIn p table b w → IfSome left (λ bytes.
-      (text ≡ (run_on (setting_of gives fires counts limit p table) w (part_of b) (lines_of bytes)).bytes) × (e ≡ (run_on (setting_of gives fires counts limit p table) w (part_of b) (lines_of bytes)).ended))))
+      (text ≡ (run_on (setting_of gives fires counts limit p table) w (part_of b) (lines_of bytes)).bytes) × (e ≡ (run_on (setting_of gives fires counts limit p table) w (part_of b) (lines_of bytes)).ended) × More w bytes)))
       → ((n : ℕ) × (given' ≡ count_after given n) × AtEnd e (n ≤ 2 ^ 30) × (n ≤ 2 ^ 30 + 1))
       → AtEnd e (IfSome left' (λ bytes. bytes ≡ []))
       → RunOf gives fires counts (Some (RuleFile name Run limit image)) (Some (wanted_at Run limit b p)) (seen first left given faults before failed) (seen last left' given' faults' after failed') (run_status e)
-  run_done e done taken over = record {
+  run_done More e done taken over = record {
     written = λ w script is tells. subst (λ (v : Wanted). IsWritten gives fires counts v script before after (run_status e)) (some_is is)
         (written_so script (tells_run limit b p left script (subst (λ (v : Wanted). TellsScript v left script) (sym (some_is is)) tells)));
     stopped = λ w script is tells stop. absurd (none_high.2 (at_least_5 (run_status e) stop));
@@ -337,8 +352,8 @@ module _ (gives : Gives) (fires : Fires) (counts : Counts) (name : List ℕ) (im
       not_limit low (inr others) = absurd (grind (arith, low, others))
 
       of_end : {P : Type 0} (ended : Ended) → ended ≢ Limit → AtEnd ended P → P
-      of_end (Script faulted) no h = h
-      of_end Limit no h = absurd (no refl)
+      of_end (Script faulted) never h = h
+      of_end Limit never h = absurd (never refl)
 
       at_end_so : {P : Type 0} → s ≤ 1 → AtEnd e P → P
       at_end_so low h = of_end e (not_limit low answers) h
@@ -383,24 +398,19 @@ module _ (gives : Gives) (fires : Fires) (counts : Counts) (name : List ℕ) (im
 -- an image does not fit
 pub unfit_run : (gives : Gives) (fires : Fires) (counts : Counts) (limit : ℕ) (p : Program) (table : LifeTable) (b : Beginning) → AreLives p table → (CanBegin p table b → ⊥)
     → (script : List ℕ) → IsReport gives fires counts (wanted_at Run limit b p) script (checkpoint_report Unfit)
-unfit_run gives fires counts limit p table (First rules) are no script = absurd (no tt)
-unfit_run gives fires counts limit p table (Behind image) are no script = (table, are, inl (no, refl))
+unfit_run gives fires counts limit p table (First rules) are never script = absurd (never tt)
+unfit_run gives fires counts limit p table (Behind image) are never script = (table, are, inl (never, refl))
 
 pub unfit_save : (gives : Gives) (fires : Fires) (counts : Counts) (limit : ℕ) (p : Program) (table : LifeTable) (b : Beginning) → AreLives p table → (CanBegin p table b → ⊥)
     → (script : List ℕ) → IsReport gives fires counts (wanted_at Save limit b p) script (checkpoint_report Unfit)
-unfit_save gives fires counts limit p table (First rules) are no script = absurd (no tt)
-unfit_save gives fires counts limit p table (Behind image) are no script = (table, are, inl (no, refl))
+unfit_save gives fires counts limit p table (First rules) are never script = absurd (never tt)
+unfit_save gives fires counts limit p table (Behind image) are never script = (table, are, inl (never, refl))
 
 -- a checkpoint may be refused where an image is to be written
 pub may_save : (told : Option (List ℕ → Option (List ℕ))) (misses misses' : List ℕ → ℕ) (name : List ℕ) (limit : ℕ) (image : Option (List ℕ)) (b : Beginning) → IsBeginningFor told Save image b
     → MayRefuse told misses misses' (RuleFile name Save limit image)
 may_save told misses misses' name limit image (First rules) h = inl (refl, h (inr refl))
 may_save told misses misses' name limit image (Behind i) h = inr (h.0, h.1, h.2, inr h.3)
-
--- of what is told of a run the text and the ending
-pub told_two : {A : Type 0} {P Q R : A → Type 0} {o : Option A} → IfSome o (λ x. P x × Q x × R x) → IfSome o (λ x. P x × Q x)
-told_two {o = None} h = tt
-told_two {o = Some x} h = (h.0, h.1)
 
 -- the statuses of a run that is saved
 pub ends_limited : {e : Ended} {s : ℕ} → (s ≡ 4) ⊎ ((6 ≤ s) × (s ≤ 7)) → ((s ≤ 1) × (e ≢ Limit)) ⊎ (s ≡ 4) ⊎ ((6 ≤ s) × (s ≤ 7)) ⊎ (s ≡ 9)

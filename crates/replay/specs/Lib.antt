@@ -8,5 +8,6 @@ pub mod Beginnings
 pub mod RuleFiles
 pub mod Wanted
 pub mod Report
+pub mod Behind
 pub mod Proving
 pub mod Calls

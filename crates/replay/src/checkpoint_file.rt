@@ -1,5 +1,5 @@
 //! Reads the checkpoint from which a run goes on.
-ghost use Rattle.std.specs.Prelude.{◌≡◌, ◌≤◌, ◌⊎◌, ℕ, List, Some, None, IfOk, IfErr, IsErrOf, option_map};
+ghost use Rattle.std.specs.Prelude.{◌≡◌, ◌⊎◌, ℕ, List, Some, None, IfOk, IfErr, IsErrOf, option_map};
 ghost use Rattle.fx_io.specs.Outside.{Rose, IsFound};
 ghost use Rattle.checkpoint.specs.declared.image.Image.{Image as ImageData};
 ghost use Rattle.rule_model.specs.declared.program.Program.{Program};
@@ -57,6 +57,7 @@ fn rules_of(alloc: Global, file: &[u8]) -> Result<Vec<u8>, NoMemory>
 fn image_of(alloc: Global, rules: &[u8], bytes: &[u8]) -> Result<Image, CheckpointFault>
     ensures found { IfOk result (λ image. checkpoint_of rules.now bytes.now ≡ has_image image) }
     ensures refused { IfErr result (Tells (checkpoint_of rules.now bytes.now)) }
+    ensures read { IsErrOf result CheckpointFault.ReadFault → ⊥ }
 {
     if bytes.len() > IMAGE_MAX {
         return Err(CheckpointFault::Refused(CheckpointCode::TooLong));

@@ -1,13 +1,12 @@
 //! A run over a program, from its beginning.
-ghost use Rattle.std.specs.Prelude.{◌≡◌, ◌⊎◌, ◌≤◌, ◌^◌, List, Option, ℕ, Some, IfOk, OnOk, IsErrOf};
+ghost use Rattle.std.specs.Prelude.{◌≡◌, ◌≤◌, ◌^◌, List, Option, ℕ, Some, IfOk, OnOk, IsErrOf};
 ghost use Rattle.command_words.specs.declared.asking.Asked.TheVariants.{RuleFile};
 ghost use Rattle.rule_lives.specs.Keeping.{AreLives, IsSafeTable};
+ghost use Rattle.rule_model.specs.declared.life.LifeTable.{LifeTable as TableOfLives};
 ghost use Rattle.rule_world.specs.Programs.{IsRunnable};
 ghost use Rattle.rule_world.specs.Worlds.{World};
-ghost use Rattle.script_run.specs.Turns.{ended_as};
 ghost use Rattle.replay.specs.Beginnings.{BeginsIn, CanBegin, IsBeginningFor, part_of};
 ghost use Rattle.replay.specs.Calls.{ShelfSeen, seen, RunOf};
-ghost use Rattle.replay.specs.Report.{run_status};
 ghost use Rattle.replay.specs.Wanted.{wanted_at};
 
 use crate::beginning::Beginning;
@@ -63,6 +62,7 @@ fn run_with_lives<E: Engine, S: Source, K: Sink>(
         (seen first (S.left script.old) (S.given script.old) (S.faults script.old) (K.written out.old) (K.faults out.old))
         (seen last (S.left script.new) (S.given script.new) (S.faults script.new) (K.written out.new) (K.faults out.new)) result }
     ensures untouched { result ≡ 9 → script.new ≡ script.old }
+    ensures unread { (CanBegin program lives beginning → ⊥) → script.new ≡ script.old }
 {
     let engine = match begun::<E>(alloc, program, lives, &beginning) {
         Ok(engine) => engine,
@@ -92,6 +92,7 @@ pub(crate) fn run_program<E: Engine, S: Source, K: Sink>(
         (seen first (S.left script.old) (S.given script.old) (S.faults script.old) (K.written out.old) (K.faults out.old))
         (seen last (S.left script.new) (S.given script.new) (S.faults script.new) (K.written out.new) (K.faults out.new)) result }
     ensures untouched { result ≡ 9 → script.new ≡ script.old }
+    ensures unread { ((table : TableOfLives) → AreLives program table → CanBegin program table beginning → ⊥) → script.new ≡ script.old }
 {
     match lives(alloc, &program) {
         Ok(lives) => {

@@ -6,10 +6,11 @@ ghost use Rattle.checkpoint.specs.declared.image.Image.{Image as ImageData};
 ghost use Rattle.command_words.specs.declared.asking.Asked.TheVariants.{RuleFile};
 ghost use Rattle.image_laws.specs.Images.{IsImageOf};
 ghost use Rattle.rule_lives.specs.Keeping.{AreLives, IsSafeTable};
+ghost use Rattle.rule_model.specs.declared.life.LifeTable.{LifeTable as TableOfLives};
 ghost use Rattle.rule_world.specs.Programs.{IsRunnable};
 ghost use Rattle.rule_world.specs.Worlds.{World};
 ghost use Rattle.script_run.specs.Texts.{limit_text};
-ghost use Rattle.replay.specs.Beginnings.{IsBeginningFor};
+ghost use Rattle.replay.specs.Beginnings.{CanBegin, IsBeginningFor};
 ghost use Rattle.replay.specs.Calls.{ShelfSeen, seen, RunOf, Says};
 ghost use Rattle.replay.specs.Checkpoints.{can_go_on};
 ghost use Rattle.replay.specs.Report.{image_report};
@@ -106,10 +107,11 @@ fn save_with_lives<E: Engine, S: Source, K: Sink>(
     requires lives { AreLives program lives }
     requires table { IsSafeTable program lives }
     requires low { limit ≤ 1000000 }
-    ensures { (name : List ℕ) (image : Option (List ℕ)) (first last : ShelfSeen) → IsBeginningFor first.files Mode.Save image beginning
+    ensures run { (name : List ℕ) (image : Option (List ℕ)) (first last : ShelfSeen) → IsBeginningFor first.files Mode.Save image beginning
         → RunOf E.gives E.fires E.counts (Some (RuleFile name Mode.Save limit image)) (Some (wanted_at Mode.Save limit beginning program))
         (seen first (S.left script.old) (S.given script.old) (S.faults script.old) (K.written out.old) (K.faults out.old))
         (seen last (S.left script.new) (S.given script.new) (S.faults script.new) (K.written out.new) (K.faults out.new)) result }
+    ensures unread { (CanBegin program lives beginning → ⊥) → script.new ≡ script.old }
 {
     let engine = match begun::<E>(alloc, program, lives, &beginning) {
         Ok(engine) => engine,
@@ -137,10 +139,11 @@ pub(crate) fn save_program<E: Engine, S: Source, K: Sink>(
 ) -> u8
     requires runnable { IsRunnable program }
     requires low { limit ≤ 1000000 }
-    ensures { (name : List ℕ) (image : Option (List ℕ)) (first last : ShelfSeen) → IsBeginningFor first.files Mode.Save image beginning
+    ensures run { (name : List ℕ) (image : Option (List ℕ)) (first last : ShelfSeen) → IsBeginningFor first.files Mode.Save image beginning
         → RunOf E.gives E.fires E.counts (Some (RuleFile name Mode.Save limit image)) (Some (wanted_at Mode.Save limit beginning program))
         (seen first (S.left script.old) (S.given script.old) (S.faults script.old) (K.written out.old) (K.faults out.old))
         (seen last (S.left script.new) (S.given script.new) (S.faults script.new) (K.written out.new) (K.faults out.new)) result }
+    ensures unread { ((table : TableOfLives) → AreLives program table → CanBegin program table beginning → ⊥) → script.new ≡ script.old }
 {
     match lives(alloc, &program) {
         Ok(lives) => {

@@ -5,6 +5,7 @@ ghost use Rattle.std.specs.Prelude.{◌≡◌, ◌⊎◌, ◌<◌, ◌≤◌, �
 ghost use Rattle.fx_io.specs.Outside.{Rose, append, count_after};
 ghost use Rattle.command_words.specs.declared.asking.Asked.{Asked};
 ghost use Rattle.command_words.specs.Asked.{asked_by};
+ghost use Rattle.replay.specs.Behind.{GoesOn, IsUnread};
 ghost use Rattle.replay.specs.Refusals.{refusal_text};
 ghost use Rattle.replay.specs.Report.{Report, IsFront, IsReport, Reports, IsWritten, IsStopped, TakesFor, IsLong};
 ghost use Rattle.replay.specs.Notices.{usage};
@@ -21,7 +22,7 @@ use std::alloc::Global;
 /// In the mode `run` it runs the script over the rule file, with the limit of firings of the words. In the mode `save` it does the same, and
 /// writes the image of what the run comes to in place of its lines, or the line of the limit, where that was met. Both go on from the image of
 /// a checkpoint, where one is named: the lines, their numbers, the limit and the status are those of the whole script, of which the lines
-/// before the image were read already (law `script_run::laws::a_run_goes_on_behind_its_first_lines`). In the mode `check` it writes that the
+/// before the image were read already (clause `goes_on`; law `script_run::laws::a_run_goes_on_behind_its_first_lines`). In the mode `check` it writes that the
 /// rule file is accepted, in the mode `lives` how long, in milliseconds, the events of its types matter, and in the mode `proof` certificates
 /// of that, which were confirmed: these leave the script alone, and the limit means nothing to them. Where the words ask for the load of a
 /// number, it runs the load's script over the load's rule file, with the limit of the words, prints nothing of that, and writes how many
@@ -56,6 +57,11 @@ pub fn run<F: Shelf, S: Source, K: Sink>(
     // There too, where a read failed or the script is too long: what the lines print that were taken with their ends.
     ensures stopped { (files : Files) (bytes : List ℕ) → F.files shelf.old ≡ Some files → S.left script.old ≡ Some bytes → (result ≡ 5) ⊎ (result ≡ 8)
         → IsStopped gives fires held_counts (wanted words.now files) bytes (S.left script.new) (K.written out.old) (K.written out.new) }
+
+    // Behind the image of what the run of an earlier script comes to: the lines and the status of both scripts as one, without the lines of
+    // the first.
+    ensures goes_on { (files : Files) (first second : List ℕ) → F.files shelf.old ≡ Some files → S.left script.old ≡ Some second → result ≤ 4
+        → GoesOn gives fires held_counts (wanted words.now files) first second (K.written out.old) (K.written out.new) result }
 
     // Where no script is to be run, whatever the script tells, and where no rule file is to be read, as of a load, whatever shelf and script
     // tell: exactly the report, or a front of it.
@@ -97,6 +103,7 @@ pub fn run<F: Shelf, S: Source, K: Sink>(
     // shelf, where no rule file of it is asked for.
     ensures untouched { (result ≡ 2) ⊎ (result ≡ 3) → script.new ≡ script.old }
     ensures unresumed { result ≡ 9 → IfSome (asked_by words.now) (λ asked. ¬ SavesRun asked) → script.new ≡ script.old }
+    ensures unread { (files : Files) → F.files shelf.old ≡ Some files → IsUnread (wanted words.now files) → script.new ≡ script.old }
     ensures no_run { IfSome (asked_by words.now) (λ asked. ¬ RunsScript asked) → script.new ≡ script.old }
     ensures nothing_left { result ≤ 1 → IfSome (asked_by words.now) (λ asked. RunsScript asked
         → IfSome (S.left script.new) (λ bytes. bytes ≡ [])) }

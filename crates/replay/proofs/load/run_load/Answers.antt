@@ -3,7 +3,7 @@ use Rattle.gen_load.specs.Rules.{rules_text}
 use Rattle.replay.specs.declared.rule_file.Reading.TheVariants.{Accepted, Refused}
 use Rattle.replay.specs.Refusals.{reading}
 use Rattle.replay.specs.Wanted.{sums_up}
-use Rattle.replay.proofs.Calls.{load_done, nothing_done}
+use Rattle.replay.proofs.Calls.{load_done, load_not_nine, nothing_done}
 use Rattle.replay.proofs.LoadFile.{load_file_accepted}
 use Rattle.replay.proofs.Reports.{a_load}
 use Rattle.replay.proofs.load.run_load.Goals as goal
@@ -19,6 +19,7 @@ returns-in-Ok-Accepted g c first last left given faults =
     (load_done g.E.Engine.gives g.E.Engine.fires g.E.Engine.counts c.args.number c.args.limit (sums_up c.args.number c.args.limit c.in-Ok-Accepted.program) first last left given faults _ _ _ _ _
     (λ script. record {
       exact = λ low. let said = rw c.in-Ok.ensures.script at (c.run_and_sum_up.ensures.exact low) in (_, (said.0, said.1, refl), said.2);
+      refused = λ nine. absurd (load_not_nine _ c.run_and_sum_up.ensures.answers nine);
       front = λ high r report. rw report.2 (rw c.in-Ok.ensures.script at (c.run_and_sum_up.ensures.front report.0 report.1 high));
     })
     c.run_and_sum_up.ensures.answers c.run_and_sum_up.ensures.cause)

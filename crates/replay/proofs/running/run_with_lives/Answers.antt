@@ -3,22 +3,22 @@ use Rattle.command_words.specs.declared.asking.Mode.TheVariants.{Run}
 use Rattle.replay.specs.declared.refused_checkpoint.CheckpointCode.TheVariants.{Unfit}
 use Rattle.replay.specs.Wanted.{wanted_at}
 use Rattle.replay.proofs.Calls.{checkpoint_done, nothing_done}
-use Rattle.replay.proofs.Runs.{failing, refused_so, run_done, run_failed, told_two, unfit_run}
+use Rattle.replay.proofs.Runs.{failing, refused_so, run_done, run_failed, unfit_run}
 use Rattle.replay.proofs.running.run_with_lives.Goals as goal
 
-pub returns-in-Ok-clause-run : goal.returns-in-Ok-clause-run
-returns-in-Ok-clause-run g c name image first last h =
-    let done = rw (c.in-Ok.ensures.program, c.in-Ok.ensures.table, c.behind.ensures, c.part.ensures) at c.in-Ok-2.ensures.done in
-    rw c.status_found.ensures (run_done g.E.Engine.gives g.E.Engine.fires g.E.Engine.counts name image c.args.limit c.args.program c.args.lives c.args.beginning first last _ _ _ _ _ _ _ _ _ _ c.requires.lives c.in-Ok.ensures.fits _
-    (done.0, done.1, λ w begins. told_two (done.2 w (c.in-Ok.ensures.stands w begins)))
-    c.in-Ok-2.ensures.taken c.in-Ok-2.ensures.nothing_left)
+pub returns-in-Ok-run_from-clause-run : goal.returns-in-Ok-run_from-clause-run
+returns-in-Ok-run_from-clause-run g c name image first last h =
+    let done = rw (c.in-Ok.ensures.program, c.in-Ok.ensures.table, c.behind-at.ensures, c.part.ensures) at c.in-Ok-run_from.ensures.done in
+    rw c.status_found.ensures (run_done g.E.Engine.gives g.E.Engine.fires g.E.Engine.counts name image c.args.limit c.args.program c.args.lives c.args.beginning first last _ _ _ _ _ _ _ _ _ _ c.requires.lives c.in-Ok.ensures.fits _ _
+    (done.0, done.1, λ w begins. done.2 w (c.in-Ok.ensures.stands w begins))
+    c.in-Ok-run_from.ensures.taken c.in-Ok-run_from.ensures.nothing_left)
 
 pub returns-in-Err-clause-run : goal.returns-in-Err-clause-run
 returns-in-Err-clause-run g c name image first last h =
-    let front = rw (c.in-Ok.ensures.program, c.in-Ok.ensures.table, c.behind.ensures, c.part.ensures) at c.in-Err.ensures.front in
-    let long = rw (c.in-Ok.ensures.program, c.in-Ok.ensures.table, c.behind.ensures, c.part.ensures) at c.in-Err.ensures.long in
-    let at_read = rw (c.in-Ok.ensures.program, c.in-Ok.ensures.table, c.behind.ensures, c.part.ensures) at c.in-Err.ensures.stopped_at_read in
-    let at_length = rw (c.in-Ok.ensures.program, c.in-Ok.ensures.table, c.behind.ensures, c.part.ensures) at c.in-Err.ensures.stopped_at_length in
+    let front = rw (c.in-Ok.ensures.program, c.in-Ok.ensures.table, c.behind-at.ensures, c.part.ensures) at c.in-Err.ensures.front in
+    let long = rw (c.in-Ok.ensures.program, c.in-Ok.ensures.table, c.behind-at.ensures, c.part.ensures) at c.in-Err.ensures.long in
+    let at_read = rw (c.in-Ok.ensures.program, c.in-Ok.ensures.table, c.behind-at.ensures, c.part.ensures) at c.in-Err.ensures.stopped_at_read in
+    let at_length = rw (c.in-Ok.ensures.program, c.in-Ok.ensures.table, c.behind-at.ensures, c.part.ensures) at c.in-Err.ensures.stopped_at_length in
     let stands = c.in-Ok.ensures.stands in
     rw c.status_of_fault.ensures (run_failed g.E.Engine.gives g.E.Engine.fires g.E.Engine.counts name image c.args.limit c.args.program c.args.lives c.args.beginning first last _ _ _ _ _ _ _ _ _ _ c.requires.lives c.in-Ok.ensures.fits c.in-Err.fault
     (λ w begins. front w (stands w begins)) c.in-Err.ensures.taken (λ is. c.in-Err.ensures.read (ap failing is)) (λ is. c.in-Err.ensures.write (ap failing is))
@@ -27,12 +27,18 @@ returns-in-Err-clause-run g c name image first last h =
 
 pub returns-in-Err-Unfit-clause-run : goal.returns-in-Err-Unfit-clause-run
 returns-in-Err-Unfit-clause-run g c name image first last h =
-    let no = c.in-Err-Unfit.ensures.unfit (ap Err c.in-Err-Unfit.field-0-is) in
+    let never = c.in-Err-Unfit.ensures.unfit (ap Err c.in-Err-Unfit.field-0-is) in
     checkpoint_done g.E.Engine.gives g.E.Engine.fires g.E.Engine.counts name Run c.args.limit image (wanted_at Run c.args.limit c.args.beginning c.args.program) Unfit first last _ _ _ _ _ _ _ _
-    (unfit_run g.E.Engine.gives g.E.Engine.fires g.E.Engine.counts c.args.limit c.args.program c.args.lives c.args.beginning c.requires.lives no)
+    (unfit_run g.E.Engine.gives g.E.Engine.fires g.E.Engine.counts c.args.limit c.args.program c.args.lives c.args.beginning c.requires.lives never)
     c.refuse_checkpoint.ensures.said c.refuse_checkpoint.ensures.front c.refuse_checkpoint.ensures.answers c.refuse_checkpoint.ensures.cause
-    (refused_so c.args.limit c.args.beginning c.args.program c.args.lives _ Run image _ _ name no h)
+    (refused_so c.args.limit c.args.beginning c.args.program c.args.lives _ Run image _ _ name never h)
 
 pub returns-in-Err-NoMemory-clause-run : goal.returns-in-Err-NoMemory-clause-run
 returns-in-Err-NoMemory-clause-run g c name image first last h =
     nothing_done g.E.Engine.gives g.E.Engine.fires g.E.Engine.counts _ _ first last _ _ _ _ _ 7 (inr (omega arith, omega arith)) (inl refl)
+
+pub returns-in-Ok-run_from-clause-unread : goal.returns-in-Ok-run_from-clause-unread
+returns-in-Ok-run_from-clause-unread g c never = absurd (never c.in-Ok.ensures.fits)
+
+pub returns-in-Err-clause-unread : goal.returns-in-Err-clause-unread
+returns-in-Err-clause-unread g c never = absurd (never c.in-Ok.ensures.fits)

@@ -2,5 +2,8 @@ use Rattle.std.proofs.Common.{inl, inr, refl, arith}
 use Rattle.replay.proofs.Calls.{nothing_done}
 use Rattle.replay.proofs.saving.save_program.Goals as goal
 
-pub returns-in-Err : goal.returns-in-Err
-returns-in-Err g c name image first last h = nothing_done g.E.Engine.gives g.E.Engine.fires g.E.Engine.counts _ _ first last _ _ _ _ _ 7 (inr (omega arith, omega arith)) (inl refl)
+pub returns-in-Err-clause-run : goal.returns-in-Err-clause-run
+returns-in-Err-clause-run g c name image first last h = nothing_done g.E.Engine.gives g.E.Engine.fires g.E.Engine.counts _ _ first last _ _ _ _ _ 7 (inr (omega arith, omega arith)) (inl refl)
+
+pub returns-in-Ok-clause-unread : goal.returns-in-Ok-clause-unread
+returns-in-Ok-clause-unread g c never = c.save_with_lives.ensures.unread (never c.in-Ok.lives c.in-Ok.ensures.lives)

@@ -1,12 +1,15 @@
-use Rattle.std.proofs.Common.{◌≡◌, Some, Err, sym, ap, ◌∙◌, inl, inr, refl, option_map, arith}
+use Rattle.std.proofs.Common.{◌≡◌, ℕ, List, Some, Err, sym, subst, ap, ◌∙◌, inl, inr, refl, option_map, arith}
 use Rattle.command_words.specs.declared.asking.Asked.TheVariants.{RuleFile}
 use Rattle.drl_parse.specs.Parsed.{file_limit}
 use Rattle.replay.specs.declared.rule_file.Reading.TheVariants.{Accepted, Refused}
-use Rattle.replay.specs.Calls.{wanted_told}
+use Rattle.replay.specs.Calls.{seen_of_shelf, wanted_told}
+use Rattle.replay.specs.Checkpoints.{rules_of}
 use Rattle.replay.specs.Refusals.{reading}
 use Rattle.replay.specs.Wanted.{refuses, refuses_checkpoint, rules_in, wanted_at, wanted_from, wanted_by_name}
-use Rattle.replay.proofs.Calls.{by_told, told_is, refused_done, checkpoint_done, nothing_done, not_refused}
-use Rattle.replay.proofs.Reports.{no_file, a_file, refused_file, rules_found}
+use Rattle.replay.proofs.Calls.{by_told, told_is, refused_done, refuses_since, rose_since, checkpoint_done, nothing_done, not_refused}
+use Rattle.replay.proofs.Reports.{no_file, a_file, accepted_file, refused_file}
+use Rattle.replay.specs.Behind.{IsUnread}
+use Rattle.replay.proofs.ImagesRead.{unread_at}
 use Rattle.replay.proofs.top.answer.Goals as goal
 
 pub returns-in-Err-Missing-clause-run : goal.returns-in-Err-Missing-clause-run
@@ -38,3 +41,73 @@ returns-in-Ok-Refused-clause-run g c =
     (λ three. inr (refused_file c.args.name.now _ c.in-Ok.file.items c.in-Ok-Refused.refusal c.in-Ok.ensures.found c.in-Ok.ensures.bytes is)))
     (told_is (g.F.Shelf.files c.args.shelf.now) (λ files. wanted_by_name (wanted_from c.args.plan.mode c.args.plan.limit image files (rules_in (files c.args.name.now))) files c.args.name.now) (refuses c.in-Ok-Refused.refusal)
     (λ files told. a_file (wanted_from c.args.plan.mode c.args.plan.limit image files (rules_in (files c.args.name.now))) c.args.name.now _ files c.in-Ok.file.items (Refused c.in-Ok-Refused.refusal) told c.in-Ok.ensures.found c.in-Ok.ensures.bytes is))
+
+pub returns-in-Ok-beginning-clause-run : goal.returns-in-Ok-beginning-clause-run
+unfolding file_limit
+returns-in-Ok-beginning-clause-run g c =
+    let image = option_map (λ it. it.now) c.args.image in
+    let mode = c.args.plan.mode in
+    let limit = c.args.plan.limit in
+    let p = c.in-Ok-Accepted.program in
+    let bytes = c.in-Ok.file.items in
+    let same = c.read_whole.ensures.files in
+    let is : reading bytes ≡ Accepted p = ap reading (sym c.deref.ensures.value) ∙ sym c.in-Ok-Accepted.ensures.reading ∙ c.in-Ok-Accepted.field-0-is in
+    by_told (wanted_told (Some (RuleFile c.args.name.now mode limit image)) (g.F.Shelf.files c.args.shelf.now)) (wanted_at mode limit c.in-Ok-beginning.beginning p)
+    (c.do_mode.ensures.run c.args.name.now image (seen_of_shelf (g.F.Shelf.files c.args.shelf.now) (g.F.Shelf.faults c.args.shelf.now) (g.F.Shelf.misses c.args.shelf.now)) _
+    (rw same at c.in-Ok-beginning.ensures.asked))
+    (told_is (g.F.Shelf.files c.args.shelf.now) (λ files. wanted_by_name (wanted_from mode limit image files (rules_in (files c.args.name.now))) files c.args.name.now) (wanted_at mode limit c.in-Ok-beginning.beginning p)
+    (λ files told. accepted_file mode limit image c.args.name.now _ files bytes p told c.in-Ok.ensures.found c.in-Ok.ensures.bytes is
+    ∙ ap (λ (read : List ℕ). wanted_from mode limit image files (rules_of read) p) (sym c.deref-2.ensures.value) ∙ c.in-Ok-beginning.ensures.found files (same ∙ told) limit p))
+
+pub returns-in-Err-Refused-clause-run : goal.returns-in-Err-Refused-clause-run
+unfolding file_limit
+returns-in-Err-Refused-clause-run g c =
+    let image = option_map (λ it. it.now) c.args.image in
+    let mode = c.args.plan.mode in
+    let limit = c.args.plan.limit in
+    let p = c.in-Ok-Accepted.program in
+    let bytes = c.in-Ok.file.items in
+    let same = c.read_whole.ensures.files in
+    let code = c.in-Err-Refused.code in
+    let is_code = ap Err c.in-Err-Refused.field-0-is in
+    let said = rw c.in-Err-Refused.field-0-is at c.refuse_checkpoint.ensures.said in
+    let front = rw c.in-Err-Refused.field-0-is at c.refuse_checkpoint.ensures.front in
+    let is : reading bytes ≡ Accepted p = ap reading (sym c.deref.ensures.value) ∙ sym c.in-Ok-Accepted.ensures.reading ∙ c.in-Ok-Accepted.field-0-is in
+    by_told (wanted_told (Some (RuleFile c.args.name.now mode limit image)) (g.F.Shelf.files c.args.shelf.now)) (refuses_checkpoint code)
+    (checkpoint_done g.E.Engine.gives g.E.Engine.fires g.E.Engine.counts c.args.name.now mode limit image (refuses_checkpoint code) code _ _ _ _ _ _ _ _ _ _ (λ script. refl)
+    said front c.refuse_checkpoint.ensures.answers c.refuse_checkpoint.ensures.cause
+    (inr (refuses_since same c.read_whole.ensures.miss_counts (c.in-Err-Refused.ensures.cause code is_code))))
+    (told_is (g.F.Shelf.files c.args.shelf.now) (λ files. wanted_by_name (wanted_from mode limit image files (rules_in (files c.args.name.now))) files c.args.name.now) (refuses_checkpoint code)
+    (λ files told. accepted_file mode limit image c.args.name.now _ files bytes p told c.in-Ok.ensures.found c.in-Ok.ensures.bytes is
+    ∙ ap (λ (read : List ℕ). wanted_from mode limit image files (rules_of read) p) (sym c.deref-2.ensures.value) ∙ c.in-Err-Refused.ensures.refused code is_code files (same ∙ told) limit p))
+
+pub returns-in-Err-ReadFault-beginning-clause-run : goal.returns-in-Err-ReadFault-beginning-clause-run
+returns-in-Err-ReadFault-beginning-clause-run g c =
+    let failed = c.in-Err-ReadFault-beginning.ensures.failed (ap Err c.in-Err-ReadFault-beginning.field-0-is) in
+    nothing_done g.E.Engine.gives g.E.Engine.fires g.E.Engine.counts _ _ _ _ _ _ _ _ _ 5 (inr (omega arith, omega arith))
+    (inr (refl, _, refl, inr (inl (failed.0, failed.1, rose_since (c.read_whole.ensures.counts failed.0) failed.2))))
+
+pub returns-in-Err-clause-run : goal.returns-in-Err-clause-run
+returns-in-Err-clause-run g c = nothing_done g.E.Engine.gives g.E.Engine.fires g.E.Engine.counts _ _ _ _ _ _ _ _ _ 7 (inr (omega arith, omega arith)) (inl refl)
+
+pub returns-clause-run : goal.returns-clause-run
+returns-clause-run g c = nothing_done g.E.Engine.gives g.E.Engine.fires g.E.Engine.counts _ _ _ _ _ _ _ _ _ 7 (inr (omega arith, omega arith)) (inl refl)
+
+pub returns-in-Ok-beginning-clause-untouched : goal.returns-in-Ok-beginning-clause-untouched
+returns-in-Ok-beginning-clause-untouched g c three =
+    absurd (not_refused c.args.plan.mode c.args.plan.limit c.in-Ok-beginning.beginning c.in-Ok-Accepted.program
+    (c.do_mode.ensures.run c.args.name.now (option_map (λ it. it.now) c.args.image) (seen_of_shelf (g.F.Shelf.files c.args.shelf.now) (g.F.Shelf.faults c.args.shelf.now) (g.F.Shelf.misses c.args.shelf.now))
+    (seen_of_shelf (g.F.Shelf.files c.args.shelf.now) (g.F.Shelf.faults c.args.shelf.now) (g.F.Shelf.misses c.args.shelf.now)) (rw c.read_whole.ensures.files at c.in-Ok-beginning.ensures.asked)) three)
+
+pub returns-in-Ok-beginning-clause-unread : goal.returns-in-Ok-beginning-clause-unread
+unfolding file_limit
+returns-in-Ok-beginning-clause-unread g c files told refused =
+    let image = option_map (λ it. it.now) c.args.image in
+    let mode = c.args.plan.mode in
+    let limit = c.args.plan.limit in
+    let p = c.in-Ok-Accepted.program in
+    let bytes = c.in-Ok.file.items in
+    let is : reading bytes ≡ Accepted p = ap reading (sym c.deref.ensures.value) ∙ sym c.in-Ok-Accepted.ensures.reading ∙ c.in-Ok-Accepted.field-0-is in
+    c.do_mode.ensures.unread (unread_at mode limit c.in-Ok-beginning.beginning p (subst IsUnread
+    (accepted_file mode limit image c.args.name.now _ files bytes p told c.in-Ok.ensures.found c.in-Ok.ensures.bytes is
+    ∙ ap (λ (read : List ℕ). wanted_from mode limit image files (rules_of read) p) (sym c.deref-2.ensures.value) ∙ c.in-Ok-beginning.ensures.found files (c.read_whole.ensures.files ∙ told) limit p) refused))

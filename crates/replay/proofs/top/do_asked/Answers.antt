@@ -9,3 +9,8 @@ returns-in-Some-Load-clause-run g c = rw (c.in-Some-Load.is, c.in-Some-Load.fiel
 
 pub returns-in-None-clause-run : goal.returns-in-None-clause-run
 returns-in-None-clause-run g c = rw c.in-None.is (usage_done g.E.Engine.gives g.E.Engine.fires g.E.Engine.counts _ _ _ _ _ _ _ _ _ _ c.say.ensures.said c.say.ensures.front c.say.ensures.either c.say.ensures.cause)
+
+pub returns-in-Some-RuleFile-clause-unread : goal.returns-in-Some-RuleFile-clause-unread
+returns-in-Some-RuleFile-clause-unread g c files told refused =
+    let read = rw (c.as_str.ensures, c.lent.ensures) at c.answer.ensures.unread in
+    read files told (rw (c.in-Some-RuleFile.is, c.in-Some-RuleFile.field-0-is) at refused)

@@ -1,6 +1,6 @@
 use Rattle.std.proofs.Common.{◌≡◌, ◌⊎◌, refl, inl, inr, ℕ, List, Option}
 use Rattle.command_words.specs.declared.asking.Mode.{Mode}
-use Rattle.command_words.specs.declared.asking.Mode.TheVariants.{Run, Check, Lives, Proof, Save}
+use Rattle.command_words.specs.declared.asking.Mode.TheVariants.{Check, Lives, Proof}
 use Rattle.rule_model.specs.declared.program.Program.{Program}
 use Rattle.script_run.specs.Firings.{Gives, Fires, Counts}
 use Rattle.replay.specs.Notices.{accepted_text}
@@ -30,16 +30,16 @@ pub returns-in-Run-clause-run : goal.returns-in-Run-clause-run
 returns-in-Run-clause-run g c name image first last h = rw c.in-Run.is (c.run_program.ensures.run name image first last (rw c.in-Run.is at h))
 
 pub returns-in-Run-clause-no_run : goal.returns-in-Run-clause-no_run
-returns-in-Run-clause-no_run g c no = absurd (no (inl c.in-Run.is))
+returns-in-Run-clause-no_run g c never = absurd (never (inl c.in-Run.is))
 
 pub returns-in-Run-clause-untouched : goal.returns-in-Run-clause-untouched
 returns-in-Run-clause-untouched g c not_save nine = c.run_program.ensures.untouched nine
 
 pub returns-in-Save-clause-run : goal.returns-in-Save-clause-run
-returns-in-Save-clause-run g c name image first last h = rw c.in-Save.is (c.save_program.ensures name image first last (rw c.in-Save.is at h))
+returns-in-Save-clause-run g c name image first last h = rw c.in-Save.is (c.save_program.ensures.run name image first last (rw c.in-Save.is at h))
 
 pub returns-in-Save-clause-no_run : goal.returns-in-Save-clause-no_run
-returns-in-Save-clause-no_run g c no = absurd (no (inr c.in-Save.is))
+returns-in-Save-clause-no_run g c never = absurd (never (inr c.in-Save.is))
 
 pub returns-in-Save-clause-untouched : goal.returns-in-Save-clause-untouched
 returns-in-Save-clause-untouched g c not_save nine = absurd (not_save c.in-Save.is)
@@ -47,7 +47,7 @@ returns-in-Save-clause-untouched g c not_save nine = absurd (not_save c.in-Save.
 pub returns-in-Check-clause-run : goal.returns-in-Check-clause-run
 returns-in-Check-clause-run g c name image first last h =
     rw c.in-Check.is (mode_done g.E.Engine.gives g.E.Engine.fires g.E.Engine.counts name Check c.args.plan.limit image (accepts c.args.program) first last _ _ _ _ _ _ _ _ (other Check (inl refl))
-    (λ script. written_as (record { bytes = accepted_text c.args.program; status = 0 }) refl (says_low _ c.accept.ensures.said c.accept.ensures.front (not_nine _ c.accept.ensures.answers)))
+    (λ script. written_as (record { bytes = accepted_text c.args.program; status = 0 }) refl (says_low _ _ _ _ c.accept.ensures.said c.accept.ensures.front (not_nine _ c.accept.ensures.answers)))
     c.accept.ensures.answers c.accept.ensures.cause)
 
 pub returns-in-Lives-clause-run : goal.returns-in-Lives-clause-run

@@ -1,3 +1,8 @@
+use Rattle.std.proofs.Common.{Option, subst, sym}
+use Rattle.command_words.specs.declared.asking.Asked.{Asked}
+use Rattle.replay.specs.Wanted.{wanted_by}
+use Rattle.replay.specs.Behind.{IsUnread}
+use Rattle.replay.proofs.GoingOn.{goes_on}
 use Rattle.replay.proofs.Calls.{wanted_is, written_told, long_told, stopped_told, refusal_told, written_no_script, written_no_file, completes, completes_unread, completes_load}
 use Rattle.replay.proofs.top.replay.Goals as goal
 
@@ -90,3 +95,14 @@ pub returns-in-Ok-clause-nothing_left : goal.returns-in-Ok-clause-nothing_left
 returns-in-Ok-clause-nothing_left g c =
     let run = rw c.in-Ok.ensures.asks at c.do_asked.ensures.run in
     run.nothing_left
+
+pub returns-in-Ok-clause-goes_on : goal.returns-in-Ok-clause-goes_on
+returns-in-Ok-clause-goes_on g c files first second told tells low =
+    let run = rw c.in-Ok.ensures.asks at c.do_asked.ensures.run in
+    let written = (written_told run files second told tells).exact low in
+    rw (wanted_is c.args.words.now files) (goes_on g.E.Engine.gives g.E.Engine.fires g.E.Engine.counts _ first second _ _ _ written.0 written.1 written.2 low)
+
+pub returns-in-Ok-clause-unread : goal.returns-in-Ok-clause-unread
+returns-in-Ok-clause-unread g c files told refused =
+    c.do_asked.ensures.unread files told
+    (subst (λ (asked : Option Asked). IsUnread (wanted_by asked files)) (sym c.in-Ok.ensures.asks) (subst IsUnread (wanted_is c.args.words.now files) refused))
