@@ -33,7 +33,8 @@ pub fn the_rule_file_of_a_load_is_accepted()
     ensures { (program : Program) × (reading rules_text ≡ Accepted program) }
 {}
 
-/// What is wanted has at most one report, unless it is certificates, which can be good in several ways.
+/// What is wanted has at most one report, unless it is certificates, which can be good in several ways, or a run behind an image: of one that
+/// fits and is that of no world nothing is said but the statuses.
 pub fn there_is_at_most_one_report()
     ensures { (gives : Gives) (fires : Fires) (counts : Counts) (w : Wanted) (script : List ℕ) (r q : Report)
         → IsDefinite w → IsReport gives fires counts w script r → IsReport gives fires counts w script q → r ≡ q }
