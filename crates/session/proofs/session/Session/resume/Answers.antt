@@ -24,7 +24,7 @@ returns-in_err-state-clause-unfit c unfit fits =
     let o = c.in_ok-plain.ensures.owners in
     let is : c.setting-2.result.now ≡ record { program = c.args.program; lives = c.args.lives } = c.setting-2.ensures.same ∙ c.in_ok-setting.ensures in
     let by_rows = ((c.an_image_fits_by_tests_and_rows.ensures c.args.program c.args.lives image o.0 c.requires.table.safe o.1).0 fits).1 in
-    c.in_err-state.ensures.unfit (ap Err (residual_unfit c.from_residual.result c.in_err-state.field-0.0 c.from_residual.ensures.1 unfit)) o.0 (subst (λ (x : Setting). AreOwners x.program o.0) (sym is) o.1) (subst (λ (x : Setting). FitsByRows x.program x.lives image o.0) (sym is) by_rows)
+    c.in_err-state.ensures.unfit (ap Err (residual_unfit c.from_residual-in_err-state.result c.in_err-state.field-0.0 c.from_residual-in_err-state.ensures.1 unfit)) o.0 (subst (λ (x : Setting). AreOwners x.program o.0) (sym is) o.1) (subst (λ (x : Setting). FitsByRows x.program x.lives image o.0) (sym is) by_rows)
 
 pub invariant_of-result : goal.invariant_of-result
 invariant_of-result c =
