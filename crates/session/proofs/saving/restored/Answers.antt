@@ -19,7 +19,7 @@ returns-then-not-is_empty-clause-unfit c unfit owners own =
     let kept = c.in_ok-kept.kept in
     let keys = c.in_ok-retention.old.keys in
     let same : to_z w64 (of_z w64 image.clock) ≡ image.clock = clock_same image.clock c.requires.plain.lawful.clock_low c.requires.plain.lawful.clock_high in
-    let passes : Passes image.clock (is_among []) (is_named c.in_ok-net.agenda) kept.retention c.in_ok-retention.retention (has_tag keys) = simp (same, c.agenda.ensures, c.in_ok-agenda.ensures) at c.in_ok-retention.ensures.passes in
+    let passes : Passes image.clock (is_among []) (is_named c.in_ok-net.agenda) kept.retention c.in_ok-retention.retention (has_tag keys) = simp (same, c.agenda-2.ensures, c.in_ok-agenda.ensures) at c.in_ok-retention.ensures.passes in
     let some : length keys ≡ 0 → ⊥ = search rules in
     old_refuses p c.args.setting.now.lives image kept.facts kept.expiries kept.retention c.in_ok-retention.retention c.in_ok-net.agenda (has_tag keys) (c.in_ok-kept.ensures.facts ∙ ap stored c.as_slice.ensures) c.in_ok-kept.ensures.held
     passes c.in_ok-net.net c.in_ok-net.ensures.matched c.requires.plain (some_key keys some) owners own
@@ -37,7 +37,7 @@ returns-clause-restored c owners own =
     let keys = c.in_ok-retention.old.keys in
     let marks = c.in_ok-agenda.agenda in
     let same : to_z w64 (of_z w64 image.clock) ≡ image.clock = clock_same image.clock c.requires.plain.lawful.clock_low c.requires.plain.lawful.clock_high in
-    let passes : Passes image.clock (is_among []) (is_named marks) kept.retention c.in_ok-retention.retention (has_tag keys) = simp (same, c.agenda.ensures) at c.in_ok-retention.ensures.passes in
+    let passes : Passes image.clock (is_among []) (is_named marks) kept.retention c.in_ok-retention.retention (has_tag keys) = simp (same, c.agenda-2.ensures) at c.in_ok-retention.ensures.passes in
     let none : length keys ≡ 0 = search rules in
     let matched = subst (λ (a : Marks). IsMatched p image c.in_ok-net.net a) (sym c.in_ok-agenda.ensures) c.in_ok-net.ensures.matched in
     let course : c.in_ok-course.course ≡ record { last_starts = image.last_starts; promises = image.promises; begun = image.begun } =

@@ -22,18 +22,18 @@ pub returns-in_err-state-clause-unfit : goal.returns-in_err-state-clause-unfit
 returns-in_err-state-clause-unfit c unfit fits =
     let image = c.args.image.now in
     let o = c.in_ok-plain.ensures.owners in
-    let is : c.setting.result.now ≡ record { program = c.args.program; lives = c.args.lives } = c.setting.ensures.same ∙ c.in_ok-setting.ensures in
+    let is : c.setting-2.result.now ≡ record { program = c.args.program; lives = c.args.lives } = c.setting-2.ensures.same ∙ c.in_ok-setting.ensures in
     let by_rows = ((c.an_image_fits_by_tests_and_rows.ensures c.args.program c.args.lives image o.0 c.requires.table.safe o.1).0 fits).1 in
-    c.in_err-state.ensures.unfit (ap Err (residual_unfit c.from_residual.result c.in_err-state.field-0.0 c.from_residual.ensures.1 unfit)) o.0 (subst (λ (x : Setting). AreOwners x.program o.0) (sym is) o.1) (subst (λ (x : Setting). FitsByRows x.program x.lives image o.0) (sym is) by_rows)
+    c.in_err-state.ensures.unfit (ap Err (residual_unfit c.from_residual-in_err-state.result c.in_err-state.field-0.0 c.from_residual-in_err-state.ensures.1 unfit)) o.0 (subst (λ (x : Setting). AreOwners x.program o.0) (sym is) o.1) (subst (λ (x : Setting). FitsByRows x.program x.lives image o.0) (sym is) by_rows)
 
 pub invariant_of-result : goal.invariant_of-result
 invariant_of-result c =
     let image = c.args.image.now in
     let o = c.in_ok-plain.ensures.owners in
-    let is : c.setting.result.now ≡ record { program = c.args.program; lives = c.args.lives } = c.setting.ensures.same ∙ c.in_ok-setting.ensures in
+    let is : c.setting-2.result.now ≡ record { program = c.args.program; lives = c.args.lives } = c.setting-2.ensures.same ∙ c.in_ok-setting.ensures in
     let r : IsRestored c.in_ok-setting.setting image o.0 c.in_ok-memory.memory.value c.in_ok-state.state =
     subst (λ (n : Memory). IsRestored c.in_ok-setting.setting image o.0 n c.in_ok-state.state) (sym c.in_ok-memory.ensures)
-    (subst (λ (x : Setting). IsRestored x image o.0 c.in_ok-state.memory c.in_ok-state.state) c.setting.ensures.same
+    (subst (λ (x : Setting). IsRestored x image o.0 c.in_ok-state.memory c.in_ok-state.state) c.setting-2.ensures.same
     (c.in_ok-state.ensures.restored o.0 (subst (λ (x : Setting). AreOwners x.program o.0) (sym is) o.1))) in
     record { sound = merely r.sound }
 
@@ -41,24 +41,24 @@ pub returns-clause-stands : goal.returns-clause-stands
 returns-clause-stands c w lawful of_world =
     let image = c.args.image.now in
     let o = c.in_ok-plain.ensures.owners in
-    let is : c.setting.result.now ≡ record { program = c.args.program; lives = c.args.lives } = c.setting.ensures.same ∙ c.in_ok-setting.ensures in
+    let is : c.setting-2.result.now ≡ record { program = c.args.program; lives = c.args.lives } = c.setting-2.ensures.same ∙ c.in_ok-setting.ensures in
     let r : IsRestored c.in_ok-setting.setting image o.0 c.in_ok-memory.memory.value c.in_ok-state.state =
     subst (λ (n : Memory). IsRestored c.in_ok-setting.setting image o.0 n c.in_ok-state.state) (sym c.in_ok-memory.ensures)
-    (subst (λ (x : Setting). IsRestored x image o.0 c.in_ok-state.memory c.in_ok-state.state) c.setting.ensures.same
+    (subst (λ (x : Setting). IsRestored x image o.0 c.in_ok-state.memory c.in_ok-state.state) c.setting-2.ensures.same
     (c.in_ok-state.ensures.restored o.0 (subst (λ (x : Setting). AreOwners x.program o.0) (sym is) o.1))) in
     r.stands w (subst (λ (x : Setting). IsLawful x.program w) (sym c.in_ok-setting.ensures) lawful) (subst (λ (x : Setting). IsImageOf x.program x.lives w image) (sym c.in_ok-setting.ensures) of_world)
 
 pub returns-clause-next : goal.returns-clause-next
 returns-clause-next c =
     let o = c.in_ok-plain.ensures.owners in
-    let is : c.setting.result.now ≡ record { program = c.args.program; lives = c.args.lives } = c.setting.ensures.same ∙ c.in_ok-setting.ensures in
+    let is : c.setting-2.result.now ≡ record { program = c.args.program; lives = c.args.lives } = c.setting-2.ensures.same ∙ c.in_ok-setting.ensures in
     (c.in_ok-state.ensures.restored o.0 (subst (λ (x : Setting). AreOwners x.program o.0) (sym is) o.1)).next
 
 pub returns-clause-fits : goal.returns-clause-fits
 returns-clause-fits c =
     let image = c.args.image.now in
     let o = c.in_ok-plain.ensures.owners in
-    let is : c.setting.result.now ≡ record { program = c.args.program; lives = c.args.lives } = c.setting.ensures.same ∙ c.in_ok-setting.ensures in
+    let is : c.setting-2.result.now ≡ record { program = c.args.program; lives = c.args.lives } = c.setting-2.ensures.same ∙ c.in_ok-setting.ensures in
     let by_rows = (c.in_ok-state.ensures.restored o.0 (subst (λ (x : Setting). AreOwners x.program o.0) (sym is) o.1)).fits in
     let true_now : c.in_ok-plain.plain ≡ true = search rules in
     (c.an_image_fits_by_tests_and_rows.ensures c.args.program c.args.lives image o.0 c.requires.table.safe o.1).1
