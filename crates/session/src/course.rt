@@ -63,7 +63,11 @@ impl Course {
     }
 
     /// The last starts of so many entry points, in milliseconds, by their places.
-    pub(crate) fn first_last_starts(&self, alloc: Global, many: usize) -> Result<Vec<Millis>, NoMemory>
+    pub(crate) fn first_last_starts(
+        &self,
+        alloc: Global,
+        many: usize,
+    ) -> Result<Vec<Millis>, NoMemory>
         ensures { IfOk result (λ first. ArePadded self.now.last_starts many first.items) }
     {
         padded(alloc, self.last_starts.as_slice(), many)

@@ -2,7 +2,6 @@ ghost use Rattle.std.specs.Prelude.{◌≡◌, ◌+◌, ◌<◌, ◌^◌, ◌≤
 ghost use Rattle.rule_model.specs.Lives.{AreShort, IsShortLife};
 ghost use Rattle.rule_model.specs.declared.step.Step.TheVariants.{Insert, Modify, Retract, At, Promise, Begin};
 ghost use Rattle.rule_model.specs.Candidates.{is_present};
-ghost use Rattle.rule_model.specs.Types.{is_event};
 ghost use Rattle.rule_world.specs.Events.{end_of_presence, most_millis, times_of};
 ghost use Rattle.rule_world.specs.Programs.{IsRunnable};
 ghost use Rattle.rule_world.specs.Worlds.{with_values, is_of_type, modify_fault, revised as revised_fact};
@@ -69,7 +68,11 @@ pub(crate) fn with_fact(facts: BoxedFacts, fact: Fact) -> Result<BoxedFacts, NoM
 }
 
 /// These timers and that of a fact, if it expires; its tag is new.
-pub(crate) fn timed(expiries: DueQueue, program: &Program, fact: &Fact) -> Result<DueQueue, NoMemory>
+pub(crate) fn timed(
+    expiries: DueQueue,
+    program: &Program,
+    fact: &Fact,
+) -> Result<DueQueue, NoMemory>
     requires runnable { IsRunnable program.now }
     requires low { (pos 0 -ℤ most_millis) ≤ℤ fact.now.times.start }
     requires high { fact.now.times.start ≤ℤ most_millis }
@@ -136,7 +139,11 @@ pub(crate) fn life_end(lives: &LifeTable, fact: &Fact) -> Option<Millis>
 }
 
 /// Holds a new event whose life ends until this moment.
-pub(crate) fn hold(retention: &mut Retention, tag: Tag, past_from: Option<Millis>) -> Result<(), NoMemory>
+pub(crate) fn hold(
+    retention: &mut Retention,
+    tag: Tag,
+    past_from: Option<Millis>,
+) -> Result<(), NoMemory>
     ensures due { OnOk result ((other : ℕ) → map.get retention.new.due other ≡ cond (other == tag.0 && is_some past_from) past_from (map.get retention.old.due other)) }
     ensures lingering { OnOk result ((other : ℕ) → lingers retention.new other ≡ (lingers retention.old other && not (other == tag.0 && is_some past_from))) }
 {

@@ -4,9 +4,7 @@ ghost use Rattle.std.specs.FinMap as map;
 ghost use Rattle.fx_base.specs.Lists.{In};
 ghost use Rattle.row_delta.specs.Rows.{has};
 ghost use Rattle.checkpoint.specs.declared.image.FiredMatch.{FiredMatch as FiredMatchData};
-ghost use Rattle.rule_model.specs.declared.life.LifeTable.{LifeTable as LifeTableData};
 ghost use Rattle.rule_model.specs.declared.matched.Match.{Match as MatchData};
-ghost use Rattle.rule_model.specs.declared.program.Program.{Program as ProgramData};
 ghost use Rattle.rule_model.specs.Matches.{has_match, saliences as saliences_in};
 ghost use Rattle.image_laws.specs.Images.{match_fired};
 ghost use Rattle.retention.specs.Retentions.{lingers};
@@ -127,7 +125,12 @@ fn matches_of(alloc: Global, changes: &[RuleChange]) -> Result<BTreeSet<Match, G
 {
     let mut matches = BTreeSet::new(alloc);
     for change in changes {
-        add_matches(alloc, &mut matches, change.rule, change.delta.come.as_slice())?;
+        add_matches(
+            alloc,
+            &mut matches,
+            change.rule,
+            change.delta.come.as_slice(),
+        )?;
     }
     Ok(matches)
 }

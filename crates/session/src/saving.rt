@@ -70,11 +70,7 @@ fn matched(
 }
 
 // The state and the memory of a session, of an image that fits by plain tests; `Unfit` where it does not fit by its rows.
-fn restored(
-    alloc: Global,
-    setting: &Setting,
-    image: &Image,
-) -> Result<(State, Memory), ResumeFault>
+fn restored(alloc: Global, setting: &Setting, image: &Image) -> Result<(State, Memory), ResumeFault>
     requires runs { Runs setting.now }
     requires plain { FitsPlainly setting.now.program setting.now.lives image.now }
     ensures restored { (owners : ℕ → ℕ → ℕ) → AreOwners setting.now.program owners → IfOk result (λ r. IsRestored setting.now image.now owners r.1 r.0) }

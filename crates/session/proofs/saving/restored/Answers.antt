@@ -1,8 +1,7 @@
-use Rattle.std.proofs.Common.{◌≡◌, ◌∙◌, ℕ, ℤ, List, [], length, sym, ap, subst, to_z, of_z, w64, rules}
+use Rattle.std.proofs.Common.{◌≡◌, ◌∙◌, ℤ, List, [], length, sym, ap, subst, to_z, of_z, w64, rules}
 use Rattle.agenda.specs.Agendas.{Marks}
 use Rattle.retention.specs.Retentions.{has_tag, is_among, is_named, Passes}
 use Rattle.session_laws.specs.Restoring.{stored, AreStorable, IsMatched}
-use Rattle.session_laws.specs.Standing.{Course}
 use Rattle.session_laws.proofs.Faults.{clock_same}
 use Rattle.session_laws.proofs.Forgotten.{no_keys}
 use Rattle.session_laws.proofs.Matched.{image_safe, old_refuses, restored_is, some_key}
