@@ -116,24 +116,29 @@ def main() -> int:
     parser.add_argument("--kills", type=int, default=200)
     parser.add_argument("--from", dest="seed", type=int, default=0)
     asked = parser.parse_args()
-    program, kills, images, seed = os.path.abspath(asked.program), {"all": 0, "the program": 0}, 0, asked.seed
+    program, kills, images, scripts, seed = os.path.abspath(asked.program), {"all": 0, "the program": 0}, 0, 0, asked.seed
     while sum(kills.values()) < asked.kills:
         folder = Path(tempfile.mkdtemp(prefix="kills-"))
         case = (lives_case_of if seed % 2 else case_of)(seed, TODAY)
         write_case(case, str(folder))
+        if subprocess.run([program, "--mode", "check", "rules.drl"], cwd=folder, stdout=subprocess.DEVNULL, check=False).returncode:
+            shutil.rmtree(folder)
+            seed += 1
+            continue
         script = [line + b"\n" for line in (folder / "script.jsonl").read_bytes().splitlines()]
         run = Run(program, folder, script * 4, Random(seed))
         for _ in range(min(KILLS_OF_A_SCRIPT, asked.kills - sum(kills.values()))):
             kills[run.with_a_kill()] += 1
         status = run.to_the_end()
         said = run.difference()
+        scripts += 1
         images += len([path for path in (folder / "kept" / "image").iterdir() if path.name.isdigit()])
         if said:
             print(f"seed {seed}, status {status}: {said}; see {folder}")
             return 1
         shutil.rmtree(folder)
         seed += 1
-    print(f"{seed - asked.seed} scripts, {kills['all']} kills of all, {kills['the program']} of the running program alone, {images} images: no difference")
+    print(f"{scripts} scripts, {kills['all']} kills of all, {kills['the program']} of the running program alone, {images} images: no difference")
     return 0
 
 

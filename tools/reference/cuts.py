@@ -1,7 +1,7 @@
 #!/usr/bin/env python3
 """Cuts scripts: the first part is run in the mode `save`, the rest goes on from the image, and both have to be the run without a break.
 
-    python3 tools/reference/cuts.py [--scripts N] [--from SEED] [--stage N] [--replay PROGRAM] [--folder FOLDER] [--keep-going]
+    python3 tools/reference/cuts.py [--scripts N] [--from SEED] [--stage N] [--replay PROGRAM] [--folder FOLDER] [--keep-going] [--threefold]
 
 Each script is cut once behind each of its lines, and some more times behind three lines at once, where the runs between go on from an image
 and save one. Every image has to be that of the run without a break behind the same line, byte for byte; the last part has to print what
@@ -163,10 +163,11 @@ def differs_without(program: Program, whole: Whole, lines: list[bytes], cut: int
     return resumed_answer(program, other, b"\n".join(lines[cut:]), limit) != whole.behind(cut)
 
 
-def first_difference(program: Program, case: Case, whole: Whole, answer: Answers, counts: Counter, rng: Random) -> Optional[str]:
+def first_difference(program: Program, case: Case, whole: Whole, answer: Answers, counts: Counter, rng: Random,
+                     threefold: bool = False) -> Optional[str]:
     lines = lines_of(case.script)
     threes = [sorted(rng.randint(0, len(lines)) for _ in range(3)) for _ in range(THREES)]
-    for cuts in [[cut] for cut in range(whole.end + 1)] + threes:
+    for cuts in threes[:1] if threefold else [[cut] for cut in range(whole.end + 1)] + threes:
         counts[len(cuts)] += 1
         if said := difference(whole, lines, cuts, answer):
             return f"cut behind {', '.join(map(str, cuts))}: {said}"
@@ -238,13 +239,14 @@ def main() -> int:
     parser.add_argument("--replay", help="the program, a command; without it the evaluator itself")
     parser.add_argument("--folder", default="reference-failures", help="where the files of the first difference are left")
     parser.add_argument("--keep-going", action="store_true", help="do not stop at the first difference")
+    parser.add_argument("--threefold", action="store_true", help="cut each script at three lines at once alone")
     asked = parser.parse_args()
     counts: Counter = Counter()
     for script in scripts(asked.scripts, asked.first, asked.stage):
         lines = lines_of(script.case.script)
         with tempfile.TemporaryDirectory(prefix="cuts-") as room:
             answer = by_program(absolute(asked.replay), script.case, room) if asked.replay else by_reference(script.program, script.limit)
-            said = first_difference(script.program, script.case, script.whole, answer, counts, Random(f"cuts/{script.seed}"))
+            said = first_difference(script.program, script.case, script.whole, answer, counts, Random(f"cuts/{script.seed}"), asked.threefold)
         counts.update(script.counts)
         counts["telling"] += script.counts["telling images"] > 0
         if not asked.replay:
