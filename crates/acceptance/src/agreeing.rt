@@ -6,7 +6,7 @@ use fx_base::limits::MOST_MILLIS;
 use fx_base::{
     Copies, EntryId, Fact, FactId, Facts, Millis, NoMemory, Seq, Tag, Text, Times, TypeId, Value,
 };
-use rete_net::{LoadFault, Rete, RuleChange};
+use rete_net::{Rete, RuleChange};
 use row_change::changes_nothing;
 use row_delta::{Delta, Row};
 use rule_eval::rows_of_rules;
@@ -39,17 +39,6 @@ pub(crate) enum Step<'a> {
     At(Millis),
     /// No event of this entry point starts before this moment any more.
     Promise(&'a str, Millis),
-}
-
-/// How a network is led through steps.
-#[derive(Clone, Copy, Debug, PartialEq, Eq)]
-pub(crate) enum Way {
-    /// It is told of each.
-    Told,
-    /// It is not told of moves of the clock for which it is quiet.
-    SkipsQuietMoves,
-    /// Before each step another one, loaded with its facts and what it counts beyond them, takes its place.
-    LoadedAnew,
 }
 
 /// The rows of a rule by all differences so far.
@@ -126,13 +115,6 @@ fn behind_answers(
         }
     }
     Ok(if change.is_none() { Some(next) } else { None })
-}
-
-/// Whether rules have the same rows.
-fn have_same(rules: &[RuleRows], others: &[RuleRows]) -> bool {
-    rules.len() == others.len()
-        && rules.iter().zip(others.iter()).all(|(rule, other)| rule.rows.as_slice()
-            == other.rows.as_slice())
 }
 
 /// No rows of these rules.
@@ -300,29 +282,6 @@ impl Run {
         }
     }
 
-    /// A network that is loaded with the facts takes the place of this one. Whether it answers the rows that the rules have.
-    fn load(&mut self, alloc: Global, program: &Program) -> Result<bool, NoMemory> {
-        let mut kept = Vec::new(alloc);
-        for fact in self.facts.facts(alloc)? {
-            kept.push(copied(alloc, fact)?)?;
-        }
-        let extras = self.net.extras(alloc, &self.facts)?;
-        let moment = Moment {
-            clock: self.clock,
-            last_starts: &self.last_starts,
-            promises: &self.promises,
-        };
-        match Rete::load(alloc, program, &kept, &extras, &moment, &self.facts) {
-            Ok((net, changes)) => {
-                self.net = net;
-                let loaded = behind_answers(alloc, no_rows(alloc, program)?, changes)?;
-                Ok(loaded.is_some_and(|rules| have_same(&rules, &self.rules)))
-            }
-            Err(LoadFault::NoMemory) => Err(NoMemory),
-            Err(LoadFault::NoRow) => Ok(false),
-        }
-    }
-
     /// The next fact, if the type and the entry point are there and it may come so late.
     fn new_fact(
         &self,
@@ -463,13 +422,13 @@ impl Run {
         alloc: Global,
         program: &Program,
         clock: Millis,
-        way: Way,
+        skips: bool,
     ) -> Result<bool, NoMemory> {
         if clock < self.clock {
             return Ok(false);
         }
         let gone = expired(alloc, program, &self.facts, self.clock, clock)?;
-        if way == Way::SkipsQuietMoves && gone.is_empty() && self.net.is_quiet(clock) {
+        if skips && gone.is_empty() && self.net.is_quiet(clock) {
             self.clock = clock;
             return Ok(true);
         }
@@ -482,7 +441,7 @@ impl Run {
         alloc: Global,
         program: &Program,
         step: &Step,
-        way: Way,
+        skips: bool,
     ) -> Result<bool, NoMemory>
         requires { IsRunnable program.now }
     {
@@ -491,7 +450,7 @@ impl Run {
             Step::ComeBy(entry, ty, cells) => self.come(alloc, program, ty, entry, cells),
             Step::Change(id, place, cell) => self.change(alloc, program, id, place, cell),
             Step::Go(id) => self.go(alloc, program, id),
-            Step::At(clock) => self.at(alloc, program, clock, way),
+            Step::At(clock) => self.at(alloc, program, clock, skips),
             Step::Promise(entry, from) => self.promise(alloc, program, entry, from),
         }
     }
@@ -521,18 +480,6 @@ impl Run {
     }
 }
 
-/// A copy of a fact.
-fn copied(alloc: Global, fact: &Fact) -> Result<Fact, NoMemory> {
-    Ok(Fact {
-        id: fact.id,
-        ty: fact.ty,
-        entry: fact.entry,
-        fields: fact.fields.copy(alloc)?,
-        tag: fact.tag,
-        times: fact.times,
-    })
-}
-
 /// The next version of a fact, with another value in the field of this place.
 fn revised(
     alloc: Global,
@@ -557,7 +504,7 @@ fn revised(
 
 /// Whether the steps can be, and before and behind each of them every rule of the program has by all differences of the network the
 /// rows that are found anew.
-fn follow(alloc: Global, program: &Program, steps: &[Step], way: Way) -> Result<bool, NoMemory>
+fn follow(alloc: Global, program: &Program, steps: &[Step], skips: bool) -> Result<bool, NoMemory>
     requires { IsRunnable program.now }
 {
     let Some(mut run) = Run::start(alloc, program)? else {
@@ -567,10 +514,7 @@ fn follow(alloc: Global, program: &Program, steps: &[Step], way: Way) -> Result<
         return Ok(false);
     }
     for step in steps {
-        if way == Way::LoadedAnew && !run.load(alloc, program)? {
-            return Ok(false);
-        }
-        if !run.step(alloc, program, step, way)? || !run.agrees(alloc, program)? {
+        if !run.step(alloc, program, step, skips)? || !run.agrees(alloc, program)? {
             return Ok(false);
         }
     }
@@ -579,15 +523,15 @@ fn follow(alloc: Global, program: &Program, steps: &[Step], way: Way) -> Result<
 
 /// Whether a rule file is accepted, and before and behind each step every rule has by all differences of the network the rows that are
 /// found anew; whether no difference has a row on both sides, one that goes and was not there, or one that comes and was; and whether
-/// of each rule a row came and one went.
+/// of each rule a row came and one went. With `skips` the network is not told of moves of the clock for which it is quiet.
 pub(crate) fn agree(
     alloc: Global,
     rules: &str,
     steps: &[Step],
-    way: Way,
+    skips: bool,
 ) -> Result<bool, NoMemory> {
     match program(alloc, rules) {
-        Some(program) => follow(alloc, &program, steps, way),
+        Some(program) => follow(alloc, &program, steps, skips),
         None => Ok(false),
     }
 }

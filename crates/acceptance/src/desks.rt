@@ -1,6 +1,6 @@
 use crate::agreeing::Cell::{Bool, Int, Text};
 use crate::agreeing::Step::{At, Change, Come, ComeBy, Go};
-use crate::agreeing::{Step, Way, agree};
+use crate::agreeing::{Step, agree};
 use std::test::Fail;
 
 /// A bank's desk.
@@ -215,14 +215,10 @@ const FRAUD_STEPS: &[Step] = &[
 
 #[test]
 fn the_network_agrees_on_the_fraud_desk(rt: HostRuntime) -> Result<(), Fail> {
-    assert!(rt; agree(rt.alloc(), FRAUD, FRAUD_STEPS, Way::Told)?);
+    assert!(rt; agree(rt.alloc(), FRAUD, FRAUD_STEPS, false)?);
     assert!(rt;
-        agree(rt.alloc(), FRAUD, FRAUD_STEPS, Way::SkipsQuietMoves)?,
+        agree(rt.alloc(), FRAUD, FRAUD_STEPS, true)?,
         "where quiet moves are skipped"
-    );
-    assert!(rt;
-        agree(rt.alloc(), FRAUD, FRAUD_STEPS, Way::LoadedAnew)?,
-        "where it is loaded before each step"
     );
     Ok(())
 }
@@ -425,14 +421,10 @@ const ALARM_STEPS: &[Step] = &[
 
 #[test]
 fn the_network_agrees_on_the_alarm_desk(rt: HostRuntime) -> Result<(), Fail> {
-    assert!(rt; agree(rt.alloc(), ALARM, ALARM_STEPS, Way::Told)?);
+    assert!(rt; agree(rt.alloc(), ALARM, ALARM_STEPS, false)?);
     assert!(rt;
-        agree(rt.alloc(), ALARM, ALARM_STEPS, Way::SkipsQuietMoves)?,
+        agree(rt.alloc(), ALARM, ALARM_STEPS, true)?,
         "where quiet moves are skipped"
-    );
-    assert!(rt;
-        agree(rt.alloc(), ALARM, ALARM_STEPS, Way::LoadedAnew)?,
-        "where it is loaded before each step"
     );
     Ok(())
 }
@@ -655,14 +647,10 @@ const PLANT_STEPS: &[Step] = &[
 
 #[test]
 fn the_network_agrees_on_the_plant_desk(rt: HostRuntime) -> Result<(), Fail> {
-    assert!(rt; agree(rt.alloc(), PLANT, PLANT_STEPS, Way::Told)?);
+    assert!(rt; agree(rt.alloc(), PLANT, PLANT_STEPS, false)?);
     assert!(rt;
-        agree(rt.alloc(), PLANT, PLANT_STEPS, Way::SkipsQuietMoves)?,
+        agree(rt.alloc(), PLANT, PLANT_STEPS, true)?,
         "where quiet moves are skipped"
-    );
-    assert!(rt;
-        agree(rt.alloc(), PLANT, PLANT_STEPS, Way::LoadedAnew)?,
-        "where it is loaded before each step"
     );
     Ok(())
 }

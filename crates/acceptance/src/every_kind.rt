@@ -1,6 +1,6 @@
 use crate::agreeing::Cell::{Bool, Int, Text};
 use crate::agreeing::Step::{At, Change, Come, ComeBy, Go};
-use crate::agreeing::{Step, Way, agree};
+use crate::agreeing::{Step, agree};
 use std::test::Fail;
 
 /// Each kind of condition, and each way in which one joins what stands before it.
@@ -250,14 +250,10 @@ const STEPS: &[Step] = &[
 
 #[test]
 fn the_network_agrees_on_every_kind_of_condition(rt: HostRuntime) -> Result<(), Fail> {
-    assert!(rt; agree(rt.alloc(), RULES, STEPS, Way::Told)?);
+    assert!(rt; agree(rt.alloc(), RULES, STEPS, false)?);
     assert!(rt;
-        agree(rt.alloc(), RULES, STEPS, Way::SkipsQuietMoves)?,
+        agree(rt.alloc(), RULES, STEPS, true)?,
         "where quiet moves are skipped"
-    );
-    assert!(rt;
-        agree(rt.alloc(), RULES, STEPS, Way::LoadedAnew)?,
-        "where it is loaded before each step"
     );
     Ok(())
 }
