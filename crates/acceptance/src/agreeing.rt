@@ -300,11 +300,13 @@ impl Run {
         }
     }
 
-    /// A network that is loaded with the facts takes the place of this one. Whether it answers the rows that the rules have.
+    /// A network that is loaded with the facts that are present takes the place of this one. Whether it answers the rows that the rules have.
     fn load(&mut self, alloc: Global, program: &Program) -> Result<bool, NoMemory> {
         let mut kept = Vec::new(alloc);
         for fact in self.facts.facts(alloc)? {
-            kept.push(copied(alloc, fact)?)?;
+            if program.is_present(self.clock, fact) {
+                kept.push(copied(alloc, fact)?)?;
+            }
         }
         let extras = self.net.extras(alloc, &self.facts)?;
         let moment = Moment {
