@@ -12,7 +12,7 @@ and whole answers get their names when they are on the disk. Whoever begins agai
 gets the lines of the log behind it once more, and answers the same. `taken N` on standard output says how many lines of the script are in
 the log then; whoever sends the script goes on behind these.
 
-The status is the program's: 0 or 1 where the script ended, 4 at the limit of firings, and 2 where the program ended by itself.
+The status is the program's: 0 or 1 where the script ended, 4 at the limit of firings, and 2 where it was killed.
 """
 
 from __future__ import annotations
@@ -29,6 +29,8 @@ from typing import BinaryIO, Iterator, Optional
 MARK = b"end of a segment\n"
 # Statuses of a program that was refused a read, a write or memory: another time it may go on.
 MAY_PASS = (5, 6, 7)
+# Statuses with which the answers are whole: the end of the script, and the limit.
+ENDED = (0, 1, 4)
 
 
 def on_disk(path: Path) -> None:
@@ -225,10 +227,9 @@ class Keeper:
 
     def ended(self) -> int:
         status = self.process.wait()
-        if status < 0:
-            return 2
-        self.answers.end()
-        return status
+        if status in ENDED:
+            self.answers.end()
+        return 2 if status < 0 else status
 
 
 def lines_of(source: BinaryIO) -> Iterator[bytes]:
