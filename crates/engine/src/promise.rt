@@ -96,19 +96,19 @@ pub trait Engine: Sized + Drop {
         ensures image { IfOk result (λ image. (w : World) → stands self.now w → IsImageOf (made_with self.now) (table self.now) w image) };
 
     /// An engine of a program, with a safe table of lives, in each lawful world of which the image is that; it has given the tags below the
-    /// image's next one. `Unfit`: exactly where the image does not fit. Program and table are given up then.
+    /// image's next one. `Unfit`: exactly where the image does not fit. Program, table and image are given up then.
     fn resume(
         alloc: Global,
         program: Program,
         lives: LifeTable,
-        image: &Image,
+        image: Image,
     ) -> Result<Self, ResumeFault>
         requires runnable { IsRunnable program }
         requires table { IsSafeTable program lives }
-        ensures stands { IfOk result (λ e. (w : World) → IsLawful program w → IsImageOf program lives w image.now → stands e w) }
+        ensures stands { IfOk result (λ e. (w : World) → IsLawful program w → IsImageOf program lives w image → stands e w) }
         ensures program { IfOk result (λ e. made_with e ≡ program) }
         ensures table { IfOk result (λ e. table e ≡ lives) }
-        ensures tags { IfOk result (λ e. tags e + 1 ≡ image.now.next_tag) }
-        ensures fits { OnOk result (Fits program lives image.now) }
-        ensures unfit { IsErrOf result ResumeFault.Unfit → Fits program lives image.now → ⊥ };
+        ensures tags { IfOk result (λ e. tags e + 1 ≡ image.next_tag) }
+        ensures fits { OnOk result (Fits program lives image) }
+        ensures unfit { IsErrOf result ResumeFault.Unfit → Fits program lives image → ⊥ };
 }

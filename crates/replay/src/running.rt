@@ -12,6 +12,7 @@ ghost use Rattle.replay.specs.Wanted.{wanted_at};
 use crate::beginning::Beginning;
 use crate::refused_checkpoint::{CheckpointCode, refuse_checkpoint};
 use crate::status::{status_found, status_of_fault};
+use checkpoint::RunPart;
 use command_words::Mode;
 use engine::{Engine, ResumeFault};
 use expiry_infer::lives;
@@ -20,27 +21,51 @@ use rule_model::{LifeTable, Program};
 use script_run::{Progress, run_from};
 use std::alloc::Global;
 
-/// An engine in each world of the beginning.
-pub(crate) fn begun<E: Engine>(
+// An engine in each world of the beginning.
+fn engine_in<E: Engine>(
     alloc: Global,
     program: Program,
     lives: LifeTable,
-    beginning: &Beginning,
+    beginning: Beginning,
 ) -> Result<E, ResumeFault>
     requires runnable { IsRunnable program }
     requires table { IsSafeTable program lives }
-    ensures stands { IfOk result (λ e. (w : World) → BeginsIn program lives beginning.now w → E.stands e w) }
+    ensures stands { IfOk result (λ e. (w : World) → BeginsIn program lives beginning w → E.stands e w) }
     ensures program { IfOk result (λ e. E.made_with e ≡ program) }
     ensures table { IfOk result (λ e. E.table e ≡ lives) }
     ensures tags { IfOk result (λ e. E.tags e ≤ 2 ^ 61) }
-    ensures lines { OnOk result ((part_of beginning.now).lines ≤ 2 ^ 61) }
-    ensures fits { OnOk result (CanBegin program lives beginning.now) }
-    ensures unfit { IsErrOf result ResumeFault.Unfit → CanBegin program lives beginning.now → ⊥ }
+    ensures lines { OnOk result ((part_of beginning).lines ≤ 2 ^ 61) }
+    ensures fits { OnOk result (CanBegin program lives beginning) }
+    ensures unfit { IsErrOf result ResumeFault.Unfit → CanBegin program lives beginning → ⊥ }
 {
     match beginning {
         Beginning::First(_) => Ok(E::new(alloc, program, lives)?),
         Beginning::Behind(image) => E::resume(alloc, program, lives, image),
     }
+}
+
+/// An engine in each world of the beginning, and what an image says of the run before it has gone on. What an image holds goes into the
+/// engine.
+pub(crate) fn begun<E: Engine>(
+    alloc: Global,
+    program: Program,
+    lives: LifeTable,
+    beginning: Beginning,
+) -> Result<(E, RunPart), ResumeFault>
+    requires runnable { IsRunnable program }
+    requires table { IsSafeTable program lives }
+    ensures stands { IfOk result (λ b. (w : World) → BeginsIn program lives beginning w → E.stands b.0 w) }
+    ensures program { IfOk result (λ b. E.made_with b.0 ≡ program) }
+    ensures table { IfOk result (λ b. E.table b.0 ≡ lives) }
+    ensures tags { IfOk result (λ b. E.tags b.0 ≤ 2 ^ 61) }
+    ensures part { IfOk result (λ b. b.1 ≡ part_of beginning) }
+    ensures lines { OnOk result ((part_of beginning).lines ≤ 2 ^ 61) }
+    ensures fits { OnOk result (CanBegin program lives beginning) }
+    ensures unfit { IsErrOf result ResumeFault.Unfit → CanBegin program lives beginning → ⊥ }
+{
+    let part = beginning.part(alloc)?;
+    let engine = engine_in::<E>(alloc, program, lives, beginning)?;
+    Ok((engine, part))
 }
 
 // Runs a program with the table of its lives over a script, from the beginning.
@@ -64,12 +89,13 @@ fn run_with_lives<E: Engine, S: Source, K: Sink>(
     ensures untouched { result ≡ 9 → script.new ≡ script.old }
     ensures unread { (CanBegin program lives beginning → ⊥) → script.new ≡ script.old }
 {
-    let engine = match begun::<E>(alloc, program, lives, &beginning) {
-        Ok(engine) => engine,
+    let begun = match begun::<E>(alloc, program, lives, beginning) {
+        Ok(begun) => begun,
         Err(ResumeFault::Unfit) => return refuse_checkpoint(alloc, out, CheckpointCode::Unfit),
         Err(ResumeFault::NoMemory) => return 7,
     };
-    let at = Progress::behind(&beginning.part(), limit);
+    let (engine, part) = begun;
+    let at = Progress::behind(&part, limit);
     match run_from::<E, S, K>(alloc, engine, at, limit, script, out) {
         Ok(found) => status_found(found),
         Err(fault) => status_of_fault(fault),

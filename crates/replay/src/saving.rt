@@ -1,5 +1,5 @@
 //! A run of which the image is written in place of its lines.
-ghost use Rattle.std.specs.Prelude.{◌≡◌, ◌⊎◌, ◌≤◌, List, Option, ℕ, Some};
+ghost use Rattle.std.specs.Prelude.{◌≡◌, ◌⊎◌, ◌≤◌, List, Option, ℕ, Some, IfOk};
 ghost use Rattle.fx_io.specs.Outside.{Rose, append, AppendsFront};
 ghost use Rattle.checkpoint.specs.Bytes.{image_bytes};
 ghost use Rattle.checkpoint.specs.declared.image.Image.{Image as ImageData};
@@ -27,6 +27,7 @@ use checkpoint::{Image, RunPart, encode};
 use command_words::Mode;
 use engine::{Engine, ResumeFault};
 use expiry_infer::lives;
+use fx_base::NoMemory;
 use fx_io::{Sink, Source};
 use rule_model::{LifeTable, Program};
 use script_run::{Progress, push_limit, run_from};
@@ -61,15 +62,23 @@ fn write_bytes<K: Sink>(alloc: Global, image: &Image, bytes: &[u8], out: &mut K)
     say(out, bytes, u8::from(image.run.faulty))
 }
 
-// Writes the image of an engine, with this part of the run.
-fn write_image<E: Engine, K: Sink>(alloc: Global, engine: &E, run: RunPart, out: &mut K) -> u8
+// The image of an engine, with this part of the run. The engine is given up.
+fn image_of<E: Engine>(alloc: Global, engine: E, run: RunPart) -> Result<Image, NoMemory>
+    ensures run { IfOk result (λ image. image.run ≡ run) }
+    ensures image { IfOk result (λ image. (w : World) → E.stands engine w → IsImageOf (E.made_with engine) (E.table engine) w image) }
+{
+    engine.save(alloc, run)
+}
+
+// Writes the image of an engine, with this part of the run. The engine is given up before the bytes are made.
+fn write_image<E: Engine, K: Sink>(alloc: Global, engine: E, run: RunPart, out: &mut K) -> u8
     ensures said { ((result ≡ 7) × (K.written out.new ≡ K.written out.old))
-        ⊎ ((image : ImageData) × (image.run ≡ run) × ((w : World) → E.stands engine.now w → IsImageOf (E.made_with engine.now) (E.table engine.now) w image)
+        ⊎ ((image : ImageData) × (image.run ≡ run) × ((w : World) → E.stands engine w → IsImageOf (E.made_with engine) (E.table engine) w image)
         × Says (K.written out.old) (K.written out.new) result (image_report image)) }
     ensures answers { (result ≤ 1) ⊎ ((6 ≤ result) × (result ≤ 7)) ⊎ (result ≡ 9) }
     ensures cause { result ≡ 6 → Rose (K.faults out.old) (K.faults out.new) }
 {
-    let image = match engine.save(alloc, run) {
+    let image = match image_of::<E>(alloc, engine, run) {
         Ok(image) => image,
         Err(_) => return 7,
     };
@@ -113,15 +122,15 @@ fn save_with_lives<E: Engine, S: Source, K: Sink>(
         (seen last (S.left script.new) (S.given script.new) (S.faults script.new) (K.written out.new) (K.faults out.new)) result }
     ensures unread { (CanBegin program lives beginning → ⊥) → script.new ≡ script.old }
 {
-    let engine = match begun::<E>(alloc, program, lives, &beginning) {
-        Ok(engine) => engine,
+    let begun = match begun::<E>(alloc, program, lives, beginning) {
+        Ok(begun) => begun,
         Err(ResumeFault::Unfit) => return refuse_checkpoint(alloc, out, CheckpointCode::Unfit),
         Err(ResumeFault::NoMemory) => return 7,
     };
-    let part = beginning.part();
+    let (engine, part) = begun;
     let at = Progress::behind(&part, limit);
     match run_from::<E, S, Nowhere>(alloc, engine, at, limit, script, &mut Nowhere) {
-        Ok(Some((engine, at))) => write_image::<E, K>(alloc, &engine, at.part(part, limit), out),
+        Ok(Some((engine, at))) => write_image::<E, K>(alloc, engine, at.part(part, limit), out),
         Ok(None) => say_limit(alloc, limit, out),
         Err(fault) => status_of_fault(fault),
     }

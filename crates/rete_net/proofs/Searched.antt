@@ -203,18 +203,22 @@ missing_row rows row k sorted parted = by (has rows row) refl (parted (searchabl
 
 -- ---- facts of a type
 
-pub filter_more : {A : Type 0} (test : A → Bool) (xs : List A) (i : ℕ) (x : A) → i < length xs → x ≡ get_or xs i x → filter test (take (i + 1) xs) ≡ filter test (take i xs) ++ cond (test x) (x ∷ []) []
-filter_more test xs i x lt is = ap (filter test) (take_more xs i x lt ∙ ap (λ y. take i xs ++ y ∷ []) (sym is)) ∙ behind (take i xs)
+-- one more at the end of a list that a test parts
+filter_behind : {A : Type 0} (test : A → Bool) (ys : List A) (x : A) → filter test (ys ++ x ∷ []) ≡ filter test ys ++ cond (test x) (x ∷ []) []
+filter_behind test [] x = refl
+filter_behind test (y ∷ ys) x = by (test y) (filter_behind test ys x)
   where
-    behind : (ys : List _) → filter test (ys ++ x ∷ []) ≡ filter test ys ++ cond (test x) (x ∷ []) []
-    behind [] = refl
-    behind (y ∷ ys) = by (test y) (behind ys)
-      where
-        by : (b : Bool) → filter test (ys ++ x ∷ []) ≡ filter test ys ++ cond (test x) (x ∷ []) []
-            → cond b (y ∷ filter test (ys ++ x ∷ [])) (filter test (ys ++ x ∷ [])) ≡ cond b (y ∷ filter test ys) (filter test ys) ++ cond (test x) (x ∷ []) []
-        by true rest = ap (λ zs. y ∷ zs) rest
-        by false rest = rest
+    by : (b : Bool) → filter test (ys ++ x ∷ []) ≡ filter test ys ++ cond (test x) (x ∷ []) []
+        → cond b (y ∷ filter test (ys ++ x ∷ [])) (filter test (ys ++ x ∷ [])) ≡ cond b (y ∷ filter test ys) (filter test ys) ++ cond (test x) (x ∷ []) []
+    by true rest = ap (λ zs. y ∷ zs) rest
+    by false rest = rest
 
 pub lent_more : (facts : List (Bor Fact)) (f : Bor Fact) → lent (facts ++ f ∷ []) ≡ lent facts ++ f.now ∷ []
 lent_more [] f = refl
 lent_more (g ∷ facts) f = ap (λ rest. g.now ∷ rest) (lent_more facts f)
+
+pub filter_more : (test : Fact → Bool) (fs : List (Bor Fact)) (i : ℕ) (f : Bor Fact) → i < length fs → f ≡ get_or fs i f
+    → filter test (lent (take (i + 1) fs)) ≡ filter test (lent (take i fs)) ++ cond (test f.now) (f.now ∷ []) []
+filter_more test fs i f lt is =
+    ap (λ gs. filter test (lent gs)) (take_more fs i f lt is ∙ ap (λ g. take i fs ++ g ∷ []) (sym is))
+    ∙ ap (filter test) (lent_more (take i fs) f) ∙ filter_behind test (lent (take i fs)) f.now

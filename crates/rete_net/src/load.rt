@@ -3,6 +3,7 @@ ghost use Rattle.std.specs.List.Sorted.{IsStrictlySortedBy};
 ghost use Rattle.fx_base.specs.Lists.{In};
 ghost use Rattle.row_delta.specs.declared.extra.Extra.{Extra as ExtraData};
 ghost use Rattle.row_delta.specs.declared.row.Named.{Named as NamedData};
+ghost use Rattle.rule_model.specs.Lent.{lent};
 ghost use Rattle.rule_model.specs.Snapshots.{Snapshot};
 ghost use Rattle.rule_world.specs.Programs.{IsRunnable};
 ghost use Rattle.image_laws.specs.Extras.{extra_cmp};
@@ -63,20 +64,20 @@ impl Rete {
     pub fn load<F: Facts>(
         alloc: Global,
         program: &Program,
-        kept: &[Fact],
+        kept: &[&Fact],
         extras: &[Extra],
         moment: &Moment,
         facts: &F,
     ) -> Result<(Rete, Vec<RuleChange>), LoadFault>
         ensures net { IsRunnable program.now → IfOk result (λ loaded. IsNetOf program.now loaded.0.nodes.items loaded.0.ends.items) }
         ensures rules { length program.now.rules < 2 ^ 16 → IfOk result (λ loaded. (c : RuleChangeData) → In c loaded.1.items → c.rule.0 < length program.now.rules) }
-        ensures rows { IfOk result (λ loaded. (t : Snapshot) (owners : ℕ → ℕ → ℕ) → IsLoadable program.now t kept.now extras.now moment.now (F.map facts.now) → AreOwners program.now owners
+        ensures rows { IfOk result (λ loaded. (t : Snapshot) (owners : ℕ → ℕ → ℕ) → IsLoadable program.now t (lent kept.now) extras.now moment.now (F.map facts.now) → AreOwners program.now owners
             → AreLadenRows program.now t extras.now owners loaded.1.items) }
-        ensures stands { IfOk result (λ loaded. (s t : Snapshot) (forgotten : NamedData → Bool) → IsLoadable program.now t kept.now extras.now moment.now (F.map facts.now)
+        ensures stands { IfOk result (λ loaded. (s t : Snapshot) (forgotten : NamedData → Bool) → IsLoadable program.now t (lent kept.now) extras.now moment.now (F.map facts.now)
             → IsBehind program.now s t forgotten extras.now (F.map facts.now) → NetStands program.now loaded.0 s forgotten) }
-        ensures all_there { OnOk result ((t : Snapshot) (owners : ℕ → ℕ → ℕ) → IsLoadable program.now t kept.now extras.now moment.now (F.map facts.now) → AreOwners program.now owners
+        ensures all_there { OnOk result ((t : Snapshot) (owners : ℕ → ℕ → ℕ) → IsLoadable program.now t (lent kept.now) extras.now moment.now (F.map facts.now) → AreOwners program.now owners
             → (e : ExtraData) → In e extras.now → IsThere program.now t extras.now owners e true) }
-        ensures no_row { IsErrOf result LoadFault.NoRow → (t : Snapshot) (owners : ℕ → ℕ → ℕ) → IsLoadable program.now t kept.now extras.now moment.now (F.map facts.now) → AreOwners program.now owners
+        ensures no_row { IsErrOf result LoadFault.NoRow → (t : Snapshot) (owners : ℕ → ℕ → ℕ) → IsLoadable program.now t (lent kept.now) extras.now moment.now (F.map facts.now) → AreOwners program.now owners
             → (e : ExtraData) × In e extras.now × IsThere program.now t extras.now owners e false }
     {
         let mut net = Rete::of_rules(alloc, program)?;
@@ -91,7 +92,7 @@ impl Rete {
         &mut self,
         alloc: Global,
         program: &Program,
-        kept: &[Fact],
+        kept: &[&Fact],
         extras: &[Extra],
         moment: &Moment,
         facts: &F,
@@ -102,9 +103,9 @@ impl Rete {
         ensures replaced { OnOk result (IsReplaced self.old.nodes.items self.new.nodes.items) }
         ensures scheduled { OnOk result (AreScheduled program.now self.old.nodes.items self.old.schedule → AreScheduled program.now self.new.nodes.items self.new.schedule) }
         ensures loaded { IfOk result (λ a. IsWired self.old.nodes.items self.old.ends.items self.old.index → IsStrictlySortedBy extra_cmp extras.now
-            → AreLoaded program.now (F.map facts.now) kept.now extras.now moment.now empty_row_comes self.old.nodes.items self.new.nodes.items self.old.owners.items self.old.ends.items a (length self.old.nodes.items)) }
+            → AreLoaded program.now (F.map facts.now) (lent kept.now) extras.now moment.now empty_row_comes self.old.nodes.items self.new.nodes.items self.old.owners.items self.old.ends.items a (length self.old.nodes.items)) }
         ensures stuck { IsErrOf result LoadFault.NoRow → IsWired self.old.nodes.items self.old.ends.items self.old.index → IsStrictlySortedBy extra_cmp extras.now
-            → IsStuck program.now (F.map facts.now) kept.now extras.now moment.now empty_row_comes self.old.nodes.items self.old.owners.items self.old.ends.items }
+            → IsStuck program.now (F.map facts.now) (lent kept.now) extras.now moment.now empty_row_comes self.old.nodes.items self.old.owners.items self.old.ends.items }
     {
         let groups = by_type(alloc, kept)?;
         let none = Vec::new(alloc);

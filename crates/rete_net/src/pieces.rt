@@ -40,12 +40,12 @@ fn put_fact<'f>(
 }
 
 /// The facts by the numbers of their types, those of a type in their order. It costs the facts and the types.
-pub(crate) fn by_type<'f>(alloc: Global, kept: &'f [Fact]) -> Result<Vec<Vec<&'f Fact>>, NoMemory>
-    ensures { IfOk result (λ groups. (ty : ℕ) → facts_at groups.items ty ≡ filter (is_of ty) kept.now) }
+pub(crate) fn by_type<'f>(alloc: Global, kept: &[&'f Fact]) -> Result<Vec<Vec<&'f Fact>>, NoMemory>
+    ensures { IfOk result (λ groups. (ty : ℕ) → facts_at groups.items ty ≡ filter (is_of ty) (lent kept.now)) }
 {
     let mut groups = Vec::new(alloc);
     for fact in kept {
-        put_fact(&mut groups, alloc, fact)?;
+        put_fact(&mut groups, alloc, *fact)?;
     }
     Ok(groups)
 }

@@ -1,3 +1,4 @@
 pub mod Sessions
+pub mod Restores
 pub mod Codes
 pub mod Holds

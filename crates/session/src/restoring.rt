@@ -64,13 +64,13 @@ impl Restored {
         })
     }
 
-    // The same with a copy of a fact, whose tag is new.
-    fn with(self, alloc: Global, setting: &Setting, fact: &Fact) -> Result<Restored, NoMemory>
+    // The same with a fact, whose tag is new.
+    fn with(self, setting: &Setting, fact: Fact) -> Result<Restored, NoMemory>
         requires runs { Runs setting.now }
-        requires times { HasTimes fact.now }
+        requires times { HasTimes fact }
         requires held { AreHeld setting.now.program setting.now.lives self.facts self.expiries self.retention }
-        requires fresh { map.get self.facts fact.now.tag.0 ≡ None }
-        ensures facts { IfOk result (λ r. r.facts ≡ map.insert self.facts fact.now.tag.0 fact.now) }
+        requires fresh { map.get self.facts fact.tag.0 ≡ None }
+        ensures facts { IfOk result (λ r. r.facts ≡ map.insert self.facts fact.tag.0 fact) }
         ensures held { IfOk result (λ r. AreHeld setting.now.program setting.now.lives r.facts r.expiries r.retention) }
     {
         let Restored {
@@ -78,9 +78,9 @@ impl Restored {
             expiries,
             mut retention,
         } = self;
-        let expiries = timed(expiries, &setting.program, fact)?;
-        hold(&mut retention, fact.tag, life_end(&setting.lives, fact))?;
-        let facts = with_fact(facts, copied(alloc, fact)?)?;
+        let expiries = timed(expiries, &setting.program, &fact)?;
+        hold(&mut retention, fact.tag, life_end(&setting.lives, &fact))?;
+        let facts = with_fact(facts, fact)?;
         Ok(Restored {
             facts,
             expiries,
@@ -88,16 +88,16 @@ impl Restored {
         })
     }
 
-    /// Copies of these facts.
-    pub(crate) fn of(alloc: Global, setting: &Setting, facts: &[Fact]) -> Result<Restored, NoMemory>
+    /// These facts.
+    pub(crate) fn of(alloc: Global, setting: &Setting, facts: Vec<Fact>) -> Result<Restored, NoMemory>
         requires runs { Runs setting.now }
-        requires storable { AreStorable facts.now }
-        ensures facts { IfOk result (λ r. r.facts ≡ stored facts.now) }
+        requires storable { AreStorable facts.items }
+        ensures facts { IfOk result (λ r. r.facts ≡ stored facts.items) }
         ensures held { IfOk result (λ r. AreHeld setting.now.program setting.now.lives r.facts r.expiries r.retention) }
     {
         let mut restored = Restored::new(alloc)?;
         for fact in facts {
-            restored = restored.with(alloc, setting, fact)?;
+            restored = restored.with(setting, fact)?;
         }
         Ok(restored)
     }

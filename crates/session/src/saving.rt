@@ -10,9 +10,11 @@ ghost use Rattle.image_laws.specs.Fitting.{Fits};
 ghost use Rattle.image_laws.specs.Images.{IsImageOf, match_fired};
 ghost use Rattle.image_laws.specs.Laden.{AreOwners};
 ghost use Rattle.image_fitting.specs.Plain.{FitsPlainly, FitsByRows};
-ghost use Rattle.session_laws.specs.Restoring.{stored, IsMatched, IsRestored};
+ghost use Rattle.session_laws.specs.Restoring.{IsMatched, IsRestored};
 ghost use Rattle.session_laws.specs.Saving.{IsSaved};
 ghost use Rattle.session_laws.specs.Standing.{Runs};
+ghost use Rattle.checkpoint.specs.declared.image.Image.{Image as ImageData};
+ghost use Rattle.session.specs.Restores.{AreOfImage};
 ghost use Rattle.session.specs.Sessions.{Stands};
 
 use crate::boxed::{BoxedAgenda, BoxedFacts};
@@ -28,40 +30,32 @@ use fx_base::{Fact, NoMemory, Seq};
 use image_fitting::fits_plainly;
 use image_fitting::laws::an_image_fits_by_tests_and_rows;
 use rete_net::{LoadFault, Rete};
-use rule_model::{LifeTable, Match, Program};
+use rule_model::{LifeTable, Match, Moment, Program};
+use row_delta::Extra;
 use session_laws::{Memory, Setting};
 use std::alloc::Global;
 
-// The network of an image that fits by plain tests, and the agenda of its matches; `Unfit` where the row of an extra or a fired match is
-// not there.
+// The network over the facts of an image that fits by plain tests, at its moment, and the agenda of its matches; `Unfit` where the row of an
+// extra or a fired match is not there.
 fn matched(
     alloc: Global,
     setting: &Setting,
-    image: &Image,
-    course: &Course,
+    moment: &Moment,
+    extras: &[Extra],
+    fired: &[FiredMatch],
     facts: &BoxedFacts,
 ) -> Result<(Rete, Agenda), ResumeFault>
     requires runs { Runs setting.now }
-    requires plain { FitsPlainly setting.now.program setting.now.lives image.now }
-    requires course { course.now ≡ record { last_starts = image.now.last_starts; promises = image.now.promises; begun = image.now.begun } }
-    requires facts { facts.now ≡ stored image.now.facts }
-    ensures matched { IfOk result (λ r. IsMatched setting.now.program image.now r.0 r.1) }
-    ensures unfit { IsErrOf result ResumeFault.Unfit → (owners : ℕ → ℕ → ℕ) → AreOwners setting.now.program owners → FitsByRows setting.now.program setting.now.lives image.now owners → ⊥ }
+    ensures matched { (image : ImageData) → AreOfImage setting.now image moment.now extras.now fired.now facts.now → IfOk result (λ r. IsMatched setting.now.program image r.0 r.1) }
+    ensures unfit { (image : ImageData) → AreOfImage setting.now image moment.now extras.now fired.now facts.now → IsErrOf result ResumeFault.Unfit
+        → (owners : ℕ → ℕ → ℕ) → AreOwners setting.now.program owners → FitsByRows setting.now.program setting.now.lives image owners → ⊥ }
 {
     let program = &setting.program;
-    let moment = course.moment(image.clock);
-    match Rete::load(
-        alloc,
-        program,
-        image.facts.as_slice(),
-        image.extras.as_slice(),
-        &moment,
-        facts,
-    ) {
+    let kept = facts.all(alloc)?;
+    match Rete::load(alloc, program, &kept, extras, moment, facts) {
         Ok(loaded) => {
             let (net, changes) = loaded;
-            let rules = program.rules.as_slice();
-            let agenda = agenda_of(alloc, rules, changes, image.fired.as_slice())?;
+            let agenda = agenda_of(alloc, program.rules.as_slice(), changes, fired)?;
             Ok((net, agenda))
         }
         Err(LoadFault::NoRow) => Err(ResumeFault::Unfit),
@@ -70,38 +64,53 @@ fn matched(
 }
 
 // The state and the memory of a session, of an image that fits by plain tests; `Unfit` where it does not fit by its rows.
-fn restored(alloc: Global, setting: &Setting, image: &Image) -> Result<(State, Memory), ResumeFault>
+fn restored(alloc: Global, setting: &Setting, image: Image) -> Result<(State, Memory), ResumeFault>
     requires runs { Runs setting.now }
-    requires plain { FitsPlainly setting.now.program setting.now.lives image.now }
-    ensures restored { (owners : ℕ → ℕ → ℕ) → AreOwners setting.now.program owners → IfOk result (λ r. IsRestored setting.now image.now owners r.1 r.0) }
-    ensures unfit { IsErrOf result ResumeFault.Unfit → (owners : ℕ → ℕ → ℕ) → AreOwners setting.now.program owners → FitsByRows setting.now.program setting.now.lives image.now owners → ⊥ }
+    requires plain { FitsPlainly setting.now.program setting.now.lives image }
+    ensures restored { (owners : ℕ → ℕ → ℕ) → AreOwners setting.now.program owners → IfOk result (λ r. IsRestored setting.now image owners r.1 r.0) }
+    ensures unfit { IsErrOf result ResumeFault.Unfit → (owners : ℕ → ℕ → ℕ) → AreOwners setting.now.program owners → FitsByRows setting.now.program setting.now.lives image owners → ⊥ }
 {
-    let kept = Restored::of(alloc, setting, image.facts.as_slice())?;
-    let course = Course::at(
+    let Image {
+        clock,
+        begun,
+        last_starts,
+        promises,
+        next_id,
+        next_tag,
+        facts,
+        fired,
+        extras,
+        ..
+    } = image;
+    let kept = Restored::of(alloc, setting, facts.into_vec())?;
+    let course = Course::at(alloc, last_starts.as_slice(), promises.as_slice(), begun)?;
+    let moment = course.moment(clock);
+    let (net, agenda) = matched(
         alloc,
-        image.last_starts.as_slice(),
-        image.promises.as_slice(),
-        image.begun,
+        setting,
+        &moment,
+        extras.as_slice(),
+        fired.as_slice(),
+        &kept.facts,
     )?;
-    let (net, agenda) = matched(alloc, setting, image, &course, &kept.facts)?;
     let agenda = BoxedAgenda::new(alloc, agenda)?;
     let Restored {
         facts,
         expiries,
         retention,
     } = kept;
-    let (retention, old) = retention.past(alloc, image.clock, &[], agenda.agenda())?;
+    let (retention, old) = retention.past(alloc, clock, &[], agenda.agenda())?;
     if !old.is_empty() {
         return Err(ResumeFault::Unfit);
     }
     let state = State {
         facts,
         expiries,
-        clock: image.clock,
+        clock,
         course,
         agenda,
-        next_id: image.next_id,
-        next_tag: image.next_tag,
+        next_id,
+        next_tag,
     };
     Ok((state, Memory { net, retention }))
 }
@@ -184,24 +193,24 @@ impl Session {
     }
 
     /// A session of a program, with a safe table of lives, in each lawful world of which the image is that. `Unfit`: exactly where the image
-    /// does not fit. It costs what the image holds, times the logarithm, and no step of a fact.
+    /// does not fit. It costs what the image holds, times the logarithm, and no step of a fact; the facts of the image go into the session.
     pub fn resume(
         alloc: Global,
         program: Program,
         lives: LifeTable,
-        image: &Image,
+        image: Image,
     ) -> Result<Session, ResumeFault>
         requires runnable { IsRunnable program }
         requires table { IsSafeTable program lives }
-        ensures stands { IfOk result (λ s. (w : World) → IsLawful program w → IsImageOf program lives w image.now → Stands s w) }
+        ensures stands { IfOk result (λ s. (w : World) → IsLawful program w → IsImageOf program lives w image → Stands s w) }
         ensures program { IfOk result (λ s. s.setting.program ≡ program) }
         ensures table { IfOk result (λ s. s.setting.lives ≡ lives) }
-        ensures next { IfOk result (λ s. s.state.next_tag ≡ image.now.next_tag) }
-        ensures fits { OnOk result (Fits program lives image.now) }
-        ensures unfit { IsErrOf result ResumeFault.Unfit → Fits program lives image.now → ⊥ }
+        ensures next { IfOk result (λ s. s.state.next_tag ≡ image.next_tag) }
+        ensures fits { OnOk result (Fits program lives image) }
+        ensures unfit { IsErrOf result ResumeFault.Unfit → Fits program lives image → ⊥ }
     {
         an_image_fits_by_tests_and_rows();
-        let plain = fits_plainly(alloc, &program, &lives, image)?;
+        let plain = fits_plainly(alloc, &program, &lives, &image)?;
         if !plain {
             return Err(ResumeFault::Unfit);
         }

@@ -236,7 +236,7 @@ impl Engine for Session {
         alloc: Global,
         program: Program,
         lives: LifeTable,
-        image: &Image,
+        image: Image,
     ) -> Result<Session, ResumeFault> {
         Session::resume(alloc, program, lives, image)
     }

@@ -1,5 +1,5 @@
 -- A session that is made from the image of a lawful world stands for that world.
-use Rattle.std.proofs.Common.{◌≡◌, ◌∙◌, not, ℕ, ℤ, pos, ◌≤ℤ◌, ◌<◌, Bool, true, false, is_some, List, [], ◌∷◌, map as list_map, Option, Some, None, refl, sym, ap, arith}
+use Rattle.std.proofs.Common.{◌≡◌, ◌∙◌, not, ℕ, ℤ, pos, ◌≤ℤ◌, ◌<◌, Bool, true, false, is_some, List, [], ◌∷◌, map as list_map, Option, Some, None, refl, sym, ap, subst, arith}
 use Rattle.std.specs.Prelude.{slice_get}
 use Rattle.std.specs.FinMap as map_of
 use Rattle.std.specs.List.{AllByRecursion}
@@ -13,7 +13,7 @@ use Rattle.row_delta.specs.declared.row.Named.{Named}
 use Rattle.checkpoint.specs.declared.image.Image.{Image}
 use Rattle.due_queue.specs.Timers.{Timers}
 use Rattle.fact_store.specs.Held.{HeldFacts, facts_of, tag_of}
-use Rattle.fact_store.proofs.Members.{from_list, from_map}
+use Rattle.fact_store.proofs.Members.{from_list, from_map, tags_rise as held_rise}
 use Rattle.rule_model.specs.declared.life.Life.{Life}
 use Rattle.rule_model.specs.declared.life.Life.TheVariants.{Plain, Explicit, Finite, Infinite}
 use Rattle.rule_model.specs.declared.life.LifeTable.{LifeTable}
@@ -63,10 +63,11 @@ use Rattle.session_laws.specs.Restoring.{stored, AreHeld, AreStorable, HasTimes,
 use Rattle.session_laws.specs.Standing.{AreForgotten, Contents, Course, Mirrors, Runs, Standing, expiry_at, with_facts}
 use Rattle.session_laws.proofs.Kept_parts.{holds_kept_parts, image_holds, store_is}
 use Rattle.session_laws.proofs.Forgotten.{same_version}
-use Rattle.session_laws.proofs.Members.{Holds, own_tags, version_found, versions}
+use Rattle.session_laws.proofs.Members.{Holds, all_listed, listed, own_tags, version_found, versions}
 use Rattle.session_laws.proofs.Needing.{distinct_here}
 use Rattle.session_laws.proofs.Presented.{extras_here}
 use Rattle.session_laws.proofs.Ready.{IsFit, kept_of}
+use Rattle.session_laws.proofs.Rising.{rising_same}
 use Rattle.session_laws.proofs.Stands.{contents}
 use Rattle.session_laws.proofs.Storing.{stored_holds}
 
@@ -155,6 +156,13 @@ module _ (p : Program) (table : LifeTable) (image : Image) (plain : FitsPlainly 
 
   pub image_held : Holds (stored image.facts) image.facts
   image_held = stored_holds image.facts plain.lawful.ordered.tags
+
+  -- a store of its facts lists them in its order
+  pub kept_in_order : (store : HeldFacts) → store ≡ stored image.facts → facts_of store ≡ image.facts
+  kept_in_order store same =
+      let holds : Holds store image.facts = subst (λ (h : HeldFacts). Holds h image.facts) (sym same) image_held in
+      rising_same (facts_of store) image.facts (held_rise store (own_tags store image.facts holds)) (tags_rise image.facts plain.facts_in_order)
+      (listed store image.facts holds) (all_listed store image.facts holds)
 
   -- a network can be loaded from it
   pub loadable : (moment : Moment) → moment.clock ≡ image.clock → moment.last_starts.now ≡ image.last_starts → moment.promises.now ≡ image.promises

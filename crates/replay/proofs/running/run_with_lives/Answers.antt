@@ -8,17 +8,17 @@ use Rattle.replay.proofs.running.run_with_lives.Goals as goal
 
 pub returns-in-Ok-run_from-clause-run : goal.returns-in-Ok-run_from-clause-run
 returns-in-Ok-run_from-clause-run g c name image first last h =
-    let done = rw (c.in-Ok.ensures.program, c.in-Ok.ensures.table, c.behind-at.ensures, c.part.ensures) at c.in-Ok-run_from.ensures.done in
+    let done = rw (c.in-Ok.ensures.program, c.in-Ok.ensures.table, c.behind-at.ensures, c.in-Ok.ensures.part) at c.in-Ok-run_from.ensures.done in
     rw c.status_found.ensures (run_done g.E.Engine.gives g.E.Engine.fires g.E.Engine.counts name image c.args.limit c.args.program c.args.lives c.args.beginning first last _ _ _ _ _ _ _ _ _ _ c.requires.lives c.in-Ok.ensures.fits _ _
     (done.0, done.1, λ w begins. done.2 w (c.in-Ok.ensures.stands w begins))
     c.in-Ok-run_from.ensures.taken c.in-Ok-run_from.ensures.nothing_left)
 
 pub returns-in-Err-clause-run : goal.returns-in-Err-clause-run
 returns-in-Err-clause-run g c name image first last h =
-    let front = rw (c.in-Ok.ensures.program, c.in-Ok.ensures.table, c.behind-at.ensures, c.part.ensures) at c.in-Err.ensures.front in
-    let long = rw (c.in-Ok.ensures.program, c.in-Ok.ensures.table, c.behind-at.ensures, c.part.ensures) at c.in-Err.ensures.long in
-    let at_read = rw (c.in-Ok.ensures.program, c.in-Ok.ensures.table, c.behind-at.ensures, c.part.ensures) at c.in-Err.ensures.stopped_at_read in
-    let at_length = rw (c.in-Ok.ensures.program, c.in-Ok.ensures.table, c.behind-at.ensures, c.part.ensures) at c.in-Err.ensures.stopped_at_length in
+    let front = rw (c.in-Ok.ensures.program, c.in-Ok.ensures.table, c.behind-at.ensures, c.in-Ok.ensures.part) at c.in-Err.ensures.front in
+    let long = rw (c.in-Ok.ensures.program, c.in-Ok.ensures.table, c.behind-at.ensures, c.in-Ok.ensures.part) at c.in-Err.ensures.long in
+    let at_read = rw (c.in-Ok.ensures.program, c.in-Ok.ensures.table, c.behind-at.ensures, c.in-Ok.ensures.part) at c.in-Err.ensures.stopped_at_read in
+    let at_length = rw (c.in-Ok.ensures.program, c.in-Ok.ensures.table, c.behind-at.ensures, c.in-Ok.ensures.part) at c.in-Err.ensures.stopped_at_length in
     let stands = c.in-Ok.ensures.stands in
     rw c.status_of_fault.ensures (run_failed g.E.Engine.gives g.E.Engine.fires g.E.Engine.counts name image c.args.limit c.args.program c.args.lives c.args.beginning first last _ _ _ _ _ _ _ _ _ _ c.requires.lives c.in-Ok.ensures.fits c.in-Err.fault
     (λ w begins. front w (stands w begins)) c.in-Err.ensures.taken (λ is. c.in-Err.ensures.read (ap failing is)) (λ is. c.in-Err.ensures.write (ap failing is))

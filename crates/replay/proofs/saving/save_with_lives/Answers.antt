@@ -15,7 +15,7 @@ use Rattle.replay.proofs.saving.save_with_lives.Goals as goal
 
 pub returns-in-Ok-None-clause-run : goal.returns-in-Ok-None-clause-run
 returns-in-Ok-None-clause-run g c name image first last h =
-    let done = rw (c.in-Ok-None.field-0-is, c.in-Ok.ensures.program, c.in-Ok.ensures.table, c.behind-at.ensures, c.part-part.ensures) at c.in-Ok-None.ensures.done in
+    let done = rw (c.in-Ok-None.field-0-is, c.in-Ok.ensures.program, c.in-Ok.ensures.table, c.behind-at.ensures, c.in-Ok.ensures.part) at c.in-Ok-None.ensures.done in
     save_done g.E.Engine.gives g.E.Engine.fires g.E.Engine.counts name image c.args.limit c.args.program c.args.lives c.args.beginning first last _ _ _ _ _ _ _ _ _ _ c.requires.lives c.in-Ok.ensures.fits Limit _
     (inl (
       record { bytes = limit_text c.args.limit; status = 4 },
@@ -29,10 +29,10 @@ returns-in-Ok-None-clause-run g c name image first last h =
 
 pub returns-in-Ok-Some-clause-run : goal.returns-in-Ok-Some-clause-run
 returns-in-Ok-Some-clause-run g c name image first last h =
-    let done = rw (c.in-Ok-Some.field-0-is, c.in-Ok.ensures.program, c.in-Ok.ensures.table, c.behind-at.ensures, c.part-part.ensures) at c.in-Ok-Some.ensures.done in
+    let done = rw (c.in-Ok-Some.field-0-is, c.in-Ok.ensures.program, c.in-Ok.ensures.table, c.behind-at.ensures, c.in-Ok.ensures.part) at c.in-Ok-Some.ensures.done in
     let program = rw (c.in-Ok-Some.field-0-is, c.in-Ok.ensures.program) at c.in-Ok-Some.ensures.program in
     let table = rw (c.in-Ok-Some.field-0-is, c.in-Ok.ensures.table) at c.in-Ok-Some.ensures.table in
-    let said = rw (program, table, c.part.ensures, c.part-part.ensures) at c.write_image.ensures.said in
+    let said = rw (program, table, c.part.ensures, c.in-Ok.ensures.part) at c.write_image.ensures.said in
     save_done g.E.Engine.gives g.E.Engine.fires g.E.Engine.counts name image c.args.limit c.args.program c.args.lives c.args.beginning first last _ _ _ _ _ _ _ _ _ _ c.requires.lives c.in-Ok.ensures.fits
     (Script c.in-Ok-Some.at.faulted) _
     (elim said [
@@ -50,7 +50,7 @@ returns-in-Ok-Some-clause-run g c name image first last h =
 
 pub returns-in-Err-clause-run : goal.returns-in-Err-clause-run
 returns-in-Err-clause-run g c name image first last h =
-    let long = rw (c.in-Ok.ensures.program, c.in-Ok.ensures.table, c.behind-at.ensures, c.part-part.ensures) at c.in-Err.ensures.long in
+    let long = rw (c.in-Ok.ensures.program, c.in-Ok.ensures.table, c.behind-at.ensures, c.in-Ok.ensures.part) at c.in-Err.ensures.long in
     rw c.status_of_fault.ensures (save_failed g.E.Engine.gives g.E.Engine.fires g.E.Engine.counts name image c.args.limit c.args.program c.args.lives c.args.beginning first last _ _ _ _ _ _ _ (g.K.Sink.written c.args.out.now) _ (g.K.Sink.faults c.args.out.now) c.requires.lives c.in-Ok.ensures.fits c.in-Err.fault
     c.in-Err.ensures.taken (λ is. c.in-Err.ensures.read (ap failing is)) (λ is. none_rises (c.in-Err.ensures.write (ap failing is)))
     (λ w begins is. long w (c.in-Ok.ensures.stands w begins) (ap failing is)) (λ is. c.in-Err.ensures.over (ap failing is)))

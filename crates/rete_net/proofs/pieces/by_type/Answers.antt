@@ -1,7 +1,9 @@
 use Rattle.std.proofs.Common.{◌∙◌, ap, sym, cond, List, [], ◌∷◌, ◌++◌}
 use Rattle.std.proofs.lemmas.List.{take_all}
 use Rattle.std.specs.List.{filter}
+use Rattle.std.specs.Borrow.{Bor}
 use Rattle.fx_base.specs.declared.fact.Fact.{Fact}
+use Rattle.rule_model.specs.Lent.{lent}
 use Rattle.rete_net.specs.Loads.{facts_at, is_of}
 use Rattle.rete_net.proofs.Searched.{filter_more}
 use Rattle.rete_net.proofs.pieces.by_type.Goals as goal
@@ -12,8 +14,8 @@ loop-fact-init c ty = ap (λ groups. facts_at groups ty) c.new-groups.ensures.it
 pub loop-fact-preserved : goal.loop-fact-preserved
 loop-fact-preserved c ty =
     let f = c.fact-item.result in
-    c.in_ok-put_fact.ensures ty ∙ ap (λ (facts : List Fact). facts ++ cond (is_of ty f) (f ∷ []) []) (c.loop-fact.invariant ty)
+    c.in_ok-put_fact.ensures ty ∙ ap (λ (facts : List Fact). facts ++ cond (is_of ty f.now) (f.now ∷ []) []) (c.loop-fact.invariant ty)
     ∙ sym (filter_more (is_of ty) c.args.kept.now c.loop-fact.fact-index f c.loop-fact-test.true c.fact-item.is)
 
 pub returns : goal.returns
-returns c ty = c.loop-fact.invariant ty ∙ ap (filter (is_of ty)) (take_all c.loop-fact.fact-index c.args.kept.now c.loop-fact-test.false)
+returns c ty = c.loop-fact.invariant ty ∙ ap (λ (facts : List (Bor Fact)). filter (is_of ty) (lent facts)) (take_all c.loop-fact.fact-index c.args.kept.now c.loop-fact-test.false)

@@ -9,12 +9,12 @@ use Rattle.session_laws.proofs.Restored.{storable}
 use Rattle.session.proofs.saving.restored.Goals as goal
 
 pub of-requires-clause-storable : goal.of-requires-clause-storable
-of-requires-clause-storable c = subst AreStorable (sym c.as_slice.ensures) (storable c.args.setting.now.program c.args.setting.now.lives c.args.image.now c.requires.plain c.requires.runs.runnable)
+of-requires-clause-storable c = subst AreStorable (sym c.as_slice.ensures) (storable c.args.setting.now.program c.args.setting.now.lives c.args.image c.requires.plain c.requires.runs.runnable)
 
 pub returns-then-not-is_empty-clause-unfit : goal.returns-then-not-is_empty-clause-unfit
 returns-then-not-is_empty-clause-unfit c unfit owners own =
     let p = c.args.setting.now.program in
-    let image = c.args.image.now in
+    let image = c.args.image in
     let kept = c.in_ok-kept.kept in
     let keys = c.in_ok-retention.old.keys in
     let same : to_z w64 (of_z w64 image.clock) ≡ image.clock = clock_same image.clock c.requires.plain.lawful.clock_low c.requires.plain.lawful.clock_high in
@@ -25,13 +25,13 @@ returns-then-not-is_empty-clause-unfit c unfit owners own =
 
 pub invariant_of-state : goal.invariant_of-state
 invariant_of-state c =
-    image_safe c.args.setting.now.program c.args.setting.now.lives c.args.image.now c.requires.plain c.in_ok-kept.kept.facts c.in_ok-kept.kept.expiries c.in_ok-kept.kept.retention _
-    (c.in_ok-kept.ensures.facts ∙ ap stored c.as_slice.ensures) c.in_ok-kept.ensures.held (clock_same c.args.image.now.clock c.requires.plain.lawful.clock_low c.requires.plain.lawful.clock_high)
+    image_safe c.args.setting.now.program c.args.setting.now.lives c.args.image c.requires.plain c.in_ok-kept.kept.facts c.in_ok-kept.kept.expiries c.in_ok-kept.kept.retention _
+    (c.in_ok-kept.ensures.facts ∙ ap stored c.as_slice.ensures) c.in_ok-kept.ensures.held (clock_same c.args.image.clock c.requires.plain.lawful.clock_low c.requires.plain.lawful.clock_high)
 
 pub returns-clause-restored : goal.returns-clause-restored
 returns-clause-restored c owners own =
     let p = c.args.setting.now.program in
-    let image = c.args.image.now in
+    let image = c.args.image in
     let kept = c.in_ok-kept.kept in
     let keys = c.in_ok-retention.old.keys in
     let marks = c.in_ok-agenda.agenda in

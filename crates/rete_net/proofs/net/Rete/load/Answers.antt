@@ -1,6 +1,7 @@
 use Rattle.std.proofs.Common.{◌≡◌, ◌∙◌, ap, subst, ℕ, ◌<◌, ◌^◌, length, List, Err, Some, slice_get, pos, ◌≤ℤ◌}
 use Rattle.fx_base.specs.Lists.{In}
 use Rattle.row_delta.specs.declared.delta.Delta.{Delta}
+use Rattle.rule_model.specs.Lent.{lent}
 use Rattle.rete_net.specs.declared.changes.RuleChange.{RuleChange}
 use Rattle.rete_net.specs.declared.load.LoadFault.TheVariants.{NoRow}
 use Rattle.rete_net.specs.Answers.{answer_in, AreRuled}
@@ -33,7 +34,7 @@ returns-clause-rows g c t owners can own =
     let built = c.in_ok-net.ensures.built can.runnable in
     let shape = built_shape p net built.0 built.1 built.2 built.3 built.4 built.5 in
     let wired = wired_of p net.nodes.items net.ends.items net.index shape c.in_ok-net.ensures.indexed in
-    laden_changes p (g.F.Facts.map c.args.facts.now) t c.args.kept.now c.args.extras.now c.args.moment.now can owners own net.nodes.items net.ends.items shape net.owners.items
+    laden_changes p (g.F.Facts.map c.args.facts.now) t (lent c.args.kept.now) c.args.extras.now c.args.moment.now can owners own net.nodes.items net.ends.items shape net.owners.items
     (shape_owned p net built.0 built.1 built.2 built.3 built.4 built.5 (length p.rules) built.6) (λ k n e. built.1.fresh k n e)
     c.load_nodes.new.self.nodes.items c.in_ok-answered.answered (c.in_ok-answered.ensures.loaded wired can.in_order) c.in_ok-changes.changes.items
     (subst (λ (ends : List ℕ). length ends < 2 ^ 16 → (first : Delta) (deltas : List Delta) → c.in_ok-answered.answered.none ≡ no_change → AreRuled c.in_ok-answered.answered ends
@@ -47,7 +48,7 @@ returns-clause-all_there g c t owners can own =
     let built = c.in_ok-net.ensures.built can.runnable in
     let shape = built_shape p net built.0 built.1 built.2 built.3 built.4 built.5 in
     let wired = wired_of p net.nodes.items net.ends.items net.index shape c.in_ok-net.ensures.indexed in
-    extras_there p (g.F.Facts.map c.args.facts.now) t c.args.kept.now c.args.extras.now c.args.moment.now can owners own net.nodes.items net.ends.items shape net.owners.items
+    extras_there p (g.F.Facts.map c.args.facts.now) t (lent c.args.kept.now) c.args.extras.now c.args.moment.now can owners own net.nodes.items net.ends.items shape net.owners.items
     (shape_owned p net built.0 built.1 built.2 built.3 built.4 built.5 (length p.rules) built.6) (λ k n e. built.1.fresh k n e)
     c.load_nodes.new.self.nodes.items c.in_ok-answered.answered (c.in_ok-answered.ensures.loaded wired can.in_order)
 
@@ -60,7 +61,7 @@ returns-clause-stands g c s t forgotten can behind =
     let wired = wired_of p net.nodes.items net.ends.items net.index shape c.in_ok-net.ensures.indexed in
     let told = c.in_ok-answered.ensures in
     let scheduled = told.scheduled c.in_ok-net.ensures.scheduled in
-    loaded_stands p (g.F.Facts.map c.args.facts.now) t c.args.kept.now c.args.extras.now c.args.moment.now can net _ shape
+    loaded_stands p (g.F.Facts.map c.args.facts.now) t (lent c.args.kept.now) c.args.extras.now c.args.moment.now can net _ shape
     (shape_owned p net built.0 built.1 built.2 built.3 built.4 built.5 (length p.rules) built.6) (λ k n e. built.1.fresh k n e)
     c.in_ok-answered.answered (told.loaded wired can.in_order) told.replaced told.ends told.owners told.index c.in_ok-net.ensures.indexed scheduled
     (all_quiet p c.load_nodes.new.self.nodes.items c.load_nodes.new.self.schedule c.first-net.result scheduled (c.first-net.ensures p))
@@ -73,6 +74,6 @@ returns-in_err-answered-clause-no_row g c fault t owners can own =
     let built = c.in_ok-net.ensures.built can.runnable in
     let shape = built_shape p net built.0 built.1 built.2 built.3 built.4 built.5 in
     let wired = wired_of p net.nodes.items net.ends.items net.index shape c.in_ok-net.ensures.indexed in
-    extra_missing p (g.F.Facts.map c.args.facts.now) t c.args.kept.now c.args.extras.now c.args.moment.now can owners own net.nodes.items net.ends.items shape net.owners.items
+    extra_missing p (g.F.Facts.map c.args.facts.now) t (lent c.args.kept.now) c.args.extras.now c.args.moment.now can owners own net.nodes.items net.ends.items shape net.owners.items
     (shape_owned p net built.0 built.1 built.2 built.3 built.4 built.5 (length p.rules) built.6) (λ k n e. built.1.fresh k n e)
     (c.in_err-answered.ensures.stuck (ap Err (same_fault c.from_residual-in_err-answered.result c.in_err-answered.field-0.0 NoRow fault c.from_residual-in_err-answered.ensures.1)) wired can.in_order)

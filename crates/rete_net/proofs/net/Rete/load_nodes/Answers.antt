@@ -23,7 +23,7 @@ loop-place-init g c = record {
   replaced = not_replaced c.args.self.now.nodes.items;
   scheduled = λ scheduled. scheduled;
   way = λ wired sorted.
-      set_off c.args.program.now (g.F.Facts.map c.args.facts.now) c.args.kept.now c.args.extras.now c.args.moment.now empty_row_comes c.args.self.now.nodes.items c.args.self.now.owners.items c.args.self.now.ends.items
+      set_off c.args.program.now (g.F.Facts.map c.args.facts.now) (lent c.args.kept.now) c.args.extras.now c.args.moment.now empty_row_comes c.args.self.now.nodes.items c.args.self.now.owners.items c.args.self.now.ends.items
       c.new-answered.result (c.new-answered.ensures.none ∙ c.no_change.ensures) c.new-answered.ensures.answers;
 }
 
@@ -38,8 +38,8 @@ loop-place-preserved g c =
     let len : c.len-place-end.result ≡ length c.args.self.now.nodes.items = c.len-place-end.ensures ∙ c.args.self.now.nodes.ok.0 in
     let within : c.loop-place.place < length c.loop-place.self.nodes.items = omega (arith, low, len, many) in
     let at : slice_get c.loop-place.self.nodes.items c.loop-place.place ≡ Some c.index_mut-node.result.now = slice_get-get_or nodes place n within ∙ ap Some (sym c.index_mut-node.ensures.value) in
-    let kept = c.args.kept.now in
-    let theirs : lent c.of_type-theirs.result.now ≡ filter (is_of (type_of c.index_mut-node.result.now)) c.args.kept.now =
+    let kept = (lent c.args.kept.now) in
+    let theirs : lent c.of_type-theirs.result.now ≡ filter (is_of (type_of c.index_mut-node.result.now)) (lent c.args.kept.now) =
     c.of_type-theirs.ensures (c.deref-in-loop-place-2.ensures.value ∙ c.new-none.ensures.items)
     ∙ ap (λ groups. facts_at groups c.ty.result.0) c.deref-in-loop-place.ensures.value ∙ c.in_ok-groups.ensures c.ty.result.0 ∙ ap (λ ty. filter (is_of ty) kept) c.ty.ensures in
     let loads = c.in_ok-delta.ensures.loads kept theirs in
@@ -51,7 +51,7 @@ loop-place-preserved g c =
       scheduled = λ all. scheduled_more c.args.program.now nodes place n c.load.new.self c.loop-place.self.schedule c.put.new.self at c.in_ok-put.ensures.put c.in_ok-put.ensures.others (was.scheduled all);
       way = λ wired sorted.
           let way = was.way wired sorted in
-          take_one c.args.program.now (g.F.Facts.map c.args.facts.now) c.args.kept.now c.args.extras.now c.args.moment.now empty_row_comes c.args.self.now.nodes.items c.args.self.now.owners.items c.args.self.now.ends.items
+          take_one c.args.program.now (g.F.Facts.map c.args.facts.now) (lent c.args.kept.now) c.args.extras.now c.args.moment.now empty_row_comes c.args.self.now.nodes.items c.args.self.now.owners.items c.args.self.now.ends.items
           c.args.self.now.index wired nodes c.loop-place.answered place way n c.load.new.self at c.extras_of-own.result.now
           (λ o e. c.extras_of-own.ensures sorted o (ap (λ (owners : List Owner). slice_get owners place) (c.deref.ensures.value ∙ ap (λ owners. owners.items) was.owners) ∙ e))
           c.as_slice-rows.result.now
@@ -72,7 +72,7 @@ returns-in_err-delta-clause-stuck g c fault wired sorted =
     let within : c.loop-place.place < length c.loop-place.self.nodes.items = omega (arith, low, len, many) in
     let at : slice_get c.loop-place.self.nodes.items c.loop-place.place ≡ Some c.index_mut-node.result.now = slice_get-get_or nodes place n within ∙ ap Some (sym c.index_mut-node.ensures.value) in
     let way = was.way wired sorted in
-    stuck_at c.args.program.now (g.F.Facts.map c.args.facts.now) c.args.kept.now c.args.extras.now c.args.moment.now empty_row_comes c.args.self.now.nodes.items c.args.self.now.owners.items c.args.self.now.ends.items
+    stuck_at c.args.program.now (g.F.Facts.map c.args.facts.now) (lent c.args.kept.now) c.args.extras.now c.args.moment.now empty_row_comes c.args.self.now.nodes.items c.args.self.now.owners.items c.args.self.now.ends.items
     nodes c.loop-place.answered place way n at c.extras_of-own.result.now
     (λ o e. c.extras_of-own.ensures sorted o (ap (λ (owners : List Owner). slice_get owners place) (c.deref.ensures.value ∙ ap (λ owners. owners.items) was.owners) ∙ e))
     c.as_slice-rows.result.now
@@ -86,5 +86,5 @@ returns-clause-loaded g c wired sorted =
     let over = c.loop-place-test.false in
     let last = c.loop-place.auto.place-end in
     let all : c.loop-place.place ≡ length c.args.self.now.nodes.items = omega (arith, over, last, len) in
-    subst (AreLoaded c.args.program.now (g.F.Facts.map c.args.facts.now) c.args.kept.now c.args.extras.now c.args.moment.now empty_row_comes c.args.self.now.nodes.items c.loop-place.self.nodes.items c.args.self.now.owners.items
+    subst (AreLoaded c.args.program.now (g.F.Facts.map c.args.facts.now) (lent c.args.kept.now) c.args.extras.now c.args.moment.now empty_row_comes c.args.self.now.nodes.items c.loop-place.self.nodes.items c.args.self.now.owners.items
     c.args.self.now.ends.items c.loop-place.answered) all (was.way wired sorted)

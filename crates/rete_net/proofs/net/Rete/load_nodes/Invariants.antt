@@ -1,5 +1,6 @@
 use Rattle.std.proofs.Common.{◌≡◌}
 use Rattle.std.specs.List.Sorted.{IsStrictlySortedBy}
+use Rattle.rule_model.specs.Lent.{lent}
 use Rattle.image_laws.specs.Extras.{extra_cmp}
 use Rattle.rete_net.specs.Loads.{AreLoaded}
 use Rattle.rete_net.specs.Schedules.{AreScheduled}
@@ -15,5 +16,5 @@ invariant-loop-place g l = record {
   replaced : IsReplaced l.fn.self.nodes.items l.self.nodes.items;
   scheduled : AreScheduled l.program l.fn.self.nodes.items l.fn.self.schedule → AreScheduled l.program l.self.nodes.items l.self.schedule;
   way : IsWired l.fn.self.nodes.items l.fn.self.ends.items l.fn.self.index → IsStrictlySortedBy extra_cmp l.extras
-      → AreLoaded l.program (g.F.Facts.map l.facts) l.kept l.extras l.moment empty_row_comes l.fn.self.nodes.items l.self.nodes.items l.fn.self.owners.items l.fn.self.ends.items l.answered l.place;
+      → AreLoaded l.program (g.F.Facts.map l.facts) (lent l.kept) l.extras l.moment empty_row_comes l.fn.self.nodes.items l.self.nodes.items l.fn.self.owners.items l.fn.self.ends.items l.answered l.place;
 }

@@ -1,10 +1,9 @@
-use Rattle.std.proofs.Common.{drop}
 use Rattle.session_laws.specs.Restoring.{AreHeld}
 use Rattle.session_laws.proofs.Storing.{ArePut}
 use Rattle.session.proofs.restoring.Restored.of.Given as goal
 
 abbrev pub invariant-loop-fact : goal.invariant-loop-fact
 invariant-loop-fact l = record {
-  put : ArePut l.facts (drop l.fact-index l.facts) l.restored.facts;
+  put : ArePut l.fn.facts.items l.fact-iterator.rest.items l.restored.facts;
   held : AreHeld l.setting.program l.setting.lives l.restored.facts l.restored.expiries l.restored.retention;
 }

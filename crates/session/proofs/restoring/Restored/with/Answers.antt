@@ -1,10 +1,7 @@
-use Rattle.std.proofs.Common.{◌≡◌, rules}
-use Rattle.std.specs.FinMap as map
 use Rattle.session_laws.proofs.Storing.{one_more_held}
 use Rattle.session.proofs.restoring.Restored.with.Goals as goal
 
 pub returns-clause-held : goal.returns-clause-held
 returns-clause-held c =
-    let made : c.in_ok-facts.facts ≡ map.insert c.args.self.facts c.args.fact.now.tag.0 c.args.fact.now = search rules in
-    one_more_held c.args.setting.now.program c.args.setting.now.lives c.args.self.facts c.in_ok-facts.facts c.args.self.expiries c.in_ok-expiries.expiries c.args.self.retention c.hold.new.retention c.args.fact.now
-    c.requires.held c.requires.fresh made c.in_ok-expiries.ensures c.life_end.result c.life_end.ensures c.in_ok-hold.ensures.due c.in_ok-hold.ensures.lingering
+    one_more_held c.args.setting.now.program c.args.setting.now.lives c.args.self.facts c.in_ok-facts.facts c.args.self.expiries c.in_ok-expiries.expiries c.args.self.retention c.hold.new.retention c.args.fact
+    c.requires.held c.requires.fresh c.in_ok-facts.ensures c.in_ok-expiries.ensures c.life_end.result c.life_end.ensures c.in_ok-hold.ensures.due c.in_ok-hold.ensures.lingering
