@@ -220,5 +220,5 @@ lent_more (g ∷ facts) f = ap (λ rest. g.now ∷ rest) (lent_more facts f)
 pub filter_more : (test : Fact → Bool) (fs : List (Bor Fact)) (i : ℕ) (f : Bor Fact) → i < length fs → f ≡ get_or fs i f
     → filter test (lent (take (i + 1) fs)) ≡ filter test (lent (take i fs)) ++ cond (test f.now) (f.now ∷ []) []
 filter_more test fs i f lt is =
-    ap (λ gs. filter test (lent gs)) (take_more fs i f lt is ∙ ap (λ g. take i fs ++ g ∷ []) (sym is))
+    ap (λ gs. filter test (lent gs)) (take_more fs i f lt ∙ ap (λ g. take i fs ++ g ∷ []) (sym is))
     ∙ ap (filter test) (lent_more (take i fs) f) ∙ filter_behind test (lent (take i fs)) f.now
