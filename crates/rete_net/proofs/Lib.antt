@@ -28,6 +28,7 @@ mod Scheduling
 mod Walking
 mod Steady
 mod Telling
+mod Selecting
 pub mod Owning
 pub mod Counting
 mod Searched
