@@ -28,7 +28,6 @@ mod Scheduling
 mod Walking
 mod Steady
 mod Telling
-mod Selecting
 pub mod Owning
 pub mod Counting
 mod Searched

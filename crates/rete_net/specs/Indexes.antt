@@ -3,19 +3,19 @@ use Rattle.std.specs.Prelude.{◌≡◌, ◌⊎◌, ◌||◌, not, ℕ, Bool, tr
 use Rattle.std.specs.List.{list_any}
 use Rattle.std.specs.Global.{Vec}
 use Rattle.fx_base.specs.declared.fact.Fact.{Fact}
+use Rattle.fx_base.specs.declared.value.Value.{Value}
 use Rattle.row_delta.specs.declared.delta.Delta.{Delta}
 use Rattle.row_change.specs.Changes.{changes_nothing}
+use Rattle.rule_model.specs.declared.condition.Pattern.{Pattern}
 use Rattle.rule_model.specs.Rows.{pattern_of}
 use Rattle.rule_model.specs.Simple.{is_whole}
-use Rattle.fx_base.specs.declared.value.Value.{Value}
-use Rattle.rule_model.specs.declared.condition.Pattern.{Pattern}
 use Rattle.pattern_gate.specs.Turns.{is_meant, is_one_meant}
-use Rattle.rete_net.specs.Selectors.{slot_of}
 use Rattle.condition_node.specs.Nodes.{condition_of, is_negated}
 use Rattle.rete_net.specs.declared.alpha_index.AlphaIndex.{AlphaIndex}
 use Rattle.rete_net.specs.declared.index.Index.{Index}
 use Rattle.rete_net.specs.declared.lists.Lists.{Lists}
 use Rattle.rete_net.specs.declared.node.NetNode.{NetNode}
+use Rattle.rete_net.specs.Selectors.{slot_of}
 
 -- ---- lists of places
 

@@ -9,9 +9,9 @@ use fx_base::{NoMemory, TypeId, Value};
 use rule_model::Pattern;
 use std::alloc::Global;
 
-/// By what the nodes are found whose pattern may mean a fact, by their places. A pattern with an equality of a field with a literal is a
-/// selector: its node is found under a hash of the type, the field and the value. The others are found by the type. A list of a hash may
-/// have nodes of other constants too.
+/// By what the nodes are found whose patterns may mean a fact, by their places. A node whose pattern asks that a field is equal to a literal
+/// is found by a hash of the type, the field and the value, as selector nodes find theirs; the others by the type. A list of a hash may have
+/// nodes of other constants, which are asked too. An empty list takes 24 bytes, and there are none above the last with a node.
 #[derive(Drop)]
 pub(crate) struct AlphaIndex {
     fields: Lists,
@@ -21,7 +21,7 @@ pub(crate) struct AlphaIndex {
 }
 
 impl AlphaIndex {
-    /// No node is found. It is made for so many nodes: as many hashes get a list of their own, up to twice as many. Takes no memory.
+    /// No node is found. There are to be more lists by constants than so many nodes, up to twice as many. Takes no memory.
     pub(crate) fn new(alloc: Global, nodes: usize) -> AlphaIndex {
         AlphaIndex {
             fields: Lists::new(alloc),
@@ -32,8 +32,8 @@ impl AlphaIndex {
     }
 
     /// Puts the node in a place where the facts are looked up that its pattern means. Of several equalities it takes the first: nodes that
-    /// have this one alike, and are told apart by another, stand in one list. It costs a look at the fields by which nodes of the type are
-    /// told apart, and at most the lists that there are to be.
+    /// have this one alike, and are told apart by another, stand in one list and are each asked. It costs a look at the fields by which nodes
+    /// of the type are told apart, and the lists below that are not there yet.
     pub(crate) fn put(
         &mut self,
         alloc: Global,
@@ -88,7 +88,7 @@ impl AlphaIndex {
     }
 }
 
-// One less than a power of two: as many hashes are told apart by these bits as there are nodes, up to twice as many.
+// One less than a power of two, which is above the number of nodes and at most twice as much.
 fn mask_above(nodes: usize) -> u64 {
     u64::MAX
         .checked_shr((nodes as u64).leading_zeros())

@@ -1,11 +1,11 @@
 ghost use Rattle.std.specs.Prelude.{◌≡◌, ◌≤◌, ◌<◌, ◌||◌, ℕ, Some, true, false, nat_eq, option_map, slice_get, IfOk, IfSome, IsNone, OnOk};
 ghost use Rattle.std.specs.List.{list_any};
+ghost use Rattle.fx_base.specs.declared.value.Value.{Value as ValueData};
 ghost use Rattle.rule_model.specs.Lent.{lent};
 ghost use Rattle.rule_model.specs.Rows.{pattern_of};
 ghost use Rattle.pattern_gate.specs.Turns.{is_meant};
 ghost use Rattle.condition_node.specs.Nodes.{condition_of};
 ghost use Rattle.rete_net.specs.Indexes.{is_in, is_listed, IsFound, IsUnreached};
-ghost use Rattle.fx_base.specs.declared.value.Value.{Value as ValueData};
 ghost use Rattle.rete_net.specs.Places.{has_place};
 ghost use Rattle.rete_net.specs.Selectors.{slot_of};
 ghost use Rattle.rete_net.specs.declared.node.NetNode.{NetNode as NetNodeData};
