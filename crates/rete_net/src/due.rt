@@ -100,8 +100,7 @@ fn put_fact(
 {
     let alpha = &index.alpha;
     put_meant(due, nodes, alpha.others(fact.ty), fact)?;
-    let fields = alpha.fields(fact.ty);
-    for field in fields {
+    for field in alpha.fields(fact.ty) {
         put_selected(due, nodes, alpha, *field, fact)?;
     }
     Ok(())

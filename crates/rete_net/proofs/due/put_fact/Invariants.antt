@@ -12,6 +12,6 @@ use Rattle.rete_net.proofs.due.put_fact.Given as goal
 abbrev pub invariant-loop-field : goal.invariant-loop-field
 invariant-loop-field l = record {
   kept : (k : ℕ) → has_place l.initial.due.keys k ≡ true → has_place l.due.keys k ≡ true;
-  put : (k field : ℕ) (n : NetNode) (value : Value) → is_in (take l.field-index l.fields) field ≡ true → slice_get l.nodes k ≡ Some n → slice_get l.fact.fields field ≡ Some value
+  put : (k field : ℕ) (n : NetNode) (value : Value) → is_in (take l.field-index l.field-items) field ≡ true → slice_get l.nodes k ≡ Some n → slice_get l.fact.fields field ≡ Some value
       → is_listed l.alpha.constants (slot_of l.alpha.mask l.fact.ty.0 field value) k ≡ true → is_meant (pattern_of (condition_of n.node)) l.fact ≡ true → has_place l.due.keys k ≡ true;
 }
