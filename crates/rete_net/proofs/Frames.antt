@@ -16,7 +16,7 @@ use Rattle.rete_net.specs.declared.node.NetNode.{NetNode}
 use Rattle.rete_net.specs.Dropped.{ForgotBelow}
 use Rattle.rete_net.specs.Shapes.{before, EndsAt, IsNetOf}
 use Rattle.rete_net.specs.Steps.{NetStep}
-use Rattle.rete_net.specs.Indexes.{is_listed, IsFound, IsIndexOf}
+use Rattle.rete_net.specs.Indexes.{is_listed, IsAskedWhereMeant, IsFound, IsIndexOf}
 use Rattle.rete_net.specs.Walks.{IsReplaced, IsWired}
 use Rattle.rete_net.specs.declared.index.Index.{Index}
 use Rattle.rete_net.proofs.Growing.{has_at, both_at}
@@ -82,6 +82,7 @@ module _ (p : Program) (old new : List NetNode) (ends ends_now : List ℕ) (same
 found_again : (index : Index) (k : ℕ) (old new : NetNode) → new.parent ≡ old.parent → condition_of new.node ≡ condition_of old.node → IsFound index k old → IsFound index k new
 found_again index k old new parent condition was = record {
   typed = ap (λ (c : Condition). is_listed index.by_type (pattern_of c).ty.0 k) condition ∙ was.typed;
+  asked = subst (λ (c : Condition). IsAskedWhereMeant index.alpha (pattern_of c) k) (sym condition) was.asked;
   first = λ e. was.first (sym parent ∙ e);
   child = λ q e. was.child q (sym parent ∙ e);
 }

@@ -1,17 +1,21 @@
 -- By what the nodes and the rules of a network are found.
-use Rattle.std.specs.Prelude.{◌≡◌, ◌||◌, not, ℕ, Bool, true, false, List, [], Option, Some, None, nat_eq, slice_get}
+use Rattle.std.specs.Prelude.{◌≡◌, ◌⊎◌, ◌||◌, not, ℕ, Bool, true, false, List, [], Option, Some, None, nat_eq, slice_get}
 use Rattle.std.specs.List.{list_any}
 use Rattle.std.specs.Global.{Vec}
 use Rattle.fx_base.specs.declared.fact.Fact.{Fact}
+use Rattle.fx_base.specs.declared.value.Value.{Value}
 use Rattle.row_delta.specs.declared.delta.Delta.{Delta}
 use Rattle.row_change.specs.Changes.{changes_nothing}
+use Rattle.rule_model.specs.declared.condition.Pattern.{Pattern}
 use Rattle.rule_model.specs.Rows.{pattern_of}
 use Rattle.rule_model.specs.Simple.{is_whole}
-use Rattle.pattern_gate.specs.Turns.{is_one_meant}
+use Rattle.pattern_gate.specs.Turns.{is_meant, is_one_meant}
 use Rattle.condition_node.specs.Nodes.{condition_of, is_negated}
+use Rattle.rete_net.specs.declared.alpha_index.AlphaIndex.{AlphaIndex}
 use Rattle.rete_net.specs.declared.index.Index.{Index}
 use Rattle.rete_net.specs.declared.lists.Lists.{Lists}
 use Rattle.rete_net.specs.declared.node.NetNode.{NetNode}
+use Rattle.rete_net.specs.Selectors.{slot_of}
 
 -- ---- lists of places
 
@@ -38,9 +42,22 @@ type_of n = (pattern_of (condition_of n.node)).ty.0
 abbrev pub is_timed : NetNode → Bool
 is_timed n = is_negated (condition_of n.node) || not (is_whole (pattern_of (condition_of n.node)).window)
 
--- the node in a place is found by its type and by its parent
+-- The place stands where the fact is looked up: among the nodes of its type that no constant tells apart, or in the list of what it has in
+-- a field by which some are.
+abbrev pub IsAsked : AlphaIndex → Fact → ℕ → Type 0
+IsAsked alpha f k =
+    (is_listed alpha.others f.ty.0 k ≡ true)
+    ⊎ ((field : ℕ) × (value : Value) × (slice_get f.fields field ≡ Some value) × (is_listed alpha.fields f.ty.0 field ≡ true)
+    × (is_listed alpha.constants (slot_of alpha.mask f.ty.0 field value) k ≡ true))
+
+-- so it does for each fact that the pattern means
+abbrev pub IsAskedWhereMeant : AlphaIndex → Pattern → ℕ → Type 0
+IsAskedWhereMeant alpha pattern k = (f : Fact) → is_meant pattern f ≡ true → IsAsked alpha f k
+
+-- the node in a place is found by its type, by what its pattern means, and by its parent
 pub record IsFound (index : Index) (k : ℕ) (n : NetNode) : Type 0 where
   pub typed : is_listed index.by_type (type_of n) k ≡ true
+  pub asked : IsAskedWhereMeant index.alpha (pattern_of (condition_of n.node)) k
   pub first : n.parent ≡ None → is_in index.firsts.items k ≡ true
   pub child : (parent : ℕ) → n.parent ≡ Some parent → is_listed index.children parent k ≡ true
 

@@ -1,13 +1,16 @@
 ghost use Rattle.std.specs.Prelude.{◌≡◌, ◌≤◌, ◌<◌, ◌||◌, ℕ, Some, true, false, nat_eq, option_map, slice_get, IfOk, IfSome, IsNone, OnOk};
 ghost use Rattle.std.specs.List.{list_any};
+ghost use Rattle.fx_base.specs.declared.value.Value.{Value as ValueData};
 ghost use Rattle.rule_model.specs.Lent.{lent};
 ghost use Rattle.rule_model.specs.Rows.{pattern_of};
 ghost use Rattle.pattern_gate.specs.Turns.{is_meant};
 ghost use Rattle.condition_node.specs.Nodes.{condition_of};
-ghost use Rattle.rete_net.specs.Indexes.{is_in, IsFound, IsUnreached};
+ghost use Rattle.rete_net.specs.Indexes.{is_in, is_listed, IsFound, IsUnreached};
 ghost use Rattle.rete_net.specs.Places.{has_place};
+ghost use Rattle.rete_net.specs.Selectors.{slot_of};
 ghost use Rattle.rete_net.specs.declared.node.NetNode.{NetNode as NetNodeData};
 
+use crate::alpha_index::AlphaIndex;
 use crate::index::Index;
 use crate::node::NetNode;
 use fx_base::{Fact, NoMemory};
@@ -83,7 +86,8 @@ fn does_mean(nodes: &[NetNode], place: usize, fact: &Fact) -> bool
     }
 }
 
-/// Puts the nodes that mean a fact. It asks those of its type.
+/// Puts the nodes that mean a fact. Of those of its type it asks the ones that a value of the fact tells apart, and the ones that no constant
+/// tells apart. It costs a hash for each field by which nodes of the type are told apart.
 fn put_fact(
     due: &mut BTreeSet<usize, Global>,
     nodes: &[NetNode],
@@ -94,7 +98,31 @@ fn put_fact(
     ensures put { OnOk result ((k : ℕ) (n : NetNodeData) → slice_get nodes.now k ≡ Some n → IsFound index.now k n
         → is_meant (pattern_of (condition_of n.node)) fact.now ≡ true → has_place due.new.keys k ≡ true) }
 {
-    put_meant(due, nodes, index.of_type(fact.ty), fact)
+    let alpha = &index.alpha;
+    put_meant(due, nodes, alpha.others(fact.ty), fact)?;
+    for field in alpha.fields(fact.ty) {
+        put_selected(due, nodes, alpha, *field, fact)?;
+    }
+    Ok(())
+}
+
+// Puts the nodes that mean a fact, of those that are told apart by what it has in a field.
+fn put_selected(
+    due: &mut BTreeSet<usize, Global>,
+    nodes: &[NetNode],
+    alpha: &AlphaIndex,
+    field: usize,
+    fact: &Fact,
+) -> Result<(), NoMemory>
+    ensures kept { OnOk result ((k : ℕ) → has_place due.old.keys k ≡ true → has_place due.new.keys k ≡ true) }
+    ensures put { OnOk result ((k : ℕ) (n : NetNodeData) (value : ValueData) → slice_get nodes.now k ≡ Some n → slice_get fact.now.fields field ≡ Some value
+        → is_listed alpha.now.constants (slot_of alpha.now.mask fact.now.ty.0 field value) k ≡ true
+        → is_meant (pattern_of (condition_of n.node)) fact.now ≡ true → has_place due.new.keys k ≡ true) }
+{
+    match fact.fields.as_slice().get(field) {
+        Some(value) => put_meant(due, nodes, alpha.constants(fact.ty, field, value), fact),
+        None => Ok(()),
+    }
 }
 
 /// Puts the nodes that mean one of these facts.
@@ -115,7 +143,7 @@ fn put_facts(
 }
 
 /// Puts the nodes that a step reaches by facts: those that mean one that goes or comes, and the first ones where something comes to them.
-/// It asks the nodes of the types of these facts.
+/// It asks the nodes of the types of these facts, but for those that a constant tells apart which the fact does not have.
 pub(crate) fn put_reached(
     due: &mut BTreeSet<usize, Global>,
     nodes: &[NetNode],

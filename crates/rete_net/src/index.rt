@@ -2,16 +2,18 @@ ghost use Rattle.std.specs.Prelude.{◌≡◌, ℕ, Some, true, slice_get, IfOk,
 ghost use Rattle.rete_net.specs.Indexes.{is_in, is_listed, items_of, IsFound, IsIndexOf};
 ghost use Rattle.rete_net.specs.declared.node.NetNode.{NetNode as NetNodeData};
 
+use crate::alpha_index::AlphaIndex;
 use crate::lists::Lists;
 use crate::node::NetNode;
 use fx_base::{NoMemory, TypeId};
 use std::alloc::Global;
 
-/// By what the nodes of a network are found, by their places: by the type of their candidates, as nodes without a parent, and by their
-/// parents; and the rules by the places of their last nodes.
+/// By what the nodes of a network are found, by their places: by the type of their candidates, by what their patterns mean, as nodes
+/// without a parent, and by their parents; and the rules by the places of their last nodes.
 #[derive(Drop)]
 pub(crate) struct Index {
     by_type: Lists,
+    pub(crate) alpha: AlphaIndex,
     firsts: Vec<usize>,
     children: Lists,
     rules: Lists,
@@ -24,6 +26,7 @@ impl Index {
     {
         let mut index = Index {
             by_type: Lists::new(alloc),
+            alpha: AlphaIndex::new(alloc, nodes.len()),
             firsts: Vec::new(alloc),
             children: Lists::new(alloc),
             rules: Lists::new(alloc),
@@ -42,6 +45,7 @@ impl Index {
         ensures kept { OnOk result ((k : ℕ) (n : NetNodeData) → IsFound self.old k n → IsFound self.new k n) }
     {
         self.by_type.put(alloc, usize::from(node.ty().0), place)?;
+        self.alpha.put(alloc, place, node.pattern())?;
         match node.parent {
             Some(parent) => self.children.put(alloc, parent, place)?,
             None => self.firsts.push(place)?,

@@ -3,6 +3,7 @@
 //! outside.
 #![tactic(auto)]
 
+mod alpha_index;
 mod answered;
 mod build;
 mod changes;
@@ -19,6 +20,7 @@ mod node;
 mod pieces;
 mod quiet;
 mod schedule;
+mod selector;
 mod steps;
 mod timers;
 

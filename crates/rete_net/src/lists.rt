@@ -39,6 +39,22 @@ impl Lists {
         Ok(())
     }
 
+    /// Puts a place at the end of the list of a number, where it is not there. It costs a look at the list besides.
+    pub(crate) fn put_once(
+        &mut self,
+        alloc: Global,
+        number: usize,
+        place: usize,
+    ) -> Result<(), NoMemory>
+        ensures put { OnOk result (is_listed self.new number place ≡ true) }
+        ensures kept { OnOk result ((n k : ℕ) → is_listed self.old n k ≡ true → is_listed self.new n k ≡ true) }
+    {
+        if self.list(number).contains(&place) {
+            return Ok(());
+        }
+        self.put(alloc, number, place)
+    }
+
     /// Puts empty lists at the end until there is one of this number.
     fn reach(&mut self, alloc: Global, number: usize) -> Result<(), NoMemory>
         ensures reached { OnOk result (number < length self.new.lists.items) }

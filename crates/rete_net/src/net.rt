@@ -79,11 +79,12 @@ impl Rete {
 
     /// Takes the facts that go and the one that comes, if one does, and the moment, and answers of the rules
     /// whose rows change, in their order, what has changed in them, but for rows that name a forgotten fact; no rule may need one.
-    /// `facts` has those that stay and are not forgotten, those that go and the one that comes. It asks the nodes whose candidates are of
-    /// the types of these facts, at the cost of the constant tests of each, and takes those with a window or a `not` in which something is
-    /// due; and behind each node that answers a change it takes its children. What no such way leads to costs nothing: neither another
-    /// node nor its rules, and what is due next costs a look for each entry point. The others cost what their gates and nodes say, the
-    /// logarithm of their number, and a change is copied once for each rule that has it.
+    /// `facts` has those that stay and are not forgotten, those that go and the one that comes. Of the nodes whose candidates are of the
+    /// types of these facts it asks those that no constant tells apart, and, by a hash for each field by which some are, those with what the
+    /// fact has in it, at the cost of the constant tests of each. It takes those with a window or a `not` in which something is due; and
+    /// behind each node that answers a change it takes its children. What no such way leads to costs nothing: neither another node nor its
+    /// rules, and what is due next costs a look for each entry point. The others cost what their gates and nodes say, the logarithm of their
+    /// number, and a change is copied once for each rule that has it.
     pub fn advance<F: Facts>(
         &mut self,
         alloc: Global,
@@ -155,7 +156,6 @@ impl Rete {
         Ok(answers)
     }
 
-    /// The nodes of all rules, which keep nothing.
     /// The nodes of all rules, which keep nothing.
     pub(crate) fn of_rules(alloc: Global, program: &Program) -> Result<Rete, NoMemory>
         ensures indexed { IfOk result (λ net. IsIndexOf net.nodes.items net.ends.items net.index) }

@@ -30,7 +30,7 @@ use fx_base::{EntryId, Fact, Facts, NoMemory, Seq, TypeId};
 use pattern_gate::PatternGate;
 use row_change::changes_nothing;
 use row_delta::{Delta, Extra, Named, Row};
-use rule_model::{Condition, Moment, Program};
+use rule_model::{Condition, Moment, Pattern, Program};
 use std::alloc::Global;
 
 /// A node of the network: where the rows of the conditions before it come from, the gate of its candidates, and the node of its
@@ -114,6 +114,13 @@ impl NetNode {
         ensures { result.0 ≡ type_of self.now }
     {
         self.node.pattern().ty
+    }
+
+    /// The pattern of its candidates. Takes no memory.
+    pub(crate) fn pattern(&self) -> &Pattern
+        ensures { result.now ≡ pattern_of (condition_of self.now.node) }
+    {
+        self.node.pattern()
     }
 
     /// The entry point of its candidates. Takes no memory.
