@@ -88,12 +88,12 @@ pub trait Engine: Sized + Drop {
     fn program(&self) -> &Program
         ensures { result.now ≡ made_with self.now };
 
-    /// The image of each world that the engine stands for, with this part of the run. It holds what the engine keeps; time and memory grow
-    /// with that. The engine stays as it is.
-    fn save(&self, alloc: Global, run: RunPart) -> Result<Image, NoMemory>
+    /// The image of each world that the engine stands for, with this part of the run. It holds what the engine keeps, which goes into it;
+    /// time and memory grow with that.
+    fn save(self, alloc: Global, run: RunPart) -> Result<Image, NoMemory>
         ensures run { IfOk result (λ image. image.run ≡ run) }
-        ensures lawful { (w : World) → stands self.now w → IsLawful (made_with self.now) w }
-        ensures image { IfOk result (λ image. (w : World) → stands self.now w → IsImageOf (made_with self.now) (table self.now) w image) };
+        ensures lawful { (w : World) → stands self w → IsLawful (made_with self) w }
+        ensures image { IfOk result (λ image. (w : World) → stands self w → IsImageOf (made_with self) (table self) w image) };
 
     /// An engine of a program, with a safe table of lives, in each lawful world of which the image is that; it has given the tags below the
     /// image's next one. `Unfit`: exactly where the image does not fit. Program, table and image are given up then.

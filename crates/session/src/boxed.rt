@@ -69,11 +69,20 @@ impl BoxedFacts {
         self.inside.get(id)
     }
 
-    /// The held facts, in the order of their tags, which it sorts.
+    /// The held facts, in the order of their tags.
     pub(crate) fn all(&self, alloc: Global) -> Result<Vec<&Fact>, NoMemory>
         ensures { IfOk result (λ facts. list_map (λ f. f.now) facts.items ≡ facts_of self.now) }
     {
         self.inside.facts(alloc)
+    }
+
+    /// The facts, in the order of their tags. They are taken out.
+    pub(crate) fn into_all(self, alloc: Global) -> Result<Vec<Fact>, NoMemory>
+        ensures { IfOk result (λ facts. facts.items ≡ facts_of self) }
+    {
+        let BoxedFacts { mut inside } = self;
+        let store = Box::replace(&mut inside, FactStore::new(alloc));
+        store.into_facts(alloc)
     }
 
     /// How many ids have a held fact of this type. Takes no memory.

@@ -27,20 +27,6 @@ use session_laws::Setting;
 use std::alloc::Global;
 use std::collections::BTreeSet;
 
-/// A copy of a fact.
-pub(crate) fn copied(alloc: Global, fact: &Fact) -> Result<Fact, NoMemory>
-    ensures { IfOk result (λ f. f ≡ fact.now) }
-{
-    Ok(Fact {
-        id: fact.id,
-        ty: fact.ty,
-        entry: fact.entry,
-        fields: fact.fields.copy(alloc)?,
-        tag: fact.tag,
-        times: fact.times,
-    })
-}
-
 /// Facts by their tags, the moments at which they expire, and those at which their lives end.
 #[derive(Drop)]
 pub(crate) struct Restored {

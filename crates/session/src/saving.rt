@@ -4,7 +4,6 @@ ghost use Rattle.rule_lives.specs.Keeping.{IsSafeTable};
 ghost use Rattle.rule_world.specs.Lawful.{IsLawful};
 ghost use Rattle.rule_world.specs.Programs.{IsRunnable};
 ghost use Rattle.rule_world.specs.Worlds.{World};
-ghost use Rattle.fact_store.specs.Held.{facts_of};
 ghost use Rattle.rule_model.specs.Matches.{match_cmp};
 ghost use Rattle.image_laws.specs.Fitting.{Fits};
 ghost use Rattle.image_laws.specs.Images.{IsImageOf, match_fired};
@@ -19,7 +18,7 @@ ghost use Rattle.session.specs.Sessions.{Stands};
 
 use crate::boxed::{BoxedAgenda, BoxedFacts};
 use crate::course::Course;
-use crate::restoring::{Restored, agenda_of, copied};
+use crate::restoring::{Restored, agenda_of};
 use crate::running::Running;
 use crate::session::Session;
 use crate::state::State;
@@ -122,24 +121,12 @@ fn boxed(alloc: Global, memory: Memory) -> Result<Box<Memory>, NoMemory>
     Ok(Box::new(alloc, memory)?)
 }
 
-// Copies of facts, in the order of their tags.
-fn copies_of(alloc: Global, facts: &BoxedFacts) -> Result<Vec<Fact>, NoMemory>
-    ensures { IfOk result (λ copies. copies.items ≡ facts_of facts.now) }
-{
-    let held = facts.all(alloc)?;
-    let mut copies = Vec::with_capacity(alloc, held.len())?;
-    for fact in held {
-        copies.push(copied(alloc, fact)?)?;
-    }
-    Ok(copies)
-}
-
-// Copies of the fired matches of an agenda, by rule and row.
-fn fired_of(alloc: Global, agenda: &Agenda) -> Result<Vec<FiredMatch>, NoMemory>
-    ensures matches { IfOk result (λ fired. list_map match_fired fired.items ≡ agenda.now.fired) }
+// The fired matches of an agenda, by rule and row.
+fn fired_of(alloc: Global, agenda: BoxedAgenda) -> Result<Vec<FiredMatch>, NoMemory>
+    ensures matches { IfOk result (λ fired. list_map match_fired fired.items ≡ agenda.fired) }
     ensures order { IfOk result (λ fired. IsStrictlySortedBy match_cmp (list_map match_fired fired.items)) }
 {
-    let matches = agenda.fired(alloc)?;
+    let matches = agenda.agenda().fired(alloc)?;
     let mut fired = Vec::with_capacity(alloc, matches.len())?;
     for matched in matches {
         let Match { rule, row } = matched;
@@ -149,30 +136,39 @@ fn fired_of(alloc: Global, agenda: &Agenda) -> Result<Vec<FiredMatch>, NoMemory>
 }
 
 impl State {
-    // The image of what is kept, with this part of the run, and with what so many entry points have reached.
+    // The image of what is kept, with this part of the run, and with what so many entry points have reached. The facts go into it.
     fn saved(
-        &self,
+        self,
         alloc: Global,
         run: RunPart,
         entries: usize,
         net: &Rete,
     ) -> Result<Image, NoMemory>
         ensures run { IfOk result (λ image. image.run ≡ run) }
-        ensures saved { IfOk result (IsSaved self.now entries net.now) }
+        ensures saved { IfOk result (IsSaved self entries net.now) }
     {
-        let last_starts = self.course.first_last_starts(alloc, entries)?;
-        let promises = self.course.first_promises(alloc, entries)?;
-        let facts = copies_of(alloc, &self.facts)?;
-        let fired = fired_of(alloc, self.agenda.agenda())?;
-        let extras = net.extras(alloc, &self.facts)?;
+        let State {
+            facts,
+            clock,
+            course,
+            agenda,
+            next_id,
+            next_tag,
+            ..
+        } = self;
+        let last_starts = course.first_last_starts(alloc, entries)?;
+        let promises = course.first_promises(alloc, entries)?;
+        let fired = fired_of(alloc, agenda)?;
+        let extras = net.extras(alloc, &facts)?;
+        let facts = facts.into_all(alloc)?;
         Ok(Image {
             run,
-            clock: self.clock,
-            begun: self.course.begun(),
+            clock,
+            begun: course.begun(),
             last_starts: Seq::from_vec(last_starts),
             promises: Seq::from_vec(promises),
-            next_id: self.next_id,
-            next_tag: self.next_tag,
+            next_id,
+            next_tag,
             facts: Seq::from_vec(facts),
             fired: Seq::from_vec(fired),
             extras: Seq::from_vec(extras),
@@ -181,15 +177,16 @@ impl State {
 }
 
 impl Session {
-    /// The image of each world that the session stands for, with this part of the run. It copies what is kept, the fired matches, and what
-    /// conditions count beyond it, which costs the tallies of their rows.
-    pub fn save(&self, alloc: Global, run: RunPart) -> Result<Image, NoMemory>
+    /// The image of each world that the session stands for, with this part of the run. The kept facts go into it; it copies the fired matches,
+    /// and what conditions count beyond the facts, which costs the tallies of their rows.
+    pub fn save(self, alloc: Global, run: RunPart) -> Result<Image, NoMemory>
         ensures run { IfOk result (λ image. image.run ≡ run) }
-        ensures lawful { (w : World) → Stands self.now w → IsLawful self.now.setting.program w }
-        ensures image { IfOk result (λ image. (w : World) → Stands self.now w → IsImageOf self.now.setting.program self.now.setting.lives w image) }
+        ensures lawful { (w : World) → Stands self w → IsLawful self.setting.program w }
+        ensures image { IfOk result (λ image. (w : World) → Stands self w → IsImageOf self.setting.program self.setting.lives w image) }
     {
         let entries = self.setting.setting().program.entries.as_slice().len();
-        self.state.saved(alloc, run, entries, &self.memory.net)
+        let Session { state, memory, .. } = self;
+        state.saved(alloc, run, entries, &memory.net)
     }
 
     /// A session of a program, with a safe table of lives, in each lawful world of which the image is that. `Unfit`: exactly where the image

@@ -228,7 +228,7 @@ impl Engine for Session {
         Session::program(self)
     }
 
-    fn save(&self, alloc: Global, run: RunPart) -> Result<Image, NoMemory> {
+    fn save(self, alloc: Global, run: RunPart) -> Result<Image, NoMemory> {
         Session::save(self, alloc, run)
     }
 

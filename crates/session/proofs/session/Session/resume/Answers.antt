@@ -13,14 +13,14 @@ use Rattle.session.proofs.session.Session.resume.Goals as goal
 pub returns-then-not-plain-clause-unfit : goal.returns-then-not-plain-clause-unfit
 returns-then-not-plain-clause-unfit c unfit fits =
     let o = c.in_ok-plain.ensures.owners in
-    let plainly = ((c.an_image_fits_by_tests_and_rows.ensures c.args.program c.args.lives c.args.image.now o.0 c.requires.table.safe o.1).0 fits).0 in
+    let plainly = ((c.an_image_fits_by_tests_and_rows.ensures c.args.program c.args.lives c.args.image o.0 c.requires.table.safe o.1).0 fits).0 in
     let so : c.in_ok-plain.plain ≡ true = c.in_ok-plain.ensures.exact.1 plainly in
     let no : c.in_ok-plain.plain ≡ false = search rules in
     absurd (let not_so : false ≡ true = sym no ∙ so in cc)
 
 pub returns-in_err-state-clause-unfit : goal.returns-in_err-state-clause-unfit
 returns-in_err-state-clause-unfit c unfit fits =
-    let image = c.args.image.now in
+    let image = c.args.image in
     let o = c.in_ok-plain.ensures.owners in
     let is : c.setting-2.result.now ≡ record { program = c.args.program; lives = c.args.lives } = c.setting-2.ensures.same ∙ c.in_ok-setting.ensures in
     let by_rows = ((c.an_image_fits_by_tests_and_rows.ensures c.args.program c.args.lives image o.0 c.requires.table.safe o.1).0 fits).1 in
@@ -28,7 +28,7 @@ returns-in_err-state-clause-unfit c unfit fits =
 
 pub invariant_of-result : goal.invariant_of-result
 invariant_of-result c =
-    let image = c.args.image.now in
+    let image = c.args.image in
     let o = c.in_ok-plain.ensures.owners in
     let is : c.setting-2.result.now ≡ record { program = c.args.program; lives = c.args.lives } = c.setting-2.ensures.same ∙ c.in_ok-setting.ensures in
     let r : IsRestored c.in_ok-setting.setting image o.0 c.in_ok-memory.memory.value c.in_ok-state.state =
@@ -39,7 +39,7 @@ invariant_of-result c =
 
 pub returns-clause-stands : goal.returns-clause-stands
 returns-clause-stands c w lawful of_world =
-    let image = c.args.image.now in
+    let image = c.args.image in
     let o = c.in_ok-plain.ensures.owners in
     let is : c.setting-2.result.now ≡ record { program = c.args.program; lives = c.args.lives } = c.setting-2.ensures.same ∙ c.in_ok-setting.ensures in
     let r : IsRestored c.in_ok-setting.setting image o.0 c.in_ok-memory.memory.value c.in_ok-state.state =
@@ -56,7 +56,7 @@ returns-clause-next c =
 
 pub returns-clause-fits : goal.returns-clause-fits
 returns-clause-fits c =
-    let image = c.args.image.now in
+    let image = c.args.image in
     let o = c.in_ok-plain.ensures.owners in
     let is : c.setting-2.result.now ≡ record { program = c.args.program; lives = c.args.lives } = c.setting-2.ensures.same ∙ c.in_ok-setting.ensures in
     let by_rows = (c.in_ok-state.ensures.restored o.0 (subst (λ (x : Setting). AreOwners x.program o.0) (sym is) o.1)).fits in
