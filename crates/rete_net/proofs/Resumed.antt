@@ -1,5 +1,5 @@
 -- For which snapshot a network stands that was loaded.
-use Rattle.std.proofs.Common.{◌≡◌, ◌∙◌, ◌⊎◌, inl, inr, sym, ap, refl, subst, ℕ, ℤ, suc, pos, ◌≤ℤ◌, ◌<◌, ◌≤◌, ◌==◌, nat_lt, cond, arith, Bool, true, false, List, [], ◌∷◌, length, take, Option, Some, None, slice_get}
+use Rattle.std.proofs.Common.{◌≡◌, ◌∙◌, ◌⊎◌, inl, inr, sym, ap, refl, subst, ℕ, suc, pos, ◌≤ℤ◌, ◌<◌, ◌≤◌, ◌==◌, nat_lt, cond, arith, Bool, true, false, List, [], ◌∷◌, length, take, Option, Some, None, slice_get}
 use Rattle.std.proofs.lemmas.Bool.Decides.{nat_tests}
 use Rattle.std.proofs.lemmas.List.{length-take-le}
 use Rattle.std.proofs.lemmas.Option.{slice_get_within}

@@ -1,4 +1,4 @@
-use Rattle.std.proofs.Common.{◌≡◌, ◌∙◌, sym, ap, subst, refl, List, [], ◌∷◌, Some, slice_get, take, ◌+◌, ◌<◌, ◌≤◌, length, arith, ◌++◌, append-nil, get_or}
+use Rattle.std.proofs.Common.{◌≡◌, ◌∙◌, sym, ap, subst, refl, List, [], ◌∷◌, Some, slice_get, take, ◌+◌, ◌<◌, length, arith, ◌++◌, append-nil, get_or}
 use Rattle.std.proofs.lemmas.List.{append_assoc, take_more, take_all}
 use Rattle.fx_base.specs.declared.ids.RuleId.{RuleId}
 use Rattle.rule_model.specs.declared.condition.Condition.{Condition}
