@@ -13,8 +13,8 @@ returns-in-Ok-run_from-clause-run g c name image first last h =
     (done.0, done.1, λ w begins. done.2 w (c.in-Ok.ensures.stands w begins))
     c.in-Ok-run_from.ensures.taken c.in-Ok-run_from.ensures.nothing_left)
 
-pub returns-in-Err-clause-run : goal.returns-in-Err-clause-run
-returns-in-Err-clause-run g c name image first last h =
+pub returns-clause-run : goal.returns-clause-run
+returns-clause-run g c name image first last h =
     let front = rw (c.in-Ok.ensures.program, c.in-Ok.ensures.table, c.behind-at.ensures, c.in-Ok.ensures.part) at c.in-Err.ensures.front in
     let long = rw (c.in-Ok.ensures.program, c.in-Ok.ensures.table, c.behind-at.ensures, c.in-Ok.ensures.part) at c.in-Err.ensures.long in
     let at_read = rw (c.in-Ok.ensures.program, c.in-Ok.ensures.table, c.behind-at.ensures, c.in-Ok.ensures.part) at c.in-Err.ensures.stopped_at_read in
@@ -40,5 +40,5 @@ returns-in-Err-NoMemory-clause-run g c name image first last h =
 pub returns-in-Ok-run_from-clause-unread : goal.returns-in-Ok-run_from-clause-unread
 returns-in-Ok-run_from-clause-unread g c never = absurd (never c.in-Ok.ensures.fits)
 
-pub returns-in-Err-clause-unread : goal.returns-in-Err-clause-unread
-returns-in-Err-clause-unread g c never = absurd (never c.in-Ok.ensures.fits)
+pub returns-clause-unread : goal.returns-clause-unread
+returns-clause-unread g c never = absurd (never c.in-Ok.ensures.fits)
