@@ -69,7 +69,7 @@ impl BoxedFacts {
         self.inside.get(id)
     }
 
-    /// The held facts, in the order of their tags.
+    /// The held facts, in the order of their tags, which it sorts.
     pub(crate) fn all(&self, alloc: Global) -> Result<Vec<&Fact>, NoMemory>
         ensures { IfOk result (λ facts. list_map (λ f. f.now) facts.items ≡ facts_of self.now) }
     {
