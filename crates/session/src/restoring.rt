@@ -75,7 +75,11 @@ impl Restored {
     }
 
     /// These facts.
-    pub(crate) fn of(alloc: Global, setting: &Setting, facts: Vec<Fact>) -> Result<Restored, NoMemory>
+    pub(crate) fn of(
+        alloc: Global,
+        setting: &Setting,
+        facts: Vec<Fact>,
+    ) -> Result<Restored, NoMemory>
         requires runs { Runs setting.now }
         requires storable { AreStorable facts.items }
         ensures facts { IfOk result (λ r. r.facts ≡ stored facts.items) }

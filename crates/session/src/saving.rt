@@ -29,8 +29,8 @@ use fx_base::{Fact, NoMemory, Seq};
 use image_fitting::fits_plainly;
 use image_fitting::laws::an_image_fits_by_tests_and_rows;
 use rete_net::{LoadFault, Rete};
-use rule_model::{LifeTable, Match, Moment, Program};
 use row_delta::Extra;
+use rule_model::{LifeTable, Match, Moment, Program};
 use session_laws::{Memory, Setting};
 use std::alloc::Global;
 

@@ -6,8 +6,8 @@ use Rattle.session_laws.proofs.Matched.{fired_refuses, matched_is, residual_unfi
 use Rattle.session_laws.proofs.Restored.{kept_in_order}
 use Rattle.session.proofs.saving.matched.Goals as goal
 
-pub returns-in_ok-agenda-in-Ok-clause-matched : goal.returns-in_ok-agenda-in-Ok-clause-matched
-returns-in_ok-agenda-in-Ok-clause-matched c image are =
+pub returns-in-Ok-clause-matched : goal.returns-in-Ok-clause-matched
+returns-in-Ok-clause-matched c image are =
     let p = c.args.setting.now.program in
     let lives = c.args.setting.now.lives in
     let kept : lent c.deref.result.now ≡ image.facts = ap lent c.deref.ensures.value ∙ c.in_ok-kept.ensures ∙ kept_in_order p lives image are.plain c.requires.runs.runnable c.args.facts.now are.held in
@@ -22,7 +22,7 @@ returns-in_err-agenda-in-Ok-clause-unfit c image are unfit =
     let lives = c.args.setting.now.lives in
     let kept : lent c.deref.result.now ≡ image.facts = ap lent c.deref.ensures.value ∙ c.in_ok-kept.ensures ∙ kept_in_order p lives image are.plain c.requires.runs.runnable c.args.facts.now are.held in
     fired_refuses p lives image are.plain c.requires.runs.runnable (lent c.deref.result.now) c.args.extras.now c.args.facts.now c.args.moment.now kept are.counted are.held are.clock are.last_starts are.promises
-    c.in-Ok.loaded.1.items c.args.fired.now are.marks c.in-Ok.ensures.rows (c.in_err-agenda-in-Ok.ensures.unfit (ap Err (residual_unfit c.from_residual.result c.in_err-agenda-in-Ok.field-0.0 c.from_residual.ensures.1 unfit)))
+    c.in-Ok.loaded.1.items c.args.fired.now are.marks c.in-Ok.ensures.rows (c.in_err-agenda-in-Ok.ensures.unfit (ap Err (residual_unfit c.from_residual-in_err-agenda-in-Ok.result c.in_err-agenda-in-Ok.field-0.0 c.from_residual-in_err-agenda-in-Ok.ensures.1 unfit)))
 
 pub returns-in-Err-NoRow-clause-unfit : goal.returns-in-Err-NoRow-clause-unfit
 returns-in-Err-NoRow-clause-unfit c image are unfit =

@@ -4,7 +4,6 @@ use Rattle.row_delta.specs.declared.extra.Extra.{Extra}
 use Rattle.checkpoint.specs.declared.image.FiredMatch.{FiredMatch}
 use Rattle.checkpoint.specs.declared.image.Image.{Image}
 use Rattle.rule_model.specs.Matches.{match_cmp}
-use Rattle.agenda.specs.Agendas.{Marks}
 use Rattle.image_laws.specs.Extras.{AreExtras}
 use Rattle.image_laws.specs.Images.{match_fired}
 use Rattle.session_laws.specs.Saving.{ArePadded, IsSaved}
@@ -35,7 +34,7 @@ returns-clause-saved c =
       next_id = refl;
       next_tag = refl;
       facts = c.from_vec-3.ensures ∙ c.in_ok-facts.ensures;
-      fired = ap (list_map match_fired) c.from_vec-4.ensures ∙ c.in_ok-fired.ensures.matches ∙ ap (λ (a : Marks). a.fired) c.agenda.ensures;
+      fired = ap (list_map match_fired) c.from_vec-4.ensures ∙ c.in_ok-fired.ensures.matches;
       fired_in_order = subst (λ (ms : List FiredMatch). IsStrictlySortedBy match_cmp (list_map match_fired ms)) (sym c.from_vec-4.ensures) c.in_ok-fired.ensures.order;
       extras = λ p s forgotten stands has. subst (AreExtras p s forgotten) (sym c.from_vec-5.ensures) (c.in_ok-extras.ensures p s forgotten stands has);
     })
