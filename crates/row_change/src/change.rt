@@ -3,17 +3,17 @@ ghost use Rattle.row_delta.specs.Rows.{has};
 ghost use Rattle.row_delta.specs.declared.row.Row.{Row};
 ghost use Rattle.row_change.specs.Changes.{Leads, IsDifference, without, along, changes_nothing};
 
-use fx_base::{NoMemory, Seq};
+use crate::row_set::RowSet;
+use fx_base::NoMemory;
 use row_delta::{Delta, Row};
 use std::alloc::Global;
-use std::collections::BTreeSet;
 
 /// What has changed in a set of rows so far: those that went, and those that came. A row that goes and comes back is in
 /// neither.
 #[derive(Drop)]
 pub struct Change {
-    gone: BTreeSet<Row, Global>,
-    come: BTreeSet<Row, Global>,
+    gone: RowSet,
+    come: RowSet,
 }
 
 impl Change {
@@ -22,8 +22,8 @@ impl Change {
         ensures { (rows : Row → Bool) → Leads rows rows result.gone.keys result.come.keys }
     {
         Change {
-            gone: BTreeSet::new(alloc),
-            come: BTreeSet::new(alloc),
+            gone: RowSet::new(alloc),
+            come: RowSet::new(alloc),
         }
     }
 
@@ -49,26 +49,24 @@ impl Change {
     pub fn delta(self, alloc: Global) -> Result<Delta, NoMemory>
         ensures { IfOk result (λ delta. (old now : Row → Bool) → Leads old now self.gone.keys self.come.keys → IsDifference old now delta) }
     {
-        let gone: Vec<Row> = self.gone.into_iter().collect(alloc)?;
-        let come: Vec<Row> = self.come.into_iter().collect(alloc)?;
         Ok(Delta {
-            gone: Seq::from_vec(gone),
-            come: Seq::from_vec(come),
+            gone: self.gone.into_seq(alloc)?,
+            come: self.come.into_seq(alloc)?,
         })
     }
 }
 
 /// Takes the rows out of the one set, and puts those that it does not have into the other.
-fn cross(
-    alloc: Global,
-    from: &mut BTreeSet<Row, Global>,
-    to: &mut BTreeSet<Row, Global>,
-    rows: Vec<Row>,
-) -> Result<(), NoMemory>
+fn cross(alloc: Global, from: &mut RowSet, to: &mut RowSet, rows: Vec<Row>) -> Result<(), NoMemory>
     ensures from { OnOk result ((row : Row) → has from.new.keys row ≡ (has from.old.keys row && not (has rows.items row))) }
     ensures to { OnOk result ((row : Row) → has to.new.keys row ≡ (has to.old.keys row || (has rows.items row && not (has from.old.keys row)))) }
 {
+    if from.is_empty() {
+        to.insert_all(rows)?;
+        return Ok(());
+    }
     let both = parted(alloc, from, to, rows)?;
+    from.spread(both.len())?;
     remove_all(from, both.as_slice());
     Ok(())
 }
@@ -76,8 +74,8 @@ fn cross(
 /// Puts those of the rows that the one set does not have into the other, and answers those that it has.
 fn parted(
     alloc: Global,
-    from: &BTreeSet<Row, Global>,
-    to: &mut BTreeSet<Row, Global>,
+    from: &RowSet,
+    to: &mut RowSet,
     rows: Vec<Row>,
 ) -> Result<Vec<Row>, NoMemory>
     ensures to { OnOk result ((row : Row) → has to.new.keys row ≡ (has to.old.keys row || (has rows.items row && not (has from.now.keys row)))) }
@@ -94,7 +92,7 @@ fn parted(
     Ok(both)
 }
 
-fn remove_all(set: &mut BTreeSet<Row, Global>, rows: &[Row])
+fn remove_all(set: &mut RowSet, rows: &[Row])
     ensures { (row : Row) → has set.new.keys row ≡ (has set.old.keys row && not (has rows.now row)) }
 {
     for row in rows {

@@ -4,5 +4,6 @@
 
 mod change;
 pub mod laws;
+mod row_set;
 
 pub use change::{Change, changes_nothing};

@@ -19,7 +19,7 @@ pub loop-row-preserved : goal.loop-row-preserved
 loop-row-preserved c =
     let e : has c.args.from.now.keys c.in-Some.row ≡ false = sym c.contains.ensures ∙ c.if-contains.false in
     record {
-      to = λ row. to_put c.args.from.now.keys c.loop-row.to.keys c.loop-row.both.items c.next.new.self.rest.items c.in-Some.row row _ c.insert.new.self.keys (c.in_ok-insert.ensures.updates.0 row) e
+      to = λ row. to_put c.args.from.now.keys c.loop-row.to.keys c.loop-row.both.items c.next.new.self.rest.items c.in-Some.row row _ c.insert.new.self.keys (c.in_ok-insert.ensures row) e
           (subst (λ (rows : List Row). (has c.loop-row.to.keys row || (has rows row && not (has c.args.from.now.keys row))) ≡ (has c.args.to.now.keys row || (has c.args.rows.items row && not (has c.args.from.now.keys row)))) c.in-Some.ensures.steps.0 (c.loop-row.invariant.to row));
       both = λ row. both_passed c.args.from.now.keys c.loop-row.to.keys c.loop-row.both.items c.next.new.self.rest.items c.in-Some.row row _ e
           (subst (λ (rows : List Row). (has c.loop-row.both.items row || (has rows row && has c.args.from.now.keys row)) ≡ (has c.args.rows.items row && has c.args.from.now.keys row)) c.in-Some.ensures.steps.0 (c.loop-row.invariant.both row));

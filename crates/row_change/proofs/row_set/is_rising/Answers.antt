@@ -1,0 +1,11 @@
+use Rattle.std.specs.Ordering.{is_lt}
+use Rattle.std.proofs.Common.{rules}
+use Rattle.std.proofs.lemmas.List.Sorted.{answers_always}
+use Rattle.row_delta.specs.Rows.{row_cmp}
+use Rattle.row_change.proofs.Placing.{rising_order}
+use Rattle.row_change.proofs.row_set.is_rising.Goals as goal
+
+pub returns : goal.returns
+returns c is =
+    rising_order c.args.rows.now c.is_sorted_by.result
+    (c.is_sorted_by.ensures.cases (λ x y. is_lt (row_cmp x y)) (answers_always _ _ _ (λ f a r g called. search rules))) is

@@ -1,0 +1,20 @@
+-- A set of rows as a list or as a tree.
+use Rattle.std.specs.Prelude.{List}
+use Rattle.row_delta.specs.Rows.{InOrder}
+use Rattle.row_delta.specs.declared.row.Row.{Row}
+use Rattle.row_change.specs.declared.row_set.Form.{Form}
+use Rattle.row_change.specs.declared.row_set.Form.TheVariants.{Listed, Tree}
+
+-- the rows of a set, in order
+pub record Kept : Type 0 where
+  pub keys : List Row
+
+-- the rows of either form
+abbrev pub rows_of : Form → List Row
+rows_of (Listed rows) = rows.items
+rows_of (Tree rows) = rows.keys
+
+-- a list is kept in order; a tree keeps itself so
+abbrev pub IsKept : Form → Type 0
+IsKept (Listed rows) = InOrder rows.items
+IsKept (Tree rows) = Unit {0}
