@@ -4,3 +4,4 @@ pub mod Neighbours
 pub mod Ranges
 pub mod Slotting
 pub mod Meeting
+pub mod Siding

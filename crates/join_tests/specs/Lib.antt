@@ -5,3 +5,4 @@ pub mod JoinValues
 pub mod TimeKeys
 pub mod Slots
 pub mod Kept
+pub mod RowKeys

@@ -17,7 +17,7 @@ use std::hash::{FoldHasher, Hash, Hasher};
 pub(crate) fn number_of<F: Facts>(pattern: &Pattern, partner: Partner<'_, '_>, facts: &F) -> Value
     ensures { result ≡ Value.Int (number_for (map (part (F.map facts.now) partner.entry) (join_keys pattern.now))) }
 {
-    Value::Int(parts_fed(pattern, partner, facts).finish().cast_signed())
+    number_fed(parts_fed(pattern, partner, facts))
 }
 
 /// A hash that is fed with these values. It costs the same.
@@ -34,13 +34,20 @@ pub(crate) fn parts_fed<F: Facts>(
     state
 }
 
+/// The number of a hash. Takes no memory.
+pub(crate) fn number_fed(fed: FoldHasher) -> Value
+    ensures { result ≡ Value.Int (cast_signed w64 (hasher.finish fed)) }
+{
+    Value::Int(fed.finish().cast_signed())
+}
+
 /// The number of a hash that is fed with one value more. Takes no memory.
 pub(crate) fn number_with(fed: FoldHasher, value: &Value) -> Value
     ensures { result ≡ Value.Int (cast_signed w64 (hasher.finish (fed_with fed (value.now ∷ [])))) }
 {
     let mut state = fed;
     feed(value, &mut state);
-    Value::Int(state.finish().cast_signed())
+    number_fed(state)
 }
 
 fn feed_tests<F: Facts>(tests: &[Test], partner: Partner<'_, '_>, facts: &F, state: &mut FoldHasher)
@@ -81,7 +88,8 @@ fn feed_compares<F: Facts>(
     }
 }
 
-fn feed(value: &Value, state: &mut FoldHasher)
+/// Feeds a value to a hash. Takes no memory.
+pub(crate) fn feed(value: &Value, state: &mut FoldHasher)
     ensures { state.new ≡ fold hasher.write state.old (writes value.now) }
 {
     match value {

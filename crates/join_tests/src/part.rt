@@ -33,7 +33,8 @@ pub(crate) fn part_of<'a, F: Facts>(
     }
 }
 
-fn side_value<'a, F: Facts>(side: JoinSide, row: &Row, facts: &'a F) -> JoinValue<'a>
+/// What a row has of a side. Takes no memory.
+pub(crate) fn side_value<'a, F: Facts>(side: JoinSide, row: &Row, facts: &'a F) -> JoinValue<'a>
     ensures { shown result ≡ given_or_true (earlier_value (bound_in (F.map facts.now) row.now) side) }
 {
     match side {

@@ -22,7 +22,7 @@ impl TimeKey {
     pub(crate) fn slot(self, moment: Millis) -> Value
         ensures { result ≡ slot_value self.span moment }
     {
-        self.slot_at(i128::from(moment))
+        slot_at(self.span, i128::from(moment))
     }
 
     /// The slots of the first and the last moment of an event to which a candidate of this moment fits.
@@ -32,8 +32,8 @@ impl TimeKey {
     {
         let last = i128::from(moment) + i128::from(self.back);
         (
-            self.slot_at(last - i128::from(self.span)),
-            self.slot_at(last),
+            slot_at(self.span, last - i128::from(self.span)),
+            slot_at(self.span, last),
         )
     }
 
@@ -44,15 +44,16 @@ impl TimeKey {
     {
         let first = i128::from(moment) - i128::from(self.back);
         (
-            self.slot_at(first),
-            self.slot_at(first + i128::from(self.span)),
+            slot_at(self.span, first),
+            slot_at(self.span, first + i128::from(self.span)),
         )
     }
+}
 
-    fn slot_at(self, moment: i128) -> Value
-        ensures { result ≡ slot_value self.span moment }
-    {
-        let slot = moment.div_euclid(i128::from(self.span) + 1);
-        number_or_true(i64::try_from(slot).ok())
-    }
+/// The slot of a moment among slots of this length, less 1. Takes no memory.
+pub(crate) fn slot_at(span: u64, moment: i128) -> Value
+    ensures { result ≡ slot_value span moment }
+{
+    let slot = moment.div_euclid(i128::from(span) + 1);
+    number_or_true(i64::try_from(slot).ok())
 }

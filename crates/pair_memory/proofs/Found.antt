@@ -11,12 +11,13 @@ use Rattle.row_delta.specs.declared.row.Named.{Named}
 use Rattle.row_delta.specs.declared.row.Row.{Row}
 use Rattle.row_delta.specs.Rows.{row_cmp}
 use Rattle.row_delta.specs.NameOrder.{name_cmp}
+use Rattle.rule_model.specs.declared.condition.Pattern.{Pattern}
+use Rattle.alpha_memory.specs.declared.join_index.JoinIndex.{JoinIndex}
 use Rattle.alpha_memory.specs.JoinIndex.{bucket_at, at}
 use Rattle.join_tests.specs.Joins.{Look, joins}
 use Rattle.join_tests.specs.Kept.{row_value, candidate_value, rows_sought, candidates_sought, is_among}
 use Rattle.join_tests.proofs.Meeting.{row_sought, candidate_sought}
-use Rattle.pair_memory.specs.declared.memories.Memories.{Memories}
-use Rattle.pair_memory.specs.Memories.{has_left, has_right}
+use Rattle.pair_memory.specs.Memories.{row_kept, name_kept}
 use Rattle.pair_memory.specs.Joined.{unjoined, joined}
 use Rattle.pair_memory.specs.Under.{row_joins, name_joins, stands_in}
 use Rattle.pair_memory.proofs.Joining.{row_decides, name_decides, splits_alike, splits_or}
@@ -70,95 +71,96 @@ both_right : (x a b h j p q : Bool) → (p ≡ true → a ≡ h) → (q ≡ true
 both_right true a b h j p q first second some = both a b h j p q first second (some refl)
 both_right false a b h j p q first second some = refl
 
-module _ {S : Type 0} (m : Memories S) (look : Look) where
-  -- ---- the left rows that a candidate joins
+-- ---- the left rows that a candidate joins
 
+module _ {S : Type 0} (p : Pattern) (left : JoinIndex Value Row S) (look : Look) where
   -- a row stands under its join value where it is kept
-  row_here : (v : Value) (l : Row) → same_value (row_value m.pattern look l) v ≡ true → stands_in row_cmp (bucket_at same_value m.left v) l ≡ has_left m look l
-  row_here v l e = ap (λ w. is_some (at same_value row_cmp m.left w l)) (sym (equal_values (row_value m.pattern look l) v e))
+  row_here : (v : Value) (l : Row) → same_value (row_value p look l) v ≡ true → stands_in row_cmp (bucket_at same_value left v) l ≡ row_kept p left look l
+  row_here v l e = ap (λ w. is_some (at same_value row_cmp left w l)) (sym (equal_values (row_value p look l) v e))
 
   module _ (who : Named) where
-    among_rows : (values : List Value) → rows_sought m.pattern look who ≡ values → (l : Row) → joins m.pattern look l who ≡ true → is_among values (row_value m.pattern look l) ≡ true
-    among_rows values is l e = subst (λ vs. is_among vs (row_value m.pattern look l) ≡ true) is (row_sought m.pattern look l who e)
+    among_rows : (values : List Value) → rows_sought p look who ≡ values → (l : Row) → joins p look l who ≡ true → is_among values (row_value p look l) ≡ true
+    among_rows values is l e = subst (λ vs. is_among vs (row_value p look l) ≡ true) is (row_sought p look l who e)
 
     -- for the version that is compared with the candidate
-    joins_who : (l : Row) (c : Named) → eq_by_cmp name_cmp who c ≡ true → joins m.pattern look l c ≡ true → joins m.pattern look l who ≡ true
-    joins_who l c x e = ap (joins m.pattern look l) ((name_decides who c).0 x) ∙ e
+    joins_who : (l : Row) (c : Named) → eq_by_cmp name_cmp who c ≡ true → joins p look l c ≡ true → joins p look l who ≡ true
+    joins_who l c x e = ap (joins p look l) ((name_decides who c).0 x) ∙ e
 
-    module _ (v : Value) (is : rows_sought m.pattern look who ≡ v ∷ []) where
-      row_in : (l : Row) → joins m.pattern look l who ≡ true → stands_in row_cmp (bucket_at same_value m.left v) l ≡ has_left m look l
-      row_in l e = row_here v l (sym (or_nothing (same_value (row_value m.pattern look l) v)) ∙ among_rows (v ∷ []) is l e)
+    module _ (v : Value) (is : rows_sought p look who ≡ v ∷ []) where
+      row_in : (l : Row) → joins p look l who ≡ true → stands_in row_cmp (bucket_at same_value left v) l ≡ row_kept p left look l
+      row_in l e = row_here v l (sym (or_nothing (same_value (row_value p look l) v)) ∙ among_rows (v ∷ []) is l e)
 
-      pub rows_alone : (r : Row) → joined (row_joins m.pattern look None) (stands_in row_cmp (bucket_at same_value m.left v)) (eq_by_cmp name_cmp who) r
-          ≡ joined (joins m.pattern look) (has_left m look) (eq_by_cmp name_cmp who) r
+      pub rows_alone : (r : Row) → joined (row_joins p look None) (stands_in row_cmp (bucket_at same_value left v)) (eq_by_cmp name_cmp who) r
+          ≡ joined (joins p look) (row_kept p left look) (eq_by_cmp name_cmp who) r
       unfolding joined
       rows_alone r =
-          splits_alike _ _ (λ l c. alone_left (stands_in row_cmp (bucket_at same_value m.left v) l) (has_left m look l) (eq_by_cmp name_cmp who c) (joins m.pattern look l c)
+          splits_alike _ _ (λ l c. alone_left (stands_in row_cmp (bucket_at same_value left v) l) (row_kept p left look l) (eq_by_cmp name_cmp who c) (joins p look l c)
           (λ x e. row_in l (joins_who l c x e))) (unjoined r)
 
-      pub partners_alone : (l : Row) → (stands_in row_cmp (bucket_at same_value m.left v) l && row_joins m.pattern look None l who) ≡ (has_left m look l && joins m.pattern look l who)
-      partners_alone l = alone (stands_in row_cmp (bucket_at same_value m.left v) l) (has_left m look l) (joins m.pattern look l who) (row_in l)
+      pub partners_alone : (l : Row) → (stands_in row_cmp (bucket_at same_value left v) l && row_joins p look None l who) ≡ (row_kept p left look l && joins p look l who)
+      partners_alone l = alone (stands_in row_cmp (bucket_at same_value left v) l) (row_kept p left look l) (joins p look l who) (row_in l)
 
-    module _ (v w : Value) (is : rows_sought m.pattern look who ≡ v ∷ w ∷ []) where
-      pub rows_both : (r : Row) → (joined (row_joins m.pattern look (Some v)) (stands_in row_cmp (bucket_at same_value m.left v)) (eq_by_cmp name_cmp who) r
-          || joined (row_joins m.pattern look (Some w)) (stands_in row_cmp (bucket_at same_value m.left w)) (eq_by_cmp name_cmp who) r)
-          ≡ joined (joins m.pattern look) (has_left m look) (eq_by_cmp name_cmp who) r
+    module _ (v w : Value) (is : rows_sought p look who ≡ v ∷ w ∷ []) where
+      pub rows_both : (r : Row) → (joined (row_joins p look (Some v)) (stands_in row_cmp (bucket_at same_value left v)) (eq_by_cmp name_cmp who) r
+          || joined (row_joins p look (Some w)) (stands_in row_cmp (bucket_at same_value left w)) (eq_by_cmp name_cmp who) r)
+          ≡ joined (joins p look) (row_kept p left look) (eq_by_cmp name_cmp who) r
       unfolding joined
       rows_both r =
           sym (splits_or _ _ (unjoined r))
-          ∙ splits_alike _ _ (λ l c. both_left (stands_in row_cmp (bucket_at same_value m.left v) l) (stands_in row_cmp (bucket_at same_value m.left w) l) (has_left m look l) (eq_by_cmp name_cmp who c)
-          (joins m.pattern look l c) (same_value (row_value m.pattern look l) v) (same_value (row_value m.pattern look l) w) (row_here v l) (row_here w l)
+          ∙ splits_alike _ _ (λ l c. both_left (stands_in row_cmp (bucket_at same_value left v) l) (stands_in row_cmp (bucket_at same_value left w) l) (row_kept p left look l) (eq_by_cmp name_cmp who c)
+          (joins p look l c) (same_value (row_value p look l) v) (same_value (row_value p look l) w) (row_here v l) (row_here w l)
           (λ x e. among_rows (v ∷ w ∷ []) is l (joins_who l c x e))) (unjoined r)
 
-      pub partners_both : (l : Row) → ((stands_in row_cmp (bucket_at same_value m.left v) l && row_joins m.pattern look (Some v) l who)
-          || (stands_in row_cmp (bucket_at same_value m.left w) l && row_joins m.pattern look (Some w) l who)) ≡ (has_left m look l && joins m.pattern look l who)
+      pub partners_both : (l : Row) → ((stands_in row_cmp (bucket_at same_value left v) l && row_joins p look (Some v) l who)
+          || (stands_in row_cmp (bucket_at same_value left w) l && row_joins p look (Some w) l who)) ≡ (row_kept p left look l && joins p look l who)
       partners_both l =
-          both (stands_in row_cmp (bucket_at same_value m.left v) l) (stands_in row_cmp (bucket_at same_value m.left w) l) (has_left m look l) (joins m.pattern look l who)
-          (same_value (row_value m.pattern look l) v) (same_value (row_value m.pattern look l) w) (row_here v l) (row_here w l) (among_rows (v ∷ w ∷ []) is l)
+          both (stands_in row_cmp (bucket_at same_value left v) l) (stands_in row_cmp (bucket_at same_value left w) l) (row_kept p left look l) (joins p look l who)
+          (same_value (row_value p look l) v) (same_value (row_value p look l) w) (row_here v l) (row_here w l) (among_rows (v ∷ w ∷ []) is l)
 
-  -- ---- the candidates that join a row
+-- ---- the candidates that join a row
 
+module _ (p : Pattern) (right : JoinIndex Value Named (Unit {0})) (look : Look) where
   -- a candidate stands under its join value where it is kept
-  name_here : (v : Value) (c : Named) → same_value (candidate_value m.pattern look c) v ≡ true → stands_in name_cmp (bucket_at same_value m.right v) c ≡ has_right m look c
-  name_here v c e = ap (λ w. is_some (at same_value name_cmp m.right w c)) (sym (equal_values (candidate_value m.pattern look c) v e))
+  name_here : (v : Value) (c : Named) → same_value (candidate_value p look c) v ≡ true → stands_in name_cmp (bucket_at same_value right v) c ≡ name_kept p right look c
+  name_here v c e = ap (λ w. is_some (at same_value name_cmp right w c)) (sym (equal_values (candidate_value p look c) v e))
 
   module _ (row : Row) where
-    among_names : (values : List Value) → candidates_sought m.pattern look row ≡ values → (c : Named) → joins m.pattern look row c ≡ true → is_among values (candidate_value m.pattern look c) ≡ true
-    among_names values is c e = subst (λ vs. is_among vs (candidate_value m.pattern look c) ≡ true) is (candidate_sought m.pattern look row c e)
+    among_names : (values : List Value) → candidates_sought p look row ≡ values → (c : Named) → joins p look row c ≡ true → is_among values (candidate_value p look c) ≡ true
+    among_names values is c e = subst (λ vs. is_among vs (candidate_value p look c) ≡ true) is (candidate_sought p look row c e)
 
-    joins_row : (l : Row) (c : Named) → eq_by_cmp row_cmp row l ≡ true → joins m.pattern look l c ≡ true → joins m.pattern look row c ≡ true
-    joins_row l c x e = ap (λ r. joins m.pattern look r c) ((row_decides row l).0 x) ∙ e
+    joins_row : (l : Row) (c : Named) → eq_by_cmp row_cmp row l ≡ true → joins p look l c ≡ true → joins p look row c ≡ true
+    joins_row l c x e = ap (λ r. joins p look r c) ((row_decides row l).0 x) ∙ e
 
-    module _ (v : Value) (is : candidates_sought m.pattern look row ≡ v ∷ []) where
-      name_in : (c : Named) → joins m.pattern look row c ≡ true → stands_in name_cmp (bucket_at same_value m.right v) c ≡ has_right m look c
-      name_in c e = name_here v c (sym (or_nothing (same_value (candidate_value m.pattern look c) v)) ∙ among_names (v ∷ []) is c e)
+    module _ (v : Value) (is : candidates_sought p look row ≡ v ∷ []) where
+      name_in : (c : Named) → joins p look row c ≡ true → stands_in name_cmp (bucket_at same_value right v) c ≡ name_kept p right look c
+      name_in c e = name_here v c (sym (or_nothing (same_value (candidate_value p look c) v)) ∙ among_names (v ∷ []) is c e)
 
-      pub names_alone : (r : Row) → joined (name_joins m.pattern look None) (eq_by_cmp row_cmp row) (stands_in name_cmp (bucket_at same_value m.right v)) r
-          ≡ joined (joins m.pattern look) (eq_by_cmp row_cmp row) (has_right m look) r
+      pub names_alone : (r : Row) → joined (name_joins p look None) (eq_by_cmp row_cmp row) (stands_in name_cmp (bucket_at same_value right v)) r
+          ≡ joined (joins p look) (eq_by_cmp row_cmp row) (name_kept p right look) r
       unfolding joined
       names_alone r =
-          splits_alike _ _ (λ l c. alone_right (eq_by_cmp row_cmp row l) (stands_in name_cmp (bucket_at same_value m.right v) c) (has_right m look c) (joins m.pattern look l c)
+          splits_alike _ _ (λ l c. alone_right (eq_by_cmp row_cmp row l) (stands_in name_cmp (bucket_at same_value right v) c) (name_kept p right look c) (joins p look l c)
           (λ x e. name_in c (joins_row l c x e))) (unjoined r)
 
-      pub passing_alone : (c : Named) → (stands_in name_cmp (bucket_at same_value m.right v) c && name_joins m.pattern look None row c) ≡ (has_right m look c && joins m.pattern look row c)
-      passing_alone c = alone (stands_in name_cmp (bucket_at same_value m.right v) c) (has_right m look c) (joins m.pattern look row c) (name_in c)
+      pub passing_alone : (c : Named) → (stands_in name_cmp (bucket_at same_value right v) c && name_joins p look None row c) ≡ (name_kept p right look c && joins p look row c)
+      passing_alone c = alone (stands_in name_cmp (bucket_at same_value right v) c) (name_kept p right look c) (joins p look row c) (name_in c)
 
-    module _ (v w : Value) (is : candidates_sought m.pattern look row ≡ v ∷ w ∷ []) where
-      pub names_both : (r : Row) → (joined (name_joins m.pattern look (Some v)) (eq_by_cmp row_cmp row) (stands_in name_cmp (bucket_at same_value m.right v)) r
-          || joined (name_joins m.pattern look (Some w)) (eq_by_cmp row_cmp row) (stands_in name_cmp (bucket_at same_value m.right w)) r)
-          ≡ joined (joins m.pattern look) (eq_by_cmp row_cmp row) (has_right m look) r
+    module _ (v w : Value) (is : candidates_sought p look row ≡ v ∷ w ∷ []) where
+      pub names_both : (r : Row) → (joined (name_joins p look (Some v)) (eq_by_cmp row_cmp row) (stands_in name_cmp (bucket_at same_value right v)) r
+          || joined (name_joins p look (Some w)) (eq_by_cmp row_cmp row) (stands_in name_cmp (bucket_at same_value right w)) r)
+          ≡ joined (joins p look) (eq_by_cmp row_cmp row) (name_kept p right look) r
       unfolding joined
       names_both r =
           sym (splits_or _ _ (unjoined r))
-          ∙ splits_alike _ _ (λ l c. both_right (eq_by_cmp row_cmp row l) (stands_in name_cmp (bucket_at same_value m.right v) c) (stands_in name_cmp (bucket_at same_value m.right w) c) (has_right m look c)
-          (joins m.pattern look l c) (same_value (candidate_value m.pattern look c) v) (same_value (candidate_value m.pattern look c) w) (name_here v c) (name_here w c)
+          ∙ splits_alike _ _ (λ l c. both_right (eq_by_cmp row_cmp row l) (stands_in name_cmp (bucket_at same_value right v) c) (stands_in name_cmp (bucket_at same_value right w) c) (name_kept p right look c)
+          (joins p look l c) (same_value (candidate_value p look c) v) (same_value (candidate_value p look c) w) (name_here v c) (name_here w c)
           (λ x e. among_names (v ∷ w ∷ []) is c (joins_row l c x e))) (unjoined r)
 
-      pub passing_both : (c : Named) → ((stands_in name_cmp (bucket_at same_value m.right v) c && name_joins m.pattern look (Some v) row c)
-          || (stands_in name_cmp (bucket_at same_value m.right w) c && name_joins m.pattern look (Some w) row c)) ≡ (has_right m look c && joins m.pattern look row c)
+      pub passing_both : (c : Named) → ((stands_in name_cmp (bucket_at same_value right v) c && name_joins p look (Some v) row c)
+          || (stands_in name_cmp (bucket_at same_value right w) c && name_joins p look (Some w) row c)) ≡ (name_kept p right look c && joins p look row c)
       passing_both c =
-          both (stands_in name_cmp (bucket_at same_value m.right v) c) (stands_in name_cmp (bucket_at same_value m.right w) c) (has_right m look c) (joins m.pattern look row c)
-          (same_value (candidate_value m.pattern look c) v) (same_value (candidate_value m.pattern look c) w) (name_here v c) (name_here w c) (among_names (v ∷ w ∷ []) is c)
+          both (stands_in name_cmp (bucket_at same_value right v) c) (stands_in name_cmp (bucket_at same_value right w) c) (name_kept p right look c) (joins p look row c)
+          (same_value (candidate_value p look c) v) (same_value (candidate_value p look c) w) (name_here v c) (name_here w c) (among_names (v ∷ w ∷ []) is c)
 
 pub nothing_sorted : {K : Type 0} (c : K → K → Ordering) (xs : List K) → xs ≡ [] → IsStrictlySortedBy c xs
 unfolding IsStrictlySortedBy

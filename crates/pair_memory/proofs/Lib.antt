@@ -8,3 +8,4 @@ pub mod Worlds
 pub mod Steps
 pub mod Moving
 pub mod Listing
+pub mod Sharing

@@ -7,11 +7,21 @@ use Rattle.row_delta.specs.declared.row.Named.{Named}
 use Rattle.row_delta.specs.declared.row.Row.{Row}
 use Rattle.row_delta.specs.Rows.{row_cmp}
 use Rattle.row_delta.specs.NameOrder.{name_cmp}
+use Rattle.rule_model.specs.declared.condition.Pattern.{Pattern}
+use Rattle.alpha_memory.specs.declared.join_index.JoinIndex.{JoinIndex}
 use Rattle.alpha_memory.specs.JoinIndex.{at}
 use Rattle.join_tests.specs.Joins.{Look, joins}
 use Rattle.join_tests.specs.Kept.{row_value, candidate_value}
 use Rattle.pair_memory.specs.Joined.{joined}
 use Rattle.pair_memory.specs.declared.memories.Memories.{Memories}
+
+-- the row is kept in an index under the join value that it has for a pattern, by these facts
+abbrev pub row_kept : {S : Type 0} → Pattern → JoinIndex Value Row S → Look → Row → Bool
+row_kept p index look row = is_some (at same_value row_cmp index (row_value p look row) row)
+
+-- so is the candidate
+abbrev pub name_kept : Pattern → JoinIndex Value Named (Unit {0}) → Look → Named → Bool
+name_kept p index look who = is_some (at same_value name_cmp index (candidate_value p look who) who)
 
 -- what is kept beside a left row, looked up under the join value that the row has by these facts
 abbrev pub left_at : {S : Type 0} → Memories S → Look → Row → Option S

@@ -3,11 +3,16 @@
 //! assumes nothing of the outside.
 #![tactic(auto)]
 
+mod candidates;
 mod inputs;
 pub mod laws;
+mod left_rows;
+mod making;
 mod memories;
 mod merge;
 mod partners;
 
+pub use candidates::Candidates;
 pub use inputs::names_alone;
+pub use left_rows::LeftRows;
 pub use memories::Memories;

@@ -16,8 +16,9 @@ ghost use Rattle.alpha_memory.specs.JoinIndex.{bucket_at};
 
 mod listing;
 
+use crate::making::{made_with_name, made_with_row};
 use crate::merge::merged;
-use crate::partners::{names_passed, rows_passed, with_names, with_rows};
+use crate::partners::{names_passed, rows_passed};
 use alpha_memory::JoinIndex;
 use fx_base::{Facts, NoMemory, Value};
 use join_tests::{KeyedPattern, Sought};
@@ -148,10 +149,7 @@ impl<S: Drop> Memories<S> {
         ensures { IfOk result (λ found. (row : Row) → has found.items row
             ≡ joined (joins self.now.pattern (F.map facts.now)) (has_left self.now (F.map facts.now)) (eq_by_cmp name_cmp who) row) }
     {
-        match self.pattern.rows_sought(who, facts) {
-            Sought::One(value) => self.rows_under(alloc, value.value(), None, who, facts),
-            Sought::Two(first, second) => self.rows_of_both(alloc, &first, &second, who, facts),
-        }
+        made_with_name(alloc, &self.pattern, &self.left, who, facts)
     }
 
     /// The rows that a left row makes with the candidates that are kept, whether it is kept or not. It costs a test of each
@@ -165,10 +163,7 @@ impl<S: Drop> Memories<S> {
         ensures { IfOk result (λ found. (r : Row) → has found.items r
             ≡ joined (joins self.now.pattern (F.map facts.now)) (eq_by_cmp row_cmp row.now) (has_right self.now (F.map facts.now)) r) }
     {
-        match self.pattern.candidates_sought(row, facts) {
-            Sought::One(value) => self.names_under(alloc, value.value(), None, row, facts),
-            Sought::Two(first, second) => self.names_of_both(alloc, &first, &second, row, facts),
-        }
+        made_with_row(alloc, &self.pattern, &self.right, row, facts)
     }
 
     /// The left rows for which a candidate passes, in order. It costs a test of each left row with a join value that is sought
@@ -203,88 +198,6 @@ impl<S: Drop> Memories<S> {
             Sought::One(value) => self.passing_under(alloc, value.value(), None, row, facts),
             Sought::Two(first, second) => self.passing_of_both(alloc, &first, &second, row, facts),
         }
-    }
-
-    /// The rows that a candidate makes with the left rows that stand under a value, of which those are taken that have the join
-    /// value that is asked for.
-    fn rows_under<F: Facts>(
-        &self,
-        alloc: Global,
-        value: &Value,
-        under: Option<&Value>,
-        who: Named,
-        facts: &F,
-    ) -> Result<Vec<Row>, NoMemory>
-        ensures { IfOk result (λ found. (row : Row) → has found.items row
-            ≡ joined (row_joins self.now.pattern (F.map facts.now) (option_map (λ v. v.now) under.entry))
-            (stands_in row_cmp (bucket_at same_value self.now.left value.now)) (eq_by_cmp name_cmp who) row) }
-    {
-        match self.left.bucket(value) {
-            Some(bucket) => with_rows(alloc, bucket, &self.pattern, who, facts, under),
-            None => Ok(Vec::new(alloc)),
-        }
-    }
-
-    /// The same for two values, each of which its rows have for their join value.
-    fn rows_of_both<F: Facts>(
-        &self,
-        alloc: Global,
-        first: &Value,
-        second: &Value,
-        who: Named,
-        facts: &F,
-    ) -> Result<Vec<Row>, NoMemory>
-        ensures { IfOk result (λ found. (row : Row) → has found.items row
-            ≡ (joined (row_joins self.now.pattern (F.map facts.now) (Some first.now))
-            (stands_in row_cmp (bucket_at same_value self.now.left first.now)) (eq_by_cmp name_cmp who) row
-            || joined (row_joins self.now.pattern (F.map facts.now) (Some second.now))
-            (stands_in row_cmp (bucket_at same_value self.now.left second.now)) (eq_by_cmp name_cmp who) row)) }
-    {
-        let mut rows = self.rows_under(alloc, first, Some(first), who, facts)?;
-        let mut more = self.rows_under(alloc, second, Some(second), who, facts)?;
-        rows.append(&mut more)?;
-        Ok(rows)
-    }
-
-    /// The rows that a row makes with the candidates that stand under a value, of which those are taken that have the join value
-    /// that is asked for.
-    fn names_under<F: Facts>(
-        &self,
-        alloc: Global,
-        value: &Value,
-        under: Option<&Value>,
-        row: &Row,
-        facts: &F,
-    ) -> Result<Vec<Row>, NoMemory>
-        ensures { IfOk result (λ found. (r : Row) → has found.items r
-            ≡ joined (name_joins self.now.pattern (F.map facts.now) (option_map (λ v. v.now) under.entry))
-            (eq_by_cmp row_cmp row.now) (stands_in name_cmp (bucket_at same_value self.now.right value.now)) r) }
-    {
-        match self.right.bucket(value) {
-            Some(bucket) => with_names(alloc, bucket, &self.pattern, row, facts, under),
-            None => Ok(Vec::new(alloc)),
-        }
-    }
-
-    /// The same for two values, each of which its candidates have for their join value.
-    fn names_of_both<F: Facts>(
-        &self,
-        alloc: Global,
-        first: &Value,
-        second: &Value,
-        row: &Row,
-        facts: &F,
-    ) -> Result<Vec<Row>, NoMemory>
-        ensures { IfOk result (λ found. (r : Row) → has found.items r
-            ≡ (joined (name_joins self.now.pattern (F.map facts.now) (Some first.now))
-            (eq_by_cmp row_cmp row.now) (stands_in name_cmp (bucket_at same_value self.now.right first.now)) r
-            || joined (name_joins self.now.pattern (F.map facts.now) (Some second.now))
-            (eq_by_cmp row_cmp row.now) (stands_in name_cmp (bucket_at same_value self.now.right second.now)) r)) }
-    {
-        let mut rows = self.names_under(alloc, first, Some(first), row, facts)?;
-        let mut more = self.names_under(alloc, second, Some(second), row, facts)?;
-        rows.append(&mut more)?;
-        Ok(rows)
     }
 
     /// The left rows that stand under a value for which a candidate passes, in order, of which those are taken that have the join

@@ -158,11 +158,16 @@ pub(crate) fn with_names<F: Facts>(
     Ok(rows)
 }
 
-/// Adds a copy of the row to these rows, where a candidate passes for it.
-fn add_passed(rows: &mut Vec<Row>, alloc: Global, row: &Row, joins: bool) -> Result<(), NoMemory>
-    ensures { OnOk result (rows.new.items ≡ rows.old.items ++ cond joins (row.now ∷ []) []) }
+/// Adds a copy of the row to these rows, where it passes.
+pub(crate) fn add_passed(
+    rows: &mut Vec<Row>,
+    alloc: Global,
+    row: &Row,
+    passes: bool,
+) -> Result<(), NoMemory>
+    ensures { OnOk result (rows.new.items ≡ rows.old.items ++ cond passes (row.now ∷ []) []) }
 {
-    if joins {
+    if passes {
         rows.push(row.copy(alloc)?)?;
     }
     Ok(())
@@ -197,11 +202,11 @@ pub(crate) fn rows_passed<S, F: Facts>(
     Ok(rows)
 }
 
-/// Adds the candidate to these candidates, where it passes for a row.
-fn add_passing(names: &mut Vec<Named>, who: Named, joins: bool) -> Result<(), NoMemory>
-    ensures { OnOk result (names.new.items ≡ names.old.items ++ cond joins (who ∷ []) []) }
+/// Adds the candidate to these candidates, where it passes.
+pub(crate) fn add_passing(names: &mut Vec<Named>, who: Named, passes: bool) -> Result<(), NoMemory>
+    ensures { OnOk result (names.new.items ≡ names.old.items ++ cond passes (who ∷ []) []) }
 {
-    if joins {
+    if passes {
         names.push(who)?;
     }
     Ok(())

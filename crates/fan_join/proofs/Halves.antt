@@ -1,0 +1,156 @@
+-- The parts of a member's step: left rows that go and come, and candidates that go and come.
+use Rattle.std.proofs.Common.{◌≡◌, ◌∙◌, sym, ap, refl, List, Bool, true, false, not, ◌&&◌, ◌||◌}
+use Rattle.std.specs.Option.{is_some}
+use Rattle.fx_base.specs.declared.value.Value.{Value}
+use Rattle.fx_base.specs.Values.{same_value}
+use Rattle.row_delta.specs.declared.delta.Delta.{Delta}
+use Rattle.row_delta.specs.declared.row.Named.{Named}
+use Rattle.row_delta.specs.declared.row.Row.{Row}
+use Rattle.row_delta.specs.Rows.{row_cmp, has}
+use Rattle.row_change.specs.declared.change.Change.{Change}
+use Rattle.row_change.specs.Changes.{Leads, IsDifference, without, along}
+use Rattle.row_change.proofs.Alike.{leads_alike}
+use Rattle.alpha_memory.specs.JoinIndex.{at}
+use Rattle.join_tests.specs.Joins.{Look, joins}
+use Rattle.pair_memory.specs.declared.candidates.Candidates.{Candidates}
+use Rattle.pair_memory.specs.declared.left_rows.LeftRows.{LeftRows}
+use Rattle.pair_memory.specs.declared.memories.Memories.{Memories}
+use Rattle.pair_memory.specs.Joined.{joined, has_name}
+use Rattle.pair_memory.specs.Memories.{has_left, has_right, made, Keeps}
+use Rattle.pair_memory.specs.Apart.{has_row, has_candidate, beside, IsBeside, NamesLeave, NamesCome}
+use Rattle.pair_memory.proofs.Sharing.{value_beside}
+use Rattle.pair_memory.proofs.Keeping.{made_after}
+use Rattle.pair_memory.proofs.Turning.{keeps_then}
+use Rattle.fan_join.specs.declared.row_turn.RowTurn.{RowTurn}
+use Rattle.fan_join.specs.Turns.{IsTurn, IsRowsDifference, AreNamesTurned}
+use Rattle.fan_join.proofs.Sets.{rows_less, rows_more, rows_inside, rows_outside, names_less, names_more, names_inside, names_outside}
+
+-- what a call that takes rows, or brings them, does to a change
+abbrev pub Leaves : List Row → Change → Change → Type 0
+Leaves rows change changed = (old now : Row → Bool) → Leads old now change.gone.keys change.come.keys → ((r : Row) → has rows r ≡ true → now r ≡ true) → Leads old (without now rows) changed.gone.keys changed.come.keys
+
+abbrev pub Arrives : List Row → Change → Change → Type 0
+Arrives rows change changed = (old now : Row → Bool) → Leads old now change.gone.keys change.come.keys → ((r : Row) → has rows r ≡ true → now r ≡ false) → Leads old (along now rows) changed.gone.keys changed.come.keys
+
+-- what has changed so far leads on, from the rows that are made of the one to those of the other
+abbrev pub LeadsOn : Memories (Unit {0}) → Memories (Unit {0}) → Look → Change → Change → Type 0
+LeadsOn m n look change changed = (old : Row → Bool) → Leads old (made m look) change.gone.keys change.come.keys → Leads old (made n look) changed.gone.keys changed.come.keys
+
+module _ (m n : Memories (Unit {0})) (look : Look) (left : Row → Bool) (right : Named → Bool) (keeps : Keeps m n look left right) (change changed : Change) (rows : List Row) (moved : Row → Bool)
+    (are : (r : Row) → has rows r ≡ moved r) where
+  -- these rows go
+  rows_go : ((r : Row) → joined (joins m.pattern look) left right r ≡ (made m look r && not (moved r))) → ((r : Row) → moved r ≡ true → made m look r ≡ true) → Leaves rows change changed
+      → LeadsOn m n look change changed
+  rows_go less inside leave old before =
+      leads_alike old (without (made m look) rows) (made n look) changed.gone.keys changed.come.keys (leave old (made m look) before (λ r e. inside r (sym (are r) ∙ e)))
+      (λ r. ap (λ b. made m look r && not b) (are r) ∙ sym (less r) ∙ sym (made_after m n look left right keeps r))
+
+  -- these rows come
+  rows_arrive : ((r : Row) → joined (joins m.pattern look) left right r ≡ (made m look r || moved r)) → ((r : Row) → moved r ≡ true → made m look r ≡ false) → Arrives rows change changed
+      → LeadsOn m n look change changed
+  rows_arrive more outside arrive old before =
+      leads_alike old (along (made m look) rows) (made n look) changed.gone.keys changed.come.keys (arrive old (made m look) before (λ r e. outside r (sym (are r) ∙ e)))
+      (λ r. ap (λ b. made m look r || b) (are r) ∙ sym (more r) ∙ sym (made_after m n look left right keeps r))
+
+-- a row is found by each member that looks for it where it is kept
+found_beside : (left : LeftRows) (c : Candidates) (look : Look) → IsBeside left c → (r : Row) → has_row left look r ≡ has_left (beside left c) look r
+found_beside left c look is r = ap (λ (v : Value). is_some (at same_value row_cmp left.rows v r)) (value_beside left c look r is)
+
+module _ (before between after : LeftRows) (look : Look) (gone come : List Row) (turn : RowTurn) (is : IsTurn before between after look gone come turn) (c : Candidates) (change changed : Change) (rows : List Row) where
+  rows_went : IsBeside before c → ((r : Row) → has rows r ≡ joined (joins c.pattern look) (has turn.went.items) (has_candidate c look) r) → Leaves rows change changed
+      → LeadsOn (beside before c) (beside between c) look change changed
+  rows_went b are leave =
+      let went : (l : Row) → has turn.went.items l ≡ (has gone l && has_left (beside before c) look l) = λ l. is.went l ∙ ap (λ h. has gone l && h) (found_beside before c look b l) in
+      rows_go (beside before c) (beside between c) look _ _ (is.leaves c b) change changed rows (joined (joins c.pattern look) (has turn.went.items) (has_candidate c look)) are
+      (rows_less (joins c.pattern look) (has_left (beside before c) look) (has gone) (has turn.went.items) (has_candidate c look) went)
+      (rows_inside (joins c.pattern look) (has_left (beside before c) look) (has gone) (has turn.went.items) (has_candidate c look) went) leave
+
+  rows_came : IsBeside between c → ((r : Row) → has rows r ≡ joined (joins c.pattern look) (has turn.came.items) (has_candidate c look) r) → Arrives rows change changed
+      → LeadsOn (beside between c) (beside after c) look change changed
+  rows_came b are arrive =
+      let came : (l : Row) → has turn.came.items l ≡ (has come l && not (has_left (beside between c) look l)) = λ l. is.came l ∙ ap (λ h. has come l && not h) (found_beside between c look b l) in
+      rows_arrive (beside between c) (beside after c) look _ _ (is.comes c b) change changed rows (joined (joins c.pattern look) (has turn.came.items) (has_candidate c look)) are
+      (rows_more (joins c.pattern look) (has_left (beside between c) look) (has come) (has turn.came.items) (has_candidate c look) came)
+      (rows_outside (joins c.pattern look) (has_left (beside between c) look) (has come) (has turn.came.items) (has_candidate c look) came) arrive
+
+module _ (left : LeftRows) (look : Look) (c n : Candidates) (names found : List Named) (change changed : Change) (rows : List Row)
+    (are : (r : Row) → has rows r ≡ joined (joins c.pattern look) (has_left (beside left c) look) (has_name found) r) where
+  names_went : NamesLeave c n look names → ((who : Named) → has_name found who ≡ (has_name names who && has_candidate c look who)) → Leaves rows change changed
+      → LeadsOn (beside left c) (beside left n) look change changed
+  names_went keeps went leave =
+      rows_go (beside left c) (beside left n) look _ _ (keeps left) change changed rows (joined (joins c.pattern look) (has_left (beside left c) look) (has_name found)) are
+      (names_less (joins c.pattern look) (has_left (beside left c) look) (has_candidate c look) (has_name names) (has_name found) went)
+      (names_inside (joins c.pattern look) (has_left (beside left c) look) (has_candidate c look) (has_name names) (has_name found) went) leave
+
+  names_came : NamesCome c n look names → ((who : Named) → has_name found who ≡ (has_name names who && not (has_candidate c look who))) → Arrives rows change changed
+      → LeadsOn (beside left c) (beside left n) look change changed
+  names_came keeps came arrive =
+      rows_arrive (beside left c) (beside left n) look _ _ (keeps left) change changed rows (joined (joins c.pattern look) (has_left (beside left c) look) (has_name found)) are
+      (names_more (joins c.pattern look) (has_left (beside left c) look) (has_candidate c look) (has_name names) (has_name found) came)
+      (names_outside (joins c.pattern look) (has_left (beside left c) look) (has_candidate c look) (has_name names) (has_name found) came) arrive
+
+-- ---- the rows of a member
+
+-- the rows go and come with left rows
+pub rows_turned : (turn : RowTurn) (look : Look) (c : Candidates) (gone_rows come_rows : List Row) (ch0 ch1 ch2 : Change) (delta : Delta)
+    → ((r : Row) → has gone_rows r ≡ joined (joins c.pattern look) (has turn.went.items) (has_candidate c look) r)
+    → ((r : Row) → has come_rows r ≡ joined (joins c.pattern look) (has turn.came.items) (has_candidate c look) r)
+    → ((rows : Row → Bool) → Leads rows rows ch0.gone.keys ch0.come.keys) → Leaves gone_rows ch0 ch1 → Arrives come_rows ch1 ch2
+    → ((old now : Row → Bool) → Leads old now ch2.gone.keys ch2.come.keys → IsDifference old now delta)
+    → IsRowsDifference turn look c delta
+rows_turned turn look c gone_rows come_rows ch0 ch1 ch2 delta went came none leave arrive difference before between after gone come is b =
+    let old = made (beside before c) look in
+    difference old (made (beside after c) look)
+    ((rows_came before between after look gone come turn is c ch1 ch2 come_rows (b ∙ sym is.key) came arrive) old
+    ((rows_went before between after look gone come turn is c ch0 ch1 gone_rows b went leave) old (none old)))
+
+-- the rows go and come with candidates
+pub names_turn : (left : LeftRows) (look : Look) (c0 c1 c2 : Candidates) (gone come went came : List Named) (gone_rows come_rows : List Row) (ch0 ch1 ch2 : Change) (so_far delta : Delta)
+    → c1.pattern ≡ c0.pattern → c2.pattern ≡ c1.pattern → NamesLeave c0 c1 look gone → NamesCome c1 c2 look come
+    → ((who : Named) → has_name went who ≡ (has_name gone who && has_candidate c0 look who))
+    → ((who : Named) → has_name came who ≡ (has_name come who && not (has_candidate c1 look who)))
+    → ((r : Row) → has gone_rows r ≡ joined (joins c0.pattern look) (has_left (beside left c0) look) (has_name went) r)
+    → ((r : Row) → has come_rows r ≡ joined (joins c1.pattern look) (has_left (beside left c1) look) (has_name came) r)
+    → ((old now : Row → Bool) → IsDifference old now so_far → Leads old now ch0.gone.keys ch0.come.keys) → Leaves gone_rows ch0 ch1 → Arrives come_rows ch1 ch2
+    → ((old now : Row → Bool) → Leads old now ch2.gone.keys ch2.come.keys → IsDifference old now delta)
+    → AreNamesTurned left look gone come so_far c0 c2 delta
+names_turn left look c0 c1 c2 gone come went came gone_rows come_rows ch0 ch1 ch2 so_far delta p1 p2 leave arrive went_are came_are gone_are come_are begun t1 t2 difference = record {
+  pattern = p2 ∙ p1;
+  kept =
+      keeps_then (beside left c0) (beside left c1) (beside left c2) look _ _ _ _ _ _ (leave left) (arrive left) (leave left).rows
+      (λ who. ap (λ b. b || has_name come who) ((leave left).names who));
+  difference = λ first so.
+      difference first (made (beside left c2) look)
+      ((names_came left look c1 c2 come came ch1 ch2 come_rows come_are arrive came_are t2) first
+      ((names_went left look c0 c1 gone went ch0 ch1 gone_rows gone_are leave went_are t1) first (begun first (made (beside left c0) look) so)));
+}
+
+-- ---- a change that has come as far as a difference
+
+begun_at : (a b g c : Bool) → g ≡ (a && not b) → c ≡ (b && not a) → ((a && not g) || c) ≡ b
+begun_at true true g c e f = ap (λ x. (true && not x) || c) e ∙ ap (λ x. true || x) f
+begun_at true false g c e f = ap (λ x. (true && not x) || c) e ∙ f
+begun_at false true g c e f = f
+begun_at false false g c e f = f
+
+went_from : (a b g : Bool) → g ≡ (a && not b) → g ≡ true → a ≡ true
+went_from true b g e h = refl
+went_from false b g e h = sym e ∙ h
+
+came_to : (a b g c : Bool) → g ≡ (a && not b) → c ≡ (b && not a) → c ≡ true → (a && not g) ≡ false
+came_to true b g c e f h = let x : false ≡ true = sym (not_both b f) ∙ h in cc
+  where
+    not_both : (b : Bool) → c ≡ (b && false) → c ≡ false
+    not_both true f = f
+    not_both false f = f
+came_to false b g c e f h = refl
+
+pub begun_by : (so_far : Delta) (ch0 ch1 ch2 : Change) → ((rows : Row → Bool) → Leads rows rows ch0.gone.keys ch0.come.keys) → Leaves so_far.gone ch0 ch1 → Arrives so_far.come ch1 ch2
+    → (old now : Row → Bool) → IsDifference old now so_far → Leads old now ch2.gone.keys ch2.come.keys
+begun_by so_far ch0 ch1 ch2 none leave arrive old now is =
+    let goes = is.leads.goes in
+    let comes = is.leads.comes in
+    leads_alike old (along (without old so_far.gone) so_far.come) now ch2.gone.keys ch2.come.keys
+    (arrive old (without old so_far.gone) (leave old old (none old) (λ r e. went_from (old r) (now r) (has so_far.gone r) (goes r) e))
+    (λ r e. came_to (old r) (now r) (has so_far.gone r) (has so_far.come r) (goes r) (comes r) e))
+    (λ r. begun_at (old r) (now r) (has so_far.gone r) (has so_far.come r) (goes r) (comes r))

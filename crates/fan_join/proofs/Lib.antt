@@ -1,0 +1,4 @@
+pub mod Sets
+pub mod Halves
+pub mod Places
+pub mod Whole

@@ -1,0 +1,16 @@
+use Rattle.std.proofs.Common.{◌∙◌, ap, refl}
+use Rattle.rule_model.specs.declared.condition.Pattern.{Pattern}
+use Rattle.join_tests.specs.RowKeys.{row_key}
+use Rattle.fan_join.proofs.Whole.{put_beside, put_empty}
+use Rattle.fan_join.proofs.fan.FanJoin.put.Goals as goal
+
+pub returns-clause-empty : goal.returns-clause-empty
+returns-clause-empty c = put_empty c.args.self.now (record c.args.self.now { members = c.push.new.self }) c.new-member.result c.in_ok-push.ensures.items refl c.new-member.ensures.nothing
+
+pub returns-clause-beside : goal.returns-clause-beside
+returns-clause-beside c =
+    put_beside c.args.self.now (record c.args.self.now { members = c.push.new.self }) c.new-member.result c.in_ok-push.ensures.items refl
+    (ap (λ (p : Pattern). row_key p) c.new-member.ensures.pattern ∙ c.requires)
+
+pub returns-clause-member : goal.returns-clause-member
+returns-clause-member c = (c.new-member.result, c.in_ok-push.ensures.items, c.new-member.ensures.pattern)

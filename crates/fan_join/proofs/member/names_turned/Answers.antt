@@ -1,0 +1,21 @@
+use Rattle.std.proofs.Common.{◌∙◌, ap, List}
+use Rattle.row_delta.specs.declared.row.Named.{Named}
+use Rattle.join_tests.specs.Joins.{joins}
+use Rattle.pair_memory.specs.Joined.{joined, has_name}
+use Rattle.pair_memory.specs.Memories.{has_left}
+use Rattle.pair_memory.specs.Apart.{beside}
+use Rattle.fan_join.proofs.Halves.{names_turn}
+use Rattle.fan_join.proofs.member.names_turned.Goals as goal
+
+pub returns : goal.returns
+returns g c =
+    let look = g.F.Facts.map c.args.facts.now in
+    let left = c.args.left.now in
+    let m = c.args.member.now in
+    let n = c.leave.new.self in
+    names_turn left look m n c.come.new.self c.args.gone.now c.args.come.now c.in_ok-went.went.items c.in_ok-came.came.items c.in_ok-rows_gone.rows_gone.items c.in_ok-rows_come.rows_come.items
+    c.in_ok-change.change c.leave-2.new.self c.arrive.new.self c.args.so_far c.in_ok-delta.delta c.leave.ensures.pattern c.in_ok-come.ensures.pattern c.leave.ensures.keeps c.in_ok-come.ensures.keeps
+    c.in_ok-went.ensures c.in_ok-came.ensures
+    (λ r. c.in_ok-rows_gone.ensures r ∙ ap (λ (names : List Named). joined (joins m.pattern look) (has_left (beside left m) look) (has_name names) r) c.as_slice.ensures.value)
+    (λ r. c.in_ok-rows_come.ensures r ∙ ap (λ (names : List Named). joined (joins n.pattern look) (has_left (beside left n) look) (has_name names) r) c.as_slice-2.ensures.value)
+    c.in_ok-change.ensures c.in_ok-leave.ensures c.in_ok-arrive.ensures c.in_ok-delta.ensures

@@ -1,0 +1,17 @@
+use Rattle.std.proofs.Common.{◌∙◌, ap, List}
+use Rattle.row_delta.specs.declared.row.Row.{Row}
+use Rattle.row_delta.specs.Rows.{has}
+use Rattle.join_tests.specs.Joins.{joins}
+use Rattle.pair_memory.specs.Joined.{joined}
+use Rattle.pair_memory.specs.Apart.{has_candidate}
+use Rattle.fan_join.proofs.Halves.{rows_turned}
+use Rattle.fan_join.proofs.member.rows_difference.Goals as goal
+
+pub returns : goal.returns
+returns g c =
+    let look = g.F.Facts.map c.args.facts.now in
+    let m = c.args.member.now in
+    rows_turned c.args.turn.now look m c.in_ok-rows_gone.rows_gone.items c.in_ok-rows_come.rows_come.items c.none-change.result c.leave.new.self c.arrive.new.self c.in_ok-delta.delta
+    (λ r. c.in_ok-rows_gone.ensures r ∙ ap (λ (rows : List Row). joined (joins m.pattern look) (has rows) (has_candidate m look) r) c.as_slice.ensures.value)
+    (λ r. c.in_ok-rows_come.ensures r ∙ ap (λ (rows : List Row). joined (joins m.pattern look) (has rows) (has_candidate m look) r) c.as_slice-2.ensures.value)
+    c.none-change.ensures c.in_ok-leave.ensures c.in_ok-arrive.ensures c.in_ok-delta.ensures

@@ -1,0 +1,47 @@
+-- What the members of a fan are, and what a change of their rows and one of their candidates are for each of them.
+use Rattle.std.specs.Prelude.{◌≡◌, ◌&&◌, ◌||◌, not, ℕ, List, length, Some, None, slice_get}
+use Rattle.fx_base.specs.declared.value.Value.{Value}
+use Rattle.fx_base.specs.Values.{same_value}
+use Rattle.row_delta.specs.declared.delta.Delta.{Delta}
+use Rattle.row_delta.specs.declared.row.Named.{Named}
+use Rattle.row_delta.specs.declared.row.Row.{Row}
+use Rattle.row_delta.specs.NameOrder.{name_cmp}
+use Rattle.row_delta.specs.Rows.{has, row_cmp}
+use Rattle.row_change.specs.Changes.{IsDifference}
+use Rattle.alpha_memory.specs.JoinIndex.{at}
+use Rattle.join_tests.specs.Joins.{Look}
+use Rattle.pair_memory.specs.declared.candidates.Candidates.{Candidates}
+use Rattle.pair_memory.specs.declared.left_rows.LeftRows.{LeftRows}
+use Rattle.pair_memory.specs.Memories.{has_left, has_right, made, Keeps}
+use Rattle.pair_memory.specs.Apart.{beside, IsBeside}
+use Rattle.fan_join.specs.declared.fan.FanJoin.{FanJoin}
+use Rattle.fan_join.specs.Turns.{AreNamesTurned}
+
+-- the candidates of the member in a place
+abbrev pub IsMember : FanJoin → ℕ → Candidates → Type 0
+IsMember fan k c = slice_get fan.members.items k ≡ Some c
+
+-- each member looks for rows where they are kept
+abbrev pub AreBeside : FanJoin → Type 0
+AreBeside fan = (k : ℕ) (c : Candidates) → IsMember fan k c → IsBeside fan.left c
+
+-- it keeps no rows and no candidates
+pub record IsEmpty (fan : FanJoin) : Type 0 where
+  pub rows : (value : Value) (row : Row) → at same_value row_cmp fan.left.rows value row ≡ None
+  pub names : (k : ℕ) (c : Candidates) → IsMember fan k c → (value : Value) (who : Named) → at same_value name_cmp c.names value who ≡ None
+
+-- Rows before the members leave and then come, once for all of them: each member keeps the same candidates, and answers the difference
+-- of the rows that it makes.
+pub record AreRowsTurned (old new : FanJoin) (look : Look) (gone come : List Row) (deltas : List Delta) : Type 0 where
+  pub answers : length deltas ≡ length old.members.items
+  pub kept : (k : ℕ) (c : Candidates) → IsMember old k c
+      → Keeps (beside old.left c) (beside new.left c) look (λ r. (has_left (beside old.left c) look r && not (has gone r)) || has come r) (has_right (beside old.left c) look)
+  pub difference : (k : ℕ) (c : Candidates) (delta : Delta) → IsMember old k c → slice_get deltas k ≡ Some delta
+      → IsDifference (made (beside old.left c) look) (made (beside new.left c) look) delta
+
+-- Candidates of the member in a place leave and then come; the others and the left rows stay.
+pub record IsMemberTurned (old new : FanJoin) (look : Look) (place : ℕ) (gone come : List Named) (so_far delta : Delta) : Type 0 where
+  pub left : new.left ≡ old.left
+  pub many : length new.members.items ≡ length old.members.items
+  pub others : (k : ℕ) → (k ≡ place → ⊥) → slice_get new.members.items k ≡ slice_get old.members.items k
+  pub member : (c d : Candidates) → IsMember old place c → IsMember new place d → AreNamesTurned old.left look gone come so_far c d delta

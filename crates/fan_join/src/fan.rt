@@ -1,0 +1,130 @@
+ghost use Rattle.std.specs.Prelude.{◌≡◌, ◌<◌, ◌++◌, ◌∷◌, [], length, IfOk, OnOk};
+ghost use Rattle.join_tests.specs.RowKeys.{row_key};
+ghost use Rattle.pair_memory.specs.declared.candidates.Candidates.{Candidates as CandidatesData};
+ghost use Rattle.fan_join.specs.Fans.{IsMember, AreBeside, AreRowsTurned, IsEmpty, IsMemberTurned};
+ghost use Rattle.fan_join.specs.Turns.{AreDifferences};
+
+use crate::member::{names_turned, rows_difference};
+use crate::row_turn::RowTurn;
+use fx_base::{Facts, NoMemory};
+use join_tests::RowKey;
+use pair_memory::{Candidates, LeftRows};
+use row_delta::{Delta, Named, Row};
+use rule_model::Pattern;
+use std::alloc::Global;
+
+/// Nodes of patterns that bind a fact, which stand behind one node and keep its rows by the same key: the rows are kept once, the
+/// candidates by each member. After a call that was refused memory it is to be given up.
+#[derive(Drop)]
+pub struct FanJoin {
+    left: LeftRows,
+    members: Vec<Candidates>,
+}
+
+impl FanJoin {
+    /// No members; their rows are to be kept by this key. Takes no memory.
+    pub fn new(alloc: Global, key: RowKey) -> FanJoin
+        ensures key { result.left.key ≡ key }
+        ensures none { result.members.items ≡ [] }
+        ensures empty { IsEmpty result }
+        ensures beside { AreBeside result }
+    {
+        FanJoin {
+            left: LeftRows::new(alloc, key),
+            members: Vec::new(alloc),
+        }
+    }
+
+    /// By what the members keep rows. Takes no memory.
+    pub fn key(&self) -> &RowKey
+        ensures { result.now ≡ self.now.left.key }
+    {
+        self.left.key()
+    }
+
+    /// Puts a member behind the others, which has no candidates. In a fan that keeps nothing it keeps nothing.
+    pub fn put(&mut self, alloc: Global, pattern: Pattern) -> Result<(), NoMemory>
+        requires { row_key pattern ≡ self.now.left.key }
+        ensures left { OnOk result (self.new.left ≡ self.old.left) }
+        ensures member { OnOk result ((c : CandidatesData) × (self.new.members.items ≡ self.old.members.items ++ c ∷ []) × (c.pattern ≡ pattern)) }
+        ensures empty { OnOk result (IsEmpty self.old → IsEmpty self.new) }
+        ensures beside { OnOk result (AreBeside self.old → AreBeside self.new) }
+    {
+        let member = Candidates::new(alloc, pattern);
+        self.members.push(member)?;
+        Ok(())
+    }
+
+    /// How many members there are. Takes no memory.
+    pub fn count(&self) -> usize
+        ensures { result ≡ length self.now.members.items }
+    {
+        self.members.len()
+    }
+
+    /// The pattern of the member in a place. Takes no memory.
+    pub fn pattern(&self, place: usize) -> &Pattern
+        requires { place < length self.now.members.items }
+        ensures { (c : CandidatesData) → IsMember self.now place c → result.now ≡ c.pattern }
+    {
+        self.members[place].pattern()
+    }
+
+    /// Rows before the members leave and then come, and each member answers what has changed in the rows that it makes. A row costs
+    /// the logarithm of what has the same join value once, and for each member a hash and a test of the candidates that are sought.
+    pub fn turn_rows<F: Facts>(
+        &mut self,
+        alloc: Global,
+        gone: &[Row],
+        come: &[Row],
+        facts: &F,
+    ) -> Result<Vec<Delta>, NoMemory>
+        ensures key { OnOk result (self.new.left.key ≡ self.old.left.key) }
+        ensures members { OnOk result (self.new.members ≡ self.old.members) }
+        ensures turned { IfOk result (λ deltas. AreBeside self.old → AreRowsTurned self.old self.new (F.map facts.now) gone.now come.now deltas.items) }
+    {
+        let went = self.left.those(alloc, gone, true, facts)?;
+        self.left.leave(gone, facts);
+        let came = self.left.those(alloc, come, false, facts)?;
+        self.left.come(alloc, come, facts)?;
+        let turn = RowTurn { went, came };
+        let deltas = differences(alloc, &self.members, &turn, facts)?;
+        Ok(deltas)
+    }
+
+    /// Candidates of the member in a place leave and then come; `so_far` is what has changed in its rows so far, and the answer what
+    /// has then. A candidate costs the logarithm of what has the same join value, and a test of the left rows that are sought.
+    pub fn turn_names<F: Facts>(
+        &mut self,
+        alloc: Global,
+        place: usize,
+        so_far: Delta,
+        gone: &[Named],
+        come: &[Named],
+        facts: &F,
+    ) -> Result<Delta, NoMemory>
+        requires { place < length self.now.members.items }
+        ensures { IfOk result (λ delta. IsMemberTurned self.old self.new (F.map facts.now) place gone.now come.now so_far delta) }
+    {
+        let member = &mut self.members[place];
+        let delta = names_turned(member, alloc, &self.left, so_far, gone, come, facts)?;
+        Ok(delta)
+    }
+}
+
+/// What changes in the rows of each member, with these left rows.
+fn differences<F: Facts>(
+    alloc: Global,
+    members: &[Candidates],
+    turn: &RowTurn,
+    facts: &F,
+) -> Result<Vec<Delta>, NoMemory>
+    ensures { IfOk result (λ deltas. AreDifferences turn.now (F.map facts.now) members.now deltas.items) }
+{
+    let mut deltas = Vec::with_capacity(alloc, members.len())?;
+    for member in members {
+        let delta = rows_difference(member, alloc, turn, facts)?;
+        deltas.push(delta)?;
+    }
+    Ok(deltas)
+}

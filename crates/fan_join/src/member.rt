@@ -1,0 +1,68 @@
+//! What changes in the rows of one member.
+ghost use Rattle.std.specs.Prelude.{◌≡◌, Bool, IfOk};
+ghost use Rattle.row_delta.specs.declared.row.Row.{Row};
+ghost use Rattle.row_change.specs.declared.change.Change.{Change as ChangeData};
+ghost use Rattle.row_change.specs.Changes.{IsDifference, Leads};
+ghost use Rattle.fan_join.specs.Turns.{AreNamesTurned, IsRowsDifference};
+
+use crate::row_turn::RowTurn;
+use fx_base::{Facts, NoMemory};
+use pair_memory::{Candidates, LeftRows};
+use row_change::Change;
+use row_delta::{Delta, Named};
+use std::alloc::Global;
+
+/// The rows that left rows make with a member's candidates go and come with them. It costs for each left row a hash, and a test of each
+/// candidate with a join value that is sought for it.
+pub(crate) fn rows_difference<F: Facts>(
+    member: &Candidates,
+    alloc: Global,
+    turn: &RowTurn,
+    facts: &F,
+) -> Result<Delta, NoMemory>
+    ensures { IfOk result (λ delta. IsRowsDifference turn.now (F.map facts.now) member.now delta) }
+{
+    let mut change = Change::none(alloc);
+    let rows_gone = member.with_rows(alloc, turn.went.as_slice(), facts)?;
+    change.leave(alloc, rows_gone)?;
+    let rows_come = member.with_rows(alloc, turn.came.as_slice(), facts)?;
+    change.arrive(alloc, rows_come)?;
+    let delta = change.delta(alloc)?;
+    Ok(delta)
+}
+
+/// Candidates of a member leave and then come, and with them the rows that they make with the left rows, behind what has changed in
+/// its rows so far. It costs for each candidate a hash, and a test of each left row with a join value that is sought for it.
+pub(crate) fn names_turned<F: Facts>(
+    member: &mut Candidates,
+    alloc: Global,
+    left: &LeftRows,
+    so_far: Delta,
+    gone: &[Named],
+    come: &[Named],
+    facts: &F,
+) -> Result<Delta, NoMemory>
+    ensures { IfOk result (λ delta. AreNamesTurned left.now (F.map facts.now) gone.now come.now so_far member.old member.new delta) }
+{
+    let mut change = begun(alloc, so_far)?;
+    let went = member.those(alloc, gone, true, facts)?;
+    let rows_gone = member.with_names(alloc, left, went.as_slice(), facts)?;
+    member.leave(gone, facts);
+    change.leave(alloc, rows_gone)?;
+    let came = member.those(alloc, come, false, facts)?;
+    let rows_come = member.with_names(alloc, left, came.as_slice(), facts)?;
+    member.come(alloc, come, facts)?;
+    change.arrive(alloc, rows_come)?;
+    let delta = change.delta(alloc)?;
+    Ok(delta)
+}
+
+/// A change that has come as far as a difference.
+fn begun(alloc: Global, so_far: Delta) -> Result<Change, NoMemory>
+    ensures { IfOk result (λ change. (old now : Row → Bool) → IsDifference old now so_far → Leads old now change.gone.keys change.come.keys) }
+{
+    let mut change = Change::none(alloc);
+    change.leave(alloc, so_far.gone.into_vec())?;
+    change.arrive(alloc, so_far.come.into_vec())?;
+    Ok(change)
+}

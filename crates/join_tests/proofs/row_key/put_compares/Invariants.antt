@@ -1,0 +1,8 @@
+use Rattle.std.proofs.Common.{◌≡◌, ◌++◌, drop, map}
+use Rattle.join_tests.specs.Keys.{keys_of_compares}
+use Rattle.join_tests.specs.RowKeys.{side_of}
+use Rattle.join_tests.proofs.row_key.put_compares.Given as goal
+
+abbrev pub invariant-loop-compare : goal.invariant-loop-compare
+invariant-loop-compare l =
+    l.sides.items ++ map side_of (keys_of_compares (drop l.compare-index l.compares)) ≡ l.initial.sides.items ++ map side_of (keys_of_compares l.compares)

@@ -1,0 +1,8 @@
+use Rattle.std.proofs.Common.{◌≡◌, ◌++◌, drop, map}
+use Rattle.join_tests.specs.Keys.{keys_of_tests}
+use Rattle.join_tests.specs.RowKeys.{side_of}
+use Rattle.join_tests.proofs.row_key.put_tests.Given as goal
+
+abbrev pub invariant-loop-test : goal.invariant-loop-test
+invariant-loop-test l =
+    l.sides.items ++ map side_of (keys_of_tests (drop l.test-index l.tests)) ≡ l.initial.sides.items ++ map side_of (keys_of_tests l.tests)

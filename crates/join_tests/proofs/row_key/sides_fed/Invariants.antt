@@ -1,0 +1,10 @@
+use Rattle.std.proofs.Common.{◌≡◌, drop, map}
+use Rattle.std.specs.Hash.FoldHasher as hasher
+use Rattle.join_tests.specs.Keys.{fed_with}
+use Rattle.join_tests.specs.RowKeys.{side_part}
+use Rattle.join_tests.proofs.row_key.sides_fed.Given as goal
+
+abbrev pub invariant-loop-side : goal.invariant-loop-side
+invariant-loop-side g l =
+    fed_with l.state (map (side_part (g.F.Facts.map l.facts) l.row) (drop l.side-index l.sides))
+    ≡ fed_with hasher.initial (map (side_part (g.F.Facts.map l.facts) l.row) l.sides)

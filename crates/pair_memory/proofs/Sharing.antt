@@ -1,0 +1,154 @@
+-- Left rows that are kept once for several nodes, and the candidates of each.
+use Rattle.std.proofs.Common.{◌≡◌, ◌∙◌, sym, ap, refl, ℕ, ◌+◌, ◌<◌, length, take, get_or, List, [], ◌∷◌, ◌++◌, Bool, true, false, cond, not, ◌&&◌, ◌||◌}
+use Rattle.std.specs.List.{list_any}
+use Rattle.std.specs.Ordering.{eq_by_cmp}
+use Rattle.std.proofs.lemmas.List.Folds.{list_any-append, list_any_more}
+use Rattle.row_delta.specs.declared.row.Named.{Named}
+use Rattle.row_delta.specs.declared.row.Row.{Row}
+use Rattle.row_delta.specs.Rows.{row_cmp, has}
+use Rattle.row_delta.specs.RowOrder.{same_equiv}
+use Rattle.row_delta.specs.NameOrder.{name_cmp, name_equiv}
+use Rattle.join_tests.specs.declared.row_key.RowKey.{RowKey}
+use Rattle.join_tests.specs.Joins.{Look}
+use Rattle.join_tests.specs.RowKeys.{value_by}
+use Rattle.join_tests.specs.Kept.{row_value}
+use Rattle.join_tests.proofs.Siding.{kept_by}
+use Rattle.pair_memory.specs.declared.candidates.Candidates.{Candidates}
+use Rattle.pair_memory.specs.declared.left_rows.LeftRows.{LeftRows}
+use Rattle.pair_memory.specs.declared.memories.Memories.{Memories}
+use Rattle.pair_memory.specs.Joined.{unjoined, joined, has_name}
+use Rattle.pair_memory.specs.Memories.{has_left, has_right, Keeps}
+use Rattle.pair_memory.specs.Apart.{beside, IsBeside, RowsLeave, RowsCome, NamesLeave, NamesCome}
+use Rattle.pair_memory.proofs.Joining.{splits_alike, splits_or}
+use Rattle.pair_memory.proofs.Turning.{keeps_then, less_more, more_more, any_name}
+
+-- ---- where a row is kept
+
+pub value_beside : (left : LeftRows) (c : Candidates) (look : Look) (row : Row) → IsBeside left c → value_by left.key look row ≡ row_value c.pattern look row
+value_beside left c look row is = ap (λ (key : RowKey). value_by key look row) (sym is) ∙ sym (kept_by look row c.pattern)
+
+-- ---- nothing goes and nothing comes
+
+less_none : (a : Bool) → a ≡ (a && true)
+less_none true = refl
+less_none false = refl
+
+more_none : (a : Bool) → a ≡ (a || false)
+more_none true = refl
+more_none false = refl
+
+pub keeps_itself : {S : Type 0} (m : Memories S) (look : Look) (left : Row → Bool) (right : Named → Bool) → ((r : Row) → has_left m look r ≡ left r) → ((c : Named) → has_right m look c ≡ right c) → Keeps m m look left right
+keeps_itself m look left right h k = record { pattern = refl; rows = h; names = k; agrees = λ before. before }
+
+pub no_rows_leave : (left : LeftRows) (look : Look) → RowsLeave left left look []
+no_rows_leave left look c is = keeps_itself (beside left c) look _ _ (λ r. less_none _) (λ n. refl)
+
+pub no_rows_come : (left : LeftRows) (look : Look) → RowsCome left left look []
+no_rows_come left look c is = keeps_itself (beside left c) look _ _ (λ r. more_none _) (λ n. refl)
+
+pub no_names_leave : (c : Candidates) (look : Look) → NamesLeave c c look []
+no_names_leave c look left = keeps_itself (beside left c) look _ _ (λ r. refl) (λ n. less_none _)
+
+pub no_names_come : (c : Candidates) (look : Look) → NamesCome c c look []
+no_names_come c look left = keeps_itself (beside left c) look _ _ (λ r. refl) (λ n. more_none _)
+
+-- ---- one row more of a list
+
+module _ (first next last : LeftRows) (look : Look) (rows : List Row) (i : ℕ) (below : i < length rows) (any row : Row) (is : row ≡ get_or rows i any) (key : next.key ≡ first.key) where
+  pub row_leaves_too : RowsLeave first next look (take i rows)
+      → ((c : Candidates) → IsBeside next c → Keeps (beside next c) (beside last c) look (λ r. has_left (beside next c) look r && not (eq_by_cmp row_cmp row r)) (has_right (beside next c) look))
+      → RowsLeave first last look (take (i + 1) rows)
+  row_leaves_too before turn c beside_it =
+      keeps_then (beside first c) (beside next c) (beside last c) look _ _ _ _ _ _ (before c beside_it) (turn c (beside_it ∙ sym key))
+      (λ r. less_more (eq_by_cmp row_cmp) same_equiv.symm rows i below any row is r (has_left (beside first c) look r) (has_left (beside next c) look r) ((before c beside_it).rows r))
+      (before c beside_it).names
+
+  pub row_comes_too : RowsCome first next look (take i rows)
+      → ((c : Candidates) → IsBeside next c → Keeps (beside next c) (beside last c) look (λ r. has_left (beside next c) look r || eq_by_cmp row_cmp row r) (has_right (beside next c) look))
+      → RowsCome first last look (take (i + 1) rows)
+  row_comes_too before turn c beside_it =
+      keeps_then (beside first c) (beside next c) (beside last c) look _ _ _ _ _ _ (before c beside_it) (turn c (beside_it ∙ sym key))
+      (λ r. more_more (eq_by_cmp row_cmp) same_equiv.symm rows i below any row is r (has_left (beside first c) look r) (has_left (beside next c) look r) ((before c beside_it).rows r))
+      (before c beside_it).names
+
+-- ---- one candidate more of a list
+
+module _ (first next last : Candidates) (look : Look) (names : List Named) (i : ℕ) (below : i < length names) (who : Named) (is : who ≡ get_or names i any_name) where
+  pub name_leaves_too : NamesLeave first next look (take i names)
+      → ((left : LeftRows) → Keeps (beside left next) (beside left last) look (has_left (beside left next) look) (λ c. has_right (beside left next) look c && not (eq_by_cmp name_cmp who c)))
+      → NamesLeave first last look (take (i + 1) names)
+  name_leaves_too before turn left =
+      keeps_then (beside left first) (beside left next) (beside left last) look _ _ _ _ _ _ (before left) (turn left) (before left).rows
+      (λ c. less_more (eq_by_cmp name_cmp) name_equiv.symm names i below any_name who is c (has_right (beside left first) look c) (has_right (beside left next) look c) ((before left).names c))
+
+  pub name_comes_too : NamesCome first next look (take i names)
+      → ((left : LeftRows) → Keeps (beside left next) (beside left last) look (has_left (beside left next) look) (λ c. has_right (beside left next) look c || eq_by_cmp name_cmp who c))
+      → NamesCome first last look (take (i + 1) names)
+  name_comes_too before turn left =
+      keeps_then (beside left first) (beside left next) (beside left last) look _ _ _ _ _ _ (before left) (turn left) (before left).rows
+      (λ c. more_more (eq_by_cmp name_cmp) name_equiv.symm names i below any_name who is c (has_right (beside left first) look c) (has_right (beside left next) look c) ((before left).names c))
+
+-- ---- those of a list that are kept, or are not
+
+taken_on : (t s e b : Bool) → (e ≡ true → s ≡ b) → ((t && s) || (e && b)) ≡ ((t || e) && s)
+taken_on true true true b h = refl
+taken_on true true false b h = refl
+taken_on true false true b h = sym (h refl)
+taken_on true false false b h = refl
+taken_on false s true b h = sym (h refl)
+taken_on false s false b h = refl
+
+or_false : (a : Bool) → (a || false) ≡ (a && true)
+or_false true = refl
+or_false false = refl
+
+and_false : (a : Bool) → false ≡ (a && false)
+and_false true = refl
+and_false false = refl
+
+module _ {K : Type 0} (eq : K → K → Bool) (symm : (a b : K) → eq a b ≡ eq b a) (exact : (a b : K) → eq a b ≡ true → a ≡ b) (test : K → Bool) where
+  one_taken : (x k : K) (b : Bool) → list_any (eq k) (cond b (x ∷ []) []) ≡ (eq k x && b)
+  one_taken x k true = or_false (eq k x)
+  one_taken x k false = and_false (eq k x)
+
+  pub those_more : (found now xs : List K) (i : ℕ) → i < length xs → (any x : K) → x ≡ get_or xs i any → (b : Bool) → b ≡ test x → now ≡ found ++ cond b (x ∷ []) []
+      → ((k : K) → list_any (eq k) found ≡ (list_any (eq k) (take i xs) && test k)) → (k : K) → list_any (eq k) now ≡ (list_any (eq k) (take (i + 1) xs) && test k)
+  those_more found now xs i below any x is b passes added so_far k =
+      ap (list_any (eq k)) added ∙ list_any-append (eq k) found (cond b (x ∷ []) [])
+      ∙ ap (λ a. a || list_any (eq k) (cond b (x ∷ []) [])) (so_far k) ∙ ap (λ a. (list_any (eq k) (take i xs) && test k) || a) (one_taken x k b)
+      ∙ taken_on (list_any (eq k) (take i xs)) (test k) (eq k x) b (λ e. ap test (exact k x e) ∙ sym passes)
+      ∙ ap (λ a. (list_any (eq k) (take i xs) || a) && test k) (ap (eq k) is)
+      ∙ ap (λ a. a && test k) (sym (list_any_more (eq k) xs i any below))
+
+-- ---- what several rows, or several candidates, make
+
+or_and : (a n b : Bool) → ((a || n) && b) ≡ ((a && b) || (n && b))
+or_and true n true = refl
+or_and true true false = refl
+or_and true false false = refl
+or_and false n b = refl
+
+or_and_right : (d a n q : Bool) → (d && ((a || n) && q)) ≡ ((d && (a && q)) || (d && (n && q)))
+or_and_right true a n q = or_and a n q
+or_and_right false a n q = refl
+
+module _ (pass : Row → Named → Bool) (found more now : List Row) (added : now ≡ found ++ more) (r : Row) where
+  pub rows_made_too : (rows : List Row) (i : ℕ) → i < length rows → (any row : Row) → row ≡ get_or rows i any → (right : Named → Bool)
+      → has found r ≡ joined pass (has (take i rows)) right r → has more r ≡ joined pass (eq_by_cmp row_cmp row) right r → has now r ≡ joined pass (has (take (i + 1) rows)) right r
+  unfolding joined
+  rows_made_too rows i below any row is right so_far turn =
+      ap (λ (all : List Row). has all r) added ∙ list_any-append (eq_by_cmp row_cmp r) found more
+      ∙ ap (λ b. b || has more r) so_far ∙ ap (λ b. joined pass (has (take i rows)) right r || b) turn
+      ∙ sym (splits_or (λ l c. has (take i rows) l && (right c && pass l c)) (λ l c. eq_by_cmp row_cmp row l && (right c && pass l c)) (unjoined r))
+      ∙ splits_alike _ _ (λ l c. sym (or_and (has (take i rows) l) (eq_by_cmp row_cmp row l) (right c && pass l c))
+      ∙ ap (λ b. b && (right c && pass l c)) (ap (λ b. has (take i rows) l || b) (same_equiv.symm row l ∙ ap (eq_by_cmp row_cmp l) is) ∙ sym (list_any_more (eq_by_cmp row_cmp l) rows i any below))) (unjoined r)
+
+  pub names_made_too : (names : List Named) (i : ℕ) → i < length names → (who : Named) → who ≡ get_or names i any_name → (left : Row → Bool)
+      → has found r ≡ joined pass left (has_name (take i names)) r → has more r ≡ joined pass left (eq_by_cmp name_cmp who) r → has now r ≡ joined pass left (has_name (take (i + 1) names)) r
+  unfolding joined
+  names_made_too names i below who is left so_far turn =
+      ap (λ (all : List Row). has all r) added ∙ list_any-append (eq_by_cmp row_cmp r) found more
+      ∙ ap (λ b. b || has more r) so_far ∙ ap (λ b. joined pass left (has_name (take i names)) r || b) turn
+      ∙ sym (splits_or (λ l c. left l && (has_name (take i names) c && pass l c)) (λ l c. left l && (eq_by_cmp name_cmp who c && pass l c)) (unjoined r))
+      ∙ splits_alike _ _ (λ l c. sym (or_and_right (left l) (has_name (take i names) c) (eq_by_cmp name_cmp who c) (pass l c))
+      ∙ ap (λ b. left l && (b && pass l c)) (ap (λ b. has_name (take i names) c || b) (name_equiv.symm who c ∙ ap (eq_by_cmp name_cmp c) is) ∙ sym (list_any_more (eq_by_cmp name_cmp c) names i any_name below))) (unjoined r)

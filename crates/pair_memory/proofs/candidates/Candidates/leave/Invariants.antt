@@ -1,0 +1,9 @@
+use Rattle.std.proofs.Common.{◌≡◌, take}
+use Rattle.pair_memory.specs.Apart.{NamesLeave}
+use Rattle.pair_memory.proofs.candidates.Candidates.leave.Given as goal
+
+abbrev pub invariant-loop-who : goal.invariant-loop-who
+invariant-loop-who g l = record {
+  pattern : l.self.pattern ≡ l.initial.self.pattern;
+  keeps : NamesLeave l.initial.self l.self (g.F.Facts.map l.facts) (take l.who-index l.names);
+}

@@ -1,0 +1,11 @@
+use Rattle.std.proofs.Common.{◌∙◌, Some}
+use Rattle.std.specs.Ordering.{eq_by_cmp}
+use Rattle.row_delta.specs.NameOrder.{name_cmp}
+use Rattle.pair_memory.specs.Apart.{beside}
+use Rattle.pair_memory.proofs.Keeping.{right_keeps, some_put}
+use Rattle.pair_memory.proofs.candidates.Candidates.put.Goals as goal
+
+pub returns-clause-keeps : goal.returns-clause-keeps
+returns-clause-keeps g c left =
+    right_keeps (beside left c.args.self.now) (g.F.Facts.map c.args.facts.now) c.args.who c.in_ok-value.value (c.in_ok-value.ensures ∙ c.candidate_value.ensures) (Some tt) c.put.new.self c.in_ok-put.ensures.kept
+    _ (λ n. some_put (eq_by_cmp name_cmp c.args.who n) tt _)

@@ -1,0 +1,17 @@
+use Rattle.std.proofs.Common.{◌∙◌, Some, ap, cond, ◌&&◌}
+use Rattle.std.specs.Ordering.{eq_by_cmp}
+use Rattle.fx_base.specs.Values.{same_value}
+use Rattle.alpha_memory.specs.JoinIndex.{at}
+use Rattle.row_delta.specs.Rows.{row_cmp}
+use Rattle.pair_memory.specs.Apart.{beside}
+use Rattle.pair_memory.proofs.Keeping.{left_keeps, some_put}
+use Rattle.pair_memory.proofs.Sharing.{value_beside}
+use Rattle.pair_memory.proofs.left_rows.LeftRows.put.Goals as goal
+
+pub returns-clause-keeps : goal.returns-clause-keeps
+returns-clause-keeps g c candidates is =
+    let look = g.F.Facts.map c.args.facts.now in
+    left_keeps (beside c.args.self.now candidates) look c.args.row.now c.in_ok-value.value (c.in_ok-value.ensures ∙ c.row_value.ensures ∙ value_beside c.args.self.now candidates look c.args.row.now is)
+    (Some tt) c.put.new.self
+    (λ v r. c.in_ok-put.ensures.kept v r ∙ ap (λ k. cond (same_value c.in_ok-value.value v && eq_by_cmp row_cmp k r) (Some tt) (at same_value row_cmp c.args.self.now.rows v r)) c.in_ok-copy.ensures)
+    _ (λ r. some_put (eq_by_cmp row_cmp c.args.row.now r) tt _)

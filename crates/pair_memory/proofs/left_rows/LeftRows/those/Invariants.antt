@@ -1,0 +1,8 @@
+use Rattle.std.proofs.Common.{◌≡◌, ◌&&◌, take}
+use Rattle.row_delta.specs.declared.row.Row.{Row}
+use Rattle.row_delta.specs.Rows.{has}
+use Rattle.pair_memory.specs.Apart.{has_row, is_so}
+use Rattle.pair_memory.proofs.left_rows.LeftRows.those.Given as goal
+
+abbrev pub invariant-loop-row : goal.invariant-loop-row
+invariant-loop-row g l = (row : Row) → has l.found.items row ≡ (has (take l.row-index l.rows) row && is_so l.there (has_row l.self (g.F.Facts.map l.facts) row))

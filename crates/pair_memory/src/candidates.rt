@@ -1,0 +1,162 @@
+ghost use Rattle.std.specs.Prelude.{◌≡◌, ◌&&◌, ◌||◌, not, None, is_some, IfOk, OnOk};
+ghost use Rattle.std.specs.Ordering.{eq_by_cmp};
+ghost use Rattle.fx_base.specs.declared.value.Value.{Value};
+ghost use Rattle.fx_base.specs.Values.{same_value};
+ghost use Rattle.row_delta.specs.declared.row.Named.{Named};
+ghost use Rattle.row_delta.specs.declared.row.Row.{Row};
+ghost use Rattle.row_delta.specs.NameOrder.{name_cmp};
+ghost use Rattle.row_delta.specs.Rows.{has};
+ghost use Rattle.alpha_memory.specs.JoinIndex.{at};
+ghost use Rattle.join_tests.specs.Joins.{joins};
+ghost use Rattle.pair_memory.specs.declared.left_rows.LeftRows.{LeftRows};
+ghost use Rattle.pair_memory.specs.Joined.{joined, has_name};
+ghost use Rattle.pair_memory.specs.Memories.{has_left, has_right, Keeps};
+ghost use Rattle.pair_memory.specs.Apart.{has_candidate, beside, is_so, NamesLeave, NamesCome};
+
+use crate::left_rows::{LeftRows, is_so};
+use crate::making::{made_with_name, made_with_row};
+use crate::partners::add_passing;
+use alpha_memory::JoinIndex;
+use fx_base::{Facts, NoMemory, Value};
+use join_tests::KeyedPattern;
+use row_delta::{Named, Row};
+use rule_model::Pattern;
+use std::alloc::Global;
+
+/// The candidates of a pattern, found by their join values: the right memory of a node whose left rows are kept with those of others.
+/// A call costs for each candidate a hash and the logarithm of what has the same join value. After a call that was refused memory the
+/// candidates are to be given up.
+#[derive(Drop)]
+pub struct Candidates {
+    pattern: KeyedPattern,
+    names: JoinIndex<Value, Named, ()>,
+}
+
+impl Candidates {
+    /// No candidates of a pattern. Takes no memory.
+    pub fn new(alloc: Global, pattern: Pattern) -> Candidates
+        ensures pattern { result.pattern ≡ pattern }
+        ensures nothing { (value : Value) (who : Named) → at same_value name_cmp result.names value who ≡ None }
+    {
+        Candidates {
+            pattern: KeyedPattern::new(pattern),
+            names: JoinIndex::new(alloc),
+        }
+    }
+
+    /// The pattern. Takes no memory.
+    pub fn pattern(&self) -> &Pattern
+        ensures { result.now ≡ self.now.pattern }
+    {
+        self.pattern.pattern()
+    }
+
+    /// Takes candidates out; those that are not there are left out. Takes no memory.
+    pub fn leave<F: Facts>(&mut self, names: &[Named], facts: &F)
+        ensures pattern { self.new.pattern ≡ self.old.pattern }
+        ensures keeps { NamesLeave self.old self.new (F.map facts.now) names.now }
+    {
+        for who in names {
+            self.take(*who, facts);
+        }
+    }
+
+    /// Puts candidates in; those that are there stay.
+    pub fn come<F: Facts>(
+        &mut self,
+        alloc: Global,
+        names: &[Named],
+        facts: &F,
+    ) -> Result<(), NoMemory>
+        ensures pattern { OnOk result (self.new.pattern ≡ self.old.pattern) }
+        ensures keeps { OnOk result (NamesCome self.old self.new (F.map facts.now) names.now) }
+    {
+        for who in names {
+            self.put(alloc, *who, facts)?;
+        }
+        Ok(())
+    }
+
+    /// Those of the candidates that are kept, or those that are not.
+    pub fn those<F: Facts>(
+        &self,
+        alloc: Global,
+        names: &[Named],
+        there: bool,
+        facts: &F,
+    ) -> Result<Vec<Named>, NoMemory>
+        ensures { IfOk result (λ found. (who : Named) → has_name found.items who ≡ (has_name names.now who && is_so there (has_candidate self.now (F.map facts.now) who))) }
+    {
+        let mut found = Vec::new(alloc);
+        for who in names {
+            let is = is_so(there, self.has(*who, facts));
+            add_passing(&mut found, *who, is)?;
+        }
+        Ok(found)
+    }
+
+    /// The rows that left rows make with the candidates. It costs for each row a test of each candidate with a join value that is
+    /// sought for it.
+    pub fn with_rows<F: Facts>(
+        &self,
+        alloc: Global,
+        rows: &[Row],
+        facts: &F,
+    ) -> Result<Vec<Row>, NoMemory>
+        ensures { IfOk result (λ found. (r : Row) → has found.items r
+            ≡ joined (joins self.now.pattern (F.map facts.now)) (has rows.now) (has_candidate self.now (F.map facts.now)) r) }
+    {
+        let mut found = Vec::new(alloc);
+        for row in rows {
+            let mut more = made_with_row(alloc, &self.pattern, &self.names, row, facts)?;
+            found.append(&mut more)?;
+        }
+        Ok(found)
+    }
+
+    /// The rows that candidates of the pattern make with left rows. It costs for each candidate a test of each left row with a join
+    /// value that is sought for it.
+    pub fn with_names<F: Facts>(
+        &self,
+        alloc: Global,
+        left: &LeftRows,
+        names: &[Named],
+        facts: &F,
+    ) -> Result<Vec<Row>, NoMemory>
+        ensures { IfOk result (λ found. (r : Row) → has found.items r
+            ≡ joined (joins self.now.pattern (F.map facts.now)) (has_left (beside left.now self.now) (F.map facts.now)) (has_name names.now) r) }
+    {
+        let mut found = Vec::new(alloc);
+        for who in names {
+            let mut more = made_with_name(alloc, &self.pattern, left.rows(), *who, facts)?;
+            found.append(&mut more)?;
+        }
+        Ok(found)
+    }
+
+    fn has<F: Facts>(&self, who: Named, facts: &F) -> bool
+        ensures { result ≡ has_candidate self.now (F.map facts.now) who }
+    {
+        let value = self.pattern.candidate_value(who, facts);
+        self.names.get(value.value(), &who).is_some()
+    }
+
+    fn take<F: Facts>(&mut self, who: Named, facts: &F)
+        ensures pattern { self.new.pattern ≡ self.old.pattern }
+        ensures keeps { (left : LeftRows) → Keeps (beside left self.old) (beside left self.new) (F.map facts.now)
+            (has_left (beside left self.old) (F.map facts.now)) (λ c. has_right (beside left self.old) (F.map facts.now) c && not (eq_by_cmp name_cmp who c)) }
+    {
+        let value = self.pattern.candidate_value(who, facts);
+        self.names.take(value.value(), &who);
+    }
+
+    fn put<F: Facts>(&mut self, alloc: Global, who: Named, facts: &F) -> Result<(), NoMemory>
+        ensures pattern { OnOk result (self.new.pattern ≡ self.old.pattern) }
+        ensures keeps { OnOk result ((left : LeftRows) → Keeps (beside left self.old) (beside left self.new) (F.map facts.now)
+            (has_left (beside left self.old) (F.map facts.now)) (λ c. has_right (beside left self.old) (F.map facts.now) c || eq_by_cmp name_cmp who c)) }
+    {
+        let value = self.pattern.candidate_value(who, facts).into_value(alloc)?;
+        self.names.put(value, who, ())?;
+        Ok(())
+    }
+}

@@ -1,0 +1,127 @@
+ghost use Rattle.std.specs.Prelude.{◌≡◌, ◌&&◌, ◌||◌, not, None, false, is_some, IfOk, OnOk};
+ghost use Rattle.std.specs.Ordering.{eq_by_cmp};
+ghost use Rattle.fx_base.specs.declared.value.Value.{Value};
+ghost use Rattle.fx_base.specs.Values.{same_value};
+ghost use Rattle.row_delta.specs.declared.row.Row.{Row};
+ghost use Rattle.row_delta.specs.Rows.{has, row_cmp};
+ghost use Rattle.alpha_memory.specs.JoinIndex.{at};
+ghost use Rattle.join_tests.specs.Joins.{Look};
+ghost use Rattle.pair_memory.specs.declared.candidates.Candidates.{Candidates};
+ghost use Rattle.pair_memory.specs.Memories.{has_left, has_right, Keeps};
+ghost use Rattle.pair_memory.specs.Apart.{has_row, beside, is_so, IsBeside, RowsLeave, RowsCome};
+
+use crate::partners::add_passed;
+use alpha_memory::JoinIndex;
+use fx_base::{Copies, Facts, NoMemory, Value};
+use join_tests::RowKey;
+use row_delta::Row;
+use std::alloc::Global;
+
+/// Whether something is there, or whether it is not.
+pub(crate) fn is_so(there: bool, has: bool) -> bool
+    ensures { result ≡ is_so there has }
+{
+    if there { has } else { !has }
+}
+
+/// The left rows of nodes that look for them under the same values, kept once for all of them. A row is looked up under the join value
+/// that it has by the facts of the call. A call costs for each row a hash and the logarithm of what has the same join value. After a
+/// call that was refused memory the rows are to be given up.
+#[derive(Drop)]
+pub struct LeftRows {
+    key: RowKey,
+    rows: JoinIndex<Value, Row, ()>,
+}
+
+impl LeftRows {
+    /// No rows, which are kept by this key. Takes no memory.
+    pub fn new(alloc: Global, key: RowKey) -> LeftRows
+        ensures key { result.key ≡ key }
+        ensures nothing { (value : Value) (row : Row) → at same_value row_cmp result.rows value row ≡ None }
+    {
+        LeftRows {
+            key,
+            rows: JoinIndex::new(alloc),
+        }
+    }
+
+    /// By what rows are kept. Takes no memory.
+    pub fn key(&self) -> &RowKey
+        ensures { result.now ≡ self.now.key }
+    {
+        &self.key
+    }
+
+    /// The index of the rows. Takes no memory.
+    pub(crate) fn rows(&self) -> &JoinIndex<Value, Row, ()>
+        ensures { result.now ≡ self.now.rows }
+    {
+        &self.rows
+    }
+
+    /// Takes rows out; those that are not there are left out. Takes no memory.
+    pub fn leave<F: Facts>(&mut self, rows: &[Row], facts: &F)
+        ensures key { self.new.key ≡ self.old.key }
+        ensures keeps { RowsLeave self.old self.new (F.map facts.now) rows.now }
+    {
+        for row in rows {
+            self.take(row, facts);
+        }
+    }
+
+    /// Puts copies of rows in; those that are there stay.
+    pub fn come<F: Facts>(&mut self, alloc: Global, rows: &[Row], facts: &F) -> Result<(), NoMemory>
+        ensures key { OnOk result (self.new.key ≡ self.old.key) }
+        ensures keeps { OnOk result (RowsCome self.old self.new (F.map facts.now) rows.now) }
+    {
+        for row in rows {
+            self.put(alloc, row, facts)?;
+        }
+        Ok(())
+    }
+
+    /// Copies of those of the rows that are kept, or of those that are not.
+    pub fn those<F: Facts>(
+        &self,
+        alloc: Global,
+        rows: &[Row],
+        there: bool,
+        facts: &F,
+    ) -> Result<Vec<Row>, NoMemory>
+        ensures { IfOk result (λ found. (row : Row) → has found.items row ≡ (has rows.now row && is_so there (has_row self.now (F.map facts.now) row))) }
+    {
+        let mut found = Vec::new(alloc);
+        for row in rows {
+            let is = is_so(there, self.has(row, facts));
+            add_passed(&mut found, alloc, row, is)?;
+        }
+        Ok(found)
+    }
+
+    fn has<F: Facts>(&self, row: &Row, facts: &F) -> bool
+        ensures { result ≡ has_row self.now (F.map facts.now) row.now }
+    {
+        let value = self.key.row_value(row, facts);
+        self.rows.get(value.value(), row).is_some()
+    }
+
+    fn take<F: Facts>(&mut self, row: &Row, facts: &F)
+        ensures key { self.new.key ≡ self.old.key }
+        ensures keeps { (c : Candidates) → IsBeside self.old c → Keeps (beside self.old c) (beside self.new c) (F.map facts.now)
+            (λ r. has_left (beside self.old c) (F.map facts.now) r && not (eq_by_cmp row_cmp row.now r)) (has_right (beside self.old c) (F.map facts.now)) }
+    {
+        let value = self.key.row_value(row, facts);
+        self.rows.take(value.value(), row);
+    }
+
+    fn put<F: Facts>(&mut self, alloc: Global, row: &Row, facts: &F) -> Result<(), NoMemory>
+        ensures key { OnOk result (self.new.key ≡ self.old.key) }
+        ensures keeps { OnOk result ((c : Candidates) → IsBeside self.old c → Keeps (beside self.old c) (beside self.new c) (F.map facts.now)
+            (λ r. has_left (beside self.old c) (F.map facts.now) r || eq_by_cmp row_cmp row.now r) (has_right (beside self.old c) (F.map facts.now))) }
+    {
+        let value = self.key.row_value(row, facts).into_value(alloc)?;
+        let copy = row.copy(alloc)?;
+        self.rows.put(value, copy, ())?;
+        Ok(())
+    }
+}
