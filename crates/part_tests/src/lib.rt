@@ -25,6 +25,8 @@ mod networks;
 #[cfg(test)]
 mod operators;
 #[cfg(test)]
+mod pages;
+#[cfg(test)]
 mod pending;
 #[cfg(test)]
 mod rows;

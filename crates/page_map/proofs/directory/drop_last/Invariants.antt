@@ -1,0 +1,9 @@
+use Rattle.std.proofs.Common.{◌≡◌, ℕ}
+use Rattle.page_map.specs.Pages.{AreShort, number_in}
+use Rattle.page_map.proofs.directory.drop_last.Given as goal
+
+abbrev pub invariant-loop-last : goal.invariant-loop-last
+invariant-loop-last l = ((page place : ℕ) → number_in l.pages.items page place ≡ number_in l.initial.pages.items page place) × (AreShort l.initial.pages.items → AreShort l.pages.items)
+
+abbrev pub decreases-loop-last : goal.decreases-loop-last
+decreases-loop-last l = goal.left-loop-last l

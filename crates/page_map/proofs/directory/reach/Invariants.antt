@@ -1,0 +1,10 @@
+use Rattle.std.proofs.Common.{◌≡◌, ℕ, length}
+use Rattle.page_map.specs.Pages.{AreShort, number_in}
+use Rattle.page_map.proofs.directory.reach.Given as goal
+
+abbrev pub invariant-loop-count : goal.invariant-loop-count
+invariant-loop-count l = record {
+  reached : l._count ≡ length l.pages.items;
+  kept : (page place : ℕ) → number_in l.pages.items page place ≡ number_in l.initial.pages.items page place;
+  short : AreShort l.initial.pages.items → AreShort l.pages.items;
+}
