@@ -1,23 +1,16 @@
 -- How often a list of matches names a tag, as matches come and go.
-use Rattle.std.proofs.Common.{◌≡◌, ℕ, ◌+◌, ◌-◌, ◌==◌, Bool, true, false, cond, ◌||◌, List, [], ◌∷◌, find, Some, option_map, unwrap_or, refl, sym, ◌∙◌, ap, arith}
+use Rattle.agenda.proofs.Common.{◌≡◌, ℕ, ◌+◌, ◌-◌, ◌==◌, Bool, true, false, cond, ◌||◌, List, [], ◌∷◌, find, Some, option_map, unwrap_or, refl, sym, ◌∙◌, ap, arith, list_any, Ordering, Less, Equal, Greater, eq_by_cmp, is_eq, match_ordering, insert_key, remove_key, Ranked, matches, names_tag, rank_cmp, times_in, times}
 use Rattle.std.specs.Prelude.{nat_lt}
-use Rattle.std.specs.List.{list_any, sum_by}
-use Rattle.std.specs.declared.cmp.Ordering.{Ordering}
-use Rattle.std.specs.declared.cmp.Ordering.TheVariants.{Less, Equal, Greater}
-use Rattle.std.specs.Ordering.{eq_by_cmp, is_eq, match_ordering}
+use Rattle.std.specs.List.{sum_by}
 use Rattle.std.specs.BTreeMap.{is_at}
-use Rattle.std.specs.BTreeSet.{insert_key}
-use Rattle.std.specs.Set.{remove_key}
 use Rattle.std.proofs.lemmas.List.Sums.{sum_by-cons}
 use Rattle.std.proofs.lemmas.Map.Made.{sum_by-remove_key}
 use Rattle.std.proofs.lemmas.Map.Steps.{list_any_congr}
 use Rattle.std.proofs.lemmas.Bool.{or_parts}
 use Rattle.std.proofs.lemmas.Bool.Decides.{nat_tests}
 use Rattle.row_delta.specs.declared.row.Named.{Named}
-use Rattle.agenda.specs.declared.ranked.Ranked.{Ranked}
-use Rattle.agenda.specs.Agendas.{matches, names_tag}
-use Rattle.agenda.specs.Ranks.{rank_cmp, rank_equiv}
-use Rattle.agenda.specs.Namings.{times_in, namings, times, CountsNamings}
+use Rattle.agenda.specs.Ranks.{rank_equiv}
+use Rattle.agenda.specs.Namings.{namings, CountsNamings}
 
 placed_sum : (f : Ranked → ℕ) (o : Ordering) (k x : Ranked) (ks ls : List Ranked) → is_eq o ≡ false → sum_by f ls ≡ sum_by f ks + f k
     → sum_by f (match_ordering o (k ∷ x ∷ ks) (x ∷ ks) (x ∷ ls)) ≡ sum_by f (x ∷ ks) + f k

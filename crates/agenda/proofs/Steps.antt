@@ -1,15 +1,6 @@
 -- One row more, and one match more.
-use Rattle.std.proofs.Common.{◌≡◌, ℕ, ◌==◌, ◌&&◌, ◌||◌, not, Bool, true, false, cond, List, [], ◌∷◌, length, ℤ, refl, sym, ◌∙◌, ap, subst, arith}
-use Rattle.std.specs.Ordering.{eq_by_cmp}
-use Rattle.std.specs.List.{list_any}
-use Rattle.row_delta.specs.declared.row.Row.{Row}
-use Rattle.row_delta.specs.Rows.{row_cmp, has}
+use Rattle.agenda.proofs.Common.{◌≡◌, ℕ, ◌==◌, ◌&&◌, ◌||◌, not, Bool, true, false, cond, List, [], ◌∷◌, length, ℤ, refl, sym, ◌∙◌, ap, subst, arith, eq_by_cmp, list_any, Row, row_cmp, has, Match, Ranked, match_cmp, has_match, rank_cmp, Well, AllWell, matches}
 use Rattle.row_delta.specs.RowOrder.{same_equiv}
-use Rattle.rule_model.specs.declared.matched.Match.{Match}
-use Rattle.agenda.specs.declared.ranked.Ranked.{Ranked}
-use Rattle.rule_model.specs.Matches.{match_cmp, has_match}
-use Rattle.agenda.specs.Ranks.{rank_cmp}
-use Rattle.agenda.specs.Agendas.{Well, AllWell, matches}
 use Rattle.agenda.proofs.Ranks.{updated}
 use Rattle.rule_model.proofs.Exact.{match_parts}
 

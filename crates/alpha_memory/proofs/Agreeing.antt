@@ -1,24 +1,12 @@
 -- The memory's indexes agree, and show the list that is wanted, after each call.
-use Rattle.std.proofs.Common.{◌≡◌, ◌∙◌, sym, ap, refl, subst, ℕ, ◌+◌, ◌<◌, List, [], ◌∷◌, ◌++◌, length, map as list_map, Bool, true, false, ◌&&◌, cond, Option, Some, None, arith, eq-eqb}
-use Rattle.std.specs.Prelude.{nat_eq}
-use Rattle.std.specs.Option.{option_and_then}
-use Rattle.std.specs.Ordering.{nat_cmp, eq_by_cmp}
-use Rattle.std.specs.Cmp.{nat_cmp_total, eq_by_cmp_equiv}
-use Rattle.std.specs.BTreeMap.{is_at}
-use Rattle.std.specs.FinMap.{get-insert, get-remove, get-empty, len-empty, len-entries}
+use Rattle.alpha_memory.proofs.Common.{◌≡◌, ◌∙◌, sym, ap, refl, subst, ℕ, ◌+◌, ◌<◌, List, [], ◌∷◌, ◌++◌, length, Bool, true, false, ◌&&◌, cond, Option, Some, None, arith, eq-eqb, nat_eq, option_and_then, nat_cmp, eq_by_cmp, nat_cmp_total, eq_by_cmp_equiv, is_at, get-insert, get-remove, keys_of, lookup, eqb-true, Value, same_value, Named, Candidate, has_tag, without_tag, at, bucket_at, candidate, under, Agree, JoinIndex, Place}
+use Rattle.std.proofs.Common.{map as list_map}
+use Rattle.std.specs.FinMap.{get-empty, len-empty, len-entries}
 use Rattle.std.specs.FinMap as map
 use Rattle.std.specs.List.{IsDistinct}
-use Rattle.std.specs.Map.{keys_of, lookup}
-use Rattle.std.proofs.lemmas.Bool.{eqb-true}
-use Rattle.fx_base.specs.declared.value.Value.{Value}
-use Rattle.fx_base.specs.Values.{same_value}
 use Rattle.fx_base.specs.SameValues.{same_equiv}
-use Rattle.row_delta.specs.declared.row.Named.{Named}
-use Rattle.alpha_memory.specs.Candidates.{Candidate, is_tagged, has_tag, without_tag}
-use Rattle.alpha_memory.specs.JoinIndex.{at, bucket_at}
-use Rattle.alpha_memory.specs.Places.{candidate, numbered, under, Agree}
-use Rattle.alpha_memory.specs.declared.join_index.JoinIndex.{JoinIndex}
-use Rattle.alpha_memory.specs.declared.memory.Place.{Place}
+use Rattle.alpha_memory.specs.Candidates.{is_tagged}
+use Rattle.alpha_memory.specs.Places.{numbered}
 use Rattle.alpha_memory.proofs.Numbers.{torn, one, tied, itself, untied, has_number, number_has, Apart-same, numbered-same, Apart-put, unused, numbered-put, Apart-take, has_taken, numbered-take}
 use Rattle.alpha_memory.proofs.Listed.{values-insert, values-remove, none_of, one_of, all_stay}
 

@@ -1,25 +1,12 @@
 -- The candidates that the memory's indexes give, in the order of their insertion.
-use Rattle.std.proofs.Common.{◌≡◌, ◌∙◌, ap, refl, subst, ℕ, suc, zero, ◌<◌, List, [], ◌∷◌, map as list_map, length, Bool, true, Option, Some, None, BTreeMap, arith}
-use Rattle.std.specs.Prelude.{Contains, slice_index_or, IfSome}
-use Rattle.std.specs.Option.{is_some, option_and_then}
-use Rattle.std.specs.Ordering.{nat_cmp}
-use Rattle.std.specs.Cmp.{nat_cmp_total, nat_eq_equiv}
+use Rattle.alpha_memory.proofs.Common.{◌≡◌, ◌∙◌, ap, refl, subst, ℕ, suc, zero, ◌<◌, List, [], ◌∷◌, length, Bool, true, Option, Some, None, BTreeMap, arith, Contains, is_some, option_and_then, nat_cmp, nat_cmp_total, nat_eq_equiv, IsFromIterResult, is_at, keys_of, values_of, lookup, eqb-true, exact_unsigned, lookup-from_Contains, Value, same_value, Named, Candidate, names_of, with_join, at, bucket_at, candidate, name_entry, under, Agree, JoinIndex, Place}
+use Rattle.std.proofs.Common.{map as list_map}
+use Rattle.std.specs.Prelude.{slice_index_or, IfSome}
 use Rattle.std.specs.BTreeMap as tree
-use Rattle.std.specs.BTreeMap.{IsFromIterResult, is_at}
 use Rattle.std.specs.FinMap as map
 use Rattle.std.specs.List.Sorted.{IsStrictlySortedBy}
-use Rattle.std.specs.Map.{keys_of, values_of, lookup}
-use Rattle.std.proofs.lemmas.Bool.{eqb-true}
-use Rattle.std.proofs.lemmas.Map.Lookups.{exact_unsigned}
-use Rattle.std.proofs.lemmas.Map.Views.{Contains-from_lookup, lookup-from_Contains, IfSome-btree_map_get_from_list, btree_map_contains_key_from_list}
-use Rattle.fx_base.specs.declared.value.Value.{Value}
-use Rattle.fx_base.specs.Values.{same_value}
-use Rattle.row_delta.specs.declared.row.Named.{Named}
-use Rattle.alpha_memory.specs.Candidates.{Candidate, names_of, with_join}
-use Rattle.alpha_memory.specs.JoinIndex.{at, bucket_at}
-use Rattle.alpha_memory.specs.Places.{candidate, numbered, name_entry, under, Agree}
-use Rattle.alpha_memory.specs.declared.join_index.JoinIndex.{JoinIndex}
-use Rattle.alpha_memory.specs.declared.memory.Place.{Place}
+use Rattle.std.proofs.lemmas.Map.Views.{Contains-from_lookup, IfSome-btree_map_get_from_list, btree_map_contains_key_from_list}
+use Rattle.alpha_memory.specs.Places.{numbered}
 use Rattle.alpha_memory.proofs.Numbers.{one, some, same_option, HasNumber, has_number, number_has}
 use Rattle.alpha_memory.proofs.Listed.{chosen, names_in_order, no_names, all_pass}
 use Rattle.alpha_memory.proofs.Agreeing.{listed}

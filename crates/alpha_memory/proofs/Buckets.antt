@@ -1,15 +1,7 @@
 -- What a join index has once one of its buckets is written, or a first one.
-use Rattle.std.proofs.Common.{◌≡◌, ◌∙◌, sym, ap, refl, Bool, true, false, ◌&&◌, cond, List, [], ◌∷◌, Option, Some}
-use Rattle.std.specs.declared.cmp.Ordering.{Ordering}
-use Rattle.std.specs.BTreeMap.{is_at}
-use Rattle.std.specs.Cmp.{IsEquivalence}
-use Rattle.std.specs.Map.{lookup}
-use Rattle.std.specs.Option.{option_map, option_and_then}
+use Rattle.alpha_memory.proofs.Common.{◌≡◌, ◌∙◌, sym, ap, refl, Bool, true, false, ◌&&◌, cond, List, [], ◌∷◌, Option, Some, Ordering, is_at, IsEquivalence, lookup, option_map, option_and_then, entries, at, bucket_at, Bucket, JoinIndex}
 use Rattle.indexmap.specs.IndexMap.{get}
-use Rattle.alpha_memory.specs.Bucket.{entries, found}
-use Rattle.alpha_memory.specs.JoinIndex.{at, bucket_at}
-use Rattle.alpha_memory.specs.declared.bucket.Bucket.{Bucket}
-use Rattle.alpha_memory.specs.declared.join_index.JoinIndex.{JoinIndex}
+use Rattle.alpha_memory.specs.Bucket.{found}
 
 -- equal keys find the same
 lookup_tied : {J X : Type 0} {same : J → J → Bool} → IsEquivalence same → (a b : J) → same a b ≡ true → (es : List (J × X)) → lookup (same b) es ≡ lookup (same a) es

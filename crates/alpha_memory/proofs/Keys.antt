@@ -1,19 +1,10 @@
 -- The keys of all buckets of a join index.
-use Rattle.std.proofs.Common.{◌≡◌, ◌∙◌, sym, ap, refl, Bool, true, false, ◌||◌, ◌++◌, cond, List, [], ◌∷◌, Option, Some}
+use Rattle.alpha_memory.proofs.Common.{◌≡◌, ◌∙◌, sym, ap, refl, Bool, true, false, ◌||◌, ◌++◌, cond, List, [], ◌∷◌, Option, Some, list_any, AllByRecursion, Ordering, is_at, IsEquivalence, keys_of, lookup, is_some, option_map, option_and_then, eq_by_cmp, entries, at, Bucket, JoinIndex}
 use Rattle.std.specs.Prelude.{◌↔◌}
-use Rattle.std.specs.List.{list_any, IsDistinct, AllByRecursion}
-use Rattle.std.specs.declared.cmp.Ordering.{Ordering}
-use Rattle.std.specs.BTreeMap.{is_at}
-use Rattle.std.specs.Cmp.{IsEquivalence}
-use Rattle.std.specs.Map.{keys_of, lookup}
-use Rattle.std.specs.Option.{is_some, option_map, option_and_then}
-use Rattle.std.specs.Ordering.{eq_by_cmp}
+use Rattle.std.specs.List.{IsDistinct}
 use Rattle.std.proofs.lemmas.List.Folds.{list_any-append}
 use Rattle.std.proofs.lemmas.Map.Made.{is_some-lookup}
-use Rattle.alpha_memory.specs.Bucket.{entries}
-use Rattle.alpha_memory.specs.JoinIndex.{at, AreKeys}
-use Rattle.alpha_memory.specs.declared.bucket.Bucket.{Bucket}
-use Rattle.alpha_memory.specs.declared.join_index.JoinIndex.{JoinIndex}
+use Rattle.alpha_memory.specs.JoinIndex.{AreKeys}
 use Rattle.alpha_memory.proofs.Buckets.{found_in}
 
 -- the keys of these buckets

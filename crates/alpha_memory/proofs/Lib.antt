@@ -1,3 +1,4 @@
+mod Common
 mod Buckets
 mod Numbers
 mod Listed

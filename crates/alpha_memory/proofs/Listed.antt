@@ -1,20 +1,14 @@
 -- The list of the numbered candidates, in the order of their numbers.
-use Rattle.std.proofs.Common.{◌≡◌, ◌∙◌, sym, ap, refl, subst, ℕ, ◌<◌, List, [], ◌∷◌, ◌++◌, map as list_map, filter, Bool, true, false, not, ◌&&◌, ◌||◌, cond, Option, Some, None, arith}
+use Rattle.alpha_memory.proofs.Common.{◌≡◌, ◌∙◌, sym, ap, refl, subst, ℕ, ◌<◌, List, [], ◌∷◌, ◌++◌, filter, Bool, true, false, not, ◌&&◌, ◌||◌, cond, Option, Some, None, arith, Ordering, nat_cmp, eq_by_cmp, nat_cmp_total, eq_by_cmp_equiv, is_at, find, get-remove, nat_cmp-IsAntisymmetric, list_any, AllByRecursion, keys_of, values_of, lookup, Named, Candidate, names_of}
+use Rattle.std.proofs.Common.{map as list_map}
 use Rattle.std.specs.Prelude.{T}
-use Rattle.std.specs.declared.cmp.Ordering.{Ordering}
 use Rattle.std.specs.declared.cmp.Ordering.TheVariants.{Less, Equal, Greater}
-use Rattle.std.specs.Ordering.{nat_cmp, is_lt, is_eq, eq_by_cmp}
-use Rattle.std.specs.Cmp.{nat_cmp_total, eq_by_cmp_equiv}
-use Rattle.std.specs.BTreeMap.{is_at}
-use Rattle.std.specs.FinMap.{find, entries_sorted, get-entries, entries-insert, get-remove, nat_cmp-IsAntisymmetric}
+use Rattle.std.specs.Ordering.{is_lt, is_eq}
+use Rattle.std.specs.FinMap.{entries_sorted, get-entries, entries-insert}
 use Rattle.std.specs.FinMap as map
 use Rattle.std.specs.FinMap.Entries.{by_order, put, where_key, below_all, is_sorted, is_sorted-where_key, find-where_key, same_entries}
-use Rattle.std.specs.List.{list_any, AllByRecursion}
 use Rattle.std.specs.List.Sorted.{IsStrictlySortedBy}
-use Rattle.std.specs.Map.{keys_of, values_of, lookup}
 use Rattle.std.proofs.lemmas.Bool.Decides.{nat_tests}
-use Rattle.row_delta.specs.declared.row.Named.{Named}
-use Rattle.alpha_memory.specs.Candidates.{Candidate, names_of}
 use Rattle.alpha_memory.proofs.Numbers.{torn, tied, itself}
 
 -- both sides of an and

@@ -1,19 +1,12 @@
 -- Which candidate has which number, before and after one place is put in or taken out.
-use Rattle.std.proofs.Common.{◌≡◌, ◌≢◌, ◌∙◌, sym, ap, refl, ℕ, suc, ◌<◌, List, [], ◌∷◌, map as list_map, Bool, true, false, cond, Option, Some, None, arith, eq-eqb, inl, inr, ◌⊎◌}
-use Rattle.std.specs.Prelude.{nat_eq, Contains}
-use Rattle.std.specs.Option.{is_some, unwrap_or}
-use Rattle.std.specs.Ordering.{nat_cmp, eq_by_cmp}
-use Rattle.std.specs.Cmp.{nat_cmp_total, eq_by_cmp_equiv, nat_eq_equiv}
-use Rattle.std.specs.FinMap.{find, get-from_entries, get-insert, get-remove, same_map, nat_cmp-IsAntisymmetric}
+use Rattle.alpha_memory.proofs.Common.{◌≡◌, ◌≢◌, ◌∙◌, sym, ap, refl, ℕ, suc, ◌<◌, List, [], ◌∷◌, Bool, true, false, cond, Option, Some, None, arith, eq-eqb, inl, inr, ◌⊎◌, nat_eq, Contains, is_some, nat_cmp, eq_by_cmp, nat_cmp_total, eq_by_cmp_equiv, nat_eq_equiv, find, get-insert, get-remove, nat_cmp-IsAntisymmetric, keys_of, lookup, eqb-true, exact_unsigned, lookup-from_Contains, Candidate, candidate, Place}
+use Rattle.std.proofs.Common.{map as list_map}
+use Rattle.std.specs.Option.{unwrap_or}
+use Rattle.std.specs.FinMap.{get-from_entries, same_map}
 use Rattle.std.specs.FinMap as map
 use Rattle.std.specs.List.{IsDistinct}
-use Rattle.std.specs.Map.{keys_of, lookup}
-use Rattle.std.proofs.lemmas.Bool.{eqb-true}
-use Rattle.std.proofs.lemmas.Map.Lookups.{exact_unsigned}
-use Rattle.std.proofs.lemmas.Map.Views.{tells_apart, lookup-from_Contains}
-use Rattle.alpha_memory.specs.Candidates.{Candidate}
-use Rattle.alpha_memory.specs.Places.{candidate, numbered_entry, numbered}
-use Rattle.alpha_memory.specs.declared.memory.Place.{Place}
+use Rattle.std.proofs.lemmas.Map.Views.{tells_apart}
+use Rattle.alpha_memory.specs.Places.{numbered_entry, numbered}
 
 -- ---- options, tests and numbers
 

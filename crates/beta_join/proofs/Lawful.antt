@@ -1,8 +1,6 @@
 -- The laws of steps and of forgetting, from what the node tells of what it keeps.
-use Rattle.std.proofs.Common.{◌≡◌, ◌∙◌, sym, ap, refl, subst, Bool, true, false, not, ◌&&◌, ◌||◌}
-use Rattle.rule_model.specs.declared.condition.Pattern.{Pattern}
+use Rattle.beta_join.proofs.Common.{◌≡◌, ◌∙◌, sym, ap, refl, subst, Bool, true, false, not, ◌&&◌, ◌||◌, Pattern, made}
 use Rattle.pair_memory.specs.Joined.{joined}
-use Rattle.pair_memory.specs.Memories.{made}
 use Rattle.pair_memory.specs.Standing.{clean, cleaned, either, PassesAlike, StandsFor}
 use Rattle.pair_memory.proofs.Worlds.{made_clean, clean_either}
 use Rattle.pair_memory.proofs.Steps.{steps_law, forgets_law}

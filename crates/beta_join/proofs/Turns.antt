@@ -1,22 +1,14 @@
 -- What one row more, or one less, on a side does to the rows that are made.
-use Rattle.std.proofs.Common.{◌≡◌, ◌∙◌, sym, ap, refl, List, Bool, true, false, not, ◌&&◌, ◌||◌, Option, Some, None}
-use Rattle.std.specs.Ordering.{eq_by_cmp}
-use Rattle.rule_model.specs.declared.condition.Pattern.{Pattern}
+use Rattle.beta_join.proofs.Common.{◌≡◌, ◌∙◌, sym, ap, refl, List, Bool, true, false, not, ◌&&◌, ◌||◌, Option, Some, None, eq_by_cmp, Pattern, Row, row_cmp, has, name_cmp, Look, Memories, has_left, has_right, made, Keeps, Turned}
 use Rattle.row_delta.specs.declared.row.Named.{Named}
-use Rattle.row_delta.specs.declared.row.Row.{Row}
-use Rattle.row_delta.specs.Rows.{row_cmp, has}
-use Rattle.row_delta.specs.NameOrder.{name_cmp}
 use Rattle.row_change.specs.Changes.{Leads, without, along}
-use Rattle.join_tests.specs.Joins.{Look, joins}
+use Rattle.join_tests.specs.Joins.{joins}
 use Rattle.row_change.specs.declared.change.Change.{Change}
-use Rattle.pair_memory.specs.declared.memories.Memories.{Memories}
-use Rattle.pair_memory.specs.Memories.{has_left, has_right, made, Keeps}
 use Rattle.pair_memory.specs.Joined.{unjoined, splits, joined}
 use Rattle.pair_memory.proofs.Joining.{row_decides, name_decides, joined_alike}
 use Rattle.pair_memory.proofs.Keeping.{made_after}
 use Rattle.pair_memory.proofs.Turning.{row_absent, row_present, name_absent, name_present, keeps_then}
 use Rattle.row_change.proofs.Alike.{leads_alike}
-use Rattle.beta_join.specs.Turns.{Turned}
 
 splits_imply : (t u : Row → Named → Bool) (b : Bool) → ((l : Row) (c : Named) → t l c ≡ true → u l c ≡ b) → (o : Option (Row × Named)) → splits t o ≡ true → splits u o ≡ b
 splits_imply t u b h None e = let f : false ≡ true = e in cc

@@ -1,56 +1,21 @@
 -- What a node that stands for a snapshot counts of forgotten facts.
-use Rattle.std.proofs.Common.{◌≡◌, ◌∙◌, sym, ap, refl, subst, ⊎_elim, inl, inr, ◌⊎◌, ℕ, arith, map, length, List, [], ◌∷◌, Bool, true, false, cond, ◌&&◌, ◌||◌, Option, Some, None, ℤ, pos}
+use Rattle.condition_node.proofs.Common.{◌≡◌, ◌∙◌, sym, ap, refl, subst, ⊎_elim, inl, inr, ◌⊎◌, ℕ, arith, map, length, List, [], ◌∷◌, Bool, true, false, cond, ◌&&◌, ◌||◌, Option, Some, None, ℤ, pos, eq_by_cmp, In, Fact, in_rising_order, Extra, Named, name_equiv, Row, row_cmp, InOrder, Accumulate, Condition, Negated, Existing, Folded, Pattern, Program, HaveDistinctTags, Holds, pattern_of, Snapshot, name_of, of_filter, one_fact, once_filter, once_map, Look, joins, Memories, has_name, cleaned, row_decides, BetaJoin, Witnesses, TallyNode, AreDistinct, counts_blockers, counts_witnesses, argument_given, argument_of, gathers, extra_for, nothing_gathered, arguments_gathered, NotNode, HasAllOf, NameHeld, held, candidates_of, held_all, values_gathered, IsAside, FoldNode, Node, condition_of, Counts, NodeStands}
 use Rattle.std.specs.declared.cmp.Ordering.TheVariants.{Less}
 use Rattle.std.specs.List.{AllByRecursion}
 use Rattle.std.specs.List.Sorted.{IsStrictlySortedBy}
-use Rattle.std.specs.Ordering.{eq_by_cmp, is_eq}
+use Rattle.std.specs.Ordering.{is_eq}
 use Rattle.std.proofs.lemmas.List.{length-map}
-use Rattle.fx_base.specs.Lists.{In}
-use Rattle.fx_base.specs.declared.fact.Fact.{Fact}
 use Rattle.fx_base.specs.declared.ids.RuleId.{RuleId}
-use Rattle.fold_fn.specs.Order.{in_rising_order}
 use Rattle.fold_fn.proofs.ResultLemmas.{length-rising}
-use Rattle.row_delta.specs.declared.extra.Extra.{Extra}
-use Rattle.row_delta.specs.declared.row.Named.{Named}
-use Rattle.row_delta.specs.NameOrder.{name_equiv}
-use Rattle.row_delta.specs.declared.row.Row.{Row}
-use Rattle.row_delta.specs.Rows.{row_cmp, InOrder}
 use Rattle.row_delta.specs.RowOrder.{same_equiv}
-use Rattle.rule_model.specs.declared.condition.Accumulate.{Accumulate}
-use Rattle.rule_model.specs.declared.condition.Condition.{Condition}
-use Rattle.rule_model.specs.declared.condition.Condition.TheVariants.{Negated, Existing, Folded}
-use Rattle.rule_model.specs.declared.condition.Pattern.{Pattern}
-use Rattle.rule_model.specs.declared.program.Program.{Program}
-use Rattle.rule_model.specs.Distinct.{HaveDistinctTags}
-use Rattle.rule_model.specs.Lent.{Holds}
-use Rattle.rule_model.specs.Rows.{argument, pattern_of}
-use Rattle.rule_model.specs.Snapshots.{Snapshot}
-use Rattle.rule_model.specs.Tuples.{name_of}
-use Rattle.rule_model.proofs.Named.{of_filter}
-use Rattle.rule_model.proofs.Once.{one_fact, once_filter, once_map}
-use Rattle.join_tests.specs.Joins.{Look, joins}
-use Rattle.pair_memory.specs.declared.memories.Memories.{Memories}
-use Rattle.pair_memory.specs.Joined.{has_name}
-use Rattle.pair_memory.specs.Standing.{cleaned}
-use Rattle.pair_memory.proofs.Joining.{row_decides}
-use Rattle.beta_join.specs.declared.join.BetaJoin.{BetaJoin}
-use Rattle.tally_node.specs.declared.count.Witnesses.{Witnesses}
-use Rattle.tally_node.specs.declared.node.TallyNode.{TallyNode}
-use Rattle.tally_node.specs.Counts.{AreDistinct, counts_blockers, counts_witnesses}
-use Rattle.tally_node.specs.Gathers.{argument_given, argument_of, gathers}
-use Rattle.tally_node.specs.Extras.{IsBeyond, IsExtraFor, AreExtrasOf, CountsOthers, extra_for, rows_of_extras, nothing_gathered, arguments_gathered}
+use Rattle.rule_model.specs.Rows.{argument}
+use Rattle.tally_node.specs.Extras.{IsBeyond, IsExtraFor, AreExtrasOf, CountsOthers, rows_of_extras}
 use Rattle.tally_node.specs.Laws.{lost_passing}
 use Rattle.tally_node.proofs.Gathering.{same_values}
 use Rattle.tally_node.proofs.Resuming.{others_law}
-use Rattle.not_node.specs.declared.node.NotNode.{NotNode}
-use Rattle.condition_rows.specs.Looks.{HasAllOf, NameHeld}
-use Rattle.condition_rows.specs.Sets.{held, candidates_of, partners}
-use Rattle.condition_rows.proofs.Holding.{held_all}
-use Rattle.condition_node.specs.Loading.{lost_partners, values_gathered, IsAside, IsLost, IsExtraBeside, AreExtrasBeside}
-use Rattle.condition_node.specs.declared.node.FoldNode.{FoldNode}
-use Rattle.condition_node.specs.declared.node.Node.{Node}
+use Rattle.condition_rows.specs.Sets.{partners}
+use Rattle.condition_node.specs.Loading.{lost_partners, IsLost, IsExtraBeside, AreExtrasBeside}
 use Rattle.condition_node.specs.declared.node.Node.TheVariants as node
-use Rattle.condition_node.specs.Nodes.{condition_of, Counts, NodeStands}
 use Rattle.condition_node.proofs.Folding.{distinct, named_where, partner_in, partners_once, partners_named}
 use Rattle.condition_node.proofs.Knowing.{held_known, joining_alike, remembered_alike}
 

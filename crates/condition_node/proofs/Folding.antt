@@ -1,47 +1,21 @@
 -- The rows of the node of an accumulate, and the facts over which its function goes.
-use Rattle.std.proofs.Common.{◌≡◌, ◌∙◌, sym, ap, refl, cond, map, ℤ, int_eq, slice_get, ℕ, List, [], ◌∷◌, Bool, true, false, ◌&&◌, ◌||◌, Option, Some, None, if◌then◌else◌}
-use mathlib.Core.Path.{fun_ext}
+use Rattle.condition_node.proofs.Common.{◌≡◌, ◌∙◌, sym, ap, refl, cond, map, ℤ, int_eq, slice_get, ℕ, List, [], ◌∷◌, Bool, true, false, ◌&&◌, ◌||◌, Option, Some, None, if◌then◌else◌, fun_ext, eq_by_cmp, In, Fact, name_cmp, Named, Row, Accumulate, Folded, Pattern, Program, HaveDistinctTags, Holds, bound_in, Snapshot, name_of, of_filter, one_fact, once_filter, once_map, Look, joins, has_name, clean, cleaned, AlikeOn, without_value, shows_value, name_decides, AreDistinct, result_for, all_passing, shown, line, HasAllOf, NameHeld, held, candidates_of, held_all, candidates_named, FoldNode, FoldsFor}
 use Rattle.std.specs.List.{filter}
-use Rattle.std.specs.Ordering.{eq_by_cmp}
 use Rattle.std.proofs.lemmas.Bool.Decides.{Decides-int_eq}
-use Rattle.fx_base.specs.Lists.{In, EachOnce}
-use Rattle.fx_base.specs.declared.fact.Fact.{Fact}
-use Rattle.row_delta.specs.NameOrder.{name_cmp}
-use Rattle.row_delta.specs.declared.row.Named.{Named}
-use Rattle.row_delta.specs.declared.row.Row.{Row}
-use Rattle.rule_model.specs.declared.condition.Accumulate.{Accumulate}
-use Rattle.rule_model.specs.declared.condition.Condition.TheVariants.{Folded}
-use Rattle.rule_model.specs.declared.condition.Pattern.{Pattern}
-use Rattle.rule_model.specs.declared.program.Program.{Program}
+use Rattle.fx_base.specs.Lists.{EachOnce}
 use Rattle.rule_model.specs.Candidates.{is_candidate, candidates}
-use Rattle.rule_model.specs.Distinct.{HaveDistinctTags}
-use Rattle.rule_model.specs.Lent.{Holds, bound_in}
 use Rattle.rule_model.specs.Rows.{result_of}
-use Rattle.rule_model.specs.Snapshots.{Snapshot}
 use Rattle.rule_model.specs.Tests.{results_hold}
-use Rattle.rule_model.specs.Tuples.{Bindings, name_of}
-use Rattle.rule_model.proofs.Named.{of_filter}
-use Rattle.rule_model.proofs.Once.{one_fact, once_filter, once_map, once_facts}
-use Rattle.join_tests.specs.Joins.{Look, joins}
-use Rattle.pair_memory.specs.Joined.{has_name}
-use Rattle.pair_memory.specs.Standing.{clean, cleaned, AlikeOn}
-use Rattle.pair_memory.specs.Valued.{unvalued, splits_value, valued, without_value, shows_value}
-use Rattle.pair_memory.proofs.Joining.{name_decides}
+use Rattle.rule_model.specs.Tuples.{Bindings}
+use Rattle.rule_model.proofs.Once.{once_facts}
+use Rattle.pair_memory.specs.Valued.{unvalued, splits_value, valued}
 use Rattle.pair_memory.proofs.Moving.{named_alike}
 use Rattle.pair_memory.proofs.Valued.{from_unvalued}
-use Rattle.tally_node.specs.Counts.{AreDistinct}
-use Rattle.tally_node.specs.Gathers.{tested, result_for, is_result}
-use Rattle.tally_node.specs.Laws.{all_passing}
-use Rattle.tally_node.specs.Tallies.{shown}
+use Rattle.tally_node.specs.Gathers.{tested, is_result}
 use Rattle.tally_node.proofs.Lawful.{gathered_shown}
-use Rattle.condition_rows.specs.Lines.{is_result as is_given, gives, line}
-use Rattle.condition_rows.specs.Looks.{HasAllOf, NameHeld}
-use Rattle.condition_rows.specs.Sets.{held, candidates_of, partners}
+use Rattle.condition_rows.specs.Lines.{is_result as is_given, gives}
+use Rattle.condition_rows.specs.Sets.{partners}
 use Rattle.condition_rows.proofs.Ends.{name_in}
-use Rattle.condition_rows.proofs.Holding.{held_all}
-use Rattle.condition_rows.proofs.Joined.{candidates_named}
-use Rattle.condition_node.specs.declared.node.FoldNode.{FoldNode}
-use Rattle.condition_node.specs.Nodes.{FoldsFor}
 use Rattle.condition_node.proofs.Knowing.{held_known, row_alike}
 use Rattle.condition_node.proofs.Shown.{asked_first}
 

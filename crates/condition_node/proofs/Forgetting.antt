@@ -1,46 +1,14 @@
 -- A node that has dropped what is old stands for the same with more facts forgotten, and what it dropped names an old fact.
-use Rattle.std.proofs.Common.{◌≡◌, ◌∙◌, sym, ap, refl, subst, cond, ℤ, ◌≤ℤ◌, Bool, true, false, not, ◌&&◌, ◌||◌, List, [], ◌∷◌, length, ◌==◌, None, arith}
-use mathlib.Core.Path.{fun_ext}
+use Rattle.condition_node.proofs.Common.{◌≡◌, ◌∙◌, sym, ap, refl, subst, cond, ℤ, ◌≤ℤ◌, Bool, true, false, not, ◌&&◌, ◌||◌, List, [], ◌∷◌, length, ◌==◌, None, arith, fun_ext, list_any, Held, Named, Row, has, InOrder, Accumulate, Pattern, Program, Snapshot, floor, both_of, Look, joins, Memories, has_name, has_left, has_right, made, Keeps, clean, cleaned, either, StandsFor, without_value, shows_value, BetaJoin, counts_blockers, counts_witnesses, where_witnessed, gathers, result_for, StandsCounted, itself, shows_any, shown, Witnesses, TallyNode, NotNode, IsInStep, not_rows, NoneDue, line, held, candidates_of, FoldNode, Node, condition_of, Counts, NodeStands}
 use Rattle.std.proofs.lemmas.Bool.Decides.{Decides-eqb}
-use Rattle.std.specs.List.{list_any}
-use Rattle.fold_fn.specs.Held.{Held}
 use Rattle.std.specs.List.Sorted.{IsStrictlySortedBy}
-use Rattle.row_delta.specs.declared.row.Named.{Named}
-use Rattle.row_delta.specs.declared.row.Row.{Row}
-use Rattle.row_delta.specs.Rows.{has, InOrder}
-use Rattle.rule_model.specs.declared.condition.Accumulate.{Accumulate}
-use Rattle.rule_model.specs.declared.condition.Pattern.{Pattern}
-use Rattle.rule_model.specs.declared.program.Program.{Program}
-use Rattle.rule_model.specs.Snapshots.{Snapshot, floor}
-use Rattle.rule_model.proofs.Listed.{both_of}
-use Rattle.join_tests.specs.Joins.{Look, joins}
-use Rattle.pair_memory.specs.declared.memories.Memories.{Memories}
-use Rattle.pair_memory.specs.Joined.{has_name}
-use Rattle.pair_memory.specs.Memories.{left_at, has_left, has_right, made, Keeps}
-use Rattle.pair_memory.specs.Standing.{clean, cleaned, either, StandsFor}
-use Rattle.pair_memory.specs.Valued.{without_value, shows_value}
-use Rattle.beta_join.specs.declared.join.BetaJoin.{BetaJoin}
+use Rattle.pair_memory.specs.Memories.{left_at}
 use Rattle.beta_join.proofs.Lawful.{forget_law as join_forgets}
-use Rattle.tally_node.specs.Counts.{counts_blockers, counts_witnesses, where_witnessed}
-use Rattle.tally_node.specs.Gathers.{gathers, result_for}
-use Rattle.tally_node.specs.Laws.{StandsCounted}
-use Rattle.tally_node.specs.Origins.{itself, shows_any}
-use Rattle.tally_node.specs.Tallies.{shown}
-use Rattle.tally_node.specs.declared.count.Witnesses.{Witnesses}
-use Rattle.tally_node.specs.declared.node.TallyNode.{TallyNode}
 use Rattle.tally_node.proofs.Lawful.{forget_law as tally_forgets, drop_law, itself_facts, without_value_facts}
-use Rattle.not_node.specs.declared.node.NotNode.{NotNode}
-use Rattle.not_node.specs.Rows.{IsInStep, not_rows}
-use Rattle.not_node.specs.Waiting.{NoneDue}
 use Rattle.not_node.proofs.Lawful.{drop_law as not_drops}
 use Rattle.not_node.proofs.Quiet.{dropped_none_due}
-use Rattle.condition_rows.specs.Lines.{line}
-use Rattle.condition_rows.specs.Sets.{held, candidates_of}
-use Rattle.condition_node.specs.declared.node.FoldNode.{FoldNode}
-use Rattle.condition_node.specs.declared.node.Node.{Node}
 use Rattle.condition_node.specs.declared.node.Node.TheVariants as node
 use Rattle.condition_node.specs.Forgetting.{ForgetsIn}
-use Rattle.condition_node.specs.Nodes.{condition_of, Counts, NodeStands}
 use Rattle.condition_node.proofs.Folding.{fold_shown}
 use Rattle.condition_node.proofs.Knowing.{held_known, joining_alike}
 use Rattle.condition_node.proofs.Shown.{join_shown, exists_shown, not_shown}

@@ -1,35 +1,12 @@
 -- Two worlds that know the versions of a snapshot see its rows and candidates alike.
-use Rattle.std.proofs.Common.{◌≡◌, ◌∙◌, sym, ap, refl, subst, map, List, [], ◌∷◌, Bool, true, false, not, ◌&&◌, ◌||◌, Option, Some, None}
-use mathlib.Core.Path.{fun_ext}
-use Rattle.std.specs.List.{list_any}
-use Rattle.std.specs.Option.{is_some, option_map, option_and_then}
-use Rattle.std.specs.Ordering.{eq_by_cmp}
-use Rattle.fx_base.specs.declared.fact.Fact.{Fact}
-use Rattle.fold_fn.specs.Held.{Held}
-use Rattle.fold_fn.specs.Order.{in_rising_order}
-use Rattle.row_delta.specs.declared.row.Named.{Named}
-use Rattle.row_delta.specs.declared.row.Row.{Row}
-use Rattle.row_delta.specs.NameOrder.{name_cmp, name_equiv}
-use Rattle.rule_model.specs.declared.condition.Accumulate.{Accumulate}
-use Rattle.rule_model.specs.declared.condition.Pattern.{Pattern}
-use Rattle.rule_model.specs.declared.program.Program.{Program}
-use Rattle.rule_model.specs.Snapshots.{Snapshot}
-use Rattle.rule_model.specs.Tuples.{name_of}
-use Rattle.rule_model.proofs.Listed.{both_of}
-use Rattle.join_tests.specs.Joins.{Look, version_at, versions_at, joins}
+use Rattle.condition_node.proofs.Common.{◌≡◌, ◌∙◌, sym, ap, refl, subst, map, List, [], ◌∷◌, Bool, true, false, not, ◌&&◌, ◌||◌, Option, Some, None, fun_ext, list_any, is_some, eq_by_cmp, Fact, Held, in_rising_order, Named, Row, name_cmp, name_equiv, Accumulate, Pattern, Program, Snapshot, name_of, both_of, Look, versions_at, joins, Memories, has_name, clean, cleaned, either, remembered, no_names, AlikeOn, StandsFor, LooksAlike, Witnesses, counts_blockers, counts_witnesses, argument_given, argument_of, gathers, all_passing, StandsCounted, HasAllOf, NameHeld, held}
+use Rattle.std.specs.Option.{option_map, option_and_then}
+use Rattle.join_tests.specs.Joins.{version_at}
 use Rattle.join_tests.proofs.Versions.{version_is}
-use Rattle.pair_memory.specs.declared.memories.Memories.{Memories}
-use Rattle.pair_memory.specs.Joined.{has_name}
-use Rattle.pair_memory.specs.Standing.{clean, cleaned, either, remembered, no_names, AlikeOn, StandsFor, LooksAlike}
 use Rattle.pair_memory.proofs.Moving.{joins_alike}
 use Rattle.tally_node.specs.declared.count.Blockers.{Blockers}
-use Rattle.tally_node.specs.declared.count.Witnesses.{Witnesses}
-use Rattle.tally_node.specs.Counts.{counts_blockers, counts_witnesses}
-use Rattle.tally_node.specs.Gathers.{argument_given, argument_of, gathers}
-use Rattle.tally_node.specs.Laws.{all_passing, StandsCounted}
 use Rattle.tally_node.specs.Tallies.{SeeAlike}
-use Rattle.condition_rows.specs.Looks.{HasAllOf, NameHeld}
-use Rattle.condition_rows.specs.Sets.{held, is_candidate_given, candidates_of}
+use Rattle.condition_rows.specs.Sets.{is_candidate_given, candidates_of}
 
 -- ---- Booleans and options
 pub not_of : (b : Bool) → not b ≡ true → b ≡ false

@@ -1,3 +1,4 @@
+mod Common
 pub mod Knowing
 pub mod Moved
 pub mod Shown

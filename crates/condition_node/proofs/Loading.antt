@@ -1,49 +1,11 @@
 -- What the node of each kind stands for after a load.
-use Rattle.std.proofs.Common.{◌≡◌, ◌∙◌, sym, ap, refl, subst, ℤ, ◌≤ℤ◌, List, [], ◌∷◌, map, Bool, true, false, not, ◌&&◌, ◌||◌}
-use mathlib.Core.Path.{fun_ext}
-use Rattle.std.specs.Int.Signed.{≤ℤ_refl}
-use Rattle.std.specs.List.{list_any}
-use Rattle.std.specs.Ordering.{eq_by_cmp}
+use Rattle.condition_node.proofs.Common.{◌≡◌, ◌∙◌, sym, ap, refl, subst, ℤ, ◌≤ℤ◌, List, [], ◌∷◌, map, Bool, true, false, not, ◌&&◌, ◌||◌, fun_ext, ≤ℤ_refl, list_any, eq_by_cmp, Delta, Extra, Named, Row, name_cmp, has, row_cmp, Accumulate, Condition, Negated, Existing, Folded, Pattern, Program, pattern_of, Snapshot, floor, Look, joins, Memories, IsStepped, row_naming, has_name, has_left, has_right, Keeps, row_decides, name_decides, cleaned, no_rows, no_names, StandsFor, BetaJoin, Witnesses, TallyNode, counts_blockers, counts_witnesses, extra_for, blockers_laden, witnesses_laden, gathered_laden, gathers, NotNode, IsInStep, later, none_due, empty_snapshot, held, candidates_of, FoldNode, Node, CountsLaden, condition_of, NodeStands}
 use Rattle.std.proofs.lemmas.Bool.Decides.{same_from_decides}
-use Rattle.row_delta.specs.declared.delta.Delta.{Delta}
-use Rattle.row_delta.specs.declared.extra.Extra.{Extra}
-use Rattle.row_delta.specs.declared.row.Named.{Named}
-use Rattle.row_delta.specs.declared.row.Row.{Row}
-use Rattle.row_delta.specs.NameOrder.{name_cmp}
-use Rattle.row_delta.specs.Rows.{has, row_cmp}
-use Rattle.rule_model.specs.declared.condition.Accumulate.{Accumulate}
-use Rattle.rule_model.specs.declared.condition.Condition.{Condition}
-use Rattle.rule_model.specs.declared.condition.Condition.TheVariants.{Negated, Existing, Folded}
-use Rattle.rule_model.specs.declared.condition.Pattern.{Pattern}
-use Rattle.rule_model.specs.declared.program.Program.{Program}
-use Rattle.rule_model.specs.Rows.{pattern_of}
-use Rattle.rule_model.specs.Snapshots.{Snapshot, floor}
-use Rattle.join_tests.specs.Joins.{Look, joins}
-use Rattle.pair_memory.specs.declared.memories.Memories.{Memories}
-use Rattle.pair_memory.specs.Inputs.{IsStepped, row_naming}
-use Rattle.pair_memory.specs.Joined.{has_name}
-use Rattle.pair_memory.specs.Memories.{has_left, has_right, Keeps}
-use Rattle.pair_memory.proofs.Joining.{row_decides, name_decides}
-use Rattle.pair_memory.specs.Standing.{cleaned, no_rows, no_names, StandsFor}
-use Rattle.beta_join.specs.declared.join.BetaJoin.{BetaJoin}
-use Rattle.tally_node.specs.declared.count.Witnesses.{Witnesses}
-use Rattle.tally_node.specs.declared.node.TallyNode.{TallyNode}
-use Rattle.tally_node.specs.Counts.{counts_blockers, counts_witnesses}
-use Rattle.tally_node.specs.Extras.{AllLaden, extra_for, blockers_laden, witnesses_laden, gathered_laden}
-use Rattle.tally_node.specs.Gathers.{gathers}
+use Rattle.tally_node.specs.Extras.{AllLaden}
 use Rattle.tally_node.specs.Laws.{StandsLaden}
 use Rattle.tally_node.proofs.Resuming.{load_law}
-use Rattle.not_node.specs.declared.node.NotNode.{NotNode}
-use Rattle.not_node.specs.Rows.{IsInStep}
-use Rattle.not_node.specs.Waiting.{later}
-use Rattle.not_node.proofs.Quiet.{none_due}
-use Rattle.condition_rows.specs.Looks.{empty_snapshot}
-use Rattle.condition_rows.specs.Sets.{held, candidates_of}
-use Rattle.condition_node.specs.declared.node.FoldNode.{FoldNode}
-use Rattle.condition_node.specs.declared.node.Node.{Node}
 use Rattle.condition_node.specs.declared.node.Node.TheVariants as node
-use Rattle.condition_node.specs.Loading.{CountsLaden, IsLoad, Laden}
-use Rattle.condition_node.specs.Nodes.{condition_of, NodeStands}
+use Rattle.condition_node.specs.Loading.{IsLoad, Laden}
 use Rattle.condition_node.proofs.Knowing.{held_known, joining_alike, candidate_alike}
 use Rattle.condition_node.proofs.Moved.{no_candidates}
 use Rattle.condition_node.proofs.Turning.{later_is, not_above}

@@ -1,26 +1,10 @@
 -- What a new node stands for, and what a node stands for by another store.
-use Rattle.std.proofs.Common.{◌≡◌, ◌∙◌, ap, refl, subst, Bool}
-use mathlib.Core.Path.{fun_ext}
-use Rattle.std.specs.Option.{is_some}
-use Rattle.row_delta.specs.declared.row.Named.{Named}
-use Rattle.row_delta.specs.declared.row.Row.{Row}
-use Rattle.rule_model.specs.declared.condition.Pattern.{Pattern}
-use Rattle.rule_model.specs.declared.program.Program.{Program}
-use Rattle.rule_model.specs.Snapshots.{Snapshot}
-use Rattle.join_tests.specs.Joins.{Look, joins}
-use Rattle.pair_memory.specs.declared.memories.Memories.{Memories}
-use Rattle.pair_memory.specs.Standing.{no_rows, no_names, StandsFor, LooksAlike}
+use Rattle.condition_node.proofs.Common.{◌≡◌, ◌∙◌, ap, refl, subst, Bool, fun_ext, is_some, Named, Row, Pattern, Program, Snapshot, Look, joins, Memories, no_rows, no_names, StandsFor, LooksAlike, counts_blockers, counts_witnesses, gathers, StandsCounted, empty_snapshot, HasAllOf, NameHeld, Node, Counts, NodeStands}
 use Rattle.pair_memory.proofs.Moving.{move_law as memories_move}
-use Rattle.tally_node.specs.Counts.{counts_blockers, counts_witnesses}
-use Rattle.tally_node.specs.Gathers.{gathers}
-use Rattle.tally_node.specs.Laws.{StandsCounted}
 use Rattle.tally_node.proofs.Lawful.{start_law, move_law as tallies_move}
 use Rattle.not_node.proofs.Lawful.{move_law as not_moves}
-use Rattle.condition_rows.specs.Looks.{empty_snapshot, HasAllOf, NameHeld}
 use Rattle.condition_rows.specs.Sets.{held, candidates_of}
-use Rattle.condition_node.specs.declared.node.Node.{Node}
 use Rattle.condition_node.specs.declared.node.Node.TheVariants as node
-use Rattle.condition_node.specs.Nodes.{Counts, NodeStands}
 use Rattle.condition_node.proofs.Knowing.{looks_alike}
 
 -- ---- a new node

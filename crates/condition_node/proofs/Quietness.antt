@@ -1,18 +1,8 @@
 -- How long the nodes of each kind are quiet.
-use Rattle.std.proofs.Common.{◌≡◌, ℕ, ℤ, pos, ◌+ℤ◌, ◌-ℤ◌, ◌≤ℤ◌, ◌<ℤ◌, ◌^◌, int_lt, arith, true, false, Option, Some, None, IfSome}
-use Rattle.std.proofs.lemmas.Int.{ints, clamps}
-use Rattle.row_delta.specs.declared.row.Row.{Row}
-use Rattle.rule_model.specs.declared.program.Program.{Program}
-use Rattle.rule_model.specs.Snapshots.{Snapshot, floor}
-use Rattle.rule_model.specs.Types.{lateness_of}
-use Rattle.beta_join.specs.declared.join.BetaJoin.{BetaJoin}
-use Rattle.tally_node.specs.declared.count.Witnesses.{Witnesses}
-use Rattle.tally_node.specs.declared.node.TallyNode.{TallyNode}
-use Rattle.not_node.specs.declared.node.NotNode.{NotNode}
-use Rattle.not_node.specs.Waiting.{waits}
-use Rattle.condition_node.specs.declared.node.FoldNode.{FoldNode}
+use Rattle.condition_node.proofs.Common.{◌≡◌, ℕ, ℤ, pos, ◌+ℤ◌, ◌-ℤ◌, ◌≤ℤ◌, ◌<ℤ◌, ◌^◌, int_lt, arith, true, false, Option, Some, None, IfSome, ints, Row, Program, Snapshot, lateness_of, BetaJoin, Witnesses, TallyNode, NotNode, waits, FoldNode, at_clock, IsBefore, IsQuiet, IsDue}
+use Rattle.std.proofs.lemmas.Int.{clamps}
+use Rattle.rule_model.specs.Snapshots.{floor}
 use Rattle.condition_node.specs.declared.node.Node.TheVariants as node
-use Rattle.condition_node.specs.Quiet.{at_clock, IsBefore, IsQuiet, IsDue}
 use Rattle.condition_node.proofs.Staying.{join_stays, exists_stays, fold_stays, not_stays, not_ripens}
 use Rattle.condition_node.proofs.Turning.{not_above}
 use Rattle.rule_model.proofs.Floors.{clock_below_floor, floor_on}

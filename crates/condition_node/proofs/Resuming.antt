@@ -1,30 +1,9 @@
 -- A node that is loaded with what is kept stands for all of it.
-use Rattle.std.proofs.Common.{◌≡◌, ◌∙◌, sym, refl, subst, ℤ, ◌≤ℤ◌, List, map, Bool, Option}
-use Rattle.row_delta.specs.declared.extra.Extra.{Extra}
-use Rattle.row_delta.specs.declared.row.Named.{Named}
-use Rattle.row_delta.specs.declared.row.Row.{Row}
-use Rattle.fx_base.specs.declared.fact.Fact.{Fact}
-use Rattle.rule_model.specs.declared.condition.Condition.{Condition}
-use Rattle.rule_model.specs.declared.condition.Condition.TheVariants.{Negated, Existing, Folded}
-use Rattle.rule_model.specs.declared.condition.Pattern.{Pattern}
-use Rattle.rule_model.specs.declared.program.Program.{Program}
-use Rattle.rule_model.specs.Lent.{Holds}
-use Rattle.rule_model.specs.Rows.{pattern_of}
-use Rattle.rule_model.specs.Snapshots.{Snapshot, floor}
-use Rattle.rule_model.specs.Tuples.{name_of}
-use Rattle.join_tests.specs.Joins.{Look, joins}
-use Rattle.pair_memory.specs.declared.memories.Memories.{Memories}
-use Rattle.pair_memory.specs.Standing.{remembered}
-use Rattle.tally_node.specs.Counts.{counts_blockers, counts_witnesses}
-use Rattle.tally_node.specs.Extras.{blockers_laden, witnesses_laden, gathered_laden, nothing_gathered, arguments_gathered}
-use Rattle.tally_node.specs.Gathers.{gathers}
+use Rattle.condition_node.proofs.Common.{◌≡◌, ◌∙◌, sym, refl, subst, ℤ, ◌≤ℤ◌, List, map, Bool, Option, Extra, Named, Row, Fact, Condition, Negated, Existing, Folded, Pattern, Program, Holds, pattern_of, Snapshot, floor, name_of, Look, joins, Memories, remembered, counts_blockers, counts_witnesses, blockers_laden, witnesses_laden, gathered_laden, nothing_gathered, arguments_gathered, gathers, NoneDue, held, candidates_of, CountsLaden, IsAside, values_gathered, Counts}
 use Rattle.tally_node.specs.Laws.{LadenLaw}
 use Rattle.tally_node.proofs.Resuming.{resume_law, blockers_made_up, witnesses_made_up, gathered_made_up}
-use Rattle.not_node.specs.Waiting.{NoneDue}
-use Rattle.condition_rows.specs.Sets.{held, candidates_of}
 use Rattle.condition_node.specs.declared.node.Node.TheVariants as node
-use Rattle.condition_node.specs.Loading.{CountsLaden, IsResumed, IsAside, ResumesLaw, values_gathered}
-use Rattle.condition_node.specs.Nodes.{Counts}
+use Rattle.condition_node.specs.Loading.{IsResumed, ResumesLaw}
 use Rattle.condition_node.proofs.Beyond.{tells_passing, nothing_told, arguments_told}
 use Rattle.condition_node.proofs.Knowing.{held_known, joining_alike}
 use Rattle.condition_node.proofs.Loading.{all_clean, all_remembered}

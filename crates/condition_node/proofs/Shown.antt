@@ -1,42 +1,17 @@
 -- The rows of a node are what the line of its condition makes of the rows before it, without those that name a forgotten fact.
-use Rattle.std.proofs.Common.{◌≡◌, ◌∙◌, sym, ap, refl, subst, ℤ, int_lt, Bool, true, false, not, ◌&&◌}
-use mathlib.Core.Path.{fun_ext}
+use Rattle.condition_node.proofs.Common.{◌≡◌, ◌∙◌, sym, ap, refl, subst, ℤ, int_lt, Bool, true, false, not, ◌&&◌, fun_ext, list_any, Named, Row, Plain, Negated, Existing, Pattern, Program, HaveDistinctTags, bound_in, Snapshot, floor, Look, joins, Memories, has_name, made, clean, cleaned, StandsFor, Witnesses, counts_blockers, counts_witnesses, where_witnessed, StandsCounted, itself, shows_any, shown, NotNode, IsInStep, not_rows, waits, line, HasAllOf, NameHeld, held, candidates_of, candidates_named, Counts, WaitsFor}
 use Rattle.std.proofs.Math.Bool.{and-true, and-false, and_assoc}
-use Rattle.std.specs.List.{list_any}
-use Rattle.row_delta.specs.declared.row.Named.{Named}
-use Rattle.row_delta.specs.declared.row.Row.{Row}
-use Rattle.rule_model.specs.declared.condition.Condition.TheVariants.{Plain, Negated, Existing}
-use Rattle.rule_model.specs.declared.condition.Pattern.{Pattern}
-use Rattle.rule_model.specs.declared.program.Program.{Program}
-use Rattle.rule_model.specs.Distinct.{HaveDistinctTags}
-use Rattle.rule_model.specs.Lent.{bound_in}
 use Rattle.rule_model.specs.Maturity.{is_mature}
-use Rattle.rule_model.specs.Snapshots.{Snapshot, floor}
-use Rattle.join_tests.specs.Joins.{Look, joins}
-use Rattle.pair_memory.specs.declared.memories.Memories.{Memories}
-use Rattle.pair_memory.specs.Joined.{has_name}
-use Rattle.pair_memory.specs.Memories.{made}
-use Rattle.pair_memory.specs.Standing.{clean, cleaned, StandsFor}
 use Rattle.pair_memory.proofs.Worlds.{made_clean}
-use Rattle.tally_node.specs.declared.count.Witnesses.{Witnesses}
-use Rattle.tally_node.specs.Counts.{counts_blockers, counts_witnesses, where_witnessed}
-use Rattle.tally_node.specs.Laws.{StandsCounted}
-use Rattle.tally_node.specs.Origins.{itself, shows_any}
-use Rattle.tally_node.specs.Tallies.{shown}
 use Rattle.tally_node.proofs.Lawful.{witnesses_shown}
-use Rattle.not_node.specs.declared.node.NotNode.{NotNode}
 use Rattle.not_node.specs.Laws.{with_floor}
 use Rattle.not_node.specs.Moments.{moment_at}
-use Rattle.not_node.specs.Rows.{IsInStep, not_rows}
-use Rattle.not_node.specs.Waiting.{mature, waits}
+use Rattle.not_node.specs.Waiting.{mature}
 use Rattle.not_node.proofs.Lawful.{not_law}
 use Rattle.not_node.proofs.Maturing.{row_mature, moment_alike}
 use Rattle.not_node.proofs.Quiet.{quiet_law, waits_own}
-use Rattle.condition_rows.specs.Lines.{is_ripe, line}
-use Rattle.condition_rows.specs.Looks.{HasAllOf, NameHeld}
-use Rattle.condition_rows.specs.Sets.{held, candidates_of, candidate_names, has_partner}
-use Rattle.condition_rows.proofs.Joined.{candidates_named}
-use Rattle.condition_node.specs.Nodes.{Counts, WaitsFor}
+use Rattle.condition_rows.specs.Lines.{is_ripe}
+use Rattle.condition_rows.specs.Sets.{candidate_names, has_partner}
 use Rattle.condition_node.proofs.Knowing.{held_known, row_alike, joining_alike}
 
 -- what is asked of the clean rows is asked of the rows, and then which are clean

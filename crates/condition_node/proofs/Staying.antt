@@ -1,33 +1,7 @@
 -- Where the clock alone changes neither the candidates nor what is mature, the line of a condition stays as it is.
-use Rattle.std.proofs.Common.{◌≡◌, ◌∙◌, sym, ap, refl, subst, ℤ, ◌≤ℤ◌, int_lt, Bool, true, false}
-use mathlib.Core.Path.{fun_ext}
-use Rattle.std.specs.Option.{is_some}
-use Rattle.row_delta.specs.declared.row.Named.{Named}
-use Rattle.row_delta.specs.declared.row.Row.{Row}
-use Rattle.rule_model.specs.declared.condition.Condition.TheVariants.{Negated}
-use Rattle.rule_model.specs.declared.condition.Pattern.{Pattern}
-use Rattle.rule_model.specs.declared.program.Program.{Program}
-use Rattle.rule_model.specs.Distinct.{HaveDistinctTags}
-use Rattle.rule_model.specs.Snapshots.{Snapshot, floor}
-use Rattle.join_tests.specs.Joins.{Look, versions_at, joins}
-use Rattle.pair_memory.specs.declared.memories.Memories.{Memories}
-use Rattle.pair_memory.specs.Standing.{cleaned, StandsFor}
-use Rattle.beta_join.specs.declared.join.BetaJoin.{BetaJoin}
-use Rattle.tally_node.specs.declared.count.Witnesses.{Witnesses}
-use Rattle.tally_node.specs.declared.node.TallyNode.{TallyNode}
-use Rattle.tally_node.specs.Counts.{counts_blockers, counts_witnesses}
-use Rattle.tally_node.specs.Gathers.{gathers}
-use Rattle.tally_node.specs.Laws.{StandsCounted}
-use Rattle.not_node.specs.declared.node.NotNode.{NotNode}
-use Rattle.not_node.specs.Waiting.{NoneDue, waits}
-use Rattle.condition_rows.specs.Lines.{line}
-use Rattle.condition_rows.specs.Looks.{HasAllOf, NameHeld}
-use Rattle.condition_rows.specs.Sets.{held, candidates_of}
-use Rattle.condition_node.specs.declared.node.FoldNode.{FoldNode}
-use Rattle.condition_node.specs.declared.node.Node.{Node}
+use Rattle.condition_node.proofs.Common.{◌≡◌, ◌∙◌, sym, ap, refl, subst, ℤ, ◌≤ℤ◌, int_lt, Bool, true, false, fun_ext, is_some, Named, Row, Negated, Pattern, Program, HaveDistinctTags, Snapshot, floor, Look, versions_at, joins, Memories, cleaned, StandsFor, BetaJoin, Witnesses, TallyNode, counts_blockers, counts_witnesses, gathers, StandsCounted, NotNode, NoneDue, waits, line, HasAllOf, NameHeld, candidates_of, FoldNode, Node, condition_of, Counts, WaitsFor, FoldsFor, NodeStands, at_clock}
+use Rattle.condition_rows.specs.Sets.{held}
 use Rattle.condition_node.specs.declared.node.Node.TheVariants as node
-use Rattle.condition_node.specs.Nodes.{condition_of, Counts, WaitsFor, FoldsFor, NodeStands}
-use Rattle.condition_node.specs.Quiet.{at_clock}
 use Rattle.condition_node.proofs.Folding.{fold_shown}
 use Rattle.condition_node.proofs.Shown.{join_shown, exists_shown, not_shown, not_early, not_ripe}
 

@@ -1,35 +1,9 @@
 -- Where nothing changes in the rows before it and in its candidates, the node of a condition stays as it is; that of a `not` as long as no
 -- row is due.
-use Rattle.std.proofs.Common.{◌≡◌, ◌∙◌, sym, ap, refl, subst, ℤ, int_lt, Bool, true, false, not, ◌&&◌, ◌||◌, List, [], ◌∷◌}
-use Rattle.row_delta.specs.declared.delta.Delta.{Delta}
-use Rattle.row_delta.specs.declared.row.Named.{Named}
-use Rattle.row_delta.specs.declared.row.Row.{Row}
-use Rattle.row_delta.specs.Rows.{has}
+use Rattle.condition_node.proofs.Common.{◌≡◌, ◌∙◌, sym, ap, refl, subst, ℤ, int_lt, Bool, true, false, not, ◌&&◌, ◌||◌, List, [], ◌∷◌, Delta, Named, Row, has, Program, Negated, Moment, IsAt, Snapshot, floor, Look, Memories, row_naming, IsStepped, has_left, has_right, cleaned, BetaJoin, counts_blockers, counts_witnesses, gathers, Witnesses, TallyNode, NotNode, NoneDue, waits, line, FoldNode, Node, condition_of, Counts, NodeStands, IsTurn}
 use Rattle.row_change.specs.Changes.{are_none, changes_nothing}
-use Rattle.rule_model.specs.declared.program.Program.{Program}
-use Rattle.rule_model.specs.declared.condition.Condition.TheVariants.{Negated}
-use Rattle.rule_model.specs.declared.moment.Moment.{Moment}
-use Rattle.rule_model.specs.Moments.{IsAt}
-use Rattle.rule_model.specs.Snapshots.{Snapshot, floor}
-use Rattle.join_tests.specs.Joins.{Look}
-use Rattle.pair_memory.specs.declared.memories.Memories.{Memories}
-use Rattle.pair_memory.specs.Inputs.{row_naming, IsStepped}
-use Rattle.pair_memory.specs.Memories.{has_left, has_right}
-use Rattle.pair_memory.specs.Standing.{cleaned}
-use Rattle.beta_join.specs.declared.join.BetaJoin.{BetaJoin}
-use Rattle.tally_node.specs.Counts.{counts_blockers, counts_witnesses}
-use Rattle.tally_node.specs.Gathers.{gathers}
-use Rattle.tally_node.specs.declared.count.Witnesses.{Witnesses}
-use Rattle.tally_node.specs.declared.node.TallyNode.{TallyNode}
 use Rattle.tally_node.proofs.Stepping.{no_step}
-use Rattle.not_node.specs.declared.node.NotNode.{NotNode}
-use Rattle.not_node.specs.Waiting.{NoneDue, waits}
-use Rattle.condition_rows.specs.Lines.{line}
-use Rattle.condition_node.specs.declared.node.FoldNode.{FoldNode}
-use Rattle.condition_node.specs.declared.node.Node.{Node}
 use Rattle.condition_node.specs.declared.node.Node.TheVariants as node
-use Rattle.condition_node.specs.Nodes.{condition_of, Counts, NodeStands}
-use Rattle.condition_node.specs.Turns.{IsTurn}
 use Rattle.condition_node.proofs.Folding.{fold_shown}
 use Rattle.condition_node.proofs.Knowing.{blockers_ask}
 use Rattle.condition_node.proofs.Shown.{join_shown, exists_shown, not_shown, not_early, not_ripe}

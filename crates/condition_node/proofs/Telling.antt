@@ -1,36 +1,7 @@
 -- A turn of the node of each kind: what it then stands for, and that it tells the difference of its line.
-use Rattle.std.proofs.Common.{◌≡◌, ◌∙◌, sym, ap, refl, subst, ℤ, Bool}
-use Rattle.row_delta.specs.declared.delta.Delta.{Delta}
-use Rattle.row_delta.specs.declared.row.Named.{Named}
-use Rattle.row_delta.specs.declared.row.Row.{Row}
-use Rattle.row_change.specs.Changes.{IsDifference}
+use Rattle.condition_node.proofs.Common.{◌≡◌, ◌∙◌, sym, ap, refl, subst, ℤ, Bool, Delta, Named, Row, IsDifference, Accumulate, Plain, Negated, Existing, Folded, Pattern, Program, Snapshot, floor, Look, IsStepped, made, cleaned, without_value, shows_value, BetaJoin, counts_blockers, counts_witnesses, where_witnessed, gathers, result_for, itself, shows_any, TallyStep, shown, Witnesses, TallyNode, NotNode, IsInStep, not_rows, later, line, FoldNode, Node, condition_of, Counts, NodeStands, IsTurn}
 use Rattle.row_change.proofs.Alike.{difference_alike}
-use Rattle.rule_model.specs.declared.condition.Accumulate.{Accumulate}
-use Rattle.rule_model.specs.declared.condition.Condition.TheVariants.{Plain, Negated, Existing, Folded}
-use Rattle.rule_model.specs.declared.condition.Pattern.{Pattern}
-use Rattle.rule_model.specs.declared.program.Program.{Program}
-use Rattle.rule_model.specs.Snapshots.{Snapshot, floor}
-use Rattle.join_tests.specs.Joins.{Look}
-use Rattle.pair_memory.specs.Inputs.{IsStepped}
-use Rattle.pair_memory.specs.Memories.{made}
-use Rattle.pair_memory.specs.Standing.{cleaned}
-use Rattle.pair_memory.specs.Valued.{without_value, shows_value}
-use Rattle.beta_join.specs.declared.join.BetaJoin.{BetaJoin}
-use Rattle.tally_node.specs.Counts.{counts_blockers, counts_witnesses, where_witnessed}
-use Rattle.tally_node.specs.Gathers.{gathers, result_for}
-use Rattle.tally_node.specs.Origins.{itself, shows_any}
-use Rattle.tally_node.specs.Tallies.{TallyStep, shown}
-use Rattle.tally_node.specs.declared.count.Witnesses.{Witnesses}
-use Rattle.tally_node.specs.declared.node.TallyNode.{TallyNode}
-use Rattle.not_node.specs.declared.node.NotNode.{NotNode}
-use Rattle.not_node.specs.Rows.{IsInStep, not_rows}
-use Rattle.not_node.specs.Waiting.{later}
-use Rattle.condition_rows.specs.Lines.{line}
-use Rattle.condition_node.specs.declared.node.FoldNode.{FoldNode}
-use Rattle.condition_node.specs.declared.node.Node.{Node}
 use Rattle.condition_node.specs.declared.node.Node.TheVariants as node
-use Rattle.condition_node.specs.Nodes.{condition_of, Counts, NodeStands}
-use Rattle.condition_node.specs.Turns.{IsTurn}
 use Rattle.condition_node.proofs.Folding.{fold_shown}
 use Rattle.condition_node.proofs.Knowing.{blockers_ask, witnesses_ask, gathers_ask}
 use Rattle.condition_node.proofs.Shown.{join_shown, exists_shown, not_shown}

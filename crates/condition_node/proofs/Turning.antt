@@ -1,35 +1,12 @@
 -- After a turn a node stands for the new rows and candidates.
-use Rattle.std.proofs.Common.{◌≡◌, ◌∙◌, sym, ap, subst, ℤ, ◌≤ℤ◌, Bool, true, false, arith}
-use Rattle.std.proofs.lemmas.Int.{ints}
-use Rattle.std.specs.Int.Signed.{≤ℤ_refl}
-use Rattle.row_delta.specs.declared.delta.Delta.{Delta}
-use Rattle.row_delta.specs.declared.row.Named.{Named}
-use Rattle.row_delta.specs.declared.row.Row.{Row}
-use Rattle.rule_model.specs.declared.condition.Condition.{Condition}
-use Rattle.rule_model.specs.declared.condition.Condition.TheVariants.{Plain, Negated, Existing, Folded}
-use Rattle.rule_model.specs.declared.condition.Pattern.{Pattern}
-use Rattle.rule_model.specs.declared.program.Program.{Program}
-use Rattle.rule_model.specs.Snapshots.{Snapshot, floor}
-use Rattle.rule_model.specs.Rows.{pattern_of}
-use Rattle.join_tests.specs.Joins.{Look, joins}
-use Rattle.pair_memory.specs.declared.memories.Memories.{Memories}
-use Rattle.pair_memory.specs.Inputs.{IsNameDifference, IsStepped}
-use Rattle.pair_memory.specs.Standing.{no_names, remembered, StandsFor}
+use Rattle.condition_node.proofs.Common.{◌≡◌, ◌∙◌, sym, ap, subst, ℤ, ◌≤ℤ◌, Bool, true, false, arith, ints, ≤ℤ_refl, Delta, Named, Row, Condition, Plain, Negated, Existing, Folded, Pattern, Program, Snapshot, floor, pattern_of, Look, joins, Memories, IsStepped, no_names, remembered, StandsFor, counts_blockers, StandsCounted, TallyStep, NotNode, IsInStep, later, none_due, held, candidates_of, Counts, WaitsFor, IsTurn, IsAt, Moment}
+use Rattle.pair_memory.specs.Inputs.{IsNameDifference}
 use Rattle.pair_memory.proofs.Steps.{steps_law}
-use Rattle.tally_node.specs.Counts.{counts_blockers}
-use Rattle.tally_node.specs.Laws.{ForgottenStay, StandsCounted}
-use Rattle.tally_node.specs.Tallies.{TallyStep}
+use Rattle.tally_node.specs.Laws.{ForgottenStay}
 use Rattle.tally_node.proofs.Lawful.{tally_law}
-use Rattle.not_node.specs.declared.node.NotNode.{NotNode}
-use Rattle.not_node.specs.Rows.{IsInStep}
-use Rattle.not_node.specs.Waiting.{later}
-use Rattle.not_node.proofs.Quiet.{none_due}
-use Rattle.condition_rows.specs.Sets.{held, candidates_of}
-use Rattle.condition_node.specs.Nodes.{Counts, WaitsFor}
-use Rattle.condition_node.specs.Turns.{CountedStay, IsTurn}
+use Rattle.condition_node.specs.Turns.{CountedStay}
 use Rattle.condition_node.proofs.Knowing.{held_known, known_too, joining_alike, seen_alike, AsksOfSet, counted_alike}
-use Rattle.rule_model.specs.Moments.{IsAt, snapshot_at}
-use Rattle.rule_model.specs.declared.moment.Moment.{Moment}
+use Rattle.rule_model.specs.Moments.{snapshot_at}
 use Rattle.rule_model.proofs.Floors.{same_floor}
 
 module _ {T : Type 0} (p : Program) (m n : Memories T) (look world : Look) (s next : Snapshot) (rows rows_now : Row → Bool) (forgotten : Named → Bool) (left right : Delta)

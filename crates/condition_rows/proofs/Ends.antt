@@ -1,26 +1,16 @@
 -- The rows of conditions with one more at the end, by the tuples of the conditions before it.
-use Rattle.std.proofs.Common.{◌≡◌, sym, refl, subst, inl, inr, List, [], ◌∷◌, ◌++◌, Bool, true, false}
+use Rattle.condition_rows.proofs.Common.{◌≡◌, sym, refl, subst, inl, inr, List, [], ◌∷◌, ◌++◌, Bool, true, false, list_any, In, Named, Row, name_equiv, Condition, Program, extended, Snapshot, Tuple, empty_tuple, row_of, in_map, of_map, has_name, rows_of}
 use Rattle.std.proofs.lemmas.Map.Views.{tells_apart}
 use Rattle.std.proofs.lemmas.Map.Lookups.{CmpEqualImpliesEq}
 use Rattle.std.specs.declared.cmp.Ordering.{Ordering}
 use Rattle.std.specs.Cmp.{IsEquivalence}
-use Rattle.std.specs.List.{list_any}
 use Rattle.std.specs.Ordering.{eq_by_cmp}
-use Rattle.fx_base.specs.Lists.{In}
-use Rattle.row_delta.specs.declared.row.Named.{Named}
-use Rattle.row_delta.specs.declared.row.Row.{Row}
-use Rattle.row_delta.specs.NameOrder.{name_cmp, name_equiv, name_exact}
+use Rattle.row_delta.specs.NameOrder.{name_cmp, name_exact}
 use Rattle.row_delta.specs.Rows.{row_cmp, has}
 use Rattle.row_delta.specs.RowOrder.{same_equiv, row_exact}
-use Rattle.rule_model.specs.declared.condition.Condition.{Condition}
-use Rattle.rule_model.specs.declared.program.Program.{Program}
-use Rattle.rule_model.specs.Rows.{extended, tuples, rows}
-use Rattle.rule_model.specs.Snapshots.{Snapshot}
-use Rattle.rule_model.specs.Tuples.{Tuple, empty_tuple, row_of}
+use Rattle.rule_model.specs.Rows.{tuples, rows}
 use Rattle.rule_model.proofs.Firsts.{or_left, or_right, or_split}
-use Rattle.rule_model.proofs.Listed.{in_map, of_map, in_flat_map, of_flat_map}
-use Rattle.pair_memory.specs.Joined.{has_name}
-use Rattle.condition_rows.specs.Sets.{rows_of}
+use Rattle.rule_model.proofs.Listed.{in_flat_map, of_flat_map}
 
 -- what is asked by an exact order stands in the list
 module _ {K : Type 0} (R : K → K → Ordering) (laws : IsEquivalence (eq_by_cmp R)) (exact : CmpEqualImpliesEq R) where

@@ -1,21 +1,11 @@
 -- What a snapshot holds under the tags of its facts.
-use Rattle.std.proofs.Common.{◌≡◌, ◌∙◌, sym, ap, refl, subst, ℕ, ◌==◌, arith, inl, inr, List, [], ◌∷◌, map, Bool, true, false, cond, Option, Some, None}
+use Rattle.condition_rows.proofs.Common.{◌≡◌, ◌∙◌, sym, ap, refl, subst, ℕ, ◌==◌, arith, inl, inr, List, [], ◌∷◌, map, Bool, true, false, cond, Option, Some, None, In, Fact, name_equiv, Named, Pattern, passes, HaveDistinctTags, Holds, Snapshot, Tuple, name_of, row_of, in_map, version_at, versions_at}
 use Rattle.std.specs.List.{find}
 use Rattle.std.specs.Option.{option_map, option_and_then}
 use Rattle.std.proofs.lemmas.Bool.Decides.{nat_tests}
-use Rattle.fx_base.specs.Lists.{In}
 use Rattle.fx_base.specs.declared.ids.Tag.{Tag}
-use Rattle.fx_base.specs.declared.fact.Fact.{Fact}
-use Rattle.row_delta.specs.NameOrder.{name_equiv}
-use Rattle.row_delta.specs.declared.row.Named.{Named}
-use Rattle.rule_model.specs.declared.condition.Pattern.{Pattern}
-use Rattle.rule_model.specs.Candidates.{passes}
-use Rattle.rule_model.specs.Distinct.{HaveDistinctTags}
-use Rattle.rule_model.specs.Lent.{Holds, tuple_of}
-use Rattle.rule_model.specs.Snapshots.{Snapshot}
-use Rattle.rule_model.specs.Tuples.{Tuple, name_of, row_of}
-use Rattle.rule_model.proofs.Listed.{in_map}
-use Rattle.join_tests.specs.Joins.{Look, is_version, version_at, versions_at, tuple_at, passes_given, joins}
+use Rattle.rule_model.specs.Lent.{tuple_of}
+use Rattle.join_tests.specs.Joins.{Look, is_version, tuple_at, passes_given, joins}
 use Rattle.join_tests.proofs.Versions.{version_is}
 use Rattle.condition_rows.specs.Sets.{held}
 

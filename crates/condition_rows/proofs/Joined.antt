@@ -1,28 +1,13 @@
 -- The line of a pattern.
-use Rattle.std.proofs.Common.{◌≡◌, ◌∙◌, sym, ap, refl, subst, List, [], ◌∷◌, ◌++◌, Bool, true, false, ◌&&◌, Option, Some, None}
+use Rattle.condition_rows.proofs.Common.{◌≡◌, ◌∙◌, sym, ap, refl, subst, List, [], ◌∷◌, ◌++◌, Bool, true, false, ◌&&◌, Option, Some, None, In, Fact, Named, Row, Condition, Plain, Pattern, Program, is_candidate, candidates, passes, passing, HaveDistinctTags, Holds, Snapshot, Tuple, empty_tuple, name_of, row_of, in_map, of_map, both, both_of, of_filter, version_at, joins, has_name, rows_of, held, line}
 use Rattle.std.proofs.lemmas.List.{map-append}
-use Rattle.fx_base.specs.Lists.{In}
-use Rattle.fx_base.specs.declared.fact.Fact.{Fact}
-use Rattle.row_delta.specs.declared.row.Named.{Named}
-use Rattle.row_delta.specs.declared.row.Row.{Row}
-use Rattle.rule_model.specs.declared.condition.Condition.{Condition}
-use Rattle.rule_model.specs.declared.condition.Condition.TheVariants.{Plain}
-use Rattle.rule_model.specs.declared.condition.Pattern.{Pattern}
-use Rattle.rule_model.specs.declared.program.Program.{Program}
-use Rattle.rule_model.specs.Candidates.{is_candidate, candidates, passes, passing}
-use Rattle.rule_model.specs.Distinct.{HaveDistinctTags}
-use Rattle.rule_model.specs.Lent.{Holds}
-use Rattle.rule_model.specs.Snapshots.{Snapshot}
-use Rattle.rule_model.specs.Tuples.{Tuple, empty_tuple, with_fact, name_of, row_of}
+use Rattle.rule_model.specs.Tuples.{with_fact}
 use Rattle.rule_model.proofs.Grown.{tuples_grow}
-use Rattle.rule_model.proofs.Listed.{in_map, of_map, both, both_of}
-use Rattle.rule_model.proofs.Named.{of_filter, of_passing, made_of}
+use Rattle.rule_model.proofs.Named.{of_passing, made_of}
 use Rattle.rule_model.proofs.Order.{in_filter, passed}
-use Rattle.join_tests.specs.Joins.{version_at, joins}
-use Rattle.pair_memory.specs.Joined.{with_name, joined, has_name}
+use Rattle.pair_memory.specs.Joined.{with_name, joined}
 use Rattle.pair_memory.proofs.Joining.{joined_with, joined_from}
-use Rattle.condition_rows.specs.Sets.{rows_of, held, is_candidate_given, candidates_of, candidate_names}
-use Rattle.condition_rows.specs.Lines.{line}
+use Rattle.condition_rows.specs.Sets.{is_candidate_given, candidates_of, candidate_names}
 use Rattle.condition_rows.proofs.Holding.{version_of, joins_of_tuple, held_fact, held_all, version_in}
 use Rattle.condition_rows.proofs.Ends.{in_name, name_in, same_truth, IsMade, tuple_of_row, row_of_tuple, split_end, with_end}
 

@@ -1,25 +1,12 @@
 -- The lines of the conditions that keep a row or drop it.
-use Rattle.std.proofs.Common.{◌≡◌, ◌∙◌, sym, ap, refl, ◌==◌, inl, inr, List, [], ◌∷◌, ◌++◌, map, length, cond, Bool, true, false, not, ◌&&◌, ◌||◌}
-use Rattle.std.specs.List.{filter, list_any}
-use Rattle.fx_base.specs.Lists.{In}
-use Rattle.row_delta.specs.declared.row.Row.{Row}
-use Rattle.rule_model.specs.declared.condition.Condition.{Condition}
-use Rattle.rule_model.specs.declared.condition.Condition.TheVariants.{Negated, Existing}
-use Rattle.rule_model.specs.declared.condition.Pattern.{Pattern}
-use Rattle.rule_model.specs.declared.program.Program.{Program}
-use Rattle.rule_model.specs.Candidates.{is_candidate, candidates, passes, passing}
-use Rattle.rule_model.specs.Distinct.{HaveDistinctTags}
+use Rattle.condition_rows.proofs.Common.{◌≡◌, ◌∙◌, sym, ap, refl, ◌==◌, inl, inr, List, [], ◌∷◌, ◌++◌, map, length, cond, Bool, true, false, not, ◌&&◌, ◌||◌, filter, list_any, In, Row, Condition, Negated, Existing, Pattern, Program, is_candidate, candidates, passes, passing, HaveDistinctTags, extended, Snapshot, Tuple, Bindings, empty_tuple, name_of, row_of, bound_by, in_if, both, both_of, of_filter, joins, rows_of, held, line}
 use Rattle.rule_model.specs.Lent.{bound_in}
 use Rattle.rule_model.specs.Maturity.{is_mature}
-use Rattle.rule_model.specs.Rows.{extended}
-use Rattle.rule_model.specs.Snapshots.{Snapshot, floor}
-use Rattle.rule_model.specs.Tuples.{Tuple, Bindings, empty_tuple, name_of, row_of, bound_by}
-use Rattle.rule_model.proofs.Listed.{in_if, of_if, in_unless, of_unless, not_empty, both, both_of}
-use Rattle.rule_model.proofs.Named.{of_filter}
+use Rattle.rule_model.specs.Snapshots.{floor}
+use Rattle.rule_model.proofs.Listed.{of_if, in_unless, of_unless, not_empty}
 use Rattle.rule_model.proofs.Naming.{bound_named}
-use Rattle.join_tests.specs.Joins.{joins}
-use Rattle.condition_rows.specs.Sets.{rows_of, held, has_partner}
-use Rattle.condition_rows.specs.Lines.{is_ripe, line}
+use Rattle.condition_rows.specs.Sets.{has_partner}
+use Rattle.condition_rows.specs.Lines.{is_ripe}
 use Rattle.condition_rows.proofs.Ends.{same_truth, IsMade, tuple_of_row, row_of_tuple, split_end, with_end}
 use Rattle.condition_rows.proofs.Joined.{made_facts, joins_made}
 

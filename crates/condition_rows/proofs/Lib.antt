@@ -1,3 +1,4 @@
+mod Common
 pub mod Holding
 pub mod Ends
 pub mod Joined

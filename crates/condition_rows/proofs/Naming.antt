@@ -1,13 +1,6 @@
 -- What the rows of conditions name.
-use Rattle.std.proofs.Common.{◌≡◌, ap, subst, List, true}
+use Rattle.condition_rows.proofs.Common.{◌≡◌, ap, subst, List, true, Row, Condition, Program, HaveDistinctTags, Snapshot, versions_at, held, rows_of}
 use Rattle.std.specs.Option.{is_some}
-use Rattle.row_delta.specs.declared.row.Row.{Row}
-use Rattle.rule_model.specs.declared.condition.Condition.{Condition}
-use Rattle.rule_model.specs.declared.program.Program.{Program}
-use Rattle.rule_model.specs.Distinct.{HaveDistinctTags}
-use Rattle.rule_model.specs.Snapshots.{Snapshot}
-use Rattle.join_tests.specs.Joins.{versions_at}
-use Rattle.condition_rows.specs.Sets.{held, rows_of}
 use Rattle.condition_rows.specs.Looks.{NameHeld}
 use Rattle.condition_rows.proofs.Holding.{versions_of}
 use Rattle.condition_rows.proofs.Ends.{tuple_of_row}

@@ -1,29 +1,17 @@
 -- The line of an accumulate.
-use Rattle.std.proofs.Common.{◌≡◌, ◌∙◌, sym, ap, refl, subst, ℤ, inl, inr, List, [], ◌∷◌, ◌++◌, cond, Bool, true, false, ◌&&◌, Option, Some, None}
-use Rattle.std.specs.List.{filter}
+use Rattle.condition_rows.proofs.Common.{◌≡◌, ◌∙◌, sym, ap, refl, subst, ℤ, inl, inr, List, [], ◌∷◌, ◌++◌, cond, Bool, true, false, ◌&&◌, Option, Some, None, filter, In, Fact, Row, Condition, Folded, Program, is_candidate, candidates, passes, passing, HaveDistinctTags, Snapshot, Tuple, Bindings, empty_tuple, name_of, row_of, bound_by, in_if, both, both_of, of_filter, joins, rows_of, held, line}
 use Rattle.std.specs.Ordering.{int_eq}
 use Rattle.std.proofs.lemmas.Cmp.{int_eq_equiv}
 use Rattle.std.proofs.lemmas.Bool.Decides.{Decides-int_eq}
-use Rattle.fx_base.specs.Lists.{In}
-use Rattle.fx_base.specs.declared.fact.Fact.{Fact}
-use Rattle.row_delta.specs.declared.row.Row.{Row}
 use Rattle.rule_model.specs.declared.condition.Accumulate.{Accumulate}
-use Rattle.rule_model.specs.declared.condition.Condition.{Condition}
-use Rattle.rule_model.specs.declared.condition.Condition.TheVariants.{Folded}
-use Rattle.rule_model.specs.declared.program.Program.{Program}
-use Rattle.rule_model.specs.Candidates.{is_candidate, candidates, passes, passing}
-use Rattle.rule_model.specs.Distinct.{HaveDistinctTags}
 use Rattle.rule_model.specs.Rows.{result_of, with_result}
-use Rattle.rule_model.specs.Snapshots.{Snapshot}
 use Rattle.rule_model.specs.Tests.{results_hold}
-use Rattle.rule_model.specs.Tuples.{Tuple, Bindings, empty_tuple, with_value, name_of, row_of, bound_by}
-use Rattle.rule_model.proofs.Listed.{in_if, of_result, both, both_of}
-use Rattle.rule_model.proofs.Named.{of_filter}
-use Rattle.join_tests.specs.Joins.{joins}
+use Rattle.rule_model.specs.Tuples.{with_value}
+use Rattle.rule_model.proofs.Listed.{of_result}
 use Rattle.pair_memory.specs.Valued.{with_value as with_last_value, valued}
 use Rattle.pair_memory.proofs.Valued.{valued_with, valued_from}
-use Rattle.condition_rows.specs.Sets.{rows_of, held, partners}
-use Rattle.condition_rows.specs.Lines.{is_result, gives, line}
+use Rattle.condition_rows.specs.Sets.{partners}
+use Rattle.condition_rows.specs.Lines.{is_result, gives}
 use Rattle.condition_rows.proofs.Ends.{same_truth, IsMade, tuple_of_row, row_of_tuple, split_end, with_end}
 use Rattle.condition_rows.proofs.Joined.{joins_made}
 use Rattle.condition_rows.proofs.Kept.{bound_made}

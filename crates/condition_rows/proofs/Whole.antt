@@ -1,18 +1,10 @@
 -- The lines of all kinds of conditions, and of conditions one after the other.
-use Rattle.std.proofs.Common.{◌≡◌, ◌∙◌, ◌↔◌, sym, ap, refl, List, [], ◌∷◌, ◌++◌, Bool, true, false, ◌||◌}
+use Rattle.condition_rows.proofs.Common.{◌≡◌, ◌∙◌, ◌↔◌, sym, ap, refl, List, [], ◌∷◌, ◌++◌, Bool, true, false, ◌||◌, In, Row, Condition, Plain, Negated, Existing, Folded, Program, HaveDistinctTags, Snapshot, rows_of, line}
 use mathlib.Core.Path.{fun_ext}
 use Rattle.std.specs.List.{fold}
 use Rattle.std.proofs.lemmas.List.{append-nil, append_assoc}
-use Rattle.fx_base.specs.Lists.{In}
-use Rattle.row_delta.specs.declared.row.Row.{Row}
-use Rattle.rule_model.specs.declared.condition.Condition.{Condition}
-use Rattle.rule_model.specs.declared.condition.Condition.TheVariants.{Plain, Negated, Existing, Folded}
-use Rattle.rule_model.specs.declared.program.Program.{Program}
-use Rattle.rule_model.specs.Distinct.{HaveDistinctTags}
 use Rattle.rule_model.specs.Rows.{rows}
-use Rattle.rule_model.specs.Snapshots.{Snapshot}
-use Rattle.condition_rows.specs.Sets.{rows_of}
-use Rattle.condition_rows.specs.Lines.{line, is_empty_row, lines}
+use Rattle.condition_rows.specs.Lines.{is_empty_row, lines}
 use Rattle.condition_rows.proofs.Ends.{in_has, has_in}
 use Rattle.condition_rows.proofs.Joined.{plain_line}
 use Rattle.condition_rows.proofs.Kept.{negated_line, existing_line}

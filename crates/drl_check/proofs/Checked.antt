@@ -1,16 +1,7 @@
 -- What an answer that is the checked one tells.
-use Rattle.std.proofs.Common.{◌≡◌, ℕ, Option, Some, None, Result, Ok, Err, refl, sym, ap, subst, ◌∙◌, IfOk}
-use Rattle.std.specs.List.{All}
-use Rattle.drl_grammar.specs.declared.file.File.{File}
-use Rattle.rule_model.specs.declared.program.Program.{Program}
-use Rattle.rule_model.specs.declared.program.Rule.{Rule}
-use Rattle.rule_world.specs.Programs.{IsRunnable}
-use Rattle.rule_lives.specs.Networks.{IsSolvable}
-use Rattle.drl_check.specs.declared.fault.CheckCode.{CheckCode}
+use Rattle.drl_check.proofs.Common.{◌≡◌, ℕ, Option, Some, None, Result, Ok, Err, refl, sym, ap, subst, ◌∙◌, IfOk, All, File, Program, Rule, IsRunnable, IsSolvable, CheckCode, Refused, Failure, failure_of, IsAcceptedFile, IsFirstFailure, program_of}
 use Rattle.drl_check.specs.declared.fault.CheckFault.{CheckFault}
-use Rattle.drl_check.specs.declared.fault.CheckFault.TheVariants.{Refused, NoMemory}
-use Rattle.drl_check.specs.Checks.{Failure, failure_of, IsAcceptedFile, IsFirstFailure}
-use Rattle.drl_program.specs.Programs.{program_of}
+use Rattle.drl_check.specs.declared.fault.CheckFault.TheVariants.{NoMemory}
 use Rattle.drl_check.specs.Outcomes.{checked_by, checked}
 use Rattle.drl_check.specs.Answers.{within_32_bits, fault_of, Gives}
 use Rattle.drl_check.proofs.Exact.{exact_none, is_first_failure}

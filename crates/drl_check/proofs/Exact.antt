@@ -1,13 +1,8 @@
 -- The first failure as a function is the first failure as a relation.
-use Rattle.std.proofs.Common.{◌≡◌, ◌↔◌, inl, inr, ◌+◌, ◌++◌, ◌∷◌, ℕ, Bool, true, false, List, [], length, Option, Some, None, cond, refl, sym, ap, subst, ◌∙◌, append_assoc, length-append, arith}
-use Rattle.std.proofs.lemmas.List.{append-nil}
+use Rattle.drl_check.proofs.Common.{◌≡◌, ◌↔◌, inl, inr, ◌+◌, ◌++◌, ◌∷◌, ℕ, Bool, true, false, List, [], length, Option, Some, None, cond, refl, sym, ap, subst, ◌∙◌, append_assoc, length-append, arith, append-nil, Body, File, Item, CheckCode, TwiceDeclared, LimitPassed, UnknownType, UnknownVariable, WrongKind, NotAnEvent, BadReference, EventFixed, BadParams, NeverMatches, Failure, codes_in_order, fails, first_code, AllPass, IsAcceptedFile, IsFirstFailure, failure_at, failure_of}
 use Rattle.std.proofs.lemmas.Option.{same_Some}
-use Rattle.drl_grammar.specs.declared.file.Body.{Body}
-use Rattle.drl_grammar.specs.declared.file.File.{File}
-use Rattle.drl_grammar.specs.declared.file.Item.{Item}
-use Rattle.drl_check.specs.declared.fault.CheckCode.{CheckCode}
-use Rattle.drl_check.specs.declared.fault.CheckCode.TheVariants.{TwiceDeclared, LimitPassed, UnknownType, UnknownField, UnknownVariable, WrongKind, NotAnEvent, BadTimestamp, BadReference, EventFixed, EventObserved, ReferenceFixed, BadParams, NeverMatches}
-use Rattle.drl_check.specs.Checks.{Failure, codes_in_order, fails, first_code, FailsFirst, Passes, AllPass, IsAcceptedFile, IsFirstFailure, failure_at, failure_from, failure_of}
+use Rattle.drl_check.specs.declared.fault.CheckCode.TheVariants.{UnknownField, BadTimestamp, EventObserved, ReferenceFixed}
+use Rattle.drl_check.specs.Checks.{FailsFirst, Passes, failure_from}
 
 -- ---- codes
 

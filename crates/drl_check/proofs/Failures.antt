@@ -1,19 +1,10 @@
 -- The first failure of a list of items, read from its front.
-use Rattle.std.proofs.Common.{◌≡◌, ◌+◌, ◌++◌, ◌∷◌, ◌<◌, ◌≤◌, ℕ, zero, suc, List, [], length, get_or, take, drop, Some, None, refl, sym, ap, ◌∙◌, append_assoc, add-one, drop-cons, arith}
-use Rattle.std.specs.List.{flat_map}
-use Rattle.std.proofs.lemmas.List.{append-nil, length-map, length-take-le, map-append}
-use Rattle.drl_grammar.specs.declared.file.Body.{Body}
-use Rattle.drl_grammar.specs.declared.file.Item.{Item}
-use Rattle.drl_grammar.specs.declared.file.TypeTree.{TypeTree}
-use Rattle.drl_grammar.specs.declared.file.RuleTree.{RuleTree}
-use Rattle.rule_model.specs.declared.program.Program.{Program}
-use Rattle.drl_check.specs.declared.fault.CheckCode.{CheckCode}
-use Rattle.drl_sight.specs.Declarations.{types_of, rules_of, type_in, rule_in, type_names, rule_names}
+use Rattle.drl_check.proofs.Common.{◌≡◌, ◌+◌, ◌++◌, ◌∷◌, ◌<◌, ◌≤◌, ℕ, zero, suc, List, [], length, get_or, take, drop, Some, None, refl, sym, ap, ◌∙◌, append_assoc, add-one, drop-cons, arith, flat_map, append-nil, length-map, map-append, Body, Item, TypeTree, RuleTree, Program, CheckCode, types_of, rules_of, type_in, rule_in, type_names, rule_names, entries_named, declared_entries, default_name, entry_names, types_alone, Failure, codes_in_order, first_code, failure_at}
+use Rattle.std.proofs.lemmas.List.{length-take-le}
 use Rattle.drl_sight.specs.Observed.{watched_names}
-use Rattle.drl_sight.specs.EntryPoints.{entries_named, entries_declared, declared_entries, default_name, with_names, entry_names}
+use Rattle.drl_sight.specs.EntryPoints.{entries_declared, with_names}
 use Rattle.drl_sight.proofs.EntryLemmas.{with_both}
-use Rattle.drl_program.specs.Programs.{types_alone}
-use Rattle.drl_check.specs.Checks.{Failure, codes_in_order, first_code, failure_at, failure_from}
+use Rattle.drl_check.specs.Checks.{failure_from}
 use Rattle.drl_check.specs.Failing.{first_failing}
 use Rattle.drl_check.proofs.Alone.{same_alone}
 

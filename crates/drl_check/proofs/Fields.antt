@@ -1,19 +1,10 @@
 -- Each field of a type of an accepted file stands once, so that an insert takes a value for each.
-use Rattle.std.proofs.Common.{◌≡◌, ◌++◌, ◌∷◌, ◌||◌, ℕ, zero, suc, Bool, true, false, not, List, [], map, slice_get, Some, refl, sym, ap, subst, ◌∙◌}
-use Rattle.std.specs.List.{list_all, filter}
-use Rattle.std.specs.Str.{bytes_eq}
+use Rattle.drl_check.proofs.Common.{◌≡◌, ◌++◌, ◌∷◌, ◌||◌, ℕ, zero, suc, Bool, true, false, not, List, [], map, slice_get, Some, refl, sym, ap, subst, ◌∙◌, list_all, bytes_eq, Body, Item, TypeTree, types_of, rules_of, type_in, type_names, rule_names, field_names, declared_entries, is_among, word_kind, taken_by, TwiceDeclared, AllPass, meta_word, is_repeated}
+use Rattle.std.specs.List.{filter}
 use Rattle.std.specs.Cmp.Lexicographic.{bytes_decides}
-use Rattle.drl_grammar.specs.declared.file.Body.{Body}
 use Rattle.drl_grammar.specs.declared.file.Body.TheVariants as body
-use Rattle.drl_grammar.specs.declared.file.Item.{Item}
-use Rattle.drl_grammar.specs.declared.file.TypeTree.{TypeTree}
-use Rattle.drl_sight.specs.Declarations.{types_of, rules_of, type_in, type_names, rule_names, field_names}
-use Rattle.drl_sight.specs.EntryPoints.{declared_entries}
-use Rattle.drl_sight.specs.Names.{is_among, are_distinct}
-use Rattle.drl_uses.specs.Kinds.{fields_once, word_kind, taken_by}
-use Rattle.drl_check.specs.declared.fault.CheckCode.TheVariants.{TwiceDeclared}
-use Rattle.drl_check.specs.Checks.{AllPass}
-use Rattle.drl_check.specs.Twice.{meta_word, is_repeated}
+use Rattle.drl_sight.specs.Names.{are_distinct}
+use Rattle.drl_uses.specs.Kinds.{fields_once}
 use Rattle.drl_check.proofs.Sound.{and_left, and_right, both, or_left, or_right}
 
 -- ---- names

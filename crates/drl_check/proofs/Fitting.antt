@@ -1,21 +1,14 @@
 -- The expressions of an action have in the program the kinds that the checks find.
-use Rattle.std.proofs.Common.{◌≡◌, ◌≤◌, ◌∷◌, ◌&&◌, ℕ, min, Bool, true, false, List, [], map, length, slice_get, Option, Some, None, option_map, refl, ap, ◌∙◌, arith}
-use Rattle.std.specs.List.{list_all, list_any}
-use Rattle.std.specs.Option.{option_and_then}
-use Rattle.std.proofs.lemmas.Option.{slice_get-map, slice_get_within}
+use Rattle.drl_check.proofs.Common.{◌≡◌, ◌≤◌, ◌∷◌, ◌&&◌, ℕ, min, Bool, true, false, List, [], map, length, slice_get, Option, Some, None, option_map, refl, ap, ◌∙◌, arith, list_all, list_any, option_and_then, slice_get-map, slice_get_within, Tree, TypeTree, Expression, fields_in, bound_fields, expression_kind, set_of_kind, place_of, field_names, kind_at, Meaning, of_fact, of_field, of_result, Sight, meaning_of, type_info, expression_in, set_in, word_kind}
 use Rattle.fx_base.specs.declared.kind.Kind.{Kind}
 use Rattle.fx_base.specs.declared.kind.Kind.TheVariants as kind
 use Rattle.drl_expr.specs.declared.literal.LitTree.TheVariants as literal
-use Rattle.drl_expr.specs.Tree.{Tree, lit, var, var_field, neg, add, sub, mul}
-use Rattle.drl_grammar.specs.declared.file.TypeTree.{TypeTree}
-use Rattle.rule_model.specs.Expressions.{Expression}
-use Rattle.rule_world.specs.Typed.{is_kind, fields_in, bound_fields, kind_in, expression_kind, args_fit, set_of_kind}
-use Rattle.drl_sight.specs.Names.{place_of}
-use Rattle.drl_sight.specs.Declarations.{field_names, kind_of, kind_at}
+use Rattle.drl_expr.specs.Tree.{lit, var, var_field, neg, add, sub, mul}
+use Rattle.rule_world.specs.Typed.{is_kind, kind_in, args_fit}
+use Rattle.drl_sight.specs.Declarations.{kind_of}
 use Rattle.drl_sight.specs.Meanings.{field_kind, variable_kind, variable_field_kind}
-use Rattle.drl_sight.specs.Sight.{Meaning, of_fact, of_field, of_result, Sight, meaning_of}
-use Rattle.drl_program.specs.Programs.{small_place, field_place, kind_or_int, field_info, type_info, variable_value, variable_field_value, expression_in, set_in}
-use Rattle.drl_uses.specs.Kinds.{is_number, number_where, tree_kind, set_misfits, word_kind, args_misfit}
+use Rattle.drl_program.specs.Programs.{small_place, field_place, kind_or_int, field_info, variable_value, variable_field_value}
+use Rattle.drl_uses.specs.Kinds.{is_number, number_where, tree_kind, set_misfits, args_misfit}
 use Rattle.drl_check.proofs.Sound.{both, or_left, or_right}
 use Rattle.drl_check.proofs.Places.{type_taken, Stands, got, taken_of}
 

@@ -1,3 +1,4 @@
+mod Common
 pub mod Alone
 pub mod Failures
 pub mod Exact

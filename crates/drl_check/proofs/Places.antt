@@ -1,22 +1,11 @@
 -- What a variable means is a fact that the conditions of the program bind, or a field of such a fact.
-use Rattle.std.proofs.Common.{◌≡◌, ◌≤◌, ◌++◌, ◌∷◌, ℕ, zero, suc, min, Bool, true, false, List, [], length, slice_get, Option, Some, None, cond, refl, sym, ap, subst, ◌∙◌, append_assoc, append-nil, length-append, arith}
-use Rattle.std.specs.List.{flat_map}
-use Rattle.std.specs.Option.{option_and_then}
-use Rattle.std.specs.Str.{bytes_eq}
-use Rattle.std.proofs.lemmas.Option.{slice_get_within}
-use Rattle.drl_grammar.specs.declared.condition.CondTree.{CondTree}
+use Rattle.drl_check.proofs.Common.{◌≡◌, ◌≤◌, ◌++◌, ◌∷◌, ℕ, zero, suc, min, Bool, true, false, List, [], length, slice_get, Option, Some, None, cond, refl, sym, ap, subst, ◌∙◌, append_assoc, length-append, arith, flat_map, option_and_then, bytes_eq, slice_get_within, CondTree, Part, SourceTree, TypeTree, Condition, bound_types, place_of, type_names, type_named, field_names, kind_at, Meaning, of_fact, of_field, of_result, Sight, seen_fact, seen_field, seen_in, seen_of, seen_result, Place, begin, behind, sight_of_actions, type_place, condition_of}
+use Rattle.std.proofs.Common.{append-nil}
 use Rattle.drl_grammar.specs.declared.condition.CondTree.TheVariants as tree
-use Rattle.drl_grammar.specs.declared.condition.Part.{Part}
 use Rattle.drl_grammar.specs.declared.condition.Part.TheVariants as part
-use Rattle.drl_grammar.specs.declared.condition.SourceTree.{SourceTree}
-use Rattle.drl_grammar.specs.declared.file.TypeTree.{TypeTree}
-use Rattle.rule_model.specs.declared.condition.Condition.{Condition}
 use Rattle.rule_model.specs.declared.condition.Condition.TheVariants.{Plain, Negated, Existing, Folded}
-use Rattle.rule_world.specs.Typed.{bound_types}
-use Rattle.drl_sight.specs.Names.{place_of}
-use Rattle.drl_sight.specs.Declarations.{type_names, type_named, field_names, kind_at}
-use Rattle.drl_sight.specs.Sight.{Meaning, of_fact, of_field, of_result, Sight, meaning_of, seen_fact, seen_field, seen_in, seen_of, seen_result, Place, begin, behind, behind_all, sight_of_actions}
-use Rattle.drl_program.specs.Programs.{type_place, condition_of, conditions_of}
+use Rattle.drl_sight.specs.Sight.{meaning_of, behind_all}
+use Rattle.drl_program.specs.Programs.{conditions_of}
 
 -- the type of the fact of this number, given the places of the types of the facts that are bound
 abbrev pub type_taken : List TypeTree → List ℕ → ℕ → Option TypeTree

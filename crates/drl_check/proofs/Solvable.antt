@@ -1,34 +1,10 @@
 -- What earlier checks have told of a rule's network, and what an accepted file's rules have.
-use Rattle.std.proofs.Common.{◌≡◌, ◌≤◌, ◌++◌, ◌∷◌, ◌&&◌, ℕ, Bool, true, false, not, nat_le, nat_lt, length, List, [], map, ap, arith}
+use Rattle.drl_check.proofs.Common.{◌≡◌, ◌≤◌, ◌++◌, ◌∷◌, ◌&&◌, ℕ, Bool, true, false, not, nat_le, nat_lt, length, List, [], map, ap, arith, All, list_all, map-append, All-nil, All-cons, All-same, Body, File, Item, RuleTree, TypeTree, Program, Rule, IsSolvable, types_of, rules_of, rule_in, entry_names, is_short, begin, rule_within, condition_within, actions_within, attr_within, has_few_entries, exceeds_limit_behind, conditions_of, program_of, rule_of, each_has_operator, one_for_each, any_condition, has_unknown_type, has_unknown_variable, has_wrong_kind, CheckCode, LimitPassed, UnknownType, UnknownVariable, WrongKind, NeverMatches, lacks_type, lacks_variable, is_wrong_kind, fails, AllPass, IsAcceptedFile}
 use Rattle.std.specs.Bool.{Decides}
-use Rattle.std.specs.List.{All, list_all}
-use Rattle.std.proofs.lemmas.List.{map-append}
-use Rattle.std.proofs.lemmas.List.Elements.{All-nil, All-cons, All-same}
-use Rattle.drl_grammar.specs.declared.file.Body.{Body}
 use Rattle.drl_grammar.specs.declared.file.Body.TheVariants as body
-use Rattle.drl_grammar.specs.declared.file.File.{File}
-use Rattle.drl_grammar.specs.declared.file.Item.{Item}
-use Rattle.drl_grammar.specs.declared.file.RuleTree.{RuleTree}
-use Rattle.drl_grammar.specs.declared.file.TypeTree.{TypeTree}
-use Rattle.rule_model.specs.declared.program.Program.{Program}
-use Rattle.rule_model.specs.declared.program.Rule.{Rule}
-use Rattle.rule_lives.specs.Networks.{IsSolvable}
 use Rattle.life_edges.specs.Edges.{HaveNetwork}
 use Rattle.expiry_infer.specs.Solvable.{can_match}
 use Rattle.expiry_infer.proofs.Matching.{can_match_is_exact}
-use Rattle.drl_sight.specs.Declarations.{types_of, rules_of, rule_in}
-use Rattle.drl_sight.specs.EntryPoints.{entry_names}
-use Rattle.drl_sight.specs.Names.{is_short}
-use Rattle.drl_sight.specs.Sight.{begin}
-use Rattle.drl_limits.specs.Limits.{rule_within, condition_within, actions_within, attr_within, has_few_entries, exceeds_limit_behind}
-use Rattle.drl_program.specs.Programs.{conditions_of, program_of, rule_of}
-use Rattle.drl_program.proofs.Timed.{each_has_operator}
-use Rattle.drl_program.proofs.Flagged.{one_for_each}
-use Rattle.drl_uses.specs.Uses.{any_condition, has_unknown_type, has_unknown_variable}
-use Rattle.drl_uses.specs.Kinds.{has_wrong_kind}
-use Rattle.drl_check.specs.declared.fault.CheckCode.{CheckCode}
-use Rattle.drl_check.specs.declared.fault.CheckCode.TheVariants.{LimitPassed, UnknownType, UnknownVariable, WrongKind, NeverMatches}
-use Rattle.drl_check.specs.Checks.{lacks_type, lacks_variable, is_wrong_kind, fails, AllPass, IsAcceptedFile}
 use Rattle.drl_check.specs.Solvable.{HasFewConditions, HasNetwork}
 use Rattle.drl_check.proofs.Named.{rule_named}
 use Rattle.drl_check.proofs.Sound.{and_left, and_right, not_and_right, or_left, within}

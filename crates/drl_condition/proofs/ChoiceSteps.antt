@@ -1,15 +1,8 @@
 -- The steps of reading what a rule asks for, as the code takes them: pieces behind those that are read already.
-use Rattle.std.proofs.Common.{◌≡◌, ℕ, zero, suc, ◌-◌, ◌+◌, ◌<◌, ◌≤◌, true, false, List, [], ◌∷◌, ◌++◌, length, Some, None, refl, sym, ap, ◌∙◌, append_assoc, arith}
-use Rattle.std.specs.Prelude.{codes}
-use Rattle.drl_lex.specs.declared.token.TokenKind.{TokenKind}
-use Rattle.drl_expr.specs.Exact.{Read}
-use Rattle.drl_grammar.specs.declared.condition.CondTree.{CondTree}
-use Rattle.drl_grammar.specs.declared.written.Piece.{Piece}
-use Rattle.drl_grammar.specs.declared.written.Piece.TheVariants.{One, Open, Or, Close}
+use Rattle.drl_condition.proofs.Common.{◌≡◌, ℕ, zero, suc, ◌-◌, ◌+◌, ◌<◌, ◌≤◌, true, false, List, [], ◌∷◌, ◌++◌, length, Some, None, refl, sym, ap, ◌∙◌, append_assoc, arith, codes, TokenKind, Read, CondTree, Piece, One, Open, Or, Close, ◌>>=◌, with_front, condition_at, Reader}
 use Rattle.drl_phrase.specs.declared.phrase.Punctuation.TheVariants as p
-use Rattle.drl_phrase.specs.Reading.{◌>>=◌, after, after_word, closed, with_front}
-use Rattle.drl_condition.specs.Reading.{condition_at}
-use Rattle.drl_condition.specs.Choices.{Reader, ends_all, all_turns, all_at, any_turns, any_at, alternatives_at, after_open, choice_at}
+use Rattle.drl_phrase.specs.Reading.{after, after_word, closed}
+use Rattle.drl_condition.specs.Choices.{ends_all, all_turns, all_at, any_turns, any_at, alternatives_at, after_open, choice_at}
 
 -- pieces behind others
 regrouped : (xs ys : List Piece) (o : Read (List Piece)) → with_front xs (with_front ys o) ≡ with_front (xs ++ ys) o

@@ -1,23 +1,13 @@
 -- Conditions are read exactly.
-use Rattle.std.proofs.Common.{◌≡◌, ℕ, ◌<◌, ◌≤◌, Bool, true, false, cond, List, [], ◌∷◌, length, Option, Some, None, refl, arith}
-use Rattle.std.specs.Prelude.{codes}
-use Rattle.std.specs.Str.{bytes_eq}
-use Rattle.drl_lex.specs.declared.token.TokenKind.{TokenKind}
-use Rattle.drl_lex.specs.declared.token.TokenKind.TheVariants.{Word, Var, Mark}
-use Rattle.drl_lex.specs.declared.token.Mark.TheVariants.{OpenParenthesis, Colon}
-use Rattle.drl_expr.specs.Exact.{Read, Found}
+use Rattle.drl_condition.proofs.Common.{◌≡◌, ℕ, ◌<◌, ◌≤◌, Bool, true, false, cond, List, [], ◌∷◌, length, Option, Some, None, refl, arith, codes, bytes_eq, TokenKind, Word, Var, Mark, OpenParenthesis, Colon, Read, Found, SourceTree, CondTree, IsBinding, IsSource, IsGroup, IsFolded, IsCondition, binds, Exact, then, same_bytes, source_at}
 use Rattle.drl_expr.specs.Words.{is_ident}
-use Rattle.drl_grammar.specs.declared.condition.SourceTree.{SourceTree}
-use Rattle.drl_grammar.specs.declared.condition.CondTree.{CondTree}
 use Rattle.drl_grammar.specs.Conditions as g
-use Rattle.drl_grammar.specs.Conditions.{IsBinding, IsSource, IsGroup, IsFolded, IsCondition}
-use Rattle.drl_phrase.specs.Exact.{binds, Exact}
-use Rattle.drl_phrase.proofs.ShapeLaws.{then, same_bytes, Begins}
+use Rattle.drl_phrase.proofs.ShapeLaws.{Begins}
 use Rattle.drl_phrase.proofs.Carried.{ident_binds}
 use Rattle.drl_condition.specs.declared.words.Form.{Form}
 use Rattle.drl_condition.specs.declared.words.Form.TheVariants as form
 use Rattle.drl_condition.specs.Words.{word_form}
-use Rattle.drl_condition.specs.Reading.{source_at, group_at, number_at, accumulate_at, form_at, formed_at, condition_at}
+use Rattle.drl_condition.specs.Reading.{group_at, number_at, accumulate_at, form_at, formed_at, condition_at}
 use Rattle.drl_condition.proofs.WordLaws.{ident_differs, name_form}
 use Rattle.drl_condition.proofs.PatternLaws.{source_exact, group_exact}
 use Rattle.drl_condition.proofs.FoldLaws.{number_sound, number_again, accumulate_sound, accumulate_again, folded_shorter}

@@ -1,3 +1,4 @@
+mod Common
 pub mod WordLaws
 pub mod ValueLaws
 pub mod PartLaws

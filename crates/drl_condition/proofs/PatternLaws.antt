@@ -1,23 +1,13 @@
 -- Patterns with their windows and entry points are read exactly.
-use Rattle.std.proofs.Common.{◌≡◌, ◌&&◌, ℕ, ◌<◌, ◌≤◌, List, ◌∷◌, length, Option, Some, None, refl, arith}
-use Rattle.std.specs.Prelude.{codes}
-use Rattle.std.specs.Str.{bytes_eq}
-use Rattle.drl_lex.specs.declared.token.TokenKind.{TokenKind}
-use Rattle.drl_lex.specs.declared.token.TokenKind.TheVariants.{Word, Var, Number, Mark}
-use Rattle.drl_lex.specs.declared.token.Mark.TheVariants.{OpenParenthesis, CloseParenthesis, Colon, Minus}
-use Rattle.drl_expr.specs.Exact.{Found}
+use Rattle.drl_condition.proofs.Common.{◌≡◌, ◌&&◌, ℕ, ◌<◌, ◌≤◌, List, ◌∷◌, length, Option, Some, None, refl, arith, codes, bytes_eq, TokenKind, Word, Var, Number, Mark, OpenParenthesis, CloseParenthesis, Colon, Minus, Found, SourceTree, Listed, IsSpan, IsPart, IsBinding, IsSource, IsGroup, binds, Exact, listed_at, span_at, then, if_some_then, guarded, ident_then, ident_is, same_bytes, closed_then, span_exact, WindowWord, TimeWord, LengthWord}
 use Rattle.drl_grammar.specs.declared.condition.WindowTree.{WindowTree}
-use Rattle.drl_grammar.specs.declared.condition.SourceTree.{SourceTree}
-use Rattle.drl_grammar.specs.Shapes.{Maybe, left_out, written, Listed}
+use Rattle.drl_grammar.specs.Shapes.{Maybe, left_out, written}
 use Rattle.drl_grammar.specs.Conditions as g
-use Rattle.drl_grammar.specs.Conditions.{IsSpan, IsName, IsPart, IsWindow, IsPlace, IsBinding, IsSource, IsGroup}
+use Rattle.drl_grammar.specs.Conditions.{IsName, IsWindow, IsPlace}
 use Rattle.drl_phrase.specs.declared.phrase.Punctuation.TheVariants as p
-use Rattle.drl_phrase.specs.Exact.{binds, Exact}
-use Rattle.drl_phrase.specs.Reading.{closed, after, listed_at, maybe_at, span_at, name_at}
-use Rattle.drl_phrase.proofs.ShapeLaws.{then, if_some_then, guarded, ident_then, ident_is, same_bytes, closed_then, maybe_sound, maybe_again, maybe_shorter}
-use Rattle.drl_phrase.proofs.NameLaws.{span_exact, name_exact}
-use Rattle.drl_condition.specs.declared.words.WindowWord.{WindowWord}
-use Rattle.drl_condition.specs.declared.words.WindowWord.TheVariants.{TimeWord, LengthWord}
+use Rattle.drl_phrase.specs.Reading.{closed, after, maybe_at, name_at}
+use Rattle.drl_phrase.proofs.ShapeLaws.{maybe_sound, maybe_again, maybe_shorter}
+use Rattle.drl_phrase.proofs.NameLaws.{name_exact}
 use Rattle.drl_condition.specs.Words.{window_word}
 use Rattle.drl_condition.specs.Reading.{part_at, extent_at, window_at, place_at, binding_at, pattern_at, source_at, group_at}
 use Rattle.drl_condition.proofs.WordLaws.{window_text, window_sound, window_again, word_differs, both}

@@ -1,21 +1,10 @@
 -- The words with a meaning of their own, and the words that are names.
-use Rattle.std.proofs.Common.{◌≡◌, ◌&&◌, ℕ, ◌≤◌, Bool, true, false, cond, List, ◌∷◌, Option, Some, refl, subst, arith}
-use Rattle.std.specs.Prelude.{IfSome, codes}
-use Rattle.std.specs.Str.{bytes_eq}
-use Rattle.temporal_ops.specs.declared.word.OpWord.{OpWord}
+use Rattle.drl_condition.proofs.Common.{◌≡◌, ◌&&◌, ℕ, ◌≤◌, Bool, true, false, cond, List, ◌∷◌, Option, Some, refl, subst, arith, IfSome, codes, bytes_eq, OpWord, TokenKind, Word, IsIdent, FoldWord, op_text, fold_text, result_text, binds, same_bytes, WindowWord, TimeWord, LengthWord}
 use Rattle.temporal_ops.specs.declared.word.OpWord.TheVariants.{After, Before, Coincides, During, Includes, Finishes, FinishedBy, Starts, StartedBy, Meets, MetBy, Overlaps, OverlappedBy}
-use Rattle.drl_lex.specs.declared.token.TokenKind.{TokenKind}
-use Rattle.drl_lex.specs.declared.token.TokenKind.TheVariants.{Word}
-use Rattle.drl_expr.specs.Words.{is_ident, IsIdent}
-use Rattle.drl_grammar.specs.declared.condition.FoldWord.{FoldWord}
+use Rattle.drl_expr.specs.Words.{is_ident}
 use Rattle.drl_grammar.specs.declared.condition.FoldWord.TheVariants.{Count, Sum, Min, Max, Average}
 use Rattle.drl_grammar.specs.declared.condition.ResultWord.{ResultWord}
 use Rattle.drl_grammar.specs.declared.condition.ResultWord.TheVariants.{LongValue, IntValue}
-use Rattle.drl_grammar.specs.Conditions.{op_text, fold_text, result_text}
-use Rattle.drl_phrase.specs.Exact.{binds}
-use Rattle.drl_phrase.proofs.ShapeLaws.{same_bytes}
-use Rattle.drl_condition.specs.declared.words.WindowWord.{WindowWord}
-use Rattle.drl_condition.specs.declared.words.WindowWord.TheVariants.{TimeWord, LengthWord}
 use Rattle.drl_condition.specs.declared.words.Form.TheVariants as form
 use Rattle.drl_condition.specs.Words.{op_word, fold_word, result_word, window_word, word_form}
 

@@ -1,8 +1,5 @@
 -- The first end of a comment.
-use Rattle.std.proofs.Common.{◌≡◌, ℕ, ◌++◌, ◌&&◌, Bool, true, false, eqb, List, [], ◌∷◌, drop, Option, Some, None, refl, ap, ◌∙◌}
-use Rattle.std.specs.Prelude.{codes}
-use Rattle.std.proofs.lemmas.Bool.{eqb-true}
-use Rattle.drl_lex.specs.Bytes.{begins, IsWithout}
+use Rattle.drl_lex.proofs.Common.{◌≡◌, ℕ, ◌++◌, ◌&&◌, Bool, true, false, eqb, List, [], ◌∷◌, drop, Option, Some, None, refl, ap, ◌∙◌, codes, eqb-true, begins, IsWithout}
 use Rattle.drl_lex.specs.Fronts.{behind_close, close_step}
 use Rattle.drl_lex.proofs.FrontLaws.{both}
 

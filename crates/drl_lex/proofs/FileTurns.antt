@@ -1,18 +1,10 @@
 -- Reading the pieces of a file one after the other, as a loop does.
-use Rattle.std.proofs.Common.{◌≡◌, ℕ, ◌+◌, ◌-◌, ◌<◌, ◌≤◌, ◌++◌, Bool, true, false, eqb, List, [], ◌∷◌, length, Option, Result, Ok, Err, refl, sym, ap, ◌∙◌, arith}
+use Rattle.drl_lex.proofs.Common.{◌≡◌, ℕ, ◌+◌, ◌-◌, ◌<◌, ◌≤◌, ◌++◌, Bool, true, false, eqb, List, [], ◌∷◌, length, Option, Result, Ok, Err, refl, sym, ap, ◌∙◌, arith, eqb-true, eqb-false, length-append, Token, TokenKind, LexCode, kept, IsFault, IsFirstFault, Read, piece_at, lexed, Reads, AreTokens}
 use Rattle.std.specs.Prelude.{IfErr, IsErrAnd}
-use Rattle.std.proofs.lemmas.Bool.{eqb-true, eqb-false}
-use Rattle.std.proofs.lemmas.List.{length-append}
-use Rattle.drl_lex.specs.declared.token.Token.{Token}
-use Rattle.drl_lex.specs.declared.token.TokenKind.{TokenKind}
-use Rattle.drl_lex.specs.declared.fault.LexCode.{LexCode}
 use Rattle.drl_lex.specs.declared.fault.LexFault.{LexFault}
 use Rattle.drl_lex.specs.declared.fault.LexFault.TheVariants.{Refused, NoMemory}
-use Rattle.drl_lex.specs.Answers.{kept, Fails, Gives}
-use Rattle.drl_lex.specs.Faults.{IsFault, IsFirstFault}
-use Rattle.drl_lex.specs.Reading.{Read, piece_at, lexed}
+use Rattle.drl_lex.specs.Answers.{Fails, Gives}
 use Rattle.drl_lex.specs.Tokens as p
-use Rattle.drl_lex.specs.Tokens.{Reads, AreTokens}
 use Rattle.drl_lex.proofs.FileLaws.{reads_on, refused_again, ends_there}
 use Rattle.drl_lex.proofs.PieceLaws.{Front, Stands, piece_sound}
 

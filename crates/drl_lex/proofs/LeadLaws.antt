@@ -1,10 +1,5 @@
 -- What a byte is, by what it can begin.
-use Rattle.std.proofs.Common.{◌≡◌, ℕ, Bool, true, false, cond, eqb, refl, arith}
-use Rattle.std.specs.Char.{is_ascii_digit}
-use Rattle.std.proofs.lemmas.Bool.{eqb-true, eqb-false}
-use Rattle.std.proofs.lemmas.Bool.Decides.{nat_tests}
-use Rattle.drl_lex.specs.declared.bytes.Lead.{Lead}
-use Rattle.drl_lex.specs.declared.bytes.Lead.TheVariants.{Blank, Hash, Slash, Quote, Dollar, Digit, Letter, Other}
+use Rattle.drl_lex.proofs.Common.{◌≡◌, ℕ, Bool, true, false, cond, eqb, refl, arith, is_ascii_digit, eqb-true, eqb-false, nat_tests, Lead, Blank, Hash, Slash, Quote, Dollar, Digit, Letter, Other}
 use Rattle.drl_lex.specs.Bytes.{is_blank, begins_word, is_word_byte, is_run_byte, is_quote}
 use Rattle.drl_lex.specs.Leads.{lead_of}
 

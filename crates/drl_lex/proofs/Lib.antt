@@ -1,3 +1,4 @@
+mod Common
 mod Capped
 mod CommentLaws
 pub mod FileLaws

@@ -1,31 +1,14 @@
 -- What is read at the front of the bytes stands there: a blank, a comment, a token, or a fault.
-use Rattle.std.proofs.Common.{◌≡◌, ℕ, ◌+◌, ◌<◌, ◌++◌, Bool, true, false, cond, eqb, List, [], ◌∷◌, length, Option, Some, None, Result, Ok, Err, eq-eqb, refl, ap, ◌∙◌, arith, append_assoc}
-use Rattle.std.specs.Prelude.{codes, is_some, IfSome}
-use Rattle.std.specs.List.{list_all}
-use Rattle.std.specs.Char.{is_ascii_digit}
-use Rattle.std.specs.Str.{is_utf8}
-use Rattle.std.proofs.lemmas.Bool.{eqb-true}
-use Rattle.std.proofs.lemmas.List.{length-append}
-use Rattle.drl_lex.specs.declared.token.TokenKind.{TokenKind}
-use Rattle.drl_lex.specs.declared.token.TokenKind.TheVariants.{Word, Var, Number, Time, Text, Mark}
+use Rattle.drl_lex.proofs.Common.{◌≡◌, ℕ, ◌+◌, ◌<◌, ◌++◌, Bool, true, false, cond, eqb, List, [], ◌∷◌, length, Option, Some, None, Result, Ok, Err, eq-eqb, refl, ap, ◌∙◌, arith, append_assoc, codes, is_some, IfSome, list_all, is_ascii_digit, is_utf8, eqb-true, length-append, TokenKind, Word, Var, Number, Time, Text, Mark, Assign, Comparison, Equal, Less, LessOrEqual, Greater, GreaterOrEqual, LexCode, BadChar, Lead, Blank, Hash, Slash, Quote, Dollar, Digit, Letter, Other, is_word_byte, is_run_byte, is_line_byte, begins, BeginsNothing, IsRun, IsOpened, IsFault, behind_close, mark_text, lengthens, Read, behind_block, token_read, mark_read, var_step, run_kind, with_rest, text_step, content_at, IsText, Spells, longer, IsComment, IsPiece}
 use Rattle.drl_lex.specs.declared.token.Mark.{Mark as MarkData}
-use Rattle.drl_lex.specs.declared.token.Mark.TheVariants.{Assign, Comparison}
-use Rattle.drl_lex.specs.declared.token.Rel.TheVariants.{Equal, Less, LessOrEqual, Greater, GreaterOrEqual}
-use Rattle.drl_lex.specs.declared.fault.LexCode.{LexCode}
-use Rattle.drl_lex.specs.declared.fault.LexCode.TheVariants.{BadChar}
-use Rattle.drl_lex.specs.declared.bytes.Lead.{Lead}
-use Rattle.drl_lex.specs.declared.bytes.Lead.TheVariants.{Blank, Hash, Slash, Quote, Dollar, Digit, Letter, Other}
-use Rattle.drl_lex.specs.Bytes.{is_blank, begins_word, is_word_byte, is_run_byte, is_quote, is_line_byte, begins}
+use Rattle.drl_lex.specs.Bytes.{is_blank, begins_word, is_quote}
 use Rattle.drl_lex.specs.Faults as f
-use Rattle.drl_lex.specs.Faults.{BeginsNothing, IsRun, IsOpened, IsFault}
-use Rattle.drl_lex.specs.Fronts.{longest, behind_close}
+use Rattle.drl_lex.specs.Fronts.{longest}
 use Rattle.drl_lex.specs.Leads.{lead_of}
 use Rattle.drl_lex.specs.MarkReading.{mark_at, single_mark, double_mark}
-use Rattle.drl_lex.specs.Marks.{mark_text, lengthens}
-use Rattle.drl_lex.specs.Reading.{Read, slash_at, behind_block, comment_read, token_read, mark_read, word_at, var_at, var_step, run_at, run_kind, with_rest, text_at, text_step, text_read, content_at, piece_of, piece_at}
+use Rattle.drl_lex.specs.Reading.{slash_at, comment_read, word_at, var_at, run_at, text_at, text_read, piece_of, piece_at}
 use Rattle.drl_lex.specs.Texts.{utf8_text}
 use Rattle.drl_lex.specs.Tokens as p
-use Rattle.drl_lex.specs.Tokens.{IsText, Spells, longer, IsComment, IsPiece}
 use Rattle.drl_lex.proofs.CommentLaws.{CloseIs, close_is}
 use Rattle.drl_lex.proofs.FrontLaws.{both, longest_is}
 use Rattle.drl_lex.proofs.LeadLaws.{IsOther, LeadIs, lead_is, digit_runs, letter_is_word_byte}

@@ -1,32 +1,14 @@
 -- What stands at the front of the bytes is read.
-use Rattle.std.proofs.Common.{◌≡◌, ℕ, ◌+◌, ◌^◌, ◌<◌, ◌≤◌, ◌++◌, Bool, true, false, cond, eqb, List, [], ◌∷◌, length, Option, Some, None, Ok, Err, refl, ap, ◌∙◌, arith, append_assoc}
-use Rattle.std.specs.Prelude.{codes, IfSome, nat_lt, nat_le}
-use Rattle.std.specs.List.{list_all}
-use Rattle.std.specs.Char.{is_ascii_digit}
-use Rattle.std.specs.Str.{is_utf8}
-use Rattle.std.specs.Str.Parse.{digits_value}
-use Rattle.std.proofs.lemmas.Bool.{eqb-true}
-use Rattle.std.proofs.lemmas.Bool.Decides.{nat_tests}
-use Rattle.drl_lex.specs.declared.token.TokenKind.{TokenKind}
-use Rattle.drl_lex.specs.declared.token.TokenKind.TheVariants.{Word, Var, Number, Time, Text, Mark}
+use Rattle.drl_lex.proofs.Common.{◌≡◌, ℕ, ◌+◌, ◌^◌, ◌<◌, ◌≤◌, ◌++◌, Bool, true, false, cond, eqb, List, [], ◌∷◌, length, Option, Some, None, Ok, Err, refl, ap, ◌∙◌, arith, append_assoc, codes, IfSome, nat_lt, nat_le, list_all, is_ascii_digit, is_utf8, digits_value, eqb-true, nat_tests, TokenKind, Word, Var, Number, Time, Text, Mark, LexCode, BadChar, OpenText, NumberLarge, Lead, Blank, Hash, Slash, Quote, Dollar, Digit, Letter, Other, is_word_byte, is_run_byte, is_line_byte, begins, IsWithout, BeginsNothing, IsRun, IsOpened, IsFault, longest, behind_close, mark_text, lengthens, token_read, mark_read, number_kind, time_kind, run_kind, with_rest, var_step, behind_block, text_step, content_at, time_of, IsNumeral, IsTime, IsText, Spells, longer, IsComment, IsPiece}
 use Rattle.drl_lex.specs.declared.token.Mark.{Mark as MarkData}
-use Rattle.drl_lex.specs.declared.fault.LexCode.{LexCode}
-use Rattle.drl_lex.specs.declared.fault.LexCode.TheVariants.{BadChar, OpenText, OpenComment, NumberLarge}
-use Rattle.drl_lex.specs.declared.bytes.Lead.{Lead}
-use Rattle.drl_lex.specs.declared.bytes.Lead.TheVariants.{Blank, Hash, Slash, Quote, Dollar, Digit, Letter, Other}
-use Rattle.drl_lex.specs.Bytes.{is_blank, begins_word, is_word_byte, is_run_byte, is_quote, is_line_byte, begins, IsWithout}
+use Rattle.drl_lex.specs.declared.fault.LexCode.TheVariants.{OpenComment}
+use Rattle.drl_lex.specs.Bytes.{is_blank, begins_word, is_quote}
 use Rattle.drl_lex.specs.Faults as f
-use Rattle.drl_lex.specs.Faults.{BeginsNothing, IsRun, IsOpened, IsFault}
-use Rattle.drl_lex.specs.Fronts.{longest, behind_close}
 use Rattle.drl_lex.specs.Leads.{lead_of}
 use Rattle.drl_lex.specs.MarkReading.{mark_at}
-use Rattle.drl_lex.specs.Marks.{mark_text, lengthens}
-use Rattle.drl_lex.specs.Reading.{slash_at, token_read, mark_read, number_kind, time_kind, word_at, var_at, run_at, run_kind, with_rest, var_step, behind_block, text_at, text_step, content_at, piece_of, piece_at}
+use Rattle.drl_lex.specs.Reading.{slash_at, word_at, var_at, run_at, text_at, piece_of, piece_at}
 use Rattle.drl_lex.specs.Texts.{utf8_text}
-use Rattle.drl_lex.specs.TimeReading.{time_of}
-use Rattle.drl_lex.specs.Times.{IsNumeral, IsTime}
 use Rattle.drl_lex.specs.Tokens as p
-use Rattle.drl_lex.specs.Tokens.{IsText, Spells, longer, IsComment, IsPiece}
 use Rattle.drl_lex.proofs.CommentLaws.{close_again, open_again}
 use Rattle.drl_lex.proofs.FrontLaws.{both, longest_is, longest_again}
 use Rattle.drl_lex.proofs.LeadLaws.{LeadIs, lead_is, letter_is_word_byte, blank_lead, digit_lead, letter_lead, quote_lead}

@@ -1,24 +1,10 @@
 -- What begins with a digit is read as a number or a time, and nothing else is.
-use Rattle.std.proofs.Common.{◌≡◌, ℕ, ◌^◌, ◌<◌, ◌++◌, Bool, true, false, not, cond, List, [], ◌∷◌, length, Option, Some, None, Result, Ok, Err, refl, ap, ◌∙◌, arith, append_assoc}
-use Rattle.std.specs.Prelude.{codes, nat_lt, nat_le, IfSome}
-use Rattle.std.specs.List.{list_all}
-use Rattle.std.specs.Char.{is_ascii_digit}
-use Rattle.std.specs.Str.Parse.{digits_value}
-use Rattle.std.proofs.lemmas.Bool.{ltb-true, ltb-false, leb-true, leb-false}
-use Rattle.std.proofs.lemmas.List.{length-append, append-nil}
-use Rattle.drl_lex.specs.declared.token.TokenKind.{TokenKind}
-use Rattle.drl_lex.specs.declared.token.TokenKind.TheVariants.{Number, Time}
-use Rattle.drl_lex.specs.declared.fault.LexCode.{LexCode}
-use Rattle.drl_lex.specs.declared.fault.LexCode.TheVariants.{NumberLarge}
-use Rattle.drl_lex.specs.Bytes.{begins, is_run_byte, is_unit_byte, is_word_byte}
+use Rattle.drl_lex.proofs.Common.{◌≡◌, ℕ, ◌^◌, ◌<◌, ◌++◌, Bool, true, false, not, cond, List, [], ◌∷◌, length, Option, Some, None, Result, Ok, Err, refl, ap, ◌∙◌, arith, append_assoc, codes, nat_lt, nat_le, IfSome, list_all, is_ascii_digit, digits_value, ltb-true, leb-true, length-append, append-nil, TokenKind, Number, Time, LexCode, NumberLarge, begins, IsRun, IsFault, longest, number_kind, time_kind, is_empty, time_of, IsNumeral, IsPart, IsLastPart, IsTime, Spells, longer}
+use Rattle.std.proofs.lemmas.Bool.{ltb-false, leb-false}
+use Rattle.drl_lex.specs.Bytes.{is_run_byte, is_unit_byte, is_word_byte}
 use Rattle.drl_lex.specs.Faults as f
-use Rattle.drl_lex.specs.Faults.{IsRun, IsFault}
-use Rattle.drl_lex.specs.Fronts.{longest}
-use Rattle.drl_lex.specs.Reading.{run_kind, number_kind, time_kind}
-use Rattle.drl_lex.specs.TimeReading.{is_empty, time_of}
+use Rattle.drl_lex.specs.Reading.{run_kind}
 use Rattle.drl_lex.specs.Times as t
-use Rattle.drl_lex.specs.Times.{IsNumeral, IsPart, IsLastPart, IsTime}
-use Rattle.drl_lex.specs.Tokens.{Spells, longer}
 use Rattle.drl_lex.proofs.FrontLaws.{both, longest_is}
 use Rattle.drl_lex.proofs.LeadLaws.{digit_runs}
 use Rattle.drl_lex.proofs.TimeLaws.{IsUnit, seconds_unit, minutes_unit, hours_unit, days_unit, millis_unit, whole, not_true, follows_time, time_sound, time_again}

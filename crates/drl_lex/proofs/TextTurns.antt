@@ -1,10 +1,7 @@
 -- Reading the bytes of a text one after the other, as a loop does.
-use Rattle.std.proofs.Common.{◌≡◌, ℕ, ◌-◌, ◌+◌, ◌≤◌, List, [], ◌∷◌, ◌++◌, length, take, drop, get_or, Some, Ok, Err, refl, ap, ◌∙◌, append_assoc, arith}
-use Rattle.std.proofs.lemmas.List.{take_all}
-use Rattle.drl_lex.specs.declared.bytes.TextByte.TheVariants.{Backslash, Plain}
+use Rattle.drl_lex.proofs.Common.{◌≡◌, ℕ, ◌-◌, ◌+◌, ◌≤◌, List, [], ◌∷◌, ◌++◌, length, take, drop, get_or, Some, Ok, Err, refl, ap, ◌∙◌, append_assoc, arith, take_all, Backslash, Plain, Read, with_byte, escaped_byte}
 use Rattle.drl_lex.specs.Leads.{text_byte_of}
-use Rattle.drl_lex.specs.Reading.{Read, content_at, with_byte}
-use Rattle.drl_lex.specs.Texts.{escaped_byte}
+use Rattle.drl_lex.specs.Reading.{content_at}
 
 -- what was read before, and what is still read
 abbrev pub behind : List ℕ → Read (List ℕ) → Read (List ℕ)

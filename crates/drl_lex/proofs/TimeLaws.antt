@@ -1,19 +1,11 @@
 -- What is read as a length of time is written so, and what is written so is read.
-use Rattle.std.proofs.Common.{◌≡◌, ℕ, ◌+◌, ◌<◌, ◌≤◌, ◌++◌, Bool, true, false, not, ◌&&◌, ◌||◌, cond, List, [], ◌∷◌, length, refl, ap, ◌∙◌, arith, Option, Some, None, append_assoc}
-use Rattle.std.specs.Prelude.{codes, option_map, nat_lt, IfSome}
-use Rattle.std.specs.List.{list_all}
-use Rattle.std.specs.Char.{is_ascii_digit}
+use Rattle.drl_lex.proofs.Common.{◌≡◌, ℕ, ◌+◌, ◌<◌, ◌≤◌, ◌++◌, Bool, true, false, not, ◌&&◌, ◌||◌, cond, List, [], ◌∷◌, length, refl, ap, ◌∙◌, arith, Option, Some, None, append_assoc, codes, option_map, nat_lt, IfSome, list_all, is_ascii_digit, digits_value, ltb-true, nat_tests, length-append, append-nil, begins, IsNumeral, IsPart, IsLastPart, IsTime, is_empty, total_of}
 use Rattle.std.specs.Str.{bytes_eq}
-use Rattle.std.specs.Str.Parse.{digits_value}
-use Rattle.std.proofs.lemmas.Bool.{ltb-true}
-use Rattle.std.proofs.lemmas.Bool.Decides.{nat_tests}
-use Rattle.std.proofs.lemmas.List.{length-append, append-nil}
 use Rattle.std.proofs.lemmas.Slice.Eq.{bytes_eq-Decides}
-use Rattle.drl_lex.specs.Bytes.{begins, is_unit_byte}
+use Rattle.drl_lex.specs.Bytes.{is_unit_byte}
 use Rattle.drl_lex.specs.Fronts.{longest}
-use Rattle.drl_lex.specs.Times.{IsNumeral, IsPart, IsLastPart, IsTime}
 use Rattle.drl_lex.specs.Times as t
-use Rattle.drl_lex.specs.TimeReading.{is_empty, part_at, last_at, total_of, time_of}
+use Rattle.drl_lex.specs.TimeReading.{part_at, last_at, time_of}
 use Rattle.drl_lex.proofs.FrontLaws.{both, longest_is, longest_again}
 
 pub same_bytes : (xs ys : List ℕ) → bytes_eq xs ys ≡ true → xs ≡ ys

@@ -1,24 +1,15 @@
 -- The steps of reading a file.
-use Rattle.std.proofs.Common.{◌≡◌, ℕ, ◌<◌, ◌≤◌, ◌^◌, nat_lt, true, false, List, length, Result, Ok, Err, refl, arith}
+use Rattle.drl_parse.proofs.Common.{◌≡◌, ℕ, ◌<◌, ◌≤◌, ◌^◌, nat_lt, true, false, List, length, Result, Ok, Err, refl, arith, ltb-false, Token, kinds, AreTokens, tokens_again, WrittenItem, lines_at, IsFile, ItemsRead, items_at, whole_at, item_at, Parsed, is_file, outside, too_long, lexical, items_parsed}
 use Rattle.std.specs.Prelude.{IfOk, IfErr, IsErrAnd}
-use Rattle.std.proofs.lemmas.Bool.{ltb-false}
-use Rattle.drl_lex.specs.declared.token.Token.{Token}
 use Rattle.drl_lex.specs.declared.fault.LexFault.{LexFault}
 use Rattle.drl_lex.specs.declared.fault.LexFault.TheVariants as lexer
 use Rattle.drl_lex.specs.Answers.{Fails}
-use Rattle.drl_lex.specs.Kinds.{kinds}
 use Rattle.drl_lex.specs.Reading.{lexed}
-use Rattle.drl_lex.specs.Tokens.{AreTokens}
-use Rattle.drl_lex.proofs.FileLaws.{tokens_again}
-use Rattle.drl_grammar.specs.declared.written.WrittenItem.{WrittenItem}
 use Rattle.drl_grammar.specs.declared.written.Written.{Written}
-use Rattle.drl_grammar.specs.Files.{lines_at, IsFile}
 use Rattle.drl_parse.specs.declared.fault.ParseFault.{ParseFault}
 use Rattle.drl_parse.specs.declared.fault.ParseFault.TheVariants.{Syntax, TooLong, Lexical, NoMemory}
-use Rattle.drl_parse.specs.Items.{ItemsRead, items_at, GivesItems}
-use Rattle.drl_phrase.specs.Reading.{whole_at}
-use Rattle.drl_parse.specs.Reading.{item_at}
-use Rattle.drl_parse.specs.Parsed.{file_limit, IsFault, Parsed, is_file, outside, too_long, lexical, items_parsed, parsed_by, parsed, FaultOf, Gives}
+use Rattle.drl_parse.specs.Items.{GivesItems}
+use Rattle.drl_parse.specs.Parsed.{file_limit, IsFault, parsed_by, parsed, FaultOf, Gives}
 use Rattle.drl_parse.proofs.FileLaws.{few_tokens, same_kinds, Means, parsed_means}
 use Rattle.drl_parse.proofs.ItemLaws.{Exactly}
 

@@ -1,3 +1,4 @@
+mod Common
 mod BodyLaws
 mod FileLaws
 mod FileTurns

@@ -1,25 +1,18 @@
 -- Rules are read exactly.
-use Rattle.std.proofs.Common.{◌≡◌, ℕ, ℤ, ◌<◌, ◌≤◌, true, cond, List, ◌∷◌, length, Some, None, refl, subst, arith}
-use Rattle.std.specs.Prelude.{codes}
-use Rattle.std.specs.Str.{bytes_eq}
-use Rattle.drl_lex.specs.declared.token.TokenKind.{TokenKind}
-use Rattle.drl_lex.specs.declared.token.TokenKind.TheVariants.{Word, Number, Text, Mark}
-use Rattle.drl_lex.specs.declared.token.Mark.TheVariants.{Comma, Minus}
-use Rattle.drl_expr.specs.Exact.{Found}
+use Rattle.drl_parse.proofs.Common.{◌≡◌, ℕ, ℤ, ◌<◌, ◌≤◌, true, cond, List, ◌∷◌, length, Some, None, refl, subst, arith, codes, bytes_eq, TokenKind, Word, Text, Mark, Minus, Found, IsName, IsRule, Many, binds, Exact, ◌>>=◌, many_at, name_at, name_exact, then, guarded, same_bytes, ended_then, ended_is, Begins, many_sound, many_again, many_shorter, optional_sound, optional_again, optional_shorter}
+use Rattle.drl_lex.specs.declared.token.TokenKind.TheVariants.{Number}
+use Rattle.drl_lex.specs.declared.token.Mark.TheVariants.{Comma}
 use Rattle.drl_grammar.specs.declared.file.Attr.{Attr}
 use Rattle.drl_grammar.specs.declared.file.Attr.TheVariants as attr
 use Rattle.drl_grammar.specs.declared.written.WrittenRule.{WrittenRule}
 use Rattle.drl_grammar.specs.Actions as a
 use Rattle.drl_grammar.specs.Actions.{IsAction}
-use Rattle.drl_grammar.specs.Conditions.{IsName, IsAsked}
+use Rattle.drl_grammar.specs.Conditions.{IsAsked}
 use Rattle.drl_grammar.specs.Items as g
-use Rattle.drl_grammar.specs.Items.{IsSalience, IsAttr, IsRule}
-use Rattle.drl_grammar.specs.Shapes.{Many}
+use Rattle.drl_grammar.specs.Items.{IsSalience, IsAttr}
 use Rattle.drl_phrase.specs.declared.phrase.Punctuation.TheVariants as p
-use Rattle.drl_phrase.specs.Exact.{binds, Exact}
-use Rattle.drl_phrase.specs.Reading.{◌>>=◌, after_word, many_at, optional_at, name_at}
-use Rattle.drl_phrase.proofs.NameLaws.{name_exact}
-use Rattle.drl_phrase.proofs.ShapeLaws.{then, if_some_then, guarded, same_bytes, word_sound, word_again, ended_then, ended_is, Begins, many_sound, many_again, many_shorter, optional_sound, optional_again, optional_shorter}
+use Rattle.drl_phrase.specs.Reading.{after_word, optional_at}
+use Rattle.drl_phrase.proofs.ShapeLaws.{if_some_then, word_sound, word_again}
 use Rattle.drl_condition.specs.Choices.{ends_all, asked_at}
 use Rattle.drl_condition.proofs.ChoiceLaws.{asked_sound, asked_again, asked_shorter}
 use Rattle.drl_action.specs.Reading.{action_word, action_at}

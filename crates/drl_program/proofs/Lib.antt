@@ -1,3 +1,4 @@
+mod Common
 pub mod Arguments
 pub mod Flagged
 pub mod Parameters

@@ -1,20 +1,19 @@
 -- What a word with its parameters gives, by the answers of the table's own function.
-use Rattle.std.proofs.Common.{◌≡◌, ◌&&◌, ◌||◌, ◌<ℤ◌, ℤ, pos, neg_ℤ, ◌^◌, Bool, true, false, not, List, Option, Some, None, cond, refl, sym, subst, arith, IfSome}
+use Rattle.drl_program.proofs.Common.{◌≡◌, ◌&&◌, ◌||◌, ◌<ℤ◌, ℤ, pos, neg_ℤ, ◌^◌, Bool, true, false, not, List, Option, Some, None, cond, refl, sym, subst, arith, IfSome, list_all, list_any, OpEdge, IsOp, operator_of}
 use Rattle.std.specs.Prelude.{Any, int_le, int_lt}
-use Rattle.std.specs.List.{All, list_all, list_any}
+use Rattle.std.specs.List.{All}
 use Rattle.std.proofs.lemmas.Int.{ints}
 use Rattle.std.proofs.lemmas.List.Elements.{All-weaker}
 use Rattle.std.proofs.lemmas.List.Folds.{Any-from_list_any, list_any-from_Any}
 use Rattle.std.proofs.lemmas.List.Sums.{AllPass-from_list_all}
-use Rattle.temporal_ops.specs.declared.edge.OpEdge.{OpEdge}
 use Rattle.temporal_ops.specs.declared.word.OpWord.{OpWord}
-use Rattle.temporal_ops.specs.Edges.{IsWithin, IsOp}
+use Rattle.temporal_ops.specs.Edges.{IsWithin}
 use Rattle.temporal_ops.specs.Laws.{Means}
 use Rattle.temporal_ops.specs.Operators.{edges_of}
 use Rattle.temporal_ops.specs.Table.{Row, says, no_row, row_of, takes_negative, HasRow}
 use Rattle.temporal_ops.proofs.Ops.{edges_are_ops}
 use Rattle.temporal_ops.proofs.Rows.{edges_mean_rows}
-use Rattle.drl_program.specs.Operators.{is_span, is_negative, operator_of}
+use Rattle.drl_program.specs.Operators.{is_span, is_negative}
 
 -- ---- limits
 

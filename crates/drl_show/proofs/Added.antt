@@ -1,15 +1,8 @@
 -- The text of tokens that stand one behind the other.
-use Rattle.std.proofs.Common.{◌≡◌, ℕ, ℤ, suc, ◌+◌, ◌<◌, List, [], ◌∷◌, ◌++◌, length, drop, get_or, refl, sym, ap, ◌∙◌, append_assoc, add-one, drop-cons, arith}
-use Rattle.std.proofs.lemmas.List.{append-nil}
-use Rattle.drl_lex.specs.declared.token.TokenKind.{TokenKind}
-use Rattle.drl_lex.specs.declared.token.TokenKind.TheVariants.{Word, Mark}
+use Rattle.drl_show.proofs.Common.{◌≡◌, ℕ, ℤ, suc, ◌+◌, ◌<◌, List, [], ◌∷◌, ◌++◌, length, drop, get_or, refl, sym, ap, ◌∙◌, append_assoc, add-one, drop-cons, arith, append-nil, TokenKind, Word, Mark, OpenParenthesis, OpenBracket, CloseBracket, Comma, codes, SourceTree, FoldWord, each, parted, number_tokens, param_tokens, source_tokens, spaced, added}
 use Rattle.drl_lex.specs.declared.token.Mark.{Mark as MarkData}
-use Rattle.drl_lex.specs.declared.token.Mark.TheVariants.{OpenParenthesis, OpenBracket, CloseBracket, Comma}
-use Rattle.std.specs.Prelude.{codes}
-use Rattle.drl_grammar.specs.declared.condition.SourceTree.{SourceTree}
-use Rattle.drl_grammar.specs.declared.condition.FoldWord.{FoldWord}
-use Rattle.drl_show.specs.Canonical.{each, parted, number_tokens, param_tokens, source_tokens, function_tokens, accumulate_tokens}
-use Rattle.drl_show.specs.Texts.{token_text, spaced, joined, added}
+use Rattle.drl_show.specs.Canonical.{function_tokens, accumulate_tokens}
+use Rattle.drl_show.specs.Texts.{token_text, joined}
 
 pub added_append : (bytes : List ℕ) (xs ys : List TokenKind) → added bytes (xs ++ ys) ≡ added (added bytes xs) ys
 added_append bytes [] ys = refl

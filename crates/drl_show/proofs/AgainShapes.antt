@@ -1,14 +1,7 @@
 -- The tokens of a tree stand for it again, whatever follows: for the shapes of the grammar.
-use Rattle.std.proofs.Common.{◌≡◌, true, List, [], ◌∷◌, ◌++◌, refl, sym, subst, append_assoc}
-use Rattle.std.proofs.lemmas.List.{append-nil}
-use Rattle.std.specs.List.{list_all}
-use Rattle.drl_lex.specs.declared.token.TokenKind.{TokenKind}
-use Rattle.drl_lex.specs.declared.token.TokenKind.TheVariants.{Mark}
+use Rattle.drl_show.proofs.Common.{◌≡◌, true, List, [], ◌∷◌, ◌++◌, refl, sym, subst, append_assoc, append-nil, list_all, TokenKind, Mark, Comma, CloseParenthesis, Phrase, Maybe, Many, Separated, Listed, each, parted, maybe, listed}
 use Rattle.drl_lex.specs.declared.token.Mark.{Mark as MarkData}
-use Rattle.drl_lex.specs.declared.token.Mark.TheVariants.{Comma, CloseParenthesis}
-use Rattle.drl_expr.specs.Exact.{Phrase}
-use Rattle.drl_grammar.specs.Shapes.{Maybe, left_out, written, Optional, absent, present, Many, nothing, further, Separated, single, more, Listed, empty, members}
-use Rattle.drl_show.specs.Canonical.{each, parted, maybe, listed}
+use Rattle.drl_grammar.specs.Shapes.{left_out, written, Optional, absent, present, nothing, further, single, more, empty, members}
 use Rattle.drl_show.proofs.Fine.{AllGood, fine, fine_append}
 
 -- the tokens stand for the value before all others, none of them ends an item, and what stood behind it can be spelled

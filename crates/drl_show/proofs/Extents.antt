@@ -1,13 +1,9 @@
 -- The tokens of an item are as many as its first token takes from the file.
-use Rattle.std.proofs.Common.{◌≡◌, ℕ, ◌+◌, ◌&&◌, ◌||◌, Bool, true, false, not, List, [], ◌∷◌, ◌++◌, length, refl, ap, ◌∙◌, length-append, arith}
-use Rattle.std.specs.Prelude.{codes}
-use Rattle.std.specs.List.{list_all, prefix_len}
+use Rattle.drl_show.proofs.Common.{◌≡◌, ℕ, ◌+◌, ◌&&◌, ◌||◌, Bool, true, false, not, List, [], ◌∷◌, ◌++◌, length, refl, ap, ◌∙◌, length-append, arith, codes, list_all, bytes_eq, begins, begins_word, TokenKind, Word, Var, Number, Time, Text, Mark, IsIdent}
+use Rattle.std.specs.List.{prefix_len}
 use Rattle.std.proofs.lemmas.List.Folds.{length-prefix_len}
-use Rattle.std.specs.Str.{bytes_eq}
-use Rattle.drl_lex.specs.Bytes.{begins, begins_word, is_word_byte}
-use Rattle.drl_lex.specs.declared.token.TokenKind.{TokenKind}
-use Rattle.drl_lex.specs.declared.token.TokenKind.TheVariants.{Word, Var, Number, Time, Text, Mark}
-use Rattle.drl_expr.specs.Words.{is_among, condition_words, value_words, is_ident, IsIdent}
+use Rattle.drl_lex.specs.Bytes.{is_word_byte}
+use Rattle.drl_expr.specs.Words.{is_among, condition_words, value_words, is_ident}
 use Rattle.drl_grammar.specs.Files.{opens_block, begins_item, ends_block, count_before, extent}
 use Rattle.drl_show.proofs.Fine.{fine, both}
 

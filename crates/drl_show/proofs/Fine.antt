@@ -1,17 +1,11 @@
 -- Tokens that can be spelled, and tokens that may stand in the text of an item before its end.
-use Rattle.std.proofs.Common.{◌≡◌, ℕ, zero, suc, ◌<◌, ◌≤◌, ◌^◌, ◌&&◌, Bool, true, false, not, List, [], ◌∷◌, ◌++◌, length, refl, subst, arith}
-use Rattle.std.specs.Prelude.{nat_lt, codes}
-use Rattle.std.specs.List.{All, list_all}
-use Rattle.std.specs.Str.{bytes_eq, is_utf8, IsAscii}
+use Rattle.drl_show.proofs.Common.{◌≡◌, ℕ, zero, suc, ◌<◌, ◌≤◌, ◌^◌, ◌&&◌, Bool, true, false, not, List, [], ◌∷◌, ◌++◌, length, refl, subst, arith, nat_lt, codes, All, list_all, bytes_eq, nat_tests, begins, begins_word, Spells, TokenKind, Word, Var, Number, Time, Text, Mark, IsIdent}
+use Rattle.std.specs.Str.{is_utf8, IsAscii}
 use Rattle.std.proofs.lemmas.Bool.{lt-ltb}
-use Rattle.std.proofs.lemmas.Bool.Decides.{nat_tests}
 use Rattle.std.proofs.lemmas.Slice.Eq.{bytes_eq-Decides}
 use Rattle.std.proofs.lemmas.Str.{IsUtf8-from_ascii, is_utf8-from_IsUtf8}
-use Rattle.drl_lex.specs.Bytes.{begins, begins_word, is_word_byte}
-use Rattle.drl_lex.specs.Tokens.{Spells}
-use Rattle.drl_lex.specs.declared.token.TokenKind.{TokenKind}
-use Rattle.drl_lex.specs.declared.token.TokenKind.TheVariants.{Word, Var, Number, Time, Text, Mark}
-use Rattle.drl_expr.specs.Words.{is_ident, IsIdent}
+use Rattle.drl_lex.specs.Bytes.{is_word_byte}
+use Rattle.drl_expr.specs.Words.{is_ident}
 use Rattle.drl_show.specs.Shown.{CanBeSpelled}
 
 pub both : (a b : Bool) → a && b ≡ true → (a ≡ true) × (b ≡ true)

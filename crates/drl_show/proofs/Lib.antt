@@ -1,3 +1,4 @@
+mod Common
 pub mod Added
 pub mod AgainActions
 pub mod AgainChoices

@@ -1,27 +1,19 @@
 -- Each token of an item is spelled by its text, and no blank would make it longer.
-use Rattle.std.proofs.Common.{◌≡◌, ℕ, ◌<◌, ◌≤◌, ◌^◌, ◌==◌, ◌&&◌, Bool, true, false, not, cond, List, [], ◌∷◌, ◌++◌, length, refl, arith}
-use Rattle.std.specs.Prelude.{nat_lt, codes}
+use Rattle.drl_show.proofs.Common.{◌≡◌, ℕ, ◌<◌, ◌≤◌, ◌^◌, ◌==◌, ◌&&◌, Bool, true, false, not, cond, List, [], ◌∷◌, ◌++◌, length, refl, arith, nat_lt, codes, list_all, bytes_eq, nat_tests, begins, begins_word, Spells, longer, Assign, Comparison, TokenKind, Word, Var, Number, Time, Text, Mark, escaped}
 use Rattle.std.specs.Char.{is_ascii_digit}
 use Rattle.std.specs.Fmt.{decimal}
-use Rattle.std.specs.List.{list_all}
-use Rattle.std.specs.Str.{bytes_eq}
 use Rattle.std.specs.Str.Parse.{AllDigits}
 use Rattle.std.proofs.lemmas.Bool.{ltb-true}
-use Rattle.std.proofs.lemmas.Bool.Decides.{nat_tests}
 use Rattle.std.proofs.lemmas.Fmt.{decimal_is_IsNumeral}
 use Rattle.std.proofs.lemmas.Str.Parse.{digit_from_value}
-use Rattle.drl_lex.specs.Bytes.{begins, begins_word, is_word_byte, is_run_byte, is_quote}
+use Rattle.drl_lex.specs.Bytes.{is_word_byte, is_run_byte, is_quote}
 use Rattle.drl_lex.specs.Marks.{lengthens}
 use Rattle.drl_lex.specs.Texts as texts
 use Rattle.drl_lex.specs.Texts.{escaped_byte, is_plain, IsContent}
 use Rattle.drl_lex.specs.Times.{IsNumeral}
-use Rattle.drl_lex.specs.Tokens.{Spells, longer}
 use Rattle.drl_lex.specs.declared.token.Rel.TheVariants.{Less, Greater}
 use Rattle.drl_lex.specs.declared.token.Mark.{Mark as MarkData}
-use Rattle.drl_lex.specs.declared.token.Mark.TheVariants.{Assign, Comparison}
-use Rattle.drl_lex.specs.declared.token.TokenKind.{TokenKind}
-use Rattle.drl_lex.specs.declared.token.TokenKind.TheVariants.{Word, Var, Number, Time, Text, Mark}
-use Rattle.drl_show.specs.Texts.{escape, escaped, token_text}
+use Rattle.drl_show.specs.Texts.{escape, token_text}
 use Rattle.drl_show.proofs.Fine.{fine, both}
 
 -- ---- texts

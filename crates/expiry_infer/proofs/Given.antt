@@ -1,23 +1,10 @@
 -- Reaches, what conditions add, and what patterns give, against the greatest limits that were found.
-use Rattle.std.proofs.Common.{◌≡◌, inl, inr, ◌≤◌, ℕ, suc, ℤ, pos, ◌≤ℤ◌, true, false, List, [], ◌∷◌, length, Some, None, refl, sym, ◌∙◌, ap, subst, arith}
-use Rattle.std.specs.Prelude.{slice_get}
-use Rattle.std.proofs.lemmas.Int.{ints}
+use Rattle.expiry_infer.proofs.Common.{◌≡◌, inl, inr, ◌≤◌, ℕ, suc, ℤ, pos, ◌≤ℤ◌, true, false, List, [], ◌∷◌, length, Some, None, refl, sym, ◌∙◌, ap, subst, arith, slice_get, ints, Times, Condition, Program, Rule, TypeInfo, pattern_of, is_reference, in_place, Occurrence, Limit, finite, infinite, plus, tail, AddsAt, GivesAt, GivesIn, placed, Among, IsTop, false_is}
 use Rattle.fx_base.specs.Lists.{In}
-use Rattle.fx_base.specs.declared.times.Times.{Times}
-use Rattle.rule_model.specs.declared.condition.Condition.{Condition}
-use Rattle.rule_model.specs.declared.program.Program.{Program}
-use Rattle.rule_model.specs.declared.program.Rule.{Rule}
-use Rattle.rule_model.specs.declared.program.TypeInfo.{TypeInfo}
-use Rattle.rule_model.specs.Rows.{pattern_of}
-use Rattle.rule_model.specs.Types.{is_event_type, expiry_in, is_event, is_reference, expiry_of}
-use Rattle.rule_model.proofs.RuleOf.{in_place}
-use Rattle.rule_lives.specs.Networks.{Occurrence}
-use Rattle.rule_lives.specs.Reach.{Limit, finite, infinite, plus, Placed, SolvesWith, IsReach}
-use Rattle.rule_lives.specs.Lifetimes.{tail, Adds, of_fact, of_event, AddsSome, LivesFor, PatternLife, IsLife}
-use Rattle.expiry_infer.specs.Tables.{AddsBy, AddsAt, GivesAt, GivesIn}
-use Rattle.life_edges.specs.Places.{placed}
-use Rattle.expiry_infer.specs.Tops.{Among, IsTop}
-use Rattle.life_edges.proofs.Places.{false_is}
+use Rattle.rule_model.specs.Types.{is_event_type, expiry_in, is_event, expiry_of}
+use Rattle.rule_lives.specs.Reach.{Placed, SolvesWith, IsReach}
+use Rattle.rule_lives.specs.Lifetimes.{Adds, of_fact, of_event, AddsSome, LivesFor, PatternLife, IsLife}
+use Rattle.expiry_infer.specs.Tables.{AddsBy}
 use Rattle.expiry_infer.proofs.Tops.{top_like, top_of_none, anywhere}
 
 -- ---- one reach

@@ -1,3 +1,4 @@
+mod Common
 pub mod Reaching
 pub mod Matching
 pub mod Tops

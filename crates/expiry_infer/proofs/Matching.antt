@@ -1,11 +1,7 @@
 -- The function that tells whether patterns can match decides whether their network has a solution.
-use Rattle.std.proofs.Common.{◌≡◌, Bool, true, false, [], List, refl, sym, arith}
-use Rattle.std.specs.Bool.{Decides}
+use Rattle.expiry_infer.proofs.Common.{◌≡◌, Bool, true, false, [], List, refl, sym, arith, Decides, Condition, Program, IsSolvable, edges_of}
 use Rattle.temporal_net.proofs.Potentials.{decided}
-use Rattle.rule_model.specs.declared.condition.Condition.{Condition}
-use Rattle.rule_model.specs.declared.program.Program.{Program}
-use Rattle.rule_lives.specs.Networks.{IsSolvable}
-use Rattle.life_edges.specs.Edges.{edges_of, HaveNetwork}
+use Rattle.life_edges.specs.Edges.{HaveNetwork}
 use Rattle.expiry_infer.specs.Solvable.{can_match}
 use Rattle.life_edges.proofs.Fitting.{all_among}
 use Rattle.expiry_infer.proofs.Reaching.{solvable, numbered}

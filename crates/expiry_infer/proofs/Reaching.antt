@@ -1,19 +1,11 @@
 -- What a solved network says of its conditions.
-use Rattle.std.proofs.Common.{◌≡◌, ◌≤◌, ℕ, Bool, List, [], length, Option, Some, None, sym, ◌∙◌, ap, subst}
-use Rattle.std.specs.Bool.{Decides}
+use Rattle.expiry_infer.proofs.Common.{◌≡◌, ◌≤◌, ℕ, Bool, List, [], length, Option, Some, None, sym, ◌∙◌, ap, subst, Decides, Bound, Times, Condition, Program, Occurrence, IsSolvable, edges_of, IsSolved, false_is}
 use Rattle.std.specs.Option.{is_some}
-use Rattle.fx_base.specs.declared.bound.Bound.{Bound}
-use Rattle.fx_base.specs.declared.times.Times.{Times}
 use Rattle.temporal_net.specs.declared.edge.NetEdge.{NetEdge}
 use Rattle.temporal_net.specs.Networks.{Network}
 use Rattle.temporal_net.specs.Networks as net
-use Rattle.rule_model.specs.declared.condition.Condition.{Condition}
-use Rattle.rule_model.specs.declared.program.Program.{Program}
-use Rattle.rule_lives.specs.Networks.{Occurrence, Solves, IsSolvable}
+use Rattle.rule_lives.specs.Networks.{Solves}
 use Rattle.rule_world.specs.Programs.{NameEarlier}
-use Rattle.life_edges.specs.Edges.{edges_of}
-use Rattle.expiry_infer.specs.Found.{IsSolved}
-use Rattle.life_edges.proofs.Places.{false_is}
 use Rattle.life_edges.proofs.Solved.{times_of, points_of}
 use Rattle.life_edges.proofs.Distances.{of_points, of_times}
 

@@ -1,15 +1,10 @@
 -- Laws of the greatest of limits.
-use Rattle.std.proofs.Common.{◌≡◌, ◌⊎◌, inl, inr, ◌<◌, ◌≤◌, ◌+◌, ℕ, ℤ, ◌≤ℤ◌, List, length, Some, refl, sym, ◌∙◌, subst, arith, pos, negsuc, to_z, of_z, to_z-of_z, w64, FitsSigned, ◌^◌}
-use Rattle.std.specs.Prelude.{slice_get}
+use Rattle.expiry_infer.proofs.Common.{◌≡◌, ◌⊎◌, inl, inr, ◌<◌, ◌≤◌, ◌+◌, ℕ, ℤ, ◌≤ℤ◌, List, length, Some, refl, sym, ◌∙◌, subst, arith, pos, negsuc, to_z, of_z, to_z-of_z, w64, FitsSigned, ◌^◌, slice_get, ints, Bound, IsWithinNetwork, Limit, finite, infinite, plus, limit_of, IsShort, IsSmall, Among, IsTop}
 use Rattle.std.proofs.lemmas.Option.{slice_get_within}
-use Rattle.std.proofs.lemmas.Int.{ints}
-use Rattle.fx_base.specs.declared.bound.Bound.{Bound}
 use Rattle.fx_base.specs.declared.bound.Bound.TheVariants.{Finite, Infinite}
-use Rattle.temporal_net.specs.Networks.{IsWithinNetwork}
 use Rattle.rule_world.specs.Events.{most_millis}
-use Rattle.rule_lives.specs.Reach.{Limit, finite, infinite, plus, Below}
-use Rattle.life_edges.specs.Tails.{limit_of, IsShort, IsSmall, IsSpan}
-use Rattle.expiry_infer.specs.Tops.{Among, IsTop}
+use Rattle.rule_lives.specs.Reach.{Below}
+use Rattle.life_edges.specs.Tails.{IsSpan}
 use Rattle.life_edges.proofs.Places.{the_same}
 
 pub below_itself : (l : Limit) → Below l l

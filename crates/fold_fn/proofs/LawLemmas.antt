@@ -1,11 +1,7 @@
 -- What a list contains, its least and greatest number, the floor of a quotient, and taking back.
-use Rattle.std.proofs.Common.{◌≡◌, ℕ, zero, suc, ◌*◌, ◌<◌, ◌≤◌, ◌/◌, ℤ, pos, negsuc, ◌+ℤ◌, ◌*ℤ◌, ◌≤ℤ◌, ◌<ℤ◌, List, [], ◌∷◌, Some, refl, ap, arith, All, Contains, int_eq, int_lt, true, false, ⊎_elim}
+use Rattle.fold_fn.proofs.Common.{◌≡◌, ℕ, zero, suc, ◌*◌, ◌<◌, ◌≤◌, ◌/◌, ℤ, pos, negsuc, ◌+ℤ◌, ◌*ℤ◌, ◌≤ℤ◌, ◌<ℤ◌, List, [], ◌∷◌, Some, refl, ap, arith, All, Contains, int_eq, int_lt, true, false, ⊎_elim, ints, cases_Bool, All-nil, All-cons, All-weaker, times, insert_rising, in_rising_order, least_of, greatest_of, least, greatest, floor_quotient}
 use Rattle.std.specs.Int.{int_min, int_max}
-use Rattle.std.proofs.lemmas.Int.{ints}
-use Rattle.std.proofs.lemmas.Bool.{cases_Bool}
-use Rattle.std.proofs.lemmas.List.Elements.{All-nil, All-cons, All-weaker, All-contains}
-use Rattle.fold_fn.specs.Order.{times, insert_rising, in_rising_order}
-use Rattle.fold_fn.specs.Results.{least_of, greatest_of, least, greatest, floor_quotient}
+use Rattle.std.proofs.lemmas.List.Elements.{All-contains}
 use Rattle.fold_fn.proofs.Rising.{times-cons, times-nil, times-rising, int_eq-same, same_number}
 
 -- a number goes in at one place only, so it leaves one list when it is taken out

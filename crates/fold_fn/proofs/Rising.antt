@@ -1,12 +1,8 @@
 -- The rising order of a list keeps its numbers and forgets its order.
-use Rattle.std.proofs.Common.{◌≡◌, ◌+◌, ◌<◌, ℤ, true, cond, List, [], ◌∷◌, refl, sym, ap, ◌∙◌, ⊎_elim, arith, int_eq}
-use Rattle.std.proofs.lemmas.Int.{ints}
-use Rattle.std.proofs.lemmas.Bool.{cases_Bool}
+use Rattle.fold_fn.proofs.Common.{◌≡◌, ◌+◌, ◌<◌, ℤ, true, cond, List, [], ◌∷◌, refl, sym, ap, ◌∙◌, ⊎_elim, arith, int_eq, ints, cases_Bool, IsPermutation, insert_rising, in_rising_order, HaveSame}
 use Rattle.std.proofs.lemmas.List.Sums.{sum_by-cons}
-use Rattle.std.specs.List.Sorted.{IsPermutation}
 use Rattle.std.proofs.lemmas.List.Sorted.{sum_by-IsPermutation}
-use Rattle.fold_fn.specs.Order.{times, insert_rising, in_rising_order}
-use Rattle.fold_fn.specs.Laws.{HaveSame}
+use Rattle.fold_fn.specs.Order.{times}
 
 pub times-cons : (v x : ℤ) (xs : List ℤ) → times v (x ∷ xs) ≡ cond (int_eq v x) 1 0 + times v xs
 unfolding times

@@ -1,9 +1,5 @@
 -- The rising order rises, and a list that rises is in it.
-use Rattle.std.proofs.Common.{◌≡◌, zero, suc, ◌<◌, ℤ, true, false, List, [], ◌∷◌, length, get_or, refl, sym, ◌∙◌, arith, int_lt, IsSorted, int_cmp, is_lt, add-one}
-use Rattle.std.proofs.lemmas.Int.{ints}
-use Rattle.std.proofs.lemmas.Bool.{cond_both, cond-false}
-use Rattle.std.specs.List.Sorted.{IsPermutation}
-use Rattle.fold_fn.specs.Order.{insert_rising, in_rising_order}
+use Rattle.fold_fn.proofs.Common.{◌≡◌, zero, suc, ◌<◌, ℤ, true, false, List, [], ◌∷◌, length, get_or, refl, sym, ◌∙◌, arith, int_lt, IsSorted, int_cmp, is_lt, add-one, ints, cond_both, cond-false, IsPermutation, insert_rising, in_rising_order}
 use Rattle.fold_fn.proofs.Rising.{times-permutation, rising_same}
 
 below_not_above : (x y : ℤ) → int_lt x y ≡ true → int_lt y x ≡ false

@@ -1,41 +1,20 @@
 -- What the sight of a world keeps by a table of lives.
-use Rattle.std.proofs.Common.{◌≡◌, ℕ, ℤ, ◌==◌, ◌&&◌, ◌||◌, ◌+ℤ◌, Bool, true, false, cond, not, inl, inr, List, [], ◌∷◌, refl, sym, ◌∙◌, ap, subst, arith, Option, Some, None}
-use Rattle.std.specs.Prelude.{is_some, option_map, slice_get, int_le, pos}
-use Rattle.std.specs.List.{list_any}
-use Rattle.std.proofs.lemmas.Int.{ints}
-use Rattle.fx_base.specs.Lists.{In}
-use Rattle.fx_base.specs.declared.fact.Fact.{Fact}
-use Rattle.row_delta.specs.declared.row.Named.{Named}
+use Rattle.forgetting.proofs.Common.{◌≡◌, ℕ, ℤ, ◌==◌, ◌&&◌, ◌||◌, ◌+ℤ◌, Bool, true, false, cond, not, inl, inr, List, [], ◌∷◌, refl, sym, ◌∙◌, ap, subst, arith, Option, Some, None, is_some, option_map, int_le, pos, list_any, ints, In, Fact, Named, LifeTable, Match, Program, is_present, matches, has_match, name_of, one_fact, IsOrdered, World, snapshot, present, found, revised, has_id, and_parts, kept_ordered, has_pending, has_come, names_tag, clean, end_of_life, ends_by, only, is_needed, is_kept_fact, kept, is_kept, is_forgotten, is_clean, fact_at, sight_of}
+use Rattle.std.specs.Prelude.{slice_get}
 use Rattle.rule_model.specs.declared.life.Life.{Life}
 use Rattle.rule_model.specs.declared.life.Life.TheVariants.{Plain, Explicit, Finite, Infinite}
-use Rattle.rule_model.specs.declared.life.LifeTable.{LifeTable}
-use Rattle.rule_model.specs.declared.matched.Match.{Match}
-use Rattle.rule_model.specs.declared.program.Program.{Program}
-use Rattle.rule_model.specs.Candidates.{is_present}
-use Rattle.rule_model.specs.Matches.{matches, has_match}
-use Rattle.rule_model.specs.Tuples.{name_of}
 use Rattle.rule_model.proofs.Named.{of_filter}
-use Rattle.rule_model.proofs.Once.{one_fact}
 use Rattle.rule_model.proofs.RuleOf.{has_in}
-use Rattle.rule_world.specs.Lawful.{IsOrdered}
-use Rattle.rule_world.specs.Worlds.{World, snapshot, present, found, pending, step_fault, revised, has_id}
+use Rattle.rule_world.specs.Worlds.{pending, step_fault}
 use Rattle.rule_world.proofs.Faultless.{modified_plain}
 use Rattle.rule_world.proofs.Found.{fact_with, plain_present}
-use Rattle.rule_world.proofs.Fresh.{and_parts}
-use Rattle.rule_world.proofs.Keeping.{kept_ordered}
-use Rattle.rule_world.proofs.Pending.{has_pending}
 use Rattle.rule_lives.specs.Keeping.{AreSafe}
 use Rattle.rule_lives.proofs.Safe.{plain_unlisted}
 use Rattle.rule_lives.proofs.Still.{always_present}
-use Rattle.due_queue.specs.Timers.{has_come}
 use Rattle.pair_memory.specs.Joined.{has_name}
 use Rattle.condition_rows.proofs.Ends.{in_name, name_in}
-use Rattle.agenda.specs.Agendas.{names_tag}
 use Rattle.keeping.specs.Kept.{is_alive, is_named, is_kept as is_kept_in, is_forgotten as is_forgotten_in}
 use Rattle.keeping.proofs.Versions.{forgotten_fact}
-use Rattle.pair_memory.specs.Standing.{clean}
-use Rattle.forgetting.specs.Sights.{end_of_life, ends_by, only, is_needed, is_kept_fact, kept, is_kept, is_forgotten, is_clean}
-use Rattle.forgetting.specs.WorldSights.{fact_at, sight_of}
 use Rattle.forgetting.specs.Tables.{PlainEndless, ExpiredEndless, ModifyEndless}
 use Rattle.forgetting.proofs.Before.{chosen}
 use Rattle.forgetting.proofs.Forgotten.{two_tests}

@@ -1,16 +1,6 @@
 -- What is kept behind a step and was there was kept before it.
-use Rattle.std.proofs.Common.{◌≡◌, ℤ, ℕ, ◌&&◌, ◌≤ℤ◌, Bool, true, false, cond, not, inl, inr, refl, sym, ◌∙◌, ap, arith, Option, Some, None}
-use Rattle.std.specs.Prelude.{is_some}
-use Rattle.std.proofs.lemmas.Int.{ints}
-use Rattle.fx_base.specs.declared.fact.Fact.{Fact}
-use Rattle.rule_model.specs.declared.matched.Match.{Match}
-use Rattle.rule_model.specs.Matches.{has_match}
-use Rattle.rule_model.proofs.Firsts.{or_left, or_right, or_split}
-use Rattle.rule_world.proofs.Fresh.{and_both, and_parts}
-use Rattle.due_queue.specs.Timers.{has_come}
-use Rattle.agenda.specs.Agendas.{names_tag}
-use Rattle.forgetting.specs.Sights.{Lives, Sight, IsLawful, only, is_needed, is_kept_fact, is_kept, is_forgotten, each_tag}
-use Rattle.forgetting.specs.Steps.{IsStep, ComeClean, KeptBefore, KeptBeforeLaw}
+use Rattle.forgetting.proofs.Common.{◌≡◌, ℤ, ℕ, ◌&&◌, ◌≤ℤ◌, Bool, true, false, cond, not, inl, inr, refl, sym, ◌∙◌, ap, arith, Option, Some, None, is_some, ints, Fact, Match, has_match, or_left, or_right, or_split, and_both, and_parts, has_come, names_tag, Lives, Sight, IsLawful, only, is_needed, is_kept_fact, is_kept, is_forgotten, each_tag, IsStep, KeptBefore}
+use Rattle.forgetting.specs.Steps.{ComeClean, KeptBeforeLaw}
 use Rattle.forgetting.proofs.Naming.{found, witness, holds_of, each_named, free_of, not_true}
 
 -- ---- the fact under one tag

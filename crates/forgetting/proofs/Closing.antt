@@ -1,22 +1,6 @@
 -- Steps and firings of a lawful world with the lives of its program.
-use Rattle.std.proofs.Common.{◌≡◌, ◌<◌, Bool, true, false, cond, not, inl, inr, refl, sym, ◌∙◌, ap, subst, arith, Option, Some, None}
-use Rattle.std.specs.Prelude.{is_some}
-use Rattle.std.specs.List.{list_any}
-use Rattle.fx_base.specs.Lists.{In}
-use Rattle.fx_base.specs.declared.fact.Fact.{Fact}
-use Rattle.row_delta.specs.declared.row.Named.{Named}
-use Rattle.rule_model.specs.declared.life.LifeTable.{LifeTable}
-use Rattle.rule_model.specs.declared.matched.Match.{Match}
-use Rattle.rule_model.specs.declared.program.Program.{Program}
-use Rattle.rule_model.specs.declared.step.Step.{Step}
-use Rattle.rule_model.specs.Candidates.{is_present}
-use Rattle.rule_model.specs.Matches.{matches, has_match}
-use Rattle.rule_model.specs.Tuples.{name_of}
-use Rattle.rule_model.proofs.Named.{named_of}
-use Rattle.rule_model.proofs.Once.{one_fact}
-use Rattle.rule_model.proofs.RuleOf.{rule_of}
-use Rattle.rule_world.specs.Worlds.{World, snapshot, present, stepped, marked}
-use Rattle.rule_world.proofs.Fresh.{and_parts, below_of}
+use Rattle.forgetting.proofs.Common.{◌≡◌, ◌<◌, Bool, true, false, cond, not, inl, inr, refl, sym, ◌∙◌, ap, subst, arith, Option, Some, None, is_some, list_any, In, Fact, Named, LifeTable, Match, Program, Step, is_present, matches, has_match, name_of, named_of, one_fact, rule_of, World, snapshot, present, and_parts, below_of, clean, ends_by, only, is_kept, is_forgotten, is_clean, fact_at, sight_of, comes, goes}
+use Rattle.rule_world.specs.Worlds.{stepped, marked}
 use Rattle.rule_world.proofs.Steps.{step_in_order, firing_in_order}
 use Rattle.rule_world.proofs.Vain.{next_tag}
 use Rattle.rule_lives.proofs.Remains.{match_names_kept}
@@ -24,9 +8,6 @@ use Rattle.keeping.specs.Kept.{is_kept as is_kept_in, is_forgotten as is_forgott
 use Rattle.keeping.specs.Steps.{IsLawfulStep}
 use Rattle.keeping.proofs.Decided.{is_tested}
 use Rattle.keeping.proofs.Versions.{lost}
-use Rattle.pair_memory.specs.Standing.{clean}
-use Rattle.forgetting.specs.Sights.{ends_by, only, is_kept, is_forgotten, is_clean}
-use Rattle.forgetting.specs.WorldSights.{fact_at, sight_of, comes, goes}
 use Rattle.forgetting.specs.Tables.{StepComesClean, NextClean, WorldStepKept, WorldFireKept}
 use Rattle.forgetting.proofs.Agreeing.{present_at, same_kept, same_clean}
 use Rattle.forgetting.proofs.Firing.{fire_law}

@@ -1,13 +1,7 @@
 -- What a retention covers as the store changes.
-use Rattle.std.proofs.Common.{◌≡◌, ℕ, ℤ, ◌==◌, Bool, true, false, cond, not, refl, sym, ◌∙◌, ap, subst, arith, Option, Some, None}
-use Rattle.std.specs.Prelude.{option_and_then}
-use Rattle.std.proofs.lemmas.Bool.Decides.{nat_tests}
-use Rattle.fx_base.specs.declared.fact.Fact.{Fact}
-use Rattle.retention.specs.Retentions.{lingers}
-use Rattle.retention.specs.Watching.{Covers, with_end, without}
-use Rattle.retention.proofs.Calls.{later_law, hold_law, release_law, same_covered}
-use Rattle.forgetting.specs.Sights.{Lives, is_needed, ends_of}
-use Rattle.forgetting.specs.Steps.{brought, changed}
+use Rattle.forgetting.proofs.Common.{◌≡◌, ℕ, ℤ, ◌==◌, Bool, true, false, cond, not, refl, sym, ◌∙◌, ap, subst, arith, Option, Some, None, option_and_then, nat_tests, Fact, lingers, Covers, without, later_law, same_covered, Lives, is_needed, ends_of, brought, changed}
+use Rattle.retention.specs.Watching.{with_end}
+use Rattle.retention.proofs.Calls.{hold_law, release_law}
 use Rattle.forgetting.specs.Covering.{LaterCovers, FreeCovers, InsertCovers, RetractCovers, EndlessCovers}
 
 pub later_covers : LaterCovers

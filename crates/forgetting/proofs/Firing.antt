@@ -1,19 +1,6 @@
 -- The law of a firing in two phases.
-use Rattle.std.proofs.Common.{◌≡◌, ℕ, ℤ, ◌≤ℤ◌, ◌&&◌, ◌||◌, Bool, true, false, not, refl, sym, ◌∙◌, ap, subst, arith, None}
-use Rattle.std.specs.Prelude.{option_and_then}
-use Rattle.std.specs.Ordering.{eq_by_cmp}
-use Rattle.std.proofs.lemmas.Int.{ints}
-use Rattle.std.proofs.lemmas.Map.Views.{tells_apart}
-use Rattle.rule_model.specs.declared.matched.Match.{Match}
-use Rattle.rule_model.specs.Matches.{has_match, match_cmp}
-use Rattle.rule_model.proofs.Exact.{match_exact}
-use Rattle.rule_world.proofs.Fresh.{and_parts}
-use Rattle.agenda.specs.Agendas.{names_tag}
+use Rattle.forgetting.proofs.Common.{◌≡◌, ℕ, ℤ, ◌≤ℤ◌, ◌&&◌, ◌||◌, Bool, true, false, not, refl, sym, ◌∙◌, ap, subst, arith, None, option_and_then, eq_by_cmp, ints, tells_apart, Match, has_match, match_cmp, match_exact, and_parts, names_tag, lingers, Covers, later_law, same_covered, is_needed, is_kept, some_tag, each_tag, ends_of}
 use Rattle.retention.specs.declared.retention.Retention.{Retention}
-use Rattle.retention.specs.Retentions.{lingers}
-use Rattle.retention.specs.Watching.{Covers}
-use Rattle.retention.proofs.Calls.{later_law, same_covered}
-use Rattle.forgetting.specs.Sights.{is_needed, is_kept, some_tag, each_tag, ends_of}
 use Rattle.forgetting.specs.Firings.{FireLaw}
 use Rattle.forgetting.proofs.Before.{kept_before, needed_kept, pending_kept}
 use Rattle.forgetting.proofs.Forgotten.{all_stay, IsForgotten, still_kept, holds_kept}

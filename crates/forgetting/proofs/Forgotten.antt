@@ -1,18 +1,11 @@
 -- The second phase of steps and of firings.
-use Rattle.std.proofs.Common.{◌≡◌, ℕ, ℤ, ◌&&◌, ◌||◌, Bool, true, false, cond, not, refl, sym, ◌∙◌, ap, Option, Some, None}
-use Rattle.std.specs.Prelude.{option_and_then, is_some}
-use Rattle.fx_base.specs.declared.fact.Fact.{Fact}
-use Rattle.rule_model.specs.declared.matched.Match.{Match}
-use Rattle.rule_model.specs.Matches.{has_match}
-use Rattle.due_queue.specs.Timers.{has_come}
-use Rattle.agenda.specs.Agendas.{names_tag}
-use Rattle.retention.specs.Retentions.{lingers, is_named}
-use Rattle.retention.specs.Watching.{Covers, Watches, is_old, without}
-use Rattle.retention.proofs.Calls.{same_watched}
+use Rattle.forgetting.proofs.Common.{◌≡◌, ℕ, ℤ, ◌&&◌, ◌||◌, Bool, true, false, cond, not, refl, sym, ◌∙◌, ap, Option, Some, None, option_and_then, is_some, Fact, Match, has_match, has_come, names_tag, lingers, Covers, without, same_watched, Lives, Sight, only, is_needed, is_kept_fact, kept, is_kept, some_tag, each_tag, ends_of, brought, changed, KeptBefore}
+use Rattle.retention.specs.Retentions.{is_named}
+use Rattle.retention.specs.Watching.{Watches, is_old}
 use Rattle.retention.proofs.Leaving.{left_law}
 use Rattle.retention.proofs.Past.{past_law}
-use Rattle.forgetting.specs.Sights.{Lives, Sight, Holding, HoldsKept, only, is_needed, is_kept_fact, kept, is_kept, some_tag, each_tag, ends_of}
-use Rattle.forgetting.specs.Steps.{brought, changed, KeptBefore, HasLeft, Forgets}
+use Rattle.forgetting.specs.Sights.{Holding, HoldsKept}
+use Rattle.forgetting.specs.Steps.{HasLeft, Forgets}
 use Rattle.forgetting.proofs.Before.{chosen, kept_here}
 use Rattle.forgetting.proofs.Naming.{any_alike, each_next}
 

@@ -1,3 +1,4 @@
+mod Common
 pub mod Naming
 pub mod Before
 pub mod Forgotten

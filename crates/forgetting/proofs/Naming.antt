@@ -1,20 +1,7 @@
 -- Lists of matches that name a tag, and the tags that a match names.
-use Rattle.std.proofs.Common.{◌≡◌, ℕ, ◌==◌, ◌&&◌, ◌||◌, Bool, true, false, not, inl, inr, List, [], ◌∷◌, refl, sym, ◌∙◌, ap}
-use Rattle.std.specs.List.{list_any, list_all}
-use Rattle.std.specs.Ordering.{eq_by_cmp}
-use Rattle.std.proofs.lemmas.Bool.Decides.{Decides-eqb}
-use Rattle.std.proofs.lemmas.Map.Views.{tells_apart}
-use Rattle.fx_base.specs.Lists.{In}
-use Rattle.row_delta.specs.declared.row.Named.{Named}
-use Rattle.rule_model.specs.declared.matched.Match.{Match}
-use Rattle.rule_model.specs.Matches.{match_cmp, has_match}
-use Rattle.rule_model.specs.MatchOrders.{match_equiv}
-use Rattle.rule_model.proofs.Exact.{match_exact}
-use Rattle.rule_model.proofs.Firsts.{or_left, or_right, or_split}
+use Rattle.forgetting.proofs.Common.{◌≡◌, ℕ, ◌==◌, ◌&&◌, ◌||◌, Bool, true, false, not, inl, inr, List, [], ◌∷◌, refl, sym, ◌∙◌, ap, list_any, eq_by_cmp, Decides-eqb, tells_apart, In, Named, Match, match_cmp, has_match, match_equiv, match_exact, or_left, or_right, or_split, and_both, and_parts, names_tag, each_tag, some_tag}
+use Rattle.std.specs.List.{list_all}
 use Rattle.rule_world.proofs.Acting.{all_of}
-use Rattle.rule_world.proofs.Fresh.{and_both, and_parts}
-use Rattle.agenda.specs.Agendas.{names_tag}
-use Rattle.forgetting.specs.Sights.{each_tag, some_tag}
 
 -- ---- lists
 

@@ -1,32 +1,13 @@
 -- The worlds of a program as forgetting sees them, and the facts under their tags.
-use Rattle.std.proofs.Common.{◌≡◌, ◌<◌, ℕ, ◌==◌, ◌||◌, ◌++◌, Bool, true, false, cond, not, List, [], ◌∷◌, inl, inr, refl, sym, ◌∙◌, ap, subst, arith, Option, Some, None}
-use Rattle.std.specs.Prelude.{is_some, map}
+use Rattle.forgetting.proofs.Common.{◌≡◌, ◌<◌, ℕ, ◌==◌, ◌||◌, ◌++◌, Bool, true, false, cond, not, List, [], ◌∷◌, inl, inr, refl, sym, ◌∙◌, ap, subst, arith, Option, Some, None, is_some, eq_by_cmp, nat_tests, Decides-eqb, In, Fact, Value, Named, Match, Program, HaveDistinctTags, match_equiv, matches, has_match, match_cmp, name_of, named_of, one_fact, rule_of, World, snapshot, present, only_present, has_id, revised, AllBelow, has_pending, only, brought, changed, fact_at}
+use Rattle.std.specs.Prelude.{map}
 use Rattle.std.specs.List.{filter}
-use Rattle.std.specs.Ordering.{eq_by_cmp}
 use Rattle.std.proofs.Math.Bool.{or_comm}
-use Rattle.std.proofs.lemmas.Bool.Decides.{nat_tests, Decides-eqb}
-use Rattle.fx_base.specs.Lists.{In}
-use Rattle.fx_base.specs.declared.fact.Fact.{Fact}
 use Rattle.fx_base.specs.declared.ids.Tag.{Tag}
-use Rattle.fx_base.specs.declared.value.Value.{Value}
-use Rattle.row_delta.specs.declared.row.Named.{Named}
-use Rattle.rule_model.specs.declared.matched.Match.{Match}
-use Rattle.rule_model.specs.declared.program.Program.{Program}
-use Rattle.rule_model.specs.Distinct.{HaveDistinctTags}
-use Rattle.rule_model.specs.MatchOrders.{match_equiv}
-use Rattle.rule_model.specs.Matches.{matches, has_match, match_cmp}
-use Rattle.rule_model.specs.Tuples.{name_of}
 use Rattle.rule_model.proofs.Listed.{in_map}
-use Rattle.rule_model.proofs.Named.{named_of}
-use Rattle.rule_model.proofs.Once.{one_fact}
-use Rattle.rule_model.proofs.RuleOf.{rule_of}
-use Rattle.rule_world.specs.Worlds.{World, snapshot, present, only_present, fact_of, has_id, revised, revised_in}
-use Rattle.rule_world.proofs.Fresh.{AllBelow}
+use Rattle.rule_world.specs.Worlds.{fact_of, revised_in}
 use Rattle.rule_world.proofs.Kept.{kept_matches}
-use Rattle.rule_world.proofs.Pending.{has_pending}
-use Rattle.forgetting.specs.Sights.{only}
-use Rattle.forgetting.specs.Steps.{brought, changed}
-use Rattle.forgetting.specs.WorldSights.{fact_at, SightLaw, WorldFireLaw}
+use Rattle.forgetting.specs.WorldSights.{SightLaw, WorldFireLaw}
 use Rattle.forgetting.proofs.Naming.{each_in}
 
 abbrev pub tag_of : ℕ → Tag

@@ -1,13 +1,7 @@
 -- The laws of a step in two phases.
-use Rattle.std.proofs.Common.{◌≡◌, ℤ, ◌≤ℤ◌, ◌+ℤ◌, ◌&&◌, ◌||◌, Bool, true, false, not, refl, sym, ◌∙◌, ap, arith, None}
-use Rattle.std.specs.Prelude.{int_le, pos, is_some, option_and_then}
-use Rattle.std.proofs.lemmas.Int.{ints}
-use Rattle.rule_model.specs.declared.matched.Match.{Match}
-use Rattle.rule_model.specs.Matches.{has_match}
-use Rattle.rule_world.proofs.Fresh.{and_parts}
-use Rattle.due_queue.specs.Timers.{has_come}
-use Rattle.retention.proofs.Calls.{new_law, same_watched}
-use Rattle.forgetting.specs.Sights.{Lives, Sight, IsLawful, EndLaw, end_of_life, only, is_needed, is_kept_fact, ends_of, is_kept, is_clean, some_tag, each_tag}
+use Rattle.forgetting.proofs.Common.{◌≡◌, ℤ, ◌≤ℤ◌, ◌+ℤ◌, ◌&&◌, ◌||◌, Bool, true, false, not, refl, sym, ◌∙◌, ap, arith, None, int_le, pos, is_some, option_and_then, ints, Match, has_match, and_parts, has_come, same_watched, Lives, Sight, IsLawful, end_of_life, only, is_needed, is_kept_fact, ends_of, is_kept, is_clean, some_tag, each_tag}
+use Rattle.retention.proofs.Calls.{new_law}
+use Rattle.forgetting.specs.Sights.{EndLaw}
 use Rattle.forgetting.specs.Steps.{StartLaw, LeftLaw, DropLaw, StepLaw}
 use Rattle.forgetting.proofs.Before.{pending_kept, kept_before_law}
 use Rattle.forgetting.proofs.Forgotten.{IsForgotten, still_kept, holds_kept}

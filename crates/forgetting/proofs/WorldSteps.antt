@@ -1,26 +1,14 @@
 -- A step of a world is one of the sights.
-use Rattle.std.proofs.Common.{◌≡◌, ◌<◌, ℕ, ℤ, ◌==◌, ◌&&◌, ◌≤ℤ◌, ◌+ℤ◌, Bool, true, false, cond, not, List, refl, sym, ◌∙◌, ap, arith, Option, Some, None}
-use Rattle.std.specs.Prelude.{is_some, option_map}
-use Rattle.fx_base.specs.declared.fact.Fact.{Fact}
-use Rattle.fx_base.specs.declared.value.Value.{Value}
-use Rattle.rule_model.specs.declared.program.Program.{Program}
-use Rattle.rule_model.specs.declared.step.Step.{Step}
+use Rattle.forgetting.proofs.Common.{◌≡◌, ◌<◌, ℕ, ℤ, ◌==◌, ◌&&◌, ◌≤ℤ◌, ◌+ℤ◌, Bool, true, false, cond, not, List, refl, sym, ◌∙◌, ap, arith, Option, Some, None, is_some, option_map, Fact, Value, Program, Step, is_present, HaveDistinctTags, matches, has_match, one_fact, IsOrdered, World, snapshot, present, only_present, found, revised, has_id, AllBelow, below_of, and_both, and_parts, kept_ordered, only, brought, changed, IsStep, fact_at, sight_of, comes, goes}
 use Rattle.rule_model.specs.declared.step.Step.TheVariants.{Insert, Modify, Retract, Advance, At, Promise, Begin}
-use Rattle.rule_model.specs.Candidates.{is_present}
-use Rattle.rule_model.specs.Distinct.{HaveDistinctTags}
-use Rattle.rule_model.specs.Matches.{matches, has_match}
-use Rattle.rule_model.proofs.Once.{one_fact}
-use Rattle.rule_world.specs.Lawful.{IsOrdered}
-use Rattle.rule_world.specs.Worlds.{World, snapshot, present, only_present, found, moved, settled, stepped, step_fault, modify_fault, new_fact, with_new, with_revised, with_retracted, at_clock, with_promise, with_begin, revised, has_id}
+use Rattle.rule_world.specs.Worlds.{moved, settled, stepped, step_fault, modify_fault, new_fact, with_new, with_revised, with_retracted, at_clock, with_promise, with_begin}
 use Rattle.rule_world.proofs.Faultless.{moved_forward}
 use Rattle.rule_world.proofs.Found.{found_in}
-use Rattle.rule_world.proofs.Fresh.{AllBelow, below_of, and_both, and_parts, has_number}
+use Rattle.rule_world.proofs.Fresh.{has_number}
 use Rattle.rule_world.proofs.Ids.{one_id}
-use Rattle.rule_world.proofs.Keeping.{others, kept_ordered, kept_new, kept_numbers, kept_revised, kept_without, kept_later}
+use Rattle.rule_world.proofs.Keeping.{others, kept_new, kept_numbers, kept_revised, kept_without, kept_later}
 use Rattle.rule_world.proofs.Pending.{has_still}
-use Rattle.forgetting.specs.Sights.{only}
-use Rattle.forgetting.specs.Steps.{brought, changed, IsStep}
-use Rattle.forgetting.specs.WorldSights.{fact_at, sight_of, comes, goes, WorldStepLaw, RetractsOne}
+use Rattle.forgetting.specs.WorldSights.{WorldStepLaw, RetractsOne}
 use Rattle.forgetting.proofs.Firing.{stands}
 use Rattle.forgetting.proofs.Forgotten.{all_stay}
 use Rattle.forgetting.proofs.Naming.{same_bool}

@@ -1,19 +1,7 @@
 -- The first rules that have first conditions of a rule are the same however they are found, and so are laden rows by them.
-use Rattle.std.proofs.Common.{◌≡◌, ◌∙◌, ℕ, zero, suc, ◌<◌, Bool, List, length, Option, Some, None, refl, ap}
-use Rattle.std.specs.Prelude.{slice_get}
-use Rattle.std.proofs.lemmas.Option.{slice_get_within}
-use Rattle.fx_base.specs.declared.fact.Fact.{Fact}
-use Rattle.row_delta.specs.declared.extra.Extra.{Extra}
-use Rattle.row_delta.specs.declared.row.Row.{Row}
-use Rattle.checkpoint.specs.declared.image.Image.{Image}
-use Rattle.rule_model.specs.declared.condition.Condition.{Condition}
-use Rattle.rule_model.specs.declared.life.LifeTable.{LifeTable}
-use Rattle.rule_model.specs.declared.program.Program.{Program}
-use Rattle.rule_model.specs.declared.program.Rule.{Rule}
-use Rattle.rule_model.specs.Snapshots.{Snapshot}
-use Rattle.image_laws.specs.Fitting.{IsLaden, IsLadenMatch, IsNeeded}
-use Rattle.image_laws.specs.Images.{snapshot_of}
-use Rattle.image_laws.specs.Laden.{extra_at, AreOwners, laden_with, laden}
+use Rattle.image_fitting.proofs.Common.{◌≡◌, ◌∙◌, ℕ, zero, suc, ◌<◌, Bool, List, length, Option, Some, None, refl, ap, slice_get, slice_get_within, Fact, Extra, Row, Image, Condition, LifeTable, Program, Rule, Snapshot, IsNeeded, snapshot_of, extra_at, AreOwners, laden_with}
+use Rattle.image_laws.specs.Fitting.{IsLaden, IsLadenMatch}
+use Rattle.image_laws.specs.Laden.{laden}
 use Rattle.image_fitting.proofs.Placing.{one_first}
 
 laden_same : (p : Program) (s : Snapshot) (extras : List Extra) (a b : ℕ → ℕ) (conditions : List Condition) → ((k : ℕ) → k < length conditions → a k ≡ b k)

@@ -1,12 +1,7 @@
 -- An image fits exactly where it fits by plain tests and by the rows over its facts.
-use Rattle.std.proofs.Common.{◌↔◌, ℕ}
-use Rattle.checkpoint.specs.declared.image.Image.{Image}
-use Rattle.rule_model.specs.declared.life.LifeTable.{LifeTable}
-use Rattle.rule_model.specs.declared.program.Program.{Program}
-use Rattle.rule_lives.specs.Keeping.{AreSafe}
+use Rattle.image_fitting.proofs.Common.{◌↔◌, ℕ, Image, LifeTable, Program, AreSafe, AreOwners, FitsPlainly}
 use Rattle.image_laws.specs.Fitting.{Fits}
-use Rattle.image_laws.specs.Laden.{AreOwners}
-use Rattle.image_fitting.specs.Plain.{FitsPlainly, FitsByRows}
+use Rattle.image_fitting.specs.Plain.{FitsByRows}
 use Rattle.image_fitting.proofs.Agreeing.{laden_by, match_by, needed_by}
 use Rattle.image_fitting.proofs.Present.{facts_present}
 

@@ -1,3 +1,4 @@
+mod Common
 mod Present
 mod Placing
 mod Agreeing

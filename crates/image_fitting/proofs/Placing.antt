@@ -1,20 +1,7 @@
 -- The places of extras by the table of the first rules, and the owners that the table has.
-use Rattle.std.proofs.Common.{◌≡◌, ◌↔◌, ◌∙◌, ◌==◌, ℕ, suc, ◌<◌, ℤ, Bool, true, false, List, length, Option, Some, None, IsTrue, refl, sym, ap, subst, arith}
-use Rattle.std.specs.Prelude.{slice_get, slice_index_or}
-use Rattle.std.proofs.lemmas.Bool.Decides.{nat_tests}
-use Rattle.std.proofs.lemmas.Option.{none-some, slice_get_within, slice_get-get_or, same_Some}
-use Rattle.row_delta.specs.declared.extra.Extra.{Extra}
-use Rattle.rule_model.specs.declared.condition.Condition.{Condition}
-use Rattle.rule_model.specs.declared.life.Life.{Life}
-use Rattle.rule_model.specs.declared.life.Life.TheVariants.{Plain, Explicit, Finite, Infinite}
-use Rattle.rule_model.specs.declared.life.LifeTable.{LifeTable}
-use Rattle.rule_model.specs.declared.program.Program.{Program}
-use Rattle.rule_model.specs.declared.program.Rule.{Rule}
+use Rattle.image_fitting.proofs.Common.{◌≡◌, ◌↔◌, ◌∙◌, ◌==◌, ℕ, suc, ◌<◌, ℤ, Bool, true, false, List, length, Option, Some, None, IsTrue, refl, sym, ap, subst, arith, slice_get, slice_index_or, nat_tests, none-some, slice_get_within, slice_get-get_or, same_Some, Extra, Condition, Life, Plain, Explicit, Finite, Infinite, LifeTable, Program, Rule, IsFirstWith, IsPlaced, AreOwners, IsTable}
 use Rattle.rule_model.specs.Rows.{pattern_of}
-use Rattle.image_laws.specs.Extras.{IsFirstWith}
-use Rattle.image_laws.specs.Fitting.{IsPlaced}
-use Rattle.image_laws.specs.Laden.{AreOwners}
-use Rattle.image_fitting.specs.Table.{IsTable, first_at, is_place, is_first, is_finite, CanCount}
+use Rattle.image_fitting.specs.Table.{first_at, is_place, is_first, is_finite, CanCount}
 
 number_is : (m n : ℕ) → (m == n) ≡ true → m ≡ n
 number_is m n e = grind (arith, nat_tests)

@@ -1,39 +1,22 @@
 -- The facts that laden rows name are present, and so are those of an image that fits.
-use Rattle.std.proofs.Common.{◌≡◌, ◌∙◌, ◌&&◌, ◌||◌, ◌==◌, not, ℕ, zero, suc, ◌<◌, ℤ, ◌-ℤ◌, get_or, Bool, true, false, List, [], ◌∷◌, length, inl, inr, Option, Some, None, refl, sym, ap, subst}
-use Rattle.std.specs.Prelude.{slice_get}
+use Rattle.image_fitting.proofs.Common.{◌≡◌, ◌∙◌, ◌&&◌, ◌||◌, ◌==◌, not, ℕ, zero, suc, ◌<◌, ℤ, ◌-ℤ◌, get_or, Bool, true, false, List, [], ◌∷◌, length, inl, inr, Option, Some, None, refl, sym, ap, subst, slice_get, none-some, slice_get_within, slice_get-get_or, In, Fact, Value, Extra, Row, Image, Condition, Life, Plain, Explicit, Finite, Infinite, LifeTable, Program, Snapshot, is_event, both_of, values_fit, IsLawful, AreSafe, world_of, IsNeeded, snapshot_of, laden_with, extra_at}
 use Rattle.std.specs.Option.{is_some}
 use Rattle.std.proofs.lemmas.Map.Views.{tells_apart}
-use Rattle.std.proofs.lemmas.Option.{none-some, slice_get_within, slice_get-get_or}
-use Rattle.fx_base.specs.Lists.{In}
-use Rattle.fx_base.specs.declared.fact.Fact.{Fact}
-use Rattle.fx_base.specs.declared.value.Value.{Value}
-use Rattle.row_delta.specs.declared.extra.Extra.{Extra}
 use Rattle.row_delta.specs.declared.row.Named.{Named}
-use Rattle.row_delta.specs.declared.row.Row.{Row}
 use Rattle.row_delta.specs.RowOrder.{row_exact}
-use Rattle.checkpoint.specs.declared.image.Image.{Image}
-use Rattle.rule_model.specs.declared.condition.Condition.{Condition}
 use Rattle.rule_model.specs.declared.condition.Condition.TheVariants.{Plain as plain_condition, Negated, Existing, Folded}
 use Rattle.rule_model.specs.declared.condition.Pattern.{Pattern}
-use Rattle.rule_model.specs.declared.life.Life.{Life}
-use Rattle.rule_model.specs.declared.life.Life.TheVariants.{Plain, Explicit, Finite, Infinite}
-use Rattle.rule_model.specs.declared.life.LifeTable.{LifeTable}
-use Rattle.rule_model.specs.declared.program.Program.{Program}
 use Rattle.rule_model.specs.declared.program.TypeInfo.{TypeInfo}
 use Rattle.rule_model.specs.Candidates.{is_present, is_within, is_inside, is_candidate, fits}
 use Rattle.rule_model.specs.Distinct.{HaveDistinctTags}
-use Rattle.rule_model.specs.Snapshots.{Snapshot}
 use Rattle.rule_model.specs.Tests.{tests_hold}
 use Rattle.rule_model.specs.Tuples.{name_of, unbound}
-use Rattle.rule_model.specs.Types.{is_event, expiry_of}
+use Rattle.rule_model.specs.Types.{expiry_of}
 use Rattle.rule_model.proofs.Firsts.{or_right}
-use Rattle.rule_model.proofs.Listed.{both_of, of_append}
+use Rattle.rule_model.proofs.Listed.{of_append}
 use Rattle.rule_model.proofs.Named.{of_filter}
 use Rattle.rule_model.proofs.Once.{one_fact}
 use Rattle.rule_model.proofs.Order.{passed}
-use Rattle.rule_world.specs.Kinds.{values_fit}
-use Rattle.rule_world.specs.Lawful.{IsLawful}
-use Rattle.rule_lives.specs.Keeping.{AreSafe}
 use Rattle.join_tests.specs.Joins.{joins}
 use Rattle.pair_memory.specs.Joined.{joined}
 use Rattle.pair_memory.proofs.Joining.{joined_with, joined_from}
@@ -42,9 +25,7 @@ use Rattle.condition_rows.specs.Lines.{is_ripe, empty_row, is_empty_row}
 use Rattle.condition_rows.specs.Sets.{held, candidates_of, has_partner}
 use Rattle.condition_rows.proofs.Joined.{candidate_of}
 use Rattle.keeping.specs.Kept.{is_alive}
-use Rattle.image_laws.specs.Fitting.{world_of, IsNeeded}
-use Rattle.image_laws.specs.Images.{snapshot_of}
-use Rattle.image_laws.specs.Laden.{values_of, laden_gives, laden_line, laden_with, extra_at, laden}
+use Rattle.image_laws.specs.Laden.{values_of, laden_gives, laden_line, laden}
 
 -- ---- what laden rows name
 

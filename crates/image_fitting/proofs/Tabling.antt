@@ -1,13 +1,7 @@
 -- The first rules with the conditions of a rule up to each of them, as the rules are gone through.
-use Rattle.std.proofs.Common.{◌≡◌, ◌∙◌, ℕ, zero, suc, ◌+◌, ◌-◌, ◌<◌, ◌≤◌, List, [], ◌∷◌, ◌++◌, length, take, replicate, Option, Some, None, refl, sym, ap, subst, arith, inl, inr, ◌⊎◌}
-use Rattle.std.specs.Prelude.{slice_get, option_map}
-use Rattle.std.proofs.lemmas.List.{length-append, length-replicate, length_push, take-take}
-use Rattle.std.proofs.lemmas.Option.{slice_get_within, same_Some}
-use Rattle.rule_model.specs.declared.condition.Condition.{Condition}
-use Rattle.rule_model.specs.declared.program.Program.{Program}
-use Rattle.rule_model.specs.declared.program.Rule.{Rule}
-use Rattle.image_laws.specs.Extras.{IsFirstWith}
-use Rattle.image_fitting.specs.Table.{AreFirsts, IsTable}
+use Rattle.image_fitting.proofs.Common.{◌≡◌, ◌∙◌, ℕ, zero, suc, ◌+◌, ◌-◌, ◌<◌, ◌≤◌, List, [], ◌∷◌, ◌++◌, length, take, replicate, Option, Some, None, refl, sym, ap, subst, arith, inl, inr, ◌⊎◌, slice_get, length-replicate, slice_get_within, same_Some, Condition, Program, Rule, IsFirstWith, AreFirsts, IsTable}
+use Rattle.std.specs.Prelude.{option_map}
+use Rattle.std.proofs.lemmas.List.{length-append, length_push, take-take}
 
 -- ---- lists that begin alike
 

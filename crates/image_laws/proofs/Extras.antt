@@ -1,32 +1,11 @@
 -- What the extras of a snapshot say of one condition at one row.
-use Rattle.std.proofs.Common.{◌≡◌, ◌∙◌, ◌&&◌, ◌==◌, ◌<◌, ℕ, zero, suc, Bool, true, false, List, [], ◌∷◌, length, cond, inl, inr, Option, Some, None, refl, sym, ap, subst, arith}
-use Rattle.std.specs.Prelude.{slice_get, take}
-use Rattle.std.specs.List.{find}
-use Rattle.std.specs.Option.{is_some}
+use Rattle.image_laws.proofs.Common.{◌≡◌, ◌∙◌, ◌&&◌, ◌==◌, ◌<◌, ℕ, zero, suc, Bool, true, false, List, [], ◌∷◌, length, cond, inl, inr, Option, Some, None, refl, sym, ap, subst, arith, slice_get, take, find, is_some, nat_tests, tells_apart, slice_get_within, In, Fact, Extra, Named, Row, row_exact, Condition, Negated, Existing, Folded, Program, Rule, pattern_of, Snapshot, both, both_of, binds, clean, cleaned, rows_of, lost_partners, values_gathered, AreExtras, values_of, count_of, extra_at, AreOwners}
 use Rattle.std.specs.Ordering.{eq_by_cmp}
-use Rattle.std.proofs.lemmas.Bool.Decides.{nat_tests}
-use Rattle.std.proofs.lemmas.Map.Views.{tells_apart}
-use Rattle.std.proofs.lemmas.Option.{slice_get_within}
-use Rattle.fx_base.specs.Lists.{In}
-use Rattle.fx_base.specs.declared.fact.Fact.{Fact}
-use Rattle.row_delta.specs.declared.extra.Extra.{Extra}
-use Rattle.row_delta.specs.declared.row.Named.{Named}
-use Rattle.row_delta.specs.declared.row.Row.{Row}
 use Rattle.row_delta.specs.Rows.{row_cmp}
-use Rattle.row_delta.specs.RowOrder.{same_equiv, row_exact}
-use Rattle.rule_model.specs.declared.condition.Condition.{Condition}
-use Rattle.rule_model.specs.declared.condition.Condition.TheVariants.{Plain, Negated, Existing, Folded}
-use Rattle.rule_model.specs.declared.program.Program.{Program}
-use Rattle.rule_model.specs.declared.program.Rule.{Rule}
-use Rattle.rule_model.specs.Rows.{pattern_of}
-use Rattle.rule_model.specs.Snapshots.{Snapshot}
-use Rattle.rule_model.proofs.Listed.{both, both_of}
-use Rattle.rule_lives.specs.Networks.{binds}
-use Rattle.pair_memory.specs.Standing.{clean, cleaned}
-use Rattle.condition_rows.specs.Sets.{rows_of}
-use Rattle.condition_node.specs.Loading.{lost_partners, values_gathered}
-use Rattle.image_laws.specs.Extras.{IsFirstWith, AreExtras}
-use Rattle.image_laws.specs.Laden.{values_of, count_of, is_extra_at, extra_at, AreOwners}
+use Rattle.row_delta.specs.RowOrder.{same_equiv}
+use Rattle.rule_model.specs.declared.condition.Condition.TheVariants.{Plain}
+use Rattle.image_laws.specs.Extras.{IsFirstWith}
+use Rattle.image_laws.specs.Laden.{is_extra_at}
 
 one_number : (m n : ℕ) → (m == n) ≡ true → m ≡ n
 one_number m n e = grind (arith, nat_tests)

@@ -1,7 +1,5 @@
 -- The values of kept facts and those of forgotten ones are together the values of all, up to their order.
-use Rattle.std.proofs.Common.{◌≡◌, ◌∙◌, ◌+◌, not, ℤ, Bool, true, false, List, [], ◌∷◌, ◌++◌, map, cond, refl, ap, arith}
-use Rattle.std.specs.List.{filter}
-use Rattle.fold_fn.specs.Laws.{HaveSame}
+use Rattle.image_laws.proofs.Common.{◌≡◌, ◌∙◌, ◌+◌, not, ℤ, Bool, true, false, List, [], ◌∷◌, ◌++◌, map, cond, refl, ap, arith, filter, HaveSame}
 use Rattle.fold_fn.specs.Order.{times, in_rising_order}
 use Rattle.fold_fn.proofs.Rising.{times-cons, times-nil, times-rising}
 

@@ -1,43 +1,12 @@
 -- The snapshot of an image has what is kept of the world's.
-use Rattle.std.proofs.Common.{◌≡◌, ◌↔◌, ◌∙◌, ◌&&◌, ◌==◌, not, ℕ, ℤ, Bool, true, false, Option, Some, None, refl, sym, ap, arith}
-use Rattle.std.specs.Prelude.{slice_get}
-use Rattle.std.specs.declared.cmp.Ordering.TheVariants.{Less, Equal}
-use Rattle.std.specs.Cmp.{IsTotalOrder}
-use Rattle.std.specs.Ordering.{nat_cmp}
-use Rattle.std.proofs.lemmas.Cmp.{on_total, nat_cmp_total, tied_itself}
-use Rattle.std.proofs.lemmas.Bool.Decides.{nat_tests}
-use mathlib.Core.Path.{fun_ext}
-use Rattle.fx_base.specs.Lists.{In}
-use Rattle.fx_base.specs.declared.ids.Tag.{Tag}
-use Rattle.fx_base.specs.declared.fact.Fact.{Fact}
-use Rattle.checkpoint.specs.declared.image.Image.{Image}
-use Rattle.rule_model.specs.declared.condition.Condition.{Condition}
-use Rattle.rule_model.specs.declared.condition.WindowTag.TheVariants.{Length}
-use Rattle.rule_model.specs.declared.life.Life.{Life}
-use Rattle.rule_model.specs.declared.life.Life.TheVariants.{Plain, Explicit, Finite, Infinite}
-use Rattle.rule_model.specs.declared.life.LifeTable.{LifeTable}
-use Rattle.rule_model.specs.declared.program.Program.{Program}
-use Rattle.rule_model.specs.declared.program.Rule.{Rule}
-use Rattle.rule_model.specs.Candidates.{is_present, fits}
-use Rattle.rule_model.specs.Distinct.{HaveDistinctTags}
-use Rattle.rule_model.specs.Moments.{moment_in, reached_in}
-use Rattle.rule_model.specs.Rows.{pattern_of}
+use Rattle.image_laws.proofs.Common.{◌≡◌, ◌↔◌, ◌∙◌, ◌&&◌, ◌==◌, not, ℕ, ℤ, Bool, true, false, Option, Some, None, refl, sym, ap, arith, slice_get, Less, Equal, IsTotalOrder, nat_cmp, on_total, nat_cmp_total, tied_itself, nat_tests, fun_ext, In, Tag, Fact, Image, Condition, Length, Life, Plain, Explicit, Finite, Infinite, LifeTable, Program, Rule, is_present, fits, HaveDistinctTags, moment_in, pattern_of, tests_hold, name_of, unbound, both_of, IsLawful, World, snapshot, AreSafe, not_true, is_alive, is_forgotten, is_tested, not_alive, tag_cmp, snapshot_of, IsImageOf, IsKeptOf}
+use Rattle.rule_model.specs.Moments.{reached_in}
 use Rattle.rule_model.specs.Snapshots.{Reached}
-use Rattle.rule_model.specs.Tests.{tests_hold}
-use Rattle.rule_model.specs.Tuples.{name_of, unbound}
-use Rattle.rule_model.proofs.Listed.{both_of}
-use Rattle.rule_world.specs.Lawful.{IsLawful}
-use Rattle.rule_world.specs.Worlds.{World, snapshot}
-use Rattle.rule_lives.specs.Keeping.{AreSafe}
 use Rattle.rule_lives.specs.Reach.{infinite}
-use Rattle.rule_lives.proofs.Basics.{not_true}
 use Rattle.rule_lives.proofs.Limits.{lives_below}
-use Rattle.keeping.specs.Kept.{is_alive, is_kept, is_forgotten}
-use Rattle.keeping.proofs.Decided.{kept_inside, is_so, is_tested}
-use Rattle.keeping.proofs.Staying.{not_alive}
+use Rattle.keeping.specs.Kept.{is_kept}
+use Rattle.keeping.proofs.Decided.{kept_inside, is_so}
 use Rattle.keeping.proofs.Versions.{forgotten_fact}
-use Rattle.image_laws.specs.Images.{tag_cmp, snapshot_of, IsImageOf}
-use Rattle.image_laws.specs.Laden.{IsKeptOf}
 use Rattle.image_laws.proofs.Sorted.{sorted_marked}
 
 number_of : (a b : ℕ) → (a == b) ≡ true → a ≡ b

@@ -1,38 +1,14 @@
 -- A snapshot of kept facts sees what is kept of the whole one as that does: versions, candidates, and which of them join a clean row.
-use Rattle.std.proofs.Common.{◌≡◌, ◌∙◌, ◌&&◌, ◌==◌, not, ℕ, Bool, true, false, List, [], ◌∷◌, length, nat_lt, cond, Option, Some, refl, sym, ap, subst, arith}
-use Rattle.std.specs.Prelude.{slice_get}
-use Rattle.std.specs.List.{filter, find}
-use Rattle.std.proofs.lemmas.Bool.Decides.{nat_tests}
-use Rattle.fx_base.specs.Lists.{In, EachOnce}
-use Rattle.fx_base.specs.declared.ids.Tag.{Tag}
-use Rattle.fx_base.specs.declared.fact.Fact.{Fact}
-use Rattle.row_delta.specs.declared.row.Named.{Named}
-use Rattle.row_delta.specs.declared.row.Row.{Row}
-use Rattle.rule_model.specs.declared.condition.Condition.{Condition}
-use Rattle.rule_model.specs.declared.condition.Pattern.{Pattern}
+use Rattle.image_laws.proofs.Common.{◌≡◌, ◌∙◌, ◌&&◌, ◌==◌, not, ℕ, Bool, true, false, List, [], ◌∷◌, length, nat_lt, cond, Option, Some, refl, sym, ap, subst, arith, slice_get, filter, find, nat_tests, In, EachOnce, Tag, Fact, Named, Row, Condition, Pattern, Length, Program, Rule, fits, is_inside, is_candidate, candidates, HaveDistinctTags, pattern_of, Snapshot, name_of, both, both_of, of_filter, once_filter, once_facts, Same, in_filter, passed, same_length, joins, cleaned, NameHeld, candidates_of, same_truth, partners_once, held_known, joining_alike, IsKeptOf}
 use Rattle.rule_model.specs.declared.condition.WindowTag.{WindowTag}
-use Rattle.rule_model.specs.declared.condition.WindowTag.TheVariants.{Whole, Time, Length}
-use Rattle.rule_model.specs.declared.program.Program.{Program}
-use Rattle.rule_model.specs.declared.program.Rule.{Rule}
-use Rattle.rule_model.specs.Candidates.{fits, is_behind, is_inside, is_candidate, candidates}
-use Rattle.rule_model.specs.Distinct.{HaveDistinctTags}
-use Rattle.rule_model.specs.Rows.{pattern_of}
-use Rattle.rule_model.specs.Snapshots.{Snapshot}
-use Rattle.rule_model.specs.Tuples.{name_of}
-use Rattle.rule_model.proofs.Listed.{both, both_of}
-use Rattle.rule_model.proofs.Named.{of_filter}
-use Rattle.rule_model.proofs.Once.{once_filter, once_facts}
-use Rattle.rule_model.proofs.Order.{Same, in_filter, passed, same_length}
-use Rattle.join_tests.specs.Joins.{joins}
-use Rattle.pair_memory.specs.Standing.{cleaned, remembered}
-use Rattle.condition_rows.specs.Looks.{HasAllOf, NameHeld}
-use Rattle.condition_rows.specs.Sets.{held, candidates_of, partners}
-use Rattle.condition_rows.proofs.Ends.{same_truth}
+use Rattle.rule_model.specs.declared.condition.WindowTag.TheVariants.{Whole, Time}
+use Rattle.rule_model.specs.Candidates.{is_behind}
+use Rattle.pair_memory.specs.Standing.{remembered}
+use Rattle.condition_rows.specs.Looks.{HasAllOf}
+use Rattle.condition_rows.specs.Sets.{held, partners}
 use Rattle.condition_rows.proofs.Holding.{held_fact, held_in}
 use Rattle.condition_rows.proofs.Joined.{candidate_named, candidate_of}
-use Rattle.condition_node.proofs.Folding.{partners_once}
-use Rattle.condition_node.proofs.Knowing.{held_known, joining_alike, not_of}
-use Rattle.image_laws.specs.Laden.{IsKeptOf}
+use Rattle.condition_node.proofs.Knowing.{not_of}
 
 pub not_is : (b : Bool) → b ≡ false → not b ≡ true
 not_is true e = sym e

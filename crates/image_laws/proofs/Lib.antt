@@ -1,3 +1,4 @@
+mod Common
 pub mod Kept
 pub mod Extras
 pub mod Gathered

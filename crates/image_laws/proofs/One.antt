@@ -1,25 +1,12 @@
 -- A world has one image: two images of it that say the same of the run so far are equal.
-use Rattle.std.proofs.Common.{◌≡◌, ◌∙◌, ℕ, suc, ℤ, Bool, List, [], ◌∷◌, map, length, refl, sym, ap, subst, arith}
-use Rattle.std.specs.Cmp.{IsTotalOrder}
-use Rattle.std.proofs.lemmas.Cmp.{on_total, then_total, nat_cmp_total}
-use Rattle.fx_base.specs.Lists.{In}
-use Rattle.fx_base.specs.declared.fact.Fact.{Fact}
-use Rattle.row_delta.specs.declared.extra.Extra.{Extra}
+use Rattle.image_laws.proofs.Common.{◌≡◌, ◌∙◌, ℕ, suc, ℤ, Bool, List, [], ◌∷◌, map, length, refl, sym, ap, subst, arith, IsTotalOrder, on_total, nat_cmp_total, In, Fact, Extra, FiredMatch, Image, LifeTable, Match, Program, moment_in, in_map, of_map, Same, has_in, World, tag_cmp, match_fired, IsImageOf}
+use Rattle.std.proofs.lemmas.Cmp.{then_total}
 use Rattle.row_delta.specs.RowOrder.{row_total}
-use Rattle.checkpoint.specs.declared.image.FiredMatch.{FiredMatch}
-use Rattle.checkpoint.specs.declared.image.Image.{Image}
 use Rattle.checkpoint.specs.declared.image.RunPart.{RunPart}
-use Rattle.rule_model.specs.declared.life.LifeTable.{LifeTable}
-use Rattle.rule_model.specs.declared.matched.Match.{Match}
-use Rattle.rule_model.specs.declared.program.Program.{Program}
 use Rattle.rule_model.specs.MatchOrders.{match_total}
-use Rattle.rule_model.specs.Moments.{moment_in}
-use Rattle.rule_model.proofs.Listed.{in_map, of_map}
-use Rattle.rule_model.proofs.Order.{Same}
-use Rattle.rule_model.proofs.RuleOf.{in_has, has_in}
-use Rattle.rule_world.specs.Worlds.{World}
+use Rattle.rule_model.proofs.RuleOf.{in_has}
 use Rattle.image_laws.specs.Extras.{extra_cmp}
-use Rattle.image_laws.specs.Images.{AreMoments, tag_cmp, match_fired, fired_cmp, has_fired, IsImageOf}
+use Rattle.image_laws.specs.Images.{AreMoments, fired_cmp, has_fired}
 use Rattle.image_laws.proofs.Imaged.{tag_total}
 use Rattle.image_laws.proofs.Sorted.{sorted_same}
 

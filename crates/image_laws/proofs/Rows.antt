@@ -1,59 +1,32 @@
 -- The rows of kept facts, with the extras, are the rows of all facts that name kept ones alone.
-use Rattle.std.proofs.Common.{◌≡◌, ◌∙◌, ◌&&◌, ◌||◌, not, ℕ, zero, suc, ◌+◌, ℤ, Bool, true, false, List, [], ◌∷◌, ◌++◌, map, length, inl, inr, Option, Some, None, refl, sym, ap, subst, arith}
-use Rattle.std.specs.Prelude.{slice_get, take}
-use Rattle.std.specs.List.{filter}
-use Rattle.std.specs.Option.{is_some}
-use Rattle.std.proofs.lemmas.Map.Views.{tells_apart}
-use mathlib.Core.Path.{fun_ext}
-use Rattle.fx_base.specs.Lists.{In}
-use Rattle.fx_base.specs.declared.fact.Fact.{Fact}
+use Rattle.image_laws.proofs.Common.{◌≡◌, ◌∙◌, ◌&&◌, ◌||◌, not, ℕ, zero, suc, ◌+◌, ℤ, Bool, true, false, List, [], ◌∷◌, ◌++◌, map, length, inl, inr, Option, Some, None, refl, sym, ap, subst, arith, slice_get, take, filter, is_some, tells_apart, fun_ext, In, Fact, HaveSame, Extra, Named, Row, row_exact, Condition, Negated, Existing, Folded, Pattern, Program, Rule, candidates, HaveDistinctTags, argument, pattern_of, Snapshot, name_of, in_map, of_map, of_filter, in_filter, passed, same_length, binds, joins, clean, cleaned, NameHeld, rows_of, candidates_of, same_truth, partners_once, held_known, joining_alike, passing_one, lost_partners, AreExtras, values_of, count_of, extra_at, AreOwners, IsKeptOf}
 use Rattle.std.proofs.lemmas.List.Filters.{length-filter_both}
-use Rattle.fold_fn.specs.Laws.{HaveSame}
 use Rattle.fold_fn.specs.Results.{fold_result}
 use Rattle.fold_fn.proofs.ResultLemmas.{result_same}
-use Rattle.row_delta.specs.declared.extra.Extra.{Extra}
-use Rattle.row_delta.specs.declared.row.Named.{Named}
-use Rattle.row_delta.specs.declared.row.Row.{Row}
-use Rattle.row_delta.specs.RowOrder.{row_exact}
 use Rattle.rule_model.specs.declared.condition.Accumulate.{Accumulate}
-use Rattle.rule_model.specs.declared.condition.Condition.{Condition}
-use Rattle.rule_model.specs.declared.condition.Condition.TheVariants.{Plain, Negated, Existing, Folded}
-use Rattle.rule_model.specs.declared.condition.Pattern.{Pattern}
-use Rattle.rule_model.specs.declared.program.Program.{Program}
-use Rattle.rule_model.specs.declared.program.Rule.{Rule}
-use Rattle.rule_model.specs.Candidates.{candidates}
-use Rattle.rule_model.specs.Distinct.{HaveDistinctTags}
+use Rattle.rule_model.specs.declared.condition.Condition.TheVariants.{Plain}
 use Rattle.rule_model.specs.Lent.{bound_in}
 use Rattle.rule_model.specs.Maturity.{is_mature}
-use Rattle.rule_model.specs.Rows.{argument, pattern_of, rows}
-use Rattle.rule_model.specs.Snapshots.{Snapshot, floor}
+use Rattle.rule_model.specs.Rows.{rows}
+use Rattle.rule_model.specs.Snapshots.{floor}
 use Rattle.rule_model.specs.Tests.{results_hold}
-use Rattle.rule_model.specs.Tuples.{Bindings, name_of}
+use Rattle.rule_model.specs.Tuples.{Bindings}
 use Rattle.rule_model.proofs.Firsts.{or_left, or_right, or_split}
 use Rattle.rule_model.proofs.Floors.{same_floor}
-use Rattle.rule_model.proofs.Listed.{in_map, of_map}
-use Rattle.rule_model.proofs.Named.{of_filter}
-use Rattle.rule_model.proofs.Order.{in_filter, passed, same_length, same_values}
+use Rattle.rule_model.proofs.Order.{same_values}
 use Rattle.rule_model.proofs.RuleOf.{in_place}
-use Rattle.rule_lives.specs.Networks.{binds}
-use Rattle.join_tests.specs.Joins.{joins}
 use Rattle.pair_memory.specs.Joined.{joined}
-use Rattle.pair_memory.specs.Standing.{clean, cleaned}
 use Rattle.pair_memory.proofs.Moving.{named_alike}
 use Rattle.pair_memory.proofs.Worlds.{joined_clean}
 use Rattle.condition_rows.specs.Lines.{gives, is_ripe, is_result, line, is_empty_row, empty_row}
-use Rattle.condition_rows.specs.Looks.{NameHeld}
-use Rattle.condition_rows.specs.Sets.{held, rows_of, candidates_of, has_partner, partners}
-use Rattle.condition_rows.proofs.Ends.{same_truth}
+use Rattle.condition_rows.specs.Sets.{held, has_partner, partners}
 use Rattle.condition_rows.proofs.Naming.{rows_named}
 use Rattle.condition_rows.proofs.Whole.{one_more}
-use Rattle.condition_node.proofs.Folding.{valued_clean, partners_once}
-use Rattle.condition_node.proofs.Knowing.{held_known, joining_alike, row_alike}
+use Rattle.condition_node.proofs.Folding.{valued_clean}
+use Rattle.condition_node.proofs.Knowing.{row_alike}
 use Rattle.condition_node.proofs.Shown.{asked_first}
-use Rattle.keeping.proofs.Members.{some_passes, passing_one}
-use Rattle.condition_node.specs.Loading.{lost_partners}
-use Rattle.image_laws.specs.Extras.{AreExtras}
-use Rattle.image_laws.specs.Laden.{values_of, count_of, laden_gives, laden_line, laden_with, extra_at, AreOwners, laden, IsKeptOf}
+use Rattle.keeping.proofs.Members.{some_passes}
+use Rattle.image_laws.specs.Laden.{laden_gives, laden_line, laden_with, laden}
 use Rattle.image_laws.proofs.Extras.{to_extra, of_extra, extra_values, extra_count}
 use Rattle.image_laws.proofs.Gathered.{parted_values}
 use Rattle.image_laws.proofs.Kept.{known, to_kept, from_kept, candidates_kept, joins_same, partners_kept, partners_once_kept}

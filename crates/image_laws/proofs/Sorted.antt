@@ -1,14 +1,7 @@
 -- Lists in a strict order: what stands in them stands once, and two with the same members are equal.
-use Rattle.std.proofs.Common.{◌≡◌, ◌∙◌, inl, inr, List, [], ◌∷◌, map, refl, sym, ap, subst}
+use Rattle.image_laws.proofs.Common.{◌≡◌, ◌∙◌, inl, inr, List, [], ◌∷◌, map, refl, sym, ap, subst, Less, Equal, IsTotalOrder, AllByRecursion, tied_itself, In, EachOnce, of_map, Same}
 use Rattle.std.specs.declared.cmp.Ordering.{Ordering}
-use Rattle.std.specs.declared.cmp.Ordering.TheVariants.{Less, Equal}
-use Rattle.std.specs.Cmp.{IsTotalOrder}
-use Rattle.std.specs.List.{AllByRecursion}
 use Rattle.std.specs.List.Sorted.{IsStrictlySortedBy}
-use Rattle.std.proofs.lemmas.Cmp.{tied_itself}
-use Rattle.fx_base.specs.Lists.{In, EachOnce}
-use Rattle.rule_model.proofs.Listed.{of_map}
-use Rattle.rule_model.proofs.Order.{Same}
 
 module _ {A : Type 0} (c : A → A → Ordering) (total : IsTotalOrder c) where
   irreflexive : (x : A) → c x x ≡ Less → ⊥

@@ -1,26 +1,14 @@
 -- How equalities are counted, and fed to a hash, one after another.
-use Rattle.std.proofs.Common.{◌≡◌, ◌≢◌, ◌∙◌, sym, ap, refl, ℕ, ◌+◌, ◌<◌, ◌⊎◌, inl, inr, List, [], ◌∷◌, ◌++◌, map, length, get_or, drop, Option}
+use Rattle.join_tests.proofs.Common.{◌≡◌, ◌≢◌, ◌∙◌, sym, ap, refl, ℕ, ◌+◌, ◌<◌, ◌⊎◌, inl, inr, List, [], ◌∷◌, ◌++◌, map, length, get_or, drop, Option, option_map, cast_signed, FoldHasher, Value, Int, Fact, Named, Compare, Test, field_of, JoinKey, Nothing, Look, keys_of_choices, keys_of_tests, given_or_true, candidate_part, fed_with, as_one, with_slot, and_more, part}
 use Rattle.std.specs.Borrow.{Bor}
-use Rattle.std.specs.Option.{option_map}
 use Rattle.std.proofs.lemmas.List.{at_drop_more}
-use Rattle.std.specs.Int.{w64, cast_signed}
+use Rattle.std.specs.Int.{w64}
 use Rattle.std.specs.Hash.FoldHasher as hasher
-use Rattle.std.specs.declared.hash.FoldHasher.{FoldHasher}
-use Rattle.fx_base.specs.declared.value.Value.{Value}
-use Rattle.fx_base.specs.declared.value.Value.TheVariants.{Int}
-use Rattle.fx_base.specs.declared.fact.Fact.{Fact}
-use Rattle.row_delta.specs.declared.row.Named.{Named}
-use Rattle.rule_model.specs.declared.test.Compare.{Compare}
-use Rattle.rule_model.specs.declared.test.Test.{Test}
-use Rattle.rule_model.specs.Tests.{field_of}
-use Rattle.join_tests.specs.declared.key.JoinKey.{JoinKey}
 use Rattle.join_tests.specs.declared.key.Keying.{Keying}
-use Rattle.join_tests.specs.declared.key.Keying.TheVariants.{Nothing, One, Several}
+use Rattle.join_tests.specs.declared.key.Keying.TheVariants.{One, Several}
 use Rattle.join_tests.specs.declared.part.Partner.TheVariants.{OfCandidate}
-use Rattle.join_tests.specs.Joins.{Look}
-use Rattle.join_tests.specs.Keys.{keys_of_choices, keys_of_tests, given_or_true, candidate_part, fed_with, number_for, as_one}
-use Rattle.join_tests.specs.Kept.{with_slot}
-use Rattle.join_tests.specs.Keying.{and_one, and_more, part}
+use Rattle.join_tests.specs.Keys.{number_for}
+use Rattle.join_tests.specs.Keying.{and_one}
 
 pub and_both : (keying : Keying) (keys more : List JoinKey) → and_more keying (keys ++ more) ≡ and_more (and_more keying keys) more
 and_both keying [] more = refl

@@ -1,32 +1,18 @@
 -- The join value of a row is among those that are sought for a candidate which joins it, and the candidate's among those for the row.
-use Rattle.std.proofs.Common.{◌≡◌, ◌∙◌, sym, ap, refl, subst, arith, ℕ, ℤ, pos, ◌+ℤ◌, ◌≤ℤ◌, List, [], ◌∷◌, ◌++◌, map, Bool, true, false, ◌&&◌, ◌||◌, Option, Some, None, slice_get}
+use Rattle.join_tests.proofs.Common.{◌≡◌, ◌∙◌, sym, ap, refl, subst, arith, ℕ, ℤ, pos, ◌+ℤ◌, ◌≤ℤ◌, List, [], ◌∷◌, ◌++◌, map, Bool, true, false, ◌&&◌, ◌||◌, Option, Some, None, slice_get, option_map, ints, Value, same_value, equal_values, Fact, Named, Row, Compare, Test, Pattern, tuple_of, field_of, times_hold, Bindings, JoinKey, Look, version_at, versions_at, passes_given, keys_of_compares, keys_of_choices, keys_of_tests, given_or_true, row_part, candidate_part, as_one, TimeKey, point_of, moment_at, row_moment, candidate_moment, first_event, last_event, first_candidate, last_candidate, kept_under, is_among}
 use Rattle.std.specs.List.{list_any}
-use Rattle.std.specs.Option.{option_map}
-use Rattle.std.proofs.lemmas.Int.{ints}
-use Rattle.fx_base.specs.declared.value.Value.{Value}
-use Rattle.fx_base.specs.Values.{same_value}
-use Rattle.fx_base.specs.SameValues.{equal_values}
-use Rattle.fx_base.specs.declared.fact.Fact.{Fact}
-use Rattle.row_delta.specs.declared.row.Named.{Named}
-use Rattle.row_delta.specs.declared.row.Row.{Row}
 use Rattle.rule_model.specs.declared.test.RelTag.{RelTag}
 use Rattle.rule_model.specs.declared.test.RelTag.TheVariants.{OneOf, Equal, NotEqual, Less, LessOrEqual, Greater, GreaterOrEqual}
 use Rattle.rule_model.specs.declared.test.Side.{Side}
 use Rattle.rule_model.specs.declared.test.Side.TheVariants.{Lit, Own, Of, Result}
-use Rattle.rule_model.specs.declared.test.Compare.{Compare}
-use Rattle.rule_model.specs.declared.test.Test.{Test}
-use Rattle.rule_model.specs.declared.condition.Pattern.{Pattern}
-use Rattle.rule_model.specs.Lent.{bound_in, tuple_of}
-use Rattle.rule_model.specs.Tests.{field_of, related, related_given, side_value, related_side, compare_holds, compares_hold, test_holds, tests_hold, times_hold}
-use Rattle.rule_model.specs.Tuples.{Bindings, bound_by}
+use Rattle.rule_model.specs.Lent.{bound_in}
+use Rattle.rule_model.specs.Tests.{related, related_given, side_value, related_side, compare_holds, compares_hold, test_holds, tests_hold}
+use Rattle.rule_model.specs.Tuples.{bound_by}
 use Rattle.rule_model.proofs.Naming.{bound_named}
-use Rattle.join_tests.specs.declared.key.JoinKey.{JoinKey}
-use Rattle.join_tests.specs.Joins.{Look, version_at, versions_at, passes_given, joins}
-use Rattle.join_tests.specs.Keys.{key_of_side, key_of_sides, key_of_compare, in_front, keys_of_compares, keys_of_choices, keys_of_tests, join_keys, earlier_value, given_or_true, row_part, candidate_part, as_one}
-use Rattle.join_tests.specs.declared.time_key.TimeKey.{TimeKey}
+use Rattle.join_tests.specs.Joins.{joins}
+use Rattle.join_tests.specs.Keys.{key_of_side, key_of_sides, key_of_compare, in_front, join_keys, earlier_value}
 use Rattle.join_tests.specs.TimeKeys.{time_key}
-use Rattle.join_tests.specs.Slots.{point_of, moment_at, row_moment, candidate_moment, first_event, last_event, first_candidate, last_candidate}
-use Rattle.join_tests.specs.Kept.{kept_under, row_value, candidate_value, rows_sought, candidates_sought, is_among}
+use Rattle.join_tests.specs.Kept.{row_value, candidate_value, rows_sought, candidates_sought}
 use Rattle.join_tests.proofs.Neighbours.{found_among}
 use Rattle.join_tests.proofs.Ranges.{Fits, fits_times}
 use Rattle.join_tests.proofs.Versions.{version_is, versions_are, row_is}

@@ -1,22 +1,11 @@
 -- The value under which a row is kept, by its side of the equalities and of the range of time.
-use Rattle.std.proofs.Common.{◌≡◌, ◌∙◌, ap, refl, arith, ◌≤◌, length, List, [], ◌∷◌, ◌++◌, map, Option, Some, None}
-use Rattle.std.specs.Option.{option_map}
-use Rattle.std.specs.Int.{w64, cast_signed}
+use Rattle.join_tests.proofs.Common.{◌≡◌, ◌∙◌, ap, refl, arith, ◌≤◌, length, List, [], ◌∷◌, ◌++◌, map, Option, Some, None, option_map, cast_signed, FoldHasher, Value, Int, Row, Pattern, JoinKey, TimeKey, Look, join_keys, row_part, fed_with, as_one, time_key, row_moment, with_slot, kept_under, side_of, side_part}
+use Rattle.std.specs.Int.{w64}
 use Rattle.std.specs.Hash.FoldHasher as hasher
-use Rattle.std.specs.declared.hash.FoldHasher.{FoldHasher}
-use Rattle.fx_base.specs.declared.value.Value.{Value}
-use Rattle.fx_base.specs.declared.value.Value.TheVariants.{Int}
-use Rattle.row_delta.specs.declared.row.Row.{Row}
-use Rattle.rule_model.specs.declared.condition.Pattern.{Pattern}
-use Rattle.join_tests.specs.declared.key.JoinKey.{JoinKey}
 use Rattle.join_tests.specs.declared.key.JoinSide.{JoinSide}
-use Rattle.join_tests.specs.declared.time_key.TimeKey.{TimeKey}
-use Rattle.join_tests.specs.Joins.{Look}
-use Rattle.join_tests.specs.Keys.{join_keys, row_part, fed_with, number_for, as_one}
-use Rattle.join_tests.specs.TimeKeys.{time_key}
-use Rattle.join_tests.specs.Slots.{row_moment}
-use Rattle.join_tests.specs.Kept.{with_slot, kept_under, row_value}
-use Rattle.join_tests.specs.RowKeys.{side_of, row_time, row_key, side_part, kept_by_time, value_by}
+use Rattle.join_tests.specs.Keys.{number_for}
+use Rattle.join_tests.specs.Kept.{row_value}
+use Rattle.join_tests.specs.RowKeys.{row_time, row_key, kept_by_time, value_by}
 use Rattle.join_tests.proofs.Counting.{number_behind}
 
 mapped_both : (keys more : List JoinKey) → map side_of (keys ++ more) ≡ map side_of keys ++ map side_of more

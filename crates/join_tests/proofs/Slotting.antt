@@ -1,10 +1,5 @@
 -- What is kept and sought where a pattern has no range of time, and where it has one.
-use Rattle.std.proofs.Common.{◌≡◌, ◌∙◌, sym, ap, ℤ, List, [], ◌∷◌, Option, Some, None}
-use Rattle.fx_base.specs.declared.value.Value.{Value}
-use Rattle.join_tests.specs.declared.time_key.TimeKey.{TimeKey}
-use Rattle.join_tests.specs.Keys.{as_one}
-use Rattle.join_tests.specs.Slots.{slot_value}
-use Rattle.join_tests.specs.Kept.{with_slot, kept_under, once, sought_under}
+use Rattle.join_tests.proofs.Common.{◌≡◌, ◌∙◌, sym, ap, ℤ, List, [], ◌∷◌, Option, Some, None, Value, TimeKey, as_one, slot_value, with_slot, kept_under, once, sought_under}
 
 module _ (values : List Value) (time : Option TimeKey) where
   pub kept_timeless : (moment : TimeKey → ℤ) → time ≡ None → as_one values ≡ kept_under values time moment

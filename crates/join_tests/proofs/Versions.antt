@@ -1,18 +1,14 @@
 -- Versions that are at hand are the facts of a tuple that the row names.
-use Rattle.std.proofs.Common.{◌≡◌, ◌∙◌, sym, ap, refl, subst, List, [], ◌∷◌, map, Bool, true, false, cond, ◌&&◌, Option, Some, None}
-use Rattle.std.specs.Option.{option_map, option_and_then, is_some}
+use Rattle.join_tests.proofs.Common.{◌≡◌, ◌∙◌, sym, ap, refl, subst, List, [], ◌∷◌, map, Bool, true, false, cond, ◌&&◌, Option, Some, None, option_map, is_some, Fact, Named, Row, Pattern, tuple_of, Look, version_at, versions_at, passes_given}
+use Rattle.std.specs.Option.{option_and_then}
 use Rattle.std.specs.declared.cmp.Ordering.{Ordering}
 use Rattle.std.specs.declared.cmp.Ordering.TheVariants.{Less, Equal, Greater}
 use Rattle.std.specs.Ordering.{is_eq}
-use Rattle.fx_base.specs.declared.fact.Fact.{Fact}
-use Rattle.row_delta.specs.declared.row.Named.{Named}
-use Rattle.row_delta.specs.declared.row.Row.{Row}
 use Rattle.row_delta.specs.NameOrder.{name_cmp, name_exact}
-use Rattle.rule_model.specs.declared.condition.Pattern.{Pattern}
 use Rattle.rule_model.specs.Candidates.{passes}
-use Rattle.rule_model.specs.Lent.{Holds, tuple_of}
+use Rattle.rule_model.specs.Lent.{Holds}
 use Rattle.rule_model.specs.Tuples.{Tuple, name_of, row_of}
-use Rattle.join_tests.specs.Joins.{Look, is_version, version_at, versions_at, tuple_at, passes_given, joins}
+use Rattle.join_tests.specs.Joins.{is_version, tuple_at, joins}
 
 equal_from : (o : Ordering) → is_eq o ≡ true → o ≡ Equal
 equal_from Less e = let f : false ≡ true = e in cc

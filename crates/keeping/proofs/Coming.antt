@@ -1,38 +1,22 @@
 -- What comes in a step names what is kept, and meets what is kept.
-use Rattle.std.proofs.Common.{◌≡◌, ◌∙◌, ◌&&◌, not, ℕ, zero, suc, true, false, List, [], ◌∷◌, Some, refl, sym, subst, ap}
-use Rattle.std.specs.Prelude.{slice_get, take}
-use Rattle.fx_base.specs.Lists.{In}
-use Rattle.fx_base.specs.declared.fact.Fact.{Fact}
-use Rattle.row_delta.specs.declared.row.Named.{Named}
+use Rattle.keeping.proofs.Common.{◌≡◌, ◌∙◌, ◌&&◌, not, ℕ, zero, suc, true, false, List, [], ◌∷◌, Some, refl, sym, subst, ap, slice_get, In, Fact, Named, Condition, LifeTable, Program, Rule, Step, is_candidate, pattern_of, Snapshot, name_of, both_of, of_filter, in_filter, World, snapshot, IsKept, binds, not_true, same_fact, held, candidates_of, held_fact, candidate_of, is_kept, is_forgotten, IsLawfulStep, behind}
+use Rattle.std.specs.Prelude.{take}
 use Rattle.row_delta.specs.declared.row.Row.{Row}
-use Rattle.rule_model.specs.declared.condition.Condition.{Condition}
-use Rattle.rule_model.specs.declared.life.LifeTable.{LifeTable}
-use Rattle.rule_model.specs.declared.program.Program.{Program}
-use Rattle.rule_model.specs.declared.program.Rule.{Rule}
-use Rattle.rule_model.specs.declared.step.Step.{Step}
-use Rattle.rule_model.specs.Candidates.{is_candidate, candidates, passes}
+use Rattle.rule_model.specs.Candidates.{candidates, passes}
 use Rattle.rule_model.specs.Lent.{Holds}
-use Rattle.rule_model.specs.Rows.{HaveOperators, pattern_of}
-use Rattle.rule_model.specs.Snapshots.{Snapshot}
-use Rattle.rule_model.specs.Tuples.{Tuple, empty_tuple, name_of, row_of}
-use Rattle.rule_model.proofs.Listed.{both_of, of_map, makes_listed, listed_makes}
-use Rattle.rule_model.proofs.Named.{of_filter}
-use Rattle.rule_model.proofs.Order.{in_filter}
-use Rattle.rule_world.specs.Worlds.{World, snapshot}
-use Rattle.rule_lives.specs.Keeping.{IsKept, Comes}
-use Rattle.rule_lives.specs.Networks.{binds}
-use Rattle.rule_lives.proofs.Basics.{not_true}
+use Rattle.rule_model.specs.Rows.{HaveOperators}
+use Rattle.rule_model.specs.Tuples.{Tuple, empty_tuple, row_of}
+use Rattle.rule_model.proofs.Listed.{of_map, makes_listed, listed_makes}
+use Rattle.rule_lives.specs.Keeping.{Comes}
 use Rattle.rule_lives.proofs.Keeps.{here, tuple_names_kept, tuple_meets_kept}
-use Rattle.rule_lives.proofs.Matched.{operators_of, same_fact}
+use Rattle.rule_lives.proofs.Matched.{operators_of}
 use Rattle.join_tests.specs.Joins.{Look, joins}
 use Rattle.pair_memory.specs.Standing.{clean, no_names}
 use Rattle.condition_rows.specs.Looks.{HasAllOf}
-use Rattle.condition_rows.specs.Sets.{held, candidates_of}
 use Rattle.condition_rows.proofs.Ends.{IsMade, tuple_of_row, row_of_tuple}
-use Rattle.condition_rows.proofs.Holding.{held_fact, joins_of_tuple}
-use Rattle.condition_rows.proofs.Joined.{made_facts, candidate_of}
-use Rattle.keeping.specs.Kept.{is_kept, is_forgotten}
-use Rattle.keeping.specs.Steps.{IsLawfulStep, behind, RowComes}
+use Rattle.condition_rows.proofs.Holding.{joins_of_tuple}
+use Rattle.condition_rows.proofs.Joined.{made_facts}
+use Rattle.keeping.specs.Steps.{RowComes}
 use Rattle.keeping.proofs.Decided.{is_tested}
 use Rattle.keeping.proofs.Members.{none_passes}
 use Rattle.keeping.proofs.Versions.{IsLost, lost, tags_behind}

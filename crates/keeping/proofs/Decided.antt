@@ -1,26 +1,10 @@
 -- The test of what is kept is true exactly of what is kept.
-use Rattle.std.proofs.Common.{◌≡◌, ◌↔◌, ◌∙◌, ℤ, ◌+ℤ◌, ◌≤ℤ◌, true, false, Option, Some, None, inl, inr, refl, sym, ap, arith}
-use Rattle.std.specs.Prelude.{slice_get, int_le}
-use Rattle.std.proofs.lemmas.Int.{ints}
-use Rattle.fx_base.specs.Lists.{In}
-use Rattle.fx_base.specs.declared.fact.Fact.{Fact}
-use Rattle.rule_model.specs.declared.life.Life.{Life}
-use Rattle.rule_model.specs.declared.life.Life.TheVariants.{Plain, Explicit, Finite, Infinite}
-use Rattle.rule_model.specs.declared.life.LifeTable.{LifeTable}
-use Rattle.rule_model.specs.declared.matched.Match.{Match}
-use Rattle.rule_model.specs.declared.program.Program.{Program}
-use Rattle.rule_model.specs.Tuples.{name_of}
-use Rattle.rule_model.specs.Types.{is_event, expiry_of}
-use Rattle.rule_model.proofs.Firsts.{or_left, or_right, or_split}
-use Rattle.rule_model.proofs.Named.{of_filter}
-use Rattle.rule_model.proofs.Order.{in_filter, passed}
+use Rattle.keeping.proofs.Common.{◌≡◌, ◌↔◌, ◌∙◌, ℤ, ◌+ℤ◌, ◌≤ℤ◌, true, false, Option, Some, None, inl, inr, refl, sym, ap, arith, slice_get, int_le, ints, In, Fact, Life, Plain, Explicit, Finite, Infinite, LifeTable, Match, Program, name_of, is_event, expiry_of, or_left, or_right, or_split, of_filter, in_filter, passed, World, pending, AreSafe, IsKept, has_name, is_alive, is_named}
 use Rattle.rule_model.proofs.RuleOf.{in_has, has_in}
-use Rattle.rule_world.specs.Worlds.{World, pending}
-use Rattle.rule_lives.specs.Keeping.{AreSafe, IsKept, plain, unexpired, endless, living, named}
+use Rattle.rule_lives.specs.Keeping.{plain, unexpired, endless, living, named}
 use Rattle.rule_lives.proofs.Safe.{plain_unlisted}
-use Rattle.pair_memory.specs.Joined.{has_name}
 use Rattle.condition_rows.proofs.Ends.{in_name, name_in}
-use Rattle.keeping.specs.Kept.{is_alive, is_named, is_kept, kept_facts}
+use Rattle.keeping.specs.Kept.{is_kept, kept_facts}
 use Rattle.keeping.proofs.Members.{some_passes, passing_one}
 
 at_most : (a b : ℤ) → int_le a b ≡ true → a ≤ℤ b

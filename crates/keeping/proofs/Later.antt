@@ -1,32 +1,13 @@
 -- What is forgotten stays forgotten, by steps and by firings.
-use Rattle.std.proofs.Common.{◌≡◌, ◌∙◌, ◌||◌, not, Bool, true, false, inl, inr, ◌∷◌, Option, Some, None, refl, sym, ap, subst}
-use Rattle.std.specs.Prelude.{slice_get}
+use Rattle.keeping.proofs.Common.{◌≡◌, ◌∙◌, ◌||◌, not, Bool, true, false, inl, inr, ◌∷◌, Option, Some, None, refl, sym, ap, subst, slice_get, In, Fact, Named, LifeTable, Match, Program, Step, name_of, or_left, or_right, or_split, of_filter, in_filter, passed, IsOrdered, World, snapshot, pending, not_true, version_at, has_name, held, is_alive, is_named, is_lost, IsLawfulStep, same_fact}
 use Rattle.std.specs.Ordering.{eq_by_cmp}
-use Rattle.fx_base.specs.Lists.{In}
-use Rattle.fx_base.specs.declared.fact.Fact.{Fact}
-use Rattle.row_delta.specs.declared.row.Named.{Named}
-use Rattle.rule_model.specs.declared.life.LifeTable.{LifeTable}
-use Rattle.rule_model.specs.declared.matched.Match.{Match}
-use Rattle.rule_model.specs.declared.program.Program.{Program}
-use Rattle.rule_model.specs.declared.step.Step.{Step}
 use Rattle.rule_model.specs.Matches.{matches, match_cmp, has_match}
-use Rattle.rule_model.specs.Tuples.{name_of}
-use Rattle.rule_model.proofs.Firsts.{or_left, or_right, or_split}
-use Rattle.rule_model.proofs.Named.{of_filter}
-use Rattle.rule_model.proofs.Order.{in_filter, passed}
-use Rattle.rule_world.specs.Lawful.{IsOrdered}
-use Rattle.rule_world.specs.Worlds.{World, snapshot, stepped, marked, pending}
+use Rattle.rule_world.specs.Worlds.{stepped, marked}
 use Rattle.rule_world.proofs.Steps.{step_in_order}
-use Rattle.rule_lives.proofs.Basics.{not_true}
 use Rattle.rule_lives.proofs.Remains.{kept_before}
-use Rattle.join_tests.specs.Joins.{version_at}
-use Rattle.pair_memory.specs.Joined.{has_name}
-use Rattle.condition_rows.specs.Sets.{held}
-use Rattle.keeping.specs.Kept.{is_alive, is_named, is_kept, is_lost, is_forgotten}
-use Rattle.keeping.specs.Steps.{IsLawfulStep}
+use Rattle.keeping.specs.Kept.{is_kept, is_forgotten}
 use Rattle.keeping.proofs.Decided.{is_so, is_tested}
 use Rattle.keeping.proofs.Members.{some_passes, passing_one}
-use Rattle.rule_lives.proofs.Matched.{same_fact}
 use Rattle.keeping.proofs.Versions.{lost, forgotten_fact}
 
 -- what is not kept is forgotten, of a world in order

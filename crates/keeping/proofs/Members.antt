@@ -1,8 +1,6 @@
 -- Tests of the members of a list.
-use Rattle.std.proofs.Common.{◌≡◌, ◌∙◌, ◌||◌, inl, inr, Bool, true, false, List, [], ◌∷◌, refl, sym, ap}
+use Rattle.keeping.proofs.Common.{◌≡◌, ◌∙◌, ◌||◌, inl, inr, Bool, true, false, List, [], ◌∷◌, refl, sym, ap, In, or_left, or_right, or_split}
 use Rattle.std.specs.List.{list_any}
-use Rattle.fx_base.specs.Lists.{In}
-use Rattle.rule_model.proofs.Firsts.{or_left, or_right, or_split}
 
 neither : (a b : Bool) → a ≡ false → b ≡ false → (a || b) ≡ false
 neither true b e k = e

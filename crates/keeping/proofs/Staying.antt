@@ -1,48 +1,20 @@
 -- What is forgotten stays a candidate, or stays none.
-use Rattle.std.proofs.Common.{◌≡◌, ◌∙◌, ◌&&◌, ◌||◌, ◌==◌, not, ℕ, ℤ, ◌+ℤ◌, ◌-ℤ◌, ◌≤ℤ◌, ◌<ℤ◌, Bool, true, false, if◌then◌else◌, List, [], ◌∷◌, Option, Some, None, refl, sym, subst, ap, arith}
-use Rattle.std.specs.Prelude.{slice_get, int_le, int_lt}
-use Rattle.std.proofs.lemmas.Int.{ints}
-use Rattle.fx_base.specs.Lists.{In}
-use Rattle.fx_base.specs.declared.fact.Fact.{Fact}
+use Rattle.keeping.proofs.Common.{◌≡◌, ◌∙◌, ◌&&◌, ◌||◌, ◌==◌, not, ℕ, ℤ, ◌+ℤ◌, ◌-ℤ◌, ◌≤ℤ◌, ◌<ℤ◌, Bool, true, false, if◌then◌else◌, List, [], ◌∷◌, Option, Some, None, refl, sym, subst, ap, arith, slice_get, int_le, ints, In, Fact, Named, Condition, WindowTag, Time, Life, Plain, Explicit, Finite, Infinite, LifeTable, Program, Rule, Step, is_inside, is_candidate, pattern_of, Snapshot, tests_hold, unbound, name_of, is_event, expiry_of, both_of, of_filter, in_filter, IsLawful, World, snapshot, was_present, AreSafe, IsLife, binds, finite, not_true, same_number, lives_below, candidates_of, candidate_of, is_alive, is_named, is_forgotten, IsLawfulStep, behind, same_fact}
+use Rattle.std.specs.Prelude.{int_lt}
 use Rattle.fx_base.specs.declared.value.Value.{Value}
-use Rattle.row_delta.specs.declared.row.Named.{Named}
-use Rattle.rule_model.specs.declared.condition.Condition.{Condition}
-use Rattle.rule_model.specs.declared.condition.WindowTag.{WindowTag}
-use Rattle.rule_model.specs.declared.condition.WindowTag.TheVariants.{Whole, Time, Length}
-use Rattle.rule_model.specs.declared.life.Life.{Life}
-use Rattle.rule_model.specs.declared.life.Life.TheVariants.{Plain, Explicit, Finite, Infinite}
-use Rattle.rule_model.specs.declared.life.LifeTable.{LifeTable}
-use Rattle.rule_model.specs.declared.program.Program.{Program}
-use Rattle.rule_model.specs.declared.program.Rule.{Rule}
-use Rattle.rule_model.specs.declared.step.Step.{Step}
+use Rattle.rule_model.specs.declared.condition.WindowTag.TheVariants.{Whole, Length}
 use Rattle.rule_model.specs.declared.step.Step.TheVariants.{Insert, Modify, Retract, Advance, At, Promise, Begin}
-use Rattle.rule_model.specs.Candidates.{is_within, is_present, is_inside, is_candidate}
-use Rattle.rule_model.specs.Rows.{pattern_of}
-use Rattle.rule_model.specs.Snapshots.{Snapshot}
-use Rattle.rule_model.specs.Tests.{tests_hold}
-use Rattle.rule_model.specs.Tuples.{unbound, name_of}
-use Rattle.rule_model.specs.Types.{is_event, is_observed, expiry_of}
-use Rattle.rule_model.proofs.Listed.{both_of, in_map, in_left}
-use Rattle.rule_model.proofs.Named.{of_filter}
-use Rattle.rule_model.proofs.Order.{in_filter}
-use Rattle.rule_world.specs.Lawful.{IsLawful}
-use Rattle.rule_world.specs.Worlds.{World, snapshot, moved, step_fault, found, new_fact, has_id, revised, revised_in}
+use Rattle.rule_model.specs.Candidates.{is_within, is_present}
+use Rattle.rule_model.specs.Types.{is_observed}
+use Rattle.rule_model.proofs.Listed.{in_map, in_left}
+use Rattle.rule_world.specs.Worlds.{moved, step_fault, found, new_fact, has_id, revised, revised_in}
 use Rattle.rule_world.proofs.Fresh.{revise}
-use Rattle.rule_world.proofs.Keeping.{was_present}
 use Rattle.rule_world.proofs.Steps.{stays}
-use Rattle.rule_lives.specs.Keeping.{AreSafe}
-use Rattle.rule_lives.specs.Lifetimes.{IsLife}
-use Rattle.rule_lives.specs.Networks.{binds}
-use Rattle.rule_lives.specs.Reach.{finite, infinite}
-use Rattle.rule_lives.proofs.Basics.{not_true, same_number}
-use Rattle.rule_lives.proofs.Limits.{lives_below}
-use Rattle.condition_rows.specs.Sets.{candidates_of}
+use Rattle.rule_lives.specs.Reach.{infinite}
 use Rattle.condition_rows.proofs.Ends.{same_truth}
-use Rattle.condition_rows.proofs.Joined.{candidate_named, candidate_of}
-use Rattle.keeping.specs.Kept.{is_alive, is_named, is_kept, is_forgotten}
-use Rattle.keeping.specs.Steps.{IsLawfulStep, behind}
+use Rattle.condition_rows.proofs.Joined.{candidate_named}
+use Rattle.keeping.specs.Kept.{is_kept}
 use Rattle.rule_lives.proofs.Laws.{observed_of}
-use Rattle.rule_lives.proofs.Matched.{same_fact}
 use Rattle.rule_lives.proofs.Moves.{plain_there, retracted_is_not_observed, clock_on}
 use Rattle.keeping.proofs.Versions.{lost, tags_behind}
 

@@ -1,20 +1,10 @@
 -- Versions of the facts of a world, before a step and behind it.
-use Rattle.std.proofs.Common.{◌≡◌, not, Bool, true, false, Option, Some, None, refl, sym, ap}
-use Rattle.fx_base.specs.Lists.{In}
-use Rattle.fx_base.specs.declared.fact.Fact.{Fact}
-use Rattle.row_delta.specs.declared.row.Named.{Named}
-use Rattle.rule_model.specs.declared.life.LifeTable.{LifeTable}
-use Rattle.rule_model.specs.declared.program.Program.{Program}
-use Rattle.rule_model.specs.declared.step.Step.{Step}
+use Rattle.keeping.proofs.Common.{◌≡◌, not, Bool, true, false, Option, Some, None, refl, sym, ap, In, Fact, Named, LifeTable, Program, Step, name_of, IsOrdered, World, snapshot, version_at, held, held_fact, is_kept, is_lost}
 use Rattle.rule_model.specs.Distinct.{HaveDistinctTags}
-use Rattle.rule_model.specs.Tuples.{name_of}
-use Rattle.rule_world.specs.Lawful.{IsOrdered}
-use Rattle.rule_world.specs.Worlds.{World, snapshot, moved}
+use Rattle.rule_world.specs.Worlds.{moved}
 use Rattle.rule_world.proofs.Steps.{numbered, move_numbered}
-use Rattle.join_tests.specs.Joins.{version_at}
-use Rattle.condition_rows.specs.Sets.{held}
-use Rattle.condition_rows.proofs.Holding.{version_of, held_fact, version_in}
-use Rattle.keeping.specs.Kept.{is_kept, is_lost, is_forgotten}
+use Rattle.condition_rows.proofs.Holding.{version_of, version_in}
+use Rattle.keeping.specs.Kept.{is_forgotten}
 
 -- ---- what is forgotten
 

@@ -1,30 +1,6 @@
 -- What is not kept is inside no window of time, then and later.
-use Rattle.std.proofs.Common.{◌≡◌, ◌∙◌, ◌&&◌, ◌==◌, ℕ, zero, suc, ℤ, ◌+ℤ◌, ◌-ℤ◌, ◌≤ℤ◌, ◌<ℤ◌, Bool, true, false, List, [], ◌∷◌, Option, Some, None, inl, inr, refl, sym, ap}
-use Rattle.std.specs.Prelude.{slice_get}
-use Rattle.fx_base.specs.Lists.{In}
-use Rattle.fx_base.specs.declared.fact.Fact.{Fact}
-use Rattle.rule_model.specs.declared.condition.Condition.{Condition}
-use Rattle.rule_model.specs.declared.condition.WindowTag.{WindowTag}
-use Rattle.rule_model.specs.declared.condition.WindowTag.TheVariants.{Time}
-use Rattle.rule_model.specs.declared.life.Life.{Life}
-use Rattle.rule_model.specs.declared.life.Life.TheVariants.{Plain, Explicit, Finite, Infinite}
-use Rattle.rule_model.specs.declared.life.LifeTable.{LifeTable}
-use Rattle.rule_model.specs.declared.program.Program.{Program}
-use Rattle.rule_model.specs.declared.program.Rule.{Rule}
-use Rattle.rule_model.specs.Candidates.{is_present, is_inside, is_candidate}
-use Rattle.rule_model.specs.Rows.{pattern_of}
-use Rattle.rule_model.specs.Snapshots.{Snapshot}
-use Rattle.rule_model.specs.Tests.{tests_hold}
-use Rattle.rule_model.specs.Tuples.{unbound}
-use Rattle.rule_world.specs.Lawful.{IsLawful}
-use Rattle.rule_world.specs.Worlds.{World}
-use Rattle.rule_world.proofs.Keeping.{was_present}
-use Rattle.rule_lives.specs.Keeping.{AreSafe}
-use Rattle.rule_lives.specs.Lifetimes.{IsLife}
-use Rattle.rule_lives.specs.Reach.{finite}
-use Rattle.rule_lives.proofs.Basics.{not_true, same_number}
-use Rattle.rule_lives.proofs.Limits.{lives_below}
-use Rattle.keeping.specs.Kept.{is_alive, is_kept}
+use Rattle.keeping.proofs.Common.{◌≡◌, ◌∙◌, ◌&&◌, ◌==◌, ℕ, zero, suc, ℤ, ◌+ℤ◌, ◌-ℤ◌, ◌≤ℤ◌, ◌<ℤ◌, Bool, true, false, List, [], ◌∷◌, Option, Some, None, inl, inr, refl, sym, ap, slice_get, In, Fact, Condition, WindowTag, Time, Life, Plain, Explicit, Finite, Infinite, LifeTable, Program, Rule, is_inside, is_candidate, pattern_of, Snapshot, tests_hold, unbound, IsLawful, World, was_present, AreSafe, IsLife, finite, not_true, same_number, lives_below, is_alive, is_kept}
+use Rattle.rule_model.specs.Candidates.{is_present}
 use Rattle.keeping.proofs.Staying.{after_life, after_less, not_below, too_old, later_too, not_alive}
 
 -- a member of a list has a place in it

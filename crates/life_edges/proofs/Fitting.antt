@@ -1,24 +1,10 @@
 -- The edges of a network are such as a network of 16 points takes.
-use Rattle.std.proofs.Common.{◌≡◌, ◌+◌, ◌^◌, ◌<◌, ◌≤◌, ℕ, zero, suc, ℤ, pos, negsuc, ◌≤ℤ◌, Bool, true, false, List, [], ◌∷◌, length, Some, subst, arith}
-use Rattle.std.specs.Prelude.{slice_get}
-use Rattle.std.specs.List.{All, flat_map}
-use Rattle.std.proofs.lemmas.Int.{ints}
-use Rattle.std.proofs.lemmas.List.Elements.{All-nil, All-cons, All-head, All-tail, All-append, All-map, All-weaker}
+use Rattle.life_edges.proofs.Common.{◌≡◌, ◌+◌, ◌^◌, ◌<◌, ◌≤◌, ℕ, zero, suc, ℤ, pos, negsuc, ◌≤ℤ◌, Bool, true, false, List, [], ◌∷◌, length, Some, subst, arith, slice_get, All, flat_map, ints, All-nil, All-cons, All-head, All-tail, All-append, All-weaker, Corner, AStart, AEnd, BStart, BEnd, OpEdge, NetEdge, Condition, Program, TimeTest, pattern_of, HaveOperators, is_point, NameEarlier, start_of, end_of, point_of, place_of, net_edge, test_edges, event_edges, pattern_edges, stands_in, edges_of}
+use Rattle.std.proofs.lemmas.List.Elements.{All-map}
 use Rattle.std.proofs.lemmas.Option.{slice_get_within}
-use Rattle.temporal_ops.specs.declared.edge.Corner.{Corner}
-use Rattle.temporal_ops.specs.declared.edge.Corner.TheVariants.{AStart, AEnd, BStart, BEnd}
-use Rattle.temporal_ops.specs.declared.edge.OpEdge.{OpEdge}
 use Rattle.temporal_ops.specs.Edges.{IsOpEdge, IsWithin}
-use Rattle.temporal_net.specs.declared.edge.NetEdge.{NetEdge}
 use Rattle.temporal_net.specs.Networks.{IsAmong, IsSmall}
-use Rattle.rule_model.specs.declared.condition.Condition.{Condition}
-use Rattle.rule_model.specs.declared.program.Program.{Program}
-use Rattle.rule_model.specs.declared.test.TimeTest.{TimeTest}
 use Rattle.rule_model.specs.Maturity.{AreOperators}
-use Rattle.rule_model.specs.Rows.{pattern_of, HaveOperators}
-use Rattle.rule_model.specs.Types.{is_point}
-use Rattle.rule_world.specs.Programs.{NameEarlier}
-use Rattle.life_edges.specs.Edges.{start_of, end_of, point_of, place_of, net_edge, test_edges, event_edges, pattern_edges, stands_in, edges_of}
 use Rattle.life_edges.proofs.Places.{the_same, place_below, named_here}
 use Rattle.life_edges.proofs.Solutions.{Named}
 use Rattle.life_edges.proofs.Solved.{held, each_from}

@@ -1,16 +1,5 @@
 -- Places of the conditions that bind facts.
-use Rattle.std.proofs.Common.{◌≡◌, ◌<◌, ◌≤◌, ℕ, zero, suc, List, [], ◌∷◌, length, take, Some, true, false, refl, ap, arith}
-use Rattle.std.specs.Prelude.{slice_get}
-use Rattle.std.specs.List.{All}
-use Rattle.std.proofs.lemmas.List.Elements.{All-weaker}
-use Rattle.rule_model.specs.declared.condition.Condition.{Condition}
-use Rattle.rule_model.specs.declared.condition.Condition.TheVariants.{Plain, Negated, Existing, Folded}
-use Rattle.rule_model.specs.declared.condition.Pattern.{Pattern}
-use Rattle.rule_model.specs.declared.test.TimeTest.{TimeTest}
-use Rattle.rule_model.specs.Rows.{pattern_of}
-use Rattle.rule_lives.specs.Networks.{bindings}
-use Rattle.rule_world.specs.Programs.{NameEarlier}
-use Rattle.life_edges.specs.Edges.{place_of}
+use Rattle.life_edges.proofs.Common.{◌≡◌, ◌<◌, ◌≤◌, ℕ, zero, suc, List, [], ◌∷◌, length, take, Some, true, false, refl, ap, arith, slice_get, All, All-weaker, Condition, Plain, Negated, Existing, Folded, Pattern, TimeTest, pattern_of, bindings, NameEarlier, place_of}
 
 pub the_same : {A : Type 0} {x y : A} → Some x ≡ Some y → x ≡ y
 the_same e = cc

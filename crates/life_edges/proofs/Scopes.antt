@@ -1,18 +1,8 @@
 -- What the conditions that matter to one of them have of the rule.
-use Rattle.std.proofs.Common.{◌≡◌, ◌<◌, ◌≤◌, ℕ, zero, suc, List, [], ◌∷◌, length, take, Some, refl, sym, ap, subst, arith}
-use Rattle.std.specs.Prelude.{slice_get}
-use Rattle.std.specs.List.{All}
-use Rattle.rule_model.specs.declared.condition.Condition.{Condition}
-use Rattle.rule_model.specs.declared.condition.Condition.TheVariants.{Plain, Negated, Existing, Folded}
-use Rattle.rule_model.specs.declared.program.Program.{Program}
-use Rattle.rule_model.specs.declared.test.TimeTest.{TimeTest}
-use Rattle.rule_model.specs.Rows.{pattern_of, HaveOperators}
-use Rattle.rule_lives.specs.Networks.{bindings}
-use Rattle.rule_lives.specs.Reach.{Placed}
+use Rattle.life_edges.proofs.Common.{◌≡◌, ◌<◌, ◌≤◌, ℕ, zero, suc, List, [], ◌∷◌, length, take, Some, refl, sym, ap, subst, arith, slice_get, All, Condition, Plain, Negated, Existing, Folded, Program, TimeTest, pattern_of, HaveOperators, bindings, Placed, HaveLives}
 use Rattle.rule_lives.specs.Lifetimes.{scope}
 use Rattle.life_edges.specs.Edges.{HaveNetwork}
 use Rattle.life_edges.specs.Places.{placed, StandsIn}
-use Rattle.life_edges.specs.Tails.{HaveLives}
 
 front : (n place : ℕ) (xs : List Condition) (c : Condition) → slice_get (take n xs) place ≡ Some c → (slice_get xs place ≡ Some c) × (take place (take n xs) ≡ take place xs)
 front zero place xs c h = absurd cc

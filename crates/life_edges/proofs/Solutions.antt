@@ -1,26 +1,10 @@
 -- The solutions of the edges between numbered points are those of the network of occurrences.
-use Rattle.std.proofs.Common.{◌≡◌, ◌++◌, ◌<◌, ℕ, ℤ, pos, ◌-ℤ◌, ◌≤ℤ◌, Bool, true, false, List, [], ◌∷◌, map, Some, refl, sym, ◌∙◌, ap, subst, arith}
-use Rattle.std.specs.Prelude.{slice_get}
+use Rattle.life_edges.proofs.Common.{◌≡◌, ◌++◌, ◌<◌, ℕ, ℤ, pos, ◌-ℤ◌, ◌≤ℤ◌, Bool, true, false, List, [], ◌∷◌, map, Some, refl, sym, ◌∙◌, ap, subst, arith, slice_get, All, list_all, flat_map, ints, All-nil, All-cons, All-head, All-tail, All-append, Times, Corner, AStart, AEnd, BStart, BEnd, OpEdge, NetEdge, Condition, Plain, Pattern, Program, TimeTest, is_point, Occurrence, bound, bindings, occurrence, Meets, start_of, end_of, point_of, place_of, net_edge, test_edges, event_edges, pattern_edges}
 use Rattle.std.specs.Int.Signed.{le_z}
-use Rattle.std.specs.List.{All, list_all, flat_map}
-use Rattle.std.proofs.lemmas.Int.{ints}
-use Rattle.std.proofs.lemmas.List.Elements.{All-nil, All-cons, All-head, All-tail, All-append}
-use Rattle.fx_base.specs.declared.times.Times.{Times}
-use Rattle.temporal_ops.specs.declared.edge.Corner.{Corner}
-use Rattle.temporal_ops.specs.declared.edge.Corner.TheVariants.{AStart, AEnd, BStart, BEnd}
-use Rattle.temporal_ops.specs.declared.edge.OpEdge.{OpEdge}
 use Rattle.temporal_ops.specs.Edges.{corner, edge_holds, edges_hold}
 use Rattle.temporal_ops.specs.Possible.{IsEvent}
-use Rattle.temporal_net.specs.declared.edge.NetEdge.{NetEdge}
-use Rattle.rule_model.specs.declared.condition.Condition.{Condition}
-use Rattle.rule_model.specs.declared.condition.Condition.TheVariants.{Plain}
-use Rattle.rule_model.specs.declared.condition.Pattern.{Pattern}
-use Rattle.rule_model.specs.declared.program.Program.{Program}
-use Rattle.rule_model.specs.declared.test.TimeTest.{TimeTest}
-use Rattle.rule_model.specs.Types.{is_point}
 use Rattle.rule_model.proofs.Listed.{both, both_of}
-use Rattle.rule_lives.specs.Networks.{Occurrence, bound, bindings, occurrence, is_met, Meets}
-use Rattle.life_edges.specs.Edges.{start_of, end_of, point_of, place_of, net_edge, test_edges, event_edges, pattern_edges}
+use Rattle.rule_lives.specs.Networks.{is_met}
 use Rattle.life_edges.proofs.Places.{false_is, binder}
 
 abbrev pub Holds : (ℕ → ℤ) → NetEdge → Type 0

@@ -1,29 +1,12 @@
 -- The list of what is asked has exactly what is to be asked.
-use Rattle.std.proofs.Common.{◌≡◌, ◌⊎◌, inl, inr, ◌++◌, ◌+◌, ◌<◌, ◌≤◌, ℕ, zero, suc, ℤ, Bool, true, false, List, [], ◌∷◌, Option, Some, None, if◌then◌else◌, refl, sym, ap, subst, ◌∙◌, arith}
-use Rattle.std.specs.Prelude.{slice_get}
+use Rattle.life_proof.proofs.Common.{◌≡◌, ◌⊎◌, inl, inr, ◌++◌, ◌+◌, ◌<◌, ◌≤◌, ℕ, zero, suc, ℤ, Bool, true, false, List, [], ◌∷◌, Option, Some, None, if◌then◌else◌, refl, sym, ap, subst, ◌∙◌, arith, slice_get, In, Condition, WindowTag, Whole, Time, Length, Life, LifeTable, Program, pattern_of, in_place, IsRunnable, scope, HaveNetwork, placed, rules_have_networks, scope_network, Asked, HasPlaces, IsAsked, each_from, asked_at, asked_to, asked_from, asked_in, asked, scope_of}
 use Rattle.std.specs.List.{All}
 use Rattle.std.proofs.lemmas.List.Elements.{All-nil, All-cons}
 use Rattle.std.proofs.lemmas.Option.{slice_get_within}
-use Rattle.fx_base.specs.Lists.{In}
-use Rattle.rule_model.specs.declared.condition.Condition.{Condition}
-use Rattle.rule_model.specs.declared.condition.WindowTag.{WindowTag}
-use Rattle.rule_model.specs.declared.condition.WindowTag.TheVariants.{Whole, Time, Length}
-use Rattle.rule_model.specs.declared.life.Life.{Life}
 use Rattle.rule_model.specs.declared.life.Life.TheVariants as life
-use Rattle.rule_model.specs.declared.life.LifeTable.{LifeTable}
-use Rattle.rule_model.specs.declared.program.Program.{Program}
-use Rattle.rule_model.specs.Rows.{pattern_of}
 use Rattle.rule_model.specs.Types.{is_reference}
-use Rattle.rule_model.proofs.RuleOf.{in_place}
-use Rattle.rule_world.specs.Programs.{IsRunnable}
-use Rattle.rule_lives.specs.Lifetimes.{scope}
-use Rattle.life_edges.specs.Edges.{HaveNetwork}
-use Rattle.life_edges.specs.Places.{placed}
-use Rattle.life_edges.proofs.Runnable.{rules_have_networks}
-use Rattle.life_edges.proofs.Scopes.{scope_network}
-use Rattle.life_proof.specs.declared.part.Asked.{Asked}
-use Rattle.life_proof.specs.Asked.{HasPlaces, IsAsked, each_from, asked_at, asked_to, life_under, asked_within, asked_from, asked_in, asked}
-use Rattle.life_proof.specs.Good.{scope_of, scope_in, scope_with}
+use Rattle.life_proof.specs.Asked.{life_under, asked_within}
+use Rattle.life_proof.specs.Good.{scope_in, scope_with}
 
 -- ---- lists
 

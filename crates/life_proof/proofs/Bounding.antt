@@ -1,40 +1,15 @@
 -- What a good certificate shows.
-use Rattle.std.proofs.Common.{◌≡◌, ◌⊎◌, inl, inr, ℕ, zero, suc, ℤ, pos, negsuc, ◌+ℤ◌, ◌-ℤ◌, ◌≤ℤ◌, ◌<ℤ◌, Bool, true, false, List, [], ◌∷◌, length, Some, None, refl, sym, ap, subst, ◌∙◌, arith}
-use Rattle.std.specs.Prelude.{slice_get}
-use Rattle.std.proofs.lemmas.Int.{ints}
-use Rattle.fx_base.specs.Lists.{In}
+use Rattle.life_proof.proofs.Common.{◌≡◌, ◌⊎◌, inl, inr, ℕ, zero, suc, ℤ, pos, negsuc, ◌+ℤ◌, ◌-ℤ◌, ◌≤ℤ◌, ◌<ℤ◌, Bool, true, false, List, [], ◌∷◌, length, Some, None, refl, sym, ap, subst, ◌∙◌, arith, slice_get, ints, In, NetEdge, total, Condition, WindowTag, Whole, Time, Length, Life, Plain, Explicit, Finite, Infinite, LifeTable, Program, Rule, pattern_of, is_event, in_place, IsRunnable, IsLifeOf, Adds, of_fact, of_event, LivesFor, IsLife, Limit, finite, infinite, Below, plus, Placed, IsReach, start_of, end_of, scope_at, Asked, Part, Proof, IsAsked, asked, asked_at, edges_for, tail_at, is_event_at, IsBounding, IsRound, IsShown, IsGoodPart, AreGoodParts, IsGood, IsLawfulLife, Spans}
 use Rattle.fx_base.specs.declared.times.Times.{Times}
-use Rattle.temporal_net.specs.declared.edge.NetEdge.{NetEdge}
-use Rattle.temporal_net.specs.Networks.{total}
 use Rattle.temporal_net.proofs.Sums.{adds_up}
-use Rattle.rule_model.specs.declared.condition.Condition.{Condition}
 use Rattle.rule_model.specs.declared.condition.Pattern.{Pattern}
-use Rattle.rule_model.specs.declared.condition.WindowTag.{WindowTag}
-use Rattle.rule_model.specs.declared.condition.WindowTag.TheVariants.{Whole, Time, Length}
-use Rattle.rule_model.specs.declared.life.Life.{Life}
-use Rattle.rule_model.specs.declared.life.Life.TheVariants.{Plain, Explicit, Finite, Infinite}
-use Rattle.rule_model.specs.declared.life.LifeTable.{LifeTable}
-use Rattle.rule_model.specs.declared.program.Program.{Program}
-use Rattle.rule_model.specs.declared.program.Rule.{Rule}
-use Rattle.rule_model.specs.Rows.{pattern_of}
-use Rattle.rule_model.specs.Types.{is_event}
-use Rattle.rule_model.proofs.RuleOf.{in_place}
-use Rattle.rule_world.specs.Programs.{IsRunnable}
-use Rattle.rule_lives.specs.Keeping.{IsLifeOf, IsSafeLife}
-use Rattle.rule_lives.specs.Lifetimes.{tail, Adds, of_fact, of_event, LivesFor, PatternLife, IsLife}
+use Rattle.rule_lives.specs.Keeping.{IsSafeLife}
+use Rattle.rule_lives.specs.Lifetimes.{tail, PatternLife}
 use Rattle.rule_lives.specs.Networks.{Occurrence}
-use Rattle.rule_lives.specs.Reach.{Limit, finite, infinite, Below, plus, Placed, SolvesWith, distance, IsGreatest, IsReach}
-use Rattle.life_edges.specs.Edges.{start_of, end_of}
+use Rattle.rule_lives.specs.Reach.{SolvesWith, distance, IsGreatest}
 use Rattle.life_edges.proofs.Distances.{of_times, same_distance}
-use Rattle.life_edges.proofs.Scopes.{scope_at}
 use Rattle.life_edges.proofs.Solved.{points_of, points_agree}
-use Rattle.life_proof.specs.declared.part.Asked.{Asked}
-use Rattle.life_proof.specs.declared.part.Part.{Part}
-use Rattle.life_proof.specs.declared.part.Proof.{Proof}
-use Rattle.life_proof.specs.Asked.{IsAsked, asked, asked_at}
-use Rattle.life_proof.specs.Good.{edges_for, tail_at, is_event_at, IsBounding, IsRound, IsShown, IsGoodPart, AreGoodParts, IsGood}
 use Rattle.life_proof.specs.Laws.{BoundsHold, LivesSuffice, GoodIsSafe}
-use Rattle.life_proof.specs.Tables.{IsLawfulLife, Spans}
 use Rattle.life_proof.proofs.Asked.{is_asked, scope_is}
 use Rattle.life_proof.proofs.Certified.{first_of, second_of, among, network_of, stands_at}
 use Rattle.life_proof.proofs.Tests.{false_is}

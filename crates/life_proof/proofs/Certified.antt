@@ -1,38 +1,12 @@
 -- What is made of solved networks is good, since the table has the lives of the program.
-use Rattle.std.proofs.Common.{◌≡◌, ◌≢◌, inl, inr, ◌++◌, ◌<◌, ◌+◌, ℕ, zero, suc, ℤ, Bool, true, false, List, [], ◌∷◌, map, length, drop, get_or, Some, refl, sym, ap, subst, ◌∙◌, append_assoc, arith}
-use Rattle.std.specs.Prelude.{slice_get}
-use Rattle.std.specs.List.{AllByRecursion, Contains}
+use Rattle.life_proof.proofs.Common.{◌≡◌, ◌≢◌, inl, inr, ◌++◌, ◌<◌, ◌+◌, ℕ, zero, suc, ℤ, Bool, true, false, List, [], ◌∷◌, map, length, drop, get_or, Some, refl, sym, ap, subst, ◌∙◌, append_assoc, arith, slice_get, AllByRecursion, Contains, In, NetEdge, edge_at, total, IsUnbounded, Condition, WindowTag, Whole, Time, Length, Life, Plain, Explicit, Finite, Infinite, LifeTable, Program, Rule, pattern_of, is_event, in_place, IsRunnable, IsLifeOf, scope, Adds, of_fact, of_event, LivesFor, IsLife, Limit, finite, infinite, Below, plus, Placed, IsReach, start_of, end_of, HaveNetwork, placed, rules_have_networks, scope_network, scope_at, Asked, Part, IsAsked, edges_for, scope_of, tail_at, is_event_at, IsBounding, IsRound, IsShown, IsGoodPart, AreGoodParts, IsSolvedPart, IsLawfulLife, Spans, IsLawfulTable}
 use Rattle.std.proofs.lemmas.List.Elements.{recursion_from_All, Contains-get_or}
 use Rattle.fx_base.specs.declared.bound.Bound.TheVariants as bound
-use Rattle.fx_base.specs.Lists.{In}
-use Rattle.temporal_net.specs.declared.edge.NetEdge.{NetEdge}
-use Rattle.temporal_net.specs.Networks.{edge_at, total, IsUnbounded, IsShortestPath, IsNegativeCycle}
-use Rattle.rule_model.specs.declared.condition.Condition.{Condition}
-use Rattle.rule_model.specs.declared.condition.WindowTag.{WindowTag}
-use Rattle.rule_model.specs.declared.condition.WindowTag.TheVariants.{Whole, Time, Length}
-use Rattle.rule_model.specs.declared.life.Life.{Life}
-use Rattle.rule_model.specs.declared.life.Life.TheVariants.{Plain, Explicit, Finite, Infinite}
-use Rattle.rule_model.specs.declared.life.LifeTable.{LifeTable}
-use Rattle.rule_model.specs.declared.program.Program.{Program}
-use Rattle.rule_model.specs.declared.program.Rule.{Rule}
-use Rattle.rule_model.specs.Rows.{pattern_of}
-use Rattle.rule_model.specs.Types.{is_event}
-use Rattle.rule_model.proofs.RuleOf.{in_place}
-use Rattle.rule_world.specs.Programs.{IsRunnable}
-use Rattle.rule_lives.specs.Keeping.{IsLifeOf, AreLives}
-use Rattle.rule_lives.specs.Lifetimes.{scope, tail, Adds, of_fact, of_event, LivesFor, IsLife}
-use Rattle.rule_lives.specs.Reach.{Limit, finite, infinite, Below, plus, Placed, IsReach}
-use Rattle.life_edges.specs.Edges.{start_of, end_of, HaveNetwork}
-use Rattle.life_edges.specs.Places.{placed}
+use Rattle.temporal_net.specs.Networks.{IsShortestPath, IsNegativeCycle}
+use Rattle.rule_lives.specs.Keeping.{AreLives}
+use Rattle.rule_lives.specs.Lifetimes.{tail}
 use Rattle.life_edges.proofs.Distances.{reached}
-use Rattle.life_edges.proofs.Runnable.{rules_have_networks}
-use Rattle.life_edges.proofs.Scopes.{scope_network, scope_at}
-use Rattle.life_proof.specs.declared.part.Asked.{Asked}
-use Rattle.life_proof.specs.declared.part.Part.{Part}
-use Rattle.life_proof.specs.Asked.{IsAsked}
-use Rattle.life_proof.specs.Good.{edges_for, scope_of, tail_at, is_event_at, IsBounding, IsRound, IsShown, IsGoodPart, AreGoodParts}
-use Rattle.life_proof.specs.Solved.{AreSolved, IsSolvedPart}
-use Rattle.life_proof.specs.Tables.{IsLawfulLife, Spans, IsLawfulTable}
+use Rattle.life_proof.specs.Solved.{AreSolved}
 use Rattle.life_proof.proofs.Asked.{scope_is}
 
 -- ---- the two conditions that are asked about

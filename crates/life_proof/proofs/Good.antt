@@ -1,28 +1,12 @@
 -- The function that `confirm` computes decides the relation.
-use Rattle.std.proofs.Common.{◌≡◌, ◌≢◌, ◌==◌, ◌&&◌, ℕ, ℤ, pos, ◌+ℤ◌, ◌-ℤ◌, ◌≤ℤ◌, ◌<ℤ◌, Bool, true, false, List, [], ◌∷◌, refl, sym, subst, ◌∙◌, arith}
-use Rattle.std.specs.Prelude.{slice_get}
-use Rattle.std.specs.Bool.{Decides}
-use Rattle.std.specs.List.{AllByRecursion, Contains, list_all}
-use Rattle.std.specs.Int.RustNames.{int_lt, int_le}
+use Rattle.life_proof.proofs.Common.{◌≡◌, ◌≢◌, ◌==◌, ◌&&◌, ℕ, ℤ, pos, ◌+ℤ◌, ◌-ℤ◌, ◌≤ℤ◌, ◌<ℤ◌, Bool, true, false, List, [], ◌∷◌, refl, sym, subst, ◌∙◌, arith, slice_get, Decides, AllByRecursion, Contains, list_all, int_le, Decides-int_eq, ints, NetEdge, total, Condition, LifeTable, Program, Limit, finite, infinite, Below, plus, start_of, end_of, Asked, Part, Proof, asked, edges_for, scope_of, tail_at, is_event_at, IsBounding, IsRound, IsShown, IsGoodPart, AreGoodParts, IsGood, leads, are_good_parts, is_lawful_table}
+use Rattle.std.specs.Int.RustNames.{int_lt}
 use Rattle.std.specs.Ordering.{int_eq}
 use Rattle.std.proofs.lemmas.Bool.{eqb-true, eq-eqb}
-use Rattle.std.proofs.lemmas.Bool.Decides.{Decides-int_eq}
-use Rattle.std.proofs.lemmas.Int.{ints}
 use Rattle.std.proofs.lemmas.List.Folds.{list_any_at}
 use Rattle.std.proofs.lemmas.Map.Views.{Contains-from_any}
-use Rattle.temporal_net.specs.declared.edge.NetEdge.{NetEdge}
-use Rattle.temporal_net.specs.Networks.{Leads, total}
-use Rattle.rule_model.specs.declared.condition.Condition.{Condition}
-use Rattle.rule_model.specs.declared.life.LifeTable.{LifeTable}
-use Rattle.rule_model.specs.declared.program.Program.{Program}
-use Rattle.rule_lives.specs.Reach.{Limit, finite, infinite, Below, plus}
-use Rattle.life_edges.specs.Edges.{start_of, end_of}
-use Rattle.life_proof.specs.declared.part.Asked.{Asked}
-use Rattle.life_proof.specs.declared.part.Part.{Part}
-use Rattle.life_proof.specs.declared.part.Proof.{Proof}
-use Rattle.life_proof.specs.Asked.{asked}
-use Rattle.life_proof.specs.Good.{edges_for, scope_of, tail_at, is_event_at, IsBounding, IsRound, IsShown, IsGoodPart, AreGoodParts, IsGood, same_edge, has_edge, leads, returns, is_within, is_bounding, is_round, is_shown, is_good_part, are_good_parts}
-use Rattle.life_proof.specs.Tables.{is_lawful_table}
+use Rattle.temporal_net.specs.Networks.{Leads}
+use Rattle.life_proof.specs.Good.{same_edge, has_edge, returns, is_within, is_bounding, is_round, is_shown, is_good_part}
 use Rattle.life_proof.proofs.Lawful.{lawful_from, lawful_to}
 use Rattle.life_proof.proofs.Tests.{false_is, both, and_so}
 

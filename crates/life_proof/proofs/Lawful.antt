@@ -1,21 +1,7 @@
 -- The test of a table decides whether it is lawful.
-use Rattle.std.proofs.Common.{◌≡◌, ◌&&◌, inl, inr, ℕ, zero, suc, ℤ, pos, ◌≤ℤ◌, Bool, true, false, not, List, [], ◌∷◌, length, Option, Some, None, refl, sym, ap, subst, ◌∙◌, arith}
-use Rattle.std.specs.Prelude.{slice_get}
-use Rattle.std.specs.List.{list_all}
-use Rattle.std.specs.Int.RustNames.{int_le}
-use Rattle.std.proofs.lemmas.Bool.Decides.{Decides-int_eq}
-use Rattle.std.proofs.lemmas.Int.{ints}
-use Rattle.fx_base.specs.Lists.{In}
-use Rattle.rule_model.specs.declared.condition.WindowTag.{WindowTag}
-use Rattle.rule_model.specs.declared.condition.WindowTag.TheVariants.{Whole, Time, Length}
-use Rattle.rule_model.specs.declared.life.Life.{Life}
-use Rattle.rule_model.specs.declared.life.Life.TheVariants.{Plain, Explicit, Finite, Infinite}
-use Rattle.rule_model.specs.declared.life.LifeTable.{LifeTable}
-use Rattle.rule_model.specs.declared.program.Program.{Program}
-use Rattle.rule_model.specs.declared.program.TypeInfo.{TypeInfo}
-use Rattle.rule_model.specs.Rows.{pattern_of}
+use Rattle.life_proof.proofs.Common.{◌≡◌, ◌&&◌, inl, inr, ℕ, zero, suc, ℤ, pos, ◌≤ℤ◌, Bool, true, false, not, List, [], ◌∷◌, length, Option, Some, None, refl, sym, ap, subst, ◌∙◌, arith, slice_get, list_all, int_le, Decides-int_eq, ints, In, WindowTag, Whole, Time, Length, Life, Plain, Explicit, Finite, Infinite, LifeTable, Program, TypeInfo, pattern_of, IsLawfulLife, Spans, IsLawfulTable, is_life_of, are_lives_of, is_lawful_table}
 use Rattle.rule_model.specs.Types.{is_event_type, expiry_in, is_event, expiry_of}
-use Rattle.life_proof.specs.Tables.{IsLawfulLife, Spans, IsLawfulTable, is_expiry, is_unexpired, is_life_of, are_lives_of, spans, spans_by, is_spanned, are_spanned, is_lawful_table}
+use Rattle.life_proof.specs.Tables.{is_expiry, is_unexpired, spans, spans_by, is_spanned, are_spanned}
 use Rattle.life_proof.proofs.Tests.{false_is, both, and_so}
 
 -- ---- lists

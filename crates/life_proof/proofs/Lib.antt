@@ -1,3 +1,4 @@
+mod Common
 mod Tests
 mod Lawful
 mod Good

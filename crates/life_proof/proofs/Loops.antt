@@ -1,12 +1,6 @@
 -- The turns of loops over two lists side by side.
-use Rattle.std.proofs.Common.{◌≡◌, ◌&&◌, suc, Bool, true, false, List, [], ◌∷◌, length, refl, ap}
-use Rattle.rule_model.specs.declared.life.Life.{Life}
-use Rattle.rule_model.specs.declared.program.Program.{Program}
-use Rattle.rule_model.specs.declared.program.TypeInfo.{TypeInfo}
-use Rattle.life_proof.specs.declared.part.Asked.{Asked}
-use Rattle.life_proof.specs.declared.part.Part.{Part}
-use Rattle.life_proof.specs.Good.{is_good_part, are_good_parts}
-use Rattle.life_proof.specs.Tables.{is_life_of, are_lives_of}
+use Rattle.life_proof.proofs.Common.{◌≡◌, ◌&&◌, suc, Bool, true, false, List, [], ◌∷◌, length, refl, ap, Life, Program, TypeInfo, Asked, Part, are_good_parts, is_life_of, are_lives_of}
+use Rattle.life_proof.specs.Good.{is_good_part}
 
 fails : (p q : Bool) → q ≡ false → (p && q) ≡ false
 fails true q e = e

@@ -1,5 +1,5 @@
 -- Tests that hold together.
-use Rattle.std.proofs.Common.{◌≡◌, ◌&&◌, Bool, true, false, refl}
+use Rattle.life_proof.proofs.Common.{◌≡◌, ◌&&◌, Bool, true, false, refl}
 
 pub false_is : {P : Type 0} → false ≡ true → P
 false_is e = absurd cc

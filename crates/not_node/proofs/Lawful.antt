@@ -1,15 +1,9 @@
 -- The rows of a not, what is dropped with forgotten facts, and what waits.
-use Rattle.std.proofs.Common.{◌≡◌, ◌∙◌, sym, ap, refl, int_lt, cond, Bool, true, false, not, ◌&&◌, List, Option, Some, None, ℤ}
-use mathlib.Core.Path.{fun_ext, subst}
+use Rattle.not_node.proofs.Common.{◌≡◌, ◌∙◌, sym, ap, refl, int_lt, cond, Bool, true, false, not, ◌&&◌, List, Option, Some, None, ℤ, fun_ext, Row, has, IsDifference, Pattern, Look, left_at, moment_at, unblocked, not_rows, is_moment, mature, later, Awaits}
+use mathlib.Core.Path.{subst}
 use Rattle.std.specs.Option.{is_some}
-use Rattle.row_delta.specs.declared.row.Row.{Row}
-use Rattle.row_delta.specs.Rows.{has}
-use Rattle.row_change.specs.Changes.{IsDifference}
-use Rattle.rule_model.specs.declared.condition.Pattern.{Pattern}
-use Rattle.join_tests.specs.Joins.{Look}
 use Rattle.pair_memory.specs.declared.memories.Memories.{Memories}
 use Rattle.pair_memory.specs.Joined.{has_name}
-use Rattle.pair_memory.specs.Memories.{left_at}
 use Rattle.pair_memory.specs.Standing.{cleaned}
 use Rattle.pair_memory.proofs.Moving.{move_law as memories_move}
 use Rattle.std.specs.List.{list_any}
@@ -19,9 +13,6 @@ use Rattle.tally_node.specs.Origins.{shows_any}
 use Rattle.tally_node.specs.Tallies.{offers, output_some}
 use Rattle.tally_node.proofs.Lawful.{blockers_shown, tally_law}
 use Rattle.not_node.specs.Laws.{not_line, NotLaw, StepLaw, DropLaw, MoveLaw}
-use Rattle.not_node.specs.Moments.{moment_at}
-use Rattle.not_node.specs.Rows.{unblocked, not_rows}
-use Rattle.not_node.specs.Waiting.{is_moment, mature, later, Awaits}
 use Rattle.not_node.proofs.Maturing.{row_mature, moment_alike}
 
 pub not_law : NotLaw

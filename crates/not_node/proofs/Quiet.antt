@@ -1,18 +1,10 @@
 -- With a later floor that no row's moment is below, the same rows wait, and the same rows are mature.
-use Rattle.std.proofs.Common.{◌≡◌, ◌∙◌, sym, ap, refl, ℤ, ◌≤ℤ◌, int_lt, arith, cond, Bool, true, false, not, ◌&&◌, Option, Some, None, List}
-use Rattle.std.proofs.lemmas.Int.{ints}
-use Rattle.row_delta.specs.declared.row.Row.{Row}
-use Rattle.row_delta.specs.Rows.{has}
-use Rattle.rule_model.specs.declared.condition.Pattern.{Pattern}
-use Rattle.rule_model.specs.declared.program.Program.{Program}
+use Rattle.not_node.proofs.Common.{◌≡◌, ◌∙◌, sym, ap, refl, ℤ, ◌≤ℤ◌, int_lt, arith, cond, Bool, true, false, not, ◌&&◌, Option, Some, None, List, ints, Row, has, Pattern, Program, Look, left_at, moment_at, unblocked, waits, is_moment, mature, ripe, Awaits}
 use Rattle.rule_model.proofs.Listed.{both_of}
-use Rattle.join_tests.specs.Joins.{Look}
-use Rattle.pair_memory.specs.Memories.{left_at}
 use Rattle.not_node.specs.declared.node.NotNode.{NotNode}
 use Rattle.not_node.specs.Laws.{QuietLaw}
-use Rattle.not_node.specs.Moments.{moment_at}
-use Rattle.not_node.specs.Rows.{IsInStep, unblocked}
-use Rattle.not_node.specs.Waiting.{waits, is_moment, mature, ripe, Awaits, NoneDue}
+use Rattle.not_node.specs.Rows.{IsInStep}
+use Rattle.not_node.specs.Waiting.{NoneDue}
 use Rattle.not_node.proofs.Lawful.{none_comes}
 use Rattle.not_node.proofs.Pairs.{int_itself, int_same}
 

@@ -1,25 +1,10 @@
 -- What joins a row or a candidate is found under the join values that are sought for it.
-use Rattle.std.proofs.Common.{◌≡◌, ◌∙◌, sym, ap, refl, subst, List, [], ◌∷◌, Bool, true, false, ◌&&◌, ◌||◌, Some, None}
-use Rattle.std.specs.Option.{is_some}
-use Rattle.std.specs.declared.cmp.Ordering.{Ordering}
-use Rattle.std.specs.Ordering.{eq_by_cmp}
+use Rattle.pair_memory.proofs.Common.{◌≡◌, ◌∙◌, sym, ap, refl, subst, List, [], ◌∷◌, Bool, true, false, ◌&&◌, ◌||◌, Some, None, is_some, Ordering, eq_by_cmp, Value, same_value, equal_values, Named, Row, row_cmp, name_cmp, Pattern, JoinIndex, bucket_at, at, Look, joins, row_value, candidate_value, row_kept, unjoined, row_joins, name_joins, stands_in}
 use Rattle.std.specs.List.Sorted.{IsStrictlySortedBy}
-use Rattle.fx_base.specs.declared.value.Value.{Value}
-use Rattle.fx_base.specs.Values.{same_value}
-use Rattle.fx_base.specs.SameValues.{equal_values}
-use Rattle.row_delta.specs.declared.row.Named.{Named}
-use Rattle.row_delta.specs.declared.row.Row.{Row}
-use Rattle.row_delta.specs.Rows.{row_cmp}
-use Rattle.row_delta.specs.NameOrder.{name_cmp}
-use Rattle.rule_model.specs.declared.condition.Pattern.{Pattern}
-use Rattle.alpha_memory.specs.declared.join_index.JoinIndex.{JoinIndex}
-use Rattle.alpha_memory.specs.JoinIndex.{bucket_at, at}
-use Rattle.join_tests.specs.Joins.{Look, joins}
-use Rattle.join_tests.specs.Kept.{row_value, candidate_value, rows_sought, candidates_sought, is_among}
+use Rattle.join_tests.specs.Kept.{rows_sought, candidates_sought, is_among}
 use Rattle.join_tests.proofs.Meeting.{row_sought, candidate_sought}
-use Rattle.pair_memory.specs.Memories.{row_kept, name_kept}
-use Rattle.pair_memory.specs.Joined.{unjoined, joined}
-use Rattle.pair_memory.specs.Under.{row_joins, name_joins, stands_in}
+use Rattle.pair_memory.specs.Memories.{name_kept}
+use Rattle.pair_memory.specs.Joined.{joined}
 use Rattle.pair_memory.proofs.Joining.{row_decides, name_decides, splits_alike, splits_or}
 
 and_nothing : (a : Bool) → (a && false) ≡ false

@@ -1,21 +1,13 @@
 -- Rows that are made by one fact more.
-use Rattle.std.proofs.Common.{◌≡◌, ◌∙◌, sym, ap, refl, subst, List, [], ◌∷◌, Bool, true, false, ◌&&◌, ◌||◌, Option, Some, None}
-use Rattle.std.specs.Option.{is_some, option_map}
+use Rattle.pair_memory.proofs.Common.{◌≡◌, ◌∙◌, sym, ap, refl, subst, List, [], ◌∷◌, Bool, true, false, ◌&&◌, ◌||◌, Option, Some, None, is_some, option_map, is_at, Ordering, eq_by_cmp, is_some-lookup, Named, Row, row_cmp, has, same_equiv, name_cmp, name_equiv, found, with_name, split_last, unjoined, splits, has_name}
 use Rattle.std.specs.Bool.{Decides}
-use Rattle.std.specs.BTreeMap.{is_at}
-use Rattle.std.specs.declared.cmp.Ordering.{Ordering}
 use Rattle.std.specs.declared.cmp.Ordering.TheVariants.{Less, Equal, Greater}
-use Rattle.std.specs.Ordering.{eq_by_cmp, is_eq}
+use Rattle.std.specs.Ordering.{is_eq}
 use Rattle.std.proofs.lemmas.Bool.Decides.{same_from_decides}
-use Rattle.std.proofs.lemmas.Map.Made.{is_some-lookup}
-use Rattle.row_delta.specs.declared.row.Named.{Named}
-use Rattle.row_delta.specs.declared.row.Row.{Row}
-use Rattle.row_delta.specs.Rows.{row_cmp, has}
-use Rattle.row_delta.specs.RowOrder.{same_equiv, row_exact}
-use Rattle.row_delta.specs.NameOrder.{name_cmp, name_equiv, name_exact}
-use Rattle.alpha_memory.specs.Bucket.{found}
+use Rattle.row_delta.specs.RowOrder.{row_exact}
+use Rattle.row_delta.specs.NameOrder.{name_exact}
 use Rattle.alpha_memory.specs.declared.bucket.Bucket.TheVariants.{One}
-use Rattle.pair_memory.specs.Joined.{with_name, split_last, front_of, unjoined, splits, joined, has_name}
+use Rattle.pair_memory.specs.Joined.{front_of, joined}
 use Rattle.pair_memory.proofs.Lasts.{split_snoc, is_snoc}
 
 equal_from : (o : Ordering) → is_eq o ≡ true → o ≡ Equal

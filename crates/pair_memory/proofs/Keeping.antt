@@ -1,22 +1,7 @@
 -- What is kept after a change at one row, or at one candidate.
-use Rattle.std.proofs.Common.{◌≡◌, ◌∙◌, sym, ap, refl, subst, Bool, true, false, cond, not, ◌&&◌, ◌||◌, Option, Some, None}
-use Rattle.std.specs.Option.{is_some}
-use Rattle.std.specs.Ordering.{eq_by_cmp}
-use Rattle.fx_base.specs.declared.value.Value.{Value}
-use Rattle.fx_base.specs.Values.{same_value}
+use Rattle.pair_memory.proofs.Common.{◌≡◌, ◌∙◌, sym, ap, refl, subst, Bool, true, false, cond, not, ◌&&◌, ◌||◌, Option, Some, None, is_some, eq_by_cmp, Value, same_value, Named, Row, row_cmp, name_cmp, Pattern, JoinIndex, at, Look, joins, row_value, candidate_value, Memories, joined, has_left, has_right, made, Keeps}
 use Rattle.fx_base.specs.SameValues.{same_itself}
-use Rattle.row_delta.specs.declared.row.Named.{Named}
-use Rattle.row_delta.specs.declared.row.Row.{Row}
-use Rattle.row_delta.specs.Rows.{row_cmp}
-use Rattle.row_delta.specs.NameOrder.{name_cmp}
-use Rattle.rule_model.specs.declared.condition.Pattern.{Pattern}
-use Rattle.alpha_memory.specs.declared.join_index.JoinIndex.{JoinIndex}
-use Rattle.alpha_memory.specs.JoinIndex.{at}
-use Rattle.join_tests.specs.Joins.{Look, joins}
-use Rattle.join_tests.specs.Kept.{row_value, candidate_value}
-use Rattle.pair_memory.specs.declared.memories.Memories.{Memories}
-use Rattle.pair_memory.specs.Joined.{joined}
-use Rattle.pair_memory.specs.Memories.{left_at, has_left, has_right, made, Keeps}
+use Rattle.pair_memory.specs.Memories.{left_at}
 use Rattle.pair_memory.proofs.Joining.{row_decides, name_decides, joined_alike}
 
 absorbed : (a b : Bool) → (b ≡ true → a ≡ true) → (a && b) ≡ b

@@ -1,6 +1,6 @@
 -- Lists as their front and their last element.
-use Rattle.std.proofs.Common.{◌≡◌, ap, refl, subst, List, [], ◌∷◌, ◌++◌, Option, Some, None}
-use Rattle.pair_memory.specs.Joined.{behind_first, split_last}
+use Rattle.pair_memory.proofs.Common.{◌≡◌, ap, refl, subst, List, [], ◌∷◌, ◌++◌, Option, Some, None, split_last}
+use Rattle.pair_memory.specs.Joined.{behind_first}
 
 pub split_snoc : {A : Type 0} (xs : List A) (x : A) → split_last (xs ++ x ∷ []) ≡ Some (xs, x)
 split_snoc [] x = refl

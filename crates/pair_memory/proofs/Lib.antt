@@ -1,3 +1,4 @@
+mod Common
 pub mod Lasts
 pub mod Joining
 pub mod Valued

@@ -1,15 +1,7 @@
 -- The left rows as a list.
-use Rattle.std.proofs.Common.{◌≡◌, ◌∙◌, sym, ap, refl, List, Bool, true, false}
-use Rattle.std.specs.Option.{is_some}
-use Rattle.fx_base.specs.declared.value.Value.{Value}
-use Rattle.fx_base.specs.SameValues.{equal_values}
-use Rattle.fx_base.specs.Values.{same_value}
-use Rattle.row_delta.specs.declared.row.Row.{Row}
-use Rattle.row_delta.specs.Rows.{row_cmp, has}
-use Rattle.alpha_memory.specs.JoinIndex.{at, AreKeys}
-use Rattle.join_tests.specs.Joins.{Look}
-use Rattle.pair_memory.specs.declared.memories.Memories.{Memories}
-use Rattle.pair_memory.specs.Memories.{has_left, Agrees}
+use Rattle.pair_memory.proofs.Common.{◌≡◌, ◌∙◌, sym, ap, refl, List, Bool, true, false, is_some, Value, equal_values, same_value, Row, row_cmp, has, at, Look, Memories, has_left}
+use Rattle.alpha_memory.specs.JoinIndex.{AreKeys}
+use Rattle.pair_memory.specs.Memories.{Agrees}
 
 same_either : (a b : Bool) → (a ≡ true → b ≡ true) → (b ≡ true → a ≡ true) → a ≡ b
 same_either true b f g = sym (f refl)

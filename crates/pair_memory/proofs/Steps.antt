@@ -1,8 +1,5 @@
 -- What memories stand for after a step, and after forgetting.
-use Rattle.std.proofs.Common.{◌≡◌, ◌∙◌, ap, refl, Bool, true, false, not, ◌&&◌, ◌||◌}
-use Rattle.row_delta.specs.Rows.{has}
-use Rattle.pair_memory.specs.Inputs.{row_naming}
-use Rattle.pair_memory.specs.Standing.{cleaned, remembered}
+use Rattle.pair_memory.proofs.Common.{◌≡◌, ◌∙◌, ap, refl, Bool, true, false, not, ◌&&◌, ◌||◌, has, row_naming, cleaned, remembered}
 use Rattle.pair_memory.specs.Steps.{StepsLaw, ForgetsLaw}
 use Rattle.pair_memory.proofs.Worlds.{forgotten_more}
 

@@ -1,15 +1,5 @@
 -- What one row or one candidate more, or less, does to the sets that are kept.
-use Rattle.std.proofs.Common.{◌≡◌, ◌∙◌, sym, ap, refl, ℕ, ◌+◌, ◌<◌, length, take, get_or, List, Bool, true, false, not, ◌&&◌, ◌||◌}
-use Rattle.std.specs.List.{list_any}
-use Rattle.std.specs.Ordering.{eq_by_cmp}
-use Rattle.std.proofs.lemmas.List.Folds.{list_any_more}
-use Rattle.row_delta.specs.declared.row.Named.{Named}
-use Rattle.row_delta.specs.declared.row.Row.{Row}
-use Rattle.row_delta.specs.Rows.{row_cmp}
-use Rattle.row_delta.specs.NameOrder.{name_cmp}
-use Rattle.join_tests.specs.Joins.{Look}
-use Rattle.pair_memory.specs.declared.memories.Memories.{Memories}
-use Rattle.pair_memory.specs.Memories.{Keeps}
+use Rattle.pair_memory.proofs.Common.{◌≡◌, ◌∙◌, sym, ap, refl, ℕ, ◌+◌, ◌<◌, length, take, get_or, List, Bool, true, false, not, ◌&&◌, ◌||◌, list_any, eq_by_cmp, list_any_more, Named, Row, row_cmp, name_cmp, Look, Memories, Keeps}
 use Rattle.pair_memory.proofs.Joining.{row_decides, name_decides}
 
 -- ---- a row that goes and is not there, and one that comes and is there

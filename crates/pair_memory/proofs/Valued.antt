@@ -1,8 +1,5 @@
 -- Rows that are made by one value more.
-use Rattle.std.proofs.Common.{◌≡◌, ◌∙◌, ap, refl, ℤ, List, Bool, true, false, Option, Some, None}
-use Rattle.std.specs.Option.{option_map}
-use Rattle.row_delta.specs.declared.row.Row.{Row}
-use Rattle.pair_memory.specs.Joined.{split_last}
+use Rattle.pair_memory.proofs.Common.{◌≡◌, ◌∙◌, ap, refl, ℤ, List, Bool, true, false, Option, Some, None, option_map, Row, split_last}
 use Rattle.pair_memory.specs.Valued.{with_value, value_front, unvalued, splits_value, valued}
 use Rattle.pair_memory.proofs.Lasts.{split_snoc, is_snoc}
 

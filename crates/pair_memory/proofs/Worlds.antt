@@ -1,14 +1,7 @@
 -- What memories that stand for left rows and candidates of the world make, and what they stand for after a step or after forgetting.
-use Rattle.std.proofs.Common.{◌≡◌, ◌∙◌, sym, ap, refl, List, [], ◌∷◌, Bool, true, false, not, ◌&&◌, ◌||◌, Option, Some, None}
-use Rattle.std.specs.List.{list_any}
-use Rattle.std.proofs.lemmas.List.Folds.{list_any-append}
-use Rattle.row_delta.specs.declared.row.Named.{Named}
-use Rattle.row_delta.specs.declared.row.Row.{Row}
-use Rattle.join_tests.specs.Joins.{Look, joins}
-use Rattle.pair_memory.specs.declared.memories.Memories.{Memories}
-use Rattle.pair_memory.specs.Joined.{with_name, unjoined, splits, joined}
-use Rattle.pair_memory.specs.Memories.{has_left, has_right, made}
-use Rattle.pair_memory.specs.Standing.{clean, cleaned, either, remembered, PassesAlike, StandsFor}
+use Rattle.pair_memory.proofs.Common.{◌≡◌, ◌∙◌, sym, ap, refl, List, [], ◌∷◌, Bool, true, false, not, ◌&&◌, ◌||◌, Option, Some, None, list_any, list_any-append, Named, Row, Look, joins, Memories, with_name, unjoined, splits, has_left, has_right, made, cleaned, remembered}
+use Rattle.pair_memory.specs.Joined.{joined}
+use Rattle.pair_memory.specs.Standing.{clean, either, PassesAlike, StandsFor}
 use Rattle.pair_memory.proofs.Joining.{joined_alike, from_unjoined}
 
 and_nothing : (a : Bool) → (a && false) ≡ false

@@ -1,34 +1,21 @@
 -- The facts that are meant, as they go and come.
-use Rattle.std.proofs.Common.{◌≡◌, ◌∙◌, sym, ap, refl, subst, inl, inr, ℕ, ◌==◌, ℤ, List, [], ◌∷◌, ◌++◌, map, Bool, true, false, cond, not, ◌&&◌, ◌||◌, Option, Some, None, arith}
-use Rattle.std.specs.Option.{option_to_list}
-use Rattle.std.specs.List.{filter, list_any, AllByRecursion}
+use Rattle.pattern_gate.proofs.Common.{◌≡◌, ◌∙◌, sym, ap, refl, subst, inl, inr, ℕ, ◌==◌, ℤ, List, [], ◌∷◌, ◌++◌, map, Bool, true, false, cond, not, ◌&&◌, ◌||◌, Option, Some, None, arith, option_to_list, filter, list_any, nat_cmp, Less, Decides-eqb, nat_tests, In, Fact, HaveDistinctTags, name_of, Pattern, of_map, in_right, filter_same, MayPass, MayStart, Arrival, named_of, after, WindowKind, Whole, Time, Length, arrival_of, is_meant, is_given_meant, is_one_meant, less_fact, less_facts, more_fact, more_facts, LetsAllGo, LetsCome, LetsAllCome}
+use Rattle.std.specs.List.{AllByRecursion}
 use Rattle.std.specs.List.Sorted.{IsStrictlySortedBy}
-use Rattle.std.specs.Ordering.{nat_cmp}
-use Rattle.std.specs.declared.cmp.Ordering.TheVariants.{Less}
-use Rattle.std.proofs.lemmas.Bool.Decides.{Decides-eqb, nat_tests}
 use Rattle.std.proofs.lemmas.List.{append_assoc, append-nil, map-append}
 use Rattle.std.proofs.lemmas.List.Elements.{filter-append}
-use Rattle.fx_base.specs.Lists.{In}
-use Rattle.fx_base.specs.declared.fact.Fact.{Fact}
 use Rattle.fx_base.specs.declared.ids.Tag.{Tag}
-use Rattle.rule_model.specs.Distinct.{HaveDistinctTags}
-use Rattle.rule_model.specs.Tuples.{name_of}
-use Rattle.rule_model.specs.declared.condition.Pattern.{Pattern}
-use Rattle.rule_model.proofs.Listed.{in_map, of_map, in_left, in_right}
+use Rattle.rule_model.proofs.Listed.{in_map, in_left}
 use Rattle.rule_model.proofs.Named.{AllOf, of_filter}
 use Rattle.rule_model.proofs.Once.{one_fact}
 use Rattle.rule_model.proofs.Order.{in_filter, passed}
 use Rattle.rule_world.proofs.Fresh.{distinct_filtered}
-use Rattle.rule_world.proofs.Kept.{filter_same, filter_swap}
+use Rattle.rule_world.proofs.Kept.{filter_swap}
 use Rattle.condition_rows.proofs.Ends.{in_name}
-use Rattle.window_gate.specs.Standing.{MayGo, MayPass, MayStart}
-use Rattle.window_gate.specs.Windows.{Arrival, named_of, has_tag, after}
+use Rattle.window_gate.specs.Standing.{MayGo}
+use Rattle.window_gate.specs.Windows.{has_tag}
 use Rattle.window_gate.specs.declared.change.GateChange.TheVariants.{Come, Gone}
-use Rattle.window_gate.specs.declared.change.WindowKind.{WindowKind}
-use Rattle.window_gate.specs.declared.change.WindowKind.TheVariants.{Whole, Time, Length}
-use Rattle.pattern_gate.specs.Gates.{arrival_of}
 use Rattle.pattern_gate.specs.Moves.{shares_tag}
-use Rattle.pattern_gate.specs.Turns.{is_meant, is_given_meant, is_one_meant, less_fact, less_facts, more_fact, more_facts, LetsAllGo, LetsCome, LetsAllCome}
 
 -- ---- filters
 

@@ -1,32 +1,14 @@
 -- What is inside the window of a pattern is what is of its candidates.
-use Rattle.std.proofs.Common.{◌≡◌, ◌∙◌, sym, ap, refl, ℕ, nat_lt, ℤ, List, [], ◌∷◌, map, length, Bool, true, false, cond, ◌&&◌, arith}
-use Rattle.std.specs.List.{filter}
+use Rattle.pattern_gate.proofs.Common.{◌≡◌, ◌∙◌, sym, ap, refl, ℕ, nat_lt, ℤ, List, [], ◌∷◌, map, length, Bool, true, false, cond, ◌&&◌, arith, filter, nat_cmp, Less, nat_tests, In, Fact, has, Named, fits, candidates, Snapshot, name_of, Pattern, WindowTag, Program, filter_same, row_naming, candidates_of, named_of, inside, rows_inside, arrival_of, arrivals, kind_of}
 use Rattle.std.specs.List.Sorted.{IsStrictlySortedBy}
-use Rattle.std.specs.Ordering.{nat_cmp}
-use Rattle.std.specs.declared.cmp.Ordering.TheVariants.{Less}
-use Rattle.std.proofs.lemmas.Bool.Decides.{nat_tests}
 use Rattle.std.proofs.lemmas.List.{length-map}
-use Rattle.fx_base.specs.Lists.{In}
-use Rattle.fx_base.specs.declared.fact.Fact.{Fact}
-use Rattle.row_delta.specs.Rows.{has}
-use Rattle.row_delta.specs.declared.row.Named.{Named}
-use Rattle.rule_model.specs.Candidates.{fits, is_inside, candidates}
-use Rattle.rule_model.specs.Snapshots.{Snapshot}
-use Rattle.rule_model.specs.Tuples.{name_of}
-use Rattle.rule_model.specs.declared.condition.Pattern.{Pattern}
-use Rattle.rule_model.specs.declared.condition.WindowTag.{WindowTag}
+use Rattle.rule_model.specs.Candidates.{is_inside}
 use Rattle.rule_model.specs.declared.condition.WindowTag.TheVariants.{Whole, Time, Length}
-use Rattle.rule_model.specs.declared.program.Program.{Program}
-use Rattle.rule_world.proofs.Kept.{filter_same}
-use Rattle.pair_memory.specs.Inputs.{row_naming}
 use Rattle.pair_memory.specs.Joined.{has_name}
-use Rattle.condition_rows.specs.Sets.{candidates_of}
 use Rattle.condition_rows.proofs.Joined.{candidates_named}
-use Rattle.window_gate.specs.Windows.{named_of, inside, rows_inside}
 use Rattle.window_gate.specs.declared.change.WindowKind.TheVariants as kind
 use Rattle.window_gate.proofs.Insides.{inside_whole, inside_time, is_recent}
 use Rattle.window_gate.proofs.Singles.{has-single}
-use Rattle.pattern_gate.specs.Gates.{arrival_of, arrivals, kind_of}
 use Rattle.pattern_gate.proofs.Arriving.{map_if, filter_made, filter_both, filter_among, number, rises, rising_rest, rising}
 
 and_true : (b : Bool) → b ≡ (b && true)

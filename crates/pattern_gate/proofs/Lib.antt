@@ -1,3 +1,4 @@
+mod Common
 pub mod Turning
 pub mod Arriving
 pub mod Inside

@@ -1,26 +1,11 @@
 -- What a turn does to what has changed so far, and to what is left of the facts that go.
-use Rattle.std.proofs.Common.{◌≡◌, ◌∙◌, sym, ap, refl, subst, ℕ, ◌+◌, ◌<◌, ◌≤◌, ℤ, List, [], ◌∷◌, length, drop, get_or, Bool, true, false, not, Some, ◌&&◌, ◌||◌}
-use Rattle.std.specs.Borrow.{Bor}
-use Rattle.std.specs.List.{list_any}
+use Rattle.pattern_gate.proofs.Common.{◌≡◌, ◌∙◌, sym, ap, refl, subst, ℕ, ◌+◌, ◌<◌, ◌≤◌, ℤ, List, [], ◌∷◌, length, drop, get_or, Bool, true, false, not, Some, ◌&&◌, ◌||◌, Bor, list_any, Fact, IsBetween, has, Delta, Row, lent, Pattern, no_rows, Stands, window_of, Arrival, rows_inside, WindowKind, Whole, Time, Length, PatternGate, is_meant, less_fact, less_facts, more_fact, more_facts, LetsAllGo, LetsCome, LetsAllCome, Reaches}
 use Rattle.std.proofs.lemmas.List.{at_drop_more, at_drop_all}
-use Rattle.fx_base.specs.declared.fact.Fact.{Fact}
-use Rattle.row_delta.specs.Differences.{IsBetween}
 use Rattle.row_delta.specs.DifferenceLaws.{between_applicable}
-use Rattle.row_delta.specs.Rows.{has}
-use Rattle.row_delta.specs.declared.delta.Delta.{Delta}
-use Rattle.row_delta.specs.declared.row.Row.{Row}
 use Rattle.row_change.specs.Changes.{Leads, without, along}
 use Rattle.row_change.specs.declared.change.Change.{Change}
 use Rattle.row_change.proofs.Alike.{leads_alike}
-use Rattle.rule_model.specs.Lent.{lent}
-use Rattle.rule_model.specs.declared.condition.Pattern.{Pattern}
-use Rattle.pair_memory.specs.Standing.{no_rows}
-use Rattle.window_gate.specs.Standing.{Stands, window_of}
-use Rattle.window_gate.specs.Windows.{Arrival, rows_inside}
-use Rattle.window_gate.specs.declared.change.WindowKind.{WindowKind}
-use Rattle.window_gate.specs.declared.change.WindowKind.TheVariants.{Whole, Time, Length}
-use Rattle.pattern_gate.specs.declared.gate.PatternGate.{PatternGate}
-use Rattle.pattern_gate.specs.Turns.{is_meant, less_fact, less_facts, more_fact, more_facts, LetsGo, LetsAllGo, LetsCome, LetsAllCome, Reaches}
+use Rattle.pattern_gate.specs.Turns.{LetsGo}
 
 -- without what is in the first alone, and with what is in the second alone, it is the second
 led : (a b : Bool) → ((a && not (a && not b)) || (b && not a)) ≡ b

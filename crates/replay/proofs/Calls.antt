@@ -1,34 +1,16 @@
 -- What a call does, by what its parts did.
-use Rattle.std.proofs.Common.{◌≡◌, ◌≢◌, ◌⊎◌, inl, inr, ◌<◌, ◌≤◌, ◌^◌, ℕ, List, [], length, Option, Some, None, option_map, refl, sym, ap, subst, ◌∙◌, arith, String, Global}
-use Rattle.std.specs.Prelude.{IfSome}
-use Rattle.fx_io.specs.Outside.{Rose, append, AppendsFront, count_after, IsFound}
-use Rattle.command_words.specs.declared.asking.Asked.{Asked}
-use Rattle.command_words.specs.declared.asking.Asked.TheVariants.{RuleFile, Load}
-use Rattle.command_words.specs.declared.asking.Mode.{Mode}
-use Rattle.command_words.specs.declared.asking.Mode.TheVariants.{Run, Check, Lives, Proof, Save}
+use Rattle.replay.proofs.Common.{◌≡◌, ◌≢◌, ◌⊎◌, inl, inr, ◌<◌, ◌≤◌, ◌^◌, ℕ, List, [], length, Option, Some, None, option_map, refl, sym, ap, subst, ◌∙◌, arith, String, Global, IfSome, Rose, append, AppendsFront, count_after, IsFound, Asked, RuleFile, Mode, Run, Check, Lives, Proof, Save, rules_text, Program, Script, Limit, Gives, Fires, Counts, Outcome, RunSetting, RunState, setting_of, StoppedAtRead, Beginning, First, Behind, Refusal, CheckpointCode, Reading, Accepted, Refused, RunsIn, ShelfSeen, seen, wanted_told, TellsScript, MayEnd, RunOf, Says, checkpoint_text, reading, Report, Reports, IsReport, IsWritten, IsLong, IsStopped, TakesFor, checkpoint_report, Wanted, Files, usage_line, refuses, refuses_checkpoint, runs, resumes, saves, saves_on, accepts, tells_lives, proves, sums_up, wanted_at, wanted_by, wanted_from, rules_in, wanted_by_file, wanted_by_reading, MayRefuse}
+use Rattle.command_words.specs.declared.asking.Asked.TheVariants.{Load}
 use Rattle.command_words.specs.Asked.{asked_by}
-use Rattle.gen_load.specs.Rules.{rules_text}
-use Rattle.rule_model.specs.declared.program.Program.{Program}
-use Rattle.script_run.specs.declared.turn.Ended.TheVariants.{Script, Limit}
-use Rattle.script_run.specs.Firings.{Gives, Fires, Counts}
 use Rattle.script_run.specs.Parts.{progress_behind}
-use Rattle.script_run.specs.Run.{Outcome, RunSetting, RunState, at_end, first_state, run as run_lines, setting_of, state_in}
-use Rattle.script_run.specs.Unfinished.{StoppedAtRead}
+use Rattle.script_run.specs.Run.{at_end, first_state, run as run_lines, state_in}
 use Rattle.script_run.proofs.Ahead.{run_ended, append_nothing}
 use Rattle.script_run.proofs.Stops.{none_given}
-use Rattle.replay.specs.declared.beginning.Beginning.{Beginning}
-use Rattle.replay.specs.declared.beginning.Beginning.TheVariants.{First, Behind}
-use Rattle.replay.specs.declared.refusal.Refusal.{Refusal}
-use Rattle.replay.specs.declared.refused_checkpoint.CheckpointCode.{CheckpointCode}
-use Rattle.replay.specs.declared.rule_file.Reading.{Reading}
-use Rattle.replay.specs.declared.rule_file.Reading.TheVariants.{Accepted, Refused}
-use Rattle.replay.specs.Beginnings.{RefusesFor, RunsIn}
-use Rattle.replay.specs.Calls.{ShelfSeen, Outside, seen, wanted_told, TellsScript, MayEnd, RunOf, Says}
-use Rattle.replay.specs.Checkpoints.{checkpoint_text}
+use Rattle.replay.specs.Beginnings.{RefusesFor}
+use Rattle.replay.specs.Calls.{Outside}
 use Rattle.replay.specs.Notices.{usage}
-use Rattle.replay.specs.Refusals.{reading, refusal_text}
-use Rattle.replay.specs.Report.{Report, Reports, IsReport, IsWritten, IsLong, IsStopped, TakesFor, checkpoint_report}
-use Rattle.replay.specs.Wanted.{Wanted, Files, usage_line, refuses, refuses_checkpoint, runs, resumes, saves, saves_on, accepts, tells_lives, proves, sums_up, wanted, wanted_at, wanted_by, wanted_from, rules_in, wanted_by_name, wanted_by_number, wanted_by_file, wanted_by_reading, IfRefuses, ReadsFile, RunsScript, IsUnfit, ReadFails, MayRefuse}
+use Rattle.replay.specs.Refusals.{refusal_text}
+use Rattle.replay.specs.Wanted.{wanted, wanted_by_name, wanted_by_number, IfRefuses, ReadsFile, RunsScript, IsUnfit, ReadFails}
 use Rattle.replay.proofs.Reports.{front_by, front_none}
 
 pub some_is : {A : Type 0} {x y : A} → Some x ≡ Some y → x ≡ y

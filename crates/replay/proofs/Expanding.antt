@@ -1,17 +1,9 @@
 -- What a rule file reads as that is written out to another one.
-use Rattle.std.proofs.Common.{◌≡◌, Result, Ok, sym, ap, ◌∙◌}
+use Rattle.replay.proofs.Common.{◌≡◌, Result, Ok, sym, ap, ◌∙◌, Written, Failure, Program, obstacle, Refusal, Accepted, Refused, plain_file, of_checked, of_obstacle, with_titles}
 use Rattle.drl_grammar.specs.declared.file.File.{File}
-use Rattle.drl_grammar.specs.declared.written.Written.{Written}
-use Rattle.drl_check.specs.Checks.{Failure}
 use Rattle.drl_check.specs.Outcomes.{checked}
-use Rattle.rule_model.specs.declared.program.Program.{Program}
 use Rattle.subrules.specs.declared.expanding.Expanded.{Expanded}
-use Rattle.subrules.specs.Faults.{obstacle}
 use Rattle.subrules.specs.Outcomes.{IsExpanded}
-use Rattle.replay.specs.declared.refusal.Refusal.{Refusal}
-use Rattle.replay.specs.declared.rule_file.Reading.TheVariants.{Accepted, Refused}
-use Rattle.replay.specs.Refusals.{plain_file, of_checked, of_obstacle}
-use Rattle.replay.specs.Titles.{with_titles}
 
 by_checked : (file : Written) (e : Expanded) (found : Result Program Failure) → IsExpanded file e → checked e.file ≡ found → of_obstacle file (obstacle file.items) ≡ of_checked file found
 by_checked file e found is gives =

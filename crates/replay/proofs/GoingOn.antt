@@ -1,19 +1,8 @@
 -- The run behind the image of an earlier one is the rest of the run of both scripts as one.
-use Rattle.std.proofs.Common.{◌≡◌, inl, inr, ◌≤◌, ◌++◌, ℕ, List, Option, Some, sym, ap, ◌∙◌, arith}
-use Rattle.fx_io.specs.Lines.{lines_of}
-use Rattle.checkpoint.specs.declared.image.Image.{Image}
-use Rattle.checkpoint.specs.declared.image.RunPart.{RunPart}
-use Rattle.rule_model.specs.declared.life.LifeTable.{LifeTable}
-use Rattle.rule_model.specs.declared.program.Program.{Program}
-use Rattle.rule_lives.specs.Keeping.{AreLives}
-use Rattle.rule_world.specs.Worlds.{empty_world}
-use Rattle.script_run.specs.Firings.{Gives, Fires, Counts}
-use Rattle.script_run.specs.Parts.{first_part, part_at, run_on}
-use Rattle.script_run.specs.Run.{Outcome, RunSetting, setting_of, then_run, whole_run}
+use Rattle.replay.proofs.Common.{◌≡◌, inl, inr, ◌≤◌, ◌++◌, ℕ, List, Option, Some, sym, ap, ◌∙◌, arith, lines_of, Image, RunPart, LifeTable, Program, AreLives, empty_world, Gives, Fires, Counts, first_part, part_at, run_on, Outcome, RunSetting, setting_of, whole_run, Report, Reports, IsBehind, IsReport, IsRunBehind, IsRunStatus, outcome_report, run_status, Wanted, usage_line, refuses, refuses_checkpoint, runs, resumes, saves, saves_on, accepts, tells_lives, proves, sums_up}
+use Rattle.script_run.specs.Run.{then_run}
 use Rattle.script_run.proofs.Joined.{script_joined, whole_behind}
 use Rattle.replay.specs.Behind.{GoesOn, IsImageOfRun, IsRest}
-use Rattle.replay.specs.Report.{Report, Reports, IsBehind, IsReport, IsRunBehind, IsRunStatus, outcome_report, run_status}
-use Rattle.replay.specs.Wanted.{Wanted, usage_line, refuses, refuses_checkpoint, runs, resumes, saves, saves_on, accepts, tells_lives, proves, sums_up}
 use Rattle.replay.proofs.Tables.{by_table}
 
 module _ (gives : Gives) (fires : Fires) (counts : Counts) (limit : ℕ) (p : Program) (table : LifeTable) (first second : List ℕ) (image : Image)

@@ -1,26 +1,12 @@
 -- What the file of a checkpoint is, by what was read of it, and where a run begins by that.
-use Rattle.std.proofs.Common.{◌≡◌, ◌<◌, ◌≤◌, ℕ, Bool, true, false, List, length, nat_lt, Option, Some, None, inl, inr, refl, sym, ap, ◌∙◌, arith}
-use Rattle.std.specs.Prelude.{if◌then◌else◌}
-use Rattle.std.specs.Str.{bytes_eq}
-use Rattle.std.proofs.lemmas.Bool.Decides.{nat_tests}
-use Rattle.checkpoint.specs.declared.image.Image.{Image}
-use Rattle.checkpoint.specs.Bytes.{image_bytes, IsImage}
+use Rattle.replay.proofs.Common.{◌≡◌, ◌<◌, ◌≤◌, ℕ, Bool, true, false, List, length, nat_lt, Option, Some, None, inl, inr, refl, sym, ap, ◌∙◌, arith, if◌then◌else◌, bytes_eq, nat_tests, Image, image_bytes, Mode, Run, Check, Lives, Proof, Save, AreLives, LifeTable, Program, First, Behind, Beginning, CheckpointCode, TooLong, CanBegin, RunsIn, IsUnread, Checkpoint, is_refused, wanted_at, refuses_checkpoint}
+use Rattle.checkpoint.specs.Bytes.{IsImage}
 use Rattle.checkpoint.specs.Reading.{decoded}
 use Rattle.checkpoint.proofs.Exact.{AreOctets}
 use Rattle.checkpoint.proofs.Whole.{decoded_takes, decoded_again}
-use Rattle.command_words.specs.declared.asking.Mode.{Mode}
-use Rattle.command_words.specs.declared.asking.Mode.TheVariants.{Run, Check, Lives, Proof, Save}
-use Rattle.rule_lives.specs.Keeping.{AreLives}
-use Rattle.rule_model.specs.declared.life.LifeTable.{LifeTable}
-use Rattle.rule_model.specs.declared.program.Program.{Program}
-use Rattle.replay.specs.declared.beginning.Beginning.TheVariants.{First, Behind}
-use Rattle.replay.specs.declared.beginning.Beginning.{Beginning}
-use Rattle.replay.specs.declared.refused_checkpoint.CheckpointCode.{CheckpointCode}
-use Rattle.replay.specs.declared.refused_checkpoint.CheckpointCode.TheVariants.{TooLong, BadImage, OtherRules}
-use Rattle.replay.specs.Beginnings.{CanBegin, RunsIn}
-use Rattle.replay.specs.Behind.{IsUnread}
-use Rattle.replay.specs.Checkpoints.{Checkpoint, checkpoint_of, has_image, image_limit, is_refused, of_decoded}
-use Rattle.replay.specs.Wanted.{wanted_at, wanted_behind, refuses_checkpoint}
+use Rattle.replay.specs.declared.refused_checkpoint.CheckpointCode.TheVariants.{BadImage, OtherRules}
+use Rattle.replay.specs.Checkpoints.{checkpoint_of, has_image, image_limit, of_decoded}
+use Rattle.replay.specs.Wanted.{wanted_behind}
 
 -- ---- the image of bytes
 

@@ -1,15 +1,5 @@
 -- What is written of an image, by what was said.
-use Rattle.std.proofs.Common.{◌≡◌, ◌≢◌, ◌⊎◌, inl, inr, ◌<◌, ◌≤◌, ℕ, Bool, true, false, List, length, nat_lt, Option, refl, sym, ap, subst, ◌∙◌, arith}
-use Rattle.std.specs.Prelude.{if◌then◌else◌}
-use Rattle.fx_io.specs.Outside.{append, AppendsFront}
-use Rattle.checkpoint.specs.declared.image.Image.{Image}
-use Rattle.checkpoint.specs.Bytes.{image_bytes}
-use Rattle.script_run.specs.declared.turn.Ended.TheVariants.{Script}
-use Rattle.replay.specs.declared.refused_checkpoint.CheckpointCode.{CheckpointCode}
-use Rattle.replay.specs.declared.refused_checkpoint.CheckpointCode.TheVariants.{TooLong, Unfit}
-use Rattle.replay.specs.Calls.{Says}
-use Rattle.replay.specs.Checkpoints.{can_go_on, checkpoint_text, image_limit}
-use Rattle.replay.specs.Report.{Report, Reports, checkpoint_report, image_report, run_status}
+use Rattle.replay.proofs.Common.{◌≡◌, ◌≢◌, ◌⊎◌, inl, inr, ◌<◌, ◌≤◌, ℕ, Bool, true, false, List, length, nat_lt, Option, refl, sym, ap, subst, ◌∙◌, arith, if◌then◌else◌, append, AppendsFront, Image, image_bytes, Script, CheckpointCode, TooLong, Unfit, Says, can_go_on, checkpoint_text, image_limit, Report, Reports, checkpoint_report, image_report, run_status}
 use Rattle.replay.proofs.ImagesRead.{is_long, is_short}
 
 -- the report of an image, by its two tests

@@ -1,3 +1,4 @@
+mod Common
 pub mod Counted
 pub mod Files
 pub mod Reports

@@ -1,27 +1,14 @@
 -- What is wanted, by what was found.
-use Rattle.std.proofs.Common.{◌≡◌, ◌≢◌, inl, inr, ◌≤◌, ◌+◌, ℕ, Bool, true, false, List, length, take, nat_lt, Option, Some, None, refl, sym, ap, subst, ◌∙◌, arith}
-use Rattle.std.specs.Prelude.{IfSome}
-use Rattle.std.proofs.lemmas.Bool.Decides.{nat_tests}
-use Rattle.std.proofs.lemmas.List.{take_all, length-take}
-use Rattle.fx_io.specs.Outside.{IsMissing, IsFound, file_told, AppendsFront}
-use Rattle.gen_load.specs.Rules.{rules_text}
-use Rattle.drl_parse.specs.Parsed.{file_limit, parsed, parsed_by}
-use Rattle.command_words.specs.declared.asking.Mode.{Mode}
-use Rattle.rule_model.specs.declared.program.Program.{Program}
-use Rattle.script_run.specs.Firings.{Gives, Fires, Counts}
+use Rattle.replay.proofs.Common.{◌≡◌, ◌≢◌, inl, inr, ◌≤◌, ◌+◌, ℕ, Bool, true, false, List, length, take, nat_lt, Option, Some, None, refl, sym, ap, subst, ◌∙◌, arith, IfSome, nat_tests, take_all, IsFound, file_told, AppendsFront, rules_text, file_limit, Mode, Program, Gives, Fires, Counts, Refusal, image_limit, is_refused, Reading, Accepted, Refused, reading, lines_of, LifeTable, run_on, setting_of, Report, IsBehind, IsDefinite, IsFront, IsReport, IsRunBehind, IsRunStatus, IsSaveStatus, Wanted, Files, usage_line, refuses, refuses_checkpoint, runs, resumes, saves, saves_on, accepts, tells_lives, proves, sums_up, wanted_by_file, wanted_by_reading, wanted_from, rules_in}
+use Rattle.std.proofs.lemmas.List.{length-take}
+use Rattle.fx_io.specs.Outside.{IsMissing}
+use Rattle.drl_parse.specs.Parsed.{parsed, parsed_by}
 use Rattle.replay.specs.declared.refusal.RefusalCode.TheVariants.{Missing}
-use Rattle.replay.specs.declared.refusal.Refusal.{Refusal}
 use Rattle.replay.specs.declared.refused_checkpoint.CheckpointCode.TheVariants.{Missing as NoImage}
-use Rattle.replay.specs.Checkpoints.{checkpoint_in, checkpoint_of, image_limit, is_refused, rules_of}
-use Rattle.replay.specs.declared.rule_file.Reading.{Reading}
-use Rattle.replay.specs.declared.rule_file.Reading.TheVariants.{Accepted, Refused}
-use Rattle.replay.specs.Refusals.{reading, whole_file, IsRefused}
-use Rattle.fx_io.specs.Lines.{lines_of}
-use Rattle.rule_model.specs.declared.life.LifeTable.{LifeTable}
-use Rattle.script_run.specs.Parts.{run_on}
-use Rattle.script_run.specs.Run.{setting_of}
-use Rattle.replay.specs.Report.{Report, IsBehind, IsDefinite, IsFront, IsFrontOfEach, IsReport, IsRunBehind, IsRunStatus, IsSavedBehind, IsSaveStatus}
-use Rattle.replay.specs.Wanted.{Wanted, Files, usage_line, refuses, refuses_checkpoint, runs, resumes, saves, saves_on, accepts, tells_lives, proves, sums_up, wanted_by_name, wanted_by_number, wanted_by_file, wanted_by_reading, wanted_from, rules_in, IsRefusedFile, HasRefused}
+use Rattle.replay.specs.Checkpoints.{checkpoint_in, checkpoint_of, rules_of}
+use Rattle.replay.specs.Refusals.{whole_file, IsRefused}
+use Rattle.replay.specs.Report.{IsFrontOfEach, IsSavedBehind}
+use Rattle.replay.specs.Wanted.{wanted_by_name, wanted_by_number, IsRefusedFile, HasRefused}
 use Rattle.replay.proofs.Tables.{behind_one, by_table, one_report, one_saved}
 
 -- what is wanted of a load, by what its rule file is

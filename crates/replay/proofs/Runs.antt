@@ -1,39 +1,16 @@
 -- What a run does, from its beginning.
-use Rattle.std.proofs.Common.{◌≡◌, Bool, nat_lt, ◌≢◌, ◌⊎◌, inl, inr, ◌<◌, ◌≤◌, ◌+◌, ◌^◌, ℕ, true, false, List, [], length, Option, Some, None, Result, Err, refl, sym, ap, ap₂, subst, ◌∙◌, arith}
-use Rattle.std.specs.Prelude.{IfSome, if◌then◌else◌}
-use Rattle.fx_io.specs.Outside.{Rose, append, AppendsFront, count_after}
-use Rattle.fx_io.specs.Lines.{lines_of}
-use Rattle.checkpoint.specs.declared.image.Image.{Image}
-use Rattle.checkpoint.specs.declared.image.RunPart.{RunPart}
-use Rattle.command_words.specs.declared.asking.Asked.TheVariants.{RuleFile}
-use Rattle.command_words.specs.declared.asking.Mode.{Mode}
-use Rattle.command_words.specs.declared.asking.Mode.TheVariants.{Run, Save}
+use Rattle.replay.proofs.Common.{◌≡◌, Bool, nat_lt, ◌≢◌, ◌⊎◌, inl, inr, ◌<◌, ◌≤◌, ◌+◌, ◌^◌, ℕ, true, false, List, [], length, Option, Some, None, Result, Err, refl, sym, ap, ap₂, subst, ◌∙◌, arith, IfSome, if◌then◌else◌, Rose, append, AppendsFront, count_after, lines_of, Image, RunPart, RuleFile, Mode, Run, Save, LifeTable, Program, AreLives, World, empty_world, Script, Limit, Gives, Fires, Counts, part_at, run_on, Outcome, RunState, setting_of, whole_run, StoppedAtRead, limit_text, Beginning, First, Behind, TooLong, Unfit, CanBegin, part_of, image_bytes, can_go_on, image_limit, ShelfSeen, seen, TellsScript, MayEnd, RunOf, Says, Report, IsReport, IsWritten, IsFront, IsLong, IsRunStatus, IsBehindSome, IsRunBehind, IsSaved, IsSaveStatus, IsStopped, TakesFor, checkpoint_report, image_report, outcome_report, run_status, Wanted, wanted_at, MayRefuse}
 use Rattle.image_laws.specs.Images.{IsImageOf}
-use Rattle.rule_model.specs.declared.life.LifeTable.{LifeTable}
-use Rattle.rule_model.specs.declared.program.Program.{Program}
-use Rattle.rule_lives.specs.Keeping.{AreLives}
-use Rattle.rule_world.specs.Worlds.{World, empty_world}
 use Rattle.script_run.specs.declared.fault.RunFault.{RunFault}
 use Rattle.script_run.specs.declared.fault.RunFault.TheVariants.{ReadFault, WriteFault, NoMemory, ScriptLong}
 use Rattle.script_run.specs.declared.turn.Ended.{Ended}
-use Rattle.script_run.specs.declared.turn.Ended.TheVariants.{Script, Limit}
 use Rattle.script_run.specs.declared.turn.Progress.{Progress}
-use Rattle.script_run.specs.Firings.{Gives, Fires, Counts}
-use Rattle.script_run.specs.Parts.{part_at, run_on}
-use Rattle.script_run.specs.Run.{Outcome, RunState, run as run_lines, setting_of, whole_run}
+use Rattle.script_run.specs.Run.{run as run_lines}
 use Rattle.script_run.specs.Turns.{Takes, AtEnd, Reaches}
-use Rattle.script_run.specs.Unfinished.{Long, StoppedAtRead}
-use Rattle.script_run.specs.Texts.{limit_text}
+use Rattle.script_run.specs.Unfinished.{Long}
 use Rattle.script_run.proofs.Joined.{first_behind}
-use Rattle.replay.specs.declared.beginning.Beginning.{Beginning}
-use Rattle.replay.specs.declared.beginning.Beginning.TheVariants.{First, Behind}
-use Rattle.replay.specs.declared.refused_checkpoint.CheckpointCode.TheVariants.{TooLong, Unfit}
-use Rattle.replay.specs.Beginnings.{BeginsIn, CanBegin, IsBeginningFor, part_of}
-use Rattle.checkpoint.specs.Bytes.{image_bytes}
-use Rattle.replay.specs.Checkpoints.{can_go_on, image_limit}
-use Rattle.replay.specs.Calls.{ShelfSeen, seen, TellsScript, MayEnd, RunOf, Says}
-use Rattle.replay.specs.Report.{Report, IsReport, IsWritten, IsFront, IsLong, IsRunStatus, IsBehindSome, IsRunBehind, IsSaved, IsSaveStatus, IsStopped, TakesFor, checkpoint_report, fault_status, image_report, outcome_report, run_status}
-use Rattle.replay.specs.Wanted.{Wanted, wanted_at, MayRefuse}
+use Rattle.replay.specs.Beginnings.{BeginsIn, IsBeginningFor}
+use Rattle.replay.specs.Report.{fault_status}
 use Rattle.replay.proofs.Calls.{some_is, written_as, none_written}
 use Rattle.replay.proofs.Reports.{front_none}
 use Rattle.replay.proofs.Tables.{by_table}

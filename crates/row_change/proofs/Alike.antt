@@ -1,6 +1,5 @@
 -- Sets that answer alike change alike.
-use Rattle.std.proofs.Common.{◌≡◌, ◌∙◌, ap, List, Bool, ◌&&◌, not}
-use Rattle.row_delta.specs.declared.row.Row.{Row}
+use Rattle.row_change.proofs.Common.{◌≡◌, ◌∙◌, ap, List, Bool, ◌&&◌, not, Row}
 use Rattle.row_delta.specs.declared.delta.Delta.{Delta}
 use Rattle.row_change.specs.Changes.{Leads, IsDifference}
 

@@ -1,8 +1,8 @@
 -- Rows put into a list in order, and taken out of it.
-use Rattle.std.proofs.Common.{◌≡◌, ◌∙◌, sym, ap, refl, subst, ℕ, zero, suc, ◌+◌, ◌-◌, ◌<◌, ◌≤◌, List, [], ◌∷◌, ◌++◌, length, take, drop, get_or, Bool, true, false, ◌&&◌, ◌||◌, not, Result, Ok, Err, is_ok, IfOk, IfErr, inl, inr, arith, drop-cons}
+use Rattle.row_change.proofs.Common.{◌≡◌, ◌∙◌, sym, ap, refl, subst, ℕ, zero, suc, ◌+◌, ◌-◌, ◌<◌, ◌≤◌, List, [], ◌∷◌, ◌++◌, length, take, drop, get_or, Bool, true, false, ◌&&◌, ◌||◌, not, Result, Ok, Err, is_ok, IfOk, IfErr, inl, inr, arith, drop-cons, eq_by_cmp, is_lt, list_any_congr, row_cmp, has, same_equiv, Row}
 use Rattle.std.specs.declared.cmp.Ordering.{Ordering}
 use Rattle.std.specs.declared.cmp.Ordering.TheVariants.{Less, Equal, Greater}
-use Rattle.std.specs.Ordering.{eq_by_cmp, is_eq, is_lt, ordering_index, ordering_reverse}
+use Rattle.std.specs.Ordering.{is_eq, ordering_index, ordering_reverse}
 use Rattle.std.specs.List.{AllByRecursion, IsAllAdjacentAnswer, insert, remove}
 use Rattle.std.specs.List.Sorted.{IsStrictlySortedBy, IsBinarySearchResult, IsSearchInRange, IsNonDecreasingBy}
 use Rattle.std.proofs.lemmas.Bool.{cases_lt}
@@ -10,10 +10,8 @@ use Rattle.std.proofs.lemmas.List.{take-append-drop}
 use Rattle.std.proofs.lemmas.List.Folds.{list_any_at}
 use Rattle.std.proofs.lemmas.List.Sorted.{searchable_from_sorted}
 use Rattle.std.proofs.lemmas.Map.Keys.{Less-from_sorted, sorted_from_all_adjacent}
-use Rattle.std.proofs.lemmas.Map.Steps.{list_any_congr}
-use Rattle.row_delta.specs.Rows.{row_cmp, has, InOrder}
-use Rattle.row_delta.specs.RowOrder.{row_total, row_exact, same_equiv}
-use Rattle.row_delta.specs.declared.row.Row.{Row}
+use Rattle.row_delta.specs.Rows.{InOrder}
+use Rattle.row_delta.specs.RowOrder.{row_total, row_exact}
 use Rattle.row_change.specs.Gaps.{IsGap, StandsAt}
 
 -- the row is less than each of these

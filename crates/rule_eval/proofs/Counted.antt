@@ -1,9 +1,6 @@
 -- Facts behind references are counted as the references are.
-use Rattle.std.proofs.Common.{◌≡◌, Bool, true, false, cond, suc, List, [], ◌∷◌, length, refl, ap}
+use Rattle.rule_eval.proofs.Common.{◌≡◌, Bool, true, false, cond, suc, List, [], ◌∷◌, length, refl, ap, filter, Fact, lent}
 use Rattle.std.specs.Borrow.{Bor}
-use Rattle.std.specs.List.{filter}
-use Rattle.fx_base.specs.declared.fact.Fact.{Fact}
-use Rattle.rule_model.specs.Lent.{lent}
 
 one_counted : {A B : Type 0} (b : Bool) (x : A) (y : B) (xs : List A) (ys : List B) → length xs ≡ length ys → length (cond b (x ∷ xs) xs) ≡ length (cond b (y ∷ ys) ys)
 one_counted true x y xs ys h = ap suc h

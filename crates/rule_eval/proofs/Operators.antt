@@ -1,8 +1,5 @@
 -- The temporal tests of a rule have operators.
-use Rattle.std.proofs.Common.{◌≡◌, ◌<◌, ℕ, zero, suc, List, [], ◌∷◌, length, get_or, sym, subst, arith}
-use Rattle.rule_model.specs.declared.program.Rule.{Rule}
-use Rattle.rule_model.specs.Rows.{HaveOperators}
-use Rattle.rule_world.specs.Programs.{UseOperators}
+use Rattle.rule_eval.proofs.Common.{◌≡◌, ◌<◌, ℕ, zero, suc, List, [], ◌∷◌, length, get_or, sym, subst, arith, Rule, HaveOperators, UseOperators}
 
 pub operators_at : (rules : List Rule) (k : ℕ) (rule : Rule) → UseOperators rules → k < length rules → rule ≡ get_or rules k rule → HaveOperators rule.conditions
 operators_at [] k rule h lt is = absurd (omega arith)

@@ -1,18 +1,13 @@
 -- Conditions taken one after the other, over lists of tuples.
-use Rattle.std.proofs.Common.{◌≡◌, ℕ, suc, ◌+◌, ◌<◌, ◌≤◌, List, [], ◌∷◌, ◌++◌, length, drop, get_or, refl, sym, ◌∙◌, ap, subst, arith, add-one, drop-cons}
-use Rattle.std.specs.List.{filter, flat_map}
+use Rattle.rule_eval.proofs.Common.{◌≡◌, ℕ, suc, ◌+◌, ◌<◌, ◌≤◌, List, [], ◌∷◌, ◌++◌, length, drop, get_or, refl, sym, ◌∙◌, ap, subst, arith, add-one, drop-cons, filter, flat_map, Fact, Program, candidates, passes, extended, pattern_of, HaveOperators, made_by, over}
 use Rattle.std.proofs.lemmas.Grind.{common_steps, flat_map-append}
-use Rattle.fx_base.specs.declared.fact.Fact.{Fact}
 use Rattle.rule_model.specs.declared.condition.Condition.{Condition}
 use Rattle.rule_model.specs.declared.condition.Condition.TheVariants.{Plain, Negated, Existing, Folded}
-use Rattle.rule_model.specs.declared.program.Program.{Program}
-use Rattle.rule_model.specs.Candidates.{candidates, passes, passing}
-use Rattle.rule_model.specs.Rows.{extended, tuples, pattern_of, HaveOperators}
+use Rattle.rule_model.specs.Candidates.{passing}
+use Rattle.rule_model.specs.Rows.{tuples}
 use Rattle.rule_model.specs.Snapshots.{Snapshot, floor}
 use Rattle.rule_model.specs.Tuples.{Tuple, empty_tuple}
-use Rattle.rule_eval.specs.Found.{made_by}
 use Rattle.rule_model.specs.declared.moment.Moment.{Moment}
-use Rattle.rule_eval.specs.Over.{over}
 
 -- functions that agree gather the same
 pub flat_map_same : {A B : Type 0} (f g : A → List B) → ((x : A) → f x ≡ g x) → (xs : List A) → flat_map f xs ≡ flat_map g xs

@@ -1,19 +1,6 @@
 -- An event past its life, in a tuple or beside one: every condition is settled there.
-use Rattle.std.proofs.Common.{◌≡◌, ◌==◌, ℕ, suc, ◌+◌, ℤ, ◌+ℤ◌, ◌-ℤ◌, ◌≤ℤ◌, ◌<ℤ◌, Bool, true, false, cond, List, [], ◌∷◌, Some, refl, sym, ap, subst, ◌∙◌, arith, inl, inr}
-use Rattle.std.specs.Prelude.{slice_get, take}
-use Rattle.std.proofs.lemmas.Int.{ints}
-use Rattle.fx_base.specs.declared.fact.Fact.{Fact}
-use Rattle.fx_base.specs.declared.times.Times.{Times}
-use Rattle.rule_model.specs.declared.condition.Condition.{Condition}
-use Rattle.rule_model.specs.declared.condition.Condition.TheVariants.{Plain, Negated, Existing, Folded}
-use Rattle.rule_model.specs.declared.condition.Pattern.{Pattern}
-use Rattle.rule_model.specs.declared.program.Program.{Program}
-use Rattle.rule_model.specs.Maturity.{IsPossible}
-use Rattle.rule_model.specs.Rows.{pattern_of}
-use Rattle.rule_model.specs.Tuples.{Tuple, bound_by}
-use Rattle.rule_model.specs.Types.{is_event, is_reference, is_observed}
-use Rattle.rule_lives.specs.Networks.{bindings, binds}
-use Rattle.rule_lives.specs.Reach.{Placed, occurrence_of, SolvesWith}
+use Rattle.rule_lives.proofs.Common.{◌≡◌, ◌==◌, ℕ, suc, ◌+◌, ℤ, ◌+ℤ◌, ◌-ℤ◌, ◌≤ℤ◌, ◌<ℤ◌, Bool, true, false, cond, List, [], ◌∷◌, Some, refl, sym, ap, subst, ◌∙◌, arith, inl, inr, slice_get, take, ints, Fact, Times, Condition, Plain, Negated, Existing, Folded, Pattern, Program, IsPossible, pattern_of, Tuple, bound_by, is_event, is_reference, is_observed, bindings, binds, Placed, SolvesWith}
+use Rattle.rule_lives.specs.Reach.{occurrence_of}
 use Rattle.rule_lives.proofs.Basics.{number_same, number_differs}
 use Rattle.rule_lives.proofs.Flagged.{Steady}
 use Rattle.rule_lives.proofs.Still.{Settled, Still, old, steady}

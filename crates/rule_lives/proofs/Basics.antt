@@ -1,15 +1,7 @@
 -- Tests, places in lists, and temporal tests that go on holding as a tuple grows.
-use Rattle.std.proofs.Common.{◌≡◌, ◌==◌, ℕ, zero, suc, ℤ, ◌<ℤ◌, Bool, true, false, ◌&&◌, cond, List, [], ◌∷◌, ◌++◌, length, Option, Some, None, refl, sym, ◌∙◌, ap, arith}
-use Rattle.std.specs.Prelude.{int_lt, slice_get}
-use Rattle.std.specs.List.{filter}
-use Rattle.std.proofs.lemmas.Int.{ints}
+use Rattle.rule_lives.proofs.Common.{◌≡◌, ◌==◌, ℕ, zero, suc, ℤ, ◌<ℤ◌, Bool, true, false, ◌&&◌, cond, List, [], ◌∷◌, ◌++◌, length, Option, Some, None, refl, sym, ◌∙◌, ap, arith, slice_get, filter, ints, Fact, Times, TimeTest, time_holds_with, time_holds, times_hold, Tuple, bound_by, both, both_of}
+use Rattle.std.specs.Prelude.{int_lt}
 use Rattle.std.proofs.lemmas.Bool.Decides.{nat_tests}
-use Rattle.fx_base.specs.declared.fact.Fact.{Fact}
-use Rattle.fx_base.specs.declared.times.Times.{Times}
-use Rattle.rule_model.specs.declared.test.TimeTest.{TimeTest}
-use Rattle.rule_model.specs.Tests.{time_holds_with, time_holds, times_hold}
-use Rattle.rule_model.specs.Tuples.{Tuple, bound_by}
-use Rattle.rule_model.proofs.Listed.{both, both_of}
 
 pub same_tests : (a b : Bool) → (a ≡ true → b ≡ true) → (b ≡ true → a ≡ true) → a ≡ b
 same_tests true true f g = refl

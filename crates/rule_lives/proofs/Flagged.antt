@@ -1,29 +1,11 @@
 -- Programs that engines run are flagged; patterns on reference types in them, and steps that leave facts of these types as they are.
-use Rattle.std.proofs.Common.{◌≡◌, ◌⊎◌, ◌&&◌, ◌||◌, ℕ, Bool, true, false, List, [], ◌∷◌, ◌++◌, Option, Some, None, if◌then◌else◌, refl, sym, ◌∙◌, ap, inl, inr}
-use Rattle.std.specs.Prelude.{slice_get}
-use Rattle.fx_base.specs.Lists.{In}
-use Rattle.fx_base.specs.declared.fact.Fact.{Fact}
-use Rattle.fx_base.specs.declared.value.Value.{Value}
-use Rattle.rule_model.specs.declared.condition.Condition.{Condition}
-use Rattle.rule_model.specs.declared.condition.Pattern.{Pattern}
-use Rattle.rule_model.specs.declared.condition.WindowTag.{WindowTag}
-use Rattle.rule_model.specs.declared.condition.WindowTag.TheVariants.{Whole, Time, Length}
-use Rattle.rule_model.specs.declared.program.Program.{Program}
-use Rattle.rule_model.specs.declared.program.Rule.{Rule}
-use Rattle.rule_model.specs.declared.step.Step.{Step}
-use Rattle.rule_model.specs.declared.step.Step.TheVariants.{Insert, Modify, Retract, Advance, At, Promise, Begin}
-use Rattle.rule_model.specs.Rows.{pattern_of}
+use Rattle.rule_lives.proofs.Common.{◌≡◌, ◌⊎◌, ◌&&◌, ◌||◌, ℕ, Bool, true, false, List, [], ◌∷◌, ◌++◌, Option, Some, None, if◌then◌else◌, refl, sym, ◌∙◌, ap, inl, inr, slice_get, In, Fact, Value, Condition, Pattern, WindowTag, Whole, Time, Length, Program, Rule, Step, Insert, Modify, Retract, Advance, At, Promise, Begin, pattern_of, is_event, is_reference, is_observed, of_append, in_place, EventObserved, ReferenceFixed, Absent, IsLawful, World, insert_fault, modify_fault, retract_fault, is_of_type, new_fact, IsFlagged}
 use Rattle.rule_model.specs.Simple.{is_whole}
-use Rattle.rule_model.specs.Types.{is_event, is_reference, is_observed}
-use Rattle.rule_model.proofs.Listed.{of_append}
-use Rattle.rule_model.proofs.RuleOf.{in_place}
-use Rattle.rule_world.specs.declared.code.Code.TheVariants.{EventFixed, EventObserved, ReferenceFixed, Absent}
-use Rattle.rule_world.specs.Lawful.{IsLawful}
+use Rattle.rule_world.specs.declared.code.Code.TheVariants.{EventFixed}
 use Rattle.rule_world.specs.Programs.{is_window, has_window, has_windows, IsRunnable}
-use Rattle.rule_world.specs.Worlds.{World, moved, step_fault, insert_fault, modify_fault, retract_fault, is_of_type, new_fact}
+use Rattle.rule_world.specs.Worlds.{moved, step_fault}
 use Rattle.rule_world.proofs.Acting.{all_of}
 use Rattle.rule_world.proofs.Faultless.{inserted}
-use Rattle.rule_lives.specs.Law.{IsFlagged}
 
 -- ---- programs
 

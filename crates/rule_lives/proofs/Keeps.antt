@@ -1,31 +1,8 @@
 -- What comes in a step names only what is kept.
-use Rattle.std.proofs.Common.{◌≡◌, ◌==◌, ◌&&◌, ◌⊎◌, not, ℤ, ◌+ℤ◌, ◌≤ℤ◌, Bool, true, false, List, [], ◌∷◌, Option, Some, None, refl, sym, ap, subst, arith, inl, inr}
-use Rattle.std.specs.Prelude.{slice_get, take}
-use Rattle.std.proofs.lemmas.Int.{ints}
-use Rattle.fx_base.specs.Lists.{In}
-use Rattle.fx_base.specs.declared.fact.Fact.{Fact}
-use Rattle.rule_model.specs.declared.condition.Condition.{Condition}
-use Rattle.rule_model.specs.declared.condition.Condition.TheVariants.{Plain, Negated, Existing, Folded}
-use Rattle.rule_model.specs.declared.life.Life.{Life}
-use Rattle.rule_model.specs.declared.life.Life.TheVariants.{Explicit, Finite, Infinite}
+use Rattle.rule_lives.proofs.Common.{◌≡◌, ◌==◌, ◌&&◌, ◌⊎◌, not, ℤ, ◌+ℤ◌, ◌≤ℤ◌, Bool, true, false, List, [], ◌∷◌, Option, Some, None, refl, sym, ap, subst, arith, inl, inr, slice_get, take, ints, In, Fact, Condition, Plain, Negated, Existing, Folded, Life, Explicit, Finite, Infinite, LifeTable, Program, Step, Insert, Modify, Retract, Advance, At, Promise, Begin, is_present, Makes, pattern_of, Snapshot, Tuple, empty_tuple, both, of_append, passed, World, snapshot, has_id, was_present, stays, finite, IsLife, Made, KeepsTuple, AreSafe, IsKept, plain, unexpired, endless, living}
 use Rattle.rule_model.specs.declared.life.Life.TheVariants as lives
-use Rattle.rule_model.specs.declared.life.LifeTable.{LifeTable}
-use Rattle.rule_model.specs.declared.program.Program.{Program}
-use Rattle.rule_model.specs.declared.step.Step.{Step}
-use Rattle.rule_model.specs.declared.step.Step.TheVariants.{Insert, Modify, Retract, Advance, At, Promise, Begin}
-use Rattle.rule_model.specs.Candidates.{is_present}
-use Rattle.rule_model.specs.Rows.{Makes, pattern_of}
-use Rattle.rule_model.specs.Snapshots.{Snapshot}
-use Rattle.rule_model.specs.Tuples.{Tuple, empty_tuple}
-use Rattle.rule_model.proofs.Listed.{both, of_append}
-use Rattle.rule_model.proofs.Order.{passed}
-use Rattle.rule_world.specs.Worlds.{World, snapshot, moved, has_id}
-use Rattle.rule_world.proofs.Keeping.{was_present}
-use Rattle.rule_world.proofs.Steps.{stays}
-use Rattle.rule_lives.specs.Reach.{finite}
-use Rattle.rule_lives.specs.Lifetimes.{IsLife}
-use Rattle.rule_lives.specs.Law.{Made, KeepsTuple}
-use Rattle.rule_lives.specs.Keeping.{AreSafe, IsKept, plain, unexpired, endless, living, TupleNamesKept, TupleMeetsKept}
+use Rattle.rule_world.specs.Worlds.{moved}
+use Rattle.rule_lives.specs.Keeping.{TupleNamesKept, TupleMeetsKept}
 use Rattle.rule_lives.proofs.Basics.{number_same}
 use Rattle.rule_lives.proofs.Safe.{plain_unlisted}
 use Rattle.rule_lives.proofs.Shifts.{of_counted}

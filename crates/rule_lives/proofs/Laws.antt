@@ -1,33 +1,9 @@
 -- The law of changes.
-use Rattle.std.proofs.Common.{◌≡◌, ◌⊎◌, ◌||◌, ℕ, zero, suc, ◌+◌, ◌<◌, ℤ, ◌+ℤ◌, ◌-ℤ◌, ◌≤ℤ◌, ◌<ℤ◌, Bool, true, false, List, [], ◌∷◌, Option, Some, None, refl, sym, ◌∙◌, ap, subst, arith, inl, inr}
-use Rattle.std.specs.Prelude.{slice_get, take}
+use Rattle.rule_lives.proofs.Common.{◌≡◌, ◌⊎◌, ◌||◌, ℕ, zero, suc, ◌+◌, ◌<◌, ℤ, ◌+ℤ◌, ◌-ℤ◌, ◌≤ℤ◌, ◌<ℤ◌, Bool, true, false, List, [], ◌∷◌, Option, Some, None, refl, sym, ◌∙◌, ap, subst, arith, inl, inr, slice_get, take, ints, by_lt_z, In, Fact, Times, IsEvent, Condition, Plain, Negated, Existing, Folded, Pattern, WindowTag, Whole, Time, Length, Program, Rule, is_inside, passing, IsPossible, pattern_of, Snapshot, Tuple, empty_tuple, bound_by, is_event, is_point, is_observed, both, in_place, snapshot, moved, bindings, binds, finite, infinite, Placed, scope, IsLife, Made, IsFlagged}
 use Rattle.std.specs.List.{list_any}
-use Rattle.std.proofs.lemmas.Int.{ints, by_lt_z}
-use Rattle.fx_base.specs.Lists.{In}
-use Rattle.fx_base.specs.declared.fact.Fact.{Fact}
-use Rattle.fx_base.specs.declared.times.Times.{Times}
-use Rattle.temporal_ops.specs.Possible.{IsEvent}
-use Rattle.rule_model.specs.declared.condition.Condition.{Condition}
-use Rattle.rule_model.specs.declared.condition.Condition.TheVariants.{Plain, Negated, Existing, Folded}
-use Rattle.rule_model.specs.declared.condition.Pattern.{Pattern}
-use Rattle.rule_model.specs.declared.condition.WindowTag.{WindowTag}
-use Rattle.rule_model.specs.declared.condition.WindowTag.TheVariants.{Whole, Time, Length}
-use Rattle.rule_model.specs.declared.program.Program.{Program}
-use Rattle.rule_model.specs.declared.program.Rule.{Rule}
-use Rattle.rule_model.specs.Candidates.{is_inside, passing}
-use Rattle.rule_model.specs.Maturity.{IsPossible}
-use Rattle.rule_model.specs.Rows.{pattern_of}
 use Rattle.rule_model.specs.Simple.{observes, observes_type}
-use Rattle.rule_model.specs.Snapshots.{Snapshot}
-use Rattle.rule_model.specs.Tuples.{Tuple, empty_tuple, bound_by}
-use Rattle.rule_model.specs.Types.{is_event, is_point, is_observed}
-use Rattle.rule_model.proofs.Listed.{both}
-use Rattle.rule_model.proofs.RuleOf.{in_place}
-use Rattle.rule_world.specs.Worlds.{snapshot, moved}
-use Rattle.rule_lives.specs.Networks.{bindings, occurrence, binds}
-use Rattle.rule_lives.specs.Reach.{finite, infinite, Placed}
-use Rattle.rule_lives.specs.Lifetimes.{scope, IsLife}
-use Rattle.rule_lives.specs.Law.{Made, IsFlagged, OfRule, OfPrefix}
+use Rattle.rule_lives.specs.Networks.{occurrence}
+use Rattle.rule_lives.specs.Law.{OfRule, OfPrefix}
 use Rattle.rule_lives.proofs.Basics.{below, number_same}
 use Rattle.rule_lives.proofs.Shifts.{of_counted, Timed, timed_in}
 use Rattle.rule_lives.proofs.Transfers.{Turns, turned, transfer}

@@ -1,3 +1,4 @@
+mod Common
 pub mod Basics
 pub mod Flagged
 pub mod Still

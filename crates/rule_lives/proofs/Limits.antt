@@ -1,29 +1,10 @@
 -- What a finite life says of every solution, and the solutions that tuples give.
-use Rattle.std.proofs.Common.{◌≡◌, ◌⊎◌, ℕ, ℤ, pos, ◌+ℤ◌, ◌≤ℤ◌, Bool, true, false, List, [], ◌∷◌, Option, Some, None, refl, sym, ap, subst, arith, inl, inr}
-use Rattle.std.specs.Prelude.{slice_get, take}
+use Rattle.rule_lives.proofs.Common.{◌≡◌, ◌⊎◌, ℕ, ℤ, pos, ◌+ℤ◌, ◌≤ℤ◌, Bool, true, false, List, [], ◌∷◌, Option, Some, None, refl, sym, ap, subst, arith, inl, inr, slice_get, take, ints, by_lt_z, In, Fact, Times, Condition, Plain, Negated, Existing, Folded, Pattern, WindowTag, Whole, Program, Rule, TimeTest, IsPossible, pattern_of, time_holds_with, time_holds, times_hold, Tuple, bound_by, is_event, is_reference, both, both_of, bindings, binds, finite, infinite, Placed, SolvesWith, scope, IsLife}
 use Rattle.std.specs.List.{list_all}
-use Rattle.std.proofs.lemmas.Int.{ints, by_lt_z}
-use Rattle.fx_base.specs.Lists.{In}
-use Rattle.fx_base.specs.declared.fact.Fact.{Fact}
-use Rattle.fx_base.specs.declared.times.Times.{Times}
 use Rattle.temporal_ops.specs.Edges.{edges_hold}
-use Rattle.rule_model.specs.declared.condition.Condition.{Condition}
-use Rattle.rule_model.specs.declared.condition.Condition.TheVariants.{Plain, Negated, Existing, Folded}
-use Rattle.rule_model.specs.declared.condition.Pattern.{Pattern}
-use Rattle.rule_model.specs.declared.condition.WindowTag.{WindowTag}
-use Rattle.rule_model.specs.declared.condition.WindowTag.TheVariants.{Whole}
-use Rattle.rule_model.specs.declared.program.Program.{Program}
-use Rattle.rule_model.specs.declared.program.Rule.{Rule}
-use Rattle.rule_model.specs.declared.test.TimeTest.{TimeTest}
-use Rattle.rule_model.specs.Maturity.{IsPossible}
-use Rattle.rule_model.specs.Rows.{pattern_of}
-use Rattle.rule_model.specs.Tests.{time_holds_with, time_holds, times_hold}
-use Rattle.rule_model.specs.Tuples.{Tuple, bound_by}
-use Rattle.rule_model.specs.Types.{is_event, is_reference}
-use Rattle.rule_model.proofs.Listed.{both, both_of}
-use Rattle.rule_lives.specs.Networks.{Occurrence, bound, aside, bindings, is_met, Meets, Solves, binds}
-use Rattle.rule_lives.specs.Reach.{Limit, finite, infinite, Below, Placed, distance, SolvesWith}
-use Rattle.rule_lives.specs.Lifetimes.{tail, Adds, of_fact, of_event, scope, LivesFor, IsLife}
+use Rattle.rule_lives.specs.Networks.{Occurrence, bound, aside, is_met, Meets, Solves}
+use Rattle.rule_lives.specs.Reach.{Limit, Below, distance}
+use Rattle.rule_lives.specs.Lifetimes.{tail, Adds, of_fact, of_event, LivesFor}
 
 -- ---- lives
 

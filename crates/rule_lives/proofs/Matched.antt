@@ -1,26 +1,17 @@
 -- Matches and the tuples that their rows name.
-use Rattle.std.proofs.Common.{◌≡◌, ℕ, zero, suc, ◌+◌, ◌<◌, true, List, [], ◌∷◌, map, Some, refl, sym, ◌∙◌, ap, subst, arith, inl, inr}
-use Rattle.std.specs.Prelude.{slice_get}
-use Rattle.fx_base.specs.Lists.{In}
-use Rattle.fx_base.specs.declared.fact.Fact.{Fact}
+use Rattle.rule_lives.proofs.Common.{◌≡◌, ℕ, zero, suc, ◌+◌, ◌<◌, true, List, [], ◌∷◌, map, Some, refl, sym, ◌∙◌, ap, subst, arith, inl, inr, slice_get, In, Fact, Match, Program, Rule, Step, matches, has_match, Snapshot, Tuple, in_place, IsLawful, World, snapshot, moved, Made}
 use Rattle.fx_base.specs.declared.ids.Tag.{Tag}
-use Rattle.rule_model.specs.declared.matched.Match.{Match}
-use Rattle.rule_model.specs.declared.program.Program.{Program}
-use Rattle.rule_model.specs.declared.program.Rule.{Rule}
-use Rattle.rule_model.specs.declared.step.Step.{Step}
-use Rattle.rule_model.specs.Matches.{match_of, matches_from, rows_by_rule, matches, has_match}
+use Rattle.rule_model.specs.Matches.{match_of, matches_from, rows_by_rule}
 use Rattle.rule_model.specs.Rows.{rows, HaveOperators}
-use Rattle.rule_model.specs.Snapshots.{Snapshot}
-use Rattle.rule_model.specs.Tuples.{Tuple, name_of, row_of}
+use Rattle.rule_model.specs.Tuples.{name_of, row_of}
 use Rattle.rule_model.proofs.Listed.{in_map, of_map, in_left, in_right, row_listed, listed_row}
 use Rattle.rule_model.proofs.Once.{one_fact}
-use Rattle.rule_model.proofs.RuleOf.{has_in, rule_of, in_place}
-use Rattle.rule_world.specs.Lawful.{IsOrdered, IsLawful}
+use Rattle.rule_model.proofs.RuleOf.{has_in, rule_of}
+use Rattle.rule_world.specs.Lawful.{IsOrdered}
 use Rattle.rule_world.specs.Programs.{UseOperators}
-use Rattle.rule_world.specs.Worlds.{World, snapshot, moved, stepped}
+use Rattle.rule_world.specs.Worlds.{stepped}
 use Rattle.rule_world.proofs.Fresh.{below_of}
 use Rattle.rule_world.proofs.Vain.{next_tag}
-use Rattle.rule_lives.specs.Law.{Made}
 use Rattle.rule_lives.proofs.Keeps.{here}
 
 pub operators_of : (rules : List Rule) (rule : Rule) → UseOperators rules → In rule rules → HaveOperators rule.conditions

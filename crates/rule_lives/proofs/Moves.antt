@@ -1,26 +1,9 @@
 -- Each step without a fault changes the list of facts by loose ones alone, and never moves the clock back.
-use Rattle.std.proofs.Common.{◌≡◌, ◌==◌, ◌&&◌, not, ℕ, ℤ, ◌+ℤ◌, ◌≤ℤ◌, Bool, true, false, cond, if◌then◌else◌, List, [], ◌∷◌, ◌++◌, Option, Some, None, refl, sym, ◌∙◌, ap, subst, arith, inl, inr}
-use Rattle.std.specs.Prelude.{slice_get}
-use Rattle.std.specs.List.{filter}
-use Rattle.std.proofs.lemmas.Int.{ints, clamps}
-use Rattle.fx_base.specs.Lists.{In}
-use Rattle.fx_base.specs.declared.fact.Fact.{Fact}
-use Rattle.fx_base.specs.declared.value.Value.{Value}
-use Rattle.rule_model.specs.declared.program.Program.{Program}
-use Rattle.rule_model.specs.declared.step.Step.{Step}
-use Rattle.rule_model.specs.declared.step.Step.TheVariants.{Insert, Modify, Retract, Advance, At, Promise, Begin}
-use Rattle.rule_model.specs.Candidates.{is_present}
-use Rattle.rule_model.specs.Snapshots.{Snapshot, floor}
-use Rattle.rule_model.specs.Tuples.{Tuple}
-use Rattle.rule_model.specs.Types.{is_event, is_reference, is_observed, lateness_of}
-use Rattle.rule_model.proofs.Listed.{both_of}
-use Rattle.rule_world.specs.declared.code.Code.TheVariants.{EventObserved, ReferenceFixed, Absent}
-use Rattle.rule_world.specs.Lawful.{IsLawful}
-use Rattle.rule_world.specs.Worlds.{World, snapshot, moved, step_fault, insert_fault, modify_fault, retract_fault, is_of_type, found, new_fact, has_id, revised, revised_in}
+use Rattle.rule_lives.proofs.Common.{◌≡◌, ◌==◌, ◌&&◌, not, ℕ, ℤ, ◌+ℤ◌, ◌≤ℤ◌, Bool, true, false, cond, if◌then◌else◌, List, [], ◌∷◌, ◌++◌, Option, Some, None, refl, sym, ◌∙◌, ap, subst, arith, inl, inr, slice_get, filter, ints, clamps, In, Fact, Value, Program, Step, Insert, Modify, Retract, Advance, At, Promise, Begin, is_present, Snapshot, Tuple, is_event, is_reference, is_observed, lateness_of, both_of, EventObserved, ReferenceFixed, Absent, IsLawful, World, snapshot, insert_fault, modify_fault, retract_fault, is_of_type, new_fact, has_id, stays, KeepsTuple}
+use Rattle.rule_model.specs.Snapshots.{floor}
+use Rattle.rule_world.specs.Worlds.{moved, step_fault, found, revised, revised_in}
 use Rattle.rule_world.proofs.Faultless.{event_by, point_by, IsStarted, started, modified_plain, moved_forward, inserted as no_fault}
 use Rattle.rule_world.proofs.Found.{fact_with, found_there}
-use Rattle.rule_world.proofs.Steps.{stays}
-use Rattle.rule_lives.specs.Law.{KeepsTuple}
 use Rattle.rule_lives.proofs.Basics.{same_number}
 use Rattle.rule_lives.proofs.Flagged.{modified_open, retracted_open, Quiet}
 use Rattle.rule_lives.proofs.Shifts.{Loose, a_fact, gone, fresh, Timed, Shift, at_end, same, less, more}

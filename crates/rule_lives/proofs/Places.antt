@@ -1,21 +1,6 @@
 -- The facts of a tuple and the places of their patterns.
-use Rattle.std.proofs.Common.{◌≡◌, ◌⊎◌, ℕ, zero, suc, ◌+◌, true, List, [], ◌∷◌, ◌++◌, length, Option, Some, refl, sym, ◌∙◌, ap, subst, arith, inl, inr}
-use Rattle.std.specs.Prelude.{slice_get, take}
+use Rattle.rule_lives.proofs.Common.{◌≡◌, ◌⊎◌, ℕ, zero, suc, ◌+◌, true, List, [], ◌∷◌, ◌++◌, length, Option, Some, refl, sym, ◌∙◌, ap, subst, arith, inl, inr, slice_get, take, In, Fact, Condition, Plain, Negated, Existing, Folded, Pattern, Program, is_inside, Makes, Snapshot, times_hold, Tuple, empty_tuple, bound_by, of_append, bindings, Made}
 use Rattle.std.proofs.lemmas.List.{append_assoc}
-use Rattle.fx_base.specs.Lists.{In}
-use Rattle.fx_base.specs.declared.fact.Fact.{Fact}
-use Rattle.rule_model.specs.declared.condition.Condition.{Condition}
-use Rattle.rule_model.specs.declared.condition.Condition.TheVariants.{Plain, Negated, Existing, Folded}
-use Rattle.rule_model.specs.declared.condition.Pattern.{Pattern}
-use Rattle.rule_model.specs.declared.program.Program.{Program}
-use Rattle.rule_model.specs.Candidates.{is_inside}
-use Rattle.rule_model.specs.Rows.{Makes}
-use Rattle.rule_model.specs.Snapshots.{Snapshot}
-use Rattle.rule_model.specs.Tests.{times_hold}
-use Rattle.rule_model.specs.Tuples.{Tuple, empty_tuple, bound_by}
-use Rattle.rule_model.proofs.Listed.{of_append}
-use Rattle.rule_lives.specs.Networks.{bindings}
-use Rattle.rule_lives.specs.Law.{Made}
 use Rattle.rule_lives.proofs.Basics.{Front, times_grow}
 use Rattle.rule_lives.proofs.Shifts.{of_counted}
 use Rattle.rule_lives.proofs.Transfers.{front_of, longer, next_place}

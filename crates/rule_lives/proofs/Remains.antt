@@ -1,16 +1,8 @@
 -- What matches that come name is kept, and what is kept behind a step was kept before it.
-use Rattle.std.proofs.Common.{◌≡◌, not, ℤ, ◌+ℤ◌, ◌≤ℤ◌, Bool, true, false, refl, sym, ◌∙◌, ap, arith}
-use Rattle.std.proofs.lemmas.Int.{ints}
-use Rattle.rule_model.specs.declared.matched.Match.{Match}
-use Rattle.rule_model.specs.declared.program.Program.{Program}
-use Rattle.rule_model.specs.declared.step.Step.{Step}
-use Rattle.rule_model.specs.declared.step.Step.TheVariants.{Insert, Modify, Retract, Advance, At, Promise, Begin}
-use Rattle.rule_model.specs.Matches.{matches, has_match}
-use Rattle.rule_model.proofs.Listed.{both, both_of}
-use Rattle.rule_world.specs.Worlds.{World, snapshot, pending, moved, settled, stepped, still_fired}
-use Rattle.rule_world.proofs.Keeping.{was_present}
+use Rattle.rule_lives.proofs.Common.{◌≡◌, not, ℤ, ◌+ℤ◌, ◌≤ℤ◌, Bool, true, false, refl, sym, ◌∙◌, ap, arith, ints, Match, Program, Step, Insert, Modify, Retract, Advance, At, Promise, Begin, matches, has_match, both, both_of, World, snapshot, was_present, IsKept, plain, unexpired, endless, living}
+use Rattle.rule_world.specs.Worlds.{pending, moved, settled, stepped, still_fired}
 use Rattle.rule_world.proofs.Pending.{has_pending, has_still}
-use Rattle.rule_lives.specs.Keeping.{IsKept, plain, unexpired, endless, living, named, MatchNamesKept, KeptBefore}
+use Rattle.rule_lives.specs.Keeping.{named, MatchNamesKept, KeptBefore}
 use Rattle.rule_lives.proofs.Basics.{not_true}
 use Rattle.rule_lives.proofs.Keeps.{tuple_names_kept}
 use Rattle.rule_lives.proofs.Matched.{names_of, is_match, own_fact}

@@ -1,21 +1,8 @@
 -- Two lists of facts that differ by loose facts alone: what passes for an old pattern is the same.
-use Rattle.std.proofs.Common.{◌≡◌, ◌⊎◌, ℕ, ℤ, ◌+ℤ◌, ◌≤ℤ◌, true, false, cond, List, [], ◌∷◌, refl, sym, ◌∙◌, subst, ap, arith, inl, inr}
-use Rattle.std.specs.List.{filter}
-use Rattle.std.proofs.lemmas.Int.{ints}
-use Rattle.fx_base.specs.Lists.{In}
-use Rattle.fx_base.specs.declared.fact.Fact.{Fact}
-use Rattle.fx_base.specs.declared.times.Times.{Times}
-use Rattle.temporal_ops.specs.Possible.{IsEvent}
-use Rattle.rule_model.specs.declared.condition.Pattern.{Pattern}
-use Rattle.rule_model.specs.declared.program.Program.{Program}
-use Rattle.rule_model.specs.Candidates.{is_candidate, candidates, passes, passing}
-use Rattle.rule_model.specs.Maturity.{IsPossible}
-use Rattle.rule_model.specs.Snapshots.{Snapshot}
-use Rattle.rule_model.specs.Tuples.{Tuple, bound_by}
-use Rattle.rule_model.specs.Types.{is_event, is_point, is_reference, is_observed, lateness_of}
-use Rattle.rule_model.proofs.Listed.{both}
+use Rattle.rule_lives.proofs.Common.{◌≡◌, ◌⊎◌, ℕ, ℤ, ◌+ℤ◌, ◌≤ℤ◌, true, false, cond, List, [], ◌∷◌, refl, sym, ◌∙◌, subst, ap, arith, inl, inr, filter, ints, In, Fact, Times, IsEvent, Pattern, Program, is_candidate, passes, passing, IsPossible, Snapshot, Tuple, bound_by, is_event, is_point, is_reference, is_observed, lateness_of, both, passed}
+use Rattle.rule_model.specs.Candidates.{candidates}
 use Rattle.rule_model.proofs.Named.{of_filter}
-use Rattle.rule_model.proofs.Order.{in_filter, passed}
+use Rattle.rule_model.proofs.Order.{in_filter}
 use Rattle.rule_lives.proofs.Basics.{same_tests, not_true, two_filters}
 use Rattle.rule_lives.proofs.Flagged.{Steady}
 use Rattle.rule_lives.proofs.Still.{Settled, Still, old, steady, counts, Counts, counts_parts, counts_join, stays, tail_of}

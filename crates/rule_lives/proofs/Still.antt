@@ -1,21 +1,11 @@
 -- A fact that is older than a pattern's tail, or of a reference type, passes over one snapshot exactly where it passes over another.
-use Rattle.std.proofs.Common.{◌≡◌, ◌==◌, ℕ, ℤ, ◌+ℤ◌, ◌-ℤ◌, ◌≤ℤ◌, ◌<ℤ◌, Bool, true, false, not, ◌&&◌, ◌||◌, List, Option, Some, None, if◌then◌else◌, refl, subst, ap, ◌∙◌, arith}
+use Rattle.rule_lives.proofs.Common.{◌≡◌, ◌==◌, ℕ, ℤ, ◌+ℤ◌, ◌-ℤ◌, ◌≤ℤ◌, ◌<ℤ◌, Bool, true, false, not, ◌&&◌, ◌||◌, List, Option, Some, None, if◌then◌else◌, refl, subst, ap, ◌∙◌, arith, ints, clamps, Fact, Times, Pattern, WindowTag, Whole, Time, Length, Program, is_inside, is_candidate, passes, Snapshot, times_hold, Tuple, bound_by, is_event, lateness_of, both, both_of, finite, infinite}
 use Rattle.std.specs.Int.{int_max}
-use Rattle.std.proofs.lemmas.Int.{ints, clamps}
-use Rattle.fx_base.specs.declared.fact.Fact.{Fact}
-use Rattle.fx_base.specs.declared.times.Times.{Times}
-use Rattle.rule_model.specs.declared.condition.Pattern.{Pattern}
-use Rattle.rule_model.specs.declared.condition.WindowTag.{WindowTag}
-use Rattle.rule_model.specs.declared.condition.WindowTag.TheVariants.{Whole, Time, Length}
-use Rattle.rule_model.specs.declared.program.Program.{Program}
-use Rattle.rule_model.specs.Candidates.{is_within, is_present, fits, is_inside, is_candidate, passes}
-use Rattle.rule_model.specs.Snapshots.{Snapshot}
-use Rattle.rule_model.specs.Tests.{tests_hold, times_hold}
-use Rattle.rule_model.specs.Tuples.{Tuple, unbound, bound_by}
-use Rattle.rule_model.specs.Types.{is_event, expiry_of, lateness_of}
-use Rattle.rule_model.proofs.Listed.{both, both_of}
+use Rattle.rule_model.specs.Candidates.{is_within, is_present, fits}
+use Rattle.rule_model.specs.Tests.{tests_hold}
+use Rattle.rule_model.specs.Tuples.{unbound}
+use Rattle.rule_model.specs.Types.{expiry_of}
 use Rattle.rule_world.proofs.Found.{plain_present}
-use Rattle.rule_lives.specs.Reach.{finite, infinite}
 use Rattle.rule_lives.specs.Lifetimes.{tail_by, tail}
 use Rattle.rule_lives.proofs.Basics.{below, same_number, number_same}
 use Rattle.rule_lives.proofs.Flagged.{Steady}

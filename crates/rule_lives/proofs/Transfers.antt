@@ -1,23 +1,10 @@
 -- A tuple of which every condition is settled is made over both snapshots or over none.
-use Rattle.std.proofs.Common.{◌≡◌, ℕ, suc, ℤ, ◌-ℤ◌, ◌≤ℤ◌, List, [], ◌∷◌, ◌++◌, length, Some, sym, ◌∙◌, ap, subst, arith}
-use Rattle.std.specs.Prelude.{slice_get}
-use Rattle.std.proofs.lemmas.Int.{ints}
+use Rattle.rule_lives.proofs.Common.{◌≡◌, ℕ, suc, ℤ, ◌-ℤ◌, ◌≤ℤ◌, List, [], ◌∷◌, ◌++◌, length, Some, sym, ◌∙◌, ap, subst, arith, slice_get, ints, In, Fact, Condition, Plain, Negated, Existing, Folded, Pattern, Program, Times, passing, IsPossible, Makes, Snapshot, Tuple, bound_by, lateness_of, in_place}
 use Rattle.std.proofs.lemmas.List.{length-append}
-use Rattle.fx_base.specs.Lists.{In}
-use Rattle.fx_base.specs.declared.fact.Fact.{Fact}
-use Rattle.rule_model.specs.declared.condition.Condition.{Condition}
-use Rattle.rule_model.specs.declared.condition.Condition.TheVariants.{Plain, Negated, Existing, Folded}
-use Rattle.rule_model.specs.declared.condition.Pattern.{Pattern}
-use Rattle.rule_model.specs.declared.program.Program.{Program}
-use Rattle.fx_base.specs.declared.times.Times.{Times}
-use Rattle.rule_model.specs.Candidates.{passing}
-use Rattle.rule_model.specs.Maturity.{IsPossible, IsMature, of_plain, of_none, of_unbounded, of_past}
-use Rattle.rule_model.specs.Rows.{Makes, result_of}
-use Rattle.rule_model.specs.Snapshots.{Snapshot, floor}
-use Rattle.rule_model.specs.Tuples.{Tuple, bound_by}
-use Rattle.rule_model.specs.Types.{lateness_of}
+use Rattle.rule_model.specs.Maturity.{IsMature, of_plain, of_none, of_unbounded, of_past}
+use Rattle.rule_model.specs.Rows.{result_of}
+use Rattle.rule_model.specs.Snapshots.{floor}
 use Rattle.rule_model.proofs.Grown.{makes_grow, begins}
-use Rattle.rule_model.proofs.RuleOf.{in_place}
 use Rattle.rule_lives.proofs.Basics.{Front, at_grows, at_last, times_grow}
 use Rattle.rule_lives.proofs.Still.{Still, tail_of}
 use Rattle.rule_lives.proofs.Shifts.{Calm, aged, fixed, Shift, back, passing_same, own_stays}

@@ -1,8 +1,6 @@
 -- The floor of an entry point, by its parts.
-use Rattle.std.proofs.Common.{◌≡◌, ◌≤ℤ◌, ◌-ℤ◌, ℕ, ◌∙◌, ap, arith}
-use Rattle.std.proofs.lemmas.Int.{ints, clamps}
-use Rattle.rule_model.specs.declared.program.Program.{Program}
-use Rattle.rule_model.specs.Snapshots.{Reached, Snapshot, floor_by, floor}
+use Rattle.rule_model.proofs.Common.{◌≡◌, ◌≤ℤ◌, ◌-ℤ◌, ℕ, ◌∙◌, ap, arith, ints, clamps, Program, Snapshot}
+use Rattle.rule_model.specs.Snapshots.{Reached, floor_by, floor}
 use Rattle.rule_model.specs.Types.{lateness_of}
 
 -- it is not below the last start, nor below the promise, nor below the clock less the lateness

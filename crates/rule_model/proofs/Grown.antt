@@ -1,17 +1,7 @@
 -- How the tuples of a list grow, whatever is asked besides of what they bind.
-use Rattle.std.proofs.Common.{◌≡◌, ◌==◌, ◌&&◌, ℤ, inl, inr, List, [], ◌∷◌, ◌++◌, length, Some, sym, ◌∙◌, ap, subst}
+use Rattle.rule_model.proofs.Common.{◌≡◌, ◌==◌, ◌&&◌, ℤ, inl, inr, List, [], ◌∷◌, ◌++◌, length, Some, sym, ◌∙◌, ap, subst, In, Fact, Row, Condition, Plain, Negated, Existing, Folded, Program, passing, is_mature, IsRow, Extends, Makes, result_of, extended, tuples, Snapshot, floor, Tuple, empty_tuple, with_fact, with_value, row_of, bound_by}
 use Rattle.std.proofs.lemmas.List.{append-nil, append_assoc}
-use Rattle.fx_base.specs.Lists.{In}
-use Rattle.fx_base.specs.declared.fact.Fact.{Fact}
-use Rattle.row_delta.specs.declared.row.Row.{Row}
-use Rattle.rule_model.specs.declared.condition.Condition.{Condition}
-use Rattle.rule_model.specs.declared.condition.Condition.TheVariants.{Plain, Negated, Existing, Folded}
-use Rattle.rule_model.specs.declared.program.Program.{Program}
-use Rattle.rule_model.specs.Candidates.{passing}
-use Rattle.rule_model.specs.Maturity.{is_mature}
-use Rattle.rule_model.specs.Rows.{IsRow, Extends, Makes, result_of, extended, tuples, rows}
-use Rattle.rule_model.specs.Snapshots.{Snapshot, floor}
-use Rattle.rule_model.specs.Tuples.{Tuple, empty_tuple, with_fact, with_value, row_of, bound_by}
+use Rattle.rule_model.specs.Rows.{rows}
 use Rattle.rule_model.proofs.Listed.{of_map, of_flat_map, of_if, of_unless, of_result}
 
 -- a condition makes the second tuple of the first, without what it asks of absence, of maturity and of results

@@ -1,10 +1,8 @@
 -- The function says of what was bound that it is mature exactly where it is.
-use Rattle.std.proofs.Common.{◌≡◌, ◌↔◌, ◌&&◌, ◌||◌, not, ℤ, ◌+ℤ◌, ◌≤ℤ◌, ◌<ℤ◌, int_lt, pos, Bool, true, false, List, [], ◌∷◌, Option, Some, None, option_map, refl, sym, ◌∙◌, ap, subst, arith}
+use Rattle.rule_model.proofs.Common.{◌≡◌, ◌↔◌, ◌&&◌, ◌||◌, not, ℤ, ◌+ℤ◌, ◌≤ℤ◌, ◌<ℤ◌, int_lt, pos, Bool, true, false, List, [], ◌∷◌, Option, Some, None, option_map, refl, sym, ◌∙◌, ap, subst, arith, ints, Fact, Pattern, Program, AreOperators, times_hold, Bindings}
 use Rattle.std.specs.List.{All}
 use Rattle.std.specs.Option.{option_and_then}
-use Rattle.std.proofs.lemmas.Int.{ints}
 use Rattle.std.proofs.lemmas.List.Elements.{All-nil, All-cons, All-head, All-tail}
-use Rattle.fx_base.specs.declared.fact.Fact.{Fact}
 use Rattle.fx_base.specs.declared.times.Times.{Times}
 use Rattle.temporal_ops.specs.declared.edge.OpEdge.{OpEdge}
 use Rattle.temporal_ops.specs.declared.window.Window.{Window}
@@ -14,12 +12,9 @@ use Rattle.temporal_ops.specs.Possible.{IsEvent, IsNone, IsLatest, IsUnbounded, 
 use Rattle.temporal_ops.specs.Possible as possible
 use Rattle.temporal_ops.specs.Starts.{window_of}
 use Rattle.temporal_ops.proofs.WindowOfEdges.{window_is_of_edges}
-use Rattle.rule_model.specs.declared.condition.Pattern.{Pattern}
-use Rattle.rule_model.specs.declared.program.Program.{Program}
 use Rattle.rule_model.specs.declared.test.TimeTest.{TimeTest}
-use Rattle.rule_model.specs.Maturity.{IsPossible, IsMature, of_plain, of_none, of_unbounded, of_past, bounds_of, window_by, window_at, is_past, is_mature, AreOperators}
-use Rattle.rule_model.specs.Tests.{time_holds_with, times_hold}
-use Rattle.rule_model.specs.Tuples.{Bindings}
+use Rattle.rule_model.specs.Maturity.{IsPossible, IsMature, of_plain, of_none, of_unbounded, of_past, bounds_of, window_by, window_at, is_past, is_mature}
+use Rattle.rule_model.specs.Tests.{time_holds_with}
 use Rattle.rule_model.specs.Types.{is_event, is_point}
 
 abbrev pub Bounds : Type 0

@@ -1,15 +1,8 @@
 -- What stands at the tags that a row names.
-use Rattle.std.proofs.Common.{◌≡◌, ◌&&◌, ℕ, ℤ, zero, suc, inl, inr, List, [], ◌∷◌, map, Option, Some, slice_get, refl, sym, ◌∙◌, ap, subst}
+use Rattle.rule_model.proofs.Common.{◌≡◌, ◌&&◌, ℕ, ℤ, zero, suc, inl, inr, List, [], ◌∷◌, map, Option, Some, refl, sym, ◌∙◌, ap, subst, In, Tag, Fact, Row, Pattern, passes, bound_in, tests_hold, times_hold, Tuple, Bindings, name_of, row_of, bound_by}
+use Rattle.std.proofs.Common.{slice_get}
 use mathlib.Core.Path.{fun_ext}
-use Rattle.fx_base.specs.Lists.{In}
-use Rattle.fx_base.specs.declared.ids.Tag.{Tag}
-use Rattle.fx_base.specs.declared.fact.Fact.{Fact}
-use Rattle.row_delta.specs.declared.row.Row.{Row}
-use Rattle.rule_model.specs.declared.condition.Pattern.{Pattern}
-use Rattle.rule_model.specs.Candidates.{passes}
-use Rattle.rule_model.specs.Lent.{Holds, named_at, bound_in}
-use Rattle.rule_model.specs.Tests.{tests_hold, times_hold}
-use Rattle.rule_model.specs.Tuples.{Tuple, Bindings, name_of, row_of, bound_by}
+use Rattle.rule_model.specs.Lent.{Holds, named_at}
 use Rattle.rule_model.proofs.Named.{AllOf}
 
 -- the facts at the tags that a row names are those of its tuple

@@ -1,15 +1,8 @@
 -- The first pending match.
-use Rattle.std.proofs.Common.{◌≡◌, List, [], ◌∷◌, true, Some, None, refl, ◌∙◌}
+use Rattle.rule_world.proofs.Common.{◌≡◌, List, [], ◌∷◌, true, Some, None, refl, ◌∙◌, Match, Program, first, fire_cmp, saliences, has_match, fire_total, fire_exact, World, pending, first_pending}
 use Rattle.std.specs.declared.cmp.Ordering.{Ordering}
 use Rattle.std.specs.declared.cmp.Ordering.TheVariants.{Less}
-use Rattle.rule_model.specs.declared.matched.Match.{Match}
-use Rattle.rule_model.specs.declared.program.Program.{Program}
-use Rattle.rule_model.specs.First.{first}
-use Rattle.rule_model.specs.Matches.{fire_cmp, saliences, has_match}
-use Rattle.rule_model.specs.MatchOrders.{fire_total}
-use Rattle.rule_model.proofs.Exact.{fire_exact}
 use Rattle.rule_model.proofs.Firsts.{first_least, AllFrom}
-use Rattle.rule_world.specs.Worlds.{World, pending, first_pending}
 use Rattle.rule_world.proofs.Pending.{by_fire}
 
 -- no pending match fires before the first

@@ -1,20 +1,10 @@
 -- What steps do to a world they do to the world with its present facts only.
-use Rattle.std.proofs.Common.{◌≡◌, ◌≤ℤ◌, ◌+◌, ◌-ℤ◌, ◌&&◌, ◌==◌, ◌||◌, not, ℕ, ℤ, Bool, true, false, cond, List, [], ◌∷◌, ◌++◌, Option, Some, None, if◌then◌else◌, refl, sym, ◌∙◌, ap, arith}
-use Rattle.std.specs.List.{filter}
-use Rattle.std.proofs.lemmas.Int.{ints}
-use Rattle.std.proofs.lemmas.List.{append-nil}
-use Rattle.fx_base.specs.declared.fact.Fact.{Fact}
-use Rattle.fx_base.specs.declared.value.Value.{Value}
-use Rattle.rule_model.specs.declared.program.Program.{Program}
-use Rattle.rule_model.specs.declared.step.Step.{Step}
-use Rattle.rule_model.specs.declared.step.Step.TheVariants.{Insert, Modify, Retract, Advance, At, Promise, Begin}
-use Rattle.rule_model.specs.Candidates.{is_within, is_present}
-use Rattle.rule_model.specs.Matches.{has_match}
+use Rattle.rule_world.proofs.Common.{◌≡◌, ◌≤ℤ◌, ◌+◌, ◌-ℤ◌, ◌&&◌, ◌==◌, ◌||◌, not, ℕ, ℤ, Bool, true, false, cond, List, [], ◌∷◌, ◌++◌, Option, Some, None, refl, sym, ◌∙◌, ap, arith, filter, ints, append-nil, Fact, Value, Program, Step, Insert, Modify, Retract, Advance, At, Promise, Begin, is_within, has_match, is_event, expiry_of, of_filter, IsOrdered, IsLawful, IsSound, World, present, only_present, modify_fault, with_new, at_clock, last_start_with, revised, has_id}
+use Rattle.std.proofs.Common.{if◌then◌else◌}
+use Rattle.rule_model.specs.Candidates.{is_present}
 use Rattle.rule_model.specs.Snapshots.{floor}
-use Rattle.rule_model.specs.Types.{is_event, expiry_of}
-use Rattle.rule_model.proofs.Named.{of_filter}
-use Rattle.rule_world.specs.Lawful.{IsOrdered, IsLawful, IsSound, IsTimed}
-use Rattle.rule_world.specs.Worlds.{World, present, only_present, modify_fault, retract_fault, step_fault, with_new, with_revised, with_retracted, at_clock, last_start_with, revised, has_id}
+use Rattle.rule_world.specs.Lawful.{IsTimed}
+use Rattle.rule_world.specs.Worlds.{retract_fault, step_fault, with_revised, with_retracted}
 use Rattle.rule_world.proofs.Fresh.{below_of, below_all, distinct_filtered}
 use Rattle.rule_world.proofs.Ids.{ids_filtered, ids_below_filtered}
 use Rattle.rule_world.proofs.Sound.{events_filtered}

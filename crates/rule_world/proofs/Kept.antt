@@ -1,25 +1,14 @@
 -- What is not present makes no row: a world has the matches, the faults and the next worlds of the world with its present facts only.
-use Rattle.std.proofs.Common.{◌≡◌, ◌&&◌, ◌==◌, not, ℕ, Bool, true, false, cond, nat_lt, List, [], ◌∷◌, ◌++◌, map, length, if◌then◌else◌, refl, sym, ◌∙◌, ap}
-use Rattle.std.specs.List.{filter, flat_map}
-use mathlib.Core.Path.{fun_ext}
-use Rattle.fx_base.specs.declared.fact.Fact.{Fact}
-use Rattle.row_delta.specs.declared.row.Row.{Row}
-use Rattle.rule_model.specs.declared.condition.Condition.{Condition}
-use Rattle.rule_model.specs.declared.condition.Condition.TheVariants.{Plain, Negated, Existing, Folded}
-use Rattle.rule_model.specs.declared.condition.Pattern.{Pattern}
+use Rattle.rule_world.proofs.Common.{◌≡◌, ◌&&◌, ◌==◌, not, ℕ, Bool, true, false, cond, List, [], ◌∷◌, ◌++◌, map, refl, sym, ◌∙◌, ap, filter, fun_ext, Fact, Row, Condition, Plain, Negated, Existing, Folded, Pattern, Program, Rule, is_present, fits, is_inside, is_candidate, candidates, passes, passing, first, matches, has_match, fire_cmp, saliences, Snapshot, floor, tests_hold, Tuple, empty_tuple, bound_by, unbound, World, snapshot, present, only_present, found, fact_of, pending, settled, first_pending}
+use Rattle.std.proofs.Common.{nat_lt, length, if◌then◌else◌}
+use Rattle.std.specs.List.{flat_map}
 use Rattle.rule_model.specs.declared.condition.WindowTag.{WindowTag}
 use Rattle.rule_model.specs.declared.condition.WindowTag.TheVariants.{Whole, Time, Length}
-use Rattle.rule_model.specs.declared.program.Program.{Program}
-use Rattle.rule_model.specs.declared.program.Rule.{Rule}
-use Rattle.rule_model.specs.Candidates.{is_present, fits, is_behind, count_behind, is_inside, is_candidate, candidates, passes, passing}
-use Rattle.rule_model.specs.First.{first}
-use Rattle.rule_model.specs.Matches.{matches, matches_from, has_match, fire_cmp, saliences}
+use Rattle.rule_model.specs.Candidates.{is_behind, count_behind}
+use Rattle.rule_model.specs.Matches.{matches_from}
 use Rattle.rule_model.specs.Maturity.{is_mature}
 use Rattle.rule_model.specs.Rows.{result_of, with_result, extended, tuples, rows}
-use Rattle.rule_model.specs.Snapshots.{Snapshot, floor}
-use Rattle.rule_model.specs.Tests.{tests_hold}
-use Rattle.rule_model.specs.Tuples.{Tuple, empty_tuple, with_fact, row_of, bound_by, unbound}
-use Rattle.rule_world.specs.Worlds.{World, snapshot, present, only_present, found, fact_of, pending, settled, first_pending}
+use Rattle.rule_model.specs.Tuples.{with_fact, row_of}
 use Rattle.rule_world.proofs.Fresh.{and_parts}
 use Rattle.rule_model.proofs.Floors.{same_floor}
 

@@ -1,3 +1,4 @@
+mod Common
 pub mod Pending
 pub mod Firing
 pub mod Ids

@@ -1,10 +1,8 @@
 -- What a line asks for, by the function and by the forms.
-use Rattle.std.proofs.Common.{◌≡◌, List, ℕ, Option, Some, None, Result, Ok, Err, refl, sym}
-use Rattle.std.specs.Prelude.{IfOk, IsErrOf}
-use Rattle.serde_json.specs.Data.{Data}
-use Rattle.script_read.specs.Form.{IsForm, command_of}
-use Rattle.script_read.specs.Asked.{IsReading, asks, bad_json, bad_command, reading, asked_of_command, asked_of_reading, asked, Answers}
-use Rattle.script_read.specs.declared.asked.Command.{Command}
+use Rattle.script_read.proofs.Common.{◌≡◌, List, ℕ, Option, Some, None, Result, Ok, Err, refl, sym, IfOk, Data, IsForm, IsReading, asks, bad_json, reading, asked_of_reading, Answers, Command}
+use Rattle.std.specs.Prelude.{IsErrOf}
+use Rattle.script_read.specs.Form.{command_of}
+use Rattle.script_read.specs.Asked.{bad_command, asked_of_command, asked}
 use Rattle.script_read.specs.declared.fault.CommandFault.{CommandFault}
 use Rattle.script_read.specs.declared.fault.CommandFault.TheVariants.{BadJson, BadCommand, NoMemory}
 use Rattle.script_read.proofs.FormLaws.{form_again, form_sound, no_form}

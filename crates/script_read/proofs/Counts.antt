@@ -1,5 +1,5 @@
 -- The members of an object are the entries of its map.
-use Rattle.std.proofs.Common.{◌≡◌, List, length, String, Global}
+use Rattle.script_read.proofs.Common.{◌≡◌, List, length, String, Global}
 use Rattle.serde_json.specs.Events.{members_len}
 use Rattle.serde_json.specs.View.{members_view}
 use Rattle.serde_json.specs.declared.value.Value.{Value}

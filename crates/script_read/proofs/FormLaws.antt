@@ -1,14 +1,12 @@
 -- The forms as cases and the command that is found by the word after `do` say the same.
-use Rattle.std.proofs.Common.{◌≡◌, List, ℕ, ℤ, Bool, true, false, Option, Some, None, refl, sym, ◌∙◌, ap, subst}
+use Rattle.script_read.proofs.Common.{◌≡◌, List, ℕ, ℤ, Bool, true, false, Option, Some, None, refl, sym, ◌∙◌, ap, subst, Data, Members, IsForm, Command, Change, Fire}
 use Rattle.std.specs.Prelude.{codes, if◌then◌else◌}
 use Rattle.std.specs.Str.{bytes_eq}
 use Rattle.std.proofs.lemmas.Slice.Eq.{bytes_eq-Decides}
 use Rattle.std.proofs.lemmas.Bool.Decides.{Decides-eqb}
-use Rattle.serde_json.specs.Data.{Data, Members}
 use Rattle.script_read.specs.Members.{text_member, object_member, whole_member, id_member, count_member, count}
-use Rattle.script_read.specs.Form.{IsForm, fire, fire_most, held, insert, insert_into, modify, retract, advance, at, promise, promise_for, begin, fire_of, held_of, insert_of, modify_of, retract_of, advance_of, at_of, promise_of, begin_of, has_count, fire_parts, insert_parts, insert_into_parts, modify_parts, retract_parts, advance_parts, at_parts, promise_parts, promise_of_parts, command_by_word, command_of}
-use Rattle.script_read.specs.declared.asked.Command.{Command}
-use Rattle.script_read.specs.declared.asked.Command.TheVariants.{Change, Fire, Held}
+use Rattle.script_read.specs.Form.{fire, fire_most, held, insert, insert_into, modify, retract, advance, at, promise, promise_for, begin, fire_of, held_of, insert_of, modify_of, retract_of, advance_of, at_of, promise_of, begin_of, has_count, fire_parts, insert_parts, insert_into_parts, modify_parts, retract_parts, advance_parts, at_parts, promise_parts, promise_of_parts, command_by_word, command_of}
+use Rattle.script_read.specs.declared.asked.Command.TheVariants.{Held}
 use Rattle.script_read.specs.declared.asked.Change.TheVariants.{Begin}
 
 -- every command with the form of a value is the one that is found

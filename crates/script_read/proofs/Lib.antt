@@ -1,3 +1,4 @@
+mod Common
 pub mod AskedLaws
 pub mod Counts
 pub mod Fields

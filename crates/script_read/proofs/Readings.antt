@@ -1,10 +1,8 @@
 -- The reading of a line, as a relation and as a function.
-use Rattle.std.proofs.Common.{◌≡◌, List, ℕ, Bool, true, false, Some, None, refl, ◌∙◌}
+use Rattle.script_read.proofs.Common.{◌≡◌, List, ℕ, Bool, true, false, Some, None, refl, ◌∙◌, Data, read, IsReading}
 use Rattle.std.specs.Str.{IsUtf8, is_utf8}
 use Rattle.std.proofs.lemmas.Str.{is_utf8-from_IsUtf8, IsUtf8-from_is_utf8}
-use Rattle.serde_json.specs.Data.{Data}
-use Rattle.serde_json.specs.Read.{read}
-use Rattle.script_read.specs.Asked.{IsReading, reading}
+use Rattle.script_read.specs.Asked.{reading}
 
 -- a text is read as `serde_json` reads it
 pub reading_of_text : (line : List ℕ) → IsUtf8 line → reading line ≡ read line

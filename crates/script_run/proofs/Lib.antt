@@ -1,3 +1,4 @@
+mod Common
 pub mod Fired
 pub mod Steps
 pub mod Ahead

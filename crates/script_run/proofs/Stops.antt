@@ -1,19 +1,15 @@
 -- Why a run stops, and how many bytes it took.
-use Rattle.std.proofs.Common.{◌≡◌, ◌≢◌, ◌==◌, ◌++◌, false, ◌<◌, ◌≤◌, ◌-◌, ◌^◌, ℕ, List, Option, Result, Ok, Err, sym, ap, ◌∙◌, arith}
+use Rattle.script_run.proofs.Common.{◌≡◌, ◌≢◌, ◌==◌, ◌++◌, false, ◌<◌, ◌≤◌, ◌-◌, ◌^◌, ℕ, List, Option, Result, Ok, Err, sym, ap, ◌∙◌, arith, list_any-append, prepend, count_after, IsExhausted, HasNoEnd, Line, Whole, End, Ended}
 use Rattle.std.specs.Prelude.{IsErr, IsErrAnd}
 use Rattle.std.proofs.lemmas.Bool.{or_parts}
-use Rattle.std.proofs.lemmas.List.Folds.{list_any-append}
-use Rattle.fx_io.specs.Outside.{prepend, count_after, IsExhausted}
-use Rattle.fx_io.specs.Lines.{has_end, HasNoEnd}
+use Rattle.fx_io.specs.Lines.{has_end}
 use Rattle.fx_io.specs.Answers.{Answers, Stops, LeavesNoEnd, Gives}
-use Rattle.fx_io.specs.declared.line.Line.{Line}
-use Rattle.fx_io.specs.declared.line.Line.TheVariants.{Whole, Long, End}
+use Rattle.fx_io.specs.declared.line.Line.TheVariants.{Long}
 use Rattle.fx_io.specs.declared.line.LineFault.{LineFault}
 use Rattle.fx_io.specs.declared.line.LineFault.TheVariants.{ReadFault, ScriptLong, NoMemory}
 use Rattle.script_run.specs.Faults.{run_fault}
 use Rattle.script_run.specs.declared.fault.RunFault.{RunFault}
 use Rattle.script_run.specs.declared.fault.RunFault.TheVariants.{ScriptLong as TooLong, ReadFault as RunReadFault, NoMemory as RunNoMemory}
-use Rattle.script_run.specs.declared.turn.Ended.{Ended}
 use Rattle.script_run.specs.Turns.{Takes, HasAtMost}
 
 -- how a run answers a fault

@@ -1,14 +1,7 @@
 -- What a session is made of is that of an image.
-use Rattle.std.proofs.Common.{◌≡◌, ◌∙◌, ℤ, List, ap}
-use Rattle.row_delta.specs.declared.extra.Extra.{Extra}
-use Rattle.checkpoint.specs.declared.image.FiredMatch.{FiredMatch}
-use Rattle.checkpoint.specs.declared.image.Image.{Image}
-use Rattle.fact_store.specs.Held.{HeldFacts}
+use Rattle.session.proofs.Common.{◌≡◌, ◌∙◌, ℤ, List, ap, Extra, FiredMatch, Image, HeldFacts, Setting, stored, Course}
 use Rattle.rule_model.specs.declared.moment.Moment.{Moment}
 use Rattle.image_fitting.specs.Plain.{FitsPlainly}
-use Rattle.session_laws.specs.declared.setting.Setting.{Setting}
-use Rattle.session_laws.specs.Restoring.{stored}
-use Rattle.session_laws.specs.Standing.{Course}
 use Rattle.session.specs.Restores.{AreOfImage}
 
 pub are_of_image : (setting : Setting) (image : Image) → FitsPlainly setting.program setting.lives image → (moment : Moment) (course : Course) (clock : ℤ) → moment.clock ≡ clock → clock ≡ image.clock

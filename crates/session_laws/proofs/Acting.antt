@@ -1,37 +1,12 @@
 -- Firings lead from lawful worlds to lawful ones.
-use Rattle.std.proofs.Common.{◌≡◌, inl, inr, not, true, List, [], ◌∷◌, Option, Some, None, refl, sym, ◌∙◌, subst}
+use Rattle.session_laws.proofs.Common.{◌≡◌, inl, inr, not, true, List, [], ◌∷◌, Option, Some, None, refl, sym, ◌∙◌, subst, Tag, Fact, Action, Match, Program, Rule, Step, HaveDistinctTags, IsLawful, Holds, bound_in, matches, has_match, step_of, IsRunnable, In, rows, World, only_present, present, snapshot, pending, first_pending, marked, found_fits, and_parts, kept_lawful, kept_rows, firing_lawful, of_map, has_pending, rule_of, in_place, same_stays, OutLine, version_of, step_or_overflow, wanted, actions_of, fires_with, AllFit}
 use Rattle.std.specs.Prelude.{Ok, slice_get}
-use Rattle.fx_base.specs.declared.ids.Tag.{Tag}
-use Rattle.fx_base.specs.declared.fact.Fact.{Fact}
-use Rattle.rule_model.specs.declared.action.Action.{Action}
-use Rattle.rule_model.specs.declared.matched.Match.{Match}
-use Rattle.rule_model.specs.declared.program.Program.{Program}
-use Rattle.rule_model.specs.declared.program.Rule.{Rule}
-use Rattle.rule_model.specs.declared.step.Step.{Step}
-use Rattle.rule_model.specs.Distinct.{HaveDistinctTags}
-use Rattle.rule_world.specs.Lawful.{IsLawful}
-use Rattle.rule_model.specs.Lent.{Holds, bound_in}
-use Rattle.rule_model.specs.Matches.{matches, has_match}
-use Rattle.rule_model.specs.Planned.{step_of}
-use Rattle.rule_world.specs.Programs.{IsRunnable}
-use Rattle.fx_base.specs.Lists.{In}
-use Rattle.rule_model.specs.Rows.{rows}
-use Rattle.rule_world.specs.Worlds.{World, only_present, present, snapshot, pending, first_pending, marked}
 use Rattle.rule_world.proofs.Acting.{steps_fit}
-use Rattle.rule_world.proofs.Found.{found_fits}
-use Rattle.rule_world.proofs.Fresh.{and_parts}
-use Rattle.rule_world.proofs.Keeping.{kept_lawful}
-use Rattle.rule_world.proofs.Kept.{kept_rows}
-use Rattle.rule_world.proofs.Lawfuls.{firing_lawful}
-use Rattle.rule_model.proofs.Listed.{of_map}
-use Rattle.rule_world.proofs.Pending.{has_pending, first_is_pending}
-use Rattle.rule_model.proofs.RuleOf.{IsMatchOf, rule_of, in_place}
-use Rattle.rule_world.proofs.Staying.{same_stays}
-use Rattle.engine.specs.declared.lines.OutLine.{OutLine}
+use Rattle.rule_world.proofs.Pending.{first_is_pending}
+use Rattle.rule_model.proofs.RuleOf.{IsMatchOf}
 use Rattle.session_laws.proofs.Doing.{all_lawful}
 use Rattle.session_laws.proofs.Members.{version_in}
-use Rattle.session_laws.specs.Gives.{version_of, step_or_overflow, wanted, actions_of, fires_match, fires_with, fires}
-use Rattle.session_laws.specs.Leading.{AllFit}
+use Rattle.session_laws.specs.Gives.{fires_match, fires}
 
 -- ---- the versions with the tags
 

@@ -1,22 +1,10 @@
 -- Matches that are added to an agenda, and those of them that are marked, one after the other.
-use Rattle.std.proofs.Common.{◌≡◌, ◌∙◌, ◌==◌, ◌&&◌, ◌||◌, not, ℕ, zero, suc, Bool, true, false, cond, inl, inr, List, [], ◌∷◌, ◌++◌, ◌+◌, ◌<◌, drop, get_or, length, take, map as list_map, refl, sym, ap, subst, arith}
-use Rattle.std.specs.Ordering.{eq_by_cmp}
+use Rattle.session_laws.proofs.Common.{◌≡◌, ◌∙◌, ◌==◌, ◌&&◌, ◌||◌, not, ℕ, zero, suc, Bool, true, false, cond, inl, inr, List, [], ◌∷◌, ◌++◌, ◌+◌, ◌<◌, drop, get_or, length, refl, sym, ap, subst, arith, eq_by_cmp, list_any-append, In, Row, row_cmp, has, same_equiv, FiredMatch, Match, has_match, match_cmp, of_append, Marks, IsChanged, match_fired, RuleChange, comes_by, has_marked, NoneGo, AreMarked}
+use Rattle.std.proofs.Common.{take, map as list_map}
 use Rattle.std.proofs.lemmas.List.{drop_more, map-append, take_more}
-use Rattle.std.proofs.lemmas.List.Folds.{list_any-append}
-use Rattle.fx_base.specs.Lists.{In}
-use Rattle.row_delta.specs.declared.row.Row.{Row}
-use Rattle.row_delta.specs.Rows.{row_cmp, has}
-use Rattle.row_delta.specs.RowOrder.{same_equiv}
-use Rattle.checkpoint.specs.declared.image.FiredMatch.{FiredMatch}
-use Rattle.rule_model.specs.declared.matched.Match.{Match}
-use Rattle.rule_model.specs.Matches.{has_match, match_cmp}
 use Rattle.rule_model.specs.MatchOrders.{match_equiv}
-use Rattle.rule_model.proofs.Listed.{of_append}
-use Rattle.agenda.specs.Agendas.{Marks, IsChanged}
 use Rattle.agenda.proofs.Steps.{fired_put, parts}
-use Rattle.image_laws.specs.Images.{match_fired}
-use Rattle.rete_net.specs.declared.changes.RuleChange.{RuleChange}
-use Rattle.session_laws.specs.Restoring.{comes_by, has_marked, NoneGo, AreMarked, AreMarking}
+use Rattle.session_laws.specs.Restoring.{AreMarking}
 
 -- ---- matches in a set
 

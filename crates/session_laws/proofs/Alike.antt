@@ -1,22 +1,6 @@
 -- Snapshots with the same members at the same clock have the same matches.
-use Rattle.std.proofs.Common.{◌≡◌, inl, inr, Bool, true, false, List, [], ◌∷◌, refl, sym, subst}
-use Rattle.std.specs.Ordering.{eq_by_cmp}
-use Rattle.std.proofs.lemmas.Map.Views.{tells_apart}
-use Rattle.fx_base.specs.Lists.{In}
-use Rattle.row_delta.specs.declared.row.Row.{Row}
-use Rattle.row_delta.specs.Rows.{has, row_cmp}
-use Rattle.row_delta.specs.RowOrder.{row_exact, same_equiv}
-use Rattle.rule_model.proofs.Firsts.{or_left, or_right, or_split}
-use Rattle.rule_model.specs.declared.condition.Condition.{Condition}
-use Rattle.rule_model.specs.declared.matched.Match.{Match}
-use Rattle.rule_model.specs.declared.program.Program.{Program}
-use Rattle.rule_model.specs.declared.program.Rule.{Rule}
-use Rattle.rule_model.specs.Matches.{matches_of, has_match}
-use Rattle.rule_model.specs.Rows.{rows}
-use Rattle.rule_model.specs.Distinct.{HaveDistinctTags}
-use Rattle.rule_model.specs.Snapshots.{Snapshot}
-use Rattle.rule_model.proofs.Named.{AllOf}
-use Rattle.rule_model.proofs.Order.{rows_over}
+use Rattle.session_laws.proofs.Common.{◌≡◌, inl, inr, Bool, true, false, List, [], ◌∷◌, refl, sym, subst, eq_by_cmp, tells_apart, In, Row, has, row_cmp, row_exact, same_equiv, or_left, or_right, or_split, Condition, Match, Program, Rule, has_match, rows, HaveDistinctTags, Snapshot, AllOf, rows_over}
+use Rattle.rule_model.specs.Matches.{matches_of}
 use Rattle.session_laws.proofs.Rules.{same_found}
 
 in_has : (row : Row) (rs : List Row) → In row rs → has rs row ≡ true

@@ -1,32 +1,11 @@
 -- Changes ask a session for what they ask the world for, and lead from lawful worlds to lawful ones.
-use Rattle.std.proofs.Common.{◌≡◌, ℕ, Bool, true, false, List, Option, Some, None, Result, Err, refl, ◌∙◌, ap, subst}
+use Rattle.session_laws.proofs.Common.{◌≡◌, ℕ, Bool, true, false, List, Option, Some, None, Result, Err, refl, ◌∙◌, ap, subst, Fact, FactId, Program, TypeInfo, Step, is_event, is_event_type, Code, EventFixed, ReferenceFixed, Absent, sets_fit, IsLawful, IsOrdered, IsRunnable, event_by, found_fits, World, found, is_of_type, Change, Given, entry_asked, fields_step, insert_step, modify_step, type_named, asked_fits, Memory, Setting, Fits, IsOfPlain, newest, Contents, Runs, Standing}
 use Rattle.std.specs.Prelude.{if◌then◌else◌}
-use Rattle.fx_base.specs.declared.fact.Fact.{Fact}
-use Rattle.fx_base.specs.declared.ids.FactId.{FactId}
-use Rattle.rule_model.specs.declared.program.Program.{Program}
-use Rattle.rule_model.specs.declared.program.TypeInfo.{TypeInfo}
-use Rattle.rule_model.specs.declared.step.Step.{Step}
-use Rattle.rule_model.specs.Types.{is_event, is_event_type}
-use Rattle.rule_world.specs.declared.code.Code.{Code}
-use Rattle.rule_world.specs.declared.code.Code.TheVariants.{EventFixed, ReferenceFixed, Absent}
-use Rattle.rule_world.specs.Kinds.{sets_fit, step_fits}
-use Rattle.rule_world.specs.Lawful.{IsLawful, IsOrdered}
-use Rattle.rule_world.specs.Programs.{IsRunnable}
-use Rattle.rule_world.proofs.Faultless.{event_by}
-use Rattle.rule_world.proofs.Found.{found_fits}
-use Rattle.rule_world.specs.Worlds.{World, found, is_of_type}
-use Rattle.script_read.specs.declared.asked.Change.{Change}
+use Rattle.rule_world.specs.Kinds.{step_fits}
 use Rattle.script_read.specs.declared.asked.Change.TheVariants.{Insert, Modify, Retract, Advance, At, Promise, Begin}
-use Rattle.script_read.specs.declared.given.Given.{Given}
-use Rattle.change_read.specs.Changes.{change_step, entry_asked, fields_step, insert_step, modify_step, type_named}
-use Rattle.change_read.proofs.Fitting.{asked_fits}
+use Rattle.change_read.specs.Changes.{change_step}
 use Rattle.change_read.proofs.Places.{stands, type_stands}
-use Rattle.session_laws.specs.declared.memory.Memory.{Memory}
-use Rattle.session_laws.specs.declared.setting.Setting.{Setting}
 use Rattle.session_laws.specs.Gives.{gives}
-use Rattle.session_laws.specs.Leading.{Fits, IsOfPlain}
-use Rattle.session_laws.specs.Places.{newest}
-use Rattle.session_laws.specs.Standing.{Contents, Runs, Standing}
 use Rattle.session_laws.proofs.Doing.{does_lawful, plain_fit}
 use Rattle.session_laws.proofs.Looking.{same_of_type}
 use Rattle.rule_model.specs.declared.step.Step.TheVariants as step

@@ -1,17 +1,6 @@
 -- A session whose world has begun awaits the second phase of the step: nothing else has changed.
-use Rattle.std.proofs.Common.{◌≡◌, ℕ, Bool, true, List, None, inl, refl, sym, subst}
-use Rattle.fact_store.specs.Held.{facts_of}
-use Rattle.row_delta.specs.declared.row.Row.{Row}
-use Rattle.rule_model.specs.declared.program.Program.{Program}
-use Rattle.rule_model.specs.declared.program.Rule.{Rule}
-use Rattle.rule_model.specs.declared.step.Step.TheVariants.{Begin}
-use Rattle.rule_world.specs.Lawful.{IsLawful}
-use Rattle.rule_world.specs.Worlds.{World, only_present, step_fault, stepped, moved}
-use Rattle.rete_net.specs.Nets.{clean_rows}
-use Rattle.session_laws.specs.declared.memory.Memory.{Memory}
-use Rattle.session_laws.specs.declared.setting.Setting.{Setting}
-use Rattle.session_laws.specs.Refreshed.{over}
-use Rattle.session_laws.specs.Standing.{Contents, Awaits, Mirrors, Runs, Standing, with_facts, reached_of}
+use Rattle.session_laws.proofs.Common.{◌≡◌, ℕ, Bool, true, List, None, inl, refl, sym, subst, facts_of, Row, Program, Rule, Begin, IsLawful, World, only_present, clean_rows, Memory, Setting, over, Contents, Awaits, Mirrors, Runs, Standing, with_facts, reached_of}
+use Rattle.rule_world.specs.Worlds.{step_fault, stepped, moved}
 use Rattle.session_laws.proofs.Exactly.{after_begin}
 use Rattle.session_laws.proofs.Moving_on.{covered_at, on_time}
 use Rattle.session_laws.proofs.Passing.{none_left}

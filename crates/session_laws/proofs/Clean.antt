@@ -1,35 +1,8 @@
 -- Which matches of a world and of the next one name nothing that a session has forgotten.
-use Rattle.std.proofs.Common.{◌≡◌, ◌∙◌, ◌≤◌, ◌<◌, ◌⊎◌, inl, inr, sym, ap, refl, subst, ℕ, ◌&&◌, ◌||◌, not, Bool, true, false, List, [], ◌∷◌, slice_get, Option, Some, None, arith}
+use Rattle.session_laws.proofs.Common.{◌≡◌, ◌∙◌, ◌≤◌, ◌<◌, ◌⊎◌, inl, inr, sym, ap, refl, subst, ℕ, ◌&&◌, ◌||◌, not, Bool, true, false, List, [], ◌∷◌, slice_get, Option, Some, None, arith, list_any, In, Fact, facts_of, Named, Row, Match, Program, Rule, matches, has_match, rows, Snapshot, name_of, of_filter, is_present, World, only_present, present, snapshot, below_of, kept_matches, clean, clean_rows, has_clean, Lives, Sight, ends_by, each_tag, is_kept, is_clean, fact_at, sight_of, clean_is, fact_in, own_at, sight_law, Memory, Setting, over, matches_by, Contents, Standing, Whole, with_facts, reached_of}
 use Rattle.std.specs.Prelude.{is_some}
-use Rattle.std.specs.List.{list_any}
-use Rattle.fx_base.specs.Lists.{In}
-use Rattle.fx_base.specs.declared.fact.Fact.{Fact}
-use Rattle.fact_store.specs.Held.{facts_of}
-use Rattle.row_delta.specs.declared.row.Named.{Named}
-use Rattle.row_delta.specs.declared.row.Row.{Row}
-use Rattle.rule_model.specs.declared.matched.Match.{Match}
-use Rattle.rule_model.specs.declared.program.Program.{Program}
-use Rattle.rule_model.specs.declared.program.Rule.{Rule}
-use Rattle.rule_model.specs.Matches.{matches, has_match}
-use Rattle.rule_model.specs.Rows.{rows}
-use Rattle.rule_model.specs.Snapshots.{Snapshot}
-use Rattle.rule_model.specs.Tuples.{name_of}
-use Rattle.rule_model.proofs.Named.{of_filter}
-use Rattle.rule_model.specs.Candidates.{is_present}
-use Rattle.rule_world.specs.Worlds.{World, only_present, present, snapshot}
-use Rattle.rule_world.proofs.Fresh.{below_of}
-use Rattle.rule_world.proofs.Kept.{kept_matches}
-use Rattle.pair_memory.specs.Standing.{clean}
-use Rattle.rete_net.specs.Nets.{clean_rows}
-use Rattle.rete_net.proofs.Cleaning.{has_clean}
-use Rattle.forgetting.specs.Sights.{Lives, Sight, ends_by, each_tag, is_kept, is_forgotten, is_clean}
-use Rattle.forgetting.specs.WorldSights.{fact_at, sight_of}
-use Rattle.forgetting.proofs.Naming.{clean_is}
-use Rattle.forgetting.proofs.Seeing.{fact_in, own_at, named_present, sight_law}
-use Rattle.session_laws.specs.declared.memory.Memory.{Memory}
-use Rattle.session_laws.specs.declared.setting.Setting.{Setting}
-use Rattle.session_laws.specs.Refreshed.{over, matches_by}
-use Rattle.session_laws.specs.Standing.{Contents, Standing, Whole, with_facts, reached_of}
+use Rattle.forgetting.specs.Sights.{is_forgotten}
+use Rattle.forgetting.proofs.Seeing.{named_present}
 use Rattle.session_laws.proofs.Alike.{same_matches}
 use Rattle.session_laws.proofs.Exactly.{Exact, exact}
 use Rattle.session_laws.proofs.Members.{Holds, all_listed, held_distinct, listed, own_tags}

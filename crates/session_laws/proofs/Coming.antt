@@ -1,25 +1,9 @@
 -- What comes of a network that was loaded are the rows of the rules over the facts of an image.
-use Rattle.std.proofs.Common.{◌≡◌, ◌∙◌, ◌==◌, ◌&&◌, ◌||◌, not, ℕ, Bool, true, false, inl, inr, List, [], ◌∷◌, map as list_map, cond, Option, Some, None, refl, sym, ap, subst, arith}
+use Rattle.session_laws.proofs.Common.{◌≡◌, ◌∙◌, ◌==◌, ◌&&◌, ◌||◌, not, ℕ, Bool, true, false, inl, inr, List, [], ◌∷◌, cond, Option, Some, None, refl, sym, ap, subst, arith, AllByRecursion, nat_cmp, Less, nat_tests, In, Image, Delta, has, Match, Program, Rule, snapshot_of, RuleChange, AreLadenRows, change_of, Marks, FiredMatch, comes_by, has_marked, laden_by, is_laden, AreMarked, NoneGo}
+use Rattle.std.proofs.Common.{map as list_map}
 use Rattle.std.specs.Prelude.{slice_get}
-use Rattle.std.specs.List.{AllByRecursion}
 use Rattle.std.specs.List.Sorted.{IsStrictlySortedBy}
-use Rattle.std.specs.Ordering.{nat_cmp}
-use Rattle.std.specs.declared.cmp.Ordering.TheVariants.{Less}
-use Rattle.std.proofs.lemmas.Bool.Decides.{nat_tests}
-use Rattle.fx_base.specs.Lists.{In}
-use Rattle.checkpoint.specs.declared.image.Image.{Image}
-use Rattle.row_delta.specs.declared.delta.Delta.{Delta}
-use Rattle.row_delta.specs.Rows.{has}
-use Rattle.rule_model.specs.declared.matched.Match.{Match}
-use Rattle.rule_model.specs.declared.program.Program.{Program}
-use Rattle.rule_model.specs.declared.program.Rule.{Rule}
-use Rattle.image_laws.specs.Images.{snapshot_of}
-use Rattle.rete_net.specs.declared.changes.RuleChange.{RuleChange}
-use Rattle.rete_net.specs.Loading.{AreLadenRows, coming}
-use Rattle.rete_net.specs.Nets.{change_of}
-use Rattle.agenda.specs.Agendas.{Marks}
-use Rattle.checkpoint.specs.declared.image.FiredMatch.{FiredMatch}
-use Rattle.session_laws.specs.Restoring.{comes_by, has_marked, laden_by, is_laden, AreMarked, NoneGo}
+use Rattle.rete_net.specs.Loading.{coming}
 
 abbrev rules_of : List RuleChange → List ℕ
 rules_of changes = list_map (λ (c : RuleChange). c.rule.0) changes

@@ -1,8 +1,5 @@
 -- One more type and its count.
-use Rattle.std.proofs.Common.{ℕ, List, [], ◌∷◌, ◌++◌}
-use Rattle.fx_base.specs.declared.ids.TypeId.{TypeId}
-use Rattle.fact_store.specs.Held.{HeldFacts, CountsType}
-use Rattle.session_laws.specs.Counts.{AreCounts}
+use Rattle.session_laws.proofs.Common.{ℕ, List, [], ◌∷◌, ◌++◌, TypeId, HeldFacts, CountsType, AreCounts}
 
 pub one_more_count : (held : HeldFacts) (types : List TypeId) (counts : List ℕ) (ty : TypeId) (count : ℕ) → AreCounts held types counts → CountsType held ty.0 count
     → AreCounts held (types ++ ty ∷ []) (counts ++ count ∷ [])

@@ -1,25 +1,11 @@
 -- Steps that are done or refused lead from lawful worlds to lawful ones, and facts keep their types.
-use Rattle.std.proofs.Common.{◌≡◌, ◌&&◌, not, inl, inr, ℕ, Bool, true, false, List, [], ◌∷◌, Option, Some, None, slice_get, Result, Ok, Err, refl, sym, ◌∙◌, ap}
+use Rattle.session_laws.proofs.Common.{◌≡◌, ◌&&◌, not, inl, inr, ℕ, Bool, true, false, List, [], ◌∷◌, Option, Some, None, slice_get, Result, Ok, Err, refl, sym, ◌∙◌, ap, TypeId, Value, Fact, Program, TypeInfo, Step, Insert, Modify, Retract, Advance, At, Promise, Begin, is_event, is_event_type, Code, sets_fit, IsLawful, IsOrdered, World, fact_of, step_fault, event_by, step_lawful, Stays, same_stays, stays_on, does, tries_with, AllFit, Fits, IsOfPlain}
 use Rattle.std.specs.List.{list_all}
-use Rattle.fx_base.specs.declared.ids.TypeId.{TypeId}
-use Rattle.fx_base.specs.declared.value.Value.{Value}
-use Rattle.fx_base.specs.declared.fact.Fact.{Fact}
-use Rattle.rule_model.specs.declared.program.Program.{Program}
-use Rattle.rule_model.specs.declared.program.TypeInfo.{TypeInfo}
-use Rattle.rule_model.specs.declared.step.Step.{Step}
-use Rattle.rule_model.specs.declared.step.Step.TheVariants.{Insert, Modify, Retract, Advance, At, Promise, Begin}
-use Rattle.rule_model.specs.Types.{is_event, is_event_type}
-use Rattle.rule_world.specs.declared.code.Code.{Code}
-use Rattle.rule_world.specs.Kinds.{set_fits, sets_fit, step_fits}
-use Rattle.rule_world.specs.Lawful.{IsLawful, IsOrdered}
-use Rattle.rule_world.specs.Worlds.{World, fact_of, step_fault}
-use Rattle.rule_world.proofs.Faultless.{event_by}
+use Rattle.rule_world.specs.Kinds.{set_fits, step_fits}
 use Rattle.rule_world.proofs.Fitting.{sets_of_type}
 use Rattle.rule_world.proofs.Found.{found_there}
-use Rattle.rule_world.proofs.Lawfuls.{step_lawful}
-use Rattle.rule_world.proofs.Staying.{Stays, fits_later, same_stays, stays_on, step_stays, type_stays}
-use Rattle.session_laws.specs.Gives.{does, does_all, tries_with}
-use Rattle.session_laws.specs.Leading.{AllFit, Fits, IsOfPlain}
+use Rattle.rule_world.proofs.Staying.{fits_later, step_stays, type_stays}
+use Rattle.session_laws.specs.Gives.{does_all}
 
 -- a step that is done, or a fault
 pub does_lawful : (p : Program) (w : World) (wanted : Result Step Code) → IsLawful p w → Fits p w wanted → IsLawful p (does p w wanted).1

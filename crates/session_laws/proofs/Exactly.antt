@@ -1,14 +1,8 @@
 -- Sessions stand exactly for worlds in which every fact is present, and for a world where they stand exactly for what is kept of it.
-use Rattle.std.proofs.Common.{◌≡◌, ℕ, ℤ, true, false, ◌≤ℤ◌, List, ◌∙◌, ap}
-use Rattle.fx_base.specs.declared.fact.Fact.{Fact}
-use Rattle.fx_base.specs.declared.value.Value.{Value}
-use Rattle.rule_model.specs.declared.program.Program.{Program}
-use Rattle.rule_model.specs.Candidates.{is_present}
-use Rattle.rule_world.specs.Lawful.{IsLawful}
-use Rattle.rule_world.specs.Worlds.{World, only_present, settled, with_new, with_revised, at_clock, with_retracted, with_promise, with_begin}
+use Rattle.session_laws.proofs.Common.{◌≡◌, ℕ, ℤ, true, false, ◌≤ℤ◌, List, ◌∙◌, ap, Fact, Value, Program, is_present, IsLawful, World, only_present, settled, with_new, with_revised, at_clock, with_retracted, kept_lawful, with_numbers, without_fact, Contents, Mirrors, Whole}
+use Rattle.rule_world.specs.Worlds.{with_promise, with_begin}
 use Rattle.rule_world.proofs.Kept.{kept_settled}
-use Rattle.rule_world.proofs.Keeping.{kept_lawful, kept_new, kept_numbers, kept_revised, kept_without, kept_later, with_numbers, without_fact}
-use Rattle.session_laws.specs.Standing.{Contents, Mirrors, Whole}
+use Rattle.rule_world.proofs.Keeping.{kept_new, kept_numbers, kept_revised, kept_without, kept_later}
 
 -- the contents of a session are those of a lawful world
 pub record Exact (p : Program) (k : Contents) (w : World) : Type 0 where

@@ -1,38 +1,14 @@
 -- The faults of steps, by what a session has.
-use Rattle.std.proofs.Common.{◌≡◌, ◌≤◌, ◌^◌, ℕ, ℤ, pos, negsuc, ◌+◌, ◌+ℤ◌, ◌≤ℤ◌, ◌&&◌, not, cond, Bool, true, false, List, [], ◌∷◌, Option, Some, None, slice_get, Bor, FitsSigned, to_z, of_z, to_z-of_z, w64, refl, sym, ◌∙◌, ap, subst, arith}
+use Rattle.session_laws.proofs.Common.{◌≡◌, ◌≤◌, ◌^◌, ℕ, ℤ, pos, negsuc, ◌+◌, ◌+ℤ◌, ◌≤ℤ◌, ◌&&◌, not, cond, Bool, true, false, List, [], ◌∷◌, Option, Some, None, slice_get, Bor, FitsSigned, to_z, of_z, to_z-of_z, w64, refl, sym, ◌∙◌, ap, subst, arith, nat_cmp_total, get-insert, get-retain_keys, list_any, nat_cmp, eq_by_cmp, is_eq, ints, EntryId, FactId, TypeId, Times, Value, Fact, Timers, TakesDue, is_due, HeldFacts, HoldsNone, IsNewest, tied, Code, EventObserved, ReferenceFixed, Absent, Program, Insert, Modify, Retract, Advance, At, Promise, times_of, IsLawful, IsRunnable, World, at_clock, only_present, is_of_type, retract_fault, settled, with_new, with_revised, with_retracted, Reached, is_event, is_observed, is_reference, Memory, Setting, step_lines, IsSafe, newest, Contents, Mirrors, Standing, with_facts, reached_of, with_timer, without_timer, left_at}
 use Rattle.std.specs.Prelude.{if◌then◌else◌, int_lt, nat_eq, IfNone, IfSome, option_map}
-use Rattle.std.specs.Cmp.{nat_cmp_total}
-use Rattle.std.specs.FinMap.{get-insert, get-retain_keys}
-use Rattle.std.specs.List.{list_any}
-use Rattle.std.specs.Ordering.{nat_cmp, eq_by_cmp, is_eq}
-use Rattle.std.proofs.lemmas.Int.{ints}
-use Rattle.fx_base.specs.declared.ids.EntryId.{EntryId}
-use Rattle.fx_base.specs.declared.ids.FactId.{FactId}
-use Rattle.fx_base.specs.declared.ids.TypeId.{TypeId}
-use Rattle.fx_base.specs.declared.times.Times.{Times}
-use Rattle.fx_base.specs.declared.value.Value.{Value}
-use Rattle.fx_base.specs.declared.fact.Fact.{Fact}
-use Rattle.due_queue.specs.Timers.{Timers, TakesDue, is_due}
-use Rattle.fact_store.specs.Held.{HeldFacts, HoldsNone, IsNewest}
-use Rattle.fact_store.proofs.Stored.{tied}
-use Rattle.rule_world.specs.declared.code.Code.{Code}
-use Rattle.rule_world.specs.declared.code.Code.TheVariants.{EventObserved, ReferenceFixed, Absent, ClockBack, ClockEnd}
-use Rattle.rule_model.specs.declared.program.Program.{Program}
-use Rattle.rule_model.specs.declared.step.Step.TheVariants.{Insert, Modify, Retract, Advance, At, Promise}
-use Rattle.rule_world.specs.Events.{clock_fault, most_millis, new_fault, promise_fault, times_of}
-use Rattle.rule_world.specs.Lawful.{IsLawful}
-use Rattle.rule_world.specs.Programs.{IsRunnable}
-use Rattle.rule_world.specs.Worlds.{World, at_clock, only_present, is_of_type, moved, retract_fault, settled, step_fault, stepped, with_new, with_revised, with_retracted}
-use Rattle.rule_model.specs.Snapshots.{floor, floor_by, Reached}
-use Rattle.rule_model.specs.Types.{is_event, is_observed, is_reference, lateness_of}
+use Rattle.rule_world.specs.declared.code.Code.TheVariants.{ClockBack, ClockEnd}
+use Rattle.rule_world.specs.Events.{clock_fault, most_millis, new_fault, promise_fault}
+use Rattle.rule_world.specs.Worlds.{moved, step_fault, stepped}
+use Rattle.rule_model.specs.Snapshots.{floor, floor_by}
+use Rattle.rule_model.specs.Types.{lateness_of}
 use Rattle.engine.specs.declared.lines.OutLine.TheVariants.{New}
-use Rattle.session_laws.specs.declared.memory.Memory.{Memory}
-use Rattle.session_laws.specs.declared.setting.Setting.{Setting}
-use Rattle.session_laws.specs.Gives.{step_lines}
 use Rattle.session_laws.specs.Leading.{Moves}
-use Rattle.session_laws.specs.Places.{IsSafe, insert_fault_in, newest}
-use Rattle.session_laws.specs.Standing.{Contents, Mirrors, Standing, with_facts, reached_of}
-use Rattle.session_laws.specs.Waiting.{with_timer, without_timer, left_at}
+use Rattle.session_laws.specs.Places.{insert_fault_in}
 use Rattle.session_laws.proofs.Members.{got_old, none_left}
 use Rattle.session_laws.proofs.Newest.{store_found, store_none}
 use Rattle.session_laws.proofs.Stands.{for_own, own}

@@ -1,41 +1,9 @@
 -- What fires in the worlds for which a session stands: the agenda's first match is the world's, and its facts are all kept.
-use Rattle.std.proofs.Common.{◌≡◌, ◌==◌, ℕ, Bool, true, false, cond, List, [], ◌∷◌, ◌++◌, map, Option, Some, None, is_some, option_map, slice_get, Result, refl, sym, ◌∙◌, ap, subst}
+use Rattle.session_laws.proofs.Common.{◌≡◌, ◌==◌, ℕ, Bool, true, false, cond, List, [], ◌∷◌, ◌++◌, map, Option, Some, None, is_some, option_map, slice_get, Result, refl, sym, ◌∙◌, ap, subst, option_and_then, fun_ext, Fact, Tag, Named, Action, Code, Match, Program, Step, has_match, fire_cmp, saliences, fire_total, first, step_of, World, present, pending, marked, first_pending, fire_exact, first_in, in_place, all_of, by_fire, Marks, OutLine, No, Yes, ends_by, is_kept, is_kept_fact, only, fact_at, sight_of, pending_kept, sight_law, Memory, Setting, actions_of, fire_line, fires_with, step_or_overflow, wanted, AllFit, held_at, planned, Contents, Runs, Standing, FiringAnswers}
 use Rattle.std.specs.Prelude.{if◌then◌else◌}
-use Rattle.std.specs.Option.{option_and_then}
-use mathlib.Core.Path.{fun_ext}
-use Rattle.fx_base.specs.declared.fact.Fact.{Fact}
-use Rattle.fx_base.specs.declared.ids.Tag.{Tag}
-use Rattle.row_delta.specs.declared.row.Named.{Named}
-use Rattle.rule_model.specs.declared.action.Action.{Action}
-use Rattle.rule_world.specs.declared.code.Code.{Code}
-use Rattle.rule_model.specs.declared.matched.Match.{Match}
-use Rattle.rule_model.specs.declared.program.Program.{Program}
-use Rattle.rule_model.specs.declared.step.Step.{Step}
 use Rattle.rule_model.specs.Lent.{named_at}
-use Rattle.rule_model.specs.Matches.{has_match, fire_cmp, saliences}
-use Rattle.rule_model.specs.MatchOrders.{fire_total}
-use Rattle.rule_model.specs.First.{first}
-use Rattle.rule_model.specs.Planned.{step_of}
-use Rattle.rule_world.specs.Worlds.{World, present, pending, marked, first_pending}
-use Rattle.rule_model.proofs.Exact.{fire_exact}
-use Rattle.rule_model.proofs.Firsts.{first_alike, first_in}
-use Rattle.rule_model.proofs.RuleOf.{in_place}
-use Rattle.rule_world.proofs.Acting.{all_of}
-use Rattle.rule_world.proofs.Pending.{by_fire}
-use Rattle.agenda.specs.Agendas.{Marks}
-use Rattle.engine.specs.declared.lines.OutLine.{OutLine}
-use Rattle.engine.specs.declared.lines.Fired.TheVariants.{No, Yes}
-use Rattle.forgetting.specs.Sights.{ends_by, is_kept, is_kept_fact, only}
-use Rattle.forgetting.specs.WorldSights.{fact_at, sight_of}
-use Rattle.forgetting.proofs.Before.{pending_kept}
-use Rattle.forgetting.proofs.Seeing.{sight_law}
-use Rattle.session_laws.specs.declared.memory.Memory.{Memory}
-use Rattle.session_laws.specs.declared.setting.Setting.{Setting}
-use Rattle.session_laws.specs.Gives.{actions_of, does_all, fire_line, fires_with, step_or_overflow, version_of, wanted}
-use Rattle.session_laws.specs.Leading.{AllFit}
-use Rattle.session_laws.specs.Places.{held_at, planned}
-use Rattle.session_laws.specs.Standing.{Contents, Runs, Standing}
-use Rattle.engine.specs.Answers.{FiringAnswers}
+use Rattle.rule_model.proofs.Firsts.{first_alike}
+use Rattle.session_laws.specs.Gives.{does_all, version_of}
 use Rattle.session_laws.proofs.Acting.{wanted_fits}
 use Rattle.std.specs.FinMap as map_of
 

@@ -1,51 +1,15 @@
 -- What a session forgets in the second phase of a step, and that it stands for the world then.
-use Rattle.std.proofs.Common.{◌≡◌, ◌∙◌, sym, ap, refl, subst, inl, inr, ℕ, ℤ, ◌<◌, ◌==◌, ◌&&◌, ◌||◌, not, Bool, true, false, List, [], ◌∷◌, length, map as list_map, filter_map, nat_eq, slice_get, Option, Some, None, if◌then◌else◌, arith}
-use Rattle.std.specs.List.{find, list_any}
+use Rattle.session_laws.proofs.Common.{◌≡◌, ◌∙◌, sym, ap, refl, subst, inl, inr, ℕ, ℤ, ◌<◌, ◌==◌, ◌&&◌, ◌||◌, not, Bool, true, false, List, [], ◌∷◌, length, filter_map, nat_eq, slice_get, Option, Some, None, if◌then◌else◌, arith, find, list_any, In, Fact, Tag, Timers, HeldFacts, facts_of, Named, Row, has, Match, Program, Rule, HaveDistinctTags, matches, has_match, Snapshot, name_of, or_left, or_split, World, snapshot, only_present, below_of, kept_matches, Look, has_name, clean, HasAllOf, rows_of, tuple_of_row, made_facts, Marks, Retention, has_tag, is_named, Passes, RuleRows, Rete, rows_for, NetStands, some_in, Memory, Setting, IsSafe, over, rows_at, Awaits, Contents, Seen, Standing, holding, with_facts, reached_of, HaveOwnTags, left_at}
+use Rattle.std.proofs.Common.{map as list_map}
 use Rattle.std.specs.Option.{is_some}
-use Rattle.fx_base.specs.Lists.{In}
-use Rattle.fx_base.specs.declared.fact.Fact.{Fact}
-use Rattle.fx_base.specs.declared.ids.Tag.{Tag}
-use Rattle.due_queue.specs.Timers.{Timers}
-use Rattle.fact_store.specs.Held.{HeldFacts, facts_of}
-use Rattle.row_delta.specs.declared.row.Named.{Named}
-use Rattle.row_delta.specs.declared.row.Row.{Row}
-use Rattle.row_delta.specs.Rows.{has}
-use Rattle.rule_model.specs.declared.matched.Match.{Match}
-use Rattle.rule_model.specs.declared.program.Program.{Program}
-use Rattle.rule_model.specs.declared.program.Rule.{Rule}
-use Rattle.rule_model.specs.Distinct.{HaveDistinctTags}
 use Rattle.rule_model.specs.Lent.{Holds as AreHeld}
-use Rattle.rule_model.specs.Matches.{matches, has_match}
-use Rattle.rule_model.specs.Snapshots.{Snapshot}
-use Rattle.rule_model.specs.Tuples.{name_of}
-use Rattle.rule_model.proofs.Firsts.{or_left, or_split}
-use Rattle.rule_world.specs.Worlds.{World, snapshot, only_present}
-use Rattle.rule_world.proofs.Fresh.{below_of}
-use Rattle.rule_world.proofs.Kept.{kept_matches}
-use Rattle.join_tests.specs.Joins.{Look}
-use Rattle.pair_memory.specs.Joined.{has_name}
-use Rattle.pair_memory.specs.Standing.{clean, either}
-use Rattle.condition_rows.specs.Looks.{HasAllOf}
-use Rattle.condition_rows.specs.Sets.{held, rows_of}
-use Rattle.condition_rows.proofs.Ends.{tuple_of_row}
-use Rattle.condition_rows.proofs.Joined.{made_facts}
-use Rattle.agenda.specs.Agendas.{Marks}
-use Rattle.retention.specs.declared.retention.Retention.{Retention}
-use Rattle.retention.specs.Retentions.{has_tag, is_named, Passes}
-use Rattle.rete_net.specs.declared.forgetting.RuleRows.{RuleRows}
-use Rattle.rete_net.specs.declared.net.Rete.{Rete}
-use Rattle.rete_net.specs.Dropped.{AreDropped, rows_for}
-use Rattle.rete_net.specs.Nets.{NetStands}
+use Rattle.pair_memory.specs.Standing.{either}
+use Rattle.condition_rows.specs.Sets.{held}
+use Rattle.rete_net.specs.Dropped.{AreDropped}
 use Rattle.forgetting.specs.Sights.{some_tag}
-use Rattle.forgetting.proofs.Naming.{not_true, some_in}
+use Rattle.forgetting.proofs.Naming.{not_true}
 use Rattle.forgetting.proofs.Stepping.{drop_law}
-use Rattle.session_laws.specs.declared.memory.Memory.{Memory}
-use Rattle.session_laws.specs.declared.setting.Setting.{Setting}
 use Rattle.session_laws.specs.Gives.{version_of}
-use Rattle.session_laws.specs.Places.{IsSafe}
-use Rattle.session_laws.specs.Refreshed.{over, rows_at}
-use Rattle.session_laws.specs.Standing.{Awaits, Contents, Seen, Standing, holding, with_facts, reached_of}
-use Rattle.session_laws.specs.Waiting.{HaveOwnTags, left_at}
 use Rattle.session_laws.proofs.Alike.{same_matches}
 use Rattle.session_laws.proofs.Exactly.{Exact, exact}
 use Rattle.session_laws.proofs.Leads.{at_own}

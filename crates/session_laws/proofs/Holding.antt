@@ -1,21 +1,8 @@
 -- What a session holds of a world for which it stands: exactly what is kept, so that of the events past their lives it holds those alone
 -- which a pending match names.
-use Rattle.std.proofs.Common.{◌≡◌, ◌∙◌, ◌+ℤ◌, ◌<ℤ◌, ℤ, true, false, slice_get, Some, None, sym, arith}
+use Rattle.session_laws.proofs.Common.{◌≡◌, ◌∙◌, ◌+ℤ◌, ◌<ℤ◌, ℤ, true, false, slice_get, Some, None, sym, arith, ints, In, Fact, Finite, Infinite, Match, has_match, name_of, World, pending, IsKept, kept_listed, Memory, Setting, Contents, Runs, Standing}
 use Rattle.std.specs.Prelude.{◌↔◌}
 use Rattle.std.specs.FinMap as map_of
-use Rattle.std.proofs.lemmas.Int.{ints}
-use Rattle.fx_base.specs.Lists.{In}
-use Rattle.fx_base.specs.declared.fact.Fact.{Fact}
-use Rattle.rule_model.specs.declared.life.Life.TheVariants.{Finite, Infinite}
-use Rattle.rule_model.specs.declared.matched.Match.{Match}
-use Rattle.rule_model.specs.Matches.{has_match}
-use Rattle.rule_model.specs.Tuples.{name_of}
-use Rattle.rule_world.specs.Worlds.{World, pending}
-use Rattle.rule_lives.specs.Keeping.{IsKept}
-use Rattle.keeping.proofs.Decided.{kept_listed}
-use Rattle.session_laws.specs.declared.memory.Memory.{Memory}
-use Rattle.session_laws.specs.declared.setting.Setting.{Setting}
-use Rattle.session_laws.specs.Standing.{Contents, Runs, Standing}
 use Rattle.session_laws.proofs.Tallied.{holds_kept}
 
 one_life : (n m : ℤ) → Some (Finite n) ≡ Some (Finite m) → n ≡ m

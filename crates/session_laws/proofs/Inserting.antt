@@ -1,41 +1,7 @@
 -- A session that has taken a new fact, or its numbers alone, awaits the second phase of the step.
-use Rattle.std.proofs.Common.{◌≡◌, ◌+◌, ◌∙◌, inl, inr, ℕ, ℤ, pos, ◌<◌, ◌≤◌, ◌≤ℤ◌, ◌==◌, ◌&&◌, not, Bool, true, false, cond, [], ◌∷◌, Option, Some, None, is_some, refl, sym, ap, subst, slice_get, arith}
-use Rattle.std.specs.Prelude.{option_and_then, OnOk, Result, Ok, Err}
-use Rattle.std.proofs.lemmas.Bool.Decides.{nat_tests}
-use Rattle.std.proofs.lemmas.Int.{ints}
-use Rattle.std.specs.Cmp.{nat_cmp_total}
-use Rattle.std.specs.FinMap.{get-insert, get-remove}
-use Rattle.std.specs.Ordering.{nat_cmp, eq_by_cmp}
-use Rattle.fact_store.proofs.Stored.{tied, itself}
-use Rattle.fx_base.specs.declared.fact.Fact.{Fact}
-use Rattle.fx_base.specs.declared.times.Times.{Times}
-use Rattle.due_queue.specs.Timers.{Timers, has_come}
-use Rattle.fact_store.specs.Held.{HeldFacts}
-use Rattle.row_delta.specs.declared.row.Named.{Named}
-use Rattle.rule_model.specs.declared.program.Program.{Program}
-use Rattle.rule_model.specs.declared.step.Step.{Step}
-use Rattle.rule_model.specs.declared.step.Step.TheVariants.{Insert}
-use Rattle.rule_model.specs.Candidates.{is_present}
-use Rattle.rule_model.specs.Tuples.{name_of}
-use Rattle.rule_model.specs.Types.{is_event}
-use Rattle.rule_model.proofs.Listed.{in_right}
-use Rattle.rule_world.specs.Events.{end_of_presence, most_millis, times_of}
-use Rattle.rule_world.specs.Lawful.{IsLawful}
-use Rattle.rule_world.specs.Worlds.{World, only_present, moved, new_fact, present, settled, step_fault, stepped, with_new}
-use Rattle.rule_world.proofs.Fresh.{below_of}
-use Rattle.agenda.specs.Agendas.{Marks}
-use Rattle.retention.specs.declared.retention.Retention.{Retention}
-use Rattle.retention.specs.Retentions.{lingers}
-use Rattle.retention.specs.Watching.{Covers, Ends}
-use Rattle.forgetting.specs.Sights.{ends_by, ends_of, only}
-use Rattle.forgetting.specs.Steps.{HasLeft, brought, changed}
-use Rattle.forgetting.specs.WorldSights.{comes, goes, sight_of}
-use Rattle.forgetting.proofs.Covering.{later_covers}
-use Rattle.session_laws.specs.declared.memory.Memory.{Memory}
-use Rattle.session_laws.specs.declared.setting.Setting.{Setting}
-use Rattle.session_laws.specs.Following.{GoesOn, HasAtHand, Leads, LeadsOn, instant_of}
-use Rattle.session_laws.specs.Standing.{Contents, AreForgotten, Awaits, Mirrors, Runs, Standing, Whole, holding, with_facts, reached_of, Course, reached_by}
-use Rattle.session_laws.specs.Waiting.{with_timer}
+use Rattle.session_laws.proofs.Common.{◌≡◌, ◌+◌, ◌∙◌, inl, inr, ℕ, ℤ, pos, ◌<◌, ◌≤◌, ◌≤ℤ◌, ◌==◌, ◌&&◌, not, Bool, true, false, cond, [], ◌∷◌, Option, Some, None, is_some, refl, sym, ap, subst, slice_get, arith, OnOk, nat_tests, ints, nat_cmp_total, get-insert, get-remove, nat_cmp, eq_by_cmp, tied, itself, Fact, Times, Timers, has_come, HeldFacts, Named, Program, Step, Insert, is_present, name_of, is_event, in_right, end_of_presence, most_millis, times_of, IsLawful, World, only_present, present, settled, step_fault, with_new, below_of, Marks, Retention, lingers, Covers, Ends, ends_by, ends_of, only, HasLeft, brought, changed, comes, goes, sight_of, later_covers, Memory, Setting, GoesOn, HasAtHand, Leads, LeadsOn, instant_of, Contents, AreForgotten, Awaits, Mirrors, Runs, Standing, Whole, holding, with_facts, reached_of, Course, reached_by, with_timer, Reached}
+use Rattle.std.specs.Prelude.{option_and_then, Result, Ok, Err}
+use Rattle.rule_world.specs.Worlds.{moved, new_fact, stepped}
 use Rattle.session_laws.proofs.Exactly.{Exact, exact, after_new, after_numbers}
 use Rattle.session_laws.proofs.Members.{got_new, got_old, of_insert}
 use Rattle.session_laws.proofs.Needs.{not_needed}
@@ -44,7 +10,6 @@ use Rattle.session_laws.proofs.Ready.{lead_new}
 use Rattle.session_laws.proofs.Stands.{HasStart, contents, new_moves, next_is_free, numbers_move}
 use Rattle.session_laws.proofs.Taken.{taken_awaits}
 use Rattle.std.specs.FinMap as map
-use Rattle.rule_model.specs.Snapshots.{Reached}
 use Rattle.session_laws.proofs.Reaching.{reaches_on}
 use Rattle.session_laws.proofs.Still.{AgendaFollows, NetFollows, none_out, still_awaits}
 

@@ -1,48 +1,16 @@
 -- What a session that is made from the image of a world holds is exactly what is kept of that world.
-use Rattle.std.proofs.Common.{◌≡◌, ◌↔◌, ◌∙◌, ◌&&◌, not, ℕ, Bool, true, false, cond, is_some, List, [], length, Option, Some, None, refl, sym, ap, subst, arith}
+use Rattle.session_laws.proofs.Common.{◌≡◌, ◌↔◌, ◌∙◌, ◌&&◌, not, ℕ, Bool, true, false, cond, is_some, List, [], length, Option, Some, None, refl, sym, ap, subst, arith, In, Fact, Row, Image, Timers, HeldFacts, LifeTable, Match, Program, Rule, HaveDistinctTags, matches, has_match, rows, both, IsLawful, World, snapshot, pending, distinct_filtered, has_pending, clean, cleaned, rows_of, kept_facts, is_forgotten, kept_listed, has_fired, snapshot_of, IsImageOf, AreOwners, image_kept, Marks, names_tag, Retention, is_among, is_named, Passes, Ends, Covers, past_law, Lives, Sight, ends_by, ends_of, only, is_kept, is_needed, each_tag, fact_at, sight_of, same_kept, pending_kept, clean_is, at_filter, fact_in, own_at, sight_law, stored, AreHeld, AreMarked, laden_by, is_laden}
 use Rattle.std.specs.Prelude.{◌≤◌, slice_get}
 use Rattle.std.specs.FinMap as map_of
 use Rattle.std.proofs.lemmas.List.{take_all}
-use Rattle.fx_base.specs.Lists.{In}
-use Rattle.fx_base.specs.declared.fact.Fact.{Fact}
-use Rattle.row_delta.specs.declared.row.Row.{Row}
-use Rattle.checkpoint.specs.declared.image.Image.{Image}
-use Rattle.due_queue.specs.Timers.{Timers}
-use Rattle.fact_store.specs.Held.{HeldFacts}
-use Rattle.rule_model.specs.declared.life.LifeTable.{LifeTable}
-use Rattle.rule_model.specs.declared.matched.Match.{Match}
-use Rattle.rule_model.specs.declared.program.Program.{Program}
-use Rattle.rule_model.specs.declared.program.Rule.{Rule}
-use Rattle.rule_model.specs.Distinct.{HaveDistinctTags}
-use Rattle.rule_model.specs.Matches.{matches, has_match}
-use Rattle.rule_model.specs.Rows.{rows}
-use Rattle.rule_model.proofs.Listed.{both}
-use Rattle.rule_world.specs.Lawful.{IsLawful}
-use Rattle.rule_world.specs.Worlds.{World, snapshot, pending}
-use Rattle.rule_world.proofs.Fresh.{distinct_filtered}
-use Rattle.rule_world.proofs.Pending.{has_pending}
 use Rattle.rule_lives.specs.Keeping.{AreSafe}
-use Rattle.pair_memory.specs.Standing.{clean, cleaned}
-use Rattle.condition_rows.specs.Sets.{rows_of}
-use Rattle.keeping.specs.Kept.{is_kept as is_kept_in, kept_facts, is_forgotten}
-use Rattle.keeping.proofs.Decided.{kept_listed}
-use Rattle.image_laws.specs.Images.{has_fired, snapshot_of, IsImageOf}
-use Rattle.image_laws.specs.Laden.{AreOwners}
-use Rattle.image_laws.proofs.Imaged.{image_kept}
+use Rattle.keeping.specs.Kept.{is_kept as is_kept_in}
 use Rattle.image_laws.proofs.Rows.{laden_rows}
-use Rattle.agenda.specs.Agendas.{Marks, names_tag}
-use Rattle.retention.specs.declared.retention.Retention.{Retention}
-use Rattle.retention.specs.Retentions.{is_among, is_named, Passes}
-use Rattle.retention.specs.Watching.{Ends, without, Covers, Watches}
+use Rattle.retention.specs.Watching.{without, Watches}
 use Rattle.retention.proofs.Calls.{same_watched}
-use Rattle.retention.proofs.Past.{past_law}
-use Rattle.forgetting.specs.Sights.{Lives, Sight, HoldsKept, IsLawful as IsLawfulSight, ends_by, ends_of, only, is_kept, is_needed, each_tag}
-use Rattle.forgetting.specs.WorldSights.{fact_at, sight_of}
-use Rattle.forgetting.proofs.Agreeing.{same_clean, same_kept}
-use Rattle.forgetting.proofs.Before.{pending_kept}
-use Rattle.forgetting.proofs.Naming.{any_alike, clean_is}
-use Rattle.forgetting.proofs.Seeing.{at_filter, fact_in, own_at, sight_law}
-use Rattle.session_laws.specs.Restoring.{stored, AreHeld, AreMarked, laden_by, is_laden}
+use Rattle.forgetting.specs.Sights.{HoldsKept, IsLawful as IsLawfulSight}
+use Rattle.forgetting.proofs.Agreeing.{same_clean}
+use Rattle.forgetting.proofs.Naming.{any_alike}
 use Rattle.session_laws.proofs.Members.{Holds}
 use Rattle.session_laws.proofs.Rules.{found_at, is_found}
 use Rattle.session_laws.proofs.Storing.{stored_holds}

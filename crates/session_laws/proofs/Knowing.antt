@@ -1,59 +1,21 @@
 -- The lines of changes and firings name types and rules of the program alone.
-use Rattle.std.proofs.Common.{◌^◌, ◌≡◌, ◌<◌, ◌≤◌, ◌==◌, ◌&&◌, ℕ, ℤ, zero, suc, not, Bool, true, false, if◌then◌else◌, ap, Err, List, [], ◌∷◌, ◌++◌, length, nat_lt, Option, Some, None, option_map, Result, Ok, refl, sym, ◌∙◌, subst, lt-ltb, arith}
+use Rattle.session_laws.proofs.Common.{◌^◌, ◌≡◌, ◌<◌, ◌≤◌, ◌==◌, ◌&&◌, ℕ, ℤ, zero, suc, not, Bool, true, false, if◌then◌else◌, ap, Err, List, [], ◌∷◌, ◌++◌, length, nat_lt, Option, Some, None, option_map, Result, Ok, refl, sym, ◌∙◌, subst, lt-ltb, arith, ∥∥₁_elim, FactId, TypeId, Value, Fact, HeldFacts, Named, Row, Action, Code, Absent, EventFixed, ReferenceFixed, Match, Program, Rule, TypeInfo, Step, bound_in, matches, has_match, IsRunnable, In, World, is_of_type, snapshot, all_of, and_both, and_parts, of_map, has_pending, rule_of, in_place, Change, Given, entry_asked, fields_step, insert_step, modify_step, type_named, asked_fits, OutLine, Memory, Setting, actions_of, fire_line, planned, held_at, IsNetOf, AreOfRules, Contents, Course, IsSound, ReachesNoMore, Runs, Standing, reached_by, reached_of, nat_tests, moment_in, nothing_reached, is_event}
 use Rattle.std.specs.Prelude.{slice_get}
 use Rattle.std.proofs.lemmas.List.Folds.{list_all-append}
-use Rattle.std.proofs.Math.Logic.{∥∥₁_elim}
 use mathlib.Core.Bool.{Bool-set}
-use Rattle.fx_base.specs.declared.ids.FactId.{FactId}
-use Rattle.fx_base.specs.declared.ids.TypeId.{TypeId}
-use Rattle.fx_base.specs.declared.value.Value.{Value}
-use Rattle.fx_base.specs.declared.fact.Fact.{Fact}
-use Rattle.fact_store.specs.Held.{HeldFacts}
-use Rattle.row_delta.specs.declared.row.Named.{Named}
-use Rattle.row_delta.specs.declared.row.Row.{Row}
-use Rattle.rule_model.specs.declared.action.Action.{Action}
-use Rattle.rule_world.specs.declared.code.Code.{Code}
-use Rattle.rule_world.specs.declared.code.Code.TheVariants.{Absent, BadFields, EventFixed, ReferenceFixed}
-use Rattle.rule_model.specs.declared.matched.Match.{Match}
-use Rattle.rule_model.specs.declared.program.Program.{Program}
-use Rattle.rule_model.specs.declared.program.Rule.{Rule}
-use Rattle.rule_model.specs.declared.program.TypeInfo.{TypeInfo}
-use Rattle.rule_model.specs.declared.step.Step.{Step}
+use Rattle.rule_world.specs.declared.code.Code.TheVariants.{BadFields}
 use Rattle.rule_world.specs.Kinds.{values_fit, step_fits}
-use Rattle.rule_model.specs.Lent.{bound_in}
 use Rattle.rule_model.specs.Tuples.{Bindings}
-use Rattle.rule_model.specs.Matches.{matches, has_match}
 use Rattle.rule_model.specs.Numbers.{values_of}
 use Rattle.rule_model.specs.Planned.{id_at, sets_of, type_or_first, step_of}
-use Rattle.rule_world.specs.Programs.{IsRunnable}
-use Rattle.fx_base.specs.Lists.{In}
 use Rattle.rule_world.specs.Typed.{bound_types, bound_fields, fields_in, args_fit, action_fits, rule_fits, is_typed}
-use Rattle.rule_world.specs.Worlds.{World, is_of_type, snapshot}
-use Rattle.rule_world.proofs.Acting.{all_of}
-use Rattle.rule_world.proofs.Fresh.{and_both, and_parts}
-use Rattle.rule_model.proofs.Listed.{of_map}
-use Rattle.rule_world.proofs.Pending.{has_pending}
-use Rattle.rule_model.proofs.RuleOf.{rule_of, in_place}
-use Rattle.script_read.specs.declared.asked.Change.{Change}
 use Rattle.script_read.specs.declared.asked.Change.TheVariants as asked
-use Rattle.script_read.specs.declared.given.Given.{Given}
-use Rattle.change_read.specs.Changes.{change_step, entry_asked, fields_step, insert_step, modify_step, new_step, promise_step, retract_step, sets_step, type_named, values_step}
+use Rattle.change_read.specs.Changes.{change_step, new_step, promise_step, retract_step, sets_step, values_step}
 use Rattle.change_read.specs.Fields.{are_fields, are_some_fields, sets_given, values_given}
 use Rattle.change_read.proofs.Places.{entry_within}
-use Rattle.change_read.proofs.Fitting.{asked_fits}
-use Rattle.engine.specs.declared.lines.OutLine.{OutLine}
-use Rattle.session_laws.specs.declared.memory.Memory.{Memory}
-use Rattle.session_laws.specs.declared.setting.Setting.{Setting}
-use Rattle.session_laws.specs.Gives.{actions_of, fire_line}
 use Rattle.engine.specs.Known.{is_known, are_known}
 use Rattle.session_laws.specs.Leading.{AllWantKnown, has_known_places, StayKnown, WantsKnown}
-use Rattle.session_laws.specs.Places.{planned, planned_for, held_at}
-use Rattle.rete_net.specs.Shapes.{IsNetOf}
-use Rattle.session_laws.specs.Standing.{AreOfRules, Contents, Course, IsSound, ReachesNoMore, Runs, Standing, reached_by, reached_of}
-use Rattle.std.proofs.lemmas.Bool.Decides.{nat_tests}
-use Rattle.rule_model.specs.Moments.{moment_in}
-use Rattle.rule_model.specs.Snapshots.{nothing_reached}
-use Rattle.rule_model.specs.Types.{is_event}
+use Rattle.session_laws.specs.Places.{planned_for}
 use Rattle.session_laws.proofs.Promising.{HasPromise}
 use Rattle.session_laws.proofs.Stands.{HasStart}
 use Rattle.session_laws.proofs.Acting.{asked_step}

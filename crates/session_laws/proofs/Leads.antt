@@ -1,33 +1,11 @@
 -- What leads from the facts before a step of the network to those behind it is what the network asks for.
-use Rattle.std.proofs.Common.{◌≡◌, ◌∙◌, inl, inr, sym, ap, refl, subst, ℕ, ℤ, ◌<◌, ◌==◌, ◌||◌, not, List, [], ◌∷◌, ◌++◌, filter_map, nat_eq, Bool, true, false, Option, Some, None, Result, Ok, Err, if◌then◌else◌, arith}
-use Rattle.std.specs.Prelude.{OnOk}
-use Rattle.std.specs.List.{cons_option, filter, find, list_any}
-use Rattle.std.specs.Option.{option_to_list}
-use Rattle.std.proofs.lemmas.Bool.Decides.{nat_tests}
-use Rattle.std.proofs.lemmas.List.{append-nil}
-use Rattle.fx_base.specs.Lists.{In, EachOnce}
-use Rattle.fx_base.specs.declared.fact.Fact.{Fact}
-use Rattle.fx_base.specs.declared.ids.Tag.{Tag}
-use Rattle.fact_store.specs.Held.{HeldFacts, facts_of}
-use Rattle.fact_store.proofs.Members.{from_list, from_map, tags_rise}
-use Rattle.rule_model.specs.declared.program.Program.{Program}
-use Rattle.rule_model.specs.Distinct.{HaveDistinctTags}
-use Rattle.rule_model.proofs.Listed.{in_left, in_right, of_append, of_map}
-use Rattle.rule_model.proofs.Named.{AllOf, of_filter}
-use Rattle.rule_model.proofs.Order.{in_filter, passed}
-use Rattle.row_delta.specs.declared.row.Named.{Named}
-use Rattle.condition_rows.specs.Looks.{HasAllOf}
+use Rattle.session_laws.proofs.Common.{◌≡◌, ◌∙◌, inl, inr, sym, ap, refl, subst, ℕ, ℤ, ◌<◌, ◌==◌, ◌||◌, not, List, [], ◌∷◌, ◌++◌, filter_map, nat_eq, Bool, true, false, Option, Some, None, Result, Ok, Err, if◌then◌else◌, arith, OnOk, cons_option, filter, find, list_any, option_to_list, nat_tests, append-nil, In, EachOnce, Fact, Tag, HeldFacts, facts_of, from_list, from_map, tags_rise, Program, HaveDistinctTags, in_left, in_right, of_append, of_map, AllOf, of_filter, in_filter, passed, Named, HasAllOf, Moves, shares_tag, GoesOn, HasAtHand, Leads, over, HaveOwnTags, Reached, Snapshot, floor_on}
 use Rattle.condition_rows.specs.Sets.{held}
-use Rattle.pattern_gate.specs.Moves.{Moves, shares_tag}
-use Rattle.session_laws.specs.Following.{Comes, GoesOn, HasAtHand, Leads}
+use Rattle.session_laws.specs.Following.{Comes}
 use Rattle.session_laws.specs.Gives.{version_of}
-use Rattle.session_laws.specs.Refreshed.{over}
-use Rattle.session_laws.specs.Waiting.{HaveOwnTags}
 use Rattle.session_laws.proofs.Members.{got_new, got_old, of_insert, version_found}
 use Rattle.session_laws.proofs.Rising.{Rise, rising_filter, rising_more, rising_same}
 use Rattle.std.specs.FinMap as map
-use Rattle.rule_model.specs.Snapshots.{Reached, Snapshot}
-use Rattle.rule_model.proofs.Floors.{floor_on}
 
 same_number : (m n : ℕ) → nat_eq m n ≡ true → m ≡ n
 same_number m n e = grind (arith, nat_tests)

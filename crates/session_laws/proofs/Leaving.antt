@@ -1,18 +1,9 @@
 -- Facts that leave a session, by their tags.
-use Rattle.std.proofs.Common.{◌≡◌, ◌∙◌, ◌++◌, ◌||◌, inl, inr, ℕ, Bool, true, false, nat_eq, ◌==◌, length, List, [], ◌∷◌, Option, None, if◌then◌else◌, refl, sym, ap, subst, append_assoc, arith}
-use Rattle.std.specs.declared.cmp.Ordering.TheVariants.{Less, Equal}
-use Rattle.std.specs.List.{AllByRecursion, list_any}
+use Rattle.session_laws.proofs.Common.{◌≡◌, ◌∙◌, ◌++◌, ◌||◌, inl, inr, ℕ, Bool, true, false, nat_eq, ◌==◌, length, List, [], ◌∷◌, Option, None, if◌then◌else◌, refl, sym, ap, subst, append_assoc, arith, Less, Equal, AllByRecursion, list_any, nat_cmp, or-false, nat_tests, list_any-append, In, EachOnce, Fact, Timers, HeldFacts, left_at}
 use Rattle.std.specs.List.Sorted.{IsStrictlySortedBy}
-use Rattle.std.specs.Ordering.{nat_cmp, ordering_then}
-use Rattle.std.proofs.Math.Bool.{or-false}
-use Rattle.std.proofs.lemmas.Bool.Decides.{nat_tests}
+use Rattle.std.specs.Ordering.{ordering_then}
 use Rattle.std.proofs.lemmas.Cmp.{nat_cmp_total, int_cmp_total, tied_itself}
-use Rattle.std.proofs.lemmas.List.Folds.{list_any-append}
-use Rattle.fx_base.specs.Lists.{In, EachOnce}
-use Rattle.fx_base.specs.declared.fact.Fact.{Fact}
-use Rattle.due_queue.specs.Timers.{Timers, due_cmp, moment_of}
-use Rattle.fact_store.specs.Held.{HeldFacts}
-use Rattle.session_laws.specs.Waiting.{left_at}
+use Rattle.due_queue.specs.Timers.{due_cmp, moment_of}
 use Rattle.session_laws.proofs.Members.{is_out, not_out}
 use Rattle.std.specs.FinMap as map
 

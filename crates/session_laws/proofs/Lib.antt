@@ -1,3 +1,4 @@
+mod Common
 pub mod Rules
 pub mod Alike
 pub mod Rising

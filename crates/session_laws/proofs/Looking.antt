@@ -1,32 +1,9 @@
 -- What a session finds by an id is what the world finds, but for an event that it has forgotten: there it finds nothing.
-use Rattle.std.proofs.Common.{◌≡◌, ℕ, ℤ, ◌<◌, ◌||◌, ◌⊎◌, List, inl, inr, not, cond, Bool, true, false, Option, Some, None, refl, sym, ◌∙◌, ap, subst, arith}
+use Rattle.session_laws.proofs.Common.{◌≡◌, ℕ, ℤ, ◌<◌, ◌||◌, ◌⊎◌, List, inl, inr, not, cond, Bool, true, false, Option, Some, None, refl, sym, ◌∙◌, ap, subst, arith, nat_tests, In, FactId, TypeId, Value, Fact, has_come, IsNewest, Program, Modify, Retract, is_event, is_observed, is_reference, Code, EventObserved, ReferenceFixed, Absent, World, found, is_of_type, only_present, modify_fault, present, retract_fault, found_in, below_of, one_id, ends_by, is_kept_fact, is_needed, only, sight_of, own_at, Memory, Setting, IsOfPlain, newest, Contents, Runs, Standing, with_facts}
 use Rattle.std.specs.Prelude.{if◌then◌else◌, ◌==◌}
-use Rattle.std.proofs.lemmas.Bool.Decides.{nat_tests}
-use Rattle.fx_base.specs.Lists.{In}
-use Rattle.fx_base.specs.declared.ids.FactId.{FactId}
-use Rattle.fx_base.specs.declared.ids.TypeId.{TypeId}
-use Rattle.fx_base.specs.declared.value.Value.{Value}
-use Rattle.fx_base.specs.declared.fact.Fact.{Fact}
-use Rattle.due_queue.specs.Timers.{has_come}
-use Rattle.fact_store.specs.Held.{IsNewest}
-use Rattle.rule_model.specs.declared.program.Program.{Program}
-use Rattle.rule_model.specs.declared.step.Step.TheVariants.{Modify, Retract}
-use Rattle.rule_model.specs.Types.{is_event, is_observed, is_reference}
-use Rattle.rule_world.specs.declared.code.Code.{Code}
-use Rattle.rule_world.specs.declared.code.Code.TheVariants.{EventObserved, ReferenceFixed, Absent}
-use Rattle.rule_world.specs.Worlds.{World, found, is_of_type, only_present, modify_fault, present, retract_fault, step_fault}
-use Rattle.rule_world.proofs.Found.{fact_in, found_in}
-use Rattle.rule_world.proofs.Fresh.{below_of}
-use Rattle.rule_world.proofs.Ids.{one_id}
-use Rattle.forgetting.specs.Sights.{ends_by, is_kept_fact, is_needed, only}
-use Rattle.forgetting.specs.WorldSights.{sight_of}
+use Rattle.rule_world.specs.Worlds.{step_fault}
+use Rattle.rule_world.proofs.Found.{fact_in}
 use Rattle.forgetting.proofs.Agreeing.{plain_endless}
-use Rattle.forgetting.proofs.Seeing.{own_at}
-use Rattle.session_laws.specs.declared.memory.Memory.{Memory}
-use Rattle.session_laws.specs.declared.setting.Setting.{Setting}
-use Rattle.session_laws.specs.Leading.{IsOfPlain}
-use Rattle.session_laws.specs.Places.{newest}
-use Rattle.session_laws.specs.Standing.{Contents, Runs, Standing, with_facts}
 use Rattle.session_laws.proofs.Exactly.{Exact, exact}
 use Rattle.session_laws.proofs.Members.{Holds}
 use Rattle.session_laws.proofs.Newest.{holds, newest_found, newest_none}

@@ -1,28 +1,7 @@
 -- A session whose first match is marked as fired awaits the second phase of the firing.
-use Rattle.std.proofs.Common.{◌≡◌, ◌∙◌, ◌&&◌, ◌||◌, not, ℕ, Bool, true, inl, inr, Some, refl, sym, subst}
-use Rattle.std.specs.Ordering.{eq_by_cmp}
-use Rattle.std.proofs.lemmas.Map.Views.{tells_apart}
-use Rattle.rule_model.specs.declared.matched.Match.{Match}
-use Rattle.rule_model.specs.declared.program.Program.{Program}
-use Rattle.rule_model.specs.First.{first}
-use Rattle.rule_model.specs.MatchOrders.{fire_total}
-use Rattle.rule_model.specs.Matches.{matches, has_match, match_cmp, fire_cmp}
-use Rattle.rule_model.proofs.Exact.{fire_exact, match_exact}
-use Rattle.rule_model.proofs.Firsts.{first_in, or_split}
-use Rattle.rule_world.specs.Worlds.{World, marked, pending, snapshot}
-use Rattle.rule_world.proofs.Fresh.{and_parts}
-use Rattle.rule_world.proofs.Lawfuls.{firing_lawful}
-use Rattle.rule_world.proofs.Pending.{by_fire, has_pending}
-use Rattle.agenda.specs.Agendas.{Marks, names_tag}
-use Rattle.pair_memory.specs.Standing.{clean}
-use Rattle.forgetting.specs.Sights.{Lives, Sight, each_tag, ends_by, is_kept}
-use Rattle.forgetting.specs.WorldSights.{sight_of}
-use Rattle.forgetting.proofs.Before.{pending_kept}
+use Rattle.session_laws.proofs.Common.{◌≡◌, ◌∙◌, ◌&&◌, ◌||◌, not, ℕ, Bool, true, inl, inr, Some, refl, sym, subst, eq_by_cmp, tells_apart, Match, Program, first, fire_total, matches, has_match, match_cmp, fire_cmp, fire_exact, first_in, or_split, World, marked, pending, snapshot, and_parts, firing_lawful, by_fire, has_pending, Marks, names_tag, clean, Lives, Sight, each_tag, ends_by, is_kept, sight_of, pending_kept, sight_law, Memory, Setting, Awaits, Contents, Seen, Standing, holding}
+use Rattle.rule_model.proofs.Exact.{match_exact}
 use Rattle.forgetting.proofs.Closing.{world_fire_kept}
-use Rattle.forgetting.proofs.Seeing.{sight_law}
-use Rattle.session_laws.specs.declared.memory.Memory.{Memory}
-use Rattle.session_laws.specs.declared.setting.Setting.{Setting}
-use Rattle.session_laws.specs.Standing.{Awaits, Contents, Seen, Standing, holding}
 use Rattle.session_laws.proofs.Clean.{clean_kept, clean_was}
 use Rattle.session_laws.proofs.Stands.{contents}
 

@@ -1,51 +1,11 @@
 -- The parts of a session that are made from an image, as they are told one after the other.
-use Rattle.std.proofs.Common.{◌≡◌, ◌∙◌, ◌≤◌, ◌<◌, ◌≤ℤ◌, ◌||◌, not, ℕ, ℤ, pos, Bool, true, false, cond, List, [], ◌∷◌, length, Option, Some, None, Result, Ok, Err, refl, sym, ap, subst, arith}
+use Rattle.session_laws.proofs.Common.{◌≡◌, ◌∙◌, ◌≤◌, ◌<◌, ◌≤ℤ◌, ◌||◌, not, ℕ, ℤ, pos, Bool, true, false, cond, List, [], ◌∷◌, length, Option, Some, None, Result, Ok, Err, refl, sym, ap, subst, arith, eq_by_cmp, nat_cmp, ∥∥₁_elim, In, Fact, Extra, Named, FiredMatch, Image, Timers, HeldFacts, itself, LifeTable, Moment, Program, saliences, Snapshot, both_of, most_millis, IsRunnable, below_of, slice_get_within, Look, Marks, match_fired, snapshot_of, AreOwners, FitsPlainly, FitsByRows, Retention, has_tag, is_among, is_named, Passes, Covers, Ends, is_old, past_law, ends_by, ends_of, RuleChange, Rete, AreLadenRows, IsBehind, IsLoadable, IsThere, NetStands, IsNetOf, Memory, Setting, IsSafe, comes_by, has_marked, is_laden, stored, AreHeld, AreMarked, IsMatched, NoneGo, AreOfRules, Contents, Course, IsSound, ReachesNoMore, Runs, expiry_at, reached_of}
 use Rattle.std.specs.Prelude.{IsErrAnd}
 use Rattle.std.specs.FinMap as map_of
-use Rattle.std.specs.Ordering.{eq_by_cmp, nat_cmp}
-use Rattle.std.proofs.Math.Logic.{∥∥₁_elim}
 use lib.IntN.{ℤ_set}
-use Rattle.fx_base.specs.Lists.{In}
-use Rattle.fx_base.specs.declared.fact.Fact.{Fact}
-use Rattle.row_delta.specs.declared.extra.Extra.{Extra}
-use Rattle.row_delta.specs.declared.row.Named.{Named}
-use Rattle.checkpoint.specs.declared.image.FiredMatch.{FiredMatch}
-use Rattle.checkpoint.specs.declared.image.Image.{Image}
-use Rattle.due_queue.specs.Timers.{Timers}
-use Rattle.fact_store.specs.Held.{HeldFacts}
-use Rattle.fact_store.proofs.Stored.{itself}
-use Rattle.rule_model.specs.declared.life.LifeTable.{LifeTable}
-use Rattle.rule_model.specs.declared.moment.Moment.{Moment}
-use Rattle.rule_model.specs.declared.program.Program.{Program}
-use Rattle.rule_model.specs.Matches.{saliences}
-use Rattle.rule_model.specs.Snapshots.{Snapshot}
-use Rattle.rule_model.proofs.Listed.{both_of}
-use Rattle.rule_world.specs.Events.{most_millis}
-use Rattle.rule_world.specs.Programs.{IsRunnable}
-use Rattle.rule_world.proofs.Fresh.{below_of}
-use Rattle.std.proofs.lemmas.Option.{slice_get_within}
-use Rattle.join_tests.specs.Joins.{Look}
-use Rattle.agenda.specs.Agendas.{Marks}
-use Rattle.image_laws.specs.Images.{match_fired, snapshot_of}
-use Rattle.image_laws.specs.Laden.{AreOwners}
-use Rattle.image_fitting.specs.Plain.{FitsPlainly, FitsByRows}
-use Rattle.retention.specs.declared.retention.Retention.{Retention}
-use Rattle.retention.specs.Retentions.{has_tag, is_among, is_named, Passes}
-use Rattle.retention.specs.Watching.{Covers, Ends, is_old}
-use Rattle.retention.proofs.Past.{past_law}
-use Rattle.forgetting.specs.Sights.{ends_by, ends_of}
-use Rattle.rete_net.specs.declared.changes.RuleChange.{RuleChange}
-use Rattle.rete_net.specs.declared.net.Rete.{Rete}
-use Rattle.rete_net.specs.Loading.{AreLadenRows, IsBehind, IsLoadable, IsThere}
-use Rattle.rete_net.specs.Nets.{NetStands}
-use Rattle.rete_net.specs.Shapes.{IsNetOf}
 use Rattle.engine.specs.declared.resuming.ResumeFault.{ResumeFault}
 use Rattle.engine.specs.declared.resuming.ResumeFault.TheVariants.{Unfit}
-use Rattle.session_laws.specs.declared.memory.Memory.{Memory}
-use Rattle.session_laws.specs.declared.setting.Setting.{Setting}
-use Rattle.session_laws.specs.Places.{IsSafe}
-use Rattle.session_laws.specs.Restoring.{at_hand, comes_by, has_marked, is_laden, stored, AreHeld, AreMarked, IsMatched, IsRestored, NoneGo}
-use Rattle.session_laws.specs.Standing.{AreOfRules, Contents, Course, IsSound, ReachesNoMore, Runs, expiry_at, reached_of}
+use Rattle.session_laws.specs.Restoring.{at_hand, IsRestored}
 use Rattle.session_laws.proofs.Coming.{comes_laden, laden_marked, none_go}
 use Rattle.session_laws.proofs.Refitted.{fired_unfit, laden_match, no_row_unfit, old_unfit, rows_fit}
 use Rattle.session_laws.proofs.Restored.{loadable, restored_stands}

@@ -1,28 +1,9 @@
 -- The facts of a map and those of a list: where both have the same, each at its tag.
-use Rattle.std.proofs.Common.{◌≡◌, ℕ, ◌<◌, ◌==◌, ◌⊎◌, inl, inr, not, ◌&&◌, Bool, true, false, cond, List, [], ◌∷◌, ◌++◌, Option, Some, None, refl, sym, ◌∙◌, ap, subst, arith}
-use Rattle.rule_world.proofs.Keeping.{without, others}
+use Rattle.session_laws.proofs.Common.{◌≡◌, ℕ, ◌<◌, ◌==◌, ◌⊎◌, inl, inr, not, ◌&&◌, Bool, true, false, cond, List, [], ◌∷◌, ◌++◌, Option, Some, None, refl, sym, ◌∙◌, ap, subst, arith, without, others, get-insert, get-remove, nat_cmp_total, nat_cmp, eq_by_cmp, nat_tests, Tag, Value, Fact, HeldFacts, facts_of, tag_of, from_list, from_map, tags_rise, tied, itself, In, HaveDistinctTags, HaveDistinctIds, has_id, revised, revised_in, AllBelow, has_number, one_id, in_left, in_right, in_map, of_append, of_map, AllOf, of_filter, one_fact, in_filter, passed, HaveOwnTags}
 use Rattle.std.specs.Prelude.{if◌then◌else◌}
-use Rattle.std.specs.FinMap.{get-insert, get-remove, same_map, nat_cmp-IsAntisymmetric}
-use Rattle.std.specs.Cmp.{nat_cmp_total}
-use Rattle.std.specs.Ordering.{nat_cmp, eq_by_cmp}
-use Rattle.std.proofs.lemmas.Bool.Decides.{nat_tests}
-use Rattle.fx_base.specs.declared.ids.Tag.{Tag}
-use Rattle.fx_base.specs.declared.value.Value.{Value}
-use Rattle.fx_base.specs.declared.fact.Fact.{Fact}
-use Rattle.fact_store.specs.Held.{HeldFacts, facts_of, tag_of}
-use Rattle.fact_store.proofs.Members.{from_list, from_map, tags_rise}
-use Rattle.fact_store.proofs.Stored.{tied, itself}
-use Rattle.fx_base.specs.Lists.{In}
-use Rattle.rule_model.specs.Distinct.{HaveDistinctTags, HaveDistinctIds}
-use Rattle.rule_world.specs.Worlds.{has_id, revised, revised_in}
-use Rattle.rule_world.proofs.Fresh.{AllBelow, revise, has_number}
-use Rattle.rule_world.proofs.Ids.{one_id}
-use Rattle.rule_model.proofs.Listed.{in_left, in_right, in_map, of_append, of_map}
-use Rattle.rule_model.proofs.Named.{AllOf, of_filter}
-use Rattle.rule_model.proofs.Once.{one_fact}
-use Rattle.rule_model.proofs.Order.{in_filter, passed}
+use Rattle.std.specs.FinMap.{same_map, nat_cmp-IsAntisymmetric}
+use Rattle.rule_world.proofs.Fresh.{revise}
 use Rattle.session_laws.specs.Gives.{version_of}
-use Rattle.session_laws.specs.Waiting.{HaveOwnTags}
 use Rattle.session_laws.proofs.Rising.{rising_distinct}
 use Rattle.std.specs.FinMap as map
 

@@ -1,34 +1,12 @@
 -- What a session has taken where facts go and one may come, and where the clock moves on: what the network is led to, and what awaits.
-use Rattle.std.proofs.Common.{◌≡◌, ◌∙◌, ◌+◌, ◌<◌, ◌≤◌, ◌≤ℤ◌, inl, inr, not, ℕ, ℤ, Bool, true, false, cond, nat_eq, List, Option, Some, None, if◌then◌else◌, refl, sym, ap, subst, arith}
+use Rattle.session_laws.proofs.Common.{◌≡◌, ◌∙◌, ◌+◌, ◌<◌, ◌≤◌, ◌≤ℤ◌, inl, inr, not, ℕ, ℤ, Bool, true, false, cond, nat_eq, List, Option, Some, None, if◌then◌else◌, refl, sym, ap, subst, arith, list_any, ints, In, Fact, HeldFacts, Named, Program, Step, name_of, World, only_present, present, step_fault, stepped, below_of, Covers, ends_by, ends_of, only, changed, fact_at, sight_of, later_covers, Memory, Setting, GoesOn, HasAtHand, IsReady, Leads, LeadsOn, instant_of, AreForgotten, Contents, Mirrors, Runs, Standing, holding, with_facts, reached_of, left_at, Reached}
 use Rattle.std.specs.Prelude.{is_some}
 use Rattle.std.specs.FinMap as map
-use Rattle.std.specs.List.{list_any}
-use Rattle.std.proofs.lemmas.Int.{ints}
-use Rattle.fx_base.specs.Lists.{In}
-use Rattle.fx_base.specs.declared.fact.Fact.{Fact}
-use Rattle.fact_store.specs.Held.{HeldFacts}
-use Rattle.row_delta.specs.declared.row.Named.{Named}
-use Rattle.rule_model.specs.declared.program.Program.{Program}
-use Rattle.rule_model.specs.declared.step.Step.{Step}
-use Rattle.rule_model.specs.Tuples.{name_of}
-use Rattle.rule_world.specs.Worlds.{World, only_present, present, step_fault, stepped}
-use Rattle.rule_world.proofs.Fresh.{below_of}
-use Rattle.retention.specs.Watching.{Covers}
-use Rattle.forgetting.specs.Sights.{ends_by, ends_of, only}
-use Rattle.forgetting.specs.Steps.{changed}
-use Rattle.forgetting.specs.WorldSights.{fact_at, sight_of}
-use Rattle.forgetting.proofs.Covering.{later_covers}
-use Rattle.session_laws.specs.declared.memory.Memory.{Memory}
-use Rattle.session_laws.specs.declared.setting.Setting.{Setting}
-use Rattle.session_laws.specs.Following.{GoesOn, HasAtHand, IsReady, Leads, LeadsOn, instant_of}
-use Rattle.session_laws.specs.Standing.{AreForgotten, Contents, Mirrors, Runs, Standing, holding, with_facts, reached_of}
-use Rattle.session_laws.specs.Waiting.{left_at}
 use Rattle.session_laws.proofs.Exactly.{Exact, exact}
 use Rattle.session_laws.proofs.Members.{Holds, got_new, got_old, of_insert}
 use Rattle.session_laws.proofs.Needs.{not_needed}
 use Rattle.session_laws.proofs.Newest.{holds}
 use Rattle.session_laws.proofs.Readied.{whole_ready}
-use Rattle.rule_model.specs.Snapshots.{Reached}
 use Rattle.session_laws.proofs.Reaching.{reaches_on}
 
 -- ---- one fact at a time

@@ -1,34 +1,14 @@
 -- The facts of a map that are the present ones of a world make the rows and have the candidates of the world.
-use Rattle.std.proofs.Common.{◌≡◌, ◌∙◌, ◌==◌, ◌&&◌, ℕ, ℤ, true, nat_lt, List, length, refl, sym, ap, subst}
+use Rattle.session_laws.proofs.Common.{◌≡◌, ◌∙◌, ◌==◌, ◌&&◌, ℕ, ℤ, true, nat_lt, List, length, refl, sym, ap, subst, In, Fact, Named, Row, has, HeldFacts, facts_of, tag_of, Condition, Pattern, Program, is_present, fits, is_candidate, candidates, HaveDistinctTags, rows, Reached, Snapshot, name_of, both_of, of_filter, Same, passed, rows_over, World, snapshot, present, only_present, distinct_filtered, kept_rows, rows_of, candidates_of, has_in, same_truth, candidate_named, candidate_of, version_of, over}
 use Rattle.std.specs.FinMap as map
-use Rattle.fx_base.specs.Lists.{In}
-use Rattle.fx_base.specs.declared.fact.Fact.{Fact}
-use Rattle.row_delta.specs.declared.row.Named.{Named}
-use Rattle.row_delta.specs.declared.row.Row.{Row}
-use Rattle.row_delta.specs.Rows.{has}
-use Rattle.fact_store.specs.Held.{HeldFacts, facts_of, tag_of}
-use Rattle.rule_model.specs.declared.condition.Condition.{Condition}
-use Rattle.rule_model.specs.declared.condition.Pattern.{Pattern}
 use Rattle.rule_model.specs.declared.condition.WindowTag.{WindowTag}
 use Rattle.rule_model.specs.declared.condition.WindowTag.TheVariants.{Whole, Time, Length}
-use Rattle.rule_model.specs.declared.program.Program.{Program}
-use Rattle.rule_model.specs.Candidates.{is_present, fits, is_behind, count_behind, is_inside, is_candidate, candidates}
-use Rattle.rule_model.specs.Distinct.{HaveDistinctTags}
-use Rattle.rule_model.specs.Rows.{rows}
-use Rattle.rule_model.specs.Snapshots.{Reached, Snapshot}
+use Rattle.rule_model.specs.Candidates.{is_behind, count_behind, is_inside}
 use Rattle.rule_model.specs.Tests.{tests_hold}
-use Rattle.rule_model.specs.Tuples.{name_of, unbound}
-use Rattle.rule_model.proofs.Listed.{both_of}
-use Rattle.rule_model.proofs.Named.{of_filter}
-use Rattle.rule_model.proofs.Order.{Same, passed, rows_over, same_candidates as same_in_order}
-use Rattle.rule_world.specs.Worlds.{World, snapshot, present, only_present}
-use Rattle.rule_world.proofs.Fresh.{distinct_filtered}
-use Rattle.rule_world.proofs.Kept.{filter_within, filter_same, kept_rows}
-use Rattle.condition_rows.specs.Sets.{rows_of, candidates_of}
-use Rattle.condition_rows.proofs.Ends.{in_has, has_in, same_truth}
-use Rattle.condition_rows.proofs.Joined.{candidate_named, candidate_of}
-use Rattle.session_laws.specs.Gives.{version_of}
-use Rattle.session_laws.specs.Refreshed.{over}
+use Rattle.rule_model.specs.Tuples.{unbound}
+use Rattle.rule_model.proofs.Order.{same_candidates as same_in_order}
+use Rattle.rule_world.proofs.Kept.{filter_within, filter_same}
+use Rattle.condition_rows.proofs.Ends.{in_has}
 use Rattle.session_laws.proofs.Members.{Holds, of_versions, held_distinct, own_tags, listed, all_listed}
 
 -- ---- what is not present is no candidate, and is in no window

@@ -1,59 +1,18 @@
 -- In a step no rule needs a forgotten fact.
-use Rattle.std.proofs.Common.{◌≡◌, ◌∙◌, inl, inr, refl, sym, ap, subst, ℕ, zero, suc, ◌<◌, ◌≤◌, ◌==◌, ◌&&◌, not, Bool, true, false, cond, List, [], ◌∷◌, filter_map, Option, Some, None, arith}
-use Rattle.std.specs.Prelude.{is_some, take, slice_get}
-use Rattle.std.specs.List.{cons_option, filter}
-use Rattle.std.specs.Option.{option_to_list}
+use Rattle.session_laws.proofs.Common.{◌≡◌, ◌∙◌, inl, inr, refl, sym, ap, subst, ℕ, zero, suc, ◌<◌, ◌≤◌, ◌==◌, ◌&&◌, not, Bool, true, false, cond, List, [], ◌∷◌, filter_map, Option, Some, None, arith, take, cons_option, filter, option_to_list, In, Fact, Named, Row, HeldFacts, facts_of, tag_of, from_list, Condition, Negated, Existing, Folded, Pattern, Rule, Step, is_candidate, HaveDistinctTags, Holds, pattern_of, Reached, Snapshot, name_of, both_of, of_append, in_left, of_filter, one_fact, in_filter, IsOrdered, World, snapshot, present, step_fault, and_both, flagged, not_true, same_number, joins, held, rows_of, candidates_of, same_truth, tuple_of_row, held_fact, joins_of_tuple, made_facts, candidate_of, Moves, shares_tag, is_forgotten, IsLawfulStep, passing_one, forgotten_fact, only, same_kept, chosen, own_at, Memory, Setting, GoesOn, Instant, Leads, facts_at, version_of, over, Contents, Runs, Standing, reached_of}
+use Rattle.std.specs.Prelude.{is_some, slice_get}
 use Rattle.std.specs.FinMap as map
-use Rattle.fx_base.specs.Lists.{In}
-use Rattle.fx_base.specs.declared.fact.Fact.{Fact}
-use Rattle.row_delta.specs.declared.row.Named.{Named}
-use Rattle.row_delta.specs.declared.row.Row.{Row}
-use Rattle.fact_store.specs.Held.{HeldFacts, facts_of, tag_of}
-use Rattle.fact_store.proofs.Members.{from_list}
-use Rattle.rule_model.specs.declared.condition.Condition.{Condition}
-use Rattle.rule_model.specs.declared.condition.Condition.TheVariants.{Plain, Negated, Existing, Folded}
-use Rattle.rule_model.specs.declared.condition.Pattern.{Pattern}
-use Rattle.rule_model.specs.declared.program.Rule.{Rule}
-use Rattle.rule_model.specs.declared.step.Step.{Step}
-use Rattle.rule_model.specs.Candidates.{is_candidate}
-use Rattle.rule_model.specs.Distinct.{HaveDistinctTags}
-use Rattle.rule_model.specs.Lent.{Holds}
-use Rattle.rule_model.specs.Rows.{pattern_of}
-use Rattle.rule_model.specs.Snapshots.{Reached, Snapshot}
-use Rattle.rule_model.specs.Tuples.{name_of, row_of}
-use Rattle.rule_model.proofs.Listed.{both_of, of_append, in_left}
-use Rattle.rule_model.proofs.Named.{of_filter}
-use Rattle.rule_model.proofs.Once.{one_fact}
-use Rattle.rule_model.proofs.Order.{in_filter}
-use Rattle.rule_world.specs.Lawful.{IsOrdered}
-use Rattle.rule_world.specs.Worlds.{World, snapshot, present, moved, stepped, step_fault}
-use Rattle.rule_world.proofs.Fresh.{and_both}
-use Rattle.rule_lives.proofs.Flagged.{flagged}
+use Rattle.rule_model.specs.declared.condition.Condition.TheVariants.{Plain}
+use Rattle.rule_model.specs.Tuples.{row_of}
+use Rattle.rule_world.specs.Worlds.{moved, stepped}
 use Rattle.rule_lives.specs.Networks.{binds}
-use Rattle.rule_lives.proofs.Basics.{not_true, same_number}
-use Rattle.join_tests.specs.Joins.{joins}
-use Rattle.condition_rows.specs.Sets.{held, rows_of, candidates_of}
-use Rattle.condition_rows.proofs.Ends.{same_truth, tuple_of_row}
-use Rattle.condition_rows.proofs.Holding.{version_of as version_named, held_fact, joins_of_tuple, version_in}
-use Rattle.condition_rows.proofs.Joined.{made_facts, candidate_of}
-use Rattle.pattern_gate.specs.Moves.{Moves, shares_tag}
+use Rattle.condition_rows.proofs.Holding.{version_of as version_named, version_in}
 use Rattle.rete_net.specs.Forgetting.{CountsNone}
-use Rattle.keeping.specs.Kept.{is_kept, is_forgotten}
-use Rattle.keeping.specs.Steps.{IsLawfulStep, RowComes}
+use Rattle.keeping.specs.Kept.{is_kept}
+use Rattle.keeping.specs.Steps.{RowComes}
 use Rattle.keeping.proofs.Coming.{row_meets_kept}
-use Rattle.keeping.proofs.Members.{passing_one}
 use Rattle.keeping.proofs.Staying.{there_same}
-use Rattle.keeping.proofs.Versions.{forgotten_fact, tags_behind}
-use Rattle.forgetting.specs.Sights.{only}
-use Rattle.forgetting.proofs.Agreeing.{same_kept}
-use Rattle.forgetting.proofs.Before.{chosen}
-use Rattle.forgetting.proofs.Seeing.{own_at}
-use Rattle.session_laws.specs.declared.memory.Memory.{Memory}
-use Rattle.session_laws.specs.declared.setting.Setting.{Setting}
-use Rattle.session_laws.specs.Following.{GoesOn, Instant, Leads, facts_at}
-use Rattle.session_laws.specs.Gives.{version_of}
-use Rattle.session_laws.specs.Refreshed.{over}
-use Rattle.session_laws.specs.Standing.{Contents, Runs, Standing, reached_of}
+use Rattle.keeping.proofs.Versions.{tags_behind}
 use Rattle.session_laws.proofs.Leads.{leads_move}
 use Rattle.session_laws.proofs.Needing.{stored_present, distinct_here, of_world, world_rows, world_candidates}
 use Rattle.session_laws.proofs.Phases.{NotNeeded}

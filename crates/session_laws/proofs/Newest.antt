@@ -1,19 +1,9 @@
 -- The fact of an id, as a session has it and as the world has it.
-use Rattle.std.proofs.Common.{◌≡◌, ℕ, suc, zero, ◌<◌, ◌≤◌, ◌⊎◌, inl, inr, Bool, true, false, Option, Some, None, refl, sym, ◌∙◌, ap, subst, arith}
+use Rattle.session_laws.proofs.Common.{◌≡◌, ℕ, suc, zero, ◌<◌, ◌≤◌, ◌⊎◌, inl, inr, Bool, true, false, Option, Some, None, refl, sym, ◌∙◌, ap, subst, arith, nat_tests, Tag, Fact, HeldFacts, IsNewest, HoldsNone, Program, In, World, fact_of, below_of, found_in, one_id, IsNewestTag, IsSafe, newest, Contents}
 use Rattle.std.specs.Prelude.{nat_eq, nat_lt, if◌then◌else◌}
-use Rattle.std.proofs.lemmas.Bool.Decides.{nat_tests}
-use Rattle.fx_base.specs.declared.ids.Tag.{Tag}
-use Rattle.fx_base.specs.declared.fact.Fact.{Fact}
-use Rattle.fact_store.specs.Held.{HeldFacts, IsNewest, HoldsNone, is_id}
-use Rattle.rule_model.specs.declared.program.Program.{Program}
-use Rattle.fx_base.specs.Lists.{In}
-use Rattle.rule_world.specs.Worlds.{World, fact_of}
-use Rattle.rule_world.proofs.Fresh.{below_of}
+use Rattle.fact_store.specs.Held.{is_id}
 use Rattle.rule_world.proofs.Found.{fact_in}
-use Rattle.rule_world.proofs.Ids.{one_id}
-use Rattle.rule_world.proofs.Found.{found_in}
-use Rattle.session_laws.specs.Places.{IsNewestTag, IsSafe, newest, newest_below}
-use Rattle.session_laws.specs.Standing.{Contents}
+use Rattle.session_laws.specs.Places.{newest_below}
 use Rattle.session_laws.proofs.Exactly.{Exact}
 use Rattle.session_laws.proofs.Members.{Holds, of_versions}
 use Rattle.std.specs.FinMap as map

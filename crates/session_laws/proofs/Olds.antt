@@ -1,21 +1,6 @@
 -- Old facts by their tags, in a set and in a list, and by their names.
-use Rattle.std.proofs.Common.{◌≡◌, ◌∙◌, sym, ap, refl, subst, inl, inr, ℕ, Bool, true, false, ◌||◌, List, [], ◌∷◌, filter_map, option_map, nat_eq, Option, Some, None, arith}
-use Rattle.std.specs.List.{cons_option, list_any}
-use Rattle.std.specs.Ordering.{eq_by_cmp, nat_cmp}
-use Rattle.std.proofs.lemmas.Bool.Decides.{nat_tests}
-use Rattle.std.proofs.lemmas.Map.Views.{tells_apart}
-use Rattle.fx_base.specs.Lists.{In}
-use Rattle.fx_base.specs.declared.fact.Fact.{Fact}
-use Rattle.fact_store.specs.Held.{HeldFacts}
-use Rattle.fact_store.proofs.Stored.{itself, tied}
+use Rattle.session_laws.proofs.Common.{◌≡◌, ◌∙◌, sym, ap, refl, subst, inl, inr, ℕ, Bool, true, false, ◌||◌, List, [], ◌∷◌, filter_map, option_map, nat_eq, Option, Some, None, arith, cons_option, list_any, eq_by_cmp, nat_cmp, nat_tests, tells_apart, In, Fact, HeldFacts, itself, tied, Named, name_of, or_left, or_split, has_name, has_tag, same_bool, HaveOwnTags}
 use Rattle.row_delta.specs.NameOrder.{name_cmp, name_equiv, name_exact}
-use Rattle.row_delta.specs.declared.row.Named.{Named}
-use Rattle.rule_model.specs.Tuples.{name_of}
-use Rattle.rule_model.proofs.Firsts.{or_left, or_split}
-use Rattle.pair_memory.specs.Joined.{has_name}
-use Rattle.retention.specs.Retentions.{has_tag}
-use Rattle.forgetting.proofs.Naming.{same_bool}
-use Rattle.session_laws.specs.Waiting.{HaveOwnTags}
 use Rattle.std.specs.FinMap as map
 
 same_number : (m n : ℕ) → nat_eq m n ≡ true → m ≡ n

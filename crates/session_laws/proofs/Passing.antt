@@ -1,45 +1,8 @@
 -- What a session has taken where its clock moves on.
-use Rattle.std.proofs.Common.{◌≡◌, ◌∙◌, ◌≤ℤ◌, ◌||◌, inl, not, ℕ, ℤ, Bool, true, false, cond, nat_eq, List, Some, None, slice_get, if◌then◌else◌, refl, sym, ap, subst, arith}
+use Rattle.session_laws.proofs.Common.{◌≡◌, ◌∙◌, ◌≤ℤ◌, ◌||◌, inl, not, ℕ, ℤ, Bool, true, false, cond, nat_eq, List, Some, None, slice_get, if◌then◌else◌, refl, sym, ap, subst, arith, get-retain_keys, list_any, is_eq, nat_tests, In, Fact, Timers, TakesDue, has_come, HeldFacts, facts_of, tied, Named, Row, Program, Rule, Step, At, is_present, rows, IsLawful, World, at_clock, only_present, present, settled, step_fault, Marks, rows_of, cleaned, NetStands, clean_rows, Rete, has_clean, Covers, ends_by, ends_of, is_kept_fact, is_needed, only, HasLeft, brought, changed, comes, fact_at, goes, sight_of, endless_covers, some_in, own_at, Memory, Setting, Leads, LeadsOn, instant_of, over, IsRefreshed, Awaits, Contents, Mirrors, Runs, Standing, expiry_at, holding, with_facts, reached_of, left_at, Reached}
 use Rattle.std.specs.FinMap as map
-use Rattle.std.specs.FinMap.{get-retain_keys}
-use Rattle.std.specs.List.{list_any}
-use Rattle.std.specs.Ordering.{is_eq}
-use Rattle.std.proofs.lemmas.Bool.Decides.{nat_tests}
-use Rattle.fx_base.specs.Lists.{In}
-use Rattle.fx_base.specs.declared.fact.Fact.{Fact}
-use Rattle.due_queue.specs.Timers.{Timers, TakesDue, has_come}
-use Rattle.fact_store.specs.Held.{HeldFacts, facts_of}
-use Rattle.fact_store.proofs.Stored.{tied}
-use Rattle.row_delta.specs.declared.row.Named.{Named}
-use Rattle.row_delta.specs.declared.row.Row.{Row}
-use Rattle.rule_model.specs.declared.program.Program.{Program}
-use Rattle.rule_model.specs.declared.program.Rule.{Rule}
-use Rattle.rule_model.specs.declared.step.Step.{Step}
-use Rattle.rule_model.specs.declared.step.Step.TheVariants.{At}
-use Rattle.rule_model.specs.Candidates.{is_present}
-use Rattle.rule_model.specs.Rows.{rows}
-use Rattle.rule_world.specs.Lawful.{IsLawful}
-use Rattle.rule_world.specs.Worlds.{World, at_clock, only_present, moved, present, settled, step_fault, stepped}
-use Rattle.agenda.specs.Agendas.{Marks}
-use Rattle.condition_rows.specs.Sets.{rows_of}
-use Rattle.pair_memory.specs.Standing.{cleaned}
-use Rattle.rete_net.specs.Nets.{NetStands, clean_rows}
-use Rattle.rete_net.specs.declared.net.Rete.{Rete}
-use Rattle.rete_net.proofs.Cleaning.{has_clean}
-use Rattle.retention.specs.Watching.{Covers}
-use Rattle.forgetting.specs.Sights.{ends_by, ends_of, is_kept_fact, is_needed, only}
-use Rattle.forgetting.specs.Steps.{HasLeft, brought, changed}
-use Rattle.forgetting.specs.WorldSights.{comes, fact_at, goes, sight_of}
+use Rattle.rule_world.specs.Worlds.{moved, stepped}
 use Rattle.forgetting.proofs.Agreeing.{expired_endless}
-use Rattle.forgetting.proofs.Covering.{endless_covers}
-use Rattle.forgetting.proofs.Naming.{some_in}
-use Rattle.forgetting.proofs.Seeing.{own_at}
-use Rattle.session_laws.specs.declared.memory.Memory.{Memory}
-use Rattle.session_laws.specs.declared.setting.Setting.{Setting}
-use Rattle.session_laws.specs.Following.{Leads, LeadsOn, instant_of}
-use Rattle.session_laws.specs.Refreshed.{over, IsRefreshed}
-use Rattle.session_laws.specs.Standing.{Awaits, Contents, Mirrors, Runs, Standing, expiry_at, holding, with_facts, reached_of}
-use Rattle.session_laws.specs.Waiting.{left_at}
 use Rattle.session_laws.proofs.Exactly.{after_clock}
 use Rattle.session_laws.proofs.Moving_on.{covered_at, hand_of, leads_on, left_changed, less_forgotten, of_left, world_exact, world_holds, world_ready}
 use Rattle.session_laws.proofs.Ready.{lead_later}
@@ -47,7 +10,6 @@ use Rattle.session_laws.proofs.Rules.{not_refreshed}
 use Rattle.session_laws.proofs.Stands.{clock_moves, contents}
 use Rattle.session_laws.proofs.Taken.{taken_awaits}
 use Rattle.session_laws.proofs.Timers.{come_is_absent}
-use Rattle.rule_model.specs.Snapshots.{Reached}
 
 -- ---- the facts that are left
 

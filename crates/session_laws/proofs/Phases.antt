@@ -1,23 +1,6 @@
 -- What the first phase of a step leaves, and what it asks of the facts that are forgotten.
-use Rattle.std.proofs.Common.{◌≡◌, ◌≤◌, ◌⊎◌, ℕ, Bool, true, List, filter_map, Option, Some, None}
-use Rattle.fx_base.specs.Lists.{In}
-use Rattle.fx_base.specs.declared.fact.Fact.{Fact}
-use Rattle.fact_store.specs.Held.{HeldFacts, facts_of, tag_of}
-use Rattle.rule_model.specs.declared.step.Step.{Step}
-use Rattle.rule_world.specs.Worlds.{World, present, stepped, step_fault}
+use Rattle.session_laws.proofs.Common.{◌≡◌, ◌≤◌, ◌⊎◌, ℕ, Bool, true, List, filter_map, Option, Some, None, In, Fact, HeldFacts, facts_of, tag_of, Step, World, present, stepped, step_fault, NetStands, clean_rows, lingers, Covers, ends_by, ends_of, HasLeft, brought, changed, comes, goes, Memory, Setting, Instant, Leads, facts_at, version_of, over, IsRefreshed, Contents, AreForgotten, Awaits, Runs, Standing, Whole, with_facts, reached_of}
 use Rattle.rete_net.specs.Forgetting.{AreNotNeeded}
-use Rattle.rete_net.specs.Nets.{NetStands, clean_rows}
-use Rattle.retention.specs.Retentions.{lingers}
-use Rattle.retention.specs.Watching.{Covers}
-use Rattle.forgetting.specs.Sights.{ends_by, ends_of}
-use Rattle.forgetting.specs.Steps.{HasLeft, brought, changed}
-use Rattle.forgetting.specs.WorldSights.{comes, goes}
-use Rattle.session_laws.specs.declared.memory.Memory.{Memory}
-use Rattle.session_laws.specs.declared.setting.Setting.{Setting}
-use Rattle.session_laws.specs.Following.{Instant, Leads, facts_at}
-use Rattle.session_laws.specs.Gives.{version_of}
-use Rattle.session_laws.specs.Refreshed.{over, IsRefreshed}
-use Rattle.session_laws.specs.Standing.{Contents, AreForgotten, Awaits, Runs, Standing, Whole, with_facts, reached_of}
 use Rattle.std.specs.FinMap as map
 
 -- the parts of a session behind the first phase of a step, which did not change what is forgotten

@@ -1,39 +1,20 @@
 -- What conditions count of forgotten facts among the present facts of a world, which a map has, is what they count in the world.
-use Rattle.std.proofs.Common.{◌≡◌, ◌∙◌, ◌||◌, not, ℕ, ℤ, Bool, true, List, [], ◌∷◌, map as list_map, length, inl, inr, refl, sym, ap, subst}
-use Rattle.std.specs.Prelude.{take}
+use Rattle.session_laws.proofs.Common.{◌≡◌, ◌∙◌, ◌||◌, not, ℕ, ℤ, Bool, true, List, [], ◌∷◌, length, inl, inr, refl, sym, ap, subst, take, filter, list_any, In, EachOnce, Fact, Extra, Named, Row, HeldFacts, facts_of, tag_of, Condition, Negated, Existing, Folded, Pattern, Program, is_candidate, candidates, HaveDistinctTags, pattern_of, rows, Reached, Snapshot, name_of, of_filter, Same, in_filter, passed, World, snapshot, present, joins, clean, held, rows_of, has_in, tuple_of_row, held_fact, joins_of_tuple, version_of, over}
+use Rattle.std.proofs.Common.{map as list_map}
 use Rattle.std.specs.FinMap as map
-use Rattle.std.specs.List.{filter, list_any}
-use Rattle.fx_base.specs.Lists.{In, EachOnce}
-use Rattle.fx_base.specs.declared.fact.Fact.{Fact}
 use Rattle.fold_fn.proofs.Rising.{rising_same}
-use Rattle.row_delta.specs.declared.extra.Extra.{Extra}
-use Rattle.row_delta.specs.declared.row.Named.{Named}
-use Rattle.row_delta.specs.declared.row.Row.{Row}
-use Rattle.fact_store.specs.Held.{HeldFacts, facts_of, tag_of}
-use Rattle.rule_model.specs.declared.condition.Condition.{Condition}
-use Rattle.rule_model.specs.declared.condition.Condition.TheVariants.{Plain, Negated, Existing, Folded}
-use Rattle.rule_model.specs.declared.condition.Pattern.{Pattern}
-use Rattle.rule_model.specs.declared.program.Program.{Program}
-use Rattle.rule_model.specs.Candidates.{is_candidate, candidates}
-use Rattle.rule_model.specs.Distinct.{HaveDistinctTags}
-use Rattle.rule_model.specs.Rows.{argument, pattern_of, rows}
-use Rattle.rule_model.specs.Snapshots.{Reached, Snapshot}
-use Rattle.rule_model.specs.Tuples.{empty_tuple, name_of}
+use Rattle.rule_model.specs.declared.condition.Condition.TheVariants.{Plain}
+use Rattle.rule_model.specs.Rows.{argument}
+use Rattle.rule_model.specs.Tuples.{empty_tuple}
 use Rattle.rule_model.proofs.Grown.{tuples_grow}
-use Rattle.rule_model.proofs.Named.{of_filter, made_of, named_of}
+use Rattle.rule_model.proofs.Named.{made_of, named_of}
 use Rattle.rule_model.proofs.Once.{once_filter}
-use Rattle.rule_model.proofs.Order.{Same, in_filter, passed, same_length, same_values}
-use Rattle.rule_world.specs.Worlds.{World, snapshot, present}
-use Rattle.join_tests.specs.Joins.{joins}
-use Rattle.pair_memory.specs.Standing.{clean}
-use Rattle.condition_rows.specs.Sets.{held, rows_of, partners}
-use Rattle.condition_rows.proofs.Ends.{has_in, tuple_of_row}
-use Rattle.condition_rows.proofs.Holding.{held_all, held_fact, joins_of_tuple}
+use Rattle.rule_model.proofs.Order.{same_length, same_values}
+use Rattle.condition_rows.specs.Sets.{partners}
+use Rattle.condition_rows.proofs.Holding.{held_all}
 use Rattle.condition_node.specs.Loading.{lost_partners, values_gathered}
 use Rattle.condition_node.proofs.Folding.{partners_once}
 use Rattle.image_laws.specs.Extras.{AreExtras, IsExtraIn}
-use Rattle.session_laws.specs.Gives.{version_of}
-use Rattle.session_laws.specs.Refreshed.{over}
 use Rattle.session_laws.proofs.Needing.{distinct_here, here_candidates, of_world, world_rows}
 
 any_same : (a b : Named → Bool) (names : List Named) → ((n : Named) → In n names → a n ≡ b n) → list_any a names ≡ list_any b names

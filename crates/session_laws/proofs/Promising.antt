@@ -1,23 +1,9 @@
 -- A session that has taken a promise awaits the second phase of the step.
-use Rattle.std.proofs.Common.{◌≡◌, ◌≤◌, ◌∙◌, ℕ, ℤ, Bool, List, [], None, refl, sym, ap, subst, arith}
-use mathlib.Core.Path.{fun_ext}
-use Rattle.fx_base.specs.declared.ids.EntryId.{EntryId}
-use Rattle.rule_model.specs.declared.program.Program.{Program}
-use Rattle.rule_model.specs.declared.step.Step.{Step}
-use Rattle.rule_model.specs.declared.step.Step.TheVariants.{Promise}
-use Rattle.rule_model.specs.Snapshots.{Reached}
-use Rattle.rule_world.specs.Lawful.{IsLawful}
-use Rattle.rule_world.specs.Worlds.{World, only_present, promise_with, step_fault, stepped, moved}
-use Rattle.agenda.specs.Agendas.{Marks}
-use Rattle.forgetting.specs.Steps.{HasLeft}
-use Rattle.session_laws.specs.declared.memory.Memory.{Memory}
-use Rattle.session_laws.specs.declared.setting.Setting.{Setting}
-use Rattle.session_laws.specs.Following.{instant_of}
-use Rattle.session_laws.specs.Standing.{Contents, Awaits, Mirrors, Runs, Standing, with_facts, Course, reached_by}
+use Rattle.session_laws.proofs.Common.{◌≡◌, ◌≤◌, ◌∙◌, ℕ, ℤ, Bool, List, [], None, refl, sym, ap, subst, arith, fun_ext, EntryId, Program, Step, Promise, Reached, IsLawful, World, only_present, promise_with, step_fault, Marks, HasLeft, Memory, Setting, instant_of, Contents, Awaits, Mirrors, Runs, Standing, with_facts, Course, reached_by, moment_in}
+use Rattle.rule_world.specs.Worlds.{stepped, moved}
 use Rattle.session_laws.proofs.Exactly.{after_promise}
 use Rattle.session_laws.proofs.Stands.{contents}
 use Rattle.session_laws.proofs.Still.{AgendaFollows, NetFollows, still_awaits}
-use Rattle.rule_model.specs.Moments.{moment_in}
 
 -- what entry points have reached where one has promised a moment
 abbrev pub promised : ℕ → ℤ → Reached → Reached

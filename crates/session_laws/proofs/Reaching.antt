@@ -1,16 +1,8 @@
 -- What entry points have reached does not fall in a step without a fault.
-use Rattle.std.proofs.Common.{◌≡◌, ◌==◌, ℕ, ℤ, ◌≤ℤ◌, Bool, true, false, None, refl, subst, arith, if◌then◌else◌}
-use Rattle.std.proofs.lemmas.Bool.Decides.{nat_tests}
-use Rattle.std.proofs.lemmas.Int.{ints}
-use Rattle.rule_model.specs.declared.program.Program.{Program}
-use Rattle.rule_model.specs.declared.step.Step.{Step}
-use Rattle.rule_model.specs.declared.step.Step.TheVariants.{Insert, Modify, Retract, Advance, At, Promise, Begin}
-use Rattle.rule_model.specs.Snapshots.{Reached}
-use Rattle.rule_world.specs.Lawful.{IsLawful}
-use Rattle.rule_world.specs.Worlds.{World, moved, promise_with, step_fault, stepped}
+use Rattle.session_laws.proofs.Common.{◌≡◌, ◌==◌, ℕ, ℤ, ◌≤ℤ◌, Bool, true, false, None, refl, subst, arith, if◌then◌else◌, nat_tests, ints, Program, Step, Insert, Modify, Retract, Advance, At, Promise, Begin, Reached, IsLawful, World, promise_with, GoesOn}
+use Rattle.rule_world.specs.Worlds.{moved, step_fault, stepped}
 use Rattle.rule_world.proofs.Faultless.{inserted, promised_forward}
 use Rattle.rule_world.proofs.Sound.{new_goes_on}
-use Rattle.session_laws.specs.Following.{GoesOn}
 
 itself : (a : ℤ) → a ≤ℤ a
 itself a = omega (arith, ints)

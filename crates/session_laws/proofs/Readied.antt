@@ -1,16 +1,5 @@
 -- The contents of a session with all present facts of its world are ready for its network.
-use Rattle.std.proofs.Common.{ℤ, ◌≤ℤ◌, sym, subst, arith}
-use Rattle.std.proofs.lemmas.Int.{ints}
-use Rattle.fx_base.specs.Lists.{In}
-use Rattle.fx_base.specs.declared.fact.Fact.{Fact}
-use Rattle.rule_model.specs.declared.program.Program.{Program}
-use Rattle.rule_model.specs.Candidates.{is_present}
-use Rattle.rule_model.proofs.Named.{of_filter}
-use Rattle.rule_model.proofs.Order.{passed}
-use Rattle.rule_world.specs.Lawful.{IsLawful}
-use Rattle.rule_world.specs.Worlds.{World, present, only_present}
-use Rattle.session_laws.specs.Following.{IsReady}
-use Rattle.session_laws.specs.Standing.{Contents, Whole}
+use Rattle.session_laws.proofs.Common.{ℤ, ◌≤ℤ◌, sym, subst, arith, ints, In, Fact, Program, is_present, of_filter, passed, IsLawful, World, present, only_present, IsReady, Contents, Whole}
 use Rattle.session_laws.proofs.Exactly.{exact}
 use Rattle.session_laws.proofs.Members.{Holds, own_tags}
 use Rattle.session_laws.proofs.Newest.{holds}

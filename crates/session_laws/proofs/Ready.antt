@@ -1,23 +1,7 @@
 -- A session stays ready for its network, and its steps are those that the network takes.
-use Rattle.std.proofs.Common.{◌≡◌, ◌∙◌, ◌⊎◌, inl, inr, ℕ, ℤ, pos, ◌<◌, ◌≤◌, ◌≤ℤ◌, ◌-ℤ◌, ◌||◌, not, Bool, true, false, nat_eq, nat_lt, List, [], ◌∷◌, Option, Some, None, refl, sym, ap, subst, arith}
-use Rattle.std.specs.FinMap.{get-empty}
-use Rattle.std.specs.List.{list_any}
-use Rattle.std.specs.Ordering.{nat_cmp}
-use Rattle.std.proofs.lemmas.Bool.Decides.{nat_tests}
-use Rattle.std.proofs.lemmas.Int.{ints}
-use Rattle.fx_base.specs.Lists.{In}
-use Rattle.fx_base.specs.declared.fact.Fact.{Fact}
-use Rattle.due_queue.specs.Timers.{Timers, TakesDue, has_come, is_due}
-use Rattle.fact_store.specs.Held.{HeldFacts}
-use Rattle.fact_store.proofs.Members.{from_list, from_map, tags_rise}
-use Rattle.rule_model.specs.declared.program.Program.{Program}
-use Rattle.rule_model.specs.Candidates.{is_present, is_within}
-use Rattle.rule_model.specs.Types.{is_event, expiry_of}
-use Rattle.rule_world.specs.Events.{end_of_presence, most_millis}
-use Rattle.pattern_gate.specs.Moves.{IsOrderly}
-use Rattle.session_laws.specs.Following.{IsReady, Leads, at_clock}
-use Rattle.session_laws.specs.Standing.{expiry_at}
-use Rattle.session_laws.specs.Waiting.{with_timer, without_timer, left_at, HaveOwnTags}
+use Rattle.session_laws.proofs.Common.{◌≡◌, ◌∙◌, ◌⊎◌, inl, inr, ℕ, ℤ, pos, ◌<◌, ◌≤◌, ◌≤ℤ◌, ◌-ℤ◌, ◌||◌, not, Bool, true, false, nat_eq, nat_lt, List, [], ◌∷◌, Option, Some, None, refl, sym, ap, subst, arith, get-empty, list_any, nat_cmp, nat_tests, ints, In, Fact, Timers, TakesDue, has_come, is_due, HeldFacts, from_list, from_map, tags_rise, Program, is_within, is_event, expiry_of, end_of_presence, most_millis, IsOrderly, IsReady, Leads, expiry_at, with_timer, without_timer, left_at, HaveOwnTags}
+use Rattle.rule_model.specs.Candidates.{is_present}
+use Rattle.session_laws.specs.Following.{at_clock}
 use Rattle.session_laws.proofs.Leaving.{due_once, one_gone}
 use Rattle.session_laws.proofs.Members.{of_insert, of_remove, swapped}
 use Rattle.session_laws.proofs.Timers.{left_found, timed_left, timed_less, timed_new, timed_plain}

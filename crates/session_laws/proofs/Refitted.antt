@@ -1,58 +1,19 @@
 -- What asks the rows over the facts of an image that fits by plain tests, as it is told while a session is made from it.
-use Rattle.std.proofs.Common.{◌≡◌, ◌∙◌, ◌&&◌, ◌||◌, ◌==◌, not, ℕ, zero, suc, ◌<◌, ℤ, pos, ◌+ℤ◌, Bool, true, false, inl, inr, List, [], ◌∷◌, length, Option, Some, None, refl, sym, ap, subst, arith}
-use Rattle.std.specs.Prelude.{int_le, slice_get}
+use Rattle.session_laws.proofs.Common.{◌≡◌, ◌∙◌, ◌&&◌, ◌||◌, ◌==◌, not, ℕ, zero, suc, ◌<◌, ℤ, pos, ◌+ℤ◌, Bool, true, false, inl, inr, List, [], ◌∷◌, length, Option, Some, None, refl, sym, ap, subst, arith, int_le, option_and_then, nat_tests, ints, tells_apart, slice_get_within, In, Fact, Extra, Named, Row, row_exact, FiredMatch, Image, has_come, HeldFacts, tag_of, Condition, Negated, Existing, Folded, Life, Plain, Explicit, Finite, Infinite, LifeTable, Match, Program, Rule, is_candidate, is_present, HaveDistinctTags, has_match, Snapshot, name_of, both, both_of, of_append, of_filter, one_fact, joins, held, candidates_of, candidate_of, is_alive, passing_one, match_fired, has_fired, snapshot_of, FitsPlainly, FitsByRows, Marks, names_tag, is_named, Ends, is_old, ends_by, ends_of, IsThere, stored, AreMarked, laden_by, is_laden}
+use Rattle.std.specs.Prelude.{slice_get}
 use Rattle.std.specs.FinMap as map_of
-use Rattle.std.specs.Option.{is_some, option_and_then}
-use Rattle.std.proofs.lemmas.Bool.Decides.{nat_tests}
-use Rattle.std.proofs.lemmas.Int.{ints}
-use Rattle.std.proofs.lemmas.Map.Views.{tells_apart}
-use Rattle.std.proofs.lemmas.Option.{slice_get_within}
-use Rattle.fx_base.specs.Lists.{In}
-use Rattle.fx_base.specs.declared.fact.Fact.{Fact}
-use Rattle.row_delta.specs.declared.extra.Extra.{Extra}
-use Rattle.row_delta.specs.declared.row.Named.{Named}
-use Rattle.row_delta.specs.declared.row.Row.{Row}
-use Rattle.row_delta.specs.RowOrder.{row_exact}
-use Rattle.checkpoint.specs.declared.image.FiredMatch.{FiredMatch}
-use Rattle.checkpoint.specs.declared.image.Image.{Image}
-use Rattle.due_queue.specs.Timers.{has_come}
-use Rattle.fact_store.specs.Held.{HeldFacts, tag_of}
-use Rattle.rule_model.specs.declared.condition.Condition.{Condition}
-use Rattle.rule_model.specs.declared.condition.Condition.TheVariants.{Plain as plain_condition, Negated, Existing, Folded}
-use Rattle.rule_model.specs.declared.life.Life.{Life}
-use Rattle.rule_model.specs.declared.life.Life.TheVariants.{Plain, Explicit, Finite, Infinite}
-use Rattle.rule_model.specs.declared.life.LifeTable.{LifeTable}
-use Rattle.rule_model.specs.declared.matched.Match.{Match}
-use Rattle.rule_model.specs.declared.program.Program.{Program}
-use Rattle.rule_model.specs.declared.program.Rule.{Rule}
-use Rattle.rule_model.specs.Candidates.{is_candidate, is_present}
-use Rattle.rule_model.specs.Distinct.{HaveDistinctTags}
-use Rattle.rule_model.specs.Matches.{has_match}
-use Rattle.rule_model.specs.Snapshots.{Snapshot}
-use Rattle.rule_model.specs.Tuples.{name_of}
-use Rattle.rule_model.proofs.Listed.{both, both_of, of_append}
-use Rattle.rule_model.proofs.Named.{of_filter}
-use Rattle.rule_model.proofs.Once.{one_fact}
-use Rattle.join_tests.specs.Joins.{joins}
+use Rattle.std.specs.Option.{is_some}
+use Rattle.rule_model.specs.declared.condition.Condition.TheVariants.{Plain as plain_condition}
 use Rattle.pair_memory.specs.Joined.{joined}
 use Rattle.pair_memory.proofs.Joining.{joined_with, joined_from}
 use Rattle.pair_memory.proofs.Valued.{valued_from}
 use Rattle.condition_rows.specs.Lines.{is_ripe, empty_row}
-use Rattle.condition_rows.specs.Sets.{held, candidates_of, has_partner}
-use Rattle.condition_rows.proofs.Joined.{candidate_of}
-use Rattle.keeping.specs.Kept.{is_alive}
-use Rattle.keeping.proofs.Members.{passing_one, some_passes}
+use Rattle.condition_rows.specs.Sets.{has_partner}
+use Rattle.keeping.proofs.Members.{some_passes}
 use Rattle.image_laws.specs.Fitting.{IsLaden, IsLadenMatch, IsNeeded}
-use Rattle.image_laws.specs.Images.{match_fired, has_fired, snapshot_of}
 use Rattle.image_laws.specs.Laden.{values_of, laden_gives, laden_line, laden_with, extra_at, laden}
-use Rattle.image_fitting.specs.Plain.{FitsPlainly, FitsByRows}
-use Rattle.agenda.specs.Agendas.{Marks, names_tag}
-use Rattle.retention.specs.Retentions.{is_named}
-use Rattle.retention.specs.Watching.{Ends, is_old}
-use Rattle.forgetting.specs.Sights.{end_of_life, ends_by, ends_of}
+use Rattle.forgetting.specs.Sights.{end_of_life}
 use Rattle.forgetting.proofs.Naming.{found, witness}
-use Rattle.rete_net.specs.Loading.{IsThere}
-use Rattle.session_laws.specs.Restoring.{stored, AreMarked, laden_by, is_laden}
 use Rattle.session_laws.proofs.Members.{Holds}
 use Rattle.session_laws.proofs.Storing.{stored_holds}
 

@@ -1,41 +1,9 @@
 -- The fact of an id in the store is the one that the world has; and what a session has taken in its retraction.
-use Rattle.std.proofs.Common.{◌≡◌, ◌∙◌, ◌<◌, ◌==◌, inl, inr, ◌&&◌, not, ℕ, Bool, true, false, nat_eq, [], ◌∷◌, Some, None, refl, sym, ap, subst, arith}
-use Rattle.rule_world.proofs.Keeping.{without_fact}
+use Rattle.session_laws.proofs.Common.{◌≡◌, ◌∙◌, ◌<◌, ◌==◌, inl, inr, ◌&&◌, not, ℕ, Bool, true, false, nat_eq, [], ◌∷◌, Some, None, refl, sym, ap, subst, arith, without_fact, list_any, or-false, nat_tests, In, FactId, Tag, TypeId, Fact, Timers, HeldFacts, facts_of, Program, Step, Retract, IsLawful, World, found, is_of_type, only_present, present, settled, step_fault, below_of, one_id, Marks, NetStands, clean_rows, Rete, Retention, lingers, ends_by, HasLeft, brought, changed, comes, goes, Memory, Setting, Leads, LeadsOn, instant_of, IsNewestTag, newest, over, IsRefreshed, Awaits, Contents, Mirrors, Runs, Standing, holding, with_facts, reached_of, left_at, without_timer}
 use Rattle.std.specs.FinMap as map
-use Rattle.std.specs.List.{list_any}
-use Rattle.std.proofs.Math.Bool.{or-false}
-use Rattle.std.proofs.lemmas.Bool.Decides.{nat_tests}
-use Rattle.fx_base.specs.Lists.{In}
-use Rattle.fx_base.specs.declared.ids.FactId.{FactId}
-use Rattle.fx_base.specs.declared.ids.Tag.{Tag}
-use Rattle.fx_base.specs.declared.ids.TypeId.{TypeId}
-use Rattle.fx_base.specs.declared.fact.Fact.{Fact}
-use Rattle.due_queue.specs.Timers.{Timers}
-use Rattle.fact_store.specs.Held.{HeldFacts, facts_of}
-use Rattle.rule_model.specs.declared.program.Program.{Program}
-use Rattle.rule_model.specs.declared.step.Step.{Step}
-use Rattle.rule_model.specs.declared.step.Step.TheVariants.{Retract}
-use Rattle.rule_world.specs.Lawful.{IsLawful}
-use Rattle.rule_world.specs.Worlds.{World, found, is_of_type, only_present, moved, present, settled, step_fault, stepped}
-use Rattle.rule_world.proofs.Fresh.{below_of}
-use Rattle.rule_world.proofs.Ids.{one_id}
-use Rattle.agenda.specs.Agendas.{Marks}
-use Rattle.rete_net.specs.Nets.{NetStands, clean_rows}
-use Rattle.rete_net.specs.declared.net.Rete.{Rete}
-use Rattle.retention.specs.declared.retention.Retention.{Retention}
-use Rattle.retention.specs.Retentions.{lingers}
-use Rattle.forgetting.specs.Sights.{ends_by}
-use Rattle.forgetting.specs.Steps.{HasLeft, brought, changed}
-use Rattle.forgetting.specs.WorldSights.{comes, goes}
+use Rattle.rule_world.specs.Worlds.{moved, stepped}
 use Rattle.forgetting.proofs.Covering.{retract_covers}
 use Rattle.forgetting.proofs.WorldSteps.{retracts_one}
-use Rattle.session_laws.specs.declared.memory.Memory.{Memory}
-use Rattle.session_laws.specs.declared.setting.Setting.{Setting}
-use Rattle.session_laws.specs.Following.{Leads, LeadsOn, instant_of}
-use Rattle.session_laws.specs.Places.{IsNewestTag, newest}
-use Rattle.session_laws.specs.Refreshed.{over, IsRefreshed}
-use Rattle.session_laws.specs.Standing.{Awaits, Contents, Mirrors, Runs, Standing, holding, with_facts, reached_of}
-use Rattle.session_laws.specs.Waiting.{left_at, without_timer}
 use Rattle.session_laws.proofs.Exactly.{after_without}
 use Rattle.session_laws.proofs.Leaving.{one_gone}
 use Rattle.session_laws.proofs.Moving_on.{covered_at, hand_of, leads_on, left_changed, less_forgotten, of_left, on_time, store_seen, world_exact, world_holds, world_ready}

@@ -1,66 +1,19 @@
 -- A session that is made from the image of a lawful world stands for that world.
-use Rattle.std.proofs.Common.{◌≡◌, ◌∙◌, not, ℕ, ℤ, pos, ◌≤ℤ◌, ◌<◌, Bool, true, false, is_some, List, [], ◌∷◌, map as list_map, Option, Some, None, refl, sym, ap, subst, arith}
+use Rattle.session_laws.proofs.Common.{◌≡◌, ◌∙◌, not, ℕ, ℤ, pos, ◌≤ℤ◌, ◌<◌, Bool, true, false, is_some, List, [], ◌∷◌, Option, Some, None, refl, sym, ap, subst, arith, AllByRecursion, nat_cmp, Less, ints, In, Fact, Named, Image, Timers, HeldFacts, facts_of, tag_of, from_list, from_map, Life, Plain, Explicit, Finite, Infinite, LifeTable, Moment, Program, is_present, fits, HaveDistinctTags, saliences, pattern_of, Snapshot, name_of, is_event, floor_on, of_filter, in_filter, passed, in_place, end_by, IsLawful, IsRunnable, World, snapshot, present, only_present, below_of, distinct_filtered, empty_snapshot, HasAllOf, is_alive, is_forgotten, not_alive, forgotten_fact, in_no_window, tag_cmp, snapshot_of, IsImageOf, AreOwners, image_kept, FitsPlainly, Marks, IsOrderly, Retention, is_among, is_named, Passes, only, chosen, own_at, Rete, IsBehind, IsLoadable, Setting, version_of, over, stored, AreHeld, AreStorable, IsMatched, AreForgotten, Contents, Course, Mirrors, Runs, Standing, expiry_at, with_facts}
+use Rattle.std.proofs.Common.{map as list_map}
 use Rattle.std.specs.Prelude.{slice_get}
 use Rattle.std.specs.FinMap as map_of
-use Rattle.std.specs.List.{AllByRecursion}
 use Rattle.std.specs.List.Sorted.{IsStrictlySortedBy}
-use Rattle.std.specs.Ordering.{nat_cmp}
-use Rattle.std.specs.declared.cmp.Ordering.TheVariants.{Less}
-use Rattle.std.proofs.lemmas.Int.{ints}
-use Rattle.fx_base.specs.Lists.{In}
-use Rattle.fx_base.specs.declared.fact.Fact.{Fact}
-use Rattle.row_delta.specs.declared.row.Named.{Named}
-use Rattle.checkpoint.specs.declared.image.Image.{Image}
-use Rattle.due_queue.specs.Timers.{Timers}
-use Rattle.fact_store.specs.Held.{HeldFacts, facts_of, tag_of}
-use Rattle.fact_store.proofs.Members.{from_list, from_map, tags_rise as held_rise}
-use Rattle.rule_model.specs.declared.life.Life.{Life}
-use Rattle.rule_model.specs.declared.life.Life.TheVariants.{Plain, Explicit, Finite, Infinite}
-use Rattle.rule_model.specs.declared.life.LifeTable.{LifeTable}
-use Rattle.rule_model.specs.declared.moment.Moment.{Moment}
-use Rattle.rule_model.specs.declared.program.Program.{Program}
-use Rattle.rule_model.specs.Candidates.{is_present, fits}
-use Rattle.rule_model.specs.Distinct.{HaveDistinctTags}
-use Rattle.rule_model.specs.Matches.{saliences}
+use Rattle.fact_store.proofs.Members.{tags_rise as held_rise}
 use Rattle.rule_model.specs.Moments.{reached_in}
-use Rattle.rule_model.specs.Rows.{pattern_of}
-use Rattle.rule_model.specs.Snapshots.{Snapshot}
-use Rattle.rule_model.specs.Tuples.{name_of}
-use Rattle.rule_model.specs.Types.{is_event}
-use Rattle.rule_model.proofs.Floors.{floor_on}
-use Rattle.rule_model.proofs.Named.{of_filter}
-use Rattle.rule_model.proofs.Order.{in_filter, passed}
-use Rattle.rule_model.proofs.RuleOf.{in_place}
-use Rattle.rule_world.specs.Events.{end_by, most_millis}
-use Rattle.rule_world.specs.Lawful.{IsLawful}
-use Rattle.rule_world.specs.Programs.{IsRunnable}
-use Rattle.rule_world.specs.Worlds.{World, snapshot, present, only_present}
-use Rattle.rule_world.proofs.Fresh.{below_of, distinct_filtered}
-use Rattle.condition_rows.specs.Looks.{empty_snapshot, HasAllOf}
+use Rattle.rule_world.specs.Events.{most_millis}
 use Rattle.condition_rows.specs.Sets.{held}
-use Rattle.keeping.specs.Kept.{is_alive, is_kept, is_forgotten}
+use Rattle.keeping.specs.Kept.{is_kept}
 use Rattle.keeping.proofs.Decided.{kept_inside}
-use Rattle.keeping.proofs.Staying.{not_alive}
-use Rattle.keeping.proofs.Versions.{forgotten_fact, lost}
-use Rattle.keeping.proofs.Windows.{in_no_window}
-use Rattle.image_laws.specs.Images.{tag_cmp, snapshot_of, IsImageOf}
-use Rattle.image_laws.specs.Laden.{IsKeptOf, AreOwners}
-use Rattle.image_laws.proofs.Imaged.{image_kept}
-use Rattle.image_fitting.specs.Plain.{FitsPlainly}
-use Rattle.agenda.specs.Agendas.{Marks}
-use Rattle.pattern_gate.specs.Moves.{IsOrderly}
-use Rattle.retention.specs.declared.retention.Retention.{Retention}
-use Rattle.retention.specs.Retentions.{is_among, is_named, Passes}
-use Rattle.forgetting.specs.Sights.{only}
-use Rattle.forgetting.proofs.Before.{chosen}
-use Rattle.forgetting.proofs.Seeing.{own_at}
-use Rattle.rete_net.specs.declared.net.Rete.{Rete}
-use Rattle.rete_net.specs.Loading.{AreOutsideOfTime, IsBehind, IsLoadable}
-use Rattle.session_laws.specs.declared.setting.Setting.{Setting}
-use Rattle.session_laws.specs.Gives.{version_of}
-use Rattle.session_laws.specs.Refreshed.{over}
-use Rattle.session_laws.specs.Restoring.{stored, AreHeld, AreStorable, HasTimes, IsMatched}
-use Rattle.session_laws.specs.Standing.{AreForgotten, Contents, Course, Mirrors, Runs, Standing, expiry_at, with_facts}
+use Rattle.keeping.proofs.Versions.{lost}
+use Rattle.image_laws.specs.Laden.{IsKeptOf}
+use Rattle.rete_net.specs.Loading.{AreOutsideOfTime}
+use Rattle.session_laws.specs.Restoring.{HasTimes}
 use Rattle.session_laws.proofs.Kept_parts.{holds_kept_parts, image_holds, store_is}
 use Rattle.session_laws.proofs.Forgotten.{same_version}
 use Rattle.session_laws.proofs.Members.{Holds, all_listed, listed, own_tags, version_found, versions}

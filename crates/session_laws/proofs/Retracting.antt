@@ -1,65 +1,17 @@
 -- A retraction of an event that a session does not have: the world has none that is present, or it is forgotten.
-use Rattle.std.proofs.Common.{◌≡◌, ◌∙◌, ◌<◌, ◌==◌, ◌&&◌, ◌≤ℤ◌, not, ℕ, ℤ, Bool, true, false, cond, nat_eq, List, Option, Some, None, inl, refl, sym, ap, subst, arith}
+use Rattle.session_laws.proofs.Common.{◌≡◌, ◌∙◌, ◌<◌, ◌==◌, ◌&&◌, ◌≤ℤ◌, not, ℕ, ℤ, Bool, true, false, cond, nat_eq, List, Option, Some, None, inl, refl, sym, ap, subst, arith, filter, nat_tests, ints, In, Fact, FactId, TypeId, HeldFacts, IsNewest, facts_of, from_list, from_map, tags_rise, Row, has, Life, Plain, Explicit, Finite, Infinite, Program, Rule, Step, Retract, is_present, HaveDistinctTags, HaveDistinctIds, has_match, pattern_of, Snapshot, name_of, is_event, is_observed, expiry_of, AllOf, of_filter, in_filter, passed, in_place, end_by, IsLawful, World, found, has_id, is_of_type, only_present, present, retract_fault, found_in, and_parts, and_both, below_of, has_number, one_id, not_true, same_number, candidate_named, is_alive, not_alive, in_no_window, Covers, NetStands, clean_rows, ends_by, ends_of, only, brought, changed, sight_of, comes, goes, same_kept, later_covers, own_at, Memory, Setting, IsNewestTag, newest, over, AreForgotten, Awaits, Contents, Mirrors, Runs, Standing, expiry_at, holding, with_facts, reached_of, HaveOwnTags, without_timer}
 use Rattle.rule_lives.proofs.Moves.{retracted_is_not_observed}
 use Rattle.std.specs.Prelude.{is_some, slice_get}
-use Rattle.std.specs.List.{filter}
 use Rattle.std.specs.FinMap as map
-use Rattle.std.proofs.lemmas.Bool.Decides.{nat_tests}
-use Rattle.std.proofs.lemmas.Int.{ints}
-use Rattle.fx_base.specs.Lists.{In}
-use Rattle.fx_base.specs.declared.fact.Fact.{Fact}
-use Rattle.fx_base.specs.declared.ids.FactId.{FactId}
-use Rattle.fx_base.specs.declared.ids.TypeId.{TypeId}
-use Rattle.fact_store.specs.Held.{HeldFacts, IsNewest, facts_of}
-use Rattle.fact_store.proofs.Members.{from_list, from_map, tags_rise}
-use Rattle.row_delta.specs.declared.row.Row.{Row}
-use Rattle.row_delta.specs.Rows.{has}
-use Rattle.rule_model.specs.declared.life.Life.{Life}
-use Rattle.rule_model.specs.declared.life.Life.TheVariants.{Plain, Explicit, Finite, Infinite}
-use Rattle.rule_model.specs.declared.program.Program.{Program}
-use Rattle.rule_model.specs.declared.program.Rule.{Rule}
-use Rattle.rule_model.specs.declared.step.Step.{Step}
-use Rattle.rule_model.specs.declared.step.Step.TheVariants.{Retract}
-use Rattle.rule_model.specs.Candidates.{is_present}
-use Rattle.rule_model.specs.Distinct.{HaveDistinctTags, HaveDistinctIds}
-use Rattle.rule_model.specs.Matches.{has_match}
-use Rattle.rule_model.specs.Rows.{pattern_of}
 use Rattle.rule_model.specs.Simple.{is_observed_in}
-use Rattle.rule_model.specs.Snapshots.{Snapshot}
-use Rattle.rule_model.specs.Tuples.{name_of}
-use Rattle.rule_model.specs.Types.{is_event, is_observed, expiry_of}
-use Rattle.rule_model.proofs.Named.{AllOf, of_filter}
-use Rattle.rule_model.proofs.Order.{in_filter, passed}
-use Rattle.rule_model.proofs.RuleOf.{in_place}
-use Rattle.rule_world.specs.Events.{end_by}
-use Rattle.rule_world.specs.Lawful.{IsLawful}
-use Rattle.rule_world.specs.Worlds.{World, found, has_id, is_of_type, only_present, present, retract_fault, step_fault, stepped, moved}
-use Rattle.rule_world.proofs.Found.{found_in}
-use Rattle.rule_world.proofs.Fresh.{and_parts, and_both, below_of, has_number}
-use Rattle.rule_world.proofs.Ids.{one_id}
+use Rattle.rule_world.specs.Worlds.{step_fault, stepped, moved}
 use Rattle.rule_world.proofs.Vain.{vain_retraction}
-use Rattle.rule_lives.proofs.Basics.{not_true, same_number, number_same}
-use Rattle.condition_rows.proofs.Joined.{candidate_named}
+use Rattle.rule_lives.proofs.Basics.{number_same}
 use Rattle.pattern_gate.proofs.Arriving.{is_other}
-use Rattle.keeping.specs.Kept.{is_alive, is_kept}
-use Rattle.keeping.proofs.Staying.{lost_event, not_alive}
-use Rattle.keeping.proofs.Windows.{in_no_window}
-use Rattle.retention.specs.Watching.{Covers}
+use Rattle.keeping.specs.Kept.{is_kept}
+use Rattle.keeping.proofs.Staying.{lost_event}
 use Rattle.rete_net.specs.Forgetting.{IsUnmissed, less_fact}
-use Rattle.rete_net.specs.Nets.{NetStands, clean_rows}
 use Rattle.rete_net.proofs.Unmissed.{net_less, clean_rows_less}
-use Rattle.forgetting.specs.Sights.{ends_by, ends_of, only}
-use Rattle.forgetting.specs.Steps.{brought, changed}
-use Rattle.forgetting.specs.WorldSights.{sight_of, comes, goes}
-use Rattle.forgetting.proofs.Agreeing.{same_kept}
-use Rattle.forgetting.proofs.Covering.{later_covers}
-use Rattle.forgetting.proofs.Seeing.{own_at}
-use Rattle.session_laws.specs.declared.memory.Memory.{Memory}
-use Rattle.session_laws.specs.declared.setting.Setting.{Setting}
-use Rattle.session_laws.specs.Places.{IsNewestTag, newest}
-use Rattle.session_laws.specs.Refreshed.{over}
-use Rattle.session_laws.specs.Standing.{AreForgotten, Awaits, Contents, Mirrors, Runs, Standing, expiry_at, holding, with_facts, reached_of}
-use Rattle.session_laws.specs.Waiting.{HaveOwnTags, without_timer}
 use Rattle.session_laws.proofs.Exactly.{Exact, exact, after_without}
 use Rattle.session_laws.proofs.Members.{Holds, held_distinct, is_out, not_out, of_remove}
 use Rattle.session_laws.proofs.Newest.{holds, newest_found, world_found}

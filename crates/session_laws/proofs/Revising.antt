@@ -1,38 +1,8 @@
 -- What a session has taken in a modification.
-use Rattle.std.proofs.Common.{◌≡◌, ◌∙◌, ◌+◌, ◌<◌, ◌≤◌, ◌==◌, ◌⊎◌, inl, inr, ℕ, Bool, true, false, cond, nat_eq, List, [], ◌∷◌, Option, Some, None, option_map, if◌then◌else◌, refl, sym, ap, subst, arith}
+use Rattle.session_laws.proofs.Common.{◌≡◌, ◌∙◌, ◌+◌, ◌<◌, ◌≤◌, ◌==◌, ◌⊎◌, inl, inr, ℕ, Bool, true, false, cond, nat_eq, List, [], ◌∷◌, Option, Some, None, option_map, if◌then◌else◌, refl, sym, ap, subst, arith, list_any, or-false, nat_tests, In, FactId, Tag, Value, Fact, HeldFacts, facts_of, Program, Step, Modify, is_event, is_reference, IsLawful, World, has_id, only_present, modify_fault, revised, settled, step_fault, with_revised, Marks, NetStands, clean_rows, Rete, Covers, ends_by, ends_of, HasLeft, brought, changed, comes, goes, endless_covers, same_bool, Memory, Setting, Leads, LeadsOn, instant_of, IsNewestTag, newest, over, IsRefreshed, AreForgotten, Awaits, Contents, Mirrors, Runs, Standing, holding, with_facts, reached_of, left_at}
 use Rattle.std.specs.FinMap as map
-use Rattle.std.specs.List.{list_any}
-use Rattle.std.proofs.Math.Bool.{or-false}
-use Rattle.std.proofs.lemmas.Bool.Decides.{nat_tests}
-use Rattle.fx_base.specs.Lists.{In}
-use Rattle.fx_base.specs.declared.ids.FactId.{FactId}
-use Rattle.fx_base.specs.declared.ids.Tag.{Tag}
-use Rattle.fx_base.specs.declared.value.Value.{Value}
-use Rattle.fx_base.specs.declared.fact.Fact.{Fact}
-use Rattle.fact_store.specs.Held.{HeldFacts, facts_of}
-use Rattle.rule_model.specs.declared.program.Program.{Program}
-use Rattle.rule_model.specs.declared.step.Step.{Step}
-use Rattle.rule_model.specs.declared.step.Step.TheVariants.{Modify}
-use Rattle.rule_model.specs.Types.{is_event, is_reference}
-use Rattle.rule_world.specs.Lawful.{IsLawful}
-use Rattle.rule_world.specs.Worlds.{World, has_id, only_present, modify_fault, moved, revised, settled, step_fault, stepped, with_revised}
-use Rattle.agenda.specs.Agendas.{Marks}
-use Rattle.rete_net.specs.Nets.{NetStands, clean_rows}
-use Rattle.rete_net.specs.declared.net.Rete.{Rete}
-use Rattle.retention.specs.Watching.{Covers}
-use Rattle.forgetting.specs.Sights.{ends_by, ends_of}
-use Rattle.forgetting.specs.Steps.{HasLeft, brought, changed}
-use Rattle.forgetting.specs.WorldSights.{comes, goes}
+use Rattle.rule_world.specs.Worlds.{moved, stepped}
 use Rattle.forgetting.proofs.Agreeing.{modify_endless}
-use Rattle.forgetting.proofs.Covering.{endless_covers}
-use Rattle.forgetting.proofs.Naming.{same_bool}
-use Rattle.session_laws.specs.declared.memory.Memory.{Memory}
-use Rattle.session_laws.specs.declared.setting.Setting.{Setting}
-use Rattle.session_laws.specs.Following.{Leads, LeadsOn, instant_of}
-use Rattle.session_laws.specs.Places.{IsNewestTag, newest}
-use Rattle.session_laws.specs.Refreshed.{over, IsRefreshed}
-use Rattle.session_laws.specs.Standing.{AreForgotten, Awaits, Contents, Mirrors, Runs, Standing, holding, with_facts, reached_of}
-use Rattle.session_laws.specs.Waiting.{left_at}
 use Rattle.session_laws.proofs.Exactly.{after_revised}
 use Rattle.session_laws.proofs.Leaving.{one_gone}
 use Rattle.session_laws.proofs.Members.{got_new, got_old, not_out, of_insert}

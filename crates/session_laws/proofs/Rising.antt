@@ -1,16 +1,6 @@
 -- Facts in the order of their tags.
-use Rattle.std.proofs.Common.{◌≡◌, ◌∙◌, inl, inr, sym, ap, refl, subst, ℕ, ◌<◌, List, [], ◌∷◌, ◌++◌, map, Bool, true, false, cond, arith}
-use Rattle.std.specs.declared.cmp.Ordering.TheVariants.{Less}
-use Rattle.std.specs.List.{AllByRecursion, filter}
+use Rattle.session_laws.proofs.Common.{◌≡◌, ◌∙◌, inl, inr, sym, ap, refl, subst, ℕ, ◌<◌, List, [], ◌∷◌, ◌++◌, map, Bool, true, false, cond, arith, Less, AllByRecursion, filter, nat_cmp, nat_tests, In, Fact, Tag, HaveDistinctTags, of_append, of_map, AllOf, of_filter}
 use Rattle.std.specs.List.Sorted.{IsStrictlySortedBy}
-use Rattle.std.specs.Ordering.{nat_cmp}
-use Rattle.std.proofs.lemmas.Bool.Decides.{nat_tests}
-use Rattle.fx_base.specs.Lists.{In}
-use Rattle.fx_base.specs.declared.fact.Fact.{Fact}
-use Rattle.fx_base.specs.declared.ids.Tag.{Tag}
-use Rattle.rule_model.specs.Distinct.{HaveDistinctTags}
-use Rattle.rule_model.proofs.Listed.{of_append, of_map}
-use Rattle.rule_model.proofs.Named.{AllOf, of_filter}
 
 abbrev pub Rise : List Fact → Type 0
 Rise facts = IsStrictlySortedBy nat_cmp (map (λ (f : Fact). f.tag.0) facts)

@@ -1,32 +1,10 @@
 -- Matches, rule by rule, and what the changes of rules do to an agenda.
-use Rattle.std.proofs.Common.{◌≡◌, ◌⊎◌, inl, inr, ℕ, ◌+◌, ◌<◌, ◌≤◌, zero, suc, ◌==◌, ◌&&◌, ◌||◌, not, Bool, true, false, cond, List, [], ◌∷◌, ◌++◌, length, map, slice_get, Option, Some, None, refl, sym, ◌∙◌, ap, subst, append_assoc, arith}
-use Rattle.std.specs.declared.cmp.Ordering.TheVariants.{Less}
-use Rattle.std.specs.List.{AllByRecursion, list_any}
+use Rattle.session_laws.proofs.Common.{◌≡◌, ◌⊎◌, inl, inr, ℕ, ◌+◌, ◌<◌, ◌≤◌, zero, suc, ◌==◌, ◌&&◌, ◌||◌, not, Bool, true, false, cond, List, [], ◌∷◌, ◌++◌, length, map, slice_get, Option, Some, None, refl, sym, ◌∙◌, ap, subst, append_assoc, arith, Less, AllByRecursion, list_any, eq_by_cmp, nat_cmp, and-true, or-false, nat_tests, append-nil, list_any-append, tells_apart, In, Delta, Named, Row, row_exact, row_cmp, has, or_left, or_right, or_split, Match, Program, Rule, match_cmp, has_match, RuleChange, change_of, Marks, IsChanged, HasLeft, matches_by, only_in, IsRefreshed, AreOfRules}
 use Rattle.std.specs.List.Sorted.{IsStrictlySortedBy}
-use Rattle.std.specs.Ordering.{eq_by_cmp, nat_cmp}
-use Rattle.std.proofs.Math.Bool.{and-true, and-not_self, or-false}
-use Rattle.std.proofs.lemmas.Bool.Decides.{nat_tests}
-use Rattle.std.proofs.lemmas.List.{append-nil}
-use Rattle.std.proofs.lemmas.List.Folds.{list_any-append}
-use Rattle.std.proofs.lemmas.Map.Views.{tells_apart}
-use Rattle.fx_base.specs.Lists.{In}
-use Rattle.row_delta.specs.declared.delta.Delta.{Delta}
-use Rattle.row_delta.specs.declared.row.Named.{Named}
-use Rattle.row_delta.specs.declared.row.Row.{Row}
-use Rattle.row_delta.specs.RowOrder.{row_exact}
-use Rattle.row_delta.specs.Rows.{row_cmp, has}
-use Rattle.rule_model.proofs.Firsts.{or_left, or_right, or_split}
-use Rattle.rule_model.specs.declared.matched.Match.{Match}
-use Rattle.rule_model.specs.declared.program.Program.{Program}
-use Rattle.rule_model.specs.declared.program.Rule.{Rule}
-use Rattle.rule_model.specs.Matches.{match_of, match_cmp, matches_from, has_match}
+use Rattle.std.proofs.Math.Bool.{and-not_self}
+use Rattle.rule_model.specs.Matches.{match_of, matches_from}
 use Rattle.rule_model.proofs.Exact.{match_parts}
-use Rattle.rete_net.specs.declared.changes.RuleChange.{RuleChange}
-use Rattle.rete_net.specs.Nets.{change_of, IsChange, AreBetween}
-use Rattle.agenda.specs.Agendas.{Marks, IsChanged}
-use Rattle.forgetting.specs.Steps.{HasLeft}
-use Rattle.session_laws.specs.Refreshed.{matches_by, only_in, IsRefreshed}
-use Rattle.session_laws.specs.Standing.{AreOfRules}
+use Rattle.rete_net.specs.Nets.{IsChange, AreBetween}
 
 flip : (a b : ℕ) (t : Bool) → (a == b) ≡ t → (b == a) ≡ t
 flip a b t e = grind (arith, nat_tests)

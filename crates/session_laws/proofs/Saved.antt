@@ -1,33 +1,11 @@
 -- What a session saves is the image of each world for which it stands.
-use Rattle.std.proofs.Common.{◌≡◌, ◌∙◌, ◌≤◌, ℕ, zero, suc, ℤ, pos, Bool, true, false, nat_lt, List, [], ◌∷◌, map as list_map, length, refl, sym, ap, subst, arith}
+use Rattle.session_laws.proofs.Common.{◌≡◌, ◌∙◌, ◌≤◌, ℕ, zero, suc, ℤ, pos, Bool, true, false, nat_lt, List, [], ◌∷◌, length, refl, sym, ap, subst, arith, Less, AllByRecursion, nat_cmp, nat_tests, In, Fact, Image, facts_of, from_list, from_map, tags_rise, has_match, match_cmp, moment_in, Reached, World, IsKept, clean, is_forgotten, kept_facts, kept_listed, tag_cmp, match_fired, IsImageOf, ends_by, is_kept, each_tag, sight_of, Memory, Setting, over, Contents, ReachesNoMore, Runs, Standing, reached_of}
+use Rattle.std.proofs.Common.{map as list_map}
 use Rattle.std.specs.Prelude.{slice_index_or}
 use Rattle.std.specs.declared.cmp.Ordering.{Ordering}
-use Rattle.std.specs.declared.cmp.Ordering.TheVariants.{Less}
-use Rattle.std.specs.List.{AllByRecursion}
 use Rattle.std.specs.List.Sorted.{IsStrictlySortedBy}
-use Rattle.std.specs.Ordering.{nat_cmp}
-use Rattle.std.proofs.lemmas.Bool.Decides.{nat_tests}
-use Rattle.fx_base.specs.Lists.{In}
-use Rattle.fx_base.specs.declared.fact.Fact.{Fact}
-use Rattle.checkpoint.specs.declared.image.Image.{Image}
-use Rattle.fact_store.specs.Held.{facts_of}
-use Rattle.fact_store.proofs.Members.{from_list, from_map, tags_rise}
-use Rattle.rule_model.specs.Matches.{has_match, match_cmp}
-use Rattle.rule_model.specs.Moments.{moment_in}
-use Rattle.rule_model.specs.Snapshots.{Reached}
-use Rattle.rule_world.specs.Worlds.{World}
-use Rattle.rule_lives.specs.Keeping.{IsKept}
-use Rattle.pair_memory.specs.Standing.{clean}
-use Rattle.keeping.specs.Kept.{is_forgotten, kept_facts}
-use Rattle.keeping.proofs.Decided.{kept_listed}
-use Rattle.image_laws.specs.Images.{AreMoments, tag_cmp, match_fired, IsImageOf}
-use Rattle.forgetting.specs.Sights.{ends_by, is_kept, each_tag}
-use Rattle.forgetting.specs.WorldSights.{sight_of}
-use Rattle.session_laws.specs.declared.memory.Memory.{Memory}
-use Rattle.session_laws.specs.declared.setting.Setting.{Setting}
-use Rattle.session_laws.specs.Refreshed.{over}
+use Rattle.image_laws.specs.Images.{AreMoments}
 use Rattle.session_laws.specs.Saving.{ArePadded, IsSaved}
-use Rattle.session_laws.specs.Standing.{Contents, ReachesNoMore, Runs, Standing, reached_of}
 use Rattle.session_laws.proofs.Kept_parts.{fired_bits, kept_each}
 use Rattle.session_laws.proofs.Forgotten.{has_all}
 use Rattle.session_laws.proofs.Members.{Holds, own_tags}

@@ -1,46 +1,17 @@
 -- What a session answers in the worlds for which it stands, and the session that stands for the empty world.
-use Rattle.std.proofs.Common.{◌≡◌, ℕ, ℤ, pos, ◌&&◌, inl, refl, not, true, false, slice_get, List, [], ◌∷◌, Option, Some, None, is_some, option_map, Result, sym, ◌∙◌, ap, subst}
-use Rattle.std.specs.FinMap.{get-empty}
-use Rattle.std.specs.Ordering.{nat_cmp}
-use Rattle.fx_base.specs.Lists.{In}
-use Rattle.fx_base.specs.declared.fact.Fact.{Fact}
-use Rattle.due_queue.specs.Timers.{Timers}
-use Rattle.fact_store.specs.Held.{HeldFacts, facts_of}
-use Rattle.fact_store.proofs.Members.{from_list}
-use Rattle.rule_model.specs.declared.matched.Match.{Match}
-use Rattle.rule_model.specs.declared.program.Rule.{Rule}
-use Rattle.rule_model.specs.declared.step.Step.{Step}
-use Rattle.rule_model.specs.Matches.{has_match, saliences}
-use Rattle.rule_world.specs.declared.code.Code.{Code}
-use Rattle.rule_world.specs.Worlds.{World, empty_world, found}
+use Rattle.session_laws.proofs.Common.{◌≡◌, ℕ, ℤ, pos, ◌&&◌, inl, refl, not, true, false, slice_get, List, [], ◌∷◌, Option, Some, None, is_some, option_map, Result, sym, ◌∙◌, ap, subst, get-empty, nat_cmp, In, Fact, Timers, HeldFacts, facts_of, from_list, Match, Rule, Step, has_match, saliences, Code, World, found, has_pending, Marks, empty_snapshot, NetStands, lingers, ends_by, sight_of, Change, OutLine, No, Yes, FiringAnswers, Memory, Setting, does, Fits, StandsAfter, WritesFor, newest, rows_at, matches_by, over, IsRefreshed, Contents, Runs, Standing, expiry_at, holding, Course, nothing_reached}
+use Rattle.rule_world.specs.Worlds.{empty_world}
 use Rattle.rule_world.proofs.Lawfuls.{empty_lawful}
-use Rattle.rule_world.proofs.Pending.{has_pending}
-use Rattle.agenda.specs.Agendas.{Marks}
 use Rattle.pair_memory.specs.Standing.{no_names}
-use Rattle.condition_rows.specs.Looks.{empty_snapshot}
-use Rattle.rete_net.specs.Nets.{NetStands}
-use Rattle.retention.specs.Retentions.{lingers}
-use Rattle.forgetting.specs.Sights.{ends_by}
-use Rattle.forgetting.specs.WorldSights.{sight_of}
 use Rattle.forgetting.proofs.Stepping.{start_law}
-use Rattle.script_read.specs.declared.asked.Change.{Change}
 use Rattle.change_read.specs.Changes.{change_step}
-use Rattle.engine.specs.declared.lines.OutLine.{OutLine}
-use Rattle.engine.specs.declared.lines.Fired.TheVariants.{No, Yes}
-use Rattle.engine.specs.Answers.{FiringAnswers}
-use Rattle.session_laws.specs.declared.memory.Memory.{Memory}
-use Rattle.session_laws.specs.declared.setting.Setting.{Setting}
-use Rattle.session_laws.specs.Gives.{version_of, does, fires, gives}
-use Rattle.session_laws.specs.Leading.{Fits, StandsAfter, WritesFor}
-use Rattle.session_laws.specs.Places.{newest}
-use Rattle.session_laws.specs.Refreshed.{rows_at, no_rows, matches_by, over, IsRefreshed}
-use Rattle.session_laws.specs.Standing.{Contents, Runs, Standing, expiry_at, holding, Course}
+use Rattle.session_laws.specs.Gives.{version_of, fires, gives}
+use Rattle.session_laws.specs.Refreshed.{no_rows}
 use Rattle.session_laws.proofs.Asking.{change_fits, same_asked}
 use Rattle.session_laws.proofs.Firings.{FiresInto, WritesFiring, top_of, plan_of, due_fires, no_fire, yes_fire}
 use Rattle.session_laws.proofs.Rules.{found_at, is_found}
 use Rattle.session_laws.proofs.Stands.{contents}
 use Rattle.std.specs.FinMap as map_of
-use Rattle.rule_model.specs.Snapshots.{nothing_reached}
 
 -- ---- over no facts
 

@@ -1,40 +1,13 @@
 -- The facts, the clock and the numbers of a session, of which none is forgotten, are those of the world after a step.
-use Rattle.std.specs.List.{filter}
-use Rattle.std.proofs.Common.{◌≡◌, ℕ, ℤ, ◌+◌, ◌<◌, if◌then◌else◌, ◌==◌, ◌||◌, Bool, true, false, List, [], ◌∷◌, ◌++◌, Option, Some, None, refl, sym, ◌∙◌, ap, subst, arith}
-use Rattle.fx_base.specs.Lists.{In}
-use Rattle.fx_base.specs.declared.ids.FactId.{FactId}
-use Rattle.fx_base.specs.declared.ids.Tag.{Tag}
-use Rattle.fx_base.specs.declared.ids.TypeId.{TypeId}
-use Rattle.fx_base.specs.declared.value.Value.{Value}
-use Rattle.fx_base.specs.declared.fact.Fact.{Fact}
-use Rattle.due_queue.specs.Timers.{Timers, TakesDue}
-use Rattle.fact_store.specs.Held.{HeldFacts}
-use Rattle.rule_model.specs.declared.program.Program.{Program}
-use Rattle.rule_model.specs.declared.step.Step.TheVariants.{Modify}
-use Rattle.rule_model.specs.Candidates.{is_present}
-use Rattle.rule_model.specs.Distinct.{HaveDistinctTags}
-use Rattle.rule_model.specs.Types.{is_event, is_reference}
-use Rattle.rule_model.proofs.Named.{of_filter}
-use Rattle.rule_model.proofs.Order.{in_filter, passed}
-use Rattle.rule_world.specs.declared.code.Code.{Code}
-use Rattle.rule_world.specs.declared.code.Code.TheVariants.{EventFixed, ReferenceFixed}
-use Rattle.rule_world.specs.Events.{end_of_presence}
-use Rattle.rule_world.specs.Worlds.{World, at_clock, only_present, modify_fault, is_of_type, last_start_with, moved, revised, revised_in, settled, with_new, with_revised}
-use Rattle.rule_world.proofs.Fresh.{AllBelow, below_of, distinct_more, distinct_filtered}
-use Rattle.rule_world.proofs.Keeping.{with_numbers, without, without_fact, others}
+use Rattle.session_laws.proofs.Common.{filter, ◌≡◌, ℕ, ℤ, ◌+◌, ◌<◌, if◌then◌else◌, ◌==◌, ◌||◌, Bool, true, false, List, [], ◌∷◌, ◌++◌, Option, Some, None, refl, sym, ◌∙◌, ap, subst, arith, In, FactId, Tag, TypeId, Value, Fact, Timers, TakesDue, HeldFacts, Program, Modify, is_present, HaveDistinctTags, is_event, is_reference, of_filter, in_filter, passed, Code, EventFixed, ReferenceFixed, end_of_presence, World, at_clock, only_present, modify_fault, is_of_type, revised, revised_in, settled, with_new, with_revised, AllBelow, below_of, distinct_filtered, with_numbers, without, without_fact, others, Marks, IsNewestTag, newest, with_timer, without_timer, left_at, Contents, Mirrors, expiry_at, Course, reached_by, fun_ext, Reached, moment_in}
+use Rattle.rule_world.specs.Worlds.{last_start_with, moved}
+use Rattle.rule_world.proofs.Fresh.{distinct_more}
 use Rattle.rule_world.proofs.Steps.{move_numbered, numbered}
-use Rattle.agenda.specs.Agendas.{Marks}
-use Rattle.session_laws.specs.Places.{IsNewestTag, newest}
-use Rattle.session_laws.specs.Waiting.{with_timer, without_timer, left_at}
-use Rattle.session_laws.specs.Standing.{Contents, Mirrors, expiry_at, Course, reached_by}
 use Rattle.session_laws.proofs.Exactly.{Exact}
 use Rattle.session_laws.proofs.Members.{Holds, holds_less, holds_new, holds_revised, swapped, versions}
 use Rattle.session_laws.proofs.Newest.{holds, tagged_in, tagged_found, world_found}
 use Rattle.session_laws.proofs.Timers.{timed_new, timed_less, timed_plain, timed_left, left_found, left_present}
-use mathlib.Core.Path.{fun_ext}
 use Rattle.std.specs.FinMap as map
-use Rattle.rule_model.specs.Snapshots.{Reached}
-use Rattle.rule_model.specs.Moments.{moment_in}
 
 -- what entry points have reached where a new event has come
 abbrev pub reached_with : Program → Fact → Reached → Reached

@@ -1,27 +1,5 @@
 -- A session whose facts a step leaves as they are, but not the floors of entry points.
-use Rattle.std.proofs.Common.{◌≡◌, ◌≤◌, ◌≤ℤ◌, ℕ, suc, ℤ, Bool, false, List, [], Option, Some, None, refl, sym, ◌∙◌, ap, subst, inl, arith}
-use Rattle.std.proofs.lemmas.Int.{ints}
-use mathlib.Core.Path.{fun_ext}
-use Rattle.fx_base.specs.declared.fact.Fact.{Fact}
-use Rattle.fact_store.specs.Held.{HeldFacts}
-use Rattle.row_delta.specs.declared.row.Named.{Named}
-use Rattle.rule_model.specs.declared.program.Program.{Program}
-use Rattle.rule_model.specs.declared.step.Step.{Step}
-use Rattle.rule_world.specs.Lawful.{IsLawful}
-use Rattle.rule_world.specs.Worlds.{World, only_present, step_fault, stepped}
-use Rattle.agenda.specs.Agendas.{Marks}
-use Rattle.rete_net.specs.declared.net.Rete.{Rete}
-use Rattle.rete_net.specs.Nets.{NetStands, clean_rows}
-use Rattle.retention.specs.Retentions.{lingers}
-use Rattle.retention.specs.Watching.{Covers}
-use Rattle.forgetting.specs.Sights.{ends_by, ends_of}
-use Rattle.forgetting.specs.Steps.{HasLeft, brought, changed}
-use Rattle.forgetting.specs.WorldSights.{comes, goes}
-use Rattle.session_laws.specs.declared.memory.Memory.{Memory}
-use Rattle.session_laws.specs.declared.setting.Setting.{Setting}
-use Rattle.session_laws.specs.Following.{Instant, Leads, LeadsOn, facts_at, instant_of}
-use Rattle.session_laws.specs.Refreshed.{IsRefreshed}
-use Rattle.session_laws.specs.Standing.{Contents, Awaits, Mirrors, Runs, Standing, with_facts, Course}
+use Rattle.session_laws.proofs.Common.{◌≡◌, ◌≤◌, ◌≤ℤ◌, ℕ, suc, ℤ, Bool, false, List, [], Option, Some, None, refl, sym, ◌∙◌, ap, subst, inl, arith, ints, fun_ext, Fact, HeldFacts, Named, Program, Step, IsLawful, World, only_present, step_fault, stepped, Marks, Rete, NetStands, clean_rows, lingers, Covers, ends_by, ends_of, HasLeft, brought, changed, comes, goes, Memory, Setting, Instant, Leads, LeadsOn, facts_at, instant_of, IsRefreshed, Contents, Awaits, Mirrors, Runs, Standing, with_facts, Course}
 use Rattle.session_laws.proofs.Moving_on.{covered_at, hand_of, leads_on, on_time, world_ready}
 use Rattle.session_laws.proofs.Stands.{contents}
 use Rattle.session_laws.proofs.Taken.{taken_awaits}

@@ -1,26 +1,8 @@
 -- Facts that are put under their tags, and what waits for each.
-use Rattle.std.proofs.Common.{◌≡◌, ◌∙◌, ◌⊎◌, inl, inr, ℕ, ℤ, ◌==◌, ◌&&◌, not, Bool, true, false, cond, is_some, List, [], ◌∷◌, map as list_map, Option, Some, None, refl, sym, ap, subst, arith}
+use Rattle.session_laws.proofs.Common.{◌≡◌, ◌∙◌, ◌⊎◌, inl, inr, ℕ, ℤ, ◌==◌, ◌&&◌, not, Bool, true, false, cond, is_some, List, [], ◌∷◌, Option, Some, None, refl, sym, ap, subst, arith, get-empty, option_and_then, nat_cmp, nat_tests, In, Tag, Fact, Timers, HeldFacts, tag_of, LifeTable, Program, HaveDistinctTags, in_map, end_of_presence, Retention, lingers, ends_by, stored, AreHeld, AreStorable, expiry_at, with_timer}
+use Rattle.std.proofs.Common.{map as list_map}
 use Rattle.std.specs.FinMap as map
-use Rattle.std.specs.FinMap.{get-empty}
-use Rattle.std.specs.Option.{option_and_then}
-use Rattle.std.specs.Ordering.{nat_cmp}
-use Rattle.std.proofs.lemmas.Bool.Decides.{nat_tests}
-use Rattle.fx_base.specs.Lists.{In}
-use Rattle.fx_base.specs.declared.ids.Tag.{Tag}
-use Rattle.fx_base.specs.declared.fact.Fact.{Fact}
-use Rattle.due_queue.specs.Timers.{Timers}
-use Rattle.fact_store.specs.Held.{HeldFacts, tag_of}
-use Rattle.rule_model.specs.declared.life.LifeTable.{LifeTable}
-use Rattle.rule_model.specs.declared.program.Program.{Program}
-use Rattle.rule_model.specs.Distinct.{HaveDistinctTags}
-use Rattle.rule_model.proofs.Listed.{in_map}
-use Rattle.rule_world.specs.Events.{end_of_presence}
-use Rattle.retention.specs.declared.retention.Retention.{Retention}
-use Rattle.retention.specs.Retentions.{lingers}
-use Rattle.forgetting.specs.Sights.{ends_by}
-use Rattle.session_laws.specs.Restoring.{all_held, stored, AreHeld, AreStorable}
-use Rattle.session_laws.specs.Standing.{expiry_at}
-use Rattle.session_laws.specs.Waiting.{with_timer}
+use Rattle.session_laws.specs.Restoring.{all_held}
 use Rattle.session_laws.proofs.Members.{Holds, got_new, got_old, of_insert}
 use Rattle.session_laws.proofs.Timers.{timed_new}
 

@@ -1,26 +1,7 @@
 -- A step whose first phase is done awaits the second.
-use Rattle.std.proofs.Common.{◌≡◌, ◌∙◌, sym, ap, refl, subst, ℕ, ◌&&◌, not, Bool, true, false, List, None}
-use Rattle.fact_store.specs.Held.{facts_of}
-use Rattle.row_delta.specs.declared.row.Row.{Row}
-use Rattle.rule_model.specs.declared.matched.Match.{Match}
-use Rattle.rule_model.specs.declared.program.Rule.{Rule}
-use Rattle.rule_model.specs.declared.step.Step.{Step}
-use Rattle.rule_model.specs.Matches.{matches, has_match}
-use Rattle.rule_world.specs.Worlds.{World, snapshot, stepped, step_fault}
-use Rattle.rule_world.proofs.Fresh.{and_both, and_parts}
-use Rattle.rete_net.specs.Nets.{clean_rows}
-use Rattle.retention.specs.Watching.{Covers}
-use Rattle.pair_memory.specs.Standing.{clean}
-use Rattle.rule_lives.proofs.Flagged.{flagged}
-use Rattle.keeping.specs.Steps.{IsLawfulStep}
-use Rattle.forgetting.specs.Sights.{Lives, Sight, ends_by, ends_of, each_tag, is_kept, is_clean}
+use Rattle.session_laws.proofs.Common.{◌≡◌, ◌∙◌, sym, ap, refl, subst, ℕ, ◌&&◌, not, Bool, true, false, List, None, facts_of, Row, Match, Rule, Step, matches, has_match, World, snapshot, stepped, step_fault, and_both, and_parts, clean_rows, Covers, clean, flagged, IsLawfulStep, Lives, Sight, ends_by, ends_of, each_tag, is_kept, is_clean, sight_of, comes, goes, Memory, Setting, over, matches_by, only_in, Contents, Runs, Seen, Standing, holding, with_facts, reached_of}
 use Rattle.forgetting.specs.Steps.{Takes}
-use Rattle.forgetting.specs.WorldSights.{sight_of, comes, goes}
 use Rattle.forgetting.proofs.Closing.{world_step_kept}
-use Rattle.session_laws.specs.declared.memory.Memory.{Memory}
-use Rattle.session_laws.specs.declared.setting.Setting.{Setting}
-use Rattle.session_laws.specs.Refreshed.{over, matches_by, only_in}
-use Rattle.session_laws.specs.Standing.{Contents, Runs, Seen, Standing, holding, with_facts, reached_of}
 use Rattle.session_laws.proofs.Clean.{clean_matches, clean_kept, clean_next, clean_was, whole_matches}
 use Rattle.session_laws.proofs.Phases.{IsTaken, TakenAwaits}
 use Rattle.std.specs.FinMap as map

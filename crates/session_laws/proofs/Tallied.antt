@@ -1,37 +1,19 @@
 -- What a store counts by types is what is kept of each world for which the session stands.
-use Rattle.std.proofs.Common.{◌≡◌, ◌∙◌, sym, ap, refl, ℕ, ◌==◌, ◌&&◌, ◌||◌, inl, inr, List, [], ◌∷◌, map, length, Bool, true, false, cond, Option, Some, None, arith, subst}
+use Rattle.session_laws.proofs.Common.{◌≡◌, ◌∙◌, sym, ap, refl, ℕ, ◌==◌, ◌&&◌, ◌||◌, inl, inr, List, [], ◌∷◌, map, length, Bool, true, false, cond, Option, Some, None, arith, subst, HaveDistinctIds, in_map, FactId, list_any, AllByRecursion, filter, nat_tests, In, Fact, TypeId, HeldFacts, CountsType, Program, of_filter, in_filter, passed, World, kept_facts, only, fact_at, same_kept, at_filter, fact_in, own_at, Memory, Setting, AreCounts, Contents, Runs, Standing}
 use Rattle.rule_model.specs.Types.{event_types}
-use Rattle.rule_model.specs.Distinct.{HaveDistinctIds}
-use Rattle.rule_model.proofs.Listed.{in_map}
-use Rattle.fx_base.specs.declared.ids.FactId.{FactId}
 use Rattle.std.specs.Prelude.{nat_eq}
-use Rattle.std.specs.List.{list_any, IsDistinct, AllByRecursion, filter}
+use Rattle.std.specs.List.{IsDistinct}
 use Rattle.std.specs.FinMap as map_of
-use Rattle.std.proofs.lemmas.Bool.Decides.{nat_tests}
 use Rattle.std.proofs.lemmas.List.{length-map}
 use Rattle.std.proofs.lemmas.Map.Made.{length-from_same_keys}
 use Rattle.std.proofs.lemmas.Map.Views.{exact_unsigned_eq}
-use Rattle.fx_base.specs.Lists.{In}
-use Rattle.fx_base.specs.declared.fact.Fact.{Fact}
-use Rattle.fx_base.specs.declared.ids.TypeId.{TypeId}
-use Rattle.fact_store.specs.Held.{HeldFacts, CountsType, is_of}
+use Rattle.fact_store.specs.Held.{is_of}
 use Rattle.fact_store.specs.Ids.{AreIds}
 use Rattle.fact_store.proofs.Counting.{torn, eq_self, both_true, or_true, nat_equiv}
-use Rattle.rule_model.specs.declared.program.Program.{Program}
-use Rattle.rule_model.proofs.Named.{of_filter}
-use Rattle.rule_model.proofs.Order.{in_filter, passed}
-use Rattle.rule_world.specs.Worlds.{World}
 use Rattle.rule_world.proofs.Ids.{ids_filtered, id_of}
-use Rattle.keeping.specs.Kept.{is_kept, kept_facts}
-use Rattle.forgetting.specs.Sights.{only}
-use Rattle.forgetting.specs.WorldSights.{fact_at}
-use Rattle.forgetting.proofs.Agreeing.{same_kept}
-use Rattle.forgetting.proofs.Seeing.{at_filter, fact_in, own_at}
+use Rattle.keeping.specs.Kept.{is_kept}
 use Rattle.engine.specs.Counts.{HasEach}
-use Rattle.session_laws.specs.declared.memory.Memory.{Memory}
-use Rattle.session_laws.specs.declared.setting.Setting.{Setting}
-use Rattle.session_laws.specs.Counts.{AreCounts, facts_of_type, held_counts}
-use Rattle.session_laws.specs.Standing.{Contents, Runs, Standing}
+use Rattle.session_laws.specs.Counts.{facts_of_type, held_counts}
 use Rattle.session_laws.proofs.Members.{Holds}
 
 -- ---- the ids of facts

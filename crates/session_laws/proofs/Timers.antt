@@ -1,24 +1,7 @@
 -- What the facts of a session wait for, where facts come and go.
-use Rattle.std.proofs.Common.{◌≡◌, ℕ, ℤ, ◌-ℤ◌, ◌+ℤ◌, ◌||◌, not, Bool, true, false, cond, int_lt, nat_eq, is_some, List, Option, Some, None, if◌then◌else◌, refl, sym, ◌∙◌, ap, arith}
-use Rattle.std.specs.Prelude.{int_le}
-use Rattle.std.specs.Cmp.{nat_cmp_total}
+use Rattle.session_laws.proofs.Common.{◌≡◌, ℕ, ℤ, ◌-ℤ◌, ◌+ℤ◌, ◌||◌, not, Bool, true, false, cond, int_lt, nat_eq, is_some, List, Option, Some, None, if◌then◌else◌, refl, sym, ◌∙◌, ap, arith, int_le, nat_cmp_total, get-insert, get-remove, get-retain_keys, list_any, nat_cmp, eq_by_cmp, is_eq, Equal, nat_tests, ints, Fact, Timers, has_come, is_due, TakesDue, HeldFacts, tied, itself, Program, is_within, is_event, expiry_of, end_by, end_of_presence, expiry_at, with_timer, without_timer, left_at}
 use Rattle.std.specs.Bool.{OnTrue, OnFalse}
-use Rattle.std.specs.FinMap.{get-insert, get-remove, get-retain_keys}
-use Rattle.std.specs.List.{list_any}
-use Rattle.std.specs.Ordering.{nat_cmp, eq_by_cmp, is_eq}
-use Rattle.std.specs.declared.cmp.Ordering.TheVariants.{Equal}
-use Rattle.std.proofs.lemmas.Bool.Decides.{nat_tests}
-use Rattle.std.proofs.lemmas.Int.{ints}
-use Rattle.fx_base.specs.declared.fact.Fact.{Fact}
-use Rattle.due_queue.specs.Timers.{Timers, has_come, is_due, TakesDue}
-use Rattle.fact_store.specs.Held.{HeldFacts}
-use Rattle.fact_store.proofs.Stored.{tied, itself}
-use Rattle.rule_model.specs.declared.program.Program.{Program}
-use Rattle.rule_model.specs.Candidates.{is_within, is_present}
-use Rattle.rule_model.specs.Types.{is_event, expiry_of}
-use Rattle.rule_world.specs.Events.{end_by, end_of_presence}
-use Rattle.session_laws.specs.Standing.{expiry_at}
-use Rattle.session_laws.specs.Waiting.{with_timer, without_timer, left_at}
+use Rattle.rule_model.specs.Candidates.{is_present}
 use Rattle.session_laws.proofs.Members.{got_new, got_old, is_out, not_out}
 use Rattle.std.specs.FinMap as map
 

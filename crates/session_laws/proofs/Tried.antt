@@ -1,21 +1,8 @@
 -- Steps that are possible, or refused, one after the other.
-use Rattle.std.proofs.Common.{◌≡◌, inr, ℕ, List, [], ◌∷◌, ◌++◌, length, Some, None, Result, Ok, Err, refl, sym, ◌∙◌, ap, subst, append_assoc, arith}
-use Rattle.std.specs.Prelude.{OnOk}
-use Rattle.std.proofs.lemmas.List.{append-nil}
-use Rattle.rule_world.specs.declared.code.Code.{Code}
-use Rattle.rule_model.specs.declared.program.Program.{Program}
-use Rattle.rule_model.specs.declared.step.Step.{Step}
-use Rattle.rule_world.specs.Lawful.{IsOrdered}
-use Rattle.rule_world.specs.Worlds.{World, step_fault, stepped}
-use Rattle.rule_world.proofs.Lawfuls.{step_lawful}
-use Rattle.rule_world.proofs.Staying.{Stays, same_stays, stays_on}
-use Rattle.engine.specs.declared.lines.OutLine.{OutLine}
+use Rattle.session_laws.proofs.Common.{◌≡◌, inr, ℕ, List, [], ◌∷◌, ◌++◌, length, Some, None, Result, Ok, Err, refl, sym, ◌∙◌, ap, subst, append_assoc, arith, OnOk, append-nil, Code, Program, Step, IsOrdered, World, step_fault, stepped, step_lawful, Stays, same_stays, stays_on, OutLine, Memory, Setting, does, step_lines, tries_with, AllFit, StandsAfter, WritesFor, Contents, Standing}
 use Rattle.engine.specs.declared.lines.OutLine.TheVariants.{Fault}
-use Rattle.session_laws.specs.declared.memory.Memory.{Memory}
-use Rattle.session_laws.specs.declared.setting.Setting.{Setting}
-use Rattle.session_laws.specs.Gives.{does, does_all, refused, step_lines, tries, tries_with}
-use Rattle.session_laws.specs.Leading.{AllFit, Moves, StandsAfter, Suits, Tries, Writes, WritesFor}
-use Rattle.session_laws.specs.Standing.{Contents, Standing}
+use Rattle.session_laws.specs.Gives.{does_all, refused, tries}
+use Rattle.session_laws.specs.Leading.{Moves, Suits, Tries, Writes}
 use Rattle.session_laws.proofs.Doing.{does_stays, next_fits}
 
 -- a step without a fault is done, and one with a fault is refused

@@ -1,9 +1,6 @@
 -- How many fields a type has with those that it inherits.
-use Rattle.std.proofs.Common.{◌≡◌, ◌+◌, ℕ, List, [], ◌∷◌, ◌++◌, length, ap, ◌∙◌, arith}
-use Rattle.std.proofs.lemmas.List.{length-append}
-use Rattle.drl_grammar.specs.declared.written.WrittenType.{WrittenType}
+use Rattle.subrules.proofs.Common.{◌≡◌, ◌+◌, ℕ, List, [], ◌∷◌, ◌++◌, length, ap, ◌∙◌, arith, length-append, WrittenType, fields_in}
 use Rattle.subrules.specs.Expanded.{inherited_fields}
-use Rattle.subrules.specs.Faults.{fields_in}
 
 pub fields_counted : (fields : List (List ℕ × List ℕ)) (types : List WrittenType) → length (inherited_fields fields types) ≡ length fields + fields_in types
 unfolding inherited_fields

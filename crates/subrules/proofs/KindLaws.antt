@@ -1,18 +1,15 @@
 -- The types below a type need no look at which types others extend.
-use Rattle.std.proofs.Common.{◌≡◌, ◌+◌, ◌||◌, inl, inr, ℕ, zero, suc, Bool, true, false, cond, List, [], ◌∷◌, ◌++◌, length, Option, Some, None, is_some, slice_get, option_map, option_and_then, add-one, refl, sym, ap, subst, ◌∙◌}
+use Rattle.subrules.proofs.Common.{◌≡◌, ◌+◌, ◌||◌, inl, inr, ℕ, zero, suc, Bool, true, false, cond, List, [], ◌∷◌, ◌++◌, length, Option, Some, None, is_some, slice_get, option_map, option_and_then, add-one, refl, sym, ap, subst, ◌∙◌, filter, flat_map, list_any, cases_Bool, option_and_then_some, same_Some, bytes_eq-Decides, place_of, WrittenType, type_names, first_names, type_named, is_named, parent_of, is_below, extended_by, has_subtypes, kinds_of}
 use Rattle.std.specs.Prelude.{option_to_list}
-use Rattle.std.specs.List.{filter, flat_map, list_any}
 use Rattle.std.specs.Str.{bytes_eq}
 use Rattle.std.proofs.Math.Bool.{or-false, or-true}
-use Rattle.std.proofs.lemmas.Bool.{cases_Bool, false_from_ne_true, false≢true}
+use Rattle.std.proofs.lemmas.Bool.{false_from_ne_true, false≢true}
 use Rattle.std.proofs.lemmas.List.Folds.{list_any-append}
-use Rattle.std.proofs.lemmas.Option.{none-some, option_and_then_some, same_Some}
-use Rattle.std.proofs.lemmas.Slice.Eq.{bytes_eq-Decides}
+use Rattle.std.proofs.lemmas.Option.{none-some}
 use Rattle.drl_sight.specs.EntryPoints.{with_name, with_names}
-use Rattle.drl_sight.specs.Names.{is_among, place_from, place_of}
+use Rattle.drl_sight.specs.Names.{is_among, place_from}
 use Rattle.drl_sight.proofs.NameLemmas.{placed_among}
-use Rattle.drl_grammar.specs.declared.written.WrittenType.{WrittenType}
-use Rattle.subrules.specs.Hierarchy.{type_names, first_names, type_named, is_named, parent_of, ancestors, is_below, extended_by, extended, has_subtypes, kinds_of}
+use Rattle.subrules.specs.Hierarchy.{ancestors, extended}
 
 -- ---- a type has the name by which it is found
 

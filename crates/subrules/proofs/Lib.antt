@@ -1,3 +1,4 @@
+mod Common
 pub mod FieldLaws
 pub mod SizeLaws
 pub mod NestingLaws

@@ -1,20 +1,7 @@
 -- What is counted beside left rows.
-use Rattle.std.proofs.Common.{◌≡◌, ◌∙◌, sym, ap, refl, subst, ℕ, zero, suc, ◌<◌, arith, List, [], ◌∷◌, length, Bool, true, false, ◌||◌, Option, Some, None, ℤ}
-use mathlib.Core.Path.{fun_ext}
-use Rattle.std.specs.Option.{is_some}
-use Rattle.fx_base.specs.declared.ids.RuleId.{RuleId}
-use Rattle.row_delta.specs.declared.extra.Extra.{Extra}
-use Rattle.row_delta.specs.declared.row.Named.{Named}
-use Rattle.row_delta.specs.declared.row.Row.{Row}
-use Rattle.row_delta.specs.Rows.{has, InOrder}
-use Rattle.join_tests.specs.Joins.{Look, joins}
-use Rattle.pair_memory.specs.declared.memories.Memories.{Memories}
-use Rattle.pair_memory.specs.Joined.{has_name}
-use Rattle.pair_memory.specs.Memories.{left_at, has_left, has_right, Agrees}
-use Rattle.pair_memory.specs.Standing.{either}
-use Rattle.tally_node.specs.Beside.{IsBeside}
-use Rattle.tally_node.specs.Extras.{AreApart, IsBeyond, CountsOthers, AreExtrasOf}
-use Rattle.tally_node.specs.Tallies.{SeeAlike, passing}
+use Rattle.tally_node.proofs.Common.{◌≡◌, ◌∙◌, sym, ap, refl, subst, ℕ, zero, suc, ◌<◌, arith, List, [], ◌∷◌, length, Bool, true, false, ◌||◌, Option, Some, None, ℤ, fun_ext, is_some, RuleId, Extra, Named, Row, has, InOrder, Look, joins, Memories, has_name, left_at, has_left, has_right, either, IsBeside, AreApart, IsBeyond, SeeAlike, passing}
+use Rattle.pair_memory.specs.Memories.{Agrees}
+use Rattle.tally_node.specs.Extras.{CountsOthers, AreExtrasOf}
 use Rattle.tally_node.proofs.Following.{first_of}
 use Rattle.tally_node.proofs.Searching.{AreListed, listed_in_order, listed_own, listed_for}
 

@@ -1,12 +1,5 @@
 -- One candidate more, and one less.
-use Rattle.std.proofs.Common.{◌≡◌, ◌∙◌, sym, ap, refl, ℕ, ◌+◌, ◌-◌, ◌≢◌, length, arith, List, [], ◌∷◌, Bool, true, false, cond, not, ◌&&◌, ◌||◌}
-use Rattle.std.specs.Ordering.{eq_by_cmp}
-use Rattle.row_delta.specs.declared.row.Named.{Named}
-use Rattle.row_delta.specs.NameOrder.{name_cmp, name_equiv}
-use Rattle.pair_memory.specs.Joined.{has_name}
-use Rattle.pair_memory.proofs.Joining.{name_decides}
-use Rattle.tally_node.specs.Tallies.{with_one, less_one}
-use Rattle.tally_node.specs.Counts.{AreDistinct, IsNumber}
+use Rattle.tally_node.proofs.Common.{◌≡◌, ◌∙◌, sym, ap, refl, ℕ, ◌+◌, ◌-◌, ◌≢◌, length, arith, List, [], ◌∷◌, Bool, true, false, cond, not, ◌&&◌, ◌||◌, eq_by_cmp, Named, name_cmp, name_equiv, has_name, name_decides, with_one, less_one, AreDistinct, IsNumber}
 
 pub or_swap : (a b : Bool) → (a || b) ≡ (b || a)
 or_swap true true = refl

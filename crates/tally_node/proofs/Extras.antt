@@ -1,27 +1,12 @@
 -- Tallies of two sets that have no candidate in common.
-use Rattle.std.proofs.Common.{◌≡◌, ◌∙◌, sym, ap, refl, subst, int_lt, ℕ, ◌+◌, ◌-◌, ℤ, pos, arith, List, [], ◌∷◌, ◌++◌, map, length, Bool, true, false, cond, not, ◌&&◌, ◌||◌}
-use mathlib.Core.Path.{fun_ext}
+use Rattle.tally_node.proofs.Common.{◌≡◌, ◌∙◌, sym, ap, refl, subst, int_lt, ℕ, ◌+◌, ◌-◌, ℤ, pos, arith, List, [], ◌∷◌, ◌++◌, map, length, Bool, true, false, cond, not, ◌&&◌, ◌||◌, fun_ext, eq_by_cmp, Held, insert_rising, in_rising_order, insert-insert, Extra, Named, name_cmp, name_equiv, Accumulate, Look, has_name, either, name_decides, AreDistinct, IsNumber, argument_of, Gathers, AreApart, IsBeyond, nothing_gathered, gathered_laden, arguments_gathered}
 use Rattle.std.specs.List.{filter}
-use Rattle.std.specs.Ordering.{eq_by_cmp}
 use Rattle.std.proofs.lemmas.List.{length-append, length-map, map-append}
 use Rattle.std.proofs.lemmas.List.Folds.{list_any-append}
 use Rattle.std.proofs.lemmas.Map.Made.{is_member-filter}
-use Rattle.fold_fn.specs.Held.{Held}
-use Rattle.fold_fn.specs.Order.{insert_rising, in_rising_order}
 use Rattle.fold_fn.proofs.ResultLemmas.{length-rising}
-use Rattle.fold_fn.proofs.Rising.{insert-insert}
 use Rattle.fold_fn.proofs.Sorting.{sorted-rising, rising-sorted}
-use Rattle.row_delta.specs.declared.extra.Extra.{Extra}
-use Rattle.row_delta.specs.declared.row.Named.{Named}
-use Rattle.row_delta.specs.NameOrder.{name_cmp, name_equiv}
-use Rattle.rule_model.specs.declared.condition.Accumulate.{Accumulate}
-use Rattle.join_tests.specs.Joins.{Look}
-use Rattle.pair_memory.specs.Joined.{has_name}
-use Rattle.pair_memory.specs.Standing.{either}
-use Rattle.pair_memory.proofs.Joining.{name_decides}
-use Rattle.tally_node.specs.Counts.{AreDistinct, IsNumber}
-use Rattle.tally_node.specs.Gathers.{argument_of, Gathers}
-use Rattle.tally_node.specs.Extras.{AreApart, IsBeyond, counts_more, nothing_gathered, gathered_laden, arguments_gathered}
+use Rattle.tally_node.specs.Extras.{counts_more}
 use Rattle.tally_node.proofs.Gathering.{same_values}
 
 -- ---- two lists of candidates

@@ -1,24 +1,8 @@
 -- Tallies that follow the candidates, one candidate after another, and rows that come.
-use Rattle.std.proofs.Common.{◌≡◌, ◌∙◌, sym, ap, refl, subst, ℕ, zero, suc, ◌+◌, ◌<◌, ◌≤◌, length, take, get_or, arith, List, [], ◌∷◌, Bool, true, false, cond, not, ◌&&◌, ◌||◌, Option, Some, None}
-use mathlib.Core.Path.{fun_ext}
-use Rattle.std.specs.Option.{is_some}
-use Rattle.std.specs.declared.cmp.Ordering.{Ordering}
-use Rattle.std.specs.declared.cmp.Ordering.TheVariants.{Less}
+use Rattle.tally_node.proofs.Common.{◌≡◌, ◌∙◌, sym, ap, refl, subst, ℕ, zero, suc, ◌+◌, ◌<◌, ◌≤◌, length, take, get_or, arith, List, [], ◌∷◌, Bool, true, false, cond, not, ◌&&◌, ◌||◌, Option, Some, None, fun_ext, is_some, Ordering, Less, eq_by_cmp, is_eq, list_any, AllByRecursion, Named, Row, row_cmp, has, same_equiv, name_cmp, name_equiv, Look, has_name, row_decides, name_decides, any_name, Turned, TurnedIf, Steps, counted, Follows, Arrives}
 use Rattle.std.specs.Cmp.{IsEquivalence}
-use Rattle.std.specs.Ordering.{eq_by_cmp, is_eq}
-use Rattle.std.specs.List.{list_any, AllByRecursion}
 use Rattle.std.specs.List.Sorted.{IsStrictlySortedBy}
 use Rattle.std.proofs.lemmas.List.Folds.{list_any_more}
-use Rattle.row_delta.specs.declared.row.Named.{Named}
-use Rattle.row_delta.specs.declared.row.Row.{Row}
-use Rattle.row_delta.specs.Rows.{row_cmp, has}
-use Rattle.row_delta.specs.RowOrder.{same_equiv}
-use Rattle.row_delta.specs.NameOrder.{name_cmp, name_equiv}
-use Rattle.join_tests.specs.Joins.{Look}
-use Rattle.pair_memory.specs.Joined.{has_name}
-use Rattle.pair_memory.proofs.Joining.{row_decides, name_decides}
-use Rattle.pair_memory.proofs.Turning.{any_name}
-use Rattle.tally_node.specs.Tallies.{Turned, TurnedIf, Steps, counted, Follows, Arrives}
 
 -- ---- lists in order
 module _ {K : Type 0} (order : K → K → Ordering) (equiv : IsEquivalence (eq_by_cmp order)) where

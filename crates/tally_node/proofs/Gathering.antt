@@ -1,25 +1,8 @@
 -- One candidate more in a fold, and one less; rows with a value more.
-use Rattle.std.proofs.Common.{◌≡◌, ◌∙◌, sym, ap, refl, ℤ, List, [], ◌∷◌, map, Bool, true, false, cond, not, ◌&&◌, ◌||◌, Option, Some, None}
-use Rattle.std.specs.Option.{option_map}
+use Rattle.tally_node.proofs.Common.{◌≡◌, ◌∙◌, sym, ap, refl, ℤ, List, [], ◌∷◌, map, Bool, true, false, cond, not, ◌&&◌, ◌||◌, Option, Some, None, option_map, eq_by_cmp, Held, insert_rising, in_rising_order, insert-insert, Named, Row, row_cmp, name_cmp, name_equiv, Accumulate, Look, has_name, with_value, unvalued, splits_value, without_value, shows_value, name_decides, row_decides, from_unvalued, with_one, less_one, AreDistinct, argument_of, Gathers, is_from}
 use Rattle.std.proofs.lemmas.Bool.Decides.{Decides-int_eq}
-use Rattle.std.specs.Ordering.{eq_by_cmp, int_eq}
-use Rattle.fold_fn.specs.Held.{Held}
-use Rattle.fold_fn.specs.Order.{insert_rising, in_rising_order}
-use Rattle.fold_fn.proofs.Rising.{insert-insert}
-use Rattle.row_delta.specs.declared.row.Named.{Named}
-use Rattle.row_delta.specs.declared.row.Row.{Row}
-use Rattle.row_delta.specs.Rows.{row_cmp}
-use Rattle.row_delta.specs.NameOrder.{name_cmp, name_equiv}
-use Rattle.rule_model.specs.declared.condition.Accumulate.{Accumulate}
-use Rattle.join_tests.specs.Joins.{Look}
-use Rattle.pair_memory.specs.Joined.{has_name}
-use Rattle.pair_memory.specs.Valued.{with_value, unvalued, splits_value, without_value, shows_value}
-use Rattle.pair_memory.proofs.Joining.{name_decides, row_decides}
-use Rattle.pair_memory.proofs.Valued.{unvalued_with, from_unvalued}
-use Rattle.tally_node.specs.Tallies.{with_one, less_one}
-use Rattle.tally_node.specs.Counts.{AreDistinct}
-use Rattle.tally_node.specs.Gathers.{argument_of, Gathers}
-use Rattle.tally_node.specs.Origins.{is_from}
+use Rattle.std.specs.Ordering.{int_eq}
+use Rattle.pair_memory.proofs.Valued.{unvalued_with}
 use Rattle.tally_node.proofs.Counting.{or_swap, dropped, has_dropped, dropped_distinct}
 
 -- ---- the values of candidates

@@ -1,10 +1,8 @@
 -- How often a fold holds its values, and how many, after one value more or less.
-use Rattle.std.proofs.Common.{◌≡◌, ◌∙◌, sym, ap, refl, ℕ, zero, suc, ◌+◌, ◌-◌, ◌<◌, ◌≤◌, ℤ, Bool, true, false, cond, List, [], ◌∷◌, length, Option, None, Contains, ⊎_elim, arith, int_eq}
-use Rattle.std.proofs.lemmas.Int.{ints}
+use Rattle.tally_node.proofs.Common.{◌≡◌, ◌∙◌, sym, ap, refl, ℕ, zero, suc, ◌+◌, ◌-◌, ◌<◌, ◌≤◌, ℤ, Bool, true, false, cond, List, [], ◌∷◌, length, Option, None, Contains, ⊎_elim, arith, int_eq, ints, times, insert_rising}
 use Rattle.std.proofs.lemmas.Bool.{cases_Bool}
 use Rattle.std.specs.Map.{count_at}
 use Rattle.fold_fn.specs.Held.{HasOneMore}
-use Rattle.fold_fn.specs.Order.{times, insert_rising}
 use Rattle.fold_fn.proofs.ResultLemmas.{length-insert}
 use Rattle.fold_fn.proofs.Rising.{times-nil, times-cons, times-insert, int_eq-same, same_number}
 use Rattle.tally_node.specs.Gathers.{Knows}

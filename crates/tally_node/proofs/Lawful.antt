@@ -1,42 +1,22 @@
 -- Tallies of all candidates stay those of all candidates.
-use Rattle.std.proofs.Common.{◌≡◌, ◌∙◌, sym, ap, refl, subst, ℕ, zero, suc, ◌==◌, arith, cond, map, List, [], ◌∷◌, Bool, true, false, not, ◌&&◌, ◌||◌, Option, Some, None, ℤ}
-use mathlib.Core.Path.{fun_ext}
+use Rattle.tally_node.proofs.Common.{◌≡◌, ◌∙◌, sym, ap, refl, subst, ℕ, zero, suc, ◌==◌, arith, cond, map, List, [], ◌∷◌, Bool, true, false, not, ◌&&◌, ◌||◌, Option, Some, None, ℤ, fun_ext, list_any, is_some, option_map, eq_by_cmp, Held, Named, Row, Delta, has, name_cmp, name_equiv, Accumulate, Look, joins, Memories, has_name, left_at, has_left, has_right, cleaned, either, name_decides, unvalued, splits_value, without_value, shows_value, from_unvalued, Blockers, Witnesses, IsNumber, counts_blockers, counts_witnesses, where_unblocked, where_witnessed, argument_given, argument_of, result_for, all_passing, itself, shows_any, TallyStep, counted, SeeAlike, output_some, output_from, offers, shown}
 use Rattle.std.proofs.Math.Dec.{eqb-suc-zero}
-use Rattle.std.specs.List.{list_any}
-use Rattle.std.specs.Option.{is_some, option_map}
-use Rattle.std.specs.Ordering.{eq_by_cmp, int_eq}
+use Rattle.std.specs.Ordering.{int_eq}
 use Rattle.fx_base.specs.declared.fact.Fact.{Fact}
-use Rattle.fold_fn.specs.Held.{Held}
 use Rattle.fold_fn.specs.Results.{fold_result}
 use Rattle.fold_fn.proofs.ResultLemmas.{result-rising}
-use Rattle.row_delta.specs.declared.row.Named.{Named}
-use Rattle.row_delta.specs.declared.row.Row.{Row}
-use Rattle.row_delta.specs.declared.delta.Delta.{Delta}
-use Rattle.row_delta.specs.Rows.{has}
-use Rattle.row_delta.specs.NameOrder.{name_cmp, name_equiv}
 use Rattle.row_change.specs.Changes.{Leads}
-use Rattle.rule_model.specs.declared.condition.Accumulate.{Accumulate}
 use Rattle.rule_model.specs.Lent.{Holds, bound_in}
 use Rattle.rule_model.specs.Rows.{argument, result_of}
 use Rattle.rule_model.specs.Tuples.{name_of}
-use Rattle.join_tests.specs.Joins.{Look, joins}
-use Rattle.pair_memory.specs.declared.memories.Memories.{Memories}
-use Rattle.pair_memory.specs.Joined.{has_name}
-use Rattle.pair_memory.specs.Memories.{left_at, has_left, has_right}
-use Rattle.pair_memory.specs.Standing.{clean, cleaned, either, remembered, PassesAlike, StandsFor}
-use Rattle.pair_memory.proofs.Joining.{name_decides}
+use Rattle.pair_memory.specs.Standing.{clean, remembered, PassesAlike, StandsFor}
 use Rattle.pair_memory.proofs.Moving.{move_law as memories_move}
 use Rattle.pair_memory.specs.Inputs.{IsNameDifference, IsStepped}
-use Rattle.pair_memory.specs.Valued.{unvalued, splits_value, valued, without_value, shows_value}
-use Rattle.pair_memory.proofs.Valued.{from_unvalued}
+use Rattle.pair_memory.specs.Valued.{valued}
 use Rattle.pair_memory.proofs.Steps.{steps_law, forgets_law}
-use Rattle.tally_node.specs.declared.count.Blockers.{Blockers}
-use Rattle.tally_node.specs.declared.count.Witnesses.{Witnesses}
-use Rattle.tally_node.specs.Counts.{IsNumber, zero_where, counts_blockers, counts_witnesses, where_unblocked, where_witnessed}
-use Rattle.tally_node.specs.Gathers.{argument_given, argument_of, tested, result_for, is_result}
-use Rattle.tally_node.specs.Laws.{all_passing, StandsCounted, ForgottenStay, StartLaw, TallyLaw, ForgetLaw, DropLaw, MoveLaw, ShownLaw, GatheredLaw}
-use Rattle.tally_node.specs.Origins.{itself, shows_any}
-use Rattle.tally_node.specs.Tallies.{TallyStep, counted, SeeAlike, output_some, output_from, offers, shown}
+use Rattle.tally_node.specs.Counts.{zero_where}
+use Rattle.tally_node.specs.Gathers.{tested, is_result}
+use Rattle.tally_node.specs.Laws.{StandsCounted, ForgottenStay, StartLaw, TallyLaw, ForgetLaw, DropLaw, MoveLaw, ShownLaw, GatheredLaw}
 use Rattle.tally_node.proofs.Counting.{nobody, somebody}
 use Rattle.tally_node.proofs.Gathering.{same_values}
 

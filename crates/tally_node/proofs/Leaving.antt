@@ -1,8 +1,6 @@
 -- What a rising part of a rising list leaves of it.
-use Rattle.std.proofs.Common.{◌≡◌, ◌∙◌, sym, ap, refl, int_lt, int_eq, ℕ, zero, suc, add-one, ◌+◌, ◌<◌, ◌≤◌, ℤ, length, get_or, drop, arith, List, [], ◌∷◌, ◌++◌, Bool, true, false, cond}
+use Rattle.tally_node.proofs.Common.{◌≡◌, ◌∙◌, sym, ap, refl, int_lt, int_eq, ℕ, zero, suc, add-one, ◌+◌, ◌<◌, ◌≤◌, ℤ, length, get_or, drop, arith, List, [], ◌∷◌, ◌++◌, Bool, true, false, cond, ints, insert_rising, in_rising_order}
 use Rattle.std.proofs.Math.Seq.{drop-cons}
-use Rattle.std.proofs.lemmas.Int.{ints}
-use Rattle.fold_fn.specs.Order.{insert_rising, in_rising_order}
 use Rattle.tally_node.proofs.Extras.{rising_of_front}
 
 -- the values of a list without those of a part of it, where both are walked once

@@ -1,17 +1,5 @@
 -- Rows that come with extras.
-use Rattle.std.proofs.Common.{◌≡◌, ◌∙◌, sym, ap, refl, subst, Bool, true, false, ◌&&◌, ◌||◌, Option, Some, None}
-use mathlib.Core.Path.{fun_ext}
-use Rattle.std.specs.Option.{is_some}
-use Rattle.row_delta.specs.declared.extra.Extra.{Extra}
-use Rattle.row_delta.specs.declared.row.Named.{Named}
-use Rattle.row_delta.specs.declared.row.Row.{Row}
-use Rattle.rule_model.specs.declared.condition.Pattern.{Pattern}
-use Rattle.join_tests.specs.Joins.{Look, joins}
-use Rattle.pair_memory.specs.declared.memories.Memories.{Memories}
-use Rattle.pair_memory.specs.Memories.{left_at, has_left, has_right, Keeps}
-use Rattle.tally_node.specs.Extras.{IsLaden}
-use Rattle.tally_node.specs.Parts.{AllLoaded}
-use Rattle.tally_node.specs.Tallies.{Steps, Arrives, passing}
+use Rattle.tally_node.proofs.Common.{◌≡◌, ◌∙◌, sym, ap, refl, subst, Bool, true, false, ◌&&◌, ◌||◌, Option, Some, None, fun_ext, is_some, Extra, Named, Row, Pattern, Look, joins, Memories, left_at, has_left, has_right, Keeps, IsLaden, AllLoaded, Steps, Arrives, passing}
 use Rattle.tally_node.proofs.Following.{arrives_both}
 
 module _ {T : Type 0} (world : Look) where

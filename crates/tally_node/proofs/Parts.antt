@@ -1,20 +1,6 @@
 -- Parts of a step: those that leave the tallies as they are, and one after the other.
-use Rattle.std.proofs.Common.{◌≡◌, ◌∙◌, sym, ap, refl, subst, cond, Bool, true, false, not, ◌&&◌, ◌||◌, None, Option, ℤ}
-use mathlib.Core.Path.{fun_ext}
-use Rattle.std.specs.Option.{is_some}
-use Rattle.std.specs.Ordering.{eq_by_cmp}
-use Rattle.row_delta.specs.declared.row.Named.{Named}
-use Rattle.row_delta.specs.declared.row.Row.{Row}
-use Rattle.row_delta.specs.NameOrder.{name_cmp, name_equiv}
+use Rattle.tally_node.proofs.Common.{◌≡◌, ◌∙◌, sym, ap, refl, subst, cond, Bool, true, false, not, ◌&&◌, ◌||◌, None, Option, ℤ, fun_ext, is_some, eq_by_cmp, Named, Row, name_cmp, name_equiv, leads_alike, Pattern, Look, joins, Memories, left_at, has_left, has_right, Keeps, keeps_then, Steps, TurnedIf, Follows, Arrives, passing, shown, PartStep, AllTurned, AllFollow, AllDropped, AllArrive, AllStay}
 use Rattle.row_change.specs.declared.change.Change.{Change}
-use Rattle.row_change.proofs.Alike.{leads_alike}
-use Rattle.rule_model.specs.declared.condition.Pattern.{Pattern}
-use Rattle.join_tests.specs.Joins.{Look, joins}
-use Rattle.pair_memory.specs.declared.memories.Memories.{Memories}
-use Rattle.pair_memory.specs.Memories.{left_at, has_left, has_right, Keeps}
-use Rattle.pair_memory.proofs.Turning.{keeps_then}
-use Rattle.tally_node.specs.Tallies.{Steps, TurnedIf, Follows, Arrives, passing, shown}
-use Rattle.tally_node.specs.Parts.{PartStep, AllTurned, AllFollow, AllDropped, AllArrive, AllStay}
 use Rattle.tally_node.proofs.Turning.{shown_alike}
 use Rattle.tally_node.proofs.Following.{steps_both, follow_then, steps_leave, steps_come, arrives_both}
 

@@ -1,24 +1,7 @@
 -- Nodes that are loaded stand for what is kept with its extras, and for all of it.
-use Rattle.std.proofs.Common.{◌≡◌, ◌∙◌, sym, ap, refl, subst, List, [], ◌∷◌, Bool, true, false, not, ◌&&◌, ◌||◌, Some, None, ℤ}
-use mathlib.Core.Path.{fun_ext}
-use Rattle.std.specs.List.{list_any}
-use Rattle.std.specs.Option.{is_some}
-use Rattle.fold_fn.specs.Held.{Held}
-use Rattle.row_delta.specs.declared.extra.Extra.{Extra}
-use Rattle.row_delta.specs.declared.row.Named.{Named}
-use Rattle.row_delta.specs.declared.row.Row.{Row}
-use Rattle.row_delta.specs.Rows.{has}
-use Rattle.rule_model.specs.declared.condition.Accumulate.{Accumulate}
-use Rattle.join_tests.specs.Joins.{Look, joins}
-use Rattle.pair_memory.specs.Joined.{has_name}
-use Rattle.pair_memory.specs.Memories.{has_left, has_right}
-use Rattle.pair_memory.specs.Standing.{cleaned, no_names}
-use Rattle.tally_node.specs.declared.count.Blockers.{Blockers}
-use Rattle.tally_node.specs.declared.count.Witnesses.{Witnesses}
-use Rattle.tally_node.specs.Counts.{counts_blockers, counts_witnesses}
-use Rattle.tally_node.specs.Gathers.{gathers}
-use Rattle.tally_node.specs.Extras.{IsLaden, extra_for, blockers_laden, witnesses_laden, gathered_laden, nothing_gathered, arguments_gathered}
-use Rattle.tally_node.specs.Laws.{all_passing, lost_passing, LadenLaw, LoadLaw, ResumeLaw, OthersLaw}
+use Rattle.tally_node.proofs.Common.{◌≡◌, ◌∙◌, sym, ap, refl, subst, List, [], ◌∷◌, Bool, true, false, not, ◌&&◌, ◌||◌, Some, None, ℤ, fun_ext, list_any, is_some, Held, Extra, Named, Row, has, Accumulate, Look, joins, has_name, has_left, has_right, cleaned, Blockers, Witnesses, counts_blockers, counts_witnesses, gathers, IsLaden, extra_for, blockers_laden, witnesses_laden, gathered_laden, nothing_gathered, arguments_gathered, all_passing}
+use Rattle.pair_memory.specs.Standing.{no_names}
+use Rattle.tally_node.specs.Laws.{lost_passing, LadenLaw, LoadLaw, ResumeLaw, OthersLaw}
 use Rattle.tally_node.proofs.Extras.{nothing_more, number_laden, gathers_laden}
 
 -- ---- a tally and an extra

@@ -1,21 +1,14 @@
 -- Which extra a search finds, and the extras that are listed of rows.
-use Rattle.std.proofs.Common.{◌≡◌, ◌∙◌, sym, ap, refl, subst, ⊎_elim, ◌⊎◌, ℕ, zero, suc, add-one, ◌+◌, ◌<◌, length, get_or, arith, nat_lt, is_lt, List, [], ◌∷◌, ◌++◌, Bool, true, false, cond, ◌||◌, Option, Some, None}
+use Rattle.tally_node.proofs.Common.{◌≡◌, ◌∙◌, sym, ap, refl, subst, ⊎_elim, ◌⊎◌, ℕ, zero, suc, add-one, ◌+◌, ◌<◌, length, get_or, arith, nat_lt, is_lt, List, [], ◌∷◌, ◌++◌, Bool, true, false, cond, ◌||◌, Option, Some, None, Ordering, Less, AllByRecursion, eq_by_cmp, is_eq, RuleId, Extra, Row, has, row_cmp, InOrder, same_equiv, row_decides, extra_for, rows_of_extras}
 use Rattle.std.specs.Prelude.{IfSome}
-use Rattle.std.specs.declared.cmp.Ordering.{Ordering}
-use Rattle.std.specs.declared.cmp.Ordering.TheVariants.{Less, Equal, Greater}
-use Rattle.std.specs.List.{AllByRecursion, AllWithin, cons_option}
+use Rattle.std.specs.declared.cmp.Ordering.TheVariants.{Equal, Greater}
+use Rattle.std.specs.List.{AllWithin, cons_option}
 use Rattle.std.specs.List.Sorted.{IsStrictlySortedBy, IsNonDecreasingBy, IsPartitionPoint, IsSortedBy}
-use Rattle.std.specs.Ordering.{eq_by_cmp, is_eq, ordering_index, ordering_reverse}
+use Rattle.std.specs.Ordering.{ordering_index, ordering_reverse}
 use Rattle.std.proofs.lemmas.List.Sorted.{searchable_from_sorted}
 use Rattle.fx_base.specs.Lists.{In}
-use Rattle.fx_base.specs.declared.ids.RuleId.{RuleId}
-use Rattle.row_delta.specs.declared.extra.Extra.{Extra}
-use Rattle.row_delta.specs.declared.row.Row.{Row}
-use Rattle.row_delta.specs.Rows.{has, row_cmp, InOrder}
-use Rattle.row_delta.specs.RowOrder.{row_total, row_exact, same_equiv}
-use Rattle.pair_memory.proofs.Joining.{row_decides}
+use Rattle.row_delta.specs.RowOrder.{row_total, row_exact}
 use Rattle.tally_node.specs.Beside.{IsOf, one_or_none}
-use Rattle.tally_node.specs.Extras.{extra_for, rows_of_extras}
 
 -- ---- a search among extras in the order of their rows
 eq_of : (o : Ordering) → o ≡ Less → is_eq o ≡ false

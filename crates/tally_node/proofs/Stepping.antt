@@ -1,17 +1,6 @@
 -- The four parts of a step together.
-use Rattle.std.proofs.Common.{◌≡◌, ◌∙◌, sym, ap, refl, subst, cond, List, [], ◌∷◌, Bool, true, false, not, ◌&&◌, Option, Some, None}
-use mathlib.Core.Path.{fun_ext}
-use Rattle.std.specs.Option.{is_some}
-use Rattle.row_delta.specs.declared.row.Named.{Named}
-use Rattle.row_delta.specs.declared.row.Row.{Row}
-use Rattle.row_delta.specs.declared.delta.Delta.{Delta}
-use Rattle.row_delta.specs.Rows.{has}
+use Rattle.tally_node.proofs.Common.{◌≡◌, ◌∙◌, sym, ap, refl, subst, cond, List, [], ◌∷◌, Bool, true, false, not, ◌&&◌, Option, Some, None, fun_ext, is_some, Named, Row, Delta, has, Pattern, Look, joins, Memories, left_at, has_left, has_right, Steps, Follows, Arrives, passing, TallyStep}
 use Rattle.row_change.specs.Changes.{are_none, changes_nothing}
-use Rattle.rule_model.specs.declared.condition.Pattern.{Pattern}
-use Rattle.join_tests.specs.Joins.{Look, joins}
-use Rattle.pair_memory.specs.declared.memories.Memories.{Memories}
-use Rattle.pair_memory.specs.Memories.{left_at, has_left, has_right}
-use Rattle.tally_node.specs.Tallies.{Steps, Follows, Arrives, passing, TallyStep}
 use Rattle.tally_node.proofs.Following.{follow_then}
 
 module _ {T : Type 0} (holds : T → Look → (Named → Bool) → Type 0) (world look : Look) where

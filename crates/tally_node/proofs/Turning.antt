@@ -1,17 +1,6 @@
 -- One tally that is exchanged for another.
-use Rattle.std.proofs.Common.{◌≡◌, ◌∙◌, sym, ap, refl, subst, List, Bool, true, false, cond, not, ◌&&◌, ◌||◌, Option, Some, None, ℤ}
-use Rattle.std.specs.Option.{is_some}
-use Rattle.std.specs.Ordering.{eq_by_cmp}
-use Rattle.row_delta.specs.declared.row.Named.{Named}
-use Rattle.row_delta.specs.declared.row.Row.{Row}
-use Rattle.row_delta.specs.Rows.{row_cmp, has}
-use Rattle.join_tests.specs.Joins.{Look}
-use Rattle.row_change.specs.Changes.{without, along}
-use Rattle.pair_memory.specs.declared.memories.Memories.{Memories}
-use Rattle.pair_memory.specs.Memories.{left_at, has_left}
-use Rattle.pair_memory.proofs.Joining.{row_decides}
-use Rattle.tally_node.specs.Tallies.{Turned, TurnedIf, Steps, output_some, output_from, offers, shown, changed_at}
-use Rattle.tally_node.specs.Origins.{is_from}
+use Rattle.tally_node.proofs.Common.{◌≡◌, ◌∙◌, sym, ap, refl, subst, List, Bool, true, false, cond, not, ◌&&◌, ◌||◌, Option, Some, None, ℤ, is_some, eq_by_cmp, Named, Row, row_cmp, has, Look, without, along, Memories, left_at, has_left, row_decides, Turned, TurnedIf, Steps, output_some, output_from, offers, shown, is_from}
+use Rattle.tally_node.specs.Tallies.{changed_at}
 
 -- ---- a set of rows changed at one row
 both_true : (a b : Bool) → (a && b) ≡ true → (a ≡ true) × (b ≡ true)

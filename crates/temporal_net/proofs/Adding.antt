@@ -1,13 +1,6 @@
 -- Lowering the distance between an edge's ends adds the edge to a table of ways with no inner points.
-use Rattle.std.proofs.Common.{◌≡◌, ◌≢◌, ℕ, ◌<◌, ◌⊎◌, ℤ, pos, ◌≤ℤ◌, List, [], ◌∷◌, ◌++◌, Some, sym, ◌∙◌, ap, subst, inl, inr, arith}
-use Rattle.std.specs.List.{Contains}
-use Rattle.std.proofs.lemmas.Int.{ints}
-use Rattle.std.proofs.lemmas.Bool.{cases_eq}
-use Rattle.std.proofs.lemmas.List.Elements.{All-contains, All-push, Contains-append_left, Contains-push, Contains-push_cases}
-use Rattle.temporal_net.specs.declared.edge.NetEdge.{NetEdge}
-use Rattle.temporal_net.specs.declared.distance.Distance.{Distance}
-use Rattle.temporal_net.specs.Networks.{IsAmong, IsSmall}
-use Rattle.temporal_net.specs.Tables.{Table, edge_cost, edge_distance, zero_distance, lesser, Reaches, Begins, IsTable}
+use Rattle.temporal_net.proofs.Common.{◌≡◌, ◌≢◌, ℕ, ◌<◌, ◌⊎◌, ℤ, pos, ◌≤ℤ◌, List, [], ◌∷◌, ◌++◌, Some, sym, ◌∙◌, ap, subst, inl, inr, arith, Contains, ints, cases_eq, All-contains, NetEdge, Distance, IsAmong, IsSmall, Table, edge_cost, edge_distance, zero_distance, lesser, Reaches, Begins, IsTable}
+use Rattle.std.proofs.lemmas.List.Elements.{All-push, Contains-append_left, Contains-push, Contains-push_cases}
 use Rattle.temporal_net.proofs.Costs.{lesser_keeps, lesser_reaches, lesser_from, zero_kept}
 use Rattle.temporal_net.proofs.Ways.{same_distance}
 

@@ -1,12 +1,6 @@
 -- A table's distances are the greatest differences, and where it has none there is no greatest.
-use Rattle.std.proofs.Common.{◌≡◌, ◌≢◌, ℕ, ◌<◌, ℤ, pos, ◌+ℤ◌, ◌-ℤ◌, ◌≤ℤ◌, List, true, false, cond, eqb, Some, None, refl, ap, subst, inl, inr, arith}
+use Rattle.temporal_net.proofs.Common.{◌≡◌, ◌≢◌, ℕ, ◌<◌, ℤ, pos, ◌+ℤ◌, ◌-ℤ◌, ◌≤ℤ◌, List, true, false, cond, eqb, Some, None, refl, ap, subst, inl, inr, arith, ints, clamps, eqb_tells, NetEdge, Distance, IsSolvable, IsGreatest, IsUnbounded, HasGreatest, Table, zero_distance, IsTable}
 use Rattle.std.specs.Int.{int_max}
-use Rattle.std.proofs.lemmas.Int.{ints, clamps}
-use Rattle.std.proofs.lemmas.Bool.Decides.{eqb_tells}
-use Rattle.temporal_net.specs.declared.edge.NetEdge.{NetEdge}
-use Rattle.temporal_net.specs.declared.distance.Distance.{Distance}
-use Rattle.temporal_net.specs.Networks.{IsSolvable, IsGreatest, IsUnbounded, HasGreatest}
-use Rattle.temporal_net.specs.Tables.{Table, zero_distance, IsTable}
 use Rattle.temporal_net.proofs.Ways.{same_distance, way_of, follows_leads, follows_members, measured, short}
 use Rattle.temporal_net.proofs.Sums.{adds_up}
 use Rattle.temporal_net.proofs.Heights.{height, lowest, below, solves}

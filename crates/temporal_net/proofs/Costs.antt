@@ -1,9 +1,6 @@
 -- What is known of a distance's cost, and what a way over a third point makes of it.
-use Rattle.std.proofs.Common.{◌≡◌, ◌⊎◌, ℤ, pos, ◌+ℤ◌, ◌≤ℤ◌, Bool, true, false, cond, Option, Some, None, refl, ap, inl, inr, arith}
+use Rattle.temporal_net.proofs.Common.{◌≡◌, ◌⊎◌, ℤ, pos, ◌+ℤ◌, ◌≤ℤ◌, Bool, true, false, cond, Option, Some, None, refl, ap, inl, inr, arith, ints, Distance, cost, zero_distance, joined, lesser, lowered, Reaches}
 use Rattle.std.specs.Int.Signed.{lt_z}
-use Rattle.std.proofs.lemmas.Int.{ints}
-use Rattle.temporal_net.specs.declared.distance.Distance.{Distance}
-use Rattle.temporal_net.specs.Tables.{cost, zero_distance, joined, lesser, lowered, Reaches}
 
 pub reaches_more : (o : Option Distance) (a b : ℤ) → Reaches o a → a ≤ℤ b → Reaches o b
 reaches_more None a b h l = h

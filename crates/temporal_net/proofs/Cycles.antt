@@ -1,12 +1,8 @@
 -- A way to a point and back that loses is a negative cycle, and where none loses the next phase goes on.
-use Rattle.std.proofs.Common.{◌≡◌, ℕ, ◌+◌, ◌<◌, ◌≤◌, pos, ◌+ℤ◌, ◌≤ℤ◌, ◌<ℤ◌, List, [], ◌∷◌, ◌++◌, map, length, true, false, Option, Some, None, refl, sym, subst, arith}
-use Rattle.std.proofs.lemmas.Int.{ints}
+use Rattle.temporal_net.proofs.Common.{◌≡◌, ℕ, ◌+◌, ◌<◌, ◌≤◌, pos, ◌+ℤ◌, ◌≤ℤ◌, ◌<ℤ◌, List, [], ◌∷◌, ◌++◌, map, length, true, false, Option, Some, None, refl, sym, subst, arith, ints, All-from_recursion, All-cons, All-nil, NetEdge, Distance, Leads, total, edge_at, IsNegativeCycle, Table, cell, lowered, loses_over, AllShort, AreTable, HasWays, Follows}
 use Rattle.std.proofs.lemmas.List.{map-append}
-use Rattle.std.proofs.lemmas.List.Elements.{All-from_recursion, All-append, All-cons, All-nil}
-use Rattle.temporal_net.specs.declared.edge.NetEdge.{NetEdge}
-use Rattle.temporal_net.specs.declared.distance.Distance.{Distance}
-use Rattle.temporal_net.specs.Networks.{Leads, total, edge_at, IsNegativeCycle}
-use Rattle.temporal_net.specs.Tables.{Table, cell, lowered, loses, loses_over, AllShort, AreTable, HasWays, Follows}
+use Rattle.std.proofs.lemmas.List.Elements.{All-append}
+use Rattle.temporal_net.specs.Tables.{loses}
 use Rattle.temporal_net.proofs.Phases.{next_table}
 use Rattle.temporal_net.proofs.Sums.{leads_on, total-append}
 use Rattle.temporal_net.proofs.Ways.{follows_known, follows_leads, measured, short, widened}

@@ -1,11 +1,5 @@
 -- Each way has at least the sum of the table's distance, and where it has the same sum, at least as many edges.
-use Rattle.std.proofs.Common.{◌≡◌, ℕ, suc, ◌<◌, ◌≤◌, ◌⊎◌, ℤ, ◌+ℤ◌, ◌≤ℤ◌, ◌<ℤ◌, List, [], ◌∷◌, length, Some, refl, sym, subst, inl, inr, arith}
-use Rattle.std.specs.List.{AllByRecursion, Contains}
-use Rattle.std.proofs.lemmas.Int.{ints, by_lt_z}
-use Rattle.temporal_net.specs.declared.edge.NetEdge.{NetEdge}
-use Rattle.temporal_net.specs.declared.distance.Distance.{Distance}
-use Rattle.temporal_net.specs.Networks.{Leads, total}
-use Rattle.temporal_net.specs.Tables.{Table, cost, edge_cost, zero_distance, Reaches, IsTable}
+use Rattle.temporal_net.proofs.Common.{◌≡◌, ℕ, suc, ◌<◌, ◌≤◌, ◌⊎◌, ℤ, ◌+ℤ◌, ◌≤ℤ◌, ◌<ℤ◌, List, [], ◌∷◌, length, Some, refl, sym, subst, inl, inr, arith, AllByRecursion, Contains, ints, by_lt_z, NetEdge, Distance, Leads, total, Table, cost, edge_cost, zero_distance, Reaches, IsTable}
 use Rattle.temporal_net.proofs.Costs.{reaches_known, known_of}
 use Rattle.temporal_net.proofs.Ways.{ends_among, short}
 

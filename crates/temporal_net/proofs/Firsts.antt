@@ -1,13 +1,7 @@
 -- An edge that leaves the rest of a distance begins the way, and there is one.
-use Rattle.std.proofs.Common.{◌≡◌, ◌≢◌, ℕ, ◌+◌, ◌<◌, ℤ, ◌+ℤ◌, List, length, Bool, true, false, ◌&&◌, eqb, Option, Some, None, refl, sym, subst, inr, arith, eq-eqb}
+use Rattle.temporal_net.proofs.Common.{◌≡◌, ◌≢◌, ℕ, ◌+◌, ◌<◌, ℤ, ◌+ℤ◌, List, length, Bool, true, false, ◌&&◌, eqb, Option, Some, None, refl, sym, subst, inr, arith, eq-eqb, ints, eqb-true, Contains-get_or, NetEdge, Distance, edge_at, Table, Begins, HasWays, Steps}
 use Rattle.std.specs.Ordering.{int_eq}
-use Rattle.std.proofs.lemmas.Int.{ints}
-use Rattle.std.proofs.lemmas.Bool.{eqb-true}
-use Rattle.std.proofs.lemmas.List.Elements.{Contains-get_or}
-use Rattle.temporal_net.specs.declared.edge.NetEdge.{NetEdge}
-use Rattle.temporal_net.specs.declared.distance.Distance.{Distance}
-use Rattle.temporal_net.specs.Networks.{edge_at}
-use Rattle.temporal_net.specs.Tables.{Table, opens, Begins, HasWays, Steps}
+use Rattle.temporal_net.specs.Tables.{opens}
 use Rattle.temporal_net.proofs.Ways.{ends_among, numbered}
 
 -- the edge with this number leads from x, and leaves the rest of the way to y

@@ -1,14 +1,5 @@
 -- Solutions from a table: each point as high as its least way to a weighted point.
-use Rattle.std.proofs.Common.{◌≡◌, ℕ, zero, suc, ◌<◌, ◌⊎◌, ℤ, ◌+ℤ◌, ◌≤ℤ◌, int_lt, List, Option, Some, None, true, false, cond, refl, sym, ◌∙◌, subst, inl, inr, arith}
-use Rattle.std.specs.Int.{int_min}
-use Rattle.std.specs.List.{Contains}
-use Rattle.std.proofs.lemmas.Int.{ints, clamps}
-use Rattle.std.proofs.lemmas.Bool.{cases_eq}
-use Rattle.std.proofs.lemmas.List.Elements.{Contains-get_or}
-use Rattle.temporal_net.specs.declared.edge.NetEdge.{NetEdge}
-use Rattle.temporal_net.specs.declared.distance.Distance.{Distance}
-use Rattle.temporal_net.specs.Networks.{Meets, Solves}
-use Rattle.temporal_net.specs.Tables.{Table, cost, edge_cost, zero_distance, IsTable}
+use Rattle.temporal_net.proofs.Common.{◌≡◌, ℕ, zero, suc, ◌<◌, ◌⊎◌, ℤ, ◌+ℤ◌, ◌≤ℤ◌, int_lt, List, Option, Some, None, true, false, cond, refl, sym, ◌∙◌, subst, inl, inr, arith, int_min, Contains, ints, clamps, cases_eq, Contains-get_or, NetEdge, Distance, Meets, Solves, Table, cost, edge_cost, zero_distance, IsTable}
 use Rattle.temporal_net.proofs.Costs.{reaches_known, known_of}
 use Rattle.temporal_net.proofs.Ways.{ends_among, short}
 

@@ -1,3 +1,4 @@
+mod Common
 pub mod Adding
 pub mod Bounds
 pub mod Costs

@@ -1,11 +1,5 @@
 -- Lowering each distance by the way over the point k turns a table of ways below k into one below k + 1.
-use Rattle.std.proofs.Common.{◌≡◌, ◌≢◌, ℕ, ◌+◌, ◌<◌, ◌≤◌, ◌⊎◌, ℤ, pos, ◌+ℤ◌, ◌≤ℤ◌, List, Option, Some, sym, ◌∙◌, ap, subst, inl, inr, arith}
-use Rattle.std.specs.List.{Contains}
-use Rattle.std.proofs.lemmas.Int.{ints}
-use Rattle.std.proofs.lemmas.Bool.{cases_eq}
-use Rattle.temporal_net.specs.declared.edge.NetEdge.{NetEdge}
-use Rattle.temporal_net.specs.declared.distance.Distance.{Distance}
-use Rattle.temporal_net.specs.Tables.{Table, cost, edge_cost, zero_distance, joined, lowered, Reaches, Begins, HasWays, IsTable}
+use Rattle.temporal_net.proofs.Common.{◌≡◌, ◌≢◌, ℕ, ◌+◌, ◌<◌, ◌≤◌, ◌⊎◌, ℤ, pos, ◌+ℤ◌, ◌≤ℤ◌, List, Option, Some, sym, ◌∙◌, ap, subst, inl, inr, arith, Contains, ints, cases_eq, NetEdge, Distance, Table, cost, edge_cost, zero_distance, joined, lowered, Reaches, Begins, HasWays, IsTable}
 use Rattle.temporal_net.proofs.Costs.{reaches_more, reaches_known, known_of, cost-joined, lowered_keeps, lowered_joins, Over, lowered_from, zero_stays, zero_first}
 use Rattle.temporal_net.proofs.Ways.{same_distance, ends_among, widened, short}
 

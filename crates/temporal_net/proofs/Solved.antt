@@ -1,17 +1,12 @@
 -- What the rows of a solved network say of it.
-use Rattle.std.proofs.Common.{◌≡◌, ◌≢◌, ℕ, ◌<◌, ◌≤◌, List, [], ◌∷◌, ◌++◌, map, length, get_or, take, drop, Option, Some, None, Result, Ok, Err, IfOk, sym, ◌∙◌, ap, subst, inl, inr, arith, to_z, of_z, w64, FitsSigned}
-use Rattle.std.specs.List.{AllPairs, Contains}
+use Rattle.temporal_net.proofs.Common.{◌≡◌, ◌≢◌, ℕ, ◌<◌, ◌≤◌, List, [], ◌∷◌, ◌++◌, map, length, get_or, take, drop, Option, Some, None, Result, Ok, Err, IfOk, sym, ◌∙◌, ap, subst, inl, inr, arith, to_z, of_z, w64, FitsSigned, Contains, ints, get_or_default, length-map, All-from_recursion, recursion_from_All, NetEdge, Distance, total, edge_at, points_of, IsGreatest, IsUnbounded, IsShortestPath, HasGreatest, cell, zero_distance, AreTable, Follows}
+use Rattle.std.specs.List.{AllPairs}
 use Rattle.std.proofs.lemmas.Grind.{common_steps}
-use Rattle.std.proofs.lemmas.Int.{ints, to_z-of_z}
+use Rattle.std.proofs.lemmas.Int.{to_z-of_z}
 use Rattle.std.proofs.lemmas.Bool.Decides.{Decides-eqb}
-use Rattle.std.proofs.lemmas.List.{get_or_default, length-map}
-use Rattle.std.proofs.lemmas.List.Elements.{All-from_recursion, recursion_from_All}
 use Rattle.std.proofs.lemmas.Map.Made.{AllPairs-from_IsDistinct}
 use Rattle.fx_base.specs.declared.bound.Bound.TheVariants.{Finite}
-use Rattle.temporal_net.specs.declared.edge.NetEdge.{NetEdge}
-use Rattle.temporal_net.specs.declared.distance.Distance.{Distance}
-use Rattle.temporal_net.specs.Networks.{total, edge_at, points_of, IsGreatest, IsUnbounded, IsWay, IsShortestPath, IsWithinNetwork, HasGreatest, Network}
-use Rattle.temporal_net.specs.Tables.{cell, zero_distance, AreTable, Follows}
+use Rattle.temporal_net.specs.Networks.{IsWay, IsWithinNetwork, Network}
 use Rattle.temporal_net.proofs.Bounds.{greatest, unbounded, known}
 use Rattle.temporal_net.proofs.Fewest.{IsNoMore, least_of_ways}
 use Rattle.temporal_net.proofs.Ways.{same_distance, follows_leads, follows_members, measured, distinct, short}

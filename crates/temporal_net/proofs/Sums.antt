@@ -1,10 +1,5 @@
 -- Adding up the edges of a way bounds the difference of its ends in each solution.
-use Rattle.std.proofs.Common.{◌≡◌, ℕ, ◌<◌, ℤ, pos, ◌+ℤ◌, ◌-ℤ◌, ◌≤ℤ◌, List, [], ◌∷◌, ◌++◌, map, length, sym, subst, arith}
-use Rattle.std.specs.List.{AllByRecursion, Contains}
-use Rattle.std.proofs.lemmas.Int.{ints}
-use Rattle.std.proofs.lemmas.List.Elements.{All-contains, recursion_from_All, Contains-get_or}
-use Rattle.temporal_net.specs.declared.edge.NetEdge.{NetEdge}
-use Rattle.temporal_net.specs.Networks.{Meets, Solves, Leads, total, edge_at, IsNegativeCycle}
+use Rattle.temporal_net.proofs.Common.{◌≡◌, ℕ, ◌<◌, ℤ, pos, ◌+ℤ◌, ◌-ℤ◌, ◌≤ℤ◌, List, [], ◌∷◌, ◌++◌, map, length, sym, subst, arith, AllByRecursion, Contains, ints, All-contains, recursion_from_All, Contains-get_or, NetEdge, Meets, Solves, Leads, total, edge_at, IsNegativeCycle}
 
 pub adds_up : (edges : List NetEdge) (v : ℕ → ℤ) → Solves edges v → (x : ℕ) (way : List NetEdge) (y : ℕ) → AllByRecursion (Contains edges) way → Leads x way y → (v x -ℤ v y) ≤ℤ total way
 adds_up edges v s x [] y m l = let same : (v x -ℤ v x) ≤ℤ pos 0 = omega (arith, ints) in subst (λ p. (v x -ℤ v p) ≤ℤ pos 0) l same

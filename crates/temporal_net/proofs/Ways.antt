@@ -1,16 +1,7 @@
 -- The ways of a table: there is one for each distance, it meets no point twice, and so it has at most 15 edges.
-use Rattle.std.proofs.Common.{◌≡◌, ℕ, zero, suc, ◌<◌, ◌≤◌, ◌⊎◌, ℤ, pos, negsuc, ◌*ℤ◌, ◌≤ℤ◌, List, [], ◌∷◌, map, length, true, false, ◌||◌, eqb, Option, Some, None, IfSome, refl, sym, ◌∙◌, ap, subst, inl, inr, arith}
-use Rattle.std.specs.List.{All, AllByRecursion, Contains, IsDistinct, list_any}
-use Rattle.std.proofs.lemmas.Int.{ints}
-use Rattle.std.proofs.lemmas.Bool.{cases_eq}
-use Rattle.std.proofs.lemmas.Bool.Decides.{eqb_tells}
-use Rattle.std.proofs.lemmas.List.{get_or_default, length-map}
-use Rattle.std.proofs.lemmas.List.Elements.{All-contains}
-use Rattle.std.proofs.lemmas.Map.Steps.{length-le_from_distinct_below}
-use Rattle.temporal_net.specs.declared.edge.NetEdge.{NetEdge}
-use Rattle.temporal_net.specs.declared.distance.Distance.{Distance}
-use Rattle.temporal_net.specs.Networks.{Leads, total, points_of, edge_at, IsAmong, IsSmall}
-use Rattle.temporal_net.specs.Tables.{Table, zero_distance, IsShort, Begins, HasWays, Steps, Follows}
+use Rattle.temporal_net.proofs.Common.{◌≡◌, ℕ, zero, suc, ◌<◌, ◌≤◌, ◌⊎◌, ℤ, pos, negsuc, ◌*ℤ◌, ◌≤ℤ◌, List, [], ◌∷◌, map, length, true, false, ◌||◌, eqb, Option, Some, None, IfSome, refl, sym, ◌∙◌, ap, subst, inl, inr, arith, All, AllByRecursion, Contains, ints, cases_eq, eqb_tells, get_or_default, length-map, All-contains, length-le_from_distinct_below, NetEdge, Distance, Leads, total, points_of, edge_at, IsAmong, IsSmall, Table, zero_distance, Begins, HasWays, Steps, Follows}
+use Rattle.std.specs.List.{IsDistinct, list_any}
+use Rattle.temporal_net.specs.Tables.{IsShort}
 
 -- how many edges are left
 abbrev pub edges_left : Option Distance → ℕ

@@ -1,13 +1,9 @@
 -- How the fields of an operator come from its list of edges.
-use Rattle.std.proofs.Common.{◌≡◌, ℕ, ◌+◌, ◌<◌, ◌≤◌, ◌++◌, List, length, map, take, drop, get_or, set, sym, ◌∙◌, ap, subst, arith, length-append, length-drop, length-take, length-take-le, append-nil}
-use Rattle.std.specs.Prelude.{replicate}
-use Rattle.std.proofs.lemmas.List.{drop-replicate, take_all, drop_all, length-map, take-append-le, get_or_default}
+use Rattle.temporal_ops.proofs.Common.{◌≡◌, ℕ, ◌+◌, ◌<◌, ◌≤◌, ◌++◌, List, length, map, take, drop, get_or, set, sym, ◌∙◌, ap, subst, arith, length-append, length-drop, length-take, length-take-le, append-nil, replicate, take_all, length-map, take-append_seam, OpEdge, IsOp, opposite_edge, blank}
+use Rattle.std.proofs.lemmas.List.{drop-replicate, drop_all, take-append-le, get_or_default}
 use Rattle.std.proofs.lemmas.List.Edits.{map_over_more}
-use Rattle.std.proofs.Math.Seq.{drop-append_seam, take-append_seam}
-use Rattle.temporal_ops.specs.declared.edge.OpEdge.{OpEdge}
-use Rattle.temporal_ops.specs.Edges.{IsOp}
-use Rattle.temporal_ops.specs.Operators.{opposite_edge}
-use Rattle.temporal_ops.specs.Stored.{blank, IsStored}
+use Rattle.std.proofs.Math.Seq.{drop-append_seam}
+use Rattle.temporal_ops.specs.Stored.{IsStored}
 use Rattle.temporal_ops.proofs.Ops.{opposite_is_op}
 
 pub stored_front : (edges : List OpEdge) → IsOp edges

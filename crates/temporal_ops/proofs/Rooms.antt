@@ -1,19 +1,6 @@
 -- What an edge takes out of the room, and what the room says of starts.
-use Rattle.std.proofs.Common.{◌≡◌, ◌↔◌, ℕ, ℤ, ◌+◌, ◌<◌, ◌≤◌, ◌+ℤ◌, ◌-ℤ◌, ◌≤ℤ◌, Bool, true, false, ◌&&◌, List, length, take, get_or, Option, Some, None, refl, sym, ap, ◌∙◌, arith}
-use Rattle.std.specs.Int.{int_max}
-use Rattle.std.specs.List.{list_all}
-use Rattle.std.proofs.lemmas.Int.{ints, clamps}
-use Rattle.std.proofs.lemmas.List.{take_all}
+use Rattle.temporal_ops.proofs.Common.{◌≡◌, ◌↔◌, ℕ, ℤ, ◌+◌, ◌<◌, ◌≤◌, ◌+ℤ◌, ◌-ℤ◌, ◌≤ℤ◌, Bool, true, false, ◌&&◌, List, length, take, get_or, Option, Some, None, refl, sym, ap, ◌∙◌, arith, int_max, list_all, ints, clamps, take_all, Times, Corner, AStart, AEnd, OpEdge, Limits, Room, corner, edge_holds, all_hold, IsLatest, IsPossible, IsUnbounded, is_empty, IsAbove, IsBelow, IsBetween, Fits, FitsEvent, AreStartLimits}
 use Rattle.std.proofs.lemmas.List.Folds.{list_all_more}
-use Rattle.fx_base.specs.declared.times.Times.{Times}
-use Rattle.temporal_ops.specs.declared.edge.Corner.{Corner}
-use Rattle.temporal_ops.specs.declared.edge.Corner.TheVariants.{AStart, AEnd}
-use Rattle.temporal_ops.specs.declared.edge.OpEdge.{OpEdge}
-use Rattle.temporal_ops.specs.declared.room.Limits.{Limits}
-use Rattle.temporal_ops.specs.declared.room.Room.{Room}
-use Rattle.temporal_ops.specs.Edges.{corner, edge_holds}
-use Rattle.temporal_ops.specs.Possible.{all_hold, IsLatest, IsPossible, IsUnbounded}
-use Rattle.temporal_ops.specs.Room.{is_empty, IsAbove, IsBelow, IsBetween, Fits, FitsEvent, AreStartLimits}
 use Rattle.temporal_ops.proofs.Rows.{both, joined, edge_bounds}
 
 -- one test more of a list

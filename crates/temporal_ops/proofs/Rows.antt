@@ -1,16 +1,9 @@
 -- The edges of each word mean its row of the table.
-use Rattle.std.proofs.Common.{◌≡◌, ℤ, ◌-ℤ◌, ◌≤ℤ◌, Bool, true, false, ◌&&◌, List, [], ◌∷◌, Option, Some, None, map, option_map, refl, sym, ◌∙◌, arith, ◌↔◌}
-use Rattle.std.specs.List.{list_all}
-use Rattle.std.proofs.lemmas.Int.{ints, clamps}
-use Rattle.fx_base.specs.declared.times.Times.{Times}
-use Rattle.temporal_ops.specs.declared.edge.Corner.{Corner}
-use Rattle.temporal_ops.specs.declared.edge.Corner.TheVariants.{AStart, AEnd, BStart, BEnd}
-use Rattle.temporal_ops.specs.declared.edge.OpEdge.{OpEdge}
-use Rattle.temporal_ops.specs.declared.word.OpWord.TheVariants.{After, Before, Coincides, During, Includes, Finishes, FinishedBy, Starts, StartedBy, Meets, MetBy, Overlaps, OverlappedBy}
-use Rattle.temporal_ops.specs.Edges.{corner, edge_holds, edges_hold}
-use Rattle.temporal_ops.specs.Laws.{EdgesMeanRows, Means}
-use Rattle.temporal_ops.specs.Operators.{near, tolerance, gap_edges, coincide_edges, during_edges, order_edges, overlaps_edges, opposite, opposite_edge, edges_of}
-use Rattle.temporal_ops.specs.Table.{Row, says, no_row, exchanged, during, overlaps, row_of}
+use Rattle.temporal_ops.proofs.Common.{◌≡◌, ℤ, ◌-ℤ◌, ◌≤ℤ◌, Bool, true, false, ◌&&◌, List, [], ◌∷◌, Option, Some, None, map, option_map, refl, sym, ◌∙◌, arith, ◌↔◌, list_all, ints, clamps, Times, Corner, AStart, AEnd, BStart, BEnd, OpEdge, After, Before, Coincides, During, Includes, Finishes, FinishedBy, Starts, StartedBy, Meets, MetBy, Overlaps, OverlappedBy, corner, Means, near, tolerance, gap_edges, coincide_edges, during_edges, order_edges, overlaps_edges, opposite, opposite_edge, Row, says, no_row, row_of}
+use Rattle.temporal_ops.specs.Edges.{edge_holds, edges_hold}
+use Rattle.temporal_ops.specs.Laws.{EdgesMeanRows}
+use Rattle.temporal_ops.specs.Operators.{edges_of}
+use Rattle.temporal_ops.specs.Table.{exchanged, during, overlaps}
 
 pub both : (p q : Bool) → (p && q) ≡ true → (p ≡ true) × (q ≡ true)
 both true q h = (refl, h)

@@ -1,14 +1,6 @@
 -- What is inside a window, and what a change makes of the versions.
-use Rattle.std.proofs.Common.{◌≡◌, ◌∙◌, sym, ap, refl, subst, ℕ, ℤ, ◌+◌, ◌-ℤ◌, ◌<◌, ◌≤◌, min, List, [], ◌∷◌, ◌++◌, map, filter, length, Bool, true, false, cond, not, arith}
-use Rattle.std.specs.Prelude.{nat_lt, int_lt}
-use Rattle.std.proofs.lemmas.Bool.Decides.{nat_tests}
-use Rattle.std.proofs.lemmas.List.{length-map, length-append, map-append}
-use Rattle.row_delta.specs.declared.row.Named.{Named}
-use Rattle.window_gate.specs.declared.change.WindowKind.TheVariants.{Whole, Time, Length}
-use Rattle.window_gate.specs.declared.change.GateChange.{GateChange}
-use Rattle.window_gate.specs.declared.change.GateChange.TheVariants.{Come, Gone, Clock}
-use Rattle.window_gate.specs.Windows.{Arrival, named_of, has_tag, inside, after}
-use Rattle.window_gate.specs.Standing.{TagsDiffer, MayChange}
+use Rattle.window_gate.proofs.Common.{◌≡◌, ◌∙◌, sym, ap, refl, subst, ℕ, ℤ, ◌+◌, ◌-ℤ◌, ◌<◌, ◌≤◌, min, List, [], ◌∷◌, ◌++◌, map, filter, length, Bool, true, false, cond, not, arith, int_lt, nat_tests, length-map, length-append, map-append, Named, Whole, Time, Length, GateChange, Come, Gone, Clock, Arrival, named_of, has_tag, inside, after, TagsDiffer, MayChange}
+use Rattle.std.specs.Prelude.{nat_lt}
 use Rattle.window_gate.specs.declared.change.WindowKind.{WindowKind}
 use Rattle.window_gate.proofs.Names.{without, differ_push, differ_without}
 

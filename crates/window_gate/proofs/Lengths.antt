@@ -1,25 +1,9 @@
 -- The steps of a length window.
-use Rattle.std.proofs.Common.{◌≡◌, ◌∙◌, sym, ap, refl, subst, ℕ, zero, suc, ℤ, ◌+◌, min, List, [], ◌∷◌, ◌++◌, map, length, Bool, true, false, cond, not, ◌==◌, ◌&&◌, ◌||◌, Option, Some, None, arith, append_assoc, append-nil, ◌⊎◌, inl, inr, ⊎_elim}
-use Rattle.std.specs.Option.{option_to_list}
-use Rattle.std.specs.BTreeMap.{insert_entry, is_at, get, BTreeMap}
-use Rattle.std.specs.List.{list_any}
-use Rattle.std.specs.List.Sorted.{IsStrictlySortedBy}
-use Rattle.std.specs.Map.{keys_of, values_of, lookup, remove_entry}
-use Rattle.std.specs.Option.{option_or, MatchOption}
-use Rattle.std.specs.Ordering.{nat_cmp, eq_by_cmp}
-use Rattle.std.proofs.lemmas.Bool.Decides.{Decides-eqb, nat_tests}
-use Rattle.std.proofs.lemmas.List.{length-append, length-map}
-use Rattle.std.proofs.lemmas.List.Folds.{list_any-append}
-use Rattle.row_delta.specs.NameOrder.{name_cmp}
-use Rattle.row_delta.specs.Differences.{IsBetween}
-use Rattle.row_delta.specs.declared.row.Named.{Named}
-use Rattle.row_delta.specs.declared.delta.Delta.{Delta}
-use Rattle.window_gate.specs.declared.change.WindowKind.TheVariants.{Length}
-use Rattle.window_gate.specs.declared.change.GateChange.TheVariants.{Come, Gone}
+use Rattle.window_gate.proofs.Common.{◌≡◌, ◌∙◌, sym, ap, refl, subst, ℕ, zero, suc, ℤ, ◌+◌, min, List, [], ◌∷◌, ◌++◌, map, length, Bool, true, false, cond, not, ◌==◌, ◌&&◌, ◌||◌, Option, Some, None, arith, append_assoc, append-nil, ◌⊎◌, inl, inr, ⊎_elim, option_to_list, option_or, insert_entry, is_at, get, BTreeMap, list_any, IsStrictlySortedBy, keys_of, values_of, lookup, remove_entry, nat_cmp, eq_by_cmp, Decides-eqb, nat_tests, length-append, length-map, list_any-append, name_cmp, IsBetween, Named, Delta, Length, Come, Gone, Arrival, named_of, has_tag, single, inside, after, rows_inside, has_name, TagsDiffer, number_of, KeepsLength, Numbered}
+use Rattle.std.specs.Option.{MatchOption}
 use Rattle.window_gate.specs.declared.length_window.LengthWindow.{LengthWindow}
-use Rattle.window_gate.specs.Windows.{Arrival, named_of, has_tag, single, inside, after, rows_inside}
-use Rattle.window_gate.specs.Standing.{has_name, TagsDiffer, number_of, numbered, KeepsLength}
-use Rattle.window_gate.specs.Pieces.{Numbered, MakesRoom, BringsBack, Removes}
+use Rattle.window_gate.specs.Standing.{numbered}
+use Rattle.window_gate.specs.Pieces.{MakesRoom, BringsBack, Removes}
 use Rattle.window_gate.proofs.Names.{same_name, same_itself, equal_names, none_with_tag, names_apart, names-without, only_one, without, differ_right, absent_right}
 use Rattle.window_gate.proofs.Singles.{between_names}
 use Rattle.window_gate.proofs.Insides.{latest, length-latest, latest_split, inside_length, named-filter, named-push}

@@ -1,17 +1,7 @@
 -- Versions by their tags: which of a list have a tag, and lists whose tags differ.
-use Rattle.std.proofs.Common.{◌≡◌, ◌∙◌, sym, ap, refl, ℕ, List, [], ◌∷◌, ◌++◌, filter, Bool, true, false, cond, not, ◌==◌, ◌&&◌, ◌||◌, arith}
-use Rattle.std.specs.Ordering.{nat_cmp, ordering_then, eq_by_cmp, is_eq}
-use Rattle.std.specs.declared.cmp.Ordering.{Ordering}
-use Rattle.std.specs.declared.cmp.Ordering.TheVariants.{Less, Equal, Greater}
-use Rattle.std.specs.List.{list_any}
-use Rattle.std.specs.Cmp.{unsigned_tied}
-use Rattle.std.proofs.lemmas.Bool.Decides.{Decides-eqb, nat_tests}
-use Rattle.std.proofs.lemmas.List.Folds.{list_any-append}
+use Rattle.window_gate.proofs.Common.{◌≡◌, ◌∙◌, sym, ap, refl, ℕ, List, [], ◌∷◌, ◌++◌, filter, Bool, true, false, cond, not, ◌==◌, ◌&&◌, ◌||◌, arith, nat_cmp, ordering_then, eq_by_cmp, is_eq, Ordering, Less, Equal, Greater, list_any, unsigned_tied, Decides-eqb, nat_tests, list_any-append, name_cmp, Named, has_tag, has_name, TagsDiffer}
 use Rattle.std.proofs.lemmas.Map.Views.{tells_apart}
-use Rattle.row_delta.specs.NameOrder.{name_cmp, name_equiv, name_exact}
-use Rattle.row_delta.specs.declared.row.Named.{Named}
-use Rattle.window_gate.specs.Windows.{has_tag}
-use Rattle.window_gate.specs.Standing.{has_name, TagsDiffer}
+use Rattle.row_delta.specs.NameOrder.{name_equiv, name_exact}
 
 -- whether two versions are the same
 abbrev pub same_name : Named → Named → Bool

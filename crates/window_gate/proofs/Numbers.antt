@@ -1,19 +1,7 @@
 -- Versions under rising numbers: one put in at an end, one taken out by its number, and the numbers by their tags.
-use Rattle.std.proofs.Common.{◌≡◌, ◌∙◌, sym, ap, refl, subst, ℕ, ◌+◌, List, [], ◌∷◌, ◌++◌, filter, length, Bool, true, false, cond, not, ◌==◌, ◌||◌, Option, Some, None, arith, append-nil, ◌⊎◌, inl, inr}
-use Rattle.std.specs.declared.cmp.Ordering.TheVariants.{Less, Greater}
-use Rattle.std.specs.BTreeMap.{insert_entry, is_at}
-use Rattle.std.specs.Cmp.{unsigned_tied}
-use Rattle.std.specs.List.{list_any, AllByRecursion}
+use Rattle.window_gate.proofs.Common.{◌≡◌, ◌∙◌, sym, ap, refl, subst, ℕ, ◌+◌, List, [], ◌∷◌, ◌++◌, filter, length, Bool, true, false, cond, not, ◌==◌, ◌||◌, Option, Some, None, arith, append-nil, ◌⊎◌, inl, inr, Less, Greater, insert_entry, is_at, unsigned_tied, list_any, AllByRecursion, keys_of, values_of, lookup, remove_entry, option_or, nat_cmp, is_eq, Decides-eqb, nat_tests, map-append, Named, has_tag, TagsDiffer, number_of, Numbered}
 use Rattle.std.specs.List.Sorted.{IsStrictlySortedBy}
-use Rattle.std.specs.Map.{keys_of, values_of, lookup, remove_entry}
-use Rattle.std.specs.Option.{option_or}
-use Rattle.std.specs.Ordering.{nat_cmp, is_eq, match_ordering}
-use Rattle.std.proofs.lemmas.Bool.Decides.{Decides-eqb, nat_tests}
-use Rattle.std.proofs.lemmas.List.{map-append}
-use Rattle.row_delta.specs.declared.row.Named.{Named}
-use Rattle.window_gate.specs.Windows.{has_tag}
-use Rattle.window_gate.specs.Standing.{TagsDiffer, number_of}
-use Rattle.window_gate.specs.Pieces.{Numbered}
+use Rattle.std.specs.Ordering.{match_ordering}
 use Rattle.window_gate.proofs.Names.{without, apart, differ_left, differ_right}
 
 -- ---- the order of numbers

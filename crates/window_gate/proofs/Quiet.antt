@@ -1,20 +1,9 @@
 -- Until the first moment that is due, the clock changes nothing.
-use Rattle.std.proofs.Common.{◌≡◌, ◌∙◌, sym, ap, refl, inl, inr, ℕ, ℤ, ◌+ℤ◌, ◌≤ℤ◌, ◌<ℤ◌, List, [], ◌∷◌, map, Bool, true, false, cond, not, ◌&&◌, ◌||◌, Option, Some, None, option_map, arith}
-use Rattle.std.specs.Prelude.{IfSome, IsSomeAnd, int_le}
+use Rattle.window_gate.proofs.Common.{◌≡◌, ◌∙◌, sym, ap, refl, inl, inr, ℕ, ℤ, ◌+ℤ◌, ◌≤ℤ◌, ◌<ℤ◌, List, [], ◌∷◌, map, Bool, true, false, cond, not, ◌&&◌, ◌||◌, Option, Some, None, option_map, arith, int_le, ints, has_come, is_due, IsBetween, has, Delta, Row, Clock, Time, TimeWindow, takes_out, KeepsTime, TagsDiffer, with_tag, Arrival, named_of, has_tag, inside, rows_inside}
+use Rattle.std.specs.Prelude.{IfSome, IsSomeAnd}
 use Rattle.std.specs.FinMap as timers
-use Rattle.std.proofs.lemmas.Int.{ints}
-use Rattle.due_queue.specs.Timers.{has_come, is_due}
 use Rattle.fx_base.specs.Lists.{In}
-use Rattle.row_delta.specs.Differences.{IsBetween}
-use Rattle.row_delta.specs.Rows.{has}
-use Rattle.row_delta.specs.declared.delta.Delta.{Delta}
-use Rattle.row_delta.specs.declared.row.Row.{Row}
-use Rattle.window_gate.specs.declared.change.GateChange.TheVariants.{Clock}
-use Rattle.window_gate.specs.declared.change.WindowKind.TheVariants.{Time}
-use Rattle.window_gate.specs.declared.time_window.TimeWindow.{TimeWindow}
-use Rattle.window_gate.specs.Pieces.{takes_out}
-use Rattle.window_gate.specs.Standing.{KeepsTime, TagsDiffer, LeavesAt, with_tag}
-use Rattle.window_gate.specs.Windows.{Arrival, named_of, has_tag, inside, rows_inside}
+use Rattle.window_gate.specs.Standing.{LeavesAt}
 use Rattle.window_gate.proofs.Times.{other_kept, other_between}
 use Rattle.window_gate.proofs.Wholes.{none_in_order}
 

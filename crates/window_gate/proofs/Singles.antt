@@ -1,20 +1,10 @@
 -- Rows of one version: their order is that of the versions, and a difference of versions is one of rows.
-use Rattle.std.proofs.Common.{◌≡◌, ◌∙◌, sym, ap, refl, subst, ℕ, ℤ, List, [], ◌∷◌, map, Bool, false, cond, not, ◌&&◌, ◌||◌}
+use Rattle.window_gate.proofs.Common.{◌≡◌, ◌∙◌, sym, ap, refl, subst, ℕ, ℤ, List, [], ◌∷◌, map, Bool, false, cond, not, ◌&&◌, ◌||◌, Ordering, Less, Equal, Greater, nat_cmp, ordering_then, eq_by_cmp, is_eq, AllByRecursion, name_cmp, has, IsBetween, Named, Row, Delta, single, has_name}
 use mathlib.Core.Path.{fun_ext}
-use Rattle.std.specs.declared.cmp.Ordering.{Ordering}
-use Rattle.std.specs.declared.cmp.Ordering.TheVariants.{Less, Equal, Greater}
-use Rattle.std.specs.Ordering.{nat_cmp, int_cmp, ordering_then, eq_by_cmp, is_eq}
+use Rattle.std.specs.Ordering.{int_cmp}
 use Rattle.std.specs.Cmp.Lexicographic.{slice_cmp}
-use Rattle.std.specs.List.{AllByRecursion}
 use Rattle.std.specs.List.Sorted.{IsStrictlySortedBy}
-use Rattle.row_delta.specs.NameOrder.{name_cmp}
-use Rattle.row_delta.specs.Rows.{row_cmp, has, InOrder}
-use Rattle.row_delta.specs.Differences.{IsBetween}
-use Rattle.row_delta.specs.declared.row.Named.{Named}
-use Rattle.row_delta.specs.declared.row.Row.{Row}
-use Rattle.row_delta.specs.declared.delta.Delta.{Delta}
-use Rattle.window_gate.specs.Windows.{single}
-use Rattle.window_gate.specs.Standing.{has_name}
+use Rattle.row_delta.specs.Rows.{row_cmp, InOrder}
 
 -- the row of these facts and values
 abbrev row_of : List Named → List ℤ → Row

@@ -1,29 +1,9 @@
 -- The step of a time window, tag by tag.
-use Rattle.std.proofs.Common.{◌≡◌, ◌∙◌, sym, ap, refl, ℕ, ℤ, pos, ◌+ℤ◌, ◌-ℤ◌, ◌≤ℤ◌, List, [], ◌∷◌, map, filter, Bool, true, false, cond, not, ◌==◌, ◌&&◌, ◌||◌, Option, Some, None, option_map, arith, nat_eq, negsuc, FitsSigned, w64}
-use Rattle.std.specs.Prelude.{int_lt, int_le}
+use Rattle.window_gate.proofs.Common.{◌≡◌, ◌∙◌, sym, ap, refl, ℕ, ℤ, pos, ◌+ℤ◌, ◌-ℤ◌, ◌≤ℤ◌, List, [], ◌∷◌, map, filter, Bool, true, false, cond, not, ◌==◌, ◌&&◌, ◌||◌, Option, Some, None, option_map, arith, nat_eq, negsuc, FitsSigned, w64, int_lt, int_le, BTreeMap, get, IsStrictlySortedBy, nat_cmp, list_any, option_or, is_some, option_to_list, Decides-eqb, nat_tests, ints, FactId, Timers, has_come, IsBetween, name_cmp, Delta, Named, Whole, Time, GateChange, Come, Gone, Clock, TimeWindow, Arrival, named_of, has_tag, inside, after, single, rows_inside, has_name, TagsDiffer, with_tag, KeepsTime, is_id, takes_out, leaves}
 use Rattle.std.specs.Int.{saturate_signed}
-use Rattle.std.specs.BTreeMap.{BTreeMap, get}
 use Rattle.std.specs.FinMap as timers
-use Rattle.std.specs.List.Sorted.{IsStrictlySortedBy}
-use Rattle.std.specs.Ordering.{nat_cmp}
-use Rattle.std.specs.List.{list_any}
-use Rattle.std.specs.Option.{option_or, is_some, option_to_list}
-use Rattle.std.proofs.lemmas.Bool.Decides.{Decides-eqb, nat_tests}
-use Rattle.std.proofs.lemmas.Int.{ints}
 use Rattle.std.proofs.lemmas.List.Folds.{find-append}
-use Rattle.fx_base.specs.declared.ids.FactId.{FactId}
-use Rattle.due_queue.specs.Timers.{Timers, has_come}
-use Rattle.row_delta.specs.Differences.{IsBetween}
-use Rattle.row_delta.specs.NameOrder.{name_cmp}
-use Rattle.row_delta.specs.declared.delta.Delta.{Delta}
-use Rattle.row_delta.specs.declared.row.Named.{Named}
-use Rattle.window_gate.specs.declared.change.WindowKind.TheVariants.{Whole, Time}
-use Rattle.window_gate.specs.declared.change.GateChange.{GateChange}
-use Rattle.window_gate.specs.declared.change.GateChange.TheVariants.{Come, Gone, Clock}
-use Rattle.window_gate.specs.declared.time_window.TimeWindow.{TimeWindow}
-use Rattle.window_gate.specs.Windows.{Arrival, named_of, has_tag, inside, after, single, rows_inside}
-use Rattle.window_gate.specs.Standing.{has_name, TagsDiffer, with_tag, KeepsTime, most}
-use Rattle.window_gate.specs.Pieces.{is_id, takes_out, leaves}
+use Rattle.window_gate.specs.Standing.{most}
 use Rattle.window_gate.proofs.Names.{same_name, same_name-parts, none_with_tag, has_tag-same}
 use Rattle.window_gate.proofs.Insides.{is_recent, inside_time, differ_after}
 use Rattle.window_gate.proofs.Lengths.{few_in_order}

@@ -1,22 +1,8 @@
 -- Tags that wait: what is taken out of the queue and of the ids, and what is put in.
-use Rattle.std.proofs.Common.{◌≡◌, ◌∙◌, sym, ap, refl, ℕ, ℤ, ◌+◌, ◌<◌, List, [], ◌∷◌, ◌++◌, take, length, get_or, Bool, true, false, cond, not, ◌==◌, ◌&&◌, ◌||◌, Option, Some, None, arith, nat_eq}
+use Rattle.window_gate.proofs.Common.{◌≡◌, ◌∙◌, sym, ap, refl, ℕ, ℤ, ◌+◌, ◌<◌, List, [], ◌∷◌, ◌++◌, take, length, get_or, Bool, true, false, cond, not, ◌==◌, ◌&&◌, ◌||◌, Option, Some, None, arith, nat_eq, is_at, list_any, is_some, nat_cmp, eq_by_cmp, Decides-eqb, nat_tests, nat_cmp_total, list_any-append, FactId, Timers, TakesDue, is_due, name_cmp, Named, GateChange, Come, Gone, Clock, has_name, is_id, takes_out, leaves}
 use Rattle.std.specs.Bool.{OnTrue, OnFalse}
-use Rattle.std.specs.BTreeMap.{is_at}
 use Rattle.std.specs.FinMap as timers
-use Rattle.std.specs.List.{list_any}
-use Rattle.std.specs.Option.{is_some}
-use Rattle.std.specs.Ordering.{nat_cmp, eq_by_cmp}
-use Rattle.std.proofs.lemmas.Bool.Decides.{Decides-eqb, nat_tests}
-use Rattle.std.proofs.lemmas.Cmp.{nat_cmp_total}
-use Rattle.std.proofs.lemmas.List.Folds.{list_any-append, list_any_more}
-use Rattle.fx_base.specs.declared.ids.FactId.{FactId}
-use Rattle.due_queue.specs.Timers.{Timers, TakesDue, is_due}
-use Rattle.row_delta.specs.NameOrder.{name_cmp}
-use Rattle.row_delta.specs.declared.row.Named.{Named}
-use Rattle.window_gate.specs.declared.change.GateChange.{GateChange}
-use Rattle.window_gate.specs.declared.change.GateChange.TheVariants.{Come, Gone, Clock}
-use Rattle.window_gate.specs.Standing.{has_name}
-use Rattle.window_gate.specs.Pieces.{is_id, takes_out, leaves}
+use Rattle.std.proofs.lemmas.List.Folds.{list_any_more}
 use Rattle.window_gate.proofs.Names.{same_name, same_name-parts}
 
 -- ---- the queue

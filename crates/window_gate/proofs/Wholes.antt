@@ -1,19 +1,6 @@
 -- The difference of a window that is whole is the change.
-use Rattle.std.proofs.Common.{◌≡◌, ◌∙◌, sym, ap, refl, subst, ℤ, List, [], ◌∷◌, map, Bool, true, false, not, ◌==◌, ◌&&◌, ◌||◌, Result, Ok, Err}
-use Rattle.std.specs.Prelude.{IfOk}
-use Rattle.std.specs.List.{list_any}
-use Rattle.std.specs.Ordering.{eq_by_cmp}
+use Rattle.window_gate.proofs.Common.{◌≡◌, ◌∙◌, sym, ap, refl, subst, ℤ, List, [], ◌∷◌, map, Bool, true, false, not, ◌==◌, ◌&&◌, ◌||◌, Result, Ok, Err, IfOk, list_any, eq_by_cmp, list_any-append, name_cmp, IsBetween, Named, Delta, Whole, GateChange, Come, Gone, Clock, Arrival, named_of, has_tag, single, after, rows_inside, has_name, TagsDiffer, MayChange}
 use Rattle.std.specs.List.Sorted.{IsStrictlySortedBy}
-use Rattle.std.proofs.lemmas.List.Folds.{list_any-append}
-use Rattle.row_delta.specs.NameOrder.{name_cmp}
-use Rattle.row_delta.specs.Differences.{IsBetween}
-use Rattle.row_delta.specs.declared.row.Named.{Named}
-use Rattle.row_delta.specs.declared.delta.Delta.{Delta}
-use Rattle.window_gate.specs.declared.change.WindowKind.TheVariants.{Whole}
-use Rattle.window_gate.specs.declared.change.GateChange.{GateChange}
-use Rattle.window_gate.specs.declared.change.GateChange.TheVariants.{Come, Gone, Clock}
-use Rattle.window_gate.specs.Windows.{Arrival, named_of, has_tag, single, after, rows_inside}
-use Rattle.window_gate.specs.Standing.{has_name, TagsDiffer, MayChange}
 use Rattle.window_gate.proofs.Names.{same_name, equal_names, none_with_tag, names-without, only_one}
 use Rattle.window_gate.proofs.Singles.{between_names}
 use Rattle.window_gate.proofs.Insides.{inside_whole, named-filter, named-push}

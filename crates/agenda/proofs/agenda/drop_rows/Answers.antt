@@ -1,5 +1,4 @@
-use Rattle.std.proofs.Common.{◌==◌, refl}
-use Rattle.rule_model.specs.Matches.{match_of}
+use Rattle.agenda.proofs.Common.{◌==◌, refl, match_of}
 use Rattle.agenda.proofs.Steps.{fired_taken, taken_next}
 use Rattle.agenda.proofs.agenda.drop_rows.Goals as goal
 

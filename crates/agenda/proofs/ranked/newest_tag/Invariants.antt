@@ -1,4 +1,4 @@
-use Rattle.std.proofs.Common.{◌≡◌, drop, max}
+use Rattle.agenda.proofs.Common.{◌≡◌, drop, max}
 use Rattle.rule_model.specs.Matches.{greatest_tag}
 use Rattle.agenda.proofs.ranked.newest_tag.Given as goal
 

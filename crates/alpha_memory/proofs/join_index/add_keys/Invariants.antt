@@ -1,6 +1,4 @@
-use Rattle.std.proofs.Common.{◌≡◌, ◌++◌}
-use Rattle.std.specs.Map.{keys_of}
-use Rattle.alpha_memory.specs.Bucket.{entries}
+use Rattle.alpha_memory.proofs.Common.{◌≡◌, ◌++◌, keys_of, entries}
 use Rattle.alpha_memory.proofs.join_index.add_keys.Given as goal
 
 abbrev pub invariant-loop-key : goal.invariant-loop-key

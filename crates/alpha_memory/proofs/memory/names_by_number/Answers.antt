@@ -1,11 +1,8 @@
-use Rattle.std.proofs.Common.{rules}
-use Rattle.std.specs.BTreeMap.{IsFromIterResult}
-use Rattle.std.specs.Ordering.{nat_cmp}
+use Rattle.alpha_memory.proofs.Common.{rules, IsFromIterResult, nat_cmp, name_entry}
 use Rattle.std.proofs.lemmas.Result.{IfOk-at_ok}
 use Rattle.std.proofs.lemmas.Iterator.{YieldsList-from_map}
 use Rattle.std.proofs.lemmas.Iterator.Adapters.{fact_from_collect}
 use Rattle.std.proofs.lemmas.Iterator.Consumers.{YieldsList-from_rest, YieldsList-at}
-use Rattle.alpha_memory.specs.Places.{name_entry}
 use Rattle.alpha_memory.proofs.memory.names_by_number.Goals as goal
 
 pub returns : goal.returns

@@ -1,4 +1,4 @@
-use Rattle.std.proofs.Common.{length, sym, ap, ◌∙◌}
+use Rattle.drl_check.proofs.Common.{length, sym, ap, ◌∙◌}
 use Rattle.drl_check.proofs.Solvable.{few_conditions}
 use Rattle.drl_check.proofs.refusal.failing.Goals as goal
 

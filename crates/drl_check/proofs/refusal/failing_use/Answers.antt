@@ -1,5 +1,4 @@
-use Rattle.std.proofs.Common.{◌≡◌, false, sym, subst, ◌∙◌}
-use Rattle.drl_check.specs.Checks.{lacks_type}
+use Rattle.drl_check.proofs.Common.{◌≡◌, false, sym, subst, ◌∙◌, lacks_type}
 use Rattle.drl_check.proofs.Solvable.{has_network}
 use Rattle.drl_check.proofs.refusal.failing_use.Goals as goal
 

@@ -1,6 +1,4 @@
-use Rattle.std.proofs.Common.{◌≡◌, [], take, drop}
-use Rattle.drl_sight.specs.Declarations.{types_of, rules_of, type_names, rule_names}
-use Rattle.drl_sight.specs.EntryPoints.{declared_entries, entry_names}
+use Rattle.drl_check.proofs.Common.{◌≡◌, [], take, drop, types_of, rules_of, type_names, rule_names, declared_entries, entry_names}
 use Rattle.drl_check.specs.Checks.{failure_from}
 use Rattle.drl_check.proofs.refusal.refusal.Given as goal
 

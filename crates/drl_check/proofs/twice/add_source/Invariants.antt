@@ -1,5 +1,4 @@
-use Rattle.std.proofs.Common.{◌≡◌, ◌++◌, drop}
-use Rattle.std.specs.List.{flat_map}
+use Rattle.drl_check.proofs.Common.{◌≡◌, ◌++◌, drop, flat_map}
 use Rattle.drl_check.specs.Twice.{part_variable, source_variables}
 use Rattle.drl_check.proofs.twice.add_source.Given as goal
 

@@ -1,5 +1,4 @@
-use Rattle.std.proofs.Common.{◌≡◌, drop}
-use Rattle.std.specs.List.{list_all}
+use Rattle.drl_check.proofs.Common.{◌≡◌, drop, list_all}
 use Rattle.drl_check.specs.Twice.{assigns_once}
 use Rattle.drl_check.proofs.twice.have_sets_apart.Given as goal
 

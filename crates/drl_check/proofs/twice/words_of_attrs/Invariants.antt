@@ -1,4 +1,4 @@
-use Rattle.std.proofs.Common.{◌≡◌, ◌++◌, map, drop}
+use Rattle.drl_check.proofs.Common.{◌≡◌, ◌++◌, map, drop}
 use Rattle.drl_check.specs.Twice.{attr_word}
 use Rattle.drl_check.proofs.twice.words_of_attrs.Given as goal
 

@@ -1,5 +1,4 @@
-use Rattle.std.proofs.Common.{◌≡◌, ◌++◌, map, drop}
-use Rattle.drl_check.specs.Twice.{meta_word}
+use Rattle.drl_check.proofs.Common.{◌≡◌, ◌++◌, map, drop, meta_word}
 use Rattle.drl_check.proofs.twice.words_of_metas.Given as goal
 
 abbrev pub invariant-loop-meta : goal.invariant-loop-meta

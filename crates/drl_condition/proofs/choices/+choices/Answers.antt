@@ -1,6 +1,4 @@
-use Rattle.std.proofs.Common.{sym, ◌∙◌, arith}
-use Rattle.std.proofs.lemmas.Result.{IfOk-weaker}
-use Rattle.drl_phrase.proofs.Turns.{seen, seen_none}
+use Rattle.drl_condition.proofs.Common.{sym, ◌∙◌, arith, IfOk-weaker, seen, seen_none}
 use Rattle.drl_condition.proofs.ChoiceSteps.{all_begins, any_begins, all_stops, all_ends, all_goes_on, all_no_turn, any_stops, any_ends, any_goes_on, any_no_turn, no_first, no_other, no_more, still_open, closes, too_deep, deeper, no_condition, one_condition}
 use Rattle.drl_condition.proofs.choices.+choices.Goals as goal
 

@@ -1,5 +1,4 @@
-use Rattle.std.proofs.Common.{◌≡◌, length}
-use Rattle.drl_lex.specs.Fronts.{behind_close}
+use Rattle.drl_lex.proofs.Common.{◌≡◌, length, behind_close}
 use Rattle.drl_lex.proofs.bytes.behind_close.Given as goal
 
 abbrev pub invariant-loop-rest : goal.invariant-loop-rest

@@ -1,6 +1,4 @@
-use Rattle.std.proofs.Common.{length, arith, sym, ap, ◌∙◌, List, ℕ}
-use Rattle.std.proofs.lemmas.List.{take_all}
-use Rattle.drl_lex.specs.Leads.{in_class}
+use Rattle.drl_lex.proofs.Common.{length, arith, sym, ap, ◌∙◌, List, ℕ, take_all, in_class}
 use Rattle.drl_lex.proofs.FrontLaws.{longest_stop, longest_end, all_pass}
 use Rattle.drl_lex.proofs.bytes.split_front.Goals as goal
 

@@ -1,6 +1,4 @@
-use Rattle.std.proofs.Common.{◌≡◌, List, ℕ}
-use Rattle.drl_lex.specs.declared.token.Token.{Token}
-use Rattle.drl_lex.specs.declared.token.TokenKind.{TokenKind}
+use Rattle.drl_lex.proofs.Common.{◌≡◌, List, ℕ, Token, TokenKind}
 use Rattle.drl_lex.specs.Kinds.{kinds, starts}
 use Rattle.drl_lex.proofs.kinds.kinds_and_starts.Given as goal
 

@@ -1,6 +1,4 @@
-use Rattle.std.proofs.Common.{arith, length, ◌-◌}
-use Rattle.drl_lex.specs.Faults.{IsFirstFault}
-use Rattle.drl_lex.specs.Reading.{lexed}
+use Rattle.drl_lex.proofs.Common.{arith, length, ◌-◌, IsFirstFault, lexed}
 use Rattle.drl_lex.proofs.FileTurns.{starts, piece_front, turn, shorter, first_fault, fault_read, not_empty, empty, told_err, told_read, are_tokens}
 use Rattle.drl_lex.proofs.FileLaws.{tokens_again}
 use Rattle.drl_lex.proofs.lexer.lex.Goals as goal

@@ -1,6 +1,4 @@
-use Rattle.std.proofs.Common.{◌≤◌, ◌-◌, List, ℕ, length}
-use Rattle.drl_lex.specs.declared.token.Token.{Token}
-use Rattle.drl_lex.specs.Tokens.{Reads}
+use Rattle.drl_lex.proofs.Common.{◌≤◌, ◌-◌, List, ℕ, length, Token, Reads}
 use Rattle.drl_lex.proofs.lexer.lex.Given as goal
 
 -- tokens stand up to the rest

@@ -1,5 +1,4 @@
-use Rattle.std.proofs.Common.{◌≡◌, take}
-use Rattle.std.specs.Str.Parse.{digits_value}
+use Rattle.drl_lex.proofs.Common.{◌≡◌, take, digits_value}
 use Rattle.drl_lex.specs.TimeReading.{capped}
 use Rattle.drl_lex.proofs.numbers.number_of.Given as goal
 

@@ -1,6 +1,4 @@
-use Rattle.std.proofs.Common.{length, refl}
-use Rattle.std.specs.Prelude.{codes, nat_lt}
-use Rattle.drl_lex.specs.TimeReading.{part_at, last_at}
+use Rattle.drl_lex.proofs.Common.{length, refl, codes, nat_lt, part_at, last_at}
 use Rattle.drl_lex.proofs.Capped.{total_is, time_is, under_cap}
 use Rattle.drl_lex.proofs.numbers.time_of.Goals as goal
 

@@ -1,5 +1,4 @@
-use Rattle.std.proofs.Common.{◌≡◌, ℕ, List, ◌+◌, length}
-use Rattle.drl_lex.specs.Reading.{content_at}
+use Rattle.drl_lex.proofs.Common.{◌≡◌, ℕ, List, ◌+◌, length, content_at}
 use Rattle.drl_lex.proofs.TextTurns.{behind}
 use Rattle.drl_lex.proofs.texts.content_at.Given as goal
 

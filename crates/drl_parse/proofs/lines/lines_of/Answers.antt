@@ -1,4 +1,4 @@
-use Rattle.std.proofs.Common.{arith}
+use Rattle.drl_parse.proofs.Common.{arith}
 use Rattle.drl_parse.proofs.LineLaws.{next_offset, kept, fits}
 use Rattle.drl_parse.proofs.lines.lines_of.Goals as goal
 

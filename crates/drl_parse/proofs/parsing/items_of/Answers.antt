@@ -1,6 +1,4 @@
-use Rattle.std.proofs.Common.{◌∙◌, sym}
-use Rattle.drl_phrase.specs.Reading.{whole_at}
-use Rattle.drl_parse.specs.Reading.{item_at}
+use Rattle.drl_parse.proofs.Common.{◌∙◌, sym, whole_at, item_at}
 use Rattle.drl_parse.proofs.ItemTurns.{kept, stops, ends}
 use Rattle.drl_parse.proofs.parsing.items_of.Goals as goal
 

@@ -1,6 +1,4 @@
-use Rattle.std.proofs.Common.{length}
-use Rattle.drl_phrase.specs.Reading.{whole_at}
-use Rattle.drl_parse.specs.Reading.{item_at}
+use Rattle.drl_parse.proofs.Common.{length, whole_at, item_at}
 use Rattle.drl_parse.proofs.ItemTurns.{SoFar}
 use Rattle.drl_parse.proofs.parsing.items_of.Given as goal
 

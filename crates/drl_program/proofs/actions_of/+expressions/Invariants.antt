@@ -1,4 +1,4 @@
-use Rattle.std.proofs.Common.{◌+◌, ◌*◌}
+use Rattle.drl_program.proofs.Common.{◌+◌, ◌*◌}
 use Rattle.drl_expr.specs.Tree.{height}
 use Rattle.drl_program.proofs.actions_of.+expressions.Given as goal
 

@@ -1,4 +1,4 @@
-use Rattle.std.proofs.Common.{◌≡◌, ◌++◌, map, drop}
+use Rattle.drl_program.proofs.Common.{◌≡◌, ◌++◌, map, drop}
 use Rattle.drl_program.specs.Programs.{expression_in}
 use Rattle.drl_program.proofs.actions_of.expressions.Given as goal
 

@@ -1,5 +1,4 @@
-use Rattle.std.proofs.Common.{◌≡◌, drop}
-use Rattle.drl_program.specs.Programs.{field_bound}
+use Rattle.drl_program.proofs.Common.{◌≡◌, drop, field_bound}
 use Rattle.drl_program.proofs.conditions_of.bound_field.Given as goal
 
 abbrev pub invariant-loop-part : goal.invariant-loop-part

@@ -1,5 +1,5 @@
-use Rattle.std.proofs.Common.{◌≡◌, ◌+◌, ◌++◌, ◌≤◌, drop}
-use Rattle.drl_sight.specs.Sight.{begin, behind_all}
+use Rattle.drl_program.proofs.Common.{◌≡◌, ◌+◌, ◌++◌, ◌≤◌, drop, begin}
+use Rattle.drl_sight.specs.Sight.{behind_all}
 use Rattle.drl_program.specs.Programs.{conditions_of}
 use Rattle.drl_program.proofs.conditions_of.conditions.Given as goal
 

@@ -1,4 +1,4 @@
-use Rattle.std.proofs.Common.{◌≡◌, ◌++◌, map, drop}
+use Rattle.drl_program.proofs.Common.{◌≡◌, ◌++◌, map, drop}
 use Rattle.drl_program.specs.Programs.{field_info}
 use Rattle.drl_program.proofs.infos_of.infos_of_fields.Given as goal
 

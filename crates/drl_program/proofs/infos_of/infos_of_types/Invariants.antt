@@ -1,6 +1,4 @@
-use Rattle.std.proofs.Common.{◌≡◌, ◌++◌, map, drop}
-use Rattle.drl_sight.specs.Declarations.{types_of}
-use Rattle.drl_program.specs.Programs.{type_info}
+use Rattle.drl_program.proofs.Common.{◌≡◌, ◌++◌, map, drop, types_of, type_info}
 use Rattle.drl_program.proofs.infos_of.infos_of_types.Given as goal
 
 abbrev pub invariant-loop-item : goal.invariant-loop-item

@@ -1,6 +1,4 @@
-use Rattle.std.proofs.Common.{◌≡◌, ◌++◌, drop}
-use Rattle.drl_sight.specs.Declarations.{rules_of}
-use Rattle.drl_program.specs.Observed.{observed_names}
+use Rattle.drl_program.proofs.Common.{◌≡◌, ◌++◌, drop, rules_of, observed_names}
 use Rattle.drl_program.proofs.observed.names_observed.Given as goal
 
 abbrev pub invariant-loop-item : goal.invariant-loop-item

@@ -1,6 +1,4 @@
-use Rattle.std.proofs.Common.{◌≡◌, ◌++◌, drop}
-use Rattle.std.specs.List.{flat_map}
-use Rattle.drl_program.specs.Observed.{observed_by}
+use Rattle.drl_program.proofs.Common.{◌≡◌, ◌++◌, drop, flat_map, observed_by}
 use Rattle.drl_program.proofs.observed.with_all_observed.Given as goal
 
 abbrev pub invariant-loop-tree : goal.invariant-loop-tree

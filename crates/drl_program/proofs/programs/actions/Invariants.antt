@@ -1,4 +1,4 @@
-use Rattle.std.proofs.Common.{◌≡◌, ◌++◌, map, drop}
+use Rattle.drl_program.proofs.Common.{◌≡◌, ◌++◌, map, drop}
 use Rattle.drl_program.specs.Programs.{action_of}
 use Rattle.drl_program.proofs.programs.actions.Given as goal
 

@@ -1,6 +1,4 @@
-use Rattle.std.proofs.Common.{◌≡◌, ◌++◌, map, drop}
-use Rattle.drl_sight.specs.Declarations.{rules_of}
-use Rattle.drl_program.specs.Programs.{rule_of}
+use Rattle.drl_program.proofs.Common.{◌≡◌, ◌++◌, map, drop, rules_of, rule_of}
 use Rattle.drl_program.proofs.programs.rules.Given as goal
 
 abbrev pub invariant-loop-item : goal.invariant-loop-item

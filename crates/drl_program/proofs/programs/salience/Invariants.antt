@@ -1,4 +1,4 @@
-use Rattle.std.proofs.Common.{◌≡◌, drop}
+use Rattle.drl_program.proofs.Common.{◌≡◌, drop}
 use Rattle.drl_program.specs.Programs.{salience_of}
 use Rattle.drl_program.proofs.programs.salience.Given as goal
 

@@ -1,5 +1,4 @@
-use Rattle.std.proofs.Common.{map, refl}
-use Rattle.drl_program.specs.Programs.{compare_of}
+use Rattle.drl_program.proofs.Common.{map, refl, compare_of}
 use Rattle.drl_program.proofs.Loops.{one_mapped, all_made}
 use Rattle.drl_program.proofs.tests_of.choice.Goals as goal
 

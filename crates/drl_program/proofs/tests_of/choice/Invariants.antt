@@ -1,5 +1,4 @@
-use Rattle.std.proofs.Common.{◌≡◌, ◌++◌, map, drop}
-use Rattle.drl_program.specs.Programs.{compare_of}
+use Rattle.drl_program.proofs.Common.{◌≡◌, ◌++◌, map, drop, compare_of}
 use Rattle.drl_program.proofs.tests_of.choice.Given as goal
 
 abbrev pub invariant-loop-cmp : goal.invariant-loop-cmp

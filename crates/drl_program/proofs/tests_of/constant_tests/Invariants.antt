@@ -1,6 +1,4 @@
-use Rattle.std.proofs.Common.{◌≡◌, ◌++◌, drop}
-use Rattle.std.specs.List.{filter, flat_map}
-use Rattle.drl_program.specs.Programs.{tests_in, is_constant}
+use Rattle.drl_program.proofs.Common.{◌≡◌, ◌++◌, drop, filter, flat_map, tests_in, is_constant}
 use Rattle.drl_program.proofs.tests_of.constant_tests.Given as goal
 
 abbrev pub invariant-loop-part : goal.invariant-loop-part

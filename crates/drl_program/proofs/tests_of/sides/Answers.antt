@@ -1,5 +1,4 @@
-use Rattle.std.proofs.Common.{map, refl}
-use Rattle.drl_program.specs.Programs.{side_of}
+use Rattle.drl_program.proofs.Common.{map, refl, side_of}
 use Rattle.drl_program.proofs.Loops.{one_mapped, all_made}
 use Rattle.drl_program.proofs.tests_of.sides.Goals as goal
 

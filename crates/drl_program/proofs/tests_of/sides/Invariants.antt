@@ -1,5 +1,4 @@
-use Rattle.std.proofs.Common.{◌≡◌, ◌++◌, map, drop}
-use Rattle.drl_program.specs.Programs.{side_of}
+use Rattle.drl_program.proofs.Common.{◌≡◌, ◌++◌, map, drop, side_of}
 use Rattle.drl_program.proofs.tests_of.sides.Given as goal
 
 abbrev pub invariant-loop-operand : goal.invariant-loop-operand

@@ -1,7 +1,5 @@
-use Rattle.std.proofs.Common.{List, map, refl, ap, ◌∙◌}
-use Rattle.drl_grammar.specs.declared.condition.Cmp.{Cmp}
+use Rattle.drl_program.proofs.Common.{List, map, refl, ap, ◌∙◌, Cmp, compare_of}
 use Rattle.rule_model.specs.declared.test.Compare.{Compare}
-use Rattle.drl_program.specs.Programs.{compare_of}
 use Rattle.drl_program.proofs.Loops.{one_mapped, all_made}
 use Rattle.drl_program.proofs.tests_of.test.Goals as goal
 

@@ -1,6 +1,4 @@
-use Rattle.std.proofs.Common.{◌≡◌, ◌++◌, List, map, drop}
-use Rattle.drl_grammar.specs.declared.condition.Cmp.{Cmp}
-use Rattle.drl_program.specs.Programs.{compare_of}
+use Rattle.drl_program.proofs.Common.{◌≡◌, ◌++◌, List, map, drop, Cmp, compare_of}
 use Rattle.drl_program.proofs.tests_of.test.Given as goal
 
 abbrev pub invariant-loop-group : goal.invariant-loop-group

@@ -1,6 +1,4 @@
-use Rattle.std.proofs.Common.{refl}
-use Rattle.std.specs.List.{flat_map}
-use Rattle.drl_program.specs.Programs.{times_in}
+use Rattle.drl_program.proofs.Common.{refl, flat_map, times_in}
 use Rattle.drl_program.proofs.Loops.{one_more, all_made}
 use Rattle.drl_program.proofs.tests_of.time_tests.Goals as goal
 

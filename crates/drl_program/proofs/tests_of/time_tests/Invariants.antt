@@ -1,6 +1,4 @@
-use Rattle.std.proofs.Common.{◌≡◌, ◌++◌, drop}
-use Rattle.std.specs.List.{flat_map}
-use Rattle.drl_program.specs.Programs.{times_in}
+use Rattle.drl_program.proofs.Common.{◌≡◌, ◌++◌, drop, flat_map, times_in}
 use Rattle.drl_program.proofs.tests_of.time_tests.Given as goal
 
 abbrev pub invariant-loop-part : goal.invariant-loop-part

@@ -1,10 +1,4 @@
-use Rattle.std.proofs.Common.{◌≡◌, ◌∷◌, [], ap, ◌∙◌}
-use Rattle.std.specs.Prelude.{codes}
-use Rattle.std.proofs.lemmas.Result.{on_ok_weaker}
-use Rattle.drl_lex.specs.declared.token.TokenKind.TheVariants.{Word, Mark}
-use Rattle.drl_lex.specs.declared.token.Mark.TheVariants.{OpenParenthesis}
-use Rattle.drl_show.specs.Canonical.{source_tokens}
-use Rattle.drl_show.specs.Texts.{added}
+use Rattle.drl_show.proofs.Common.{◌≡◌, ◌∷◌, [], ap, ◌∙◌, codes, on_ok_weaker, Word, Mark, OpenParenthesis, source_tokens, added}
 use Rattle.drl_show.proofs.Added.{accumulate_is}
 use Rattle.drl_show.proofs.conditions.accumulate.Goals as goal
 

@@ -1,5 +1,4 @@
-use Rattle.std.proofs.Common.{◌+◌, ◌*◌, max}
-use Rattle.drl_expr.specs.Tree.{height}
+use Rattle.drl_show.proofs.Common.{◌+◌, ◌*◌, max, height}
 use Rattle.drl_show.proofs.expressions.+writing.Given as goal
 
 abbrev pub decreases-expr : goal.decreases-expr

@@ -1,6 +1,4 @@
-use Rattle.std.proofs.Common.{◌≡◌, ◌∷◌, ap, ◌∙◌}
-use Rattle.drl_lex.specs.declared.token.TokenKind.TheVariants.{Mark}
-use Rattle.drl_show.specs.Texts.{added}
+use Rattle.drl_show.proofs.Common.{◌≡◌, ◌∷◌, ap, ◌∙◌, Mark, added}
 use Rattle.drl_show.proofs.Added.{each_turn}
 use Rattle.drl_show.proofs.shapes.write_behind.Goals as goal
 

@@ -1,7 +1,4 @@
-use Rattle.std.proofs.Common.{◌≡◌, ◌∷◌, drop}
-use Rattle.drl_lex.specs.declared.token.TokenKind.TheVariants.{Mark}
-use Rattle.drl_show.specs.Canonical.{each}
-use Rattle.drl_show.specs.Texts.{added}
+use Rattle.drl_show.proofs.Common.{◌≡◌, ◌∷◌, drop, Mark, each, added}
 use Rattle.drl_show.proofs.shapes.write_behind.Given as goal
 
 abbrev pub invariant-loop-item : goal.invariant-loop-item

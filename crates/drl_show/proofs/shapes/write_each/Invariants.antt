@@ -1,6 +1,4 @@
-use Rattle.std.proofs.Common.{◌≡◌, drop}
-use Rattle.drl_show.specs.Canonical.{each}
-use Rattle.drl_show.specs.Texts.{added}
+use Rattle.drl_show.proofs.Common.{◌≡◌, drop, each, added}
 use Rattle.drl_show.proofs.shapes.write_each.Given as goal
 
 abbrev pub invariant-loop-item : goal.invariant-loop-item

@@ -1,5 +1,4 @@
-use Rattle.std.proofs.Common.{arith}
-use Rattle.std.proofs.lemmas.Result.{on_ok_weaker}
+use Rattle.drl_show.proofs.Common.{arith, on_ok_weaker}
 use Rattle.std.proofs.lemmas.Grind.{common_steps}
 use Rattle.drl_show.proofs.Added.{parted_turn}
 use Rattle.drl_show.proofs.shapes.write_parted.Goals as goal

@@ -1,5 +1,4 @@
-use Rattle.std.proofs.Common.{◌≡◌, ◌++◌, drop}
-use Rattle.drl_show.specs.Shown.{shown_items}
+use Rattle.drl_show.proofs.Common.{◌≡◌, ◌++◌, drop, shown_items}
 use Rattle.drl_show.proofs.text.show.Given as goal
 
 abbrev pub invariant-loop-item : goal.invariant-loop-item

@@ -1,5 +1,4 @@
-use Rattle.std.proofs.Common.{◌≡◌, ◌++◌, drop}
-use Rattle.drl_show.specs.Texts.{escaped}
+use Rattle.drl_show.proofs.Common.{◌≡◌, ◌++◌, drop, escaped}
 use Rattle.drl_show.proofs.tokens.text_bytes.Given as goal
 
 abbrev pub invariant-loop-byte : goal.invariant-loop-byte

@@ -1,12 +1,4 @@
-use Rattle.std.proofs.Common.{◌≡◌, ◌<◌, ℕ, Some, List, length, get_or, refl, subst, sym}
-use Rattle.std.specs.Prelude.{slice_get}
-use Rattle.std.proofs.lemmas.Option.{slice_get_read}
-use Rattle.rule_model.specs.declared.condition.Condition.{Condition}
-use Rattle.rule_model.specs.declared.program.Rule.{Rule}
-use Rattle.rule_model.proofs.RuleOf.{in_place}
-use Rattle.life_edges.specs.Tails.{HaveLives, limit_of}
-use Rattle.expiry_infer.specs.Tables.{GivesAt}
-use Rattle.expiry_infer.specs.Tops.{Among, IsTop}
+use Rattle.expiry_infer.proofs.Common.{◌≡◌, ◌<◌, ℕ, Some, List, length, get_or, refl, subst, sym, slice_get, slice_get_read, Condition, Rule, in_place, HaveLives, limit_of, GivesAt, Among, IsTop}
 use Rattle.expiry_infer.proofs.Given.{is_life}
 use Rattle.life_edges.proofs.Runnable.{rule_has_lives}
 use Rattle.expiry_infer.proofs.Tops.{top_next}

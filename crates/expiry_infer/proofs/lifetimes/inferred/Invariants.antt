@@ -1,8 +1,4 @@
-use Rattle.std.proofs.Common.{pos}
-use Rattle.rule_lives.specs.Reach.{finite}
-use Rattle.life_edges.specs.Tails.{limit_of, IsSmall}
-use Rattle.expiry_infer.specs.Tables.{GivesIn}
-use Rattle.expiry_infer.specs.Tops.{Among, IsTop}
+use Rattle.expiry_infer.proofs.Common.{pos, finite, limit_of, IsSmall, GivesIn, Among, IsTop}
 use Rattle.expiry_infer.proofs.lifetimes.inferred.Given as goal
 
 abbrev pub invariant-loop-rule : goal.invariant-loop-rule

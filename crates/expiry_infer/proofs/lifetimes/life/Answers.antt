@@ -1,4 +1,4 @@
-use Rattle.std.proofs.Common.{◌∙◌, arith}
+use Rattle.expiry_infer.proofs.Common.{◌∙◌, arith}
 use Rattle.std.proofs.lemmas.Int.{to_z-of_z}
 use Rattle.expiry_infer.proofs.Given.{event_here, expiry_here}
 use Rattle.expiry_infer.proofs.lifetimes.life.Goals as goal

@@ -1,7 +1,4 @@
-use Rattle.std.proofs.Common.{◌≡◌, ℕ, List, length, Some, sym, ◌∙◌, ap, arith}
-use Rattle.std.specs.Prelude.{slice_get}
-use Rattle.rule_model.specs.declared.life.Life.{Life}
-use Rattle.rule_model.specs.declared.program.TypeInfo.{TypeInfo}
+use Rattle.expiry_infer.proofs.Common.{◌≡◌, ℕ, List, length, Some, sym, ◌∙◌, ap, arith, slice_get, Life, TypeInfo}
 use Rattle.rule_lives.proofs.Safe.{lives_are_safe}
 use Rattle.expiry_infer.proofs.lifetimes.lives.Goals as goal
 

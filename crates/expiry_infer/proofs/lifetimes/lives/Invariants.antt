@@ -1,6 +1,4 @@
-use Rattle.std.proofs.Common.{◌≡◌, ℕ, Some, length}
-use Rattle.std.specs.Prelude.{slice_get}
-use Rattle.rule_model.specs.declared.life.Life.{Life}
+use Rattle.expiry_infer.proofs.Common.{◌≡◌, ℕ, Some, length, slice_get, Life}
 use Rattle.rule_lives.specs.Keeping.{IsLifeOf}
 use Rattle.rule_model.specs.Lives.{IsShortLife}
 use Rattle.expiry_infer.proofs.lifetimes.lives.Given as goal

@@ -1,14 +1,7 @@
-use Rattle.std.proofs.Common.{◌≡◌, true, false, ap, subst, sym, ◌∙◌}
+use Rattle.expiry_infer.proofs.Common.{◌≡◌, true, false, ap, subst, sym, ◌∙◌, Pattern, pattern_of, is_reference, tail, plus, limit_of, IsShort, IsSmall, IsWithinNetwork, lent}
 use Rattle.std.specs.Prelude.{IfOk, IfSome}
-use Rattle.rule_model.specs.declared.condition.Pattern.{Pattern}
-use Rattle.rule_model.specs.Rows.{pattern_of}
-use Rattle.rule_model.specs.Types.{is_event, is_reference}
-use Rattle.rule_lives.specs.Lifetimes.{tail}
-use Rattle.rule_lives.specs.Reach.{plus}
+use Rattle.rule_model.specs.Types.{is_event}
 use Rattle.expiry_infer.specs.Found.{IsFound}
-use Rattle.life_edges.specs.Tails.{limit_of, IsShort, IsSmall}
-use Rattle.temporal_net.specs.Networks.{IsWithinNetwork}
-use Rattle.expiry_infer.specs.Tables.{lent}
 use Rattle.expiry_infer.proofs.Given.{added}
 use Rattle.expiry_infer.proofs.Tops.{top_small, sum_small}
 use Rattle.expiry_infer.proofs.lifetimes.with_added.Goals as goal

@@ -1,5 +1,4 @@
-use Rattle.std.proofs.Common.{refl}
-use Rattle.std.proofs.lemmas.Option.{slice_get_read}
+use Rattle.expiry_infer.proofs.Common.{refl, slice_get_read}
 use Rattle.expiry_infer.proofs.Given.{all_added}
 use Rattle.expiry_infer.proofs.Tops.{top_next}
 use Rattle.expiry_infer.proofs.lifetimes.with_all_added.Goals as goal

@@ -1,9 +1,6 @@
-use Rattle.rule_model.specs.declared.condition.Pattern.{Pattern}
-use Rattle.rule_lives.specs.Reach.{finite}
-use Rattle.life_edges.specs.Tails.{limit_of, HaveLives, HasShortWindow, IsSmall}
+use Rattle.expiry_infer.proofs.Common.{Pattern, finite, limit_of, HaveLives, IsSmall, ◌≡◌, ap, subst, sym, ◌∙◌, lent}
+use Rattle.life_edges.specs.Tails.{HasShortWindow}
 use Rattle.expiry_infer.proofs.Tops.{top_small, span_small, span_whole}
-use Rattle.std.proofs.Common.{◌≡◌, ap, subst, sym, ◌∙◌}
-use Rattle.expiry_infer.specs.Tables.{lent}
 use Rattle.life_edges.specs.Places.{StandsIn}
 use Rattle.life_edges.proofs.Scopes.{scope_lives, scope_at}
 use Rattle.expiry_infer.proofs.lifetimes.with_pattern.Goals as goal

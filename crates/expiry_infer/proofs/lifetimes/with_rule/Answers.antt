@@ -1,6 +1,4 @@
-use Rattle.std.proofs.Common.{ap, refl, sym, ◌∙◌}
-use Rattle.std.proofs.lemmas.Option.{slice_get_read}
-use Rattle.rule_model.specs.declared.condition.Pattern.{Pattern}
+use Rattle.expiry_infer.proofs.Common.{ap, refl, sym, ◌∙◌, slice_get_read, Pattern}
 use Rattle.expiry_infer.proofs.Given.{of_pattern}
 use Rattle.expiry_infer.proofs.Tops.{top_next, top_skipped}
 use Rattle.expiry_infer.proofs.lifetimes.with_rule.Goals as goal

@@ -1,6 +1,4 @@
-use Rattle.life_edges.specs.Tails.{limit_of, IsSmall}
-use Rattle.expiry_infer.specs.Tables.{GivesAt}
-use Rattle.expiry_infer.specs.Tops.{Among, IsTop}
+use Rattle.expiry_infer.proofs.Common.{limit_of, IsSmall, GivesAt, Among, IsTop}
 use Rattle.expiry_infer.proofs.lifetimes.with_rule.Given as goal
 
 abbrev pub invariant-loop-place : goal.invariant-loop-place

@@ -1,7 +1,4 @@
-use Rattle.std.proofs.Common.{◌∷◌, [], subst}
-use Rattle.life_edges.specs.Edges.{edges_of}
-use Rattle.expiry_infer.specs.Found.{IsSolved}
-use Rattle.life_edges.specs.Places.{placed}
+use Rattle.expiry_infer.proofs.Common.{◌∷◌, [], subst, edges_of, IsSolved, placed}
 use Rattle.expiry_infer.proofs.Reaching.{unsolvable, bound_here}
 use Rattle.life_edges.proofs.Distances.{reached}
 use Rattle.expiry_infer.proofs.solving.reach.Goals as goal

@@ -1,4 +1,4 @@
-use Rattle.std.proofs.Common.{◌≡◌, ◌++◌, replicate}
+use Rattle.fold_fn.proofs.Common.{◌≡◌, ◌++◌, replicate}
 use Rattle.fold_fn.proofs.repeat.push_times.Given as goal
 
 abbrev pub invariant-loop : goal.invariant-loop

@@ -1,7 +1,4 @@
-use Rattle.std.proofs.Common.{take}
-use Rattle.std.specs.List.{All}
-use Rattle.image_laws.specs.Fitting.{IsPlaced}
-use Rattle.image_fitting.specs.Table.{IsTable}
+use Rattle.image_fitting.proofs.Common.{take, All, IsPlaced, IsTable}
 use Rattle.image_fitting.proofs.extras.are_placed.Given as goal
 
 abbrev pub invariant-loop-extra : goal.invariant-loop-extra

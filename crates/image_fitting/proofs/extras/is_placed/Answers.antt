@@ -1,4 +1,4 @@
-use Rattle.std.proofs.Common.{sym}
+use Rattle.image_fitting.proofs.Common.{sym}
 use Rattle.image_fitting.proofs.Placing.{no_rule, no_condition, placed_is}
 use Rattle.image_fitting.proofs.Telling.{never}
 use Rattle.image_fitting.proofs.extras.is_placed.Goals as goal

@@ -1,5 +1,4 @@
-use Rattle.std.proofs.Common.{◌≡◌, length, replicate, drop, pos}
-use Rattle.image_fitting.specs.Tests.{come_in_turn}
+use Rattle.image_fitting.proofs.Common.{◌≡◌, length, replicate, drop, pos, come_in_turn}
 use Rattle.image_fitting.proofs.facts.come_in_turn.Given as goal
 
 abbrev pub invariant-loop-fact : goal.invariant-loop-fact

@@ -1,6 +1,6 @@
-use Rattle.std.proofs.Common.{◌≡◌, ◌↔◌, List, ℕ, map, nat_cmp, IsTrue, subst, rules}
+use Rattle.image_fitting.proofs.Common.{◌≡◌, ◌↔◌, List, ℕ, map, IsTrue, subst, rules, Fact}
+use Rattle.std.proofs.Common.{nat_cmp}
 use Rattle.std.specs.List.Sorted.{IsStrictlySortedBy}
-use Rattle.fx_base.specs.declared.fact.Fact.{Fact}
 use Rattle.image_fitting.proofs.Telling.{distinct_is}
 use Rattle.image_fitting.proofs.facts.have_distinct_ids.Goals as goal
 

@@ -1,4 +1,4 @@
-use Rattle.std.proofs.Common.{◌<◌, ◌≤◌, length, sym, arith}
+use Rattle.image_fitting.proofs.Common.{◌<◌, ◌≤◌, length, sym, arith}
 use Rattle.image_fitting.proofs.Telling.{unlike_kinds, kinds_end, kinds_on, kinds_over}
 use Rattle.image_fitting.proofs.facts.have_kinds.Goals as goal
 

@@ -1,4 +1,4 @@
-use Rattle.std.proofs.Common.{◌≡◌, drop}
+use Rattle.image_fitting.proofs.Common.{◌≡◌, drop}
 use Rattle.rule_world.specs.Kinds.{have_kinds}
 use Rattle.image_fitting.proofs.facts.have_kinds.Given as goal
 

@@ -1,10 +1,4 @@
-use Rattle.std.proofs.Common.{◌↔◌, ◌∙◌, List, length, replicate, pos, IsTrue, refl, sym, ap, subst}
-use Rattle.std.proofs.lemmas.Result.{IfOk-weaker}
-use Rattle.fx_base.specs.declared.fact.Fact.{Fact}
-use Rattle.rule_model.specs.Distinct.{HaveDistinctIds}
-use Rattle.image_fitting.specs.Parts.{FitByParts}
-use Rattle.image_fitting.specs.Table.{IsTable}
-use Rattle.image_fitting.specs.Tests.{come_in_turn}
+use Rattle.image_fitting.proofs.Common.{◌↔◌, ◌∙◌, List, length, replicate, pos, IsTrue, refl, sym, ap, subst, IfOk-weaker, Fact, HaveDistinctIds, FitByParts, IsTable, come_in_turn}
 use Rattle.image_fitting.proofs.fitting.fits_by_table.Goals as goal
 
 pub returns : goal.returns

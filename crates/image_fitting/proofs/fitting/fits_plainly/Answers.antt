@@ -1,8 +1,4 @@
-use Rattle.std.proofs.Common.{◌↔◌, Result, Ok, Err, IsTrue, OnOk, subst, sym}
-use Rattle.std.proofs.lemmas.Result.{IfOk-weaker}
-use Rattle.image_fitting.specs.Plain.{FitsPlainly}
-use Rattle.image_fitting.specs.Parts.{FitByParts}
-use Rattle.image_fitting.specs.Table.{IsTable}
+use Rattle.image_fitting.proofs.Common.{◌↔◌, Result, Ok, Err, IsTrue, OnOk, subst, sym, IfOk-weaker, FitsPlainly, FitByParts, IsTable}
 use Rattle.image_fitting.proofs.Exactly.{exact_is}
 use Rattle.image_fitting.proofs.Placing.{table_owners}
 use Rattle.image_fitting.proofs.fitting.fits_plainly.Goals as goal

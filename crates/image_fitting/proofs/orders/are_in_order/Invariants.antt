@@ -1,6 +1,4 @@
-use Rattle.std.proofs.Common.{◌≡◌}
-use Rattle.std.specs.declared.cmp.Ordering.TheVariants.{Less}
-use Rattle.std.specs.List.{AllAdjacentBelow}
+use Rattle.image_fitting.proofs.Common.{◌≡◌, Less, AllAdjacentBelow}
 use Rattle.image_fitting.proofs.orders.are_in_order.Given as goal
 
 abbrev pub invariant-loop-place : goal.invariant-loop-place

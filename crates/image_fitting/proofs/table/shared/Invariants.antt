@@ -1,4 +1,4 @@
-use Rattle.std.proofs.Common.{◌≡◌, take}
+use Rattle.image_fitting.proofs.Common.{◌≡◌, take}
 use Rattle.image_fitting.proofs.table.shared.Given as goal
 
 abbrev pub invariant-loop-place : goal.invariant-loop-place

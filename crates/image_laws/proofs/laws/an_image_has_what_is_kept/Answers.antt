@@ -1,6 +1,4 @@
-use Rattle.rule_world.specs.Worlds.{snapshot}
-use Rattle.keeping.specs.Kept.{is_forgotten}
-use Rattle.image_laws.specs.Images.{snapshot_of}
+use Rattle.image_laws.proofs.Common.{snapshot, is_forgotten, snapshot_of}
 use Rattle.image_laws.proofs.Imaged.{image_kept}
 use Rattle.image_laws.proofs.Rows.{laden_rows}
 use Rattle.image_laws.proofs.laws.an_image_has_what_is_kept.Goals as goal

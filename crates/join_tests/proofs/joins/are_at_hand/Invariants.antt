@@ -1,6 +1,4 @@
-use Rattle.std.proofs.Common.{◌≡◌, drop}
-use Rattle.std.specs.Option.{is_some}
-use Rattle.join_tests.specs.Joins.{versions_at}
+use Rattle.join_tests.proofs.Common.{◌≡◌, drop, is_some, versions_at}
 use Rattle.join_tests.proofs.joins.are_at_hand.Given as goal
 
 abbrev pub invariant-loop-named : goal.invariant-loop-named

@@ -1,7 +1,4 @@
-use Rattle.std.proofs.Common.{◌∙◌, sym, ap, List, ◌&&◌}
-use Rattle.std.specs.Option.{is_some}
-use Rattle.row_delta.specs.declared.row.Named.{Named}
-use Rattle.join_tests.specs.Joins.{versions_at}
+use Rattle.join_tests.proofs.Common.{◌∙◌, sym, ap, List, ◌&&◌, is_some, Named, versions_at}
 use Rattle.join_tests.proofs.Versions.{joins_of}
 use Rattle.join_tests.proofs.joins.does_join.Goals as goal
 

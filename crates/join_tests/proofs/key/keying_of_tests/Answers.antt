@@ -1,4 +1,4 @@
-use Rattle.join_tests.specs.Keying.{and_more}
+use Rattle.join_tests.proofs.Common.{and_more}
 use Rattle.join_tests.proofs.Counting.{and_both, next_test}
 use Rattle.join_tests.proofs.key.keying_of_tests.Goals as goal
 

@@ -1,7 +1,4 @@
-use Rattle.std.proofs.Common.{◌≡◌, drop}
-use Rattle.join_tests.specs.declared.key.Keying.TheVariants.{Nothing}
-use Rattle.join_tests.specs.Keys.{keys_of_tests}
-use Rattle.join_tests.specs.Keying.{and_more}
+use Rattle.join_tests.proofs.Common.{◌≡◌, drop, Nothing, keys_of_tests, and_more}
 use Rattle.join_tests.proofs.key.keying_of_tests.Given as goal
 
 abbrev pub invariant-loop-test : goal.invariant-loop-test

@@ -1,6 +1,4 @@
-use Rattle.std.proofs.Common.{◌≡◌, drop}
-use Rattle.join_tests.specs.Keys.{keys_of_compares}
-use Rattle.join_tests.specs.Keying.{and_more}
+use Rattle.join_tests.proofs.Common.{◌≡◌, drop, keys_of_compares, and_more}
 use Rattle.join_tests.proofs.key.with_compares.Given as goal
 
 abbrev pub invariant-loop-compare : goal.invariant-loop-compare

@@ -1,8 +1,4 @@
-use Rattle.std.proofs.Common.{◌∙◌, sym, ap, List, map}
-use Rattle.join_tests.specs.declared.key.JoinKey.{JoinKey}
-use Rattle.join_tests.specs.Keys.{join_keys}
-use Rattle.join_tests.specs.Keying.{part}
-use Rattle.join_tests.specs.Kept.{with_slot}
+use Rattle.join_tests.proofs.Common.{◌∙◌, sym, ap, List, map, JoinKey, join_keys, part, with_slot}
 use Rattle.join_tests.proofs.Counting.{are_none, not_none, number_fed}
 use Rattle.join_tests.proofs.keyed.slotted.Goals as goal
 

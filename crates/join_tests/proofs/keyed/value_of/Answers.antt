@@ -1,7 +1,4 @@
-use Rattle.std.proofs.Common.{◌∙◌, sym, ap, List, map}
-use Rattle.join_tests.specs.declared.key.JoinKey.{JoinKey}
-use Rattle.join_tests.specs.Keys.{join_keys, as_one}
-use Rattle.join_tests.specs.Keying.{part}
+use Rattle.join_tests.proofs.Common.{◌∙◌, sym, ap, List, map, JoinKey, join_keys, as_one, part}
 use Rattle.join_tests.proofs.Counting.{are_none, are_one, are_several}
 use Rattle.join_tests.proofs.keyed.value_of.Goals as goal
 

@@ -1,6 +1,4 @@
-use Rattle.std.proofs.Common.{◌≡◌, drop, map}
-use Rattle.join_tests.specs.Keys.{keys_of_compares, fed_with}
-use Rattle.join_tests.specs.Keying.{part}
+use Rattle.join_tests.proofs.Common.{◌≡◌, drop, map, keys_of_compares, fed_with, part}
 use Rattle.join_tests.proofs.number.feed_compares.Given as goal
 
 abbrev pub invariant-loop-compare : goal.invariant-loop-compare

@@ -1,6 +1,4 @@
-use Rattle.std.proofs.Common.{map}
-use Rattle.join_tests.specs.Keys.{fed_with}
-use Rattle.join_tests.specs.Keying.{part}
+use Rattle.join_tests.proofs.Common.{map, fed_with, part}
 use Rattle.join_tests.proofs.Counting.{fed_both, next_test}
 use Rattle.join_tests.proofs.number.feed_tests.Goals as goal
 

@@ -1,4 +1,4 @@
-use Rattle.std.proofs.Common.{◌≡◌, take}
+use Rattle.join_tests.proofs.Common.{◌≡◌, take}
 use Rattle.join_tests.proofs.row_key.are_same.Given as goal
 
 abbrev pub invariant-loop-place : goal.invariant-loop-place

@@ -1,5 +1,4 @@
-use Rattle.std.proofs.Common.{◌++◌, map}
-use Rattle.join_tests.specs.RowKeys.{side_of}
+use Rattle.join_tests.proofs.Common.{◌++◌, map, side_of}
 use Rattle.join_tests.proofs.Counting.{next_test}
 use Rattle.join_tests.proofs.Siding.{sides_both}
 use Rattle.join_tests.proofs.row_key.put_tests.Goals as goal

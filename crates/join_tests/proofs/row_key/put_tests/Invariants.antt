@@ -1,6 +1,4 @@
-use Rattle.std.proofs.Common.{◌≡◌, ◌++◌, drop, map}
-use Rattle.join_tests.specs.Keys.{keys_of_tests}
-use Rattle.join_tests.specs.RowKeys.{side_of}
+use Rattle.join_tests.proofs.Common.{◌≡◌, ◌++◌, drop, map, keys_of_tests, side_of}
 use Rattle.join_tests.proofs.row_key.put_tests.Given as goal
 
 abbrev pub invariant-loop-test : goal.invariant-loop-test

@@ -1,7 +1,5 @@
-use Rattle.std.proofs.Common.{◌≡◌, drop, map}
+use Rattle.join_tests.proofs.Common.{◌≡◌, drop, map, fed_with, side_part}
 use Rattle.std.specs.Hash.FoldHasher as hasher
-use Rattle.join_tests.specs.Keys.{fed_with}
-use Rattle.join_tests.specs.RowKeys.{side_part}
 use Rattle.join_tests.proofs.row_key.sides_fed.Given as goal
 
 abbrev pub invariant-loop-side : goal.invariant-loop-side

@@ -1,5 +1,4 @@
-use Rattle.std.proofs.Common.{◌∙◌}
-use Rattle.join_tests.specs.RowKeys.{side_part}
+use Rattle.join_tests.proofs.Common.{◌∙◌, side_part}
 use Rattle.join_tests.proofs.Siding.{sides_several}
 use Rattle.join_tests.proofs.row_key.value_of_sides.Goals as goal
 

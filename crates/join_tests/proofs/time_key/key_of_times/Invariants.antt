@@ -1,5 +1,4 @@
-use Rattle.std.proofs.Common.{◌≡◌, drop}
-use Rattle.join_tests.specs.TimeKeys.{key_of_times}
+use Rattle.join_tests.proofs.Common.{◌≡◌, drop, key_of_times}
 use Rattle.join_tests.proofs.time_key.key_of_times.Given as goal
 
 abbrev pub invariant-loop-test : goal.invariant-loop-test

@@ -1,5 +1,4 @@
-use Rattle.std.proofs.Common.{◌≡◌, drop}
-use Rattle.join_tests.specs.TimeKeys.{most_between}
+use Rattle.join_tests.proofs.Common.{◌≡◌, drop, most_between}
 use Rattle.join_tests.proofs.time_key.most_between.Given as goal
 
 abbrev pub invariant-loop-edge : goal.invariant-loop-edge

@@ -1,5 +1,4 @@
-use Rattle.std.proofs.Common.{◌≡◌, ◌++◌, map, drop}
-use Rattle.life_edges.specs.Edges.{net_edge}
+use Rattle.life_edges.proofs.Common.{◌≡◌, ◌++◌, map, drop, net_edge}
 use Rattle.life_edges.proofs.networks.add_edges.Given as goal
 
 abbrev pub invariant-loop-edge : goal.invariant-loop-edge

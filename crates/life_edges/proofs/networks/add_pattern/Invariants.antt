@@ -1,6 +1,4 @@
-use Rattle.std.proofs.Common.{◌≡◌, ◌++◌, drop}
-use Rattle.std.specs.List.{flat_map}
-use Rattle.life_edges.specs.Edges.{test_edges, pattern_edges}
+use Rattle.life_edges.proofs.Common.{◌≡◌, ◌++◌, drop, flat_map, test_edges, pattern_edges}
 use Rattle.life_edges.proofs.networks.add_pattern.Given as goal
 
 abbrev pub invariant-loop-test : goal.invariant-loop-test

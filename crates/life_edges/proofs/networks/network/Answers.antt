@@ -1,9 +1,5 @@
-use Rattle.std.proofs.Common.{◌<◌, refl, subst, sym}
-use Rattle.std.specs.List.{All}
+use Rattle.life_edges.proofs.Common.{◌<◌, refl, subst, sym, All, Pattern, TimeTest, bindings}
 use Rattle.std.proofs.lemmas.Option.{slice_get_read}
-use Rattle.rule_model.specs.declared.condition.Pattern.{Pattern}
-use Rattle.rule_model.specs.declared.test.TimeTest.{TimeTest}
-use Rattle.rule_lives.specs.Networks.{bindings}
 use Rattle.life_edges.proofs.Places.{named_here}
 use Rattle.life_edges.proofs.networks.network.Goals as goal
 

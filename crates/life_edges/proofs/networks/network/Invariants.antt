@@ -1,5 +1,4 @@
-use Rattle.std.proofs.Common.{◌≡◌, ◌++◌, drop}
-use Rattle.life_edges.specs.Edges.{edges_of}
+use Rattle.life_edges.proofs.Common.{◌≡◌, ◌++◌, drop, edges_of}
 use Rattle.life_edges.proofs.networks.network.Given as goal
 
 abbrev pub invariant-loop-place : goal.invariant-loop-place

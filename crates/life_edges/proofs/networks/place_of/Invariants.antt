@@ -1,5 +1,4 @@
-use Rattle.std.proofs.Common.{◌≡◌, ◌<◌, ◌+◌, drop}
-use Rattle.rule_lives.specs.Networks.{bindings}
+use Rattle.life_edges.proofs.Common.{◌≡◌, ◌<◌, ◌+◌, drop, bindings}
 use Rattle.life_edges.specs.Edges.{place_of as place_in}
 use Rattle.life_edges.proofs.networks.place_of.Given as goal
 

@@ -1,5 +1,4 @@
-use Rattle.std.proofs.Common.{◌≡◌, ◌++◌, drop}
-use Rattle.life_proof.specs.Asked.{asked_to, each_from}
+use Rattle.life_proof.proofs.Common.{◌≡◌, ◌++◌, drop, asked_to, each_from}
 use Rattle.life_proof.proofs.asking.add_each.Given as goal
 
 abbrev pub invariant-loop-to : goal.invariant-loop-to

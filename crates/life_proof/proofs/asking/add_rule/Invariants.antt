@@ -1,5 +1,4 @@
-use Rattle.std.proofs.Common.{◌≡◌, ◌++◌, drop}
-use Rattle.life_proof.specs.Asked.{asked_from, asked_in, each_from}
+use Rattle.life_proof.proofs.Common.{◌≡◌, ◌++◌, drop, asked_from, asked_in, each_from}
 use Rattle.life_proof.proofs.asking.add_rule.Given as goal
 
 abbrev pub invariant-loop-from : goal.invariant-loop-from

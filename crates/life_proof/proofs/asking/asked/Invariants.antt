@@ -1,5 +1,4 @@
-use Rattle.std.proofs.Common.{◌≡◌, ◌++◌, drop}
-use Rattle.life_proof.specs.Asked.{asked, asked_in, each_from}
+use Rattle.life_proof.proofs.Common.{◌≡◌, ◌++◌, drop, asked, asked_in, each_from}
 use Rattle.life_proof.proofs.asking.asked.Given as goal
 
 abbrev pub invariant-loop-place : goal.invariant-loop-place

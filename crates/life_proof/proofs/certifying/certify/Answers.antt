@@ -1,8 +1,4 @@
-use Rattle.std.proofs.Common.{◌∙◌, List, sym, subst}
-use Rattle.std.proofs.lemmas.List.Elements.{All-same}
-use Rattle.life_proof.specs.declared.part.Asked.{Asked}
-use Rattle.life_proof.specs.Asked.{IsAsked, asked}
-use Rattle.life_proof.specs.Good.{AreGoodParts}
+use Rattle.life_proof.proofs.Common.{◌∙◌, List, sym, subst, All-same, Asked, IsAsked, asked, AreGoodParts}
 use Rattle.life_proof.proofs.Asked.{all_asked}
 use Rattle.life_proof.proofs.Certified.{table_lawful}
 use Rattle.life_proof.proofs.certifying.certify.Goals as goal

@@ -1,8 +1,6 @@
-use Rattle.std.proofs.Common.{◌∙◌, ◌∷◌, []}
-use Rattle.std.proofs.lemmas.List.Elements.{All-same}
+use Rattle.life_proof.proofs.Common.{◌∙◌, ◌∷◌, [], All-same, edges_for}
 use Rattle.temporal_net.specs.Networks.{IsSmall}
 use Rattle.life_edges.proofs.Fitting.{all_small}
-use Rattle.life_proof.specs.Good.{edges_for}
 use Rattle.life_proof.proofs.certifying.part_among.Goals as goal
 
 pub solve-requires-clause-small : goal.solve-requires-clause-small

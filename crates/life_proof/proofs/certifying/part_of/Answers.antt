@@ -1,11 +1,4 @@
-use Rattle.std.proofs.Common.{List, sym, subst}
-use Rattle.std.proofs.lemmas.Result.{IfOk-weaker}
-use Rattle.temporal_net.specs.Networks.{IsUnbounded}
-use Rattle.rule_model.specs.declared.condition.Condition.{Condition}
-use Rattle.life_edges.specs.Edges.{start_of, end_of, HaveNetwork}
-use Rattle.life_proof.specs.declared.part.Part.{Part}
-use Rattle.life_proof.specs.Good.{edges_for, IsGoodPart}
-use Rattle.life_proof.specs.Solved.{IsSolvedPart}
+use Rattle.life_proof.proofs.Common.{List, sym, subst, IfOk-weaker, IsUnbounded, Condition, start_of, end_of, HaveNetwork, Part, edges_for, IsGoodPart, IsSolvedPart}
 use Rattle.life_proof.proofs.Asked.{fits}
 use Rattle.life_proof.proofs.Certified.{bounded, part_good}
 use Rattle.life_proof.proofs.certifying.part_of.Goals as goal

@@ -1,4 +1,4 @@
-use Rattle.std.proofs.Common.{sym, subst, arith, length, ◌≡◌, ◌+◌}
+use Rattle.life_proof.proofs.Common.{sym, subst, arith, length, ◌≡◌, ◌+◌}
 use Rattle.life_proof.proofs.Certified.{Makes, makes_more, makes_all}
 use Rattle.life_proof.proofs.certifying.parts_of.Goals as goal
 

@@ -1,4 +1,4 @@
-use Rattle.std.proofs.Common.{sym}
+use Rattle.life_proof.proofs.Common.{sym}
 use Rattle.life_proof.proofs.Loops.{unlike_parts}
 use Rattle.life_proof.proofs.confirming.are_good_parts.Goals as goal
 

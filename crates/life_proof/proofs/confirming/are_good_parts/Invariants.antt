@@ -1,5 +1,4 @@
-use Rattle.std.proofs.Common.{◌≡◌, drop}
-use Rattle.life_proof.specs.Good.{are_good_parts}
+use Rattle.life_proof.proofs.Common.{◌≡◌, drop, are_good_parts}
 use Rattle.life_proof.proofs.confirming.are_good_parts.Given as goal
 
 abbrev pub invariant-loop-place : goal.invariant-loop-place

@@ -1,11 +1,4 @@
-use Rattle.std.proofs.Common.{◌≡◌, ◌∙◌, List, Bool, ap, sym}
-use Rattle.std.specs.Bool.{Decides}
-use Rattle.std.proofs.lemmas.List.Elements.{All-same}
-use Rattle.std.proofs.lemmas.Result.{IfOk-weaker}
-use Rattle.life_proof.specs.declared.part.Asked.{Asked}
-use Rattle.life_proof.specs.declared.part.Part.{Part}
-use Rattle.life_proof.specs.Asked.{HasPlaces, asked}
-use Rattle.life_proof.specs.Good.{are_good_parts, IsGood}
+use Rattle.life_proof.proofs.Common.{◌≡◌, ◌∙◌, List, Bool, ap, sym, Decides, All-same, IfOk-weaker, Asked, Part, HasPlaces, asked, are_good_parts, IsGood}
 use Rattle.life_proof.proofs.Asked.{all_placed}
 use Rattle.life_proof.proofs.Good.{lawful, unlawful}
 use Rattle.life_proof.proofs.confirming.confirm.Goals as goal

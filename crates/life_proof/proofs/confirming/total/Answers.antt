@@ -1,6 +1,5 @@
-use Rattle.std.proofs.Common.{SFits, to_z-of_z, arith}
+use Rattle.life_proof.proofs.Common.{SFits, to_z-of_z, arith, ints}
 use Rattle.std.specs.Int.{w128}
-use Rattle.std.proofs.lemmas.Int.{ints}
 use Rattle.life_proof.proofs.Sums.{added}
 use Rattle.life_proof.proofs.confirming.total.Goals as goal
 

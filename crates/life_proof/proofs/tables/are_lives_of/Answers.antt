@@ -1,4 +1,4 @@
-use Rattle.std.proofs.Common.{sym}
+use Rattle.life_proof.proofs.Common.{sym}
 use Rattle.life_proof.proofs.Loops.{unlike_lives}
 use Rattle.life_proof.proofs.tables.are_lives_of.Goals as goal
 

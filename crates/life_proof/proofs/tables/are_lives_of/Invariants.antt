@@ -1,5 +1,4 @@
-use Rattle.std.proofs.Common.{◌≡◌, drop}
-use Rattle.life_proof.specs.Tables.{are_lives_of}
+use Rattle.life_proof.proofs.Common.{◌≡◌, drop, are_lives_of}
 use Rattle.life_proof.proofs.tables.are_lives_of.Given as goal
 
 abbrev pub invariant-loop-place : goal.invariant-loop-place

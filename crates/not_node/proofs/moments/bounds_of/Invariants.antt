@@ -1,6 +1,4 @@
-use Rattle.std.proofs.Common.{◌≡◌, ◌++◌, drop, option_map}
-use Rattle.rule_model.specs.Lent.{bound_in}
-use Rattle.rule_model.specs.Maturity.{bounds_of}
+use Rattle.not_node.proofs.Common.{◌≡◌, ◌++◌, drop, option_map, bound_in, bounds_of}
 use Rattle.not_node.proofs.moments.bounds_of.Given as goal
 
 abbrev pub invariant-loop-test : goal.invariant-loop-test

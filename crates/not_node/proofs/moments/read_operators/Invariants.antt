@@ -1,5 +1,4 @@
-use Rattle.std.proofs.Common.{drop}
-use Rattle.rule_model.specs.Maturity.{AreOperators}
+use Rattle.not_node.proofs.Common.{drop, AreOperators}
 use Rattle.not_node.proofs.moments.read_operators.Given as goal
 
 abbrev pub invariant-loop-test : goal.invariant-loop-test

@@ -1,9 +1,4 @@
-use Rattle.std.proofs.Common.{to_z, of_z, ◌∙◌, ap, ◌&&◌, take}
-use Rattle.std.specs.Int.{w128}
-use Rattle.row_delta.specs.Rows.{has}
-use Rattle.tally_node.proofs.Following.{rows_more}
-use Rattle.not_node.specs.Moments.{moment_at}
-use Rattle.not_node.specs.Waiting.{mature}
+use Rattle.not_node.proofs.Common.{to_z, of_z, ◌∙◌, ap, ◌&&◌, take, w128, has, rows_more, moment_at, mature}
 use Rattle.not_node.proofs.Pairs.{one_kept}
 use Rattle.not_node.proofs.ripening.ripe_of.Goals as goal
 

@@ -1,8 +1,4 @@
-use Rattle.std.proofs.Common.{◌≡◌, take}
-use Rattle.row_delta.specs.declared.row.Named.{Named}
-use Rattle.row_delta.specs.Rows.{has}
-use Rattle.pair_memory.specs.Joined.{has_name}
-use Rattle.pair_memory.specs.Inputs.{row_naming}
+use Rattle.pair_memory.proofs.Common.{◌≡◌, take, Named, has, has_name, row_naming}
 use Rattle.pair_memory.proofs.inputs.names_alone.Given as goal
 
 abbrev pub invariant-loop-row : goal.invariant-loop-row

@@ -1,12 +1,4 @@
-use Rattle.std.proofs.Common.{◌∙◌, sym, ap, List}
-use Rattle.std.specs.Option.{option_map}
-use Rattle.std.specs.Ordering.{eq_by_cmp}
-use Rattle.fx_base.specs.Values.{same_value}
-use Rattle.row_delta.specs.declared.row.Row.{Row}
-use Rattle.row_delta.specs.Rows.{row_cmp, has}
-use Rattle.row_delta.specs.NameOrder.{name_cmp}
-use Rattle.alpha_memory.specs.JoinIndex.{bucket_at}
-use Rattle.pair_memory.specs.Under.{name_joins, stands_in}
+use Rattle.pair_memory.proofs.Common.{◌∙◌, sym, ap, List, option_map, eq_by_cmp, same_value, Row, row_cmp, has, name_cmp, bucket_at, name_joins, stands_in}
 use Rattle.pair_memory.proofs.Joining.{none_right}
 use Rattle.pair_memory.proofs.making.names_under.Goals as goal
 

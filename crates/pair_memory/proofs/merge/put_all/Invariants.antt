@@ -1,6 +1,4 @@
-use Rattle.std.proofs.Common.{◌≡◌, ◌||◌}
-use Rattle.std.specs.List.{list_any}
-use Rattle.std.specs.Ordering.{eq_by_cmp}
+use Rattle.pair_memory.proofs.Common.{◌≡◌, ◌||◌, list_any, eq_by_cmp}
 use Rattle.pair_memory.proofs.merge.put_all.Given as goal
 
 -- with the keys to come, all are there

@@ -1,18 +1,5 @@
-use Rattle.std.proofs.Common.{cond, ◌≡◌, ◌∙◌, sym, ap, subst, arith, List, [], ◌∷◌, ◌++◌, ◌&&◌, Vec, Global}
-use Rattle.std.proofs.lemmas.Grind.{common_steps}
-use Rattle.std.proofs.lemmas.List.Kept.{IsStrictlySortedBy-filter}
-use Rattle.std.proofs.lemmas.Map.Made.{is_member-filter, is_some-lookup}
-use Rattle.std.specs.BTreeMap.{is_at}
-use Rattle.std.specs.List.{filter}
-use Rattle.std.specs.Option.{option_map}
+use Rattle.pair_memory.proofs.Common.{cond, ◌≡◌, ◌∙◌, sym, ap, subst, arith, List, [], ◌∷◌, ◌++◌, ◌&&◌, Vec, Global, common_steps, IsStrictlySortedBy-filter, is_member-filter, is_some-lookup, is_at, filter, option_map, keys_of, Named, name_cmp, name_equiv, entries, Bucket, name_joins, has_name}
 use Rattle.std.specs.List.Sorted.{IsStrictlySortedBy}
-use Rattle.std.specs.Map.{keys_of}
-use Rattle.row_delta.specs.declared.row.Named.{Named}
-use Rattle.row_delta.specs.NameOrder.{name_cmp, name_equiv}
-use Rattle.alpha_memory.specs.Bucket.{entries}
-use Rattle.alpha_memory.specs.declared.bucket.Bucket.{Bucket}
-use Rattle.pair_memory.specs.Under.{name_joins}
-use Rattle.pair_memory.specs.Joined.{has_name}
 use Rattle.pair_memory.proofs.Joining.{name_decides}
 use Rattle.pair_memory.proofs.partners.names_passed.Goals as goal
 use Rattle.pair_memory.proofs.partners.names_passed.Goals.{in-One+in_ok-add_passing-in-One, in-Many+in-None}

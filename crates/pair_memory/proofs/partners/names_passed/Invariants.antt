@@ -1,9 +1,4 @@
-use Rattle.std.proofs.Common.{◌≡◌, ◌++◌}
-use Rattle.std.specs.List.{filter}
-use Rattle.std.specs.Option.{option_map}
-use Rattle.std.specs.Map.{keys_of}
-use Rattle.alpha_memory.specs.Bucket.{entries}
-use Rattle.pair_memory.specs.Under.{name_joins}
+use Rattle.pair_memory.proofs.Common.{◌≡◌, ◌++◌, filter, option_map, keys_of, entries, name_joins}
 use Rattle.pair_memory.proofs.partners.names_passed.Given as goal
 
 abbrev pub invariant-loop-who : goal.invariant-loop-who

@@ -1,18 +1,5 @@
-use Rattle.std.proofs.Common.{cond, ◌≡◌, ◌∙◌, sym, ap, subst, arith, List, [], ◌∷◌, ◌++◌, ◌&&◌, Vec, Global}
-use Rattle.std.proofs.lemmas.Grind.{common_steps}
-use Rattle.std.proofs.lemmas.List.Kept.{IsStrictlySortedBy-filter}
-use Rattle.std.proofs.lemmas.Map.Made.{is_member-filter, is_some-lookup}
-use Rattle.std.specs.BTreeMap.{is_at}
-use Rattle.std.specs.List.{filter}
-use Rattle.std.specs.Option.{option_map}
+use Rattle.pair_memory.proofs.Common.{cond, ◌≡◌, ◌∙◌, sym, ap, subst, arith, List, [], ◌∷◌, ◌++◌, ◌&&◌, Vec, Global, common_steps, IsStrictlySortedBy-filter, is_member-filter, is_some-lookup, is_at, filter, option_map, keys_of, Row, row_cmp, has, same_equiv, entries, Bucket, row_joins}
 use Rattle.std.specs.List.Sorted.{IsStrictlySortedBy}
-use Rattle.std.specs.Map.{keys_of}
-use Rattle.row_delta.specs.declared.row.Row.{Row}
-use Rattle.row_delta.specs.Rows.{row_cmp, has}
-use Rattle.row_delta.specs.RowOrder.{same_equiv}
-use Rattle.alpha_memory.specs.Bucket.{entries}
-use Rattle.alpha_memory.specs.declared.bucket.Bucket.{Bucket}
-use Rattle.pair_memory.specs.Under.{row_joins}
 use Rattle.pair_memory.proofs.Joining.{row_decides}
 use Rattle.pair_memory.proofs.partners.rows_passed.Goals as goal
 use Rattle.pair_memory.proofs.partners.rows_passed.Goals.{in-One+in_ok-add_passed-in-One, in-Many+in-None}

@@ -1,10 +1,4 @@
-use Rattle.std.proofs.Common.{◌≡◌, ◌++◌}
-use Rattle.std.specs.List.{filter}
-use Rattle.std.specs.Option.{option_map}
-use Rattle.std.specs.Map.{keys_of}
-use Rattle.alpha_memory.specs.Bucket.{entries}
-use Rattle.row_delta.specs.declared.row.Row.{Row}
-use Rattle.pair_memory.specs.Under.{row_joins}
+use Rattle.pair_memory.proofs.Common.{◌≡◌, ◌++◌, filter, option_map, keys_of, entries, Row, row_joins}
 use Rattle.pair_memory.proofs.partners.rows_passed.Given as goal
 
 abbrev pub invariant-loop-row : goal.invariant-loop-row

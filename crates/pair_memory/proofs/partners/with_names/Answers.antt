@@ -1,14 +1,4 @@
-use Rattle.std.proofs.Common.{◌∙◌, sym, ap, List, Vec, Global, ◌&&◌, ◌||◌}
-use Rattle.std.specs.Option.{is_some, option_map}
-use Rattle.std.specs.Ordering.{eq_by_cmp}
-use Rattle.row_delta.specs.declared.row.Named.{Named}
-use Rattle.row_delta.specs.declared.row.Row.{Row}
-use Rattle.row_delta.specs.Rows.{has, row_cmp}
-use Rattle.row_delta.specs.NameOrder.{name_cmp}
-use Rattle.alpha_memory.specs.Bucket.{found}
-use Rattle.alpha_memory.specs.declared.bucket.Bucket.{Bucket}
-use Rattle.pair_memory.specs.Under.{name_joins}
-use Rattle.pair_memory.specs.Joined.{with_name, joined, has_name}
+use Rattle.pair_memory.proofs.Common.{◌∙◌, sym, ap, List, Vec, Global, ◌&&◌, ◌||◌, is_some, option_map, eq_by_cmp, Named, Row, has, row_cmp, name_cmp, found, Bucket, name_joins, with_name, joined, has_name}
 use Rattle.pair_memory.proofs.Joining.{more_names, one_more, one_name, names_begin, names_end}
 use Rattle.pair_memory.proofs.partners.with_names.Goals as goal
 use Rattle.pair_memory.proofs.partners.with_names.Goals.{in-One+in_ok-add_row-in-One, in-Many+in-None}

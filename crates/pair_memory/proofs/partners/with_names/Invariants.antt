@@ -1,12 +1,4 @@
-use Rattle.std.proofs.Common.{◌≡◌, ◌||◌}
-use Rattle.std.specs.Option.{is_some, option_map}
-use Rattle.std.specs.Ordering.{eq_by_cmp}
-use Rattle.alpha_memory.specs.Bucket.{found}
-use Rattle.row_delta.specs.declared.row.Row.{Row}
-use Rattle.row_delta.specs.Rows.{has, row_cmp}
-use Rattle.row_delta.specs.NameOrder.{name_cmp}
-use Rattle.pair_memory.specs.Under.{name_joins}
-use Rattle.pair_memory.specs.Joined.{joined, has_name}
+use Rattle.pair_memory.proofs.Common.{◌≡◌, ◌||◌, is_some, option_map, eq_by_cmp, found, Row, has, row_cmp, name_cmp, name_joins, joined, has_name}
 use Rattle.pair_memory.proofs.partners.with_names.Given as goal
 
 -- with what the candidates to come make, all is found

@@ -1,13 +1,4 @@
-use Rattle.std.proofs.Common.{◌∙◌, sym, ap, List, Vec, Global, ◌&&◌, ◌||◌}
-use Rattle.std.specs.Option.{is_some, option_map}
-use Rattle.std.specs.Ordering.{eq_by_cmp}
-use Rattle.row_delta.specs.declared.row.Row.{Row}
-use Rattle.row_delta.specs.Rows.{has, row_cmp}
-use Rattle.row_delta.specs.NameOrder.{name_cmp}
-use Rattle.alpha_memory.specs.Bucket.{found}
-use Rattle.alpha_memory.specs.declared.bucket.Bucket.{Bucket}
-use Rattle.pair_memory.specs.Under.{row_joins}
-use Rattle.pair_memory.specs.Joined.{with_name, joined}
+use Rattle.pair_memory.proofs.Common.{◌∙◌, sym, ap, List, Vec, Global, ◌&&◌, ◌||◌, is_some, option_map, eq_by_cmp, Row, has, row_cmp, name_cmp, found, Bucket, row_joins, with_name, joined}
 use Rattle.pair_memory.proofs.Joining.{more_rows, one_more, one_row, rows_begin, rows_end}
 use Rattle.pair_memory.proofs.partners.with_rows.Goals as goal
 use Rattle.pair_memory.proofs.partners.with_rows.Goals.{in-One+in_ok-add_row-in-One, in-Many+in-None}

@@ -1,7 +1,4 @@
-use Rattle.std.proofs.Common.{◌∙◌, sym, ap, ◌||◌, option_map}
-use Rattle.fx_base.specs.declared.fact.Fact.{Fact}
-use Rattle.std.specs.Borrow.{Bor}
-use Rattle.pattern_gate.specs.Turns.{is_given_meant}
+use Rattle.pattern_gate.proofs.Common.{◌∙◌, sym, ap, ◌||◌, option_map, Fact, Bor, is_given_meant}
 use Rattle.pattern_gate.proofs.Turning.{any_lent}
 use Rattle.pattern_gate.proofs.gate.is_one_meant.Goals as goal
 

@@ -1,5 +1,4 @@
-use Rattle.std.proofs.Common.{ℕ, List, Err, sym, ap, ◌∙◌, arith}
-use Rattle.std.specs.Str.{bytes_eq}
+use Rattle.replay.proofs.Common.{ℕ, List, Err, sym, ap, ◌∙◌, arith, bytes_eq}
 use Rattle.replay.proofs.ImagesRead.{bad_image_is, image_is, other_rules_is, too_long_is}
 use Rattle.replay.proofs.checkpoint_file.image_of.Goals as goal
 

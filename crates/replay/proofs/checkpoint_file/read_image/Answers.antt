@@ -1,6 +1,6 @@
-use Rattle.std.proofs.Common.{sym, ap, subst, ◌∙◌}
+use Rattle.replay.proofs.Common.{sym, ap, subst, ◌∙◌, Checkpoint}
 use Rattle.std.proofs.lemmas.Result.{IfOk-weaker, IfErr-weaker}
-use Rattle.replay.specs.Checkpoints.{Checkpoint, checkpoint_of, image_limit, Tells}
+use Rattle.replay.specs.Checkpoints.{checkpoint_of, image_limit, Tells}
 use Rattle.replay.proofs.Reports.{image_found}
 use Rattle.replay.proofs.checkpoint_file.read_image.Goals as goal
 

@@ -1,7 +1,4 @@
-use Rattle.fx_io.specs.Outside.{AppendsFront}
-use Rattle.fx_io.specs.Lines.{lines_of}
-use Rattle.rule_model.specs.declared.life.LifeTable.{LifeTable}
-use Rattle.script_run.specs.Run.{setting_of, whole_run}
+use Rattle.replay.proofs.Common.{AppendsFront, lines_of, LifeTable, setting_of, whole_run}
 use Rattle.replay.specs.Summary.{summary_text}
 use Rattle.replay.proofs.Tables.{by_table}
 use Rattle.replay.proofs.load.run_and_sum_up.Goals as goal

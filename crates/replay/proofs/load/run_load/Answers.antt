@@ -1,8 +1,4 @@
-use Rattle.std.proofs.Common.{◌≡◌, refl, sym, ap, ◌∙◌, inl, inr, arith}
-use Rattle.gen_load.specs.Rules.{rules_text}
-use Rattle.replay.specs.declared.rule_file.Reading.TheVariants.{Accepted, Refused}
-use Rattle.replay.specs.Refusals.{reading}
-use Rattle.replay.specs.Wanted.{sums_up}
+use Rattle.replay.proofs.Common.{◌≡◌, refl, sym, ap, ◌∙◌, inl, inr, arith, rules_text, Accepted, Refused, reading, sums_up}
 use Rattle.replay.proofs.Calls.{load_done, load_not_nine, nothing_done}
 use Rattle.replay.proofs.LoadFile.{load_file_accepted}
 use Rattle.replay.proofs.Reports.{a_load}

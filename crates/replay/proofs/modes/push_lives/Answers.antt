@@ -1,4 +1,4 @@
-use Rattle.std.proofs.Common.{rules, refl, length}
+use Rattle.replay.proofs.Common.{rules, refl, length}
 use Rattle.std.proofs.lemmas.Slice.Zip.{zip_turn, Zip-so_far, either_empty_from_Zip}
 use Rattle.replay.proofs.LivesText.{next_life, last_life, one_more, one_empty}
 use Rattle.replay.proofs.modes.push_lives.Goals as goal

@@ -1,5 +1,4 @@
-use Rattle.std.proofs.Common.{◌≡◌, ◌++◌, length, drop}
-use Rattle.replay.specs.Notices.{lives_text}
+use Rattle.replay.proofs.Common.{◌≡◌, ◌++◌, length, drop, lives_text}
 use Rattle.replay.proofs.modes.push_lives.Given as goal
 
 -- the lines so far, and those of the types that are left

@@ -1,5 +1,4 @@
-use Rattle.std.proofs.Common.{◌≡◌, ◌∙◌}
-use Rattle.replay.specs.Notices.{lives_text}
+use Rattle.replay.proofs.Common.{◌≡◌, ◌∙◌, lives_text}
 use Rattle.replay.proofs.Tables.{same_lives_text}
 use Rattle.replay.proofs.modes.tell_lives.Goals as goal
 

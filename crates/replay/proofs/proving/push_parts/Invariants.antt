@@ -1,5 +1,4 @@
-use Rattle.std.proofs.Common.{◌≡◌, ◌++◌, take}
-use Rattle.std.specs.List.{flat_map}
+use Rattle.replay.proofs.Common.{◌≡◌, ◌++◌, take, flat_map}
 use Rattle.replay.specs.Certificates.{part_text}
 use Rattle.replay.proofs.proving.push_parts.Given as goal
 

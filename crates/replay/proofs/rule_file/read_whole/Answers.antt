@@ -1,6 +1,5 @@
-use Rattle.std.proofs.Common.{◌≡◌, ◌++◌, ◌+◌, ℕ, length, take, arith, rules, ap, ◌∙◌}
-use Rattle.std.proofs.lemmas.List.{length-append, length-take-le}
-use Rattle.fx_io.specs.Outside.{file_told}
+use Rattle.replay.proofs.Common.{◌≡◌, ◌++◌, ◌+◌, ℕ, length, take, arith, rules, ap, ◌∙◌, length-append, file_told}
+use Rattle.std.proofs.lemmas.List.{length-take-le}
 use Rattle.replay.proofs.Files.{piece_more, so_far_of, le_trans}
 use Rattle.replay.proofs.rule_file.read_whole.Goals as goal
 

@@ -1,6 +1,4 @@
-use Rattle.std.proofs.Common.{◌≡◌, ◌<◌, ◌≤◌, ◌-◌, length, take, List, ℕ}
-use Rattle.std.specs.Prelude.{IfSome}
-use Rattle.fx_io.specs.Outside.{file_told}
+use Rattle.replay.proofs.Common.{◌≡◌, ◌<◌, ◌≤◌, ◌-◌, length, take, List, ℕ, IfSome, file_told}
 use Rattle.replay.proofs.rule_file.read_whole.Given as goal
 
 abbrev pub invariant-loop-n : goal.invariant-loop-n

@@ -1,4 +1,4 @@
-use Rattle.std.proofs.Common.{◌≡◌, ◌++◌, length, drop}
+use Rattle.replay.proofs.Common.{◌≡◌, ◌++◌, length, drop}
 use Rattle.replay.specs.Titles.{renamed}
 use Rattle.replay.proofs.rule_file.renamed.Given as goal
 

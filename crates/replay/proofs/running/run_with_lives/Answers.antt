@@ -1,7 +1,4 @@
-use Rattle.std.proofs.Common.{inl, inr, refl, ap, Err, arith}
-use Rattle.command_words.specs.declared.asking.Mode.TheVariants.{Run}
-use Rattle.replay.specs.declared.refused_checkpoint.CheckpointCode.TheVariants.{Unfit}
-use Rattle.replay.specs.Wanted.{wanted_at}
+use Rattle.replay.proofs.Common.{inl, inr, refl, ap, Err, arith, Run, Unfit, wanted_at}
 use Rattle.replay.proofs.Calls.{checkpoint_done, nothing_done}
 use Rattle.replay.proofs.Runs.{failing, refused_so, run_done, run_failed, unfit_run}
 use Rattle.replay.proofs.running.run_with_lives.Goals as goal

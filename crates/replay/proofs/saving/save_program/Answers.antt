@@ -1,4 +1,4 @@
-use Rattle.std.proofs.Common.{inl, inr, refl, arith}
+use Rattle.replay.proofs.Common.{inl, inr, refl, arith}
 use Rattle.replay.proofs.Calls.{nothing_done}
 use Rattle.replay.proofs.saving.save_program.Goals as goal
 

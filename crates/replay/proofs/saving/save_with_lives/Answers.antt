@@ -1,14 +1,4 @@
-use Rattle.std.proofs.Common.{ℕ, List, inl, inr, refl, ap, Err, arith}
-use Rattle.command_words.specs.declared.asking.Mode.TheVariants.{Save}
-use Rattle.script_run.specs.declared.turn.Ended.TheVariants.{Script, Limit}
-use Rattle.script_run.specs.Parts.{run_on}
-use Rattle.script_run.specs.Run.{setting_of}
-use Rattle.script_run.specs.Texts.{limit_text}
-use Rattle.fx_io.specs.Lines.{lines_of}
-use Rattle.replay.specs.Beginnings.{part_of}
-use Rattle.replay.specs.declared.refused_checkpoint.CheckpointCode.TheVariants.{Unfit}
-use Rattle.replay.specs.Report.{image_report}
-use Rattle.replay.specs.Wanted.{wanted_at}
+use Rattle.replay.proofs.Common.{ℕ, List, inl, inr, refl, ap, Err, arith, Save, Script, Limit, run_on, setting_of, limit_text, lines_of, part_of, Unfit, image_report, wanted_at}
 use Rattle.replay.proofs.Calls.{checkpoint_done, nothing_done, says_low}
 use Rattle.replay.proofs.Runs.{ends_limited, ends_saved, failing, image_status, limited_told, may_save, none_rises, not_nine_limited, refused_so, save_done, save_failed, saved_told, unfit_save}
 use Rattle.replay.proofs.saving.save_with_lives.Goals as goal

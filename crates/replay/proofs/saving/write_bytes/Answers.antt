@@ -1,6 +1,5 @@
-use Rattle.std.proofs.Common.{refl, sym, ◌∙◌, arith}
+use Rattle.replay.proofs.Common.{refl, sym, ◌∙◌, arith, TooLong, Unfit}
 use mir.Val.{bool_byte}
-use Rattle.replay.specs.declared.refused_checkpoint.CheckpointCode.TheVariants.{TooLong, Unfit}
 use Rattle.replay.proofs.ImagesWritten.{faulty_status, long_report, stuck_report, whole_report, refusal_says, whole_says}
 use Rattle.replay.proofs.saving.write_bytes.Goals as goal
 

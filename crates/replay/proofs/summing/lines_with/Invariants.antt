@@ -1,6 +1,4 @@
-use Rattle.std.proofs.Common.{◌≡◌, ◌≤◌, ◌+◌, length}
-use Rattle.fx_io.specs.Lines.{lines_of}
-use Rattle.replay.specs.Summary.{lines_with}
+use Rattle.replay.proofs.Common.{◌≡◌, ◌≤◌, ◌+◌, length, lines_of, lines_with}
 use Rattle.replay.proofs.Counted.{counted}
 use Rattle.replay.proofs.summing.lines_with.Given as goal
 

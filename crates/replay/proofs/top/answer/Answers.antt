@@ -1,14 +1,10 @@
-use Rattle.std.proofs.Common.{◌≡◌, ℕ, List, Some, Err, sym, subst, ap, ◌∙◌, inl, inr, refl, option_map, arith}
-use Rattle.command_words.specs.declared.asking.Asked.TheVariants.{RuleFile}
+use Rattle.replay.proofs.Common.{◌≡◌, ℕ, List, Some, Err, sym, subst, ap, ◌∙◌, inl, inr, refl, option_map, arith, RuleFile, Accepted, Refused, wanted_told, reading, refuses, refuses_checkpoint, rules_in, wanted_at, wanted_from, IsUnread}
 use Rattle.drl_parse.specs.Parsed.{file_limit}
-use Rattle.replay.specs.declared.rule_file.Reading.TheVariants.{Accepted, Refused}
-use Rattle.replay.specs.Calls.{seen_of_shelf, wanted_told}
+use Rattle.replay.specs.Calls.{seen_of_shelf}
 use Rattle.replay.specs.Checkpoints.{rules_of}
-use Rattle.replay.specs.Refusals.{reading}
-use Rattle.replay.specs.Wanted.{refuses, refuses_checkpoint, rules_in, wanted_at, wanted_from, wanted_by_name}
+use Rattle.replay.specs.Wanted.{wanted_by_name}
 use Rattle.replay.proofs.Calls.{by_told, told_is, refused_done, refuses_since, rose_since, checkpoint_done, nothing_done, not_refused}
 use Rattle.replay.proofs.Reports.{no_file, a_file, accepted_file, refused_file}
-use Rattle.replay.specs.Behind.{IsUnread}
 use Rattle.replay.proofs.ImagesRead.{unread_at}
 use Rattle.replay.proofs.top.answer.Goals as goal
 

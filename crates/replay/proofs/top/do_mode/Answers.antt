@@ -1,14 +1,7 @@
-use Rattle.std.proofs.Common.{◌≡◌, ◌⊎◌, refl, inl, inr, ℕ, List, Option}
-use Rattle.command_words.specs.declared.asking.Mode.{Mode}
-use Rattle.command_words.specs.declared.asking.Mode.TheVariants.{Check, Lives, Proof}
-use Rattle.rule_model.specs.declared.program.Program.{Program}
-use Rattle.script_run.specs.Firings.{Gives, Fires, Counts}
+use Rattle.replay.proofs.Common.{◌≡◌, ◌⊎◌, refl, inl, inr, ℕ, List, Option, Mode, Check, Lives, Proof, Program, Gives, Fires, Counts, RunsIn, IsFront, accepts, tells_lives, proves}
 use Rattle.replay.specs.Notices.{accepted_text}
-use Rattle.replay.specs.Beginnings.{RunsIn}
 use Rattle.replay.specs.Certificates.{proof_text}
 use Rattle.replay.specs.Proving.{IsProofFront}
-use Rattle.replay.specs.Report.{IsFront}
-use Rattle.replay.specs.Wanted.{accepts, tells_lives, proves}
 use Rattle.replay.proofs.Calls.{mode_done, not_nine, says_low, written_as}
 use Rattle.replay.proofs.top.do_mode.Goals as goal
 

@@ -1,7 +1,4 @@
-use Rattle.std.proofs.Common.{Option, subst, sym}
-use Rattle.command_words.specs.declared.asking.Asked.{Asked}
-use Rattle.replay.specs.Wanted.{wanted_by}
-use Rattle.replay.specs.Behind.{IsUnread}
+use Rattle.replay.proofs.Common.{Option, subst, sym, Asked, wanted_by, IsUnread}
 use Rattle.replay.proofs.GoingOn.{goes_on}
 use Rattle.replay.proofs.Calls.{wanted_is, written_told, long_told, stopped_told, refusal_told, written_no_script, written_no_file, completes, completes_unread, completes_load}
 use Rattle.replay.proofs.top.replay.Goals as goal

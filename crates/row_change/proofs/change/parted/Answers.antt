@@ -1,6 +1,4 @@
-use Rattle.std.proofs.Common.{◌≡◌, ◌∙◌, sym, subst, List, ◌&&◌, ◌||◌, not, true, false}
-use Rattle.row_delta.specs.Rows.{has}
-use Rattle.row_delta.specs.declared.row.Row.{Row}
+use Rattle.row_change.proofs.Common.{◌≡◌, ◌∙◌, sym, subst, List, ◌&&◌, ◌||◌, not, true, false, has, Row}
 use Rattle.row_change.proofs.Parts.{to_skipped, both_noted, to_put, both_passed}
 use Rattle.row_change.proofs.change.parted.Goals as goal
 

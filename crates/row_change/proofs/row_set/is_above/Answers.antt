@@ -1,4 +1,4 @@
-use Rattle.std.proofs.Common.{◌∙◌, sym}
+use Rattle.row_change.proofs.Common.{◌∙◌, sym}
 use Rattle.row_change.proofs.Placing.{above_last, less_of}
 use Rattle.row_change.proofs.row_set.is_above.Goals as goal
 

@@ -1,7 +1,5 @@
-use Rattle.std.specs.Ordering.{is_lt}
-use Rattle.std.proofs.Common.{rules}
+use Rattle.row_change.proofs.Common.{is_lt, rules, row_cmp}
 use Rattle.std.proofs.lemmas.List.Sorted.{answers_always}
-use Rattle.row_delta.specs.Rows.{row_cmp}
 use Rattle.row_change.proofs.Placing.{rising_order}
 use Rattle.row_change.proofs.row_set.is_rising.Goals as goal
 

@@ -1,4 +1,4 @@
-use Rattle.std.proofs.Common.{sym, length}
+use Rattle.row_change.proofs.Common.{sym, length}
 use Rattle.row_change.proofs.Placing.{searched, gap_absent}
 use Rattle.row_change.proofs.row_set.place.Goals as goal
 

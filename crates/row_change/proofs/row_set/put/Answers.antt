@@ -1,4 +1,4 @@
-use Rattle.std.proofs.Common.{sym}
+use Rattle.row_change.proofs.Common.{sym}
 use Rattle.row_change.proofs.Placing.{present, gap_order, gap_has}
 use Rattle.row_change.proofs.row_set.put.Goals as goal
 

@@ -1,4 +1,4 @@
-use Rattle.std.proofs.Common.{sym}
+use Rattle.row_change.proofs.Common.{sym}
 use Rattle.row_change.proofs.Placing.{missing, cut_order, cut_has}
 use Rattle.row_change.proofs.row_set.take_out.Goals as goal
 

@@ -1,5 +1,4 @@
-use Rattle.std.proofs.Common.{◌≡◌, ◌++◌, map, drop}
-use Rattle.rule_model.specs.Lent.{lent}
+use Rattle.rule_eval.proofs.Common.{◌≡◌, ◌++◌, map, drop, lent}
 use Rattle.rule_model.specs.Tuples.{name_of}
 use Rattle.rule_eval.proofs.bindings.names_of.Given as goal
 

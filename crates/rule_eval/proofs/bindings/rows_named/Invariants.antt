@@ -1,4 +1,4 @@
-use Rattle.std.proofs.Common.{◌≡◌, ◌++◌, map, drop}
+use Rattle.rule_eval.proofs.Common.{◌≡◌, ◌++◌, map, drop}
 use Rattle.rule_model.specs.Tuples.{row_of}
 use Rattle.rule_eval.proofs.bindings.rows_named.Given as goal
 

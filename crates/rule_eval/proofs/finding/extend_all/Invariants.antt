@@ -1,9 +1,4 @@
-use Rattle.std.proofs.Common.{◌≡◌, ◌++◌, drop}
-use Rattle.std.specs.List.{filter, flat_map}
-use Rattle.rule_model.specs.Candidates.{passes}
-use Rattle.rule_model.specs.Lent.{lent}
-use Rattle.rule_model.specs.Rows.{pattern_of}
-use Rattle.rule_eval.specs.Found.{made_by}
+use Rattle.rule_eval.proofs.Common.{◌≡◌, ◌++◌, drop, filter, flat_map, passes, lent, pattern_of, made_by}
 use Rattle.rule_eval.proofs.finding.extend_all.Given as goal
 
 abbrev pub invariant-loop-bindings : goal.invariant-loop-bindings

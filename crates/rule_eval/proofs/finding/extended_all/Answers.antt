@@ -1,10 +1,5 @@
-use Rattle.std.proofs.Common.{◌≡◌, ◌++◌, ◌∙◌, ap}
-use Rattle.std.specs.List.{filter, flat_map}
-use Rattle.rule_model.specs.Candidates.{candidates as candidates_of, passes}
-use Rattle.rule_model.specs.Lent.{lent}
-use Rattle.rule_model.specs.Rows.{pattern_of}
-use Rattle.rule_eval.specs.Found.{made_by}
-use Rattle.rule_eval.specs.Over.{over}
+use Rattle.rule_eval.proofs.Common.{◌≡◌, ◌++◌, ◌∙◌, ap, filter, flat_map, passes, lent, pattern_of, made_by, over}
+use Rattle.rule_model.specs.Candidates.{candidates as candidates_of}
 use Rattle.rule_eval.proofs.Stepwise.{all_made}
 use Rattle.rule_eval.proofs.finding.extended_all.Goals as goal
 

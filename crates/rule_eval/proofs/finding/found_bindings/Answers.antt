@@ -1,8 +1,4 @@
-use Rattle.std.proofs.Common.{◌∙◌, ap, drop, arith}
-use Rattle.std.specs.List.{flat_map}
-use Rattle.rule_model.specs.Lent.{lent}
-use Rattle.rule_model.specs.Rows.{extended}
-use Rattle.rule_eval.specs.Over.{over}
+use Rattle.rule_eval.proofs.Common.{◌∙◌, ap, drop, arith, flat_map, lent, extended, over}
 use Rattle.rule_eval.proofs.Stepwise.{next, end, rest_at, no_more}
 use Rattle.rule_eval.proofs.finding.found_bindings.Goals as goal
 

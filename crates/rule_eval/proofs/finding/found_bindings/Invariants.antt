@@ -1,6 +1,4 @@
-use Rattle.std.proofs.Common.{drop}
-use Rattle.rule_model.specs.Lent.{lent}
-use Rattle.rule_eval.specs.Over.{over}
+use Rattle.rule_eval.proofs.Common.{drop, lent, over}
 use Rattle.rule_eval.proofs.Stepwise.{Leads}
 use Rattle.rule_eval.proofs.finding.found_bindings.Given as goal
 

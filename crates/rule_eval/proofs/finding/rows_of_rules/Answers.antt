@@ -1,6 +1,4 @@
-use Rattle.std.proofs.Common.{sym, subst}
-use Rattle.rule_model.specs.Rows.{HaveOperators}
-use Rattle.rule_world.specs.Programs.{UseOperators}
+use Rattle.rule_eval.proofs.Common.{sym, subst, HaveOperators, UseOperators}
 use Rattle.rule_eval.proofs.Operators.{operators_at}
 use Rattle.rule_eval.proofs.finding.rows_of_rules.Goals as goal
 

@@ -1,12 +1,7 @@
-use Rattle.std.proofs.Common.{◌≡◌, ◌+◌, ◌++◌, ◌∷◌, [], map, length, drop, to_z, of_z, sym, ◌∙◌, ap, subst, arith}
+use Rattle.rule_eval.proofs.Common.{◌≡◌, ◌+◌, ◌++◌, ◌∷◌, [], map, length, drop, to_z, of_z, sym, ◌∙◌, ap, subst, arith, ints, append-nil, HaveSame, insert_rising, lent}
 use Rattle.std.specs.Int.{w64}
-use Rattle.std.proofs.lemmas.Int.{ints}
-use Rattle.std.proofs.lemmas.List.{append-nil}
-use Rattle.fold_fn.specs.Laws.{HaveSame}
-use Rattle.fold_fn.specs.Order.{insert_rising}
 use Rattle.fold_fn.specs.Results.{fold_result}
 use Rattle.fold_fn.proofs.ResultLemmas.{length-insert, result_same}
-use Rattle.rule_model.specs.Lent.{lent}
 use Rattle.rule_model.specs.Rows.{argument as argument_of}
 use Rattle.rule_eval.proofs.Folds.{taken}
 use Rattle.rule_eval.proofs.Stepwise.{rest_at, no_more}

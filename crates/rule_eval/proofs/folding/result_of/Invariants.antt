@@ -1,6 +1,4 @@
-use Rattle.std.proofs.Common.{◌≡◌, ◌++◌, map, length, drop}
-use Rattle.fold_fn.specs.Laws.{HaveSame}
-use Rattle.rule_model.specs.Lent.{lent}
+use Rattle.rule_eval.proofs.Common.{◌≡◌, ◌++◌, map, length, drop, HaveSame, lent}
 use Rattle.rule_model.specs.Rows.{argument}
 use Rattle.rule_eval.proofs.folding.result_of.Given as goal
 

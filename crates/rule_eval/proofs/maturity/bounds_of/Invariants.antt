@@ -1,6 +1,4 @@
-use Rattle.std.proofs.Common.{◌≡◌, ◌++◌, drop, option_map}
-use Rattle.rule_model.specs.Maturity.{bounds_of}
-use Rattle.rule_model.specs.Tuples.{bound_by}
+use Rattle.rule_eval.proofs.Common.{◌≡◌, ◌++◌, drop, option_map, bounds_of, bound_by}
 use Rattle.rule_eval.proofs.maturity.bounds_of.Given as goal
 
 abbrev pub invariant-loop-test : goal.invariant-loop-test

@@ -1,5 +1,5 @@
-use Rattle.std.proofs.Common.{arith}
-use Rattle.std.proofs.lemmas.Int.{ints, clamps}
+use Rattle.rule_world.proofs.Common.{arith, ints}
+use Rattle.std.proofs.lemmas.Int.{clamps}
 use Rattle.rule_world.specs.Events.{most_millis}
 use Rattle.rule_world.proofs.times.floor.Goals as goal
 

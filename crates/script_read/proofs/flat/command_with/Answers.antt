@@ -1,5 +1,5 @@
-use Rattle.std.proofs.Common.{◌≡◌, Ok}
-use Rattle.script_read.specs.Asked.{asked, asks}
+use Rattle.script_read.proofs.Common.{◌≡◌, Ok, asks}
+use Rattle.script_read.specs.Asked.{asked}
 use Rattle.script_read.proofs.AskedLaws.{answer_ok}
 use Rattle.script_read.proofs.flat.command_with.Goals as goal
 

@@ -1,8 +1,4 @@
-use Rattle.std.proofs.Common.{◌≡◌, Some, codes, sym, ap, ap₂, ◌∙◌}
-use Rattle.json.specs.Value.{members_view}
-use Rattle.script_read.specs.Flat.{word_command, tree_givens}
-use Rattle.script_read.specs.declared.asked.Command.TheVariants.{Change}
-use Rattle.script_read.specs.declared.asked.Change.TheVariants.{Insert}
+use Rattle.script_read.proofs.Common.{◌≡◌, Some, codes, sym, ap, ap₂, ◌∙◌, members_view, word_command, tree_givens, Change, Insert}
 use Rattle.script_read.proofs.Forms.{three_same, entry_is, entry_also}
 use Rattle.script_read.proofs.flat.entry_insert_of.Goals as goal
 

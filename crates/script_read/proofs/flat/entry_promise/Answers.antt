@@ -1,9 +1,5 @@
-use Rattle.std.proofs.Common.{rules, ◌≡◌, Some, codes, sym, ap, ap₂, ◌∙◌, arith, w64, to_z, of_z}
-use Rattle.json.specs.Json.{no_members, member, string, number}
-use Rattle.json.specs.Value.{members_view}
-use Rattle.script_read.specs.Flat.{word_command}
-use Rattle.script_read.specs.declared.asked.Command.TheVariants.{Change}
-use Rattle.script_read.specs.declared.asked.Change.TheVariants.{Promise}
+use Rattle.script_read.proofs.Common.{rules, ◌≡◌, Some, codes, sym, ap, ap₂, ◌∙◌, arith, w64, to_z, of_z, no_members, member, number, members_view, word_command, Change, Promise}
+use Rattle.json.specs.Json.{string}
 use Rattle.script_read.proofs.Forms.{two_members, promise_for_is}
 use Rattle.script_read.proofs.flat.entry_promise.Goals as goal
 

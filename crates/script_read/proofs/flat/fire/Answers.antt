@@ -1,4 +1,4 @@
-use Rattle.std.proofs.Common.{◌≡◌, length, arith}
+use Rattle.script_read.proofs.Common.{◌≡◌, length, arith}
 use Rattle.script_read.proofs.Forms.{fire_is}
 use Rattle.script_read.proofs.flat.fire.Goals as goal
 

@@ -1,10 +1,8 @@
-use Rattle.std.proofs.Common.{◌≡◌, Some, option_and_then, sym, ap, ◌∙◌}
+use Rattle.script_read.proofs.Common.{◌≡◌, Some, option_and_then, sym, ap, ◌∙◌, value_view, members_view, of_json, read, reading}
 use Rattle.json.specs.Json.{object, if_last, value as value_in}
 use Rattle.json.specs.Lex.{tokens}
-use Rattle.json.specs.Value.{value_view, members_view}
 use Rattle.json.proofs.Trees.{view-Object}
-use Rattle.serde_json.specs.Read.{of_json, read, max_depth}
-use Rattle.script_read.specs.Asked.{reading}
+use Rattle.serde_json.specs.Read.{max_depth}
 use Rattle.script_read.specs.Flat.{tree_command}
 use Rattle.script_read.proofs.Forms.{same_command, asked_by}
 use Rattle.script_read.proofs.Readings.{reading_of_text}

@@ -1,4 +1,4 @@
-use Rattle.std.proofs.Common.{arith, length-drop}
+use Rattle.script_read.proofs.Common.{arith, length-drop}
 use Rattle.script_read.proofs.Forms.{same_command, same_found, first_is}
 use Rattle.script_read.proofs.flat.form_in.Goals as goal
 

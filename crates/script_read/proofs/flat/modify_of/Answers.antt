@@ -1,8 +1,4 @@
-use Rattle.std.proofs.Common.{◌≡◌, Some, codes, sym, ap, ◌∙◌}
-use Rattle.json.specs.Value.{members_view}
-use Rattle.script_read.specs.Flat.{word_command, tree_givens}
-use Rattle.script_read.specs.declared.asked.Command.TheVariants.{Change}
-use Rattle.script_read.specs.declared.asked.Change.TheVariants.{Modify}
+use Rattle.script_read.proofs.Common.{◌≡◌, Some, codes, sym, ap, ◌∙◌, members_view, word_command, tree_givens, Change, Modify}
 use Rattle.script_read.proofs.Forms.{three_same, modify_is, modify_also}
 use Rattle.script_read.proofs.flat.modify_of.Goals as goal
 

@@ -1,9 +1,4 @@
-use Rattle.std.proofs.Common.{rules, ◌≡◌, Some, None, codes, sym, ap, ◌∙◌, arith, w64, to_z, of_z}
-use Rattle.json.specs.Json.{no_members, member, number}
-use Rattle.json.specs.Value.{members_view}
-use Rattle.script_read.specs.Flat.{word_command}
-use Rattle.script_read.specs.declared.asked.Command.TheVariants.{Change}
-use Rattle.script_read.specs.declared.asked.Change.TheVariants.{Promise}
+use Rattle.script_read.proofs.Common.{rules, ◌≡◌, Some, None, codes, sym, ap, ◌∙◌, arith, w64, to_z, of_z, no_members, member, number, members_view, word_command, Change, Promise}
 use Rattle.script_read.proofs.Forms.{one_member, promise_is}
 use Rattle.script_read.proofs.flat.plain_promise.Goals as goal
 

@@ -1,7 +1,4 @@
-use Rattle.std.proofs.Common.{Some, codes, sym, ap, ◌∙◌}
-use Rattle.script_read.specs.Flat.{word_command}
-use Rattle.script_read.specs.declared.asked.Command.TheVariants.{Change}
-use Rattle.script_read.specs.declared.asked.Change.TheVariants.{Retract}
+use Rattle.script_read.proofs.Common.{Some, codes, sym, ap, ◌∙◌, word_command, Change, Retract}
 use Rattle.script_read.proofs.Forms.{two_same, retract_is, retract_also}
 use Rattle.script_read.proofs.flat.retract_of.Goals as goal
 

@@ -1,5 +1,5 @@
-use Rattle.std.proofs.Common.{rules, ◌≡◌}
-use Rattle.script_read.specs.Asked.{asked, bad_json, Answers}
+use Rattle.script_read.proofs.Common.{rules, ◌≡◌, bad_json, Answers}
+use Rattle.script_read.specs.Asked.{asked}
 use Rattle.script_read.proofs.AskedLaws.{answer_ok, answer_bad_command, asked_unread}
 use Rattle.script_read.proofs.line.command.Goals as goal
 

@@ -1,8 +1,5 @@
-use Rattle.std.proofs.Common.{◌≡◌, Some, refl, sym, ap, subst, ◌∙◌}
-use Rattle.std.specs.List.{insert}
-use Rattle.json.specs.Value.{value_view}
+use Rattle.script_read.proofs.Common.{◌≡◌, Some, refl, sym, ap, subst, ◌∙◌, insert, value_view, put_given, tree_given}
 use Rattle.serde_json.specs.Data.{no_members}
-use Rattle.script_read.specs.Flat.{put_given, tree_given}
 use Rattle.script_read.proofs.Fields.{one_field}
 use Rattle.script_read.proofs.tree.fields_in.Goals as goal
 

@@ -1,5 +1,4 @@
-use Rattle.std.proofs.Common.{◌≡◌, Less, Greater, nat_cmp, sym, ap, ◌∙◌, arith}
-use Rattle.std.specs.Cmp.Lexicographic.{slice_cmp}
+use Rattle.script_read.proofs.Common.{◌≡◌, Less, Greater, nat_cmp, sym, ap, ◌∙◌, arith, slice_cmp}
 use Rattle.script_read.proofs.Fields.{comes_here, comes_later, comes_last}
 use Rattle.script_read.proofs.tree.place_of.Goals as goal
 

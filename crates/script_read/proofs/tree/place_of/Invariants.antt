@@ -1,6 +1,4 @@
-use Rattle.std.proofs.Common.{◌≡◌, ◌++◌, ◌-◌, ◌≤◌, length, take, drop}
-use Rattle.script_read.specs.Flat.{put_given}
-use Rattle.script_read.specs.declared.given.Given.{Given}
+use Rattle.script_read.proofs.Common.{◌≡◌, ◌++◌, ◌-◌, ◌≤◌, length, take, drop, put_given, Given}
 use Rattle.script_read.proofs.tree.place_of.Given as goal
 
 -- the name is behind all fields so far

@@ -1,4 +1,4 @@
-use Rattle.std.proofs.Common.{◌≡◌, ◌==◌, true, false, drop, get_or, sym, ap, ◌∙◌, arith, take_all, length-drop}
+use Rattle.script_read.proofs.Common.{◌≡◌, ◌==◌, true, false, drop, get_or, sym, ap, ◌∙◌, arith, take_all, length-drop}
 use Rattle.fast_float.specs.Text.{scan}
 use Rattle.serde_json.specs.Read.{number_of, number_from}
 use Rattle.script_read.proofs.Numbers.{same_number}

@@ -1,5 +1,4 @@
-use Rattle.std.proofs.Common.{◌≡◌, ◌++◌, drop}
-use Rattle.script_run.specs.Texts.{held_text}
+use Rattle.script_run.proofs.Common.{◌≡◌, ◌++◌, drop, held_text}
 use Rattle.script_run.proofs.counting.push_numbers.Given as goal
 
 -- the lines so far, and those of the types and numbers that are left

@@ -1,7 +1,4 @@
-use Rattle.std.proofs.Common.{◌≡◌, ◌-◌, ◌++◌, ◌||◌, suc, ◌∙◌, sym, ap, arith}
-use Rattle.script_run.specs.Firings.{firings}
-use Rattle.script_run.specs.Run.{setting_of}
-use Rattle.script_run.specs.Texts.{lines_text, has_fault}
+use Rattle.script_run.proofs.Common.{◌≡◌, ◌-◌, ◌++◌, ◌||◌, suc, ◌∙◌, sym, ap, arith, firings, setting_of, lines_text, has_fault}
 use Rattle.script_run.proofs.Fired.{no_answer, yes_answer, next_remains, done_remains, enough_remains, end_remains, or_first, or_second}
 use Rattle.script_run.proofs.firing.fire_all.Goals as goal
 use Rattle.script_run.proofs.firing.fire_all.Goals.{then-faulty, else-faulty}

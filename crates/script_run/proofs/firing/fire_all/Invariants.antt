@@ -1,7 +1,4 @@
-use Rattle.std.proofs.Common.{◌≡◌, ◌+◌, ◌*◌, ◌≤◌}
-use Rattle.rule_world.specs.Worlds.{World}
-use Rattle.script_run.specs.Firings.{firings}
-use Rattle.script_run.specs.Run.{setting_of}
+use Rattle.script_run.proofs.Common.{◌≡◌, ◌+◌, ◌*◌, ◌≤◌, World, firings, setting_of}
 use Rattle.script_run.proofs.Fired.{Remains}
 use Rattle.script_run.proofs.firing.fire_all.Given as goal
 

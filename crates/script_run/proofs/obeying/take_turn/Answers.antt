@@ -1,5 +1,4 @@
-use Rattle.std.proofs.Common.{◌+◌}
-use Rattle.script_run.specs.Run.{setting_of}
+use Rattle.script_run.proofs.Common.{◌+◌, setting_of}
 use Rattle.script_run.proofs.Steps.{long_step}
 use Rattle.script_run.proofs.obeying.take_turn.Goals as goal
 

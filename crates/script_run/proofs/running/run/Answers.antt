@@ -1,6 +1,4 @@
-use Rattle.std.proofs.Common.{ap, ◌∙◌}
-use Rattle.fx_io.specs.Outside.{append}
-use Rattle.rule_world.specs.Worlds.{empty_world}
+use Rattle.script_run.proofs.Common.{ap, ◌∙◌, append, empty_world}
 use Rattle.script_run.proofs.Ahead.{if_told}
 use Rattle.script_run.proofs.Stops.{err_as}
 use Rattle.script_run.proofs.running.run.Goals as goal

@@ -1,8 +1,5 @@
-use Rattle.std.proofs.Common.{◌≡◌, ◌≤◌, ◌+◌, ◌*◌, ◌^◌, ℕ, List, None}
-use Rattle.fx_io.specs.Outside.{append, prepend, count_after}
-use Rattle.fx_io.specs.Lines.{total_told, to_come}
-use Rattle.rule_world.specs.Worlds.{World}
-use Rattle.script_run.specs.Run.{setting_of, state_in, run}
+use Rattle.script_run.proofs.Common.{◌≡◌, ◌≤◌, ◌+◌, ◌*◌, ◌^◌, ℕ, List, None, append, prepend, count_after, total_told, World, setting_of, state_in, run}
+use Rattle.fx_io.specs.Lines.{to_come}
 use Rattle.script_run.proofs.Ahead.{SoFar}
 use Rattle.script_run.proofs.running.run_from.Given as goal
 

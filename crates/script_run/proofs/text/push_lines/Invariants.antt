@@ -1,6 +1,4 @@
-use Rattle.std.proofs.Common.{◌≡◌, ◌++◌, ◌||◌, take, drop}
-use Rattle.std.specs.List.{flat_map}
-use Rattle.script_run.specs.Texts.{line_text, has_fault}
+use Rattle.script_run.proofs.Common.{◌≡◌, ◌++◌, ◌||◌, take, drop, flat_map, line_text, has_fault}
 use Rattle.script_run.proofs.text.push_lines.Given as goal
 
 abbrev pub invariant-loop-line : goal.invariant-loop-line

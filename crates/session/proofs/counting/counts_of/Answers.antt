@@ -1,6 +1,5 @@
-use Rattle.std.proofs.Common.{◌<◌, length}
+use Rattle.session.proofs.Common.{◌<◌, length, TypeId}
 use Rattle.std.proofs.lemmas.List.{take_more}
-use Rattle.fx_base.specs.declared.ids.TypeId.{TypeId}
 use Rattle.session_laws.proofs.Counting_on.{one_more_count}
 use Rattle.session.proofs.counting.counts_of.Goals as goal
 

@@ -1,5 +1,4 @@
-use Rattle.std.proofs.Common.{take}
-use Rattle.session_laws.specs.Counts.{AreCounts}
+use Rattle.session.proofs.Common.{take, AreCounts}
 use Rattle.session.proofs.counting.counts_of.Given as goal
 
 abbrev pub invariant-loop-ty : goal.invariant-loop-ty

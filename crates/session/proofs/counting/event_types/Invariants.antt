@@ -1,5 +1,4 @@
-use Rattle.std.proofs.Common.{◌≡◌, ◌++◌, drop}
-use Rattle.rule_model.specs.Types.{event_types}
+use Rattle.session.proofs.Common.{◌≡◌, ◌++◌, drop, event_types}
 use Rattle.session.proofs.counting.event_types.Given as goal
 
 abbrev pub invariant-loop-place : goal.invariant-loop-place

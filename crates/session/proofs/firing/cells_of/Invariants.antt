@@ -1,4 +1,4 @@
-use Rattle.std.proofs.Common.{◌≡◌, ◌++◌, drop}
+use Rattle.session.proofs.Common.{◌≡◌, ◌++◌, drop}
 use Rattle.session_laws.specs.Gives.{cells}
 use Rattle.session.proofs.firing.cells_of.Given as goal
 

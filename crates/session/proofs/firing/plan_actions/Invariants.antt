@@ -1,4 +1,4 @@
-use Rattle.std.proofs.Common.{◌≡◌, ◌++◌, drop}
+use Rattle.session.proofs.Common.{◌≡◌, ◌++◌, drop}
 use Rattle.session_laws.specs.Places.{planned}
 use Rattle.session.proofs.firing.plan_actions.Given as goal
 

@@ -1,4 +1,4 @@
-use Rattle.std.proofs.Common.{FitsSigned, to_z-of_z, w64}
+use Rattle.session.proofs.Common.{FitsSigned, to_z-of_z, w64}
 use Rattle.session_laws.proofs.Inserting.{held_again, on_ok_weaker, released_free}
 use Rattle.session.proofs.moving.hold.Goals as goal
 

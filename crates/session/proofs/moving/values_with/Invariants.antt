@@ -1,4 +1,4 @@
-use Rattle.std.proofs.Common.{◌≡◌}
+use Rattle.session.proofs.Common.{◌≡◌}
 use Rattle.rule_world.specs.Worlds.{with_values}
 use Rattle.session.proofs.moving.values_with.Given as goal
 

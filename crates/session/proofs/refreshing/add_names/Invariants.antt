@@ -1,6 +1,4 @@
-use Rattle.std.proofs.Common.{◌≡◌, ◌==◌, ◌||◌, ℕ, take}
-use Rattle.std.specs.List.{list_any}
-use Rattle.retention.specs.Retentions.{is_among}
+use Rattle.session.proofs.Common.{◌≡◌, ◌==◌, ◌||◌, ℕ, take, list_any, is_among}
 use Rattle.row_delta.specs.declared.row.Named.{Named as NamedData}
 use Rattle.session.proofs.refreshing.add_names.Given as goal
 

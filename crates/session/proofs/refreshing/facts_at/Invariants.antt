@@ -1,5 +1,4 @@
-use Rattle.std.proofs.Common.{◌≡◌, ◌++◌, drop, filter_map}
-use Rattle.rule_model.specs.Lent.{lent}
+use Rattle.session.proofs.Common.{◌≡◌, ◌++◌, drop, filter_map, lent}
 use Rattle.std.specs.FinMap as map
 use Rattle.session.proofs.refreshing.facts_at.Given as goal
 

@@ -1,6 +1,4 @@
-use Rattle.std.proofs.Common.{◌≡◌, ◌∙◌, List, filter_map, option_map, refl, sym, subst, length}
-use Rattle.fx_base.specs.declared.fact.Fact.{Fact}
-use Rattle.rule_model.specs.Lent.{lent}
+use Rattle.session.proofs.Common.{◌≡◌, ◌∙◌, List, filter_map, option_map, refl, sym, subst, length, Fact, lent}
 use Rattle.pattern_gate.specs.Moves.{Moves}
 use Rattle.rete_net.specs.Forgetting.{AreNotNeeded}
 use Rattle.rete_net.specs.Nets.{clean_rows}

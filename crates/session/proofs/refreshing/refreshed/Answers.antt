@@ -1,9 +1,5 @@
-use Rattle.std.proofs.Common.{◌≡◌, ◌∙◌, ◌||◌, List, [], ap, sym, subst}
-use Rattle.fx_base.specs.Lists.{In}
-use Rattle.row_delta.specs.declared.row.Row.{Row}
-use Rattle.retention.specs.Retentions.{is_among}
-use Rattle.session_laws.proofs.Passing.{none_left}
-use Rattle.session_laws.proofs.Rules.{all_made, change_turn, none_ahead, names_in, left_turn, none_made, nothing_left, rules_turn}
+use Rattle.session.proofs.Common.{◌≡◌, ◌∙◌, ◌||◌, List, [], ap, sym, subst, In, Row, is_among, none_left, all_made, none_made, nothing_left}
+use Rattle.session_laws.proofs.Rules.{change_turn, none_ahead, names_in, left_turn, rules_turn}
 use Rattle.session.proofs.refreshing.refreshed.Goals as goal
 
 pub loop-change-init : goal.loop-change-init

@@ -1,13 +1,5 @@
-use Rattle.std.proofs.Common.{ℕ, ◌<◌, List}
-use Rattle.fx_base.specs.Lists.{In}
-use Rattle.row_delta.specs.declared.row.Row.{Row}
-use Rattle.rule_model.specs.declared.program.Program.{Program}
-use Rattle.rule_model.specs.declared.program.Rule.{Rule}
-use Rattle.rete_net.specs.declared.changes.RuleChange.{RuleChange}
+use Rattle.session.proofs.Common.{ℕ, ◌<◌, List, In, Row, Program, Rule, RuleChange, is_among, HasLeft, AreOfRules}
 use Rattle.rete_net.specs.Nets.{AreBetween}
-use Rattle.retention.specs.Retentions.{is_among}
-use Rattle.forgetting.specs.Steps.{HasLeft}
-use Rattle.session_laws.specs.Standing.{AreOfRules}
 use Rattle.session_laws.proofs.Rules.{AreAhead}
 use Rattle.session.proofs.refreshing.refreshed.Given as goal
 

@@ -1,10 +1,5 @@
-use Rattle.std.proofs.Common.{◌≡◌, ◌≤◌, ◌==◌, ◌&&◌, ◌||◌, ◌++◌, [], ◌∷◌, List, length, take, refl, sym, subst, arith}
-use Rattle.std.proofs.lemmas.List.{take_all}
-use Rattle.row_delta.specs.declared.row.Row.{Row}
-use Rattle.row_delta.specs.Rows.{has}
-use Rattle.rule_model.specs.declared.matched.Match.{Match}
-use Rattle.rule_model.specs.Matches.{has_match}
-use Rattle.session_laws.proofs.Adding.{next_taken, none_yet, one_added}
+use Rattle.session.proofs.Common.{◌≡◌, ◌≤◌, ◌==◌, ◌&&◌, ◌||◌, ◌++◌, [], ◌∷◌, List, length, take, refl, sym, subst, arith, take_all, Row, has, Match, has_match, next_taken}
+use Rattle.session_laws.proofs.Adding.{none_yet, one_added}
 use Rattle.session.proofs.restoring.add_matches.Goals as goal
 
 pub loop-row-init : goal.loop-row-init

@@ -1,8 +1,4 @@
-use Rattle.std.proofs.Common.{◌≡◌, ◌∙◌, List, sym, ap}
-use Rattle.std.proofs.lemmas.Result.{IfOk-weaker}
-use Rattle.image_laws.specs.Images.{match_fired}
-use Rattle.rete_net.specs.declared.changes.RuleChange.{RuleChange}
-use Rattle.session_laws.specs.Restoring.{comes_by}
+use Rattle.session.proofs.Common.{◌≡◌, ◌∙◌, List, sym, ap, IfOk-weaker, match_fired, RuleChange, comes_by}
 use Rattle.session.proofs.restoring.agenda_of.Goals as goal
 
 pub returns-clause-came : goal.returns-clause-came

@@ -1,12 +1,5 @@
-use Rattle.std.proofs.Common.{◌≡◌, ◌∙◌, ◌≤◌, ◌==◌, ◌&&◌, ◌||◌, ◌++◌, [], ◌∷◌, List, length, take, refl, sym, ap, subst, arith}
-use Rattle.std.proofs.lemmas.List.{take_all}
-use Rattle.row_delta.specs.declared.row.Row.{Row}
-use Rattle.row_delta.specs.Rows.{has}
-use Rattle.rule_model.specs.declared.matched.Match.{Match}
-use Rattle.rule_model.specs.Matches.{has_match}
-use Rattle.rete_net.specs.declared.changes.RuleChange.{RuleChange}
-use Rattle.session_laws.specs.Restoring.{comes_by}
-use Rattle.session_laws.proofs.Adding.{next_taken, one_come}
+use Rattle.session.proofs.Common.{◌≡◌, ◌∙◌, ◌≤◌, ◌==◌, ◌&&◌, ◌||◌, ◌++◌, [], ◌∷◌, List, length, take, refl, sym, ap, subst, arith, take_all, Row, has, Match, has_match, RuleChange, comes_by, next_taken}
+use Rattle.session_laws.proofs.Adding.{one_come}
 use Rattle.session.proofs.restoring.matches_of.Goals as goal
 
 pub loop-change-preserved : goal.loop-change-preserved

@@ -1,12 +1,6 @@
-use Rattle.std.proofs.Common.{◌≡◌, ◌==◌, ◌&&◌, ◌||◌, not, true, false, List, take, sym, subst, rules}
-use Rattle.std.specs.Ordering.{eq_by_cmp}
-use Rattle.row_delta.specs.declared.row.Row.{Row}
+use Rattle.session.proofs.Common.{◌≡◌, ◌==◌, ◌&&◌, ◌||◌, not, true, false, List, take, sym, subst, rules, eq_by_cmp, Row, FiredMatch, Match, has_match, AreMarking, next_taken}
 use Rattle.row_delta.specs.Rows.{row_cmp}
-use Rattle.checkpoint.specs.declared.image.FiredMatch.{FiredMatch}
-use Rattle.rule_model.specs.declared.matched.Match.{Match}
-use Rattle.rule_model.specs.Matches.{has_match}
-use Rattle.session_laws.specs.Restoring.{AreMarking}
-use Rattle.session_laws.proofs.Adding.{in_at, next_taken, one_marked}
+use Rattle.session_laws.proofs.Adding.{in_at, one_marked}
 use Rattle.session.proofs.restoring.with_fired.Goals as goal
 
 pub returns-then-not-contains-clause-unfit : goal.returns-then-not-contains-clause-unfit

@@ -1,5 +1,4 @@
-use Rattle.std.proofs.Common.{take}
-use Rattle.session_laws.specs.Restoring.{AreMarking}
+use Rattle.session.proofs.Common.{take, AreMarking}
 use Rattle.session.proofs.restoring.with_fired.Given as goal
 
 abbrev pub invariant-loop-matched : goal.invariant-loop-matched

@@ -1,4 +1,4 @@
-use Rattle.std.proofs.Common.{◌≡◌}
+use Rattle.session.proofs.Common.{◌≡◌}
 use Rattle.session_laws.specs.Restoring.{NoneGo}
 use Rattle.session_laws.proofs.Adding.{AreAdding}
 use Rattle.session.proofs.restoring.with_rows.Given as goal

@@ -1,7 +1,5 @@
-use Rattle.std.proofs.Common.{◌≡◌, ◌++◌, map as list_map}
-use Rattle.std.specs.List.Sorted.{IsStrictlySortedBy}
-use Rattle.rule_model.specs.Matches.{match_cmp}
-use Rattle.image_laws.specs.Images.{match_fired}
+use Rattle.session.proofs.Common.{◌≡◌, ◌++◌, IsStrictlySortedBy, match_cmp, match_fired}
+use Rattle.std.proofs.Common.{map as list_map}
 use Rattle.session.proofs.saving.fired_of.Given as goal
 
 abbrev pub invariant-loop-matched : goal.invariant-loop-matched

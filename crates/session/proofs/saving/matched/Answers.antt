@@ -1,8 +1,5 @@
-use Rattle.std.proofs.Common.{◌≡◌, ◌∙◌, List, Err, ap}
-use Rattle.rule_model.specs.declared.program.Rule.{Rule}
-use Rattle.rule_model.specs.Lent.{lent}
-use Rattle.rule_model.specs.Matches.{saliences}
-use Rattle.session_laws.proofs.Matched.{fired_refuses, matched_is, residual_unfit, row_refuses}
+use Rattle.session.proofs.Common.{◌≡◌, ◌∙◌, List, Err, ap, Rule, lent, saliences, residual_unfit}
+use Rattle.session_laws.proofs.Matched.{fired_refuses, matched_is, row_refuses}
 use Rattle.session_laws.proofs.Restored.{kept_in_order}
 use Rattle.session.proofs.saving.matched.Goals as goal
 

@@ -1,5 +1,4 @@
-use Rattle.std.proofs.Common.{◌≡◌, ◌++◌, drop}
-use Rattle.rule_model.specs.Matches.{saliences}
+use Rattle.session.proofs.Common.{◌≡◌, ◌++◌, drop, saliences}
 use Rattle.session.proofs.session.saliences_of.Given as goal
 
 abbrev pub invariant-loop-rule : goal.invariant-loop-rule

@@ -1,5 +1,4 @@
-use Rattle.std.proofs.Common.{◌≡◌, ◌∙◌, ap, nat_eq, rules}
-use Rattle.std.specs.List.{list_any}
+use Rattle.session.proofs.Common.{◌≡◌, ◌∙◌, ap, nat_eq, rules, list_any}
 use Rattle.session_laws.proofs.Olds.{same_tags}
 use Rattle.session.proofs.settling.tags_of.Goals as goal
 

@@ -1,7 +1,5 @@
-use Rattle.std.proofs.Common.{◌≡◌, ◌∙◌, ◌<◌, ◌&&◌, ◌==◌, not, ap, refl, List, rules as std_rules, arith}
-use Rattle.row_delta.specs.declared.row.Row.{Row}
-use Rattle.row_delta.specs.Rows.{has}
-use Rattle.rule_model.specs.Matches.{has_match}
+use Rattle.session.proofs.Common.{◌≡◌, ◌∙◌, ◌<◌, ◌&&◌, ◌==◌, not, ap, refl, List, arith, Row, has, has_match}
+use Rattle.std.proofs.Common.{rules as std_rules}
 use Rattle.session_laws.proofs.Dropping.{all_ahead, drop_turn, none_ahead, nothing_ahead, place_within}
 use Rattle.session.proofs.settling.without_fired.Goals as goal
 

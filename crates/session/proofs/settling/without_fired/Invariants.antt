@@ -1,4 +1,4 @@
-use Rattle.std.proofs.Common.{◌≡◌, ◌<◌, ◌^◌, ℕ}
+use Rattle.session.proofs.Common.{◌≡◌, ◌<◌, ◌^◌, ℕ}
 use Rattle.rete_net.specs.Dropped.{AreListed}
 use Rattle.session_laws.proofs.Dropping.{AreAhead}
 use Rattle.session.proofs.settling.without_fired.Given as goal

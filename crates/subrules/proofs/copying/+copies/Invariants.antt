@@ -1,4 +1,4 @@
-use Rattle.std.proofs.Common.{◌+◌, ◌*◌}
+use Rattle.subrules.proofs.Common.{◌+◌, ◌*◌}
 use Rattle.drl_expr.specs.Tree.{height}
 use Rattle.subrules.proofs.copying.+copies.Given as goal
 

@@ -1,4 +1,4 @@
-use Rattle.std.proofs.Common.{◌≡◌, ◌++◌, map}
+use Rattle.subrules.proofs.Common.{◌≡◌, ◌++◌, map}
 use Rattle.drl_grammar.specs.declared.file.Body.TheVariants.{Rule}
 use Rattle.subrules.specs.Expanded.{at_line}
 use Rattle.subrules.proofs.expanding.add_rules.Given as goal

@@ -1,5 +1,4 @@
-use Rattle.std.proofs.Common.{◌≡◌, ◌++◌, ◌+◌, drop}
-use Rattle.std.specs.List.{flat_map}
+use Rattle.subrules.proofs.Common.{◌≡◌, ◌++◌, ◌+◌, drop, flat_map}
 use Rattle.subrules.specs.Expanded.{plain_items, titles_in, origins_from}
 use Rattle.subrules.proofs.expanding.written_out.Given as goal
 

@@ -1,5 +1,4 @@
-use Rattle.std.proofs.Common.{◌≡◌, ◌+◌, nat_lt, map, drop}
-use Rattle.subrules.specs.Faults.{fields_in}
+use Rattle.subrules.proofs.Common.{◌≡◌, ◌+◌, nat_lt, map, drop, fields_in}
 use Rattle.subrules.proofs.faults.exceed.Given as goal
 
 abbrev pub invariant-loop-tree : goal.invariant-loop-tree

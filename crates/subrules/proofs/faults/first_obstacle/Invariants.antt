@@ -1,4 +1,4 @@
-use Rattle.std.proofs.Common.{◌≡◌, ◌+◌, drop}
+use Rattle.subrules.proofs.Common.{◌≡◌, ◌+◌, drop}
 use Rattle.subrules.specs.Faults.{obstacle_from}
 use Rattle.subrules.proofs.faults.first_obstacle.Given as goal
 

@@ -1,6 +1,4 @@
-use Rattle.std.proofs.Common.{◌≡◌, ◌++◌, map, drop}
-use Rattle.std.specs.List.{flat_map}
-use Rattle.subrules.specs.Hierarchy.{extended_by}
+use Rattle.subrules.proofs.Common.{◌≡◌, ◌++◌, map, drop, flat_map, extended_by}
 use Rattle.subrules.proofs.hierarchy.all_extended.Given as goal
 
 abbrev pub invariant-loop-name : goal.invariant-loop-name

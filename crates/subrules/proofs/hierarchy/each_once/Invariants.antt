@@ -1,4 +1,4 @@
-use Rattle.std.proofs.Common.{◌≡◌, [], drop}
+use Rattle.subrules.proofs.Common.{◌≡◌, [], drop}
 use Rattle.drl_sight.specs.EntryPoints.{with_names}
 use Rattle.subrules.proofs.hierarchy.each_once.Given as goal
 

@@ -1,5 +1,4 @@
-use Rattle.std.proofs.Common.{◌≡◌, ◌++◌, map, drop}
-use Rattle.subrules.specs.Hierarchy.{type_names}
+use Rattle.subrules.proofs.Common.{◌≡◌, ◌++◌, map, drop, type_names}
 use Rattle.subrules.proofs.hierarchy.names_in.Given as goal
 
 abbrev pub invariant-loop-tree : goal.invariant-loop-tree

@@ -1,4 +1,4 @@
-use Rattle.std.proofs.Common.{◌≡◌, ◌++◌, map, drop}
+use Rattle.subrules.proofs.Common.{◌≡◌, ◌++◌, map, drop}
 use Rattle.subrules.specs.Hierarchy.{types_of}
 use Rattle.subrules.proofs.hierarchy.types_in.Given as goal
 

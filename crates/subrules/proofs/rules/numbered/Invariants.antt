@@ -1,4 +1,4 @@
-use Rattle.std.proofs.Common.{◌≡◌, ◌++◌, ◌+◌, length}
+use Rattle.subrules.proofs.Common.{◌≡◌, ◌++◌, ◌+◌, length}
 use Rattle.subrules.specs.Expanded.{numbered_rules}
 use Rattle.subrules.proofs.rules.numbered.Given as goal
 

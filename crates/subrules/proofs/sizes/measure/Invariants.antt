@@ -1,5 +1,5 @@
-use Rattle.std.proofs.Common.{◌≡◌, drop}
-use Rattle.subrules.specs.Sizes.{all_measured, at_no_piece}
+use Rattle.subrules.proofs.Common.{◌≡◌, drop, at_no_piece}
+use Rattle.subrules.specs.Sizes.{all_measured}
 use Rattle.subrules.proofs.sizes.measure.Given as goal
 
 abbrev pub invariant-loop-piece : goal.invariant-loop-piece

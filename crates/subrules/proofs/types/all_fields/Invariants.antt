@@ -1,4 +1,4 @@
-use Rattle.std.proofs.Common.{◌≡◌, map, drop}
+use Rattle.subrules.proofs.Common.{◌≡◌, map, drop}
 use Rattle.subrules.specs.Expanded.{inherited_fields}
 use Rattle.subrules.proofs.types.all_fields.Given as goal
 

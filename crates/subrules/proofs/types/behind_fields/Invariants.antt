@@ -1,4 +1,4 @@
-use Rattle.std.proofs.Common.{◌≡◌, ◌++◌}
+use Rattle.subrules.proofs.Common.{◌≡◌, ◌++◌}
 use Rattle.subrules.proofs.types.behind_fields.Given as goal
 
 abbrev pub invariant-loop-field : goal.invariant-loop-field

@@ -1,5 +1,4 @@
-use Rattle.std.proofs.Common.{◌≡◌, drop}
-use Rattle.subrules.specs.Expanded.{has_word}
+use Rattle.subrules.proofs.Common.{◌≡◌, drop, has_word}
 use Rattle.subrules.proofs.types.has_word_of.Given as goal
 
 abbrev pub invariant-loop-other : goal.invariant-loop-other

@@ -1,6 +1,4 @@
-use Rattle.std.proofs.Common.{◌≡◌, ◌++◌, not, drop}
-use Rattle.std.specs.List.{filter}
-use Rattle.subrules.specs.Expanded.{has_word}
+use Rattle.subrules.proofs.Common.{◌≡◌, ◌++◌, not, drop, filter, has_word}
 use Rattle.subrules.proofs.types.new_ones.Given as goal
 
 abbrev pub invariant-loop-meta : goal.invariant-loop-meta

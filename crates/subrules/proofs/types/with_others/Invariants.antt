@@ -1,6 +1,4 @@
-use Rattle.std.proofs.Common.{◌≡◌, ◌++◌, not}
-use Rattle.std.specs.List.{filter}
-use Rattle.subrules.specs.Expanded.{has_word}
+use Rattle.subrules.proofs.Common.{◌≡◌, ◌++◌, not, filter, has_word}
 use Rattle.subrules.proofs.types.with_others.Given as goal
 
 abbrev pub invariant-loop-meta : goal.invariant-loop-meta

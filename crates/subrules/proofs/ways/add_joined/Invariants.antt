@@ -1,4 +1,4 @@
-use Rattle.std.proofs.Common.{◌≡◌, ◌++◌, map, drop}
+use Rattle.subrules.proofs.Common.{◌≡◌, ◌++◌, map, drop}
 use Rattle.subrules.proofs.ways.add_joined.Given as goal
 
 abbrev pub invariant-loop-second : goal.invariant-loop-second

@@ -1,4 +1,4 @@
-use Rattle.std.proofs.Common.{◌≡◌, ◌++◌}
+use Rattle.subrules.proofs.Common.{◌≡◌, ◌++◌}
 use Rattle.subrules.proofs.ways.ended.Given as goal
 
 abbrev pub invariant-loop-way : goal.invariant-loop-way

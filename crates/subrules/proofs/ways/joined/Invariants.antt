@@ -1,4 +1,4 @@
-use Rattle.std.proofs.Common.{◌≡◌, ◌++◌, drop}
+use Rattle.subrules.proofs.Common.{◌≡◌, ◌++◌, drop}
 use Rattle.subrules.proofs.ways.joined.Given as goal
 
 abbrev pub invariant-loop-condition : goal.invariant-loop-condition

@@ -1,6 +1,5 @@
-use Rattle.std.proofs.Common.{◌≡◌, ◌++◌, drop}
-use Rattle.std.specs.List.{flat_map}
-use Rattle.subrules.specs.Ways.{each_behind, times}
+use Rattle.subrules.proofs.Common.{◌≡◌, ◌++◌, drop, flat_map, times}
+use Rattle.subrules.specs.Ways.{each_behind}
 use Rattle.subrules.proofs.ways.product.Given as goal
 
 abbrev pub invariant-loop-first : goal.invariant-loop-first

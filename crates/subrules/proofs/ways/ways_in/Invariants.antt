@@ -1,5 +1,5 @@
-use Rattle.std.proofs.Common.{◌≡◌, drop}
-use Rattle.subrules.specs.Ways.{walked, at_begin}
+use Rattle.subrules.proofs.Common.{◌≡◌, drop, at_begin}
+use Rattle.subrules.specs.Ways.{walked}
 use Rattle.subrules.proofs.ways.ways_in.Given as goal
 
 abbrev pub invariant-loop-piece : goal.invariant-loop-piece

@@ -1,6 +1,5 @@
-use Rattle.std.proofs.Common.{◌≡◌, ◌++◌, ◌∷◌, [], map, drop}
+use Rattle.subrules.proofs.Common.{◌≡◌, ◌++◌, ◌∷◌, [], map, drop, over_type}
 use Rattle.drl_grammar.specs.declared.condition.CondTree.TheVariants.{Plain}
-use Rattle.subrules.specs.Ways.{over_type}
 use Rattle.subrules.proofs.ways.ways_over.Given as goal
 
 abbrev pub invariant-loop-name : goal.invariant-loop-name

@@ -1,5 +1,4 @@
-use Rattle.std.proofs.Common.{◌∙◌, sym, subst, ◌-◌, ℕ, ℤ, List}
-use Rattle.tally_node.specs.Extras.{IsBeyond, nothing_gathered}
+use Rattle.tally_node.proofs.Common.{◌∙◌, sym, subst, ◌-◌, ℕ, ℤ, List, IsBeyond, nothing_gathered}
 use Rattle.tally_node.proofs.Extras.{number_beyond}
 use Rattle.tally_node.proofs.count.beyond.Goals as goal
 

@@ -1,6 +1,4 @@
-use Rattle.std.proofs.Common.{sym, subst}
-use Rattle.tally_node.specs.Tallies.{less_one}
-use Rattle.tally_node.specs.Counts.{IsNumber}
+use Rattle.tally_node.proofs.Common.{sym, subst, less_one, IsNumber}
 use Rattle.tally_node.proofs.Counting.{number_less}
 use Rattle.tally_node.proofs.count.one_less.Goals as goal
 

@@ -1,6 +1,4 @@
-use Rattle.std.proofs.Common.{◌≡◌, subst, ◌+◌, arith}
-use Rattle.tally_node.specs.Tallies.{with_one}
-use Rattle.tally_node.specs.Counts.{IsNumber}
+use Rattle.tally_node.proofs.Common.{◌≡◌, subst, ◌+◌, arith, with_one, IsNumber}
 use Rattle.tally_node.proofs.Counting.{number_more}
 use Rattle.tally_node.proofs.count.one_more.Goals as goal
 

@@ -1,4 +1,4 @@
-use Rattle.std.proofs.Common.{◌≡◌, ◌++◌, drop}
+use Rattle.tally_node.proofs.Common.{◌≡◌, ◌++◌, drop}
 use Rattle.tally_node.proofs.Leaving.{leaves}
 use Rattle.tally_node.proofs.gathered.values_beyond.Given as goal
 

@@ -1,8 +1,4 @@
-use Rattle.tally_node.specs.declared.count.Blockers.{Blockers}
-use Rattle.tally_node.specs.declared.count.Witnesses.{Witnesses}
-use Rattle.fold_fn.specs.Held.{Held}
-use Rattle.tally_node.specs.Counts.{counts_blockers, counts_witnesses}
-use Rattle.tally_node.specs.Gathers.{gathers}
+use Rattle.tally_node.proofs.Common.{Blockers, Witnesses, Held, counts_blockers, counts_witnesses, gathers}
 use Rattle.tally_node.proofs.Lawful.{tally_law}
 use Rattle.tally_node.proofs.laws.a_step_counts_all_candidates.Goals as goal
 

@@ -1,6 +1,4 @@
-use Rattle.tally_node.specs.Counts.{counts_blockers, counts_witnesses}
-use Rattle.tally_node.specs.Gathers.{gathers}
-use Rattle.tally_node.specs.Extras.{blockers_laden, witnesses_laden, gathered_laden}
+use Rattle.tally_node.proofs.Common.{counts_blockers, counts_witnesses, gathers, blockers_laden, witnesses_laden, gathered_laden}
 use Rattle.tally_node.proofs.Resuming.{others_law}
 use Rattle.tally_node.proofs.laws.tallies_count_forgotten_candidates_beside_the_kept.Goals as goal
 

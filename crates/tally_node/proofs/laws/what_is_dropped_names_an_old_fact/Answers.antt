@@ -1,10 +1,4 @@
-use Rattle.tally_node.specs.declared.count.Blockers.{Blockers}
-use Rattle.tally_node.specs.declared.count.Witnesses.{Witnesses}
-use Rattle.fold_fn.specs.Held.{Held}
-use Rattle.tally_node.specs.Counts.{where_unblocked, where_witnessed}
-use Rattle.tally_node.specs.Gathers.{result_for}
-use Rattle.pair_memory.specs.Valued.{without_value, shows_value}
-use Rattle.tally_node.specs.Origins.{itself, shows_any}
+use Rattle.tally_node.proofs.Common.{Blockers, Witnesses, Held, where_unblocked, where_witnessed, result_for, without_value, shows_value, itself, shows_any}
 use Rattle.tally_node.proofs.Lawful.{drop_law, itself_facts, without_value_facts}
 use Rattle.tally_node.proofs.laws.what_is_dropped_names_an_old_fact.Goals as goal
 

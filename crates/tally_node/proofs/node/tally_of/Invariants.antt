@@ -1,7 +1,4 @@
-use Rattle.std.proofs.Common.{take}
-use Rattle.join_tests.specs.Joins.{Look}
-use Rattle.pair_memory.specs.Joined.{has_name}
-use Rattle.tally_node.specs.Tallies.{SeeAlike}
+use Rattle.tally_node.proofs.Common.{take, Look, has_name, SeeAlike}
 use Rattle.tally_node.proofs.node.tally_of.Given as goal
 
 abbrev pub invariant-loop-who : goal.invariant-loop-who

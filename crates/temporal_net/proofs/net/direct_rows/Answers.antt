@@ -1,6 +1,4 @@
-use Rattle.std.proofs.Common.{pos, ◌<ℤ◌, sym, ◌∙◌, subst, arith}
-use Rattle.std.proofs.lemmas.Int.{ints}
-use Rattle.temporal_net.specs.Networks.{edge_at, IsNegativeCycle}
+use Rattle.temporal_net.proofs.Common.{pos, ◌<ℤ◌, sym, ◌∙◌, subst, arith, ints, edge_at, IsNegativeCycle}
 use Rattle.temporal_net.proofs.Cycles.{self_cycle}
 use Rattle.temporal_net.proofs.Sums.{no_solution}
 use Rattle.temporal_net.proofs.net.direct_rows.Goals as goal

@@ -1,5 +1,4 @@
-use Rattle.std.proofs.Common.{◌≡◌, length, take}
-use Rattle.temporal_net.specs.Tables.{AreTable}
+use Rattle.temporal_net.proofs.Common.{◌≡◌, length, take, AreTable}
 use Rattle.temporal_net.proofs.net.direct_rows.Given as goal
 
 abbrev pub invariant-loop-number : goal.invariant-loop-number

@@ -1,6 +1,4 @@
-use Rattle.std.proofs.Common.{◌++◌, length, sym, ◌∙◌, ap, subst}
-use Rattle.temporal_net.specs.Networks.{IsNegativeCycle}
-use Rattle.temporal_net.specs.Tables.{cell}
+use Rattle.temporal_net.proofs.Common.{◌++◌, length, sym, ◌∙◌, ap, subst, IsNegativeCycle, cell}
 use Rattle.temporal_net.proofs.Cycles.{round_cycle}
 use Rattle.temporal_net.proofs.net.round_trip.Goals as goal
 

@@ -1,6 +1,4 @@
-use Rattle.std.proofs.Common.{◌∙◌, ap}
-use Rattle.temporal_net.specs.Tables.{cell, lesser}
-use Rattle.temporal_net.specs.Networks.{edge_at}
+use Rattle.temporal_net.proofs.Common.{◌∙◌, ap, cell, lesser, edge_at}
 use Rattle.temporal_net.proofs.Places.{added_rows}
 use Rattle.temporal_net.proofs.table.add_edge.Goals as goal
 

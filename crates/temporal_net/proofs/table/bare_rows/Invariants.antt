@@ -1,5 +1,4 @@
-use Rattle.std.proofs.Common.{◌≡◌, ℕ, ◌<◌, length, cond, eqb, Some, None}
-use Rattle.temporal_net.specs.Tables.{cell, zero_distance}
+use Rattle.temporal_net.proofs.Common.{◌≡◌, ℕ, ◌<◌, length, cond, eqb, Some, None, cell, zero_distance}
 use Rattle.temporal_net.proofs.table.bare_rows.Given as goal
 
 abbrev pub invariant-loop-point : goal.invariant-loop-point

@@ -1,5 +1,4 @@
-use Rattle.std.proofs.Common.{◌≡◌, map, take}
-use Rattle.temporal_net.specs.Networks.{edge_at}
+use Rattle.temporal_net.proofs.Common.{◌≡◌, map, take, edge_at}
 use Rattle.temporal_net.proofs.table.edges_at.Given as goal
 
 abbrev pub invariant-loop-number : goal.invariant-loop-number

@@ -1,5 +1,4 @@
-use Rattle.std.proofs.Common.{◌≡◌, ℕ, ◌<◌, false}
-use Rattle.temporal_net.specs.Tables.{loses_over}
+use Rattle.temporal_net.proofs.Common.{◌≡◌, ℕ, ◌<◌, false, loses_over}
 use Rattle.temporal_net.proofs.table.losing_point.Given as goal
 
 abbrev pub invariant-loop-x : goal.invariant-loop-x

@@ -1,5 +1,4 @@
-use Rattle.std.proofs.Common.{◌≡◌, ℕ, ◌<◌, ◌≤◌, length, get_or, []}
-use Rattle.temporal_net.specs.Tables.{cell, lowered}
+use Rattle.temporal_net.proofs.Common.{◌≡◌, ℕ, ◌<◌, ◌≤◌, length, get_or, [], cell, lowered}
 use Rattle.temporal_net.proofs.table.lower_over.Given as goal
 
 abbrev pub invariant-loop-row : goal.invariant-loop-row

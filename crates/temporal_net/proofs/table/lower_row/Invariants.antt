@@ -1,5 +1,4 @@
-use Rattle.std.proofs.Common.{◌≡◌, ℕ, ◌<◌, ◌≤◌, get_or, Some, None}
-use Rattle.temporal_net.specs.Tables.{lowered}
+use Rattle.temporal_net.proofs.Common.{◌≡◌, ℕ, ◌<◌, ◌≤◌, get_or, Some, None, lowered}
 use Rattle.temporal_net.proofs.table.lower_row.Given as goal
 
 abbrev pub invariant-loop-y : goal.invariant-loop-y

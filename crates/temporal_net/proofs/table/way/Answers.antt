@@ -1,4 +1,4 @@
-use Rattle.std.proofs.Common.{[], append-nil}
+use Rattle.temporal_net.proofs.Common.{[], append-nil}
 use Rattle.temporal_net.proofs.table.way.Goals as goal
 
 pub returns : goal.returns

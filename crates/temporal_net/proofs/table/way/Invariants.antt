@@ -1,5 +1,4 @@
-use Rattle.std.proofs.Common.{◌≢◌, ℕ, ◌<◌, List, ◌++◌, length, None}
-use Rattle.temporal_net.specs.Tables.{cell, Follows}
+use Rattle.temporal_net.proofs.Common.{◌≢◌, ℕ, ◌<◌, List, ◌++◌, length, None, cell, Follows}
 use Rattle.temporal_net.proofs.Ways.{edges_left}
 use Rattle.temporal_net.proofs.table.way.Given as goal
 

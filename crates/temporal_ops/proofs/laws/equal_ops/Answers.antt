@@ -1,16 +1,10 @@
-use Rattle.std.proofs.Common.{◌≡◌, ℕ, ◌-◌, ◌++◌, ◌&&◌, List, length, take, int_eq, refl, sym, ◌∙◌, ap}
-use Rattle.std.specs.Prelude.{replicate}
+use Rattle.temporal_ops.proofs.Common.{◌≡◌, ℕ, ◌-◌, ◌++◌, ◌&&◌, List, length, take, int_eq, refl, sym, ◌∙◌, ap, replicate, take-append_seam, Corner, AStart, AEnd, BStart, BEnd, OpEdge, blank}
 use Rattle.std.specs.Bool.{Decides}
 use Rattle.std.specs.Cmp.Lexicographic.{pointwise_decides}
 use Rattle.std.proofs.lemmas.Bool.{eqb-true, eq-eqb}
 use Rattle.std.proofs.lemmas.Bool.Decides.{Decides-int_eq}
-use Rattle.std.proofs.Math.Seq.{take-append_seam}
 use Rattle.temporal_ops.specs.contracts.edge.CornerPartialEq.TheImpl.{ghosts as corner_equality}
 use Rattle.temporal_ops.specs.contracts.edge.OpEdgePartialEq.TheImpl.{ghosts as edge_equality}
-use Rattle.temporal_ops.specs.declared.edge.Corner.{Corner}
-use Rattle.temporal_ops.specs.declared.edge.Corner.TheVariants.{AStart, AEnd, BStart, BEnd}
-use Rattle.temporal_ops.specs.declared.edge.OpEdge.{OpEdge}
-use Rattle.temporal_ops.specs.Stored.{blank}
 use Rattle.temporal_ops.proofs.Rows.{both, joined}
 use Rattle.temporal_ops.proofs.laws.equal_ops.Goals as goal
 

@@ -1,6 +1,4 @@
-use Rattle.temporal_ops.specs.declared.window.Window.TheVariants.{Never, UpTo, Unbounded}
-use Rattle.temporal_ops.specs.Edges.{edges_hold}
-use Rattle.temporal_ops.specs.Possible.{IsPossible}
+use Rattle.temporal_ops.proofs.Common.{Never, UpTo, Unbounded, edges_hold, IsPossible}
 use Rattle.temporal_ops.proofs.Rooms.{fitting_is_possible, one_more}
 use Rattle.temporal_ops.proofs.Windows.{starts_too, which_window}
 use Rattle.temporal_ops.proofs.window.possible_start.Goals as goal

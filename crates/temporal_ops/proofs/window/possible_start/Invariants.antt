@@ -1,7 +1,4 @@
-use Rattle.std.proofs.Common.{◌≡◌, ◌↔◌, true, take}
-use Rattle.fx_base.specs.declared.times.Times.{Times}
-use Rattle.temporal_ops.specs.Possible.{all_hold}
-use Rattle.temporal_ops.specs.Room.{Fits}
+use Rattle.temporal_ops.proofs.Common.{◌≡◌, ◌↔◌, true, take, Times, all_hold, Fits}
 use Rattle.temporal_ops.proofs.window.possible_start.Given as goal
 
 abbrev pub invariant-loop-op : goal.invariant-loop-op

@@ -1,4 +1,4 @@
-use Rattle.std.proofs.Common.{sym}
+use Rattle.window_gate.proofs.Common.{sym}
 use Rattle.window_gate.proofs.Wholes.{whole_come, whole_gone, whole_clock}
 use Rattle.window_gate.proofs.gate.whole_difference.Goals as goal
 

@@ -1,5 +1,4 @@
-use Rattle.std.proofs.Common.{◌≡◌, take, map}
-use Rattle.window_gate.specs.Windows.{single}
+use Rattle.window_gate.proofs.Common.{◌≡◌, take, map, single}
 use Rattle.window_gate.proofs.rows.rows_of.Given as goal
 
 abbrev pub invariant-loop-named : goal.invariant-loop-named

@@ -1,6 +1,4 @@
-use Rattle.std.proofs.Common.{◌≡◌, true, arith}
-use Rattle.std.specs.Prelude.{int_lt}
-use Rattle.std.proofs.lemmas.Int.{ints, to_z-of_z}
+use Rattle.window_gate.proofs.Common.{◌≡◌, true, arith, int_lt, ints, to_z-of_z}
 use Rattle.window_gate.proofs.Waiting.{cancelled, free, waits}
 use Rattle.window_gate.proofs.time_window.enter.Goals as goal
 

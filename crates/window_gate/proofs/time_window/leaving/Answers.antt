@@ -1,9 +1,6 @@
-use Rattle.std.proofs.Common.{◌∙◌, ap, ℕ, Vec, Global}
+use Rattle.window_gate.proofs.Common.{◌∙◌, ap, ℕ, Vec, Global, list_any, to_z-of_z, Timers, TakesDue}
 use Rattle.std.specs.FinMap as timers
-use Rattle.std.specs.List.{list_any}
 use Rattle.std.specs.Prelude.{nat_eq}
-use Rattle.std.proofs.lemmas.Int.{to_z-of_z}
-use Rattle.due_queue.specs.Timers.{Timers, TakesDue}
 use Rattle.window_gate.proofs.Waiting.{cancelled, tags_with, rest_with, tags_alone, tags_due, rest_due, not_gone}
 use Rattle.window_gate.proofs.time_window.leaving.Goals as goal
 use Rattle.window_gate.proofs.time_window.leaving.Goals.{in-Gone+then-cancel+in_ok-push, in-Gone+else-cancel, in_default}

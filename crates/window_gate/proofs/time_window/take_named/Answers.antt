@@ -1,9 +1,5 @@
-use Rattle.std.proofs.Common.{◌∙◌, sym, ap, refl, get_or}
-use Rattle.std.specs.BTreeMap.{get}
+use Rattle.window_gate.proofs.Common.{◌∙◌, sym, ap, refl, get_or, get, nat_cmp, Named, has_name}
 use Rattle.std.specs.BTreeSet.{BTreeSet}
-use Rattle.std.specs.Ordering.{nat_cmp}
-use Rattle.row_delta.specs.declared.row.Named.{Named}
-use Rattle.window_gate.specs.Standing.{has_name}
 use Rattle.window_gate.proofs.Waiting.{taken_more, version_more, version_none}
 use Rattle.window_gate.proofs.time_window.take_named.Goals as goal
 use Rattle.window_gate.proofs.time_window.take_named.Goals.{in-Some+in_ok-insert, in_default}

@@ -1,10 +1,4 @@
-use Rattle.std.proofs.Common.{◌≡◌, ℕ, ◌&&◌, None, cond, take, nat_eq}
-use Rattle.std.specs.BTreeMap.{get}
-use Rattle.std.specs.List.{list_any}
-use Rattle.std.specs.Ordering.{nat_cmp}
-use Rattle.row_delta.specs.declared.row.Named.{Named}
-use Rattle.window_gate.specs.Pieces.{is_id}
-use Rattle.window_gate.specs.Standing.{has_name}
+use Rattle.window_gate.proofs.Common.{◌≡◌, ℕ, ◌&&◌, None, cond, take, nat_eq, get, list_any, nat_cmp, Named, is_id, has_name}
 use Rattle.window_gate.proofs.time_window.take_named.Given as goal
 
 abbrev pub invariant-loop-tag : goal.invariant-loop-tag

@@ -1,11 +1,4 @@
-use Rattle.std.proofs.Common.{◌≡◌, ◌∙◌, ap, subst, ◌&&◌, ◌||◌, not, Some}
-use Rattle.std.specs.Ordering.{eq_by_cmp}
-use Rattle.std.proofs.Common.{ℕ}
-use Rattle.row_delta.specs.declared.row.Row.{Row}
-use Rattle.rule_model.specs.declared.matched.Match.{Match}
-use Rattle.rule_model.specs.Matches.{has_match, match_cmp, fire_cmp}
-use Rattle.rule_model.specs.First.{first}
-use Rattle.agenda.specs.Agendas.{Marks, matches}
+use Rattle.agenda.proofs.Common.{◌≡◌, ◌∙◌, ap, subst, ◌&&◌, ◌||◌, not, Some, ℕ, eq_by_cmp, Row, Match, has_match, match_cmp, fire_cmp, first, Marks, matches}
 use Rattle.agenda.proofs.Heads.{top_of}
 use Rattle.agenda.proofs.Namings.{pop_counts}
 use Rattle.agenda.proofs.Steps.{fired_put, pending_popped, well_parts}

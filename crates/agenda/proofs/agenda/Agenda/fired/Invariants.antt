@@ -1,5 +1,4 @@
-use Rattle.std.proofs.Common.{◌≡◌, Bor, map}
-use Rattle.rule_model.specs.declared.matched.Match.{Match}
+use Rattle.agenda.proofs.Common.{◌≡◌, Bor, map, Match}
 use Rattle.agenda.proofs.agenda.Agenda.fired.Given as goal
 
 abbrev pub invariant-loop-matched : goal.invariant-loop-matched

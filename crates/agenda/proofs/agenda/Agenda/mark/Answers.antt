@@ -1,10 +1,4 @@
-use Rattle.std.proofs.Common.{◌≡◌, ◌∙◌, ap, subst, ◌==◌, ◌&&◌, ◌||◌, not}
-use Rattle.std.specs.Ordering.{eq_by_cmp}
-use Rattle.row_delta.specs.Rows.{row_cmp}
-use Rattle.rule_model.specs.Matches.{has_match, match_of}
-use Rattle.agenda.specs.Agendas.{Marks, AllWell, matches}
-use Rattle.agenda.specs.Ranks.{ranked_of}
-use Rattle.agenda.specs.declared.ranked.Ranked.{Ranked}
+use Rattle.agenda.proofs.Common.{◌≡◌, ◌∙◌, ap, subst, ◌==◌, ◌&&◌, ◌||◌, not, eq_by_cmp, row_cmp, has_match, match_of, Marks, AllWell, matches, ranked_of, Ranked}
 use Rattle.agenda.proofs.Ranks.{well_of}
 use Rattle.agenda.proofs.Steps.{pending_taken, fired_put, parts}
 use Rattle.agenda.proofs.agenda.Agenda.mark.Goals as goal

@@ -1,6 +1,5 @@
-use Rattle.std.proofs.Common.{◌∙◌, ap, nat_lt}
-use Rattle.std.specs.List.{list_any}
-use Rattle.agenda.specs.Agendas.{Marks, names_tag}
+use Rattle.agenda.proofs.Common.{◌∙◌, ap, list_any, Marks, names_tag}
+use Rattle.std.proofs.Common.{nat_lt}
 use Rattle.agenda.proofs.Namings.{named_is}
 use Rattle.agenda.proofs.agenda.Agenda.names_tag.Goals as goal
 

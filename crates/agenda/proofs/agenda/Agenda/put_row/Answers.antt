@@ -1,10 +1,4 @@
-use Rattle.std.proofs.Common.{◌≡◌, ◌∙◌, ap, subst, ◌==◌, ◌&&◌, ◌||◌}
-use Rattle.std.specs.Ordering.{eq_by_cmp}
-use Rattle.row_delta.specs.Rows.{row_cmp}
-use Rattle.rule_model.specs.Matches.{has_match, match_of}
-use Rattle.agenda.specs.Agendas.{Marks, Well, AllWell, matches}
-use Rattle.agenda.specs.Ranks.{ranked_of}
-use Rattle.agenda.specs.declared.ranked.Ranked.{Ranked}
+use Rattle.agenda.proofs.Common.{◌≡◌, ◌∙◌, ap, subst, ◌==◌, ◌&&◌, ◌||◌, eq_by_cmp, row_cmp, has_match, match_of, Marks, Well, AllWell, matches, ranked_of, Ranked}
 use Rattle.agenda.proofs.Ranks.{well_of}
 use Rattle.agenda.proofs.Steps.{pending_put}
 use Rattle.agenda.proofs.agenda.Agenda.put_row.Goals as goal

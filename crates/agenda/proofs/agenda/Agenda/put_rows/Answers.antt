@@ -1,4 +1,4 @@
-use Rattle.std.proofs.Common.{◌∙◌, ◌==◌}
+use Rattle.agenda.proofs.Common.{◌∙◌, ◌==◌}
 use Rattle.agenda.proofs.Steps.{put_next, nothing_left, all_put}
 use Rattle.agenda.proofs.agenda.Agenda.put_rows.Goals as goal
 

@@ -1,7 +1,4 @@
-use Rattle.std.proofs.Common.{◌≡◌, ◌&&◌, ◌||◌, ◌==◌}
-use Rattle.row_delta.specs.Rows.{has}
-use Rattle.rule_model.specs.Matches.{has_match}
-use Rattle.rule_model.specs.declared.matched.Match.{Match}
+use Rattle.agenda.proofs.Common.{◌≡◌, ◌&&◌, ◌||◌, ◌==◌, has, has_match, Match}
 use Rattle.agenda.proofs.agenda.Agenda.put_rows.Given as goal
 
 abbrev pub invariant-loop-row : goal.invariant-loop-row

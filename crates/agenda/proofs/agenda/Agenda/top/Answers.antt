@@ -1,7 +1,4 @@
-use Rattle.std.proofs.Common.{◌≡◌, subst, Some}
-use Rattle.agenda.specs.Agendas.{Marks}
-use Rattle.rule_model.specs.First.{first}
-use Rattle.rule_model.specs.Matches.{fire_cmp}
+use Rattle.agenda.proofs.Common.{◌≡◌, subst, Some, Marks, first, fire_cmp}
 use Rattle.agenda.proofs.Heads.{top_is}
 use Rattle.agenda.proofs.agenda.Agenda.top.Goals as goal
 

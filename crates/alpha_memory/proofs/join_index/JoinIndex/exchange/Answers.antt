@@ -1,6 +1,4 @@
-use Rattle.std.proofs.Common.{sym, ap, Some}
-use Rattle.std.specs.Option.{is_some}
-use Rattle.std.proofs.lemmas.Result.{on_ok_weaker, on_err_weaker}
+use Rattle.alpha_memory.proofs.Common.{sym, ap, Some, is_some, on_ok_weaker, on_err_weaker}
 use Rattle.alpha_memory.proofs.Buckets.{one_kept, same_buckets}
 use Rattle.alpha_memory.proofs.join_index.JoinIndex.exchange.Goals as goal
 

@@ -1,4 +1,4 @@
-use Rattle.std.proofs.Common.{◌≡◌, arith}
+use Rattle.alpha_memory.proofs.Common.{◌≡◌, arith}
 use Rattle.std.proofs.lemmas.Grind.{common_steps}
 use Rattle.alpha_memory.proofs.Keys.{keys_in, are_keys}
 use Rattle.alpha_memory.proofs.join_index.JoinIndex.keys.Goals as goal

@@ -1,4 +1,4 @@
-use Rattle.std.proofs.Common.{◌≡◌, ◌++◌}
+use Rattle.alpha_memory.proofs.Common.{◌≡◌, ◌++◌}
 use Rattle.alpha_memory.proofs.Keys.{keys_in}
 use Rattle.alpha_memory.proofs.join_index.JoinIndex.keys.Given as goal
 

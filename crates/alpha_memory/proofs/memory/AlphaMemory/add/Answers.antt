@@ -1,10 +1,4 @@
-use Rattle.std.proofs.Common.{◌∙◌, ap, ◌++◌, ◌∷◌, []}
-use Rattle.std.specs.Ordering.{nat_cmp}
-use Rattle.std.specs.BTreeMap.{is_at}
-use Rattle.std.specs.Map.{lookup}
-use Rattle.std.specs.Option.{option_and_then}
-use Rattle.alpha_memory.specs.Candidates.{has_tag}
-use Rattle.alpha_memory.specs.declared.memory.Place.{Place}
+use Rattle.alpha_memory.proofs.Common.{◌∙◌, ap, ◌++◌, ◌∷◌, [], nat_cmp, is_at, lookup, option_and_then, has_tag, Place}
 use Rattle.alpha_memory.proofs.Agreeing.{no_place, Agree-put, listed-put, Agree-same, listed-same, undone}
 use Rattle.alpha_memory.proofs.memory.AlphaMemory.add.Goals as goal
 

@@ -1,7 +1,4 @@
-use Rattle.std.proofs.Common.{◌≡◌, ◌∙◌, ap, subst, List}
-use Rattle.std.specs.Prelude.{IfOk}
-use Rattle.row_delta.specs.declared.row.Named.{Named}
-use Rattle.alpha_memory.specs.Candidates.{names_of}
+use Rattle.alpha_memory.proofs.Common.{◌≡◌, ◌∙◌, ap, subst, List, IfOk, Named, names_of}
 use Rattle.alpha_memory.proofs.Answering.{all_names}
 use Rattle.alpha_memory.proofs.memory.AlphaMemory.all.Goals as goal
 

@@ -1,5 +1,4 @@
-use Rattle.std.proofs.Common.{◌∙◌, sym, ap}
-use Rattle.alpha_memory.specs.Candidates.{has_tag, without_tag}
+use Rattle.alpha_memory.proofs.Common.{◌∙◌, sym, ap, has_tag, without_tag}
 use Rattle.alpha_memory.proofs.Agreeing.{there, absent, Agree-take, listed-take, listed-absent}
 use Rattle.alpha_memory.proofs.memory.AlphaMemory.drop_tag.Goals as goal
 

@@ -1,8 +1,4 @@
-use Rattle.std.proofs.Common.{◌≡◌, ◌∙◌, ap, subst, List}
-use Rattle.std.specs.Prelude.{IfOk}
-use Rattle.row_delta.specs.declared.row.Named.{Named}
-use Rattle.alpha_memory.specs.Candidates.{names_of, with_join}
-use Rattle.alpha_memory.specs.Bucket.{entries}
+use Rattle.alpha_memory.proofs.Common.{◌≡◌, ◌∙◌, ap, subst, List, IfOk, Named, names_of, with_join, entries}
 use Rattle.alpha_memory.proofs.Answering.{bucket_names, no_bucket}
 use Rattle.alpha_memory.proofs.memory.AlphaMemory.equal_to.Goals as goal
 

@@ -1,4 +1,4 @@
-use Rattle.std.proofs.Common.{◌∙◌, ap}
+use Rattle.alpha_memory.proofs.Common.{◌∙◌, ap}
 use Rattle.alpha_memory.proofs.Agreeing.{listed, listed-none, Agree-none}
 use Rattle.alpha_memory.proofs.memory.AlphaMemory.new.Goals as goal
 

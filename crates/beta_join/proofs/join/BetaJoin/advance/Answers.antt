@@ -1,4 +1,4 @@
-use Rattle.pair_memory.specs.Memories.{made}
+use Rattle.beta_join.proofs.Common.{made}
 use Rattle.beta_join.proofs.join.BetaJoin.advance.Goals as goal
 
 pub returns-then-changes_nothing-2-clause-difference : goal.returns-then-changes_nothing-2-clause-difference

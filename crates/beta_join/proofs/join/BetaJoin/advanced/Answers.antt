@@ -1,4 +1,4 @@
-use Rattle.pair_memory.specs.Memories.{made}
+use Rattle.beta_join.proofs.Common.{made}
 use Rattle.beta_join.proofs.join.BetaJoin.advanced.Goals as goal
 
 pub returns-clause-difference : goal.returns-clause-difference

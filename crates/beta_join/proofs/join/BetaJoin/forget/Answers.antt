@@ -1,4 +1,4 @@
-use Rattle.pair_memory.specs.Memories.{made}
+use Rattle.beta_join.proofs.Common.{made}
 use Rattle.beta_join.proofs.join.BetaJoin.forget.Goals as goal
 
 pub returns-clause-dropped : goal.returns-clause-dropped

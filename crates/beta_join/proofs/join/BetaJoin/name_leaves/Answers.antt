@@ -1,5 +1,4 @@
-use Rattle.std.proofs.Common.{◌∙◌, sym}
-use Rattle.std.proofs.lemmas.Result.{on_ok_weaker}
+use Rattle.beta_join.proofs.Common.{◌∙◌, sym, on_ok_weaker}
 use Rattle.beta_join.proofs.Turns.{name_goes, no_name_goes}
 use Rattle.beta_join.proofs.join.BetaJoin.name_leaves.Goals as goal
 

@@ -1,7 +1,4 @@
-use Rattle.std.proofs.Common.{◌||◌, take}
-use Rattle.pair_memory.specs.Joined.{has_name}
-use Rattle.pair_memory.specs.Memories.{has_left, has_right}
-use Rattle.beta_join.specs.Turns.{Turned}
+use Rattle.beta_join.proofs.Common.{◌||◌, take, has_name, has_left, has_right, Turned}
 use Rattle.beta_join.proofs.join.BetaJoin.names_come.Given as goal
 
 abbrev pub invariant-loop-who : goal.invariant-loop-who

@@ -1,8 +1,4 @@
-use Rattle.std.proofs.Common.{refl}
-use Rattle.std.specs.Ordering.{eq_by_cmp}
-use Rattle.row_delta.specs.NameOrder.{name_cmp, name_equiv}
-use Rattle.pair_memory.specs.Memories.{has_right}
-use Rattle.pair_memory.proofs.Turning.{less_more, any_name}
+use Rattle.beta_join.proofs.Common.{refl, eq_by_cmp, name_cmp, name_equiv, has_right, less_more, any_name}
 use Rattle.beta_join.proofs.Turns.{turned_then}
 use Rattle.beta_join.proofs.join.BetaJoin.names_leave.Goals as goal
 

@@ -1,12 +1,4 @@
-use Rattle.std.proofs.Common.{◌≡◌, ◌∙◌, sym, ap, subst, ◌||◌}
-use Rattle.std.specs.Option.{is_some}
-use Rattle.std.specs.Ordering.{eq_by_cmp}
-use Rattle.std.proofs.lemmas.Result.{on_ok_weaker}
-use Rattle.row_delta.specs.declared.row.Row.{Row}
-use Rattle.row_delta.specs.Rows.{row_cmp}
-use Rattle.join_tests.specs.Joins.{Look}
-use Rattle.pair_memory.specs.declared.memories.Memories.{Memories}
-use Rattle.pair_memory.specs.Memories.{has_left, has_right, Keeps}
+use Rattle.beta_join.proofs.Common.{◌≡◌, ◌∙◌, sym, ap, subst, ◌||◌, is_some, eq_by_cmp, on_ok_weaker, Row, row_cmp, Look, Memories, has_left, has_right, Keeps}
 use Rattle.beta_join.proofs.Turns.{row_arrives, no_row_arrives}
 use Rattle.beta_join.proofs.join.BetaJoin.row_comes.Goals as goal
 

@@ -1,6 +1,4 @@
-use Rattle.std.proofs.Common.{◌∙◌, sym, ap}
-use Rattle.std.specs.Option.{is_some}
-use Rattle.std.proofs.lemmas.Result.{on_ok_weaker}
+use Rattle.beta_join.proofs.Common.{◌∙◌, sym, ap, is_some, on_ok_weaker}
 use Rattle.beta_join.proofs.Turns.{row_goes, no_row_goes}
 use Rattle.beta_join.proofs.join.BetaJoin.row_leaves.Goals as goal
 

@@ -1,8 +1,4 @@
-use Rattle.std.specs.Ordering.{eq_by_cmp}
-use Rattle.row_delta.specs.Rows.{row_cmp}
-use Rattle.row_delta.specs.RowOrder.{same_equiv}
-use Rattle.pair_memory.specs.Memories.{has_left}
-use Rattle.pair_memory.proofs.Turning.{more_more}
+use Rattle.beta_join.proofs.Common.{eq_by_cmp, row_cmp, same_equiv, has_left, more_more}
 use Rattle.beta_join.proofs.Turns.{turned_then}
 use Rattle.beta_join.proofs.join.BetaJoin.rows_come.Goals as goal
 

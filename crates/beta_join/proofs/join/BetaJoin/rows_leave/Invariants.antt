@@ -1,7 +1,4 @@
-use Rattle.std.proofs.Common.{◌&&◌, not, take}
-use Rattle.row_delta.specs.Rows.{has}
-use Rattle.pair_memory.specs.Memories.{has_left, has_right}
-use Rattle.beta_join.specs.Turns.{Turned}
+use Rattle.beta_join.proofs.Common.{◌&&◌, not, take, has, has_left, has_right, Turned}
 use Rattle.beta_join.proofs.join.BetaJoin.rows_leave.Given as goal
 
 abbrev pub invariant-loop-row : goal.invariant-loop-row

@@ -1,8 +1,4 @@
-use Rattle.std.proofs.Common.{sym, refl, subst, SFits, to_z-of_z}
-use Rattle.std.specs.Int.{w128}
-use Rattle.rule_model.specs.Moments.{IsAt}
-use Rattle.condition_node.specs.declared.node.FoldNode.{FoldNode}
-use Rattle.condition_node.specs.declared.node.Node.{Node}
+use Rattle.condition_node.proofs.Common.{sym, refl, subst, SFits, to_z-of_z, w128, IsAt, FoldNode, Node}
 use Rattle.condition_node.specs.declared.node.Node.TheVariants as node
 use Rattle.condition_node.proofs.Turning.{floor_told}
 use Rattle.condition_node.proofs.Telling.{TurnsTo, Tells, join_turns, join_tells, exists_turns, exists_tells, not_turns, not_tells, fold_turns, fold_tells}

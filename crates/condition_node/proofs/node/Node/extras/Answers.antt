@@ -1,4 +1,4 @@
-use Rattle.std.proofs.Common.{sym, subst}
+use Rattle.condition_node.proofs.Common.{sym, subst}
 use Rattle.condition_node.proofs.Beyond.{TellsBeyond, join_beyond, exists_beyond, not_beyond, fold_beyond}
 use Rattle.condition_node.proofs.node.Node.extras.Goals as goal
 

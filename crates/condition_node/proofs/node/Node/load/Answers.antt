@@ -1,13 +1,5 @@
-use Rattle.std.proofs.Common.{sym, refl, subst, SFits, to_z-of_z}
-use Rattle.std.specs.Int.{w128}
-use Rattle.row_change.specs.Changes.{IsDifference}
-use Rattle.rule_model.specs.Moments.{IsAt}
-use Rattle.pair_memory.specs.Standing.{no_rows, no_names}
-use Rattle.condition_rows.specs.Looks.{empty_snapshot}
+use Rattle.condition_node.proofs.Common.{sym, refl, subst, SFits, to_z-of_z, w128, IsDifference, IsAt, no_rows, no_names, empty_snapshot, NodeStands, FoldNode, Node}
 use Rattle.condition_node.specs.Loading.{node_rows}
-use Rattle.condition_node.specs.Nodes.{NodeStands}
-use Rattle.condition_node.specs.declared.node.FoldNode.{FoldNode}
-use Rattle.condition_node.specs.declared.node.Node.{Node}
 use Rattle.condition_node.specs.declared.node.Node.TheVariants as node
 use Rattle.condition_node.proofs.Loading.{LoadsTo, join_loads, exists_loads, not_loads, fold_loads}
 use Rattle.condition_node.proofs.Turning.{floor_told}

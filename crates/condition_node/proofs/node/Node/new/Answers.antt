@@ -1,15 +1,7 @@
-use Rattle.std.proofs.Common.{◌∙◌, sym, ap, SFits, to_z-of_z}
-use Rattle.std.specs.Int.{w128}
-use Rattle.rule_model.specs.declared.condition.Accumulate.{Accumulate}
-use Rattle.rule_model.specs.declared.condition.Pattern.{Pattern}
-use Rattle.pair_memory.specs.Standing.{no_rows}
-use Rattle.tally_node.specs.Counts.{counts_blockers, counts_witnesses}
-use Rattle.tally_node.specs.Gathers.{gathers}
-use Rattle.condition_rows.specs.Looks.{empty_snapshot}
+use Rattle.condition_node.proofs.Common.{◌∙◌, sym, ap, SFits, to_z-of_z, w128, Accumulate, Pattern, no_rows, counts_blockers, counts_witnesses, gathers, empty_snapshot, floor}
 use Rattle.condition_node.proofs.Moved.{stands_empty, counts_empty}
 use Rattle.condition_node.proofs.Turning.{waits_on_time}
 use Rattle.condition_node.proofs.node.Node.new.Goals as goal
-use Rattle.rule_model.specs.Snapshots.{floor}
 
 pub returns-in_ok-pattern-in-Plain-clause-stands : goal.returns-in_ok-pattern-in-Plain-clause-stands
 returns-in_ok-pattern-in-Plain-clause-stands c look forgotten = stands_empty c.args.program.now c.new.result.memories look forgotten (c.new.ensures.nothing look forgotten)

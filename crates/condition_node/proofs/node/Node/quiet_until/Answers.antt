@@ -1,9 +1,4 @@
-use Rattle.std.proofs.Common.{◌≡◌, ◌∙◌, sym, ap, subst, pos, ℤ, ◌+ℤ◌, ◌-ℤ◌, ◌≤ℤ◌, ◌<ℤ◌, ◌^◌, None, IfSome, SFits, w64, to_z-of_z}
-use Rattle.std.specs.Int.{w128}
-use Rattle.rule_model.specs.declared.condition.Pattern.{Pattern}
-use Rattle.rule_model.specs.Types.{lateness_of}
-use Rattle.condition_node.specs.declared.node.Node.{Node}
-use Rattle.condition_node.specs.Quiet.{IsBefore, IsDue, IsQuiet}
+use Rattle.condition_node.proofs.Common.{◌≡◌, ◌∙◌, sym, ap, subst, pos, ℤ, ◌+ℤ◌, ◌-ℤ◌, ◌≤ℤ◌, ◌<ℤ◌, ◌^◌, None, IfSome, SFits, w64, to_z-of_z, w128, Pattern, lateness_of, Node, IsBefore, IsDue, IsQuiet}
 use Rattle.condition_node.proofs.Quietness.{join_quiet, exists_quiet, fold_quiet, none_due, due_at, if_due}
 use Rattle.condition_node.proofs.node.Node.quiet_until.Goals as goal
 

@@ -1,4 +1,4 @@
-use Rattle.std.proofs.Common.{◌≡◌, take}
+use Rattle.condition_node.proofs.Common.{◌≡◌, take}
 use Rattle.condition_node.proofs.node.loading.coming.Given as goal
 
 abbrev pub invariant-loop-row : goal.invariant-loop-row

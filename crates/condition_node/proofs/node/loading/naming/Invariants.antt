@@ -1,5 +1,4 @@
-use Rattle.std.proofs.Common.{◌≡◌, map, take}
-use Rattle.pair_memory.specs.Inputs.{row_naming}
+use Rattle.condition_node.proofs.Common.{◌≡◌, map, take, row_naming}
 use Rattle.condition_node.proofs.node.loading.naming.Given as goal
 
 abbrev pub invariant-loop-who : goal.invariant-loop-who

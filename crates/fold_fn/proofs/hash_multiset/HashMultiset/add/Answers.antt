@@ -1,5 +1,4 @@
-use Rattle.std.proofs.Common.{arith, to_z, of_z, to_z-of_z, w64, SFits}
-use Rattle.std.proofs.lemmas.Result.{on_ok_weaker}
+use Rattle.fold_fn.proofs.Common.{arith, to_z, of_z, to_z-of_z, w64, SFits, on_ok_weaker}
 use Rattle.fold_fn.proofs.Multisets.{one_more, count_at-le}
 use Rattle.fold_fn.proofs.hash_multiset.HashMultiset.add.Goals as goal
 

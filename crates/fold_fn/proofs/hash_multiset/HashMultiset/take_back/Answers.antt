@@ -1,4 +1,4 @@
-use Rattle.std.proofs.Common.{to_z-of_z, w64, SFits, sym, ◌∙◌}
+use Rattle.fold_fn.proofs.Common.{to_z-of_z, w64, SFits, sym, ◌∙◌}
 use Rattle.fold_fn.proofs.Multisets.{one_more, count_at_from_contains}
 use Rattle.fold_fn.proofs.hash_multiset.HashMultiset.take_back.Goals as goal
 

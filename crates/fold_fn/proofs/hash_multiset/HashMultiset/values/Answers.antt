@@ -1,6 +1,4 @@
-use Rattle.std.proofs.Common.{ℕ, ℤ, List, sym, ◌∙◌, ap, ◌≡◌, ◌++◌, append-nil}
-use Rattle.fold_fn.specs.Order.{in_rising_order}
-use Rattle.fold_fn.specs.Held.{repeated}
+use Rattle.fold_fn.proofs.Common.{ℕ, ℤ, List, sym, ◌∙◌, ap, ◌≡◌, ◌++◌, append-nil, in_rising_order, repeated}
 use Rattle.fold_fn.proofs.Sorting.{sorted_same}
 use Rattle.fold_fn.proofs.hash_multiset.HashMultiset.values.Goals as goal
 

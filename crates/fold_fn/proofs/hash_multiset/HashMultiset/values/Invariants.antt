@@ -1,5 +1,4 @@
-use Rattle.std.proofs.Common.{◌≡◌, ◌++◌}
-use Rattle.fold_fn.specs.Held.{repeated}
+use Rattle.fold_fn.proofs.Common.{◌≡◌, ◌++◌, repeated}
 use Rattle.fold_fn.proofs.hash_multiset.HashMultiset.values.Given as goal
 
 abbrev pub invariant-loop-value : goal.invariant-loop-value

@@ -1,7 +1,5 @@
-use Rattle.std.proofs.Common.{arith, w64, length, ◌<◌, ◌≡◌, Some, pos, sym, ap, ◌∙◌, to_z, of_z}
+use Rattle.fold_fn.proofs.Common.{arith, w64, length, ◌<◌, ◌≡◌, Some, pos, sym, ap, ◌∙◌, to_z, of_z, ints, total, floor_quotient}
 use Rattle.std.specs.Int.{w128}
-use Rattle.std.proofs.lemmas.Int.{ints}
-use Rattle.fold_fn.specs.Results.{total, floor_quotient}
 use Rattle.fold_fn.proofs.TotalLemmas.{sum_fits, average_fits, average-some, int_div_euclid-floor}
 use Rattle.fold_fn.proofs.totals.Totals.average.Goals as goal
 

@@ -1,7 +1,4 @@
-use Rattle.std.proofs.Common.{arith, to_z, of_z, to_z-of_z, w64, SFits}
-use Rattle.std.proofs.Common.{int_cmp}
-use Rattle.std.proofs.lemmas.Map.Keys.{IsDistinct-from_sorted}
-use Rattle.std.proofs.lemmas.Result.{on_ok_weaker}
+use Rattle.fold_fn.proofs.Common.{arith, to_z, of_z, to_z-of_z, w64, SFits, int_cmp, IsDistinct-from_sorted, on_ok_weaker}
 use Rattle.fold_fn.proofs.Multisets.{one_more, count_at-le}
 use Rattle.fold_fn.proofs.tree_multiset.TreeMultiset.add.Goals as goal
 

@@ -1,4 +1,4 @@
-use Rattle.std.proofs.Common.{rules, sym, SFits, w64, to_z-of_z}
+use Rattle.fold_fn.proofs.Common.{rules, sym, SFits, w64, to_z-of_z}
 use Rattle.fold_fn.proofs.Ends.{least_key}
 use Rattle.fold_fn.proofs.tree_multiset.TreeMultiset.least.Goals as goal
 

@@ -1,6 +1,4 @@
-use Rattle.std.proofs.Common.{to_z-of_z, w64, SFits, sym, ◌∙◌}
-use Rattle.std.proofs.Common.{int_cmp}
-use Rattle.std.proofs.lemmas.Map.Keys.{IsDistinct-from_sorted}
+use Rattle.fold_fn.proofs.Common.{to_z-of_z, w64, SFits, sym, ◌∙◌, int_cmp, IsDistinct-from_sorted}
 use Rattle.fold_fn.proofs.Multisets.{one_more, count_at_from_contains}
 use Rattle.fold_fn.proofs.tree_multiset.TreeMultiset.take_back.Goals as goal
 

@@ -1,6 +1,4 @@
-use Rattle.std.proofs.Common.{ℕ, ℤ, List, sym, ◌∙◌, ap, subst, ◌≡◌, ◌++◌, append-nil, IsSorted, int_cmp}
-use Rattle.fold_fn.specs.Order.{in_rising_order}
-use Rattle.fold_fn.specs.Held.{repeated}
+use Rattle.fold_fn.proofs.Common.{ℕ, ℤ, List, sym, ◌∙◌, ap, subst, ◌≡◌, ◌++◌, append-nil, IsSorted, int_cmp, in_rising_order, repeated}
 use Rattle.fold_fn.proofs.Ends.{rising-repeated}
 use Rattle.fold_fn.proofs.Sorting.{sorted-rising}
 use Rattle.fold_fn.proofs.tree_multiset.TreeMultiset.values.Goals as goal

@@ -1,10 +1,5 @@
-use Rattle.std.proofs.Common.{SFits, w64, rules, to_z-of_z, ◌∙◌, sym, ap, List, map}
-use Rattle.fx_base.specs.declared.value.Value.{Value}
-use Rattle.rule_model.specs.declared.condition.Pattern.{Pattern}
-use Rattle.join_tests.specs.Keys.{join_keys, candidate_part}
-use Rattle.join_tests.specs.Slots.{slot_value, moment_at, candidate_moment}
-use Rattle.join_tests.specs.TimeKeys.{time_key}
-use Rattle.join_tests.specs.Kept.{with_slot, candidate_value}
+use Rattle.join_tests.proofs.Common.{SFits, w64, rules, to_z-of_z, ◌∙◌, sym, ap, List, map, Value, Pattern, join_keys, candidate_part, slot_value, moment_at, candidate_moment, time_key, with_slot}
+use Rattle.join_tests.specs.Kept.{candidate_value}
 use Rattle.join_tests.proofs.Counting.{of_candidate}
 use Rattle.join_tests.proofs.Slotting.{kept_timeless, kept_slotted}
 use Rattle.join_tests.proofs.keyed.KeyedPattern.candidate_value.Goals as goal

@@ -1,9 +1,4 @@
-use Rattle.std.proofs.Common.{SFits, w64, rules, to_z-of_z, ◌∙◌, sym, ap, [], ◌∷◌, map}
-use Rattle.fx_base.specs.declared.value.Value.{Value}
-use Rattle.rule_model.specs.declared.condition.Pattern.{Pattern}
-use Rattle.join_tests.specs.Keys.{join_keys, row_part}
-use Rattle.join_tests.specs.Slots.{slot_value, moment_at, row_moment, first_candidate, last_candidate}
-use Rattle.join_tests.specs.TimeKeys.{time_key}
+use Rattle.join_tests.proofs.Common.{SFits, w64, rules, to_z-of_z, ◌∙◌, sym, ap, [], ◌∷◌, map, Value, Pattern, join_keys, row_part, slot_value, moment_at, row_moment, first_candidate, last_candidate, time_key}
 use Rattle.join_tests.specs.Kept.{candidates_sought}
 use Rattle.join_tests.proofs.Slotting.{sought_timeless, sought_slotted}
 use Rattle.join_tests.proofs.keyed.KeyedPattern.candidates_sought.Goals as goal

@@ -1,7 +1,4 @@
-use Rattle.std.proofs.Common.{◌∙◌, sym, ap, List, map}
-use Rattle.rule_model.specs.declared.condition.Pattern.{Pattern}
-use Rattle.join_tests.specs.declared.key.JoinKey.{JoinKey}
-use Rattle.join_tests.specs.Keys.{join_keys, candidate_part, as_one}
+use Rattle.join_tests.proofs.Common.{◌∙◌, sym, ap, List, map, Pattern, JoinKey, join_keys, candidate_part, as_one}
 use Rattle.join_tests.proofs.Counting.{are_none, of_candidate}
 use Rattle.join_tests.proofs.keyed.KeyedPattern.equal_to_candidate.Goals as goal
 

@@ -1,8 +1,4 @@
-use Rattle.std.proofs.Common.{SFits, w64, rules, to_z-of_z, ◌∙◌, sym, ap, map}
-use Rattle.rule_model.specs.declared.condition.Pattern.{Pattern}
-use Rattle.join_tests.specs.Keys.{join_keys, row_part}
-use Rattle.join_tests.specs.Slots.{slot_value, moment_at, row_moment}
-use Rattle.join_tests.specs.TimeKeys.{time_key}
+use Rattle.join_tests.proofs.Common.{SFits, w64, rules, to_z-of_z, ◌∙◌, sym, ap, map, Pattern, join_keys, row_part, slot_value, moment_at, row_moment, time_key}
 use Rattle.join_tests.specs.Kept.{row_value}
 use Rattle.join_tests.proofs.Slotting.{kept_timeless, kept_slotted}
 use Rattle.join_tests.proofs.keyed.KeyedPattern.row_value.Goals as goal

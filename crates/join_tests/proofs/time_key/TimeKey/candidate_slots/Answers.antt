@@ -1,6 +1,4 @@
-use Rattle.std.proofs.Common.{◌∙◌, ap, arith}
-use Rattle.std.proofs.lemmas.Int.{ints}
-use Rattle.join_tests.specs.Slots.{slot_value}
+use Rattle.join_tests.proofs.Common.{◌∙◌, ap, arith, ints, slot_value}
 use Rattle.join_tests.proofs.time_key.TimeKey.candidate_slots.Goals as goal
 
 pub returns-clause-first : goal.returns-clause-first

@@ -1,12 +1,4 @@
-use Rattle.std.proofs.Common.{◌≡◌, ◌∙◌, sym, ap, subst, List, [], to_z-of_z, SFits}
-use Rattle.std.specs.Int.{w128}
-use Rattle.row_delta.specs.declared.row.Row.{Row}
-use Rattle.row_delta.specs.Rows.{has}
-use Rattle.row_change.specs.Changes.{Leads, IsDifference}
-use Rattle.rule_model.specs.declared.condition.Pattern.{Pattern}
-use Rattle.not_node.specs.Moments.{moment_at}
-use Rattle.not_node.specs.Rows.{unblocked, not_rows}
-use Rattle.not_node.specs.Waiting.{Awaits, ripe, later}
+use Rattle.not_node.proofs.Common.{◌≡◌, ◌∙◌, sym, ap, subst, List, [], to_z-of_z, SFits, w128, Row, has, Leads, IsDifference, Pattern, moment_at, unblocked, not_rows, Awaits, ripe, later}
 use Rattle.not_node.proofs.Lawful.{none_comes, later_same}
 use Rattle.not_node.proofs.node.NotNode.forget.Goals as goal
 

@@ -1,9 +1,4 @@
-use Rattle.std.proofs.Common.{◌∙◌, sym, subst}
-use Rattle.row_change.specs.Changes.{IsDifference}
-use Rattle.rule_model.specs.declared.condition.Pattern.{Pattern}
-use Rattle.not_node.specs.Moments.{moment_at}
-use Rattle.not_node.specs.Rows.{unblocked, not_rows}
-use Rattle.not_node.specs.Waiting.{Awaits, ripe}
+use Rattle.not_node.proofs.Common.{◌∙◌, sym, subst, IsDifference, Pattern, moment_at, unblocked, not_rows, Awaits, ripe}
 use Rattle.not_node.proofs.node.NotNode.load.Goals as goal
 
 pub returns-clause-in_step : goal.returns-clause-in_step

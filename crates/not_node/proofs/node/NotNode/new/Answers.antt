@@ -1,8 +1,5 @@
-use Rattle.std.proofs.Common.{◌∙◌, sym, ap, int_lt, not, ◌&&◌}
-use Rattle.pair_memory.specs.Memories.{left_at}
+use Rattle.not_node.proofs.Common.{◌∙◌, sym, ap, int_lt, not, ◌&&◌, left_at, moment_at, is_moment}
 use Rattle.pair_memory.specs.Standing.{no_names}
-use Rattle.not_node.specs.Moments.{moment_at}
-use Rattle.not_node.specs.Waiting.{is_moment}
 use Rattle.not_node.proofs.Lawful.{none_shown}
 use Rattle.not_node.proofs.node.NotNode.new.Goals as goal
 

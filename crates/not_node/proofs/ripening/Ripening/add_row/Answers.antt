@@ -1,7 +1,4 @@
-use Rattle.std.proofs.Common.{SFits, to_z-of_z, ◌∙◌, sym, ap}
-use Rattle.std.specs.Int.{w128}
-use Rattle.not_node.specs.Moments.{moment_at}
-use Rattle.not_node.specs.Waiting.{waits, mature}
+use Rattle.not_node.proofs.Common.{SFits, to_z-of_z, ◌∙◌, sym, ap, w128, moment_at, waits, mature}
 use Rattle.not_node.proofs.Pairs.{added, ripe_added}
 use Rattle.not_node.proofs.ripening.Ripening.add_row.Goals as goal
 

@@ -1,10 +1,4 @@
-use Rattle.std.proofs.Common.{to_z, of_z, ◌∙◌, ap, not, ◌&&◌, ◌||◌, take, int_lt}
-use Rattle.std.specs.Int.{w128}
-use Rattle.std.specs.Ordering.{eq_by_cmp}
-use Rattle.row_delta.specs.Rows.{row_cmp, has}
-use Rattle.tally_node.proofs.Following.{rows_more}
-use Rattle.not_node.specs.Moments.{moment_at}
-use Rattle.not_node.specs.Waiting.{waits, is_moment}
+use Rattle.not_node.proofs.Common.{to_z, of_z, ◌∙◌, ap, not, ◌&&◌, ◌||◌, take, int_lt, w128, eq_by_cmp, row_cmp, has, rows_more, moment_at, waits, is_moment}
 use Rattle.not_node.proofs.Pairs.{add_more}
 use Rattle.not_node.proofs.ripening.Ripening.add_rows.Goals as goal
 

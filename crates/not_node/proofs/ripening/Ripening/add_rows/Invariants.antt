@@ -1,8 +1,4 @@
-use Rattle.std.proofs.Common.{◌≡◌, ◌&&◌, ◌||◌, not, ℤ, int_lt, take}
-use Rattle.row_delta.specs.Rows.{has}
-use Rattle.row_delta.specs.declared.row.Row.{Row}
-use Rattle.not_node.specs.Moments.{moment_at}
-use Rattle.not_node.specs.Waiting.{waits, is_moment}
+use Rattle.not_node.proofs.Common.{◌≡◌, ◌&&◌, ◌||◌, not, ℤ, int_lt, take, has, Row, moment_at, waits, is_moment}
 use Rattle.not_node.proofs.ripening.Ripening.add_rows.Given as goal
 
 abbrev pub invariant-loop-row : goal.invariant-loop-row

@@ -1,11 +1,5 @@
-use Rattle.std.proofs.Common.{◌≡◌, ◌∙◌, ap, ℤ, int_lt, List, true, not, ◌&&◌, ◌||◌, SFits, to_z, of_z, to_z-of_z}
-use Rattle.std.specs.Int.{w128}
-use Rattle.row_delta.specs.declared.row.Row.{Row}
-use Rattle.row_delta.specs.Rows.{has}
-use Rattle.row_change.specs.Changes.{without, along}
+use Rattle.not_node.proofs.Common.{◌≡◌, ◌∙◌, ap, ℤ, int_lt, List, true, not, ◌&&◌, ◌||◌, SFits, to_z, of_z, to_z-of_z, w128, Row, has, without, along, moment_at, waits, waits_at, is_moment, mature, ripe}
 use Rattle.row_change.proofs.Alike.{leads_alike}
-use Rattle.not_node.specs.Moments.{moment_at}
-use Rattle.not_node.specs.Waiting.{waits, waits_at, is_moment, mature, ripe}
 use Rattle.not_node.proofs.Ripe.{below_later, awaits_now, own, leaves, comes, ripens, after}
 use Rattle.not_node.proofs.ripening.Ripening.advance.Goals as goal
 

@@ -1,7 +1,4 @@
-use Rattle.std.proofs.Common.{SFits, to_z-of_z, ◌∙◌, sym}
-use Rattle.std.specs.Int.{w128}
-use Rattle.not_node.specs.Moments.{moment_at}
-use Rattle.not_node.specs.Waiting.{waits}
+use Rattle.not_node.proofs.Common.{SFits, to_z-of_z, ◌∙◌, sym, w128, moment_at, waits}
 use Rattle.not_node.proofs.Pairs.{dropped, not_dropped}
 use Rattle.not_node.proofs.ripening.Ripening.drop_row.Goals as goal
 

@@ -1,8 +1,4 @@
-use Rattle.std.proofs.Common.{◌≡◌, ◌&&◌, not, ℤ, take}
-use Rattle.row_delta.specs.Rows.{has}
-use Rattle.row_delta.specs.declared.row.Row.{Row}
-use Rattle.not_node.specs.Moments.{moment_at}
-use Rattle.not_node.specs.Waiting.{waits, is_moment}
+use Rattle.not_node.proofs.Common.{◌≡◌, ◌&&◌, not, ℤ, take, has, Row, moment_at, waits, is_moment}
 use Rattle.not_node.proofs.ripening.Ripening.drop_rows.Given as goal
 
 abbrev pub invariant-loop-row : goal.invariant-loop-row

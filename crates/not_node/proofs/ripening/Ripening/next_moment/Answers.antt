@@ -1,7 +1,4 @@
-use Rattle.std.proofs.Common.{◌≡◌, sym, subst, true, false, int_lt, ℤ, arith, SFits, to_z, of_z}
-use Rattle.std.proofs.lemmas.Int.{ints}
-use Rattle.std.specs.Int.{w128}
-use Rattle.not_node.specs.Waiting.{waits}
+use Rattle.not_node.proofs.Common.{◌≡◌, sym, subst, true, false, int_lt, ℤ, arith, SFits, to_z, of_z, ints, w128, waits}
 use Rattle.not_node.proofs.Pairs.{first_over}
 use Rattle.not_node.proofs.ripening.Ripening.next_moment.Goals as goal
 

@@ -1,8 +1,4 @@
-use Rattle.std.proofs.Common.{◌∙◌, ap, not, ◌&&◌, take}
-use Rattle.row_delta.specs.Rows.{has}
-use Rattle.tally_node.proofs.Following.{rows_more}
-use Rattle.not_node.specs.Moments.{moment_at}
-use Rattle.not_node.specs.Waiting.{waits_at}
+use Rattle.not_node.proofs.Common.{◌∙◌, ap, not, ◌&&◌, take, has, rows_more, moment_at, waits_at}
 use Rattle.not_node.proofs.Pairs.{one_kept}
 use Rattle.not_node.proofs.ripening.Ripening.passed_of.Goals as goal
 

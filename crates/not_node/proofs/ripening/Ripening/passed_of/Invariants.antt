@@ -1,8 +1,4 @@
-use Rattle.std.proofs.Common.{◌≡◌, ◌&&◌, not, take}
-use Rattle.row_delta.specs.Rows.{has}
-use Rattle.row_delta.specs.declared.row.Row.{Row}
-use Rattle.not_node.specs.Moments.{moment_at}
-use Rattle.not_node.specs.Waiting.{waits_at}
+use Rattle.not_node.proofs.Common.{◌≡◌, ◌&&◌, not, take, has, Row, moment_at, waits_at}
 use Rattle.not_node.proofs.ripening.Ripening.passed_of.Given as goal
 
 abbrev pub invariant-loop-row : goal.invariant-loop-row

@@ -1,5 +1,4 @@
-use Rattle.std.proofs.Common.{to_z, of_z}
-use Rattle.std.specs.Int.{w128}
+use Rattle.not_node.proofs.Common.{to_z, of_z, w128}
 use Rattle.not_node.proofs.Pairs.{sub_turn, low_turn, found_turned}
 use Rattle.not_node.proofs.ripening.Ripening.ripen.Goals as goal
 

@@ -1,6 +1,4 @@
-use Rattle.std.proofs.Common.{SFits, to_z-of_z, ◌∙◌, sym}
-use Rattle.std.specs.Int.{w128}
-use Rattle.not_node.specs.Waiting.{waits}
+use Rattle.not_node.proofs.Common.{SFits, to_z-of_z, ◌∙◌, sym, w128, waits}
 use Rattle.not_node.proofs.Pairs.{first_over, first_out, if_some}
 use Rattle.not_node.proofs.ripening.Ripening.take_due.Goals as goal
 

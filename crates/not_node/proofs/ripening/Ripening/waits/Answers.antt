@@ -1,6 +1,4 @@
-use Rattle.std.proofs.Common.{◌∙◌, sym, SFits, to_z-of_z}
-use Rattle.std.specs.Int.{w128}
-use Rattle.not_node.specs.Moments.{moment_at}
+use Rattle.not_node.proofs.Common.{◌∙◌, sym, SFits, to_z-of_z, w128, moment_at}
 use Rattle.not_node.proofs.Pairs.{asked}
 use Rattle.not_node.proofs.ripening.Ripening.waits.Goals as goal
 

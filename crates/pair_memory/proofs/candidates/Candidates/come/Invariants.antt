@@ -1,5 +1,4 @@
-use Rattle.std.proofs.Common.{◌≡◌, take}
-use Rattle.pair_memory.specs.Apart.{NamesCome}
+use Rattle.pair_memory.proofs.Common.{◌≡◌, take, NamesCome}
 use Rattle.pair_memory.proofs.candidates.Candidates.come.Given as goal
 
 abbrev pub invariant-loop-who : goal.invariant-loop-who

@@ -1,7 +1,4 @@
-use Rattle.std.proofs.Common.{◌∙◌, refl, subst, List}
-use Rattle.std.proofs.lemmas.List.{take_all}
-use Rattle.row_delta.specs.declared.row.Named.{Named}
-use Rattle.pair_memory.specs.Apart.{NamesLeave}
+use Rattle.pair_memory.proofs.Common.{◌∙◌, refl, subst, List, take_all, Named, NamesLeave}
 use Rattle.pair_memory.proofs.Sharing.{no_names_leave, name_leaves_too}
 use Rattle.pair_memory.proofs.candidates.Candidates.leave.Goals as goal
 

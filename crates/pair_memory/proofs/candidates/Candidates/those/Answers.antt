@@ -1,7 +1,4 @@
-use Rattle.std.proofs.Common.{◌∙◌, ap, refl}
-use Rattle.std.specs.Ordering.{eq_by_cmp}
-use Rattle.row_delta.specs.NameOrder.{name_cmp, name_equiv}
-use Rattle.pair_memory.specs.Apart.{has_candidate, is_so}
+use Rattle.pair_memory.proofs.Common.{◌∙◌, ap, refl, eq_by_cmp, name_cmp, name_equiv, has_candidate, is_so}
 use Rattle.pair_memory.proofs.Joining.{name_decides}
 use Rattle.pair_memory.proofs.Turning.{any_name}
 use Rattle.pair_memory.proofs.Sharing.{those_more}

@@ -1,7 +1,4 @@
-use Rattle.std.proofs.Common.{◌≡◌, ◌&&◌, take}
-use Rattle.row_delta.specs.declared.row.Named.{Named}
-use Rattle.pair_memory.specs.Joined.{has_name}
-use Rattle.pair_memory.specs.Apart.{has_candidate, is_so}
+use Rattle.pair_memory.proofs.Common.{◌≡◌, ◌&&◌, take, Named, has_name, has_candidate, is_so}
 use Rattle.pair_memory.proofs.candidates.Candidates.those.Given as goal
 
 abbrev pub invariant-loop-who : goal.invariant-loop-who

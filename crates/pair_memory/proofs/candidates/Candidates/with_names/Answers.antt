@@ -1,14 +1,4 @@
-use Rattle.std.proofs.Common.{◌∙◌, sym, ap, List, refl, get_or}
-use Rattle.std.specs.Ordering.{eq_by_cmp}
-use Rattle.fx_base.specs.declared.value.Value.{Value}
-use Rattle.alpha_memory.specs.declared.join_index.JoinIndex.{JoinIndex}
-use Rattle.row_delta.specs.NameOrder.{name_cmp}
-use Rattle.row_delta.specs.declared.row.Row.{Row}
-use Rattle.row_delta.specs.Rows.{has}
-use Rattle.join_tests.specs.Joins.{joins}
-use Rattle.pair_memory.specs.Joined.{joined}
-use Rattle.pair_memory.specs.Memories.{row_kept, has_left}
-use Rattle.pair_memory.specs.Apart.{beside}
+use Rattle.pair_memory.proofs.Common.{◌∙◌, sym, ap, List, refl, get_or, eq_by_cmp, Value, JoinIndex, name_cmp, Row, has, joins, joined, row_kept, has_left, beside}
 use Rattle.pair_memory.proofs.Joining.{none_right}
 use Rattle.pair_memory.proofs.Turning.{any_name}
 use Rattle.pair_memory.proofs.Sharing.{names_made_too}

@@ -1,10 +1,4 @@
-use Rattle.std.proofs.Common.{◌≡◌, take}
-use Rattle.row_delta.specs.declared.row.Row.{Row}
-use Rattle.row_delta.specs.Rows.{has}
-use Rattle.join_tests.specs.Joins.{joins}
-use Rattle.pair_memory.specs.Joined.{joined, has_name}
-use Rattle.pair_memory.specs.Memories.{has_left}
-use Rattle.pair_memory.specs.Apart.{beside}
+use Rattle.pair_memory.proofs.Common.{◌≡◌, take, Row, has, joins, joined, has_name, has_left, beside}
 use Rattle.pair_memory.proofs.candidates.Candidates.with_names.Given as goal
 
 abbrev pub invariant-loop-who : goal.invariant-loop-who

@@ -1,8 +1,4 @@
-use Rattle.std.proofs.Common.{◌∙◌, sym, ap, List, refl}
-use Rattle.row_delta.specs.declared.row.Row.{Row}
-use Rattle.row_delta.specs.Rows.{has}
-use Rattle.join_tests.specs.Joins.{joins}
-use Rattle.pair_memory.specs.Apart.{has_candidate}
+use Rattle.pair_memory.proofs.Common.{◌∙◌, sym, ap, List, refl, Row, has, joins, has_candidate}
 use Rattle.pair_memory.proofs.Joining.{none_left}
 use Rattle.pair_memory.proofs.Sharing.{rows_made_too}
 use Rattle.pair_memory.proofs.candidates.Candidates.with_rows.Goals as goal

@@ -1,9 +1,4 @@
-use Rattle.std.proofs.Common.{◌≡◌, take}
-use Rattle.row_delta.specs.declared.row.Row.{Row}
-use Rattle.row_delta.specs.Rows.{has}
-use Rattle.join_tests.specs.Joins.{joins}
-use Rattle.pair_memory.specs.Joined.{joined}
-use Rattle.pair_memory.specs.Apart.{has_candidate}
+use Rattle.pair_memory.proofs.Common.{◌≡◌, take, Row, has, joins, joined, has_candidate}
 use Rattle.pair_memory.proofs.candidates.Candidates.with_rows.Given as goal
 
 abbrev pub invariant-loop-row : goal.invariant-loop-row

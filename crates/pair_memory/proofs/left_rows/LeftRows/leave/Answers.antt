@@ -1,7 +1,4 @@
-use Rattle.std.proofs.Common.{◌∙◌, refl, subst, List}
-use Rattle.std.proofs.lemmas.List.{take_all}
-use Rattle.row_delta.specs.declared.row.Row.{Row}
-use Rattle.pair_memory.specs.Apart.{RowsLeave}
+use Rattle.pair_memory.proofs.Common.{◌∙◌, refl, subst, List, take_all, Row, RowsLeave}
 use Rattle.pair_memory.proofs.Sharing.{no_rows_leave, row_leaves_too}
 use Rattle.pair_memory.proofs.left_rows.LeftRows.leave.Goals as goal
 

@@ -1,5 +1,4 @@
-use Rattle.std.proofs.Common.{◌≡◌, take}
-use Rattle.pair_memory.specs.Apart.{RowsLeave}
+use Rattle.pair_memory.proofs.Common.{◌≡◌, take, RowsLeave}
 use Rattle.pair_memory.proofs.left_rows.LeftRows.leave.Given as goal
 
 abbrev pub invariant-loop-row : goal.invariant-loop-row

@@ -1,9 +1,4 @@
-use Rattle.std.proofs.Common.{◌∙◌, Some, ap, cond, ◌&&◌}
-use Rattle.std.specs.Ordering.{eq_by_cmp}
-use Rattle.fx_base.specs.Values.{same_value}
-use Rattle.alpha_memory.specs.JoinIndex.{at}
-use Rattle.row_delta.specs.Rows.{row_cmp}
-use Rattle.pair_memory.specs.Apart.{beside}
+use Rattle.pair_memory.proofs.Common.{◌∙◌, Some, ap, cond, ◌&&◌, eq_by_cmp, same_value, at, row_cmp, beside}
 use Rattle.pair_memory.proofs.Keeping.{left_keeps, some_put}
 use Rattle.pair_memory.proofs.Sharing.{value_beside}
 use Rattle.pair_memory.proofs.left_rows.LeftRows.put.Goals as goal

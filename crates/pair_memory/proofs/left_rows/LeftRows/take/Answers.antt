@@ -1,7 +1,4 @@
-use Rattle.std.proofs.Common.{◌∙◌, None}
-use Rattle.std.specs.Ordering.{eq_by_cmp}
-use Rattle.row_delta.specs.Rows.{row_cmp}
-use Rattle.pair_memory.specs.Apart.{beside}
+use Rattle.pair_memory.proofs.Common.{◌∙◌, None, eq_by_cmp, row_cmp, beside}
 use Rattle.pair_memory.proofs.Keeping.{left_keeps, some_taken}
 use Rattle.pair_memory.proofs.Sharing.{value_beside}
 use Rattle.pair_memory.proofs.left_rows.LeftRows.take.Goals as goal

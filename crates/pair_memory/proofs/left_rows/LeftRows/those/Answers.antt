@@ -1,8 +1,4 @@
-use Rattle.std.proofs.Common.{◌∙◌, ap}
-use Rattle.std.specs.Ordering.{eq_by_cmp}
-use Rattle.row_delta.specs.Rows.{row_cmp}
-use Rattle.row_delta.specs.RowOrder.{same_equiv}
-use Rattle.pair_memory.specs.Apart.{has_row, is_so}
+use Rattle.pair_memory.proofs.Common.{◌∙◌, ap, eq_by_cmp, row_cmp, same_equiv, has_row, is_so}
 use Rattle.pair_memory.proofs.Joining.{row_decides}
 use Rattle.pair_memory.proofs.Sharing.{those_more}
 use Rattle.pair_memory.proofs.left_rows.LeftRows.those.Goals as goal

@@ -1,7 +1,4 @@
-use Rattle.std.proofs.Common.{◌≡◌, ◌&&◌, take}
-use Rattle.row_delta.specs.declared.row.Row.{Row}
-use Rattle.row_delta.specs.Rows.{has}
-use Rattle.pair_memory.specs.Apart.{has_row, is_so}
+use Rattle.pair_memory.proofs.Common.{◌≡◌, ◌&&◌, take, Row, has, has_row, is_so}
 use Rattle.pair_memory.proofs.left_rows.LeftRows.those.Given as goal
 
 abbrev pub invariant-loop-row : goal.invariant-loop-row

@@ -1,10 +1,4 @@
-use Rattle.std.proofs.Common.{◌∙◌, sym, ap, Some}
-use Rattle.std.specs.Option.{is_some}
-use Rattle.std.specs.Ordering.{eq_by_cmp}
-use Rattle.row_delta.specs.Rows.{row_cmp}
-use Rattle.fx_base.specs.Values.{same_value}
-use Rattle.alpha_memory.specs.JoinIndex.{at}
-use Rattle.pair_memory.specs.Memories.{has_left}
+use Rattle.pair_memory.proofs.Common.{◌∙◌, sym, ap, Some, is_some, eq_by_cmp, row_cmp, same_value, at, has_left}
 use Rattle.pair_memory.proofs.Joining.{row_decides}
 use Rattle.pair_memory.proofs.Keeping.{left_changed, left_keeps, some_exchanged}
 use Rattle.pair_memory.proofs.memories.Memories.exchange_left.Goals as goal

@@ -1,9 +1,7 @@
-use Rattle.std.proofs.Common.{◌≡◌, ◌∙◌, sym, ap, rules, List}
+use Rattle.pair_memory.proofs.Common.{◌≡◌, ◌∙◌, sym, ap, rules, List, Row, has}
 use Rattle.std.proofs.lemmas.List.{map-id}
 use Rattle.std.proofs.lemmas.Iterator.{items_from_drains}
 use Rattle.std.proofs.lemmas.Iterator.Adapters.{YieldsList-from_vec}
-use Rattle.row_delta.specs.declared.row.Row.{Row}
-use Rattle.row_delta.specs.Rows.{has}
 use Rattle.pair_memory.proofs.Listing.{keys_kept}
 use Rattle.pair_memory.proofs.memories.Memories.left_rows.Goals as goal
 use Rattle.pair_memory.proofs.memories.Memories.left_rows.Goals.{In_ok-collect}

@@ -1,6 +1,5 @@
-use Rattle.std.proofs.Common.{◌∙◌, sym, ap}
+use Rattle.pair_memory.proofs.Common.{◌∙◌, sym, ap, is_some}
 use Rattle.std.proofs.lemmas.Bool.{false≢true}
-use Rattle.std.specs.Option.{is_some}
 use Rattle.pair_memory.proofs.memories.Memories.new.Goals as goal
 
 pub returns-clause-nothing : goal.returns-clause-nothing

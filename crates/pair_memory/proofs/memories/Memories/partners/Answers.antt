@@ -1,7 +1,4 @@
-use Rattle.std.proofs.Common.{◌∙◌, sym, ap, [], ◌∷◌}
-use Rattle.std.proofs.lemmas.Result.{IfOk-weaker}
-use Rattle.fx_base.specs.declared.value.Value.{Value}
-use Rattle.join_tests.specs.Kept.{all_sought}
+use Rattle.pair_memory.proofs.Common.{◌∙◌, sym, ap, [], ◌∷◌, IfOk-weaker, Value, all_sought}
 use Rattle.pair_memory.proofs.Found.{partners_alone, partners_both}
 use Rattle.pair_memory.proofs.memories.Memories.partners.Goals as goal
 

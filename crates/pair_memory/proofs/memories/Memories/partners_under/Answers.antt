@@ -1,4 +1,4 @@
-use Rattle.row_delta.specs.Rows.{row_cmp}
+use Rattle.pair_memory.proofs.Common.{row_cmp}
 use Rattle.pair_memory.proofs.Found.{nothing_sorted}
 use Rattle.pair_memory.proofs.memories.Memories.partners_under.Goals as goal
 

@@ -1,4 +1,4 @@
-use Rattle.row_delta.specs.NameOrder.{name_cmp}
+use Rattle.pair_memory.proofs.Common.{name_cmp}
 use Rattle.pair_memory.proofs.Found.{nothing_sorted}
 use Rattle.pair_memory.proofs.memories.Memories.passing_under.Goals as goal
 

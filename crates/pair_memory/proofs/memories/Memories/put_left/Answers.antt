@@ -1,6 +1,4 @@
-use Rattle.std.proofs.Common.{◌∙◌, Some}
-use Rattle.std.specs.Ordering.{eq_by_cmp}
-use Rattle.row_delta.specs.Rows.{row_cmp}
+use Rattle.pair_memory.proofs.Common.{◌∙◌, Some, eq_by_cmp, row_cmp}
 use Rattle.pair_memory.proofs.Keeping.{left_changed, left_keeps, some_put}
 use Rattle.pair_memory.proofs.memories.Memories.put_left.Goals as goal
 

@@ -1,6 +1,4 @@
-use Rattle.std.proofs.Common.{◌∙◌, None}
-use Rattle.std.specs.Ordering.{eq_by_cmp}
-use Rattle.row_delta.specs.NameOrder.{name_cmp}
+use Rattle.pair_memory.proofs.Common.{◌∙◌, None, eq_by_cmp, name_cmp}
 use Rattle.pair_memory.proofs.Keeping.{right_keeps, some_taken}
 use Rattle.pair_memory.proofs.memories.Memories.take_right.Goals as goal
 

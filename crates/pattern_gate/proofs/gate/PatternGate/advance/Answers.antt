@@ -1,9 +1,4 @@
-use Rattle.std.proofs.Common.{option_map}
-use Rattle.std.specs.Borrow.{Bor}
-use Rattle.std.proofs.lemmas.Int.{to_z-of_z}
-use Rattle.fx_base.specs.declared.fact.Fact.{Fact}
-use Rattle.rule_model.specs.Lent.{lent}
-use Rattle.condition_rows.specs.Sets.{candidates_of}
+use Rattle.pattern_gate.proofs.Common.{option_map, Bor, to_z-of_z, Fact, lent, candidates_of}
 use Rattle.pattern_gate.proofs.Moving.{gate_stands, candidates_differ, nothing_differs}
 use Rattle.pattern_gate.proofs.gate.PatternGate.advance.Goals as goal
 

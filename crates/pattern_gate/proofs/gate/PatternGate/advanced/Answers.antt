@@ -1,12 +1,4 @@
-use Rattle.std.proofs.Common.{refl, ℤ, List, option_map}
-use Rattle.std.specs.Borrow.{Bor}
-use Rattle.std.proofs.lemmas.Int.{to_z-of_z}
-use Rattle.fx_base.specs.declared.fact.Fact.{Fact}
-use Rattle.row_delta.specs.Rows.{has}
-use Rattle.rule_model.specs.Lent.{lent}
-use Rattle.window_gate.specs.Windows.{Arrival, rows_inside}
-use Rattle.window_gate.specs.Standing.{Stands, window_of}
-use Rattle.pattern_gate.specs.Turns.{less_facts, more_fact, TakesStep, Reaches}
+use Rattle.pattern_gate.proofs.Common.{refl, ℤ, List, option_map, Bor, to_z-of_z, Fact, has, lent, Arrival, rows_inside, Stands, window_of, less_facts, more_fact, TakesStep, Reaches}
 use Rattle.pattern_gate.proofs.gate.PatternGate.advanced.Goals as goal
 
 -- after the clock, the facts that go and the one that comes

@@ -1,7 +1,4 @@
-use Rattle.std.proofs.Common.{◌∙◌, length, drop, ◌≤◌, arith}
-use Rattle.std.proofs.lemmas.Int.{to_z-of_z}
-use Rattle.rule_model.specs.Lent.{lent}
-use Rattle.pattern_gate.specs.Turns.{more_facts, LetsAllCome, Reaches}
+use Rattle.pattern_gate.proofs.Common.{◌∙◌, length, drop, ◌≤◌, arith, to_z-of_z, lent, more_facts, LetsAllCome, Reaches}
 use Rattle.pattern_gate.proofs.Turning.{IsExpected, one_comes, all_came}
 use Rattle.pattern_gate.proofs.gate.PatternGate.facts_come.Goals as goal
 

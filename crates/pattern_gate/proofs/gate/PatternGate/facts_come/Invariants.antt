@@ -1,10 +1,4 @@
-use Rattle.std.proofs.Common.{◌≡◌, Bool, List, drop}
-use Rattle.row_delta.specs.declared.row.Row.{Row}
-use Rattle.rule_model.specs.Lent.{lent}
-use Rattle.window_gate.specs.declared.change.WindowKind.{WindowKind}
-use Rattle.window_gate.specs.Windows.{Arrival}
-use Rattle.window_gate.specs.Standing.{window_of}
-use Rattle.pattern_gate.specs.Turns.{more_facts, LetsAllCome, Reaches}
+use Rattle.pattern_gate.proofs.Common.{◌≡◌, Bool, List, drop, Row, lent, WindowKind, Arrival, window_of, more_facts, LetsAllCome, Reaches}
 use Rattle.pattern_gate.proofs.Turning.{IsExpected}
 use Rattle.pattern_gate.proofs.gate.PatternGate.facts_come.Given as goal
 

@@ -1,7 +1,4 @@
-use Rattle.std.proofs.Common.{◌∙◌, length, drop, ◌≤◌, arith}
-use Rattle.std.proofs.lemmas.Int.{to_z-of_z}
-use Rattle.rule_model.specs.Lent.{lent}
-use Rattle.pattern_gate.specs.Turns.{less_facts, LetsAllGo, Reaches}
+use Rattle.pattern_gate.proofs.Common.{◌∙◌, length, drop, ◌≤◌, arith, to_z-of_z, lent, less_facts, LetsAllGo, Reaches}
 use Rattle.pattern_gate.proofs.Turning.{IsLeft, one_goes, all_went}
 use Rattle.pattern_gate.proofs.gate.PatternGate.facts_go.Goals as goal
 

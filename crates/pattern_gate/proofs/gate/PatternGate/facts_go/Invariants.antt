@@ -1,10 +1,4 @@
-use Rattle.std.proofs.Common.{◌≡◌, Bool, List, drop}
-use Rattle.row_delta.specs.declared.row.Row.{Row}
-use Rattle.rule_model.specs.Lent.{lent}
-use Rattle.window_gate.specs.declared.change.WindowKind.{WindowKind}
-use Rattle.window_gate.specs.Windows.{Arrival}
-use Rattle.window_gate.specs.Standing.{window_of}
-use Rattle.pattern_gate.specs.Turns.{less_facts, LetsAllGo, Reaches}
+use Rattle.pattern_gate.proofs.Common.{◌≡◌, Bool, List, drop, Row, lent, WindowKind, Arrival, window_of, less_facts, LetsAllGo, Reaches}
 use Rattle.pattern_gate.proofs.Turning.{IsLeft}
 use Rattle.pattern_gate.proofs.gate.PatternGate.facts_go.Given as goal
 

@@ -1,9 +1,4 @@
-use Rattle.std.proofs.Common.{◌≡◌, ◌∙◌, sym, refl, subst, not, ℤ, ◌<ℤ◌, Bool, true, false, IfSome, option_map}
-use Rattle.std.specs.Borrow.{Bor}
-use Rattle.std.proofs.lemmas.Int.{to_z-of_z}
-use Rattle.fx_base.specs.declared.fact.Fact.{Fact}
-use Rattle.rule_model.specs.Lent.{lent}
-use Rattle.pattern_gate.specs.Gates.{arrivals}
+use Rattle.pattern_gate.proofs.Common.{◌≡◌, ◌∙◌, sym, refl, subst, not, ℤ, ◌<ℤ◌, Bool, true, false, IfSome, option_map, Bor, to_z-of_z, Fact, lent, arrivals}
 use Rattle.pattern_gate.proofs.Moving.{same_arrivals, stands_still, same_candidates, leaves_by}
 use Rattle.pattern_gate.proofs.gate.PatternGate.is_still.Goals as goal
 

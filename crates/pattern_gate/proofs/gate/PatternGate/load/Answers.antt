@@ -1,12 +1,4 @@
-use Rattle.std.proofs.Common.{◌∙◌, []}
-use Rattle.std.proofs.lemmas.Int.{to_z-of_z}
-use Rattle.row_delta.specs.Rows.{has}
-use Rattle.rule_model.specs.Lent.{lent}
-use Rattle.pair_memory.specs.Standing.{no_rows}
-use Rattle.window_gate.specs.Windows.{rows_inside}
-use Rattle.pattern_gate.specs.declared.gate.PatternGate.{PatternGate}
-use Rattle.pattern_gate.specs.Gates.{kind_of}
-use Rattle.pattern_gate.specs.Turns.{more_facts, LetsAllCome, Reaches}
+use Rattle.pattern_gate.proofs.Common.{◌∙◌, [], to_z-of_z, has, lent, no_rows, rows_inside, PatternGate, kind_of, more_facts, LetsAllCome, Reaches}
 use Rattle.pattern_gate.proofs.Moving.{all_may_come, stands_for_all, candidates_come}
 use Rattle.pattern_gate.proofs.Turning.{reaches_nothing}
 use Rattle.pattern_gate.proofs.gate.PatternGate.load.Goals as goal

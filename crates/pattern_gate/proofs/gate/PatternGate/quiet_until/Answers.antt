@@ -1,5 +1,4 @@
-use Rattle.pattern_gate.specs.Gates.{arrivals}
-use Rattle.pattern_gate.specs.Moves.{at_clock}
+use Rattle.pattern_gate.proofs.Common.{arrivals, at_clock}
 use Rattle.pattern_gate.proofs.Moving.{arrivals_still, stands_still, same_candidates, candidate_leaves}
 use Rattle.pattern_gate.proofs.gate.PatternGate.quiet_until.Goals as goal
 

@@ -1,9 +1,5 @@
-use Rattle.std.proofs.Common.{◌≡◌, ◌∙◌, sym, ap, subst}
-use Rattle.std.proofs.lemmas.Int.{to_z-of_z}
-use Rattle.row_delta.specs.Differences.{IsBetween}
-use Rattle.window_gate.specs.Windows.{after, rows_inside}
-use Rattle.window_gate.specs.Standing.{Stands, Takes, window_of}
-use Rattle.window_gate.specs.declared.change.WindowKind.{WindowKind}
+use Rattle.pattern_gate.proofs.Common.{◌≡◌, ◌∙◌, sym, ap, subst, to_z-of_z, IsBetween, after, rows_inside, Stands, window_of, WindowKind}
+use Rattle.window_gate.specs.Standing.{Takes}
 use Rattle.window_gate.specs.declared.gate.Gate.{Gate}
 use Rattle.pattern_gate.proofs.Turning.{led_on}
 use Rattle.pattern_gate.proofs.gate.PatternGate.turn.Goals as goal

@@ -1,6 +1,4 @@
-use Rattle.std.proofs.Common.{◌≡◌, ◌||◌, subst, List}
-use Rattle.row_delta.specs.Rows.{has}
-use Rattle.row_delta.specs.declared.row.Row.{Row}
+use Rattle.row_change.proofs.Common.{◌≡◌, ◌||◌, subst, List, has, Row}
 use Rattle.row_change.proofs.Parts.{one_in}
 use Rattle.row_change.proofs.row_set.RowSet.insert_all.Goals as goal
 

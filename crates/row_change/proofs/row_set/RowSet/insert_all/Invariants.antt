@@ -1,6 +1,4 @@
-use Rattle.std.proofs.Common.{◌≡◌, ◌||◌}
-use Rattle.row_delta.specs.Rows.{has}
-use Rattle.row_delta.specs.declared.row.Row.{Row}
+use Rattle.row_change.proofs.Common.{◌≡◌, ◌||◌, has, Row}
 use Rattle.row_change.proofs.row_set.RowSet.insert_all.Given as goal
 
 -- the rows in the set and those to come are what the set is to have

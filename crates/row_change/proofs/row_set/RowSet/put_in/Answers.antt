@@ -1,6 +1,4 @@
-use Rattle.std.proofs.Common.{◌∙◌, ap, Bool, ◌||◌}
-use Rattle.std.specs.Ordering.{eq_by_cmp}
-use Rattle.row_delta.specs.Rows.{row_cmp}
+use Rattle.row_change.proofs.Common.{◌∙◌, ap, Bool, ◌||◌, eq_by_cmp, row_cmp}
 use Rattle.row_change.proofs.Parts.{put_into, seen}
 use Rattle.row_change.proofs.row_set.RowSet.put_in.Goals as goal
 use Rattle.row_change.proofs.row_set.RowSet.put_in.Goals.{in-Listed+in_ok-put-in-Listed, in-Tree+in_ok-insert-in-Tree}

@@ -1,6 +1,4 @@
-use Rattle.std.proofs.Common.{◌∙◌, sym, ap, Bool, ◌&&◌, not}
-use Rattle.std.specs.Ordering.{eq_by_cmp}
-use Rattle.row_delta.specs.Rows.{row_cmp}
+use Rattle.row_change.proofs.Common.{◌∙◌, sym, ap, Bool, ◌&&◌, not, eq_by_cmp, row_cmp}
 use Rattle.row_change.proofs.Parts.{taken_out, seen}
 use Rattle.row_change.proofs.row_set.RowSet.remove.Goals as goal
 use Rattle.row_change.proofs.row_set.RowSet.remove.Goals.{in-Listed, in-Tree}

@@ -1,6 +1,5 @@
-use Rattle.std.proofs.Common.{◌∙◌, ap}
-use Rattle.rule_model.specs.Candidates.{passes}
-use Rattle.rule_model.specs.Lent.{lent, tuple_of}
+use Rattle.rule_eval.proofs.Common.{◌∙◌, ap, passes, lent}
+use Rattle.rule_model.specs.Lent.{tuple_of}
 use Rattle.rule_eval.proofs.bindings.Bindings.are_passed_by.Goals as goal
 
 pub returns : goal.returns

@@ -1,7 +1,4 @@
-use Rattle.std.proofs.Common.{◌≡◌, ◌++◌, drop}
-use Rattle.std.specs.List.{filter}
-use Rattle.rule_model.specs.Candidates.{passes}
-use Rattle.rule_model.specs.Lent.{lent}
+use Rattle.rule_eval.proofs.Common.{◌≡◌, ◌++◌, drop, filter, passes, lent}
 use Rattle.rule_eval.proofs.bindings.Bindings.passing.Given as goal
 
 abbrev pub invariant-loop-fact : goal.invariant-loop-fact

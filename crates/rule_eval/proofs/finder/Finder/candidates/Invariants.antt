@@ -1,8 +1,5 @@
-use Rattle.std.proofs.Common.{◌≡◌, ◌++◌, drop}
-use Rattle.std.specs.List.{filter}
-use Rattle.rule_model.specs.Candidates.{is_candidate, candidates}
-use Rattle.rule_model.specs.Lent.{lent}
-use Rattle.rule_eval.specs.Over.{over}
+use Rattle.rule_eval.proofs.Common.{◌≡◌, ◌++◌, drop, filter, candidates, lent, over}
+use Rattle.rule_model.specs.Candidates.{is_candidate}
 use Rattle.rule_eval.proofs.finder.Finder.candidates.Given as goal
 
 abbrev pub invariant-loop-fact : goal.invariant-loop-fact

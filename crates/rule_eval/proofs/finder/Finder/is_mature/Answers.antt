@@ -1,9 +1,5 @@
-use Rattle.std.proofs.Common.{◌≡◌, to_z, of_z, true, false, Some, None, sym, ◌∙◌, ap, arith}
-use Rattle.std.specs.Int.{w128}
-use Rattle.std.proofs.lemmas.Int.{ints}
-use Rattle.rule_model.specs.Maturity.{bounds_of, is_past as is_past_of}
-use Rattle.rule_model.specs.Tuples.{bound_by}
-use Rattle.rule_model.specs.Types.{is_event, is_point}
+use Rattle.rule_eval.proofs.Common.{◌≡◌, to_z, of_z, true, false, Some, None, sym, ◌∙◌, ap, arith, w128, ints, bounds_of, bound_by, is_event, is_point}
+use Rattle.rule_model.specs.Maturity.{is_past as is_past_of}
 use Rattle.rule_model.proofs.Mature.{none_told, some_told}
 use Rattle.rule_eval.proofs.Ripe.{plain_mature, unbound_mature, event_mature}
 use Rattle.rule_eval.proofs.finder.Finder.is_mature.Goals as goal

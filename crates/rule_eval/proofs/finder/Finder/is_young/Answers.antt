@@ -1,7 +1,5 @@
-use Rattle.std.proofs.Common.{◌≡◌, ◌-ℤ◌, to_z, of_z, ◌∙◌, ap, arith}
+use Rattle.rule_eval.proofs.Common.{◌≡◌, ◌-ℤ◌, to_z, of_z, ◌∙◌, ap, arith, w128, ints}
 use Rattle.std.specs.Prelude.{int_lt}
-use Rattle.std.specs.Int.{w128}
-use Rattle.std.proofs.lemmas.Int.{ints}
 use Rattle.rule_eval.proofs.finder.Finder.is_young.Goals as goal
 
 pub returns : goal.returns

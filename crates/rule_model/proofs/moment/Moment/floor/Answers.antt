@@ -1,5 +1,4 @@
-use Rattle.std.proofs.Common.{arith}
-use Rattle.std.proofs.lemmas.Int.{ints, clamps}
+use Rattle.rule_model.proofs.Common.{arith, ints, clamps}
 use Rattle.rule_model.specs.Snapshots.{floor}
 use Rattle.rule_model.proofs.moment.Moment.floor.Goals as goal
 

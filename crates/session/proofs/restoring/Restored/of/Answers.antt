@@ -1,8 +1,6 @@
-use Rattle.std.proofs.Common.{◌≡◌, ◌∙◌, ◌∷◌, List, inl, refl, sym, ap, subst}
-use Rattle.fx_base.specs.declared.fact.Fact.{Fact}
+use Rattle.session.proofs.Common.{◌≡◌, ◌∙◌, ◌∷◌, List, inl, refl, sym, ap, subst, Fact, nothing_left, ArePut}
 use Rattle.session_laws.specs.Restoring.{all_held}
-use Rattle.session_laws.proofs.Rules.{nothing_left}
-use Rattle.session_laws.proofs.Storing.{ArePut, none_put, none_waits, one_put}
+use Rattle.session_laws.proofs.Storing.{none_put, none_waits, one_put}
 use Rattle.session.proofs.restoring.Restored.of.Goals as goal
 
 pub loop-fact-init : goal.loop-fact-init

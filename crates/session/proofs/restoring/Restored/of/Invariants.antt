@@ -1,5 +1,5 @@
 use Rattle.session_laws.specs.Restoring.{AreHeld}
-use Rattle.session_laws.proofs.Storing.{ArePut}
+use Rattle.session.proofs.Common.{ArePut}
 use Rattle.session.proofs.restoring.Restored.of.Given as goal
 
 abbrev pub invariant-loop-fact : goal.invariant-loop-fact

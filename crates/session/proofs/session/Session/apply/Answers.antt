@@ -1,11 +1,5 @@
-use Rattle.std.proofs.Common.{◌≡◌, ◌∙◌, true, sym, ap, subst}
-use Rattle.std.proofs.Math.Logic.{∥∥₁_map}
-use Rattle.engine.specs.Known.{are_known}
-use Rattle.session_laws.specs.declared.memory.Memory.{Memory}
-use Rattle.session_laws.specs.declared.setting.Setting.{Setting}
+use Rattle.session.proofs.Common.{◌≡◌, ◌∙◌, true, sym, ap, subst, ∥∥₁_map, are_known, Memory, Setting, newest, IsSound, Standing}
 use Rattle.session_laws.specs.Gives.{gives}
-use Rattle.session_laws.specs.Places.{newest}
-use Rattle.session_laws.specs.Standing.{IsSound, Standing}
 use Rattle.session_laws.proofs.Knowing.{asked_known}
 use Rattle.session_laws.proofs.Sessions.{change_lines, change_stands}
 use Rattle.session.proofs.session.Session.apply.Goals as goal

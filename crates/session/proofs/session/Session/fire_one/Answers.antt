@@ -1,12 +1,7 @@
-use Rattle.std.proofs.Common.{◌≡◌, true, sym, ap, subst}
-use Rattle.std.proofs.Math.Logic.{∥∥₁_map}
+use Rattle.session.proofs.Common.{◌≡◌, true, sym, ap, subst, ∥∥₁_map, are_known, Memory, Setting, IsSound, Standing}
 use Rattle.engine.specs.Answers.{FiringAnswers}
-use Rattle.engine.specs.Known.{are_known}
 use Rattle.engine.specs.declared.lines.Fired.TheVariants.{No, Yes}
-use Rattle.session_laws.specs.declared.memory.Memory.{Memory}
-use Rattle.session_laws.specs.declared.setting.Setting.{Setting}
 use Rattle.session_laws.specs.Gives.{fires}
-use Rattle.session_laws.specs.Standing.{IsSound, Standing}
 use Rattle.session_laws.proofs.Knowing.{merely_known, top_known}
 use Rattle.session_laws.proofs.Sessions.{fires_none, fires_some}
 use Rattle.session.proofs.session.Session.fire_one.Goals as goal

@@ -1,12 +1,5 @@
-use Rattle.std.proofs.Common.{◌≡◌, ◌∙◌, ap, subst, List}
-use Rattle.rule_model.specs.Types.{event_types}
-use Rattle.std.proofs.lemmas.Result.{IfOk-weaker}
-use Rattle.fx_base.specs.declared.ids.TypeId.{TypeId}
-use Rattle.rule_model.specs.declared.program.TypeInfo.{TypeInfo}
+use Rattle.session.proofs.Common.{◌≡◌, ◌∙◌, ap, subst, List, event_types, IfOk-weaker, TypeId, TypeInfo, Setting, AreCounts, Runs}
 use Rattle.session.specs.declared.session.Session.{Session}
-use Rattle.session_laws.specs.declared.setting.Setting.{Setting}
-use Rattle.session_laws.specs.Counts.{AreCounts}
-use Rattle.session_laws.specs.Standing.{Runs}
 use Rattle.session_laws.proofs.Tallied.{kept_counted, each_counted}
 use Rattle.session.proofs.session.Session.held.Goals as goal
 

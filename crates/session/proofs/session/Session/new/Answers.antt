@@ -1,10 +1,7 @@
-use Rattle.std.proofs.Common.{[], pos, rules, subst, sym}
-use Rattle.std.proofs.lemmas.Grind.{merely}
+use Rattle.session.proofs.Common.{[], pos, rules, subst, sym, merely, Memory, Standing}
 use Rattle.pair_memory.specs.Standing.{no_names}
 use Rattle.session_laws.specs.Refreshed.{no_rows, rows_at}
 use Rattle.rule_world.specs.Worlds.{empty_world}
-use Rattle.session_laws.specs.declared.memory.Memory.{Memory}
-use Rattle.session_laws.specs.Standing.{Standing}
 use Rattle.session_laws.proofs.Knowing.{none_more, standing_sound}
 use Rattle.session_laws.proofs.Sessions.{empty_stands, from_parts}
 use Rattle.session.proofs.session.Session.new.Goals as goal

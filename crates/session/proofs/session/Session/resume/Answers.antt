@@ -1,13 +1,9 @@
-use Rattle.std.proofs.Common.{◌≡◌, ◌∙◌, true, false, Err, ap, sym, subst, rules}
-use Rattle.std.proofs.lemmas.Grind.{merely}
+use Rattle.session.proofs.Common.{◌≡◌, ◌∙◌, true, false, Err, ap, sym, subst, rules, merely, Memory, Setting, residual_unfit}
 use Rattle.rule_world.specs.Lawful.{IsLawful}
 use Rattle.image_laws.specs.Images.{IsImageOf}
 use Rattle.image_laws.specs.Laden.{AreOwners}
 use Rattle.image_fitting.specs.Plain.{FitsByRows}
-use Rattle.session_laws.specs.declared.memory.Memory.{Memory}
-use Rattle.session_laws.specs.declared.setting.Setting.{Setting}
 use Rattle.session_laws.specs.Restoring.{IsRestored}
-use Rattle.session_laws.proofs.Matched.{residual_unfit}
 use Rattle.session.proofs.session.Session.resume.Goals as goal
 
 pub returns-then-not-plain-clause-unfit : goal.returns-then-not-plain-clause-unfit

@@ -1,10 +1,5 @@
-use Rattle.std.proofs.Common.{◌≡◌, ◌∙◌, List, length, ap, subst}
-use Rattle.std.proofs.lemmas.Result.{IfOk-weaker}
+use Rattle.session.proofs.Common.{◌≡◌, ◌∙◌, List, length, ap, subst, IfOk-weaker, Memory, Setting, IsSaved, Runs}
 use Rattle.rule_model.specs.declared.program.EntryInfo.{EntryInfo}
-use Rattle.session_laws.specs.declared.memory.Memory.{Memory}
-use Rattle.session_laws.specs.declared.setting.Setting.{Setting}
-use Rattle.session_laws.specs.Saving.{IsSaved}
-use Rattle.session_laws.specs.Standing.{Runs}
 use Rattle.session_laws.proofs.Matched.{merely_no_more}
 use Rattle.session_laws.proofs.Saved.{saved_image}
 use Rattle.session.proofs.session.Session.save.Goals as goal

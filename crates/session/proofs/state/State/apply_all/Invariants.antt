@@ -1,8 +1,7 @@
-use Rattle.std.proofs.Common.{◌≤◌, ◌+◌, length}
+use Rattle.session.proofs.Common.{◌≤◌, ◌+◌, length, AllWantKnown, StayKnown, Standing, SoFar}
 use Rattle.rule_world.specs.Worlds.{World}
-use Rattle.session_laws.specs.Leading.{AllFit, AllWantKnown, StayKnown}
-use Rattle.session_laws.specs.Standing.{Standing, StaysSound}
-use Rattle.session_laws.proofs.Tried.{SoFar}
+use Rattle.session_laws.specs.Leading.{AllFit}
+use Rattle.session_laws.specs.Standing.{StaysSound}
 use Rattle.session.proofs.state.State.apply_all.Given as goal
 
 abbrev pub invariant-loop-wanted : goal.invariant-loop-wanted

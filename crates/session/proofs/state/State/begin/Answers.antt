@@ -1,8 +1,5 @@
-use Rattle.std.proofs.Common.{refl}
-use Rattle.std.proofs.lemmas.Result.{IfOk-weaker}
-use Rattle.rule_model.specs.declared.step.Step.TheVariants.{Begin}
+use Rattle.session.proofs.Common.{refl, IfOk-weaker, Begin, no_lines, tried_done}
 use Rattle.session_laws.proofs.Beginning.{begin_is_done}
-use Rattle.session_laws.proofs.Tried.{no_lines, tried_done}
 use Rattle.session.proofs.state.State.begin.Goals as goal
 
 pub returns-clause-stands : goal.returns-clause-stands

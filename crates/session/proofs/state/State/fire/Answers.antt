@@ -1,13 +1,7 @@
-use Rattle.std.proofs.Common.{◌≡◌, ◌∙◌, ◌++◌, [], ◌∷◌, List, Option, Some, sym, ap, subst, rules}
-use Rattle.std.proofs.lemmas.Result.{IfOk-weaker}
-use Rattle.rule_model.specs.declared.matched.Match.{Match}
+use Rattle.session.proofs.Common.{◌≡◌, ◌∙◌, ◌++◌, [], ◌∷◌, List, Option, Some, sym, ap, subst, rules, IfOk-weaker, Match, marked, Standing, on_ok_weaker, StayKnown, one_more_known}
 use Rattle.engine.specs.declared.lines.OutLine.{OutLine}
-use Rattle.rule_world.specs.Worlds.{marked}
 use Rattle.session_laws.specs.Gives.{does_all, fire_line}
-use Rattle.session_laws.specs.Standing.{Standing}
-use Rattle.session_laws.proofs.Tried.{on_ok_weaker}
-use Rattle.session_laws.specs.Leading.{StayKnown}
-use Rattle.session_laws.proofs.Knowing.{fire_line_known, one_more_known}
+use Rattle.session_laws.proofs.Knowing.{fire_line_known}
 use Rattle.session.proofs.state.State.fire.Goals as goal
 
 -- what is in place is one match

@@ -1,11 +1,5 @@
-use Rattle.std.proofs.Common.{◌≡◌, Some, None, refl, ◌∙◌, ap, subst, to_z, of_z, to_z-of_z, w64}
-use Rattle.std.proofs.lemmas.Result.{IfOk-weaker}
-use Rattle.rule_model.specs.declared.step.Step.TheVariants.{At}
-use Rattle.rule_world.specs.Events.{clock_fault}
-use Rattle.session_laws.specs.Leading.{Moves}
-use Rattle.session_laws.specs.Standing.{Contents}
-use Rattle.session_laws.proofs.Faults.{at_fault, clock_same}
-use Rattle.session_laws.proofs.Tried.{no_lines, on_ok, on_ok_weaker, refused_lines, refused_tries, tried_done}
+use Rattle.session.proofs.Common.{◌≡◌, Some, None, refl, ◌∙◌, ap, subst, to_z, of_z, to_z-of_z, w64, IfOk-weaker, At, clock_fault, Moves, Contents, clock_same, no_lines, on_ok, on_ok_weaker, refused_lines, refused_tries, tried_done}
+use Rattle.session_laws.proofs.Faults.{at_fault}
 use Rattle.session.proofs.state.State.go_to.Goals as goal
 
 pub returns-in-Ok-clause-stands : goal.returns-in-Ok-clause-stands

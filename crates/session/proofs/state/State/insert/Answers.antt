@@ -1,13 +1,7 @@
-use Rattle.std.proofs.Common.{◌≡◌, nat_lt, length, Some, None, [], ◌∷◌, ◌++◌, subst, sym}
-use Rattle.std.proofs.lemmas.Result.{IfOk-weaker}
-use Rattle.rule_model.specs.declared.step.Step.TheVariants.{Insert}
+use Rattle.session.proofs.Common.{◌≡◌, nat_lt, length, Some, None, [], ◌∷◌, ◌++◌, subst, sym, IfOk-weaker, Insert, Contents, on_ok, on_ok_weaker, refused_lines, refused_tries, tried_done, StayKnown, and_parts, one_more_known}
 use Rattle.engine.specs.declared.lines.OutLine.TheVariants.{New}
-use Rattle.session_laws.specs.Standing.{Contents}
 use Rattle.session_laws.proofs.Faults.{insert_fault, insert_line}
-use Rattle.session_laws.proofs.Tried.{done_lines, on_ok, on_ok_weaker, refused_lines, refused_tries, tried_done}
-use Rattle.session_laws.specs.Leading.{StayKnown}
-use Rattle.rule_world.proofs.Fresh.{and_parts}
-use Rattle.session_laws.proofs.Knowing.{one_more_known}
+use Rattle.session_laws.proofs.Tried.{done_lines}
 use Rattle.session.proofs.state.State.insert.Goals as goal
 
 pub returns-in_ok-push-in-Ok-clause-stands : goal.returns-in_ok-push-in-Ok-clause-stands

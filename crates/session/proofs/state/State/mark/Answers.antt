@@ -1,16 +1,7 @@
-use Rattle.std.proofs.Common.{◌≡◌, ◌∙◌, ◌==◌, ℕ, true, sym, subst, ap, not}
-use Rattle.std.specs.List.{list_any}
-use Rattle.row_delta.specs.declared.row.Named.{Named}
+use Rattle.session.proofs.Common.{◌≡◌, ◌∙◌, ◌==◌, ℕ, true, sym, subst, ap, not, list_any, Named, marked, is_among, Contents, Standing, IsSound, contents, eq_by_cmp, has_match, match_cmp, and_parts}
 use Rattle.rule_model.proofs.Firsts.{or_right}
-use Rattle.rule_world.specs.Worlds.{marked}
 use Rattle.agenda.specs.Agendas.{names_tag}
-use Rattle.retention.specs.Retentions.{is_among}
-use Rattle.session_laws.specs.Standing.{Contents, Standing, IsSound}
 use Rattle.session_laws.proofs.Marking.{marked_awaits}
-use Rattle.session_laws.proofs.Stands.{contents}
-use Rattle.std.specs.Ordering.{eq_by_cmp}
-use Rattle.rule_model.specs.Matches.{has_match, match_cmp}
-use Rattle.rule_world.proofs.Fresh.{and_parts}
 use Rattle.session.proofs.state.State.mark.Goals as goal
 
 pub returns-clause-stands : goal.returns-clause-stands

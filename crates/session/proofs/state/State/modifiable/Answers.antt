@@ -1,12 +1,7 @@
-use Rattle.std.proofs.Common.{◌≡◌, Some, None, sym, ◌∙◌, ap}
+use Rattle.session.proofs.Common.{◌≡◌, Some, None, sym, ◌∙◌, ap, ReferenceFixed, modify_fault, newest, Contents, store_found, store_none, contents}
 use Rattle.std.specs.Prelude.{if◌then◌else◌}
-use Rattle.rule_world.specs.declared.code.Code.TheVariants.{EventFixed, ReferenceFixed}
+use Rattle.rule_world.specs.declared.code.Code.TheVariants.{EventFixed}
 use Rattle.rule_model.specs.Types.{is_reference}
-use Rattle.rule_world.specs.Worlds.{modify_fault}
-use Rattle.session_laws.specs.Places.{newest}
-use Rattle.session_laws.specs.Standing.{Contents}
-use Rattle.session_laws.proofs.Newest.{store_found, store_none}
-use Rattle.session_laws.proofs.Stands.{contents}
 use Rattle.session.proofs.state.State.modifiable.Goals as goal
 
 pub returns-in-Some-clause-fault : goal.returns-in-Some-clause-fault

@@ -1,8 +1,5 @@
-use Rattle.std.proofs.Common.{Some, None, refl}
-use Rattle.std.proofs.lemmas.Result.{IfOk-weaker}
-use Rattle.rule_model.specs.declared.step.Step.TheVariants.{Modify}
+use Rattle.session.proofs.Common.{Some, None, refl, IfOk-weaker, Modify, no_lines, on_ok, on_ok_weaker, refused_lines, refused_tries, tried_done}
 use Rattle.session_laws.proofs.Looking.{modify_fault_is}
-use Rattle.session_laws.proofs.Tried.{no_lines, on_ok, on_ok_weaker, refused_lines, refused_tries, tried_done}
 use Rattle.session.proofs.state.State.modify.Goals as goal
 
 pub returns-in-Ok-clause-stands : goal.returns-in-Ok-clause-stands

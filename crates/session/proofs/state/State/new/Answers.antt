@@ -1,7 +1,6 @@
-use Rattle.std.proofs.Common.{◌∙◌, ap, arith}
+use Rattle.session.proofs.Common.{◌∙◌, ap, arith, zero_clock}
 use Rattle.std.specs.FinMap.{get-empty}
 use Rattle.std.specs.Ordering.{nat_cmp}
-use Rattle.session_laws.proofs.Faults.{zero_clock}
 use Rattle.std.specs.FinMap as map
 use Rattle.session.proofs.state.State.new.Goals as goal
 

@@ -1,12 +1,8 @@
-use Rattle.std.proofs.Common.{◌≡◌, Some, None, true, false, refl, sym}
-use Rattle.std.proofs.lemmas.Result.{IfOk-weaker}
-use Rattle.rule_world.specs.declared.code.Code.TheVariants.{Absent, EventObserved, ReferenceFixed}
-use Rattle.rule_model.specs.declared.step.Step.TheVariants.{Retract}
+use Rattle.session.proofs.Common.{◌≡◌, Some, None, true, false, refl, sym, IfOk-weaker, ReferenceFixed, Retract, newest, no_lines, on_ok, on_ok_weaker, refused_lines, refused_tries, tried_done}
+use Rattle.rule_world.specs.declared.code.Code.TheVariants.{Absent, EventObserved}
 use Rattle.rule_model.specs.Types.{is_event}
-use Rattle.session_laws.specs.Places.{newest}
 use Rattle.session_laws.proofs.Faults.{retract_absent, retract_event, retract_fixed, retract_found, retract_observed}
 use Rattle.session_laws.proofs.Looking.{retract_fault_is}
-use Rattle.session_laws.proofs.Tried.{no_lines, on_ok, on_ok_weaker, refused_lines, refused_tries, tried_done}
 use Rattle.session.proofs.state.State.retract.Goals as goal
 
 pub returns-in-Some-clause-stands : goal.returns-in-Some-clause-stands

@@ -1,14 +1,7 @@
-use Rattle.std.proofs.Common.{◌∙◌, List, ℤ, map as list_map, refl, sym, ap, subst, to_z, of_z, w64}
-use Rattle.std.specs.List.Sorted.{IsStrictlySortedBy}
-use Rattle.row_delta.specs.declared.extra.Extra.{Extra}
-use Rattle.checkpoint.specs.declared.image.FiredMatch.{FiredMatch}
-use Rattle.checkpoint.specs.declared.image.Image.{Image}
-use Rattle.rule_model.specs.Matches.{match_cmp}
+use Rattle.session.proofs.Common.{◌∙◌, List, ℤ, refl, sym, ap, subst, to_z, of_z, w64, IsStrictlySortedBy, Extra, FiredMatch, Image, match_cmp, match_fired, IsSaved, Contents, clock_same}
+use Rattle.std.proofs.Common.{map as list_map}
 use Rattle.image_laws.specs.Extras.{AreExtras}
-use Rattle.image_laws.specs.Images.{match_fired}
-use Rattle.session_laws.specs.Saving.{ArePadded, IsSaved}
-use Rattle.session_laws.specs.Standing.{Contents}
-use Rattle.session_laws.proofs.Faults.{clock_same}
+use Rattle.session_laws.specs.Saving.{ArePadded}
 use Rattle.session.proofs.state.State.saved.Goals as goal
 
 pub returns-clause-saved : goal.returns-clause-saved

@@ -1,11 +1,6 @@
-use Rattle.std.proofs.Common.{◌≡◌, ◌∙◌, ◌<◌, ◌^◌, true, List, ap, sym, subst, filter_map, length, FitsSigned, to_z, of_z, to_z-of_z, w64, rules, arith}
-use Rattle.rule_model.specs.declared.matched.Match.{Match}
-use Rattle.rule_model.specs.Matches.{has_match}
-use Rattle.retention.specs.Retentions.{has_tag, is_among, is_named, Passes}
-use Rattle.session_laws.specs.Standing.{Awaits, Contents, ReachesNoMore, reached_of}
-use Rattle.session_laws.proofs.Forgotten.{no_keys, safe_fewer, stands_less, stands_same}
+use Rattle.session.proofs.Common.{◌≡◌, ◌∙◌, ◌<◌, ◌^◌, true, List, ap, sym, subst, filter_map, length, FitsSigned, to_z, of_z, to_z-of_z, w64, rules, arith, Match, has_match, has_tag, is_among, is_named, Passes, Awaits, Contents, ReachesNoMore, reached_of, no_keys, contents}
+use Rattle.session_laws.proofs.Forgotten.{safe_fewer, stands_less, stands_same}
 use Rattle.session_laws.proofs.Olds.{named_at}
-use Rattle.session_laws.proofs.Stands.{contents}
 use Rattle.session.proofs.state.State.settled.Goals as goal
 
 pub invariant_of-state : goal.invariant_of-state

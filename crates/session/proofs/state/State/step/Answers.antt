@@ -1,4 +1,4 @@
-use Rattle.std.proofs.Common.{SFits, to_z-of_z, w64}
+use Rattle.session.proofs.Common.{SFits, to_z-of_z, w64}
 use Rattle.session.proofs.state.State.step.Goals as goal
 
 pub returns-in-Advance-clause-stands : goal.returns-in-Advance-clause-stands

@@ -1,9 +1,4 @@
-use Rattle.std.proofs.Common.{sym, ◌∙◌, ap}
-use Rattle.rule_world.specs.Worlds.{is_of_type}
-use Rattle.session_laws.specs.Places.{newest}
-use Rattle.session_laws.specs.Standing.{Contents}
-use Rattle.session_laws.proofs.Newest.{store_found, store_none}
-use Rattle.session_laws.proofs.Stands.{contents}
+use Rattle.session.proofs.Common.{sym, ◌∙◌, ap, is_of_type, newest, Contents, store_found, store_none, contents}
 use Rattle.session.proofs.state.State.tag_of.Goals as goal
 
 pub returns-in-Some-clause-some : goal.returns-in-Some-clause-some

@@ -1,12 +1,6 @@
-use Rattle.std.proofs.Common.{◌∙◌, [], sym, subst, ap}
-use Rattle.std.proofs.lemmas.Result.{IfOk-weaker}
-use Rattle.rule_model.specs.declared.step.Step.TheVariants.{Begin}
-use Rattle.rule_world.specs.Worlds.{stepped}
-use Rattle.retention.specs.Retentions.{is_among}
-use Rattle.session_laws.specs.Leading.{Moves}
-use Rattle.session_laws.specs.Standing.{Awaits, Contents, Course, IsSound, ReachesNoMore, reached_by}
+use Rattle.session.proofs.Common.{◌∙◌, [], sym, subst, ap, IfOk-weaker, Begin, stepped, is_among, Moves, Awaits, Contents, Course, IsSound, ReachesNoMore, contents}
+use Rattle.session_laws.specs.Standing.{reached_by}
 use Rattle.session_laws.proofs.Beginning.{begin_awaits}
-use Rattle.session_laws.proofs.Stands.{contents}
 use Rattle.session.proofs.state.State.with_begin.Goals as goal
 
 pub returns-clause-stands : goal.returns-clause-stands

@@ -1,28 +1,15 @@
-use Rattle.std.proofs.Common.{◌≡◌, ◌≤ℤ◌, ◌∙◌, ℕ, ℤ, Bool, List, [], Some, slice_get, sym, subst, ap, to_z, of_z, w64}
-use Rattle.std.proofs.lemmas.Result.{IfOk-weaker}
-use Rattle.fx_base.specs.declared.fact.Fact.{Fact}
-use Rattle.row_delta.specs.declared.row.Named.{Named}
-use Rattle.row_delta.specs.declared.row.Row.{Row}
+use Rattle.session.proofs.Common.{◌≡◌, ◌≤ℤ◌, ◌∙◌, ℕ, ℤ, Bool, List, [], Some, slice_get, sym, subst, ap, to_z, of_z, w64, IfOk-weaker, Fact, Named, Row, Rule, HeldFacts, At, stepped, is_among, HasLeft, Awaits, Contents, Standing, IsSound, reached_of, clock_same, none_left, contents, followed_sound, instant_of, Program}
 use Rattle.pair_memory.specs.Standing.{cleaned}
 use Rattle.condition_rows.specs.Sets.{rows_of}
 use Rattle.rete_net.specs.Nets.{NetStands}
-use Rattle.rule_model.specs.declared.program.Rule.{Rule}
-use Rattle.fact_store.specs.Held.{HeldFacts, facts_of}
-use Rattle.rule_model.specs.declared.step.Step.TheVariants.{At}
-use Rattle.rule_world.specs.Worlds.{stepped}
-use Rattle.retention.specs.Retentions.{is_among}
-use Rattle.forgetting.specs.Steps.{HasLeft}
+use Rattle.fact_store.specs.Held.{facts_of}
 use Rattle.session_laws.specs.Refreshed.{over}
-use Rattle.session_laws.specs.Standing.{Awaits, Contents, Standing, IsSound, reached_of}
-use Rattle.session_laws.proofs.Faults.{clock_same, safe_left}
+use Rattle.session_laws.proofs.Faults.{safe_left}
 use Rattle.session_laws.proofs.Leaving.{none_gone, no_tags}
-use Rattle.session_laws.proofs.Passing.{later_awaits, later_leads, later_leads_on, none_left, quiet_refreshed, remaining, remaining_is}
-use Rattle.session_laws.proofs.Stands.{contents}
-use Rattle.session_laws.proofs.Knowing.{followed_sound}
+use Rattle.session_laws.proofs.Passing.{later_awaits, later_leads, later_leads_on, quiet_refreshed, remaining, remaining_is}
 use Rattle.session.proofs.state.State.with_clock.Goals as goal
-use Rattle.session_laws.specs.Following.{instant_of, at_clock}
+use Rattle.session_laws.specs.Following.{at_clock}
 use Rattle.rule_model.specs.Snapshots.{Reached}
-use Rattle.rule_model.specs.declared.program.Program.{Program}
 use Rattle.pattern_gate.specs.Moves.{IsOrderly}
 
 -- facts in order at a clock are so whatever entry points have reached

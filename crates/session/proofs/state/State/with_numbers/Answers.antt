@@ -1,18 +1,7 @@
-use Rattle.std.proofs.Common.{◌≡◌, ◌∙◌, ◌+◌, false, refl, sym, subst, ap, slice_get, to_z, of_z, w64}
-use Rattle.std.proofs.lemmas.Result.{IfOk-weaker}
-use Rattle.rule_model.specs.declared.step.Step.TheVariants.{Insert}
-use Rattle.rule_model.specs.Candidates.{is_present}
-use Rattle.rule_world.specs.Events.{times_of}
-use Rattle.rule_world.specs.Worlds.{stepped}
-use Rattle.session_laws.specs.Leading.{Moves}
-use Rattle.session_laws.specs.Standing.{Contents, IsSound}
-use Rattle.session_laws.proofs.Faults.{clock_same, safe_numbers}
+use Rattle.session.proofs.Common.{◌≡◌, ◌∙◌, ◌+◌, false, refl, sym, subst, ap, slice_get, to_z, of_z, w64, IfOk-weaker, Insert, is_present, times_of, stepped, Moves, Contents, IsSound, clock_same, contents, has_start, Memory, is_among, followed_sound, new_no_more}
+use Rattle.session_laws.proofs.Faults.{safe_numbers}
 use Rattle.session_laws.proofs.Inserting.{numbers_await}
-use Rattle.session_laws.proofs.Stands.{contents, has_start}
 use Rattle.session.proofs.state.State.with_numbers.Goals as goal
-use Rattle.session_laws.specs.declared.memory.Memory.{Memory}
-use Rattle.retention.specs.Retentions.{is_among}
-use Rattle.session_laws.proofs.Knowing.{followed_sound, new_no_more}
 
 pub invariant_of-state : goal.invariant_of-state
 invariant_of-state c = safe_numbers c.state.inside.facts c.state.inside.expiries c.state.inside.clock c.state.inside.next_id c.state.inside.next_tag c.state.invariant

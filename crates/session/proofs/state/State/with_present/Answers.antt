@@ -1,19 +1,8 @@
-use Rattle.std.proofs.Common.{◌≡◌, ◌∙◌, ◌+◌, Some, option_map, true, sym, subst, ap, slice_get, to_z, of_z, w64}
-use Rattle.std.proofs.lemmas.Result.{IfOk-weaker}
-use Rattle.rule_model.specs.declared.step.Step.TheVariants.{Insert}
-use Rattle.rule_model.specs.Candidates.{is_present}
-use Rattle.rule_world.specs.Events.{end_of_presence, times_of}
-use Rattle.rule_world.specs.Worlds.{stepped}
-use Rattle.retention.specs.Retentions.{is_among}
-use Rattle.session_laws.specs.declared.memory.Memory.{Memory}
-use Rattle.session_laws.specs.Leading.{Moves}
-use Rattle.session_laws.specs.Standing.{Contents, IsSound}
-use Rattle.session_laws.proofs.Faults.{clock_same, safe_new}
+use Rattle.session.proofs.Common.{◌≡◌, ◌∙◌, ◌+◌, Some, option_map, true, sym, subst, ap, slice_get, to_z, of_z, w64, IfOk-weaker, Insert, is_present, times_of, stepped, is_among, Memory, Moves, Contents, IsSound, clock_same, got_new, contents, has_start, followed_sound, new_no_more}
+use Rattle.rule_world.specs.Events.{end_of_presence}
+use Rattle.session_laws.proofs.Faults.{safe_new}
 use Rattle.session_laws.proofs.Inserting.{present_awaits}
-use Rattle.session_laws.proofs.Members.{got_new}
-use Rattle.session_laws.proofs.Stands.{contents, has_start}
 use Rattle.std.specs.FinMap as map
-use Rattle.session_laws.proofs.Knowing.{followed_sound, new_no_more}
 use Rattle.session.proofs.state.State.with_present.Goals as goal
 
 pub invariant_of-state : goal.invariant_of-state

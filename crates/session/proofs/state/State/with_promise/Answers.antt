@@ -1,15 +1,6 @@
-use Rattle.std.proofs.Common.{◌≡◌, refl, sym, subst, to_z, of_z, to_z-of_z, w64}
-use Rattle.std.proofs.lemmas.Result.{IfOk-weaker}
-use Rattle.rule_model.specs.declared.step.Step.TheVariants.{Promise}
-use Rattle.rule_world.specs.Worlds.{stepped}
-use Rattle.retention.specs.Retentions.{is_among}
-use Rattle.session_laws.specs.declared.memory.Memory.{Memory}
-use Rattle.session_laws.specs.Leading.{Moves}
-use Rattle.session_laws.specs.Standing.{Contents, IsSound}
-use Rattle.session_laws.proofs.Faults.{clock_same}
-use Rattle.session_laws.proofs.Knowing.{followed_sound, promise_no_more}
+use Rattle.session.proofs.Common.{◌≡◌, refl, sym, subst, to_z, of_z, to_z-of_z, w64, IfOk-weaker, Promise, stepped, is_among, Memory, Moves, Contents, IsSound, clock_same, followed_sound, contents}
+use Rattle.session_laws.proofs.Knowing.{promise_no_more}
 use Rattle.session_laws.proofs.Promising.{has_promise, promise_awaits}
-use Rattle.session_laws.proofs.Stands.{contents}
 use Rattle.session.proofs.state.State.with_promise.Goals as goal
 
 pub returns-clause-stands : goal.returns-clause-stands

@@ -1,20 +1,8 @@
-use Rattle.std.proofs.Common.{◌≡◌, ◌∙◌, ◌+◌, Some, None, option_map, sym, subst, ap, to_z, of_z, w64, arith}
-use Rattle.std.proofs.lemmas.Result.{IfOk-weaker}
-use Rattle.fx_base.specs.declared.fact.Fact.{Fact}
-use Rattle.rule_model.specs.declared.step.Step.TheVariants.{Modify}
-use Rattle.rule_world.specs.Worlds.{modify_fault, stepped}
-use Rattle.retention.specs.Retentions.{is_among}
-use Rattle.forgetting.specs.Steps.{HasLeft}
-use Rattle.session_laws.specs.Places.{IsNewestTag, newest}
-use Rattle.session_laws.specs.Standing.{Contents, Standing, IsSound}
-use Rattle.session_laws.proofs.Faults.{clock_same, fresh_less, safe_again}
-use Rattle.session_laws.proofs.Members.{got_new}
+use Rattle.session.proofs.Common.{◌≡◌, ◌∙◌, ◌+◌, Some, None, option_map, sym, subst, ap, to_z, of_z, w64, arith, IfOk-weaker, Fact, Modify, modify_fault, stepped, is_among, HasLeft, IsNewestTag, newest, Contents, Standing, IsSound, clock_same, got_new, contents, followed_sound, instant_of}
+use Rattle.session_laws.proofs.Faults.{fresh_less, safe_again}
 use Rattle.session_laws.proofs.Revising.{modify_awaits, modify_leads_on}
-use Rattle.session_laws.proofs.Stands.{contents}
 use Rattle.std.specs.FinMap as map
-use Rattle.session_laws.proofs.Knowing.{followed_sound}
 use Rattle.session.proofs.state.State.with_sets.Goals as goal
-use Rattle.session_laws.specs.Following.{instant_of}
 
 pub with_fact-requires : goal.with_fact-requires
 with_fact-requires c = ap (λ (f : Fact). map.get c.state.inside.facts f.tag.0) c.in_ok-after.ensures ∙ c.state.invariant.fresh c.state.inside.next_tag (omega arith)

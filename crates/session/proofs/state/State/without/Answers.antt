@@ -1,18 +1,8 @@
-use Rattle.std.proofs.Common.{◌≡◌, true, sym, subst, to_z, of_z, w64}
-use Rattle.std.proofs.lemmas.Result.{IfOk-weaker}
-use Rattle.rule_model.specs.declared.step.Step.TheVariants.{Retract}
-use Rattle.rule_world.specs.Worlds.{is_of_type, stepped}
-use Rattle.retention.specs.Retentions.{is_among}
-use Rattle.forgetting.specs.Steps.{HasLeft}
-use Rattle.session_laws.specs.Places.{IsNewestTag, newest}
-use Rattle.session_laws.specs.Standing.{Contents, Standing, IsSound}
-use Rattle.session_laws.proofs.Faults.{clock_same, safe_less}
+use Rattle.session.proofs.Common.{◌≡◌, true, sym, subst, to_z, of_z, w64, IfOk-weaker, Retract, is_of_type, stepped, is_among, HasLeft, IsNewestTag, newest, Contents, Standing, IsSound, clock_same, contents, followed_sound, instant_of}
+use Rattle.session_laws.proofs.Faults.{safe_less}
 use Rattle.session_laws.proofs.Removing.{retract_awaits, retract_leads_on}
-use Rattle.session_laws.proofs.Stands.{contents}
 use Rattle.std.specs.FinMap as map
-use Rattle.session_laws.proofs.Knowing.{followed_sound}
 use Rattle.session.proofs.state.State.without.Goals as goal
-use Rattle.session_laws.specs.Following.{instant_of}
 
 pub invariant_of-state : goal.invariant_of-state
 invariant_of-state c =

@@ -1,6 +1,4 @@
-use Rattle.std.proofs.lemmas.Result.{IfOk-weaker}
-use Rattle.rule_model.specs.declared.step.Step.TheVariants.{Retract}
-use Rattle.rule_world.specs.Worlds.{stepped}
+use Rattle.session.proofs.Common.{IfOk-weaker, Retract, stepped}
 use Rattle.session_laws.proofs.Retracting.{retracts_forgotten}
 use Rattle.session.proofs.state.State.without_forgotten.Goals as goal
 

@@ -1,8 +1,5 @@
-use Rattle.std.proofs.Common.{◌∙◌, ap}
-use Rattle.session_laws.specs.Places.{newest}
-use Rattle.session_laws.specs.Standing.{Contents}
+use Rattle.session.proofs.Common.{◌∙◌, ap, newest, Contents, contents}
 use Rattle.session_laws.proofs.Faults.{presented}
-use Rattle.session_laws.proofs.Stands.{contents}
 use Rattle.session.proofs.state.StatePresent.fact_with.Goals as goal
 
 pub returns : goal.returns

@@ -1,4 +1,4 @@
-use Rattle.std.proofs.Common.{◌≡◌, take}
+use Rattle.subrules.proofs.Common.{◌≡◌, take}
 use Rattle.subrules.proofs.copying.SeqCopied.copied.Given as goal
 
 abbrev pub invariant-loop-item : goal.invariant-loop-item

@@ -1,5 +1,4 @@
-use Rattle.std.proofs.Common.{◌≡◌, ◌++◌, ◌-◌, length, map, option_map}
-use Rattle.subrules.specs.Hierarchy.{above, ancestors}
+use Rattle.subrules.proofs.Common.{◌≡◌, ◌++◌, ◌-◌, length, map, option_map, above, ancestors}
 use Rattle.subrules.proofs.hierarchy.Hierarchy.above.Given as goal
 
 abbrev pub invariant-loop : goal.invariant-loop

@@ -1,6 +1,4 @@
-use Rattle.std.proofs.Common.{◌≡◌, ◌++◌, drop}
-use Rattle.std.specs.List.{filter}
-use Rattle.subrules.specs.Hierarchy.{first_names, is_below}
+use Rattle.subrules.proofs.Common.{◌≡◌, ◌++◌, drop, filter, first_names, is_below}
 use Rattle.subrules.proofs.hierarchy.Hierarchy.add_below.Given as goal
 
 abbrev pub invariant-loop-other : goal.invariant-loop-other

@@ -1,5 +1,5 @@
-use Rattle.std.proofs.Common.{◌≡◌, ◌-◌, length, option_map}
-use Rattle.subrules.specs.Hierarchy.{goes_on, goes_round}
+use Rattle.subrules.proofs.Common.{◌≡◌, ◌-◌, length, option_map, goes_round}
+use Rattle.subrules.specs.Hierarchy.{goes_on}
 use Rattle.subrules.proofs.hierarchy.Hierarchy.goes_round.Given as goal
 
 abbrev pub invariant-loop : goal.invariant-loop

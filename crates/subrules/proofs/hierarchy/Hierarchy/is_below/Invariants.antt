@@ -1,6 +1,4 @@
-use Rattle.std.proofs.Common.{◌≡◌, ◌-◌, length, option_map}
-use Rattle.std.specs.List.{list_any}
-use Rattle.subrules.specs.Hierarchy.{is_below, is_named, ancestors}
+use Rattle.subrules.proofs.Common.{◌≡◌, ◌-◌, length, option_map, list_any, is_below, is_named, ancestors}
 use Rattle.subrules.proofs.hierarchy.Hierarchy.is_below.Given as goal
 
 abbrev pub invariant-loop : goal.invariant-loop

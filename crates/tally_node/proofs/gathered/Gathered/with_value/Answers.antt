@@ -1,5 +1,4 @@
-use Rattle.std.proofs.Common.{arith, w64, to_z, of_z, int_eq}
-use Rattle.std.specs.HashMap.{get}
+use Rattle.tally_node.proofs.Common.{arith, w64, to_z, of_z, int_eq, get}
 use Rattle.tally_node.proofs.Knowing.{times_low, knows_more}
 use Rattle.tally_node.proofs.gathered.Gathered.with_value.Goals as goal
 

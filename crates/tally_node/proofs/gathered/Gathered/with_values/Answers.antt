@@ -1,6 +1,5 @@
-use Rattle.std.proofs.Common.{◌≡◌, ◌∙◌, sym, ap, refl, rules, get_or, pos, ◌+◌, ◌++◌, ◌∷◌, [], take, ℕ, ℤ, List, SFits, w64, to_z-of_z}
-use Rattle.std.proofs.lemmas.List.{take_more, take_all}
-use Rattle.fold_fn.specs.Order.{insert_rising, in_rising_order}
+use Rattle.tally_node.proofs.Common.{◌≡◌, ◌∙◌, sym, ap, refl, rules, get_or, pos, ◌+◌, ◌++◌, ◌∷◌, [], take, ℕ, ℤ, List, SFits, w64, to_z-of_z, take_more, insert_rising, in_rising_order}
+use Rattle.std.proofs.lemmas.List.{take_all}
 use Rattle.tally_node.proofs.Extras.{rising_snoc}
 use Rattle.tally_node.proofs.gathered.Gathered.with_values.Goals as goal
 

@@ -1,5 +1,4 @@
-use Rattle.std.proofs.Common.{◌≡◌, ◌++◌, ℤ, List, take}
-use Rattle.fold_fn.specs.Order.{in_rising_order}
+use Rattle.tally_node.proofs.Common.{◌≡◌, ◌++◌, ℤ, List, take, in_rising_order}
 use Rattle.tally_node.proofs.gathered.Gathered.with_values.Given as goal
 
 abbrev pub invariant-loop-value : goal.invariant-loop-value

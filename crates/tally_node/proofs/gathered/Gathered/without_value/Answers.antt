@@ -1,7 +1,4 @@
-use Rattle.std.proofs.Common.{◌≡◌, ◌∙◌, sym, ap, subst, ◌<◌, arith, ℕ, SFits, w64, to_z, of_z, to_z-of_z, int_eq}
-use Rattle.std.specs.HashMap.{get}
-use Rattle.fold_fn.specs.Held.{Held}
-use Rattle.fold_fn.specs.Order.{times}
+use Rattle.tally_node.proofs.Common.{◌≡◌, ◌∙◌, sym, ap, subst, ◌<◌, arith, ℕ, SFits, w64, to_z, of_z, to_z-of_z, int_eq, get, Held, times}
 use Rattle.fold_fn.proofs.LawLemmas.{insert-injective}
 use Rattle.tally_node.proofs.Knowing.{times_low, contains_timed, knows_less, not_held, positive}
 use Rattle.tally_node.proofs.gathered.Gathered.without_value.Goals as goal

@@ -1,7 +1,4 @@
-use Rattle.std.proofs.Common.{◌≡◌, ◌∙◌, sym, ap, arith, w64, to_z, of_z}
-use Rattle.std.proofs.lemmas.Int.{ints}
-use Rattle.fold_fn.specs.Order.{insert_rising}
-use Rattle.tally_node.specs.Gathers.{argument_given, argument_of}
+use Rattle.tally_node.proofs.Common.{◌≡◌, ◌∙◌, sym, ap, arith, w64, to_z, of_z, ints, insert_rising, argument_given, argument_of}
 use Rattle.tally_node.proofs.Gathering.{gathers_more}
 use Rattle.tally_node.proofs.gathered.GatheredTally.add.Goals as goal
 

@@ -1,5 +1,4 @@
-use Rattle.std.proofs.Common.{◌≡◌, ◌∙◌, sym, ap, rules, length}
-use Rattle.fold_fn.specs.Held.{Held}
+use Rattle.tally_node.proofs.Common.{◌≡◌, ◌∙◌, sym, ap, rules, length, Held}
 use Rattle.tally_node.proofs.Extras.{gathers_beyond}
 use Rattle.tally_node.proofs.gathered.GatheredTally.beyond.Goals as goal
 

@@ -1,11 +1,5 @@
-use Rattle.std.proofs.Common.{◌∙◌, sym, ap, refl, cond, List, None, true}
-use Rattle.row_delta.specs.declared.row.Named.{Named}
-use Rattle.row_delta.specs.declared.row.Row.{Row}
-use Rattle.row_delta.specs.Rows.{has}
-use Rattle.pair_memory.specs.Joined.{has_name}
-use Rattle.pair_memory.specs.Memories.{left_at}
+use Rattle.tally_node.proofs.Common.{◌∙◌, sym, ap, refl, cond, List, None, true, Named, Row, has, has_name, left_at, shown}
 use Rattle.pair_memory.specs.Inputs.{row_naming}
-use Rattle.tally_node.specs.Tallies.{shown}
 use Rattle.tally_node.proofs.Stepping.{stays, fresh}
 use Rattle.tally_node.proofs.node.TallyNode.advanced.Goals as goal
 

@@ -1,8 +1,4 @@
-use Rattle.std.proofs.Common.{◌≡◌, ◌∙◌, sym, ap, refl, List, ◌&&◌}
-use Rattle.row_delta.specs.declared.row.Named.{Named}
-use Rattle.pair_memory.specs.Joined.{has_name}
-use Rattle.pair_memory.specs.Memories.{has_right}
-use Rattle.tally_node.specs.Tallies.{passing}
+use Rattle.tally_node.proofs.Common.{◌≡◌, ◌∙◌, sym, ap, refl, List, ◌&&◌, Named, has_name, has_right, passing}
 use Rattle.tally_node.proofs.Beside.{none_beyond, positive, beyond_is}
 use Rattle.tally_node.proofs.node.TallyNode.extra_beside.Goals as goal
 

@@ -1,8 +1,4 @@
-use Rattle.std.proofs.Common.{◌∙◌, sym, ap, subst, ◌+◌, ◌++◌, ◌∷◌, [], take, List}
-use Rattle.std.proofs.lemmas.List.{take_more}
-use Rattle.row_delta.specs.declared.row.Row.{Row}
-use Rattle.row_delta.specs.Rows.{has, InOrder}
-use Rattle.tally_node.specs.Beside.{IsBeside}
+use Rattle.tally_node.proofs.Common.{◌∙◌, sym, ap, subst, ◌+◌, ◌++◌, ◌∷◌, [], take, List, take_more, Row, has, InOrder, IsBeside}
 use Rattle.tally_node.proofs.Beside.{extras_of}
 use Rattle.tally_node.proofs.Following.{take_all}
 use Rattle.tally_node.proofs.Searching.{AreListed, listed_more}

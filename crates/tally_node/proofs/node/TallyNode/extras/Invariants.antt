@@ -1,5 +1,4 @@
-use Rattle.std.proofs.Common.{take}
-use Rattle.tally_node.specs.Beside.{IsBeside}
+use Rattle.tally_node.proofs.Common.{take, IsBeside}
 use Rattle.tally_node.proofs.Searching.{AreListed}
 use Rattle.tally_node.proofs.node.TallyNode.extras.Given as goal
 

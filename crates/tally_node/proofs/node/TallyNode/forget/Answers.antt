@@ -1,5 +1,4 @@
-use Rattle.std.proofs.Common.{◌∙◌, sym, ap, not, ◌&&◌}
-use Rattle.tally_node.specs.Tallies.{shown}
+use Rattle.tally_node.proofs.Common.{◌∙◌, sym, ap, not, ◌&&◌, shown}
 use Rattle.tally_node.proofs.Turning.{shown_alike}
 use Rattle.tally_node.proofs.node.TallyNode.forget.Goals as goal
 

@@ -1,5 +1,4 @@
-use Rattle.std.proofs.Common.{◌≡◌, ◌∙◌, ap, refl, Option, Some, None}
-use Rattle.std.specs.Option.{is_some, option_map}
+use Rattle.tally_node.proofs.Common.{◌≡◌, ◌∙◌, ap, refl, Option, Some, None, is_some, option_map}
 use Rattle.tally_node.proofs.node.TallyNode.has_left.Goals as goal
 
 mapped : {A B : Type 0} (f : A → B) (o : Option A) → is_some o ≡ is_some (option_map f o)

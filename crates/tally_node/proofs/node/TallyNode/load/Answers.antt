@@ -1,8 +1,4 @@
-use Rattle.std.proofs.Common.{◌∙◌, sym, ap, refl, true, ◌||◌}
-use Rattle.row_delta.specs.Rows.{has}
-use Rattle.pair_memory.proofs.Turning.{keeps_then}
-use Rattle.tally_node.specs.Extras.{extra_for}
-use Rattle.tally_node.specs.Tallies.{shown}
+use Rattle.tally_node.proofs.Common.{◌∙◌, sym, ap, refl, true, ◌||◌, has, keeps_then, extra_for, shown}
 use Rattle.tally_node.proofs.Loading.{loaded}
 use Rattle.tally_node.proofs.node.TallyNode.load.Goals as goal
 

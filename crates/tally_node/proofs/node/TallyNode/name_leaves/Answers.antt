@@ -1,12 +1,5 @@
-use Rattle.std.proofs.Common.{◌∙◌, sym, ap, List}
-use Rattle.std.specs.Ordering.{eq_by_cmp}
-use Rattle.row_delta.specs.declared.row.Row.{Row}
-use Rattle.row_delta.specs.Rows.{has}
-use Rattle.row_delta.specs.NameOrder.{name_cmp}
-use Rattle.join_tests.specs.Joins.{joins}
-use Rattle.pair_memory.specs.Memories.{left_at, has_right}
+use Rattle.tally_node.proofs.Common.{◌∙◌, sym, ap, List, eq_by_cmp, Row, has, name_cmp, joins, left_at, has_right, AllFollow, AllStay}
 use Rattle.pair_memory.proofs.Turning.{name_absent}
-use Rattle.tally_node.specs.Parts.{AllFollow, AllStay}
 use Rattle.tally_node.proofs.Following.{steps_follow_same}
 use Rattle.tally_node.proofs.Parts.{unmoved, part_then, leave_all}
 use Rattle.tally_node.proofs.node.TallyNode.name_leaves.Goals as goal

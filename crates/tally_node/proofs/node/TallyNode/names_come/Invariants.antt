@@ -1,8 +1,4 @@
-use Rattle.std.proofs.Common.{◌||◌, take}
-use Rattle.pair_memory.specs.Joined.{has_name}
-use Rattle.pair_memory.specs.Memories.{has_left, has_right}
-use Rattle.tally_node.specs.Tallies.{shown}
-use Rattle.tally_node.specs.Parts.{PartStep, AllFollow}
+use Rattle.tally_node.proofs.Common.{◌||◌, take, has_name, has_left, has_right, shown, PartStep, AllFollow}
 use Rattle.tally_node.proofs.node.TallyNode.names_come.Given as goal
 
 abbrev pub invariant-loop-who : goal.invariant-loop-who

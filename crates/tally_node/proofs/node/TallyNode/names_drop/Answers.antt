@@ -1,8 +1,4 @@
-use Rattle.std.proofs.Common.{◌∙◌, refl}
-use Rattle.std.specs.Ordering.{eq_by_cmp}
-use Rattle.row_delta.specs.NameOrder.{name_cmp, name_equiv}
-use Rattle.pair_memory.specs.Memories.{has_right}
-use Rattle.pair_memory.proofs.Turning.{keeps_then, less_more, any_name}
+use Rattle.tally_node.proofs.Common.{◌∙◌, refl, eq_by_cmp, name_cmp, name_equiv, has_right, keeps_then, less_more, any_name}
 use Rattle.tally_node.proofs.node.TallyNode.names_drop.Goals as goal
 
 pub loop-who-preserved : goal.loop-who-preserved

@@ -1,9 +1,4 @@
-use Rattle.std.proofs.Common.{refl, get_or}
-use Rattle.std.specs.Ordering.{eq_by_cmp}
-use Rattle.row_delta.specs.NameOrder.{name_cmp, name_equiv}
-use Rattle.pair_memory.specs.Joined.{has_name}
-use Rattle.pair_memory.specs.Memories.{has_right}
-use Rattle.pair_memory.proofs.Turning.{less_more, any_name}
+use Rattle.tally_node.proofs.Common.{refl, get_or, eq_by_cmp, name_cmp, name_equiv, has_name, has_right, less_more, any_name}
 use Rattle.tally_node.proofs.Following.{name_within}
 use Rattle.tally_node.proofs.Parts.{part_then, follow_all}
 use Rattle.tally_node.proofs.node.TallyNode.names_leave.Goals as goal

@@ -1,9 +1,4 @@
-use Rattle.std.proofs.Common.{◌∙◌, sym, ap}
-use Rattle.std.specs.Ordering.{eq_by_cmp}
-use Rattle.row_delta.specs.Rows.{row_cmp}
-use Rattle.row_change.proofs.Alike.{leads_alike}
-use Rattle.tally_node.specs.Tallies.{shown, output_some}
-use Rattle.tally_node.specs.Parts.{AllDropped}
+use Rattle.tally_node.proofs.Common.{◌∙◌, sym, ap, eq_by_cmp, row_cmp, leads_alike, shown, output_some, AllDropped}
 use Rattle.tally_node.proofs.Parts.{unmoved}
 use Rattle.tally_node.proofs.Turning.{shown_from, gone_shown, untouched}
 use Rattle.tally_node.proofs.node.TallyNode.row_leaves.Goals as goal

@@ -1,20 +1,4 @@
-use Rattle.std.proofs.Common.{◌≡◌, ◌∙◌, sym, ap, refl, subst, cond, List, Some, None, ◌||◌, true, Bool, Bor}
-use mathlib.Core.Path.{fun_ext}
-use Rattle.std.specs.Option.{option_map}
-use Rattle.std.specs.Ordering.{eq_by_cmp}
-use Rattle.row_delta.specs.declared.extra.Extra.{Extra}
-use Rattle.row_delta.specs.declared.row.Named.{Named}
-use Rattle.row_delta.specs.declared.row.Row.{Row}
-use Rattle.row_delta.specs.Rows.{row_cmp}
-use Rattle.row_change.proofs.Alike.{leads_alike}
-use Rattle.join_tests.specs.Joins.{Look, joins}
-use Rattle.pair_memory.specs.Joined.{has_name}
-use Rattle.pair_memory.specs.Memories.{left_at, has_left, has_right, Keeps}
-use Rattle.pair_memory.proofs.Joining.{row_decides}
-use Rattle.pair_memory.proofs.Turning.{row_present}
-use Rattle.tally_node.specs.Extras.{IsLaden}
-use Rattle.tally_node.specs.Tallies.{shown, passing}
-use Rattle.tally_node.specs.Parts.{AllLoaded}
+use Rattle.tally_node.proofs.Common.{◌≡◌, ◌∙◌, sym, ap, refl, subst, cond, List, Some, None, ◌||◌, true, Bool, Bor, fun_ext, option_map, eq_by_cmp, Extra, Named, Row, row_cmp, leads_alike, Look, joins, has_name, left_at, has_left, has_right, Keeps, row_decides, row_present, IsLaden, shown, passing, AllLoaded}
 use Rattle.tally_node.proofs.Following.{first_of, arrives_there, arrives_one}
 use Rattle.tally_node.proofs.Parts.{unmoved}
 use Rattle.tally_node.proofs.Turning.{put_shown, shown_from, none_output}

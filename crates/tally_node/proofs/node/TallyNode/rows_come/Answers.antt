@@ -1,9 +1,4 @@
-use Rattle.std.proofs.Common.{◌+◌, take}
-use Rattle.std.specs.Ordering.{eq_by_cmp}
-use Rattle.row_delta.specs.Rows.{has, row_cmp}
-use Rattle.row_delta.specs.RowOrder.{same_equiv}
-use Rattle.pair_memory.specs.Memories.{has_left}
-use Rattle.pair_memory.proofs.Turning.{more_more}
+use Rattle.tally_node.proofs.Common.{◌+◌, take, eq_by_cmp, has, row_cmp, same_equiv, has_left, more_more}
 use Rattle.tally_node.proofs.Following.{rows_more}
 use Rattle.tally_node.proofs.Parts.{part_then, arrive_then}
 use Rattle.tally_node.proofs.node.TallyNode.rows_come.Goals as goal

@@ -1,8 +1,4 @@
-use Rattle.std.proofs.Common.{◌||◌, take}
-use Rattle.row_delta.specs.Rows.{has}
-use Rattle.pair_memory.specs.Memories.{has_left, has_right}
-use Rattle.tally_node.specs.Tallies.{shown}
-use Rattle.tally_node.specs.Parts.{PartStep, AllArrive}
+use Rattle.tally_node.proofs.Common.{◌||◌, take, has, has_left, has_right, shown, PartStep, AllArrive}
 use Rattle.tally_node.proofs.node.TallyNode.rows_come.Given as goal
 
 abbrev pub invariant-loop-row : goal.invariant-loop-row

@@ -1,15 +1,4 @@
-use Rattle.std.proofs.Common.{◌∙◌, sym, ap, subst, ◌+◌, ◌||◌, take, Bor}
-use Rattle.std.specs.Ordering.{eq_by_cmp}
-use Rattle.std.specs.Option.{option_map}
-use Rattle.row_delta.specs.declared.extra.Extra.{Extra}
-use Rattle.row_delta.specs.Rows.{has, row_cmp, InOrder}
-use Rattle.row_delta.specs.RowOrder.{same_equiv}
-use Rattle.pair_memory.specs.Memories.{has_left, has_right}
-use Rattle.pair_memory.proofs.Joining.{row_decides}
-use Rattle.pair_memory.proofs.Turning.{more_more}
-use Rattle.tally_node.specs.Extras.{extra_for, rows_of_extras}
-use Rattle.tally_node.specs.Parts.{PartStep, AllLoaded}
-use Rattle.tally_node.specs.Tallies.{shown}
+use Rattle.tally_node.proofs.Common.{◌∙◌, sym, ap, subst, ◌+◌, ◌||◌, take, Bor, eq_by_cmp, option_map, Extra, has, row_cmp, InOrder, same_equiv, has_left, has_right, row_decides, more_more, extra_for, rows_of_extras, PartStep, AllLoaded, shown}
 use Rattle.tally_node.proofs.Following.{rows_more, take_all}
 use Rattle.tally_node.proofs.Loading.{load_then}
 use Rattle.tally_node.proofs.Parts.{part_then}

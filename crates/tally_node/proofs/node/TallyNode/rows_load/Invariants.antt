@@ -1,9 +1,4 @@
-use Rattle.std.proofs.Common.{◌||◌, take}
-use Rattle.row_delta.specs.Rows.{has, InOrder}
-use Rattle.pair_memory.specs.Memories.{has_left, has_right}
-use Rattle.tally_node.specs.Extras.{extra_for, rows_of_extras}
-use Rattle.tally_node.specs.Tallies.{shown}
-use Rattle.tally_node.specs.Parts.{PartStep, AllLoaded}
+use Rattle.tally_node.proofs.Common.{◌||◌, take, has, InOrder, has_left, has_right, extra_for, rows_of_extras, shown, PartStep, AllLoaded}
 use Rattle.tally_node.proofs.node.TallyNode.rows_load.Given as goal
 
 abbrev pub invariant-loop-row : goal.invariant-loop-row

@@ -1,9 +1,4 @@
-use Rattle.std.proofs.Common.{◌+◌, subst, take}
-use Rattle.std.specs.Ordering.{eq_by_cmp}
-use Rattle.row_delta.specs.Rows.{has, row_cmp}
-use Rattle.pair_memory.specs.Memories.{has_left, has_right}
-use Rattle.tally_node.specs.Tallies.{shown}
-use Rattle.tally_node.specs.Parts.{PartStep, AllTurned}
+use Rattle.tally_node.proofs.Common.{◌+◌, subst, take, eq_by_cmp, has, row_cmp, has_left, has_right, shown, PartStep, AllTurned}
 use Rattle.tally_node.proofs.Following.{take_all, rows_more, rows_apart}
 use Rattle.tally_node.proofs.Parts.{part_then, turned_then}
 use Rattle.tally_node.proofs.node.TallyNode.turn_all.Goals as goal

@@ -1,12 +1,5 @@
-use Rattle.std.proofs.Common.{◌∙◌, sym, ap, refl}
+use Rattle.tally_node.proofs.Common.{◌∙◌, sym, ap, refl, eq_by_cmp, row_cmp, leads_alike, left_at, has_left, has_right, keeps_then, shown, output_some, AllTurned}
 use Rattle.std.proofs.lemmas.Result.{on_ok_weaker}
-use Rattle.std.specs.Ordering.{eq_by_cmp}
-use Rattle.row_delta.specs.Rows.{row_cmp}
-use Rattle.row_change.proofs.Alike.{leads_alike}
-use Rattle.pair_memory.specs.Memories.{left_at, has_left, has_right}
-use Rattle.pair_memory.proofs.Turning.{keeps_then}
-use Rattle.tally_node.specs.Tallies.{shown, output_some}
-use Rattle.tally_node.specs.Parts.{AllTurned}
 use Rattle.tally_node.proofs.Parts.{unmoved}
 use Rattle.tally_node.proofs.Turning.{shown_from, steps_one, steps_absent, absent, exchanged, was_there, exchanged_shown}
 use Rattle.tally_node.proofs.node.TallyNode.turn_at.Goals as goal

@@ -1,7 +1,5 @@
-use Rattle.std.proofs.Common.{◌∙◌, ap, rules, of_calls}
+use Rattle.tally_node.proofs.Common.{◌∙◌, ap, rules, of_calls, Extra, row_cmp}
 use Rattle.std.proofs.lemmas.Fn.{always_returns_same}
-use Rattle.row_delta.specs.declared.extra.Extra.{Extra}
-use Rattle.row_delta.specs.Rows.{row_cmp}
 use Rattle.tally_node.proofs.Searching.{found_at, not_found}
 use Rattle.tally_node.proofs.node.loading.extra_of.Goals as goal
 

@@ -1,9 +1,4 @@
-use Rattle.std.proofs.Common.{◌≡◌, ◌≢◌, ◌<◌, length, map, Vec, Global, None, sym, ◌∙◌, ap, subst}
-use Rattle.std.specs.List.{All}
-use Rattle.std.proofs.lemmas.List.Elements.{All-from_recursion}
-use Rattle.temporal_net.specs.declared.edge.NetEdge.{NetEdge}
-use Rattle.temporal_net.specs.Networks.{edge_at, IsShortestPath}
-use Rattle.temporal_net.specs.Tables.{cell}
+use Rattle.temporal_net.proofs.Common.{◌≡◌, ◌≢◌, ◌<◌, length, map, Vec, Global, None, sym, ◌∙◌, ap, subst, All, All-from_recursion, NetEdge, edge_at, IsShortestPath, cell}
 use Rattle.temporal_net.proofs.Solved.{distance_known, followed, on_items, path_seen}
 use Rattle.temporal_net.proofs.Ways.{follows_known}
 use Rattle.temporal_net.proofs.minimal.Minimal.path.Goals as goal

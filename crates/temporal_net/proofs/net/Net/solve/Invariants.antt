@@ -1,5 +1,4 @@
-use Rattle.std.proofs.Common.{◌≡◌, length}
-use Rattle.temporal_net.specs.Tables.{AreTable}
+use Rattle.temporal_net.proofs.Common.{◌≡◌, length, AreTable}
 use Rattle.temporal_net.proofs.net.Net.solve.Given as goal
 
 abbrev pub invariant-loop-via : goal.invariant-loop-via

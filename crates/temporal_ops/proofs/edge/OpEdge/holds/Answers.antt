@@ -1,6 +1,4 @@
-use Rattle.std.proofs.Common.{◌≡◌, ◌-ℤ◌, arith, to_z, of_z}
-use Rattle.std.specs.Int.{w128}
-use Rattle.std.proofs.lemmas.Int.{ints}
+use Rattle.temporal_ops.proofs.Common.{◌≡◌, ◌-ℤ◌, arith, to_z, of_z, w128, ints}
 use Rattle.temporal_ops.specs.Edges.{edge_holds}
 use Rattle.temporal_ops.proofs.edge.OpEdge.holds.Goals as goal
 

@@ -1,4 +1,4 @@
-use Rattle.std.proofs.Common.{arith}
+use Rattle.temporal_ops.proofs.Common.{arith}
 use Rattle.temporal_ops.proofs.Fields.{exchanged_more, exchanged_front}
 use Rattle.temporal_ops.proofs.op.Op.exchanged.Goals as goal
 

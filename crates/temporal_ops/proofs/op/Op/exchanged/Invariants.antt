@@ -1,5 +1,4 @@
-use Rattle.std.proofs.Common.{◌≡◌, ◌++◌, map, take, drop}
-use Rattle.temporal_ops.specs.Operators.{opposite_edge}
+use Rattle.temporal_ops.proofs.Common.{◌≡◌, ◌++◌, map, take, drop, opposite_edge}
 use Rattle.temporal_ops.proofs.op.Op.exchanged.Given as goal
 
 abbrev pub invariant-loop-item : goal.invariant-loop-item

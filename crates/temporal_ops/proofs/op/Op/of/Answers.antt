@@ -1,4 +1,4 @@
-use Rattle.std.proofs.Common.{refl}
+use Rattle.temporal_ops.proofs.Common.{refl}
 use Rattle.temporal_ops.proofs.Faults.{has_row}
 use Rattle.temporal_ops.proofs.op.Op.of.Goals as goal
 

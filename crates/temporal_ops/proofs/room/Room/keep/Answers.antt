@@ -1,5 +1,5 @@
-use Rattle.std.proofs.Common.{refl}
-use Rattle.temporal_ops.specs.Edges.{edges_hold, edge_holds}
+use Rattle.temporal_ops.proofs.Common.{refl, edge_holds}
+use Rattle.temporal_ops.specs.Edges.{edges_hold}
 use Rattle.temporal_ops.proofs.Rooms.{one_more}
 use Rattle.temporal_ops.proofs.room.Room.keep.Goals as goal
 

@@ -1,7 +1,4 @@
-use Rattle.std.proofs.Common.{◌≡◌, ◌↔◌, true, take}
-use Rattle.fx_base.specs.declared.times.Times.{Times}
-use Rattle.temporal_ops.specs.Edges.{edges_hold}
-use Rattle.temporal_ops.specs.Room.{Fits}
+use Rattle.temporal_ops.proofs.Common.{◌≡◌, ◌↔◌, true, take, Times, edges_hold, Fits}
 use Rattle.temporal_ops.proofs.room.Room.keep.Given as goal
 
 abbrev pub invariant-loop-edge : goal.invariant-loop-edge

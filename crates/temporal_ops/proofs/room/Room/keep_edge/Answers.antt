@@ -1,6 +1,4 @@
-use Rattle.std.proofs.Common.{arith}
-use Rattle.std.proofs.lemmas.Int.{ints}
-use Rattle.temporal_ops.specs.declared.edge.Corner.TheVariants.{BStart, BEnd}
+use Rattle.temporal_ops.proofs.Common.{arith, ints, BStart, BEnd}
 use Rattle.temporal_ops.proofs.Rooms.{start_end_by, end_end_by, start_begin_at, end_begin_at}
 use Rattle.temporal_ops.proofs.room.Room.keep_edge.Goals as goal
 

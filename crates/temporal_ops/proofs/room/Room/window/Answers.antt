@@ -1,7 +1,4 @@
-use Rattle.std.proofs.Common.{◌≡◌, false, arith, to_z, of_z}
-use Rattle.std.specs.Int.{w128}
-use Rattle.std.proofs.lemmas.Int.{ints}
-use Rattle.temporal_ops.specs.Room.{is_empty}
+use Rattle.temporal_ops.proofs.Common.{◌≡◌, false, arith, to_z, of_z, w128, ints, is_empty}
 use Rattle.temporal_ops.proofs.Rooms.{endless_starts, latest_start}
 use Rattle.temporal_ops.proofs.room.Room.window.Goals as goal
 

@@ -1,6 +1,4 @@
-use Rattle.std.proofs.Common.{sym, subst, []}
-use Rattle.window_gate.specs.declared.gate.Kept.{Kept}
-use Rattle.window_gate.specs.Standing.{Keeps}
+use Rattle.window_gate.proofs.Common.{sym, subst, [], Kept, Keeps}
 use Rattle.window_gate.proofs.gate.Gate.new.Goals as goal
 use Rattle.window_gate.proofs.gate.Gate.new.Goals.{in-Whole, in-Time, in-Length}
 

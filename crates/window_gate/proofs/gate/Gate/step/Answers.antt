@@ -1,11 +1,6 @@
-use Rattle.std.proofs.Common.{sym, subst, ℤ, List, map}
-use Rattle.std.proofs.lemmas.Int.{to_z-of_z}
-use Rattle.row_delta.specs.Differences.{IsBetween}
-use Rattle.window_gate.specs.declared.change.WindowKind.TheVariants.{Time, Length}
+use Rattle.window_gate.proofs.Common.{sym, subst, ℤ, List, map, to_z-of_z, IsBetween, Time, Length, Kept, Arrival, named_of, after, rows_inside, TagsDiffer, Keeps, KeepsTime, KeepsLength, MayChange}
 use Rattle.row_delta.specs.DifferenceLaws.{between_disjoint}
-use Rattle.window_gate.specs.declared.gate.Kept.{Kept}
-use Rattle.window_gate.specs.Windows.{Arrival, named_of, after, rows_inside}
-use Rattle.window_gate.specs.Standing.{Stands, Takes, TagsDiffer, Keeps, KeepsTime, KeepsLength, MayPass, MayChange, window_kept, window_of}
+use Rattle.window_gate.specs.Standing.{Stands, Takes, MayPass, window_kept, window_of}
 use Rattle.window_gate.proofs.Insides.{differ_after}
 use Rattle.window_gate.proofs.gate.Gate.step.Goals as goal
 

@@ -1,8 +1,4 @@
-use Rattle.std.proofs.Common.{◌≡◌, ◌∙◌, ap, ◌+◌, map, rules, ℕ}
-use Rattle.std.specs.BTreeMap.{BTreeMap}
-use Rattle.row_delta.specs.declared.delta.Delta.{Delta}
-use Rattle.row_delta.specs.declared.row.Named.{Named}
-use Rattle.window_gate.specs.Windows.{single}
+use Rattle.window_gate.proofs.Common.{◌≡◌, ◌∙◌, ap, ◌+◌, map, rules, ℕ, BTreeMap, Delta, Named, single}
 use Rattle.window_gate.proofs.Lengths.{kept_never, between_never, kept_enters, between_enters, slice_is}
 use Rattle.window_gate.proofs.length_window.LengthWindow.come.Goals as goal
 use Rattle.window_gate.proofs.length_window.LengthWindow.come.Goals.{then-size-eq0+in_ok-insert-2+in_ok-delta, else-size-eq0+in_ok-insert-3+in_ok-delta-2}

@@ -1,10 +1,5 @@
-use Rattle.std.proofs.Common.{◌≡◌, ◌∙◌, sym, ap, subst, [], ◌∷◌, ◌++◌}
-use Rattle.std.specs.BTreeMap.{is_at}
+use Rattle.window_gate.proofs.Common.{◌≡◌, ◌∙◌, sym, ap, subst, [], ◌∷◌, ◌++◌, is_at, keys_of, values_of, lookup, nat_cmp, Numbered, number_of}
 use Rattle.std.specs.List.Sorted.{IsStrictlySortedBy}
-use Rattle.std.specs.Map.{keys_of, values_of, lookup}
-use Rattle.std.specs.Ordering.{nat_cmp}
-use Rattle.window_gate.specs.Pieces.{Numbered}
-use Rattle.window_gate.specs.Standing.{number_of}
 use Rattle.window_gate.proofs.length_window.LengthWindow.new.Goals as goal
 
 -- there is none

@@ -1,10 +1,4 @@
-use Rattle.std.proofs.Common.{sym, subst, map}
-use Rattle.std.specs.Prelude.{IfOk}
-use Rattle.row_delta.specs.Differences.{IsBetween}
-use Rattle.window_gate.specs.declared.change.GateChange.{GateChange}
-use Rattle.window_gate.specs.declared.change.WindowKind.TheVariants.{Length}
-use Rattle.window_gate.specs.Windows.{named_of, after, rows_inside}
-use Rattle.window_gate.specs.Standing.{KeepsLength, MayChange}
+use Rattle.window_gate.proofs.Common.{sym, subst, map, IfOk, IsBetween, GateChange, Length, named_of, after, rows_inside, KeepsLength, MayChange}
 use Rattle.window_gate.proofs.Lengths.{between_clock, keeps_still}
 use Rattle.window_gate.proofs.length_window.LengthWindow.step.Goals as goal
 

@@ -1,10 +1,5 @@
-use Rattle.std.proofs.Common.{◌∙◌, ap, []}
-use Rattle.std.proofs.lemmas.Cmp.{nat_cmp_total}
-use Rattle.std.specs.BTreeMap.{is_at}
+use Rattle.window_gate.proofs.Common.{◌∙◌, ap, [], nat_cmp_total, is_at, lookup, nat_cmp, Timers}
 use Rattle.std.specs.FinMap as timers
-use Rattle.std.specs.Map.{lookup}
-use Rattle.std.specs.Ordering.{nat_cmp}
-use Rattle.due_queue.specs.Timers.{Timers}
 use Rattle.window_gate.proofs.time_window.TimeWindow.new.Goals as goal
 
 pub returns-clause-keeps : goal.returns-clause-keeps

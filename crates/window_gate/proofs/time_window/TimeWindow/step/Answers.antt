@@ -1,19 +1,6 @@
-use Rattle.std.proofs.Common.{◌≡◌, ◌∙◌, sym, ap, subst, rules, ℕ, ◌+ℤ◌, ◌&&◌, None, cond, map, arith, FitsSigned, w64}
-use Rattle.std.specs.BTreeMap.{get}
+use Rattle.window_gate.proofs.Common.{◌≡◌, ◌∙◌, sym, ap, subst, rules, ℕ, ◌+ℤ◌, ◌&&◌, None, cond, map, arith, FitsSigned, w64, get, list_any, option_to_list, nat_cmp, ints, to_z-of_z, IsBetween, Named, Time, GateChange, TimeWindow, named_of, after, single, rows_inside, KeepsTime, MayChange, has_name, leaves, is_id}
 use Rattle.std.specs.FinMap as timers
-use Rattle.std.specs.List.{list_any}
-use Rattle.std.specs.Option.{option_to_list}
-use Rattle.std.specs.Ordering.{nat_cmp}
 use Rattle.std.specs.Prelude.{nat_eq}
-use Rattle.std.proofs.lemmas.Int.{ints, to_z-of_z}
-use Rattle.row_delta.specs.Differences.{IsBetween}
-use Rattle.row_delta.specs.declared.row.Named.{Named}
-use Rattle.window_gate.specs.declared.change.WindowKind.TheVariants.{Time}
-use Rattle.window_gate.specs.declared.change.GateChange.{GateChange}
-use Rattle.window_gate.specs.declared.time_window.TimeWindow.{TimeWindow}
-use Rattle.window_gate.specs.Windows.{named_of, after, single, rows_inside}
-use Rattle.window_gate.specs.Standing.{KeepsTime, MayChange, has_name}
-use Rattle.window_gate.specs.Pieces.{leaves, is_id}
 use Rattle.window_gate.proofs.Insides.{differ_after}
 use Rattle.window_gate.proofs.Lengths.{slice_is}
 use Rattle.window_gate.proofs.Times.{other_kept, other_between, come_in, come_between, moment_is}
