@@ -28,7 +28,6 @@ use row_change::Change;
 use row_delta::{Delta, Named};
 use rule_model::{Pattern, Program, WindowTag};
 use std::alloc::Global;
-use std::mem::replace;
 use window_gate::{Gate, GateChange, WindowKind};
 
 /// The window in front of the node of a pattern. It keeps what the window needs of the facts that fit the pattern: nothing
@@ -123,15 +122,11 @@ impl PatternGate {
             → Moves program.now s next (lent gone.now) (option_map (λ f. f.now) come.entry) → next.clock ≡ clock
             → IsNameDifference (candidates_of program.now pattern.now s) (candidates_of program.now pattern.now next) delta) }
     {
-        if self.is_still(pattern, gone, come, clock) {
-            let delta = Change::none(alloc).delta(alloc)?;
-            return Ok(delta);
-        }
         let delta = self.advanced(alloc, pattern, gone, come, clock)?;
         Ok(delta)
     }
 
-    /// A step in which a fact is meant, or the clock may let one leave.
+    /// The same, of what the gate keeps: the clock moves, facts go, and one comes.
     fn advanced(
         &mut self,
         alloc: Global,
@@ -248,9 +243,7 @@ impl PatternGate {
         ensures reaches { OnOk result ((old : Row → Bool) (window : WindowKind) (arrivals : List Arrival) (was : ℤ) → Reaches old window self.old change.old arrivals was
             → Takes window arrivals was event.now clock → Reaches old window self.new change.new (after arrivals event.now) clock) }
     {
-        let gate = replace(&mut self.gate, Gate::new(alloc, WindowKind::Whole));
-        let (gate, delta) = gate.step(alloc, event, clock)?;
-        self.gate = gate;
+        let delta = self.gate.turn(alloc, event, clock)?;
         let Delta { gone, come } = delta;
         change.leave(alloc, gone.into_vec())?;
         change.arrive(alloc, come.into_vec())?;

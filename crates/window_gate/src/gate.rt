@@ -1,9 +1,10 @@
-ghost use Rattle.std.specs.Prelude.{◌≡◌, ℤ, ◌≤ℤ◌, ◌<ℤ◌, List, [], IfOk, IfSome, map};
+ghost use Rattle.std.specs.Prelude.{◌≡◌, ℤ, ◌≤ℤ◌, ◌<ℤ◌, List, [], IfOk, IfSome, IsTrue, OnOk, map};
 ghost use Rattle.fx_base.specs.Lists.{In};
 ghost use Rattle.row_delta.specs.Differences.{IsBetween, IsDisjoint};
 ghost use Rattle.row_delta.specs.Rows.{has};
 ghost use Rattle.row_delta.specs.declared.row.Row.{Row};
 ghost use Rattle.window_gate.specs.declared.change.WindowKind.TheVariants.{Whole};
+ghost use Rattle.window_gate.specs.declared.gate.Kept.TheVariants as kept;
 ghost use Rattle.window_gate.specs.Windows.{Arrival, named_of, after, inside, rows_inside};
 ghost use Rattle.window_gate.specs.Standing.{Stands, Takes, TagsDiffer, MayChange, LeavesAt, window_of};
 
@@ -14,6 +15,7 @@ use crate::time_window::TimeWindow;
 use fx_base::{Millis, NoMemory};
 use row_delta::Delta;
 use std::alloc::Global;
+use std::mem::replace;
 
 /// What a window keeps of the facts that came.
 #[derive(Drop)]
@@ -112,6 +114,41 @@ impl Gate {
                     delta,
                 ))
             }
+        }
+    }
+
+    /// `step` in place. A whole window, which keeps nothing, stays where it is. After a call that was refused memory it is to be given up.
+    pub fn turn(
+        &mut self,
+        alloc: Global,
+        change: &GateChange,
+        now: Millis,
+    ) -> Result<Delta, NoMemory>
+        ensures window { OnOk result (window_of self.new ≡ window_of self.old) }
+        ensures stands { (arrivals : List Arrival) (was : ℤ) → Stands self.old arrivals was → Takes (window_of self.old) arrivals was change.now now
+            → OnOk result (Stands self.new (after arrivals change.now) now) }
+        ensures between { (arrivals : List Arrival) (was : ℤ) → Stands self.old arrivals was → Takes (window_of self.old) arrivals was change.now now
+            → IfOk result (IsBetween (rows_inside (window_of self.old) was arrivals) (rows_inside (window_of self.old) now (after arrivals change.now))) }
+        ensures disjoint { (arrivals : List Arrival) (was : ℤ) → Stands self.old arrivals was → Takes (window_of self.old) arrivals was change.now now
+            → IfOk result IsDisjoint }
+    {
+        if self.is_whole() {
+            let delta = whole_difference(alloc, change)?;
+            return Ok(delta);
+        }
+        let gate = replace(self, Gate { kept: Kept::Whole });
+        let (gate, delta) = gate.step(alloc, change, now)?;
+        *self = gate;
+        Ok(delta)
+    }
+
+    /// Whether the window is whole.
+    fn is_whole(&self) -> bool
+        ensures { IsTrue result → self.now.kept ≡ kept.Whole }
+    {
+        match &self.kept {
+            Kept::Whole => true,
+            Kept::Time(_) | Kept::Length(_) => false,
         }
     }
 }
