@@ -2,7 +2,7 @@
 """Measures a program that is called as `replay` is, over the loads of loads.py.
 
     python3 tools/bench/measure.py --list
-    python3 tools/bench/measure.py --replay PROGRAM [--runs N] [--clips] [--callgrind] [--latency] [--images] [--folder FOLDER] NAME:LINES[,LINES..] ..
+    python3 tools/bench/measure.py --replay PROGRAM [--runs N] [--clips] [--callgrind] [--latency] [--lines] [--images] [--folder FOLDER] NAME:LINES[,LINES..] ..
 
 A row has the seconds of processor time, user and system, the least of N runs (3), the time of a line with its part of the start, the peak
 of memory, and the firings. `inserts:20000,40000` measures both, and says how the seconds grew: 2.00 is linear. The further words:
@@ -11,6 +11,7 @@ of memory, and the firings. `inserts:20000,40000` measures both, and says how th
              its own form, and the same rules. The ratio is the program's time by that of CLIPS
 --callgrind  instructions a line by valgrind: those of the script of 2n lines less those of n, so that the start falls out
 --latency    on a pipe, by the clock: how long a line and a mark behind it take to be answered, where the program waits for each
+--lines      from a file, by the clock: how long each line takes, where line_clock.c hands out one at a time; it wants a C compiler, `cc`
 --images     how much longer the run takes that saves an image in place of its lines, the image, and a run that goes on from it over no
              lines; the peaks of memory are told by that of the run
 --folder     keeps the files of the loads there
@@ -21,6 +22,7 @@ The status is 1 where a run ended by another status than 0, or CLIPS fired anoth
 from __future__ import annotations
 
 import argparse
+import array
 import ctypes
 import json
 import os
@@ -172,15 +174,31 @@ def share(times: list[int], part: float) -> str:
     return f"{sorted(times)[min(len(times) - 1, int(part * len(times)))] / 1000:.1f}"
 
 
+def spread(times: list[int]) -> str:
+    worst = max(range(len(times)), key=times.__getitem__)
+    parts = "  ".join(f"{name} {share(times, part)} µs" for name, part in (("p50", 0.5), ("p99", 0.99), ("p99.9", 0.999)))
+    return f"{parts}  worst {times[worst] / 1000:.1f} µs (line {worst + 1})"
+
+
 def latency(program: str, files: Files) -> str:
     """The marks alone come first, so the start falls out."""
     pipe = Pipe(program_words(program, files))
     with pipe.child, open(files.script, "rb") as script:
         marks = [pipe.answered(b"\n") for _ in range(MARKS)]
         times = [pipe.answered(text) for text in script]
-    worst = max(range(len(times)), key=times.__getitem__)
-    parts = "  ".join(f"{name} {share(times, part)} µs" for name, part in (("p50", 0.5), ("p99", 0.99), ("p99.9", 0.999)))
-    return f"  on a pipe {parts}  worst {times[worst] / 1000:.1f} µs (line {worst + 1})  a mark alone {share(marks, 0.5)} µs"
+    return f"  on a pipe {spread(times)}  a mark alone {share(marks, 0.5)} µs"
+
+
+def by_lines(program: str, files: Files) -> str:
+    folder = files.rules.parent
+    clock, told = folder / "line_clock.so", folder / "times"
+    subprocess.run(["cc", "-O2", "-shared", "-fPIC", "-o", clock, Path(__file__).with_name("line_clock.c"), "-ldl"], check=True)
+    with open(files.script, "rb") as script:
+        subprocess.run(program_words(program, files), stdin=script, stdout=subprocess.DEVNULL, check=True,
+                       env={**os.environ, "LD_PRELOAD": str(clock), "LINE_CLOCK": str(told)})
+    times = array.array("Q")
+    times.frombytes(told.read_bytes())
+    return f"  from a file {spread(times.tolist())}"
 
 
 # ---- images
@@ -242,6 +260,7 @@ def measured(asked: argparse.Namespace, folder: Path, load: Wanted) -> bool:
         row += growth(before, ours) if before else ""
         row += by_callgrind(asked.replay, folder, load.name, n, files) if asked.callgrind and not ours.status else ""
         row += latency(asked.replay, files) if asked.latency and not ours.status else ""
+        row += by_lines(asked.replay, files) if asked.lines and not ours.status else ""
         row += images(asked.replay, files, asked.runs, ours) if asked.images and not ours.status else ""
         row += beside(ours, theirs) if theirs else ""
         print(row, flush=True)
@@ -258,13 +277,14 @@ def asked_for(given: list[str]) -> argparse.Namespace:
     parser.add_argument("--clips", action="store_true", help="beside CLIPS, where the load has a twin")
     parser.add_argument("--callgrind", action="store_true", help="instructions a line, by valgrind")
     parser.add_argument("--latency", action="store_true", help="how long a line takes on a pipe")
+    parser.add_argument("--lines", action="store_true", help="how long a line of a file takes")
     parser.add_argument("--images", action="store_true", help="how long an image takes, and a run that goes on from it")
     parser.add_argument("--folder", type=Path, help="keep the files there")
     parser.add_argument("loads", nargs="*", type=wanted, metavar="NAME:LINES[,LINES..]")
     asked = parser.parse_args(given)
     if not asked.list and not (asked.replay and asked.loads and asked.runs > 0):
         parser.error("--list, or --replay PROGRAM and a load, with one run or more")
-    needed = [(asked.replay, asked.replay), ("clips", asked.clips), ("valgrind", asked.callgrind)]
+    needed = [(asked.replay, asked.replay), ("clips", asked.clips), ("valgrind", asked.callgrind), ("cc", asked.lines)]
     missing = [name for name, wants in needed if wants and not shutil.which(name)]
     if missing:
         parser.error(f"no such program: {', '.join(missing)}")

@@ -150,6 +150,11 @@ class Measuring(Case):
         with self.assertRaisesRegex(SystemExit, "the program ended"):
             self.told("--runs", 1, "--latency", "--replay", self.program("none", "exit 0"), "pairs:60")
 
+    def test_lines_of_a_file_are_clocked(self):
+        status, out = self.told("--runs", 1, "--lines", "--replay", self.evaluator(), "pairs:60")
+        self.assertEqual(status, 0)
+        self.assertRegex(out, r"  from a file p50 [\d.]+ µs  p99 [\d.]+ µs  p99\.9 [\d.]+ µs  worst [\d.]+ µs \(line \d+\)\n$")
+
     def test_a_bad_end_is_told(self):
         status, out = self.told("--runs", 1, "--replay", self.program("none", "exit 3"), "pairs:60")
         self.assertEqual((status, out.split("fired ")[1]), (1, "0  status 3\n"))
