@@ -3,7 +3,9 @@
 #![tactic(auto)]
 
 mod directory;
+mod moves;
 mod page;
 mod pages;
+mod run;
 
 pub use pages::PageMap;
