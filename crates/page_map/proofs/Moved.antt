@@ -1,10 +1,9 @@
 -- Row and tree behind a write, and behind a move of the row.
-use Rattle.std.proofs.Common.{◌≡◌, ◌∙◌, sym, ap, subst, refl, ℕ, ◌+◌, ◌^◌, ◌<◌, ◌≤◌, List, [], ◌∷◌, ◌++◌, Bool, true, false, cond, Option, Some, None, length, set, arith, length-append, length-set, ◌/◌, ◌%◌}
+use Rattle.std.proofs.Common.{◌≡◌, ◌∙◌, sym, ap, refl, ℕ, ◌+◌, ◌^◌, ◌<◌, ◌≤◌, List, [], ◌∷◌, ◌++◌, Bool, true, false, cond, Option, Some, None, length, set, arith, length-append, length-set, ◌/◌, ◌%◌}
 use Rattle.std.specs.Prelude.{nat_lt}
 use Rattle.std.specs.Option.{option_or}
 use Rattle.std.specs.Ordering.{nat_cmp}
 use Rattle.std.specs.BTreeMap.{is_at}
-use Rattle.std.specs.List.{All}
 use Rattle.std.proofs.lemmas.List.Elements.{All-push, All-pop, All-set, All-tail}
 use Rattle.std.proofs.lemmas.Bool.{ltb-true, ltb-false}
 use Rattle.page_map.specs.Pages.{Directory, AreShort, AreDirectories, numbers_of, value_of, value_at}
@@ -47,8 +46,10 @@ row_written first row tree i w l n =
 pub row_held : (first : ℕ) (row : List Directory) (tree : List (ℕ × Directory)) (i : ℕ) (w : Directory) → AreHeld first row tree → AreShort w.items → AreHeld first (set row i w) tree
 row_held first row tree i w are fits =
     let same = length-set row i w in
+    let few = are.few in
     let end = are.end in record {
       stored = are.stored;
+      few = omega (arith, same, few);
       short = All-set (λ (d : Directory). AreShort d.items) row i w fits are.short;
       end = omega (arith, same, end);
       apart = λ n l h. are.apart n l (omega (arith, same, h));
@@ -67,7 +68,7 @@ module _ (first : ℕ) (row : List Directory) (tree next : List (ℕ × Director
       by false e = refl
 
   pub tree_held : AreHeld first row tree → AreDirectories next → AreHeld first row next
-  tree_held are stored = record { stored = stored; short = are.short; end = are.end; apart = λ n l h. others n ∙ by n l h (is_at (nat_cmp number) n) refl }
+  tree_held are stored = record { stored = stored; short = are.short; few = are.few; end = are.end; apart = λ n l h. others n ∙ by n l h (is_at (nat_cmp number) n) refl }
     where
       by : (n : ℕ) → first ≤ n → n < first + length row → (t : Bool) → is_at (nat_cmp number) n ≡ t → cond t directory (stands n tree) ≡ None
       by n l h true e = absurd (some_within n first row l h (ap (λ m. stands m (numbered first row)) (sym (tied number n e)) ∙ none))
@@ -91,42 +92,42 @@ same_held first row tree start next rest were are values =
     same_values (among first row tree) (among start next rest) (whole first row tree were) (whole start next rest are)
     (λ n k. ap (λ o. value_at o k) (stands_among n start next rest) ∙ values n k ∙ ap (λ o. value_at o k) (sym (stands_among n first row tree)))
 
--- the first directory goes to the tree
+-- the first directory goes to the tree, if it has values
 module _ (first : ℕ) (d : Directory) (row : List Directory) (tree next : List (ℕ × Directory)) (were : AreHeld first (d ∷ row) tree) (stored : AreDirectories next)
-    (others : (n : ℕ) → stands n next ≡ cond (is_at (nat_cmp first) n) (Some d) (stands n tree)) where
+    (others : (n : ℕ) → is_at (nat_cmp first) n ≡ false → stands n next ≡ stands n tree) (values : (k : ℕ) → value_at (stands first next) k ≡ value_at (Some d) k) where
   pub sent_held : AreHeld (first + 1) row next
   sent_held =
+      let few = were.few in
       let end = were.end in record {
         stored = stored;
         short = All-tail (λ (x : Directory). AreShort x.items) d row were.short;
+        few = omega (arith, few);
         end = omega (arith, end);
-        apart = λ n l h. others n ∙ ap (λ t. cond t (Some d) (stands n tree)) (apart first n (λ e. omega (arith, e, l))) ∙ were.apart n (omega (arith, l)) (omega (arith, h));
+        apart = λ n l h. others n (apart first n (λ e. omega (arith, e, l))) ∙ were.apart n (omega (arith, l)) (omega (arith, h));
       }
 
   pub sent_same : held (first + 1) row next ≡ held first (d ∷ row) tree
-  sent_same = same_held first (d ∷ row) tree (first + 1) row next were sent_held (λ n k. ap (λ o. value_at o k) (at n))
+  sent_same = same_held first (d ∷ row) tree (first + 1) row next were sent_held (λ n k. by n k (is_at (nat_cmp n) first) refl)
     where
-      by : (n : ℕ) (t : Bool) → is_at (nat_cmp n) first ≡ t
-          → option_or (stands n (numbered (first + 1) row)) (cond (is_at (nat_cmp first) n) (Some d) (stands n tree)) ≡ option_or (cond t (Some d) (stands n (numbered (first + 1) row))) (stands n tree)
-      by n true e =
+      by : (n k : ℕ) (t : Bool) → is_at (nat_cmp n) first ≡ t
+          → value_at (option_or (stands n (numbered (first + 1) row)) (stands n next)) k ≡ value_at (option_or (cond t (Some d) (stands n (numbered (first + 1) row))) (stands n tree)) k
+      by n k true e =
           let same = tied n first e in
-          ap (λ o. option_or o (cond (is_at (nat_cmp first) n) (Some d) (stands n tree))) (none_before n (first + 1) row (omega (arith, same)))
-          ∙ ap (λ t. cond t (Some d) (stands n tree)) (together first n (sym same))
-      by n false e =
-          ap (λ t. option_or (stands n (numbered (first + 1) row)) (cond t (Some d) (stands n tree)))
-          (apart first n (λ same. let torn : true ≡ false = sym (together n first (sym same)) ∙ e in cc))
-
-      at : (n : ℕ) → option_or (stands n (numbered (first + 1) row)) (stands n next) ≡ option_or (stands n (numbered first (d ∷ row))) (stands n tree)
-      at n = ap (option_or (stands n (numbered (first + 1) row))) (others n) ∙ by n (is_at (nat_cmp n) first) refl
+          ap (λ o. value_at (option_or o (stands n next)) k) (none_before n (first + 1) row (omega (arith, same)))
+          ∙ ap (λ m. value_at (stands m next) k) same ∙ values k
+      by n k false e =
+          ap (λ o. value_at (option_or (stands n (numbered (first + 1) row)) o) k)
+          (others n (apart first n (λ same. let torn : true ≡ false = sym (together n first (sym same)) ∙ e in cc)))
 
 -- the directory behind the last comes from the tree, or without values
-module _ (first : ℕ) (row : List Directory) (d : Directory) (tree next : List (ℕ × Directory)) (were : AreHeld first row tree) (room : first + length row < 2 ^ 53) (stored : AreDirectories next) (fits : AreShort d.items)
+module _ (first : ℕ) (row : List Directory) (d : Directory) (tree next : List (ℕ × Directory)) (were : AreHeld first row tree) (room : first + length row < 2 ^ 53) (few : length row < 2 ^ 16) (stored : AreDirectories next) (fits : AreShort d.items)
     (others : (n : ℕ) → stands n next ≡ cond (is_at (nat_cmp (first + length row)) n) None (stands n tree)) (values : (k : ℕ) → value_at (Some d) k ≡ value_at (stands (first + length row) tree) k) where
   pub grown_held : AreHeld first (row ++ d ∷ []) next
   grown_held =
       let more = length-append row (d ∷ []) in record {
         stored = stored;
         short = All-push (λ (x : Directory). AreShort x.items) row d were.short fits;
+        few = omega (arith, more, few);
         end = omega (arith, more, room);
         apart = λ n l h. others n ∙ by n l (omega (arith, more, h)) (is_at (nat_cmp (first + length row)) n) refl;
       }
@@ -159,6 +160,20 @@ module _ (first : ℕ) (row : List Directory) (d : Directory) (tree next : List 
 
 pub trimmed_nothing : (first : ℕ) (row : List Directory) → IsTrimmed first row first row
 trimmed_nothing first row = record { values = λ n k. refl; start = omega arith; end = omega arith; short = λ p. p }
+
+-- one step after another
+pub trimmed_twice : (old_first : ℕ) (old : List Directory) (first : ℕ) (row : List Directory) (last_first : ℕ) (last : List Directory) → IsTrimmed old_first old first row → IsTrimmed first row last_first last
+    → IsTrimmed old_first old last_first last
+trimmed_twice old_first old first row last_first last a b =
+    let start = a.start in
+    let further = b.start in
+    let end = a.end in
+    let before = b.end in record {
+      values = λ n k. b.values n k ∙ a.values n k;
+      start = omega (arith, start, further);
+      end = omega (arith, end, before);
+      short = λ p. b.short (a.short p);
+    }
 
 module _ (old_first : ℕ) (old : List Directory) (first : ℕ) where
   -- the first directory
@@ -214,8 +229,10 @@ module _ (old_first : ℕ) (old : List Directory) (first : ℕ) (row : List Dire
   trimmed_held =
       let start = trimmed.start in
       let end = trimmed.end in
-      let top = were.end in record {
+      let top = were.end in
+      let few = were.few in record {
         stored = were.stored;
+        few = omega (arith, start, end, few);
         short = trimmed.short were.short;
         end = omega (arith, end, top);
         apart = λ n l h. were.apart n (omega (arith, l, start)) (omega (arith, h, end));

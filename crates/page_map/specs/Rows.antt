@@ -20,12 +20,17 @@ among first row (directory ∷ tree) = cond (nat_lt directory.0 first) (director
 abbrev pub held : ℕ → List Directory → List (ℕ × Directory) → Numbers
 held first row tree = numbers_of (among first row tree)
 
--- the directories of row and tree are those of keys of 64 bits, none reaches into the next, and none stands in both
+-- the directories of row and tree are those of keys of 64 bits, none reaches into the next, and none stands in both; the row is not too long
 pub record AreHeld (first : ℕ) (row : List Directory) (tree : List (ℕ × Directory)) : Type 0 where
   pub stored : AreDirectories tree
   pub short : All (λ directory. AreShort directory.items) row
+  pub few : length row ≤ 2 ^ 16
   pub end : first + length row ≤ 2 ^ 53
   pub apart : (number : ℕ) → first ≤ number → number < first + length row → lookup (is_at (nat_cmp number)) tree ≡ None
+
+-- a number up to which a row may grow
+abbrev pub IsNear : ℕ → List Directory → ℕ → Type 0
+IsNear first row number = (first ≤ number) × (number < first + 2 ^ 16) × (number < first + length row + 8)
 
 -- behind a step that takes directories without values off the ends of a row
 pub record IsTrimmed (old_first : ℕ) (old : List Directory) (first : ℕ) (row : List Directory) : Type 0 where

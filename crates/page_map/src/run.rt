@@ -11,6 +11,9 @@ use fx_base::NoMemory;
 use std::alloc::Global;
 use std::collections::VecDeque;
 
+/// How many directories come or go at an end of a run in one step at most.
+pub(crate) const STRIDE: u64 = 8;
+
 /// Directories in a row: they stand at consecutive numbers, some perhaps without values.
 #[derive(Drop)]
 pub(crate) struct Run {
@@ -55,21 +58,40 @@ impl Run {
         }
     }
 
-    /// Takes the directories without values off both ends. Takes no memory.
+    /// Takes directories without values off both ends, at most `STRIDE` off each. Takes no memory.
     pub(crate) fn trim(&mut self)
         requires { self.old.first + length self.old.directories.items ≤ 2 ^ 53 }
         ensures { IsTrimmed self.old.first self.old.directories.items self.new.first self.new.directories.items }
     {
-        while let Some(front) = self.directories.front() {
+        self.trim_front();
+        self.trim_back();
+    }
+
+    fn trim_front(&mut self)
+        requires { self.old.first + length self.old.directories.items ≤ 2 ^ 53 }
+        ensures { IsTrimmed self.old.first self.old.directories.items self.new.first self.new.directories.items }
+    {
+        for _count in 0..STRIDE {
+            let Some(front) = self.directories.front() else {
+                return;
+            };
             if !front.is_empty() {
-                break;
+                return;
             }
             self.directories.pop_front();
             self.first += 1;
         }
-        while let Some(back) = self.directories.back() {
+    }
+
+    fn trim_back(&mut self)
+        ensures { IsTrimmed self.old.first self.old.directories.items self.new.first self.new.directories.items }
+    {
+        for _count in 0..STRIDE {
+            let Some(back) = self.directories.back() else {
+                return;
+            };
             if !back.is_empty() {
-                break;
+                return;
             }
             self.directories.pop_back();
         }

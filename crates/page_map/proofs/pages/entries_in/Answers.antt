@@ -1,4 +1,4 @@
-use Rattle.std.proofs.Common.{◌≡◌, ◌∙◌, sym, ap, subst, ◌++◌, ◌<◌, ◌^◌, ℕ, List, append_assoc}
+use Rattle.std.proofs.Common.{◌∙◌, sym, ap, subst, ◌++◌, ◌<◌, ◌^◌, ℕ, List, append_assoc}
 use Rattle.std.specs.declared.ops.Bound.TheVariants.{Included, Excluded, Unbounded}
 use Rattle.std.specs.BTreeMap.Range.{range_contains}
 use Rattle.std.specs.Ordering.{nat_cmp}

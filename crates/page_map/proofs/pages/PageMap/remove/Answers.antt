@@ -2,7 +2,6 @@ use Rattle.std.proofs.Common.{◌≡◌, ◌∙◌, sym, ap, ◌/◌, length, So
 use Rattle.std.specs.FinMap as map
 use Rattle.std.specs.Ordering.{nat_cmp}
 use Rattle.std.specs.BTreeMap.{is_at}
-use Rattle.page_map.specs.Pages.{AreDirectories}
 use Rattle.page_map.specs.Rows.{held}
 use Rattle.page_map.proofs.Kept.{rewritten, fewer_directories, remove_absent}
 use Rattle.page_map.proofs.Moved.{trimmed_same}

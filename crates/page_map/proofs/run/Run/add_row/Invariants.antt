@@ -1,4 +1,4 @@
-use Rattle.std.proofs.Common.{◌≡◌, ◌<◌, ◌+◌, ◌^◌, ◌++◌, ℕ, length}
+use Rattle.std.proofs.Common.{◌≡◌, ◌<◌, ◌+◌, ◌^◌, ◌++◌, length}
 use Rattle.std.specs.List.{All}
 use Rattle.std.specs.VecDeque.Iter.{deque_iter_rest}
 use Rattle.page_map.specs.Pages.{Directory, AreShort, entries_of}
