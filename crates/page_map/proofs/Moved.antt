@@ -158,23 +158,6 @@ module _ (first : ℕ) (row : List Directory) (d : Directory) (tree next : List 
 
 -- ---- what is taken off the ends
 
-pub trimmed_nothing : (first : ℕ) (row : List Directory) → IsTrimmed first row first row
-trimmed_nothing first row = record { values = λ n k. refl; start = omega arith; end = omega arith; short = λ p. p }
-
--- one step after another
-pub trimmed_twice : (old_first : ℕ) (old : List Directory) (first : ℕ) (row : List Directory) (last_first : ℕ) (last : List Directory) → IsTrimmed old_first old first row → IsTrimmed first row last_first last
-    → IsTrimmed old_first old last_first last
-trimmed_twice old_first old first row last_first last a b =
-    let start = a.start in
-    let further = b.start in
-    let end = a.end in
-    let before = b.end in record {
-      values = λ n k. b.values n k ∙ a.values n k;
-      start = omega (arith, start, further);
-      end = omega (arith, end, before);
-      short = λ p. b.short (a.short p);
-    }
-
 module _ (old_first : ℕ) (old : List Directory) (first : ℕ) where
   -- the first directory
   pub front_off : (d : Directory) (row : List Directory) → length d.items ≡ 0 → IsTrimmed old_first old first (d ∷ row) → IsTrimmed old_first old (first + 1) row

@@ -1,4 +1,4 @@
-//! A finite map from numbers that mostly rise, as ids and tags do, to numbers: kept in pages, with no table that grows at once.
+//! A finite map from numbers that mostly rise, as ids and tags do, to numbers: kept in pages, with no table of values that grows at once.
 //! It stands on `fx_base` and assumes nothing of the outside.
 #![tactic(auto)]
 

@@ -17,11 +17,13 @@ use std::collections::btree_map::Range;
 use std::marker::Model;
 
 /// A finite map from numbers to numbers. The values of 64 keys that follow one another stand in one page, at the places of their
-/// keys: eight bytes for each key up to the greatest of its page. Up to 32 pages stand in a directory. Directories at consecutive
-/// numbers stand in a run, where a key is found by its place, the others in a tree. The run follows the keys that come: as they
-/// rise it grows at its end, and where they come elsewhere it goes to the tree, a directory for each one that comes. A call costs
-/// a constant where the key is in the run, else the logarithm of the directories, but for `entries`. A page goes with its last
-/// key, and a directory with its last page.
+/// keys: eight bytes for each key up to the greatest of its page. Up to 32 pages stand in a directory. Directories that follow one
+/// another stand in a run, where a key is found by its place, and all others in a tree. The run goes where new directories come:
+/// it grows up to one that is near its end, and else gives way and begins anew, by a bounded number of directories a call.
+///
+/// A call costs a constant for a key in the run, else the logarithm of the directories, but for `entries`. Tables grow a page at a
+/// time, but for that of the run, 24 bytes for each of at most 2^16 directories. A page goes with its last key, a directory of the
+/// tree with its last page; those of the run without values go once they stand at one of its ends.
 #[derive(Drop)]
 pub struct PageMap {
     alloc: Global,
