@@ -1,7 +1,6 @@
 -- Facts that are taken out of a store one by one, in the order of their tags.
 use Rattle.std.proofs.Common.{◌≡◌, ◌∙◌, sym, ap, refl, subst, ℕ, List, [], ◌∷◌, ◌++◌, map as list_map, Option, Some, None, Bool, true, false, cond, length, arith}
 use Rattle.std.specs.Prelude.{T}
-use Rattle.std.specs.BTreeMap.{is_at}
 use Rattle.std.specs.FinMap as map
 use Rattle.std.specs.FinMap.{find, is_sorted, get-entries, get-remove, entries_sorted}
 use Rattle.std.specs.Cmp.{nat_cmp_total}

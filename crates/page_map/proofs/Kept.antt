@@ -18,17 +18,17 @@ use Rattle.page_map.specs.Pages.{Page, Directory, Numbers, free, value_of, entry
 
 -- ---- numbers that tie
 
-apart : (a b : ℕ) → (a ≡ b → ⊥) → is_eq (nat_cmp a b) ≡ false
+pub apart : (a b : ℕ) → (a ≡ b → ⊥) → is_eq (nat_cmp a b) ≡ false
 apart a b differ = unsigned_tied a b ∙ by (nat_eq a b) refl
   where
     by : (t : Bool) → nat_eq a b ≡ t → t ≡ false
     by true e = absurd (differ (exact_unsigned_eq a b e))
     by false e = refl
 
-together : (a b : ℕ) → a ≡ b → is_eq (nat_cmp a b) ≡ true
+pub together : (a b : ℕ) → a ≡ b → is_eq (nat_cmp a b) ≡ true
 together a b e = grind (arith, e)
 
-tied : (a b : ℕ) → is_eq (nat_cmp a b) ≡ true → a ≡ b
+pub tied : (a b : ℕ) → is_eq (nat_cmp a b) ≡ true → a ≡ b
 tied a b e = exact_unsigned_eq a b (sym (unsigned_tied a b) ∙ e)
 
 -- ---- entries whose keys strictly rise, from a number on
@@ -210,7 +210,7 @@ no_pages pages e = subst (λ (ps : List Page). AreShort ps) (sym e) (record { fe
 -- ---- all directories
 
 -- what is beyond a number
-beyond : (a : ℕ) (ks : List ℕ) → AllByRecursion (λ k. nat_cmp a k ≡ Less) ks → AllByRecursion (λ k. a + 1 ≤ k) ks
+pub beyond : (a : ℕ) (ks : List ℕ) → AllByRecursion (λ k. nat_cmp a k ≡ Less) ks → AllByRecursion (λ k. a + 1 ≤ k) ks
 beyond a [] less = tt
 beyond a (k ∷ ks) less = let l = ranked a k Less (sym less.0) in (omega (arith, l), beyond a ks less.1)
 
@@ -251,7 +251,7 @@ find_all q (d ∷ ds) sorted short = by (is_at (nat_cmp (q / 2048)) d.0) refl (f
         let number : q / 2048 ≡ d.0 = omega (arith, is, l, few) in
         let torn : true ≡ false = sym (together (q / 2048) d.0 number) ∙ e in cc) ∙ rest
 
-all_above : (ks : List ℕ) → AllByRecursion (λ k. 0 ≤ k) ks
+pub all_above : (ks : List ℕ) → AllByRecursion (λ k. 0 ≤ k) ks
 all_above [] = tt
 all_above (k ∷ ks) = (omega arith, all_above ks)
 
@@ -355,72 +355,70 @@ module _ (was is : List (ℕ × Directory)) (were : AreDirectories was) (are : A
 
 -- ---- nothing is changed
 
--- the same values in all directories
-pub same_numbers : (was is : List (ℕ × Directory)) → AreDirectories was → AreDirectories is → (key : ℕ) (next : Option Directory)
-    → ((n : ℕ) → lookup (is_at (nat_cmp n)) is ≡ cond (is_at (nat_cmp key) n) next (lookup (is_at (nat_cmp n)) was))
-    → ((k : ℕ) → value_at next k ≡ value_at (lookup (is_at (nat_cmp key)) was) k) → numbers_of is ≡ numbers_of was
-same_numbers was is were are key next others places =
+-- the same values at all places of all directories
+pub same_values : (was is : List (ℕ × Directory)) → AreDirectories was → AreDirectories is
+    → ((n k : ℕ) → value_at (lookup (is_at (nat_cmp n)) is) k ≡ value_at (lookup (is_at (nat_cmp n)) was) k) → numbers_of is ≡ numbers_of was
+same_values was is were are values =
     same_map nat_cmp_total nat_cmp-IsAntisymmetric (numbers_of is) (numbers_of was)
-    (λ q. get-numbers is are q ∙ ap (λ o. value_at o (q % 2048)) (others (q / 2048)) ∙ by (q / 2048) (q % 2048) (is_at (nat_cmp key) (q / 2048)) refl ∙ sym (get-numbers was were q))
-  where
-    by : (n k : ℕ) (t : Bool) → is_at (nat_cmp key) n ≡ t → value_at (cond t next (lookup (is_at (nat_cmp n)) was)) k ≡ value_at (lookup (is_at (nat_cmp n)) was) k
-    by n k true e = places k ∙ ap (λ m. value_at (lookup (is_at (nat_cmp m)) was) k) (tied key n e)
-    by n k false e = refl
+    (λ q. get-numbers is are q ∙ values (q / 2048) (q % 2048) ∙ sym (get-numbers was were q))
 
--- ---- a directory that is lent, and written
+-- ---- a directory is written
 
-module _ (m n : BTreeMap ℕ Directory) (were : AreDirectories m.entries) where
-  -- the directories behind a write
-  pub rewritten : (number : ℕ) (directory w : Directory) → Some directory ≡ lookup (is_at (nat_cmp number)) m.entries → WritesThrough nat_cmp (nat_cmp number) m w n
-      → (AreShort directory.items → AreShort w.items) → AreDirectories n.entries
-  rewritten number directory w here wrote fits =
-      with_directory m.entries n.entries were wrote.4 (is_at (nat_cmp number)) w wrote.0 wrote.1
-      (fits (directory_short m.entries n.entries were wrote.4 (is_at (nat_cmp number)) directory (sym here)))
-
-  module _ (key : ℕ) (directory w : Directory) (here : Some directory ≡ lookup (is_at (nat_cmp (key / 2048))) m.entries) (wrote : WritesThrough nat_cmp (nat_cmp (key / 2048)) m w n)
-      (fits : AreShort directory.items → AreShort w.items) where
-    others : (q : ℕ) → lookup (is_at (nat_cmp q)) n.entries ≡ cond (is_at (nat_cmp (key / 2048)) q) (Some w) (lookup (is_at (nat_cmp q)) m.entries)
-    others = (wrote.3 (ap is_some (sym here))).0
-
-    are : AreDirectories n.entries
-    are = rewritten (key / 2048) directory w here wrote fits
-
+module _ (was is : List (ℕ × Directory)) (were : AreDirectories was) (are : AreDirectories is) (key : ℕ) where
+  module _ (directory w : Directory) (here : lookup (is_at (nat_cmp (key / 2048))) was ≡ Some directory)
+      (others : (n : ℕ) → lookup (is_at (nat_cmp n)) is ≡ cond (is_at (nat_cmp (key / 2048)) n) (Some w) (lookup (is_at (nat_cmp n)) was)) where
     places : (number : ℕ) → ((k : ℕ) → number_at w.items k ≡ cond (nat_eq (key % 2048) k) number (number_at directory.items k))
-        → (k : ℕ) → value_at (Some w) k ≡ cond (nat_eq (key % 2048) k) (value_of number) (value_at (lookup (is_at (nat_cmp (key / 2048))) m.entries) k)
+        → (k : ℕ) → value_at (Some w) k ≡ cond (nat_eq (key % 2048) k) (value_of number) (value_at (lookup (is_at (nat_cmp (key / 2048))) was) k)
     places number writes k =
-        ap value_of (writes k) ∙ value_written (nat_eq (key % 2048) k) number (number_at directory.items k) ∙ ap (λ o. cond (nat_eq (key % 2048) k) (value_of number) (value_at o k)) here
+        ap value_of (writes k) ∙ value_written (nat_eq (key % 2048) k) number (number_at directory.items k) ∙ ap (λ o. cond (nat_eq (key % 2048) k) (value_of number) (value_at o k)) (sym here)
 
     -- one value is put in
     pub put_anew : (value : ℕ) → (value ≡ free → ⊥) → ((k : ℕ) → number_at w.items k ≡ cond (nat_eq (key % 2048) k) value (number_at directory.items k))
-        → numbers_of n.entries ≡ map.insert (numbers_of m.entries) key value
-    put_anew value is writes = with_key m.entries n.entries were are key (Some w) (value_of value) others (places value writes) value (is_value value is)
+        → numbers_of is ≡ map.insert (numbers_of was) key value
+    put_anew value proper writes = with_key was is were are key (Some w) (value_of value) others (places value writes) value (is_value value proper)
 
     -- one value is taken out
-    pub take_out : ((k : ℕ) → number_at w.items k ≡ cond (nat_eq (key % 2048) k) free (number_at directory.items k)) → numbers_of n.entries ≡ map.remove (numbers_of m.entries) key
-    take_out writes = without_key m.entries n.entries were are key (Some w) (value_of free) others (places free writes) refl
-
-    -- the last value is taken out, and the directory goes
-    pub take_last : (next : List (ℕ × Directory)) → AreDirectories next → ((q : ℕ) → lookup (is_at (nat_cmp q)) next ≡ cond (is_at (nat_cmp (key / 2048)) q) None (lookup (is_at (nat_cmp q)) n.entries))
-        → length w.items ≡ 0 → ((k : ℕ) → number_at w.items k ≡ cond (nat_eq (key % 2048) k) free (number_at directory.items k)) → numbers_of next ≡ map.remove (numbers_of m.entries) key
-    take_last next are_next gone none writes =
-        without_key m.entries next were are_next key None (value_of free)
-        (λ q. gone q ∙ ap (cond (is_at (nat_cmp (key / 2048)) q) None) (others q) ∙ emptied (is_at (nat_cmp (key / 2048)) q) (Some w) (lookup (is_at (nat_cmp q)) m.entries))
-        (λ k. ap value_of (sym (past_pages w.items (k / 64) (k % 64) (omega (arith, none)))) ∙ places free writes k) refl
+    pub take_out : ((k : ℕ) → number_at w.items k ≡ cond (nat_eq (key % 2048) k) free (number_at directory.items k)) → numbers_of is ≡ map.remove (numbers_of was) key
+    take_out writes = without_key was is were are key (Some w) (value_of free) others (places free writes) refl
 
     -- nothing is written
-    pub unchanged : ((k : ℕ) → number_at w.items k ≡ number_at directory.items k) → numbers_of n.entries ≡ numbers_of m.entries
-    unchanged same =
-        same_numbers m.entries n.entries were are (key / 2048) (Some w) others (λ k. ap value_of (same k) ∙ ap (λ o. value_at o k) here)
+    pub unchanged : ((k : ℕ) → number_at w.items k ≡ number_at directory.items k) → numbers_of is ≡ numbers_of was
+    unchanged same = same_values was is were are (λ n k. ap (λ o. value_at o k) (others n) ∙ by n k (is_at (nat_cmp (key / 2048)) n) refl)
+      where
+        by : (n k : ℕ) (t : Bool) → is_at (nat_cmp (key / 2048)) n ≡ t → value_at (cond t (Some w) (lookup (is_at (nat_cmp n)) was)) k ≡ value_at (lookup (is_at (nat_cmp n)) was) k
+        by n k true e =
+            ap value_of (same k) ∙ ap (λ o. value_at o k) (sym here) ∙ ap (λ m. value_at (lookup (is_at (nat_cmp m)) was) k) (tied (key / 2048) n e)
+        by n k false e = refl
 
--- the first value of a directory
-pub put_first : (was is : List (ℕ × Directory)) → AreDirectories was → AreDirectories is → (key : ℕ) (blank directory : Directory)
-    → ((q : ℕ) → lookup (is_at (nat_cmp q)) is ≡ cond (is_at (nat_cmp (key / 2048)) q) (Some directory) (lookup (is_at (nat_cmp q)) was))
-    → None ≡ lookup (is_at (nat_cmp (key / 2048))) was → blank.items ≡ [] → (value : ℕ) → (value ≡ free → ⊥)
-    → ((k : ℕ) → number_at directory.items k ≡ cond (nat_eq (key % 2048) k) value (number_at blank.items k)) → numbers_of is ≡ map.insert (numbers_of was) key value
-put_first was is were are key blank directory others none empty value proper writes =
-    with_key was is were are key (Some directory) (value_of value) others
-    (λ k. ap value_of (writes k ∙ ap (λ xs. cond (nat_eq (key % 2048) k) value (number_at xs k)) empty) ∙ value_written (nat_eq (key % 2048) k) value free
-    ∙ ap (λ o. cond (nat_eq (key % 2048) k) (value_of value) (value_at o k)) none) value (is_value value proper)
+  -- the last value of a directory is taken out, and the directory with it
+  pub take_last : (directory w : Directory) → lookup (is_at (nat_cmp (key / 2048))) was ≡ Some directory
+      → ((n : ℕ) → lookup (is_at (nat_cmp n)) is ≡ cond (is_at (nat_cmp (key / 2048)) n) None (lookup (is_at (nat_cmp n)) was))
+      → length w.items ≡ 0 → ((k : ℕ) → number_at w.items k ≡ cond (nat_eq (key % 2048) k) free (number_at directory.items k)) → numbers_of is ≡ map.remove (numbers_of was) key
+  take_last directory w here gone none writes =
+      without_key was is were are key None (value_of free) gone
+      (λ k. ap value_of (sym (past_pages w.items (k / 64) (k % 64) (omega (arith, none))) ∙ writes k) ∙ value_written (nat_eq (key % 2048) k) free (number_at directory.items k)
+      ∙ ap (λ o. cond (nat_eq (key % 2048) k) (value_of free) (value_at o k)) (sym here)) refl
+
+  -- the first value of a directory
+  pub put_first : (blank directory : Directory)
+      → ((n : ℕ) → lookup (is_at (nat_cmp n)) is ≡ cond (is_at (nat_cmp (key / 2048)) n) (Some directory) (lookup (is_at (nat_cmp n)) was))
+      → lookup (is_at (nat_cmp (key / 2048))) was ≡ None → blank.items ≡ [] → (value : ℕ) → (value ≡ free → ⊥)
+      → ((k : ℕ) → number_at directory.items k ≡ cond (nat_eq (key % 2048) k) value (number_at blank.items k)) → numbers_of is ≡ map.insert (numbers_of was) key value
+  put_first blank directory others none empty value proper writes =
+      with_key was is were are key (Some directory) (value_of value) others
+      (λ k. ap value_of (writes k ∙ ap (λ xs. cond (nat_eq (key % 2048) k) value (number_at xs k)) empty) ∙ value_written (nat_eq (key % 2048) k) value free
+      ∙ ap (λ o. cond (nat_eq (key % 2048) k) (value_of value) (value_at o k)) (sym none)) value (is_value value proper)
+
+-- the directories of a tree behind a write through one that it lent
+pub rewritten : (m n : BTreeMap ℕ Directory) (number : ℕ) (directory w : Directory) → AreDirectories m.entries → Some directory ≡ lookup (is_at (nat_cmp number)) m.entries
+    → WritesThrough nat_cmp (nat_cmp number) m w n → (AreShort directory.items → AreShort w.items) → AreDirectories n.entries
+rewritten m n number directory w were here wrote fits =
+    with_directory m.entries n.entries were wrote.4 (is_at (nat_cmp number)) w wrote.0 wrote.1
+    (fits (directory_short m.entries n.entries were wrote.4 (is_at (nat_cmp number)) directory (sym here)))
+
+pub rewritten_others : (m n : BTreeMap ℕ Directory) (number : ℕ) (directory w : Directory) → Some directory ≡ lookup (is_at (nat_cmp number)) m.entries
+    → WritesThrough nat_cmp (nat_cmp number) m w n → (q : ℕ) → lookup (is_at (nat_cmp q)) n.entries ≡ cond (is_at (nat_cmp number) q) (Some w) (lookup (is_at (nat_cmp q)) m.entries)
+rewritten_others m n number directory w here wrote = (wrote.3 (ap is_some (sym here))).0
 
 -- where nothing is, nothing is taken out
 pub remove_absent : (m : Numbers) (key : ℕ) → map.get m key ≡ None → m ≡ map.remove m key

@@ -1,2 +1,6 @@
+pub mod Changes
 pub mod Kept
+pub mod Listed
+pub mod Moved
+pub mod Rows
 pub mod Written

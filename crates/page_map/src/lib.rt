@@ -1,9 +1,11 @@
-//! A finite map from numbers that mostly rise, as ids and tags do, to numbers: kept in pages, with no table that grows at once.
+//! A finite map from numbers that mostly rise, as ids and tags do, to numbers: kept in pages, with no table of values that grows at once.
 //! It stands on `fx_base` and assumes nothing of the outside.
 #![tactic(auto)]
 
 mod directory;
+mod moves;
 mod page;
 mod pages;
+mod run;
 
 pub use pages::PageMap;

@@ -1,23 +1,42 @@
-use Rattle.std.proofs.Common.{◌∙◌, sym, ap, subst, ◌++◌, ◌*◌, ◌<◌, ◌^◌, ℕ, List, append_assoc, []}
+use Rattle.std.proofs.Common.{◌∙◌, sym, ap, subst, ◌++◌, ◌<◌, ◌^◌, ℕ, List, append_assoc}
+use Rattle.std.specs.declared.ops.Bound.TheVariants.{Included, Excluded, Unbounded}
+use Rattle.std.specs.BTreeMap.Range.{range_contains}
+use Rattle.std.specs.Ordering.{nat_cmp}
 use Rattle.std.specs.List.{All}
 use Rattle.std.specs.Map.{keys_of, values_of}
-use Rattle.std.proofs.lemmas.List.Elements.{All-tail}
-use Rattle.page_map.specs.Pages.{Directory, AreShort, entries_of, entries_by}
-use Rattle.page_map.proofs.Kept.{joined_pages}
+use Rattle.page_map.specs.Pages.{Directory, AreShort, entries_of}
+use Rattle.page_map.specs.Rows.{numbered}
+use Rattle.page_map.proofs.Listed.{Below, each_kept, entries_parts}
 use Rattle.page_map.proofs.pages.entries_in.Goals as goal
 
-pub loop-number-preserved : goal.loop-number-preserved
-loop-number-preserved c =
-    let head = c.in-Some.ensures.steps in
-    let before = c.loop-number.entries.items in
-    let rest = entries_of c.next.new.self in
-    record {
-      so_far = ap (λ es. es ++ rest) (c.in_ok-add_pages.ensures ∙ ap (λ xs. before ++ entries_by (2048 * c.in-Some.number.now) xs []) c.deref.ensures.value)
-          ∙ append_assoc before (entries_by (2048 * c.in-Some.number.now) c.in-Some.pages.now.items []) rest
-          ∙ ap (λ es. before ++ es) (joined_pages (2048 * c.in-Some.number.now) c.in-Some.pages.now.items rest)
-          ∙ sym (ap (λ it. before ++ entries_of it) head) ∙ c.loop-number.invariant.so_far;
-      numbers = All-tail (λ number. number < 2 ^ 53) c.in-Some.number.now (keys_of c.next.new.self)
-          (subst (λ (it : List (ℕ × Directory)). All (λ number. number < 2 ^ 53) (keys_of it)) head c.loop-number.invariant.numbers);
-      short = All-tail (λ (directory : Directory). AreShort directory.items) c.in-Some.pages.now (values_of c.next.new.self)
-          (subst (λ (it : List (ℕ × Directory)). All (λ (directory : Directory). AreShort directory.items) (values_of it)) head c.loop-number.invariant.short);
-    }
+pub add_directories-requires-clause-numbers : goal.add_directories-requires-clause-numbers
+add_directories-requires-clause-numbers c =
+    subst (λ (ds : List (ℕ × Directory)). All (λ n. n < 2 ^ 53) (keys_of ds)) (sym (c.range.ensures.between tt))
+    (each_kept (λ e. range_contains nat_cmp Unbounded (Excluded c.args.run.now.first) e.0) (λ e. e.0) (λ n. n < 2 ^ 53) c.args.tree.now.entries c.requires.stored.numbers)
+
+pub add_directories-requires-clause-short : goal.add_directories-requires-clause-short
+add_directories-requires-clause-short c =
+    subst (λ (ds : List (ℕ × Directory)). All (λ (d : Directory). AreShort d.items) (values_of ds)) (sym (c.range.ensures.between tt))
+    (each_kept (λ e. range_contains nat_cmp Unbounded (Excluded c.args.run.now.first) e.0) (λ e. e.1) (λ (d : Directory). AreShort d.items) c.args.tree.now.entries c.requires.stored.short)
+
+pub add_directories-requires-2-clause-numbers : goal.add_directories-requires-2-clause-numbers
+add_directories-requires-2-clause-numbers c =
+    subst (λ (ds : List (ℕ × Directory)). All (λ n. n < 2 ^ 53) (keys_of ds)) (sym (c.range-2.ensures.between tt))
+    (each_kept (λ e. range_contains nat_cmp (Included c.args.run.now.first) Unbounded e.0) (λ e. e.0) (λ n. n < 2 ^ 53) c.args.tree.now.entries c.requires.stored.numbers)
+
+pub add_directories-requires-2-clause-short : goal.add_directories-requires-2-clause-short
+add_directories-requires-2-clause-short c =
+    subst (λ (ds : List (ℕ × Directory)). All (λ (d : Directory). AreShort d.items) (values_of ds)) (sym (c.range-2.ensures.between tt))
+    (each_kept (λ e. range_contains nat_cmp (Included c.args.run.now.first) Unbounded e.0) (λ e. e.1) (λ (d : Directory). AreShort d.items) c.args.tree.now.entries c.requires.stored.short)
+
+pub returns : goal.returns
+returns c =
+    let run = c.args.run.now in
+    let row = entries_of (numbered run.first run.directories.items) in
+    let below = c.in_ok-add_directories.ensures ∙ ap (λ es. es ++ entries_of c.range.result) c.new-entries.ensures.items ∙ ap entries_of (c.range.ensures.between tt) in
+    let behind = entries_of c.range-2.result in
+    c.in_ok-add_directories-2.ensures
+    ∙ ap (λ es. es ++ behind) (c.in_ok-add_row.ensures ∙ ap (λ es. es ++ row) below)
+    ∙ append_assoc (entries_of (Below run.first c.args.tree.now.entries)) row behind
+    ∙ ap (λ ds. entries_of (Below run.first c.args.tree.now.entries) ++ (row ++ entries_of ds)) (c.range-2.ensures.between tt)
+    ∙ sym (entries_parts run.first run.directories.items c.args.tree.now.entries c.requires.stored.ordered)

@@ -1,10 +1,14 @@
 use Rattle.std.proofs.Common.{◌≡◌, ◌∙◌, sym, ap, subst, List, ℕ}
 use Rattle.std.specs.Prelude.{IfOk}
 use Rattle.std.specs.FinMap as map
+use Rattle.page_map.specs.Rows.{among}
 use Rattle.page_map.proofs.Kept.{entries-numbers}
+use Rattle.page_map.proofs.Rows.{whole}
 use Rattle.page_map.proofs.pages.PageMap.entries.Goals as goal
 
 pub returns : goal.returns
 returns c =
+    let run = c.self.inside.run in
+    let tree = c.self.inside.tree.entries in
     subst (λ (es : List (ℕ × ℕ)). IfOk c.entries_in.result (λ entries. entries.items ≡ es))
-    (sym (entries-numbers c.self.inside.directories.entries c.self.invariant) ∙ ap map.entries c.self.view_is) c.entries_in.ensures
+    (sym (entries-numbers (among run.first run.directories.items tree) (whole run.first run.directories.items tree c.self.invariant)) ∙ ap map.entries c.self.view_is) c.entries_in.ensures

@@ -2,11 +2,11 @@ use Rattle.std.proofs.Common.{◌≡◌, ◌++◌, ◌<◌, ◌^◌}
 use Rattle.std.specs.List.{All}
 use Rattle.std.specs.Map.{keys_of, values_of}
 use Rattle.page_map.specs.Pages.{Directory, AreShort, entries_of}
-use Rattle.page_map.proofs.pages.entries_in.Given as goal
+use Rattle.page_map.proofs.pages.add_directories.Given as goal
 
 abbrev pub invariant-loop-number : goal.invariant-loop-number
 invariant-loop-number l = record {
-  so_far : l.entries.items ++ entries_of l.number-iterator ≡ entries_of l.directories.entries;
+  so_far : l.entries.items ++ entries_of l.number-iterator ≡ l.initial.entries.items ++ entries_of l.fn.directories;
   numbers : All (λ number. number < 2 ^ 53) (keys_of l.number-iterator);
   short : All (λ (directory : Directory). AreShort directory.items) (values_of l.number-iterator);
 }
