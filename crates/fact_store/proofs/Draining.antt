@@ -1,14 +1,8 @@
 -- Facts that are taken out of a store one by one, in the order of their tags.
-use Rattle.std.proofs.Common.{◌≡◌, ◌∙◌, sym, ap, refl, subst, ℕ, List, [], ◌∷◌, ◌++◌, map as list_map, Option, Some, None, Bool, true, false, cond, length, arith}
-use Rattle.std.specs.Prelude.{T}
+use Rattle.fact_store.proofs.Common.{◌≡◌, ◌∙◌, sym, ap, refl, subst, ℕ, List, [], ◌∷◌, ◌++◌, Option, Some, None, Bool, true, false, cond, length, arith, T, find, is_sorted, get-entries, get-remove, entries_sorted, nat_cmp_total, below_all, nat_cmp, eq_by_cmp, Fact, HeldFacts, facts_of, tag_of}
+use Rattle.std.proofs.Common.{map as list_map}
 use Rattle.std.specs.FinMap as map
-use Rattle.std.specs.FinMap.{find, is_sorted, get-entries, get-remove, entries_sorted}
-use Rattle.std.specs.Cmp.{nat_cmp_total}
-use Rattle.std.specs.FinMap.Entries.{below_all}
-use Rattle.std.specs.Ordering.{nat_cmp, eq_by_cmp}
-use Rattle.fx_base.specs.declared.fact.Fact.{Fact}
 use Rattle.fx_base.specs.declared.ids.Tag.{Tag}
-use Rattle.fact_store.specs.Held.{HeldFacts, facts_of, tag_of}
 use Rattle.fact_store.proofs.Members.{first, second, found_first, found_later, not_found}
 use Rattle.fact_store.proofs.Stored.{tied}
 

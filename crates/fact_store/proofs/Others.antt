@@ -1,12 +1,5 @@
 -- The walk over the versions of an id, from the newest down.
-use Rattle.std.proofs.Common.{◌≡◌, ◌∙◌, sym, ap, refl, ℕ, ◌+◌, ◌<◌, ◌≤◌, ◌⊎◌, inl, inr, Bool, true, false, List, Option, Some, None, arith}
-use Rattle.std.specs.Prelude.{IfSome, IfNone, nat_eq}
-use Rattle.std.proofs.lemmas.Bool.{cases_lt}
-use Rattle.std.proofs.lemmas.Map.Views.{exact_unsigned_eq}
-use Rattle.slab.specs.Slab.{Slab}
-use Rattle.page_map.specs.Pages.{Numbers}
-use Rattle.fx_base.specs.declared.fact.Fact.{Fact}
-use Rattle.fact_store.specs.Indexes.{has_pair, has_type, fact_at}
+use Rattle.fact_store.proofs.Common.{◌≡◌, ◌∙◌, sym, ap, refl, ℕ, ◌+◌, ◌<◌, ◌≤◌, ◌⊎◌, inl, inr, Bool, true, false, List, Option, Some, None, arith, IfSome, IfNone, nat_eq, cases_lt, exact_unsigned_eq, Slab, Numbers, Fact, has_pair, has_type, fact_at}
 use Rattle.fact_store.proofs.Counting.{torn, eq_self}
 
 -- the walk has passed this tag

@@ -1,17 +1,7 @@
 -- The pages of the tags, as an index.
-use Rattle.std.proofs.Common.{◌≡◌, ◌∙◌, sym, ap, refl, subst, ℕ, List, [], ◌∷◌, Bool, true, false, cond, Option, Some, None}
-use Rattle.std.specs.Prelude.{nat_eq, option_and_then}
-use Rattle.std.specs.Ordering.{nat_cmp, eq_by_cmp}
-use Rattle.std.specs.Cmp.{nat_cmp_total, unsigned_tied}
-use Rattle.std.specs.List.{IsDistinct}
-use Rattle.std.specs.Map.{keys_of, lookup}
-use Rattle.std.specs.FinMap.{find, get-entries, get-insert, get-remove, entries_sorted, same_map, nat_cmp-IsAntisymmetric}
+use Rattle.fact_store.proofs.Common.{◌≡◌, ◌∙◌, sym, ap, refl, subst, ℕ, List, [], ◌∷◌, Bool, true, false, cond, Option, Some, None, nat_eq, option_and_then, nat_cmp, eq_by_cmp, nat_cmp_total, unsigned_tied, IsDistinct, keys_of, lookup, find, get-entries, get-insert, get-remove, entries_sorted, same_map, nat_cmp-IsAntisymmetric, Slab, get, Numbers, Fact, stored, Names}
 use Rattle.std.specs.FinMap as map
 use Rattle.std.proofs.lemmas.Map.Keys.{IsDistinct-from_sorted}
-use Rattle.slab.specs.Slab.{Slab, get}
-use Rattle.page_map.specs.Pages.{Numbers}
-use Rattle.fx_base.specs.declared.fact.Fact.{Fact}
-use Rattle.fact_store.specs.Indexes.{stored, Names}
 use Rattle.fact_store.proofs.Stored.{slot_of, flip, tied, named, not_empty, get-stored}
 use Rattle.fact_store.proofs.Members.{keys_rise}
 

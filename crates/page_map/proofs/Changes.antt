@@ -1,12 +1,7 @@
 -- The map behind a write to a directory of the row, or of the tree.
-use Rattle.std.proofs.Common.{◌≡◌, ◌∙◌, sym, ap, subst, ℕ, ◌+◌, ◌/◌, ◌%◌, ◌<◌, List, Option, Some, None, cond, length, get_or, set, []}
-use Rattle.std.specs.Prelude.{nat_eq}
-use Rattle.std.specs.Ordering.{nat_cmp}
-use Rattle.std.specs.BTreeMap.{BTreeMap, is_at, WritesThrough}
+use Rattle.page_map.proofs.Common.{◌≡◌, ◌∙◌, sym, ap, subst, ℕ, ◌+◌, ◌/◌, ◌%◌, ◌<◌, List, Option, Some, None, cond, length, get_or, set, [], nat_eq, nat_cmp, BTreeMap, is_at, WritesThrough, Directory, free, AreShort, AreDirectories, number_at, value_at, numbered, among, held, AreHeld}
 use Rattle.std.specs.FinMap as map
 use Rattle.std.proofs.lemmas.List.Elements.{All-get_or}
-use Rattle.page_map.specs.Pages.{Directory, free, AreShort, AreDirectories, number_at, value_at}
-use Rattle.page_map.specs.Rows.{numbered, among, held, AreHeld}
 use Rattle.page_map.proofs.Kept.{get-numbers, put_anew, put_first, take_out, take_last, unchanged, emptied, rewritten, rewritten_others}
 use Rattle.page_map.proofs.Rows.{stands, stands_at, whole}
 use Rattle.page_map.proofs.Moved.{stands_in_row, stands_in_tree, row_written, row_held, tree_written, tree_held}

@@ -1,20 +1,17 @@
 -- What the directories and their pages hold.
-use Rattle.std.proofs.Common.{◌≡◌, ◌∙◌, sym, ap, refl, subst, ℕ, zero, suc, ◌+◌, ◌*◌, ◌/◌, ◌%◌, ◌^◌, ◌<◌, ◌≤◌, List, [], ◌∷◌, ◌++◌, Bool, true, false, cond, ◌&&◌, Option, Some, None, length, get_or, arith, eq-eqb, append_assoc}
-use Rattle.std.specs.Prelude.{T, IfNone, OnSome, is_some, nat_eq}
-use Rattle.std.specs.declared.cmp.Ordering.TheVariants.{Less}
-use Rattle.std.specs.Ordering.{nat_cmp, eq_by_cmp, is_eq, is_lt}
+use Rattle.page_map.proofs.Common.{◌≡◌, ◌∙◌, sym, ap, refl, subst, ℕ, zero, suc, ◌+◌, ◌*◌, ◌/◌, ◌%◌, ◌^◌, ◌<◌, ◌≤◌, List, [], ◌∷◌, ◌++◌, Bool, true, false, cond, ◌&&◌, Option, Some, None, length, get_or, arith, eq-eqb, append_assoc, nat_eq, Less, nat_cmp, BTreeMap, is_at, WritesThrough, lookup, keys_of, values_of, All, AllByRecursion, slice_get, recursion_from_All, exact_unsigned_eq, Page, Directory, free, value_of, entries_from, entries_by, entries_of, AreShort, AreDirectories, number_in, number_at, value_at}
+use Rattle.std.specs.Prelude.{T, IfNone, OnSome, is_some}
+use Rattle.std.specs.Ordering.{eq_by_cmp, is_eq, is_lt}
 use Rattle.std.specs.Cmp.{nat_cmp_total, unsigned_tied}
-use Rattle.std.specs.BTreeMap.{BTreeMap, is_at, insert_entry, WritesThrough}
-use Rattle.std.specs.Map.{lookup, keys_of, values_of, set_value, remove_entry}
-use Rattle.std.specs.List.{All, AllByRecursion, slice_get}
+use Rattle.std.specs.BTreeMap.{insert_entry}
+use Rattle.std.specs.Map.{set_value, remove_entry}
 use Rattle.std.specs.List.Sorted.{IsStrictlySortedBy}
 use Rattle.std.specs.FinMap.Entries.{below_all}
 use Rattle.std.specs.FinMap.{find, is_sorted, from_sorted, from_entries, get-from_entries, get-from_sorted, get-insert, get-remove, entries-from_sorted, same_map, nat_cmp-IsAntisymmetric}
 use Rattle.std.specs.FinMap as map
 use Rattle.std.proofs.lemmas.Cmp.{ranked}
-use Rattle.std.proofs.lemmas.List.Elements.{recursion_from_All}
-use Rattle.std.proofs.lemmas.Map.Views.{exact_unsigned_eq, All-keys-insert_entry, All-values-insert_entry, All-map-remove_entry, All-values-set_value}
-use Rattle.page_map.specs.Pages.{Page, Directory, Numbers, free, value_of, entry_of, entries_from, entries_by, entries_of, numbers_of, AreShort, AreDirectories, number_in, number_at, value_at}
+use Rattle.std.proofs.lemmas.Map.Views.{All-keys-insert_entry, All-values-insert_entry, All-map-remove_entry, All-values-set_value}
+use Rattle.page_map.specs.Pages.{Numbers, entry_of, numbers_of}
 
 -- ---- numbers that tie
 

@@ -1,3 +1,4 @@
+mod Common
 pub mod Changes
 pub mod Kept
 pub mod Listed

@@ -1,17 +1,9 @@
 -- The entries of all directories, from those of the tree below the row, of the row, and of the tree behind it.
-use Rattle.std.proofs.Common.{◌≡◌, ◌∙◌, sym, ap, refl, ℕ, ◌+◌, ◌<◌, ◌≤◌, ◌*◌, List, [], ◌∷◌, ◌++◌, Bool, true, false, cond, arith, append_assoc, map}
-use Rattle.std.specs.Prelude.{nat_lt}
-use Rattle.std.specs.declared.ops.Bound.TheVariants.{Included, Excluded, Unbounded}
-use Rattle.std.specs.Ordering.{nat_cmp}
-use Rattle.std.specs.BTreeMap.Range.{entries_between, range_contains}
-use Rattle.std.specs.Map.{keys_of}
-use Rattle.std.specs.List.{All, AllByRecursion, filter}
+use Rattle.page_map.proofs.Common.{◌≡◌, ◌∙◌, sym, ap, refl, ℕ, ◌+◌, ◌<◌, ◌≤◌, ◌*◌, List, [], ◌∷◌, ◌++◌, Bool, true, false, cond, arith, append_assoc, map, nat_lt, Included, Excluded, Unbounded, nat_cmp, range_contains, keys_of, All, AllByRecursion, ltb-true, ltb-false, append-nil, All-tail, Directory, entries_of, entries_by, numbered, among}
+use Rattle.std.specs.BTreeMap.Range.{entries_between}
+use Rattle.std.specs.List.{filter}
 use Rattle.std.specs.List.Sorted.{IsStrictlySortedBy}
-use Rattle.std.proofs.lemmas.Bool.{ltb-true, ltb-false}
-use Rattle.std.proofs.lemmas.List.{append-nil}
-use Rattle.std.proofs.lemmas.List.Elements.{All-cons, All-head, All-tail}
-use Rattle.page_map.specs.Pages.{Directory, entries_of, entries_by}
-use Rattle.page_map.specs.Rows.{numbered, among}
+use Rattle.std.proofs.lemmas.List.Elements.{All-cons, All-head}
 use Rattle.page_map.proofs.Kept.{beyond, joined_pages}
 
 entries_joined : (xs ys : List (ℕ × Directory)) → entries_of (xs ++ ys) ≡ entries_of xs ++ entries_of ys

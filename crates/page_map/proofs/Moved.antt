@@ -1,13 +1,7 @@
 -- Row and tree behind a write, and behind a move of the row.
-use Rattle.std.proofs.Common.{◌≡◌, ◌∙◌, sym, ap, refl, ℕ, ◌+◌, ◌^◌, ◌<◌, ◌≤◌, List, [], ◌∷◌, ◌++◌, Bool, true, false, cond, Option, Some, None, length, set, arith, length-append, length-set, ◌/◌, ◌%◌}
-use Rattle.std.specs.Prelude.{nat_lt}
-use Rattle.std.specs.Option.{option_or}
-use Rattle.std.specs.Ordering.{nat_cmp}
-use Rattle.std.specs.BTreeMap.{is_at}
-use Rattle.std.proofs.lemmas.List.Elements.{All-push, All-pop, All-set, All-tail}
-use Rattle.std.proofs.lemmas.Bool.{ltb-true, ltb-false}
-use Rattle.page_map.specs.Pages.{Directory, AreShort, AreDirectories, numbers_of, value_of, value_at}
-use Rattle.page_map.specs.Rows.{numbered, among, held, AreHeld, IsTrimmed}
+use Rattle.page_map.proofs.Common.{◌≡◌, ◌∙◌, sym, ap, refl, ℕ, ◌+◌, ◌^◌, ◌<◌, ◌≤◌, List, [], ◌∷◌, ◌++◌, Bool, true, false, cond, Option, Some, None, length, set, arith, length-append, length-set, ◌/◌, ◌%◌, nat_lt, option_or, nat_cmp, is_at, All-push, All-pop, All-tail, ltb-true, ltb-false, Directory, AreShort, AreDirectories, value_of, value_at, numbered, among, held, AreHeld, IsTrimmed}
+use Rattle.std.proofs.lemmas.List.Elements.{All-set}
+use Rattle.page_map.specs.Pages.{numbers_of}
 use Rattle.page_map.proofs.Kept.{apart, together, tied, same_values, past_pages}
 use Rattle.page_map.proofs.Rows.{stands, or_none, none_before, none_behind, some_within, stands_set, stands_push, stands_among, none_among, whole}
 

@@ -1,18 +1,7 @@
 -- A row of directories among those of a tree.
-use Rattle.std.proofs.Common.{◌≡◌, ◌∙◌, sym, ap, subst, refl, ℕ, zero, suc, ◌+◌, ◌^◌, ◌<◌, ◌≤◌, List, [], ◌∷◌, ◌++◌, Bool, true, false, cond, Option, Some, None, length, get_or, set, arith}
-use Rattle.std.specs.Prelude.{nat_lt}
-use Rattle.std.specs.Option.{option_or}
-use Rattle.std.specs.declared.cmp.Ordering.TheVariants.{Less}
-use Rattle.std.specs.Ordering.{nat_cmp}
-use Rattle.std.specs.BTreeMap.{is_at}
-use Rattle.std.specs.Map.{lookup, keys_of, values_of}
-use Rattle.std.specs.List.{AllByRecursion}
+use Rattle.page_map.proofs.Common.{◌≡◌, ◌∙◌, sym, ap, subst, refl, ℕ, zero, suc, ◌+◌, ◌^◌, ◌<◌, ◌≤◌, List, [], ◌∷◌, ◌++◌, Bool, true, false, cond, Option, Some, None, length, get_or, set, arith, nat_lt, option_or, Less, nat_cmp, is_at, lookup, keys_of, values_of, AllByRecursion, ltb-true, ltb-false, append-nil, recursion_from_All, Directory, AreShort, AreDirectories, numbered, among, AreHeld}
 use Rattle.std.specs.List.Sorted.{IsStrictlySortedBy}
-use Rattle.std.proofs.lemmas.Bool.{ltb-true, ltb-false}
-use Rattle.std.proofs.lemmas.List.{append-nil}
-use Rattle.std.proofs.lemmas.List.Elements.{recursion_from_All, All-from_recursion}
-use Rattle.page_map.specs.Pages.{Directory, AreShort, AreDirectories}
-use Rattle.page_map.specs.Rows.{numbered, among, AreHeld}
+use Rattle.std.proofs.lemmas.List.Elements.{All-from_recursion}
 use Rattle.page_map.proofs.Kept.{apart, together, tied, beyond, all_above}
 
 -- ---- look-ups

@@ -1,10 +1,6 @@
 -- A directory after a write to one of its pages.
-use Rattle.std.proofs.Common.{◌≡◌, ◌∙◌, sym, ap, refl, ℕ, zero, suc, ◌/◌, ◌%◌, ◌<◌, ◌≤◌, List, [], ◌∷◌, ◌++◌, Bool, true, false, cond, Option, length, get_or, set, arith, eq-eqb, length-append, option_to_list}
-use Rattle.std.specs.Prelude.{nat_eq}
+use Rattle.page_map.proofs.Common.{◌≡◌, ◌∙◌, sym, ap, refl, ℕ, zero, suc, ◌/◌, ◌%◌, ◌<◌, ◌≤◌, List, [], ◌∷◌, ◌++◌, Bool, true, false, cond, Option, length, get_or, set, arith, eq-eqb, length-append, option_to_list, nat_eq, All-push, All-pop, exact_unsigned_eq, Page, free, AreShort, number_in, number_at}
 use Rattle.std.proofs.lemmas.List.{get_or_past}
-use Rattle.std.proofs.lemmas.List.Elements.{All-push, All-pop}
-use Rattle.std.proofs.lemmas.Map.Views.{exact_unsigned_eq}
-use Rattle.page_map.specs.Pages.{Page, free, AreShort, number_in, number_at}
 
 -- what stands in one of the pages
 pub in_page : (pages : List Page) (i k : ℕ) (page : Page) → i < length pages → page ≡ get_or pages i page → number_in pages i k ≡ get_or page.items k free

@@ -1,4 +1,4 @@
-use Rattle.std.proofs.Common.{sym, subst, ◌<◌}
+use Rattle.fact_store.proofs.Common.{sym, subst, ◌<◌}
 use Rattle.fact_store.proofs.Others.{Walks, rank, begins, goes_on, falls}
 use Rattle.fact_store.proofs.store.holds_type.Goals as goal
 

@@ -1,6 +1,5 @@
-use Rattle.std.proofs.Common.{◌≡◌, ◌∙◌, sym, ap, ◌++◌, ◌∷◌, [], ◌+◌, ◌*◌, ◌<◌, arith, length, drop, append_assoc, rules}
+use Rattle.page_map.proofs.Common.{◌≡◌, ◌∙◌, sym, ap, ◌++◌, ◌∷◌, [], ◌+◌, ◌*◌, ◌<◌, arith, length, drop, append_assoc, rules, entries_from, entries_by}
 use Rattle.std.proofs.lemmas.List.{drop_more}
-use Rattle.page_map.specs.Pages.{entries_from, entries_by}
 use Rattle.page_map.proofs.Kept.{joined}
 use Rattle.page_map.proofs.directory.add_pages.Goals as goal
 

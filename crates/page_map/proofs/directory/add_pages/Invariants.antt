@@ -1,5 +1,4 @@
-use Rattle.std.proofs.Common.{◌≡◌, ◌*◌, ◌++◌, [], ◌+◌, drop}
-use Rattle.page_map.specs.Pages.{entries_by}
+use Rattle.page_map.proofs.Common.{◌≡◌, ◌*◌, ◌++◌, [], ◌+◌, drop, entries_by}
 use Rattle.page_map.proofs.directory.add_pages.Given as goal
 
 abbrev pub invariant-loop-place : goal.invariant-loop-place

@@ -1,5 +1,4 @@
-use Rattle.std.proofs.Common.{◌≡◌, ℕ}
-use Rattle.page_map.specs.Pages.{AreShort, number_in}
+use Rattle.page_map.proofs.Common.{◌≡◌, ℕ, AreShort, number_in}
 use Rattle.page_map.proofs.directory.drop_last.Given as goal
 
 abbrev pub invariant-loop-last : goal.invariant-loop-last

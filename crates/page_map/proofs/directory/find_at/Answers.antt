@@ -1,5 +1,4 @@
-use Rattle.std.proofs.Common.{◌≡◌, ◌∙◌, sym, ap, rules, ◌/◌, ◌%◌, ◌<◌, ◌≤◌, length, get_or}
-use Rattle.page_map.specs.Pages.{value_of}
+use Rattle.page_map.proofs.Common.{◌≡◌, ◌∙◌, sym, ap, rules, ◌/◌, ◌%◌, ◌<◌, ◌≤◌, length, get_or, value_of}
 use Rattle.page_map.proofs.Kept.{past_pages}
 use Rattle.page_map.proofs.Written.{in_page}
 use Rattle.page_map.proofs.directory.find_at.Goals as goal

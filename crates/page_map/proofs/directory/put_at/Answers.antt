@@ -1,6 +1,4 @@
-use Rattle.std.proofs.Common.{◌∙◌, ap, ◌/◌, ◌%◌, cond}
-use Rattle.std.specs.Prelude.{nat_eq}
-use Rattle.std.proofs.lemmas.Result.{on_ok_weaker, on_err_weaker}
+use Rattle.page_map.proofs.Common.{◌∙◌, ap, ◌/◌, ◌%◌, cond, nat_eq, on_ok_weaker, on_err_weaker}
 use Rattle.page_map.proofs.Written.{written, unwritten}
 use Rattle.page_map.proofs.directory.put_at.Goals as goal
 

@@ -1,5 +1,4 @@
-use Rattle.std.proofs.Common.{◌≡◌, ◌∙◌, sym, ap, subst, ◌++◌, ◌∷◌, [], ◌<◌, List, length, arith, length-append}
-use Rattle.page_map.specs.Pages.{Page, AreShort, number_in}
+use Rattle.page_map.proofs.Common.{◌≡◌, ◌∙◌, sym, ap, subst, ◌++◌, ◌∷◌, [], ◌<◌, List, length, arith, length-append, Page, AreShort, number_in}
 use Rattle.page_map.proofs.Written.{lengthened, more_short}
 use Rattle.page_map.proofs.directory.reach.Goals as goal
 

@@ -1,5 +1,4 @@
-use Rattle.std.proofs.Common.{◌≡◌, ℕ, length}
-use Rattle.page_map.specs.Pages.{AreShort, number_in}
+use Rattle.page_map.proofs.Common.{◌≡◌, ℕ, length, AreShort, number_in}
 use Rattle.page_map.proofs.directory.reach.Given as goal
 
 abbrev pub invariant-loop-count : goal.invariant-loop-count

@@ -1,5 +1,4 @@
-use Rattle.std.proofs.Common.{◌∙◌, sym, ap, rules, ◌/◌, ◌%◌, ◌<◌, ◌≤◌, length}
-use Rattle.page_map.specs.Pages.{free, value_of}
+use Rattle.page_map.proofs.Common.{◌∙◌, sym, ap, rules, ◌/◌, ◌%◌, ◌<◌, ◌≤◌, length, free, value_of}
 use Rattle.page_map.proofs.Kept.{past_pages}
 use Rattle.page_map.proofs.Written.{in_page, written, absent}
 use Rattle.page_map.proofs.directory.take_at.Goals as goal

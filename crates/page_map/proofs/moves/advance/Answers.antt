@@ -1,9 +1,4 @@
-use Rattle.std.proofs.Common.{◌∙◌, sym, ap, subst, ◌≡◌, ◌+◌, ◌^◌, ◌<◌, ℕ, List, Some, None, cond, length}
-use Rattle.std.specs.BTreeMap.{is_at}
-use Rattle.std.specs.Map.{lookup}
-use Rattle.std.specs.Ordering.{nat_cmp}
-use Rattle.page_map.specs.Pages.{Directory, value_at}
-use Rattle.page_map.specs.Rows.{AreHeld, held}
+use Rattle.page_map.proofs.Common.{◌∙◌, sym, ap, subst, ◌≡◌, ◌+◌, ◌^◌, ◌<◌, ℕ, List, Some, None, cond, length, is_at, lookup, nat_cmp, Directory, value_at, AreHeld, held}
 use Rattle.page_map.proofs.Moved.{grown_same}
 use Rattle.page_map.proofs.moves.advance.Goals as goal
 

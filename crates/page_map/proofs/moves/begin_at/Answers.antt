@@ -1,4 +1,4 @@
-use Rattle.std.proofs.Common.{◌≡◌, length, rules}
+use Rattle.page_map.proofs.Common.{◌≡◌, length, rules}
 use Rattle.page_map.proofs.Moved.{begun_same}
 use Rattle.page_map.proofs.moves.begin_at.Goals as goal
 

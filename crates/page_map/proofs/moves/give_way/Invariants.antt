@@ -1,5 +1,4 @@
-use Rattle.std.proofs.Common.{◌≡◌}
-use Rattle.page_map.specs.Parts.{AreParts, map_of}
+use Rattle.page_map.proofs.Common.{◌≡◌, AreParts, map_of}
 use Rattle.page_map.proofs.moves.give_way.Given as goal
 
 abbrev pub invariant-loop-count : goal.invariant-loop-count

@@ -1,5 +1,4 @@
-use Rattle.std.proofs.Common.{◌≡◌, ◌+◌, length}
-use Rattle.page_map.specs.Parts.{AreParts, map_of}
+use Rattle.page_map.proofs.Common.{◌≡◌, ◌+◌, length, AreParts, map_of}
 use Rattle.page_map.proofs.moves.grow_to.Given as goal
 
 abbrev pub invariant-loop-count : goal.invariant-loop-count

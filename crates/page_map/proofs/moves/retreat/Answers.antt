@@ -1,6 +1,4 @@
-use Rattle.std.proofs.Common.{◌∙◌, sym, ap, subst, ◌+◌, ◌∷◌, List}
-use Rattle.page_map.specs.Pages.{Directory}
-use Rattle.page_map.specs.Rows.{AreHeld, held}
+use Rattle.page_map.proofs.Common.{◌∙◌, sym, ap, subst, ◌+◌, ◌∷◌, List, Directory, AreHeld, held}
 use Rattle.page_map.proofs.Moved.{sent_held, sent_same, trimmed_held, trimmed_same}
 use Rattle.page_map.proofs.moves.retreat.Goals as goal
 

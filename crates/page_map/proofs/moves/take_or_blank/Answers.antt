@@ -1,6 +1,4 @@
-use Rattle.std.proofs.Common.{sym}
-use Rattle.std.specs.BTreeMap.{is_at}
-use Rattle.std.specs.Ordering.{nat_cmp}
+use Rattle.page_map.proofs.Common.{sym, is_at, nat_cmp}
 use Rattle.page_map.proofs.Kept.{directory_short, fewer_directories}
 use Rattle.page_map.proofs.moves.take_or_blank.Goals as goal
 

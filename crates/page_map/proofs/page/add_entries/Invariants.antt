@@ -1,5 +1,4 @@
-use Rattle.std.proofs.Common.{◌≡◌, ◌*◌, ◌++◌, [], ◌+◌, drop}
-use Rattle.page_map.specs.Pages.{entries_from}
+use Rattle.page_map.proofs.Common.{◌≡◌, ◌*◌, ◌++◌, [], ◌+◌, drop, entries_from}
 use Rattle.page_map.proofs.page.add_entries.Given as goal
 
 abbrev pub invariant-loop-place : goal.invariant-loop-place

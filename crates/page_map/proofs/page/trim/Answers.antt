@@ -1,6 +1,4 @@
-use Rattle.std.proofs.Common.{rules, ◌≡◌, ◌∙◌, sym, ap, ◌++◌, ◌∷◌, [], ◌-◌, Some, arith, length, vec_len, option_to_list, length-append}
-use Rattle.std.specs.List.{slice_get}
-use Rattle.page_map.specs.Pages.{free}
+use Rattle.page_map.proofs.Common.{rules, ◌≡◌, ◌∙◌, sym, ap, ◌++◌, ◌∷◌, [], ◌-◌, Some, arith, length, vec_len, option_to_list, length-append, slice_get, free}
 use Rattle.page_map.proofs.Kept.{shown, popped}
 use Rattle.page_map.proofs.page.trim.Goals as goal
 

@@ -1,5 +1,4 @@
-use Rattle.std.proofs.Common.{◌≡◌, ◌≤◌, ℕ, length, slice_index_or}
-use Rattle.page_map.specs.Pages.{free}
+use Rattle.page_map.proofs.Common.{◌≡◌, ◌≤◌, ℕ, length, slice_index_or, free}
 use Rattle.page_map.proofs.page.trim.Given as goal
 
 abbrev pub invariant-loop-last : goal.invariant-loop-last

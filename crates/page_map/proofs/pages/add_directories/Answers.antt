@@ -1,8 +1,4 @@
-use Rattle.std.proofs.Common.{◌∙◌, sym, ap, subst, ◌++◌, ◌*◌, ◌<◌, ◌^◌, ℕ, List, append_assoc, []}
-use Rattle.std.specs.List.{All}
-use Rattle.std.specs.Map.{keys_of, values_of}
-use Rattle.std.proofs.lemmas.List.Elements.{All-tail}
-use Rattle.page_map.specs.Pages.{Directory, AreShort, entries_of, entries_by}
+use Rattle.page_map.proofs.Common.{◌∙◌, sym, ap, subst, ◌++◌, ◌*◌, ◌<◌, ◌^◌, ℕ, List, append_assoc, [], All, keys_of, values_of, All-tail, Directory, AreShort, entries_of, entries_by}
 use Rattle.page_map.proofs.Kept.{joined_pages}
 use Rattle.page_map.proofs.pages.add_directories.Goals as goal
 

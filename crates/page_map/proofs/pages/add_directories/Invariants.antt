@@ -1,7 +1,4 @@
-use Rattle.std.proofs.Common.{◌≡◌, ◌++◌, ◌<◌, ◌^◌}
-use Rattle.std.specs.List.{All}
-use Rattle.std.specs.Map.{keys_of, values_of}
-use Rattle.page_map.specs.Pages.{Directory, AreShort, entries_of}
+use Rattle.page_map.proofs.Common.{◌≡◌, ◌++◌, ◌<◌, ◌^◌, All, keys_of, values_of, Directory, AreShort, entries_of}
 use Rattle.page_map.proofs.pages.add_directories.Given as goal
 
 abbrev pub invariant-loop-number : goal.invariant-loop-number

@@ -1,11 +1,4 @@
-use Rattle.std.proofs.Common.{◌∙◌, sym, ap, subst, ◌++◌, ◌<◌, ◌^◌, ℕ, List, append_assoc}
-use Rattle.std.specs.declared.ops.Bound.TheVariants.{Included, Excluded, Unbounded}
-use Rattle.std.specs.BTreeMap.Range.{range_contains}
-use Rattle.std.specs.Ordering.{nat_cmp}
-use Rattle.std.specs.List.{All}
-use Rattle.std.specs.Map.{keys_of, values_of}
-use Rattle.page_map.specs.Pages.{Directory, AreShort, entries_of}
-use Rattle.page_map.specs.Rows.{numbered}
+use Rattle.page_map.proofs.Common.{◌∙◌, sym, ap, subst, ◌++◌, ◌<◌, ◌^◌, ℕ, List, append_assoc, Included, Excluded, Unbounded, range_contains, nat_cmp, All, keys_of, values_of, Directory, AreShort, entries_of, numbered}
 use Rattle.page_map.proofs.Listed.{Below, each_kept, entries_parts}
 use Rattle.page_map.proofs.pages.entries_in.Goals as goal
 

@@ -1,6 +1,4 @@
-use Rattle.std.proofs.Common.{◌≡◌, ◌∙◌, ◌++◌, ◌∷◌, [], sym, ap, subst, List, Option, Some, None}
-use Rattle.fx_base.specs.declared.fact.Fact.{Fact}
-use Rattle.fact_store.specs.Held.{facts_of}
+use Rattle.fact_store.proofs.Common.{◌≡◌, ◌∙◌, ◌++◌, ◌∷◌, [], sym, ap, subst, List, Option, Some, None, Fact, facts_of}
 use Rattle.fact_store.proofs.Draining.{AreTaken, all_taken, none_left, none_taken, one_taken, same_taken}
 use Rattle.fact_store.proofs.store.FactStore.into_facts.Goals as goal
 

@@ -1,7 +1,5 @@
-use Rattle.std.proofs.Common.{◌∙◌, sym, ap, subst, cond, true, ℕ}
-use Rattle.std.specs.BTreeMap.{is_at}
+use Rattle.fact_store.proofs.Common.{◌∙◌, sym, ap, subst, cond, true, ℕ, is_at, pair_cmp, has_pair, Leads}
 use Rattle.std.proofs.lemmas.Result.{on_ok_weaker}
-use Rattle.fact_store.specs.Indexes.{pair_cmp, has_pair, Leads}
 use Rattle.fact_store.proofs.Newer.{either, on_some, has_first, has_newer, has_older, leads_first, leads_newer, leads_older}
 use Rattle.fact_store.proofs.versions.Versions.add.Goals as goal
 

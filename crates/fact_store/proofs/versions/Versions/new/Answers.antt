@@ -1,4 +1,4 @@
-use Rattle.std.proofs.Common.{◌∙◌, ap, ◌++◌, []}
+use Rattle.fact_store.proofs.Common.{◌∙◌, ap, ◌++◌, []}
 use Rattle.std.specs.FinMap as map
 use Rattle.fact_store.proofs.Newer.{all_of, no_entries}
 use Rattle.fact_store.proofs.versions.Versions.new.Goals as goal

@@ -1,6 +1,4 @@
-use Rattle.std.proofs.Common.{◌∙◌, sym, ap, cond, false, Some}
-use Rattle.std.specs.BTreeMap.{is_at}
-use Rattle.fact_store.specs.Indexes.{pair_cmp, has_pair}
+use Rattle.fact_store.proofs.Common.{◌∙◌, sym, ap, cond, false, Some, is_at, pair_cmp, has_pair}
 use Rattle.fact_store.proofs.Newer.{is_tag, on_some, another_tag, has_next, has_fewer, has_others, leads_next, leads_fewer, leads_others}
 use Rattle.fact_store.proofs.versions.Versions.remove.Goals as goal
 

@@ -1,7 +1,6 @@
-use Rattle.std.proofs.Common.{◌≡◌, ◌∙◌, sym, ap, subst, List, ℕ}
+use Rattle.page_map.proofs.Common.{◌≡◌, ◌∙◌, sym, ap, subst, List, ℕ, among}
 use Rattle.std.specs.Prelude.{IfOk}
 use Rattle.std.specs.FinMap as map
-use Rattle.page_map.specs.Rows.{among}
 use Rattle.page_map.proofs.Kept.{entries-numbers}
 use Rattle.page_map.proofs.Rows.{whole}
 use Rattle.page_map.proofs.pages.PageMap.entries.Goals as goal

@@ -1,4 +1,4 @@
-use Rattle.std.proofs.Common.{◌∙◌, ap, Some, None}
+use Rattle.page_map.proofs.Common.{◌∙◌, ap, Some, None}
 use Rattle.std.specs.FinMap as map
 use Rattle.page_map.proofs.Changes.{found, row_here, in_tree}
 use Rattle.page_map.proofs.pages.PageMap.get.Goals as goal

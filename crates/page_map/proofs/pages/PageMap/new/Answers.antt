@@ -1,6 +1,5 @@
-use Rattle.std.proofs.Common.{◌∙◌, ap, List, [], ℕ}
-use Rattle.page_map.specs.Pages.{Directory, numbers_of}
-use Rattle.page_map.specs.Rows.{held}
+use Rattle.page_map.proofs.Common.{◌∙◌, ap, List, [], ℕ, Directory, held}
+use Rattle.page_map.specs.Pages.{numbers_of}
 use Rattle.page_map.proofs.pages.PageMap.new.Goals as goal
 
 pub returns : goal.returns

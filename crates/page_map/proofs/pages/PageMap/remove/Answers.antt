@@ -1,8 +1,5 @@
-use Rattle.std.proofs.Common.{◌≡◌, ◌∙◌, sym, ap, ◌/◌, length, Some, None, set, rules}
+use Rattle.page_map.proofs.Common.{◌≡◌, ◌∙◌, sym, ap, ◌/◌, length, Some, None, set, rules, nat_cmp, is_at, held}
 use Rattle.std.specs.FinMap as map
-use Rattle.std.specs.Ordering.{nat_cmp}
-use Rattle.std.specs.BTreeMap.{is_at}
-use Rattle.page_map.specs.Rows.{held}
 use Rattle.page_map.proofs.Kept.{rewritten, fewer_directories, remove_absent}
 use Rattle.page_map.proofs.Moved.{trimmed_same}
 use Rattle.page_map.proofs.Changes.{found, row_here, row_are, row_take, in_tree, tree_are, tree_take, last_are, last_take}

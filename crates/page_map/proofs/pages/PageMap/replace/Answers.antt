@@ -1,7 +1,5 @@
-use Rattle.std.proofs.Common.{◌≡◌, ◌∙◌, sym, ap, subst, ℕ, List, Some, None, arith}
+use Rattle.page_map.proofs.Common.{◌≡◌, ◌∙◌, sym, ap, subst, ℕ, List, Some, None, arith, Directory, free, AreHeld, held}
 use Rattle.std.specs.FinMap as map
-use Rattle.page_map.specs.Pages.{Directory, free}
-use Rattle.page_map.specs.Rows.{AreHeld, held}
 use Rattle.page_map.proofs.Kept.{on_some_weaker, if_none_weaker}
 use Rattle.page_map.proofs.Changes.{found, row_here, row_put, row_unchanged, in_tree, tree_are, tree_put, tree_unchanged}
 use Rattle.page_map.proofs.pages.PageMap.replace.Goals as goal

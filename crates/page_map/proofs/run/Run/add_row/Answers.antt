@@ -1,9 +1,4 @@
-use Rattle.std.proofs.Common.{◌≡◌, ◌∙◌, sym, ap, subst, ◌++◌, ◌*◌, ◌+◌, List, [], append_assoc, arith, length}
-use Rattle.std.specs.List.{All}
-use Rattle.std.specs.VecDeque.Iter.{deque_iter_rest}
-use Rattle.std.proofs.lemmas.List.Elements.{All-tail}
-use Rattle.page_map.specs.Pages.{Directory, AreShort, entries_of, entries_by}
-use Rattle.page_map.specs.Rows.{numbered}
+use Rattle.page_map.proofs.Common.{◌≡◌, ◌∙◌, sym, ap, subst, ◌++◌, ◌*◌, ◌+◌, List, [], append_assoc, arith, length, All, deque_iter_rest, All-tail, Directory, AreShort, entries_of, entries_by, numbered}
 use Rattle.page_map.proofs.Kept.{joined_pages}
 use Rattle.page_map.proofs.run.Run.add_row.Goals as goal
 

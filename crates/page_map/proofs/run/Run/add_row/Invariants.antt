@@ -1,8 +1,4 @@
-use Rattle.std.proofs.Common.{◌≡◌, ◌<◌, ◌+◌, ◌^◌, ◌++◌, length}
-use Rattle.std.specs.List.{All}
-use Rattle.std.specs.VecDeque.Iter.{deque_iter_rest}
-use Rattle.page_map.specs.Pages.{Directory, AreShort, entries_of}
-use Rattle.page_map.specs.Rows.{numbered}
+use Rattle.page_map.proofs.Common.{◌≡◌, ◌<◌, ◌+◌, ◌^◌, ◌++◌, length, All, deque_iter_rest, Directory, AreShort, entries_of, numbered}
 use Rattle.page_map.proofs.run.Run.add_row.Given as goal
 
 abbrev pub invariant-loop-place : goal.invariant-loop-place

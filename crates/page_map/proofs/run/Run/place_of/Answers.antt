@@ -1,4 +1,4 @@
-use Rattle.std.proofs.Common.{arith}
+use Rattle.page_map.proofs.Common.{arith}
 use Rattle.page_map.proofs.Rows.{none_before, none_behind}
 use Rattle.page_map.proofs.run.Run.place_of.Goals as goal
 

@@ -1,7 +1,4 @@
-use Rattle.std.proofs.Common.{rules, ◌≡◌, ◌∙◌, sym, ap, subst, ◌<◌, ◌∷◌, ◌++◌, List, Some, length, option_to_list}
-use Rattle.std.specs.VecDeque.{deque_len}
-use Rattle.page_map.specs.Pages.{Directory}
-use Rattle.page_map.specs.Rows.{IsTrimmed}
+use Rattle.page_map.proofs.Common.{rules, ◌≡◌, ◌∙◌, sym, ap, subst, ◌<◌, ◌∷◌, ◌++◌, List, Some, length, option_to_list, deque_len, Directory, IsTrimmed}
 use Rattle.page_map.proofs.Moved.{front_off}
 use Rattle.page_map.proofs.run.Run.trim_front.Goals as goal
 

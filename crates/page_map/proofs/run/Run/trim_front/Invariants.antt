@@ -1,4 +1,4 @@
-use Rattle.page_map.specs.Rows.{IsTrimmed}
+use Rattle.page_map.proofs.Common.{IsTrimmed}
 use Rattle.page_map.proofs.run.Run.trim_front.Given as goal
 
 abbrev pub invariant-loop-count : goal.invariant-loop-count
