@@ -1,15 +1,14 @@
 -- Whether a rule can match asks of a program for its types alone.
-use Rattle.drl_check.proofs.Common.{◌≡◌, ◌++◌, ◌∷◌, ℕ, zero, suc, not, List, [], map, slice_get, Option, Some, None, option_map, refl, sym, ap, ◌∙◌, flat_map, slice_get-map, CondTree, Body, Item, TypeTree, Condition, Program, TimeTest, is_event_type, types_of, rules_of, entry_names, Place, begin, behind, observed_names, type_info, condition_of, program_of, types_alone}
+use Rattle.drl_check.proofs.Common.{◌≡◌, ◌++◌, ◌∷◌, ℕ, zero, suc, not, List, [], map, slice_get, Option, Some, None, option_map, refl, sym, ap, ◌∙◌, flat_map, slice_get-map, CondTree, Body, Item, TypeTree, Condition, Program, TimeTest, is_event_type, is_point_type, net_edge, test_edges, condition_edges, edges_of, types_of, rules_of, entry_names, Place, begin, behind, observed_names, type_info, condition_of, program_of, types_alone, never_matches, never_matches_alone}
 use Rattle.drl_grammar.specs.declared.condition.CondTree.TheVariants as tree
 use Rattle.drl_grammar.specs.declared.file.Body.TheVariants as body
 use Rattle.temporal_net.specs.declared.edge.NetEdge.{NetEdge}
 use Rattle.temporal_net.specs.Potentials.{is_solvable}
 use Rattle.rule_model.specs.declared.program.TypeInfo.{TypeInfo}
-use Rattle.rule_model.specs.Types.{is_point_type, is_event, is_point}
-use Rattle.life_edges.specs.Edges.{place_of, net_edge, test_edges, condition_edges, edges_of}
+use Rattle.rule_model.specs.Types.{is_event, is_point}
+use Rattle.life_edges.specs.Edges.{place_of}
 use Rattle.expiry_infer.specs.Solvable.{can_match}
 use Rattle.drl_program.specs.Programs.{conditions_of}
-use Rattle.drl_check.specs.Solvable.{never_matches, never_matches_alone}
 
 event_by : (observed names : List (List ℕ)) (o : Option TypeTree) → is_event_type (option_map (type_info observed) o) ≡ is_event_type (option_map (type_info names) o)
 event_by observed names None = refl

@@ -1,7 +1,6 @@
 -- What an answer that is the checked one tells.
-use Rattle.drl_check.proofs.Common.{◌≡◌, ℕ, Option, Some, None, Result, Ok, Err, refl, sym, ap, subst, ◌∙◌, IfOk, All, File, Program, Rule, IsRunnable, IsSolvable, CheckCode, Refused, Failure, failure_of, IsAcceptedFile, IsFirstFailure, program_of}
+use Rattle.drl_check.proofs.Common.{◌≡◌, ℕ, Option, Some, None, Result, Ok, Err, refl, sym, ap, subst, ◌∙◌, IfOk, All, File, Program, Rule, IsRunnable, IsSolvable, CheckCode, Refused, NoMemory, Failure, failure_of, IsAcceptedFile, IsFirstFailure, program_of}
 use Rattle.drl_check.specs.declared.fault.CheckFault.{CheckFault}
-use Rattle.drl_check.specs.declared.fault.CheckFault.TheVariants.{NoMemory}
 use Rattle.drl_check.specs.Outcomes.{checked_by, checked}
 use Rattle.drl_check.specs.Answers.{within_32_bits, fault_of, Gives}
 use Rattle.drl_check.proofs.Exact.{exact_none, is_first_failure}

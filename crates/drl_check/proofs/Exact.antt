@@ -1,8 +1,6 @@
 -- The first failure as a function is the first failure as a relation.
-use Rattle.drl_check.proofs.Common.{◌≡◌, ◌↔◌, inl, inr, ◌+◌, ◌++◌, ◌∷◌, ℕ, Bool, true, false, List, [], length, Option, Some, None, cond, refl, sym, ap, subst, ◌∙◌, append_assoc, length-append, arith, append-nil, Body, File, Item, CheckCode, TwiceDeclared, LimitPassed, UnknownType, UnknownVariable, WrongKind, NotAnEvent, BadReference, EventFixed, BadParams, NeverMatches, Failure, codes_in_order, fails, first_code, AllPass, IsAcceptedFile, IsFirstFailure, failure_at, failure_of}
-use Rattle.std.proofs.lemmas.Option.{same_Some}
-use Rattle.drl_check.specs.declared.fault.CheckCode.TheVariants.{UnknownField, BadTimestamp, EventObserved, ReferenceFixed}
-use Rattle.drl_check.specs.Checks.{FailsFirst, Passes, failure_from}
+use Rattle.drl_check.proofs.Common.{◌≡◌, ◌↔◌, inl, inr, ◌+◌, ◌++◌, ◌∷◌, ℕ, Bool, true, false, List, [], length, Option, Some, None, cond, refl, sym, ap, subst, ◌∙◌, append_assoc, length-append, arith, append-nil, same_Some, Body, File, Item, CheckCode, TwiceDeclared, LimitPassed, UnknownType, UnknownField, UnknownVariable, WrongKind, NotAnEvent, BadTimestamp, BadReference, EventFixed, EventObserved, ReferenceFixed, BadParams, NeverMatches, Failure, codes_in_order, fails, first_code, FailsFirst, Passes, AllPass, IsAcceptedFile, IsFirstFailure, failure_at, failure_of}
+use Rattle.drl_check.specs.Checks.{failure_from}
 
 -- ---- codes
 

@@ -1,8 +1,6 @@
 -- The first failure of a list of items, read from its front.
-use Rattle.drl_check.proofs.Common.{◌≡◌, ◌+◌, ◌++◌, ◌∷◌, ◌<◌, ◌≤◌, ℕ, zero, suc, List, [], length, get_or, take, drop, Some, None, refl, sym, ap, ◌∙◌, append_assoc, add-one, drop-cons, arith, flat_map, append-nil, length-map, map-append, Body, Item, TypeTree, RuleTree, Program, CheckCode, types_of, rules_of, type_in, rule_in, type_names, rule_names, entries_named, declared_entries, default_name, entry_names, types_alone, Failure, codes_in_order, first_code, failure_at}
-use Rattle.std.proofs.lemmas.List.{length-take-le}
+use Rattle.drl_check.proofs.Common.{◌≡◌, ◌+◌, ◌++◌, ◌∷◌, ◌<◌, ◌≤◌, ℕ, zero, suc, List, [], length, get_or, take, drop, Some, None, refl, sym, ap, ◌∙◌, append_assoc, add-one, drop-cons, arith, flat_map, append-nil, length-map, length-take-le, map-append, Body, Item, TypeTree, RuleTree, Program, CheckCode, types_of, rules_of, type_in, rule_in, type_names, rule_names, entries_named, entries_declared, declared_entries, default_name, with_names, entry_names, types_alone, Failure, codes_in_order, first_code, failure_at}
 use Rattle.drl_sight.specs.Observed.{watched_names}
-use Rattle.drl_sight.specs.EntryPoints.{entries_declared, with_names}
 use Rattle.drl_sight.proofs.EntryLemmas.{with_both}
 use Rattle.drl_check.specs.Checks.{failure_from}
 use Rattle.drl_check.specs.Failing.{first_failing}

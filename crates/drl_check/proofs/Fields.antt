@@ -1,6 +1,5 @@
 -- Each field of a type of an accepted file stands once, so that an insert takes a value for each.
-use Rattle.drl_check.proofs.Common.{◌≡◌, ◌++◌, ◌∷◌, ◌||◌, ℕ, zero, suc, Bool, true, false, not, List, [], map, slice_get, Some, refl, sym, ap, subst, ◌∙◌, list_all, bytes_eq, Body, Item, TypeTree, types_of, rules_of, type_in, type_names, rule_names, field_names, declared_entries, is_among, word_kind, taken_by, TwiceDeclared, AllPass, meta_word, is_repeated}
-use Rattle.std.specs.List.{filter}
+use Rattle.drl_check.proofs.Common.{◌≡◌, ◌++◌, ◌∷◌, ◌||◌, ℕ, zero, suc, Bool, true, false, not, List, [], map, slice_get, Some, refl, sym, ap, subst, ◌∙◌, list_all, filter, bytes_eq, Body, Item, TypeTree, types_of, rules_of, type_in, type_names, rule_names, field_names, declared_entries, is_among, word_kind, taken_by, TwiceDeclared, AllPass, meta_word, is_repeated}
 use Rattle.std.specs.Cmp.Lexicographic.{bytes_decides}
 use Rattle.drl_grammar.specs.declared.file.Body.TheVariants as body
 use Rattle.drl_sight.specs.Names.{are_distinct}

@@ -1,14 +1,11 @@
 -- The expressions of an action have in the program the kinds that the checks find.
-use Rattle.drl_check.proofs.Common.{◌≡◌, ◌≤◌, ◌∷◌, ◌&&◌, ℕ, min, Bool, true, false, List, [], map, length, slice_get, Option, Some, None, option_map, refl, ap, ◌∙◌, arith, list_all, list_any, option_and_then, slice_get-map, slice_get_within, Tree, TypeTree, Expression, fields_in, bound_fields, expression_kind, set_of_kind, place_of, field_names, kind_at, Meaning, of_fact, of_field, of_result, Sight, meaning_of, type_info, expression_in, set_in, word_kind}
+use Rattle.drl_check.proofs.Common.{◌≡◌, ◌≤◌, ◌∷◌, ◌&&◌, ℕ, min, Bool, true, false, List, [], map, length, slice_get, Option, Some, None, option_map, refl, ap, ◌∙◌, arith, list_all, list_any, option_and_then, slice_get-map, slice_get_within, Tree, lit, var, var_field, neg, add, sub, mul, TypeTree, Expression, is_kind, fields_in, bound_fields, kind_in, expression_kind, set_of_kind, place_of, field_names, kind_of, kind_at, Meaning, of_fact, of_field, of_result, Sight, meaning_of, small_place, field_place, kind_or_int, field_info, type_info, variable_value, variable_field_value, expression_in, set_in, is_number, number_where, tree_kind, set_misfits, word_kind}
 use Rattle.fx_base.specs.declared.kind.Kind.{Kind}
 use Rattle.fx_base.specs.declared.kind.Kind.TheVariants as kind
 use Rattle.drl_expr.specs.declared.literal.LitTree.TheVariants as literal
-use Rattle.drl_expr.specs.Tree.{lit, var, var_field, neg, add, sub, mul}
-use Rattle.rule_world.specs.Typed.{is_kind, kind_in, args_fit}
-use Rattle.drl_sight.specs.Declarations.{kind_of}
+use Rattle.rule_world.specs.Typed.{args_fit}
 use Rattle.drl_sight.specs.Meanings.{field_kind, variable_kind, variable_field_kind}
-use Rattle.drl_program.specs.Programs.{small_place, field_place, kind_or_int, field_info, variable_value, variable_field_value}
-use Rattle.drl_uses.specs.Kinds.{is_number, number_where, tree_kind, set_misfits, args_misfit}
+use Rattle.drl_uses.specs.Kinds.{args_misfit}
 use Rattle.drl_check.proofs.Sound.{both, or_left, or_right}
 use Rattle.drl_check.proofs.Places.{type_taken, Stands, got, taken_of}
 

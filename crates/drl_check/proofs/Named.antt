@@ -1,18 +1,15 @@
 -- Each temporal test of a rule names a fact that an earlier condition binds, where the rule names no unknown type or variable and no
 -- value where a fact is needed.
-use Rattle.drl_check.proofs.Common.{◌≡◌, ◌<◌, ◌+◌, ◌++◌, ◌∷◌, ◌||◌, ℕ, zero, suc, Bool, true, false, not, List, [], take, slice_get, Option, Some, None, is_some, cond, refl, subst, arith, All, list_any, flat_map, bytes_eq, All-nil, All-cons, CondTree, Part, SourceTree, TypeTree, Condition, TimeTest, NameEarlier, place_of, type_named, field_names, Meaning, of_fact, of_field, of_result, Sight, seen_fact, seen_field, seen_in, seen_of, seen_result, Place, begin, behind, fact_meant, condition_of, is_type_unknown, has_unknown_type, has_unknown_variable, has_wrong_kind}
-use Rattle.std.proofs.lemmas.List.Elements.{All-append, All-weaker}
+use Rattle.drl_check.proofs.Common.{◌≡◌, ◌<◌, ◌+◌, ◌++◌, ◌∷◌, ◌||◌, ℕ, zero, suc, Bool, true, false, not, List, [], take, slice_get, Option, Some, None, is_some, cond, refl, subst, arith, All, list_any, flat_map, bytes_eq, All-nil, All-cons, All-append, All-weaker, CondTree, Part, SourceTree, TypeTree, Condition, TimeTest, bindings, NameEarlier, place_of, type_named, field_names, Meaning, of_fact, of_field, of_result, Sight, seen_fact, seen_field, seen_in, seen_of, seen_result, Place, begin, behind, is_bound_by, fact_meant, time_test, times_in, condition_of, is_type_unknown, has_unknown_type, part_unseen, source_unseen, test_unseen, has_unknown_variable, is_value, part_misfits, source_misfits, argument_misfits, test_misfits, has_wrong_kind}
 use Rattle.drl_grammar.specs.declared.condition.CondTree.TheVariants as tree
 use Rattle.drl_grammar.specs.declared.condition.Part.TheVariants as part
 use Rattle.temporal_ops.specs.declared.edge.OpEdge.{OpEdge}
 use Rattle.rule_model.specs.declared.condition.Condition.TheVariants as condition
 use Rattle.rule_model.specs.Rows.{pattern_of}
-use Rattle.rule_world.specs.Typed.{bindings}
-use Rattle.drl_sight.specs.Sight.{meaning_of, is_bound_by}
+use Rattle.drl_sight.specs.Sight.{meaning_of}
 use Rattle.drl_program.specs.Operators.{operator_of}
-use Rattle.drl_program.specs.Programs.{time_test, times_in, conditions_of}
-use Rattle.drl_uses.specs.Uses.{any_condition, part_unseen, source_unseen, test_unseen}
-use Rattle.drl_uses.specs.Kinds.{is_value, part_misfits, source_misfits, argument_misfits, test_misfits}
+use Rattle.drl_program.specs.Programs.{conditions_of}
+use Rattle.drl_uses.specs.Uses.{any_condition}
 use Rattle.drl_check.proofs.Sound.{or_left, or_right}
 
 -- ---- a fact that a variable means is bound

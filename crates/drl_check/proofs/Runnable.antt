@@ -1,21 +1,15 @@
 -- The program of an accepted file is one that engines run.
-use Rattle.drl_check.proofs.Common.{◌≡◌, ◌++◌, ◌∷◌, ◌&&◌, ◌||◌, ℕ, zero, suc, ℤ, Bool, true, false, not, nat_le, nat_lt, length, List, [], map, slice_get, Option, Some, None, is_some, refl, sym, ◌∙◌, ap, subst, append_assoc, arith, All, list_all, list_any, flat_map, bytes_eq, length-map, map-append, All-nil, All-cons, All-same, CondTree, Body, File, Item, RuleTree, TypeTree, Rule, is_event_type, has_conditions, has_few_actions, NameEarlier, IsRunnable, types_of, rules_of, type_in, rule_in, type_names, type_named, field_names, rule_names, entries_named, entry_names, declared_entries, is_among, begin, is_name, type_within, meta_within, exceeds_limit_behind, observed_names, type_info, entry_info, rule_of, program_of, each_has_operator, any_condition, is_type_unknown, has_unknown_type, inserts_unknown_type, has_unknown_variable, has_wrong_kind, TwiceDeclared, LimitPassed, UnknownType, UnknownVariable, WrongKind, NotAnEvent, BadReference, BadParams, lacks_type, lacks_variable, is_wrong_kind, needs_event, has_bad_params, AllPass, IsAcceptedFile, meta_word, is_repeated}
+use Rattle.drl_check.proofs.Common.{◌≡◌, ◌++◌, ◌∷◌, ◌&&◌, ◌||◌, ℕ, zero, suc, ℤ, Bool, true, false, not, nat_le, nat_lt, length, List, [], map, slice_get, Option, Some, None, is_some, refl, sym, ◌∙◌, ap, subst, append_assoc, arith, All, list_all, list_any, flat_map, bytes_eq, length-map, map-append, All-nil, All-cons, All-same, CondTree, Body, File, Item, RuleTree, TypeTree, Rule, is_event_type, is_reference_type, has_conditions, has_few_actions, has_expiry, UseOperators, NameEarlier, IsRunnable, expiry_of, reference_of, types_of, rules_of, type_in, rule_in, type_names, type_named, field_names, rule_names, entries_named, entry_names, declared_entries, is_among, begin, is_name, type_within, meta_within, exceeds_limit_behind, observed_names, type_info, entry_info, rule_of, program_of, observed_are_flagged, each_has_operator, any_condition, is_type_unknown, has_unknown_type, inserts_unknown_type, has_unknown_variable, has_wrong_kind, TwiceDeclared, LimitPassed, UnknownType, UnknownVariable, WrongKind, NotAnEvent, BadReference, BadParams, lacks_type, lacks_variable, is_wrong_kind, needs_event, has_bad_reference, has_bad_params, AllPass, IsAcceptedFile, is_of_events, is_no_event, marks_event, has_short_expiry, expires_at_once, meta_word, is_repeated}
 use Rattle.std.proofs.Common.{append-nil}
 use Rattle.std.proofs.lemmas.List.Folds.{list_any-append}
 use Rattle.drl_grammar.specs.declared.condition.CondTree.TheVariants as tree
 use Rattle.drl_grammar.specs.declared.file.Body.TheVariants as body
 use Rattle.drl_grammar.specs.declared.file.Meta.{Meta}
 use Rattle.drl_grammar.specs.declared.file.Meta.TheVariants as meta
-use Rattle.rule_model.specs.Types.{is_event, is_reference_type, is_reference}
-use Rattle.rule_world.specs.Programs.{has_expiry, UseOperators}
-use Rattle.drl_sight.specs.Annotations.{expiry_of, reference_of}
+use Rattle.rule_model.specs.Types.{is_event, is_reference}
 use Rattle.drl_sight.specs.Annotations as annotation
 use Rattle.drl_sight.specs.Names.{are_distinct}
 use Rattle.drl_program.specs.Laws.{has_type, has_types}
-use Rattle.drl_program.proofs.Flagged.{observed_are_flagged}
-use Rattle.drl_check.specs.Checks.{has_bad_reference}
-use Rattle.drl_check.specs.Events.{is_of_events, is_no_event, marks_event}
-use Rattle.drl_check.specs.Params.{has_short_expiry, expires_at_once}
 use Rattle.drl_check.proofs.Failures.{types_next}
 use Rattle.drl_check.proofs.Sound.{and_left, and_right, not_and_right, both, is_time, given_time, or_left, or_right, few_types, few_rules, few_entries, one_entry, some_entry, late, all_late, conditions_sound, actions_sound, all_sound}
 use Rattle.drl_check.proofs.Fields.{same_bytes}

@@ -1,11 +1,9 @@
 -- What earlier checks have told of a rule's network, and what an accepted file's rules have.
-use Rattle.drl_check.proofs.Common.{◌≡◌, ◌≤◌, ◌++◌, ◌∷◌, ◌&&◌, ℕ, Bool, true, false, not, nat_le, nat_lt, length, List, [], map, ap, arith, All, list_all, map-append, All-nil, All-cons, All-same, Body, File, Item, RuleTree, TypeTree, Program, Rule, IsSolvable, types_of, rules_of, rule_in, entry_names, is_short, begin, rule_within, condition_within, actions_within, attr_within, has_few_entries, exceeds_limit_behind, conditions_of, program_of, rule_of, each_has_operator, one_for_each, any_condition, has_unknown_type, has_unknown_variable, has_wrong_kind, CheckCode, LimitPassed, UnknownType, UnknownVariable, WrongKind, NeverMatches, lacks_type, lacks_variable, is_wrong_kind, fails, AllPass, IsAcceptedFile}
+use Rattle.drl_check.proofs.Common.{◌≡◌, ◌≤◌, ◌++◌, ◌∷◌, ◌&&◌, ℕ, Bool, true, false, not, nat_le, nat_lt, length, List, [], map, ap, arith, All, list_all, map-append, All-nil, All-cons, All-same, Body, File, Item, RuleTree, TypeTree, Program, Rule, IsSolvable, HaveNetwork, types_of, rules_of, rule_in, entry_names, is_short, begin, rule_within, condition_within, actions_within, attr_within, has_few_entries, exceeds_limit_behind, conditions_of, program_of, rule_of, each_has_operator, one_for_each, any_condition, has_unknown_type, has_unknown_variable, has_wrong_kind, CheckCode, LimitPassed, UnknownType, UnknownVariable, WrongKind, NeverMatches, lacks_type, lacks_variable, is_wrong_kind, fails, AllPass, IsAcceptedFile, HasFewConditions, HasNetwork}
 use Rattle.std.specs.Bool.{Decides}
 use Rattle.drl_grammar.specs.declared.file.Body.TheVariants as body
-use Rattle.life_edges.specs.Edges.{HaveNetwork}
 use Rattle.expiry_infer.specs.Solvable.{can_match}
 use Rattle.expiry_infer.proofs.Matching.{can_match_is_exact}
-use Rattle.drl_check.specs.Solvable.{HasFewConditions, HasNetwork}
 use Rattle.drl_check.proofs.Named.{rule_named}
 use Rattle.drl_check.proofs.Sound.{and_left, and_right, not_and_right, or_left, within}
 

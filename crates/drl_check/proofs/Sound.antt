@@ -1,11 +1,9 @@
 -- The program of an accepted file is within the limits.
-use Rattle.drl_check.proofs.Common.{◌≡◌, ◌≤◌, ◌<◌, ◌+◌, ◌&&◌, ◌||◌, ◌++◌, ◌∷◌, ℕ, ℤ, pos, negsuc, Bool, true, false, not, List, [], map, length, nat_le, nat_lt, int_le, int_lt, unsigned_abs, Option, Some, None, cond, refl, sym, ap, subst, append_assoc, length-append, arith, list_all, bytes_eq, nat_tests, ints, append-nil, length-map, Body, Item, TypeTree, RuleTree, Rule, has_conditions, has_few_actions, LimitPassed, BadParams, types_of, rules_of, type_in, rule_in, default_name, entries_named, entry_names, is_short, is_among, begin, sight_of_actions, has_few_entries, exceeds_limit_behind, type_within, rule_within, attr_within, condition_within, actions_within, entry_info, rule_of, action_of, one_for_each, has_bad_params, AllPass}
+use Rattle.drl_check.proofs.Common.{◌≡◌, ◌≤◌, ◌<◌, ◌+◌, ◌&&◌, ◌||◌, ◌++◌, ◌∷◌, ℕ, ℤ, pos, negsuc, Bool, true, false, not, List, [], map, length, nat_le, nat_lt, int_le, int_lt, unsigned_abs, Option, Some, None, cond, refl, sym, ap, subst, append_assoc, length-append, arith, list_all, bytes_eq, nat_tests, ints, append-nil, length-map, Body, Item, TypeTree, RuleTree, Rule, has_conditions, has_few_actions, has_lateness, LimitPassed, BadParams, types_of, rules_of, type_in, rule_in, default_name, entries_named, with_name, entry_names, lateness_or_zero, lateness_with, is_short, is_among, begin, sight_of_actions, is_entry_name, has_few_entries, lateness_within, exceeds_limit_behind, type_within, rule_within, attr_within, condition_within, action_within, actions_within, entry_info, rule_of, action_of, one_for_each, has_bad_params, AllPass, is_negative}
 use Rattle.drl_grammar.specs.declared.file.Body.TheVariants as body
 use Rattle.rule_world.specs.Events.{most_millis}
-use Rattle.rule_world.specs.Programs.{has_lateness}
-use Rattle.drl_sight.specs.EntryPoints.{with_name, with_names, lateness_or_zero, lateness_with, lateness_named}
-use Rattle.drl_limits.specs.Limits.{span_limit, is_entry_name, lateness_within, action_within}
-use Rattle.drl_check.specs.Params.{is_negative}
+use Rattle.drl_sight.specs.EntryPoints.{with_names, lateness_named}
+use Rattle.drl_limits.specs.Limits.{span_limit}
 use Rattle.drl_check.proofs.Failures.{types_next, rules_next, known_next}
 
 pub and_right : (a b : Bool) → (a && b) ≡ true → b ≡ true

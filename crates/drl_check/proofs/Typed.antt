@@ -1,18 +1,12 @@
 -- The actions of the rules of an accepted file make values of the declared kinds.
-use Rattle.drl_check.proofs.Common.{◌≡◌, ◌≤◌, ◌<◌, ◌++◌, ◌∷◌, ◌&&◌, ℕ, zero, suc, min, Bool, true, false, not, List, [], map, length, nat_le, nat_lt, slice_get, Option, Some, None, is_some, option_map, refl, sym, ap, subst, ◌∙◌, arith, list_all, list_any, nat_tests, length-map, slice_get-map, slice_get_within, Tree, Body, File, Item, RuleTree, TypeTree, Expression, bound_types, fields_in, bound_fields, expression_kind, set_of_kind, option_and_then, is_short, place_of, types_of, rules_of, type_in, rule_in, type_names, type_named, field_names, entry_names, Meaning, of_fact, of_field, of_result, Sight, meaning_of, begin, sight_of_actions, is_name, has_few_entries, attr_within, condition_within, meta_within, actions_within, exceeds_limit_behind, type_within, rule_within, observed_names, type_place, type_info, conditions_of, expression_in, set_in, fact_meant, action_of, rule_of, program_of, LimitPassed, UnknownType, UnknownVariable, WrongKind, EventFixed, lacks_type, lacks_variable, is_wrong_kind, AllPass, IsAcceptedFile, taken_by, has_wrong_kind, any_condition, has_unknown_type, has_unknown_variable, inserts_unknown_type}
+use Rattle.drl_check.proofs.Common.{◌≡◌, ◌≤◌, ◌<◌, ◌++◌, ◌∷◌, ◌&&◌, ℕ, zero, suc, min, Bool, true, false, not, List, [], map, length, nat_le, nat_lt, slice_get, Option, Some, None, is_some, option_map, refl, sym, ap, subst, ◌∙◌, arith, list_all, list_any, nat_tests, length-map, slice_get-map, slice_get_within, Tree, Body, File, Item, RuleTree, TypeTree, Expression, bound_types, fields_in, bound_fields, expression_kind, args_fit, set_of_kind, is_plain_type, is_plain_bound, action_fits, rule_fits, option_and_then, is_event, is_short, place_of, types_of, rules_of, type_in, rule_in, type_names, type_named, field_names, entry_names, Meaning, of_fact, of_field, of_result, Sight, meaning_of, begin, sight_of_actions, is_name, has_few_entries, attr_within, condition_within, meta_within, actions_within, exceeds_limit_behind, type_within, rule_within, observed_names, type_place, type_info, conditions_of, expression_in, set_in, fact_meant, type_meant, action_of, rule_of, program_of, LimitPassed, UnknownType, UnknownVariable, WrongKind, EventFixed, lacks_type, lacks_variable, is_wrong_kind, fixes_event, AllPass, IsAcceptedFile, taken_by, args_misfit, insert_misfits, modify_misfits, has_wrong_kind, action_misfits, any_condition, has_unknown_type, has_unknown_variable, inserts_unknown_type, action_unseen, target_unseen, leaf_unseen, is_event_meant, modifies_event}
 use Rattle.drl_grammar.specs.declared.action.ActTree.{ActTree}
 use Rattle.drl_grammar.specs.declared.action.ActTree.TheVariants as act
 use Rattle.drl_grammar.specs.declared.file.Body.TheVariants as body
 use Rattle.rule_model.specs.declared.action.Action.TheVariants.{Modify}
-use Rattle.rule_world.specs.Typed.{args_fit, is_plain_type, is_plain_bound, action_fits, rule_fits, is_typed}
-use Rattle.drl_sight.specs.Annotations.{is_event}
+use Rattle.rule_world.specs.Typed.{is_typed}
 use Rattle.drl_sight.specs.Operands.{any_leaf_of}
-use Rattle.drl_program.specs.Programs.{type_meant}
-use Rattle.drl_check.specs.Checks.{fixes_event}
-use Rattle.drl_uses.specs.Kinds.{args_misfit, insert_misfits, modify_misfits, action_misfits}
-use Rattle.drl_uses.specs.Uses.{action_unseen, target_unseen, leaf_unseen}
 use Rattle.drl_check.proofs.Fields.{HaveFieldsApart, kinds_taken, types_apart, apart_at}
-use Rattle.drl_check.specs.Events.{is_event_meant, modifies_event}
 use Rattle.drl_check.proofs.Places.{type_taken, taken_of, type_placed, few_bound, sight_stands}
 use Rattle.drl_check.proofs.Fitting.{HaveFewFields, InSight, fields_at, args_are_fit, sets_are_fit}
 use Rattle.drl_check.proofs.Sound.{and_left, and_right, not_and_right, both, or_left, or_right, within, few_types}

@@ -1,19 +1,15 @@
 -- A window of an accepted file stands on a type of events, and is within its bounds.
-use Rattle.drl_check.proofs.Common.{◌≡◌, ◌≤◌, ◌++◌, ◌∷◌, ◌&&◌, ◌||◌, ℕ, ℤ, pos, negsuc, Bool, true, false, not, nat_le, nat_lt, int_lt, unsigned_abs, length, sum_by, List, [], map, Option, Some, None, is_some, option_map, refl, sym, ap, subst, ◌∙◌, arith, list_all, list_any, nat_tests, ints, slice_get-map, CondTree, SourceTree, Body, File, Item, RuleTree, TypeTree, Program, is_event_type, types_of, rules_of, rule_in, type_names, type_named, entry_names, is_short, place_of, Sight, Place, begin, behind, is_name, has_few_entries, condition_within, attr_within, actions_within, rule_within, exceeds_limit_behind, observed_names, type_place, type_info, condition_of, rule_of, program_of, is_type_unknown, has_unknown_type, inserts_unknown_type, LimitPassed, UnknownType, NotAnEvent, BadParams, lacks_type, needs_event, has_bad_params, AllPass, IsAcceptedFile}
+use Rattle.drl_check.proofs.Common.{◌≡◌, ◌≤◌, ◌++◌, ◌∷◌, ◌&&◌, ◌||◌, ℕ, ℤ, pos, negsuc, Bool, true, false, not, nat_le, nat_lt, int_lt, unsigned_abs, length, sum_by, List, [], map, Option, Some, None, is_some, option_map, refl, sym, ap, subst, ◌∙◌, arith, list_all, list_any, nat_tests, ints, slice_get-map, CondTree, SourceTree, Body, File, Item, RuleTree, TypeTree, Program, is_event_type, is_window, has_window, has_windows, types_of, rules_of, rule_in, type_names, type_named, source_of, entry_names, is_short, place_of, Sight, Place, begin, behind, is_name, has_few_entries, weight, part_within, variable_within, entry_within, window_within, source_within, tests_within, condition_within, attr_within, actions_within, rule_within, exceeds_limit_behind, observed_names, type_place, type_info, count_of, window_of, condition_of, rule_of, program_of, is_type_unknown, has_unknown_type, inserts_unknown_type, LimitPassed, UnknownType, NotAnEvent, BadParams, lacks_type, needs_event, has_bad_params, AllPass, IsAcceptedFile, is_part_refused, is_empty_window, is_source_refused, is_condition_refused}
 use Rattle.drl_grammar.specs.declared.condition.CondTree.TheVariants as tree
 use Rattle.drl_grammar.specs.declared.condition.WindowTree.{WindowTree}
 use Rattle.drl_grammar.specs.declared.condition.WindowTree.TheVariants as window
 use Rattle.drl_grammar.specs.declared.file.Body.TheVariants as body
 use Rattle.rule_model.specs.Simple.{is_whole}
 use Rattle.rule_model.specs.Types.{is_event}
-use Rattle.rule_world.specs.Programs.{is_window, has_window, has_windows}
 use Rattle.drl_sight.specs.Annotations as annotation
-use Rattle.drl_sight.specs.EntryPoints.{source_of}
-use Rattle.drl_limits.specs.Limits.{weight, part_within, variable_within, entry_within, window_within, source_within, tests_within}
-use Rattle.drl_program.specs.Programs.{count_of, window_of, conditions_of}
+use Rattle.drl_program.specs.Programs.{conditions_of}
 use Rattle.drl_uses.specs.Times.{part_lacks_times, source_lacks_times, has_no_times}
 use Rattle.drl_uses.specs.Uses.{any_condition}
-use Rattle.drl_check.specs.Params.{is_part_refused, is_empty_window, is_source_refused, is_condition_refused}
 use Rattle.drl_check.proofs.Places.{type_placed}
 use Rattle.drl_check.proofs.Sound.{and_left, and_right, not_and_right, both, is_time, given_time, or_left, or_right, few_types}
 

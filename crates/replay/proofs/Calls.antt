@@ -1,16 +1,10 @@
 -- What a call does, by what its parts did.
-use Rattle.replay.proofs.Common.{◌≡◌, ◌≢◌, ◌⊎◌, inl, inr, ◌<◌, ◌≤◌, ◌^◌, ℕ, List, [], length, Option, Some, None, option_map, refl, sym, ap, subst, ◌∙◌, arith, String, Global, IfSome, Rose, append, AppendsFront, count_after, IsFound, Asked, RuleFile, Mode, Run, Check, Lives, Proof, Save, rules_text, Program, Script, Limit, Gives, Fires, Counts, Outcome, RunSetting, RunState, setting_of, StoppedAtRead, Beginning, First, Behind, Refusal, CheckpointCode, Reading, Accepted, Refused, RunsIn, ShelfSeen, seen, wanted_told, TellsScript, MayEnd, RunOf, Says, checkpoint_text, reading, Report, Reports, IsReport, IsWritten, IsLong, IsStopped, TakesFor, checkpoint_report, Wanted, Files, usage_line, refuses, refuses_checkpoint, runs, resumes, saves, saves_on, accepts, tells_lives, proves, sums_up, wanted_at, wanted_by, wanted_from, rules_in, wanted_by_file, wanted_by_reading, MayRefuse}
-use Rattle.command_words.specs.declared.asking.Asked.TheVariants.{Load}
+use Rattle.replay.proofs.Common.{◌≡◌, ◌≢◌, ◌⊎◌, inl, inr, ◌<◌, ◌≤◌, ◌^◌, ℕ, List, [], length, Option, Some, None, option_map, refl, sym, ap, subst, ◌∙◌, arith, String, Global, IfSome, Rose, append, AppendsFront, count_after, IsFound, Asked, RuleFile, Load, Mode, Run, Check, Lives, Proof, Save, rules_text, Program, Script, Limit, Gives, Fires, Counts, progress_behind, Outcome, RunSetting, RunState, at_end, first_state, setting_of, state_in, StoppedAtRead, Beginning, First, Behind, Refusal, CheckpointCode, Reading, Accepted, Refused, RefusesFor, RunsIn, ShelfSeen, Outside, seen, wanted_told, TellsScript, MayEnd, RunOf, Says, checkpoint_text, usage, reading, refusal_text, Report, Reports, IsReport, IsWritten, IsLong, IsStopped, TakesFor, checkpoint_report, Wanted, Files, usage_line, refuses, refuses_checkpoint, runs, resumes, saves, saves_on, accepts, tells_lives, proves, sums_up, wanted_at, wanted_by, wanted_from, rules_in, wanted_by_file, wanted_by_reading, IfRefuses, ReadsFile, RunsScript, IsUnfit, ReadFails, MayRefuse}
 use Rattle.command_words.specs.Asked.{asked_by}
-use Rattle.script_run.specs.Parts.{progress_behind}
-use Rattle.script_run.specs.Run.{at_end, first_state, run as run_lines, state_in}
+use Rattle.script_run.specs.Run.{run as run_lines}
 use Rattle.script_run.proofs.Ahead.{run_ended, append_nothing}
 use Rattle.script_run.proofs.Stops.{none_given}
-use Rattle.replay.specs.Beginnings.{RefusesFor}
-use Rattle.replay.specs.Calls.{Outside}
-use Rattle.replay.specs.Notices.{usage}
-use Rattle.replay.specs.Refusals.{refusal_text}
-use Rattle.replay.specs.Wanted.{wanted, wanted_by_name, wanted_by_number, IfRefuses, ReadsFile, RunsScript, IsUnfit, ReadFails}
+use Rattle.replay.specs.Wanted.{wanted, wanted_by_name, wanted_by_number}
 use Rattle.replay.proofs.Reports.{front_by, front_none}
 
 pub some_is : {A : Type 0} {x y : A} → Some x ≡ Some y → x ≡ y

@@ -1,11 +1,8 @@
 -- The lines of a text, one after the other, and how many of them begin with some bytes.
-use Rattle.replay.proofs.Common.{◌≡◌, ◌≢◌, inl, inr, ◌<◌, ◌≤◌, ◌+◌, ◌++◌, ◌==◌, ℕ, List, [], ◌∷◌, length, take, drop, true, cond, Some, None, refl, sym, ap, ◌∙◌, arith, append-nil, lines_with}
-use Rattle.std.specs.List.{fold, starts_with}
+use Rattle.replay.proofs.Common.{◌≡◌, ◌≢◌, inl, inr, ◌<◌, ◌≤◌, ◌+◌, ◌++◌, ◌==◌, ℕ, List, [], ◌∷◌, length, take, drop, true, cond, Some, None, refl, sym, ap, ◌∙◌, arith, fold, starts_with, append-nil, take-append-drop, IsExhausted, IsFirstEnd, lines_with}
 use Rattle.std.proofs.lemmas.Bool.{eqb-true}
-use Rattle.std.proofs.lemmas.List.{take-append-drop}
 use Rattle.memchr.specs.Find.{IsFirstByte, is_byte}
-use Rattle.fx_io.specs.Outside.{IsExhausted}
-use Rattle.fx_io.specs.Lines.{lines_of, IsFirstEnd}
+use Rattle.fx_io.specs.Lines.{lines_of}
 use Rattle.fx_io.specs.Answers.{Reads, TakesLine, Answers}
 use Rattle.fx_io.specs.declared.line.Line.TheVariants.{Whole}
 use Rattle.fx_io.proofs.Ahead.{answers_ahead}

@@ -1,8 +1,5 @@
 -- The run behind the image of an earlier one is the rest of the run of both scripts as one.
-use Rattle.replay.proofs.Common.{◌≡◌, inl, inr, ◌≤◌, ◌++◌, ℕ, List, Option, Some, sym, ap, ◌∙◌, arith, lines_of, Image, RunPart, LifeTable, Program, AreLives, empty_world, Gives, Fires, Counts, first_part, part_at, run_on, Outcome, RunSetting, setting_of, whole_run, Report, Reports, IsBehind, IsReport, IsRunBehind, IsRunStatus, outcome_report, run_status, Wanted, usage_line, refuses, refuses_checkpoint, runs, resumes, saves, saves_on, accepts, tells_lives, proves, sums_up}
-use Rattle.script_run.specs.Run.{then_run}
-use Rattle.script_run.proofs.Joined.{script_joined, whole_behind}
-use Rattle.replay.specs.Behind.{GoesOn, IsImageOfRun, IsRest}
+use Rattle.replay.proofs.Common.{◌≡◌, inl, inr, ◌≤◌, ◌++◌, ℕ, List, Option, Some, sym, ap, ◌∙◌, arith, lines_of, Image, RunPart, LifeTable, Program, AreLives, empty_world, Gives, Fires, Counts, first_part, part_at, run_on, Outcome, RunSetting, setting_of, then_run, whole_run, script_joined, whole_behind, GoesOn, IsImageOfRun, IsRest, Report, Reports, IsBehind, IsReport, IsRunBehind, IsRunStatus, outcome_report, run_status, Wanted, usage_line, refuses, refuses_checkpoint, runs, resumes, saves, saves_on, accepts, tells_lives, proves, sums_up}
 use Rattle.replay.proofs.Tables.{by_table}
 
 module _ (gives : Gives) (fires : Fires) (counts : Counts) (limit : ℕ) (p : Program) (table : LifeTable) (first second : List ℕ) (image : Image)

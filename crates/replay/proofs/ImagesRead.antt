@@ -1,12 +1,9 @@
 -- What the file of a checkpoint is, by what was read of it, and where a run begins by that.
-use Rattle.replay.proofs.Common.{◌≡◌, ◌<◌, ◌≤◌, ℕ, Bool, true, false, List, length, nat_lt, Option, Some, None, inl, inr, refl, sym, ap, ◌∙◌, arith, if◌then◌else◌, bytes_eq, nat_tests, Image, image_bytes, Mode, Run, Check, Lives, Proof, Save, AreLives, LifeTable, Program, First, Behind, Beginning, CheckpointCode, TooLong, CanBegin, RunsIn, IsUnread, Checkpoint, is_refused, wanted_at, refuses_checkpoint}
-use Rattle.checkpoint.specs.Bytes.{IsImage}
+use Rattle.replay.proofs.Common.{◌≡◌, ◌<◌, ◌≤◌, ℕ, Bool, true, false, List, length, nat_lt, Option, Some, None, inl, inr, refl, sym, ap, ◌∙◌, arith, if◌then◌else◌, bytes_eq, nat_tests, Image, image_bytes, IsImage, Mode, Run, Check, Lives, Proof, Save, AreLives, LifeTable, Program, First, Behind, Beginning, CheckpointCode, TooLong, BadImage, OtherRules, CanBegin, RunsIn, IsUnread, Checkpoint, has_image, is_refused, of_decoded, wanted_at, wanted_behind, refuses_checkpoint}
 use Rattle.checkpoint.specs.Reading.{decoded}
 use Rattle.checkpoint.proofs.Exact.{AreOctets}
 use Rattle.checkpoint.proofs.Whole.{decoded_takes, decoded_again}
-use Rattle.replay.specs.declared.refused_checkpoint.CheckpointCode.TheVariants.{BadImage, OtherRules}
-use Rattle.replay.specs.Checkpoints.{checkpoint_of, has_image, image_limit, of_decoded}
-use Rattle.replay.specs.Wanted.{wanted_behind}
+use Rattle.replay.specs.Checkpoints.{checkpoint_of, image_limit}
 
 -- ---- the image of bytes
 

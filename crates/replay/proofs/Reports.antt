@@ -1,14 +1,10 @@
 -- What is wanted, by what was found.
-use Rattle.replay.proofs.Common.{◌≡◌, ◌≢◌, inl, inr, ◌≤◌, ◌+◌, ℕ, Bool, true, false, List, length, take, nat_lt, Option, Some, None, refl, sym, ap, subst, ◌∙◌, arith, IfSome, nat_tests, take_all, IsFound, file_told, AppendsFront, rules_text, file_limit, Mode, Program, Gives, Fires, Counts, Refusal, image_limit, is_refused, Reading, Accepted, Refused, reading, lines_of, LifeTable, run_on, setting_of, Report, IsBehind, IsDefinite, IsFront, IsReport, IsRunBehind, IsRunStatus, IsSaveStatus, Wanted, Files, usage_line, refuses, refuses_checkpoint, runs, resumes, saves, saves_on, accepts, tells_lives, proves, sums_up, wanted_by_file, wanted_by_reading, wanted_from, rules_in}
-use Rattle.std.proofs.lemmas.List.{length-take}
-use Rattle.fx_io.specs.Outside.{IsMissing}
+use Rattle.replay.proofs.Common.{◌≡◌, ◌≢◌, inl, inr, ◌≤◌, ◌+◌, ℕ, Bool, true, false, List, length, take, nat_lt, Option, Some, None, refl, sym, ap, subst, ◌∙◌, arith, IfSome, nat_tests, take_all, length-take, IsMissing, IsFound, file_told, AppendsFront, rules_text, file_limit, Mode, Program, Gives, Fires, Counts, Refusal, checkpoint_in, image_limit, is_refused, Reading, Accepted, Refused, reading, whole_file, IsRefused, lines_of, LifeTable, run_on, setting_of, Report, IsBehind, IsDefinite, IsFront, IsFrontOfEach, IsReport, IsRunBehind, IsRunStatus, IsSavedBehind, IsSaveStatus, Wanted, Files, usage_line, refuses, refuses_checkpoint, runs, resumes, saves, saves_on, accepts, tells_lives, proves, sums_up, wanted_by_file, wanted_by_reading, wanted_from, rules_in, IsRefusedFile, HasRefused}
 use Rattle.drl_parse.specs.Parsed.{parsed, parsed_by}
 use Rattle.replay.specs.declared.refusal.RefusalCode.TheVariants.{Missing}
 use Rattle.replay.specs.declared.refused_checkpoint.CheckpointCode.TheVariants.{Missing as NoImage}
-use Rattle.replay.specs.Checkpoints.{checkpoint_in, checkpoint_of, rules_of}
-use Rattle.replay.specs.Refusals.{whole_file, IsRefused}
-use Rattle.replay.specs.Report.{IsFrontOfEach, IsSavedBehind}
-use Rattle.replay.specs.Wanted.{wanted_by_name, wanted_by_number, IsRefusedFile, HasRefused}
+use Rattle.replay.specs.Checkpoints.{checkpoint_of, rules_of}
+use Rattle.replay.specs.Wanted.{wanted_by_name, wanted_by_number}
 use Rattle.replay.proofs.Tables.{behind_one, by_table, one_report, one_saved}
 
 -- what is wanted of a load, by what its rule file is

@@ -1,13 +1,11 @@
 -- What a rule file is, by the function and by the relation.
-use Rattle.replay.proofs.Common.{◌≡◌, ◌↔◌, ℕ, List, length, Option, Some, None, refl, ap, ◌∙◌, subst, Written, file_limit, obstacle, Failure, Reading, plain_file, of_checked, of_obstacle, of_parsed, reading}
+use Rattle.replay.proofs.Common.{◌≡◌, ◌↔◌, ℕ, List, length, Option, Some, None, refl, ap, ◌∙◌, subst, Written, Parsed, IsLexical, file_limit, is_file, outside, too_long, lexical, parsed, obstacle, Failure, failure_of, checked_by, Reading, plain_file, of_checked, of_obstacle, of_parsed, reading}
 use Rattle.std.specs.Prelude.{◌≤◌, ◌<◌}
 use Rattle.drl_lex.specs.declared.fault.LexCode.{LexCode}
 use Rattle.drl_grammar.specs.Files.{IsFile, IsOutside}
-use Rattle.drl_parse.specs.Parsed.{Parsed, IsLexical, is_file, outside, too_long, lexical, parsed}
 use Rattle.drl_program.specs.Programs.{program_of}
 use Rattle.subrules.specs.declared.fault.Obstacle.{Obstacle}
-use Rattle.drl_check.specs.Checks.{failure_of}
-use Rattle.drl_check.specs.Outcomes.{checked, checked_by}
+use Rattle.drl_check.specs.Outcomes.{checked}
 use Rattle.drl_check.proofs.Exact.{exact_none, is_first_failure, first_failure_is}
 use Rattle.replay.specs.RuleFiles.{IsReading}
 use Rattle.replay.specs.RuleFiles.IsReading.{is_too_long, is_no_tokens, has_no_item, is_not_expanded, fails_a_check, is_accepted}

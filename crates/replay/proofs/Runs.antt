@@ -1,5 +1,5 @@
 -- What a run does, from its beginning.
-use Rattle.replay.proofs.Common.{◌≡◌, Bool, nat_lt, ◌≢◌, ◌⊎◌, inl, inr, ◌<◌, ◌≤◌, ◌+◌, ◌^◌, ℕ, true, false, List, [], length, Option, Some, None, Result, Err, refl, sym, ap, ap₂, subst, ◌∙◌, arith, IfSome, if◌then◌else◌, Rose, append, AppendsFront, count_after, lines_of, Image, RunPart, RuleFile, Mode, Run, Save, LifeTable, Program, AreLives, World, empty_world, Script, Limit, Gives, Fires, Counts, part_at, run_on, Outcome, RunState, setting_of, whole_run, StoppedAtRead, limit_text, Beginning, First, Behind, TooLong, Unfit, CanBegin, part_of, image_bytes, can_go_on, image_limit, ShelfSeen, seen, TellsScript, MayEnd, RunOf, Says, Report, IsReport, IsWritten, IsFront, IsLong, IsRunStatus, IsBehindSome, IsRunBehind, IsSaved, IsSaveStatus, IsStopped, TakesFor, checkpoint_report, image_report, outcome_report, run_status, Wanted, wanted_at, MayRefuse}
+use Rattle.replay.proofs.Common.{◌≡◌, Bool, nat_lt, ◌≢◌, ◌⊎◌, inl, inr, ◌<◌, ◌≤◌, ◌+◌, ◌^◌, ℕ, true, false, List, [], length, Option, Some, None, Result, Err, refl, sym, ap, ap₂, subst, ◌∙◌, arith, IfSome, if◌then◌else◌, Rose, append, AppendsFront, count_after, lines_of, Image, RunPart, RuleFile, Mode, Run, Save, LifeTable, Program, AreLives, World, empty_world, Script, Limit, Gives, Fires, Counts, part_at, run_on, Outcome, RunState, setting_of, whole_run, Long, StoppedAtRead, limit_text, first_behind, Beginning, First, Behind, TooLong, Unfit, BeginsIn, CanBegin, IsBeginningFor, part_of, image_bytes, can_go_on, image_limit, ShelfSeen, seen, TellsScript, MayEnd, RunOf, Says, Report, IsReport, IsWritten, IsFront, IsLong, IsRunStatus, IsBehindSome, IsRunBehind, IsSaved, IsSaveStatus, IsStopped, TakesFor, checkpoint_report, fault_status, image_report, outcome_report, run_status, Wanted, wanted_at, MayRefuse}
 use Rattle.image_laws.specs.Images.{IsImageOf}
 use Rattle.script_run.specs.declared.fault.RunFault.{RunFault}
 use Rattle.script_run.specs.declared.fault.RunFault.TheVariants.{ReadFault, WriteFault, NoMemory, ScriptLong}
@@ -7,10 +7,6 @@ use Rattle.script_run.specs.declared.turn.Ended.{Ended}
 use Rattle.script_run.specs.declared.turn.Progress.{Progress}
 use Rattle.script_run.specs.Run.{run as run_lines}
 use Rattle.script_run.specs.Turns.{Takes, AtEnd, Reaches}
-use Rattle.script_run.specs.Unfinished.{Long}
-use Rattle.script_run.proofs.Joined.{first_behind}
-use Rattle.replay.specs.Beginnings.{BeginsIn, IsBeginningFor}
-use Rattle.replay.specs.Report.{fault_status}
 use Rattle.replay.proofs.Calls.{some_is, written_as, none_written}
 use Rattle.replay.proofs.Reports.{front_none}
 use Rattle.replay.proofs.Tables.{by_table}

@@ -1,15 +1,12 @@
 -- A program has at most one table of lives, and so at most one report.
-use Rattle.replay.proofs.Common.{◌≡◌, ◌⊎◌, inl, inr, ℕ, zero, suc, ℤ, pos, Bool, true, false, List, [], ◌∷◌, length, Option, Some, None, refl, sym, ap, subst, ◌∙◌, arith, lines_of, Life, LifeTable, Program, AreLives, Gives, Fires, Counts, RunState, setting_of, whole_run, Image, RunPart, World, first_part, Report, IsBehind, IsBehindSome, IsDefinite, IsReport, IsSaved, image_report, outcome_report, lives_text, Wanted, usage_line, refuses, refuses_checkpoint, runs, resumes, saves, saves_on, accepts, tells_lives, proves, sums_up}
-use Rattle.std.specs.Prelude.{slice_get, ◌≤ℤ◌}
+use Rattle.replay.proofs.Common.{◌≡◌, ◌⊎◌, inl, inr, ℕ, zero, suc, ℤ, pos, Bool, true, false, List, [], ◌∷◌, length, Option, Some, None, refl, sym, ap, subst, ◌∙◌, arith, slice_get, ◌≤ℤ◌, lines_of, Life, LifeTable, Program, IsLifeOf, AreLives, Gives, Fires, Counts, RunState, setting_of, whole_run, Image, RunPart, World, first_part, Report, IsBehind, IsBehindSome, IsDefinite, IsReport, IsSaved, image_report, outcome_report, summary_report, lives_text, Wanted, usage_line, refuses, refuses_checkpoint, runs, resumes, saves, saves_on, accepts, tells_lives, proves, sums_up}
 use Rattle.std.proofs.lemmas.Int.{ints}
 use Rattle.gen_load.specs.Script.{script_text}
 use Rattle.rule_model.specs.declared.life.Life.TheVariants.{Plain, Explicit, Finite, Infinite}
 use Rattle.rule_model.specs.Types.{is_event, expiry_of}
-use Rattle.rule_lives.specs.Keeping.{IsLifeOf}
 use Rattle.rule_lives.specs.Lifetimes.{IsLife, PatternLife}
 use Rattle.rule_lives.specs.Reach.{Limit, finite, infinite, Below}
 use Rattle.image_laws.proofs.One.{one_image}
-use Rattle.replay.specs.Report.{summary_report}
 
 int_same : (a b : ℤ) → a ≤ℤ b → b ≤ℤ a → a ≡ b
 int_same a b h k = omega (arith, ints)

@@ -1,15 +1,12 @@
 -- The outcome of the lines ahead, line by line, against what was written and what is gathered.
-use Rattle.script_run.proofs.Common.{◌≡◌, ◌≢◌, ◌⊎◌, inl, inr, ◌<◌, ◌≤◌, ◌+◌, ◌^◌, ◌++◌, ◌||◌, ℕ, Bool, List, [], ◌∷◌, length, take, drop, Option, Some, None, Result, Ok, Err, option_map, refl, sym, ap, ap₂, subst, ◌∙◌, append_assoc, arith, flat_map-append, append-nil, prepend, append, AppendsFront, IsExhausted, total_told, HasNoEnd, Line, Whole, End, World, Goes, Stops, Progress, Ended, RunSetting, RunState, Outcome, Done, LineEffect, goes_on, stops, then_run, at_limit, at_end, state_in, state_after, step_in, Does}
-use Rattle.std.specs.Prelude.{IfSome, OnErr}
-use Rattle.std.proofs.lemmas.List.{length-append, take_at, take-append-drop}
-use Rattle.fx_io.specs.Lines.{lines_of, with_line}
-use Rattle.fx_io.specs.Answers.{TakesLine, Takes, Reads}
+use Rattle.script_run.proofs.Common.{◌≡◌, ◌≢◌, ◌⊎◌, inl, inr, ◌<◌, ◌≤◌, ◌+◌, ◌^◌, ◌++◌, ◌||◌, ℕ, Bool, List, [], ◌∷◌, length, take, drop, Option, Some, None, Result, Ok, Err, option_map, refl, sym, ap, ap₂, subst, ◌∙◌, append_assoc, arith, IfSome, OnErr, flat_map-append, append-nil, length-append, take_at, take-append-drop, prepend, append, AppendsFront, IsExhausted, with_line, total_told, HasNoEnd, TakesLine, Reads, Line, Whole, End, World, Goes, Stops, Progress, Ended, RunSetting, RunState, Outcome, Done, LineEffect, goes_on, stops, then_run, at_limit, at_end, state_in, state_after, progress_after, step_in, Does, Flushes}
+use Rattle.fx_io.specs.Lines.{lines_of}
+use Rattle.fx_io.specs.Answers.{Takes}
 use Rattle.fx_io.specs.declared.line.Line.TheVariants.{Long as LongLine}
 use Rattle.fx_io.proofs.Told.{append-append, prepend-prepend, prepend-nil}
 use Rattle.fx_io.proofs.Ahead.{answers_ahead}
 use Rattle.script_run.specs.declared.turn.Ended.TheVariants.{Script, Limit}
-use Rattle.script_run.specs.Run.{run, progress_after}
-use Rattle.script_run.specs.Turns.{Flushes}
+use Rattle.script_run.specs.Run.{run}
 use Rattle.script_run.specs.Unfinished.{Long, StoppedAtRead, ended_lines}
 
 -- the outcome of the lines ahead

@@ -1,11 +1,9 @@
 -- The firings of a fire command, one by one.
-use Rattle.script_run.proofs.Common.{◌≡◌, ℕ, zero, suc, ◌||◌, Bool, true, false, List, [], ◌++◌, Option, Some, None, refl, sym, ◌∙◌, ap, append_assoc, is_some, flat_map-append, list_any-append, append-nil, Program, World, OutLine, Goes, Stops, Fires, Firings, all_fired, limit_met, onto_lines, none_left, then_fires, wants_one, one_less, RunSetting, fire_step, Does, line_text, lines_text, has_fault}
+use Rattle.script_run.proofs.Common.{◌≡◌, ℕ, zero, suc, ◌||◌, Bool, true, false, List, [], ◌++◌, Option, Some, None, refl, sym, ◌∙◌, ap, append_assoc, is_some, flat_map-append, list_any-append, append-nil, Program, World, OutLine, Goes, Stops, Fires, Firings, all_fired, limit_met, onto_lines, none_left, then_fires, wants_one, one_less, RunSetting, fire_step, Does, EndsFirings, line_text, lines_text, limit_text, has_fault, is_fault}
 use Rattle.engine.specs.declared.lines.Fired.TheVariants.{No, Yes}
 use Rattle.engine.specs.Answers.{FiringAnswers}
 use Rattle.script_run.specs.declared.turn.Turn.{Turn}
 use Rattle.script_run.specs.Firings.{firings}
-use Rattle.script_run.specs.Turns.{EndsFirings}
-use Rattle.script_run.specs.Texts.{limit_text, is_fault}
 
 -- either of two, by the first
 pub or_first : (a b either : Bool) → a ≡ true → either ≡ a → either ≡ (a || b)

@@ -1,7 +1,6 @@
 -- The lines of the numbers of kept events, type by type.
-use Rattle.script_run.proofs.Common.{◌≡◌, ◌++◌, Bool, false, ℕ, List, [], ◌∷◌, length, refl, sym, ap, ◌∙◌, arith, if◌then◌else◌, held_text}
+use Rattle.script_run.proofs.Common.{◌≡◌, ◌++◌, Bool, false, ℕ, List, [], ◌∷◌, length, refl, sym, ap, ◌∙◌, arith, if◌then◌else◌, held_line, held_text}
 use Rattle.rule_model.specs.declared.program.TypeInfo.{TypeInfo}
-use Rattle.script_run.specs.Texts.{held_line}
 
 no_numbers : (types : List TypeInfo) → held_text types [] ≡ []
 no_numbers [] = refl

@@ -1,6 +1,6 @@
 -- The run of a script in two parts.
-use Rattle.script_run.proofs.Common.{◌≡◌, ◌⊎◌, inl, inr, ◌≤◌, ◌+◌, ◌-◌, ◌++◌, ◌==◌, ℕ, zero, suc, Bool, true, false, List, [], ◌∷◌, length, nat_lt, Option, Some, None, refl, sym, ap, ◌∙◌, arith, if◌then◌else◌, Program, World, empty_world, OutLine, Progress, Fires, Firings, all_fired, limit_met, none_left, onto_lines, then_fires, wants_one, one_less, RunSetting, RunState, Outcome, Done, LineEffect, goes_on, stops, then_run, state_in, state_after, step_in, fire_step}
-use Rattle.fx_io.specs.Lines.{lines_of, onto_first}
+use Rattle.script_run.proofs.Common.{◌≡◌, ◌⊎◌, inl, inr, ◌≤◌, ◌+◌, ◌-◌, ◌++◌, ◌==◌, ℕ, zero, suc, Bool, true, false, List, [], ◌∷◌, length, nat_lt, Option, Some, None, refl, sym, ap, ◌∙◌, arith, if◌then◌else◌, onto_first, Program, World, empty_world, OutLine, Progress, Fires, Firings, all_fired, limit_met, none_left, onto_lines, then_fires, wants_one, one_less, RunSetting, RunState, Outcome, Done, LineEffect, goes_on, stops, then_run, whole_run, first_state, state_in, state_after, step_in, fire_step, command_step, asked_step}
+use Rattle.fx_io.specs.Lines.{lines_of}
 use Rattle.checkpoint.specs.declared.image.RunPart.{RunPart}
 use Rattle.script_read.specs.Asked.{Asked, asks, bad_json, bad_command, asked}
 use Rattle.script_read.specs.Blank.{is_blank}
@@ -8,7 +8,7 @@ use Rattle.script_read.specs.declared.asked.Command.{Command}
 use Rattle.script_read.specs.declared.asked.Command.TheVariants.{Change, Fire, Held}
 use Rattle.script_run.specs.Firings.{firings}
 use Rattle.script_run.specs.Parts.{EndsLine, first_part, part_at, progress_behind, run_on}
-use Rattle.script_run.specs.Run.{run, whole_run, first_state, line_step, command_step, asked_step}
+use Rattle.script_run.specs.Run.{run, line_step}
 use Rattle.script_run.proofs.Ahead.{run_goes, run_stops, then_run-then_run}
 
 some_is : {A : Type 0} (x y : A) → Some x ≡ Some y → x ≡ y

@@ -1,9 +1,8 @@
 -- The step of a line, by what the line is.
-use Rattle.script_run.proofs.Common.{◌≡◌, ℕ, ◌<◌, ◌++◌, true, List, length, nat_lt, refl, sym, subst, arith, World, Goes, RunSetting, LineEffect, Does}
+use Rattle.script_run.proofs.Common.{◌≡◌, ℕ, ◌<◌, ◌++◌, true, List, length, nat_lt, refl, sym, subst, arith, World, Goes, fault_text, RunSetting, LineEffect, fault_step, Does}
 use Rattle.std.proofs.lemmas.Bool.Decides.{nat_tests}
 use Rattle.script_run.specs.declared.fault.LineCode.TheVariants.{LineLong}
-use Rattle.script_run.specs.Texts.{fault_text}
-use Rattle.script_run.specs.Run.{line_step, fault_step}
+use Rattle.script_run.specs.Run.{line_step}
 
 over : (n m : ℕ) → n < m → nat_lt n m ≡ true
 over n m h = grind (arith, nat_tests)

@@ -1,16 +1,12 @@
 -- Why a run stops, and how many bytes it took.
-use Rattle.script_run.proofs.Common.{◌≡◌, ◌≢◌, ◌==◌, ◌++◌, false, ◌<◌, ◌≤◌, ◌-◌, ◌^◌, ℕ, List, Option, Result, Ok, Err, sym, ap, ◌∙◌, arith, list_any-append, prepend, count_after, IsExhausted, HasNoEnd, Line, Whole, End, Ended}
-use Rattle.std.specs.Prelude.{IsErr, IsErrAnd}
+use Rattle.script_run.proofs.Common.{◌≡◌, ◌≢◌, ◌==◌, ◌++◌, false, ◌<◌, ◌≤◌, ◌-◌, ◌^◌, ℕ, List, Option, Result, Ok, Err, sym, ap, ◌∙◌, arith, IsErr, IsErrAnd, list_any-append, prepend, count_after, IsExhausted, has_end, HasNoEnd, Answers, LeavesNoEnd, Gives, Line, Whole, Long, End, Ended, Takes, HasAtMost}
 use Rattle.std.proofs.lemmas.Bool.{or_parts}
-use Rattle.fx_io.specs.Lines.{has_end}
-use Rattle.fx_io.specs.Answers.{Answers, Stops, LeavesNoEnd, Gives}
-use Rattle.fx_io.specs.declared.line.Line.TheVariants.{Long}
+use Rattle.fx_io.specs.Answers.{Stops}
 use Rattle.fx_io.specs.declared.line.LineFault.{LineFault}
 use Rattle.fx_io.specs.declared.line.LineFault.TheVariants.{ReadFault, ScriptLong, NoMemory}
 use Rattle.script_run.specs.Faults.{run_fault}
 use Rattle.script_run.specs.declared.fault.RunFault.{RunFault}
 use Rattle.script_run.specs.declared.fault.RunFault.TheVariants.{ScriptLong as TooLong, ReadFault as RunReadFault, NoMemory as RunNoMemory}
-use Rattle.script_run.specs.Turns.{Takes, HasAtMost}
 
 -- how a run answers a fault
 abbrev pub the_err : {T : Type 0} → RunFault → Result T RunFault

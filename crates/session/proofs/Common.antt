@@ -2,59 +2,75 @@
 pub use Rattle.std.proofs.Common.{◌≡◌, ◌∙◌, ap, subst, sym, List, refl, w64, of_z, to_z, Some, [], length, true, ◌++◌, None, arith, take, ◌==◌, rules, to_z-of_z, ℕ, ◌||◌, drop, ◌∷◌, false, ℤ, ◌&&◌, ◌<◌, Err, filter_map, option_map, slice_get, ◌+◌, Bool, not, ◌≤◌, FitsSigned, Ok, Option, Result, SFits, inl, pos, ◌+ℤ◌, ◌^◌, ◌≤ℤ◌, inr, is_some, nat_eq, nat_lt, ◌-ℤ◌}
 pub use Rattle.std.proofs.Math.Logic.{∥∥₁_map}
 pub use Rattle.std.proofs.lemmas.Grind.{merely}
-pub use Rattle.std.proofs.lemmas.List.{take_all}
+pub use Rattle.std.proofs.lemmas.List.{take_all, take_more}
 pub use Rattle.std.proofs.lemmas.Result.{IfOk-weaker}
 pub use Rattle.std.specs.List.{list_any}
 pub use Rattle.std.specs.List.Sorted.{IsStrictlySortedBy}
-pub use Rattle.std.specs.Ordering.{eq_by_cmp}
-pub use Rattle.agenda.specs.Agendas.{Marks}
+pub use Rattle.std.specs.Ordering.{eq_by_cmp, nat_cmp}
+pub use Rattle.std.specs.Prelude.{IfOk, if◌then◌else◌}
+pub use Rattle.agenda.specs.Agendas.{Marks, names_tag}
 pub use Rattle.checkpoint.specs.declared.image.FiredMatch.{FiredMatch}
 pub use Rattle.checkpoint.specs.declared.image.Image.{Image}
 pub use Rattle.engine.specs.Known.{are_known}
-pub use Rattle.fact_store.specs.Held.{HeldFacts}
+pub use Rattle.fact_store.specs.Held.{HeldFacts, facts_of}
 pub use Rattle.forgetting.specs.Steps.{HasLeft}
 pub use Rattle.fx_base.specs.Lists.{In}
 pub use Rattle.fx_base.specs.declared.fact.Fact.{Fact}
 pub use Rattle.fx_base.specs.declared.ids.TypeId.{TypeId}
-pub use Rattle.image_laws.specs.Images.{match_fired}
+pub use Rattle.image_fitting.specs.Plain.{FitsByRows, FitsPlainly}
+pub use Rattle.image_laws.specs.Images.{match_fired, IsImageOf}
+pub use Rattle.pair_memory.specs.Standing.{cleaned, no_names}
+pub use Rattle.pattern_gate.specs.Moves.{IsOrderly}
+pub use Rattle.rete_net.specs.Nets.{AreBetween, NetStands, clean_rows}
 pub use Rattle.rete_net.specs.declared.changes.RuleChange.{RuleChange}
 pub use Rattle.retention.specs.Retentions.{is_among, Passes, has_tag, is_named}
-pub use Rattle.row_delta.specs.Rows.{has}
+pub use Rattle.row_delta.specs.Rows.{has, row_cmp}
 pub use Rattle.row_delta.specs.declared.extra.Extra.{Extra}
 pub use Rattle.row_delta.specs.declared.row.Named.{Named}
 pub use Rattle.row_delta.specs.declared.row.Row.{Row}
 pub use Rattle.rule_model.specs.Candidates.{is_present}
 pub use Rattle.rule_model.specs.Lent.{lent}
 pub use Rattle.rule_model.specs.Matches.{has_match, match_cmp, saliences}
-pub use Rattle.rule_model.specs.Types.{event_types}
+pub use Rattle.rule_model.specs.Snapshots.{Reached, nothing_reached}
+pub use Rattle.rule_model.specs.Types.{event_types, is_event, is_event_type, is_reference}
 pub use Rattle.rule_model.specs.declared.matched.Match.{Match}
 pub use Rattle.rule_model.specs.declared.program.Program.{Program}
 pub use Rattle.rule_model.specs.declared.program.Rule.{Rule}
 pub use Rattle.rule_model.specs.declared.program.TypeInfo.{TypeInfo}
-pub use Rattle.rule_model.specs.declared.step.Step.TheVariants.{At, Insert, Retract, Begin, Modify, Promise}
+pub use Rattle.rule_model.specs.declared.step.Step.TheVariants.{At, Insert, Retract, Begin, Modify, Promise, Advance}
 pub use Rattle.rule_world.proofs.Fresh.{and_parts}
-pub use Rattle.rule_world.specs.Events.{times_of, clock_fault}
-pub use Rattle.rule_world.specs.Worlds.{stepped, is_of_type, marked, modify_fault}
+pub use Rattle.rule_world.specs.Events.{times_of, clock_fault, end_of_presence, most_millis, new_fault, promise_fault}
+pub use Rattle.rule_world.specs.Worlds.{stepped, is_of_type, marked, modify_fault, World, empty_world, with_values}
 pub use Rattle.rule_world.specs.declared.code.Code.{Code}
-pub use Rattle.rule_world.specs.declared.code.Code.TheVariants.{ReferenceFixed}
-pub use Rattle.session_laws.proofs.Adding.{next_taken}
-pub use Rattle.session_laws.proofs.Faults.{clock_same, zero_clock}
-pub use Rattle.session_laws.proofs.Forgotten.{no_keys}
-pub use Rattle.session_laws.proofs.Knowing.{followed_sound, new_no_more, one_more_known}
-pub use Rattle.session_laws.proofs.Matched.{residual_unfit}
+pub use Rattle.rule_world.specs.declared.code.Code.TheVariants.{ReferenceFixed, Absent, EventFixed, EventObserved}
+pub use Rattle.session_laws.proofs.Adding.{next_taken, AreAdding, added_pending, added_turn, in_at, none_added, none_yet, one_added, one_come, one_marked}
+pub use Rattle.session_laws.proofs.Beginning.{begin_awaits, begin_is_done}
+pub use Rattle.session_laws.proofs.Dropping.{all_ahead, drop_turn, nothing_ahead, place_within}
+pub use Rattle.session_laws.proofs.Faults.{clock_same, zero_clock, advance_fault, advance_moves, at_fault, fresh_less, insert_fault, insert_line, moved_same, presented, promise_refused, retract_absent, retract_event, retract_fixed, retract_found, retract_observed, safe_again, safe_left, safe_less, safe_new, safe_numbers}
+pub use Rattle.session_laws.proofs.Forgotten.{no_keys, safe_fewer, stands_less, stands_same}
+pub use Rattle.session_laws.proofs.Inserting.{held_again, numbers_await, present_awaits, released_free}
+pub use Rattle.session_laws.proofs.Knowing.{followed_sound, new_no_more, one_more_known, asked_known, fire_line_known, merely_known, none_more, promise_no_more, standing_sound, top_known}
+pub use Rattle.session_laws.proofs.Leaving.{AreGone, no_tags, none_gone, turn_gone}
+pub use Rattle.session_laws.proofs.Looking.{modify_fault_is, retract_fault_is}
+pub use Rattle.session_laws.proofs.Matched.{residual_unfit, fired_refuses, image_safe, matched_is, merely_no_more, old_refuses, restored_is, row_refuses, some_key}
 pub use Rattle.session_laws.proofs.Members.{got_new}
 pub use Rattle.session_laws.proofs.Newest.{store_found, store_none}
-pub use Rattle.session_laws.proofs.Passing.{none_left}
-pub use Rattle.session_laws.proofs.Rules.{nothing_left, all_made, none_made}
+pub use Rattle.session_laws.proofs.Olds.{named_at, same_tags}
+pub use Rattle.session_laws.proofs.Passing.{none_left, later_awaits, later_leads, later_leads_on, quiet_refreshed, remaining, remaining_is}
+pub use Rattle.session_laws.proofs.Restored.{kept_in_order, storable}
+pub use Rattle.session_laws.proofs.Rules.{nothing_left, all_made, none_made, AreAhead, AreMade, change_turn, left_turn, names_in, none_ahead, rules_turn}
+pub use Rattle.session_laws.proofs.Sessions.{change_lines, change_stands, empty_stands, fires_none, fires_some, from_parts, is_due, some_mapped}
 pub use Rattle.session_laws.proofs.Stands.{contents, has_start}
-pub use Rattle.session_laws.proofs.Storing.{ArePut}
-pub use Rattle.session_laws.proofs.Tried.{on_ok_weaker, tried_done, no_lines, on_ok, refused_lines, refused_tries, SoFar}
+pub use Rattle.session_laws.proofs.Storing.{ArePut, none_put, none_waits, one_more_held, one_put}
+pub use Rattle.session_laws.proofs.Tried.{on_ok_weaker, tried_done, no_lines, on_ok, refused_lines, refused_tries, SoFar, all_done_lines, all_done_stands, done_lines, none_done, one_done, refused_stands, refused_writes, tried_stands, tried_writes}
 pub use Rattle.session_laws.specs.Counts.{AreCounts}
-pub use Rattle.session_laws.specs.Following.{instant_of}
-pub use Rattle.session_laws.specs.Leading.{Moves, StayKnown, AllWantKnown}
-pub use Rattle.session_laws.specs.Places.{newest, IsNewestTag}
-pub use Rattle.session_laws.specs.Restoring.{comes_by, AreMarking, stored}
-pub use Rattle.session_laws.specs.Saving.{IsSaved}
-pub use Rattle.session_laws.specs.Standing.{Contents, IsSound, Standing, Awaits, reached_of, AreOfRules, Course, ReachesNoMore, Runs}
+pub use Rattle.session_laws.specs.Following.{instant_of, at_clock, facts_at, instant_at}
+pub use Rattle.session_laws.specs.Gives.{cells, does_all, fire_line, fires, gives}
+pub use Rattle.session_laws.specs.Leading.{Moves, StayKnown, AllWantKnown, AllFit}
+pub use Rattle.session_laws.specs.Places.{newest, IsNewestTag, planned}
+pub use Rattle.session_laws.specs.Refreshed.{IsRefreshed, no_rows, over, rows_at}
+pub use Rattle.session_laws.specs.Restoring.{comes_by, AreMarking, stored, AreHeld, AreStorable, IsMatched, IsRestored, NoneGo, all_held}
+pub use Rattle.session_laws.specs.Saving.{IsSaved, ArePadded}
+pub use Rattle.session_laws.specs.Standing.{Contents, IsSound, Standing, Awaits, reached_of, AreOfRules, Course, ReachesNoMore, Runs, StaysSound, reached_by}
 pub use Rattle.session_laws.specs.declared.memory.Memory.{Memory}
 pub use Rattle.session_laws.specs.declared.setting.Setting.{Setting}

@@ -1,7 +1,6 @@
 -- What a session is made of is that of an image.
-use Rattle.session.proofs.Common.{◌≡◌, ◌∙◌, ℤ, List, ap, Extra, FiredMatch, Image, HeldFacts, Setting, stored, Course}
+use Rattle.session.proofs.Common.{◌≡◌, ◌∙◌, ℤ, List, ap, Extra, FiredMatch, Image, HeldFacts, FitsPlainly, Setting, stored, Course}
 use Rattle.rule_model.specs.declared.moment.Moment.{Moment}
-use Rattle.image_fitting.specs.Plain.{FitsPlainly}
 use Rattle.session.specs.Restores.{AreOfImage}
 
 pub are_of_image : (setting : Setting) (image : Image) → FitsPlainly setting.program setting.lives image → (moment : Moment) (course : Course) (clock : ℤ) → moment.clock ≡ clock → clock ≡ image.clock

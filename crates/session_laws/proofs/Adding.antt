@@ -1,10 +1,7 @@
 -- Matches that are added to an agenda, and those of them that are marked, one after the other.
-use Rattle.session_laws.proofs.Common.{◌≡◌, ◌∙◌, ◌==◌, ◌&&◌, ◌||◌, not, ℕ, zero, suc, Bool, true, false, cond, inl, inr, List, [], ◌∷◌, ◌++◌, ◌+◌, ◌<◌, drop, get_or, length, refl, sym, ap, subst, arith, eq_by_cmp, list_any-append, In, Row, row_cmp, has, same_equiv, FiredMatch, Match, has_match, match_cmp, of_append, Marks, IsChanged, match_fired, RuleChange, comes_by, has_marked, NoneGo, AreMarked}
+use Rattle.session_laws.proofs.Common.{◌≡◌, ◌∙◌, ◌==◌, ◌&&◌, ◌||◌, not, ℕ, zero, suc, Bool, true, false, cond, inl, inr, List, [], ◌∷◌, ◌++◌, ◌+◌, ◌<◌, drop, get_or, length, refl, sym, ap, subst, arith, eq_by_cmp, drop_more, map-append, take_more, list_any-append, In, Row, row_cmp, has, same_equiv, FiredMatch, Match, has_match, match_cmp, match_equiv, of_append, Marks, IsChanged, match_fired, RuleChange, comes_by, has_marked, NoneGo, AreMarked, AreMarking}
 use Rattle.std.proofs.Common.{take, map as list_map}
-use Rattle.std.proofs.lemmas.List.{drop_more, map-append, take_more}
-use Rattle.rule_model.specs.MatchOrders.{match_equiv}
 use Rattle.agenda.proofs.Steps.{fired_put, parts}
-use Rattle.session_laws.specs.Restoring.{AreMarking}
 
 -- ---- matches in a set
 

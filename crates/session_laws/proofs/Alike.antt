@@ -1,6 +1,5 @@
 -- Snapshots with the same members at the same clock have the same matches.
-use Rattle.session_laws.proofs.Common.{◌≡◌, inl, inr, Bool, true, false, List, [], ◌∷◌, refl, sym, subst, eq_by_cmp, tells_apart, In, Row, has, row_cmp, row_exact, same_equiv, or_left, or_right, or_split, Condition, Match, Program, Rule, has_match, rows, HaveDistinctTags, Snapshot, AllOf, rows_over}
-use Rattle.rule_model.specs.Matches.{matches_of}
+use Rattle.session_laws.proofs.Common.{◌≡◌, inl, inr, Bool, true, false, List, [], ◌∷◌, refl, sym, subst, eq_by_cmp, tells_apart, In, Row, has, row_cmp, row_exact, same_equiv, or_left, or_right, or_split, Condition, Match, Program, Rule, matches_of, has_match, rows, HaveDistinctTags, Snapshot, AllOf, rows_over}
 use Rattle.session_laws.proofs.Rules.{same_found}
 
 in_has : (row : Row) (rs : List Row) → In row rs → has rs row ≡ true

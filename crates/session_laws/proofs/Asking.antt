@@ -1,10 +1,9 @@
 -- Changes ask a session for what they ask the world for, and lead from lawful worlds to lawful ones.
-use Rattle.session_laws.proofs.Common.{◌≡◌, ℕ, Bool, true, false, List, Option, Some, None, Result, Err, refl, ◌∙◌, ap, subst, Fact, FactId, Program, TypeInfo, Step, is_event, is_event_type, Code, EventFixed, ReferenceFixed, Absent, sets_fit, IsLawful, IsOrdered, IsRunnable, event_by, found_fits, World, found, is_of_type, Change, Given, entry_asked, fields_step, insert_step, modify_step, type_named, asked_fits, Memory, Setting, Fits, IsOfPlain, newest, Contents, Runs, Standing}
+use Rattle.session_laws.proofs.Common.{◌≡◌, ℕ, Bool, true, false, List, Option, Some, None, Result, Err, refl, ◌∙◌, ap, subst, Fact, FactId, Program, TypeInfo, Step, is_event, is_event_type, Code, EventFixed, ReferenceFixed, Absent, sets_fit, IsLawful, IsOrdered, IsRunnable, event_by, found_fits, World, found, is_of_type, Change, Given, entry_asked, fields_step, insert_step, modify_step, type_named, asked_fits, stands, type_stands, Memory, Setting, Fits, IsOfPlain, newest, Contents, Runs, Standing}
 use Rattle.std.specs.Prelude.{if◌then◌else◌}
 use Rattle.rule_world.specs.Kinds.{step_fits}
 use Rattle.script_read.specs.declared.asked.Change.TheVariants.{Insert, Modify, Retract, Advance, At, Promise, Begin}
 use Rattle.change_read.specs.Changes.{change_step}
-use Rattle.change_read.proofs.Places.{stands, type_stands}
 use Rattle.session_laws.specs.Gives.{gives}
 use Rattle.session_laws.proofs.Doing.{does_lawful, plain_fit}
 use Rattle.session_laws.proofs.Looking.{same_of_type}

@@ -1,8 +1,7 @@
 -- Which matches of a world and of the next one name nothing that a session has forgotten.
-use Rattle.session_laws.proofs.Common.{◌≡◌, ◌∙◌, ◌≤◌, ◌<◌, ◌⊎◌, inl, inr, sym, ap, refl, subst, ℕ, ◌&&◌, ◌||◌, not, Bool, true, false, List, [], ◌∷◌, slice_get, Option, Some, None, arith, list_any, In, Fact, facts_of, Named, Row, Match, Program, Rule, matches, has_match, rows, Snapshot, name_of, of_filter, is_present, World, only_present, present, snapshot, below_of, kept_matches, clean, clean_rows, has_clean, Lives, Sight, ends_by, each_tag, is_kept, is_clean, fact_at, sight_of, clean_is, fact_in, own_at, sight_law, Memory, Setting, over, matches_by, Contents, Standing, Whole, with_facts, reached_of}
+use Rattle.session_laws.proofs.Common.{◌≡◌, ◌∙◌, ◌≤◌, ◌<◌, ◌⊎◌, inl, inr, sym, ap, refl, subst, ℕ, ◌&&◌, ◌||◌, not, Bool, true, false, List, [], ◌∷◌, slice_get, Option, Some, None, arith, list_any, In, Fact, facts_of, Named, Row, Match, Program, Rule, matches, has_match, rows, Snapshot, name_of, of_filter, is_present, World, only_present, present, snapshot, below_of, kept_matches, clean, clean_rows, has_clean, Lives, Sight, ends_by, each_tag, is_kept, is_clean, fact_at, sight_of, clean_is, fact_in, own_at, named_present, sight_law, Memory, Setting, over, matches_by, Contents, Standing, Whole, with_facts, reached_of}
 use Rattle.std.specs.Prelude.{is_some}
 use Rattle.forgetting.specs.Sights.{is_forgotten}
-use Rattle.forgetting.proofs.Seeing.{named_present}
 use Rattle.session_laws.proofs.Alike.{same_matches}
 use Rattle.session_laws.proofs.Exactly.{Exact, exact}
 use Rattle.session_laws.proofs.Members.{Holds, all_listed, held_distinct, listed, own_tags}

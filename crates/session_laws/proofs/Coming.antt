@@ -1,9 +1,8 @@
 -- What comes of a network that was loaded are the rows of the rules over the facts of an image.
-use Rattle.session_laws.proofs.Common.{◌≡◌, ◌∙◌, ◌==◌, ◌&&◌, ◌||◌, not, ℕ, Bool, true, false, inl, inr, List, [], ◌∷◌, cond, Option, Some, None, refl, sym, ap, subst, arith, AllByRecursion, nat_cmp, Less, nat_tests, In, Image, Delta, has, Match, Program, Rule, snapshot_of, RuleChange, AreLadenRows, change_of, Marks, FiredMatch, comes_by, has_marked, laden_by, is_laden, AreMarked, NoneGo}
+use Rattle.session_laws.proofs.Common.{◌≡◌, ◌∙◌, ◌==◌, ◌&&◌, ◌||◌, not, ℕ, Bool, true, false, inl, inr, List, [], ◌∷◌, cond, Option, Some, None, refl, sym, ap, subst, arith, AllByRecursion, nat_cmp, Less, nat_tests, In, Image, Delta, has, Match, Program, Rule, snapshot_of, RuleChange, AreLadenRows, coming, change_of, Marks, FiredMatch, comes_by, has_marked, laden_by, is_laden, AreMarked, NoneGo}
 use Rattle.std.proofs.Common.{map as list_map}
 use Rattle.std.specs.Prelude.{slice_get}
 use Rattle.std.specs.List.Sorted.{IsStrictlySortedBy}
-use Rattle.rete_net.specs.Loading.{coming}
 
 abbrev rules_of : List RuleChange → List ℕ
 rules_of changes = list_map (λ (c : RuleChange). c.rule.0) changes

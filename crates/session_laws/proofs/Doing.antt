@@ -1,10 +1,7 @@
 -- Steps that are done or refused lead from lawful worlds to lawful ones, and facts keep their types.
-use Rattle.session_laws.proofs.Common.{◌≡◌, ◌&&◌, not, inl, inr, ℕ, Bool, true, false, List, [], ◌∷◌, Option, Some, None, slice_get, Result, Ok, Err, refl, sym, ◌∙◌, ap, TypeId, Value, Fact, Program, TypeInfo, Step, Insert, Modify, Retract, Advance, At, Promise, Begin, is_event, is_event_type, Code, sets_fit, IsLawful, IsOrdered, World, fact_of, step_fault, event_by, step_lawful, Stays, same_stays, stays_on, does, tries_with, AllFit, Fits, IsOfPlain}
-use Rattle.std.specs.List.{list_all}
-use Rattle.rule_world.specs.Kinds.{set_fits, step_fits}
+use Rattle.session_laws.proofs.Common.{◌≡◌, ◌&&◌, not, inl, inr, ℕ, Bool, true, false, List, [], ◌∷◌, Option, Some, None, slice_get, Result, Ok, Err, refl, sym, ◌∙◌, ap, list_all, TypeId, Value, Fact, Program, TypeInfo, Step, Insert, Modify, Retract, Advance, At, Promise, Begin, is_event, is_event_type, Code, set_fits, sets_fit, IsLawful, IsOrdered, World, fact_of, step_fault, event_by, found_there, step_lawful, Stays, fits_later, same_stays, stays_on, step_stays, type_stays, does, tries_with, AllFit, Fits, IsOfPlain}
+use Rattle.rule_world.specs.Kinds.{step_fits}
 use Rattle.rule_world.proofs.Fitting.{sets_of_type}
-use Rattle.rule_world.proofs.Found.{found_there}
-use Rattle.rule_world.proofs.Staying.{fits_later, step_stays, type_stays}
 use Rattle.session_laws.specs.Gives.{does_all}
 
 -- a step that is done, or a fault

@@ -1,6 +1,5 @@
 -- Fired matches are dropped rule by rule, and of a match's rule there is one entry.
-use Rattle.session_laws.proofs.Common.{◌≡◌, ◌∙◌, sym, ap, refl, subst, inl, inr, ℕ, zero, suc, ◌<◌, ◌==◌, ◌&&◌, ◌||◌, not, Bool, true, false, cond, List, [], ◌∷◌, length, slice_get, Some, arith, list_any, and-true, nat_tests, In, Row, has, Match, has_match, RuleRows, rows_for, Marks}
-use Rattle.rete_net.specs.Dropped.{AreListed}
+use Rattle.session_laws.proofs.Common.{◌≡◌, ◌∙◌, sym, ap, refl, subst, inl, inr, ℕ, zero, suc, ◌<◌, ◌==◌, ◌&&◌, ◌||◌, not, Bool, true, false, cond, List, [], ◌∷◌, length, slice_get, Some, arith, list_any, and-true, nat_tests, In, Row, has, Match, has_match, RuleRows, AreListed, rows_for, Marks}
 
 -- ---- one entry of a rule
 

@@ -1,8 +1,5 @@
 -- Sessions stand exactly for worlds in which every fact is present, and for a world where they stand exactly for what is kept of it.
-use Rattle.session_laws.proofs.Common.{◌≡◌, ℕ, ℤ, true, false, ◌≤ℤ◌, List, ◌∙◌, ap, Fact, Value, Program, is_present, IsLawful, World, only_present, settled, with_new, with_revised, at_clock, with_retracted, kept_lawful, with_numbers, without_fact, Contents, Mirrors, Whole}
-use Rattle.rule_world.specs.Worlds.{with_promise, with_begin}
-use Rattle.rule_world.proofs.Kept.{kept_settled}
-use Rattle.rule_world.proofs.Keeping.{kept_new, kept_numbers, kept_revised, kept_without, kept_later}
+use Rattle.session_laws.proofs.Common.{◌≡◌, ℕ, ℤ, true, false, ◌≤ℤ◌, List, ◌∙◌, ap, Fact, Value, Program, is_present, IsLawful, World, only_present, settled, with_new, with_revised, at_clock, with_retracted, with_promise, with_begin, kept_settled, kept_lawful, kept_new, kept_numbers, kept_revised, kept_without, kept_later, with_numbers, without_fact, Contents, Mirrors, Whole}
 
 -- the contents of a session are those of a lawful world
 pub record Exact (p : Program) (k : Contents) (w : World) : Type 0 where

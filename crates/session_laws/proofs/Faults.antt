@@ -1,14 +1,10 @@
 -- The faults of steps, by what a session has.
-use Rattle.session_laws.proofs.Common.{◌≡◌, ◌≤◌, ◌^◌, ℕ, ℤ, pos, negsuc, ◌+◌, ◌+ℤ◌, ◌≤ℤ◌, ◌&&◌, not, cond, Bool, true, false, List, [], ◌∷◌, Option, Some, None, slice_get, Bor, FitsSigned, to_z, of_z, to_z-of_z, w64, refl, sym, ◌∙◌, ap, subst, arith, nat_cmp_total, get-insert, get-retain_keys, list_any, nat_cmp, eq_by_cmp, is_eq, ints, EntryId, FactId, TypeId, Times, Value, Fact, Timers, TakesDue, is_due, HeldFacts, HoldsNone, IsNewest, tied, Code, EventObserved, ReferenceFixed, Absent, Program, Insert, Modify, Retract, Advance, At, Promise, times_of, IsLawful, IsRunnable, World, at_clock, only_present, is_of_type, retract_fault, settled, with_new, with_revised, with_retracted, Reached, is_event, is_observed, is_reference, Memory, Setting, step_lines, IsSafe, newest, Contents, Mirrors, Standing, with_facts, reached_of, with_timer, without_timer, left_at}
-use Rattle.std.specs.Prelude.{if◌then◌else◌, int_lt, nat_eq, IfNone, IfSome, option_map}
-use Rattle.rule_world.specs.declared.code.Code.TheVariants.{ClockBack, ClockEnd}
-use Rattle.rule_world.specs.Events.{clock_fault, most_millis, new_fault, promise_fault}
+use Rattle.session_laws.proofs.Common.{◌≡◌, ◌≤◌, ◌^◌, ℕ, ℤ, pos, negsuc, ◌+◌, ◌+ℤ◌, ◌≤ℤ◌, ◌&&◌, not, cond, Bool, true, false, List, [], ◌∷◌, Option, Some, None, slice_get, Bor, FitsSigned, to_z, of_z, to_z-of_z, w64, refl, sym, ◌∙◌, ap, subst, arith, IfNone, IfSome, nat_cmp_total, get-insert, get-retain_keys, list_any, nat_cmp, eq_by_cmp, is_eq, ints, EntryId, FactId, TypeId, Times, Value, Fact, Timers, TakesDue, is_due, HeldFacts, HoldsNone, IsNewest, tied, Code, EventObserved, ReferenceFixed, Absent, ClockBack, ClockEnd, Program, Insert, Modify, Retract, Advance, At, Promise, clock_fault, new_fault, promise_fault, times_of, IsLawful, IsRunnable, World, at_clock, only_present, is_of_type, retract_fault, settled, with_new, with_revised, with_retracted, floor_by, Reached, is_event, is_observed, is_reference, lateness_of, New, Memory, Setting, step_lines, IsSafe, insert_fault_in, newest, Contents, Mirrors, Standing, with_facts, reached_of, with_timer, without_timer, left_at}
+use Rattle.std.specs.Prelude.{if◌then◌else◌, int_lt, nat_eq, option_map}
+use Rattle.rule_world.specs.Events.{most_millis}
 use Rattle.rule_world.specs.Worlds.{moved, step_fault, stepped}
-use Rattle.rule_model.specs.Snapshots.{floor, floor_by}
-use Rattle.rule_model.specs.Types.{lateness_of}
-use Rattle.engine.specs.declared.lines.OutLine.TheVariants.{New}
+use Rattle.rule_model.specs.Snapshots.{floor}
 use Rattle.session_laws.specs.Leading.{Moves}
-use Rattle.session_laws.specs.Places.{insert_fault_in}
 use Rattle.session_laws.proofs.Members.{got_old, none_left}
 use Rattle.session_laws.proofs.Newest.{store_found, store_none}
 use Rattle.session_laws.proofs.Stands.{for_own, own}

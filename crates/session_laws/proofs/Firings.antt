@@ -1,9 +1,7 @@
 -- What fires in the worlds for which a session stands: the agenda's first match is the world's, and its facts are all kept.
-use Rattle.session_laws.proofs.Common.{◌≡◌, ◌==◌, ℕ, Bool, true, false, cond, List, [], ◌∷◌, ◌++◌, map, Option, Some, None, is_some, option_map, slice_get, Result, refl, sym, ◌∙◌, ap, subst, option_and_then, fun_ext, Fact, Tag, Named, Action, Code, Match, Program, Step, has_match, fire_cmp, saliences, fire_total, first, step_of, World, present, pending, marked, first_pending, fire_exact, first_in, in_place, all_of, by_fire, Marks, OutLine, No, Yes, ends_by, is_kept, is_kept_fact, only, fact_at, sight_of, pending_kept, sight_law, Memory, Setting, actions_of, fire_line, fires_with, step_or_overflow, wanted, AllFit, held_at, planned, Contents, Runs, Standing, FiringAnswers}
+use Rattle.session_laws.proofs.Common.{◌≡◌, ◌==◌, ℕ, Bool, true, false, cond, List, [], ◌∷◌, ◌++◌, map, Option, Some, None, is_some, option_map, slice_get, Result, refl, sym, ◌∙◌, ap, subst, option_and_then, fun_ext, Fact, Tag, Named, Action, Code, Match, Program, Step, named_at, has_match, fire_cmp, saliences, fire_total, first, step_of, World, present, pending, marked, first_pending, fire_exact, first_alike, first_in, in_place, all_of, by_fire, Marks, OutLine, No, Yes, ends_by, is_kept, is_kept_fact, only, fact_at, sight_of, pending_kept, sight_law, Memory, Setting, actions_of, does_all, fire_line, fires_with, step_or_overflow, wanted, AllFit, held_at, planned, Contents, Runs, Standing, FiringAnswers}
 use Rattle.std.specs.Prelude.{if◌then◌else◌}
-use Rattle.rule_model.specs.Lent.{named_at}
-use Rattle.rule_model.proofs.Firsts.{first_alike}
-use Rattle.session_laws.specs.Gives.{does_all, version_of}
+use Rattle.session_laws.specs.Gives.{version_of}
 use Rattle.session_laws.proofs.Acting.{wanted_fits}
 use Rattle.std.specs.FinMap as map_of
 

@@ -1,14 +1,10 @@
 -- What a session forgets in the second phase of a step, and that it stands for the world then.
-use Rattle.session_laws.proofs.Common.{◌≡◌, ◌∙◌, sym, ap, refl, subst, inl, inr, ℕ, ℤ, ◌<◌, ◌==◌, ◌&&◌, ◌||◌, not, Bool, true, false, List, [], ◌∷◌, length, filter_map, nat_eq, slice_get, Option, Some, None, if◌then◌else◌, arith, find, list_any, In, Fact, Tag, Timers, HeldFacts, facts_of, Named, Row, has, Match, Program, Rule, HaveDistinctTags, matches, has_match, Snapshot, name_of, or_left, or_split, World, snapshot, only_present, below_of, kept_matches, Look, has_name, clean, HasAllOf, rows_of, tuple_of_row, made_facts, Marks, Retention, has_tag, is_named, Passes, RuleRows, Rete, rows_for, NetStands, some_in, Memory, Setting, IsSafe, over, rows_at, Awaits, Contents, Seen, Standing, holding, with_facts, reached_of, HaveOwnTags, left_at}
+use Rattle.session_laws.proofs.Common.{◌≡◌, ◌∙◌, sym, ap, refl, subst, inl, inr, ℕ, ℤ, ◌<◌, ◌==◌, ◌&&◌, ◌||◌, not, Bool, true, false, List, [], ◌∷◌, length, filter_map, nat_eq, slice_get, Option, Some, None, if◌then◌else◌, arith, find, list_any, In, Fact, Tag, Timers, HeldFacts, facts_of, Named, Row, has, Match, Program, Rule, HaveDistinctTags, matches, has_match, Snapshot, name_of, or_left, or_split, World, snapshot, only_present, below_of, kept_matches, Look, has_name, clean, either, HasAllOf, rows_of, tuple_of_row, made_facts, Marks, Retention, has_tag, is_named, Passes, RuleRows, Rete, AreDropped, rows_for, NetStands, some_tag, some_in, drop_law, Memory, Setting, IsSafe, over, rows_at, Awaits, Contents, Seen, Standing, holding, with_facts, reached_of, HaveOwnTags, left_at}
 use Rattle.std.proofs.Common.{map as list_map}
 use Rattle.std.specs.Option.{is_some}
 use Rattle.rule_model.specs.Lent.{Holds as AreHeld}
-use Rattle.pair_memory.specs.Standing.{either}
 use Rattle.condition_rows.specs.Sets.{held}
-use Rattle.rete_net.specs.Dropped.{AreDropped}
-use Rattle.forgetting.specs.Sights.{some_tag}
 use Rattle.forgetting.proofs.Naming.{not_true}
-use Rattle.forgetting.proofs.Stepping.{drop_law}
 use Rattle.session_laws.specs.Gives.{version_of}
 use Rattle.session_laws.proofs.Alike.{same_matches}
 use Rattle.session_laws.proofs.Exactly.{Exact, exact}

@@ -1,7 +1,7 @@
 -- A session that has taken a new fact, or its numbers alone, awaits the second phase of the step.
-use Rattle.session_laws.proofs.Common.{◌≡◌, ◌+◌, ◌∙◌, inl, inr, ℕ, ℤ, pos, ◌<◌, ◌≤◌, ◌≤ℤ◌, ◌==◌, ◌&&◌, not, Bool, true, false, cond, [], ◌∷◌, Option, Some, None, is_some, refl, sym, ap, subst, slice_get, arith, OnOk, nat_tests, ints, nat_cmp_total, get-insert, get-remove, nat_cmp, eq_by_cmp, tied, itself, Fact, Times, Timers, has_come, HeldFacts, Named, Program, Step, Insert, is_present, name_of, is_event, in_right, end_of_presence, most_millis, times_of, IsLawful, World, only_present, present, settled, step_fault, with_new, below_of, Marks, Retention, lingers, Covers, Ends, ends_by, ends_of, only, HasLeft, brought, changed, comes, goes, sight_of, later_covers, Memory, Setting, GoesOn, HasAtHand, Leads, LeadsOn, instant_of, Contents, AreForgotten, Awaits, Mirrors, Runs, Standing, Whole, holding, with_facts, reached_of, Course, reached_by, with_timer, Reached}
+use Rattle.session_laws.proofs.Common.{◌≡◌, ◌+◌, ◌∙◌, inl, inr, ℕ, ℤ, pos, ◌<◌, ◌≤◌, ◌≤ℤ◌, ◌==◌, ◌&&◌, not, Bool, true, false, cond, [], ◌∷◌, Option, Some, None, is_some, refl, sym, ap, subst, slice_get, arith, OnOk, nat_tests, ints, nat_cmp_total, get-insert, get-remove, nat_cmp, eq_by_cmp, tied, itself, Fact, Times, Timers, has_come, HeldFacts, Named, Program, Step, Insert, is_present, name_of, is_event, in_right, end_of_presence, most_millis, times_of, IsLawful, World, only_present, new_fact, present, settled, step_fault, with_new, below_of, Marks, Retention, lingers, Covers, Ends, ends_by, ends_of, only, HasLeft, brought, changed, comes, goes, sight_of, later_covers, Memory, Setting, GoesOn, HasAtHand, Leads, LeadsOn, instant_of, Contents, AreForgotten, Awaits, Mirrors, Runs, Standing, Whole, holding, with_facts, reached_of, Course, reached_by, with_timer, Reached}
 use Rattle.std.specs.Prelude.{option_and_then, Result, Ok, Err}
-use Rattle.rule_world.specs.Worlds.{moved, new_fact, stepped}
+use Rattle.rule_world.specs.Worlds.{moved, stepped}
 use Rattle.session_laws.proofs.Exactly.{Exact, exact, after_new, after_numbers}
 use Rattle.session_laws.proofs.Members.{got_new, got_old, of_insert}
 use Rattle.session_laws.proofs.Needs.{not_needed}

@@ -1,16 +1,12 @@
 -- What a session that is made from the image of a world holds is exactly what is kept of that world.
-use Rattle.session_laws.proofs.Common.{◌≡◌, ◌↔◌, ◌∙◌, ◌&&◌, not, ℕ, Bool, true, false, cond, is_some, List, [], length, Option, Some, None, refl, sym, ap, subst, arith, In, Fact, Row, Image, Timers, HeldFacts, LifeTable, Match, Program, Rule, HaveDistinctTags, matches, has_match, rows, both, IsLawful, World, snapshot, pending, distinct_filtered, has_pending, clean, cleaned, rows_of, kept_facts, is_forgotten, kept_listed, has_fired, snapshot_of, IsImageOf, AreOwners, image_kept, Marks, names_tag, Retention, is_among, is_named, Passes, Ends, Covers, past_law, Lives, Sight, ends_by, ends_of, only, is_kept, is_needed, each_tag, fact_at, sight_of, same_kept, pending_kept, clean_is, at_filter, fact_in, own_at, sight_law, stored, AreHeld, AreMarked, laden_by, is_laden}
+use Rattle.session_laws.proofs.Common.{◌≡◌, ◌↔◌, ◌∙◌, ◌&&◌, not, ℕ, Bool, true, false, cond, is_some, List, [], length, Option, Some, None, refl, sym, ap, subst, arith, take_all, In, Fact, Row, Image, Timers, HeldFacts, LifeTable, Match, Program, Rule, HaveDistinctTags, matches, has_match, rows, both, IsLawful, World, snapshot, pending, distinct_filtered, has_pending, AreSafe, clean, cleaned, rows_of, kept_facts, is_forgotten, kept_listed, has_fired, snapshot_of, IsImageOf, AreOwners, image_kept, Marks, names_tag, Retention, is_among, is_named, Passes, Ends, Covers, Watches, past_law, Lives, Sight, HoldsKept, ends_by, ends_of, only, is_kept, is_needed, each_tag, fact_at, sight_of, same_clean, same_kept, pending_kept, any_alike, clean_is, at_filter, fact_in, own_at, sight_law, stored, AreHeld, AreMarked, laden_by, is_laden}
 use Rattle.std.specs.Prelude.{◌≤◌, slice_get}
 use Rattle.std.specs.FinMap as map_of
-use Rattle.std.proofs.lemmas.List.{take_all}
-use Rattle.rule_lives.specs.Keeping.{AreSafe}
 use Rattle.keeping.specs.Kept.{is_kept as is_kept_in}
 use Rattle.image_laws.proofs.Rows.{laden_rows}
-use Rattle.retention.specs.Watching.{without, Watches}
+use Rattle.retention.specs.Watching.{without}
 use Rattle.retention.proofs.Calls.{same_watched}
-use Rattle.forgetting.specs.Sights.{HoldsKept, IsLawful as IsLawfulSight}
-use Rattle.forgetting.proofs.Agreeing.{same_clean}
-use Rattle.forgetting.proofs.Naming.{any_alike}
+use Rattle.forgetting.specs.Sights.{IsLawful as IsLawfulSight}
 use Rattle.session_laws.proofs.Members.{Holds}
 use Rattle.session_laws.proofs.Rules.{found_at, is_found}
 use Rattle.session_laws.proofs.Storing.{stored_holds}

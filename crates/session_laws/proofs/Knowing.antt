@@ -1,21 +1,15 @@
 -- The lines of changes and firings name types and rules of the program alone.
-use Rattle.session_laws.proofs.Common.{◌^◌, ◌≡◌, ◌<◌, ◌≤◌, ◌==◌, ◌&&◌, ℕ, ℤ, zero, suc, not, Bool, true, false, if◌then◌else◌, ap, Err, List, [], ◌∷◌, ◌++◌, length, nat_lt, Option, Some, None, option_map, Result, Ok, refl, sym, ◌∙◌, subst, lt-ltb, arith, ∥∥₁_elim, FactId, TypeId, Value, Fact, HeldFacts, Named, Row, Action, Code, Absent, EventFixed, ReferenceFixed, Match, Program, Rule, TypeInfo, Step, bound_in, matches, has_match, IsRunnable, In, World, is_of_type, snapshot, all_of, and_both, and_parts, of_map, has_pending, rule_of, in_place, Change, Given, entry_asked, fields_step, insert_step, modify_step, type_named, asked_fits, OutLine, Memory, Setting, actions_of, fire_line, planned, held_at, IsNetOf, AreOfRules, Contents, Course, IsSound, ReachesNoMore, Runs, Standing, reached_by, reached_of, nat_tests, moment_in, nothing_reached, is_event}
+use Rattle.session_laws.proofs.Common.{◌^◌, ◌≡◌, ◌<◌, ◌≤◌, ◌==◌, ◌&&◌, ℕ, ℤ, zero, suc, not, Bool, true, false, if◌then◌else◌, ap, Err, List, [], ◌∷◌, ◌++◌, length, nat_lt, Option, Some, None, option_map, Result, Ok, refl, sym, ◌∙◌, subst, lt-ltb, arith, list_all-append, ∥∥₁_elim, FactId, TypeId, Value, Fact, HeldFacts, Named, Row, Action, Code, Absent, BadFields, EventFixed, ReferenceFixed, Match, Program, Rule, TypeInfo, Step, values_fit, bound_in, Bindings, matches, has_match, id_at, sets_of, type_or_first, IsRunnable, In, World, is_of_type, snapshot, all_of, and_both, and_parts, of_map, has_pending, rule_of, in_place, Change, Given, entry_asked, fields_step, insert_step, modify_step, new_step, promise_step, retract_step, sets_step, type_named, values_step, entry_within, asked_fits, OutLine, Memory, Setting, actions_of, fire_line, AllWantKnown, has_known_places, StayKnown, WantsKnown, planned, planned_for, held_at, IsNetOf, AreOfRules, Contents, Course, IsSound, ReachesNoMore, Runs, Standing, reached_by, reached_of, nat_tests, moment_in, nothing_reached, is_event}
 use Rattle.std.specs.Prelude.{slice_get}
-use Rattle.std.proofs.lemmas.List.Folds.{list_all-append}
 use mathlib.Core.Bool.{Bool-set}
-use Rattle.rule_world.specs.declared.code.Code.TheVariants.{BadFields}
-use Rattle.rule_world.specs.Kinds.{values_fit, step_fits}
-use Rattle.rule_model.specs.Tuples.{Bindings}
+use Rattle.rule_world.specs.Kinds.{step_fits}
 use Rattle.rule_model.specs.Numbers.{values_of}
-use Rattle.rule_model.specs.Planned.{id_at, sets_of, type_or_first, step_of}
+use Rattle.rule_model.specs.Planned.{step_of}
 use Rattle.rule_world.specs.Typed.{bound_types, bound_fields, fields_in, args_fit, action_fits, rule_fits, is_typed}
 use Rattle.script_read.specs.declared.asked.Change.TheVariants as asked
-use Rattle.change_read.specs.Changes.{change_step, new_step, promise_step, retract_step, sets_step, values_step}
+use Rattle.change_read.specs.Changes.{change_step}
 use Rattle.change_read.specs.Fields.{are_fields, are_some_fields, sets_given, values_given}
-use Rattle.change_read.proofs.Places.{entry_within}
 use Rattle.engine.specs.Known.{is_known, are_known}
-use Rattle.session_laws.specs.Leading.{AllWantKnown, has_known_places, StayKnown, WantsKnown}
-use Rattle.session_laws.specs.Places.{planned_for}
 use Rattle.session_laws.proofs.Promising.{HasPromise}
 use Rattle.session_laws.proofs.Stands.{HasStart}
 use Rattle.session_laws.proofs.Acting.{asked_step}

@@ -1,7 +1,6 @@
 -- What leads from the facts before a step of the network to those behind it is what the network asks for.
-use Rattle.session_laws.proofs.Common.{◌≡◌, ◌∙◌, inl, inr, sym, ap, refl, subst, ℕ, ℤ, ◌<◌, ◌==◌, ◌||◌, not, List, [], ◌∷◌, ◌++◌, filter_map, nat_eq, Bool, true, false, Option, Some, None, Result, Ok, Err, if◌then◌else◌, arith, OnOk, cons_option, filter, find, list_any, option_to_list, nat_tests, append-nil, In, EachOnce, Fact, Tag, HeldFacts, facts_of, from_list, from_map, tags_rise, Program, HaveDistinctTags, in_left, in_right, of_append, of_map, AllOf, of_filter, in_filter, passed, Named, HasAllOf, Moves, shares_tag, GoesOn, HasAtHand, Leads, over, HaveOwnTags, Reached, Snapshot, floor_on}
+use Rattle.session_laws.proofs.Common.{◌≡◌, ◌∙◌, inl, inr, sym, ap, refl, subst, ℕ, ℤ, ◌<◌, ◌==◌, ◌||◌, not, List, [], ◌∷◌, ◌++◌, filter_map, nat_eq, Bool, true, false, Option, Some, None, Result, Ok, Err, if◌then◌else◌, arith, OnOk, cons_option, filter, find, list_any, option_to_list, nat_tests, append-nil, In, EachOnce, Fact, Tag, HeldFacts, facts_of, from_list, from_map, tags_rise, Program, HaveDistinctTags, in_left, in_right, of_append, of_map, AllOf, of_filter, in_filter, passed, Named, HasAllOf, Moves, shares_tag, Comes, GoesOn, HasAtHand, Leads, over, HaveOwnTags, Reached, Snapshot, floor_on}
 use Rattle.condition_rows.specs.Sets.{held}
-use Rattle.session_laws.specs.Following.{Comes}
 use Rattle.session_laws.specs.Gives.{version_of}
 use Rattle.session_laws.proofs.Members.{got_new, got_old, of_insert, version_found}
 use Rattle.session_laws.proofs.Rising.{Rise, rising_filter, rising_more, rising_same}

@@ -1,9 +1,7 @@
 -- Facts that leave a session, by their tags.
-use Rattle.session_laws.proofs.Common.{◌≡◌, ◌∙◌, ◌++◌, ◌||◌, inl, inr, ℕ, Bool, true, false, nat_eq, ◌==◌, length, List, [], ◌∷◌, Option, None, if◌then◌else◌, refl, sym, ap, subst, append_assoc, arith, Less, Equal, AllByRecursion, list_any, nat_cmp, or-false, nat_tests, list_any-append, In, EachOnce, Fact, Timers, HeldFacts, left_at}
+use Rattle.session_laws.proofs.Common.{◌≡◌, ◌∙◌, ◌++◌, ◌||◌, inl, inr, ℕ, Bool, true, false, nat_eq, ◌==◌, length, List, [], ◌∷◌, Option, None, if◌then◌else◌, refl, sym, ap, subst, append_assoc, arith, Less, Equal, AllByRecursion, list_any, nat_cmp, ordering_then, or-false, nat_tests, list_any-append, In, EachOnce, Fact, Timers, due_cmp, moment_of, HeldFacts, left_at}
 use Rattle.std.specs.List.Sorted.{IsStrictlySortedBy}
-use Rattle.std.specs.Ordering.{ordering_then}
 use Rattle.std.proofs.lemmas.Cmp.{nat_cmp_total, int_cmp_total, tied_itself}
-use Rattle.due_queue.specs.Timers.{due_cmp, moment_of}
 use Rattle.session_laws.proofs.Members.{is_out, not_out}
 use Rattle.std.specs.FinMap as map
 

@@ -1,7 +1,5 @@
 -- A session whose first match is marked as fired awaits the second phase of the firing.
-use Rattle.session_laws.proofs.Common.{◌≡◌, ◌∙◌, ◌&&◌, ◌||◌, not, ℕ, Bool, true, inl, inr, Some, refl, sym, subst, eq_by_cmp, tells_apart, Match, Program, first, fire_total, matches, has_match, match_cmp, fire_cmp, fire_exact, first_in, or_split, World, marked, pending, snapshot, and_parts, firing_lawful, by_fire, has_pending, Marks, names_tag, clean, Lives, Sight, each_tag, ends_by, is_kept, sight_of, pending_kept, sight_law, Memory, Setting, Awaits, Contents, Seen, Standing, holding}
-use Rattle.rule_model.proofs.Exact.{match_exact}
-use Rattle.forgetting.proofs.Closing.{world_fire_kept}
+use Rattle.session_laws.proofs.Common.{◌≡◌, ◌∙◌, ◌&&◌, ◌||◌, not, ℕ, Bool, true, inl, inr, Some, refl, sym, subst, eq_by_cmp, tells_apart, Match, Program, first, fire_total, matches, has_match, match_cmp, fire_cmp, fire_exact, match_exact, first_in, or_split, World, marked, pending, snapshot, and_parts, firing_lawful, by_fire, has_pending, Marks, names_tag, clean, Lives, Sight, each_tag, ends_by, is_kept, sight_of, pending_kept, world_fire_kept, sight_law, Memory, Setting, Awaits, Contents, Seen, Standing, holding}
 use Rattle.session_laws.proofs.Clean.{clean_kept, clean_was}
 use Rattle.session_laws.proofs.Stands.{contents}
 

@@ -1,11 +1,9 @@
 -- The parts of a session that are made from an image, as they are told one after the other.
-use Rattle.session_laws.proofs.Common.{◌≡◌, ◌∙◌, ◌≤◌, ◌<◌, ◌≤ℤ◌, ◌||◌, not, ℕ, ℤ, pos, Bool, true, false, cond, List, [], ◌∷◌, length, Option, Some, None, Result, Ok, Err, refl, sym, ap, subst, arith, eq_by_cmp, nat_cmp, ∥∥₁_elim, In, Fact, Extra, Named, FiredMatch, Image, Timers, HeldFacts, itself, LifeTable, Moment, Program, saliences, Snapshot, both_of, most_millis, IsRunnable, below_of, slice_get_within, Look, Marks, match_fired, snapshot_of, AreOwners, FitsPlainly, FitsByRows, Retention, has_tag, is_among, is_named, Passes, Covers, Ends, is_old, past_law, ends_by, ends_of, RuleChange, Rete, AreLadenRows, IsBehind, IsLoadable, IsThere, NetStands, IsNetOf, Memory, Setting, IsSafe, comes_by, has_marked, is_laden, stored, AreHeld, AreMarked, IsMatched, NoneGo, AreOfRules, Contents, Course, IsSound, ReachesNoMore, Runs, expiry_at, reached_of}
-use Rattle.std.specs.Prelude.{IsErrAnd}
+use Rattle.session_laws.proofs.Common.{◌≡◌, ◌∙◌, ◌≤◌, ◌<◌, ◌≤ℤ◌, ◌||◌, not, ℕ, ℤ, pos, Bool, true, false, cond, List, [], ◌∷◌, length, Option, Some, None, Result, Ok, Err, refl, sym, ap, subst, arith, IsErrAnd, eq_by_cmp, nat_cmp, ∥∥₁_elim, In, Fact, Extra, Named, FiredMatch, Image, Timers, HeldFacts, itself, LifeTable, Moment, Program, saliences, Snapshot, both_of, most_millis, IsRunnable, below_of, slice_get_within, Look, Marks, match_fired, snapshot_of, AreOwners, FitsPlainly, FitsByRows, Retention, has_tag, is_among, is_named, Passes, Covers, Ends, is_old, past_law, ends_by, ends_of, RuleChange, Rete, AreLadenRows, IsBehind, IsLoadable, IsThere, NetStands, IsNetOf, Memory, Setting, IsSafe, at_hand, comes_by, has_marked, is_laden, stored, AreHeld, AreMarked, IsMatched, IsRestored, NoneGo, AreOfRules, Contents, Course, IsSound, ReachesNoMore, Runs, expiry_at, reached_of}
 use Rattle.std.specs.FinMap as map_of
 use lib.IntN.{ℤ_set}
 use Rattle.engine.specs.declared.resuming.ResumeFault.{ResumeFault}
 use Rattle.engine.specs.declared.resuming.ResumeFault.TheVariants.{Unfit}
-use Rattle.session_laws.specs.Restoring.{at_hand, IsRestored}
 use Rattle.session_laws.proofs.Coming.{comes_laden, laden_marked, none_go}
 use Rattle.session_laws.proofs.Refitted.{fired_unfit, laden_match, no_row_unfit, old_unfit, rows_fit}
 use Rattle.session_laws.proofs.Restored.{loadable, restored_stands}

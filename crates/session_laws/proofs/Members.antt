@@ -1,8 +1,6 @@
 -- The facts of a map and those of a list: where both have the same, each at its tag.
-use Rattle.session_laws.proofs.Common.{◌≡◌, ℕ, ◌<◌, ◌==◌, ◌⊎◌, inl, inr, not, ◌&&◌, Bool, true, false, cond, List, [], ◌∷◌, ◌++◌, Option, Some, None, refl, sym, ◌∙◌, ap, subst, arith, without, others, get-insert, get-remove, nat_cmp_total, nat_cmp, eq_by_cmp, nat_tests, Tag, Value, Fact, HeldFacts, facts_of, tag_of, from_list, from_map, tags_rise, tied, itself, In, HaveDistinctTags, HaveDistinctIds, has_id, revised, revised_in, AllBelow, has_number, one_id, in_left, in_right, in_map, of_append, of_map, AllOf, of_filter, one_fact, in_filter, passed, HaveOwnTags}
+use Rattle.session_laws.proofs.Common.{◌≡◌, ℕ, ◌<◌, ◌==◌, ◌⊎◌, inl, inr, not, ◌&&◌, Bool, true, false, cond, List, [], ◌∷◌, ◌++◌, Option, Some, None, refl, sym, ◌∙◌, ap, subst, arith, without, others, get-insert, get-remove, same_map, nat_cmp-IsAntisymmetric, nat_cmp_total, nat_cmp, eq_by_cmp, nat_tests, Tag, Value, Fact, HeldFacts, facts_of, tag_of, from_list, from_map, tags_rise, tied, itself, In, HaveDistinctTags, HaveDistinctIds, has_id, revised, revised_in, AllBelow, revise, has_number, one_id, in_left, in_right, in_map, of_append, of_map, AllOf, of_filter, one_fact, in_filter, passed, HaveOwnTags}
 use Rattle.std.specs.Prelude.{if◌then◌else◌}
-use Rattle.std.specs.FinMap.{same_map, nat_cmp-IsAntisymmetric}
-use Rattle.rule_world.proofs.Fresh.{revise}
 use Rattle.session_laws.specs.Gives.{version_of}
 use Rattle.session_laws.proofs.Rising.{rising_distinct}
 use Rattle.std.specs.FinMap as map

@@ -1,14 +1,10 @@
 -- The facts of a map that are the present ones of a world make the rows and have the candidates of the world.
-use Rattle.session_laws.proofs.Common.{◌≡◌, ◌∙◌, ◌==◌, ◌&&◌, ℕ, ℤ, true, nat_lt, List, length, refl, sym, ap, subst, In, Fact, Named, Row, has, HeldFacts, facts_of, tag_of, Condition, Pattern, Program, is_present, fits, is_candidate, candidates, HaveDistinctTags, rows, Reached, Snapshot, name_of, both_of, of_filter, Same, passed, rows_over, World, snapshot, present, only_present, distinct_filtered, kept_rows, rows_of, candidates_of, has_in, same_truth, candidate_named, candidate_of, version_of, over}
+use Rattle.session_laws.proofs.Common.{◌≡◌, ◌∙◌, ◌==◌, ◌&&◌, ℕ, ℤ, true, nat_lt, List, length, refl, sym, ap, subst, In, Fact, Named, Row, has, HeldFacts, facts_of, tag_of, Condition, Pattern, Program, is_present, fits, is_behind, count_behind, is_inside, is_candidate, candidates, HaveDistinctTags, rows, Reached, Snapshot, name_of, unbound, both_of, of_filter, Same, passed, rows_over, World, snapshot, present, only_present, distinct_filtered, filter_within, filter_same, kept_rows, rows_of, candidates_of, in_has, has_in, same_truth, candidate_named, candidate_of, version_of, over}
 use Rattle.std.specs.FinMap as map
 use Rattle.rule_model.specs.declared.condition.WindowTag.{WindowTag}
 use Rattle.rule_model.specs.declared.condition.WindowTag.TheVariants.{Whole, Time, Length}
-use Rattle.rule_model.specs.Candidates.{is_behind, count_behind, is_inside}
 use Rattle.rule_model.specs.Tests.{tests_hold}
-use Rattle.rule_model.specs.Tuples.{unbound}
 use Rattle.rule_model.proofs.Order.{same_candidates as same_in_order}
-use Rattle.rule_world.proofs.Kept.{filter_within, filter_same}
-use Rattle.condition_rows.proofs.Ends.{in_has}
 use Rattle.session_laws.proofs.Members.{Holds, of_versions, held_distinct, own_tags, listed, all_listed}
 
 -- ---- what is not present is no candidate, and is in no window

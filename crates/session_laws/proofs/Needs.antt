@@ -1,18 +1,13 @@
 -- In a step no rule needs a forgotten fact.
-use Rattle.session_laws.proofs.Common.{◌≡◌, ◌∙◌, inl, inr, refl, sym, ap, subst, ℕ, zero, suc, ◌<◌, ◌≤◌, ◌==◌, ◌&&◌, not, Bool, true, false, cond, List, [], ◌∷◌, filter_map, Option, Some, None, arith, take, cons_option, filter, option_to_list, In, Fact, Named, Row, HeldFacts, facts_of, tag_of, from_list, Condition, Negated, Existing, Folded, Pattern, Rule, Step, is_candidate, HaveDistinctTags, Holds, pattern_of, Reached, Snapshot, name_of, both_of, of_append, in_left, of_filter, one_fact, in_filter, IsOrdered, World, snapshot, present, step_fault, and_both, flagged, not_true, same_number, joins, held, rows_of, candidates_of, same_truth, tuple_of_row, held_fact, joins_of_tuple, made_facts, candidate_of, Moves, shares_tag, is_forgotten, IsLawfulStep, passing_one, forgotten_fact, only, same_kept, chosen, own_at, Memory, Setting, GoesOn, Instant, Leads, facts_at, version_of, over, Contents, Runs, Standing, reached_of}
+use Rattle.session_laws.proofs.Common.{◌≡◌, ◌∙◌, inl, inr, refl, sym, ap, subst, ℕ, zero, suc, ◌<◌, ◌≤◌, ◌==◌, ◌&&◌, not, Bool, true, false, cond, List, [], ◌∷◌, filter_map, Option, Some, None, arith, take, cons_option, filter, option_to_list, In, Fact, Named, Row, HeldFacts, facts_of, tag_of, from_list, Condition, Negated, Existing, Folded, Pattern, Rule, Step, is_candidate, HaveDistinctTags, Holds, pattern_of, Reached, Snapshot, name_of, row_of, both_of, of_append, in_left, of_filter, one_fact, in_filter, IsOrdered, World, snapshot, present, moved, step_fault, and_both, flagged, not_true, same_number, joins, held, rows_of, candidates_of, same_truth, tuple_of_row, held_fact, joins_of_tuple, version_in, made_facts, candidate_of, Moves, shares_tag, CountsNone, is_forgotten, IsLawfulStep, RowComes, passing_one, there_same, forgotten_fact, tags_behind, only, same_kept, chosen, own_at, Memory, Setting, GoesOn, Instant, Leads, facts_at, version_of, over, Contents, Runs, Standing, reached_of}
 use Rattle.std.specs.Prelude.{is_some, slice_get}
 use Rattle.std.specs.FinMap as map
 use Rattle.rule_model.specs.declared.condition.Condition.TheVariants.{Plain}
-use Rattle.rule_model.specs.Tuples.{row_of}
-use Rattle.rule_world.specs.Worlds.{moved, stepped}
+use Rattle.rule_world.specs.Worlds.{stepped}
 use Rattle.rule_lives.specs.Networks.{binds}
-use Rattle.condition_rows.proofs.Holding.{version_of as version_named, version_in}
-use Rattle.rete_net.specs.Forgetting.{CountsNone}
+use Rattle.condition_rows.proofs.Holding.{version_of as version_named}
 use Rattle.keeping.specs.Kept.{is_kept}
-use Rattle.keeping.specs.Steps.{RowComes}
 use Rattle.keeping.proofs.Coming.{row_meets_kept}
-use Rattle.keeping.proofs.Staying.{there_same}
-use Rattle.keeping.proofs.Versions.{tags_behind}
 use Rattle.session_laws.proofs.Leads.{leads_move}
 use Rattle.session_laws.proofs.Needing.{stored_present, distinct_here, of_world, world_rows, world_candidates}
 use Rattle.session_laws.proofs.Phases.{NotNeeded}

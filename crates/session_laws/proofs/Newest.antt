@@ -1,7 +1,6 @@
 -- The fact of an id, as a session has it and as the world has it.
-use Rattle.session_laws.proofs.Common.{◌≡◌, ℕ, suc, zero, ◌<◌, ◌≤◌, ◌⊎◌, inl, inr, Bool, true, false, Option, Some, None, refl, sym, ◌∙◌, ap, subst, arith, nat_tests, Tag, Fact, HeldFacts, IsNewest, HoldsNone, Program, In, World, fact_of, below_of, found_in, one_id, IsNewestTag, IsSafe, newest, Contents}
+use Rattle.session_laws.proofs.Common.{◌≡◌, ℕ, suc, zero, ◌<◌, ◌≤◌, ◌⊎◌, inl, inr, Bool, true, false, Option, Some, None, refl, sym, ◌∙◌, ap, subst, arith, nat_tests, Tag, Fact, HeldFacts, IsNewest, HoldsNone, is_id, Program, In, World, fact_of, below_of, found_in, one_id, IsNewestTag, IsSafe, newest, Contents}
 use Rattle.std.specs.Prelude.{nat_eq, nat_lt, if◌then◌else◌}
-use Rattle.fact_store.specs.Held.{is_id}
 use Rattle.rule_world.proofs.Found.{fact_in}
 use Rattle.session_laws.specs.Places.{newest_below}
 use Rattle.session_laws.proofs.Exactly.{Exact}

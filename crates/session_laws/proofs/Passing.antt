@@ -1,8 +1,7 @@
 -- What a session has taken where its clock moves on.
-use Rattle.session_laws.proofs.Common.{◌≡◌, ◌∙◌, ◌≤ℤ◌, ◌||◌, inl, not, ℕ, ℤ, Bool, true, false, cond, nat_eq, List, Some, None, slice_get, if◌then◌else◌, refl, sym, ap, subst, arith, get-retain_keys, list_any, is_eq, nat_tests, In, Fact, Timers, TakesDue, has_come, HeldFacts, facts_of, tied, Named, Row, Program, Rule, Step, At, is_present, rows, IsLawful, World, at_clock, only_present, present, settled, step_fault, Marks, rows_of, cleaned, NetStands, clean_rows, Rete, has_clean, Covers, ends_by, ends_of, is_kept_fact, is_needed, only, HasLeft, brought, changed, comes, fact_at, goes, sight_of, endless_covers, some_in, own_at, Memory, Setting, Leads, LeadsOn, instant_of, over, IsRefreshed, Awaits, Contents, Mirrors, Runs, Standing, expiry_at, holding, with_facts, reached_of, left_at, Reached}
+use Rattle.session_laws.proofs.Common.{◌≡◌, ◌∙◌, ◌≤ℤ◌, ◌||◌, inl, not, ℕ, ℤ, Bool, true, false, cond, nat_eq, List, Some, None, slice_get, if◌then◌else◌, refl, sym, ap, subst, arith, get-retain_keys, list_any, is_eq, nat_tests, In, Fact, Timers, TakesDue, has_come, HeldFacts, facts_of, tied, Named, Row, Program, Rule, Step, At, is_present, rows, IsLawful, World, at_clock, only_present, present, settled, step_fault, Marks, rows_of, cleaned, NetStands, clean_rows, Rete, has_clean, Covers, ends_by, ends_of, is_kept_fact, is_needed, only, HasLeft, brought, changed, comes, fact_at, goes, sight_of, expired_endless, endless_covers, some_in, own_at, Memory, Setting, Leads, LeadsOn, instant_of, over, IsRefreshed, Awaits, Contents, Mirrors, Runs, Standing, expiry_at, holding, with_facts, reached_of, left_at, Reached}
 use Rattle.std.specs.FinMap as map
 use Rattle.rule_world.specs.Worlds.{moved, stepped}
-use Rattle.forgetting.proofs.Agreeing.{expired_endless}
 use Rattle.session_laws.proofs.Exactly.{after_clock}
 use Rattle.session_laws.proofs.Moving_on.{covered_at, hand_of, leads_on, left_changed, less_forgotten, of_left, world_exact, world_holds, world_ready}
 use Rattle.session_laws.proofs.Ready.{lead_later}

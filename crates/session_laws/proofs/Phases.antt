@@ -1,6 +1,5 @@
 -- What the first phase of a step leaves, and what it asks of the facts that are forgotten.
-use Rattle.session_laws.proofs.Common.{◌≡◌, ◌≤◌, ◌⊎◌, ℕ, Bool, true, List, filter_map, Option, Some, None, In, Fact, HeldFacts, facts_of, tag_of, Step, World, present, stepped, step_fault, NetStands, clean_rows, lingers, Covers, ends_by, ends_of, HasLeft, brought, changed, comes, goes, Memory, Setting, Instant, Leads, facts_at, version_of, over, IsRefreshed, Contents, AreForgotten, Awaits, Runs, Standing, Whole, with_facts, reached_of}
-use Rattle.rete_net.specs.Forgetting.{AreNotNeeded}
+use Rattle.session_laws.proofs.Common.{◌≡◌, ◌≤◌, ◌⊎◌, ℕ, Bool, true, List, filter_map, Option, Some, None, In, Fact, HeldFacts, facts_of, tag_of, Step, World, present, stepped, step_fault, AreNotNeeded, NetStands, clean_rows, lingers, Covers, ends_by, ends_of, HasLeft, brought, changed, comes, goes, Memory, Setting, Instant, Leads, facts_at, version_of, over, IsRefreshed, Contents, AreForgotten, Awaits, Runs, Standing, Whole, with_facts, reached_of}
 use Rattle.std.specs.FinMap as map
 
 -- the parts of a session behind the first phase of a step, which did not change what is forgotten

@@ -1,7 +1,6 @@
 -- What entry points have reached does not fall in a step without a fault.
-use Rattle.session_laws.proofs.Common.{◌≡◌, ◌==◌, ℕ, ℤ, ◌≤ℤ◌, Bool, true, false, None, refl, subst, arith, if◌then◌else◌, nat_tests, ints, Program, Step, Insert, Modify, Retract, Advance, At, Promise, Begin, Reached, IsLawful, World, promise_with, GoesOn}
+use Rattle.session_laws.proofs.Common.{◌≡◌, ◌==◌, ℕ, ℤ, ◌≤ℤ◌, Bool, true, false, None, refl, subst, arith, if◌then◌else◌, nat_tests, ints, Program, Step, Insert, Modify, Retract, Advance, At, Promise, Begin, Reached, IsLawful, World, promise_with, inserted, promised_forward, GoesOn}
 use Rattle.rule_world.specs.Worlds.{moved, step_fault, stepped}
-use Rattle.rule_world.proofs.Faultless.{inserted, promised_forward}
 use Rattle.rule_world.proofs.Sound.{new_goes_on}
 
 itself : (a : ℤ) → a ≤ℤ a

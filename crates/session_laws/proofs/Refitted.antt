@@ -1,19 +1,15 @@
 -- What asks the rows over the facts of an image that fits by plain tests, as it is told while a session is made from it.
-use Rattle.session_laws.proofs.Common.{◌≡◌, ◌∙◌, ◌&&◌, ◌||◌, ◌==◌, not, ℕ, zero, suc, ◌<◌, ℤ, pos, ◌+ℤ◌, Bool, true, false, inl, inr, List, [], ◌∷◌, length, Option, Some, None, refl, sym, ap, subst, arith, int_le, option_and_then, nat_tests, ints, tells_apart, slice_get_within, In, Fact, Extra, Named, Row, row_exact, FiredMatch, Image, has_come, HeldFacts, tag_of, Condition, Negated, Existing, Folded, Life, Plain, Explicit, Finite, Infinite, LifeTable, Match, Program, Rule, is_candidate, is_present, HaveDistinctTags, has_match, Snapshot, name_of, both, both_of, of_append, of_filter, one_fact, joins, held, candidates_of, candidate_of, is_alive, passing_one, match_fired, has_fired, snapshot_of, FitsPlainly, FitsByRows, Marks, names_tag, is_named, Ends, is_old, ends_by, ends_of, IsThere, stored, AreMarked, laden_by, is_laden}
+use Rattle.session_laws.proofs.Common.{◌≡◌, ◌∙◌, ◌&&◌, ◌||◌, ◌==◌, not, ℕ, zero, suc, ◌<◌, ℤ, pos, ◌+ℤ◌, Bool, true, false, inl, inr, List, [], ◌∷◌, length, Option, Some, None, refl, sym, ap, subst, arith, int_le, option_and_then, nat_tests, ints, tells_apart, slice_get_within, In, Fact, Extra, Named, Row, row_exact, FiredMatch, Image, has_come, HeldFacts, tag_of, Condition, Negated, Existing, Folded, Life, Plain, Explicit, Finite, Infinite, LifeTable, Match, Program, Rule, is_candidate, is_present, HaveDistinctTags, has_match, Snapshot, name_of, both, both_of, of_append, of_filter, one_fact, joins, joined, held, candidates_of, has_partner, candidate_of, is_alive, passing_one, some_passes, match_fired, has_fired, snapshot_of, laden_gives, laden_line, laden_with, extra_at, FitsPlainly, FitsByRows, Marks, names_tag, is_named, Ends, is_old, end_of_life, ends_by, ends_of, witness, IsThere, stored, AreMarked, laden_by, is_laden}
 use Rattle.std.specs.Prelude.{slice_get}
 use Rattle.std.specs.FinMap as map_of
 use Rattle.std.specs.Option.{is_some}
 use Rattle.rule_model.specs.declared.condition.Condition.TheVariants.{Plain as plain_condition}
-use Rattle.pair_memory.specs.Joined.{joined}
 use Rattle.pair_memory.proofs.Joining.{joined_with, joined_from}
 use Rattle.pair_memory.proofs.Valued.{valued_from}
 use Rattle.condition_rows.specs.Lines.{is_ripe, empty_row}
-use Rattle.condition_rows.specs.Sets.{has_partner}
-use Rattle.keeping.proofs.Members.{some_passes}
 use Rattle.image_laws.specs.Fitting.{IsLaden, IsLadenMatch, IsNeeded}
-use Rattle.image_laws.specs.Laden.{values_of, laden_gives, laden_line, laden_with, extra_at, laden}
-use Rattle.forgetting.specs.Sights.{end_of_life}
-use Rattle.forgetting.proofs.Naming.{found, witness}
+use Rattle.image_laws.specs.Laden.{values_of, laden}
+use Rattle.forgetting.proofs.Naming.{found}
 use Rattle.session_laws.proofs.Members.{Holds}
 use Rattle.session_laws.proofs.Storing.{stored_holds}
 

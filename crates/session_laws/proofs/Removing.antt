@@ -1,8 +1,7 @@
 -- The fact of an id in the store is the one that the world has; and what a session has taken in its retraction.
-use Rattle.session_laws.proofs.Common.{◌≡◌, ◌∙◌, ◌<◌, ◌==◌, inl, inr, ◌&&◌, not, ℕ, Bool, true, false, nat_eq, [], ◌∷◌, Some, None, refl, sym, ap, subst, arith, without_fact, list_any, or-false, nat_tests, In, FactId, Tag, TypeId, Fact, Timers, HeldFacts, facts_of, Program, Step, Retract, IsLawful, World, found, is_of_type, only_present, present, settled, step_fault, below_of, one_id, Marks, NetStands, clean_rows, Rete, Retention, lingers, ends_by, HasLeft, brought, changed, comes, goes, Memory, Setting, Leads, LeadsOn, instant_of, IsNewestTag, newest, over, IsRefreshed, Awaits, Contents, Mirrors, Runs, Standing, holding, with_facts, reached_of, left_at, without_timer}
+use Rattle.session_laws.proofs.Common.{◌≡◌, ◌∙◌, ◌<◌, ◌==◌, inl, inr, ◌&&◌, not, ℕ, Bool, true, false, nat_eq, [], ◌∷◌, Some, None, refl, sym, ap, subst, arith, without_fact, list_any, or-false, nat_tests, In, FactId, Tag, TypeId, Fact, Timers, HeldFacts, facts_of, Program, Step, Retract, IsLawful, World, found, is_of_type, only_present, present, settled, step_fault, below_of, one_id, Marks, NetStands, clean_rows, Rete, Retention, lingers, ends_by, HasLeft, brought, changed, comes, goes, retract_covers, Memory, Setting, Leads, LeadsOn, instant_of, IsNewestTag, newest, over, IsRefreshed, Awaits, Contents, Mirrors, Runs, Standing, holding, with_facts, reached_of, left_at, without_timer}
 use Rattle.std.specs.FinMap as map
 use Rattle.rule_world.specs.Worlds.{moved, stepped}
-use Rattle.forgetting.proofs.Covering.{retract_covers}
 use Rattle.forgetting.proofs.WorldSteps.{retracts_one}
 use Rattle.session_laws.proofs.Exactly.{after_without}
 use Rattle.session_laws.proofs.Leaving.{one_gone}

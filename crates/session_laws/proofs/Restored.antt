@@ -1,19 +1,13 @@
 -- A session that is made from the image of a lawful world stands for that world.
-use Rattle.session_laws.proofs.Common.{◌≡◌, ◌∙◌, not, ℕ, ℤ, pos, ◌≤ℤ◌, ◌<◌, Bool, true, false, is_some, List, [], ◌∷◌, Option, Some, None, refl, sym, ap, subst, arith, AllByRecursion, nat_cmp, Less, ints, In, Fact, Named, Image, Timers, HeldFacts, facts_of, tag_of, from_list, from_map, Life, Plain, Explicit, Finite, Infinite, LifeTable, Moment, Program, is_present, fits, HaveDistinctTags, saliences, pattern_of, Snapshot, name_of, is_event, floor_on, of_filter, in_filter, passed, in_place, end_by, IsLawful, IsRunnable, World, snapshot, present, only_present, below_of, distinct_filtered, empty_snapshot, HasAllOf, is_alive, is_forgotten, not_alive, forgotten_fact, in_no_window, tag_cmp, snapshot_of, IsImageOf, AreOwners, image_kept, FitsPlainly, Marks, IsOrderly, Retention, is_among, is_named, Passes, only, chosen, own_at, Rete, IsBehind, IsLoadable, Setting, version_of, over, stored, AreHeld, AreStorable, IsMatched, AreForgotten, Contents, Course, Mirrors, Runs, Standing, expiry_at, with_facts}
+use Rattle.session_laws.proofs.Common.{◌≡◌, ◌∙◌, not, ℕ, ℤ, pos, ◌≤ℤ◌, ◌<◌, Bool, true, false, is_some, List, [], ◌∷◌, Option, Some, None, refl, sym, ap, subst, arith, AllByRecursion, nat_cmp, Less, ints, In, Fact, Named, Image, Timers, HeldFacts, facts_of, tag_of, from_list, from_map, Life, Plain, Explicit, Finite, Infinite, LifeTable, Moment, Program, is_present, fits, HaveDistinctTags, saliences, reached_in, pattern_of, Snapshot, name_of, is_event, floor_on, of_filter, in_filter, passed, in_place, end_by, IsLawful, IsRunnable, World, snapshot, present, only_present, below_of, distinct_filtered, empty_snapshot, HasAllOf, is_alive, is_forgotten, kept_inside, not_alive, forgotten_fact, lost, in_no_window, tag_cmp, snapshot_of, IsImageOf, IsKeptOf, AreOwners, image_kept, FitsPlainly, Marks, IsOrderly, Retention, is_among, is_named, Passes, only, chosen, own_at, Rete, AreOutsideOfTime, IsBehind, IsLoadable, Setting, version_of, over, stored, AreHeld, AreStorable, HasTimes, IsMatched, AreForgotten, Contents, Course, Mirrors, Runs, Standing, expiry_at, with_facts}
 use Rattle.std.proofs.Common.{map as list_map}
 use Rattle.std.specs.Prelude.{slice_get}
 use Rattle.std.specs.FinMap as map_of
 use Rattle.std.specs.List.Sorted.{IsStrictlySortedBy}
 use Rattle.fact_store.proofs.Members.{tags_rise as held_rise}
-use Rattle.rule_model.specs.Moments.{reached_in}
 use Rattle.rule_world.specs.Events.{most_millis}
 use Rattle.condition_rows.specs.Sets.{held}
 use Rattle.keeping.specs.Kept.{is_kept}
-use Rattle.keeping.proofs.Decided.{kept_inside}
-use Rattle.keeping.proofs.Versions.{lost}
-use Rattle.image_laws.specs.Laden.{IsKeptOf}
-use Rattle.rete_net.specs.Loading.{AreOutsideOfTime}
-use Rattle.session_laws.specs.Restoring.{HasTimes}
 use Rattle.session_laws.proofs.Kept_parts.{holds_kept_parts, image_holds, store_is}
 use Rattle.session_laws.proofs.Forgotten.{same_version}
 use Rattle.session_laws.proofs.Members.{Holds, all_listed, listed, own_tags, version_found, versions}

@@ -1,16 +1,13 @@
 -- A retraction of an event that a session does not have: the world has none that is present, or it is forgotten.
-use Rattle.session_laws.proofs.Common.{◌≡◌, ◌∙◌, ◌<◌, ◌==◌, ◌&&◌, ◌≤ℤ◌, not, ℕ, ℤ, Bool, true, false, cond, nat_eq, List, Option, Some, None, inl, refl, sym, ap, subst, arith, filter, nat_tests, ints, In, Fact, FactId, TypeId, HeldFacts, IsNewest, facts_of, from_list, from_map, tags_rise, Row, has, Life, Plain, Explicit, Finite, Infinite, Program, Rule, Step, Retract, is_present, HaveDistinctTags, HaveDistinctIds, has_match, pattern_of, Snapshot, name_of, is_event, is_observed, expiry_of, AllOf, of_filter, in_filter, passed, in_place, end_by, IsLawful, World, found, has_id, is_of_type, only_present, present, retract_fault, found_in, and_parts, and_both, below_of, has_number, one_id, not_true, same_number, candidate_named, is_alive, not_alive, in_no_window, Covers, NetStands, clean_rows, ends_by, ends_of, only, brought, changed, sight_of, comes, goes, same_kept, later_covers, own_at, Memory, Setting, IsNewestTag, newest, over, AreForgotten, Awaits, Contents, Mirrors, Runs, Standing, expiry_at, holding, with_facts, reached_of, HaveOwnTags, without_timer}
+use Rattle.session_laws.proofs.Common.{◌≡◌, ◌∙◌, ◌<◌, ◌==◌, ◌&&◌, ◌≤ℤ◌, not, ℕ, ℤ, Bool, true, false, cond, nat_eq, List, Option, Some, None, inl, refl, sym, ap, subst, arith, filter, nat_tests, ints, In, Fact, FactId, TypeId, HeldFacts, IsNewest, facts_of, from_list, from_map, tags_rise, Row, has, Life, Plain, Explicit, Finite, Infinite, Program, Rule, Step, Retract, is_present, HaveDistinctTags, HaveDistinctIds, has_match, pattern_of, Snapshot, name_of, is_event, is_observed, expiry_of, AllOf, of_filter, in_filter, passed, in_place, end_by, IsLawful, World, found, has_id, is_of_type, only_present, present, retract_fault, found_in, and_parts, and_both, below_of, has_number, one_id, not_true, same_number, number_same, candidate_named, is_alive, lost_event, not_alive, in_no_window, Covers, IsUnmissed, less_fact, NetStands, clean_rows, ends_by, ends_of, only, brought, changed, sight_of, comes, goes, same_kept, later_covers, own_at, Memory, Setting, IsNewestTag, newest, over, AreForgotten, Awaits, Contents, Mirrors, Runs, Standing, expiry_at, holding, with_facts, reached_of, HaveOwnTags, without_timer}
 use Rattle.rule_lives.proofs.Moves.{retracted_is_not_observed}
 use Rattle.std.specs.Prelude.{is_some, slice_get}
 use Rattle.std.specs.FinMap as map
 use Rattle.rule_model.specs.Simple.{is_observed_in}
 use Rattle.rule_world.specs.Worlds.{step_fault, stepped, moved}
 use Rattle.rule_world.proofs.Vain.{vain_retraction}
-use Rattle.rule_lives.proofs.Basics.{number_same}
 use Rattle.pattern_gate.proofs.Arriving.{is_other}
 use Rattle.keeping.specs.Kept.{is_kept}
-use Rattle.keeping.proofs.Staying.{lost_event}
-use Rattle.rete_net.specs.Forgetting.{IsUnmissed, less_fact}
 use Rattle.rete_net.proofs.Unmissed.{net_less, clean_rows_less}
 use Rattle.session_laws.proofs.Exactly.{Exact, exact, after_without}
 use Rattle.session_laws.proofs.Members.{Holds, held_distinct, is_out, not_out, of_remove}

@@ -1,8 +1,7 @@
 -- What a session has taken in a modification.
-use Rattle.session_laws.proofs.Common.{◌≡◌, ◌∙◌, ◌+◌, ◌<◌, ◌≤◌, ◌==◌, ◌⊎◌, inl, inr, ℕ, Bool, true, false, cond, nat_eq, List, [], ◌∷◌, Option, Some, None, option_map, if◌then◌else◌, refl, sym, ap, subst, arith, list_any, or-false, nat_tests, In, FactId, Tag, Value, Fact, HeldFacts, facts_of, Program, Step, Modify, is_event, is_reference, IsLawful, World, has_id, only_present, modify_fault, revised, settled, step_fault, with_revised, Marks, NetStands, clean_rows, Rete, Covers, ends_by, ends_of, HasLeft, brought, changed, comes, goes, endless_covers, same_bool, Memory, Setting, Leads, LeadsOn, instant_of, IsNewestTag, newest, over, IsRefreshed, AreForgotten, Awaits, Contents, Mirrors, Runs, Standing, holding, with_facts, reached_of, left_at}
+use Rattle.session_laws.proofs.Common.{◌≡◌, ◌∙◌, ◌+◌, ◌<◌, ◌≤◌, ◌==◌, ◌⊎◌, inl, inr, ℕ, Bool, true, false, cond, nat_eq, List, [], ◌∷◌, Option, Some, None, option_map, if◌then◌else◌, refl, sym, ap, subst, arith, list_any, or-false, nat_tests, In, FactId, Tag, Value, Fact, HeldFacts, facts_of, Program, Step, Modify, is_event, is_reference, IsLawful, World, has_id, only_present, modify_fault, revised, settled, step_fault, with_revised, Marks, NetStands, clean_rows, Rete, Covers, ends_by, ends_of, HasLeft, brought, changed, comes, goes, modify_endless, endless_covers, same_bool, Memory, Setting, Leads, LeadsOn, instant_of, IsNewestTag, newest, over, IsRefreshed, AreForgotten, Awaits, Contents, Mirrors, Runs, Standing, holding, with_facts, reached_of, left_at}
 use Rattle.std.specs.FinMap as map
 use Rattle.rule_world.specs.Worlds.{moved, stepped}
-use Rattle.forgetting.proofs.Agreeing.{modify_endless}
 use Rattle.session_laws.proofs.Exactly.{after_revised}
 use Rattle.session_laws.proofs.Leaving.{one_gone}
 use Rattle.session_laws.proofs.Members.{got_new, got_old, not_out, of_insert}

@@ -1,10 +1,7 @@
 -- Matches, rule by rule, and what the changes of rules do to an agenda.
-use Rattle.session_laws.proofs.Common.{◌≡◌, ◌⊎◌, inl, inr, ℕ, ◌+◌, ◌<◌, ◌≤◌, zero, suc, ◌==◌, ◌&&◌, ◌||◌, not, Bool, true, false, cond, List, [], ◌∷◌, ◌++◌, length, map, slice_get, Option, Some, None, refl, sym, ◌∙◌, ap, subst, append_assoc, arith, Less, AllByRecursion, list_any, eq_by_cmp, nat_cmp, and-true, or-false, nat_tests, append-nil, list_any-append, tells_apart, In, Delta, Named, Row, row_exact, row_cmp, has, or_left, or_right, or_split, Match, Program, Rule, match_cmp, has_match, RuleChange, change_of, Marks, IsChanged, HasLeft, matches_by, only_in, IsRefreshed, AreOfRules}
+use Rattle.session_laws.proofs.Common.{◌≡◌, ◌⊎◌, inl, inr, ℕ, ◌+◌, ◌<◌, ◌≤◌, zero, suc, ◌==◌, ◌&&◌, ◌||◌, not, Bool, true, false, cond, List, [], ◌∷◌, ◌++◌, length, map, slice_get, Option, Some, None, refl, sym, ◌∙◌, ap, subst, append_assoc, arith, Less, AllByRecursion, list_any, eq_by_cmp, nat_cmp, and-true, and-not_self, or-false, nat_tests, append-nil, list_any-append, tells_apart, In, Delta, Named, Row, row_exact, row_cmp, has, or_left, or_right, or_split, Match, Program, Rule, match_of, match_cmp, has_match, match_parts, RuleChange, change_of, IsChange, AreBetween, Marks, IsChanged, HasLeft, matches_by, only_in, IsRefreshed, AreOfRules}
 use Rattle.std.specs.List.Sorted.{IsStrictlySortedBy}
-use Rattle.std.proofs.Math.Bool.{and-not_self}
-use Rattle.rule_model.specs.Matches.{match_of, matches_from}
-use Rattle.rule_model.proofs.Exact.{match_parts}
-use Rattle.rete_net.specs.Nets.{IsChange, AreBetween}
+use Rattle.rule_model.specs.Matches.{matches_from}
 
 flip : (a b : ℕ) (t : Bool) → (a == b) ≡ t → (b == a) ≡ t
 flip a b t e = grind (arith, nat_tests)

@@ -1,10 +1,8 @@
 -- What a session saves is the image of each world for which it stands.
-use Rattle.session_laws.proofs.Common.{◌≡◌, ◌∙◌, ◌≤◌, ℕ, zero, suc, ℤ, pos, Bool, true, false, nat_lt, List, [], ◌∷◌, length, refl, sym, ap, subst, arith, Less, AllByRecursion, nat_cmp, nat_tests, In, Fact, Image, facts_of, from_list, from_map, tags_rise, has_match, match_cmp, moment_in, Reached, World, IsKept, clean, is_forgotten, kept_facts, kept_listed, tag_cmp, match_fired, IsImageOf, ends_by, is_kept, each_tag, sight_of, Memory, Setting, over, Contents, ReachesNoMore, Runs, Standing, reached_of}
+use Rattle.session_laws.proofs.Common.{◌≡◌, ◌∙◌, ◌≤◌, ℕ, zero, suc, ℤ, pos, Bool, true, false, nat_lt, List, [], ◌∷◌, length, refl, sym, ap, subst, arith, slice_index_or, Less, AllByRecursion, nat_cmp, nat_tests, In, Fact, Image, facts_of, from_list, from_map, tags_rise, has_match, match_cmp, moment_in, Reached, World, IsKept, clean, is_forgotten, kept_facts, kept_listed, AreMoments, tag_cmp, match_fired, IsImageOf, ends_by, is_kept, each_tag, sight_of, Memory, Setting, over, Contents, ReachesNoMore, Runs, Standing, reached_of}
 use Rattle.std.proofs.Common.{map as list_map}
-use Rattle.std.specs.Prelude.{slice_index_or}
 use Rattle.std.specs.declared.cmp.Ordering.{Ordering}
 use Rattle.std.specs.List.Sorted.{IsStrictlySortedBy}
-use Rattle.image_laws.specs.Images.{AreMoments}
 use Rattle.session_laws.specs.Saving.{ArePadded, IsSaved}
 use Rattle.session_laws.proofs.Kept_parts.{fired_bits, kept_each}
 use Rattle.session_laws.proofs.Forgotten.{has_all}

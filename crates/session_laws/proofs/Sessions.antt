@@ -1,12 +1,6 @@
 -- What a session answers in the worlds for which it stands, and the session that stands for the empty world.
-use Rattle.session_laws.proofs.Common.{◌≡◌, ℕ, ℤ, pos, ◌&&◌, inl, refl, not, true, false, slice_get, List, [], ◌∷◌, Option, Some, None, is_some, option_map, Result, sym, ◌∙◌, ap, subst, get-empty, nat_cmp, In, Fact, Timers, HeldFacts, facts_of, from_list, Match, Rule, Step, has_match, saliences, Code, World, found, has_pending, Marks, empty_snapshot, NetStands, lingers, ends_by, sight_of, Change, OutLine, No, Yes, FiringAnswers, Memory, Setting, does, Fits, StandsAfter, WritesFor, newest, rows_at, matches_by, over, IsRefreshed, Contents, Runs, Standing, expiry_at, holding, Course, nothing_reached}
-use Rattle.rule_world.specs.Worlds.{empty_world}
-use Rattle.rule_world.proofs.Lawfuls.{empty_lawful}
-use Rattle.pair_memory.specs.Standing.{no_names}
-use Rattle.forgetting.proofs.Stepping.{start_law}
-use Rattle.change_read.specs.Changes.{change_step}
+use Rattle.session_laws.proofs.Common.{◌≡◌, ℕ, ℤ, pos, ◌&&◌, inl, refl, not, true, false, slice_get, List, [], ◌∷◌, Option, Some, None, is_some, option_map, Result, sym, ◌∙◌, ap, subst, get-empty, nat_cmp, In, Fact, Timers, HeldFacts, facts_of, from_list, Match, Rule, Step, has_match, saliences, Code, World, empty_world, found, empty_lawful, has_pending, Marks, no_names, empty_snapshot, NetStands, lingers, ends_by, sight_of, start_law, Change, change_step, OutLine, No, Yes, FiringAnswers, Memory, Setting, does, Fits, StandsAfter, WritesFor, newest, rows_at, no_rows, matches_by, over, IsRefreshed, Contents, Runs, Standing, expiry_at, holding, Course, nothing_reached}
 use Rattle.session_laws.specs.Gives.{version_of, fires, gives}
-use Rattle.session_laws.specs.Refreshed.{no_rows}
 use Rattle.session_laws.proofs.Asking.{change_fits, same_asked}
 use Rattle.session_laws.proofs.Firings.{FiresInto, WritesFiring, top_of, plan_of, due_fires, no_fire, yes_fire}
 use Rattle.session_laws.proofs.Rules.{found_at, is_found}

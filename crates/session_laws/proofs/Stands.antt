@@ -1,7 +1,6 @@
 -- The facts, the clock and the numbers of a session, of which none is forgotten, are those of the world after a step.
-use Rattle.session_laws.proofs.Common.{filter, ◌≡◌, ℕ, ℤ, ◌+◌, ◌<◌, if◌then◌else◌, ◌==◌, ◌||◌, Bool, true, false, List, [], ◌∷◌, ◌++◌, Option, Some, None, refl, sym, ◌∙◌, ap, subst, arith, In, FactId, Tag, TypeId, Value, Fact, Timers, TakesDue, HeldFacts, Program, Modify, is_present, HaveDistinctTags, is_event, is_reference, of_filter, in_filter, passed, Code, EventFixed, ReferenceFixed, end_of_presence, World, at_clock, only_present, modify_fault, is_of_type, revised, revised_in, settled, with_new, with_revised, AllBelow, below_of, distinct_filtered, with_numbers, without, without_fact, others, Marks, IsNewestTag, newest, with_timer, without_timer, left_at, Contents, Mirrors, expiry_at, Course, reached_by, fun_ext, Reached, moment_in}
-use Rattle.rule_world.specs.Worlds.{last_start_with, moved}
-use Rattle.rule_world.proofs.Fresh.{distinct_more}
+use Rattle.session_laws.proofs.Common.{filter, ◌≡◌, ℕ, ℤ, ◌+◌, ◌<◌, if◌then◌else◌, ◌==◌, ◌||◌, Bool, true, false, List, [], ◌∷◌, ◌++◌, Option, Some, None, refl, sym, ◌∙◌, ap, subst, arith, In, FactId, Tag, TypeId, Value, Fact, Timers, TakesDue, HeldFacts, Program, Modify, is_present, HaveDistinctTags, is_event, is_reference, of_filter, in_filter, passed, Code, EventFixed, ReferenceFixed, end_of_presence, World, at_clock, only_present, modify_fault, is_of_type, last_start_with, revised, revised_in, settled, with_new, with_revised, AllBelow, below_of, distinct_more, distinct_filtered, with_numbers, without, without_fact, others, Marks, IsNewestTag, newest, with_timer, without_timer, left_at, Contents, Mirrors, expiry_at, Course, reached_by, fun_ext, Reached, moment_in}
+use Rattle.rule_world.specs.Worlds.{moved}
 use Rattle.rule_world.proofs.Steps.{move_numbered, numbered}
 use Rattle.session_laws.proofs.Exactly.{Exact}
 use Rattle.session_laws.proofs.Members.{Holds, holds_less, holds_new, holds_revised, swapped, versions}

@@ -1,8 +1,7 @@
 -- Facts that are put under their tags, and what waits for each.
-use Rattle.session_laws.proofs.Common.{◌≡◌, ◌∙◌, ◌⊎◌, inl, inr, ℕ, ℤ, ◌==◌, ◌&&◌, not, Bool, true, false, cond, is_some, List, [], ◌∷◌, Option, Some, None, refl, sym, ap, subst, arith, get-empty, option_and_then, nat_cmp, nat_tests, In, Tag, Fact, Timers, HeldFacts, tag_of, LifeTable, Program, HaveDistinctTags, in_map, end_of_presence, Retention, lingers, ends_by, stored, AreHeld, AreStorable, expiry_at, with_timer}
+use Rattle.session_laws.proofs.Common.{◌≡◌, ◌∙◌, ◌⊎◌, inl, inr, ℕ, ℤ, ◌==◌, ◌&&◌, not, Bool, true, false, cond, is_some, List, [], ◌∷◌, Option, Some, None, refl, sym, ap, subst, arith, get-empty, option_and_then, nat_cmp, nat_tests, In, Tag, Fact, Timers, HeldFacts, tag_of, LifeTable, Program, HaveDistinctTags, in_map, end_of_presence, Retention, lingers, ends_by, all_held, stored, AreHeld, AreStorable, expiry_at, with_timer}
 use Rattle.std.proofs.Common.{map as list_map}
 use Rattle.std.specs.FinMap as map
-use Rattle.session_laws.specs.Restoring.{all_held}
 use Rattle.session_laws.proofs.Members.{Holds, got_new, got_old, of_insert}
 use Rattle.session_laws.proofs.Timers.{timed_new}
 

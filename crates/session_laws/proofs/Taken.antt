@@ -1,7 +1,5 @@
 -- A step whose first phase is done awaits the second.
-use Rattle.session_laws.proofs.Common.{◌≡◌, ◌∙◌, sym, ap, refl, subst, ℕ, ◌&&◌, not, Bool, true, false, List, None, facts_of, Row, Match, Rule, Step, matches, has_match, World, snapshot, stepped, step_fault, and_both, and_parts, clean_rows, Covers, clean, flagged, IsLawfulStep, Lives, Sight, ends_by, ends_of, each_tag, is_kept, is_clean, sight_of, comes, goes, Memory, Setting, over, matches_by, only_in, Contents, Runs, Seen, Standing, holding, with_facts, reached_of}
-use Rattle.forgetting.specs.Steps.{Takes}
-use Rattle.forgetting.proofs.Closing.{world_step_kept}
+use Rattle.session_laws.proofs.Common.{◌≡◌, ◌∙◌, sym, ap, refl, subst, ℕ, ◌&&◌, not, Bool, true, false, List, None, facts_of, Row, Match, Rule, Step, matches, has_match, World, snapshot, stepped, step_fault, and_both, and_parts, clean_rows, Covers, clean, flagged, IsLawfulStep, Lives, Sight, ends_by, ends_of, each_tag, is_kept, is_clean, Takes, sight_of, comes, goes, world_step_kept, Memory, Setting, over, matches_by, only_in, Contents, Runs, Seen, Standing, holding, with_facts, reached_of}
 use Rattle.session_laws.proofs.Clean.{clean_matches, clean_kept, clean_next, clean_was, whole_matches}
 use Rattle.session_laws.proofs.Phases.{IsTaken, TakenAwaits}
 use Rattle.std.specs.FinMap as map

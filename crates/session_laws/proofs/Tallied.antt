@@ -1,19 +1,14 @@
 -- What a store counts by types is what is kept of each world for which the session stands.
-use Rattle.session_laws.proofs.Common.{◌≡◌, ◌∙◌, sym, ap, refl, ℕ, ◌==◌, ◌&&◌, ◌||◌, inl, inr, List, [], ◌∷◌, map, length, Bool, true, false, cond, Option, Some, None, arith, subst, HaveDistinctIds, in_map, FactId, list_any, AllByRecursion, filter, nat_tests, In, Fact, TypeId, HeldFacts, CountsType, Program, of_filter, in_filter, passed, World, kept_facts, only, fact_at, same_kept, at_filter, fact_in, own_at, Memory, Setting, AreCounts, Contents, Runs, Standing}
-use Rattle.rule_model.specs.Types.{event_types}
+use Rattle.session_laws.proofs.Common.{◌≡◌, ◌∙◌, sym, ap, refl, ℕ, ◌==◌, ◌&&◌, ◌||◌, inl, inr, List, [], ◌∷◌, map, length, Bool, true, false, cond, Option, Some, None, arith, subst, event_types, HaveDistinctIds, in_map, FactId, list_any, AllByRecursion, filter, nat_tests, length-map, exact_unsigned_eq, In, Fact, TypeId, HeldFacts, CountsType, is_of, Program, of_filter, in_filter, passed, World, ids_filtered, id_of, kept_facts, only, fact_at, same_kept, at_filter, fact_in, own_at, Memory, Setting, AreCounts, facts_of_type, Contents, Runs, Standing}
 use Rattle.std.specs.Prelude.{nat_eq}
 use Rattle.std.specs.List.{IsDistinct}
 use Rattle.std.specs.FinMap as map_of
-use Rattle.std.proofs.lemmas.List.{length-map}
 use Rattle.std.proofs.lemmas.Map.Made.{length-from_same_keys}
-use Rattle.std.proofs.lemmas.Map.Views.{exact_unsigned_eq}
-use Rattle.fact_store.specs.Held.{is_of}
 use Rattle.fact_store.specs.Ids.{AreIds}
 use Rattle.fact_store.proofs.Counting.{torn, eq_self, both_true, or_true, nat_equiv}
-use Rattle.rule_world.proofs.Ids.{ids_filtered, id_of}
 use Rattle.keeping.specs.Kept.{is_kept}
 use Rattle.engine.specs.Counts.{HasEach}
-use Rattle.session_laws.specs.Counts.{facts_of_type, held_counts}
+use Rattle.session_laws.specs.Counts.{held_counts}
 use Rattle.session_laws.proofs.Members.{Holds}
 
 -- ---- the ids of facts

@@ -1,8 +1,7 @@
 -- Steps that are possible, or refused, one after the other.
-use Rattle.session_laws.proofs.Common.{◌≡◌, inr, ℕ, List, [], ◌∷◌, ◌++◌, length, Some, None, Result, Ok, Err, refl, sym, ◌∙◌, ap, subst, append_assoc, arith, OnOk, append-nil, Code, Program, Step, IsOrdered, World, step_fault, stepped, step_lawful, Stays, same_stays, stays_on, OutLine, Memory, Setting, does, step_lines, tries_with, AllFit, StandsAfter, WritesFor, Contents, Standing}
-use Rattle.engine.specs.declared.lines.OutLine.TheVariants.{Fault}
-use Rattle.session_laws.specs.Gives.{does_all, refused, tries}
-use Rattle.session_laws.specs.Leading.{Moves, Suits, Tries, Writes}
+use Rattle.session_laws.proofs.Common.{◌≡◌, inr, ℕ, List, [], ◌∷◌, ◌++◌, length, Some, None, Result, Ok, Err, refl, sym, ◌∙◌, ap, subst, append_assoc, arith, OnOk, append-nil, Code, Program, Step, IsOrdered, World, step_fault, stepped, step_lawful, Stays, same_stays, stays_on, OutLine, Fault, Memory, Setting, does, refused, step_lines, tries, tries_with, AllFit, StandsAfter, Suits, Tries, Writes, WritesFor, Contents, Standing}
+use Rattle.session_laws.specs.Gives.{does_all}
+use Rattle.session_laws.specs.Leading.{Moves}
 use Rattle.session_laws.proofs.Doing.{does_stays, next_fits}
 
 -- a step without a fault is done, and one with a fault is refused

@@ -1,5 +1,4 @@
-use Rattle.drl_check.proofs.Common.{◌≡◌, ◌+◌, ◌≤◌, drop, begin}
-use Rattle.drl_sight.specs.Sight.{behind_all}
+use Rattle.drl_check.proofs.Common.{◌≡◌, ◌+◌, ◌≤◌, drop, begin, behind_all}
 use Rattle.drl_check.proofs.events.behind_conditions.Given as goal
 
 abbrev pub invariant-loop-condition : goal.invariant-loop-condition

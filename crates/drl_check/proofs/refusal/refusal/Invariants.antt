@@ -1,5 +1,4 @@
-use Rattle.drl_check.proofs.Common.{◌≡◌, [], take, drop, types_of, rules_of, type_names, rule_names, declared_entries, entry_names}
-use Rattle.drl_check.specs.Checks.{failure_from}
+use Rattle.drl_check.proofs.Common.{◌≡◌, [], take, drop, types_of, rules_of, type_names, rule_names, declared_entries, entry_names, failure_from}
 use Rattle.drl_check.proofs.refusal.refusal.Given as goal
 
 abbrev pub invariant-loop-place : goal.invariant-loop-place

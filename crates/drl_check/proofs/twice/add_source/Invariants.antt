@@ -1,5 +1,4 @@
-use Rattle.drl_check.proofs.Common.{◌≡◌, ◌++◌, drop, flat_map}
-use Rattle.drl_check.specs.Twice.{part_variable, source_variables}
+use Rattle.drl_check.proofs.Common.{◌≡◌, ◌++◌, drop, flat_map, part_variable, source_variables}
 use Rattle.drl_check.proofs.twice.add_source.Given as goal
 
 abbrev pub invariant-loop-part : goal.invariant-loop-part

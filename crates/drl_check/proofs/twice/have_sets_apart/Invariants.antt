@@ -1,5 +1,4 @@
-use Rattle.drl_check.proofs.Common.{◌≡◌, drop, list_all}
-use Rattle.drl_check.specs.Twice.{assigns_once}
+use Rattle.drl_check.proofs.Common.{◌≡◌, drop, list_all, assigns_once}
 use Rattle.drl_check.proofs.twice.have_sets_apart.Given as goal
 
 abbrev pub invariant-loop-action : goal.invariant-loop-action

@@ -1,5 +1,4 @@
-use Rattle.drl_check.proofs.Common.{◌≡◌, ◌++◌, drop}
-use Rattle.drl_check.specs.Twice.{set_names}
+use Rattle.drl_check.proofs.Common.{◌≡◌, ◌++◌, drop, set_names}
 use Rattle.drl_check.proofs.twice.names_of_sets.Given as goal
 
 abbrev pub invariant-loop-set : goal.invariant-loop-set

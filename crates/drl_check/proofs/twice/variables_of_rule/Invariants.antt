@@ -1,5 +1,4 @@
-use Rattle.drl_check.proofs.Common.{◌≡◌, ◌++◌, drop, flat_map}
-use Rattle.drl_check.specs.Twice.{bound_in, bound_variables}
+use Rattle.drl_check.proofs.Common.{◌≡◌, ◌++◌, drop, flat_map, bound_in, bound_variables}
 use Rattle.drl_check.proofs.twice.variables_of_rule.Given as goal
 
 abbrev pub invariant-loop-condition : goal.invariant-loop-condition

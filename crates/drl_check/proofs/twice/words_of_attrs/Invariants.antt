@@ -1,5 +1,4 @@
-use Rattle.drl_check.proofs.Common.{◌≡◌, ◌++◌, map, drop}
-use Rattle.drl_check.specs.Twice.{attr_word}
+use Rattle.drl_check.proofs.Common.{◌≡◌, ◌++◌, map, drop, attr_word}
 use Rattle.drl_check.proofs.twice.words_of_attrs.Given as goal
 
 abbrev pub invariant-loop-attr : goal.invariant-loop-attr

@@ -1,6 +1,6 @@
-use Rattle.replay.proofs.Common.{sym, ap, subst, ◌∙◌, Checkpoint}
+use Rattle.replay.proofs.Common.{sym, ap, subst, ◌∙◌, Checkpoint, checkpoint_of, Tells}
 use Rattle.std.proofs.lemmas.Result.{IfOk-weaker, IfErr-weaker}
-use Rattle.replay.specs.Checkpoints.{checkpoint_of, image_limit, Tells}
+use Rattle.replay.specs.Checkpoints.{image_limit}
 use Rattle.replay.proofs.Reports.{image_found}
 use Rattle.replay.proofs.checkpoint_file.read_image.Goals as goal
 

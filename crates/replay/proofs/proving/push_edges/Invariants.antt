@@ -1,5 +1,4 @@
-use Rattle.replay.proofs.Common.{◌≡◌, ◌++◌, take, flat_map}
-use Rattle.replay.specs.Certificates.{edge_text}
+use Rattle.replay.proofs.Common.{◌≡◌, ◌++◌, take, flat_map, edge_text}
 use Rattle.replay.proofs.proving.push_edges.Given as goal
 
 abbrev pub invariant-loop-edge : goal.invariant-loop-edge

@@ -1,5 +1,4 @@
-use Rattle.replay.proofs.Common.{◌≡◌, ◌++◌, take, flat_map}
-use Rattle.replay.specs.Certificates.{part_text}
+use Rattle.replay.proofs.Common.{◌≡◌, ◌++◌, take, flat_map, part_text}
 use Rattle.replay.proofs.proving.push_parts.Given as goal
 
 abbrev pub invariant-loop-part : goal.invariant-loop-part

@@ -1,5 +1,4 @@
-use Rattle.replay.proofs.Common.{◌≡◌, ◌++◌, length, drop}
-use Rattle.replay.specs.Titles.{renamed}
+use Rattle.replay.proofs.Common.{◌≡◌, ◌++◌, length, drop, renamed}
 use Rattle.replay.proofs.rule_file.renamed.Given as goal
 
 abbrev pub invariant-loop-rule : goal.invariant-loop-rule

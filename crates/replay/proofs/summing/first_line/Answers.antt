@@ -1,5 +1,4 @@
-use Rattle.replay.proofs.Common.{length, arith}
-use Rattle.std.proofs.lemmas.List.{drop_all, take_rest}
+use Rattle.replay.proofs.Common.{length, arith, drop_all, take_rest}
 use Rattle.replay.proofs.Counted.{line_at, one_line}
 use Rattle.replay.proofs.summing.first_line.Goals as goal
 

@@ -1,8 +1,5 @@
-use Rattle.replay.proofs.Common.{◌≡◌, ℕ, List, Some, Err, sym, subst, ap, ◌∙◌, inl, inr, refl, option_map, arith, RuleFile, Accepted, Refused, wanted_told, reading, refuses, refuses_checkpoint, rules_in, wanted_at, wanted_from, IsUnread}
+use Rattle.replay.proofs.Common.{◌≡◌, ℕ, List, Some, Err, sym, subst, ap, ◌∙◌, inl, inr, refl, option_map, arith, RuleFile, Accepted, Refused, seen_of_shelf, wanted_told, rules_of, reading, refuses, refuses_checkpoint, rules_in, wanted_at, wanted_from, wanted_by_name, IsUnread}
 use Rattle.drl_parse.specs.Parsed.{file_limit}
-use Rattle.replay.specs.Calls.{seen_of_shelf}
-use Rattle.replay.specs.Checkpoints.{rules_of}
-use Rattle.replay.specs.Wanted.{wanted_by_name}
 use Rattle.replay.proofs.Calls.{by_told, told_is, refused_done, refuses_since, rose_since, checkpoint_done, nothing_done, not_refused}
 use Rattle.replay.proofs.Reports.{no_file, a_file, accepted_file, refused_file}
 use Rattle.replay.proofs.ImagesRead.{unread_at}

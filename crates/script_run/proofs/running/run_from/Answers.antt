@@ -1,5 +1,4 @@
-use Rattle.script_run.proofs.Common.{◌≡◌, ◌^◌, ◌++◌, true, false, not, [], take, arith, sym, ap, ◌∙◌, refl, append, AppendsFront, Goes, Stops, setting_of, state_in, at_end, at_limit, run}
-use Rattle.fx_io.specs.Lines.{lines_of, lines_ahead}
+use Rattle.script_run.proofs.Common.{◌≡◌, ◌^◌, ◌++◌, true, false, not, [], take, arith, sym, ap, ◌∙◌, refl, append, AppendsFront, lines_of, lines_ahead, Goes, Stops, setting_of, state_in, at_end, at_limit, run}
 use Rattle.fx_io.specs.Reader.{Reader}
 use Rattle.script_run.specs.declared.fault.RunFault.TheVariants.{NoMemory, WriteFault}
 use Rattle.script_run.proofs.Ahead.{goes_further, ends_there, flushed, all_done, no_line, no_more, run_ended, stopped, stopped_in, stopped_at_read, long_run, told_err, if_told, at_start, moves_on, flushed_front, written_then, append_nothing}

@@ -1,5 +1,4 @@
-use Rattle.script_run.proofs.Common.{◌≡◌, ◌≤◌, ◌+◌, ◌*◌, ◌^◌, ℕ, List, None, append, prepend, count_after, total_told, World, setting_of, state_in, run}
-use Rattle.fx_io.specs.Lines.{to_come}
+use Rattle.script_run.proofs.Common.{◌≡◌, ◌≤◌, ◌+◌, ◌*◌, ◌^◌, ℕ, List, None, append, prepend, count_after, total_told, to_come, World, setting_of, state_in, run}
 use Rattle.script_run.proofs.Ahead.{SoFar}
 use Rattle.script_run.proofs.running.run_from.Given as goal
 

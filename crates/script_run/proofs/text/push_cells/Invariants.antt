@@ -1,5 +1,4 @@
-use Rattle.script_run.proofs.Common.{◌≡◌, ◌++◌, take, flat_map}
-use Rattle.script_run.specs.Texts.{cell_text}
+use Rattle.script_run.proofs.Common.{◌≡◌, ◌++◌, take, flat_map, cell_text}
 use Rattle.script_run.proofs.text.push_cells.Given as goal
 
 abbrev pub invariant-loop-cell : goal.invariant-loop-cell

@@ -1,5 +1,4 @@
-use Rattle.script_run.proofs.Common.{◌≡◌, ◌++◌, take, flat_map}
-use Rattle.script_run.specs.Texts.{quoted_byte}
+use Rattle.script_run.proofs.Common.{◌≡◌, ◌++◌, take, flat_map, quoted_byte}
 use Rattle.script_run.proofs.text.push_quoted.Given as goal
 
 abbrev pub invariant-loop-b : goal.invariant-loop-b

@@ -1,5 +1,4 @@
-use Rattle.session.proofs.Common.{◌<◌, length, TypeId}
-use Rattle.std.proofs.lemmas.List.{take_more}
+use Rattle.session.proofs.Common.{◌<◌, length, take_more, TypeId}
 use Rattle.session_laws.proofs.Counting_on.{one_more_count}
 use Rattle.session.proofs.counting.counts_of.Goals as goal
 

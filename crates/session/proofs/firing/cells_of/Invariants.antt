@@ -1,5 +1,4 @@
-use Rattle.session.proofs.Common.{◌≡◌, ◌++◌, drop}
-use Rattle.session_laws.specs.Gives.{cells}
+use Rattle.session.proofs.Common.{◌≡◌, ◌++◌, drop, cells}
 use Rattle.session.proofs.firing.cells_of.Given as goal
 
 abbrev pub invariant-loop-condition : goal.invariant-loop-condition

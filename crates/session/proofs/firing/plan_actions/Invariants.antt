@@ -1,5 +1,4 @@
-use Rattle.session.proofs.Common.{◌≡◌, ◌++◌, drop}
-use Rattle.session_laws.specs.Places.{planned}
+use Rattle.session.proofs.Common.{◌≡◌, ◌++◌, drop, planned}
 use Rattle.session.proofs.firing.plan_actions.Given as goal
 
 abbrev pub invariant-loop-action : goal.invariant-loop-action

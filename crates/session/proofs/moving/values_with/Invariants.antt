@@ -1,5 +1,4 @@
-use Rattle.session.proofs.Common.{◌≡◌}
-use Rattle.rule_world.specs.Worlds.{with_values}
+use Rattle.session.proofs.Common.{◌≡◌, with_values}
 use Rattle.session.proofs.moving.values_with.Given as goal
 
 -- the sets that are left lead to the end

@@ -1,8 +1,6 @@
-use Rattle.session.proofs.Common.{◌≡◌, ◌∙◌, List, filter_map, option_map, refl, sym, subst, length, Fact, lent}
+use Rattle.session.proofs.Common.{◌≡◌, ◌∙◌, List, filter_map, option_map, refl, sym, subst, length, Fact, lent, clean_rows, facts_at, instant_at}
 use Rattle.pattern_gate.specs.Moves.{Moves}
 use Rattle.rete_net.specs.Forgetting.{AreNotNeeded}
-use Rattle.rete_net.specs.Nets.{clean_rows}
-use Rattle.session_laws.specs.Following.{facts_at, instant_at}
 use Rattle.session_laws.proofs.Leads.{found_going, has_before, has_behind, leads_move, on_ok}
 use Rattle.session.proofs.refreshing.followed.Goals as goal
 use Rattle.std.specs.FinMap as map

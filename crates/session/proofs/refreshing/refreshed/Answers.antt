@@ -1,5 +1,4 @@
-use Rattle.session.proofs.Common.{◌≡◌, ◌∙◌, ◌||◌, List, [], ap, sym, subst, In, Row, is_among, none_left, all_made, none_made, nothing_left}
-use Rattle.session_laws.proofs.Rules.{change_turn, none_ahead, names_in, left_turn, rules_turn}
+use Rattle.session.proofs.Common.{◌≡◌, ◌∙◌, ◌||◌, List, [], ap, sym, subst, In, Row, is_among, none_left, all_made, change_turn, none_ahead, names_in, left_turn, none_made, nothing_left, rules_turn}
 use Rattle.session.proofs.refreshing.refreshed.Goals as goal
 
 pub loop-change-init : goal.loop-change-init

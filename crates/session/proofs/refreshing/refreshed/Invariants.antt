@@ -1,6 +1,4 @@
-use Rattle.session.proofs.Common.{ℕ, ◌<◌, List, In, Row, Program, Rule, RuleChange, is_among, HasLeft, AreOfRules}
-use Rattle.rete_net.specs.Nets.{AreBetween}
-use Rattle.session_laws.proofs.Rules.{AreAhead}
+use Rattle.session.proofs.Common.{ℕ, ◌<◌, List, In, Row, Program, Rule, RuleChange, AreBetween, is_among, HasLeft, AreOfRules, AreAhead}
 use Rattle.session.proofs.refreshing.refreshed.Given as goal
 
 abbrev pub invariant-loop-change : goal.invariant-loop-change

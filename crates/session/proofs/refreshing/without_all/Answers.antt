@@ -1,4 +1,4 @@
-use Rattle.session_laws.proofs.Leaving.{turn_gone}
+use Rattle.session.proofs.Common.{turn_gone}
 use Rattle.session.proofs.refreshing.without_all.Goals as goal
 
 pub loop-tag-preserved : goal.loop-tag-preserved

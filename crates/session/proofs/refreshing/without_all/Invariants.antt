@@ -1,4 +1,4 @@
-use Rattle.session_laws.proofs.Leaving.{AreGone}
+use Rattle.session.proofs.Common.{AreGone}
 use Rattle.session.proofs.refreshing.without_all.Given as goal
 
 abbrev pub invariant-loop-tag : goal.invariant-loop-tag

@@ -1,6 +1,4 @@
-use Rattle.session.proofs.Common.{◌≡◌, ◌==◌, ◌&&◌, ◌||◌, not, true, false, List, take, sym, subst, rules, eq_by_cmp, Row, FiredMatch, Match, has_match, AreMarking, next_taken}
-use Rattle.row_delta.specs.Rows.{row_cmp}
-use Rattle.session_laws.proofs.Adding.{in_at, one_marked}
+use Rattle.session.proofs.Common.{◌≡◌, ◌==◌, ◌&&◌, ◌||◌, not, true, false, List, take, sym, subst, rules, eq_by_cmp, Row, row_cmp, FiredMatch, Match, has_match, AreMarking, in_at, next_taken, one_marked}
 use Rattle.session.proofs.restoring.with_fired.Goals as goal
 
 pub returns-then-not-contains-clause-unfit : goal.returns-then-not-contains-clause-unfit

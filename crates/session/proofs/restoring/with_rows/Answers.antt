@@ -1,5 +1,4 @@
-use Rattle.session.proofs.Common.{◌≡◌, ◌∙◌, refl, nothing_left}
-use Rattle.session_laws.proofs.Adding.{added_pending, added_turn, none_added}
+use Rattle.session.proofs.Common.{◌≡◌, ◌∙◌, refl, added_pending, added_turn, none_added, nothing_left}
 use Rattle.session.proofs.restoring.with_rows.Goals as goal
 
 pub loop-change-init : goal.loop-change-init

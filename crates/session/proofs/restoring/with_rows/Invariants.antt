@@ -1,6 +1,4 @@
-use Rattle.session.proofs.Common.{◌≡◌}
-use Rattle.session_laws.specs.Restoring.{NoneGo}
-use Rattle.session_laws.proofs.Adding.{AreAdding}
+use Rattle.session.proofs.Common.{◌≡◌, NoneGo, AreAdding}
 use Rattle.session.proofs.restoring.with_rows.Given as goal
 
 abbrev pub invariant-loop-change : goal.invariant-loop-change

@@ -1,6 +1,4 @@
-use Rattle.session.proofs.Common.{◌≡◌, ◌∙◌, List, Err, ap, Rule, lent, saliences, residual_unfit}
-use Rattle.session_laws.proofs.Matched.{fired_refuses, matched_is, row_refuses}
-use Rattle.session_laws.proofs.Restored.{kept_in_order}
+use Rattle.session.proofs.Common.{◌≡◌, ◌∙◌, List, Err, ap, Rule, lent, saliences, fired_refuses, matched_is, residual_unfit, row_refuses, kept_in_order}
 use Rattle.session.proofs.saving.matched.Goals as goal
 
 pub returns-in-Ok-clause-matched : goal.returns-in-Ok-clause-matched

@@ -1,7 +1,4 @@
-use Rattle.session.proofs.Common.{◌≡◌, ◌∙◌, ℤ, List, [], length, Err, sym, ap, subst, to_z, of_z, w64, rules, Marks, has_tag, is_among, is_named, Passes, stored, clock_same, no_keys, residual_unfit}
-use Rattle.session_laws.specs.Restoring.{AreStorable, IsMatched}
-use Rattle.session_laws.proofs.Matched.{image_safe, old_refuses, restored_is, some_key}
-use Rattle.session_laws.proofs.Restored.{storable}
+use Rattle.session.proofs.Common.{◌≡◌, ◌∙◌, ℤ, List, [], length, Err, sym, ap, subst, to_z, of_z, w64, rules, Marks, has_tag, is_among, is_named, Passes, stored, AreStorable, IsMatched, clock_same, no_keys, image_safe, old_refuses, residual_unfit, restored_is, some_key, storable}
 use Rattle.session.proofs.OfImage.{are_of_image}
 use Rattle.session.proofs.saving.restored.Goals as goal
 

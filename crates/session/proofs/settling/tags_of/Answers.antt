@@ -1,5 +1,4 @@
-use Rattle.session.proofs.Common.{◌≡◌, ◌∙◌, ap, nat_eq, rules, list_any}
-use Rattle.session_laws.proofs.Olds.{same_tags}
+use Rattle.session.proofs.Common.{◌≡◌, ◌∙◌, ap, nat_eq, rules, list_any, same_tags}
 use Rattle.session.proofs.settling.tags_of.Goals as goal
 
 pub returns : goal.returns

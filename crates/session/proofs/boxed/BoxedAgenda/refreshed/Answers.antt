@@ -1,7 +1,5 @@
-use Rattle.session.proofs.Common.{◌≡◌, ◌∙◌, ◌==◌, ℕ, Bool, List, [], true, sym, subst, arith, length, RuleChange, Marks, AreOfRules, all_made, none_made, nothing_left}
+use Rattle.session.proofs.Common.{◌≡◌, ◌∙◌, ◌==◌, ℕ, Bool, List, [], true, sym, subst, arith, length, RuleChange, Marks, IsRefreshed, AreOfRules, AreMade, all_made, none_made, nothing_left}
 use Rattle.std.proofs.lemmas.Bool.Decides.{nat_tests}
-use Rattle.session_laws.specs.Refreshed.{IsRefreshed}
-use Rattle.session_laws.proofs.Rules.{AreMade}
 use Rattle.session.proofs.boxed.BoxedAgenda.refreshed.Goals as goal
 
 -- a count that is tested to be none

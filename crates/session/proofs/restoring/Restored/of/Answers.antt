@@ -1,6 +1,4 @@
-use Rattle.session.proofs.Common.{◌≡◌, ◌∙◌, ◌∷◌, List, inl, refl, sym, ap, subst, Fact, nothing_left, ArePut}
-use Rattle.session_laws.specs.Restoring.{all_held}
-use Rattle.session_laws.proofs.Storing.{none_put, none_waits, one_put}
+use Rattle.session.proofs.Common.{◌≡◌, ◌∙◌, ◌∷◌, List, inl, refl, sym, ap, subst, Fact, all_held, nothing_left, ArePut, none_put, none_waits, one_put}
 use Rattle.session.proofs.restoring.Restored.of.Goals as goal
 
 pub loop-fact-init : goal.loop-fact-init

@@ -1,5 +1,4 @@
-use Rattle.session_laws.specs.Restoring.{AreHeld}
-use Rattle.session.proofs.Common.{ArePut}
+use Rattle.session.proofs.Common.{AreHeld, ArePut}
 use Rattle.session.proofs.restoring.Restored.of.Given as goal
 
 abbrev pub invariant-loop-fact : goal.invariant-loop-fact

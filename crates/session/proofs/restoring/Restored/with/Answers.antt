@@ -1,4 +1,4 @@
-use Rattle.session_laws.proofs.Storing.{one_more_held}
+use Rattle.session.proofs.Common.{one_more_held}
 use Rattle.session.proofs.restoring.Restored.with.Goals as goal
 
 pub returns-clause-held : goal.returns-clause-held

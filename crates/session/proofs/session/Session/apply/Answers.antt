@@ -1,7 +1,4 @@
-use Rattle.session.proofs.Common.{◌≡◌, ◌∙◌, true, sym, ap, subst, ∥∥₁_map, are_known, Memory, Setting, newest, IsSound, Standing}
-use Rattle.session_laws.specs.Gives.{gives}
-use Rattle.session_laws.proofs.Knowing.{asked_known}
-use Rattle.session_laws.proofs.Sessions.{change_lines, change_stands}
+use Rattle.session.proofs.Common.{◌≡◌, ◌∙◌, true, sym, ap, subst, ∥∥₁_map, are_known, Memory, Setting, gives, newest, IsSound, Standing, asked_known, change_lines, change_stands}
 use Rattle.session.proofs.session.Session.apply.Goals as goal
 
 pub returns-clause-lines : goal.returns-clause-lines

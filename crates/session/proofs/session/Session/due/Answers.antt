@@ -1,5 +1,4 @@
-use Rattle.session.proofs.Common.{◌∙◌, ap, is_some}
-use Rattle.session_laws.proofs.Sessions.{is_due, some_mapped}
+use Rattle.session.proofs.Common.{◌∙◌, ap, is_some, is_due, some_mapped}
 use Rattle.session.proofs.session.Session.due.Goals as goal
 
 pub returns : goal.returns

@@ -1,9 +1,6 @@
-use Rattle.session.proofs.Common.{◌≡◌, true, sym, ap, subst, ∥∥₁_map, are_known, Memory, Setting, IsSound, Standing}
+use Rattle.session.proofs.Common.{◌≡◌, true, sym, ap, subst, ∥∥₁_map, are_known, Memory, Setting, fires, IsSound, Standing, merely_known, top_known, fires_none, fires_some}
 use Rattle.engine.specs.Answers.{FiringAnswers}
 use Rattle.engine.specs.declared.lines.Fired.TheVariants.{No, Yes}
-use Rattle.session_laws.specs.Gives.{fires}
-use Rattle.session_laws.proofs.Knowing.{merely_known, top_known}
-use Rattle.session_laws.proofs.Sessions.{fires_none, fires_some}
 use Rattle.session.proofs.session.Session.fire_one.Goals as goal
 
 pub returns-in-None-clause-answers : goal.returns-in-None-clause-answers

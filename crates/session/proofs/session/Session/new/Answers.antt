@@ -1,11 +1,5 @@
-use Rattle.session.proofs.Common.{[], pos, rules, subst, sym, merely, Memory, Standing}
-use Rattle.pair_memory.specs.Standing.{no_names}
-use Rattle.session_laws.specs.Refreshed.{no_rows, rows_at}
-use Rattle.rule_world.specs.Worlds.{empty_world}
-use Rattle.session_laws.proofs.Knowing.{none_more, standing_sound}
-use Rattle.session_laws.proofs.Sessions.{empty_stands, from_parts}
+use Rattle.session.proofs.Common.{[], pos, rules, subst, sym, merely, no_names, no_rows, rows_at, empty_world, Memory, Standing, none_more, standing_sound, empty_stands, from_parts, nothing_reached}
 use Rattle.session.proofs.session.Session.new.Goals as goal
-use Rattle.rule_model.specs.Snapshots.{nothing_reached}
 
 pub returns-clause-stands : goal.returns-clause-stands
 returns-clause-stands c =

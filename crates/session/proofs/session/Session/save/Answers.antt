@@ -1,6 +1,5 @@
-use Rattle.session.proofs.Common.{◌≡◌, ◌∙◌, List, length, ap, subst, IfOk-weaker, Memory, Setting, IsSaved, Runs}
+use Rattle.session.proofs.Common.{◌≡◌, ◌∙◌, List, length, ap, subst, IfOk-weaker, Memory, Setting, IsSaved, Runs, merely_no_more}
 use Rattle.rule_model.specs.declared.program.EntryInfo.{EntryInfo}
-use Rattle.session_laws.proofs.Matched.{merely_no_more}
 use Rattle.session_laws.proofs.Saved.{saved_image}
 use Rattle.session.proofs.session.Session.save.Goals as goal
 

@@ -1,6 +1,4 @@
-use Rattle.session.proofs.Common.{◌≡◌, ◌+ℤ◌, Some, None, refl, sym, ◌∙◌, ap, subst, to_z, of_z, to_z-of_z, w64, IfOk-weaker, At, clock_fault, Moves, Contents, clock_same, no_lines, on_ok, on_ok_weaker, refused_lines, refused_tries, tried_done}
-use Rattle.rule_model.specs.declared.step.Step.TheVariants.{Advance}
-use Rattle.session_laws.proofs.Faults.{advance_fault, advance_moves, moved_same}
+use Rattle.session.proofs.Common.{◌≡◌, ◌+ℤ◌, Some, None, refl, sym, ◌∙◌, ap, subst, to_z, of_z, to_z-of_z, w64, IfOk-weaker, Advance, At, clock_fault, Moves, Contents, advance_fault, advance_moves, clock_same, moved_same, no_lines, on_ok, on_ok_weaker, refused_lines, refused_tries, tried_done}
 use Rattle.session.proofs.state.State.advance.Goals as goal
 
 pub returns-in-Ok-clause-stands : goal.returns-in-Ok-clause-stands

@@ -1,5 +1,4 @@
-use Rattle.session.proofs.Common.{IfOk-weaker, on_ok_weaker}
-use Rattle.session_laws.proofs.Tried.{refused_stands, refused_writes, tried_stands, tried_writes}
+use Rattle.session.proofs.Common.{IfOk-weaker, on_ok_weaker, refused_stands, refused_writes, tried_stands, tried_writes}
 use Rattle.session.proofs.state.State.apply.Goals as goal
 
 pub returns-in-Ok-clause-stands : goal.returns-in-Ok-clause-stands

@@ -1,6 +1,6 @@
-use Rattle.session.proofs.Common.{◌≡◌, [], ◌∷◌, inl, inr, List, Result, Ok, ap, length, sym, subst, arith, In, AllWantKnown, Code, SoFar}
+use Rattle.session.proofs.Common.{◌≡◌, [], ◌∷◌, inl, inr, List, Result, Ok, ap, length, sym, subst, arith, In, AllWantKnown, Code, SoFar, none_done, one_done, all_done_stands, all_done_lines}
 use Rattle.rule_model.specs.declared.step.Step.{Step}
-use Rattle.session_laws.proofs.Tried.{none_done, one_done, all_done_stands, all_done_lines, nothing_left}
+use Rattle.session_laws.proofs.Tried.{nothing_left}
 use Rattle.session.proofs.state.State.apply_all.Goals as goal
 
 pub loop-wanted-init : goal.loop-wanted-init

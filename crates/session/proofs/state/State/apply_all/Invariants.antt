@@ -1,7 +1,4 @@
-use Rattle.session.proofs.Common.{◌≤◌, ◌+◌, length, AllWantKnown, StayKnown, Standing, SoFar}
-use Rattle.rule_world.specs.Worlds.{World}
-use Rattle.session_laws.specs.Leading.{AllFit}
-use Rattle.session_laws.specs.Standing.{StaysSound}
+use Rattle.session.proofs.Common.{◌≤◌, ◌+◌, length, World, AllFit, AllWantKnown, StayKnown, Standing, StaysSound, SoFar}
 use Rattle.session.proofs.state.State.apply_all.Given as goal
 
 abbrev pub invariant-loop-wanted : goal.invariant-loop-wanted

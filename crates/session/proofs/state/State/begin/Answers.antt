@@ -1,5 +1,4 @@
-use Rattle.session.proofs.Common.{refl, IfOk-weaker, Begin, no_lines, tried_done}
-use Rattle.session_laws.proofs.Beginning.{begin_is_done}
+use Rattle.session.proofs.Common.{refl, IfOk-weaker, Begin, begin_is_done, no_lines, tried_done}
 use Rattle.session.proofs.state.State.begin.Goals as goal
 
 pub returns-clause-stands : goal.returns-clause-stands

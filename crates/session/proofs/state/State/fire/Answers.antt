@@ -1,7 +1,5 @@
-use Rattle.session.proofs.Common.{◌≡◌, ◌∙◌, ◌++◌, [], ◌∷◌, List, Option, Some, sym, ap, subst, rules, IfOk-weaker, Match, marked, Standing, on_ok_weaker, StayKnown, one_more_known}
+use Rattle.session.proofs.Common.{◌≡◌, ◌∙◌, ◌++◌, [], ◌∷◌, List, Option, Some, sym, ap, subst, rules, IfOk-weaker, Match, marked, does_all, fire_line, Standing, on_ok_weaker, StayKnown, fire_line_known, one_more_known}
 use Rattle.engine.specs.declared.lines.OutLine.{OutLine}
-use Rattle.session_laws.specs.Gives.{does_all, fire_line}
-use Rattle.session_laws.proofs.Knowing.{fire_line_known}
 use Rattle.session.proofs.state.State.fire.Goals as goal
 
 -- what is in place is one match

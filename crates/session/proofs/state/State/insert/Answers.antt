@@ -1,7 +1,5 @@
-use Rattle.session.proofs.Common.{◌≡◌, nat_lt, length, Some, None, [], ◌∷◌, ◌++◌, subst, sym, IfOk-weaker, Insert, Contents, on_ok, on_ok_weaker, refused_lines, refused_tries, tried_done, StayKnown, and_parts, one_more_known}
+use Rattle.session.proofs.Common.{◌≡◌, nat_lt, length, Some, None, [], ◌∷◌, ◌++◌, subst, sym, IfOk-weaker, Insert, Contents, insert_fault, insert_line, done_lines, on_ok, on_ok_weaker, refused_lines, refused_tries, tried_done, StayKnown, and_parts, one_more_known}
 use Rattle.engine.specs.declared.lines.OutLine.TheVariants.{New}
-use Rattle.session_laws.proofs.Faults.{insert_fault, insert_line}
-use Rattle.session_laws.proofs.Tried.{done_lines}
 use Rattle.session.proofs.state.State.insert.Goals as goal
 
 pub returns-in_ok-push-in-Ok-clause-stands : goal.returns-in_ok-push-in-Ok-clause-stands

@@ -1,6 +1,5 @@
-use Rattle.session.proofs.Common.{◌≡◌, ◌∙◌, ◌==◌, ℕ, true, sym, subst, ap, not, list_any, Named, marked, is_among, Contents, Standing, IsSound, contents, eq_by_cmp, has_match, match_cmp, and_parts}
+use Rattle.session.proofs.Common.{◌≡◌, ◌∙◌, ◌==◌, ℕ, true, sym, subst, ap, not, list_any, Named, marked, names_tag, is_among, Contents, Standing, IsSound, contents, eq_by_cmp, has_match, match_cmp, and_parts}
 use Rattle.rule_model.proofs.Firsts.{or_right}
-use Rattle.agenda.specs.Agendas.{names_tag}
 use Rattle.session_laws.proofs.Marking.{marked_awaits}
 use Rattle.session.proofs.state.State.mark.Goals as goal
 

@@ -1,7 +1,4 @@
-use Rattle.session.proofs.Common.{◌≡◌, Some, None, sym, ◌∙◌, ap, ReferenceFixed, modify_fault, newest, Contents, store_found, store_none, contents}
-use Rattle.std.specs.Prelude.{if◌then◌else◌}
-use Rattle.rule_world.specs.declared.code.Code.TheVariants.{EventFixed}
-use Rattle.rule_model.specs.Types.{is_reference}
+use Rattle.session.proofs.Common.{◌≡◌, Some, None, sym, ◌∙◌, ap, if◌then◌else◌, EventFixed, ReferenceFixed, is_reference, modify_fault, newest, Contents, store_found, store_none, contents}
 use Rattle.session.proofs.state.State.modifiable.Goals as goal
 
 pub returns-in-Some-clause-fault : goal.returns-in-Some-clause-fault

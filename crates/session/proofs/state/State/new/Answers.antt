@@ -1,6 +1,5 @@
-use Rattle.session.proofs.Common.{◌∙◌, ap, arith, zero_clock}
+use Rattle.session.proofs.Common.{◌∙◌, ap, arith, nat_cmp, zero_clock}
 use Rattle.std.specs.FinMap.{get-empty}
-use Rattle.std.specs.Ordering.{nat_cmp}
 use Rattle.std.specs.FinMap as map
 use Rattle.session.proofs.state.State.new.Goals as goal
 

@@ -1,6 +1,4 @@
-use Rattle.session.proofs.Common.{◌≡◌, Some, None, refl, ◌∙◌, ap, subst, to_z, of_z, to_z-of_z, SFits, w64, IfOk-weaker, Promise, Moves, Contents, reached_of, no_lines, on_ok, on_ok_weaker, refused_lines, refused_tries, tried_done}
-use Rattle.rule_world.specs.Events.{promise_fault}
-use Rattle.session_laws.proofs.Faults.{promise_refused}
+use Rattle.session.proofs.Common.{◌≡◌, Some, None, refl, ◌∙◌, ap, subst, to_z, of_z, to_z-of_z, SFits, w64, IfOk-weaker, Promise, promise_fault, Moves, Contents, reached_of, promise_refused, no_lines, on_ok, on_ok_weaker, refused_lines, refused_tries, tried_done}
 use Rattle.session.proofs.state.State.promise_from.Goals as goal
 
 pub returns-in-Ok-clause-stands : goal.returns-in-Ok-clause-stands

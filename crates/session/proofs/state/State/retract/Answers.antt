@@ -1,8 +1,4 @@
-use Rattle.session.proofs.Common.{◌≡◌, Some, None, true, false, refl, sym, IfOk-weaker, ReferenceFixed, Retract, newest, no_lines, on_ok, on_ok_weaker, refused_lines, refused_tries, tried_done}
-use Rattle.rule_world.specs.declared.code.Code.TheVariants.{Absent, EventObserved}
-use Rattle.rule_model.specs.Types.{is_event}
-use Rattle.session_laws.proofs.Faults.{retract_absent, retract_event, retract_fixed, retract_found, retract_observed}
-use Rattle.session_laws.proofs.Looking.{retract_fault_is}
+use Rattle.session.proofs.Common.{◌≡◌, Some, None, true, false, refl, sym, IfOk-weaker, Absent, EventObserved, ReferenceFixed, Retract, is_event, newest, retract_absent, retract_event, retract_fixed, retract_found, retract_observed, retract_fault_is, no_lines, on_ok, on_ok_weaker, refused_lines, refused_tries, tried_done}
 use Rattle.session.proofs.state.State.retract.Goals as goal
 
 pub returns-in-Some-clause-stands : goal.returns-in-Some-clause-stands

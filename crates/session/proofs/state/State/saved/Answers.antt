@@ -1,7 +1,6 @@
-use Rattle.session.proofs.Common.{◌∙◌, List, ℤ, refl, sym, ap, subst, to_z, of_z, w64, IsStrictlySortedBy, Extra, FiredMatch, Image, match_cmp, match_fired, IsSaved, Contents, clock_same}
+use Rattle.session.proofs.Common.{◌∙◌, List, ℤ, refl, sym, ap, subst, to_z, of_z, w64, IsStrictlySortedBy, Extra, FiredMatch, Image, match_cmp, match_fired, ArePadded, IsSaved, Contents, clock_same}
 use Rattle.std.proofs.Common.{map as list_map}
 use Rattle.image_laws.specs.Extras.{AreExtras}
-use Rattle.session_laws.specs.Saving.{ArePadded}
 use Rattle.session.proofs.state.State.saved.Goals as goal
 
 pub returns-clause-saved : goal.returns-clause-saved

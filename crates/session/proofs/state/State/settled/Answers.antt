@@ -1,6 +1,4 @@
-use Rattle.session.proofs.Common.{◌≡◌, ◌∙◌, ◌<◌, ◌^◌, true, List, ap, sym, subst, filter_map, length, FitsSigned, to_z, of_z, to_z-of_z, w64, rules, arith, Match, has_match, has_tag, is_among, is_named, Passes, Awaits, Contents, ReachesNoMore, reached_of, no_keys, contents}
-use Rattle.session_laws.proofs.Forgotten.{safe_fewer, stands_less, stands_same}
-use Rattle.session_laws.proofs.Olds.{named_at}
+use Rattle.session.proofs.Common.{◌≡◌, ◌∙◌, ◌<◌, ◌^◌, true, List, ap, sym, subst, filter_map, length, FitsSigned, to_z, of_z, to_z-of_z, w64, rules, arith, Match, has_match, has_tag, is_among, is_named, Passes, Awaits, Contents, ReachesNoMore, reached_of, no_keys, safe_fewer, stands_less, stands_same, named_at, contents}
 use Rattle.session.proofs.state.State.settled.Goals as goal
 
 pub invariant_of-state : goal.invariant_of-state

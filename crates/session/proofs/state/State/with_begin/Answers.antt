@@ -1,6 +1,4 @@
-use Rattle.session.proofs.Common.{◌∙◌, [], sym, subst, ap, IfOk-weaker, Begin, stepped, is_among, Moves, Awaits, Contents, Course, IsSound, ReachesNoMore, contents}
-use Rattle.session_laws.specs.Standing.{reached_by}
-use Rattle.session_laws.proofs.Beginning.{begin_awaits}
+use Rattle.session.proofs.Common.{◌∙◌, [], sym, subst, ap, IfOk-weaker, Begin, stepped, is_among, Moves, Awaits, Contents, Course, IsSound, ReachesNoMore, reached_by, begin_awaits, contents}
 use Rattle.session.proofs.state.State.with_begin.Goals as goal
 
 pub returns-clause-stands : goal.returns-clause-stands

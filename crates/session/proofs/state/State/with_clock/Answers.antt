@@ -1,16 +1,6 @@
-use Rattle.session.proofs.Common.{◌≡◌, ◌≤ℤ◌, ◌∙◌, ℕ, ℤ, Bool, List, [], Some, slice_get, sym, subst, ap, to_z, of_z, w64, IfOk-weaker, Fact, Named, Row, Rule, HeldFacts, At, stepped, is_among, HasLeft, Awaits, Contents, Standing, IsSound, reached_of, clock_same, none_left, contents, followed_sound, instant_of, Program}
-use Rattle.pair_memory.specs.Standing.{cleaned}
+use Rattle.session.proofs.Common.{◌≡◌, ◌≤ℤ◌, ◌∙◌, ℕ, ℤ, Bool, List, [], Some, slice_get, sym, subst, ap, to_z, of_z, w64, IfOk-weaker, Fact, Named, Row, cleaned, NetStands, Rule, HeldFacts, facts_of, At, stepped, is_among, HasLeft, over, Awaits, Contents, Standing, IsSound, reached_of, clock_same, safe_left, none_gone, no_tags, later_awaits, later_leads, later_leads_on, none_left, quiet_refreshed, remaining, remaining_is, contents, followed_sound, instant_of, at_clock, Reached, Program, IsOrderly}
 use Rattle.condition_rows.specs.Sets.{rows_of}
-use Rattle.rete_net.specs.Nets.{NetStands}
-use Rattle.fact_store.specs.Held.{facts_of}
-use Rattle.session_laws.specs.Refreshed.{over}
-use Rattle.session_laws.proofs.Faults.{safe_left}
-use Rattle.session_laws.proofs.Leaving.{none_gone, no_tags}
-use Rattle.session_laws.proofs.Passing.{later_awaits, later_leads, later_leads_on, quiet_refreshed, remaining, remaining_is}
 use Rattle.session.proofs.state.State.with_clock.Goals as goal
-use Rattle.session_laws.specs.Following.{at_clock}
-use Rattle.rule_model.specs.Snapshots.{Reached}
-use Rattle.pattern_gate.specs.Moves.{IsOrderly}
 
 -- facts in order at a clock are so whatever entry points have reached
 orderly : (p : Program) (held : HeldFacts) (clock : ℤ) (reached : Reached) → IsOrderly p (at_clock held clock) → IsOrderly p (over (facts_of held) clock reached)

@@ -1,6 +1,4 @@
-use Rattle.session.proofs.Common.{◌≡◌, ◌∙◌, ◌+◌, false, refl, sym, subst, ap, slice_get, to_z, of_z, w64, IfOk-weaker, Insert, is_present, times_of, stepped, Moves, Contents, IsSound, clock_same, contents, has_start, Memory, is_among, followed_sound, new_no_more}
-use Rattle.session_laws.proofs.Faults.{safe_numbers}
-use Rattle.session_laws.proofs.Inserting.{numbers_await}
+use Rattle.session.proofs.Common.{◌≡◌, ◌∙◌, ◌+◌, false, refl, sym, subst, ap, slice_get, to_z, of_z, w64, IfOk-weaker, Insert, is_present, times_of, stepped, Moves, Contents, IsSound, clock_same, safe_numbers, numbers_await, contents, has_start, Memory, is_among, followed_sound, new_no_more}
 use Rattle.session.proofs.state.State.with_numbers.Goals as goal
 
 pub invariant_of-state : goal.invariant_of-state

@@ -1,7 +1,4 @@
-use Rattle.session.proofs.Common.{◌≡◌, ◌∙◌, ◌+◌, Some, option_map, true, sym, subst, ap, slice_get, to_z, of_z, w64, IfOk-weaker, Insert, is_present, times_of, stepped, is_among, Memory, Moves, Contents, IsSound, clock_same, got_new, contents, has_start, followed_sound, new_no_more}
-use Rattle.rule_world.specs.Events.{end_of_presence}
-use Rattle.session_laws.proofs.Faults.{safe_new}
-use Rattle.session_laws.proofs.Inserting.{present_awaits}
+use Rattle.session.proofs.Common.{◌≡◌, ◌∙◌, ◌+◌, Some, option_map, true, sym, subst, ap, slice_get, to_z, of_z, w64, IfOk-weaker, Insert, is_present, end_of_presence, times_of, stepped, is_among, Memory, Moves, Contents, IsSound, clock_same, safe_new, present_awaits, got_new, contents, has_start, followed_sound, new_no_more}
 use Rattle.std.specs.FinMap as map
 use Rattle.session.proofs.state.State.with_present.Goals as goal
 

@@ -1,5 +1,4 @@
-use Rattle.session.proofs.Common.{◌≡◌, refl, sym, subst, to_z, of_z, to_z-of_z, w64, IfOk-weaker, Promise, stepped, is_among, Memory, Moves, Contents, IsSound, clock_same, followed_sound, contents}
-use Rattle.session_laws.proofs.Knowing.{promise_no_more}
+use Rattle.session.proofs.Common.{◌≡◌, refl, sym, subst, to_z, of_z, to_z-of_z, w64, IfOk-weaker, Promise, stepped, is_among, Memory, Moves, Contents, IsSound, clock_same, followed_sound, promise_no_more, contents}
 use Rattle.session_laws.proofs.Promising.{has_promise, promise_awaits}
 use Rattle.session.proofs.state.State.with_promise.Goals as goal
 

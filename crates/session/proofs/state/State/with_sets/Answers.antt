@@ -1,5 +1,4 @@
-use Rattle.session.proofs.Common.{◌≡◌, ◌∙◌, ◌+◌, Some, None, option_map, sym, subst, ap, to_z, of_z, w64, arith, IfOk-weaker, Fact, Modify, modify_fault, stepped, is_among, HasLeft, IsNewestTag, newest, Contents, Standing, IsSound, clock_same, got_new, contents, followed_sound, instant_of}
-use Rattle.session_laws.proofs.Faults.{fresh_less, safe_again}
+use Rattle.session.proofs.Common.{◌≡◌, ◌∙◌, ◌+◌, Some, None, option_map, sym, subst, ap, to_z, of_z, w64, arith, IfOk-weaker, Fact, Modify, modify_fault, stepped, is_among, HasLeft, IsNewestTag, newest, Contents, Standing, IsSound, clock_same, fresh_less, safe_again, got_new, contents, followed_sound, instant_of}
 use Rattle.session_laws.proofs.Revising.{modify_awaits, modify_leads_on}
 use Rattle.std.specs.FinMap as map
 use Rattle.session.proofs.state.State.with_sets.Goals as goal

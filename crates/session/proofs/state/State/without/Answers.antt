@@ -1,5 +1,4 @@
-use Rattle.session.proofs.Common.{◌≡◌, true, sym, subst, to_z, of_z, w64, IfOk-weaker, Retract, is_of_type, stepped, is_among, HasLeft, IsNewestTag, newest, Contents, Standing, IsSound, clock_same, contents, followed_sound, instant_of}
-use Rattle.session_laws.proofs.Faults.{safe_less}
+use Rattle.session.proofs.Common.{◌≡◌, true, sym, subst, to_z, of_z, w64, IfOk-weaker, Retract, is_of_type, stepped, is_among, HasLeft, IsNewestTag, newest, Contents, Standing, IsSound, clock_same, safe_less, contents, followed_sound, instant_of}
 use Rattle.session_laws.proofs.Removing.{retract_awaits, retract_leads_on}
 use Rattle.std.specs.FinMap as map
 use Rattle.session.proofs.state.State.without.Goals as goal

@@ -1,5 +1,4 @@
-use Rattle.session.proofs.Common.{◌∙◌, ap, newest, Contents, contents}
-use Rattle.session_laws.proofs.Faults.{presented}
+use Rattle.session.proofs.Common.{◌∙◌, ap, newest, Contents, presented, contents}
 use Rattle.session.proofs.state.StatePresent.fact_with.Goals as goal
 
 pub returns : goal.returns
