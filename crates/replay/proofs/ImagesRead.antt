@@ -54,16 +54,6 @@ other_rules_is rules bytes image most is other = by_rules rules bytes image fals
 
 -- ---- what is wanted behind it
 
-pub behind_is : (mode : Mode) (limit : ℕ) (found : Checkpoint) (image : Image) (p : Program) → RunsIn mode → found ≡ has_image image → wanted_behind mode limit found p ≡ wanted_at mode limit (Behind image) p
-behind_is Run limit found image p runs is = rw is refl
-behind_is Save limit found image p runs is = rw is refl
-behind_is Check limit found image p (inl run) is = absurd cc
-behind_is Check limit found image p (inr save) is = absurd cc
-behind_is Lives limit found image p (inl run) is = absurd cc
-behind_is Lives limit found image p (inr save) is = absurd cc
-behind_is Proof limit found image p (inl run) is = absurd cc
-behind_is Proof limit found image p (inr save) is = absurd cc
-
 pub refused_is : (mode : Mode) (limit : ℕ) (found : Checkpoint) (code : CheckpointCode) (p : Program) → RunsIn mode → found ≡ is_refused code → wanted_behind mode limit found p ≡ refuses_checkpoint code
 refused_is Run limit found code p runs is = rw is refl
 refused_is Save limit found code p runs is = rw is refl

@@ -104,9 +104,6 @@ image_found rules name told files read e there h =
     let whole : IfSome (files name) (λ file. read ≡ take (image_limit + 1) file) = rw e at h in
     image_in_read rules (files name) read is_found whole
 
-pub image_missing : (rules name : List ℕ) (told : Option Files) (files : Files) → told ≡ Some files → IsMissing told name → checkpoint_in rules (files name) ≡ is_refused NoImage
-image_missing rules name told files e gone = let none : files name ≡ None = rw e at gone in ap (checkpoint_in rules) none
-
 found_reading : (o : Option (List ℕ)) (read : List ℕ) → (o ≢ None) → IfSome o (λ file. read ≡ take (file_limit + 1) file) → (file : List ℕ) × (o ≡ Some file) × (reading file ≡ reading read)
 found_reading None read found h = absurd (found refl)
 found_reading (Some file) read found h = (file, refl, sym (within_taken file) ∙ ap reading (sym h))

@@ -35,10 +35,6 @@ fires_over : (fires : Fires) (p : Program) (most : Option ℕ) (left : ℕ) (w :
 unfolding firings
 fires_over fires p most left w f wants at e = ap (λ k. firings fires p most k w) at ∙ rw (wants, e) refl
 
-onto_nothing : (r : Firings) → onto_lines [] r ≡ r
-onto_nothing (all_fired lines w left) = refl
-onto_nothing (limit_met lines) = refl
-
 onto_onto : (a b : List OutLine) (r : Firings) → onto_lines a (onto_lines b r) ≡ onto_lines (a ++ b) r
 onto_onto a b (all_fired lines w left) = ap (λ z. all_fired z w left) (sym (append_assoc a b lines))
 onto_onto a b (limit_met lines) = ap limit_met (sym (append_assoc a b lines))
@@ -49,10 +45,6 @@ pub record Remains (setting : RunSetting) (number : ℕ) (all : Firings) (most :
   pub all-is : all ≡ onto_lines lines (firings setting.fires setting.program most left v)
   pub text : after ≡ before ++ lines_text setting.program number lines
   pub faulty : bad ≡ has_fault lines
-
--- nothing was fired yet
-pub begin_remains : (setting : RunSetting) (number : ℕ) (most : Option ℕ) (left : ℕ) (w : World) (text : List ℕ) → Remains setting number (firings setting.fires setting.program most left w) most left w text text false
-begin_remains setting number most left w text = record { lines = []; all-is = sym (onto_nothing (firings setting.fires setting.program most left w)); text = sym (append-nil text); faulty = refl }
 
 -- one firing more
 pub next_remains : (setting : RunSetting) (number : ℕ) (all : Firings) (most : Option ℕ) (left n : ℕ) (v : World) (before after : List ℕ) (bad : Bool) (f : List OutLine × World) (after' : List ℕ) (bad' : Bool)

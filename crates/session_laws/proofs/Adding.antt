@@ -86,13 +86,6 @@ added_pending first now all rest none are m = sym (or_false (has_match now.pendi
 
 -- ---- matches that are marked
 
-and_all : (b : Bool) → b ≡ (b && not false)
-and_all true = refl
-and_all false = refl
-
-pub none_marked : (came : List Match) (first : Marks) → AreMarking came first first []
-none_marked came first = record { saliences = refl; pending = λ m. and_all (has_match first.pending m); fired = λ m. sym (or_false (has_match first.fired m)); there = λ m i. absurd i }
-
 marked_end : (taken : List FiredMatch) (f : FiredMatch) (m : Match) → has_marked (taken ++ f ∷ []) m ≡ (has_marked taken m || (f.rule.0 == m.rule.0 && eq_by_cmp row_cmp f.row m.row))
 marked_end taken f m =
     ap (λ ms. has_match ms m) (map-append match_fired taken (f ∷ []))
@@ -131,21 +124,10 @@ one_marked came first now next taken f are came_f salient pending fired = record
 
 -- ---- the agenda that is made
 
-pub marked_of : (came : List Match) (changes : List RuleChange) (marked : List FiredMatch) (first now last : Marks) → first.pending ≡ [] → first.fired ≡ []
-    → ((m : Match) → has_match now.pending m ≡ (has_match first.pending m || comes_by changes m)) → ((m : Match) → has_match now.fired m ≡ has_match first.fired m)
-    → AreMarking came now last marked → AreMarked (comes_by changes) marked last
-marked_of came changes marked first now last no_pending no_fired added_p added_f are = record {
-  pending = λ m. are.pending m ∙ ap (λ b. b && not (has_marked marked m)) (added_p m ∙ ap (λ ms. has_match ms m || comes_by changes m) no_pending);
-  fired = λ m. are.fired m ∙ ap (λ b. b || has_marked marked m) (added_f m ∙ ap (λ ms. has_match ms m) no_fired);
-}
-
 -- ---- turns over a slice
 
 pub next_taken : {A : Type 0} (xs : List A) (i : ℕ) (x : A) → i < length xs → x ≡ get_or xs i x → take (i + 1) xs ≡ take i xs ++ x ∷ []
 next_taken xs i x below is = take_more xs i x below ∙ ap (λ y. take i xs ++ y ∷ []) (sym is)
-
-pub next_dropped : {A : Type 0} (xs : List A) (i : ℕ) (x : A) → i < length xs → x ≡ get_or xs i x → drop i xs ≡ x ∷ drop (i + 1) xs
-next_dropped xs i x below is = drop_more xs i x below ∙ ap (λ y. y ∷ drop (i + 1) xs) (sym is)
 
 pub in_at : {A : Type 0} (xs : List A) (i : ℕ) (x : A) → i < length xs → x ≡ get_or xs i x → In x xs
 in_at [] i x below is = absurd (omega (arith, below))

@@ -68,14 +68,6 @@ module _ (s : Setting) (m : Memory) (k : Contents) (w : World) (st : Standing s 
         ∙ ap (λ (z : ℤ). if fixed && w.begun then Some ReferenceFixed else of z) (sym whole.clock)
         ∙ ap (λ (b : Bool). if fixed && b then Some ReferenceFixed else of k.clock) (sym whole.begun) ∙ e
 
-    pub insert_done : (times : Times) → times ≡ times_of (slice_get s.program.types ty.0) k.clock fields
-        → stepped s.program w (Insert ty entry fields) ≡ settled s.program (with_new s.program w (numbered k ty entry fields times))
-    unfolding stepped moved
-    insert_done times e =
-        let p = s.program in
-        for_own k w (λ v. stepped p v (Insert ty entry fields) ≡ settled p (with_new p v (numbered k ty entry fields times))) whole.clock whole.next_id whole.next_tag
-        (ap (λ t. settled p (with_new p (own k w) (numbered k ty entry fields t))) (sym e))
-
     -- the line of an insertion
     pub insert_line : step_lines w (Insert ty entry fields) ≡ New (record { 0 = k.next_id }) ty ∷ []
     insert_line = ap (λ n. New (record { 0 = n }) ty ∷ []) (sym whole.next_id)
@@ -112,18 +104,6 @@ advance_moves s m k by clock n t e moves w st none lawful =
     let same : stepped s.program w (Advance by) ≡ stepped s.program w (At clock) = advance_at s m k w st by clock e in
     subst (Standing s n t) (sym same)
     (moves w st (at_fault s m k w st clock None (subst (λ z. clock_fault k.clock z ≡ None) (sym e) (fault_by_clock s m k w st by none))) (subst (IsLawful s.program) same lawful))
-
-pub modify_done : (p : Program) (w : World) (id : FactId) (sets : List (ℕ × Value)) → stepped p w (Modify id sets) ≡ settled p (with_revised w id.0 sets)
-unfolding stepped moved
-modify_done p w id sets = refl
-
-pub retract_done : (p : Program) (w : World) (ty : TypeId) (id : FactId) → stepped p w (Retract ty id) ≡ settled p (with_retracted p w ty.0 id.0)
-unfolding stepped moved
-retract_done p w ty id = refl
-
-pub at_done : (p : Program) (w : World) (moment : ℤ) → stepped p w (At moment) ≡ settled p (at_clock w moment)
-unfolding stepped moved
-at_done p w moment = refl
 
 -- ---- the fault of a retraction
 

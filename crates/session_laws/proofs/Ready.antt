@@ -46,27 +46,6 @@ in_any n [] i = absurd i
 in_any n (tag ∷ tags) (inl e) = ap (λ m. nat_eq n m || list_any (nat_eq n) tags) (sym e) ∙ ap (λ b. b || list_any (nat_eq n) tags) (its_own n)
 in_any n (tag ∷ tags) (inr i) = or_true (nat_eq n tag) (list_any (nat_eq n) tags) (in_any n tags i)
 
--- no facts
-pub ready_empty : (p : Program) → IsReady p map.empty map.empty (pos 0)
-ready_empty p = record {
-  own = own_none;
-  waits = λ tag. get-empty nat_cmp tag ∙ sym (ap (expiry_at p) (get-empty nat_cmp tag));
-  kept = kept_of p map.empty (pos 0) own_none (λ tag f e. absurd (let n : None ≡ Some f = sym (get-empty nat_cmp tag) ∙ e in cc));
-}
-  where
-    own_none : HaveOwnTags map.empty
-    own_none tag f e = absurd (let n : None ≡ Some f = sym (get-empty nat_cmp tag) ∙ e in cc)
-
--- what stands in a map whose tags from one on are free is below it
-pub below_free : (facts : HeldFacts) (next : ℕ) → ((tag : ℕ) → next ≤ tag → map.get facts tag ≡ None) → (tag : ℕ) (g : Fact) → map.get facts tag ≡ Some g → tag < next
-below_free facts next free tag g is = by (nat_lt tag next) refl
-  where
-    by : (b : Bool) → nat_lt tag next ≡ b → tag < next
-    by true e = grind (arith, nat_tests)
-    by false e =
-        let le : next ≤ tag = grind (arith, nat_tests) in
-        absurd (let n : None ≡ Some g = sym (free tag le) ∙ is in cc)
-
 module _ (p : Program) (facts : HeldFacts) (timers : Timers) (clock : ℤ) (r : IsReady p facts timers clock) where
   fit_of : (tag : ℕ) (f : Fact) → map.get facts tag ≡ Some f → IsFit p clock f
   fit_of tag f e =
@@ -85,13 +64,6 @@ module _ (p : Program) (facts : HeldFacts) (timers : Timers) (clock : ℤ) (r : 
     fit_more : (tag : ℕ) (g : Fact) → map.get more tag ≡ Some g → IsFit p clock g
     fit_more tag g e = elim (of_more tag g e) [ inl q ↦ subst (IsFit p clock) (sym q.0) fit | inr h ↦ fit_of tag g h ]
 
-    pub ready_new : (later : Timers) → map.get facts f.tag.0 ≡ None → later ≡ with_timer timers f.tag.0 (end_of_presence p f.ty.0 f.times.start) → IsReady p more later clock
-    ready_new later free timed = record {
-      own = own_more;
-      waits = λ t. ap (λ m. map.get m t) timed ∙ timed_new p facts timers r.waits f free t ∙ ap (λ held. expiry_at p (map.get held t)) (sym made);
-      kept = kept_of p more clock own_more fit_more;
-    }
-
     pub lead_new : ((tag : ℕ) (g : Fact) → map.get facts tag ≡ Some g → tag < f.tag.0) → Leads p facts clock more clock more [] (Some f)
     lead_new above = record {
       later = same_clock clock;
@@ -109,13 +81,6 @@ module _ (p : Program) (facts : HeldFacts) (timers : Timers) (clock : ℤ) (r : 
   module _ (less : HeldFacts) (out : ℕ) (made : less ≡ map.remove facts out) where
     was : (tag : ℕ) (g : Fact) → map.get less tag ≡ Some g → map.get facts tag ≡ Some g
     was tag g e = of_remove facts g out tag (ap (λ m. map.get m tag) (sym made) ∙ e)
-
-    pub ready_less : (fewer : Timers) → ((tag : ℕ) → map.get fewer tag ≡ without_timer timers out tag) → IsReady p less fewer clock
-    ready_less fewer untimed = record {
-      own = λ tag g e. r.own tag g (was tag g e);
-      waits = λ t. timed_less p facts timers r.waits out fewer untimed t ∙ ap (λ held. expiry_at p (map.get held t)) (sym made);
-      kept = kept_of p less clock (λ tag g e. r.own tag g (was tag g e)) (λ tag g e. fit_of tag g (was tag g e));
-    }
 
     pub lead_less : (f : Fact) → map.get facts out ≡ Some f → Leads p facts clock less clock facts (out ∷ []) None
     lead_less f there = record {
@@ -142,16 +107,6 @@ module _ (p : Program) (facts : HeldFacts) (timers : Timers) (clock : ℤ) (r : 
     kept_revised : IsOrderly p (at_clock behind clock)
     kept_revised = kept_of p behind clock (λ tag x e. own_all tag x (of_behind tag x e)) (λ tag x e. fit_more g (fit_plain p clock g plain) all made tag x (of_behind tag x e))
 
-    pub ready_revised : map.get facts g.tag.0 ≡ None → is_event p f.ty.0 ≡ false → IsReady p behind timers clock
-    ready_revised free also =
-        let apart : g.tag.0 ≡ out → ⊥ = λ (e : g.tag.0 ≡ out). absurd (let n : None ≡ Some f = sym free ∙ ap (map.get facts) e ∙ there in cc) in
-        let is : behind ≡ map.insert (map.remove facts out) g.tag.0 g = left ∙ ap (λ m. map.remove m out) made ∙ swapped facts g out apart in
-        record {
-          own = λ tag x e. own_all tag x (of_behind tag x e);
-          waits = λ t. timed_plain p facts timers r.waits out f g there free also plain t ∙ ap (λ held. expiry_at p (map.get held t)) (sym is);
-          kept = kept_revised;
-        }
-
     pub lead_revised : ((tag : ℕ) (x : Fact) → map.get facts tag ≡ Some x → tag < g.tag.0) → Leads p facts clock behind clock all (out ∷ []) (Some g)
     lead_revised above = record {
       later = same_clock clock;
@@ -175,9 +130,6 @@ module _ (p : Program) (facts : HeldFacts) (timers : Timers) (clock : ℤ) (r : 
 
     kept_left : IsOrderly p (at_clock fewer next)
     kept_left = kept_of p fewer next own_left (λ tag g e. let s = stays tag g e in let fit = fit_of tag g s.0 in record { present = s.1; low = fit.low; high = fit.high })
-
-    pub ready_later : IsReady p fewer later next
-    ready_later = record { own = own_left; waits = timed_left p facts timers r.waits next later gone takes fewer left; kept = kept_left }
 
     due_there : (tag : ℕ) → In tag gone → (f : Fact) × (map.get facts tag ≡ Some f)
     due_there tag i = by (map.get facts tag) refl

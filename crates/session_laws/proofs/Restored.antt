@@ -185,9 +185,6 @@ module _ (s : Setting) (runs : Runs s) (image : Image) (plain : FitsPlainly s.pr
   abbrev behind : Snapshot
   behind = over (facts_of all) image.clock (reached_in image.last_starts image.promises)
 
-  behind_once : HaveDistinctTags (facts_of all)
-  behind_once = distinct_here p w l.ordered.tags all image.clock is.clock (reached_in image.last_starts image.promises) reached_is all_at
-
   of_behind : (f : Fact) → In f (facts_of all) → In f (present p w)
   of_behind f i = let r = from_list all f i in (all_holds.to r.0 f r.1).0
 
