@@ -5,10 +5,13 @@
 
 mod alpha_index;
 mod answered;
+mod beside;
 mod build;
 mod changes;
+mod copying;
 mod due;
 mod extras;
+mod fans;
 mod forgetting;
 mod index;
 pub mod laws;
@@ -20,6 +23,7 @@ mod node;
 mod pieces;
 mod quiet;
 mod schedule;
+mod seating;
 mod selector;
 mod steps;
 mod timers;

@@ -21,6 +21,7 @@ ghost use Rattle.rete_net.specs.Walks.{IsReplaced, IsWired};
 use crate::answered::Answered;
 use crate::build::{empty_row_comes, no_change};
 use crate::changes::{RuleChange, changes_of};
+use crate::loading::Given;
 use crate::net::Rete;
 use crate::pieces::{by_type, extras_of, of_type};
 use crate::steps::put_delta;
@@ -112,14 +113,23 @@ impl Rete {
         let first = empty_row_comes(alloc)?;
         let mut due = BTreeSet::new(alloc);
         let mut answered = Answered::new(alloc, no_change(alloc));
+        self.fans.begin(alloc);
         for place in 0..self.nodes.len() {
             let own = extras_of(extras, &self.owners, place);
             let node = &mut self.nodes[place];
             let left = answered.left(&first, node.parent);
             let rows = left.come.as_slice();
             let theirs = of_type(&groups, &none, node.ty());
-            let delta = node.load(alloc, program, rows, theirs, own, moment, facts)?;
+            let given = Given {
+                rows,
+                theirs,
+                extras: own,
+                moment,
+            };
+            let delta = node.load_in(alloc, program, &mut self.fans, place, &given, facts)?;
             self.schedule.put(alloc, program, place, node)?;
+            self.fans
+                .turn_rows(alloc, place, &[], delta.come.as_slice(), facts)?;
             put_delta(&mut answered, &mut due, &self.index, place, delta)?;
         }
         Ok(answered)

@@ -18,6 +18,15 @@ use row_delta::{Delta, Extra, Row};
 use rule_model::{Moment, Program};
 use std::alloc::Global;
 
+/// What a node that keeps nothing is loaded with: the rows before it, the facts of its type, its extras, and the moment.
+#[derive(Clone, Copy)]
+pub(crate) struct Given<'g> {
+    pub(crate) rows: &'g [Row],
+    pub(crate) theirs: &'g [&'g Fact],
+    pub(crate) extras: &'g [Extra],
+    pub(crate) moment: &'g Moment<'g>,
+}
+
 impl NetNode {
     /// Takes the rows before it, which are in order, the facts of its type and what is counted beside these rows, in their order, into a node that
     /// keeps nothing, and answers the rows of its condition as they come. `NoRow`: exactly where the row of an extra is none of these.

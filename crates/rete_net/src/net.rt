@@ -30,9 +30,11 @@ ghost use Rattle.rete_net.specs.Steps.{NetStep};
 ghost use Rattle.rete_net.specs.Walks.{HasAnswered, IsReplaced, IsWired};
 
 use crate::answered::Answered;
+use crate::beside::Happening;
 use crate::build::{Builder, NoFacts, Owner, empty_row_comes, no_change};
 use crate::changes::{RuleChange, changes_of, rule_in};
 use crate::due::{first_below, put_reached};
+use crate::fans::Fans;
 use crate::forgetting::{RuleRows, put_dropped, rows_of_rules, with_old};
 use crate::index::Index;
 use crate::node::NetNode;
@@ -53,6 +55,7 @@ pub struct Rete {
     pub(crate) ends: Vec<usize>,
     pub(crate) owners: Vec<Owner>,
     pub(crate) index: Index,
+    pub(crate) fans: Fans,
     pub(crate) schedule: Schedule,
     pub(crate) quiet_until: Option<i128>,
 }
@@ -172,12 +175,14 @@ impl Rete {
             ends.push(last.unwrap_or(0))?;
         }
         let index = Index::of(alloc, &builder.nodes, &ends)?;
+        let fans = Fans::of(alloc, &builder.nodes)?;
         let schedule = Schedule::of(alloc, program, &builder.nodes)?;
         Ok(Rete {
             nodes: builder.nodes,
             ends,
             owners: builder.owners,
             index,
+            fans,
             schedule,
             quiet_until: None,
         })
@@ -203,12 +208,16 @@ impl Rete {
         let mut due = with_old(alloc, &self.index, old, facts)?;
         let none = Seq::from_vec(Vec::new(alloc));
         let mut dropped = Answered::new(alloc, Seq::from_vec(Vec::new(alloc)));
+        self.fans.begin(alloc);
         let mut next = 0;
         'walk: while let Some(place) = first_below(&due, next, self.nodes.len()) {
             let node = &mut self.nodes[place];
             let rows = dropped.left(&none, node.parent);
-            let gone = node.forget(alloc, program, rows.as_slice(), old, facts)?;
+            let before = rows.as_slice();
+            let gone = node.forget_in(alloc, program, &mut self.fans, place, before, old, facts)?;
             self.schedule.put(alloc, program, place, node)?;
+            self.fans
+                .turn_rows(alloc, place, gone.as_slice(), &[], facts)?;
             put_dropped(&mut dropped, &mut due, &self.index, place, gone)?;
             next = place + 1;
         }
@@ -266,12 +275,22 @@ impl Rete {
         let mut due = self.schedule.due(alloc, program, moment)?;
         put_reached(&mut due, &self.nodes, &self.index, first, gone, come)?;
         let mut answered = Answered::new(alloc, no_change(alloc));
+        let happening = Happening {
+            program,
+            gone,
+            come,
+            moment,
+        };
+        self.fans.begin(alloc);
         let mut next = 0;
         'walk: while let Some(place) = first_below(&due, next, self.nodes.len()) {
             let node = &mut self.nodes[place];
             let left = answered.left(first, node.parent);
-            let delta = node.advance(alloc, program, left, gone, come, moment, facts)?;
+            let delta = node.advance_in(alloc, &mut self.fans, place, left, &happening, facts)?;
             self.schedule.put(alloc, program, place, node)?;
+            let (rows_gone, rows_come) = (delta.gone.as_slice(), delta.come.as_slice());
+            self.fans
+                .turn_rows(alloc, place, rows_gone, rows_come, facts)?;
             put_delta(&mut answered, &mut due, &self.index, place, delta)?;
             next = place + 1;
         }

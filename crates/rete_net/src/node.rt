@@ -1,4 +1,5 @@
-ghost use Rattle.std.specs.Prelude.{◌≡◌, ℤ, Bool, true, option_map, IfOk, IsTrue};
+ghost use Rattle.std.specs.Prelude.{◌≡◌, ℤ, Bool, true, Some, option_map, IfOk, IfSome, IsTrue};
+ghost use Rattle.rule_model.specs.declared.condition.Condition.TheVariants.{Plain};
 ghost use Rattle.row_delta.specs.declared.delta.Delta.{Delta as DeltaData};
 ghost use Rattle.row_delta.specs.declared.row.Named.{Named as NamedData};
 ghost use Rattle.row_delta.specs.declared.row.Row.{Row as RowData};
@@ -123,6 +124,16 @@ impl NetNode {
         self.node.pattern()
     }
 
+    /// Its pattern, where it binds a fact and stands behind this parent. Takes no memory.
+    pub(crate) fn joined_behind(&self, parent: usize) -> Option<&Pattern>
+        ensures { IfSome result (λ q. (self.now.parent ≡ Some parent) × (condition_of self.now.node ≡ Plain q.now)) }
+    {
+        if self.parent != Some(parent) {
+            return None;
+        }
+        join_pattern(&self.node)
+    }
+
     /// The entry point of its candidates. Takes no memory.
     pub(crate) fn entry(&self) -> EntryId
         ensures { result.0 ≡ entry_of self.now }
@@ -210,5 +221,17 @@ fn is_not(node: &Node) -> bool
         Node::Join(_) => false,
         Node::Exists(_) => false,
         Node::Fold(_) => false,
+    }
+}
+
+// The pattern of a node that binds a fact.
+fn join_pattern(node: &Node) -> Option<&Pattern>
+    ensures { IfSome result (λ q. condition_of node.now ≡ Plain q.now) }
+{
+    match node {
+        Node::Join(join) => Some(join.pattern()),
+        Node::Not(_) => None,
+        Node::Exists(_) => None,
+        Node::Fold(_) => None,
     }
 }
