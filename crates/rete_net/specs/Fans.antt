@@ -24,6 +24,7 @@ use Rattle.rete_net.specs.declared.fans.Fan.{Fan}
 use Rattle.rete_net.specs.declared.fans.Fans.{Fans}
 use Rattle.rete_net.specs.declared.fans.Seat.{Seat}
 use Rattle.rete_net.specs.declared.fans.Span.{Span}
+use Rattle.rete_net.specs.declared.net.Rete.{Rete}
 use Rattle.rete_net.specs.declared.node.NetNode.{NetNode}
 use Rattle.rete_net.specs.Steps.{no_change}
 
@@ -77,6 +78,10 @@ member_at fans k = member_of fans.list.items (seat_at fans.seats.items k)
 -- the nodes of a network with what each keeps, of its own or as a member
 abbrev pub with_fans : List NetNode → Fans → List NetNode
 with_fans nodes fans = shown (member_at fans) nodes
+
+-- those of a network
+abbrev pub shown_nodes : Rete → List NetNode
+shown_nodes net = with_fans net.nodes.items net.fans
 
 -- ---- where they stand
 
@@ -178,6 +183,7 @@ pub record AreRowsTurned (look : Look) (place : ℕ) (gone come : List Row) (old
   pub others : (seat : Seat) (fan : Fan) → slice_get old.list.items seat.fan ≡ Some fan → (fan.parent ≡ place → ⊥) → IsLeft old new seat
   pub turned : (seat : Seat) (fan : Fan) → slice_get old.list.items seat.fan ≡ Some fan → fan.parent ≡ place → half_at old seat ≡ no_change
       → IsHalf look gone come (member_of old.list.items (Some seat)) (member_of new.list.items (Some seat)) (half_at new seat)
+  pub nothing : gone ≡ [] → come ≡ [] → (seat : Seat) → IsLeft old new seat
 
 -- The candidates of a member left and came, behind what its rows had changed.
 abbrev pub AreNamesTurnedAt : Look → List Named → List Named → Delta → Delta → List Fan → List Fan → Seat → Type 0

@@ -13,6 +13,7 @@ pub mod Answers
 pub mod Dropped
 pub mod Steps
 pub mod Fans
+pub mod Seating
 pub mod Walks
 pub mod Building
 pub mod Loading

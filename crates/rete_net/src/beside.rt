@@ -1,11 +1,19 @@
+ghost use Rattle.std.specs.List.{filter};
+ghost use Rattle.fx_base.specs.Lists.{In};
+ghost use Rattle.fx_base.specs.declared.fact.Fact.{Fact as FactData};
 ghost use Rattle.std.specs.Prelude.{◌≡◌, List, [], true, false, Option, Some, option_map, IfOk, IsErrOf, OnOk};
 ghost use Rattle.row_delta.specs.declared.delta.Delta.{Delta as DeltaData};
+ghost use Rattle.row_delta.specs.declared.extra.Extra.{Extra as ExtraData};
+ghost use Rattle.row_delta.specs.Rows.{has, InOrder};
+ghost use Rattle.rule_model.specs.declared.program.Program.{Program as ProgramData};
 ghost use Rattle.rule_model.specs.Lent.{lent};
 ghost use Rattle.condition_node.specs.Nodes.{condition_of};
 ghost use Rattle.rete_net.specs.declared.fans.Seat.{Seat as SeatData};
 ghost use Rattle.rete_net.specs.Fans.{half_at, half_of, member_at, member_of, seat_at, showing, IsHalf, IsLaidAs, IsLeft, IsOf, Member};
 ghost use Rattle.pair_memory.specs.Joined.{has_name};
 ghost use Rattle.rete_net.specs.Dropped.{NodeForgets};
+ghost use Rattle.rete_net.specs.Indexes.{type_of};
+ghost use Rattle.rete_net.specs.Loads.{is_of, NodeLoad};
 ghost use Rattle.rete_net.specs.Steps.{NodeStep};
 
 use crate::fans::{Fans, Seat};
@@ -156,6 +164,15 @@ impl NetNode {
         given: &Given,
         facts: &F,
     ) -> Result<Delta, LoadFault>
+        ensures parent { OnOk result (self.new.parent ≡ self.old.parent) }
+        ensures condition { OnOk result (condition_of self.new.node ≡ condition_of self.old.node) }
+        ensures laid { OnOk result (IsLaidAs fans.old fans.new) }
+        ensures others { OnOk result ((seat : SeatData) → (seat_at fans.old.seats.items place ≡ Some seat → ⊥) → IsLeft fans.old fans.new seat) }
+        ensures loads { IfOk result (λ delta. (was : Option Member) (kept : List FactData) → lent given.now.theirs.now ≡ filter (is_of (type_of self.old)) kept → IsOf self.old (member_at fans.old place)
+            → IsHalf (F.map facts.now) [] given.now.rows.now was (member_at fans.old place) (half_of fans.old (seat_at fans.old.seats.items place))
+            → NodeLoad program.now (F.map facts.now) kept given.now.extras.now given.now.moment.now (showing was self.old) (showing (member_at fans.new place) self.new) given.now.rows.now delta) }
+        ensures there { OnOk result (InOrder given.now.rows.now → (e : ExtraData) → In e given.now.extras.now → has given.now.rows.now e.row ≡ true) }
+        ensures no_row { IsErrOf result LoadFault.NoRow → InOrder given.now.rows.now → (e : ExtraData) × In e given.now.extras.now × (has given.now.rows.now e.row ≡ false) }
     {
         match fans.seat(place) {
             Some(seat) => {
@@ -188,6 +205,15 @@ impl NetNode {
         given: &Given,
         facts: &F,
     ) -> Result<Delta, LoadFault>
+        ensures parent { OnOk result (self.new.parent ≡ self.old.parent) }
+        ensures condition { OnOk result (condition_of self.new.node ≡ condition_of self.old.node) }
+        ensures laid { OnOk result (IsLaidAs fans.old fans.new) }
+        ensures others { OnOk result ((other : SeatData) → (other ≡ seat → ⊥) → IsLeft fans.old fans.new other) }
+        ensures loads { IfOk result (λ delta. (p : ProgramData) (was : Option Member) (kept : List FactData) → lent given.now.theirs.now ≡ filter (is_of (type_of self.old)) kept → IsOf self.old (member_of fans.old.list.items (Some seat))
+            → IsHalf (F.map facts.now) [] given.now.rows.now was (member_of fans.old.list.items (Some seat)) half
+            → NodeLoad p (F.map facts.now) kept given.now.extras.now given.now.moment.now (showing was self.old) (showing (member_of fans.new.list.items (Some seat)) self.new) given.now.rows.now delta) }
+        ensures there { OnOk result (InOrder given.now.rows.now → (e : ExtraData) → In e given.now.extras.now → has given.now.rows.now e.row ≡ true) }
+        ensures no_row { IsErrOf result LoadFault.NoRow → InOrder given.now.rows.now → (e : ExtraData) × In e given.now.extras.now × (has given.now.rows.now e.row ≡ false) }
     {
         if !have_rows(given.extras, given.rows) {
             return Err(LoadFault::NoRow);

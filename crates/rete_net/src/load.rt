@@ -10,6 +10,7 @@ ghost use Rattle.image_laws.specs.Extras.{extra_cmp};
 ghost use Rattle.image_laws.specs.Laden.{AreOwners};
 ghost use Rattle.rete_net.specs.declared.changes.RuleChange.{RuleChange as RuleChangeData};
 ghost use Rattle.rete_net.specs.declared.load.LoadFault.TheVariants.{NoMemory as OutOfMemory};
+ghost use Rattle.rete_net.specs.Fans.{AreFans, IsLaidAs, shown_nodes};
 ghost use Rattle.rete_net.specs.Loading.{IsLoadable, IsThere, AreLadenRows, IsBehind};
 ghost use Rattle.rete_net.specs.Loads.{AreLoaded, IsStuck};
 ghost use Rattle.rete_net.specs.Nets.{NetStands};
@@ -103,10 +104,13 @@ impl Rete {
         ensures index { OnOk result (self.new.index ≡ self.old.index) }
         ensures replaced { OnOk result (IsReplaced self.old.nodes.items self.new.nodes.items) }
         ensures scheduled { OnOk result (AreScheduled program.now self.old.nodes.items self.old.schedule → AreScheduled program.now self.new.nodes.items self.new.schedule) }
+        ensures laid { OnOk result (IsLaidAs self.old.fans self.new.fans) }
         ensures loaded { IfOk result (λ a. IsWired self.old.nodes.items self.old.ends.items self.old.index → IsStrictlySortedBy extra_cmp extras.now
-            → AreLoaded program.now (F.map facts.now) (lent kept.now) extras.now moment.now empty_row_comes self.old.nodes.items self.new.nodes.items self.old.owners.items self.old.ends.items a (length self.old.nodes.items)) }
+            → AreFans self.old.nodes.items self.old.fans
+            → AreLoaded program.now (F.map facts.now) (lent kept.now) extras.now moment.now empty_row_comes (shown_nodes self.old) (shown_nodes self.new) self.old.owners.items self.old.ends.items a (length (shown_nodes self.old))) }
         ensures stuck { IsErrOf result LoadFault.NoRow → IsWired self.old.nodes.items self.old.ends.items self.old.index → IsStrictlySortedBy extra_cmp extras.now
-            → IsStuck program.now (F.map facts.now) (lent kept.now) extras.now moment.now empty_row_comes self.old.nodes.items self.old.owners.items self.old.ends.items }
+            → AreFans self.old.nodes.items self.old.fans
+            → IsStuck program.now (F.map facts.now) (lent kept.now) extras.now moment.now empty_row_comes (shown_nodes self.old) self.old.owners.items self.old.ends.items }
     {
         let groups = by_type(alloc, kept)?;
         let none = Vec::new(alloc);
@@ -128,8 +132,8 @@ impl Rete {
             };
             let delta = node.load_in(alloc, program, &mut self.fans, place, &given, facts)?;
             self.schedule.put(alloc, program, place, node)?;
-            self.fans
-                .turn_rows(alloc, place, &[], delta.come.as_slice(), facts)?;
+            let came = delta.come.as_slice();
+            self.fans.turn_rows(alloc, place, &[], came, facts)?;
             put_delta(&mut answered, &mut due, &self.index, place, delta)?;
         }
         Ok(answered)

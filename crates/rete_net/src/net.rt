@@ -18,6 +18,7 @@ ghost use Rattle.pattern_gate.specs.Moves.{IsOrderly, Moves, at_clock};
 ghost use Rattle.condition_node.specs.Quiet.{IsBefore};
 ghost use Rattle.rete_net.specs.declared.changes.RuleChange.{RuleChange as RuleChangeData};
 ghost use Rattle.rete_net.specs.Dropped.{AreDropped, AreListed, HaveForgotten};
+ghost use Rattle.rete_net.specs.Fans.{AreFans, IsLaidAs, shown_nodes};
 ghost use Rattle.rete_net.specs.Forgetting.{AreNotNeeded};
 ghost use Rattle.rete_net.specs.Indexes.{IsIndexOf};
 ghost use Rattle.rete_net.specs.Nets.{NetStands, clean_rows, AreBetween};
@@ -161,10 +162,11 @@ impl Rete {
 
     /// The nodes of all rules, which keep nothing.
     pub(crate) fn of_rules(alloc: Global, program: &Program) -> Result<Rete, NoMemory>
-        ensures indexed { IfOk result (λ net. IsIndexOf net.nodes.items net.ends.items net.index) }
+        ensures indexed { IfOk result (λ net. IsIndexOf (shown_nodes net) net.ends.items net.index) }
+        ensures fans { IfOk result (λ net. AreFans net.nodes.items net.fans) }
         ensures scheduled { IfOk result (λ net. AreScheduled program.now net.nodes.items net.schedule) }
         ensures count { IfOk result (λ net. length net.ends.items ≡ length program.now.rules) }
-        ensures built { IfOk result (λ net. IsRunnable program.now → (all : List (List Condition)) × AreBuilt program.now net.nodes.items all × HaveEnds all net.ends.items program.now.rules (length program.now.rules)
+        ensures built { IfOk result (λ net. IsRunnable program.now → (all : List (List Condition)) × AreBuilt program.now (shown_nodes net) all × HaveEnds all net.ends.items program.now.rules (length program.now.rules)
             × AreFronts program.now all × AreDistinct all × (length net.ends.items ≡ length program.now.rules)
             × AreOwnedSoFar program.now all net.owners.items (length program.now.rules) [] 0) }
     {
@@ -202,8 +204,9 @@ impl Rete {
         ensures quiet { OnOk result (self.new.quiet_until ≡ self.old.quiet_until) }
         ensures replaced { OnOk result (IsReplaced self.old.nodes.items self.new.nodes.items) }
         ensures scheduled { OnOk result (AreScheduled program.now self.old.nodes.items self.old.schedule → AreScheduled program.now self.new.nodes.items self.new.schedule) }
-        ensures forgot { IfOk result (λ a. IsWired self.old.nodes.items self.old.ends.items self.old.index
-            → HaveForgotten program.now (F.map facts.now) (has_name old.now) self.old.nodes.items self.new.nodes.items self.old.ends.items a) }
+        ensures laid { OnOk result (IsLaidAs self.old.fans self.new.fans) }
+        ensures forgot { IfOk result (λ a. IsWired self.old.nodes.items self.old.ends.items self.old.index → AreFans self.old.nodes.items self.old.fans
+            → HaveForgotten program.now (F.map facts.now) (has_name old.now) (shown_nodes self.old) (shown_nodes self.new) self.old.ends.items a) }
     {
         let mut due = with_old(alloc, &self.index, old, facts)?;
         let none = Seq::from_vec(Vec::new(alloc));
@@ -216,8 +219,8 @@ impl Rete {
             let before = rows.as_slice();
             let gone = node.forget_in(alloc, program, &mut self.fans, place, before, old, facts)?;
             self.schedule.put(alloc, program, place, node)?;
-            self.fans
-                .turn_rows(alloc, place, gone.as_slice(), &[], facts)?;
+            let went = gone.as_slice();
+            self.fans.turn_rows(alloc, place, went, &[], facts)?;
             put_dropped(&mut dropped, &mut due, &self.index, place, gone)?;
             next = place + 1;
         }
@@ -238,13 +241,15 @@ impl Rete {
     ) -> Result<Vec<RuleChange>, NoMemory>
         ensures ends { OnOk result (self.new.ends.items ≡ self.old.ends.items) }
         ensures owners { OnOk result (self.new.owners ≡ self.old.owners) }
-        ensures quiet { OnOk result (AreScheduled program.now self.old.nodes.items self.old.schedule → AreQuiet program.now self.new.nodes.items self.new.quiet_until) }
+        ensures quiet { OnOk result (AreScheduled program.now self.old.nodes.items self.old.schedule → AreQuiet program.now (shown_nodes self.new) self.new.quiet_until) }
         ensures scheduled { OnOk result (AreScheduled program.now self.old.nodes.items self.old.schedule → AreScheduled program.now self.new.nodes.items self.new.schedule) }
         ensures replaced { OnOk result (IsReplaced self.old.nodes.items self.new.nodes.items) }
-        ensures indexed { OnOk result (IsIndexOf self.old.nodes.items self.old.ends.items self.old.index → IsIndexOf self.new.nodes.items self.new.ends.items self.new.index) }
+        ensures indexed { OnOk result (IsIndexOf (shown_nodes self.old) self.old.ends.items self.old.index → IsIndexOf (shown_nodes self.new) self.new.ends.items self.new.index) }
+        ensures laid { OnOk result (IsLaidAs self.old.fans self.new.fans) }
         ensures rules { length self.old.ends.items < 2 ^ 16 → IfOk result (λ changes. (c : RuleChangeData) → In c changes.items → c.rule.0 < length self.old.ends.items) }
         ensures stepped { IfOk result (λ changes. IsWired self.old.nodes.items self.old.ends.items self.old.index → AreScheduled program.now self.old.nodes.items self.old.schedule
-            → NetStep program.now (F.map facts.now) (lent gone.now) (option_map (λ f. f.now) come.entry) moment.now first.now self.old.nodes.items self.new.nodes.items self.old.ends.items changes.items) }
+            → AreFans self.old.nodes.items self.old.fans
+            → NetStep program.now (F.map facts.now) (lent gone.now) (option_map (λ f. f.now) come.entry) moment.now first.now (shown_nodes self.old) (shown_nodes self.new) self.old.ends.items changes.items) }
     {
         let answered = self.walk(alloc, program, first, gone, come, moment, facts)?;
         self.quiet_until = self.schedule.first();
@@ -269,8 +274,10 @@ impl Rete {
         ensures index { OnOk result (self.new.index ≡ self.old.index) }
         ensures replaced { OnOk result (IsReplaced self.old.nodes.items self.new.nodes.items) }
         ensures scheduled { OnOk result (AreScheduled program.now self.old.nodes.items self.old.schedule → AreScheduled program.now self.new.nodes.items self.new.schedule) }
+        ensures laid { OnOk result (IsLaidAs self.old.fans self.new.fans) }
         ensures answered { IfOk result (λ a. IsWired self.old.nodes.items self.old.ends.items self.old.index → AreScheduled program.now self.old.nodes.items self.old.schedule
-            → HasAnswered program.now (F.map facts.now) (lent gone.now) (option_map (λ f. f.now) come.entry) moment.now first.now self.old.nodes.items self.new.nodes.items self.old.ends.items a) }
+            → AreFans self.old.nodes.items self.old.fans
+            → HasAnswered program.now (F.map facts.now) (lent gone.now) (option_map (λ f. f.now) come.entry) moment.now first.now (shown_nodes self.old) (shown_nodes self.new) self.old.ends.items a) }
     {
         let mut due = self.schedule.due(alloc, program, moment)?;
         put_reached(&mut due, &self.nodes, &self.index, first, gone, come)?;
@@ -288,9 +295,9 @@ impl Rete {
             let left = answered.left(first, node.parent);
             let delta = node.advance_in(alloc, &mut self.fans, place, left, &happening, facts)?;
             self.schedule.put(alloc, program, place, node)?;
-            let (rows_gone, rows_come) = (delta.gone.as_slice(), delta.come.as_slice());
-            self.fans
-                .turn_rows(alloc, place, rows_gone, rows_come, facts)?;
+            let went = delta.gone.as_slice();
+            let came = delta.come.as_slice();
+            self.fans.turn_rows(alloc, place, went, came, facts)?;
             put_delta(&mut answered, &mut due, &self.index, place, delta)?;
             next = place + 1;
         }

@@ -1,3 +1,12 @@
+ghost use Rattle.std.specs.Prelude.{◌≡◌, ◌∷◌, ◌++◌, ◌≤◌, ◌<◌, ℕ, List, [], length, None, Some, true, slice_get, IfOk, IfSome, IsTrue, OnOk};
+ghost use Rattle.rule_model.specs.declared.condition.Condition.TheVariants.{Plain};
+ghost use Rattle.join_tests.specs.RowKeys.{row_key};
+ghost use Rattle.condition_node.specs.Nodes.{condition_of};
+ghost use Rattle.rete_net.specs.declared.fans.Fan.{Fan as FanData};
+ghost use Rattle.rete_net.specs.declared.node.NetNode.{NetNode as NetNodeData};
+ghost use Rattle.rete_net.specs.Fans.{seat_at, AreEmpty, AreFans};
+ghost use Rattle.rete_net.specs.Seating.{AreGrowing, GrowsTo, IsFanPut, IsFanWith, IsNewFan};
+
 use crate::copying::Copied;
 use crate::fans::{Fan, Fans, Seat, Span};
 use crate::lists::Lists;
@@ -87,7 +96,8 @@ impl Fans {
         ensures spans { IfOk result (λ fans. fans.spans.items ≡ []) }
     {
         let mut seats = Vec::with_capacity(alloc, nodes)?;
-        for _ in 0..nodes {
+        for place in 0..nodes {
+            let _ = place;
             seats.push(None)?;
         }
         Ok(Fans {
@@ -105,8 +115,7 @@ impl Fans {
         nodes: &[NetNode],
         children: &[usize],
     ) -> Result<(), NoMemory>
-        ensures grown { OnOk result (AreGrowing nodes.now self.old (end_of self.old.spans.items) → AreGrowing nodes.now self.new (length self.new.list.items)) }
-        ensures span { OnOk result (length self.new.spans.items ≡ length self.old.spans.items + 1) }
+        ensures grown { OnOk result (AreGrowing nodes.now self.old (length self.old.list.items) → AreGrowing nodes.now self.new (length self.new.list.items)) }
     {
         let from = self.list.len();
         for child in 0..children.len() {
@@ -125,7 +134,9 @@ impl Fans {
         nodes: &[NetNode],
         from: usize,
         places: &[usize],
-    ) -> Result<(), NoMemory> {
+    ) -> Result<(), NoMemory>
+        ensures { OnOk result (GrowsTo nodes.now from self.old self.new) }
+    {
         match places {
             [] => Ok(()),
             [place, later @ ..] => self.put_node(alloc, nodes, from, *place, later),
@@ -139,26 +150,33 @@ impl Fans {
         from: usize,
         place: usize,
         later: &[usize],
-    ) -> Result<(), NoMemory> {
+    ) -> Result<(), NoMemory>
+        ensures { OnOk result (GrowsTo nodes.now from self.old self.new) }
+    {
         match pattern_behind(nodes, place, self.spans.len()) {
             Some(pattern) => {
-                let fan = self.fan_for(alloc, nodes, from, pattern, later)?;
-                self.put_if(alloc, fan, place, pattern)
+                let key = RowKey::of(alloc, pattern)?;
+                match self.fan_for(alloc, nodes, from, key, later)? {
+                    Some(fan) => self.put_member(alloc, fan, place, pattern),
+                    None => Ok(()),
+                }
             }
             None => Ok(()),
         }
     }
 
-    // The fan from a place on that keeps the rows of a pattern, or a new one where one of the later places has a node that keeps them alike.
+    // The fan from a place on that keeps rows by this key, or a new one where one of the later places has a node that keeps them so.
     fn fan_for(
         &mut self,
         alloc: Global,
         nodes: &[NetNode],
         from: usize,
-        pattern: &Pattern,
+        key: RowKey,
         later: &[usize],
-    ) -> Result<Option<usize>, NoMemory> {
-        let key = RowKey::of(alloc, pattern)?;
+    ) -> Result<Option<usize>, NoMemory>
+        ensures grows { OnOk result (GrowsTo nodes.now from self.old self.new) }
+        ensures fan { IfOk result (λ fan. IfSome fan (λ f. IsFanWith self.new.list.items from key f)) }
+    {
         match self.fan_with(from, &key) {
             Some(fan) => Ok(Some(fan)),
             None => {
@@ -174,7 +192,7 @@ impl Fans {
 
     // The first fan from a place on that keeps rows by this key. Takes no memory.
     fn fan_with(&self, from: usize, key: &RowKey) -> Option<usize>
-        ensures { IfSome result (λ f. (from ≤ f) × ((fan : FanData) × (slice_get self.now.list.items f ≡ Some fan) × (fan.join.left.key ≡ key.now))) }
+        ensures { IfSome result (λ f. IsFanWith self.now.list.items from key.now f) }
     {
         for fan in from..self.list.len() {
             if self.list[fan].join.key().is_same(key) {
@@ -185,35 +203,21 @@ impl Fans {
     }
 
     // Puts a fan without members behind the next parent.
-    fn put_fan(&mut self, alloc: Global, key: RowKey) -> Result<(), NoMemory> {
+    fn put_fan(&mut self, alloc: Global, key: RowKey) -> Result<(), NoMemory>
+        ensures list { OnOk result ((f : FanData) × (self.new.list.items ≡ self.old.list.items ++ f ∷ []) × IsNewFan (length self.old.spans.items) key f) }
+        ensures seats { OnOk result (self.new.seats ≡ self.old.seats) }
+        ensures spans { OnOk result (self.new.spans ≡ self.old.spans) }
+    {
+        let parent = self.spans.len();
         self.list.push(Fan {
-            parent: self.spans.len(),
+            parent,
             join: FanJoin::new(alloc, key),
             places: Vec::new(alloc),
         })?;
         Ok(())
     }
 
-    // Puts a node into a fan, if there is one and the node has no seat.
-    fn put_if(
-        &mut self,
-        alloc: Global,
-        fan: Option<usize>,
-        place: usize,
-        pattern: &Pattern,
-    ) -> Result<(), NoMemory> {
-        match fan {
-            Some(fan) => {
-                if self.seat(place).is_some() {
-                    return Ok(());
-                }
-                self.put_member(alloc, fan, place, pattern)
-            }
-            None => Ok(()),
-        }
-    }
-
-    // Puts a member into the fan in a place.
+    // Puts the node in a place into a fan, if that is there and the node has no seat.
     fn put_member(
         &mut self,
         alloc: Global,
@@ -221,14 +225,40 @@ impl Fans {
         place: usize,
         pattern: &Pattern,
     ) -> Result<(), NoMemory>
-        requires fan { fan < length self.now.list.items }
-        requires place { place < length self.now.seats.items }
+        requires { (f : FanData) → slice_get self.now.list.items fan ≡ Some f → row_key pattern.now ≡ f.join.left.key }
+        ensures { OnOk result ((nodes : List NetNodeData) (from : ℕ) (n : NetNodeData) → from ≤ fan → slice_get nodes place ≡ Some n → n.parent ≡ Some (length self.old.spans.items)
+            → condition_of n.node ≡ Plain pattern.now → GrowsTo nodes from self.old self.new) }
     {
+        if fan >= self.list.len() || !self.is_free(place) {
+            return Ok(());
+        }
         let member = self.list[fan].places.len();
-        let copy = pattern.copied(alloc)?;
-        self.list[fan].join.put(alloc, copy)?;
-        self.list[fan].places.push(place)?;
+        self.list[fan].put(alloc, place, pattern)?;
         self.seats[place] = Some(Seat { fan, member });
+        Ok(())
+    }
+
+    // Whether there is such a place, and the node in it has no seat. Takes no memory.
+    fn is_free(&self, place: usize) -> bool
+        ensures { IsTrue result → slice_get self.now.seats.items place ≡ Some None }
+    {
+        match self.seats.get(place) {
+            Some(None) => true,
+            Some(Some(_)) => false,
+            None => false,
+        }
+    }
+}
+
+impl Fan {
+    // Puts the node in a place as the next member.
+    fn put(&mut self, alloc: Global, place: usize, pattern: &Pattern) -> Result<(), NoMemory>
+        requires { row_key pattern.now ≡ self.now.join.left.key }
+        ensures { OnOk result (IsFanPut self.old self.new place pattern.now) }
+    {
+        let copy = pattern.copied(alloc)?;
+        self.join.put(alloc, copy)?;
+        self.places.push(place)?;
         Ok(())
     }
 }
