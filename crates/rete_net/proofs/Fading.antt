@@ -58,7 +58,7 @@ module _ (p : Program) (look : Look) (old : Named → Bool) (before : List NetNo
         → IsReplaced before nodes → IsReplaced nodes (set nodes place new)
         → (mid : Fans) → IsLaidAs now mid → ((seat : Seat) → (seat_at now.seats.items place ≡ Some seat → ⊥) → IsLeft now mid seat)
         → (rows gone : List Row) → rows ≡ left_given [] a n.parent
-        → ((was : Option Member) → IsOf n (member_at now place) → IsHalf look rows [] was (member_at now place) (half_of now (seat_at now.seats.items place))
+        → ((was : Option Member) → IsOf n now.list.items (seat_at now.seats.items place) → IsHalf look rows [] was (member_at now place) (half_of now (seat_at now.seats.items place))
         → NodeForgets p look old (showing was n) (showing (member_at mid place) new) rows gone)
         → (then : Fans) → IsLaidAs mid then → ((ns : List NetNode) → AreFans ns mid → AreRowsTurned look place gone [] mid then)
         → (b : Answered (List Row)) (due_now : List ℕ) → (a.none ≡ [] → IsPut index place gone a b due due_now)

@@ -11,6 +11,8 @@ use Rattle.row_delta.specs.declared.delta.Delta.{Delta}
 use Rattle.row_delta.specs.declared.row.Named.{Named}
 use Rattle.row_delta.specs.declared.row.Row.{Row}
 use Rattle.join_tests.specs.Joins.{Look}
+use Rattle.rule_model.specs.declared.condition.Pattern.{Pattern}
+use Rattle.join_tests.specs.RowKeys.{row_key}
 use Rattle.pair_memory.specs.declared.candidates.Candidates.{Candidates}
 use Rattle.pair_memory.specs.Apart.{beside}
 use Rattle.pair_memory.specs.Memories.{made}
@@ -23,9 +25,10 @@ use Rattle.rete_net.specs.declared.fans.Seat.{Seat}
 use Rattle.rete_net.specs.declared.fans.Span.{Span}
 use Rattle.rete_net.specs.declared.node.NetNode.{NetNode}
 use Rattle.rete_net.specs.Fans.{given_half, given_span, half_at, half_in, in_fan, member_of, AreFans, AreNamesTurnedAt, AreRowsTurned, IsFanLike, IsHalf, IsHalfTurned, IsInSpan, IsLaidAs, IsLeft, Member}
+use Rattle.rete_net.proofs.Fanning.{laid_same, laid_then}
 use Rattle.rete_net.proofs.Growing.{both_at, has_at}
 use Rattle.rete_net.proofs.Siblings.{half_none}
-use Rattle.rete_net.proofs.Turns.{set_other, set_same}
+use Rattle.rete_net.proofs.Turns.{below_or_at, set_other, set_same}
 use Rattle.rete_net.proofs.Walking.{equal_or_not}
 
 module _ (list : List Fan) (f : ℕ) (old new : Fan) (at : slice_get list f ≡ Some old) where
@@ -173,3 +176,81 @@ module _ (list : List Fan) (seat : Seat) (old : Fan) (join : FanJoin) (at : slic
           here.1 ∙ ap (option_map (λ x. record { left = join.left; own = x })) f ∙ ap (λ left. Some (record { left = left; own = d })) turned.left in
           subst (λ (x : Member). (y : Candidates) × (member_of (set list seat.fan new) (Some seat) ≡ Some (record { left = x.left; own = y })) × AreNamesTurned x.left look gone come half x.own y delta) m_is
           (d, now, turned.member c d there f)
+
+-- one fan of a span more has turned
+pub record IsTurnedTo (look : Look) (gone come : List Row) (first now : Fans) (span : Span) (fan : ℕ) : Type 0 where
+  pub laid : IsLaidAs first now
+  pub outside : (seat : Seat) → (IsInSpan span seat.fan → ⊥) → IsLeft first now seat
+  pub ahead : (seat : Seat) → fan ≤ seat.fan → IsLeft first now seat
+  pub turned : (seat : Seat) (f : Fan) → span.from ≤ seat.fan → seat.fan < fan → slice_get first.list.items seat.fan ≡ Some f → AreBeside f.join
+      → IsHalf look gone come (member_of first.list.items (Some seat)) (member_of now.list.items (Some seat)) (half_at now seat)
+
+pub none_yet : (look : Look) (gone come : List Row) (fans : Fans) (span : Span) → IsTurnedTo look gone come fans fans span span.from
+none_yet look gone come fans span = record {
+  laid = laid_same fans fans refl refl refl;
+  outside = λ seat out. (refl, refl);
+  ahead = λ seat le. (refl, refl);
+  turned = λ seat f low high e beside. absurd (omega (arith, low, high));
+}
+
+module _ (look : Look) (gone come : List Row) (first now next : Fans) (span : Span) (fan : ℕ) (low : span.from ≤ fan) (high : fan < span.to) (was : IsTurnedTo look gone come first now span fan)
+    (laid : IsLaidAs now next) (others : (seat : Seat) → (seat.fan ≡ fan → ⊥) → IsLeft now next seat)
+    (turned : (seat : Seat) (f : Fan) → seat.fan ≡ fan → slice_get now.list.items fan ≡ Some f → AreBeside f.join
+    → IsHalf look gone come (member_of now.list.items (Some seat)) (member_of next.list.items (Some seat)) (half_at next seat)) where
+  left_on : (seat : Seat) → (seat.fan ≡ fan → ⊥) → IsLeft first now seat → IsLeft first next seat
+  left_on seat other so = let then = others seat other in (then.0 ∙ so.0, then.1 ∙ so.1)
+
+  here : (seat : Seat) (f : Fan) → seat.fan ≡ fan → slice_get first.list.items seat.fan ≡ Some f → AreBeside f.join → IsHalf look gone come (member_of first.list.items (Some seat)) (member_of next.list.items (Some seat)) (half_at next seat)
+  here seat f same e beside =
+      let many = was.laid.many in
+      let within : seat.fan < length first.list.items = slice_get_within first.list.items seat.fan f e in
+      let g = has_at now.list.items seat.fan (omega (arith, many, within)) in
+      let like = was.laid.each seat.fan f g.0 e g.1 in
+      let left = was.ahead seat (omega (arith, same)) in
+      subst (λ (o : Option Member). IsHalf look gone come o (member_of next.list.items (Some seat)) (half_at next seat)) left.0
+      (turned seat g.0 same (ap (slice_get now.list.items) (sym same) ∙ g.1) (beside_like f g.0 like beside))
+    where
+      beside_like : (a b : Fan) → IsFanLike a b → AreBeside a.join → AreBeside b.join
+      beside_like a b like all k c e =
+          let long = like.many in
+          let within : k < length b.join.members.items = slice_get_within b.join.members.items k c e in
+          let own = has_at a.join.members.items k (omega (arith, long, within)) in
+          ap (λ (q : Pattern). row_key q) (like.patterns k own.0 c own.1 e) ∙ all k own.0 own.1 ∙ sym like.key
+
+  pub turned_more : IsTurnedTo look gone come first next span (fan + 1)
+  turned_more = record {
+    laid = laid_then first now next was.laid laid;
+    outside = λ seat out. left_on seat (λ same. out (omega (arith, low, same), omega (arith, high, same))) (was.outside seat out);
+    ahead = λ seat le. left_on seat (λ same. absurd (omega (arith, le, same))) (was.ahead seat (omega (arith, le)));
+    turned = λ seat f from lt e beside. elim (below_or_at seat.fan fan lt) [
+      | inr same ↦ here seat f same e beside
+      | inl less ↦
+          let then = others seat (λ same. absurd (omega (arith, same, less))) in
+          subst (λ (o : Option Member). IsHalf look gone come (member_of first.list.items (Some seat)) o (half_at next seat)) (sym then.0)
+          (subst (IsHalf look gone come (member_of first.list.items (Some seat)) (member_of now.list.items (Some seat))) (sym then.1) (was.turned seat f from less e beside))
+    ];
+  }
+
+-- ---- the rows of one fan
+
+-- a fan whose rows turned is like it was
+pub rows_like : (was : Fan) (join : FanJoin) → join.left.key ≡ was.join.left.key → join.members ≡ was.join.members → IsFanLike was (record { parent = was.parent; join = join; places = was.places })
+rows_like was join key members = record {
+  parent = refl;
+  places = refl;
+  key = key;
+  many = ap (λ v. length v.items) members;
+  patterns = λ m c d e h. ap (λ (z : Candidates). z.pattern) (both_at (slice_get was.join.members.items m) d c (ap (λ v. slice_get v.items m) (sym members) ∙ h) e);
+}
+
+module _ (look : Look) (gone come : List Row) (list : List Fan) (f : ℕ) (was : Fan) (at : slice_get list f ≡ Some was) (join : FanJoin) (deltas : Vec Delta) (members : join.members ≡ was.join.members)
+    (turned : AreBeside was.join → JoinTurned was.join join look gone come deltas.items) where
+  pub fan_turned : (seat : Seat) (x : Fan) (halves : Option (Vec Delta)) → seat.fan ≡ f → slice_get list f ≡ Some x → AreBeside x.join → halves ≡ Some deltas
+      → IsHalf look gone come (member_of list (Some seat)) (member_of (set list f (record { parent = was.parent; join = join; places = was.places })) (Some seat)) (half_in seat.member halves)
+  fan_turned seat x halves same e beside there =
+      let x_is : x ≡ was = both_at (slice_get list f) x was e at in
+      let here = member_here list f was (record { parent = was.parent; join = join; places = was.places }) at seat same in
+      subst (λ (o : Option Member). IsHalf look gone come o (member_of (set list f (record { parent = was.parent; join = join; places = was.places })) (Some seat)) (half_in seat.member halves)) (sym here.0)
+      (subst (λ (o : Option Member). IsHalf look gone come (in_fan seat.member (Some was)) o (half_in seat.member halves)) (sym here.1)
+      (fan_halved look gone come was (record { parent = was.parent; join = join; places = was.places }) deltas.items seat.member (half_in seat.member halves)
+      (turned (subst (λ (y : Fan). AreBeside y.join) x_is beside)) members (ap (half_in seat.member) there)))

@@ -32,15 +32,17 @@ use Rattle.rete_net.proofs.Walking.{equal_or_not}
 -- ---- where members stand
 
 -- the node in a place is of the pattern of the member that it is
-pub member_fits : (nodes : List NetNode) (fans : Fans) → AreFans nodes fans → (k : ℕ) (n : NetNode) → slice_get nodes k ≡ Some n → IsOf n (member_at fans k)
+pub member_fits : (nodes : List NetNode) (fans : Fans) → AreFans nodes fans → (k : ℕ) (n : NetNode) → slice_get nodes k ≡ Some n → IsOf n fans.list.items (seat_at fans.seats.items k)
 member_fits nodes fans are k n e = by (seat_at fans.seats.items k) refl
   where
-    by : (o : Option Seat) → seat_at fans.seats.items k ≡ o → IsOf n (member_of fans.list.items o)
+    by : (o : Option Seat) → seat_at fans.seats.items k ≡ o → IsOf n fans.list.items o
     by None none = tt
     by (Some seat) there =
-        let is = are.below.seats k n seat e there in
-        subst (λ (o : Option Fan). IsOf n (in_fan seat.member o)) (sym is.found)
-        (subst (λ (o : Option Candidates). IsOf n (option_map (λ c. record { left = is.fan.join.left; own = c }) o)) (sym is.member) is.pattern)
+        let is = are.below.seats k n seat e there in (
+          record { left = is.fan.join.left; own = is.own },
+          ap (in_fan seat.member) is.found ∙ ap (option_map (λ (c : Candidates). record { left = is.fan.join.left; own = c })) is.member,
+          is.pattern,
+        )
 
 -- two nodes have two seats
 pub one_seat : (nodes : List NetNode) (fans : Fans) → AreFans nodes fans → (j k : ℕ) (m n : NetNode) (seat : Seat) → slice_get nodes j ≡ Some m → slice_get nodes k ≡ Some n

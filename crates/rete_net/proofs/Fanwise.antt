@@ -104,7 +104,7 @@ module _ {D : Type 0} (Turn : NetNode → NetNode → D → D → Type 0) (given
         (so_far : IsReplaced nodes_before nodes) (replaced : IsReplaced nodes (set nodes place new))
         (mid : Fans) (laid : IsLaidAs fans mid) (others : (seat : Seat) → (seat_at fans.seats.items place ≡ Some seat → ⊥) → IsLeft fans mid seat)
         (left answer : D) (left_is : left ≡ left_given first a n.parent)
-        (turn : (was : Option Member) → IsOf n (member_at fans place) → IsHalf look (goes left) (comes left) was (member_at fans place) (half_of fans (seat_at fans.seats.items place))
+        (turn : (was : Option Member) → IsOf n fans.list.items (seat_at fans.seats.items place) → IsHalf look (goes left) (comes left) was (member_at fans place) (half_of fans (seat_at fans.seats.items place))
         → Turn (showing was n) (showing (member_at mid place) new) left answer)
         (then : Fans) (laid_on : IsLaidAs mid then) (turned : (ns : List NetNode) → AreFans ns mid → AreRowsTurned look place (goes answer) (comes answer) mid then)
         (b : Answered D) (due_now : List ℕ) (put : a.none ≡ none → IsPut index place answer a b due due_now) where

@@ -74,7 +74,7 @@ module _ (p : Program) (look : Look) (kept : List Fact) (extras : List Extra) (m
     module _ (new : NetNode) (parent : new.parent ≡ n.parent) (condition : condition_of new.node ≡ condition_of n.node) (so_far : IsReplaced before nodes) (replaced : IsReplaced nodes (set nodes place new))
         (mid : Fans) (laid : IsLaidAs now mid) (others : (seat : Seat) → (seat_at now.seats.items place ≡ Some seat → ⊥) → IsLeft now mid seat)
         (own : List Extra) (own_are : (o : Owner) → slice_get owners place ≡ Some o → own ≡ filter (is_under o) extras) (rows : List Row) (rows_are : rows ≡ (left_given first a n.parent).come) (delta : Delta)
-        (load : (was : Option Member) → IsOf n (member_at now place) → IsHalf look [] rows was (member_at now place) (half_of now (seat_at now.seats.items place))
+        (load : (was : Option Member) → IsOf n now.list.items (seat_at now.seats.items place) → IsHalf look [] rows was (member_at now place) (half_of now (seat_at now.seats.items place))
         → NodeLoad p look kept own moment (showing was n) (showing (member_at mid place) new) rows delta)
         (have : InOrder rows → (e : Extra) → In e own → has rows e.row ≡ true)
         (then : Fans) (laid_on : IsLaidAs mid then) (turned : (ns : List NetNode) → AreFans ns mid → AreRowsTurned look place [] delta.come mid then)

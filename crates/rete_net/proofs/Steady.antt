@@ -67,7 +67,7 @@ module _ (p : Program) (look : Look) (gone : List Fact) (come : Option Fact) (mo
         → IsReplaced before nodes → IsReplaced nodes (set nodes place new)
         → (mid : Fans) → IsLaidAs now mid → ((seat : Seat) → (seat_at now.seats.items place ≡ Some seat → ⊥) → IsLeft now mid seat)
         → (left delta : Delta) → left ≡ left_given first a n.parent
-        → ((was : Option Member) → IsOf n (member_at now place) → IsHalf look left.gone left.come was (member_at now place) (half_of now (seat_at now.seats.items place))
+        → ((was : Option Member) → IsOf n now.list.items (seat_at now.seats.items place) → IsHalf look left.gone left.come was (member_at now place) (half_of now (seat_at now.seats.items place))
         → NodeStep p look gone come moment (showing was n) (showing (member_at mid place) new) left delta)
         → (then : Fans) → IsLaidAs mid then → ((ns : List NetNode) → AreFans ns mid → AreRowsTurned look place delta.gone delta.come mid then)
         → (b : Answered Delta) (due_now : List ℕ) → (a.none ≡ no_change → IsPut index place delta a b due due_now)

@@ -169,10 +169,10 @@ IsHalf look gone come None (Some now) half = ⊥
 IsHalf look gone come (Some was) None half = ⊥
 IsHalf look gone come (Some was) (Some now) half = (now.own ≡ was.own) × IsHalfTurned look gone come was.left now.left was.own half
 
--- the node's pattern is that of the member that it is, if it is one
-abbrev pub IsOf : NetNode → Option Member → Type 0
-IsOf n None = Unit {0}
-IsOf n (Some m) = condition_of n.node ≡ Plain m.own.pattern
+-- with a seat the node is a member, of its pattern
+abbrev pub IsOf : NetNode → List Fan → Option Seat → Type 0
+IsOf n fans None = Unit {0}
+IsOf n fans (Some seat) = (m : Member) × (member_of fans (Some seat) ≡ Some m) × (condition_of n.node ≡ Plain m.own.pattern)
 
 -- another member keeps what it kept, and so does what its rows have changed
 abbrev pub IsLeft : Fans → Fans → Seat → Type 0

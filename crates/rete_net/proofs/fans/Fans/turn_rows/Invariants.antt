@@ -1,0 +1,5 @@
+use Rattle.rete_net.proofs.Fanned.{IsTurnedTo}
+use Rattle.rete_net.proofs.fans.Fans.turn_rows.Given as goal
+
+abbrev pub invariant-loop-fan : goal.invariant-loop-fan
+invariant-loop-fan g l = IsTurnedTo (g.F.Facts.map l.facts) l.gone l.come l.fn.self l.self l.span l.fan
