@@ -1,5 +1,5 @@
 -- Fans that are built: of the next parent there is one more, or one has a member more; and nodes that are members keep nothing.
-use Rattle.std.proofs.Common.{◌≡◌, ◌∙◌, sym, ap, refl, subst, ℕ, suc, ◌+◌, ◌<◌, ◌≤◌, arith, List, [], ◌∷◌, ◌++◌, length, length-append, take, Option, Some, None, slice_get, ◌⊎◌, inl, inr, Bool, true}
+use Rattle.std.proofs.Common.{◌≡◌, ◌∙◌, sym, ap, refl, subst, ℕ, zero, suc, ◌+◌, ◌<◌, ◌≤◌, arith, List, [], ◌∷◌, ◌++◌, length, length-append, take, Option, Some, None, slice_get, ◌⊎◌, inl, inr, Bool, true}
 use mathlib.Core.Path.{fun_ext}
 use Rattle.std.proofs.Math.ListN.{set, length-set}
 use Rattle.std.proofs.lemmas.Option.{slice_get_within}
@@ -286,6 +286,13 @@ module _ (nodes : List NetNode) (from : ℕ) (old new : Fans) (list : new.list �
     within = omega arith;
     empty = λ f x e. was.empty f x (list_at f x e);
   }
+
+-- seats of no node
+pub none_more : (seats : List (Option Seat)) → ((k : ℕ) → seat_at seats k ≡ None) → (k : ℕ) → seat_at (seats ++ None ∷ []) k ≡ None
+none_more [] none zero = refl
+none_more [] none (suc k) = refl
+none_more (x ∷ seats) none zero = none 0
+none_more (x ∷ seats) none (suc k) = none_more seats (λ i. none (suc i)) k
 
 pub all_grown : (nodes : List NetNode) (fans : Fans) → AreGrowing nodes fans (length fans.list.items) → AreFans nodes fans
 all_grown nodes fans is = record { below = is.below; behind = λ f fan e. is.behind f fan (slice_get_within fans.list.items f fan e) e }

@@ -87,8 +87,7 @@ module _ (look : Look) (gone come : List Row) (was now : LeftRows) (c d : Candid
       → AreNamesTurned now look names_gone names_come half c d delta
       → IsStepped (beside was c) (beside now d) look (record { gone = gone; come = come }) right × IsDifference (made (beside was c) look) (made (beside now d) look) delta
   steps right names_gone names_come gone_are come_are names =
-      let first = halved.kept in
-      (
+      let first = halved.kept in (
         keeps_then (beside was c) (beside now c) (beside now d) look _ _ _ _ _ _ first names.kept first.rows
             (λ who. ap (λ b. (has_right (beside was c) look who && not b) || has_name names_come who) (gone_are who)
             ∙ ap (λ b. (has_right (beside was c) look who && not (has right.gone (row_naming who))) || b) (come_are who)),
@@ -156,7 +155,7 @@ module _ (p : Program) (look : Look) (n new : NetNode) (was now : LeftRows) (c d
       let forgot = join_forgot p look (has_name names) rows delta.gone (own_join was c) (own_join now d) kept difference.leads.goes difference.gone_in_order (node.Join (own_join was c)) refl in
       subst (λ (x : NetNode). NodeForgets p look (has_name names) x (showing (Some (record { left = now; own = d })) new) rows delta.gone) (sym (shown_is n was c of))
       (subst (λ (y : NetNode). NodeForgets p look (has_name names) (as_node n was c) y rows delta.gone)
-      (sym (shown_is new now d (ap (λ (x : NetNode). condition_of x.node) same ∙ of ∙ ap Plain (sym kept.pattern)))) 
+      (sym (shown_is new now d (ap (λ (x : NetNode). condition_of x.node) same ∙ of ∙ ap Plain (sym kept.pattern))))
       (node_forgets p look (has_name names) (as_node n was c) (as_node new now d) rows delta.gone
       (λ p node look other s rows forgotten known known_other named. node_moves p look other s rows forgotten known known_other named node)
       (ap (λ (x : NetNode). x.parent) same) (ap (λ (x : NetNode). x.gate) same) (ap Plain kept.pattern)

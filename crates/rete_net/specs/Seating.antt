@@ -24,9 +24,8 @@ pub record GrowsTo (nodes : List NetNode) (from : ℕ) (old new : Fans) : Type 0
   pub spans : new.spans ≡ old.spans
   pub grows : AreGrowing nodes old from → AreGrowing nodes new from
 
--- a fan from a place on keeps rows by this key
-pub record IsFanWith (fans : List Fan) (from : ℕ) (key : RowKey) (f : ℕ) : Type 0 where
-  pub low : from ≤ f
+-- a fan keeps rows by this key
+pub record IsFanWith (fans : List Fan) (key : RowKey) (f : ℕ) : Type 0 where
   pub one : Fan
   pub found : slice_get fans f ≡ Some one
   pub same : one.join.left.key ≡ key

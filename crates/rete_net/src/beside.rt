@@ -57,11 +57,11 @@ impl NetNode {
         ensures step { IfOk result (λ delta. (was : Option Member) → IsOf self.old fans.old.list.items (seat_at fans.old.seats.items place)
             → IsHalf (F.map facts.now) left.now.gone left.now.come was (member_at fans.old place) (half_of fans.old (seat_at fans.old.seats.items place))
             → NodeStep happening.now.program.now (F.map facts.now) (lent happening.now.gone.now) (option_map (λ f. f.now) happening.now.come) happening.now.moment.now
-              (showing was self.old) (showing (member_at fans.new place) self.new) left.now delta) }
+            (showing was self.old) (showing (member_at fans.new place) self.new) left.now delta) }
     {
         match fans.seat(place) {
             Some(seat) => {
-                let half = fans.take_half(alloc, seat);
+                let half = fans.half(alloc, seat)?;
                 let delta = self.advance_member(alloc, fans, seat, half, happening, facts)?;
                 Ok(delta)
             }
@@ -97,7 +97,7 @@ impl NetNode {
         ensures step { IfOk result (λ delta. (was : Option Member) (left : DeltaData) → IsOf self.old fans.old.list.items (Some seat)
             → IsHalf (F.map facts.now) left.gone left.come was (member_of fans.old.list.items (Some seat)) half
             → NodeStep happening.now.program.now (F.map facts.now) (lent happening.now.gone.now) (option_map (λ f. f.now) happening.now.come) happening.now.moment.now
-              (showing was self.old) (showing (member_of fans.new.list.items (Some seat)) self.new) left delta) }
+            (showing was self.old) (showing (member_of fans.new.list.items (Some seat)) self.new) left delta) }
     {
         let pattern = self.node.pattern();
         let clock = happening.moment.clock;
@@ -143,7 +143,7 @@ impl NetNode {
     {
         match fans.seat(place) {
             Some(seat) => {
-                let half = fans.take_half(alloc, seat);
+                let half = fans.half(alloc, seat)?;
                 let delta = fans.turn_names(alloc, seat, half, old, &[], facts)?;
                 Ok(delta.gone)
             }
@@ -176,7 +176,7 @@ impl NetNode {
     {
         match fans.seat(place) {
             Some(seat) => {
-                let half = fans.take_half(alloc, seat);
+                let half = fans.half(alloc, seat)?;
                 let delta = self.load_member(alloc, fans, seat, half, given, facts)?;
                 Ok(delta)
             }
@@ -218,8 +218,12 @@ impl NetNode {
         if !have_rows(given.extras, given.rows) {
             return Err(LoadFault::NoRow);
         }
-        let (gate, come) =
-            PatternGate::load(alloc, self.node.pattern(), given.theirs, given.moment.clock)?;
+        let (gate, come) = PatternGate::load(
+            alloc,
+            self.node.pattern(),
+            given.theirs,
+            given.moment.clock,
+        )?;
         let candidates = names_alone(alloc, come.come.as_slice())?;
         let delta = fans.turn_names(alloc, seat, half, &[], &candidates, facts)?;
         self.gate = gate;

@@ -8,11 +8,10 @@ ghost use Rattle.rete_net.specs.Steps.{no_change as nothing};
 
 use crate::build::no_change;
 use fan_join::FanJoin;
-use fx_base::{Facts, NoMemory};
+use fx_base::{Copies, Facts, NoMemory};
 use row_delta::{Delta, Named, Row};
 use std::alloc::Global;
 use std::collections::BTreeMap;
-use std::mem::replace;
 
 /// Which member of which fan a node is.
 #[derive(Clone, Copy)]
@@ -122,17 +121,16 @@ impl Fans {
         Ok(())
     }
 
-    /// What the rows before a member have changed for it in this step; it is taken out. Takes no memory.
-    pub(crate) fn take_half(&mut self, alloc: Global, seat: Seat) -> Delta
-        ensures half { result ≡ half_at self.old seat }
-        ensures seats { self.new.seats ≡ self.old.seats }
-        ensures spans { self.new.spans ≡ self.old.spans }
-        ensures list { self.new.list ≡ self.old.list }
-        ensures others { (other : SeatData) → (other ≡ seat → ⊥) → half_at self.new other ≡ half_at self.old other }
+    /// A copy of what the rows before a member have changed for it in this step.
+    pub(crate) fn half(&self, alloc: Global, seat: Seat) -> Result<Delta, NoMemory>
+        ensures { IfOk result (λ half. half ≡ half_at self.now seat) }
     {
-        match self.halves.get_mut(&seat.fan) {
-            Some(deltas) => taken(deltas, seat.member, no_change(alloc)),
-            None => no_change(alloc),
+        match self.halves.get(&seat.fan) {
+            Some(halves) => {
+                let half = half_of(alloc, halves, seat.member)?;
+                Ok(half)
+            }
+            None => Ok(no_change(alloc)),
         }
     }
 
@@ -172,13 +170,15 @@ impl Fans {
     }
 }
 
-// What stands in a place, in whose stead this is left; this itself past the end.
-fn taken(deltas: &mut Vec<Delta>, place: usize, none: Delta) -> Delta
-    ensures taken { none ≡ nothing → result ≡ given_half (slice_get deltas.old.items place) }
-    ensures others { (k : ℕ) → (k ≡ place → ⊥) → slice_get deltas.new.items k ≡ slice_get deltas.old.items k }
+// A copy of the difference in a place; past the end nothing has changed.
+fn half_of(alloc: Global, halves: &[Delta], place: usize) -> Result<Delta, NoMemory>
+    ensures { IfOk result (λ half. half ≡ given_half (slice_get halves.now place)) }
 {
-    if place >= deltas.len() {
-        return none;
+    match halves.get(place) {
+        Some(half) => Ok(Delta {
+            gone: half.gone.copy(alloc)?,
+            come: half.come.copy(alloc)?,
+        }),
+        None => Ok(no_change(alloc)),
     }
-    replace(&mut deltas[place], none)
 }

@@ -157,7 +157,10 @@ impl Fans {
             Some(pattern) => {
                 let key = RowKey::of(alloc, pattern)?;
                 match self.fan_for(alloc, nodes, from, key, later)? {
-                    Some(fan) => self.put_member(alloc, fan, place, pattern),
+                    Some(fan) => {
+                        self.put_member(alloc, fan, place, pattern)?;
+                        Ok(())
+                    }
                     None => Ok(()),
                 }
             }
@@ -175,7 +178,8 @@ impl Fans {
         later: &[usize],
     ) -> Result<Option<usize>, NoMemory>
         ensures grows { OnOk result (GrowsTo nodes.now from self.old self.new) }
-        ensures fan { IfOk result (λ fan. IfSome fan (λ f. IsFanWith self.new.list.items from key f)) }
+        ensures fan { IfOk result (λ fan. IfSome fan (λ f. IsFanWith self.new.list.items key f)) }
+        ensures low { IfOk result (λ fan. IfSome fan (λ f. AreGrowing nodes.now self.old from → from ≤ f)) }
     {
         match self.fan_with(from, &key) {
             Some(fan) => Ok(Some(fan)),
@@ -192,7 +196,8 @@ impl Fans {
 
     // The first fan from a place on that keeps rows by this key. Takes no memory.
     fn fan_with(&self, from: usize, key: &RowKey) -> Option<usize>
-        ensures { IfSome result (λ f. IsFanWith self.now.list.items from key.now f) }
+        ensures fan { IfSome result (λ f. IsFanWith self.now.list.items key.now f) }
+        ensures low { IfSome result (λ f. from ≤ f) }
     {
         for fan in from..self.list.len() {
             if self.list[fan].join.key().is_same(key) {
@@ -226,8 +231,9 @@ impl Fans {
         pattern: &Pattern,
     ) -> Result<(), NoMemory>
         requires { (f : FanData) → slice_get self.now.list.items fan ≡ Some f → row_key pattern.now ≡ f.join.left.key }
-        ensures { OnOk result ((nodes : List NetNodeData) (from : ℕ) (n : NetNodeData) → from ≤ fan → slice_get nodes place ≡ Some n → n.parent ≡ Some (length self.old.spans.items)
-            → condition_of n.node ≡ Plain pattern.now → GrowsTo nodes from self.old self.new) }
+        ensures spans { OnOk result (self.new.spans ≡ self.old.spans) }
+        ensures grown { OnOk result ((nodes : List NetNodeData) (from : ℕ) (n : NetNodeData) → from ≤ fan → slice_get nodes place ≡ Some n → n.parent ≡ Some (length self.old.spans.items)
+            → condition_of n.node ≡ Plain pattern.now → AreGrowing nodes self.old from → AreGrowing nodes self.new from) }
     {
         if fan >= self.list.len() || !self.is_free(place) {
             return Ok(());

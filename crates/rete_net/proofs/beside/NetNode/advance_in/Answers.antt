@@ -2,27 +2,24 @@ use Rattle.std.proofs.Common.{◌≡◌, ◌∙◌, sym, ap, refl, option_map, O
 use Rattle.rule_model.specs.Lent.{lent}
 use Rattle.rete_net.specs.Fans.{showing, Member}
 use Rattle.rete_net.specs.Steps.{NodeStep}
-use Rattle.rete_net.proofs.Fanning.{laid_same, laid_then}
+use Rattle.rete_net.proofs.Fanning.{laid_same}
 use Rattle.rete_net.proofs.Siblings.{left_by, with_seat, without_seat}
 use Rattle.rete_net.proofs.beside.NetNode.advance_in.Goals as goal
 
 pub returns-in_ok-delta-in-Some-clause-laid : goal.returns-in_ok-delta-in-Some-clause-laid
 returns-in_ok-delta-in-Some-clause-laid g c =
-    let took = c.take_half-half.ensures in
-    laid_then c.args.fans.now c.take_half-half.new.self c.advance_member.new.fans (laid_same c.args.fans.now c.take_half-half.new.self took.seats took.spans took.list) c.in_ok-delta-in-Some.ensures.laid
+    c.in_ok-delta-in-Some.ensures.laid
 
 pub returns-in_ok-delta-in-Some-clause-others : goal.returns-in_ok-delta-in-Some-clause-others
 returns-in_ok-delta-in-Some-clause-others g c =
-    let took = c.take_half-half.ensures in
-    left_by c.args.fans.now c.take_half-half.new.self c.advance_member.new.fans c.args.place c.in-Some.seat (sym c.seat.ensures ∙ c.in-Some.is) took.list took.others c.in_ok-delta-in-Some.ensures.others
+    left_by c.args.fans.now c.args.fans.now c.advance_member.new.fans c.args.place c.in-Some.seat (sym c.seat.ensures ∙ c.in-Some.is) refl (λ other differ. refl) c.in_ok-delta-in-Some.ensures.others
 
 pub returns-in_ok-delta-in-Some-clause-step : goal.returns-in_ok-delta-in-Some-clause-step
 returns-in_ok-delta-in-Some-clause-step g c =
-    let took = c.take_half-half.ensures in
-    with_seat c.args.fans.now c.take_half-half.new.self c.advance_member.new.fans c.args.place took.list took.seats c.in_ok-delta-in-Some.ensures.laid.seats
+    with_seat c.args.fans.now c.args.fans.now c.advance_member.new.fans c.args.place refl refl c.in_ok-delta-in-Some.ensures.laid.seats
     (λ (was now : Option Member). NodeStep c.args.happening.now.program.now (g.F.Facts.map c.args.facts.now) (lent c.args.happening.now.gone.now) (option_map (λ f. f.now) c.args.happening.now.come) c.args.happening.now.moment.now
     (showing was c.args.self.now) (showing now c.advance_member.new.self) c.args.left.now c.in_ok-delta-in-Some.delta)
-    c.args.self.now (g.F.Facts.map c.args.facts.now) c.args.left.now.gone c.args.left.now.come c.take_half-half.result c.in-Some.seat (sym c.seat.ensures ∙ c.in-Some.is) took.half
+    c.args.self.now (g.F.Facts.map c.args.facts.now) c.args.left.now.gone c.args.left.now.come c.in_ok-half.half c.in-Some.seat (sym c.seat.ensures ∙ c.in-Some.is) c.in_ok-half.ensures
     (λ was of halved. c.in_ok-delta-in-Some.ensures.step was c.args.left.now of halved)
 
 pub returns-in_ok-delta-in-None-clause-laid : goal.returns-in_ok-delta-in-None-clause-laid

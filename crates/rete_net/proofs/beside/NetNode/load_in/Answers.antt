@@ -2,28 +2,25 @@ use Rattle.std.proofs.Common.{◌≡◌, ◌∙◌, sym, ap, refl, [], Err, Opti
 use Rattle.rete_net.specs.Fans.{showing, Member}
 use Rattle.rete_net.specs.Loads.{NodeLoad}
 use Rattle.rete_net.specs.declared.load.LoadFault.TheVariants.{NoRow}
-use Rattle.rete_net.proofs.Fanning.{laid_same, laid_then}
+use Rattle.rete_net.proofs.Fanning.{laid_same}
 use Rattle.rete_net.proofs.Filling.{same_fault}
 use Rattle.rete_net.proofs.Siblings.{left_by, with_seat, without_seat}
 use Rattle.rete_net.proofs.beside.NetNode.load_in.Goals as goal
 
 pub returns-in_ok-delta-in-Some-clause-laid : goal.returns-in_ok-delta-in-Some-clause-laid
 returns-in_ok-delta-in-Some-clause-laid g c =
-    let took = c.take_half-half.ensures in
-    laid_then c.args.fans.now c.take_half-half.new.self c.load_member.new.fans (laid_same c.args.fans.now c.take_half-half.new.self took.seats took.spans took.list) c.in_ok-delta-in-Some.ensures.laid
+    c.in_ok-delta-in-Some.ensures.laid
 
 pub returns-in_ok-delta-in-Some-clause-others : goal.returns-in_ok-delta-in-Some-clause-others
 returns-in_ok-delta-in-Some-clause-others g c =
-    let took = c.take_half-half.ensures in
-    left_by c.args.fans.now c.take_half-half.new.self c.load_member.new.fans c.args.place c.in-Some.seat (sym c.seat.ensures ∙ c.in-Some.is) took.list took.others c.in_ok-delta-in-Some.ensures.others
+    left_by c.args.fans.now c.args.fans.now c.load_member.new.fans c.args.place c.in-Some.seat (sym c.seat.ensures ∙ c.in-Some.is) refl (λ other differ. refl) c.in_ok-delta-in-Some.ensures.others
 
 pub returns-in_ok-delta-in-Some-clause-loads : goal.returns-in_ok-delta-in-Some-clause-loads
 returns-in_ok-delta-in-Some-clause-loads g c was kept theirs of halved =
-    let took = c.take_half-half.ensures in
     let look = g.F.Facts.map c.args.facts.now in
-    with_seat c.args.fans.now c.take_half-half.new.self c.load_member.new.fans c.args.place took.list took.seats c.in_ok-delta-in-Some.ensures.laid.seats
+    with_seat c.args.fans.now c.args.fans.now c.load_member.new.fans c.args.place refl refl c.in_ok-delta-in-Some.ensures.laid.seats
     (λ (was now : Option Member). NodeLoad c.args.program.now look kept c.args.given.now.extras.now c.args.given.now.moment.now (showing was c.args.self.now) (showing now c.load_member.new.self) c.args.given.now.rows.now c.in_ok-delta-in-Some.delta)
-    c.args.self.now look [] c.args.given.now.rows.now c.take_half-half.result c.in-Some.seat (sym c.seat.ensures ∙ c.in-Some.is) took.half
+    c.args.self.now look [] c.args.given.now.rows.now c.in_ok-half.half c.in-Some.seat (sym c.seat.ensures ∙ c.in-Some.is) c.in_ok-half.ensures
     (λ was of halved. c.in_ok-delta-in-Some.ensures.loads c.args.program.now was kept theirs of halved) was of halved
 
 pub returns-in_err-delta-in-Some-clause-no_row : goal.returns-in_err-delta-in-Some-clause-no_row
