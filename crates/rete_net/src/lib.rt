@@ -5,7 +5,6 @@
 
 mod alpha_index;
 mod answered;
-mod beside;
 mod build;
 mod changes;
 mod copying;
@@ -18,6 +17,7 @@ pub mod laws;
 mod lists;
 mod load;
 mod loading;
+mod membership;
 mod net;
 mod node;
 mod pieces;

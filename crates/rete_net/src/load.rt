@@ -90,13 +90,13 @@ impl Rete {
     }
 
     // Loads nodes that keep nothing, each with the rows that its parent answered, and answers what they answer.
-    fn load_nodes<F: Facts>(
+    fn load_nodes<'g, F: Facts>(
         &mut self,
         alloc: Global,
         program: &Program,
-        kept: &[&Fact],
-        extras: &[Extra],
-        moment: &Moment,
+        kept: &'g [&'g Fact],
+        extras: &'g [Extra],
+        moment: &'g Moment<'g>,
         facts: &F,
     ) -> Result<Answered<Delta>, LoadFault>
         ensures ends { OnOk result (self.new.ends ≡ self.old.ends) }

@@ -20,11 +20,11 @@ use std::alloc::Global;
 
 /// What a node that keeps nothing is loaded with: the rows before it, the facts of its type, its extras, and the moment.
 #[derive(Clone, Copy)]
-pub(crate) struct Given<'g> {
-    pub(crate) rows: &'g [Row],
-    pub(crate) theirs: &'g [&'g Fact],
-    pub(crate) extras: &'g [Extra],
-    pub(crate) moment: &'g Moment<'g>,
+pub(crate) struct Given<'r, 't, 'f, 'e, 'm> {
+    pub(crate) rows: &'r [Row],
+    pub(crate) theirs: &'t [&'f Fact],
+    pub(crate) extras: &'e [Extra],
+    pub(crate) moment: &'m Moment<'m>,
 }
 
 impl NetNode {

@@ -31,13 +31,13 @@ ghost use Rattle.rete_net.specs.Steps.{NetStep};
 ghost use Rattle.rete_net.specs.Walks.{HasAnswered, IsReplaced, IsWired};
 
 use crate::answered::Answered;
-use crate::beside::Happening;
 use crate::build::{Builder, NoFacts, Owner, empty_row_comes, no_change};
 use crate::changes::{RuleChange, changes_of, rule_in};
 use crate::due::{first_below, put_reached};
 use crate::fans::Fans;
 use crate::forgetting::{RuleRows, put_dropped, rows_of_rules, with_old};
 use crate::index::Index;
+use crate::membership::Happening;
 use crate::node::NetNode;
 use crate::quiet::is_before;
 use crate::schedule::Schedule;
@@ -259,14 +259,14 @@ impl Rete {
 
     /// Lets the nodes that the step reaches take it, each after its parent, and answers what they answer. `first` comes to the nodes
     /// without a parent.
-    fn walk<F: Facts>(
+    fn walk<'h, F: Facts>(
         &mut self,
         alloc: Global,
-        program: &Program,
+        program: &'h Program,
         first: &Delta,
-        gone: &[&Fact],
-        come: Option<&Fact>,
-        moment: &Moment,
+        gone: &'h [&'h Fact],
+        come: Option<&'h Fact>,
+        moment: &'h Moment<'h>,
         facts: &F,
     ) -> Result<Answered<Delta>, NoMemory>
         ensures ends { OnOk result (self.new.ends ≡ self.old.ends) }

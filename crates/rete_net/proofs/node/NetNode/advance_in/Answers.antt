@@ -4,7 +4,7 @@ use Rattle.rete_net.specs.Fans.{showing, Member}
 use Rattle.rete_net.specs.Steps.{NodeStep}
 use Rattle.rete_net.proofs.Fanning.{laid_same}
 use Rattle.rete_net.proofs.Siblings.{left_by, with_seat, without_seat}
-use Rattle.rete_net.proofs.beside.NetNode.advance_in.Goals as goal
+use Rattle.rete_net.proofs.node.NetNode.advance_in.Goals as goal
 
 pub returns-in_ok-delta-in-Some-clause-laid : goal.returns-in_ok-delta-in-Some-clause-laid
 returns-in_ok-delta-in-Some-clause-laid g c =

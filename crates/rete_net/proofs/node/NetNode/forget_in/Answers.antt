@@ -6,7 +6,7 @@ use Rattle.rete_net.specs.Dropped.{NodeForgets}
 use Rattle.rete_net.specs.Fans.{half_in, showing, Member}
 use Rattle.rete_net.proofs.Fanning.{laid_same}
 use Rattle.rete_net.proofs.Siblings.{left_by, names_forget, with_seat, without_seat}
-use Rattle.rete_net.proofs.beside.NetNode.forget_in.Goals as goal
+use Rattle.rete_net.proofs.node.NetNode.forget_in.Goals as goal
 
 pub returns-in_ok-delta-clause-laid : goal.returns-in_ok-delta-clause-laid
 returns-in_ok-delta-clause-laid g c =

@@ -1,6 +1,6 @@
 use Rattle.std.proofs.Common.{◌∙◌}
 use Rattle.rete_net.proofs.Seated.{all_grown, none_grow}
-use Rattle.rete_net.proofs.seating.Fans.of.Goals as goal
+use Rattle.rete_net.proofs.fans.Fans.of.Goals as goal
 
 pub loop-parent-init : goal.loop-parent-init
 loop-parent-init c = none_grow c.args.nodes.now c.in_ok-fans.fans (c.in_ok-fans.ensures.seats ∙ c.len.ensures) c.in_ok-fans.ensures.none c.in_ok-fans.ensures.list c.in_ok-fans.ensures.spans

@@ -10,7 +10,7 @@ use Rattle.pair_memory.specs.Joined.{has_name}
 use Rattle.rete_net.specs.Fans.{half_in}
 use Rattle.rete_net.proofs.Fanning.{laid_same}
 use Rattle.rete_net.proofs.Siblings.{still_steps, names_step}
-use Rattle.rete_net.proofs.beside.NetNode.advance_member.Goals as goal
+use Rattle.rete_net.proofs.node.NetNode.advance_member.Goals as goal
 
 pub returns-then-is_still-clause-laid : goal.returns-then-is_still-clause-laid
 returns-then-is_still-clause-laid g c = laid_same c.args.fans.now c.args.fans.now refl refl refl

@@ -5,7 +5,7 @@ use Rattle.rete_net.specs.declared.load.LoadFault.TheVariants.{NoRow}
 use Rattle.rete_net.proofs.Fanning.{laid_same}
 use Rattle.rete_net.proofs.Filling.{same_fault}
 use Rattle.rete_net.proofs.Siblings.{left_by, with_seat, without_seat}
-use Rattle.rete_net.proofs.beside.NetNode.load_in.Goals as goal
+use Rattle.rete_net.proofs.node.NetNode.load_in.Goals as goal
 
 pub returns-in_ok-delta-in-Some-clause-laid : goal.returns-in_ok-delta-in-Some-clause-laid
 returns-in_ok-delta-in-Some-clause-laid g c =

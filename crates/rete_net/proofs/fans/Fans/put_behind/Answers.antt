@@ -1,7 +1,7 @@
 use Rattle.std.proofs.Common.{◌≡◌, ◌∙◌, sym, ap, refl, subst, ℕ, length}
 use Rattle.rete_net.specs.Seating.{AreGrowing}
 use Rattle.rete_net.proofs.Seated.{grows_not, grows_on, span_grows}
-use Rattle.rete_net.proofs.seating.Fans.put_behind.Goals as goal
+use Rattle.rete_net.proofs.fans.Fans.put_behind.Goals as goal
 
 pub loop-child-init : goal.loop-child-init
 loop-child-init c = grows_not c.args.nodes.now c.len-from.result c.args.self.now

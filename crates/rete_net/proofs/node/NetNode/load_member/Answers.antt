@@ -15,7 +15,7 @@ use Rattle.pattern_gate.specs.Gates.{GateStands, has_good_window}
 use Rattle.pattern_gate.specs.Moves.{IsOrderly}
 use Rattle.rete_net.specs.Fans.{half_in}
 use Rattle.rete_net.proofs.Siblings.{names_load}
-use Rattle.rete_net.proofs.beside.NetNode.load_member.Goals as goal
+use Rattle.rete_net.proofs.node.NetNode.load_member.Goals as goal
 
 pub returns-clause-loads : goal.returns-clause-loads
 returns-clause-loads g c p was kept theirs_are of halved =

@@ -2,7 +2,7 @@ use Rattle.std.proofs.Common.{◌≡◌, ◌∙◌, sym, ap, refl, subst, ℕ, �
 use Rattle.rete_net.specs.declared.fans.Seat.{Seat}
 use Rattle.rete_net.specs.Fans.{seat_at}
 use Rattle.rete_net.proofs.Seated.{none_more}
-use Rattle.rete_net.proofs.seating.Fans.none.Goals as goal
+use Rattle.rete_net.proofs.fans.Fans.none.Goals as goal
 
 pub loop-place-preserved : goal.loop-place-preserved
 loop-place-preserved c = record {
