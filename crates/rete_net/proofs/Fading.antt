@@ -31,7 +31,7 @@ module _ (p : Program) (look : Look) (old : Named → Bool) (before : List NetNo
   abbrev no_rows : List Row
   no_rows = []
 
-  begun : (n : NetNode) → HasNoOld look old n → n.parent ≡ None → no_rows ≡ no_rows
+  pub begun : (n : NetNode) → HasNoOld look old n → n.parent ≡ None → no_rows ≡ no_rows
   begun n none e = refl
 
   -- all rows that are dropped leave, and none come

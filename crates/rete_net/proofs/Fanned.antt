@@ -1,8 +1,10 @@
 -- One fan of others turns: its rows, or the candidates of one member.
-use Rattle.std.proofs.Common.{◌≡◌, ◌∙◌, sym, ap, refl, subst, ℕ, ◌+◌, ◌<◌, ◌≤◌, arith, List, [], ◌∷◌, length, Option, Some, None, slice_get, ◌⊎◌, inl, inr}
+use Rattle.std.proofs.Common.{◌≡◌, ◌∙◌, sym, ap, refl, subst, ℕ, ◌+◌, ◌<◌, ◌≤◌, arith, List, [], ◌∷◌, length, Option, Some, None, slice_get, ◌⊎◌, inl, inr, true, false}
 use Rattle.std.proofs.Math.ListN.{set, length-set}
 use Rattle.std.proofs.lemmas.Option.{slice_get_within}
-use Rattle.std.specs.BTreeMap.{get}
+use Rattle.std.specs.BTreeMap.{get, is_at, Updates}
+use Rattle.std.proofs.lemmas.Bool.Decides.{nat_tests}
+use Rattle.row_change.specs.Changes.{are_none}
 use Rattle.std.specs.Global.{Vec}
 use Rattle.std.specs.Option.{option_map}
 use Rattle.std.specs.Ordering.{nat_cmp}
@@ -52,6 +54,17 @@ module _ (list : List Fan) (f : ℕ) (old new : Fan) (at : slice_get list f ≡ 
     where
       like_itself : (x y : Fan) → x ≡ y → IsFanLike x y
       like_itself x y same = subst (IsFanLike x) same (record { parent = refl; places = refl; key = refl; many = refl; patterns = λ m c d e g. ap (λ (z : Candidates). z.pattern) (both_at (slice_get x.join.members.items m) d c g e) })
+
+-- a seat is its fan and its member
+abbrev seat_of : ℕ → ℕ → Seat
+seat_of f m = record { fan = f; member = m }
+
+same_seat : (a b : Seat) → a.fan ≡ b.fan → a.member ≡ b.member → a ≡ b
+same_seat a b e h = ap (λ (f : ℕ). seat_of f a.member) e ∙ ap (λ (m : ℕ). seat_of b.fan m) h
+
+-- the number of another fan
+apart : (j k : ℕ) → (k ≡ j → ⊥) → is_at (nat_cmp j) k ≡ false
+apart j k h = grind (arith, nat_tests)
 
 -- ---- rows
 
@@ -144,7 +157,7 @@ module _ (list : List Fan) (seat : Seat) (old : Fan) (join : FanJoin) (at : slic
   names_others other differ = elim (equal_or_not other.fan seat.fan) [
     | inr away ↦ member_other list seat.fan old new at other away
     | inl same ↦ elim (equal_or_not other.member seat.member) [
-      | inl both ↦ absurd (differ (let one = same in let two = both in cc))
+      | inl both ↦ absurd (differ (same_seat other seat same both))
       | inr apart ↦
           let here = member_here list seat.fan old new at other same in
           here.1
@@ -254,3 +267,23 @@ module _ (look : Look) (gone come : List Row) (list : List Fan) (f : ℕ) (was :
       (subst (λ (o : Option Member). IsHalf look gone come (in_fan seat.member (Some was)) o (half_in seat.member halves)) (sym here.1)
       (fan_halved look gone come was (record { parent = was.parent; join = join; places = was.places }) deltas.items seat.member (half_in seat.member halves)
       (turned (subst (λ (y : Fan). AreBeside y.join) x_is beside)) members (ap (half_in seat.member) there)))
+
+-- ---- the halves
+
+-- the halves of one fan are put
+module _ (old new : Fans) (f : ℕ) (deltas : Vec Delta) (put : Updates nat_cmp old.halves new.halves f (Some deltas)) where
+  pub half_other : (seat : Seat) → (seat.fan ≡ f → ⊥) → half_at new seat ≡ half_at old seat
+  half_other seat other = ap (half_in seat.member) (put.2 seat.fan (apart f seat.fan other))
+
+  pub half_there : (seat : Seat) → seat.fan ≡ f → get nat_cmp new.halves seat.fan ≡ Some deltas
+  half_there seat same = ap (get nat_cmp new.halves) same ∙ put.1
+
+-- ---- no rows
+
+pub none_of : (gone come : List Row) → are_none gone come ≡ true → (gone ≡ []) × (come ≡ [])
+none_of [] [] e = (refl, refl)
+none_of [] (r ∷ come) e = absurd (let no : false ≡ true = e in cc)
+none_of (r ∷ gone) come e = absurd (let no : false ≡ true = e in cc)
+
+pub some_of : (gone come : List Row) → are_none gone come ≡ false → gone ≡ [] → come ≡ [] → ⊥
+some_of gone come e g c = let no : true ≡ false = sym (ap (λ xs. are_none xs come) g ∙ ap (are_none []) c) ∙ e in cc

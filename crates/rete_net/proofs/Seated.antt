@@ -310,7 +310,7 @@ module _ (p : Program) (nodes : List NetNode) (all : List (List Condition)) (fan
   fresh_member n m of nothing fresh forgotten = record {
     gate = subst (λ (c : Condition). GateStands p (pattern_of c) n.gate empty_snapshot) (sym (condition_shown (Some m) n)) (fresh forgotten).gate;
     node = subst (λ (x : Node). NodeStands p x (held empty_snapshot) empty_snapshot no_rows forgotten) (sym (shows_join m n.node m.own.pattern of))
-        (subst (λ (names : Named → Bool). StandsFor (beside m.left m.own) (held empty_snapshot) no_rows names forgotten) (fun_ext (λ who. sym (no_candidates p m.own.pattern who))) (nothing (held empty_snapshot) forgotten));
+        (subst (λ (names : Named → Bool). StandsFor (beside m.left m.own) (held empty_snapshot) no_rows names forgotten) (fun_ext (λ who. no_candidates p m.own.pattern who)) (nothing (held empty_snapshot) forgotten));
   }
 
   fresh_at : (k : ℕ) (n : NetNode) → slice_get nodes k ≡ Some n → IsFresh p (showing (member_at fans k) n)

@@ -38,10 +38,10 @@ module _ (p : Program) (look : Look) (gone : List Fact) (come : Option Fact) (mo
   abbrev Alone : NetNode → Type 0
   Alone n = IsLeftAlone p n first gone come moment
 
-  begun : (n : NetNode) → Alone n → n.parent ≡ None → first ≡ no_change
+  pub begun : (n : NetNode) → Alone n → n.parent ≡ None → first ≡ no_change
   begun n alone e = nothing_is first (alone.unreached.begun e)
 
-  stays : (n : NetNode) → Alone n → NodeStep p look gone come moment n n no_change no_change
+  pub stays : (n : NetNode) → Alone n → NodeStep p look gone come moment n n no_change no_change
   stays n alone = alone_stays p look gone come moment first n no_change alone refl
 
   abbrev goes : Delta → List Row

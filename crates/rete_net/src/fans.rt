@@ -1,4 +1,5 @@
 ghost use Rattle.std.specs.Prelude.{◌≡◌, ◌<◌, ℕ, List, false, length, slice_get, None, Some, IfOk, OnOk, IsTrue};
+ghost use Rattle.row_change.specs.Changes.{are_none};
 ghost use Rattle.fan_join.specs.Fans.{AreBeside};
 ghost use Rattle.rete_net.specs.declared.fans.Fan.{Fan as FanData};
 ghost use Rattle.rete_net.specs.declared.fans.Seat.{Seat as SeatData};
@@ -79,7 +80,7 @@ impl Fans {
         ensures laid { OnOk result (IsLaidAs self.old self.new) }
         ensures turned { OnOk result ((nodes : List NetNodeData) → AreFans nodes self.old → AreRowsTurned (F.map facts.now) parent gone.now come.now self.old self.new) }
     {
-        if gone.is_empty() && come.is_empty() {
+        if is_nothing(gone, come) {
             return Ok(());
         }
         let span = self.span(parent);
@@ -167,6 +168,16 @@ impl Fans {
             Some(fan) => seat.member < fan.join.count(),
             None => false,
         }
+    }
+}
+
+// Whether there are no rows of either kind. Takes no memory.
+fn is_nothing(gone: &[Row], come: &[Row]) -> bool
+    ensures { result ≡ are_none gone.now come.now }
+{
+    match (gone, come) {
+        ([], []) => true,
+        _ => false,
     }
 }
 

@@ -19,7 +19,7 @@ returns-in_ok-delta-in-Some-clause-step g c =
     with_seat c.args.fans.now c.args.fans.now c.advance_member.new.fans c.args.place refl refl c.in_ok-delta-in-Some.ensures.laid.seats
     (λ (was now : Option Member). NodeStep c.args.happening.now.program.now (g.F.Facts.map c.args.facts.now) (lent c.args.happening.now.gone.now) (option_map (λ f. f.now) c.args.happening.now.come) c.args.happening.now.moment.now
     (showing was c.args.self.now) (showing now c.advance_member.new.self) c.args.left.now c.in_ok-delta-in-Some.delta)
-    c.args.self.now (g.F.Facts.map c.args.facts.now) c.args.left.now.gone c.args.left.now.come c.in_ok-half.half c.in-Some.seat (sym c.seat.ensures ∙ c.in-Some.is) c.in_ok-half.ensures
+    c.args.self.now (g.F.Facts.map c.args.facts.now) c.args.left.now.gone c.args.left.now.come c.in_ok-half-in-Some.half c.in-Some.seat (sym c.seat.ensures ∙ c.in-Some.is) c.in_ok-half-in-Some.ensures
     (λ was of halved. c.in_ok-delta-in-Some.ensures.step was c.args.left.now of halved)
 
 pub returns-in_ok-delta-in-None-clause-laid : goal.returns-in_ok-delta-in-None-clause-laid

@@ -20,7 +20,7 @@ returns-in_ok-delta-in-Some-clause-loads g c was kept theirs of halved =
     let look = g.F.Facts.map c.args.facts.now in
     with_seat c.args.fans.now c.args.fans.now c.load_member.new.fans c.args.place refl refl c.in_ok-delta-in-Some.ensures.laid.seats
     (λ (was now : Option Member). NodeLoad c.args.program.now look kept c.args.given.now.extras.now c.args.given.now.moment.now (showing was c.args.self.now) (showing now c.load_member.new.self) c.args.given.now.rows.now c.in_ok-delta-in-Some.delta)
-    c.args.self.now look [] c.args.given.now.rows.now c.in_ok-half.half c.in-Some.seat (sym c.seat.ensures ∙ c.in-Some.is) c.in_ok-half.ensures
+    c.args.self.now look [] c.args.given.now.rows.now c.in_ok-half-in-Some.half c.in-Some.seat (sym c.seat.ensures ∙ c.in-Some.is) c.in_ok-half-in-Some.ensures
     (λ was of halved. c.in_ok-delta-in-Some.ensures.loads c.args.program.now was kept theirs of halved) was of halved
 
 pub returns-in_err-delta-in-Some-clause-no_row : goal.returns-in_err-delta-in-Some-clause-no_row
