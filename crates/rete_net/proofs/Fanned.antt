@@ -1,5 +1,5 @@
 -- One fan of others turns: its rows, or the candidates of one member.
-use Rattle.std.proofs.Common.{◌≡◌, ◌∙◌, sym, ap, refl, subst, ℕ, ◌+◌, ◌<◌, ◌≤◌, arith, List, [], ◌∷◌, length, Option, Some, None, slice_get, ◌⊎◌, inl, inr, true, false}
+use Rattle.std.proofs.Common.{◌≡◌, ◌∙◌, sym, ap, refl, subst, ℕ, ◌+◌, ◌<◌, ◌≤◌, arith, List, [], ◌∷◌, length, Option, Some, None, slice_get, ◌⊎◌, inl, inr, true, false, zero, suc, nat_lt}
 use Rattle.std.proofs.Math.ListN.{set, length-set}
 use Rattle.std.proofs.lemmas.Option.{slice_get_within}
 use Rattle.std.specs.BTreeMap.{get, is_at, Updates}
@@ -287,3 +287,16 @@ none_of (r ∷ gone) come e = absurd (let no : false ≡ true = e in cc)
 
 pub some_of : (gone come : List Row) → are_none gone come ≡ false → gone ≡ [] → come ≡ [] → ⊥
 some_of gone come e g c = let no : true ≡ false = sym (ap (λ xs. are_none xs come) g ∙ ap (are_none []) c) ∙ e in cc
+
+-- ---- places
+
+pub below_of : (m n : ℕ) → nat_lt m n ≡ true → m < n
+below_of m n e = grind (arith, nat_tests)
+
+pub not_below : (m n : ℕ) → nat_lt m n ≡ false → n ≤ m
+not_below m n e = grind (arith, nat_tests)
+
+pub none_past : {A : Type 0} (xs : List A) (k : ℕ) → length xs ≤ k → slice_get xs k ≡ None
+none_past [] k le = refl
+none_past (x ∷ xs) zero le = absurd (omega (arith, le))
+none_past (x ∷ xs) (suc k) le = none_past xs k (omega (arith, le))

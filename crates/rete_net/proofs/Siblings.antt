@@ -2,6 +2,12 @@
 use Rattle.std.proofs.Common.{◌≡◌, ◌∙◌, sym, ap, refl, subst, ℕ, ℤ, ◌&&◌, ◌||◌, not, Bool, true, false, List, [], ◌∷◌, map, Option, Some, None, slice_get}
 use Rattle.std.specs.List.{filter}
 use Rattle.std.specs.Ordering.{eq_by_cmp}
+use Rattle.std.specs.Option.{is_some, IfSome}
+use Rattle.std.specs.List.Sorted.{IsStrictlySortedBy}
+use Rattle.fx_base.specs.Lists.{In}
+use Rattle.fx_base.specs.declared.ids.RuleId.{RuleId}
+use Rattle.tally_node.specs.Extras.{rows_of_extras}
+use Rattle.condition_node.specs.Loading.{AreExtrasBeside}
 use Rattle.std.proofs.lemmas.Bool.Decides.{same_from_decides}
 use Rattle.fx_base.specs.declared.fact.Fact.{Fact}
 use Rattle.row_delta.specs.declared.extra.Extra.{Extra}
@@ -328,3 +334,19 @@ left_by old mid new place seat at list halves others other away =
     let differ : other ≡ seat → ⊥ = λ same. away (at ∙ ap Some (sym same)) in
     let left = others other differ in
     (left.0 ∙ ap (λ l. member_of l.items (Some other)) list, left.1 ∙ halves other differ)
+
+-- ---- what a member counts beyond its candidates
+
+-- a condition that binds a fact counts nothing
+pub none_beside : (p : Program) (c : Condition) (q : Pattern) → c ≡ Plain q → (s : Snapshot) (rows : Row → Bool) (forgotten : Named → Bool) (under : RuleId) (place : ℕ) (extras : List Extra) → extras ≡ []
+    → AreExtrasBeside p c s rows forgotten under place extras
+unfolding IsStrictlySortedBy
+none_beside p c q is s rows forgotten under place extras none =
+    subst (λ (x : Condition). AreExtrasBeside p x s rows forgotten under place extras) (sym is) (record {
+      in_order = subst (λ (es : List Extra). InOrder (rows_of_extras es)) (sym none) tt;
+      exact = λ e. (λ h. absurd (subst (In e) none h), λ more. absurd more.aside);
+    })
+
+pub given_some : {A : Type 0} (o : Option A) (P : A → Type 0) → is_some o ≡ true → IfSome o P → (x : A) × P x
+given_some None P e h = absurd (let no : false ≡ true = e in cc)
+given_some (Some x) P e h = (x, h)
