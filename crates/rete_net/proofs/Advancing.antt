@@ -20,6 +20,7 @@ use Rattle.condition_rows.specs.Sets.{rows_of}
 use Rattle.condition_rows.specs.Lines.{empty_row}
 use Rattle.condition_rows.proofs.Naming.{rows_named}
 use Rattle.condition_rows.proofs.Whole.{one_more}
+use Rattle.rete_net.specs.Fans.{AreFans, shown_nodes}
 use Rattle.rete_net.specs.declared.changes.RuleChange.{RuleChange}
 use Rattle.rete_net.specs.declared.net.Rete.{Rete}
 use Rattle.rete_net.specs.declared.node.NetNode.{NetNode}
@@ -60,27 +61,28 @@ first_stays p s next forgotten =
     (record { goes = λ row. unmoved (cleaned (rows_of p s []) forgotten row); comes = λ row. unmoved (cleaned (rows_of p s []) forgotten row) })
 
 module _ (p : Program) (look : Look) (s next : Snapshot) (gone : List Fact) (come : Option Fact) (moment : Moment) (forgotten : Named → Bool) (first : Delta) (was : List Condition → Row → Bool) (lists : Rule → List Row)
-    (old new : Rete) (shape : IsNetOf p old.nodes.items old.ends.items) (answers : List RuleChange)
+    (old new : Rete) (shape : IsNetOf p (shown_nodes old) old.ends.items) (answers : List RuleChange)
     (given : IsGiven p look s next gone come moment forgotten) (made : AreMade p s was) (leads : Leads (cleaned (was []) forgotten) (cleaned (rows_of p next []) forgotten) first.gone first.come)
-    (standing : AreStanding p s was forgotten old.nodes.items shape.conditions)
-    (beside : (k : ℕ) (n : NetNode) → slice_get old.nodes.items k ≡ Some n → StaysBeside p given.world s next (condition_of n.node) (was (before shape.conditions n.parent)) (rows_of p next (before shape.conditions n.parent)) forgotten)
-    (same : new.ends.items ≡ old.ends.items) (step : NetStep p look gone come moment first old.nodes.items new.nodes.items old.ends.items answers)
+    (standing : AreStanding p s was forgotten (shown_nodes old) shape.conditions)
+    (beside : (k : ℕ) (n : NetNode) → slice_get (shown_nodes old) k ≡ Some n → StaysBeside p given.world s next (condition_of n.node) (was (before shape.conditions n.parent)) (rows_of p next (before shape.conditions n.parent)) forgotten)
+    (same : new.ends.items ≡ old.ends.items) (step : NetStep p look gone come moment first (shown_nodes old) (shown_nodes new) old.ends.items answers)
     (listed : (place : ℕ) (rule : Rule) → slice_get p.rules place ≡ Some rule → cleaned (was rule.conditions) forgotten ≡ has (lists rule)) where
   distinct_now : HaveDistinctTags next.facts
   distinct_now = rising next.facts given.moves.after.in_order
 
-  pub shape_now : IsNetOf p new.nodes.items new.ends.items
-  shape_now = net_again p old.nodes.items new.nodes.items old.ends.items new.ends.items same (stepped_nodes p look gone come moment first old.nodes.items new.nodes.items old.ends.items answers step) shape
+  pub shape_now : IsNetOf p (shown_nodes new) new.ends.items
+  shape_now = net_again p (shown_nodes old) (shown_nodes new) old.ends.items new.ends.items same (stepped_nodes p look gone come moment first (shown_nodes old) (shown_nodes new) old.ends.items answers step) shape
 
-  pub stands_now : IsIndexOf new.nodes.items new.ends.items new.index → AreScheduled p new.nodes.items new.schedule → AreOwners p shape.conditions (length new.nodes.items) new.owners.items
+  pub stands_now : IsIndexOf (shown_nodes new) new.ends.items new.index → AreScheduled p new.nodes.items new.schedule → AreFans new.nodes.items new.fans → AreOwners p shape.conditions (length (shown_nodes new)) new.owners.items
       → NodesStand p new next forgotten
-  stands_now indexed scheduled owned = record {
-    shape = net_again p old.nodes.items new.nodes.items old.ends.items new.ends.items same (stepped_nodes p look gone come moment first old.nodes.items new.nodes.items old.ends.items answers step) shape;
+  stands_now indexed scheduled fans owned = record {
+    shape = net_again p (shown_nodes old) (shown_nodes new) old.ends.items new.ends.items same (stepped_nodes p look gone come moment first (shown_nodes old) (shown_nodes new) old.ends.items answers step) shape;
     indexed = indexed;
     scheduled = scheduled;
+    fans = fans;
     owned = owned;
     nodes =
-        (standing_now p look s next gone come moment forgotten first was (rows_of p next) old.nodes.items new.nodes.items shape.conditions step.deltas given made (rows_made p next distinct_now) leads standing beside step.nodes step.stepped).stand;
+        (standing_now p look s next gone come moment forgotten first was (rows_of p next) (shown_nodes old) (shown_nodes new) shape.conditions step.deltas given made (rows_made p next distinct_now) leads standing beside step.nodes step.stepped).stand;
   }
 
   pub between_now : length old.ends.items < 2 ^ 16 → AreBetween p lists (clean_rows p next forgotten) answers
@@ -89,7 +91,7 @@ module _ (p : Program) (look : Look) (s next : Snapshot) (gone : List Fact) (com
     placed = λ place delta e. placed place delta e (slice_get old.ends.items place) refl;
     each = λ place rule e.
         let end = shape.lasts place rule e in
-        let is = answer_at p look s next gone come moment forgotten first was (rows_of p next) old.nodes.items new.nodes.items shape.conditions step.deltas given made (rows_made p next distinct_now) leads standing beside step.nodes step.stepped old.ends.items place rule end in
+        let is = answer_at p look s next gone come moment forgotten first was (rows_of p next) (shown_nodes old) (shown_nodes new) shape.conditions step.deltas given made (rows_made p next distinct_now) leads standing beside step.nodes step.stepped old.ends.items place rule end in
         subst (λ (change : Option Delta). IsChange change (lists rule) (clean_rows p next forgotten rule)) (sym (ap (change_of (changes_from first step.deltas 0 old.ends.items)) (sym (zero-add place)) ∙ found_change first step.deltas 0 place old.ends.items end.last end.found))
         (is_change (lists rule) (clean_rows p next forgotten rule) (delta_at first step.deltas end.last)
         (subst (λ (set : Row → Bool). IsDifference set (has (clean_rows p next forgotten rule)) (delta_at first step.deltas end.last)) (listed place rule e)

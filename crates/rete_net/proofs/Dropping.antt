@@ -23,6 +23,7 @@ use Rattle.pattern_gate.specs.Gates.{has_good_window}
 use Rattle.pattern_gate.specs.Moves.{at_clock}
 use Rattle.condition_node.specs.Nodes.{condition_of}
 use Rattle.condition_node.specs.Quiet.{IsBefore}
+use Rattle.rete_net.specs.Fans.{AreFans, shown_nodes}
 use Rattle.rete_net.specs.declared.forgetting.RuleRows.{RuleRows}
 use Rattle.rete_net.specs.declared.net.Rete.{Rete}
 use Rattle.rete_net.specs.declared.node.NetNode.{NetNode}
@@ -136,8 +137,8 @@ none_old p s forgotten old = record {
 }
 
 module _ (p : Program) (look : Look) (s : Snapshot) (forgotten old : Named → Bool) (net new : Rete) (dropped : List (List Row)) (stands : NetStands p net s forgotten) (has_all : HasAllOf look s forgotten)
-    (ends : new.ends.items ≡ net.ends.items) (until : new.quiet_until ≡ net.quiet_until) (same : length new.nodes.items ≡ length net.nodes.items)
-    (forgot : ForgotBelow p look old net.nodes.items new.nodes.items dropped (length net.nodes.items)) where
+    (ends : new.ends.items ≡ net.ends.items) (until : new.quiet_until ≡ net.quiet_until) (same : length (shown_nodes new) ≡ length (shown_nodes net))
+    (forgot : ForgotBelow p look old (shown_nodes net) (shown_nodes new) dropped (length (shown_nodes net))) where
   abbrev was : Snapshot
   was = at_clock s stands.seen
 
@@ -147,19 +148,19 @@ module _ (p : Program) (look : Look) (s : Snapshot) (forgotten old : Named → B
   tags : HaveDistinctTags s.facts
   tags = rising s.facts stands.kept.in_order
 
-  standing : AreStanding p was (rows_of p was) forgotten net.nodes.items stands.nodes.shape.conditions
+  standing : AreStanding p was (rows_of p was) forgotten (shown_nodes net) stands.nodes.shape.conditions
   standing = record { shaped = stands.nodes.shape.shaped; windows = stands.nodes.shape.windows; stand = stands.nodes.nodes }
 
-  now : AreStanding p was (rows_of p was) (either forgotten old) new.nodes.items stands.nodes.shape.conditions
-  now = forgets p look was (rows_of p was) forgotten old net.nodes.items new.nodes.items stands.nodes.shape.conditions dropped tags known (rows_made p was tags) (none_old p was forgotten old) standing same forgot
+  now : AreStanding p was (rows_of p was) (either forgotten old) (shown_nodes new) stands.nodes.shape.conditions
+  now = forgets p look was (rows_of p was) forgotten old (shown_nodes net) (shown_nodes new) stands.nodes.shape.conditions dropped tags known (rows_made p was tags) (none_old p was forgotten old) standing same forgot
 
-  node_was : (k : ℕ) (is : NetNode) → slice_get new.nodes.items k ≡ Some is → (n : NetNode) × (slice_get net.nodes.items k ≡ Some n) × (condition_of is.node ≡ condition_of n.node)
+  node_was : (k : ℕ) (is : NetNode) → slice_get (shown_nodes new) k ≡ Some is → (n : NetNode) × (slice_get (shown_nodes net) k ≡ Some n) × (condition_of is.node ≡ condition_of n.node)
   node_was k is f =
-      let n = was_at p look was (rows_of p was) forgotten old net.nodes.items new.nodes.items stands.nodes.shape.conditions dropped tags known (rows_made p was tags) (none_old p was forgotten old) standing same forgot k is f in
-      (n.0, n.1, condition_same p look was (rows_of p was) forgotten old net.nodes.items new.nodes.items stands.nodes.shape.conditions dropped tags known (rows_made p was tags) (none_old p was forgotten old) standing same forgot k n.0 is n.1 f)
+      let n = was_at p look was (rows_of p was) forgotten old (shown_nodes net) (shown_nodes new) stands.nodes.shape.conditions dropped tags known (rows_made p was tags) (none_old p was forgotten old) standing same forgot k is f in
+      (n.0, n.1, condition_same p look was (rows_of p was) forgotten old (shown_nodes net) (shown_nodes new) stands.nodes.shape.conditions dropped tags known (rows_made p was tags) (none_old p was forgotten old) standing same forgot k n.0 is n.1 f)
 
   -- what was the same is so where more is forgotten
-  still_same : (a b : Snapshot) → HaveSame p net.nodes.items stands.nodes.shape.conditions forgotten a b → HaveSame p new.nodes.items stands.nodes.shape.conditions (either forgotten old) a b
+  still_same : (a b : Snapshot) → HaveSame p (shown_nodes net) stands.nodes.shape.conditions forgotten a b → HaveSame p (shown_nodes new) stands.nodes.shape.conditions (either forgotten old) a b
   still_same a b is = record {
     same_rows = λ k n f.
         let o = node_was k n f in
@@ -169,24 +170,25 @@ module _ (p : Program) (look : Look) (s : Snapshot) (forgotten old : Named → B
         subst (λ (c : Condition). candidates_of p (pattern_of c) a who ≡ candidates_of p (pattern_of c) b who) (sym o.2) (is.same_candidates k o.0 o.1 who);
   }
 
-  abbrev nodes_now : IsIndexOf new.nodes.items new.ends.items new.index → AreScheduled p new.nodes.items new.schedule
-      → AreOwners p stands.nodes.shape.conditions (length new.nodes.items) new.owners.items → NodesStand p new was (either forgotten old)
-  nodes_now indexed scheduled owned = record {
-    shape = net_again p net.nodes.items new.nodes.items net.ends.items new.ends.items ends (forgetting_nodes p look old net.nodes.items new.nodes.items dropped same forgot) stands.nodes.shape;
+  abbrev nodes_now : IsIndexOf (shown_nodes new) new.ends.items new.index → AreScheduled p new.nodes.items new.schedule → AreFans new.nodes.items new.fans
+      → AreOwners p stands.nodes.shape.conditions (length (shown_nodes new)) new.owners.items → NodesStand p new was (either forgotten old)
+  nodes_now indexed scheduled fans owned = record {
+    shape = net_again p (shown_nodes net) (shown_nodes new) net.ends.items new.ends.items ends (forgetting_nodes p look old (shown_nodes net) (shown_nodes new) dropped same forgot) stands.nodes.shape;
     indexed = indexed;
     scheduled = scheduled;
+    fans = fans;
     owned = owned;
     nodes = now.stand;
   }
 
-  pub net_forgets : IsIndexOf new.nodes.items new.ends.items new.index → AreScheduled p new.nodes.items new.schedule
-      → AreOwners p stands.nodes.shape.conditions (length new.nodes.items) new.owners.items → NetStands p new s (either forgotten old)
-  net_forgets indexed scheduled owned = record {
+  pub net_forgets : IsIndexOf (shown_nodes new) new.ends.items new.index → AreScheduled p new.nodes.items new.schedule → AreFans new.nodes.items new.fans
+      → AreOwners p stands.nodes.shape.conditions (length (shown_nodes new)) new.owners.items → NetStands p new s (either forgotten old)
+  net_forgets indexed scheduled fans owned = record {
     seen = stands.seen;
     begun = stands.begun;
     later = stands.later;
     kept = stands.kept;
-    nodes = nodes_now indexed scheduled owned;
+    nodes = nodes_now indexed scheduled fans owned;
     unchanged = still_same s was stands.unchanged;
     quiet = λ clock later low before kept. still_same (at_clock s clock) was (stands.quiet clock later low (subst (λ (at : Option ℤ). IsBefore at clock) until before) kept);
   }
@@ -196,7 +198,7 @@ module _ (p : Program) (look : Look) (s : Snapshot) (forgotten old : Named → B
       → (end : ℕ) × (slice_get net.ends.items place ≡ Some end) × AreOld (cleaned (rows_of p s rule.conditions) forgotten) old (dropped_at dropped end)
   rule_drops place rule e =
       let end = stands.nodes.shape.lasts place rule e in
-      let d = drops_at p look was (rows_of p was) forgotten old net.nodes.items new.nodes.items stands.nodes.shape.conditions dropped tags known (rows_made p was tags) (none_old p was forgotten old) standing same forgot end.last end.node end.there in (
+      let d = drops_at p look was (rows_of p was) forgotten old (shown_nodes net) (shown_nodes new) stands.nodes.shape.conditions dropped tags known (rows_made p was tags) (none_old p was forgotten old) standing same forgot end.last end.node end.there in (
         end.last,
         end.found,
         subst (λ (cs : List Condition). AreOld (cleaned (rows_of p s cs) forgotten) old (dropped_at dropped end.last)) end.all
@@ -204,10 +206,10 @@ module _ (p : Program) (look : Look) (s : Snapshot) (forgotten old : Named → B
       )
 
   -- what the entries say where they have for each rule what its last node dropped
-  pub rules_drop : (answers : List RuleRows) (a : Answered (List Row)) (lent_ends : List ℕ) → a.none ≡ [] → ((k : ℕ) → k < length net.nodes.items → dropped_at dropped k ≡ kept [] (some_answer a k)) → lent_ends ≡ net.ends.items
+  pub rules_drop : (answers : List RuleRows) (a : Answered (List Row)) (lent_ends : List ℕ) → a.none ≡ [] → ((k : ℕ) → k < length (shown_nodes net) → dropped_at dropped k ≡ kept [] (some_answer a k)) → lent_ends ≡ net.ends.items
       → ((place end : ℕ) → slice_get lent_ends place ≡ Some end → rows_for answers place ≡ answer_in a end) → AreDropped p s forgotten old answers
   rules_drop answers a lent_ends none known same_ends told place rule e =
       let drops = rule_drops place rule e in
-      let within = (wired_of p net.nodes.items net.ends.items net.index stands.nodes.shape stands.nodes.indexed).lasts place drops.0 drops.1 in
+      let within = (wired_of p (shown_nodes net) net.ends.items net.index stands.nodes.shape stands.nodes.indexed).lasts place drops.0 drops.1 in
       subst (AreOld (cleaned (rows_of p s rule.conditions) forgotten) old)
       (known drops.0 within ∙ ap (λ rows. kept rows (some_answer a drops.0)) (sym none) ∙ sym (told place drops.0 (ap (λ (places : List ℕ). slice_get places place) same_ends ∙ drops.1))) drops.2

@@ -1,5 +1,5 @@
 -- The walk over the nodes of a network, where these forget.
-use Rattle.std.proofs.Common.{◌≡◌, refl, [], ◌+◌, ◌<◌, ◌≤◌, ℕ, Bool, false, List, None, Some, length, slice_get}
+use Rattle.std.proofs.Common.{◌≡◌, ◌∙◌, sym, ap, refl, [], ◌+◌, ◌<◌, ◌≤◌, ℕ, Bool, false, List, Option, None, Some, length, slice_get}
 use Rattle.std.proofs.Math.ListN.{set}
 use Rattle.row_delta.specs.declared.row.Named.{Named}
 use Rattle.row_delta.specs.declared.row.Row.{Row}
@@ -9,42 +9,64 @@ use Rattle.rete_net.specs.declared.answered.Answered.{Answered}
 use Rattle.rete_net.specs.declared.index.Index.{Index}
 use Rattle.rete_net.specs.declared.node.NetNode.{NetNode}
 use Rattle.rete_net.specs.Answers.{left_given, some_answer, IsPut}
+use Rattle.rete_net.specs.declared.fans.Fans.{Fans}
+use Rattle.rete_net.specs.declared.fans.Seat.{Seat}
+use Rattle.rete_net.specs.Fans.{half_at, half_of, member_at, seat_at, showing, with_fans, AreFans, AreRowsTurned, IsHalf, IsLaidAs, IsLeft, IsOf, Member}
 use Rattle.rete_net.specs.Dropped.{dropped_before, HasNoOld, HaveForgotten, NodeForgets}
 use Rattle.rete_net.specs.Indexes.{IsFound}
 use Rattle.rete_net.specs.Places.{has_place}
-use Rattle.rete_net.specs.Walks.{IsWired}
+use Rattle.rete_net.specs.Steps.{no_change}
+use Rattle.rete_net.specs.Walks.{IsReplaced, IsWired}
 use Rattle.rete_net.proofs.Sparing.{spared}
-use Rattle.rete_net.proofs.Walking as walking
+use Rattle.rete_net.proofs.Showing.{condition_shown}
+use Rattle.rete_net.proofs.Fanwise as fanwise
+use Rattle.condition_node.specs.Nodes.{condition_of}
+use Rattle.rule_model.specs.declared.condition.Condition.{Condition}
+use Rattle.rule_model.specs.Rows.{pattern_of}
 
-module _ (p : Program) (look : Look) (old : Named → Bool) (before : List NetNode) (ends : List ℕ) where
-  abbrev pub IsUnderWay : List NetNode → List ℕ → Answered (List Row) → ℕ → Type 0
-  IsUnderWay now due a next = walking.IsUnderWay (NodeForgets p look old) dropped_before [] [] (HasNoOld look old) before ends now due a next
+old_shown : (look : Look) (old : Named → Bool) (o : Option Member) (n : NetNode) → HasNoOld look old n → HasNoOld look old (showing o n)
+old_shown look old o n none who f is found same = none who f is found (sym (ap (λ (c : Condition). (pattern_of c).ty.0) (condition_shown o n)) ∙ same)
 
-  module _ (index : Index) (wired : IsWired before ends index) where
-    abbrev no_rows : List Row
-    no_rows = []
+module _ (p : Program) (look : Look) (old : Named → Bool) (before : List NetNode) (fans : Fans) (ends : List ℕ) (index : Index) (wired : IsWired before ends index) where
+  abbrev no_rows : List Row
+  no_rows = []
 
-    begun : (n : NetNode) → HasNoOld look old n → n.parent ≡ None → no_rows ≡ no_rows
-    begun n none e = refl
+  pub begun : (n : NetNode) → HasNoOld look old n → n.parent ≡ None → no_rows ≡ no_rows
+  begun n none e = refl
 
-    pub set_off : (due : List ℕ) (a : Answered (List Row)) → a.none ≡ [] → ((k : ℕ) → some_answer a k ≡ None)
-        → ((k : ℕ) (n : NetNode) → slice_get before k ≡ Some n → IsFound index k n → has_place due k ≡ false → HasNoOld look old n) → IsUnderWay before due a 0
-    set_off = walking.set_off (NodeForgets p look old) dropped_before [] [] [] (HasNoOld look old) before ends index wired (λ rows. refl) (λ rows q. refl) begun (spared p look old)
+  -- all rows that are dropped leave, and none come
+  abbrev goes : List Row → List Row
+  goes rows = rows
 
-    module _ (now : List NetNode) (due : List ℕ) (a : Answered (List Row)) (next : ℕ) (way : IsUnderWay now due a next) where
-      skip_to : (place : ℕ) → next ≤ place → place ≤ length before → ((k : ℕ) → next ≤ k → k < place → has_place due k ≡ false) → IsUnderWay now due a place
-      skip_to place =
-          walking.skip_to (NodeForgets p look old) dropped_before [] [] [] (HasNoOld look old) before ends index wired (λ rows. refl) (λ rows q. refl) begun (spared p look old) now due a next place way
+  abbrev comes : List Row → List Row
+  comes rows = []
 
-      pub forget_at : (place : ℕ) (n new : NetNode) (rows gone : List Row) (b : Answered (List Row)) (due_now : List ℕ) → next ≤ place → place ≤ length before → ((k : ℕ) → next ≤ k → k < place → has_place due k ≡ false)
-          → slice_get now place ≡ Some n → NodeForgets p look old n new rows gone → rows ≡ left_given [] a n.parent → (a.none ≡ [] → IsPut index place gone a b due due_now)
-          → IsUnderWay (set now place new) due_now b (place + 1)
-      forget_at place n new rows gone b due_now le within out at forgets rows_are put =
-          let there = skip_to place le within out in
-          walking.take_one (NodeForgets p look old) dropped_before [] [] [] (HasNoOld look old) before ends index wired (λ rows. refl) (λ rows q. refl) begun (spared p look old) now due a place
-          there n new rows gone b due_now at forgets rows_are (put there.nothing)
+  abbrev pub IsUnderWay : List NetNode → Fans → List ℕ → Answered (List Row) → ℕ → Type 0
+  IsUnderWay nodes now due a next =
+      fanwise.IsOnWay (NodeForgets p look old) dropped_before [] [] [] (HasNoOld look old) look goes comes refl refl before fans ends index wired (λ rows. refl) (λ rows q. refl) begun (spared p look old) nodes now due a next
 
-      pub come_to_end : next ≤ length before → ((k : ℕ) → next ≤ k → k < length before → has_place due k ≡ false) → HaveForgotten p look old before now ends a
-      come_to_end le out =
-          let there = skip_to (length before) le (walking.not_less (length before)) out in
-          record { nothing = there.nothing; dropped = there.answers; forgot = there.below; known = there.known; ruled = there.ruled }
+  pub set_off : (now : Fans) (due : List ℕ) (a : Answered (List Row)) → AreFans before fans → now.seats ≡ fans.seats → now.spans ≡ fans.spans → now.list ≡ fans.list → ((seat : Seat) → half_at now seat ≡ no_change)
+      → a.none ≡ [] → ((k : ℕ) → some_answer a k ≡ None)
+      → ((k : ℕ) (n : NetNode) → slice_get before k ≡ Some n → IsFound index k n → has_place due k ≡ false → HasNoOld look old n) → IsUnderWay before now due a 0
+  set_off now due a are seats spans list halves nothing unanswered reached =
+      fanwise.set_off (NodeForgets p look old) dropped_before [] [] [] (HasNoOld look old) look goes comes refl refl before fans ends index wired (λ rows. refl) (λ rows q. refl) begun (spared p look old)
+      now due a are seats spans list halves nothing unanswered (λ k n e found out. old_shown look old (member_at fans k) n (reached k n e found out))
+
+  module _ (nodes : List NetNode) (now : Fans) (due : List ℕ) (a : Answered (List Row)) (next : ℕ) (way : IsUnderWay nodes now due a next) where
+    pub forget_at : (place : ℕ) → next ≤ place → place ≤ length before → ((k : ℕ) → next ≤ k → k < place → has_place due k ≡ false)
+        → (n new : NetNode) → slice_get nodes place ≡ Some n → new.parent ≡ n.parent → condition_of new.node ≡ condition_of n.node
+        → IsReplaced before nodes → IsReplaced nodes (set nodes place new)
+        → (mid : Fans) → IsLaidAs now mid → ((seat : Seat) → (seat_at now.seats.items place ≡ Some seat → ⊥) → IsLeft now mid seat)
+        → (rows gone : List Row) → rows ≡ left_given [] a n.parent
+        → ((was : Option Member) → IsOf n now.list.items (seat_at now.seats.items place) → IsHalf look rows [] was (member_at now place) (half_of now (seat_at now.seats.items place))
+        → NodeForgets p look old (showing was n) (showing (member_at mid place) new) rows gone)
+        → (then : Fans) → IsLaidAs mid then → ((ns : List NetNode) → AreFans ns mid → AreRowsTurned look place gone [] mid then)
+        → (b : Answered (List Row)) (due_now : List ℕ) → (a.none ≡ [] → IsPut index place gone a b due due_now)
+        → IsUnderWay (set nodes place new) then due_now b (place + 1)
+    forget_at =
+        fanwise.step_at (NodeForgets p look old) dropped_before [] [] [] (HasNoOld look old) look goes comes refl refl before fans ends index wired (λ rows. refl) (λ rows q. refl) begun (spared p look old) nodes now due a next way
+
+    pub come_to_end : next ≤ length before → ((k : ℕ) → next ≤ k → k < length before → has_place due k ≡ false) → HaveForgotten p look old (with_fans before fans) (with_fans nodes now) ends a
+    come_to_end le out =
+        let there = fanwise.come_to_end (NodeForgets p look old) dropped_before [] [] [] (HasNoOld look old) look goes comes refl refl before fans ends index wired (λ rows. refl) (λ rows q. refl) begun (spared p look old) nodes now due a next way le out in
+        record { nothing = there.nothing; dropped = there.answers; forgot = there.below; known = there.known; ruled = there.ruled }

@@ -27,6 +27,13 @@ mod Timing
 mod Scheduling
 mod Walking
 mod Steady
+mod Showing
+mod Siblings
+mod Fanned
+mod Fanning
+mod Fanwise
+mod Lading
+mod Seated
 mod Telling
 pub mod Owning
 pub mod Counting

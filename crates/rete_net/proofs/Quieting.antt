@@ -17,6 +17,7 @@ use Rattle.pattern_gate.specs.Gates.{GateStands, arrivals}
 use Rattle.pattern_gate.specs.Moves.{IsOrderly, at_clock}
 use Rattle.condition_node.specs.Nodes.{condition_of, is_negated}
 use Rattle.condition_node.specs.Quiet.{IsBefore, IsQuiet}
+use Rattle.rete_net.specs.Fans.{shown_nodes}
 use Rattle.rete_net.specs.declared.net.Rete.{Rete}
 use Rattle.rete_net.specs.declared.node.NetNode.{NetNode}
 use Rattle.rete_net.specs.Nets.{HaveSame, NodesStand, NetStands}
@@ -95,7 +96,7 @@ all_quiet p nodes schedule first scheduled told k n e = by (is_timed n) refl
     by true timed = told k n (scheduled k n e timed)
     by false untimed = untimed_quiet p n first untimed
 
-module _ (p : Program) (net : Rete) (s : Snapshot) (forgotten : Named → Bool) (nodes : NodesStand p net s forgotten) (kept : IsOrderly p s) (begun : pos 0 ≤ℤ s.clock) (quiet : AreQuiet p net.nodes.items net.quiet_until) where
+module _ (p : Program) (net : Rete) (s : Snapshot) (forgotten : Named → Bool) (nodes : NodesStand p net s forgotten) (kept : IsOrderly p s) (begun : pos 0 ≤ℤ s.clock) (quiet : AreQuiet p (shown_nodes net) net.quiet_until) where
   module _ (clock : ℤ) (later : s.clock ≤ℤ clock) (low : clock <ℤ pos (2 ^ 63)) (before_due : IsBefore net.quiet_until clock) (kept_now : IsOrderly p (at_clock s clock)) where
     abbrev next : Snapshot
     next = at_clock s clock
@@ -110,16 +111,16 @@ module _ (p : Program) (net : Rete) (s : Snapshot) (forgotten : Named → Bool) 
     abbrev Stay : List Condition → Type 0
     Stay cs = cleaned (rows_of p next cs) forgotten ≡ cleaned (rows_of p s cs) forgotten
 
-    stays_at : (k : ℕ) (n : NetNode) → slice_get net.nodes.items k ≡ Some n → StaysAt p n s (rows_of p s (before nodes.shape.conditions n.parent)) forgotten clock
+    stays_at : (k : ℕ) (n : NetNode) → slice_get (shown_nodes net) k ≡ Some n → StaysAt p n s (rows_of p s (before nodes.shape.conditions n.parent)) forgotten clock
     stays_at k n e =
         let behind = before nodes.shape.conditions n.parent in
         quiet k n e s (rows_of p s behind) forgotten clock (nodes.nodes k n e) (made.named behind) kept kept_now begun later low before_due
 
-    from_parent : (k : ℕ) (n : NetNode) → slice_get net.nodes.items k ≡ Some n → ((q : ℕ) → q < k → Stay (nodes.shape.conditions q)) → (parent : Option ℕ) → n.parent ≡ parent → Stay (before nodes.shape.conditions parent)
+    from_parent : (k : ℕ) (n : NetNode) → slice_get (shown_nodes net) k ≡ Some n → ((q : ℕ) → q < k → Stay (nodes.shape.conditions q)) → (parent : Option ℕ) → n.parent ≡ parent → Stay (before nodes.shape.conditions parent)
     from_parent k n e rest None at = ap (λ (set : Row → Bool). cleaned set forgotten) (same_first p next s)
     from_parent k n e rest (Some q) at = rest q (nodes.shape.shaped.parents k q n e at)
 
-    one : (k : ℕ) (n : NetNode) → slice_get net.nodes.items k ≡ Some n → ((q : ℕ) → q < k → Stay (nodes.shape.conditions q)) → Stay (nodes.shape.conditions k)
+    one : (k : ℕ) (n : NetNode) → slice_get (shown_nodes net) k ≡ Some n → ((q : ℕ) → q < k → Stay (nodes.shape.conditions q)) → Stay (nodes.shape.conditions k)
     one k n e rest =
         let behind = before nodes.shape.conditions n.parent in
         let c = condition_of n.node in
@@ -131,13 +132,13 @@ module _ (p : Program) (net : Rete) (s : Snapshot) (forgotten : Named → Bool) 
         ∙ fun_ext (stays_at k n e).same_line
         ∙ ap (λ (set : Row → Bool). cleaned set forgotten) (sym (made.more behind c)))
 
-    all_below : (b k : ℕ) (some : NetNode) → k < b → k < length net.nodes.items → Stay (nodes.shape.conditions k)
+    all_below : (b k : ℕ) (some : NetNode) → k < b → k < length (shown_nodes net) → Stay (nodes.shape.conditions k)
     all_below zero k some h l = absurd (omega arith)
-    all_below (suc b) k some h l = one k (get_or net.nodes.items k some) (slice_get-get_or net.nodes.items k some l) (λ q lt. all_below b q some (omega arith) (omega arith))
+    all_below (suc b) k some h l = one k (get_or (shown_nodes net) k some) (slice_get-get_or (shown_nodes net) k some l) (λ q lt. all_below b q some (omega arith) (omega arith))
 
-    stay : HaveSame p net.nodes.items nodes.shape.conditions forgotten next s
+    stay : HaveSame p (shown_nodes net) nodes.shape.conditions forgotten next s
     stay = record {
-      same_rows = λ k n e. all_below (suc k) k n (omega arith) (slice_get_within net.nodes.items k n e);
+      same_rows = λ k n e. all_below (suc k) k n (omega arith) (slice_get_within (shown_nodes net) k n e);
       same_candidates = λ k n e. (stays_at k n e).same_candidates;
     }
 

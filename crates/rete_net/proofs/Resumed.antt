@@ -43,6 +43,7 @@ use Rattle.image_laws.proofs.Kept.{candidates_kept, known}
 use Rattle.image_laws.proofs.Rows.{laden_rows}
 use Rattle.loading_laws.specs.Gates.{IsAside, HasInFront}
 use Rattle.loading_laws.proofs.Gates.{gate_of_all}
+use Rattle.rete_net.specs.Fans.{AreFans, shown_nodes}
 use Rattle.rete_net.specs.declared.answered.Answered.{Answered}
 use Rattle.rete_net.specs.declared.build.Owner.{Owner}
 use Rattle.rete_net.specs.declared.net.Rete.{Rete}
@@ -266,23 +267,24 @@ module _ (p : Program) (look : Look) (t : Snapshot) (kept : List Fact) (extras :
 
 -- It stands for a snapshot, whose clock is from 0 on, with what is forgotten of it.
 pub loaded_stands : (p : Program) (look : Look) (t : Snapshot) (kept : List Fact) (extras : List Extra) (moment : Moment) (can : IsLoadable p t kept extras moment look) (was now : Rete)
-    (net : IsNetOf p was.nodes.items was.ends.items) (owned : HaveOwners p net.conditions (length was.nodes.items) was.owners.items)
-    (fresh : (k : ℕ) (n : NetNode) → slice_get was.nodes.items k ≡ Some n → IsFresh p n)
-    (a : Answered Delta) (loaded : AreLoaded p look kept extras moment empty_row_comes was.nodes.items now.nodes.items was.owners.items was.ends.items a (length was.nodes.items))
-    → IsReplaced was.nodes.items now.nodes.items → now.ends ≡ was.ends → now.owners ≡ was.owners → now.index ≡ was.index
-    → IsIndexOf was.nodes.items was.ends.items was.index → AreScheduled p now.nodes.items now.schedule → AreQuiet p now.nodes.items now.quiet_until
+    (net : IsNetOf p (shown_nodes was) was.ends.items) (owned : HaveOwners p net.conditions (length (shown_nodes was)) was.owners.items)
+    (fresh : (k : ℕ) (n : NetNode) → slice_get (shown_nodes was) k ≡ Some n → IsFresh p n)
+    (a : Answered Delta) (loaded : AreLoaded p look kept extras moment empty_row_comes (shown_nodes was) (shown_nodes now) was.owners.items was.ends.items a (length (shown_nodes was)))
+    → IsReplaced (shown_nodes was) (shown_nodes now) → now.ends ≡ was.ends → now.owners ≡ was.owners → now.index ≡ was.index
+    → IsIndexOf (shown_nodes was) was.ends.items was.index → AreScheduled p now.nodes.items now.schedule → AreFans now.nodes.items now.fans → AreQuiet p (shown_nodes now) now.quiet_until
     → (s : Snapshot) (forgotten : Named → Bool) → IsBehind p s t forgotten extras look → pos 0 ≤ℤ s.clock → NetStands p now s forgotten
-loaded_stands p look t kept extras moment can was now net owned fresh a loaded replaced ends owners index indexed scheduled quiet s forgotten is begun =
-    let own = are_owners p was.nodes.items was.ends.items net was.owners.items owned in
+loaded_stands p look t kept extras moment can was now net owned fresh a loaded replaced ends owners index indexed scheduled fans quiet s forgotten is begun =
+    let own = are_owners p (shown_nodes was) was.ends.items net was.owners.items owned in
     seen_now p now s forgotten (record {
-      shape = net_again p was.nodes.items now.nodes.items was.ends.items now.ends.items (ap (λ es. es.items) ends) replaced net;
-      indexed = index_again was.nodes.items now.nodes.items was.ends.items now.ends.items was.index now.index replaced (ap (λ es. es.items) ends) index indexed;
+      shape = net_again p (shown_nodes was) (shown_nodes now) was.ends.items now.ends.items (ap (λ es. es.items) ends) replaced net;
+      indexed = index_again (shown_nodes was) (shown_nodes now) was.ends.items now.ends.items was.index now.index replaced (ap (λ es. es.items) ends) index indexed;
       scheduled = scheduled;
-      owned = owned_again p net.conditions (length was.nodes.items) (length now.nodes.items) was.owners now.owners replaced.many owners owned;
+      fans = fans;
+      owned = owned_again p net.conditions (length (shown_nodes was)) (length (shown_nodes now)) was.owners now.owners replaced.many owners owned;
       nodes = λ k n e.
           let many = replaced.many in
-          let within : k < length now.nodes.items = slice_get_within now.nodes.items k n e in
-          let old = has_at was.nodes.items k (omega (arith, within, many)) in
-          resumed_at p look t kept extras moment can (owners_of p was.nodes.items was.ends.items net was.owners.items owned) own was.nodes.items was.ends.items net was.owners.items owned fresh now.nodes.items a loaded s forgotten is
+          let within : k < length (shown_nodes now) = slice_get_within (shown_nodes now) k n e in
+          let old = has_at (shown_nodes was) k (omega (arith, within, many)) in
+          resumed_at p look t kept extras moment can (owners_of p (shown_nodes was) was.ends.items net was.owners.items owned) own (shown_nodes was) was.ends.items net was.owners.items owned fresh (shown_nodes now) a loaded s forgotten is
           k old.0 n old.1 e;
     }) is.orderly begun quiet

@@ -20,6 +20,7 @@ use Rattle.rule_world.specs.Programs.{IsRunnable}
 use Rattle.pattern_gate.specs.Moves.{IsOrderly, Moves, at_clock}
 use Rattle.condition_node.specs.Nodes.{condition_of}
 use Rattle.condition_node.specs.Quiet.{IsBefore}
+use Rattle.rete_net.specs.Fans.{AreFans, shown_nodes}
 use Rattle.rete_net.specs.declared.changes.RuleChange.{RuleChange}
 use Rattle.rete_net.specs.declared.net.Rete.{Rete}
 use Rattle.rete_net.specs.declared.node.NetNode.{NetNode}
@@ -57,7 +58,7 @@ unfolding held
 at_hand_at look s clock forgotten has tag f e known = has tag f e known
 
 -- a rule has the rows of its last node
-rule_rows : (p : Program) (net : Rete) (at s other : Snapshot) (forgotten : Named → Bool) (nodes : NodesStand p net at forgotten) → HaveSame p net.nodes.items nodes.shape.conditions forgotten s other
+rule_rows : (p : Program) (net : Rete) (at s other : Snapshot) (forgotten : Named → Bool) (nodes : NodesStand p net at forgotten) → HaveSame p (shown_nodes net) nodes.shape.conditions forgotten s other
     → (place : ℕ) (rule : Rule) → slice_get p.rules place ≡ Some rule → cleaned (rows_of p s rule.conditions) forgotten ≡ cleaned (rows_of p other rule.conditions) forgotten
 rule_rows p net at s other forgotten nodes same place rule e =
     let end = nodes.shape.lasts place rule e in
@@ -68,7 +69,7 @@ rule_rows p net at s other forgotten nodes same place rule e =
 module _ (p : Program) (look : Look) (s next : Snapshot) (gone : List Fact) (come : Option Fact) (moment : Moment) (forgotten : Named → Bool) (old new : Rete) (answers : List RuleChange)
     (moves : Moves p s next gone come) (is_at : IsAt next moment) (apart : AreNotNeeded p forgotten s next gone come) (has_before : HasAllOf look s forgotten) (has_now : HasAllOf look next forgotten)
     (stands : NetStands p old s forgotten) (same : new.ends.items ≡ old.ends.items)
-    (step : NetStep p look gone come moment no_change old.nodes.items new.nodes.items old.ends.items answers) where
+    (step : NetStep p look gone come moment no_change (shown_nodes old) (shown_nodes new) old.ends.items answers) where
   abbrev was : Snapshot
   was = at_clock s stands.seen
 
@@ -104,19 +105,19 @@ module _ (p : Program) (look : Look) (s next : Snapshot) (gone : List Fact) (com
   made_now : AreMade p next (rows_of p next)
   made_now = rows_made p next (rising next.facts moves.after.in_order)
 
-  standing : AreStanding p was (rows_of p was) forgotten old.nodes.items stands.nodes.shape.conditions
+  standing : AreStanding p was (rows_of p was) forgotten (shown_nodes old) stands.nodes.shape.conditions
   standing = record { shaped = stands.nodes.shape.shaped; windows = stands.nodes.shape.windows; stand = stands.nodes.nodes }
 
-  same_before : (k : ℕ) (n : NetNode) → slice_get old.nodes.items k ≡ Some n → (parent : Option ℕ) → n.parent ≡ parent
+  same_before : (k : ℕ) (n : NetNode) → slice_get (shown_nodes old) k ≡ Some n → (parent : Option ℕ) → n.parent ≡ parent
       → cleaned (rows_of p s (before stands.nodes.shape.conditions parent)) forgotten ≡ cleaned (rows_of p was (before stands.nodes.shape.conditions parent)) forgotten
   same_before k n e None at = ap (λ (set : Row → Bool). cleaned set forgotten) (same_first p s was)
   same_before k n e (Some q) at =
       let lt : q < k = stands.nodes.shape.shaped.parents k q n e at in
-      let within : k < length old.nodes.items = slice_get_within old.nodes.items k n e in
-      let node = has_at old.nodes.items q (omega arith) in
+      let within : k < length (shown_nodes old) = slice_get_within (shown_nodes old) k n e in
+      let node = has_at (shown_nodes old) q (omega arith) in
       stands.unchanged.same_rows q node.0 node.1
 
-  beside : (k : ℕ) (n : NetNode) → slice_get old.nodes.items k ≡ Some n
+  beside : (k : ℕ) (n : NetNode) → slice_get (shown_nodes old) k ≡ Some n
       → StaysBeside p from_seen.world was next (condition_of n.node) (rows_of p was (before stands.nodes.shape.conditions n.parent)) (rows_of p next (before stands.nodes.shape.conditions n.parent)) forgotten
   beside k n e =
       let behind = before stands.nodes.shape.conditions n.parent in
@@ -126,12 +127,12 @@ module _ (p : Program) (look : Look) (s next : Snapshot) (gone : List Fact) (com
   listed : (place : ℕ) (rule : Rule) → slice_get p.rules place ≡ Some rule → cleaned (rows_of p was rule.conditions) forgotten ≡ has (clean_rows p s forgotten rule)
   listed place rule e = sym (rule_rows p old was s was forgotten stands.nodes stands.unchanged place rule e) ∙ sym (has_clean (rows p s rule.conditions) forgotten)
 
-  pub net_stands : AreQuiet p new.nodes.items new.quiet_until → IsIndexOf new.nodes.items new.ends.items new.index → AreScheduled p new.nodes.items new.schedule
-      → AreOwners p stands.nodes.shape.conditions (length new.nodes.items) new.owners.items → NetStands p new next forgotten
-  net_stands quiet indexed scheduled owned =
+  pub net_stands : AreQuiet p (shown_nodes new) new.quiet_until → IsIndexOf (shown_nodes new) new.ends.items new.index → AreScheduled p new.nodes.items new.schedule → AreFans new.nodes.items new.fans
+      → AreOwners p stands.nodes.shape.conditions (length (shown_nodes new)) new.owners.items → NetStands p new next forgotten
+  net_stands quiet indexed scheduled fans owned =
       seen_now p new next forgotten
       (stands_now p look was next gone come moment forgotten no_change (rows_of p was) (clean_rows p s forgotten) old new stands.nodes.shape answers from_seen made (first_stays p was next forgotten) standing beside
-      same step listed indexed scheduled owned)
+      same step listed indexed scheduled fans owned)
       moves.after (onward (pos 0) stands.seen next.clock stands.begun from_seen.moves.clock) quiet
 
   pub net_between : IsRunnable p → AreBetween p (clean_rows p s forgotten) (clean_rows p next forgotten) answers

@@ -30,6 +30,7 @@ use Rattle.condition_rows.proofs.Naming.{rows_named}
 use Rattle.pattern_gate.specs.Moves.{IsOrderly}
 use Rattle.condition_node.specs.Nodes.{condition_of}
 use Rattle.rule_world.specs.Programs.{IsRunnable}
+use Rattle.rete_net.specs.Fans.{AreFans, shown_nodes}
 use Rattle.rete_net.specs.declared.changes.RuleChange.{RuleChange}
 use Rattle.rete_net.specs.declared.net.Rete.{Rete}
 use Rattle.rete_net.specs.declared.node.NetNode.{NetNode}
@@ -141,7 +142,7 @@ beside p forgotten c behind = record {
 
 -- ---- what was built
 
-module _ (p : Program) (net : Rete) (all : List (List Condition)) (built : AreBuilt p net.nodes.items all)
+module _ (p : Program) (net : Rete) (all : List (List Condition)) (built : AreBuilt p (shown_nodes net) all)
     (ends : HaveEnds all net.ends.items p.rules (length p.rules)) (fronts_are : AreFronts p all) (distinct : AreDistinct all) (count : length net.ends.items ≡ length p.rules) where
   abbrev conditions : ℕ → List Condition
   conditions k = get_or all k []
@@ -149,7 +150,7 @@ module _ (p : Program) (net : Rete) (all : List (List Condition)) (built : AreBu
   within : (k parent : ℕ) (cs : List Condition) → slice_get (take k all) parent ≡ Some cs → parent < k
   within k parent cs e = let lt = slice_get_within (take k all) parent cs e in omega (arith, length-take k all)
 
-  earlier : (k parent : ℕ) (n : NetNode) → slice_get net.nodes.items k ≡ Some n → n.parent ≡ Some parent → parent < k
+  earlier : (k parent : ℕ) (n : NetNode) → slice_get (shown_nodes net) k ≡ Some n → n.parent ≡ Some parent → parent < k
   earlier k parent n e at =
       let is = built.behind k n e in
       within k parent is.before (subst (λ (o : Option ℕ). IsParent (take k all) o is.before) at is.parent)
@@ -160,43 +161,43 @@ module _ (p : Program) (net : Rete) (all : List (List Condition)) (built : AreBu
       let lt = within k parent cs is in
       sym (get_or-take k all parent [] lt) ∙ get_or_from_slice_get (take k all) parent cs [] is
 
-  own : (k : ℕ) (n : NetNode) → slice_get net.nodes.items k ≡ Some n → conditions k ≡ before conditions n.parent ++ condition_of n.node ∷ []
+  own : (k : ℕ) (n : NetNode) → slice_get (shown_nodes net) k ≡ Some n → conditions k ≡ before conditions n.parent ++ condition_of n.node ∷ []
   own k n e =
       let is = built.behind k n e in
       get_or_from_slice_get all k (is.before ++ condition_of n.node ∷ []) [] is.own ∙ ap (λ (cs : List Condition). cs ++ condition_of n.node ∷ []) (sym (before_is k is.before n.parent is.parent))
 
-  standing : (forgotten : Named → Bool) → AreStanding p empty_snapshot nothing forgotten net.nodes.items conditions
+  standing : (forgotten : Named → Bool) → AreStanding p empty_snapshot nothing forgotten (shown_nodes net) conditions
   standing forgotten = record { shaped = record { parents = earlier; own = own }; windows = built.windows; stand = λ k n e. built.fresh k n e forgotten }
 
-  end_at : (place : ℕ) (rule : Rule) → slice_get p.rules place ≡ Some rule → EndsAt net.nodes.items conditions net.ends.items place rule
+  end_at : (place : ℕ) (rule : Rule) → slice_get p.rules place ≡ Some rule → EndsAt (shown_nodes net) conditions net.ends.items place rule
   end_at place rule e =
       let r = ends place rule (slice_get_within p.rules place rule e) e in
       let inside : r.0 < length all = slice_get_within all r.0 rule.conditions r.2 in
       let many = built.length in
-      there r.0 r.1 r.2 (has_at net.nodes.items r.0 (omega arith))
+      there r.0 r.1 r.2 (has_at (shown_nodes net) r.0 (omega arith))
     where
       there : (last : ℕ) → slice_get net.ends.items place ≡ Some last → slice_get all last ≡ Some rule.conditions
-          → (n : NetNode) × (slice_get net.nodes.items last ≡ Some n) → EndsAt net.nodes.items conditions net.ends.items place rule
+          → (n : NetNode) × (slice_get (shown_nodes net) last ≡ Some n) → EndsAt (shown_nodes net) conditions net.ends.items place rule
       there last found has n = record { last = last; node = n.0; found = found; there = n.1; all = get_or_from_slice_get all last rule.conditions [] has }
 
   -- the conditions of a node are those that it was built for
-  listed : (k : ℕ) → k < length net.nodes.items → slice_get all k ≡ Some (conditions k)
+  listed : (k : ℕ) → k < length (shown_nodes net) → slice_get all k ≡ Some (conditions k)
   listed k h = let many = built.length in slice_get-get_or all k [] (omega arith)
 
-  fronts : (k : ℕ) (n : NetNode) → slice_get net.nodes.items k ≡ Some n → IsFront p (conditions k)
-  fronts k n e = fronts_are k (conditions k) (listed k (slice_get_within net.nodes.items k n e))
+  fronts : (k : ℕ) (n : NetNode) → slice_get (shown_nodes net) k ≡ Some n → IsFront p (conditions k)
+  fronts k n e = fronts_are k (conditions k) (listed k (slice_get_within (shown_nodes net) k n e))
 
   -- the conditions of two nodes are not the same
-  once : StandOnce net.nodes.items conditions
-  once j k a b e f equal = distinct j k (conditions j) (listed j (slice_get_within net.nodes.items j a e)) (listed k (slice_get_within net.nodes.items k b f) ∙ ap Some (sym equal))
+  once : StandOnce (shown_nodes net) conditions
+  once j k a b e f equal = distinct j k (conditions j) (listed j (slice_get_within (shown_nodes net) j a e)) (listed k (slice_get_within (shown_nodes net) k b f) ∙ ap Some (sym equal))
 
-  abbrev shape : IsNetOf p net.nodes.items net.ends.items
+  abbrev shape : IsNetOf p (shown_nodes net) net.ends.items
   shape = record { conditions = conditions; shaped = record { parents = earlier; own = own }; once = once; lasts = end_at; count = count; fronts = fronts; windows = built.windows }
 
-  pub built_shape : IsNetOf p net.nodes.items net.ends.items
+  pub built_shape : IsNetOf p (shown_nodes net) net.ends.items
   built_shape = shape
 
-  pub built_owned : (rules : ℕ) → AreOwnedSoFar p all net.owners.items rules [] 0 → AreOwners p conditions (length net.nodes.items) net.owners.items
+  pub built_owned : (rules : ℕ) → AreOwnedSoFar p all net.owners.items rules [] 0 → AreOwners p conditions (length (shown_nodes net)) net.owners.items
   built_owned rules so = record {
     count = so.count ∙ sym built.length;
     each = λ k o e.
@@ -207,27 +208,27 @@ module _ (p : Program) (net : Rete) (all : List (List Condition)) (built : AreBu
     rising = so.rising;
   }
 
-  pub shape_owned : (rules : ℕ) → AreOwnedSoFar p all net.owners.items rules [] 0 → AreOwners p built_shape.conditions (length net.nodes.items) net.owners.items
+  pub shape_owned : (rules : ℕ) → AreOwnedSoFar p all net.owners.items rules [] 0 → AreOwners p built_shape.conditions (length (shown_nodes net)) net.owners.items
   unfolding built_shape
   shape_owned rules so = built_owned rules so
 
   module _ (moment : Moment) (is_at : IsAt empty_snapshot moment) (new : Rete) (answers : List RuleChange) (same : new.ends.items ≡ net.ends.items)
-      (step : NetStep p no_facts [] None moment empty_row_comes net.nodes.items new.nodes.items net.ends.items answers) where
-    nodes_now : IsIndexOf new.nodes.items new.ends.items new.index → AreScheduled p new.nodes.items new.schedule
-        → AreOwners p conditions (length new.nodes.items) new.owners.items → (forgotten : Named → Bool) → NodesStand p new empty_snapshot forgotten
-    nodes_now indexed scheduled owned forgotten =
+      (step : NetStep p no_facts [] None moment empty_row_comes (shown_nodes net) (shown_nodes new) net.ends.items answers) where
+    nodes_now : IsIndexOf (shown_nodes new) new.ends.items new.index → AreScheduled p new.nodes.items new.schedule → AreFans new.nodes.items new.fans
+        → AreOwners p conditions (length (shown_nodes new)) new.owners.items → (forgotten : Named → Bool) → NodesStand p new empty_snapshot forgotten
+    nodes_now indexed scheduled fans owned forgotten =
         stands_now p no_facts empty_snapshot empty_snapshot [] None moment forgotten empty_row_comes nothing (λ rule. []) net new shape answers (starts p moment is_at forgotten) (nothing_made p empty_snapshot) (first_comes p forgotten)
-        (standing forgotten) (λ k n e. beside p forgotten (condition_of n.node) (before conditions n.parent)) same step (λ place rule e. refl) indexed scheduled owned
+        (standing forgotten) (λ k n e. beside p forgotten (condition_of n.node) (before conditions n.parent)) same step (λ place rule e. refl) indexed scheduled fans owned
 
-    pub built_net : IsNetOf p new.nodes.items new.ends.items
+    pub built_net : IsNetOf p (shown_nodes new) new.ends.items
     built_net =
         shape_now p no_facts empty_snapshot empty_snapshot [] None moment no_names empty_row_comes nothing (λ rule. []) net new shape answers (starts p moment is_at no_names) (nothing_made p empty_snapshot) (first_comes p no_names)
         (standing no_names) (λ k n e. beside p no_names (condition_of n.node) (before conditions n.parent)) same step (λ place rule e. refl)
 
-    pub built_stands : AreQuiet p new.nodes.items new.quiet_until → IsIndexOf new.nodes.items new.ends.items new.index → AreScheduled p new.nodes.items new.schedule
-        → AreOwners p conditions (length new.nodes.items) new.owners.items → (forgotten : Named → Bool) → NetStands p new empty_snapshot forgotten
-    built_stands quiet indexed scheduled owned forgotten =
-        seen_now p new empty_snapshot forgotten (nodes_now indexed scheduled owned forgotten) (kept p) (standstill (pos 0)) quiet
+    pub built_stands : AreQuiet p (shown_nodes new) new.quiet_until → IsIndexOf (shown_nodes new) new.ends.items new.index → AreScheduled p new.nodes.items new.schedule → AreFans new.nodes.items new.fans
+        → AreOwners p conditions (length (shown_nodes new)) new.owners.items → (forgotten : Named → Bool) → NetStands p new empty_snapshot forgotten
+    built_stands quiet indexed scheduled fans owned forgotten =
+        seen_now p new empty_snapshot forgotten (nodes_now indexed scheduled fans owned forgotten) (kept p) (standstill (pos 0)) quiet
 
     pub built_between : IsRunnable p → AreBetween p (λ rule. []) (λ rule. rows p empty_snapshot rule.conditions) answers
     built_between runnable =

@@ -10,15 +10,20 @@ use Rattle.rete_net.specs.declared.index.Index.{Index}
 use Rattle.rete_net.specs.declared.node.NetNode.{NetNode}
 use Rattle.rete_net.specs.declared.answered.Answered.{Answered}
 use Rattle.rete_net.specs.Answers.{left_given, some_answer, IsPut}
+use Rattle.rete_net.specs.declared.fans.Fans.{Fans}
+use Rattle.rete_net.specs.declared.fans.Seat.{Seat}
+use Rattle.rete_net.specs.Fans.{half_at, half_of, member_at, seat_at, showing, with_fans, AreFans, AreRowsTurned, IsHalf, IsLaidAs, IsLeft, IsOf, Member}
 use Rattle.rete_net.specs.Indexes.{IsFound}
 use Rattle.rete_net.specs.Schedules.{IsLeftAlone}
 use Rattle.rete_net.specs.Places.{has_place}
 use Rattle.row_change.specs.Changes.{changes_nothing}
 use Rattle.row_delta.specs.declared.row.Row.{Row}
 use Rattle.rete_net.specs.Steps.{no_change, left_delta, NodeStep}
-use Rattle.rete_net.specs.Walks.{HasAnswered, IsWired}
+use Rattle.rete_net.specs.Walks.{HasAnswered, IsReplaced, IsWired}
 use Rattle.rete_net.proofs.Lone.{alone_stays}
-use Rattle.rete_net.proofs.Walking as walking
+use Rattle.rete_net.proofs.Showing.{alone_shown}
+use Rattle.rete_net.proofs.Fanwise as fanwise
+use Rattle.condition_node.specs.Nodes.{condition_of}
 
 -- a difference without a row is nothing
 nothing_is : (d : Delta) → changes_nothing d ≡ true → d ≡ no_change
@@ -29,38 +34,48 @@ nothing_is d h = by d.gone d.come h
     by [] (r ∷ come) e = absurd (let no : false ≡ true = e in cc)
     by (r ∷ gone) come e = absurd (let no : false ≡ true = e in cc)
 
-module _ (p : Program) (look : Look) (gone : List Fact) (come : Option Fact) (moment : Moment) (first : Delta) (before : List NetNode) (ends : List ℕ) where
+module _ (p : Program) (look : Look) (gone : List Fact) (come : Option Fact) (moment : Moment) (first : Delta) (before : List NetNode) (fans : Fans) (ends : List ℕ) (index : Index) (wired : IsWired before ends index) where
   abbrev Alone : NetNode → Type 0
   Alone n = IsLeftAlone p n first gone come moment
 
-  abbrev pub IsUnderWay : List NetNode → List ℕ → Answered Delta → ℕ → Type 0
-  IsUnderWay now due a next = walking.IsUnderWay (NodeStep p look gone come moment) (left_delta first) first no_change Alone before ends now due a next
+  pub begun : (n : NetNode) → Alone n → n.parent ≡ None → first ≡ no_change
+  begun n alone e = nothing_is first (alone.unreached.begun e)
 
-  module _ (index : Index) (wired : IsWired before ends index) where
-    begun : (n : NetNode) → Alone n → n.parent ≡ None → first ≡ no_change
-    begun n alone e = nothing_is first (alone.unreached.begun e)
+  pub stays : (n : NetNode) → Alone n → NodeStep p look gone come moment n n no_change no_change
+  stays n alone = alone_stays p look gone come moment first n no_change alone refl
 
-    stays : (n : NetNode) → Alone n → NodeStep p look gone come moment n n no_change no_change
-    stays n alone = alone_stays p look gone come moment first n no_change alone refl
+  abbrev goes : Delta → List Row
+  goes d = d.gone
 
-    pub set_off : (due : List ℕ) (a : Answered Delta) → a.none ≡ no_change → ((k : ℕ) → some_answer a k ≡ None)
-        → ((k : ℕ) (n : NetNode) → slice_get before k ≡ Some n → IsFound index k n → has_place due k ≡ false → Alone n) → IsUnderWay before due a 0
-    set_off = walking.set_off (NodeStep p look gone come moment) (left_delta first) first no_change first Alone before ends index wired (λ deltas. refl) (λ deltas q. refl) begun stays
+  abbrev comes : Delta → List Row
+  comes d = d.come
 
-    module _ (now : List NetNode) (due : List ℕ) (a : Answered Delta) (next : ℕ) (way : IsUnderWay now due a next) where
-      skip_to : (place : ℕ) → next ≤ place → place ≤ length before → ((k : ℕ) → next ≤ k → k < place → has_place due k ≡ false) → IsUnderWay now due a place
-      skip_to place =
-          walking.skip_to (NodeStep p look gone come moment) (left_delta first) first no_change first Alone before ends index wired (λ deltas. refl) (λ deltas q. refl) begun stays now due a next place way
+  abbrev pub IsUnderWay : List NetNode → Fans → List ℕ → Answered Delta → ℕ → Type 0
+  IsUnderWay nodes now due a next =
+      fanwise.IsOnWay (NodeStep p look gone come moment) (left_delta first) first no_change first Alone look goes comes refl refl before fans ends index wired (λ deltas. refl) (λ deltas q. refl) begun stays nodes now due a next
 
-      pub step_at : (place : ℕ) (n new : NetNode) (left delta : Delta) (b : Answered Delta) (due_now : List ℕ) → next ≤ place → place ≤ length before → ((k : ℕ) → next ≤ k → k < place → has_place due k ≡ false)
-          → slice_get now place ≡ Some n → NodeStep p look gone come moment n new left delta → left ≡ left_given first a n.parent → (a.none ≡ no_change → IsPut index place delta a b due due_now)
-          → IsUnderWay (set now place new) due_now b (place + 1)
-      step_at place n new left delta b due_now le within out at step left_is put =
-          let there = skip_to place le within out in
-          walking.take_one (NodeStep p look gone come moment) (left_delta first) first no_change first Alone before ends index wired (λ deltas. refl) (λ deltas q. refl) begun stays now due a place
-          there n new left delta b due_now at step left_is (put there.nothing)
+  pub set_off : (now : Fans) (due : List ℕ) (a : Answered Delta) → AreFans before fans → now.seats ≡ fans.seats → now.spans ≡ fans.spans → now.list ≡ fans.list → ((seat : Seat) → half_at now seat ≡ no_change)
+      → a.none ≡ no_change → ((k : ℕ) → some_answer a k ≡ None)
+      → ((k : ℕ) (n : NetNode) → slice_get before k ≡ Some n → IsFound index k n → has_place due k ≡ false → Alone n) → IsUnderWay before now due a 0
+  set_off now due a are seats spans list halves nothing unanswered reached =
+      fanwise.set_off (NodeStep p look gone come moment) (left_delta first) first no_change first Alone look goes comes refl refl before fans ends index wired (λ deltas. refl) (λ deltas q. refl) begun stays
+      now due a are seats spans list halves nothing unanswered (λ k n e found out. alone_shown p (member_at fans k) n first gone come moment (reached k n e found out))
 
-      pub come_to_end : next ≤ length before → ((k : ℕ) → next ≤ k → k < length before → has_place due k ≡ false) → HasAnswered p look gone come moment first before now ends a
-      come_to_end le out =
-          let there = skip_to (length before) le (walking.not_less (length before)) out in
-          record { none = there.nothing; deltas = there.answers; stepped = there.below; known = there.known; ruled = there.ruled }
+  module _ (nodes : List NetNode) (now : Fans) (due : List ℕ) (a : Answered Delta) (next : ℕ) (way : IsUnderWay nodes now due a next) where
+    pub step_at : (place : ℕ) → next ≤ place → place ≤ length before → ((k : ℕ) → next ≤ k → k < place → has_place due k ≡ false)
+        → (n new : NetNode) → slice_get nodes place ≡ Some n → new.parent ≡ n.parent → condition_of new.node ≡ condition_of n.node
+        → IsReplaced before nodes → IsReplaced nodes (set nodes place new)
+        → (mid : Fans) → IsLaidAs now mid → ((seat : Seat) → (seat_at now.seats.items place ≡ Some seat → ⊥) → IsLeft now mid seat)
+        → (left delta : Delta) → left ≡ left_given first a n.parent
+        → ((was : Option Member) → IsOf n now.list.items (seat_at now.seats.items place) → IsHalf look left.gone left.come was (member_at now place) (half_of now (seat_at now.seats.items place))
+        → NodeStep p look gone come moment (showing was n) (showing (member_at mid place) new) left delta)
+        → (then : Fans) → IsLaidAs mid then → ((ns : List NetNode) → AreFans ns mid → AreRowsTurned look place delta.gone delta.come mid then)
+        → (b : Answered Delta) (due_now : List ℕ) → (a.none ≡ no_change → IsPut index place delta a b due due_now)
+        → IsUnderWay (set nodes place new) then due_now b (place + 1)
+    step_at =
+        fanwise.step_at (NodeStep p look gone come moment) (left_delta first) first no_change first Alone look goes comes refl refl before fans ends index wired (λ deltas. refl) (λ deltas q. refl) begun stays nodes now due a next way
+
+    pub come_to_end : next ≤ length before → ((k : ℕ) → next ≤ k → k < length before → has_place due k ≡ false) → HasAnswered p look gone come moment first (with_fans before fans) (with_fans nodes now) ends a
+    come_to_end le out =
+        let there = fanwise.come_to_end (NodeStep p look gone come moment) (left_delta first) first no_change first Alone look goes comes refl refl before fans ends index wired (λ deltas. refl) (λ deltas q. refl) begun stays nodes now due a next way le out in
+        record { none = there.nothing; deltas = there.answers; stepped = there.below; known = there.known; ruled = there.ruled }

@@ -62,6 +62,7 @@ use Rattle.condition_node.specs.declared.node.Node.TheVariants as node
 use Rattle.condition_node.specs.Nodes.{condition_of, NodeStands}
 use Rattle.condition_node.proofs.Knowing.{AsksOfSet, blockers_ask, witnesses_ask, gathers_ask, held_known, where_true}
 use Rattle.condition_node.proofs.Moved.{node_moves}
+use Rattle.rete_net.specs.Fans.{shown_nodes}
 use Rattle.rete_net.specs.declared.net.Rete.{Rete}
 use Rattle.rete_net.specs.declared.node.NetNode.{NetNode}
 use Rattle.rete_net.specs.Forgetting.{less_fact, IsUnmissed}
@@ -228,7 +229,7 @@ module _ (p : Program) (net : Rete) (s : Snapshot) (forgotten : Named → Bool) 
   apart_less = rising (less_fact s f).facts (less_in_order s f stands.kept.in_order)
 
   -- the rule of a node, and the place of the node's condition in it
-  module _ (k : ℕ) (n : NetNode) (e : slice_get net.nodes.items k ≡ Some n) where
+  module _ (k : ℕ) (n : NetNode) (e : slice_get (shown_nodes net) k ≡ Some n) where
     abbrev front : IsFront p (stands.nodes.shape.conditions k)
     front = stands.nodes.shape.fronts k n e
 
@@ -275,12 +276,13 @@ module _ (p : Program) (net : Rete) (s : Snapshot) (forgotten : Named → Bool) 
     shape = stands.nodes.shape;
     indexed = stands.nodes.indexed;
     scheduled = stands.nodes.scheduled;
+    fans = stands.nodes.fans;
     owned = stands.nodes.owned;
     nodes = node_now;
   }
 
-  same_less : (a b : ℤ) → HaveSame p net.nodes.items stands.nodes.shape.conditions forgotten (at_clock s a) (at_clock s b)
-      → HaveSame p net.nodes.items stands.nodes.shape.conditions forgotten (at_clock (less_fact s f) a) (at_clock (less_fact s f) b)
+  same_less : (a b : ℤ) → HaveSame p (shown_nodes net) stands.nodes.shape.conditions forgotten (at_clock s a) (at_clock s b)
+      → HaveSame p (shown_nodes net) stands.nodes.shape.conditions forgotten (at_clock (less_fact s f) a) (at_clock (less_fact s f) b)
   same_less a b same = record {
     same_rows = λ k n e. rows_less k n e a ∙ same.same_rows k n e ∙ sym (rows_less k n e b);
     same_candidates = λ k n e who. candidates_at k n e a who ∙ ap (λ c. c && not (f.tag.0 == who.tag.0)) (same.same_candidates k n e who) ∙ sym (candidates_at k n e b who);

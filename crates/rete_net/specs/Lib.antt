@@ -12,6 +12,8 @@ pub mod Forgetting
 pub mod Answers
 pub mod Dropped
 pub mod Steps
+pub mod Fans
+pub mod Seating
 pub mod Walks
 pub mod Building
 pub mod Loading

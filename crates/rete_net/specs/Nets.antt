@@ -22,19 +22,22 @@ use Rattle.condition_node.specs.Quiet.{IsBefore}
 use Rattle.rete_net.specs.declared.changes.RuleChange.{RuleChange}
 use Rattle.rete_net.specs.declared.node.NetNode.{NetNode}
 use Rattle.rete_net.specs.declared.net.Rete.{Rete}
+use Rattle.rete_net.specs.Fans.{AreFans, shown_nodes}
 use Rattle.rete_net.specs.Indexes.{IsIndexOf}
 use Rattle.rete_net.specs.Owners.{AreOwners}
 use Rattle.rete_net.specs.Schedules.{AreScheduled}
 use Rattle.rete_net.specs.Standing.{NetNodeStands}
 use Rattle.rete_net.specs.Shapes.{before, IsNetOf}
 
--- The nodes of a program's network, which its index and its schedule find, stand for a snapshot: each for the rows of the conditions before it.
+-- The nodes of a program's network, which its index and its schedule find, stand for a snapshot: each, with what it keeps of its own or in a fan, for
+-- the rows of the conditions before it.
 pub record NodesStand (p : Program) (net : Rete) (s : Snapshot) (forgotten : Named → Bool) : Type 0 where
-  pub shape : IsNetOf p net.nodes.items net.ends.items
-  pub indexed : IsIndexOf net.nodes.items net.ends.items net.index
+  pub shape : IsNetOf p (shown_nodes net) net.ends.items
+  pub indexed : IsIndexOf (shown_nodes net) net.ends.items net.index
   pub scheduled : AreScheduled p net.nodes.items net.schedule
-  pub owned : AreOwners p shape.conditions (length net.nodes.items) net.owners.items
-  pub nodes : (k : ℕ) (n : NetNode) → slice_get net.nodes.items k ≡ Some n → NetNodeStands p n s (rows_of p s (before shape.conditions n.parent)) forgotten
+  pub fans : AreFans net.nodes.items net.fans
+  pub owned : AreOwners p shape.conditions (length (shown_nodes net)) net.owners.items
+  pub nodes : (k : ℕ) (n : NetNode) → slice_get (shown_nodes net) k ≡ Some n → NetNodeStands p n s (rows_of p s (before shape.conditions n.parent)) forgotten
 
 -- The nodes have the same before them in both snapshots: the conditions of each have the same rows that name no forgotten fact, and its
 -- pattern has the same candidates.
@@ -51,9 +54,9 @@ pub record NetStands (p : Program) (net : Rete) (s : Snapshot) (forgotten : Name
   pub later : seen ≤ℤ s.clock
   pub kept : IsOrderly p (at_clock s seen)
   pub nodes : NodesStand p net (at_clock s seen) forgotten
-  pub unchanged : HaveSame p net.nodes.items nodes.shape.conditions forgotten s (at_clock s seen)
+  pub unchanged : HaveSame p (shown_nodes net) nodes.shape.conditions forgotten s (at_clock s seen)
   pub quiet : (clock : ℤ) → s.clock ≤ℤ clock → clock <ℤ pos (2 ^ 63) → IsBefore net.quiet_until clock → IsOrderly p (at_clock s clock)
-      → HaveSame p net.nodes.items nodes.shape.conditions forgotten (at_clock s clock) (at_clock s seen)
+      → HaveSame p (shown_nodes net) nodes.shape.conditions forgotten (at_clock s clock) (at_clock s seen)
 
 -- the rows of a rule in a snapshot that name no forgotten fact
 abbrev pub clean_rows : Program → Snapshot → (Named → Bool) → Rule → List Row

@@ -1,4 +1,4 @@
-ghost use Rattle.std.specs.Prelude.{◌≡◌, ℕ, Bool, Some, slice_get, IfOk};
+ghost use Rattle.std.specs.Prelude.{◌≡◌, ℕ, Bool, Option, Some, slice_get, IfOk};
 ghost use Rattle.row_delta.specs.declared.row.Named.{Named as NamedData};
 ghost use Rattle.row_delta.specs.declared.row.Row.{Row as RowData};
 ghost use Rattle.rule_model.specs.declared.program.Program.{Program as ProgramData};
@@ -10,6 +10,7 @@ ghost use Rattle.condition_node.specs.Nodes.{condition_of, NodeStands};
 ghost use Rattle.image_laws.specs.Extras.{AreExtras};
 ghost use Rattle.rete_net.specs.declared.build.Owner.{Owner as OwnerData};
 ghost use Rattle.rete_net.specs.declared.node.NetNode.{NetNode as NetNodeData};
+ghost use Rattle.rete_net.specs.Fans.{showing, Member};
 ghost use Rattle.rete_net.specs.Nets.{NetStands};
 
 use crate::build::Owner;
@@ -43,9 +44,9 @@ fn extras_at<F: Facts>(
     place: usize,
     facts: &F,
 ) -> Result<Vec<Extra>, NoMemory>
-    ensures { IfOk result (λ extras. (n : NetNodeData) (o : OwnerData) → slice_get nodes.now place ≡ Some n → slice_get owners.now place ≡ Some o
+    ensures { IfOk result (λ extras. (n : NetNodeData) (o : OwnerData) (m : Option Member) → slice_get nodes.now place ≡ Some n → slice_get owners.now place ≡ Some o
         → (p : ProgramData) (s : Snapshot) (rows : RowData → Bool) (forgotten : NamedData → Bool)
-        → HaveDistinctTags s.facts → HasAllOf (F.map facts.now) s forgotten → NameHeld s rows → NodeStands p n.node (F.map facts.now) s rows forgotten
+        → HaveDistinctTags s.facts → HasAllOf (F.map facts.now) s forgotten → NameHeld s rows → NodeStands p (showing m n).node (F.map facts.now) s rows forgotten
         → AreExtrasBeside p (condition_of n.node) s rows forgotten o.rule o.condition extras.items) }
 {
     match nodes.get(place) {

@@ -10,6 +10,7 @@ ghost use Rattle.image_laws.specs.Extras.{extra_cmp};
 ghost use Rattle.image_laws.specs.Laden.{AreOwners};
 ghost use Rattle.rete_net.specs.declared.changes.RuleChange.{RuleChange as RuleChangeData};
 ghost use Rattle.rete_net.specs.declared.load.LoadFault.TheVariants.{NoMemory as OutOfMemory};
+ghost use Rattle.rete_net.specs.Fans.{AreFans, IsLaidAs, shown_nodes};
 ghost use Rattle.rete_net.specs.Loading.{IsLoadable, IsThere, AreLadenRows, IsBehind};
 ghost use Rattle.rete_net.specs.Loads.{AreLoaded, IsStuck};
 ghost use Rattle.rete_net.specs.Nets.{NetStands};
@@ -21,6 +22,7 @@ ghost use Rattle.rete_net.specs.Walks.{IsReplaced, IsWired};
 use crate::answered::Answered;
 use crate::build::{empty_row_comes, no_change};
 use crate::changes::{RuleChange, changes_of};
+use crate::loading::Given;
 use crate::net::Rete;
 use crate::pieces::{by_type, extras_of, of_type};
 use crate::steps::put_delta;
@@ -88,13 +90,13 @@ impl Rete {
     }
 
     // Loads nodes that keep nothing, each with the rows that its parent answered, and answers what they answer.
-    fn load_nodes<F: Facts>(
+    fn load_nodes<'g, F: Facts>(
         &mut self,
         alloc: Global,
         program: &Program,
-        kept: &[&Fact],
-        extras: &[Extra],
-        moment: &Moment,
+        kept: &'g [&'g Fact],
+        extras: &'g [Extra],
+        moment: &'g Moment<'g>,
         facts: &F,
     ) -> Result<Answered<Delta>, LoadFault>
         ensures ends { OnOk result (self.new.ends ≡ self.old.ends) }
@@ -102,24 +104,36 @@ impl Rete {
         ensures index { OnOk result (self.new.index ≡ self.old.index) }
         ensures replaced { OnOk result (IsReplaced self.old.nodes.items self.new.nodes.items) }
         ensures scheduled { OnOk result (AreScheduled program.now self.old.nodes.items self.old.schedule → AreScheduled program.now self.new.nodes.items self.new.schedule) }
+        ensures laid { OnOk result (IsLaidAs self.old.fans self.new.fans) }
         ensures loaded { IfOk result (λ a. IsWired self.old.nodes.items self.old.ends.items self.old.index → IsStrictlySortedBy extra_cmp extras.now
-            → AreLoaded program.now (F.map facts.now) (lent kept.now) extras.now moment.now empty_row_comes self.old.nodes.items self.new.nodes.items self.old.owners.items self.old.ends.items a (length self.old.nodes.items)) }
+            → AreFans self.old.nodes.items self.old.fans
+            → AreLoaded program.now (F.map facts.now) (lent kept.now) extras.now moment.now empty_row_comes (shown_nodes self.old) (shown_nodes self.new) self.old.owners.items self.old.ends.items a (length (shown_nodes self.old))) }
         ensures stuck { IsErrOf result LoadFault.NoRow → IsWired self.old.nodes.items self.old.ends.items self.old.index → IsStrictlySortedBy extra_cmp extras.now
-            → IsStuck program.now (F.map facts.now) (lent kept.now) extras.now moment.now empty_row_comes self.old.nodes.items self.old.owners.items self.old.ends.items }
+            → AreFans self.old.nodes.items self.old.fans
+            → IsStuck program.now (F.map facts.now) (lent kept.now) extras.now moment.now empty_row_comes (shown_nodes self.old) self.old.owners.items self.old.ends.items }
     {
         let groups = by_type(alloc, kept)?;
         let none = Vec::new(alloc);
         let first = empty_row_comes(alloc)?;
         let mut due = BTreeSet::new(alloc);
         let mut answered = Answered::new(alloc, no_change(alloc));
+        self.fans.begin(alloc);
         for place in 0..self.nodes.len() {
             let own = extras_of(extras, &self.owners, place);
             let node = &mut self.nodes[place];
             let left = answered.left(&first, node.parent);
             let rows = left.come.as_slice();
             let theirs = of_type(&groups, &none, node.ty());
-            let delta = node.load(alloc, program, rows, theirs, own, moment, facts)?;
+            let given = Given {
+                rows,
+                theirs,
+                extras: own,
+                moment,
+            };
+            let delta = node.load_in(alloc, program, &mut self.fans, place, &given, facts)?;
             self.schedule.put(alloc, program, place, node)?;
+            let came = delta.come.as_slice();
+            self.fans.turn_rows(alloc, place, &[], came, facts)?;
             put_delta(&mut answered, &mut due, &self.index, place, delta)?;
         }
         Ok(answered)

@@ -18,6 +18,7 @@ ghost use Rattle.pattern_gate.specs.Moves.{IsOrderly, Moves, at_clock};
 ghost use Rattle.condition_node.specs.Quiet.{IsBefore};
 ghost use Rattle.rete_net.specs.declared.changes.RuleChange.{RuleChange as RuleChangeData};
 ghost use Rattle.rete_net.specs.Dropped.{AreDropped, AreListed, HaveForgotten};
+ghost use Rattle.rete_net.specs.Fans.{AreFans, IsLaidAs, shown_nodes};
 ghost use Rattle.rete_net.specs.Forgetting.{AreNotNeeded};
 ghost use Rattle.rete_net.specs.Indexes.{IsIndexOf};
 ghost use Rattle.rete_net.specs.Nets.{NetStands, clean_rows, AreBetween};
@@ -33,8 +34,10 @@ use crate::answered::Answered;
 use crate::build::{Builder, NoFacts, Owner, empty_row_comes, no_change};
 use crate::changes::{RuleChange, changes_of, rule_in};
 use crate::due::{first_below, put_reached};
+use crate::fans::Fans;
 use crate::forgetting::{RuleRows, put_dropped, rows_of_rules, with_old};
 use crate::index::Index;
+use crate::membership::Happening;
 use crate::node::NetNode;
 use crate::quiet::is_before;
 use crate::schedule::Schedule;
@@ -53,6 +56,7 @@ pub struct Rete {
     pub(crate) ends: Vec<usize>,
     pub(crate) owners: Vec<Owner>,
     pub(crate) index: Index,
+    pub(crate) fans: Fans,
     pub(crate) schedule: Schedule,
     pub(crate) quiet_until: Option<i128>,
 }
@@ -158,10 +162,11 @@ impl Rete {
 
     /// The nodes of all rules, which keep nothing.
     pub(crate) fn of_rules(alloc: Global, program: &Program) -> Result<Rete, NoMemory>
-        ensures indexed { IfOk result (λ net. IsIndexOf net.nodes.items net.ends.items net.index) }
+        ensures indexed { IfOk result (λ net. IsIndexOf (shown_nodes net) net.ends.items net.index) }
+        ensures fans { IfOk result (λ net. AreFans net.nodes.items net.fans) }
         ensures scheduled { IfOk result (λ net. AreScheduled program.now net.nodes.items net.schedule) }
         ensures count { IfOk result (λ net. length net.ends.items ≡ length program.now.rules) }
-        ensures built { IfOk result (λ net. IsRunnable program.now → (all : List (List Condition)) × AreBuilt program.now net.nodes.items all × HaveEnds all net.ends.items program.now.rules (length program.now.rules)
+        ensures built { IfOk result (λ net. IsRunnable program.now → (all : List (List Condition)) × AreBuilt program.now (shown_nodes net) all × HaveEnds all net.ends.items program.now.rules (length program.now.rules)
             × AreFronts program.now all × AreDistinct all × (length net.ends.items ≡ length program.now.rules)
             × AreOwnedSoFar program.now all net.owners.items (length program.now.rules) [] 0) }
     {
@@ -172,12 +177,14 @@ impl Rete {
             ends.push(last.unwrap_or(0))?;
         }
         let index = Index::of(alloc, &builder.nodes, &ends)?;
+        let fans = Fans::of(alloc, &builder.nodes)?;
         let schedule = Schedule::of(alloc, program, &builder.nodes)?;
         Ok(Rete {
             nodes: builder.nodes,
             ends,
             owners: builder.owners,
             index,
+            fans,
             schedule,
             quiet_until: None,
         })
@@ -197,18 +204,23 @@ impl Rete {
         ensures quiet { OnOk result (self.new.quiet_until ≡ self.old.quiet_until) }
         ensures replaced { OnOk result (IsReplaced self.old.nodes.items self.new.nodes.items) }
         ensures scheduled { OnOk result (AreScheduled program.now self.old.nodes.items self.old.schedule → AreScheduled program.now self.new.nodes.items self.new.schedule) }
-        ensures forgot { IfOk result (λ a. IsWired self.old.nodes.items self.old.ends.items self.old.index
-            → HaveForgotten program.now (F.map facts.now) (has_name old.now) self.old.nodes.items self.new.nodes.items self.old.ends.items a) }
+        ensures laid { OnOk result (IsLaidAs self.old.fans self.new.fans) }
+        ensures forgot { IfOk result (λ a. IsWired self.old.nodes.items self.old.ends.items self.old.index → AreFans self.old.nodes.items self.old.fans
+            → HaveForgotten program.now (F.map facts.now) (has_name old.now) (shown_nodes self.old) (shown_nodes self.new) self.old.ends.items a) }
     {
         let mut due = with_old(alloc, &self.index, old, facts)?;
         let none = Seq::from_vec(Vec::new(alloc));
         let mut dropped = Answered::new(alloc, Seq::from_vec(Vec::new(alloc)));
+        self.fans.begin(alloc);
         let mut next = 0;
         'walk: while let Some(place) = first_below(&due, next, self.nodes.len()) {
             let node = &mut self.nodes[place];
             let rows = dropped.left(&none, node.parent);
-            let gone = node.forget(alloc, program, rows.as_slice(), old, facts)?;
+            let before = rows.as_slice();
+            let gone = node.forget_in(alloc, program, &mut self.fans, place, before, old, facts)?;
             self.schedule.put(alloc, program, place, node)?;
+            let went = gone.as_slice();
+            self.fans.turn_rows(alloc, place, went, &[], facts)?;
             put_dropped(&mut dropped, &mut due, &self.index, place, gone)?;
             next = place + 1;
         }
@@ -229,13 +241,15 @@ impl Rete {
     ) -> Result<Vec<RuleChange>, NoMemory>
         ensures ends { OnOk result (self.new.ends.items ≡ self.old.ends.items) }
         ensures owners { OnOk result (self.new.owners ≡ self.old.owners) }
-        ensures quiet { OnOk result (AreScheduled program.now self.old.nodes.items self.old.schedule → AreQuiet program.now self.new.nodes.items self.new.quiet_until) }
+        ensures quiet { OnOk result (AreScheduled program.now self.old.nodes.items self.old.schedule → AreQuiet program.now (shown_nodes self.new) self.new.quiet_until) }
         ensures scheduled { OnOk result (AreScheduled program.now self.old.nodes.items self.old.schedule → AreScheduled program.now self.new.nodes.items self.new.schedule) }
         ensures replaced { OnOk result (IsReplaced self.old.nodes.items self.new.nodes.items) }
-        ensures indexed { OnOk result (IsIndexOf self.old.nodes.items self.old.ends.items self.old.index → IsIndexOf self.new.nodes.items self.new.ends.items self.new.index) }
+        ensures indexed { OnOk result (IsIndexOf (shown_nodes self.old) self.old.ends.items self.old.index → IsIndexOf (shown_nodes self.new) self.new.ends.items self.new.index) }
+        ensures laid { OnOk result (IsLaidAs self.old.fans self.new.fans) }
         ensures rules { length self.old.ends.items < 2 ^ 16 → IfOk result (λ changes. (c : RuleChangeData) → In c changes.items → c.rule.0 < length self.old.ends.items) }
         ensures stepped { IfOk result (λ changes. IsWired self.old.nodes.items self.old.ends.items self.old.index → AreScheduled program.now self.old.nodes.items self.old.schedule
-            → NetStep program.now (F.map facts.now) (lent gone.now) (option_map (λ f. f.now) come.entry) moment.now first.now self.old.nodes.items self.new.nodes.items self.old.ends.items changes.items) }
+            → AreFans self.old.nodes.items self.old.fans
+            → NetStep program.now (F.map facts.now) (lent gone.now) (option_map (λ f. f.now) come.entry) moment.now first.now (shown_nodes self.old) (shown_nodes self.new) self.old.ends.items changes.items) }
     {
         let answered = self.walk(alloc, program, first, gone, come, moment, facts)?;
         self.quiet_until = self.schedule.first();
@@ -245,14 +259,14 @@ impl Rete {
 
     /// Lets the nodes that the step reaches take it, each after its parent, and answers what they answer. `first` comes to the nodes
     /// without a parent.
-    fn walk<F: Facts>(
+    fn walk<'h, F: Facts>(
         &mut self,
         alloc: Global,
-        program: &Program,
+        program: &'h Program,
         first: &Delta,
-        gone: &[&Fact],
-        come: Option<&Fact>,
-        moment: &Moment,
+        gone: &'h [&'h Fact],
+        come: Option<&'h Fact>,
+        moment: &'h Moment<'h>,
         facts: &F,
     ) -> Result<Answered<Delta>, NoMemory>
         ensures ends { OnOk result (self.new.ends ≡ self.old.ends) }
@@ -260,18 +274,30 @@ impl Rete {
         ensures index { OnOk result (self.new.index ≡ self.old.index) }
         ensures replaced { OnOk result (IsReplaced self.old.nodes.items self.new.nodes.items) }
         ensures scheduled { OnOk result (AreScheduled program.now self.old.nodes.items self.old.schedule → AreScheduled program.now self.new.nodes.items self.new.schedule) }
+        ensures laid { OnOk result (IsLaidAs self.old.fans self.new.fans) }
         ensures answered { IfOk result (λ a. IsWired self.old.nodes.items self.old.ends.items self.old.index → AreScheduled program.now self.old.nodes.items self.old.schedule
-            → HasAnswered program.now (F.map facts.now) (lent gone.now) (option_map (λ f. f.now) come.entry) moment.now first.now self.old.nodes.items self.new.nodes.items self.old.ends.items a) }
+            → AreFans self.old.nodes.items self.old.fans
+            → HasAnswered program.now (F.map facts.now) (lent gone.now) (option_map (λ f. f.now) come.entry) moment.now first.now (shown_nodes self.old) (shown_nodes self.new) self.old.ends.items a) }
     {
         let mut due = self.schedule.due(alloc, program, moment)?;
         put_reached(&mut due, &self.nodes, &self.index, first, gone, come)?;
         let mut answered = Answered::new(alloc, no_change(alloc));
+        let happening = Happening {
+            program,
+            gone,
+            come,
+            moment,
+        };
+        self.fans.begin(alloc);
         let mut next = 0;
         'walk: while let Some(place) = first_below(&due, next, self.nodes.len()) {
             let node = &mut self.nodes[place];
             let left = answered.left(first, node.parent);
-            let delta = node.advance(alloc, program, left, gone, come, moment, facts)?;
+            let delta = node.advance_in(alloc, &mut self.fans, place, left, &happening, facts)?;
             self.schedule.put(alloc, program, place, node)?;
+            let went = delta.gone.as_slice();
+            let came = delta.come.as_slice();
+            self.fans.turn_rows(alloc, place, went, came, facts)?;
             put_delta(&mut answered, &mut due, &self.index, place, delta)?;
             next = place + 1;
         }

@@ -1,4 +1,5 @@
-ghost use Rattle.std.specs.Prelude.{◌≡◌, ℤ, Bool, true, option_map, IfOk, IsTrue};
+ghost use Rattle.std.specs.Prelude.{◌≡◌, ℤ, Bool, true, Option, Some, IsNone, option_map, IfOk, IfSome, IsTrue};
+ghost use Rattle.rule_model.specs.declared.condition.Condition.TheVariants.{Plain};
 ghost use Rattle.row_delta.specs.declared.delta.Delta.{Delta as DeltaData};
 ghost use Rattle.row_delta.specs.declared.row.Named.{Named as NamedData};
 ghost use Rattle.row_delta.specs.declared.row.Row.{Row as RowData};
@@ -16,6 +17,7 @@ ghost use Rattle.condition_node.specs.Loading.{AreExtrasBeside};
 ghost use Rattle.condition_node.specs.Nodes.{condition_of, is_negated, NodeStands};
 ghost use Rattle.condition_node.specs.Quiet.{IsBefore};
 ghost use Rattle.rete_net.specs.Dropped.{NodeForgets};
+ghost use Rattle.rete_net.specs.Fans.{showing, with_member, Member};
 ghost use Rattle.rete_net.specs.Indexes.{is_timed, type_of};
 ghost use Rattle.rete_net.specs.Standing.{IsFresh};
 ghost use Rattle.rete_net.specs.Quiet.{IsNodeQuiet};
@@ -123,6 +125,16 @@ impl NetNode {
         self.node.pattern()
     }
 
+    /// Its pattern, where it binds a fact and stands behind this parent. Takes no memory.
+    pub(crate) fn joined_behind(&self, parent: usize) -> Option<&Pattern>
+        ensures { IfSome result (λ q. (self.now.parent ≡ Some parent) × (condition_of self.now.node ≡ Plain q.now)) }
+    {
+        if self.parent != Some(parent) {
+            return None;
+        }
+        join_pattern(&self.node)
+    }
+
     /// The entry point of its candidates. Takes no memory.
     pub(crate) fn entry(&self) -> EntryId
         ensures { result.0 ≡ entry_of self.now }
@@ -161,17 +173,21 @@ impl NetNode {
         Ok(gone)
     }
 
-    /// What it counts or gathers of forgotten facts beside rows before it that name none, under this owner, in the order of the rows.
+    /// What it counts or gathers of forgotten facts beside rows before it that name none, under this owner, in the order of the rows. Where
+    /// its pattern binds a fact that is nothing.
     pub(crate) fn extras<F: Facts>(
         &self,
         alloc: Global,
         owner: Owner,
         facts: &F,
     ) -> Result<Vec<Extra>, NoMemory>
-        ensures { IfOk result (λ extras. (p : ProgramData) (s : Snapshot) (rows : RowData → Bool) (forgotten : NamedData → Bool)
-            → HaveDistinctTags s.facts → HasAllOf (F.map facts.now) s forgotten → NameHeld s rows → NodeStands p self.now.node (F.map facts.now) s rows forgotten
+        ensures { IfOk result (λ extras. (m : Option Member) (p : ProgramData) (s : Snapshot) (rows : RowData → Bool) (forgotten : NamedData → Bool)
+            → HaveDistinctTags s.facts → HasAllOf (F.map facts.now) s forgotten → NameHeld s rows → NodeStands p (showing m self.now).node (F.map facts.now) s rows forgotten
             → AreExtrasBeside p (condition_of self.now.node) s rows forgotten owner.rule owner.condition extras.items) }
     {
+        if join_pattern(&self.node).is_some() {
+            return Ok(Vec::new(alloc));
+        }
         let extras = self.node.extras(alloc, owner.rule, owner.condition, facts)?;
         Ok(extras)
     }
@@ -210,5 +226,18 @@ fn is_not(node: &Node) -> bool
         Node::Join(_) => false,
         Node::Exists(_) => false,
         Node::Fold(_) => false,
+    }
+}
+
+// The pattern of a node that binds a fact.
+fn join_pattern(node: &Node) -> Option<&Pattern>
+    ensures some { IfSome result (λ q. condition_of node.now ≡ Plain q.now) }
+    ensures none { IsNone result → (m : Member) → with_member m node.now ≡ node.now }
+{
+    match node {
+        Node::Join(join) => Some(join.pattern()),
+        Node::Not(_) => None,
+        Node::Exists(_) => None,
+        Node::Fold(_) => None,
     }
 }

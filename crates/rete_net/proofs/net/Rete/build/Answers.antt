@@ -7,25 +7,28 @@ use Rattle.rete_net.proofs.Starting.{no_facts, built_owned, built_shape, built_s
 use Rattle.rule_world.specs.Programs.{IsRunnable}
 use Rattle.rete_net.specs.Walks.{IsWired}
 use Rattle.rete_net.proofs.Owning.{owned_again}
-use Rattle.rete_net.proofs.Frames.{wired_of}
+use Rattle.rete_net.specs.Fans.{member_at, shown_nodes}
+use Rattle.rete_net.proofs.Fanning.{fans_again}
+use Rattle.rete_net.proofs.Fanwise.{net_under, wired_under}
+use Rattle.rete_net.proofs.Showing.{replaced_both}
 use Rattle.rete_net.proofs.Turns.{settled}
 use Rattle.rete_net.proofs.net.Rete.build.Goals as goal
 
 -- the first step of the nodes, in which the empty row comes, at a moment where nothing is reached
 step : (c : goal.After-drop-first-3) → IsWired c.in_ok-net.net.nodes.items c.in_ok-net.net.ends.items c.in_ok-net.net.index
     → (moment : Moment) × IsAt empty_snapshot moment
-    × NetStep c.args.program.now no_facts [] None moment empty_row_comes c.in_ok-net.net.nodes.items c.step.new.self.nodes.items c.in_ok-net.net.ends.items c.in_ok-changes.changes.items
+    × NetStep c.args.program.now no_facts [] None moment empty_row_comes (shown_nodes c.in_ok-net.net) (shown_nodes c.step.new.self) c.in_ok-net.net.ends.items c.in_ok-changes.changes.items
 step c wired = (
   _,
   record { clock = refl; reached = refl },
-  settled c.args.program.now no_facts [] None _ c.in_ok-first.first empty_row_comes c.in_ok-net.net.nodes.items c.step.new.self.nodes.items c.in_ok-net.net.ends.items c.in_ok-changes.changes.items
-      c.in_ok-first.ensures (c.in_ok-changes.ensures.stepped wired c.in_ok-net.ensures.scheduled),
+  settled c.args.program.now no_facts [] None _ c.in_ok-first.first empty_row_comes (shown_nodes c.in_ok-net.net) (shown_nodes c.step.new.self) c.in_ok-net.net.ends.items c.in_ok-changes.changes.items
+      c.in_ok-first.ensures (c.in_ok-changes.ensures.stepped wired c.in_ok-net.ensures.scheduled c.in_ok-net.ensures.fans),
 )
 
 wired : (c : goal.After-drop-first-3) → IsRunnable c.args.program.now → IsWired c.in_ok-net.net.nodes.items c.in_ok-net.net.ends.items c.in_ok-net.net.index
 wired c runnable =
     let built = c.in_ok-net.ensures.built runnable in
-    wired_of c.args.program.now c.in_ok-net.net.nodes.items c.in_ok-net.net.ends.items c.in_ok-net.net.index
+    wired_under c.args.program.now c.in_ok-net.net.nodes.items c.in_ok-net.net.fans c.in_ok-net.net.ends.items c.in_ok-net.net.index
     (built_shape c.args.program.now c.in_ok-net.net built.0 built.1 built.2 built.3 built.4 built.5) c.in_ok-net.ensures.indexed
 
 pub returns-clause-stands : goal.returns-clause-stands
@@ -34,8 +37,10 @@ returns-clause-stands c runnable =
     let first = step c (wired c runnable) in
     built_stands c.args.program.now c.in_ok-net.net built.0 built.1 built.2 built.3 built.4 built.5 first.0 first.1 c.step.new.self c.in_ok-changes.changes.items c.in_ok-changes.ensures.ends first.2
     (c.in_ok-changes.ensures.quiet c.in_ok-net.ensures.scheduled) (c.in_ok-changes.ensures.indexed c.in_ok-net.ensures.indexed) (c.in_ok-changes.ensures.scheduled c.in_ok-net.ensures.scheduled)
-    (owned_again c.args.program.now (λ k. get_or built.0 k []) (length c.in_ok-net.net.nodes.items) (length c.step.new.self.nodes.items)
-    c.in_ok-net.net.owners c.step.new.self.owners c.in_ok-changes.ensures.replaced.many c.in_ok-changes.ensures.owners
+    (fans_again c.in_ok-net.net.nodes.items c.step.new.self.nodes.items c.in_ok-net.net.fans c.step.new.self.fans c.in_ok-changes.ensures.replaced c.in_ok-changes.ensures.laid c.in_ok-net.ensures.fans)
+    (owned_again c.args.program.now (λ k. get_or built.0 k []) (length (shown_nodes c.in_ok-net.net)) (length (shown_nodes c.step.new.self))
+    c.in_ok-net.net.owners c.step.new.self.owners
+    (replaced_both (member_at c.in_ok-net.net.fans) (member_at c.step.new.self.fans) c.in_ok-net.net.nodes.items c.step.new.self.nodes.items c.in_ok-changes.ensures.replaced).many c.in_ok-changes.ensures.owners
     (built_owned c.args.program.now c.in_ok-net.net built.0 built.1 built.2 built.3 built.4 built.5 (length c.args.program.now.rules) built.6))
 
 pub returns-clause-first : goal.returns-clause-first
@@ -48,4 +53,5 @@ pub returns-clause-net : goal.returns-clause-net
 returns-clause-net c runnable =
     let built = c.in_ok-net.ensures.built runnable in
     let first = step c (wired c runnable) in
-    built_net c.args.program.now c.in_ok-net.net built.0 built.1 built.2 built.3 built.4 built.5 first.0 first.1 c.step.new.self c.in_ok-changes.changes.items c.in_ok-changes.ensures.ends first.2
+    net_under c.args.program.now c.step.new.self.nodes.items c.step.new.self.fans c.step.new.self.ends.items
+    (built_net c.args.program.now c.in_ok-net.net built.0 built.1 built.2 built.3 built.4 built.5 first.0 first.1 c.step.new.self c.in_ok-changes.changes.items c.in_ok-changes.ensures.ends first.2)

@@ -5,22 +5,26 @@ use Rattle.condition_rows.specs.Sets.{held, rows_of}
 use Rattle.condition_rows.proofs.Naming.{rows_named}
 use Rattle.pattern_gate.specs.Moves.{at_clock}
 use Rattle.pattern_gate.proofs.Arriving.{rising}
+use Rattle.rule_model.specs.declared.condition.Condition.{Condition}
+use Rattle.condition_node.specs.Loading.{AreExtrasBeside}
 use Rattle.condition_node.specs.Nodes.{condition_of}
 use Rattle.condition_node.proofs.Moved.{node_moves}
 use Rattle.rete_net.specs.declared.build.Owner.{Owner}
 use Rattle.rete_net.specs.declared.node.NetNode.{NetNode}
+use Rattle.rete_net.specs.Fans.{member_at, showing, shown_nodes}
 use Rattle.rete_net.specs.Shapes.{before}
 use Rattle.rete_net.proofs.Counting.{AreFirst, none_first, one_more_first, all_of_them, beside_seen, same_before}
 use Rattle.rete_net.proofs.Growing.{has_at}
 use Rattle.rete_net.proofs.Seen.{at_hand_at}
+use Rattle.rete_net.proofs.Showing.{condition_shown, shown_at, shown_length}
 use Rattle.rete_net.proofs.Turning.{held_has}
 use Rattle.rete_net.proofs.net.Rete.extras.Goals as goal
 
 pub loop-place-init : goal.loop-place-init
 loop-place-init g c p s forgotten stands has =
     let net = c.args.self.now in
-    subst (λ (es : List Extra). AreFirst p net.nodes.items net.ends.items stands.nodes.shape net.owners.items stands.nodes.owned s forgotten 0 es) (sym c.new-all.ensures.items)
-    (none_first p net.nodes.items net.ends.items stands.nodes.shape net.owners.items stands.nodes.owned s forgotten)
+    subst (λ (es : List Extra). AreFirst p (shown_nodes net) net.ends.items stands.nodes.shape net.owners.items stands.nodes.owned s forgotten 0 es) (sym c.new-all.ensures.items)
+    (none_first p (shown_nodes net) net.ends.items stands.nodes.shape net.owners.items stands.nodes.owned s forgotten)
 
 pub loop-place-preserved : goal.loop-place-preserved
 loop-place-preserved g c p s forgotten stands has =
@@ -30,27 +34,32 @@ loop-place-preserved g c p s forgotten stands has =
     let long : c.len-place-end.result ≡ length net.nodes.items = c.len-place-end.ensures ∙ net.nodes.ok.0 in
     let lt : c.loop-place.place < length net.nodes.items = omega (arith, long) in
     let owned = stands.nodes.owned in
+    let many = shown_length (member_at net.fans) net.nodes.items in
     let count = owned.count in
     let n = has_at net.nodes.items k lt in
-    let o = has_at net.owners.items k (omega (arith, count, lt)) in
+    let m = member_at net.fans k in
+    let shows = shown_at (member_at net.fans) net.nodes.items k n.0 n.1 in
+    let o = has_at net.owners.items k (omega (arith, count, many, lt)) in
     let was = at_clock s stands.seen in
-    let behind = before stands.nodes.shape.conditions n.0.parent in
+    let behind = before stands.nodes.shape.conditions (showing m n.0).parent in
     let tags : HaveDistinctTags s.facts = rising s.facts stands.kept.in_order in
     let at_hand = at_hand_at look s stands.seen forgotten has in
     let named = rows_named p was tags behind in
-    let node = node_moves p (held was) look was (rows_of p was behind) forgotten (held_has was forgotten) at_hand named n.0.node (stands.nodes.nodes k n.0 n.1).node in
-    let told = c.in_ok-extras.ensures n.0 o.0 (ap (λ (ns : List NetNode). slice_get ns k) c.deref.ensures.value ∙ n.1) (ap (λ (os : List Owner). slice_get os k) c.deref-in-loop-place.ensures.value ∙ o.1)
+    let node = node_moves p (held was) look was (rows_of p was behind) forgotten (held_has was forgotten) at_hand named (showing m n.0).node (stands.nodes.nodes k (showing m n.0) shows).node in
+    let told = c.in_ok-extras.ensures n.0 o.0 m (ap (λ (ns : List NetNode). slice_get ns k) c.deref.ensures.value ∙ n.1) (ap (λ (os : List Owner). slice_get os k) c.deref-in-loop-place.ensures.value ∙ o.1)
     p was (rows_of p was behind) forgotten tags at_hand named node in
-    let here = beside_seen p s stands.seen tags forgotten (condition_of n.0.node) behind (stands.unchanged.same_candidates k n.0 n.1)
-    (same_before p net.nodes.items net.ends.items stands.nodes.shape s was forgotten stands.unchanged k n.0 n.1) o.0.rule o.0.condition c.in_ok-extras.extras.items told in
-    subst (λ (es : List Extra). AreFirst p net.nodes.items net.ends.items stands.nodes.shape net.owners.items owned s forgotten (k + 1) es) (sym c.in_ok-append.ensures.items)
-    (one_more_first p net.nodes.items net.ends.items stands.nodes.shape net.owners.items owned s forgotten k n.0 o.0 n.1 o.1 c.loop-place.all.items c.in_ok-extras.extras.items
+    let told_of = subst (λ (x : Condition). AreExtrasBeside p x was (rows_of p was behind) forgotten o.0.rule o.0.condition c.in_ok-extras.extras.items) (sym (condition_shown m n.0)) told in
+    let here = beside_seen p s stands.seen tags forgotten (condition_of (showing m n.0).node) behind (stands.unchanged.same_candidates k (showing m n.0) shows)
+    (same_before p (shown_nodes net) net.ends.items stands.nodes.shape s was forgotten stands.unchanged k (showing m n.0) shows) o.0.rule o.0.condition c.in_ok-extras.extras.items told_of in
+    subst (λ (es : List Extra). AreFirst p (shown_nodes net) net.ends.items stands.nodes.shape net.owners.items owned s forgotten (k + 1) es) (sym c.in_ok-append.ensures.items)
+    (one_more_first p (shown_nodes net) net.ends.items stands.nodes.shape net.owners.items owned s forgotten k (showing m n.0) o.0 shows o.1 c.loop-place.all.items c.in_ok-extras.extras.items
     (c.loop-place.invariant p s forgotten stands has) here)
 
 pub returns : goal.returns
 returns g c p s forgotten stands has =
     let net = c.args.self.now in
     let long : c.len-place-end.result ≡ length net.nodes.items = c.len-place-end.ensures ∙ net.nodes.ok.0 in
-    let over : length net.nodes.items ≤ c.loop-place.place = omega (arith, long) in
-    all_of_them p net.nodes.items net.ends.items stands.nodes.shape net.owners.items stands.nodes.owned s forgotten c.loop-place.place c.loop-place.all.items over
+    let many = shown_length (member_at net.fans) net.nodes.items in
+    let over : length (shown_nodes net) ≤ c.loop-place.place = omega (arith, long, many) in
+    all_of_them p (shown_nodes net) net.ends.items stands.nodes.shape net.owners.items stands.nodes.owned s forgotten c.loop-place.place c.loop-place.all.items over
     (c.loop-place.invariant p s forgotten stands has)

@@ -3,6 +3,7 @@ use Rattle.row_delta.specs.declared.row.Named.{Named}
 use Rattle.rule_model.specs.declared.program.Program.{Program}
 use Rattle.rule_model.specs.Snapshots.{Snapshot}
 use Rattle.condition_rows.specs.Looks.{HasAllOf}
+use Rattle.rete_net.specs.Fans.{shown_nodes}
 use Rattle.rete_net.specs.Nets.{NetStands}
 use Rattle.rete_net.proofs.Counting.{AreFirst}
 use Rattle.rete_net.proofs.net.Rete.extras.Given as goal
@@ -10,4 +11,4 @@ use Rattle.rete_net.proofs.net.Rete.extras.Given as goal
 abbrev pub invariant-loop-place : goal.invariant-loop-place
 invariant-loop-place g l =
     (p : Program) (s : Snapshot) (forgotten : Named → Bool) (stands : NetStands p l.self s forgotten) → HasAllOf (g.F.Facts.map l.facts) s forgotten
-    → AreFirst p l.self.nodes.items l.self.ends.items stands.nodes.shape l.self.owners.items stands.nodes.owned s forgotten l.place l.all.items
+    → AreFirst p (shown_nodes l.self) l.self.ends.items stands.nodes.shape l.self.owners.items stands.nodes.owned s forgotten l.place l.all.items

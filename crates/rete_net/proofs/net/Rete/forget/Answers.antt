@@ -4,7 +4,11 @@ use Rattle.rete_net.specs.Answers.{AreRuled}
 use Rattle.rete_net.specs.Dropped.{AreListed}
 use Rattle.rete_net.proofs.Dropping.{net_forgets, rules_drop}
 use Rattle.rete_net.proofs.Owning.{owned_again}
-use Rattle.rete_net.proofs.Frames.{index_again, net_again, wired_of}
+use Rattle.rete_net.specs.Fans.{member_at, shown_nodes}
+use Rattle.rete_net.proofs.Fanning.{fans_again}
+use Rattle.rete_net.proofs.Fanwise.{wired_under}
+use Rattle.rete_net.proofs.Frames.{index_again, net_again}
+use Rattle.rete_net.proofs.Showing.{replaced_both}
 use Rattle.rete_net.proofs.net.Rete.forget.Goals as goal
 
 pub returns-clause-stands : goal.returns-clause-stands
@@ -12,22 +16,25 @@ returns-clause-stands g c s forgotten stands has_all =
     let told = c.in_ok-dropped.ensures in
     let was = c.args.self.now in
     let now = c.forget_nodes.new.self in
-    let forgot = told.forgot (wired_of c.args.program.now was.nodes.items was.ends.items was.index stands.nodes.shape stands.nodes.indexed) in
+    let forgot = told.forgot (wired_under c.args.program.now was.nodes.items was.fans was.ends.items was.index stands.nodes.shape stands.nodes.indexed) stands.nodes.fans in
+    let replaced = replaced_both (member_at was.fans) (member_at now.fans) was.nodes.items now.nodes.items told.replaced in
     let ends = ap (λ ends. ends.items) told.ends in
-    net_forgets c.args.program.now (g.F.Facts.map c.args.facts.now) s forgotten (has_name c.args.old.now) was now forgot.dropped stands has_all ends told.quiet told.replaced.many forgot.forgot
-    (index_again was.nodes.items now.nodes.items was.ends.items now.ends.items was.index now.index told.replaced ends told.index stands.nodes.indexed)
+    net_forgets c.args.program.now (g.F.Facts.map c.args.facts.now) s forgotten (has_name c.args.old.now) was now forgot.dropped stands has_all ends told.quiet replaced.many forgot.forgot
+    (index_again (shown_nodes was) (shown_nodes now) was.ends.items now.ends.items was.index now.index replaced ends told.index stands.nodes.indexed)
     (told.scheduled stands.nodes.scheduled)
-    (owned_again c.args.program.now stands.nodes.shape.conditions (length was.nodes.items) (length now.nodes.items) was.owners now.owners told.replaced.many told.owners stands.nodes.owned)
+    (fans_again was.nodes.items now.nodes.items was.fans now.fans told.replaced told.laid stands.nodes.fans)
+    (owned_again c.args.program.now stands.nodes.shape.conditions (length (shown_nodes was)) (length (shown_nodes now)) was.owners now.owners replaced.many told.owners stands.nodes.owned)
 
 pub returns-clause-dropped : goal.returns-clause-dropped
 returns-clause-dropped g c s forgotten stands has_all =
     let told = c.in_ok-dropped.ensures in
     let was = c.args.self.now in
     let now = c.forget_nodes.new.self in
-    let forgot = told.forgot (wired_of c.args.program.now was.nodes.items was.ends.items was.index stands.nodes.shape stands.nodes.indexed) in
+    let forgot = told.forgot (wired_under c.args.program.now was.nodes.items was.fans was.ends.items was.index stands.nodes.shape stands.nodes.indexed) stands.nodes.fans in
+    let replaced = replaced_both (member_at was.fans) (member_at now.fans) was.nodes.items now.nodes.items told.replaced in
     let ends = ap (λ ends. ends.items) told.ends in
     let lent_ends = c.deref.ensures.value ∙ ends in
-    rules_drop c.args.program.now (g.F.Facts.map c.args.facts.now) s forgotten (has_name c.args.old.now) was now forgot.dropped stands has_all ends told.quiet told.replaced.many forgot.forgot
+    rules_drop c.args.program.now (g.F.Facts.map c.args.facts.now) s forgotten (has_name c.args.old.now) was now forgot.dropped stands has_all ends told.quiet replaced.many forgot.forgot
     c.in_ok-answers.answers.items c.in_ok-dropped.dropped c.deref.result.now forgot.nothing forgot.known lent_ends
     (c.in_ok-answers.ensures.rows forgot.nothing (subst (AreRuled c.in_ok-dropped.dropped) (sym lent_ends) forgot.ruled))
 

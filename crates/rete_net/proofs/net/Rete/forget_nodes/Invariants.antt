@@ -1,5 +1,6 @@
 use Rattle.std.proofs.Common.{◌≡◌, ◌≤◌, ◌-◌, length}
 use Rattle.pair_memory.specs.Joined.{has_name}
+use Rattle.rete_net.specs.Fans.{AreFans, IsLaidAs}
 use Rattle.rete_net.specs.Schedules.{AreScheduled}
 use Rattle.rete_net.specs.Walks.{IsReplaced, IsWired}
 use Rattle.rete_net.proofs.Fading.{IsUnderWay}
@@ -12,10 +13,11 @@ invariant-walk g l = record {
   index : l.self.index ≡ l.fn.self.index;
   quiet : l.self.quiet_until ≡ l.fn.self.quiet_until;
   replaced : IsReplaced l.fn.self.nodes.items l.self.nodes.items;
+  laid : IsLaidAs l.fn.self.fans l.self.fans;
   scheduled : AreScheduled l.program l.fn.self.nodes.items l.fn.self.schedule → AreScheduled l.program l.self.nodes.items l.self.schedule;
   within : l.next ≤ length l.fn.self.nodes.items;
-  way : IsWired l.fn.self.nodes.items l.fn.self.ends.items l.fn.self.index
-      → IsUnderWay l.program (g.F.Facts.map l.facts) (has_name l.old) l.fn.self.nodes.items l.fn.self.ends.items l.self.nodes.items l.due.keys l.dropped l.next;
+  way : (wired : IsWired l.fn.self.nodes.items l.fn.self.ends.items l.fn.self.index) → AreFans l.fn.self.nodes.items l.fn.self.fans
+      → IsUnderWay l.program (g.F.Facts.map l.facts) (has_name l.old) l.fn.self.nodes.items l.fn.self.fans l.fn.self.ends.items l.fn.self.index wired l.self.nodes.items l.self.fans l.due.keys l.dropped l.next;
 }
 
 abbrev pub decreases-walk : goal.decreases-walk

@@ -7,8 +7,11 @@ use Rattle.rete_net.specs.declared.load.LoadFault.TheVariants.{NoRow}
 use Rattle.rete_net.specs.Answers.{answer_in, AreRuled}
 use Rattle.rete_net.specs.Steps.{changes_from, delta_at, no_change}
 use Rattle.rete_net.proofs.Filling.{same_fault}
-use Rattle.rete_net.proofs.Frames.{net_again, wired_of}
-use Rattle.rete_net.proofs.Quieting.{all_quiet}
+use Rattle.rete_net.specs.Fans.{member_at, shown_nodes}
+use Rattle.rete_net.proofs.Fanning.{fans_again}
+use Rattle.rete_net.proofs.Fanwise.{net_under, wired_under}
+use Rattle.rete_net.proofs.Frames.{net_again}
+use Rattle.rete_net.proofs.Showing.{replaced_both, shown_quiet}
 use Rattle.rete_net.proofs.Resumed.{loaded_stands}
 use Rattle.rete_net.proofs.Sharing.{extra_missing, extras_there, laden_changes}
 use Rattle.rete_net.proofs.Starting.{built_shape, shape_owned}
@@ -19,7 +22,7 @@ returns-clause-net g c runnable =
     let built = c.in_ok-net.ensures.built runnable in
     let told = c.in_ok-answered.ensures in
     net_again c.args.program.now c.in_ok-net.net.nodes.items c.load_nodes.new.self.nodes.items c.in_ok-net.net.ends.items c.load_nodes.new.self.ends.items (ap (λ ends. ends.items) told.ends) told.replaced
-    (built_shape c.args.program.now c.in_ok-net.net built.0 built.1 built.2 built.3 built.4 built.5)
+    (net_under c.args.program.now c.in_ok-net.net.nodes.items c.in_ok-net.net.fans c.in_ok-net.net.ends.items (built_shape c.args.program.now c.in_ok-net.net built.0 built.1 built.2 built.3 built.4 built.5))
 
 pub returns-clause-rules : goal.returns-clause-rules
 returns-clause-rules g c few =
@@ -33,10 +36,11 @@ returns-clause-rows g c t owners can own =
     let net = c.in_ok-net.net in
     let built = c.in_ok-net.ensures.built can.runnable in
     let shape = built_shape p net built.0 built.1 built.2 built.3 built.4 built.5 in
-    let wired = wired_of p net.nodes.items net.ends.items net.index shape c.in_ok-net.ensures.indexed in
-    laden_changes p (g.F.Facts.map c.args.facts.now) t (lent c.args.kept.now) c.args.extras.now c.args.moment.now can owners own net.nodes.items net.ends.items shape net.owners.items
+    let wired = wired_under p net.nodes.items net.fans net.ends.items net.index shape c.in_ok-net.ensures.indexed in
+    let fans = c.in_ok-net.ensures.fans in
+    laden_changes p (g.F.Facts.map c.args.facts.now) t (lent c.args.kept.now) c.args.extras.now c.args.moment.now can owners own (shown_nodes net) net.ends.items shape net.owners.items
     (shape_owned p net built.0 built.1 built.2 built.3 built.4 built.5 (length p.rules) built.6) (λ k n e. built.1.fresh k n e)
-    c.load_nodes.new.self.nodes.items c.in_ok-answered.answered (c.in_ok-answered.ensures.loaded wired can.in_order) c.in_ok-changes.changes.items
+    (shown_nodes c.load_nodes.new.self) c.in_ok-answered.answered (c.in_ok-answered.ensures.loaded wired can.in_order fans) c.in_ok-changes.changes.items
     (subst (λ (ends : List ℕ). length ends < 2 ^ 16 → (first : Delta) (deltas : List Delta) → c.in_ok-answered.answered.none ≡ no_change → AreRuled c.in_ok-answered.answered ends
     → ((rule end : ℕ) → slice_get ends rule ≡ Some end → delta_at first deltas end ≡ answer_in c.in_ok-answered.answered end) → c.in_ok-changes.changes.items ≡ changes_from first deltas 0 ends)
     (c.deref.ensures.value ∙ ap (λ ends. ends.items) c.in_ok-answered.ensures.ends) c.in_ok-changes.ensures.changes)
@@ -47,10 +51,11 @@ returns-clause-all_there g c t owners can own =
     let net = c.in_ok-net.net in
     let built = c.in_ok-net.ensures.built can.runnable in
     let shape = built_shape p net built.0 built.1 built.2 built.3 built.4 built.5 in
-    let wired = wired_of p net.nodes.items net.ends.items net.index shape c.in_ok-net.ensures.indexed in
-    extras_there p (g.F.Facts.map c.args.facts.now) t (lent c.args.kept.now) c.args.extras.now c.args.moment.now can owners own net.nodes.items net.ends.items shape net.owners.items
+    let wired = wired_under p net.nodes.items net.fans net.ends.items net.index shape c.in_ok-net.ensures.indexed in
+    let fans = c.in_ok-net.ensures.fans in
+    extras_there p (g.F.Facts.map c.args.facts.now) t (lent c.args.kept.now) c.args.extras.now c.args.moment.now can owners own (shown_nodes net) net.ends.items shape net.owners.items
     (shape_owned p net built.0 built.1 built.2 built.3 built.4 built.5 (length p.rules) built.6) (λ k n e. built.1.fresh k n e)
-    c.load_nodes.new.self.nodes.items c.in_ok-answered.answered (c.in_ok-answered.ensures.loaded wired can.in_order)
+    (shown_nodes c.load_nodes.new.self) c.in_ok-answered.answered (c.in_ok-answered.ensures.loaded wired can.in_order fans)
 
 pub returns-clause-stands : goal.returns-clause-stands
 returns-clause-stands g c s t forgotten can behind =
@@ -58,13 +63,16 @@ returns-clause-stands g c s t forgotten can behind =
     let net = c.in_ok-net.net in
     let built = c.in_ok-net.ensures.built can.runnable in
     let shape = built_shape p net built.0 built.1 built.2 built.3 built.4 built.5 in
-    let wired = wired_of p net.nodes.items net.ends.items net.index shape c.in_ok-net.ensures.indexed in
+    let wired = wired_under p net.nodes.items net.fans net.ends.items net.index shape c.in_ok-net.ensures.indexed in
+    let fans = c.in_ok-net.ensures.fans in
     let told = c.in_ok-answered.ensures in
     let scheduled = told.scheduled c.in_ok-net.ensures.scheduled in
     loaded_stands p (g.F.Facts.map c.args.facts.now) t (lent c.args.kept.now) c.args.extras.now c.args.moment.now can net _ shape
     (shape_owned p net built.0 built.1 built.2 built.3 built.4 built.5 (length p.rules) built.6) (λ k n e. built.1.fresh k n e)
-    c.in_ok-answered.answered (told.loaded wired can.in_order) told.replaced told.ends told.owners told.index c.in_ok-net.ensures.indexed scheduled
-    (all_quiet p c.load_nodes.new.self.nodes.items c.load_nodes.new.self.schedule c.first-net.result scheduled (c.first-net.ensures p))
+    c.in_ok-answered.answered (told.loaded wired can.in_order fans)
+    (replaced_both (member_at net.fans) (member_at c.load_nodes.new.self.fans) net.nodes.items c.load_nodes.new.self.nodes.items told.replaced) told.ends told.owners told.index c.in_ok-net.ensures.indexed scheduled
+    (fans_again net.nodes.items c.load_nodes.new.self.nodes.items net.fans c.load_nodes.new.self.fans told.replaced told.laid fans)
+    (shown_quiet p (member_at c.load_nodes.new.self.fans) c.load_nodes.new.self.nodes.items c.load_nodes.new.self.schedule c.first-net.result scheduled (c.first-net.ensures p))
     s forgotten behind (subst (λ z. pos 0 ≤ℤ z) behind.kept.clock can.begun)
 
 pub returns-in_err-answered-clause-no_row : goal.returns-in_err-answered-clause-no_row
@@ -73,7 +81,8 @@ returns-in_err-answered-clause-no_row g c fault t owners can own =
     let net = c.in_ok-net.net in
     let built = c.in_ok-net.ensures.built can.runnable in
     let shape = built_shape p net built.0 built.1 built.2 built.3 built.4 built.5 in
-    let wired = wired_of p net.nodes.items net.ends.items net.index shape c.in_ok-net.ensures.indexed in
-    extra_missing p (g.F.Facts.map c.args.facts.now) t (lent c.args.kept.now) c.args.extras.now c.args.moment.now can owners own net.nodes.items net.ends.items shape net.owners.items
+    let wired = wired_under p net.nodes.items net.fans net.ends.items net.index shape c.in_ok-net.ensures.indexed in
+    let fans = c.in_ok-net.ensures.fans in
+    extra_missing p (g.F.Facts.map c.args.facts.now) t (lent c.args.kept.now) c.args.extras.now c.args.moment.now can owners own (shown_nodes net) net.ends.items shape net.owners.items
     (shape_owned p net built.0 built.1 built.2 built.3 built.4 built.5 (length p.rules) built.6) (λ k n e. built.1.fresh k n e)
-    (c.in_err-answered.ensures.stuck (ap Err (same_fault c.from_residual-in_err-answered.result c.in_err-answered.field-0.0 NoRow fault c.from_residual-in_err-answered.ensures.1)) wired can.in_order)
+    (c.in_err-answered.ensures.stuck (ap Err (same_fault c.from_residual-in_err-answered.result c.in_err-answered.field-0.0 NoRow fault c.from_residual-in_err-answered.ensures.1)) wired can.in_order fans)

@@ -2,10 +2,11 @@ use Rattle.std.proofs.Common.{◌≡◌}
 use Rattle.std.specs.List.Sorted.{IsStrictlySortedBy}
 use Rattle.rule_model.specs.Lent.{lent}
 use Rattle.image_laws.specs.Extras.{extra_cmp}
-use Rattle.rete_net.specs.Loads.{AreLoaded}
+use Rattle.rete_net.specs.Fans.{AreFans, IsLaidAs}
 use Rattle.rete_net.specs.Schedules.{AreScheduled}
 use Rattle.rete_net.specs.Steps.{empty_row_comes}
 use Rattle.rete_net.specs.Walks.{IsReplaced, IsWired}
+use Rattle.rete_net.proofs.Lading.{IsUnderWay}
 use Rattle.rete_net.proofs.net.Rete.load_nodes.Given as goal
 
 abbrev pub invariant-loop-place : goal.invariant-loop-place
@@ -14,7 +15,9 @@ invariant-loop-place g l = record {
   owners : l.self.owners ≡ l.fn.self.owners;
   index : l.self.index ≡ l.fn.self.index;
   replaced : IsReplaced l.fn.self.nodes.items l.self.nodes.items;
+  laid : IsLaidAs l.fn.self.fans l.self.fans;
   scheduled : AreScheduled l.program l.fn.self.nodes.items l.fn.self.schedule → AreScheduled l.program l.self.nodes.items l.self.schedule;
-  way : IsWired l.fn.self.nodes.items l.fn.self.ends.items l.fn.self.index → IsStrictlySortedBy extra_cmp l.extras
-      → AreLoaded l.program (g.F.Facts.map l.facts) (lent l.kept) l.extras l.moment empty_row_comes l.fn.self.nodes.items l.self.nodes.items l.fn.self.owners.items l.fn.self.ends.items l.answered l.place;
+  way : (wired : IsWired l.fn.self.nodes.items l.fn.self.ends.items l.fn.self.index) → IsStrictlySortedBy extra_cmp l.extras → AreFans l.fn.self.nodes.items l.fn.self.fans
+      → IsUnderWay l.program (g.F.Facts.map l.facts) (lent l.kept) l.extras l.moment empty_row_comes l.fn.self.nodes.items l.fn.self.fans l.fn.self.owners.items l.fn.self.ends.items l.fn.self.index wired
+      l.self.nodes.items l.self.fans l.answered l.place;
 }

@@ -1,4 +1,4 @@
-use Rattle.std.proofs.Common.{◌≡◌, ◌∙◌, sym, ap, subst, ℕ, ◌+◌, ◌<◌, ◌≤◌, nat_le, arith, List, [], ◌∷◌, ◌++◌, length, length-append, Some, slice_get}
+use Rattle.std.proofs.Common.{◌≡◌, ◌∙◌, sym, ap, refl, subst, ℕ, ◌+◌, ◌<◌, ◌≤◌, nat_le, arith, List, [], ◌∷◌, ◌++◌, length, length-append, Some, slice_get}
 use Rattle.std.proofs.lemmas.Bool.Decides.{nat_tests}
 use Rattle.std.proofs.lemmas.Option.{slice_get-get_or}
 use Rattle.std.specs.Option.{unwrap_or}
@@ -9,10 +9,14 @@ use Rattle.rule_world.specs.Programs.{IsRunnable, has_conditions, has_windows}
 use Rattle.rete_net.specs.Building.{AreGrown, HaveEnds}
 use Rattle.rete_net.specs.Owners.{AreOwnedSoFar}
 use Rattle.rete_net.specs.declared.node.NetNode.{NetNode}
+use Rattle.rete_net.specs.Fans.{member_at, with_fans, AreFans}
 use Rattle.rete_net.specs.Indexes.{IsIndexOf}
 use Rattle.rete_net.specs.Schedules.{AreScheduled}
 use Rattle.rete_net.proofs.Growing.{passes_at, ends_more}
+use Rattle.rete_net.proofs.Frames.{index_again}
 use Rattle.rete_net.proofs.Owning.{rule_owned}
+use Rattle.rete_net.proofs.Seated.{built_shown}
+use Rattle.rete_net.proofs.Showing.{replaced_shown}
 use Rattle.rete_net.proofs.net.Rete.of_rules.Goals as goal
 
 pub loop-rule-init : goal.loop-rule-init
@@ -68,22 +72,31 @@ loop-rule-preserved c = record { count = let e = c.loop-rule.invariant.count in 
               (rule_owned p (was.0 ++ more.0) c.put_chain.new.self.owners.items c.rule_in.result.0 rule stands more.3),
         )
 
+pub returns-clause-fans : goal.returns-clause-fans
+returns-clause-fans c = subst (λ (nodes : List NetNode). AreFans nodes c.in_ok-fans.fans) c.deref-3.ensures.value c.in_ok-fans.ensures.fans
+
 pub returns-clause-indexed : goal.returns-clause-indexed
 returns-clause-indexed c =
-    subst (λ (ends : List ℕ). IsIndexOf c.loop-rule.builder.nodes.items ends c.in_ok-index.index) c.deref-2.ensures.value
-    (subst (λ (nodes : List NetNode). IsIndexOf nodes c.deref-2.result.now c.in_ok-index.index) c.deref.ensures.value c.in_ok-index.ensures)
+    let nodes = c.loop-rule.builder.nodes.items in
+    let fans = c.in_ok-fans.fans in
+    let ends = c.loop-rule.ends.items in
+    let index = c.in_ok-index.index in
+    index_again nodes (with_fans nodes fans) ends ends index index (replaced_shown (member_at fans) nodes) refl refl
+    (subst (λ (es : List ℕ). IsIndexOf nodes es index) c.deref-2.ensures.value
+    (subst (λ (ns : List NetNode). IsIndexOf ns c.deref-2.result.now index) c.deref.ensures.value c.in_ok-index.ensures))
 
 pub returns-clause-scheduled : goal.returns-clause-scheduled
-returns-clause-scheduled c = subst (λ (nodes : List NetNode). AreScheduled c.args.program.now nodes c.in_ok-schedule.schedule) c.deref-3.ensures.value c.in_ok-schedule.ensures
+returns-clause-scheduled c = subst (λ (nodes : List NetNode). AreScheduled c.args.program.now nodes c.in_ok-schedule.schedule) c.deref-4.ensures.value c.in_ok-schedule.ensures
 
 pub returns-clause-built : goal.returns-clause-built
 returns-clause-built c runnable =
     let was = c.loop-rule.invariant.built runnable in
     let rules : length c.as_slice-rule-items.result.now ≡ length c.args.program.now.rules = ap (λ (rs : List Rule). length rs) c.as_slice-rule-items.ensures in
     let count = c.loop-rule.invariant.count in
-    let all_rules : c.loop-rule.rule-index ≡ length c.args.program.now.rules = omega (arith, rules) in (
+    let all_rules : c.loop-rule.rule-index ≡ length c.args.program.now.rules = omega (arith, rules) in
+    let fans = subst (λ (nodes : List NetNode). AreFans nodes c.in_ok-fans.fans) c.deref-3.ensures.value c.in_ok-fans.ensures.fans in (
       was.0,
-      was.1.built,
+      built_shown c.args.program.now c.loop-rule.builder.nodes.items was.0 c.in_ok-fans.fans was.1.built fans c.in_ok-fans.ensures.empty,
       λ place rule lt e. was.2 place rule (omega (arith, rules)) e,
       was.1.fronts,
       was.1.distinct,

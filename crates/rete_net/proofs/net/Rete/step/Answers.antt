@@ -3,27 +3,36 @@ use Rattle.std.specs.Option.{option_map}
 use Rattle.fx_base.specs.Lists.{In}
 use Rattle.rule_model.specs.Lent.{lent}
 use Rattle.rete_net.specs.declared.changes.RuleChange.{RuleChange}
+use Rattle.rete_net.specs.Fans.{member_at, shown_nodes}
+use Rattle.rete_net.proofs.Fanwise.{wired_again}
 use Rattle.rete_net.proofs.Frames.{index_again}
-use Rattle.rete_net.proofs.Quieting.{all_quiet}
+use Rattle.rete_net.proofs.Showing.{replaced_both, replaced_shown, shown_quiet}
 use Rattle.rete_net.proofs.Turns.{net_step}
 use Rattle.rete_net.proofs.net.Rete.step.Goals as goal
 
 pub returns-clause-indexed : goal.returns-clause-indexed
 returns-clause-indexed g c =
     let walked = c.in_ok-answered.ensures in
-    index_again c.args.self.now.nodes.items c.walk.new.self.nodes.items c.args.self.now.ends.items c.walk.new.self.ends.items c.args.self.now.index c.walk.new.self.index
-    walked.replaced (ap (λ ends. ends.items) walked.ends) walked.index
+    let was = c.args.self.now in
+    let now = c.walk.new.self in
+    index_again (shown_nodes was) (shown_nodes now) was.ends.items now.ends.items was.index now.index
+    (replaced_both (member_at was.fans) (member_at now.fans) was.nodes.items now.nodes.items walked.replaced) (ap (λ ends. ends.items) walked.ends) walked.index
 
 pub returns-clause-stepped : goal.returns-clause-stepped
-returns-clause-stepped g c wired scheduled =
+returns-clause-stepped g c wired scheduled fans =
     let walked = c.in_ok-answered.ensures in
+    let was = c.args.self.now in
+    let now = c.walk.new.self in
     net_step c.args.program.now (g.F.Facts.map c.args.facts.now) (lent c.args.gone.now) (option_map (λ f. f.now) c.args.come) c.args.moment.now c.args.first.now
-    c.args.self.now.nodes.items c.walk.new.self.nodes.items c.args.self.now.ends.items c.args.self.now.index c.in_ok-answered.answered c.in_ok-changes.changes.items c.deref.result.now
-    wired walked.replaced.many (c.deref.ensures.value ∙ ap (λ ends. ends.items) walked.ends) (walked.answered wired scheduled) c.in_ok-changes.ensures.changes
+    (shown_nodes was) (shown_nodes now) was.ends.items was.index c.in_ok-answered.answered c.in_ok-changes.changes.items c.deref.result.now
+    (wired_again was.nodes.items (shown_nodes was) was.ends.items was.index (replaced_shown (member_at was.fans) was.nodes.items) wired)
+    (replaced_both (member_at was.fans) (member_at now.fans) was.nodes.items now.nodes.items walked.replaced).many
+    (c.deref.ensures.value ∙ ap (λ ends. ends.items) walked.ends) (walked.answered wired scheduled fans) c.in_ok-changes.ensures.changes
 
 pub returns-clause-quiet : goal.returns-clause-quiet
 returns-clause-quiet g c scheduled =
-    all_quiet c.args.program.now c.walk.new.self.nodes.items c.walk.new.self.schedule c.first-self.result (c.in_ok-answered.ensures.scheduled scheduled) (c.first-self.ensures c.args.program.now)
+    let now = c.walk.new.self in
+    shown_quiet c.args.program.now (member_at now.fans) now.nodes.items now.schedule c.first-self.result (c.in_ok-answered.ensures.scheduled scheduled) (c.first-self.ensures c.args.program.now)
 
 pub returns-clause-rules : goal.returns-clause-rules
 returns-clause-rules g c =

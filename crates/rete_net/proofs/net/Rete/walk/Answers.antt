@@ -1,10 +1,13 @@
 use Rattle.std.proofs.Common.{◌≡◌, ◌∙◌, sym, ap, refl, subst, true, false, ◌<◌, length, arith, option_map, Some, slice_get, List}
 use Rattle.std.proofs.lemmas.Option.{slice_get-get_or}
+use Rattle.row_delta.specs.declared.row.Row.{Row}
 use Rattle.rule_model.specs.Lent.{lent}
 use Rattle.rete_net.specs.declared.index.Index.{Index}
 use Rattle.rete_net.specs.declared.node.NetNode.{NetNode}
 use Rattle.rete_net.specs.Places.{has_place}
 use Rattle.rete_net.specs.Answers.{IsPut}
+use Rattle.rete_net.specs.Fans.{AreFans, AreRowsTurned}
+use Rattle.rete_net.proofs.Fanning.{laid_same, laid_then}
 use Rattle.rete_net.proofs.Steady.{set_off, step_at, come_to_end}
 use Rattle.rete_net.proofs.Scheduling.{scheduled_more}
 use Rattle.rete_net.proofs.Walking.{not_replaced, not_true, replaced_more}
@@ -16,13 +19,15 @@ walk-init g c = record {
   owners = refl;
   index = refl;
   replaced = not_replaced c.args.self.now.nodes.items;
+  laid = laid_same c.args.self.now.fans c.begin.new.self c.begin.ensures.seats c.begin.ensures.spans c.begin.ensures.list;
   within = omega arith;
   scheduled = λ scheduled. scheduled;
-  way = λ wired scheduled.
+  way = λ wired scheduled fans.
       let gone = lent c.args.gone.now in
       let come = option_map (λ f. f.now) c.args.come in
-      set_off c.args.program.now (g.F.Facts.map c.args.facts.now) gone come c.args.moment.now c.args.first.now c.args.self.now.nodes.items c.args.self.now.ends.items c.args.self.now.index wired
-      c.put_reached.new.due.keys c.new-answered.result (c.new-answered.ensures.none ∙ c.no_change.ensures) c.new-answered.ensures.answers
+      set_off c.args.program.now (g.F.Facts.map c.args.facts.now) gone come c.args.moment.now c.args.first.now c.args.self.now.nodes.items c.args.self.now.fans c.args.self.now.ends.items c.args.self.now.index wired
+      c.begin.new.self c.put_reached.new.due.keys c.new-answered.result fans c.begin.ensures.seats c.begin.ensures.spans c.begin.ensures.list c.begin.ensures.halves
+      (c.new-answered.ensures.none ∙ c.no_change.ensures) c.new-answered.ensures.answers
       (λ k n e found out. record {
         unreached = c.in_ok-put_reached.ensures.put k n (ap (λ (nodes : List NetNode). slice_get nodes k) c.deref.ensures.value ∙ e) found out;
         undue = λ timed.
@@ -41,26 +46,37 @@ walk-preserved g c =
     let len = c.len.ensures ∙ c.walk.self.nodes.ok.0 in
     let within : c.in-Some.place < length c.walk.self.nodes.items = omega (arith, below, len) in
     let at : slice_get c.walk.self.nodes.items c.in-Some.place ≡ Some c.index_mut-node.result.now = slice_get-get_or nodes place n within ∙ ap Some (sym c.index_mut-node.ensures.value) in
+    let told = c.in_ok-delta.ensures in
+    let mid = c.advance_in.new.fans in
+    let then = c.turn_rows.new.self in
+    let look = g.F.Facts.map c.args.facts.now in
     record {
       ends = was.ends;
       owners = was.owners;
       index = was.index;
-      replaced = replaced_more c.args.self.now.nodes.items nodes place n c.advance.new.self was.replaced at c.in_ok-delta.ensures.parent c.in_ok-delta.ensures.condition;
+      replaced = replaced_more c.args.self.now.nodes.items nodes place n c.advance_in.new.self was.replaced at told.parent told.condition;
+      laid = laid_then c.args.self.now.fans mid then (laid_then c.args.self.now.fans c.walk.self.fans mid was.laid told.laid) c.in_ok-turn_rows.ensures.laid;
       within = omega (arith, many, within);
-      scheduled = λ all. scheduled_more c.args.program.now nodes place n c.advance.new.self c.walk.self.schedule c.put.new.self at c.in_ok-put.ensures.put c.in_ok-put.ensures.others (was.scheduled all);
-      way = λ wired scheduled.
-          step_at c.args.program.now (g.F.Facts.map c.args.facts.now) (lent c.args.gone.now) (option_map (λ f. f.now) c.args.come) c.args.moment.now c.args.first.now
-          c.args.self.now.nodes.items c.args.self.now.ends.items c.args.self.now.index wired nodes c.walk.due.keys c.walk.answered c.walk.next (was.way wired scheduled)
-          place n c.advance.new.self c.left-left.result.now c.in_ok-delta.delta c.put_delta.new.answered c.put_delta.new.due.keys c.in-Some.ensures.from (omega (arith, many, within)) c.in-Some.ensures.first
-          at c.in_ok-delta.ensures c.left-left.ensures
+      scheduled = λ all. scheduled_more c.args.program.now nodes place n c.advance_in.new.self c.walk.self.schedule c.put.new.self at c.in_ok-put.ensures.put c.in_ok-put.ensures.others (was.scheduled all);
+      way = λ wired scheduled fans.
+          step_at c.args.program.now look (lent c.args.gone.now) (option_map (λ f. f.now) c.args.come) c.args.moment.now c.args.first.now
+          c.args.self.now.nodes.items c.args.self.now.fans c.args.self.now.ends.items c.args.self.now.index wired nodes c.walk.self.fans c.walk.due.keys c.walk.answered c.walk.next (was.way wired scheduled fans)
+          place c.in-Some.ensures.from (omega (arith, many, within)) c.in-Some.ensures.first
+          n c.advance_in.new.self at told.parent told.condition was.replaced (replaced_more nodes nodes place n c.advance_in.new.self (not_replaced nodes) at told.parent told.condition)
+          mid told.laid told.others c.left-left.result.now c.in_ok-delta.delta c.left-left.ensures told.step
+          then c.in_ok-turn_rows.ensures.laid
+          (λ ns are.
+          subst (λ (rows : List Row). AreRowsTurned look place rows c.in_ok-delta.delta.come mid then) c.as_slice-went.ensures
+          (subst (λ (rows : List Row). AreRowsTurned look place c.as_slice-went.result.now rows mid then) c.as_slice-came.ensures (c.in_ok-turn_rows.ensures.turned ns are)))
+          c.put_delta.new.answered c.put_delta.new.due.keys
           (λ nothing. subst (λ (i : Index). IsPut i place c.in_ok-delta.delta c.walk.answered c.put_delta.new.answered c.walk.due.keys c.put_delta.new.due.keys) was.index (c.in_ok-put_delta.ensures nothing));
     }
 
 pub returns-clause-answered : goal.returns-clause-answered
-returns-clause-answered g c wired scheduled =
+returns-clause-answered g c wired scheduled fans =
     let was = c.walk.invariant in
     let many = was.replaced.many in
     let len = c.len.ensures ∙ c.walk.self.nodes.ok.0 in
     come_to_end c.args.program.now (g.F.Facts.map c.args.facts.now) (lent c.args.gone.now) (option_map (λ f. f.now) c.args.come) c.args.moment.now c.args.first.now
-    c.args.self.now.nodes.items c.args.self.now.ends.items c.args.self.now.index wired c.walk.self.nodes.items c.walk.due.keys c.walk.answered c.walk.next (was.way wired scheduled)
+    c.args.self.now.nodes.items c.args.self.now.fans c.args.self.now.ends.items c.args.self.now.index wired c.walk.self.nodes.items c.walk.self.fans c.walk.due.keys c.walk.answered c.walk.next (was.way wired scheduled fans)
     was.within (λ k le lt. c.in_default.ensures.none refl k le (omega (arith, many, len, lt)))

@@ -1,5 +1,6 @@
 use Rattle.std.proofs.Common.{◌≡◌, ◌≤◌, ◌-◌, length, option_map}
 use Rattle.rule_model.specs.Lent.{lent}
+use Rattle.rete_net.specs.Fans.{AreFans, IsLaidAs}
 use Rattle.rete_net.specs.Schedules.{AreScheduled}
 use Rattle.rete_net.specs.Walks.{IsReplaced, IsWired}
 use Rattle.rete_net.proofs.Steady.{IsUnderWay}
@@ -11,11 +12,12 @@ invariant-walk g l = record {
   owners : l.self.owners ≡ l.fn.self.owners;
   index : l.self.index ≡ l.fn.self.index;
   replaced : IsReplaced l.fn.self.nodes.items l.self.nodes.items;
+  laid : IsLaidAs l.fn.self.fans l.self.fans;
   within : l.next ≤ length l.fn.self.nodes.items;
   scheduled : AreScheduled l.program l.fn.self.nodes.items l.fn.self.schedule → AreScheduled l.program l.self.nodes.items l.self.schedule;
-  way : IsWired l.fn.self.nodes.items l.fn.self.ends.items l.fn.self.index → AreScheduled l.program l.fn.self.nodes.items l.fn.self.schedule
-      → IsUnderWay l.program (g.F.Facts.map l.facts) (lent l.gone) (option_map (λ f. f.now) l.fn.come) l.moment l.first l.fn.self.nodes.items l.fn.self.ends.items
-      l.self.nodes.items l.due.keys l.answered l.next;
+  way : (wired : IsWired l.fn.self.nodes.items l.fn.self.ends.items l.fn.self.index) → AreScheduled l.program l.fn.self.nodes.items l.fn.self.schedule → AreFans l.fn.self.nodes.items l.fn.self.fans
+      → IsUnderWay l.program (g.F.Facts.map l.facts) (lent l.gone) (option_map (λ f. f.now) l.fn.come) l.moment l.first l.fn.self.nodes.items l.fn.self.fans l.fn.self.ends.items l.fn.self.index wired
+      l.self.nodes.items l.self.fans l.due.keys l.answered l.next;
 }
 
 abbrev pub decreases-walk : goal.decreases-walk

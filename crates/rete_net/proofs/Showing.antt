@@ -1,0 +1,208 @@
+-- Nodes with what they keep as members of fans: they stand where they stood, for the same conditions.
+use Rattle.std.proofs.Common.{◌≡◌, ◌∙◌, sym, ap, refl, subst, ℕ, zero, suc, ℤ, ◌≤ℤ◌, ◌<ℤ◌, ◌^◌, pos, ◌++◌, ◌||◌, not, Bool, true, false, List, [], ◌∷◌, length, Option, Some, None, slice_get}
+use Rattle.std.specs.Int.Signed.{≤ℤ_refl}
+use Rattle.std.specs.List.{filter}
+use Rattle.fx_base.specs.declared.fact.Fact.{Fact}
+use Rattle.row_delta.specs.declared.delta.Delta.{Delta}
+use Rattle.rule_model.specs.declared.moment.Moment.{Moment}
+use Rattle.rule_model.specs.declared.program.Program.{Program}
+use Rattle.rule_model.specs.declared.condition.Condition.{Condition}
+use Rattle.rule_model.specs.Moments.{snapshot_at}
+use Rattle.rule_model.specs.Rows.{pattern_of}
+use Rattle.rule_model.specs.Simple.{is_whole}
+use Rattle.rule_model.specs.Snapshots.{Snapshot, floor}
+use Rattle.rule_model.proofs.Floors.{floor_on}
+use Rattle.condition_rows.specs.Sets.{held}
+use Rattle.pattern_gate.specs.Moves.{IsOrderly, Moves, at_clock, shares_tag}
+use Rattle.pattern_gate.specs.declared.gate.PatternGate.{PatternGate}
+use Rattle.pattern_gate.specs.Turns.{is_one_meant}
+use Rattle.beta_join.specs.declared.join.BetaJoin.{BetaJoin}
+use Rattle.condition_node.specs.declared.node.Node.{Node}
+use Rattle.condition_node.specs.declared.node.Node.TheVariants as node
+use Rattle.condition_node.specs.Nodes.{condition_of, is_negated}
+use Rattle.condition_node.specs.Quiet.{IsBefore}
+use Rattle.condition_node.proofs.Quietness.{join_quiet}
+use Rattle.rete_net.specs.declared.node.NetNode.{NetNode}
+use Rattle.rete_net.specs.declared.schedule.Schedule.{Schedule}
+use Rattle.rete_net.specs.Fans.{Member, shown, showing, with_member}
+use Rattle.rete_net.specs.Indexes.{is_timed}
+use Rattle.rete_net.specs.Quiet.{AreQuiet, IsNodeQuiet}
+use Rattle.rete_net.specs.Schedules.{AreScheduled, IsGateStill, IsLeftAlone, IsScheduled, IsStillAt}
+use Rattle.rete_net.specs.Walks.{IsReplaced}
+use Rattle.rete_net.proofs.Growing.{both_at}
+use Rattle.rete_net.proofs.Quieting.{untimed_quiet}
+use Rattle.rete_net.proofs.Turning.{held_has, rising}
+
+-- ---- lists
+
+pub shown_length : (members : ℕ → Option Member) (nodes : List NetNode) → length (shown members nodes) ≡ length nodes
+shown_length members [] = refl
+shown_length members (n ∷ nodes) = ap suc (shown_length (λ k. members (suc k)) nodes)
+
+pub shown_at : (members : ℕ → Option Member) (nodes : List NetNode) (k : ℕ) (n : NetNode) → slice_get nodes k ≡ Some n → slice_get (shown members nodes) k ≡ Some (showing (members k) n)
+shown_at members [] k n e = absurd (let no : None ≡ Some n = e in cc)
+shown_at members (x ∷ nodes) zero n e = let is : x ≡ n = cc in ap (λ y. Some (showing (members 0) y)) is
+shown_at members (x ∷ nodes) (suc k) n e = shown_at (λ i. members (suc i)) nodes k n e
+
+pub shown_none : (members : ℕ → Option Member) (nodes : List NetNode) (k : ℕ) → slice_get nodes k ≡ None → slice_get (shown members nodes) k ≡ None
+shown_none members [] k e = refl
+shown_none members (x ∷ nodes) zero e = absurd (let no : Some x ≡ None = e in cc)
+shown_none members (x ∷ nodes) (suc k) e = shown_none (λ i. members (suc i)) nodes k e
+
+-- of a shown node the node is there
+pub shown_from : (members : ℕ → Option Member) (nodes : List NetNode) (k : ℕ) (x : NetNode) → slice_get (shown members nodes) k ≡ Some x → (n : NetNode) × (slice_get nodes k ≡ Some n) × (showing (members k) n ≡ x)
+shown_from members nodes k x e = by (slice_get nodes k) refl
+  where
+    by : (o : Option NetNode) → slice_get nodes k ≡ o → (n : NetNode) × (slice_get nodes k ≡ Some n) × (showing (members k) n ≡ x)
+    by None none = absurd (let no : None ≡ Some x = sym (shown_none members nodes k none) ∙ e in cc)
+    by (Some n) there = (n, there, both_at (slice_get (shown members nodes) k) (showing (members k) n) x (shown_at members nodes k n there) e)
+
+pub same_lists : {A : Type 0} (xs ys : List A) → ((k : ℕ) → slice_get xs k ≡ slice_get ys k) → xs ≡ ys
+same_lists [] [] h = refl
+same_lists [] (y ∷ ys) h = absurd (let no : None ≡ Some y = h 0 in cc)
+same_lists (x ∷ xs) [] h = absurd (let no : Some x ≡ None = h 0 in cc)
+same_lists (x ∷ xs) (y ∷ ys) h = let is : x ≡ y = (let e : Some x ≡ Some y = h 0 in cc) in let rest : xs ≡ ys = same_lists xs ys (λ k. h (suc k)) in ap (λ z. z ∷ xs) is ∙ ap (λ zs. y ∷ zs) rest
+
+-- ---- one node
+
+condition_with : (m : Member) (x : Node) → condition_of (with_member m x) ≡ condition_of x
+condition_with m (node.Join join) = refl
+condition_with m (node.Not waiting) = refl
+condition_with m (node.Exists tally) = refl
+condition_with m (node.Fold fold) = refl
+
+pub condition_shown : (o : Option Member) (n : NetNode) → condition_of (showing o n).node ≡ condition_of n.node
+condition_shown None n = refl
+condition_shown (Some m) n = condition_with m n.node
+
+pub parent_shown : (o : Option Member) (n : NetNode) → (showing o n).parent ≡ n.parent
+parent_shown None n = refl
+parent_shown (Some m) n = refl
+
+pub gate_shown : (o : Option Member) (n : NetNode) → (showing o n).gate ≡ n.gate
+gate_shown None n = refl
+gate_shown (Some m) n = refl
+
+-- ---- all nodes
+
+pub replaced_shown : (members : ℕ → Option Member) (nodes : List NetNode) → IsReplaced nodes (shown members nodes)
+replaced_shown members nodes = record {
+  many = shown_length members nodes;
+  parent = λ k a b e f. ap (λ (n : NetNode). n.parent) (sym (is k a b e f)) ∙ parent_shown (members k) a;
+  condition = λ k a b e f. ap (λ (n : NetNode). condition_of n.node) (sym (is k a b e f)) ∙ condition_shown (members k) a;
+}
+  where
+    is : (k : ℕ) (a b : NetNode) → slice_get nodes k ≡ Some a → slice_get (shown members nodes) k ≡ Some b → showing (members k) a ≡ b
+    is k a b e f = both_at (slice_get (shown members nodes) k) (showing (members k) a) b (shown_at members nodes k a e) f
+
+pub replaced_back : (old new : List NetNode) → IsReplaced old new → IsReplaced new old
+replaced_back old new is = record {
+  many = sym is.many;
+  parent = λ k a b e f. sym (is.parent k b a f e);
+  condition = λ k a b e f. sym (is.condition k b a f e);
+}
+
+-- nodes that are replaced are so whatever they and the others keep as members
+pub replaced_both : (members members_now : ℕ → Option Member) (old new : List NetNode) → IsReplaced old new → IsReplaced (shown members old) (shown members_now new)
+replaced_both members members_now old new is = record {
+  many = shown_length members_now new ∙ is.many ∙ sym (shown_length members old);
+  parent = λ k a b e f.
+      let x = shown_from members old k a e in
+      let y = shown_from members_now new k b f in
+      ap (λ (n : NetNode). n.parent) (sym y.2) ∙ parent_shown (members_now k) y.0 ∙ is.parent k x.0 y.0 x.1 y.1 ∙ sym (parent_shown (members k) x.0) ∙ ap (λ (n : NetNode). n.parent) x.2;
+  condition = λ k a b e f.
+      let x = shown_from members old k a e in
+      let y = shown_from members_now new k b f in
+      ap (λ (n : NetNode). condition_of n.node) (sym y.2) ∙ condition_shown (members_now k) y.0 ∙ is.condition k x.0 y.0 x.1 y.1 ∙ sym (condition_shown (members k) x.0) ∙ ap (λ (n : NetNode). condition_of n.node) x.2;
+}
+
+-- ---- time
+
+-- whether the clock alone may change a node of a condition
+abbrev timed_by : Condition → Bool
+timed_by c = is_negated c || not (is_whole (pattern_of c).window)
+
+still_with : (m : Member) (x : Node) (at : ℤ) → IsStillAt x at → IsStillAt (with_member m x) at
+still_with m (node.Join join) at still = tt
+still_with m (node.Not waiting) at still = still
+still_with m (node.Exists tally) at still = tt
+still_with m (node.Fold fold) at still = tt
+
+-- what a step leaves alone it does as a member too
+pub alone_shown : (p : Program) (o : Option Member) (n : NetNode) (first : Delta) (gone : List Fact) (come : Option Fact) (moment : Moment) → IsLeftAlone p n first gone come moment → IsLeftAlone p (showing o n) first gone come moment
+alone_shown p None n first gone come moment alone = alone
+alone_shown p (Some m) n first gone come moment alone = record {
+  unreached = record {
+    unmeant = subst (λ (c : Condition). is_one_meant (pattern_of c) gone come ≡ false) (sym same) alone.unreached.unmeant;
+    begun = alone.unreached.begun;
+  };
+  undue = λ timed.
+      let was = alone.undue (sym (ap timed_by same) ∙ timed) in
+      record {
+        gate = was.gate;
+        node = subst (λ (c : Condition). IsStillAt (with_member m n.node) (floor p (snapshot_at moment) (pattern_of c).entry.0)) (sym same) (still_with m n.node _ was.node);
+      };
+}
+  where
+    same : condition_of (with_member m n.node) ≡ condition_of n.node
+    same = condition_with m n.node
+
+-- where the clock alone moves, nothing goes
+none_go : (facts : List Fact) → facts ≡ filter (λ (f : Fact). not (shares_tag [] f)) facts ++ []
+none_go [] = refl
+none_go (f ∷ facts) = ap (λ (rest : List Fact). f ∷ rest) (none_go facts)
+
+clock_moves : (p : Program) (s : Snapshot) (clock : ℤ) → IsOrderly p s → IsOrderly p (at_clock s clock) → s.clock ≤ℤ clock → Moves p s (at_clock s clock) [] None
+clock_moves p s clock before after later = record {
+  before = before;
+  after = after;
+  clock = later;
+  floors = λ entry. floor_on p s (at_clock s clock) entry later (≤ℤ_refl (s.reached.last_start entry)) (≤ℤ_refl (s.reached.promise entry));
+  held = λ f i. absurd i;
+  once = tt;
+  facts = none_go s.facts;
+}
+
+-- a node that binds a fact is quiet as long as its gate is, whatever it keeps
+join_still_quiet : (p : Program) (parent : Option ℕ) (gate : PatternGate) (join : BetaJoin) (until : Option ℤ) → ((clock : ℤ) → IsBefore until clock → IsGateStill gate clock)
+    → IsNodeQuiet p (record { parent = parent; gate = gate; node = node.Join join }) until
+join_still_quiet p parent gate join until still s rows forgotten clock stands named kept kept_now begun later low before =
+    let same = (still clock before).candidates p join.memories.pattern s (at_clock s clock) [] None refl stands.gate (clock_moves p s clock kept kept_now later) refl in
+    record {
+      same_candidates = same;
+      same_line = join_quiet p join until (held s) s rows forgotten clock (rising s.facts kept.in_order) (held_has s forgotten) named stands.node begun later low before same;
+    }
+
+quiet_with : (p : Program) (m : Member) (parent : Option ℕ) (gate : PatternGate) (x : Node) (until : Option ℤ) → ((clock : ℤ) → IsBefore until clock → IsGateStill gate clock)
+    → IsNodeQuiet p (record { parent = parent; gate = gate; node = x }) until → IsNodeQuiet p (record { parent = parent; gate = gate; node = with_member m x }) until
+quiet_with p m parent gate (node.Join join) until still quiet = join_still_quiet p parent gate _ until still
+quiet_with p m parent gate (node.Not waiting) until still quiet = quiet
+quiet_with p m parent gate (node.Exists tally) until still quiet = quiet
+quiet_with p m parent gate (node.Fold fold) until still quiet = quiet
+
+pub scheduled_shown : (p : Program) (o : Option Member) (schedule : Schedule) (k : ℕ) (n : NetNode) → IsScheduled p schedule k n → IsScheduled p schedule k (showing o n)
+scheduled_shown p None schedule k n is = is
+scheduled_shown p (Some m) schedule k n is = record {
+  until = is.until;
+  set = is.set;
+  quiet = quiet_with p m n.parent n.gate n.node is.until is.gate is.quiet;
+  gate = is.gate;
+  line = is.line;
+  timers = is.timers;
+  found = is.found;
+  entry = is.entry ∙ ap (λ (c : Condition). (pattern_of c).entry.0) (sym (condition_with m n.node));
+  up_to = is.up_to;
+  waits = is.waits;
+  still = λ at low. still_with m n.node at (is.still at low);
+}
+
+-- until the least moment of the schedule all nodes are quiet, whatever they keep as members
+pub shown_quiet : (p : Program) (members : ℕ → Option Member) (nodes : List NetNode) (schedule : Schedule) (first : Option ℤ) → AreScheduled p nodes schedule
+    → ((k : ℕ) (n : NetNode) → IsScheduled p schedule k n → IsNodeQuiet p n first) → AreQuiet p (shown members nodes) first
+shown_quiet p members nodes schedule first scheduled told k x e =
+    let n = shown_from members nodes k x e in
+    subst (λ y. IsNodeQuiet p y first) n.2 (by n.0 n.1 (is_timed n.0) refl)
+  where
+    by : (n : NetNode) → slice_get nodes k ≡ Some n → (t : Bool) → is_timed n ≡ t → IsNodeQuiet p (showing (members k) n) first
+    by n there true timed = told k (showing (members k) n) (scheduled_shown p (members k) schedule k n (scheduled k n there timed))
+    by n there false untimed = untimed_quiet p (showing (members k) n) first (ap timed_by (condition_shown (members k) n) ∙ untimed)

@@ -1,0 +1,6 @@
+use Rattle.std.proofs.Common.{length}
+use Rattle.rete_net.specs.Seating.{AreGrowing}
+use Rattle.rete_net.proofs.fans.Fans.of.Given as goal
+
+abbrev pub invariant-loop-parent : goal.invariant-loop-parent
+invariant-loop-parent l = AreGrowing l.nodes l.fans (length l.fans.list.items)

@@ -1,0 +1,5 @@
+use Rattle.rete_net.specs.Seating.{GrowsTo}
+use Rattle.rete_net.proofs.fans.Fans.put_behind.Given as goal
+
+abbrev pub invariant-loop-child : goal.invariant-loop-child
+invariant-loop-child l = GrowsTo l.nodes l.from l.fn.self l.self

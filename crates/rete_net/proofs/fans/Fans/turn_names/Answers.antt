@@ -1,0 +1,30 @@
+use Rattle.std.proofs.Common.{◌≡◌, ◌∙◌, sym, ap, refl, length, Some, slice_get}
+use Rattle.std.proofs.Math.ListN.{set, length-set}
+use Rattle.std.proofs.lemmas.Option.{slice_get-get_or, slice_get_within}
+use Rattle.rete_net.specs.declared.fans.Fan.{Fan}
+use Rattle.rete_net.proofs.Fanned.{each_like, names_like, names_others, names_turned}
+use Rattle.rete_net.proofs.fans.Fans.turn_names.Goals as goal
+
+pub returns : goal.returns
+returns g c =
+    let list = c.args.self.now.list.items in
+    let seat = c.args.seat in
+    let was = c.index_mut.result.now in
+    let join = c.turn_names.new.self in
+    let look = g.F.Facts.map c.args.facts.now in
+    let told = c.in_ok-delta.ensures in
+    let there = c.has.ensures.there c.if-not-has.false in
+    let at : slice_get c.args.self.now.list.items c.args.seat.fan ≡ Some c.index_mut.result.now =
+    slice_get-get_or list seat.fan was (slice_get_within list seat.fan there.0 there.1) ∙ ap Some (sym c.index_mut.ensures.value) in
+    record {
+      laid = record {
+        seats = refl;
+        spans = refl;
+        many = length-set list seat.fan (record { parent = was.parent; join = join; places = was.places });
+        each = each_like list seat.fan was (record { parent = was.parent; join = join; places = was.places }) at
+            (names_like was join look seat.member c.args.gone.now c.args.come.now c.args.half c.in_ok-delta.delta told);
+      };
+      halves = refl;
+      others = names_others list seat was join at look c.args.gone.now c.args.come.now c.args.half c.in_ok-delta.delta told;
+      turned = names_turned list seat was join at look c.args.gone.now c.args.come.now c.args.half c.in_ok-delta.delta told;
+    }

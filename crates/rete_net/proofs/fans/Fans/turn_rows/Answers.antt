@@ -1,0 +1,40 @@
+use Rattle.std.proofs.Common.{◌≡◌, ◌∙◌, sym, ap, refl, subst, ◌≤◌, ◌<◌, arith, slice_get, List, true, false}
+use Rattle.rete_net.specs.declared.fans.Span.{Span}
+use Rattle.rete_net.specs.Fans.{given_span}
+use Rattle.rete_net.proofs.Fanned.{all_turned, none_of, none_turned, none_yet, some_of, turned_more, IsTurnedTo}
+use Rattle.rete_net.proofs.Fanning.{laid_same}
+use Rattle.rete_net.proofs.fans.Fans.turn_rows.Goals as goal
+
+pub loop-fan-init : goal.loop-fan-init
+loop-fan-init g c =
+    let span = given_span (slice_get c.args.self.now.spans.items c.args.parent) in
+    let look = g.F.Facts.map c.args.facts.now in
+    subst (λ (s : Span). IsTurnedTo look c.args.gone.now c.args.come.now c.args.self.now c.args.self.now span s.from) (sym c.span-span.ensures) (none_yet look c.args.gone.now c.args.come.now c.args.self.now span)
+
+pub loop-fan-preserved : goal.loop-fan-preserved
+loop-fan-preserved g c =
+    let told = c.in_ok-turn_fan.ensures in
+    let span = given_span (slice_get c.args.self.now.spans.items c.args.parent) in
+    turned_more (g.F.Facts.map c.args.facts.now) c.args.gone.now c.args.come.now c.args.self.now c.loop-fan.self c.turn_fan.new.self span c.loop-fan.fan
+    (subst (λ (s : Span). s.from ≤ c.loop-fan.fan) c.span-span.ensures c.loop-fan.auto.fan) (subst (λ (s : Span). c.loop-fan.fan < s.to) c.span-span.ensures c.loop-fan-test.true)
+    c.loop-fan.invariant told.laid told.others told.turned
+
+pub returns-clause-laid : goal.returns-clause-laid
+returns-clause-laid g c = c.loop-fan.invariant.laid
+
+pub returns-clause-turned : goal.returns-clause-turned
+returns-clause-turned g c nodes are =
+    let span = given_span (slice_get c.args.self.now.spans.items c.args.parent) in
+    let is = c.loop-fan.invariant in
+    let over : span.to ≤ c.loop-fan.fan = subst (λ (s : Span). s.to ≤ c.loop-fan.fan) c.span-span.ensures c.loop-fan-test.false in
+    all_turned (g.F.Facts.map c.args.facts.now) c.args.gone.now c.args.come.now c.args.parent nodes c.args.self.now c.loop-fan.self are span refl is.outside
+    (λ seat f within e beside. is.turned seat f within.0 (let high = within.1 in omega (arith, high, over)) e beside)
+    (some_of c.args.gone.now c.args.come.now (sym c.is_nothing.ensures ∙ c.if-is_nothing.false))
+
+pub returns-then-is_nothing-clause-laid : goal.returns-then-is_nothing-clause-laid
+returns-then-is_nothing-clause-laid g c = laid_same c.args.self.now c.args.self.now refl refl refl
+
+pub returns-then-is_nothing-clause-turned : goal.returns-then-is_nothing-clause-turned
+returns-then-is_nothing-clause-turned g c nodes are =
+    let none = none_of c.args.gone.now c.args.come.now (sym c.is_nothing.ensures ∙ c.if-is_nothing.true) in
+    none_turned (g.F.Facts.map c.args.facts.now) c.args.parent c.args.gone.now c.args.come.now c.args.self.now none.0 none.1
