@@ -1,43 +1,13 @@
 -- A step of a network over the rows of its conditions.
-use Rattle.std.proofs.Common.{◌≡◌, ◌∙◌, sym, ap, refl, subst, zero-add, ℕ, ◌<◌, ◌^◌, arith, length, ◌&&◌, not, Bool, true, false, List, [], ◌∷◌, Option, Some, None, slice_get}
-use mathlib.Core.Path.{fun_ext}
-use Rattle.std.proofs.lemmas.Option.{slice_get_within}
-use Rattle.fx_base.specs.declared.fact.Fact.{Fact}
-use Rattle.row_delta.specs.declared.delta.Delta.{Delta}
-use Rattle.row_delta.specs.declared.row.Named.{Named}
-use Rattle.row_delta.specs.declared.row.Row.{Row}
-use Rattle.row_delta.specs.Rows.{has}
-use Rattle.row_change.specs.Changes.{Leads, IsDifference}
-use Rattle.rule_model.specs.declared.condition.Condition.{Condition}
-use Rattle.rule_model.specs.declared.program.Program.{Program}
-use Rattle.rule_model.specs.declared.program.Rule.{Rule}
-use Rattle.rule_model.specs.Distinct.{HaveDistinctTags}
+use Rattle.rete_net.proofs.Common.{◌≡◌, ◌∙◌, sym, ap, refl, subst, zero-add, ℕ, ◌<◌, ◌^◌, arith, length, ◌&&◌, not, Bool, true, false, List, [], ◌∷◌, Option, Some, None, slice_get, fun_ext, slice_get_within, Fact, Delta, Named, Row, has, Leads, IsDifference, Condition, Program, Rule, HaveDistinctTags, Snapshot, Look, cleaned, rows_of, empty_row, rows_named, AreFans, shown_nodes, RuleChange, Rete, NetNode, condition_of, IsIndexOf, AreOwners, NodesStand, clean_rows, change_of, IsChange, AreBetween, AreScheduled, before, IsNetOf, no_change, delta_at, changes_from, NetStep, Moment}
 use Rattle.rule_model.specs.Rows.{rows}
-use Rattle.rule_model.specs.Snapshots.{Snapshot}
-use Rattle.join_tests.specs.Joins.{Look}
-use Rattle.pair_memory.specs.Standing.{cleaned}
-use Rattle.condition_rows.specs.Sets.{rows_of}
-use Rattle.condition_rows.specs.Lines.{empty_row}
-use Rattle.condition_rows.proofs.Naming.{rows_named}
 use Rattle.condition_rows.proofs.Whole.{one_more}
-use Rattle.rete_net.specs.Fans.{AreFans, shown_nodes}
-use Rattle.rete_net.specs.declared.changes.RuleChange.{RuleChange}
-use Rattle.rete_net.specs.declared.net.Rete.{Rete}
-use Rattle.rete_net.specs.declared.node.NetNode.{NetNode}
-use Rattle.condition_node.specs.Nodes.{condition_of}
-use Rattle.rete_net.specs.Indexes.{IsIndexOf}
-use Rattle.rete_net.specs.Owners.{AreOwners}
-use Rattle.rete_net.specs.Nets.{NodesStand, clean_rows, change_of, IsChange, AreBetween}
-use Rattle.rete_net.specs.Schedules.{AreScheduled}
-use Rattle.rete_net.specs.Shapes.{before, IsNetOf}
-use Rattle.rete_net.specs.Steps.{no_change, delta_at, changes_from, NetStep}
 use Rattle.rete_net.proofs.Answering.{is_change, found_change, past_change, in_order}
 use Rattle.rete_net.proofs.Chaining.{AreMade, IsGiven, AreStanding, StaysBeside, standing_now, answer_at}
 use Rattle.rete_net.proofs.Cleaning.{has_clean}
 use Rattle.rete_net.proofs.Frames.{net_again, stepped_nodes}
 use Rattle.rete_net.proofs.Growing.{has_at}
 use Rattle.rete_net.proofs.Turning.{rising}
-use Rattle.rule_model.specs.declared.moment.Moment.{Moment}
 
 -- the rows of conditions are what the lines make of them
 pub rows_made : (p : Program) (s : Snapshot) → HaveDistinctTags s.facts → AreMade p s (rows_of p s)

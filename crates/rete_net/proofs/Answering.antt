@@ -1,21 +1,7 @@
 -- The changes of rules, out of what their last nodes answered.
-use Rattle.std.proofs.Common.{◌≡◌, ◌∙◌, sym, ap, refl, ℕ, zero, suc, ◌+◌, ◌<◌, ◌^◌, ◌==◌, length, arith, ◌&&◌, not, Bool, true, false, cond, List, [], ◌∷◌, ◌++◌, map, Option, Some, None, slice_get}
-use Rattle.std.specs.declared.cmp.Ordering.TheVariants.{Less}
-use Rattle.std.specs.Cmp.{nat_cmp_is}
-use Rattle.std.specs.List.{AllByRecursion}
+use Rattle.rete_net.proofs.Common.{◌≡◌, ◌∙◌, sym, ap, refl, ℕ, zero, suc, ◌+◌, ◌<◌, ◌^◌, ◌==◌, length, arith, ◌&&◌, not, Bool, true, false, cond, List, [], ◌∷◌, ◌++◌, map, Option, Some, None, slice_get, Less, nat_cmp_is, AllByRecursion, nat_cmp, nat_tests, Delta, Row, has, IsDifference, are_none, changes_nothing, Program, IsRunnable, RuleChange, change_of, IsChange, delta_at, change_at, changes_from}
 use Rattle.std.specs.List.Sorted.{IsStrictlySortedBy}
-use Rattle.std.specs.Ordering.{nat_cmp}
-use Rattle.std.proofs.lemmas.Bool.Decides.{nat_tests}
-use Rattle.row_delta.specs.declared.delta.Delta.{Delta}
-use Rattle.row_delta.specs.declared.row.Row.{Row}
 use Rattle.row_delta.specs.Differences.{IsBetween}
-use Rattle.row_delta.specs.Rows.{has}
-use Rattle.row_change.specs.Changes.{IsDifference, are_none, changes_nothing}
-use Rattle.rule_model.specs.declared.program.Program.{Program}
-use Rattle.rule_world.specs.Programs.{IsRunnable}
-use Rattle.rete_net.specs.declared.changes.RuleChange.{RuleChange}
-use Rattle.rete_net.specs.Nets.{change_of, IsChange}
-use Rattle.rete_net.specs.Steps.{delta_at, change_at, changes_from}
 
 -- a program has fewer rules than numbers of rules can name
 pub few_ends : (p : Program) (ends : List ℕ) → length ends ≡ length p.rules → IsRunnable p → length ends < 2 ^ 16

@@ -1,38 +1,6 @@
 -- In a step in which no rule needs a forgotten fact, nothing changes of these for a node.
-use Rattle.std.proofs.Common.{◌≡◌, ◌∙◌, sym, ap, refl, subst, inl, inr, ℕ, zero, suc, ◌==◌, ◌&&◌, ◌||◌, not, Bool, true, false, cond, arith, List, [], ◌∷◌, ◌++◌, take, Option, Some, None, slice_get, option_to_list}
-use Rattle.std.proofs.lemmas.Bool.Decides.{nat_tests}
-use Rattle.std.specs.List.{filter, find, list_any}
-use Rattle.fx_base.specs.Lists.{In}
-use Rattle.fx_base.specs.declared.fact.Fact.{Fact}
-use Rattle.fx_base.specs.declared.ids.Tag.{Tag}
-use Rattle.row_delta.specs.declared.delta.Delta.{Delta}
-use Rattle.row_delta.specs.declared.row.Named.{Named}
-use Rattle.row_delta.specs.declared.row.Row.{Row}
-use Rattle.row_delta.specs.Rows.{has}
-use Rattle.row_change.specs.Changes.{Leads}
-use Rattle.rule_model.specs.declared.condition.Condition.{Condition}
-use Rattle.rule_model.specs.declared.condition.Condition.TheVariants.{Plain, Negated, Existing, Folded}
-use Rattle.rule_model.specs.declared.condition.Pattern.{Pattern}
-use Rattle.rule_model.specs.declared.program.Program.{Program}
-use Rattle.rule_model.specs.Distinct.{HaveDistinctTags}
-use Rattle.rule_model.specs.Rows.{pattern_of}
-use Rattle.rule_model.specs.Snapshots.{Snapshot}
-use Rattle.rule_model.specs.Tuples.{name_of}
-use Rattle.rule_model.proofs.Listed.{both_of, in_left, of_append}
-use Rattle.rule_model.proofs.Named.{of_filter}
-use Rattle.rule_model.proofs.Once.{one_fact}
-use Rattle.rule_model.proofs.Order.{in_filter}
-use Rattle.rule_model.proofs.RuleOf.{in_place}
-use Rattle.join_tests.specs.Joins.{Look, joins}
-use Rattle.pair_memory.specs.Standing.{clean, cleaned, no_names}
-use Rattle.tally_node.specs.Laws.{ForgottenStay}
-use Rattle.condition_rows.specs.Looks.{HasAllOf, NameHeld}
-use Rattle.condition_rows.specs.Sets.{held, candidates_of, rows_of}
-use Rattle.pattern_gate.specs.Moves.{Moves, shares_tag}
-use Rattle.condition_node.specs.Turns.{CountedStay}
-use Rattle.condition_node.proofs.Knowing.{held_known, joining_alike, where_true, not_of, clean_of_none}
-use Rattle.rete_net.specs.Forgetting.{CountsNone, AreNotNeeded}
-use Rattle.rete_net.specs.Shapes.{IsFront}
+use Rattle.rete_net.proofs.Common.{◌≡◌, ◌∙◌, sym, ap, refl, subst, inl, inr, ℕ, zero, suc, ◌==◌, ◌&&◌, ◌||◌, not, Bool, true, false, cond, arith, List, [], ◌∷◌, ◌++◌, take, Option, Some, None, slice_get, option_to_list, nat_tests, filter, find, list_any, In, Fact, Tag, Delta, Named, Row, has, Leads, Condition, Plain, Negated, Existing, Folded, Pattern, Program, HaveDistinctTags, pattern_of, Snapshot, name_of, both_of, in_left, of_append, of_filter, one_fact, in_filter, in_place, Look, joins, clean, cleaned, no_names, ForgottenStay, HasAllOf, NameHeld, candidates_of, rows_of, Moves, shares_tag, CountedStay, held_known, joining_alike, where_true, not_of, clean_of_none, CountsNone, AreNotNeeded, IsFront}
+use Rattle.condition_rows.specs.Sets.{held}
 use Rattle.rete_net.proofs.Chaining.{StaysBeside}
 use Rattle.rete_net.proofs.Turning.{rising}
 

@@ -1,33 +1,6 @@
 -- A step of all nodes, one after those before it, over the rows that conditions have before the step and behind it, where some facts have
 -- been forgotten.
-use Rattle.std.proofs.Common.{◌≡◌, ◌∙◌, sym, refl, subst, ℕ, zero, suc, ◌<◌, List, [], ◌∷◌, ◌++◌, take, get_or, length, arith, Bool, true, Option, Some, None, slice_get}
-use Rattle.std.proofs.lemmas.List.{get_or-take}
-use Rattle.std.proofs.lemmas.Option.{slice_get_within, slice_get-get_or}
-use Rattle.fx_base.specs.declared.fact.Fact.{Fact}
-use Rattle.row_delta.specs.declared.delta.Delta.{Delta}
-use Rattle.row_delta.specs.declared.row.Named.{Named}
-use Rattle.row_delta.specs.declared.row.Row.{Row}
-use Rattle.row_change.specs.Changes.{Leads, IsDifference}
-use Rattle.rule_model.specs.declared.condition.Condition.{Condition}
-use Rattle.rule_model.specs.declared.program.Program.{Program}
-use Rattle.rule_model.specs.declared.program.Rule.{Rule}
-use Rattle.rule_model.specs.Rows.{pattern_of}
-use Rattle.rule_model.specs.Snapshots.{Snapshot}
-use Rattle.join_tests.specs.Joins.{Look}
-use Rattle.pair_memory.specs.Standing.{cleaned, no_names}
-use Rattle.condition_rows.specs.Lines.{line}
-use Rattle.condition_rows.specs.Looks.{HasAllOf, NameHeld}
-use Rattle.condition_rows.specs.Sets.{candidates_of}
-use Rattle.pattern_gate.specs.Gates.{has_good_window}
-use Rattle.pattern_gate.specs.Moves.{Moves}
-use Rattle.condition_node.specs.Nodes.{condition_of}
-use Rattle.condition_node.specs.Turns.{CountedStay}
-use Rattle.rete_net.specs.declared.node.NetNode.{NetNode}
-use Rattle.rete_net.specs.Standing.{NetNodeStands}
-use Rattle.rete_net.specs.Shapes.{before, IsShaped, EndsAt}
-use Rattle.rete_net.specs.Steps.{delta_at, left_delta, IsNodeTurn, NodeStep, SteppedBelow}
-use Rattle.rule_model.specs.declared.moment.Moment.{Moment}
-use Rattle.rule_model.specs.Moments.{IsAt}
+use Rattle.rete_net.proofs.Common.{◌≡◌, ◌∙◌, sym, refl, subst, ℕ, zero, suc, ◌<◌, List, [], ◌∷◌, ◌++◌, take, get_or, length, arith, Bool, true, Option, Some, None, slice_get, get_or-take, slice_get_within, slice_get-get_or, Fact, Delta, Named, Row, Leads, IsDifference, Condition, Program, Rule, pattern_of, Snapshot, Look, cleaned, no_names, line, HasAllOf, NameHeld, candidates_of, has_good_window, Moves, condition_of, CountedStay, NetNode, NetNodeStands, before, IsShaped, EndsAt, delta_at, left_delta, IsNodeTurn, NodeStep, SteppedBelow, Moment, IsAt}
 
 -- the rows of conditions in a snapshot, as the lines make them, name versions of the snapshot alone
 pub record AreMade (p : Program) (s : Snapshot) (sets : List Condition → Row → Bool) : Type 0 where

@@ -1,33 +1,7 @@
 -- Rows that name no forgotten fact, and what conditions make of them.
-use Rattle.std.proofs.Common.{◌≡◌, ◌∙◌, sym, ap, refl, subst, ℤ, ◌&&◌, not, Bool, true, false, List, [], ◌∷◌, Option, Some, None}
-use mathlib.Core.Path.{fun_ext}
-use Rattle.std.proofs.Math.Bool.{and-true, and-false, and_assoc}
+use Rattle.rete_net.proofs.Common.{◌≡◌, ◌∙◌, sym, ap, refl, subst, ℤ, ◌&&◌, not, Bool, true, false, List, [], ◌∷◌, Option, Some, None, fun_ext, and-true, and-false, and_assoc, filter, list_any, Fact, Named, Row, same_equiv, has, Condition, Plain, Negated, Existing, Folded, Program, Rule, rows, Snapshot, joins, joined, clean, cleaned, either, remembered, no_names, unvalued, splits_value, row_decides, from_unvalued, joined_clean, clean_either, gives, is_ripe, line, held, candidates_of, has_partner, filter_all, RuleChange, CountsNone, AreNotNeeded, clean_rows, AreBetween}
 use Rattle.std.proofs.lemmas.Map.Made.{is_member-filter}
-use Rattle.std.specs.List.{filter, list_any}
-use Rattle.fx_base.specs.declared.fact.Fact.{Fact}
-use Rattle.row_delta.specs.declared.row.Named.{Named}
-use Rattle.row_delta.specs.declared.row.Row.{Row}
-use Rattle.row_delta.specs.RowOrder.{same_equiv}
-use Rattle.row_delta.specs.Rows.{has}
-use Rattle.rule_model.specs.declared.condition.Condition.{Condition}
-use Rattle.rule_model.specs.declared.condition.Condition.TheVariants.{Plain, Negated, Existing, Folded}
-use Rattle.rule_model.specs.declared.program.Program.{Program}
-use Rattle.rule_model.specs.declared.program.Rule.{Rule}
-use Rattle.rule_model.specs.Rows.{rows}
-use Rattle.rule_model.specs.Snapshots.{Snapshot}
-use Rattle.join_tests.specs.Joins.{joins}
-use Rattle.pair_memory.specs.Joined.{joined}
-use Rattle.pair_memory.specs.Standing.{clean, cleaned, either, remembered, no_names}
-use Rattle.pair_memory.specs.Valued.{unvalued, splits_value, valued}
-use Rattle.pair_memory.proofs.Joining.{row_decides}
-use Rattle.pair_memory.proofs.Valued.{from_unvalued}
-use Rattle.pair_memory.proofs.Worlds.{joined_clean, clean_either}
-use Rattle.condition_rows.specs.Lines.{gives, is_ripe, line}
-use Rattle.condition_rows.specs.Sets.{held, candidates_of, has_partner}
-use Rattle.pattern_gate.proofs.Arriving.{filter_all}
-use Rattle.rete_net.specs.declared.changes.RuleChange.{RuleChange}
-use Rattle.rete_net.specs.Forgetting.{CountsNone, AreNotNeeded}
-use Rattle.rete_net.specs.Nets.{clean_rows, AreBetween}
+use Rattle.pair_memory.specs.Valued.{valued}
 
 -- ---- where nothing is forgotten
 
@@ -38,38 +12,8 @@ none_named (n ∷ names) = none_named names
 clean_none : (row : Row) → clean no_names row ≡ true
 clean_none row = ap not (none_named row.facts)
 
-pub cleaned_none : (rows : Row → Bool) → cleaned rows no_names ≡ rows
-cleaned_none rows = fun_ext (λ row. ap (λ b. rows row && b) (clean_none row) ∙ and-true (rows row))
-
-counts_no_names : (p : Program) (s : Snapshot) (c : Condition) (row : Row) → CountsNone c p s no_names row
-counts_no_names p s (Plain q) row = tt
-counts_no_names p s (Negated q) row = λ who e. absurd (let n : false ≡ true = e in cc)
-counts_no_names p s (Existing q) row = λ who e. absurd (let n : false ≡ true = e in cc)
-counts_no_names p s (Folded a) row = λ who e. absurd (let n : false ≡ true = e in cc)
-
-pub none_needed : (p : Program) (s next : Snapshot) (gone : List Fact) (come : Option Fact) → AreNotNeeded p no_names s next gone come
-none_needed p s next gone come = record {
-  none_goes = λ f i. refl;
-  none_comes = λ f e. refl;
-  same_candidates = λ rule i c j who e. absurd (let n : false ≡ true = e in cc);
-  none_counted = λ rule i q c e row there fresh. counts_no_names p next c row;
-}
-
 pub all_clean : (rows : List Row) → filter (clean no_names) rows ≡ rows
 all_clean rows = filter_all (clean no_names) rows (λ row i. clean_none row)
-
-whole_rows : (p : Program) (s : Snapshot) → clean_rows p s no_names ≡ (λ (rule : Rule). rows p s rule.conditions)
-whole_rows p s = fun_ext (λ rule. all_clean (rows p s rule.conditions))
-
--- the differences of the rows that name no forgotten fact are those of the rows
-pub between_whole : (p : Program) (s next : Snapshot) (changes : List RuleChange) → AreBetween p (clean_rows p s no_names) (clean_rows p next no_names) changes
-    → AreBetween p (λ rule. rows p s rule.conditions) (λ rule. rows p next rule.conditions) changes
-between_whole p s next changes are =
-    subst (λ (old : Rule → List Row). AreBetween p old (λ rule. rows p next rule.conditions) changes) (whole_rows p s)
-    (subst (λ (new : Rule → List Row). AreBetween p (clean_rows p s no_names) new changes) (whole_rows p next) are)
-
-pub same_whole : (rows others : Row → Bool) (row : Row) → cleaned rows no_names row ≡ cleaned others no_names row → rows row ≡ others row
-same_whole rows others row e = ap (λ (set : Row → Bool). set row) (sym (cleaned_none rows)) ∙ e ∙ ap (λ (set : Row → Bool). set row) (cleaned_none others)
 
 -- ---- cleaned once more
 

@@ -1,46 +1,8 @@
 -- What the nodes of a network count of forgotten facts.
-use Rattle.std.proofs.Common.{◌≡◌, ◌∙◌, ◌⊎◌, inl, inr, sym, ap, refl, subst, ℕ, ℤ, zero, suc, ◌+◌, ◌<◌, ◌≤◌, nat_lt, arith, Bool, true, false, ◌&&◌, List, [], ◌∷◌, ◌++◌, length, take, Option, Some, None, slice_get}
-use Rattle.std.specs.declared.cmp.Ordering.{Ordering}
-use Rattle.std.specs.declared.cmp.Ordering.TheVariants.{Less}
-use Rattle.std.specs.List.{AllByRecursion, filter}
+use Rattle.rete_net.proofs.Common.{◌≡◌, ◌∙◌, ◌⊎◌, inl, inr, sym, ap, refl, subst, ℕ, ℤ, zero, suc, ◌+◌, ◌<◌, ◌≤◌, nat_lt, arith, Bool, true, false, ◌&&◌, List, [], ◌∷◌, ◌++◌, length, take, Option, Some, None, slice_get, Ordering, Less, AllByRecursion, filter, nat_cmp, ordering_then, nat_tests, length-take-le, slice_get_within, In, Fact, RuleId, Extra, Named, Row, InOrder, row_cmp, Condition, Plain, Negated, Existing, Folded, Program, Rule, is_candidate, HaveDistinctTags, pattern_of, Snapshot, name_of, both_of, of_append, in_left, in_right, clean, cleaned, rows_of_extras, candidates_of, rows_of, candidate_named, joins, at_clock, filter_among, AreExtrasBeside, IsAside, IsExtraBeside, lost_partners, values_gathered, condition_of, AreExtras, IsExtraIn, IsFirstWith, extra_cmp, Owner, NetNode, AreOwners, IsOwned, owner_cmp, before, IsNetOf, HaveSame}
 use Rattle.std.specs.List.Sorted.{IsStrictlySortedBy}
-use Rattle.std.specs.Ordering.{nat_cmp, ordering_then}
-use Rattle.std.proofs.lemmas.Bool.Decides.{nat_tests}
-use Rattle.std.proofs.lemmas.List.{length-take-le}
-use Rattle.std.proofs.lemmas.Option.{slice_get_within}
-use Rattle.fx_base.specs.Lists.{In}
-use Rattle.fx_base.specs.declared.fact.Fact.{Fact}
-use Rattle.fx_base.specs.declared.ids.RuleId.{RuleId}
-use Rattle.row_delta.specs.declared.extra.Extra.{Extra}
-use Rattle.row_delta.specs.declared.row.Named.{Named}
-use Rattle.row_delta.specs.declared.row.Row.{Row}
-use Rattle.row_delta.specs.Rows.{InOrder, row_cmp}
-use Rattle.rule_model.specs.declared.condition.Condition.{Condition}
-use Rattle.rule_model.specs.declared.condition.Condition.TheVariants.{Plain, Negated, Existing, Folded}
-use Rattle.rule_model.specs.declared.program.Program.{Program}
-use Rattle.rule_model.specs.declared.program.Rule.{Rule}
-use Rattle.rule_model.specs.Candidates.{is_candidate}
-use Rattle.rule_model.specs.Distinct.{HaveDistinctTags}
-use Rattle.rule_model.specs.Rows.{pattern_of}
-use Rattle.rule_model.specs.Snapshots.{Snapshot}
-use Rattle.rule_model.specs.Tuples.{name_of}
-use Rattle.rule_model.proofs.Listed.{both_of, of_append, in_left, in_right}
 use Rattle.rule_lives.specs.Networks.{binds}
-use Rattle.pair_memory.specs.Standing.{clean, cleaned}
-use Rattle.tally_node.specs.Extras.{rows_of_extras}
-use Rattle.condition_rows.specs.Sets.{candidates_of, held, partners, rows_of}
-use Rattle.condition_rows.proofs.Joined.{candidate_named}
-use Rattle.join_tests.specs.Joins.{joins}
-use Rattle.pattern_gate.specs.Moves.{at_clock}
-use Rattle.pattern_gate.proofs.Arriving.{filter_among}
-use Rattle.condition_node.specs.Loading.{AreExtrasBeside, IsAside, IsExtraBeside, lost_partners, values_gathered}
-use Rattle.condition_node.specs.Nodes.{condition_of}
-use Rattle.image_laws.specs.Extras.{AreExtras, IsExtraIn, IsFirstWith, extra_cmp}
-use Rattle.rete_net.specs.declared.build.Owner.{Owner}
-use Rattle.rete_net.specs.declared.node.NetNode.{NetNode}
-use Rattle.rete_net.specs.Owners.{AreOwners, IsOwned, owner_cmp}
-use Rattle.rete_net.specs.Shapes.{before, IsNetOf}
-use Rattle.rete_net.specs.Nets.{HaveSame}
+use Rattle.condition_rows.specs.Sets.{held, partners}
 use Rattle.rete_net.proofs.Advancing.{same_first}
 use Rattle.rete_net.proofs.Counted.{fronts_within}
 use Rattle.rete_net.proofs.Growing.{both_at, has_at, parted}

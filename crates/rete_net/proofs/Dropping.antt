@@ -1,41 +1,7 @@
 -- The nodes of a network forget, one after those before it.
-use Rattle.std.proofs.Common.{◌≡◌, ◌∙◌, sym, ap, refl, subst, inl, inr, ℕ, zero, suc, ℤ, ◌<◌, ◌&&◌, not, Bool, true, false, List, [], ◌∷◌, ◌++◌, take, length, arith, Option, Some, None, slice_get}
-use Rattle.std.proofs.lemmas.List.{get_or-take}
-use Rattle.std.proofs.lemmas.Option.{slice_get_within}
+use Rattle.rete_net.proofs.Common.{◌≡◌, ◌∙◌, sym, ap, refl, subst, inl, inr, ℕ, zero, suc, ℤ, ◌<◌, ◌&&◌, not, Bool, true, false, List, [], ◌∷◌, ◌++◌, take, length, arith, Option, Some, None, slice_get, get_or-take, slice_get_within, In, Named, Row, has, Condition, Program, Rule, HaveDistinctTags, pattern_of, Snapshot, Look, clean, cleaned, either, empty_row, HasAllOf, candidates_of, rows_of, has_in, has_good_window, at_clock, condition_of, IsBefore, AreFans, shown_nodes, RuleRows, Rete, NetNode, AreOld, IsForgetting, NodeForgets, dropped_at, dropped_before, ForgotBelow, rows_for, AreDropped, Answered, some_answer, answer_in, IsIndexOf, AreOwners, HaveSame, NodesStand, NetStands, NetNodeStands, AreScheduled, before, EndsAt}
 use Rattle.std.specs.List.Sorted.{IsStrictlySortedBy}
-use Rattle.fx_base.specs.Lists.{In}
-use Rattle.row_delta.specs.declared.row.Named.{Named}
-use Rattle.row_delta.specs.declared.row.Row.{Row}
-use Rattle.row_delta.specs.Rows.{has}
-use Rattle.rule_model.specs.declared.condition.Condition.{Condition}
-use Rattle.rule_model.specs.declared.program.Program.{Program}
-use Rattle.rule_model.specs.declared.program.Rule.{Rule}
-use Rattle.rule_model.specs.Distinct.{HaveDistinctTags}
-use Rattle.rule_model.specs.Rows.{pattern_of}
-use Rattle.rule_model.specs.Snapshots.{Snapshot}
-use Rattle.join_tests.specs.Joins.{Look}
-use Rattle.pair_memory.specs.Standing.{clean, cleaned, either}
-use Rattle.condition_rows.specs.Lines.{empty_row}
-use Rattle.condition_rows.specs.Looks.{HasAllOf}
-use Rattle.condition_rows.specs.Sets.{candidates_of, rows_of}
-use Rattle.condition_rows.proofs.Ends.{has_in}
-use Rattle.pattern_gate.specs.Gates.{has_good_window}
-use Rattle.pattern_gate.specs.Moves.{at_clock}
-use Rattle.condition_node.specs.Nodes.{condition_of}
-use Rattle.condition_node.specs.Quiet.{IsBefore}
-use Rattle.rete_net.specs.Fans.{AreFans, shown_nodes}
-use Rattle.rete_net.specs.declared.forgetting.RuleRows.{RuleRows}
-use Rattle.rete_net.specs.declared.net.Rete.{Rete}
-use Rattle.rete_net.specs.declared.node.NetNode.{NetNode}
-use Rattle.rete_net.specs.Dropped.{AreOld, IsForgetting, NodeForgets, dropped_at, dropped_before, ForgotBelow, rows_for, AreDropped}
-use Rattle.rete_net.specs.declared.answered.Answered.{Answered}
-use Rattle.rete_net.specs.Answers.{given as kept, some_answer, answer_in}
-use Rattle.rete_net.specs.Indexes.{IsIndexOf}
-use Rattle.rete_net.specs.Owners.{AreOwners}
-use Rattle.rete_net.specs.Nets.{HaveSame, NodesStand, NetStands}
-use Rattle.rete_net.specs.Standing.{NetNodeStands}
-use Rattle.rete_net.specs.Schedules.{AreScheduled}
-use Rattle.rete_net.specs.Shapes.{before, EndsAt}
+use Rattle.rete_net.specs.Answers.{given as kept}
 use Rattle.rete_net.proofs.Advancing.{first_row, rows_made}
 use Rattle.rete_net.proofs.Chaining.{AreMade, AreStanding}
 use Rattle.rete_net.proofs.Cleaning.{cleaned_either}
@@ -109,11 +75,6 @@ module _ (p : Program) (look : Look) (s : Snapshot) (sets : List Condition → R
         subst (λ (parent : Option ℕ). NetNodeStands p is s (sets (before conditions parent)) (either forgotten old)) (sym step.parent)
         (step.stands s (sets (before conditions was.0.parent)) forgotten (standing.stand k was.0 was.1) (given k was.0 was.1 (λ q lt. let w : k < length nodes = slice_get_within nodes k was.0 was.1 in all_below (suc q) q was.0 (omega arith) (omega arith))));
   }
-
-  pub ends_keep : (ends : List ℕ) (place : ℕ) (rule : Rule) → EndsAt nodes conditions ends place rule → EndsAt nodes_now conditions ends place rule
-  ends_keep ends place rule at =
-      let is = now_at at.last at.node at.there in
-      record { last = at.last; node = is.0; found = at.found; there = is.1; all = at.all }
 
 -- ---- a network
 

@@ -1,28 +1,8 @@
 -- The walk over the nodes of a network, where these forget.
-use Rattle.std.proofs.Common.{◌≡◌, ◌∙◌, sym, ap, refl, [], ◌+◌, ◌<◌, ◌≤◌, ℕ, Bool, false, List, Option, None, Some, length, slice_get}
-use Rattle.std.proofs.Math.ListN.{set}
-use Rattle.row_delta.specs.declared.row.Named.{Named}
-use Rattle.row_delta.specs.declared.row.Row.{Row}
-use Rattle.rule_model.specs.declared.program.Program.{Program}
-use Rattle.join_tests.specs.Joins.{Look}
-use Rattle.rete_net.specs.declared.answered.Answered.{Answered}
-use Rattle.rete_net.specs.declared.index.Index.{Index}
-use Rattle.rete_net.specs.declared.node.NetNode.{NetNode}
-use Rattle.rete_net.specs.Answers.{left_given, some_answer, IsPut}
-use Rattle.rete_net.specs.declared.fans.Fans.{Fans}
-use Rattle.rete_net.specs.declared.fans.Seat.{Seat}
-use Rattle.rete_net.specs.Fans.{half_at, half_of, member_at, seat_at, showing, with_fans, AreFans, AreRowsTurned, IsHalf, IsLaidAs, IsLeft, IsOf, Member}
-use Rattle.rete_net.specs.Dropped.{dropped_before, HasNoOld, HaveForgotten, NodeForgets}
-use Rattle.rete_net.specs.Indexes.{IsFound}
-use Rattle.rete_net.specs.Places.{has_place}
-use Rattle.rete_net.specs.Steps.{no_change}
-use Rattle.rete_net.specs.Walks.{IsReplaced, IsWired}
+use Rattle.rete_net.proofs.Common.{◌≡◌, ◌∙◌, sym, ap, refl, [], ◌+◌, ◌<◌, ◌≤◌, ℕ, Bool, false, List, Option, None, Some, length, slice_get, set, Named, Row, Program, Look, Answered, Index, NetNode, left_given, some_answer, IsPut, Fans, Seat, half_at, half_of, member_at, seat_at, showing, with_fans, AreFans, AreRowsTurned, IsHalf, IsLaidAs, IsLeft, IsOf, Member, dropped_before, HasNoOld, HaveForgotten, NodeForgets, IsFound, has_place, no_change, IsReplaced, IsWired, condition_of, Condition, pattern_of}
 use Rattle.rete_net.proofs.Sparing.{spared}
 use Rattle.rete_net.proofs.Showing.{condition_shown}
 use Rattle.rete_net.proofs.Fanwise as fanwise
-use Rattle.condition_node.specs.Nodes.{condition_of}
-use Rattle.rule_model.specs.declared.condition.Condition.{Condition}
-use Rattle.rule_model.specs.Rows.{pattern_of}
 
 old_shown : (look : Look) (old : Named → Bool) (o : Option Member) (n : NetNode) → HasNoOld look old n → HasNoOld look old (showing o n)
 old_shown look old o n none who f is found same = none who f is found (sym (ap (λ (c : Condition). (pattern_of c).ty.0) (condition_shown o n)) ∙ same)

@@ -1,32 +1,7 @@
 -- One fan of others turns: its rows, or the candidates of one member.
-use Rattle.std.proofs.Common.{◌≡◌, ◌∙◌, sym, ap, refl, subst, ℕ, ◌+◌, ◌<◌, ◌≤◌, arith, List, [], ◌∷◌, length, Option, Some, None, slice_get, ◌⊎◌, inl, inr, true, false, zero, suc, nat_lt}
-use Rattle.std.proofs.Math.ListN.{set, length-set}
-use Rattle.std.proofs.lemmas.Option.{slice_get_within}
-use Rattle.std.specs.BTreeMap.{get, is_at, Updates}
-use Rattle.std.proofs.lemmas.Bool.Decides.{nat_tests}
-use Rattle.row_change.specs.Changes.{are_none}
-use Rattle.std.specs.Global.{Vec}
-use Rattle.std.specs.Option.{option_map}
-use Rattle.std.specs.Ordering.{nat_cmp}
-use Rattle.row_change.specs.Changes.{IsDifference}
-use Rattle.row_delta.specs.declared.delta.Delta.{Delta}
-use Rattle.row_delta.specs.declared.row.Named.{Named}
-use Rattle.row_delta.specs.declared.row.Row.{Row}
-use Rattle.join_tests.specs.Joins.{Look}
-use Rattle.rule_model.specs.declared.condition.Pattern.{Pattern}
-use Rattle.join_tests.specs.RowKeys.{row_key}
-use Rattle.pair_memory.specs.declared.candidates.Candidates.{Candidates}
-use Rattle.pair_memory.specs.Apart.{beside}
-use Rattle.pair_memory.specs.Memories.{made}
+use Rattle.rete_net.proofs.Common.{◌≡◌, ◌∙◌, sym, ap, refl, subst, ℕ, ◌+◌, ◌<◌, ◌≤◌, arith, List, [], ◌∷◌, length, Option, Some, None, slice_get, ◌⊎◌, inl, inr, true, false, zero, suc, nat_lt, set, length-set, slice_get_within, get, is_at, Updates, nat_tests, are_none, IsDifference, Vec, option_map, nat_cmp, Delta, Named, Row, Look, Pattern, row_key, Candidates, beside, made, AreBeside, IsMemberTurned, AreNamesTurned, Fan, Fans, Seat, Span, NetNode, given_half, given_span, half_at, half_in, in_fan, member_of, AreFans, AreNamesTurnedAt, AreRowsTurned, IsFanLike, IsHalf, IsHalfTurned, IsInSpan, IsLaidAs, IsLeft, Member}
 use Rattle.fan_join.specs.declared.fan.FanJoin.{FanJoin}
-use Rattle.fan_join.specs.Fans.{AreBeside, AreRowsTurned as JoinTurned, IsMemberTurned}
-use Rattle.fan_join.specs.Turns.{AreNamesTurned}
-use Rattle.rete_net.specs.declared.fans.Fan.{Fan}
-use Rattle.rete_net.specs.declared.fans.Fans.{Fans}
-use Rattle.rete_net.specs.declared.fans.Seat.{Seat}
-use Rattle.rete_net.specs.declared.fans.Span.{Span}
-use Rattle.rete_net.specs.declared.node.NetNode.{NetNode}
-use Rattle.rete_net.specs.Fans.{given_half, given_span, half_at, half_in, in_fan, member_of, AreFans, AreNamesTurnedAt, AreRowsTurned, IsFanLike, IsHalf, IsHalfTurned, IsInSpan, IsLaidAs, IsLeft, Member}
+use Rattle.fan_join.specs.Fans.{AreRowsTurned as JoinTurned}
 use Rattle.rete_net.proofs.Fanning.{laid_same, laid_then}
 use Rattle.rete_net.proofs.Growing.{both_at, has_at}
 use Rattle.rete_net.proofs.Siblings.{half_none}
@@ -89,10 +64,6 @@ fan_halved look gone come old new deltas m half turned same is = by (slice_get o
     by (Some c) there (Some delta) e =
         subst (λ (a : Option Candidates). claim a (slice_get new.join.members.items m) half) (sym there) (subst (λ (b : Option Candidates). claim (Some c) b half) (sym (there_now ∙ there))
         (refl, record { kept = turned.kept m c there; difference = subst (IsDifference (made (beside old.join.left c) look) (made (beside new.join.left c) look)) (sym (is ∙ ap given_half e)) (turned.difference m c delta there e) }))
-
--- the half of a member whose deltas have come
-pub half_come : (fans : Fans) (seat : Seat) (deltas : Vec Delta) → get nat_cmp fans.halves seat.fan ≡ Some deltas → half_at fans seat ≡ given_half (slice_get deltas.items seat.member)
-half_come fans seat deltas e = ap (half_in seat.member) e
 
 -- ---- all fans behind a node
 

@@ -1,28 +1,7 @@
 -- A walk over nodes of which some are members of fans. A member that is still to come stands in the walk as it was, though the rows that it shares
 -- may have left and come already.
-use Rattle.std.proofs.Common.{◌≡◌, ◌∙◌, sym, ap, refl, subst, ℕ, ◌+◌, ◌<◌, ◌≤◌, arith, List, [], ◌∷◌, length, Option, Some, None, slice_get, ◌⊎◌, inl, inr}
-use Rattle.std.proofs.Math.ListN.{set, length-set}
-use Rattle.std.proofs.lemmas.Option.{slice_get_within}
-use Rattle.std.specs.Option.{option_map}
-use Rattle.row_delta.specs.declared.delta.Delta.{Delta}
-use Rattle.row_delta.specs.declared.row.Row.{Row}
-use Rattle.rule_model.specs.declared.condition.Condition.TheVariants.{Plain}
-use Rattle.rule_model.specs.declared.condition.Pattern.{Pattern}
-use Rattle.join_tests.specs.Joins.{Look}
-use Rattle.pair_memory.specs.declared.candidates.Candidates.{Candidates}
-use Rattle.pair_memory.specs.Apart.{IsBeside}
-use Rattle.join_tests.specs.RowKeys.{row_key}
-use Rattle.condition_node.specs.Nodes.{condition_of}
-use Rattle.rete_net.specs.declared.answered.Answered.{Answered}
-use Rattle.rete_net.specs.declared.fans.Fan.{Fan}
-use Rattle.rete_net.specs.declared.fans.Fans.{Fans}
-use Rattle.rete_net.specs.declared.fans.Seat.{Seat}
-use Rattle.rete_net.specs.declared.index.Index.{Index}
-use Rattle.rete_net.specs.declared.node.NetNode.{NetNode}
-use Rattle.rete_net.specs.Answers.{given as kept, answer_in, left_given, some_answer, IsPut}
-use Rattle.rete_net.specs.Fans.{given_seat, half_at, half_of, in_fan, member_at, member_of, seat_at, showing, shown, with_fans, AreFans, AreFansBelow, AreRowsTurned, IsFanLike, IsHalf, IsLaidAs, IsLeft, IsOf, IsSeat, Member}
-use Rattle.rete_net.specs.Steps.{no_change}
-use Rattle.rete_net.specs.Walks.{IsReplaced}
+use Rattle.rete_net.proofs.Common.{◌≡◌, ◌∙◌, sym, ap, refl, subst, ℕ, ◌+◌, ◌<◌, ◌≤◌, arith, List, [], ◌∷◌, length, Option, Some, None, slice_get, ◌⊎◌, inl, inr, set, length-set, slice_get_within, option_map, Delta, Row, Plain, Pattern, Look, Candidates, IsBeside, row_key, condition_of, Answered, Fan, Fans, Seat, Index, NetNode, answer_in, left_given, some_answer, IsPut, given_seat, half_at, half_of, in_fan, member_at, member_of, seat_at, showing, shown, with_fans, AreFans, AreFansBelow, AreRowsTurned, IsFanLike, IsHalf, IsLaidAs, IsLeft, IsOf, IsSeat, Member, no_change, IsReplaced}
+use Rattle.rete_net.specs.Answers.{given as kept}
 use Rattle.rete_net.proofs.Growing.{both_at, has_at}
 use Rattle.rete_net.proofs.Showing.{same_lists, shown_at, shown_none}
 use Rattle.rete_net.proofs.Siblings.{half_none}

@@ -1,24 +1,5 @@
 -- A walk over some nodes, each after its parent, of which some are members of fans.
-use Rattle.std.proofs.Common.{◌≡◌, ◌∙◌, sym, ap, refl, subst, ℕ, ◌+◌, ◌<◌, ◌≤◌, arith, false, List, [], length, Option, Some, None, slice_get}
-use Rattle.std.specs.Prelude.{slice_index_or}
-use Rattle.std.proofs.Math.ListN.{set}
-use Rattle.std.proofs.lemmas.Option.{slice_get_within}
-use Rattle.row_delta.specs.declared.row.Row.{Row}
-use Rattle.join_tests.specs.Joins.{Look}
-use Rattle.condition_node.specs.Nodes.{condition_of}
-use Rattle.rete_net.specs.declared.answered.Answered.{Answered}
-use Rattle.rete_net.specs.declared.fans.Fans.{Fans}
-use Rattle.rete_net.specs.declared.fans.Seat.{Seat}
-use Rattle.rete_net.specs.declared.index.Index.{Index}
-use Rattle.rete_net.specs.declared.node.NetNode.{NetNode}
-use Rattle.rete_net.specs.Answers.{left_given, some_answer, IsPut}
-use Rattle.rete_net.specs.Fans.{half_at, half_of, member_at, seat_at, showing, with_fans, AreFans, AreRowsTurned, IsHalf, IsLaidAs, IsLeft, IsOf, Member}
-use Rattle.rule_model.specs.declared.program.Program.{Program}
-use Rattle.rete_net.specs.Shapes.{IsNetOf}
-use Rattle.rete_net.specs.Indexes.{IsFound, IsIndexOf}
-use Rattle.rete_net.specs.Places.{has_place}
-use Rattle.rete_net.specs.Steps.{no_change}
-use Rattle.rete_net.specs.Walks.{IsReplaced, IsWired}
+use Rattle.rete_net.proofs.Common.{◌≡◌, ◌∙◌, sym, ap, refl, subst, ℕ, ◌+◌, ◌<◌, ◌≤◌, arith, false, List, [], length, Option, Some, None, slice_get, slice_index_or, set, slice_get_within, Row, Look, condition_of, Answered, Fans, Seat, Index, NetNode, left_given, some_answer, IsPut, half_at, half_of, member_at, seat_at, showing, with_fans, AreFans, AreRowsTurned, IsHalf, IsLaidAs, IsLeft, IsOf, Member, Program, IsNetOf, IsFound, IsIndexOf, has_place, no_change, IsReplaced, IsWired}
 use Rattle.rete_net.proofs.Fanning as fanning
 use Rattle.rete_net.proofs.Fanning.{member_fits}
 use Rattle.rete_net.proofs.Frames.{index_again, net_again, wired_of}

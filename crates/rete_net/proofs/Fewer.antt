@@ -1,56 +1,13 @@
 -- A snapshot without a forgotten fact of a type that no condition observes: of what names no forgotten fact, candidates and rows are the
 -- same.
-use Rattle.std.proofs.Common.{◌≡◌, ◌∙◌, sym, ap, refl, subst, inl, inr, ℕ, zero, suc, ℤ, ◌==◌, ◌&&◌, ◌||◌, not, nat_lt, Bool, true, false, cond, arith, List, [], ◌∷◌, ◌++◌, map, take, length, append-nil, Option, Some, None, slice_get}
-use mathlib.Core.Path.{fun_ext}
-use Rattle.std.proofs.Math.Bool.{and-false}
-use Rattle.std.proofs.lemmas.Bool.Decides.{nat_tests}
-use Rattle.std.proofs.lemmas.List.{append_assoc}
-use Rattle.std.specs.List.{filter, list_any}
-use Rattle.std.specs.Ordering.{eq_by_cmp}
-use Rattle.fx_base.specs.Lists.{In}
-use Rattle.fx_base.specs.declared.fact.Fact.{Fact}
-use Rattle.fx_base.specs.declared.ids.Tag.{Tag}
-use Rattle.row_delta.specs.NameOrder.{name_cmp}
-use Rattle.row_delta.specs.declared.row.Named.{Named}
-use Rattle.row_delta.specs.declared.row.Row.{Row}
+use Rattle.rete_net.proofs.Common.{◌≡◌, ◌∙◌, sym, ap, refl, subst, inl, inr, ℕ, zero, suc, ℤ, ◌==◌, ◌&&◌, ◌||◌, not, nat_lt, Bool, true, false, cond, arith, List, [], ◌∷◌, ◌++◌, map, take, length, append-nil, Option, Some, None, slice_get, fun_ext, and-false, nat_tests, append_assoc, filter, list_any, eq_by_cmp, In, Fact, Tag, name_cmp, Named, Row, Condition, Plain, Negated, Existing, Folded, Pattern, WindowTag, Whole, Time, Length, Program, Rule, fits, is_behind, is_present, is_candidate, is_inside, candidates, HaveDistinctTags, bound_in, pattern_of, result_of, is_length, observes, is_observed_in, Snapshot, results_hold, tests_hold, Bindings, name_of, unbound, both_of, of_map, of_filter, one_fact, in_filter, passed, filter_same, filter_swap, joins, has_name, joined, clean, cleaned, remembered, AlikeOn, unvalued, splits_value, name_decides, from_unvalued, joined_clean, is_result, line, HasAllOf, NameHeld, held, candidates_of, candidate_names, rows_of, held_fact, candidate_of, candidates_named, filter_among, filter_both, is_other, facts_alike, held_known, joining_alike, less_fact}
 use Rattle.rule_model.specs.declared.condition.Accumulate.{Accumulate}
-use Rattle.rule_model.specs.declared.condition.Condition.{Condition}
-use Rattle.rule_model.specs.declared.condition.Condition.TheVariants.{Plain, Negated, Existing, Folded}
-use Rattle.rule_model.specs.declared.condition.Pattern.{Pattern}
-use Rattle.rule_model.specs.declared.condition.WindowTag.{WindowTag}
-use Rattle.rule_model.specs.declared.condition.WindowTag.TheVariants.{Whole, Time, Length}
-use Rattle.rule_model.specs.declared.program.Program.{Program}
-use Rattle.rule_model.specs.declared.program.Rule.{Rule}
-use Rattle.rule_model.specs.Candidates.{fits, is_behind, is_present, is_candidate, is_inside, candidates}
-use Rattle.rule_model.specs.Distinct.{HaveDistinctTags}
-use Rattle.rule_model.specs.Lent.{bound_in}
 use Rattle.rule_model.specs.Maturity.{is_mature}
-use Rattle.rule_model.specs.Rows.{pattern_of, result_of}
-use Rattle.rule_model.specs.Simple.{is_length, observes, is_observed_in}
-use Rattle.rule_model.specs.Snapshots.{Snapshot, floor}
-use Rattle.rule_model.specs.Tests.{results_hold, tests_hold}
-use Rattle.rule_model.specs.Tuples.{Bindings, name_of, unbound}
-use Rattle.rule_model.proofs.Listed.{both_of, of_map}
-use Rattle.rule_model.proofs.Named.{of_filter}
-use Rattle.rule_model.proofs.Once.{one_fact}
-use Rattle.rule_model.proofs.Order.{in_filter, passed}
-use Rattle.rule_world.proofs.Kept.{filter_same, filter_swap}
-use Rattle.join_tests.specs.Joins.{joins}
-use Rattle.pair_memory.specs.Joined.{has_name, joined}
-use Rattle.pair_memory.specs.Standing.{clean, cleaned, remembered, AlikeOn}
-use Rattle.pair_memory.specs.Valued.{unvalued, splits_value, valued}
-use Rattle.pair_memory.proofs.Joining.{name_decides}
+use Rattle.rule_model.specs.Snapshots.{floor}
+use Rattle.pair_memory.specs.Valued.{valued}
 use Rattle.pair_memory.proofs.Moving.{joins_alike, named_alike}
-use Rattle.pair_memory.proofs.Valued.{from_unvalued}
-use Rattle.pair_memory.proofs.Worlds.{joined_clean}
-use Rattle.condition_rows.specs.Lines.{gives, is_result, is_ripe, line}
-use Rattle.condition_rows.specs.Looks.{HasAllOf, NameHeld}
-use Rattle.condition_rows.specs.Sets.{held, candidates_of, candidate_names, has_partner, partners, rows_of}
-use Rattle.condition_rows.proofs.Holding.{held_fact}
-use Rattle.condition_rows.proofs.Joined.{candidate_of, candidates_named}
-use Rattle.pattern_gate.proofs.Arriving.{filter_among, filter_both, is_other}
-use Rattle.condition_node.proofs.Knowing.{facts_alike, held_known, joining_alike}
-use Rattle.rete_net.specs.Forgetting.{less_fact}
+use Rattle.condition_rows.specs.Lines.{gives, is_ripe}
+use Rattle.condition_rows.specs.Sets.{has_partner, partners}
 use Rattle.rete_net.proofs.Advancing.{rows_made, same_first}
 use Rattle.rete_net.proofs.Beside.{held_at}
 use Rattle.rete_net.proofs.Chaining.{AreMade}

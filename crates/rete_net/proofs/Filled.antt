@@ -1,52 +1,9 @@
 -- What a load makes of one node.
-use Rattle.std.proofs.Common.{◌≡◌, ◌∙◌, ◌&&◌, ◌||◌, not, sym, ap, refl, subst, ℕ, ◌<◌, ◌==◌, cond, map, Bool, true, false, List, [], ◌∷◌, Some, None}
-use Rattle.std.specs.List.{AllByRecursion, filter, list_any}
+use Rattle.rete_net.proofs.Common.{◌≡◌, ◌∙◌, ◌&&◌, ◌||◌, not, sym, ap, refl, subst, ℕ, ◌<◌, ◌==◌, cond, map, Bool, true, false, List, [], ◌∷◌, Some, None, AllByRecursion, filter, list_any, eq_by_cmp, nat_cmp, Less, Fact, Delta, Extra, Named, Row, has, row_cmp, same_equiv, IsDifference, Condition, Pattern, Moment, Program, fits, is_present, HaveDistinctTags, IsAt, pattern_of, Snapshot, of_filter, Look, IsNameDifference, row_naming, has_name, no_names, no_rows, extra_for, empty_snapshot, HasAllOf, NameHeld, candidates_of, Stands, Arrival, rows_inside, PatternGate, arrival_of, arrivals, GateStands, has_good_window, kind_of, IsOrderly, rising, Node, IsLoad, Laden, node_rows, condition_of, NodeStands, held_known, node_moves, laden_line, found_in, NetNode, is_of, IsNodeLoad, NodeLoad, IsFresh}
 use Rattle.std.specs.List.Sorted.{IsStrictlySortedBy}
-use Rattle.std.specs.Ordering.{eq_by_cmp, nat_cmp}
-use Rattle.std.specs.declared.cmp.Ordering.TheVariants.{Less}
-use Rattle.fx_base.specs.declared.fact.Fact.{Fact}
-use Rattle.row_delta.specs.declared.delta.Delta.{Delta}
-use Rattle.row_delta.specs.declared.extra.Extra.{Extra}
-use Rattle.row_delta.specs.declared.row.Named.{Named}
-use Rattle.row_delta.specs.declared.row.Row.{Row}
-use Rattle.row_delta.specs.Rows.{has, row_cmp}
-use Rattle.row_delta.specs.RowOrder.{same_equiv}
-use Rattle.row_change.specs.Changes.{IsDifference}
-use Rattle.rule_model.specs.declared.condition.Condition.{Condition}
-use Rattle.rule_model.specs.declared.condition.Pattern.{Pattern}
-use Rattle.rule_model.specs.declared.moment.Moment.{Moment}
-use Rattle.rule_model.specs.declared.program.Program.{Program}
-use Rattle.rule_model.specs.Candidates.{fits, is_present}
-use Rattle.rule_model.specs.Distinct.{HaveDistinctTags}
-use Rattle.rule_model.specs.Moments.{IsAt}
-use Rattle.rule_model.specs.Rows.{pattern_of}
-use Rattle.rule_model.specs.Snapshots.{Snapshot}
-use Rattle.rule_model.proofs.Named.{of_filter}
-use Rattle.join_tests.specs.Joins.{Look}
-use Rattle.pair_memory.specs.Inputs.{IsNameDifference, row_naming}
-use Rattle.pair_memory.specs.Joined.{has_name}
-use Rattle.pair_memory.specs.Standing.{no_names, no_rows}
-use Rattle.tally_node.specs.Extras.{extra_for}
-use Rattle.condition_rows.specs.Looks.{empty_snapshot, HasAllOf, NameHeld}
-use Rattle.condition_rows.specs.Sets.{held, candidates_of}
-use Rattle.window_gate.specs.Standing.{Stands}
-use Rattle.window_gate.specs.Windows.{Arrival, rows_inside}
-use Rattle.pattern_gate.specs.declared.gate.PatternGate.{PatternGate}
-use Rattle.pattern_gate.specs.Gates.{arrival_of, arrivals, GateStands, has_good_window, kind_of}
-use Rattle.pattern_gate.specs.Moves.{IsOrderly}
-use Rattle.pattern_gate.proofs.Arriving.{rising}
+use Rattle.condition_rows.specs.Sets.{held}
 use Rattle.pattern_gate.proofs.Inside.{rows_named}
-use Rattle.condition_node.specs.declared.node.Node.{Node}
-use Rattle.condition_node.specs.Loading.{IsLoad, Laden, node_rows}
-use Rattle.condition_node.specs.Nodes.{condition_of, NodeStands}
-use Rattle.condition_node.proofs.Knowing.{held_known}
-use Rattle.condition_node.proofs.Moved.{node_moves}
-use Rattle.image_laws.specs.Laden.{laden_line}
-use Rattle.image_laws.proofs.Extras.{found_in}
 use Rattle.loading_laws.proofs.Lines.{node_laden, node_shown}
-use Rattle.rete_net.specs.declared.node.NetNode.{NetNode}
-use Rattle.rete_net.specs.Loads.{is_of, IsNodeLoad, NodeLoad}
-use Rattle.rete_net.specs.Standing.{IsFresh}
 use Rattle.rete_net.proofs.Starting.{none_made}
 
 -- ---- facts of one type

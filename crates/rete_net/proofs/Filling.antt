@@ -1,29 +1,6 @@
 -- One node after the other is loaded.
-use Rattle.std.proofs.Common.{◌≡◌, ◌∙◌, sym, ap, refl, subst, inl, inr, ℕ, ◌+◌, ◌<◌, ◌≤◌, arith, true, false, List, Result, Ok, Err, Option, Some, None, slice_get}
-use Rattle.std.specs.Prelude.{IsErrAnd, IsErrOf}
-use Rattle.std.specs.List.{filter}
-use Rattle.std.proofs.Math.ListN.{set, length-set}
-use Rattle.fx_base.specs.Lists.{In}
-use Rattle.fx_base.specs.declared.fact.Fact.{Fact}
-use Rattle.row_delta.specs.declared.delta.Delta.{Delta}
-use Rattle.row_delta.specs.declared.extra.Extra.{Extra}
-use Rattle.row_delta.specs.declared.row.Row.{Row}
-use Rattle.row_delta.specs.Rows.{has, InOrder}
-use Rattle.rule_model.specs.declared.moment.Moment.{Moment}
-use Rattle.rule_model.specs.declared.program.Program.{Program}
-use Rattle.rule_model.proofs.Named.{of_filter}
-use Rattle.rule_model.proofs.Order.{in_filter, passed}
-use Rattle.join_tests.specs.Joins.{Look}
-use Rattle.rete_net.specs.declared.answered.Answered.{Answered}
-use Rattle.rete_net.specs.declared.build.Owner.{Owner}
-use Rattle.rete_net.specs.declared.index.Index.{Index}
-use Rattle.rete_net.specs.declared.node.NetNode.{NetNode}
-use Rattle.rete_net.specs.Answers.{answer_in, given as kept_or, left_given, some_answer, AreRuled, IsPut}
-use Rattle.rete_net.specs.Indexes.{is_listed}
-use Rattle.rete_net.specs.Loads.{is_under, AreLoaded, HasRowsOf, IsStuck, NodeLoad}
-use Rattle.rete_net.specs.Places.{has_place}
-use Rattle.rete_net.specs.Steps.{no_change}
-use Rattle.rete_net.specs.Walks.{IsWired}
+use Rattle.rete_net.proofs.Common.{◌≡◌, ◌∙◌, sym, ap, refl, subst, inl, inr, ℕ, ◌+◌, ◌<◌, ◌≤◌, arith, true, false, List, Result, Ok, Err, Option, Some, None, slice_get, IsErrAnd, IsErrOf, filter, set, length-set, In, Fact, Delta, Extra, Row, has, InOrder, Moment, Program, of_filter, in_filter, passed, Look, Answered, Owner, Index, NetNode, answer_in, left_given, some_answer, AreRuled, IsPut, is_listed, is_under, AreLoaded, HasRowsOf, IsStuck, NodeLoad, has_place, no_change, IsWired}
+use Rattle.rete_net.specs.Answers.{given as kept_or}
 use Rattle.rete_net.proofs.Growing.{both_at}
 use Rattle.rete_net.proofs.Turns.{below_or_at, set_other, set_same}
 use Rattle.rete_net.proofs.Walking.{equal_or_not, not_true}

@@ -1,24 +1,6 @@
 -- A node of the network forgets, out of what the node of its condition answers.
-use Rattle.std.proofs.Common.{◌≡◌, ◌∙◌, sym, ap, refl, subst, ◌&&◌, ◌||◌, not, Bool, true, false, List}
-use Rattle.row_delta.specs.declared.row.Named.{Named}
-use Rattle.row_delta.specs.declared.row.Row.{Row}
-use Rattle.row_delta.specs.Rows.{has, InOrder}
-use Rattle.rule_model.specs.declared.condition.Condition.{Condition}
-use Rattle.rule_model.specs.declared.program.Program.{Program}
-use Rattle.rule_model.specs.Rows.{pattern_of}
-use Rattle.rule_model.specs.Snapshots.{Snapshot}
-use Rattle.rule_model.specs.Tuples.{name_of}
-use Rattle.join_tests.specs.Joins.{Look}
-use Rattle.pair_memory.specs.Standing.{clean, cleaned, either}
-use Rattle.condition_rows.specs.Lines.{line}
-use Rattle.condition_rows.specs.Looks.{HasAllOf}
-use Rattle.condition_rows.specs.Sets.{held}
-use Rattle.pattern_gate.specs.Gates.{GateStands}
+use Rattle.rete_net.proofs.Common.{◌≡◌, ◌∙◌, sym, ap, refl, subst, ◌&&◌, ◌||◌, not, Bool, true, false, List, Named, Row, has, InOrder, Condition, Program, pattern_of, Snapshot, name_of, Look, clean, cleaned, either, line, HasAllOf, held, GateStands, condition_of, NodeStands, NetNode, IsForgetting, NodeForgets, NetNodeStands}
 use Rattle.condition_node.specs.Forgetting.{ForgetsIn}
-use Rattle.condition_node.specs.Nodes.{condition_of, NodeStands}
-use Rattle.rete_net.specs.declared.node.NetNode.{NetNode}
-use Rattle.rete_net.specs.Dropped.{IsForgetting, NodeForgets}
-use Rattle.rete_net.specs.Standing.{NetNodeStands}
 use Rattle.rete_net.proofs.Turning.{MoveLaw, held_has}
 
 neither : (a b : Bool) → (a || b) ≡ false → a ≡ false

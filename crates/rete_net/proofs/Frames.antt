@@ -1,26 +1,6 @@
 -- The shape of a network, which each step of its nodes keeps.
-use Rattle.std.proofs.Common.{◌≡◌, ◌∙◌, sym, ap, subst, ℕ, ◌<◌, arith, Bool, true, List, ◌∷◌, ◌++◌, [], length, Option, Some, slice_get}
-use Rattle.std.proofs.lemmas.Option.{slice_get_within}
-use Rattle.fx_base.specs.declared.fact.Fact.{Fact}
-use Rattle.row_delta.specs.declared.delta.Delta.{Delta}
-use Rattle.row_delta.specs.declared.row.Named.{Named}
-use Rattle.row_delta.specs.declared.row.Row.{Row}
-use Rattle.rule_model.specs.declared.condition.Condition.{Condition}
-use Rattle.rule_model.specs.declared.program.Program.{Program}
-use Rattle.rule_model.specs.Rows.{pattern_of}
-use Rattle.join_tests.specs.Joins.{Look}
-use Rattle.pattern_gate.specs.Gates.{has_good_window}
-use Rattle.condition_node.specs.Nodes.{condition_of}
-use Rattle.rete_net.specs.declared.changes.RuleChange.{RuleChange}
-use Rattle.rete_net.specs.declared.node.NetNode.{NetNode}
-use Rattle.rete_net.specs.Dropped.{ForgotBelow}
-use Rattle.rete_net.specs.Shapes.{before, EndsAt, IsNetOf}
-use Rattle.rete_net.specs.Steps.{NetStep}
-use Rattle.rete_net.specs.Indexes.{is_listed, IsAskedWhereMeant, IsFound, IsIndexOf}
-use Rattle.rete_net.specs.Walks.{IsReplaced, IsWired}
-use Rattle.rete_net.specs.declared.index.Index.{Index}
+use Rattle.rete_net.proofs.Common.{◌≡◌, ◌∙◌, sym, ap, subst, ℕ, ◌<◌, arith, Bool, true, List, ◌∷◌, ◌++◌, [], length, Option, Some, slice_get, slice_get_within, Fact, Delta, Named, Row, Condition, Program, pattern_of, Look, has_good_window, condition_of, RuleChange, NetNode, ForgotBelow, before, EndsAt, IsNetOf, NetStep, is_listed, IsAskedWhereMeant, IsFound, IsIndexOf, IsReplaced, IsWired, Index, Moment}
 use Rattle.rete_net.proofs.Growing.{has_at, both_at}
-use Rattle.rule_model.specs.declared.moment.Moment.{Moment}
 
 pub stepped_nodes : (p : Program) (look : Look) (gone : List Fact) (come : Option Fact) (moment : Moment) (first : Delta) (old new : List NetNode) (ends : List ℕ) (answers : List RuleChange)
     → NetStep p look gone come moment first old new ends answers → IsReplaced old new

@@ -1,27 +1,8 @@
 -- A gate stays as it is until something is due in it, whatever goes and comes that is not meant.
-use Rattle.std.proofs.Common.{◌≡◌, ◌∙◌, sym, ap, refl, subst, ℕ, ℤ, ◌≤ℤ◌, ◌<ℤ◌, ◌-ℤ◌, ◌&&◌, not, ◌||◌, true, false, List, [], map, Option, IfSome}
-use Rattle.std.specs.List.Sorted.{IsStrictlySortedBy}
-use Rattle.std.specs.Ordering.{nat_cmp}
-use Rattle.fx_base.specs.declared.fact.Fact.{Fact}
-use Rattle.row_delta.specs.Rows.{has}
-use Rattle.row_delta.specs.declared.row.Named.{Named}
-use Rattle.rule_model.specs.Candidates.{fits, is_present, is_within}
-use Rattle.rule_model.specs.Snapshots.{Snapshot}
-use Rattle.rule_model.specs.Types.{is_event, expiry_of}
-use Rattle.rule_model.specs.declared.condition.Pattern.{Pattern}
-use Rattle.rule_model.specs.declared.program.Program.{Program}
-use Rattle.pair_memory.specs.Inputs.{row_naming}
-use Rattle.condition_rows.specs.Sets.{candidates_of}
-use Rattle.window_gate.specs.Standing.{Stands}
-use Rattle.window_gate.specs.Windows.{Arrival, rows_inside}
-use Rattle.pattern_gate.specs.Gates.{GateStands, arrival_of, arrivals, kind_of}
-use Rattle.pattern_gate.specs.Moves.{IsOrderly, Moves, at_clock}
-use Rattle.pattern_gate.specs.Turns.{is_meant, is_one_meant}
-use Rattle.pattern_gate.specs.declared.gate.PatternGate.{PatternGate}
-use Rattle.pattern_gate.proofs.Arriving.{filter_among, meant}
+use Rattle.rete_net.proofs.Common.{◌≡◌, ◌∙◌, sym, ap, refl, subst, ℕ, ℤ, ◌≤ℤ◌, ◌<ℤ◌, ◌-ℤ◌, ◌&&◌, not, ◌||◌, true, false, List, [], map, Option, IfSome, IsStrictlySortedBy, nat_cmp, Fact, has, Named, fits, is_within, Snapshot, expiry_of, Pattern, Program, row_naming, candidates_of, Stands, Arrival, rows_inside, GateStands, arrival_of, arrivals, kind_of, IsOrderly, Moves, at_clock, is_meant, is_one_meant, PatternGate, filter_among, meant, same_arrivals, stands_still, IsGateStill}
+use Rattle.rule_model.specs.Candidates.{is_present}
+use Rattle.rule_model.specs.Types.{is_event}
 use Rattle.pattern_gate.proofs.Inside.{rows_named}
-use Rattle.pattern_gate.proofs.Moving.{same_arrivals, stands_still}
-use Rattle.rete_net.specs.Schedules.{IsGateStill}
 
 -- in a program without types each fact is a plain one, and present at any clock
 abbrev plain : Program

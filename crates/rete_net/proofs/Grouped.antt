@@ -1,11 +1,5 @@
 -- Facts by their types.
-use Rattle.std.proofs.Common.{◌≡◌, ◌∙◌, sym, ap, refl, inl, inr, ℕ, zero, suc, ◌==◌, arith, append-nil, cond, Bool, true, false, Bor, List, [], ◌∷◌, ◌++◌, Some, slice_get}
-use Rattle.std.specs.Global.{Vec}
-use Rattle.std.proofs.Math.ListN.{set}
-use Rattle.std.proofs.lemmas.Bool.Decides.{nat_tests}
-use Rattle.fx_base.specs.declared.fact.Fact.{Fact}
-use Rattle.rule_model.specs.Lent.{lent}
-use Rattle.rete_net.specs.Loads.{facts_at, given_facts, is_of}
+use Rattle.rete_net.proofs.Common.{◌≡◌, ◌∙◌, sym, ap, refl, inl, inr, ℕ, zero, suc, ◌==◌, arith, append-nil, cond, Bool, true, false, Bor, List, [], ◌∷◌, ◌++◌, Some, slice_get, Vec, set, nat_tests, Fact, lent, facts_at, given_facts, is_of}
 use Rattle.rete_net.proofs.Searched.{lent_more}
 use Rattle.rete_net.proofs.Turns.{set_other, set_same}
 use Rattle.rete_net.proofs.Walking.{equal_or_not}

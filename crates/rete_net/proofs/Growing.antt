@@ -1,25 +1,6 @@
 -- A network that is being built, with one node more.
-use Rattle.std.proofs.Common.{◌≡◌, ◌∙◌, sym, ap, refl, subst, ℕ, zero, suc, ◌+◌, ◌<◌, ◌≤◌, nat_le, arith, Bool, true, List, [], ◌∷◌, ◌++◌, length, take, get_or, length-append, Option, Some, None, slice_get, ◌⊎◌, inl, inr}
-use Rattle.std.proofs.Math.Seq.{take-append_seam}
-use Rattle.std.proofs.lemmas.Bool.Decides.{nat_tests}
-use Rattle.std.proofs.lemmas.List.{take-append-le, take_more}
-use Rattle.std.proofs.lemmas.Option.{slice_get_within, slice_get-get_or}
-use Rattle.std.specs.List.{list_all}
-use Rattle.std.specs.Option.{unwrap_or}
-use Rattle.fx_base.specs.Lists.{In}
-use Rattle.rule_model.specs.declared.condition.Condition.{Condition}
-use Rattle.rule_model.specs.declared.program.Program.{Program}
-use Rattle.rule_model.specs.declared.program.Rule.{Rule}
-use Rattle.rule_model.specs.Rows.{pattern_of}
-use Rattle.rule_model.proofs.Listed.{both_of}
-use Rattle.pattern_gate.specs.Gates.{has_good_window}
-use Rattle.condition_node.specs.Nodes.{condition_of}
-use Rattle.rete_net.specs.declared.build.Origin.{Origin}
-use Rattle.rete_net.specs.declared.node.NetNode.{NetNode}
-use Rattle.rete_net.specs.Standing.{IsFresh}
-use Rattle.rete_net.specs.Shapes.{IsFront}
-use Rattle.rule_world.specs.Programs.{has_window}
-use Rattle.rete_net.specs.Building.{IsParent, IsBehind, AreBuilt, HaveEnds, AreDistinct, IsFrom, AreGrown}
+use Rattle.rete_net.proofs.Common.{◌≡◌, ◌∙◌, sym, ap, refl, subst, ℕ, zero, suc, ◌+◌, ◌<◌, ◌≤◌, nat_le, arith, Bool, true, List, [], ◌∷◌, ◌++◌, length, take, get_or, length-append, Option, Some, None, slice_get, ◌⊎◌, inl, inr, take-append_seam, nat_tests, take-append-le, take_more, slice_get_within, slice_get-get_or, list_all, unwrap_or, In, Condition, Program, Rule, pattern_of, both_of, has_good_window, condition_of, Origin, NetNode, IsFresh, IsFront, has_window, IsParent, IsBehind, AreBuilt, HaveEnds, AreDistinct, AreGrown}
+use Rattle.rete_net.specs.Building.{IsFrom}
 use Rattle.rete_net.proofs.Turns.{below_or_at}
 
 -- ---- lists with one element more
@@ -79,9 +60,6 @@ module _ (p : Program) (nodes : List NetNode) (all : List (List Condition)) (nod
     windows = each_more nodes node (λ k n. has_good_window p (pattern_of (condition_of n.node)) ≡ true) built.windows window;
     fresh = each_more nodes node (λ k n. IsFresh p n) built.fresh fresh;
   }
-
-  pub parent_here : IsParent (all ++ own ∷ []) (Some (length nodes)) own
-  parent_here = ap (slice_get (all ++ own ∷ [])) built.length ∙ get_seam all own
 
 -- ---- the last node of a rule
 

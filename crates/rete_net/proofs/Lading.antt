@@ -1,28 +1,5 @@
 -- One node after the other is loaded, of which some are members of fans.
-use Rattle.std.proofs.Common.{◌≡◌, ◌∙◌, sym, ap, refl, subst, ℕ, ◌+◌, ◌<◌, ◌≤◌, arith, true, false, List, [], length, Option, Some, None, slice_get}
-use Rattle.std.specs.List.{filter}
-use Rattle.std.proofs.Math.ListN.{set}
-use Rattle.fx_base.specs.Lists.{In}
-use Rattle.fx_base.specs.declared.fact.Fact.{Fact}
-use Rattle.row_delta.specs.declared.delta.Delta.{Delta}
-use Rattle.row_delta.specs.declared.extra.Extra.{Extra}
-use Rattle.row_delta.specs.declared.row.Row.{Row}
-use Rattle.row_delta.specs.Rows.{has, InOrder}
-use Rattle.rule_model.specs.declared.moment.Moment.{Moment}
-use Rattle.rule_model.specs.declared.program.Program.{Program}
-use Rattle.join_tests.specs.Joins.{Look}
-use Rattle.condition_node.specs.Nodes.{condition_of}
-use Rattle.rete_net.specs.declared.answered.Answered.{Answered}
-use Rattle.rete_net.specs.declared.build.Owner.{Owner}
-use Rattle.rete_net.specs.declared.fans.Fans.{Fans}
-use Rattle.rete_net.specs.declared.fans.Seat.{Seat}
-use Rattle.rete_net.specs.declared.index.Index.{Index}
-use Rattle.rete_net.specs.declared.node.NetNode.{NetNode}
-use Rattle.rete_net.specs.Answers.{left_given, some_answer, IsPut}
-use Rattle.rete_net.specs.Fans.{half_at, half_of, member_at, seat_at, showing, with_fans, AreFans, AreRowsTurned, IsHalf, IsLaidAs, IsLeft, IsOf, Member}
-use Rattle.rete_net.specs.Loads.{is_under, AreLoaded, IsStuck, NodeLoad}
-use Rattle.rete_net.specs.Steps.{no_change}
-use Rattle.rete_net.specs.Walks.{IsReplaced, IsWired}
+use Rattle.rete_net.proofs.Common.{◌≡◌, ◌∙◌, sym, ap, refl, subst, ℕ, ◌+◌, ◌<◌, ◌≤◌, arith, true, false, List, [], length, Option, Some, None, slice_get, filter, set, In, Fact, Delta, Extra, Row, has, InOrder, Moment, Program, Look, condition_of, Answered, Owner, Fans, Seat, Index, NetNode, left_given, some_answer, IsPut, half_at, half_of, member_at, seat_at, showing, with_fans, AreFans, AreRowsTurned, IsHalf, IsLaidAs, IsLeft, IsOf, Member, is_under, AreLoaded, IsStuck, NodeLoad, no_change, IsReplaced, IsWired}
 use Rattle.rete_net.proofs.Fanning as fanning
 use Rattle.rete_net.proofs.Fanning.{member_fits}
 use Rattle.rete_net.proofs.Fanwise.{wired_again}

@@ -1,3 +1,4 @@
+mod Common
 mod Turning
 mod Turns
 pub mod Cleaning

@@ -1,9 +1,5 @@
 -- Lists of places by number: what they have stays where more is put.
-use Rattle.std.proofs.Common.{◌≡◌, ◌∙◌, sym, ap, refl, ℕ, zero, suc, arith, ◌||◌, Bool, true, false, List, [], ◌∷◌, ◌++◌, Some, None, slice_get, nat_eq}
-use Rattle.std.proofs.Math.ListN.{set}
-use Rattle.std.specs.Global.{Vec}
-use Rattle.std.specs.List.{list_any}
-use Rattle.rete_net.specs.Indexes.{items_of}
+use Rattle.rete_net.proofs.Common.{◌≡◌, ◌∙◌, sym, ap, refl, ℕ, zero, suc, arith, ◌||◌, Bool, true, false, List, [], ◌∷◌, ◌++◌, Some, None, slice_get, nat_eq, set, Vec, list_any, items_of}
 
 or_on : (a b c : Bool) → (b ≡ true → c ≡ true) → (a || b) ≡ true → (a || c) ≡ true
 or_on true b c h e = refl

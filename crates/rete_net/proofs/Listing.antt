@@ -1,13 +1,5 @@
 -- The rules of which rows are dropped are listed, one after the other.
-use Rattle.std.proofs.Common.{◌≡◌, ◌∙◌, sym, ap, refl, ℕ, suc, ◌+◌, ◌<◌, ◌≤◌, ◌==◌, Bool, true, false, cond, arith, List, [], ◌∷◌, ◌++◌, length, Some, None, slice_get, ◌⊎◌, inl, inr}
-use Rattle.std.proofs.lemmas.Bool.Decides.{nat_tests}
-use Rattle.std.proofs.lemmas.Option.{slice_get_within}
-use Rattle.row_delta.specs.declared.row.Row.{Row}
-use Rattle.rete_net.specs.declared.forgetting.RuleRows.{RuleRows}
-use Rattle.rete_net.specs.Dropped.{rows_for, with_rows, AreListed}
-use Rattle.rete_net.specs.declared.answered.Answered.{Answered}
-use Rattle.rete_net.specs.Answers.{given, answer_in, AreRuled}
-use Rattle.rete_net.specs.Places.{has_place}
+use Rattle.rete_net.proofs.Common.{◌≡◌, ◌∙◌, sym, ap, refl, ℕ, suc, ◌+◌, ◌<◌, ◌≤◌, ◌==◌, Bool, true, false, cond, arith, List, [], ◌∷◌, ◌++◌, length, Some, None, slice_get, ◌⊎◌, inl, inr, nat_tests, slice_get_within, Row, RuleRows, rows_for, with_rows, AreListed, Answered, given, answer_in, AreRuled, has_place}
 use Rattle.rete_net.proofs.Growing.{both_at, each_more}
 use Rattle.rete_net.proofs.Turns.{below_or_at}
 
@@ -43,13 +35,6 @@ rows_absent [] i before = refl
 rows_absent (a ∷ answers) i before =
     let lt : a.place < i = before 0 a refl in
     ap (λ b. cond b a.rows (rows_for answers i)) (other_number a.place i (λ e. absurd (omega arith))) ∙ rows_absent answers i (λ k b e. before (suc k) b e)
-
-pub none_listed : AreListed [] 0
-none_listed = record {
-  within = λ k a e. absurd (let n : None ≡ Some a = e in cc);
-  in_order = λ j k a b h e f. absurd (let n : None ≡ Some a = e in cc);
-  some = λ k a e. absurd (let n : None ≡ Some a = e in cc);
-}
 
 -- of more rules too
 pub listed_far : (answers : List RuleRows) (i j : ℕ) → i ≤ j → AreListed answers i → AreListed answers j

@@ -1,39 +1,9 @@
 -- The rows that the nodes of a network answer as it is loaded.
-use Rattle.std.proofs.Common.{◌≡◌, ◌∙◌, sym, ap, refl, subst, ℕ, zero, suc, ◌<◌, ◌≤◌, nat_lt, arith, Bool, true, false, ◌||◌, List, [], ◌∷◌, ◌++◌, length, take, Option, Some, None, slice_get}
-use mathlib.Core.Path.{fun_ext}
-use Rattle.std.specs.List.{filter}
+use Rattle.rete_net.proofs.Common.{◌≡◌, ◌∙◌, sym, ap, refl, subst, ℕ, zero, suc, ◌<◌, ◌≤◌, nat_lt, arith, Bool, true, false, ◌||◌, List, [], ◌∷◌, ◌++◌, length, take, Option, Some, None, slice_get, fun_ext, filter, eq_by_cmp, nat_tests, length-take-le, Fact, Delta, Extra, Row, has, row_cmp, InOrder, Condition, Moment, Program, Rule, Snapshot, of_filter, Look, extra_for, empty_row, is_empty_row, condition_of, IsFirstWith, extra_at, laden_line, laden_with, Answered, Owner, NetNode, answer_in, left_given, IsLoadable, is_under, AreLoaded, IsNodeLoad, IsOwned, before, IsNetOf, IsFresh, empty_row_comes}
 use Rattle.std.specs.List.Sorted.{IsStrictlySortedBy}
-use Rattle.std.specs.Ordering.{eq_by_cmp}
-use Rattle.std.proofs.lemmas.Bool.Decides.{nat_tests}
-use Rattle.std.proofs.lemmas.List.{length-take-le}
-use Rattle.fx_base.specs.declared.fact.Fact.{Fact}
-use Rattle.row_delta.specs.declared.delta.Delta.{Delta}
-use Rattle.row_delta.specs.declared.extra.Extra.{Extra}
-use Rattle.row_delta.specs.declared.row.Row.{Row}
-use Rattle.row_delta.specs.Rows.{has, row_cmp, InOrder}
-use Rattle.rule_model.specs.declared.condition.Condition.{Condition}
-use Rattle.rule_model.specs.declared.moment.Moment.{Moment}
-use Rattle.rule_model.specs.declared.program.Program.{Program}
-use Rattle.rule_model.specs.declared.program.Rule.{Rule}
-use Rattle.rule_model.specs.Snapshots.{Snapshot}
-use Rattle.rule_model.proofs.Named.{of_filter}
-use Rattle.join_tests.specs.Joins.{Look}
-use Rattle.tally_node.specs.Extras.{extra_for}
-use Rattle.condition_rows.specs.Lines.{empty_row, is_empty_row}
-use Rattle.condition_node.specs.Nodes.{condition_of}
-use Rattle.image_laws.specs.Extras.{IsFirstWith}
-use Rattle.image_laws.specs.Laden.{AreOwners, extra_at, laden, laden_line, laden_with}
+use Rattle.image_laws.specs.Laden.{AreOwners, laden}
 use Rattle.loading_laws.proofs.Naming.{laden_named}
-use Rattle.rete_net.specs.declared.answered.Answered.{Answered}
-use Rattle.rete_net.specs.declared.build.Owner.{Owner}
-use Rattle.rete_net.specs.declared.node.NetNode.{NetNode}
-use Rattle.rete_net.specs.Answers.{answer_in, left_given}
-use Rattle.rete_net.specs.Loading.{IsLoadable}
-use Rattle.rete_net.specs.Loads.{is_under, AreLoaded, IsNodeLoad}
-use Rattle.rete_net.specs.Owners.{AreOwners as HaveOwners, IsOwned}
-use Rattle.rete_net.specs.Shapes.{before, IsNetOf}
-use Rattle.rete_net.specs.Standing.{IsFresh}
-use Rattle.rete_net.specs.Steps.{empty_row_comes}
+use Rattle.rete_net.specs.Owners.{AreOwners as HaveOwners}
 use Rattle.rete_net.proofs.Counting.{longer}
 use Rattle.rete_net.proofs.Growing.{has_at, parted}
 use Rattle.rete_net.proofs.Searched.{extra_of_owner, rows_in_order}

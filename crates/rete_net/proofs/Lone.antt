@@ -1,40 +1,10 @@
 -- A node that a step does not reach stays as it is, and nothing changes in the rows of its condition.
-use Rattle.std.proofs.Common.{◌≡◌, ◌∙◌, sym, ap, refl, subst, ◌||◌, not, Bool, true, false, ℤ, List, map, Option}
-use Rattle.fx_base.specs.declared.fact.Fact.{Fact}
-use Rattle.row_delta.specs.declared.delta.Delta.{Delta}
-use Rattle.row_delta.specs.declared.row.Row.{Row}
-use Rattle.row_delta.specs.Rows.{has}
-use Rattle.row_change.specs.Changes.{changes_nothing}
-use Rattle.rule_model.specs.declared.program.Program.{Program}
-use Rattle.rule_model.specs.declared.moment.Moment.{Moment}
-use Rattle.rule_model.specs.Moments.{IsAt, snapshot_at}
-use Rattle.rule_model.specs.Rows.{pattern_of}
-use Rattle.rule_model.specs.Snapshots.{Snapshot, floor}
+use Rattle.rete_net.proofs.Common.{◌≡◌, ◌∙◌, sym, ap, refl, subst, ◌||◌, not, Bool, true, false, ℤ, List, map, Option, Fact, Delta, Row, has, changes_nothing, Program, Moment, IsAt, snapshot_at, pattern_of, Snapshot, floor, is_whole, Pattern, WindowTag, Whole, Time, Length, Look, Keeps, window_kept, window_of, Arrival, rows_inside, named_of, single, Kept, inside_whole, arrivals, kind_of, is_one_meant, PatternGate, same_arrivals, stands_still, same_candidates, Node, condition_of, is_negated, Stays, TellsNothing, join_still, join_tells_nothing, exists_still, exists_tells_nothing, fold_still, fold_tells_nothing, not_still, not_tells_nothing, NetNode, is_timed, IsLeftAlone, IsStillAt, IsUndue, no_change, NodeStep}
 use Rattle.not_node.specs.declared.node.NotNode.{NotNode}
-use Rattle.rule_model.specs.Simple.{is_whole}
-use Rattle.rule_model.specs.declared.condition.Pattern.{Pattern}
-use Rattle.rule_model.specs.declared.condition.WindowTag.{WindowTag}
-use Rattle.rule_model.specs.declared.condition.WindowTag.TheVariants.{Whole, Time, Length}
-use Rattle.join_tests.specs.Joins.{Look}
-use Rattle.window_gate.specs.Standing.{Keeps, window_kept, window_of}
-use Rattle.window_gate.specs.Windows.{Arrival, rows_inside, named_of, single}
 use Rattle.window_gate.specs.declared.change.WindowKind.{WindowKind}
-use Rattle.window_gate.specs.declared.gate.Kept.{Kept}
 use Rattle.window_gate.specs.declared.gate.Kept.TheVariants as kept
-use Rattle.window_gate.proofs.Insides.{inside_whole}
-use Rattle.pattern_gate.specs.Gates.{arrivals, kind_of}
-use Rattle.pattern_gate.specs.Turns.{is_one_meant}
-use Rattle.pattern_gate.specs.declared.gate.PatternGate.{PatternGate}
-use Rattle.pattern_gate.proofs.Moving.{same_arrivals, stands_still, same_candidates}
-use Rattle.condition_node.specs.declared.node.Node.{Node}
 use Rattle.condition_node.specs.declared.node.Node.TheVariants as node
-use Rattle.condition_node.specs.Nodes.{condition_of, is_negated}
-use Rattle.condition_node.proofs.Still.{Stays, TellsNothing, join_still, join_tells_nothing, exists_still, exists_tells_nothing, fold_still, fold_tells_nothing, not_still, not_tells_nothing}
 use Rattle.condition_node.proofs.Turning.{floor_told}
-use Rattle.rete_net.specs.declared.node.NetNode.{NetNode}
-use Rattle.rete_net.specs.Indexes.{is_timed}
-use Rattle.rete_net.specs.Schedules.{IsLeftAlone, IsStillAt, IsUndue}
-use Rattle.rete_net.specs.Steps.{no_change, NodeStep}
 use Rattle.rete_net.proofs.Skipping.{GateStays, skipped}
 
 pub neither_left : (a b : Bool) → (a || b) ≡ false → a ≡ false

@@ -1,21 +1,7 @@
 -- The owners of nodes, as a network is built.
-use Rattle.std.proofs.Common.{◌≡◌, ◌∙◌, ◌⊎◌, inl, inr, sym, ap, refl, subst, ℕ, zero, suc, ◌+◌, ◌<◌, ◌≤◌, arith, List, [], ◌∷◌, ◌++◌, length, take, length-append, Some, None, slice_get}
-use Rattle.std.specs.declared.cmp.Ordering.{Ordering}
-use Rattle.std.specs.declared.cmp.Ordering.TheVariants.{Less}
-use Rattle.std.specs.List.{AllByRecursion}
+use Rattle.rete_net.proofs.Common.{◌≡◌, ◌∙◌, ◌⊎◌, inl, inr, sym, ap, refl, subst, ℕ, zero, suc, ◌+◌, ◌<◌, ◌≤◌, arith, List, [], ◌∷◌, ◌++◌, length, take, length-append, Some, None, slice_get, Ordering, Less, AllByRecursion, nat_cmp, ordering_then, nat_tests, slice_get_within, Vec, In, Condition, Program, Rule, of_append, Owner, IsOwned, AreOwners, owner_cmp, AreOwnedSoFar, PutsOwner}
 use Rattle.std.specs.List.Sorted.{IsStrictlySortedBy}
-use Rattle.std.specs.Ordering.{nat_cmp, ordering_then}
-use Rattle.std.proofs.lemmas.Bool.Decides.{nat_tests}
 use Rattle.std.proofs.lemmas.List.{append-nil}
-use Rattle.std.proofs.lemmas.Option.{slice_get_within}
-use Rattle.std.specs.Global.{Vec}
-use Rattle.fx_base.specs.Lists.{In}
-use Rattle.rule_model.specs.declared.condition.Condition.{Condition}
-use Rattle.rule_model.specs.declared.program.Program.{Program}
-use Rattle.rule_model.specs.declared.program.Rule.{Rule}
-use Rattle.rule_model.proofs.Listed.{of_append}
-use Rattle.rete_net.specs.declared.build.Owner.{Owner}
-use Rattle.rete_net.specs.Owners.{IsOwned, AreOwners, owner_cmp, AreOwnedSoFar, PutsOwner}
 use Rattle.rete_net.proofs.Growing.{each_more, get_left, get_seam}
 use Rattle.rete_net.proofs.Turns.{below_or_at}
 

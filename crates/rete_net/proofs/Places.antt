@@ -1,17 +1,9 @@
 -- Sets of places: what is put, and which comes first.
-use Rattle.std.proofs.Common.{◌≡◌, ◌∙◌, sym, ap, refl, subst, ℕ, ◌+◌, ◌<◌, ◌≤◌, ◌==◌, ◌||◌, Bool, true, false, cond, List, [], ◌∷◌, take, length, get_or, arith, nat_eq, slice_get}
+use Rattle.rete_net.proofs.Common.{◌≡◌, ◌∙◌, sym, ap, refl, subst, ℕ, ◌+◌, ◌<◌, ◌≤◌, ◌==◌, ◌||◌, Bool, true, false, cond, List, [], ◌∷◌, take, length, get_or, arith, nat_eq, slice_get, list_any, nat_cmp, eq_by_cmp, is_gt, or-true, or-false, nat_tests, Decides-eqb, Index, AreDue, is_in, is_listed, items_of, has_place}
 use Rattle.std.specs.Prelude.{IfSome}
-use Rattle.std.specs.List.{list_any}
-use Rattle.std.specs.Ordering.{nat_cmp, eq_by_cmp, is_gt}
 use Rattle.std.specs.declared.ops.Bound.TheVariants.{Included, Unbounded}
 use Rattle.std.specs.BTreeSet.{BTreeSet, IsKeyRangeOf}
-use Rattle.std.proofs.Math.Bool.{or-true, or-false}
-use Rattle.std.proofs.lemmas.Bool.Decides.{nat_tests, Decides-eqb}
 use Rattle.std.proofs.lemmas.List.Folds.{list_any_more}
-use Rattle.rete_net.specs.declared.index.Index.{Index}
-use Rattle.rete_net.specs.Dropped.{AreDue}
-use Rattle.rete_net.specs.Indexes.{is_in, is_listed, items_of}
-use Rattle.rete_net.specs.Places.{has_place}
 
 tie : (a b : ℕ) → eq_by_cmp nat_cmp a b ≡ (b == a)
 tie a b = grind (arith, nat_tests)
@@ -37,12 +29,6 @@ put_stays place k old now is was = by (eq_by_cmp nat_cmp place k) is
     by : (t : Bool) → now ≡ cond t true old → now ≡ true
     by true e = e
     by false e = e ∙ was
-
-pub put_there : (place : ℕ) (old now : Bool) → now ≡ cond (eq_by_cmp nat_cmp place place) true old → now ≡ true
-put_there place old now is = is ∙ ap (λ t. cond t true old) (tie place place ∙ same place)
-  where
-    same : (n : ℕ) → (n == n) ≡ true
-    same n = grind (arith, nat_tests)
 
 module _ (set : BTreeSet ℕ) (from : ℕ) where
   abbrev pub From : List ℕ → Type 0

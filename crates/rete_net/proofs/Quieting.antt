@@ -1,42 +1,11 @@
 -- How long the nodes of a network are quiet, and the network with them.
-use Rattle.std.proofs.Common.{◌≡◌, ◌∙◌, sym, ap, refl, subst, ℕ, zero, suc, ℤ, pos, ◌<◌, ◌≤ℤ◌, ◌<ℤ◌, ◌^◌, arith, Bool, List, length, get_or, Option, Some, None, slice_get, IfSome, true, false, not}
-use mathlib.Core.Path.{fun_ext}
-use Rattle.std.specs.Int.Signed.{≤ℤ_refl}
-use Rattle.std.proofs.lemmas.Option.{slice_get_within, slice_get-get_or}
-use Rattle.row_delta.specs.declared.row.Named.{Named}
-use Rattle.row_delta.specs.declared.row.Row.{Row}
-use Rattle.rule_model.specs.declared.condition.Condition.{Condition}
-use Rattle.rule_model.specs.declared.condition.Pattern.{Pattern}
-use Rattle.rule_model.specs.declared.program.Program.{Program}
-use Rattle.rule_model.specs.Rows.{pattern_of}
-use Rattle.rule_model.specs.Snapshots.{Snapshot}
-use Rattle.pair_memory.specs.Standing.{cleaned}
-use Rattle.condition_rows.specs.Lines.{line}
-use Rattle.condition_rows.specs.Sets.{held, candidates_of, rows_of}
-use Rattle.pattern_gate.specs.Gates.{GateStands, arrivals}
-use Rattle.pattern_gate.specs.Moves.{IsOrderly, at_clock}
-use Rattle.condition_node.specs.Nodes.{condition_of, is_negated}
-use Rattle.condition_node.specs.Quiet.{IsBefore, IsQuiet}
-use Rattle.rete_net.specs.Fans.{shown_nodes}
-use Rattle.rete_net.specs.declared.net.Rete.{Rete}
-use Rattle.rete_net.specs.declared.node.NetNode.{NetNode}
-use Rattle.rete_net.specs.Nets.{HaveSame, NodesStand, NetStands}
-use Rattle.rete_net.specs.Quiet.{StaysAt, IsNodeQuiet, AreQuiet}
-use Rattle.rete_net.specs.Shapes.{before}
+use Rattle.rete_net.proofs.Common.{◌≡◌, ◌∙◌, sym, ap, refl, subst, ℕ, zero, suc, ℤ, pos, ◌<◌, ◌≤ℤ◌, ◌<ℤ◌, ◌^◌, arith, Bool, List, length, get_or, Option, Some, None, slice_get, IfSome, true, false, not, fun_ext, ≤ℤ_refl, slice_get_within, slice_get-get_or, Named, Row, Condition, Pattern, Program, pattern_of, Snapshot, cleaned, line, held, candidates_of, rows_of, GateStands, arrivals, IsOrderly, at_clock, condition_of, is_negated, IsBefore, IsQuiet, shown_nodes, Rete, NetNode, HaveSame, NodesStand, NetStands, StaysAt, IsNodeQuiet, AreQuiet, before, is_whole, PatternGate, arrivals_still, same_candidates, Node, join_quiet, exists_quiet, fold_quiet, is_timed, AreScheduled, IsScheduled, Schedule}
 use Rattle.rete_net.proofs.Advancing.{same_first, rows_made}
 use Rattle.rete_net.proofs.Chaining.{AreMade}
 use Rattle.rete_net.proofs.Cleaning.{line_cleaned}
 use Rattle.rete_net.proofs.Turning.{held_has, rising}
 use Rattle.rete_net.proofs.Lone.{inside_still, neither_left, neither_right}
-use Rattle.rule_model.specs.Simple.{is_whole}
-use Rattle.pattern_gate.specs.declared.gate.PatternGate.{PatternGate}
-use Rattle.pattern_gate.proofs.Moving.{arrivals_still, same_candidates}
-use Rattle.condition_node.specs.declared.node.Node.{Node}
 use Rattle.condition_node.specs.declared.node.Node.TheVariants as node
-use Rattle.condition_node.proofs.Quietness.{join_quiet, exists_quiet, fold_quiet}
-use Rattle.rete_net.specs.Indexes.{is_timed}
-use Rattle.rete_net.specs.Schedules.{AreScheduled, IsScheduled}
-use Rattle.rete_net.specs.declared.schedule.Schedule.{Schedule}
 
 -- ---- one node
 
@@ -87,14 +56,6 @@ untimed_quiet p n until untimed s rows forgotten clock stands named kept kept_no
     }
 
 -- ---- all nodes
-
--- until the least moment of the schedule all nodes are quiet
-pub all_quiet : (p : Program) (nodes : List NetNode) (schedule : Schedule) (first : Option ℤ) → AreScheduled p nodes schedule → ((k : ℕ) (n : NetNode) → IsScheduled p schedule k n → IsNodeQuiet p n first) → AreQuiet p nodes first
-all_quiet p nodes schedule first scheduled told k n e = by (is_timed n) refl
-  where
-    by : (t : Bool) → is_timed n ≡ t → IsNodeQuiet p n first
-    by true timed = told k n (scheduled k n e timed)
-    by false untimed = untimed_quiet p n first untimed
 
 module _ (p : Program) (net : Rete) (s : Snapshot) (forgotten : Named → Bool) (nodes : NodesStand p net s forgotten) (kept : IsOrderly p s) (begun : pos 0 ≤ℤ s.clock) (quiet : AreQuiet p (shown_nodes net) net.quiet_until) where
   module _ (clock : ℤ) (later : s.clock ≤ℤ clock) (low : clock <ℤ pos (2 ^ 63)) (before_due : IsBefore net.quiet_until clock) (kept_now : IsOrderly p (at_clock s clock)) where

@@ -1,65 +1,15 @@
 -- For which snapshot a network stands that was loaded.
-use Rattle.std.proofs.Common.{◌≡◌, ◌∙◌, ◌⊎◌, inl, inr, sym, ap, refl, subst, ℕ, suc, pos, ◌≤ℤ◌, ◌<◌, ◌≤◌, ◌==◌, nat_lt, cond, arith, Bool, true, false, List, [], ◌∷◌, length, take, Option, Some, None, slice_get}
-use Rattle.std.proofs.lemmas.Bool.Decides.{nat_tests}
-use Rattle.std.proofs.lemmas.List.{length-take-le}
-use Rattle.std.proofs.lemmas.Option.{slice_get_within}
-use Rattle.std.specs.List.{filter, find}
-use Rattle.fx_base.specs.Lists.{In}
-use Rattle.fx_base.specs.declared.fact.Fact.{Fact}
-use Rattle.fx_base.specs.declared.ids.Tag.{Tag}
-use Rattle.row_delta.specs.declared.delta.Delta.{Delta}
-use Rattle.row_delta.specs.declared.extra.Extra.{Extra}
-use Rattle.row_delta.specs.declared.row.Named.{Named}
-use Rattle.rule_model.specs.declared.condition.Condition.{Condition}
-use Rattle.rule_model.specs.declared.condition.WindowTag.{WindowTag}
+use Rattle.rete_net.proofs.Common.{◌≡◌, ◌∙◌, ◌⊎◌, inl, inr, sym, ap, refl, subst, ℕ, suc, pos, ◌≤ℤ◌, ◌<◌, ◌≤◌, ◌==◌, nat_lt, cond, arith, Bool, true, false, List, [], ◌∷◌, length, take, Option, Some, None, slice_get, nat_tests, length-take-le, slice_get_within, filter, find, In, Fact, Tag, Delta, Extra, Named, Condition, WindowTag, Moment, Program, Rule, HaveDistinctTags, pattern_of, Snapshot, name_of, same_floor, in_place, Look, cleaned, no_names, extra_for, HasAllOf, rows_of, held_fact, held_in, rows_named, GateStands, rising, IsLost, IsResumed, lost_partners, values_gathered, condition_of, held_known, node_moves, IsFirstWith, count_of, extra_at, laden, values_of, extra_count, extra_values, AreFans, shown_nodes, Answered, Owner, Rete, NetNode, left_given, IsLoadable, IsIndexOf, is_under, AreLoaded, IsNodeLoad, NetStands, IsOwned, AreQuiet, AreScheduled, before, IsNetOf, IsFresh, NetNodeStands, empty_row_comes, IsReplaced}
 use Rattle.rule_model.specs.declared.condition.WindowTag.TheVariants as tag
-use Rattle.rule_model.specs.declared.moment.Moment.{Moment}
-use Rattle.rule_model.specs.declared.program.Program.{Program}
-use Rattle.rule_model.specs.declared.program.Rule.{Rule}
-use Rattle.rule_model.specs.Distinct.{HaveDistinctTags}
-use Rattle.rule_model.specs.Rows.{pattern_of}
-use Rattle.rule_model.specs.Snapshots.{Snapshot}
-use Rattle.rule_model.specs.Tuples.{name_of}
-use Rattle.rule_model.proofs.Floors.{same_floor}
-use Rattle.rule_model.proofs.RuleOf.{in_place}
-use Rattle.join_tests.specs.Joins.{Look}
-use Rattle.pair_memory.specs.Standing.{cleaned, no_names}
-use Rattle.tally_node.specs.Extras.{extra_for}
-use Rattle.condition_rows.specs.Looks.{HasAllOf}
-use Rattle.condition_rows.specs.Sets.{held, rows_of}
-use Rattle.condition_rows.proofs.Holding.{held_fact, held_in}
-use Rattle.condition_rows.proofs.Naming.{rows_named}
-use Rattle.pattern_gate.specs.Gates.{GateStands}
-use Rattle.pattern_gate.proofs.Arriving.{rising}
-use Rattle.condition_node.specs.Loading.{IsLost, IsResumed, lost_partners, values_gathered}
-use Rattle.condition_node.specs.Nodes.{condition_of}
-use Rattle.condition_node.proofs.Knowing.{held_known}
-use Rattle.condition_node.proofs.Moved.{node_moves}
+use Rattle.condition_rows.specs.Sets.{held}
 use Rattle.condition_node.proofs.Resuming.{resumes_law}
-use Rattle.image_laws.specs.Extras.{IsFirstWith}
-use Rattle.image_laws.specs.Laden.{AreOwners, count_of, extra_at, laden, values_of}
-use Rattle.image_laws.proofs.Extras.{extra_count, extra_values}
+use Rattle.image_laws.specs.Laden.{AreOwners}
 use Rattle.image_laws.proofs.Kept.{candidates_kept, known}
 use Rattle.image_laws.proofs.Rows.{laden_rows}
 use Rattle.loading_laws.specs.Gates.{IsAside, HasInFront}
 use Rattle.loading_laws.proofs.Gates.{gate_of_all}
-use Rattle.rete_net.specs.Fans.{AreFans, shown_nodes}
-use Rattle.rete_net.specs.declared.answered.Answered.{Answered}
-use Rattle.rete_net.specs.declared.build.Owner.{Owner}
-use Rattle.rete_net.specs.declared.net.Rete.{Rete}
-use Rattle.rete_net.specs.declared.node.NetNode.{NetNode}
-use Rattle.rete_net.specs.Answers.{left_given}
-use Rattle.rete_net.specs.Loading.{IsBehind, IsLoadable}
-use Rattle.rete_net.specs.Indexes.{IsIndexOf}
-use Rattle.rete_net.specs.Loads.{is_under, AreLoaded, IsNodeLoad}
-use Rattle.rete_net.specs.Nets.{NetStands}
-use Rattle.rete_net.specs.Owners.{AreOwners as HaveOwners, IsOwned}
-use Rattle.rete_net.specs.Quiet.{AreQuiet}
-use Rattle.rete_net.specs.Schedules.{AreScheduled}
-use Rattle.rete_net.specs.Shapes.{before, IsNetOf}
-use Rattle.rete_net.specs.Standing.{IsFresh, NetNodeStands}
-use Rattle.rete_net.specs.Steps.{empty_row_comes}
-use Rattle.rete_net.specs.Walks.{IsReplaced}
+use Rattle.rete_net.specs.Loading.{IsBehind}
+use Rattle.rete_net.specs.Owners.{AreOwners as HaveOwners}
 use Rattle.rete_net.proofs.Counted.{fronts_within}
 use Rattle.rete_net.proofs.Counting.{aside_of}
 use Rattle.rete_net.proofs.Frames.{index_again, net_again}

@@ -1,21 +1,6 @@
 -- The schedule of the nodes, as one of them is put anew.
-use Rattle.std.proofs.Common.{◌≡◌, ◌∙◌, sym, ap, refl, subst, ℕ, ℤ, ◌+ℤ◌, ◌≤ℤ◌, pos, List, Option, Some, None, true, false, slice_get, inl, inr, arith, int_lt}
-use Rattle.std.proofs.Math.ListN.{set}
-use Rattle.std.proofs.lemmas.Int.{ints}
-use Rattle.row_delta.specs.declared.row.Row.{Row}
-use Rattle.rule_model.specs.declared.moment.Moment.{Moment}
-use Rattle.rule_model.specs.declared.program.Program.{Program}
-use Rattle.rule_model.specs.Moments.{snapshot_at}
-use Rattle.rule_model.specs.Snapshots.{floor}
+use Rattle.rete_net.proofs.Common.{◌≡◌, ◌∙◌, sym, ap, refl, subst, ℕ, ℤ, ◌+ℤ◌, ◌≤ℤ◌, pos, List, Option, Some, None, true, false, slice_get, inl, inr, arith, int_lt, set, ints, Row, Moment, Program, snapshot_at, floor, IsBefore, NetNode, EntryTimers, Schedule, is_timed, IsNodeQuiet, entry_of, AreScheduled, IsScheduled, IsUndue, IsFrom, IsSet}
 use Rattle.not_node.specs.Waiting as waiting
-use Rattle.condition_node.specs.Quiet.{IsBefore}
-use Rattle.rete_net.specs.declared.node.NetNode.{NetNode}
-use Rattle.rete_net.specs.declared.schedule.EntryTimers.{EntryTimers}
-use Rattle.rete_net.specs.declared.schedule.Schedule.{Schedule}
-use Rattle.rete_net.specs.Indexes.{is_timed}
-use Rattle.rete_net.specs.Quiet.{IsNodeQuiet}
-use Rattle.rete_net.specs.Schedules.{entry_of, AreScheduled, IsScheduled, IsUndue}
-use Rattle.rete_net.specs.Timers.{IsFrom, IsSet}
 use Rattle.rete_net.proofs.Growing.{both_at}
 use Rattle.rete_net.proofs.Quieting.{node_quieter}
 use Rattle.rete_net.proofs.Turns.{set_other, set_same}

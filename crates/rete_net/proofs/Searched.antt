@@ -1,29 +1,8 @@
 -- The extras under an owner, of extras in their order, and rows that are in order.
-use Rattle.std.proofs.Common.{◌≡◌, ◌∙◌, ◌⊎◌, ◌&&◌, ◌||◌, sym, ap, refl, inl, inr, ℕ, zero, suc, ◌+◌, ◌<◌, ◌≤◌, ◌==◌, add-one, nat_lt, is_lt, arith, cond, get_or, length, take, drop, Bool, true, false, List, [], ◌∷◌, ◌++◌, Bor, Some, slice_get}
-use Rattle.std.specs.declared.cmp.Ordering.{Ordering}
-use Rattle.std.specs.declared.cmp.Ordering.TheVariants.{Less, Equal, Greater}
-use Rattle.std.specs.List.{AllByRecursion, filter, find}
-use Rattle.std.specs.List.Sorted.{IsNonDecreasingBy, IsPartitionPoint, IsSortedBy, IsStrictlySortedBy}
-use Rattle.std.specs.Ordering.{eq_by_cmp, is_eq, nat_cmp, ordering_index, ordering_reverse, ordering_then}
+use Rattle.rete_net.proofs.Common.{◌≡◌, ◌∙◌, ◌⊎◌, ◌&&◌, ◌||◌, sym, ap, refl, inl, inr, ℕ, zero, suc, ◌+◌, ◌<◌, ◌≤◌, ◌==◌, add-one, nat_lt, is_lt, arith, cond, get_or, length, take, drop, Bool, true, false, List, [], ◌∷◌, ◌++◌, Bor, Some, slice_get, Ordering, Less, Equal, Greater, AllByRecursion, filter, find, IsNonDecreasingBy, IsPartitionPoint, IsSortedBy, eq_by_cmp, is_eq, nat_cmp, ordering_index, ordering_reverse, ordering_then, nat_tests, fun_ext, and_assoc, take_more, In, Fact, Extra, Row, row_exact, row_total, same_equiv, has, InOrder, row_cmp, has_in, in_has, extra_for, rows_of_extras, extra_cmp, extra_at, Owner, comes_before, is_under, lent}
+use Rattle.std.specs.List.Sorted.{IsStrictlySortedBy}
 use Rattle.std.proofs.lemmas.List.Sorted.{searchable_from_sorted}
-use Rattle.std.proofs.lemmas.Bool.Decides.{nat_tests}
-use mathlib.Core.Path.{fun_ext}
-use Rattle.std.proofs.Math.Bool.{and_assoc}
-use Rattle.std.proofs.lemmas.List.{take_more}
-use Rattle.fx_base.specs.Lists.{In}
-use Rattle.fx_base.specs.declared.fact.Fact.{Fact}
-use Rattle.row_delta.specs.declared.extra.Extra.{Extra}
-use Rattle.row_delta.specs.declared.row.Row.{Row}
-use Rattle.row_delta.specs.RowOrder.{row_exact, row_total, same_equiv}
-use Rattle.row_delta.specs.Rows.{has, InOrder, row_cmp}
-use Rattle.condition_rows.proofs.Ends.{has_in, in_has}
-use Rattle.tally_node.specs.Extras.{extra_for, rows_of_extras}
-use Rattle.image_laws.specs.Extras.{extra_cmp}
-use Rattle.image_laws.specs.Laden.{extra_at}
-use Rattle.rete_net.specs.declared.build.Owner.{Owner}
-use Rattle.rete_net.specs.Loads.{comes_before, is_under}
 use Rattle.rete_net.proofs.Counting.{sorted_at}
-use Rattle.rule_model.specs.Lent.{lent}
 
 -- ---- a search for an owner
 

@@ -1,39 +1,9 @@
 -- Fans that are built: of the next parent there is one more, or one has a member more; and nodes that are members keep nothing.
-use Rattle.std.proofs.Common.{◌≡◌, ◌∙◌, sym, ap, refl, subst, ℕ, zero, suc, ◌+◌, ◌<◌, ◌≤◌, arith, List, [], ◌∷◌, ◌++◌, length, length-append, take, Option, Some, None, slice_get, ◌⊎◌, inl, inr, Bool, true}
-use mathlib.Core.Path.{fun_ext}
-use Rattle.std.proofs.Math.ListN.{set, length-set}
-use Rattle.std.proofs.lemmas.Option.{slice_get_within}
-use Rattle.std.specs.Option.{option_map}
-use Rattle.row_delta.specs.declared.row.Named.{Named}
-use Rattle.rule_model.specs.declared.condition.Condition.{Condition}
-use Rattle.rule_model.specs.declared.condition.Condition.TheVariants.{Plain}
-use Rattle.rule_model.specs.declared.condition.Pattern.{Pattern}
-use Rattle.rule_model.specs.declared.program.Program.{Program}
-use Rattle.rule_model.specs.Rows.{pattern_of}
-use Rattle.pair_memory.specs.declared.candidates.Candidates.{Candidates}
-use Rattle.pair_memory.specs.Apart.{beside}
-use Rattle.pair_memory.specs.Standing.{no_names, no_rows, StandsFor}
+use Rattle.rete_net.proofs.Common.{◌≡◌, ◌∙◌, sym, ap, refl, subst, ℕ, zero, suc, ◌+◌, ◌<◌, ◌≤◌, arith, List, [], ◌∷◌, ◌++◌, length, length-append, take, Option, Some, None, slice_get, ◌⊎◌, inl, inr, Bool, true, fun_ext, set, length-set, slice_get_within, option_map, Named, Condition, Plain, Pattern, Program, pattern_of, Candidates, beside, no_names, no_rows, StandsFor, Look, AreBeside, IsEmpty, empty_snapshot, held, GateStands, has_good_window, Node, condition_of, NodeStands, no_candidates, Fan, Fans, Seat, Span, NetNode, AreBuilt, IsBehind, IsParent, given_seat, in_fan, member_at, member_of, seat_at, showing, with_fans, with_member, AreEmpty, AreFans, IsInSpan, IsSeat, Member, AreGrowing, GrowsTo, IsFanPut, IsNewFan, IsFresh}
 use Rattle.join_tests.specs.declared.row_key.RowKey.{RowKey}
-use Rattle.join_tests.specs.Joins.{Look}
-use Rattle.fan_join.specs.Fans.{AreBeside, IsEmpty}
 use Rattle.fan_join.proofs.Places.{seam_or_before, get_front}
 use Rattle.fan_join.proofs.Whole.{empty_law}
-use Rattle.condition_rows.specs.Looks.{empty_snapshot}
-use Rattle.condition_rows.specs.Sets.{held}
-use Rattle.pattern_gate.specs.Gates.{GateStands, has_good_window}
-use Rattle.condition_node.specs.declared.node.Node.{Node}
 use Rattle.condition_node.specs.declared.node.Node.TheVariants as node
-use Rattle.condition_node.specs.Nodes.{condition_of, NodeStands}
-use Rattle.condition_node.proofs.Moved.{no_candidates}
-use Rattle.rete_net.specs.declared.fans.Fan.{Fan}
-use Rattle.rete_net.specs.declared.fans.Fans.{Fans}
-use Rattle.rete_net.specs.declared.fans.Seat.{Seat}
-use Rattle.rete_net.specs.declared.fans.Span.{Span}
-use Rattle.rete_net.specs.declared.node.NetNode.{NetNode}
-use Rattle.rete_net.specs.Building.{AreBuilt, IsBehind, IsParent}
-use Rattle.rete_net.specs.Fans.{given_seat, in_fan, member_at, member_of, seat_at, showing, with_fans, with_member, AreEmpty, AreFans, IsInSpan, IsSeat, Member}
-use Rattle.rete_net.specs.Seating.{AreGrowing, GrowsTo, IsFanPut, IsNewFan}
-use Rattle.rete_net.specs.Standing.{IsFresh}
 use Rattle.rete_net.proofs.Growing.{both_at, get_left, get_seam, has_at}
 use Rattle.rete_net.proofs.Showing.{condition_shown, parent_shown, shown_from, shown_length}
 use Rattle.rete_net.proofs.Siblings.{own_join, shows_join}

@@ -1,37 +1,6 @@
 -- A network that stands for a snapshot, over the clock that its nodes have seen.
-use Rattle.std.proofs.Common.{◌≡◌, ◌∙◌, sym, ap, refl, subst, ℕ, ℤ, pos, negsuc, ◌<◌, ◌≤ℤ◌, ◌<ℤ◌, ◌^◌, arith, Bool, List, length, Option, Some, None, slice_get, SFits, w64}
-use Rattle.std.specs.Int.Signed.{≤ℤ_refl}
-use Rattle.std.proofs.lemmas.Int.{ints}
-use Rattle.std.proofs.lemmas.Option.{slice_get_within}
-use Rattle.fx_base.specs.declared.fact.Fact.{Fact}
-use Rattle.row_delta.specs.declared.row.Named.{Named}
-use Rattle.row_delta.specs.declared.row.Row.{Row}
-use Rattle.row_delta.specs.Rows.{has}
-use Rattle.rule_model.specs.declared.condition.Condition.{Condition}
-use Rattle.rule_model.specs.declared.program.Program.{Program}
-use Rattle.rule_model.specs.declared.program.Rule.{Rule}
-use Rattle.rule_model.specs.Rows.{rows}
-use Rattle.rule_model.specs.Snapshots.{Snapshot, floor}
-use Rattle.join_tests.specs.Joins.{Look}
-use Rattle.pair_memory.specs.Standing.{cleaned, no_names}
-use Rattle.condition_rows.specs.Looks.{HasAllOf}
-use Rattle.condition_rows.specs.Sets.{held, rows_of}
-use Rattle.rule_world.specs.Programs.{IsRunnable}
-use Rattle.pattern_gate.specs.Moves.{IsOrderly, Moves, at_clock}
-use Rattle.condition_node.specs.Nodes.{condition_of}
-use Rattle.condition_node.specs.Quiet.{IsBefore}
-use Rattle.rete_net.specs.Fans.{AreFans, shown_nodes}
-use Rattle.rete_net.specs.declared.changes.RuleChange.{RuleChange}
-use Rattle.rete_net.specs.declared.net.Rete.{Rete}
-use Rattle.rete_net.specs.declared.node.NetNode.{NetNode}
-use Rattle.rete_net.specs.Forgetting.{AreNotNeeded}
-use Rattle.rete_net.specs.Indexes.{IsIndexOf}
-use Rattle.rete_net.specs.Owners.{AreOwners}
-use Rattle.rete_net.specs.Nets.{HaveSame, NodesStand, NetStands, clean_rows, AreBetween}
-use Rattle.rete_net.specs.Quiet.{AreQuiet}
-use Rattle.rete_net.specs.Steps.{no_change, NetStep}
-use Rattle.rete_net.specs.Schedules.{AreScheduled}
-use Rattle.rete_net.specs.Shapes.{before, IsFront}
+use Rattle.rete_net.proofs.Common.{◌≡◌, ◌∙◌, sym, ap, refl, subst, ℕ, ℤ, pos, negsuc, ◌<◌, ◌≤ℤ◌, ◌<ℤ◌, ◌^◌, arith, Bool, List, length, Option, Some, None, slice_get, SFits, w64, ≤ℤ_refl, ints, slice_get_within, Fact, Named, Row, has, Condition, Program, Rule, rows, Snapshot, floor, Look, cleaned, no_names, HasAllOf, rows_of, IsRunnable, IsOrderly, Moves, at_clock, condition_of, IsBefore, AreFans, shown_nodes, RuleChange, Rete, NetNode, AreNotNeeded, IsIndexOf, AreOwners, HaveSame, NodesStand, NetStands, clean_rows, AreBetween, AreQuiet, no_change, NetStep, AreScheduled, before, IsFront, Moment, IsAt, floor_on}
+use Rattle.condition_rows.specs.Sets.{held}
 use Rattle.rete_net.proofs.Advancing.{rows_made, same_first, first_stays, stands_now, between_now}
 use Rattle.rete_net.proofs.Answering.{few_ends}
 use Rattle.rete_net.proofs.Beside.{both_held, both_known, both_known_now, stays_beside}
@@ -40,9 +9,6 @@ use Rattle.rete_net.proofs.Cleaning.{has_clean}
 use Rattle.rete_net.proofs.Growing.{has_at}
 use Rattle.rete_net.proofs.Quieting.{seen_now}
 use Rattle.rete_net.proofs.Turning.{rising}
-use Rattle.rule_model.specs.declared.moment.Moment.{Moment}
-use Rattle.rule_model.specs.Moments.{IsAt}
-use Rattle.rule_model.proofs.Floors.{floor_on}
 
 onward : (a b c : ℤ) → a ≤ℤ b → b ≤ℤ c → a ≤ℤ c
 onward a b c h k = omega (arith, ints, h, k)

@@ -1,40 +1,8 @@
 -- What a network answers as it is loaded, and which extras have their rows.
-use Rattle.std.proofs.Common.{◌≡◌, ◌∙◌, sym, ap, refl, subst, inl, inr, ℕ, zero, suc, ◌<◌, ◌==◌, ◌&&◌, ◌^◌, zero-add, arith, cond, Bool, true, false, List, [], ◌∷◌, ◌++◌, length, length-append, take, Option, Some, None, slice_get}
-use Rattle.std.specs.Prelude.{slice_index_or, map}
-use Rattle.std.specs.List.Sorted.{IsStrictlySortedBy}
-use Rattle.std.specs.Ordering.{nat_cmp}
-use Rattle.std.proofs.Math.Seq.{get_or-append_seam}
-use Rattle.std.proofs.lemmas.Bool.Decides.{nat_tests}
-use Rattle.std.proofs.lemmas.List.{get_or_append_left, take_all}
-use Rattle.std.proofs.lemmas.Option.{slice_get_within}
-use Rattle.fx_base.specs.Lists.{In}
-use Rattle.fx_base.specs.declared.fact.Fact.{Fact}
-use Rattle.row_delta.specs.declared.delta.Delta.{Delta}
-use Rattle.row_delta.specs.declared.extra.Extra.{Extra}
-use Rattle.row_delta.specs.declared.row.Row.{Row}
-use Rattle.row_delta.specs.Rows.{has}
-use Rattle.row_change.specs.Changes.{are_none, changes_nothing}
-use Rattle.rule_model.specs.declared.condition.Condition.{Condition}
-use Rattle.rule_model.specs.declared.moment.Moment.{Moment}
-use Rattle.rule_model.specs.declared.program.Program.{Program}
-use Rattle.rule_model.specs.declared.program.Rule.{Rule}
-use Rattle.rule_model.specs.Snapshots.{Snapshot}
-use Rattle.rule_model.proofs.Listed.{both_of}
-use Rattle.join_tests.specs.Joins.{Look}
-use Rattle.image_laws.specs.Extras.{IsFirstWith}
+use Rattle.rete_net.proofs.Common.{◌≡◌, ◌∙◌, sym, ap, refl, subst, inl, inr, ℕ, zero, suc, ◌<◌, ◌==◌, ◌&&◌, ◌^◌, zero-add, arith, cond, Bool, true, false, List, [], ◌∷◌, ◌++◌, length, length-append, take, Option, Some, None, slice_get, slice_index_or, IsStrictlySortedBy, nat_cmp, get_or-append_seam, nat_tests, get_or_append_left, take_all, slice_get_within, In, Fact, Delta, Extra, Row, has, are_none, changes_nothing, Condition, Moment, Program, Rule, Snapshot, both_of, Look, IsFirstWith, Answered, Owner, RuleChange, NetNode, answer_in, AreRuled, coming, AreLadenRows, IsLoadable, IsThere, AreLoaded, IsStuck, change_of, IsOwned, IsNetOf, IsFresh, changes_from, delta_at, empty_row_comes, no_change}
+use Rattle.std.specs.Prelude.{map}
 use Rattle.image_laws.specs.Laden.{AreOwners}
-use Rattle.rete_net.specs.declared.answered.Answered.{Answered}
-use Rattle.rete_net.specs.declared.build.Owner.{Owner}
-use Rattle.rete_net.specs.declared.changes.RuleChange.{RuleChange}
-use Rattle.rete_net.specs.declared.node.NetNode.{NetNode}
-use Rattle.rete_net.specs.Answers.{answer_in, AreRuled}
-use Rattle.rete_net.specs.Loading.{coming, AreLadenRows, IsLoadable, IsThere}
-use Rattle.rete_net.specs.Loads.{AreLoaded, IsStuck}
-use Rattle.rete_net.specs.Nets.{change_of}
-use Rattle.rete_net.specs.Owners.{AreOwners as HaveOwners, IsOwned}
-use Rattle.rete_net.specs.Shapes.{IsNetOf}
-use Rattle.rete_net.specs.Standing.{IsFresh}
-use Rattle.rete_net.specs.Steps.{changes_from, delta_at, empty_row_comes, no_change}
+use Rattle.rete_net.specs.Owners.{AreOwners as HaveOwners}
 use Rattle.rete_net.proofs.Answering.{found_change, few_ends, in_order as changes_in_order, past_change}
 use Rattle.rete_net.proofs.Counted.{fronts_within}
 use Rattle.rete_net.proofs.Growing.{both_at, has_at}

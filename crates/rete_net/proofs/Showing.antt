@@ -1,34 +1,6 @@
 -- Nodes with what they keep as members of fans: they stand where they stood, for the same conditions.
-use Rattle.std.proofs.Common.{◌≡◌, ◌∙◌, sym, ap, refl, subst, ℕ, zero, suc, ℤ, ◌≤ℤ◌, ◌<ℤ◌, ◌^◌, pos, ◌++◌, ◌||◌, not, Bool, true, false, List, [], ◌∷◌, length, Option, Some, None, slice_get}
-use Rattle.std.specs.Int.Signed.{≤ℤ_refl}
-use Rattle.std.specs.List.{filter}
-use Rattle.fx_base.specs.declared.fact.Fact.{Fact}
-use Rattle.row_delta.specs.declared.delta.Delta.{Delta}
-use Rattle.rule_model.specs.declared.moment.Moment.{Moment}
-use Rattle.rule_model.specs.declared.program.Program.{Program}
-use Rattle.rule_model.specs.declared.condition.Condition.{Condition}
-use Rattle.rule_model.specs.Moments.{snapshot_at}
-use Rattle.rule_model.specs.Rows.{pattern_of}
-use Rattle.rule_model.specs.Simple.{is_whole}
-use Rattle.rule_model.specs.Snapshots.{Snapshot, floor}
-use Rattle.rule_model.proofs.Floors.{floor_on}
-use Rattle.condition_rows.specs.Sets.{held}
-use Rattle.pattern_gate.specs.Moves.{IsOrderly, Moves, at_clock, shares_tag}
-use Rattle.pattern_gate.specs.declared.gate.PatternGate.{PatternGate}
-use Rattle.pattern_gate.specs.Turns.{is_one_meant}
-use Rattle.beta_join.specs.declared.join.BetaJoin.{BetaJoin}
-use Rattle.condition_node.specs.declared.node.Node.{Node}
+use Rattle.rete_net.proofs.Common.{◌≡◌, ◌∙◌, sym, ap, refl, subst, ℕ, zero, suc, ℤ, ◌≤ℤ◌, ◌<ℤ◌, ◌^◌, pos, ◌++◌, ◌||◌, not, Bool, true, false, List, [], ◌∷◌, length, Option, Some, None, slice_get, ≤ℤ_refl, filter, Fact, Delta, Moment, Program, Condition, snapshot_at, pattern_of, is_whole, Snapshot, floor, floor_on, held, IsOrderly, Moves, at_clock, shares_tag, PatternGate, is_one_meant, BetaJoin, Node, condition_of, is_negated, IsBefore, join_quiet, NetNode, Schedule, Member, shown, showing, with_member, is_timed, AreQuiet, IsNodeQuiet, AreScheduled, IsGateStill, IsLeftAlone, IsScheduled, IsStillAt, IsReplaced}
 use Rattle.condition_node.specs.declared.node.Node.TheVariants as node
-use Rattle.condition_node.specs.Nodes.{condition_of, is_negated}
-use Rattle.condition_node.specs.Quiet.{IsBefore}
-use Rattle.condition_node.proofs.Quietness.{join_quiet}
-use Rattle.rete_net.specs.declared.node.NetNode.{NetNode}
-use Rattle.rete_net.specs.declared.schedule.Schedule.{Schedule}
-use Rattle.rete_net.specs.Fans.{Member, shown, showing, with_member}
-use Rattle.rete_net.specs.Indexes.{is_timed}
-use Rattle.rete_net.specs.Quiet.{AreQuiet, IsNodeQuiet}
-use Rattle.rete_net.specs.Schedules.{AreScheduled, IsGateStill, IsLeftAlone, IsScheduled, IsStillAt}
-use Rattle.rete_net.specs.Walks.{IsReplaced}
 use Rattle.rete_net.proofs.Growing.{both_at}
 use Rattle.rete_net.proofs.Quieting.{untimed_quiet}
 use Rattle.rete_net.proofs.Turning.{held_has, rising}
@@ -78,10 +50,6 @@ condition_shown (Some m) n = condition_with m n.node
 pub parent_shown : (o : Option Member) (n : NetNode) → (showing o n).parent ≡ n.parent
 parent_shown None n = refl
 parent_shown (Some m) n = refl
-
-pub gate_shown : (o : Option Member) (n : NetNode) → (showing o n).gate ≡ n.gate
-gate_shown None n = refl
-gate_shown (Some m) n = refl
 
 -- ---- all nodes
 

@@ -1,63 +1,14 @@
 -- What a node does as a member of a fan, out of both halves of a step.
-use Rattle.std.proofs.Common.{◌≡◌, ◌∙◌, sym, ap, refl, subst, ℕ, ℤ, ◌&&◌, ◌||◌, not, Bool, true, false, List, [], ◌∷◌, map, Option, Some, None, slice_get}
-use Rattle.std.specs.List.{filter}
-use Rattle.std.specs.Ordering.{eq_by_cmp}
-use Rattle.std.specs.Option.{is_some, IfSome}
+use Rattle.rete_net.proofs.Common.{◌≡◌, ◌∙◌, sym, ap, refl, subst, ℕ, ℤ, ◌&&◌, ◌||◌, not, Bool, true, false, List, [], ◌∷◌, map, Option, Some, None, slice_get, filter, eq_by_cmp, is_some, In, RuleId, rows_of_extras, AreExtrasBeside, same_from_decides, Fact, Extra, Delta, Named, Row, name_cmp, has, row_cmp, InOrder, IsDifference, changes_nothing, Condition, Plain, Negated, Existing, Folded, Pattern, Moment, Program, IsAt, pattern_of, Snapshot, Look, Candidates, beside, row_naming, IsNameDifference, IsStepped, has_name, has_left, has_right, made, no_names, row_decides, name_decides, BetaJoin, AreNamesTurned, candidates_of, GateStands, has_good_window, nothing_differs, IsOrderly, Moves, PatternGate, Node, condition_of, node_moves, NetNode, NodeForgets, Fan, Fans, Seat, half_at, half_of, member_at, member_of, seat_at, showing, with_member, AreNamesTurnedAt, IsHalf, IsHalfTurned, IsLeft, IsOf, Member, type_of, is_of, NodeLoad, no_change, NodeStep}
+use Rattle.std.specs.Option.{IfSome}
 use Rattle.std.specs.List.Sorted.{IsStrictlySortedBy}
-use Rattle.fx_base.specs.Lists.{In}
-use Rattle.fx_base.specs.declared.ids.RuleId.{RuleId}
-use Rattle.tally_node.specs.Extras.{rows_of_extras}
-use Rattle.condition_node.specs.Loading.{AreExtrasBeside}
-use Rattle.std.proofs.lemmas.Bool.Decides.{same_from_decides}
-use Rattle.fx_base.specs.declared.fact.Fact.{Fact}
-use Rattle.row_delta.specs.declared.extra.Extra.{Extra}
-use Rattle.row_delta.specs.declared.delta.Delta.{Delta}
-use Rattle.row_delta.specs.declared.row.Named.{Named}
-use Rattle.row_delta.specs.declared.row.Row.{Row}
-use Rattle.row_delta.specs.NameOrder.{name_cmp}
-use Rattle.row_delta.specs.Rows.{has, row_cmp, InOrder}
-use Rattle.row_change.specs.Changes.{IsDifference, changes_nothing}
-use Rattle.rule_model.specs.declared.condition.Condition.{Condition}
-use Rattle.rule_model.specs.declared.condition.Condition.TheVariants.{Plain, Negated, Existing, Folded}
-use Rattle.rule_model.specs.declared.condition.Pattern.{Pattern}
-use Rattle.rule_model.specs.declared.moment.Moment.{Moment}
-use Rattle.rule_model.specs.declared.program.Program.{Program}
-use Rattle.rule_model.specs.Moments.{IsAt}
-use Rattle.rule_model.specs.Rows.{pattern_of}
-use Rattle.rule_model.specs.Snapshots.{Snapshot}
-use Rattle.join_tests.specs.Joins.{Look}
-use Rattle.pair_memory.specs.declared.candidates.Candidates.{Candidates}
 use Rattle.pair_memory.specs.declared.left_rows.LeftRows.{LeftRows}
-use Rattle.pair_memory.specs.Apart.{beside}
-use Rattle.pair_memory.specs.Inputs.{row_naming, IsNameDifference, IsStepped}
-use Rattle.pair_memory.specs.Joined.{has_name}
-use Rattle.pair_memory.specs.Memories.{has_left, has_right, made, Keeps}
-use Rattle.pair_memory.specs.Standing.{no_names}
-use Rattle.pair_memory.proofs.Joining.{row_decides, name_decides}
+use Rattle.pair_memory.specs.Memories.{Keeps}
 use Rattle.pair_memory.proofs.Turning.{keeps_then}
-use Rattle.beta_join.specs.declared.join.BetaJoin.{BetaJoin}
-use Rattle.fan_join.specs.Turns.{AreNamesTurned}
-use Rattle.condition_rows.specs.Sets.{candidates_of}
-use Rattle.pattern_gate.specs.Gates.{GateStands, has_good_window}
-use Rattle.pattern_gate.proofs.Moving.{nothing_differs}
-use Rattle.pattern_gate.specs.Moves.{IsOrderly, Moves}
-use Rattle.pattern_gate.specs.declared.gate.PatternGate.{PatternGate}
-use Rattle.condition_node.specs.declared.node.Node.{Node}
 use Rattle.condition_node.specs.declared.node.Node.TheVariants as node
-use Rattle.condition_node.specs.Nodes.{condition_of}
 use Rattle.condition_node.proofs.Forgetting.{join_forgot}
 use Rattle.condition_node.proofs.Loading.{join_loads}
-use Rattle.condition_node.proofs.Moved.{node_moves}
 use Rattle.condition_node.proofs.Telling.{join_turns, join_tells}
-use Rattle.rete_net.specs.declared.node.NetNode.{NetNode}
-use Rattle.rete_net.specs.Dropped.{NodeForgets}
-use Rattle.rete_net.specs.declared.fans.Fan.{Fan}
-use Rattle.rete_net.specs.declared.fans.Fans.{Fans}
-use Rattle.rete_net.specs.declared.fans.Seat.{Seat}
-use Rattle.rete_net.specs.Fans.{half_at, half_of, member_at, member_of, seat_at, showing, with_member, AreNamesTurnedAt, IsHalf, IsHalfTurned, IsLeft, IsOf, Member}
-use Rattle.rete_net.specs.Indexes.{type_of}
-use Rattle.rete_net.specs.Loads.{is_of, NodeLoad}
-use Rattle.rete_net.specs.Steps.{no_change, NodeStep}
 use Rattle.rete_net.proofs.Filled.{loads_node}
 use Rattle.rete_net.proofs.Forgets.{node_forgets}
 use Rattle.rete_net.proofs.Showing.{condition_shown}

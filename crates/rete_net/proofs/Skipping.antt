@@ -1,31 +1,7 @@
 -- A step in which nothing reaches a node: it stays as it is, and nothing changes in the rows of its condition.
-use Rattle.std.proofs.Common.{◌≡◌, sym, refl, subst, ℤ, ◌&&◌, not, Bool, true, false, List, Option}
-use mathlib.Core.Path.{fun_ext}
+use Rattle.rete_net.proofs.Common.{◌≡◌, sym, refl, subst, ℤ, ◌&&◌, not, Bool, true, false, List, Option, fun_ext, Fact, Delta, Named, Row, IsDifference, changes_nothing, Pattern, Program, pattern_of, Snapshot, Look, cleaned, line, candidates_of, GateStands, Moves, nothing_differs, PatternGate, condition_of, node_moves, Stays, TellsNothing, NetNode, no_change, NodeStep, Moment}
 use Rattle.std.specs.List.Sorted.{IsStrictlySortedBy}
-use Rattle.fx_base.specs.declared.fact.Fact.{Fact}
-use Rattle.row_delta.specs.declared.delta.Delta.{Delta}
-use Rattle.row_delta.specs.declared.row.Named.{Named}
-use Rattle.row_delta.specs.declared.row.Row.{Row}
-use Rattle.row_change.specs.Changes.{IsDifference, changes_nothing}
-use Rattle.rule_model.specs.declared.condition.Pattern.{Pattern}
-use Rattle.rule_model.specs.declared.program.Program.{Program}
-use Rattle.rule_model.specs.Rows.{pattern_of}
-use Rattle.rule_model.specs.Snapshots.{Snapshot}
-use Rattle.join_tests.specs.Joins.{Look}
-use Rattle.pair_memory.specs.Standing.{cleaned}
-use Rattle.condition_rows.specs.Lines.{line}
-use Rattle.condition_rows.specs.Sets.{candidates_of}
-use Rattle.pattern_gate.specs.Gates.{GateStands}
-use Rattle.pattern_gate.specs.Moves.{Moves}
-use Rattle.pattern_gate.proofs.Moving.{nothing_differs}
-use Rattle.pattern_gate.specs.declared.gate.PatternGate.{PatternGate}
-use Rattle.condition_node.specs.Nodes.{condition_of}
-use Rattle.condition_node.proofs.Moved.{node_moves}
-use Rattle.condition_node.proofs.Still.{Stays, TellsNothing}
-use Rattle.rete_net.specs.declared.node.NetNode.{NetNode}
-use Rattle.rete_net.specs.Steps.{no_change, NodeStep}
 use Rattle.rete_net.proofs.Turning.{node_step}
-use Rattle.rule_model.specs.declared.moment.Moment.{Moment}
 
 unmoved : (b : Bool) → false ≡ (b && not b)
 unmoved true = refl

@@ -1,41 +1,8 @@
 -- A node whose rows and candidates name no old fact forgets without a change.
-use Rattle.std.proofs.Common.{◌≡◌, ◌∙◌, sym, ap, refl, ℤ, ◌==◌, ◌&&◌, ◌||◌, not, Bool, true, false, [], Option, Some, None}
-use mathlib.Core.Path.{fun_ext}
+use Rattle.rete_net.proofs.Common.{◌≡◌, ◌∙◌, sym, ap, refl, ℤ, ◌==◌, ◌&&◌, ◌||◌, not, Bool, true, false, [], Option, Some, None, fun_ext, Decides-eqb, Named, Row, InOrder, Condition, Plain, Negated, Existing, Folded, Pattern, Program, is_candidate, is_present, is_inside, pattern_of, Snapshot, tests_hold, name_of, unbound, both_of, of_filter, passed, Look, joins, Memories, clean, cleaned, either, remembered, StandsFor, joined, unvalued, splits_value, from_unvalued, joined_clean, gives, is_ripe, line, held, candidates_of, has_partner, held_fact, candidate_of, Node, counts_blockers, counts_witnesses, gathers, condition_of, Counts, NodeStands, NetNode, HasNoOld, IsForgetting, NodeForgets}
 use Rattle.std.specs.List.Sorted.{IsStrictlySortedBy}
-use Rattle.std.proofs.lemmas.Bool.Decides.{Decides-eqb}
-use Rattle.row_delta.specs.declared.row.Named.{Named}
-use Rattle.row_delta.specs.declared.row.Row.{Row}
-use Rattle.row_delta.specs.Rows.{InOrder}
-use Rattle.rule_model.specs.declared.condition.Condition.{Condition}
-use Rattle.rule_model.specs.declared.condition.Condition.TheVariants.{Plain, Negated, Existing, Folded}
-use Rattle.rule_model.specs.declared.condition.Pattern.{Pattern}
-use Rattle.rule_model.specs.declared.program.Program.{Program}
-use Rattle.rule_model.specs.Candidates.{is_candidate, is_present, is_inside}
-use Rattle.rule_model.specs.Rows.{pattern_of}
-use Rattle.rule_model.specs.Snapshots.{Snapshot}
-use Rattle.rule_model.specs.Tests.{tests_hold}
-use Rattle.rule_model.specs.Tuples.{name_of, unbound}
-use Rattle.rule_model.proofs.Listed.{both_of}
-use Rattle.rule_model.proofs.Named.{of_filter}
-use Rattle.rule_model.proofs.Order.{passed}
-use Rattle.join_tests.specs.Joins.{Look, joins}
-use Rattle.pair_memory.specs.declared.memories.Memories.{Memories}
-use Rattle.pair_memory.specs.Standing.{clean, cleaned, either, remembered, StandsFor}
-use Rattle.pair_memory.specs.Joined.{joined}
-use Rattle.pair_memory.specs.Valued.{unvalued, splits_value, valued}
-use Rattle.pair_memory.proofs.Valued.{from_unvalued}
-use Rattle.pair_memory.proofs.Worlds.{joined_clean}
-use Rattle.condition_rows.specs.Lines.{gives, is_ripe, line}
-use Rattle.condition_rows.specs.Sets.{held, candidates_of, has_partner}
-use Rattle.condition_rows.proofs.Holding.{held_fact}
-use Rattle.condition_rows.proofs.Joined.{candidate_of}
-use Rattle.condition_node.specs.declared.node.Node.{Node}
+use Rattle.pair_memory.specs.Valued.{valued}
 use Rattle.condition_node.specs.declared.node.Node.TheVariants as node
-use Rattle.tally_node.specs.Counts.{counts_blockers, counts_witnesses}
-use Rattle.tally_node.specs.Gathers.{gathers}
-use Rattle.condition_node.specs.Nodes.{condition_of, Counts, NodeStands}
-use Rattle.rete_net.specs.declared.node.NetNode.{NetNode}
-use Rattle.rete_net.specs.Dropped.{HasNoOld, IsForgetting, NodeForgets}
 use Rattle.rete_net.proofs.Cleaning.{cleaned_either}
 
 not_true : (b : Bool) → (b ≡ true → ⊥) → b ≡ false

@@ -1,48 +1,9 @@
 -- The first step of a network, over no facts: the empty row comes.
-use Rattle.std.proofs.Common.{◌≡◌, ◌∙◌, sym, ap, refl, subst, inl, inr, ℕ, ℤ, pos, ◌≤ℤ◌, ◌<◌, arith, ◌&&◌, not, Bool, true, false, List, [], ◌∷◌, ◌++◌, length, take, get_or, Option, Some, None, slice_get}
-use mathlib.Core.Path.{fun_ext}
+use Rattle.rete_net.proofs.Common.{◌≡◌, ◌∙◌, sym, ap, refl, subst, inl, inr, ℕ, ℤ, pos, ◌≤ℤ◌, ◌<◌, arith, ◌&&◌, not, Bool, true, false, List, [], ◌∷◌, ◌++◌, length, take, get_or, Option, Some, None, slice_get, fun_ext, In, ≤ℤ_refl, get_or-take, length-take, slice_get_within, get_or_from_slice_get, slice_get-get_or, Named, Row, has, Leads, Condition, Plain, Negated, Existing, Folded, Pattern, Program, Rule, rows, Snapshot, floor, both_of, Look, joins, splits, unjoined, clean, cleaned, no_rows, no_names, splits_value, unvalued, rows_of, empty_row, line, gives, empty_snapshot, HasAllOf, has_in, rows_named, IsOrderly, condition_of, IsRunnable, AreFans, shown_nodes, RuleChange, Rete, NetNode, IsIndexOf, NodesStand, NetStands, AreBetween, CountsNone, AreOwners, AreOwnedSoFar, AreQuiet, AreScheduled, before, EndsAt, IsFront, IsNetOf, StandOnce, empty_row_comes, NetStep, IsParent, AreBuilt, HaveEnds, AreFronts, AreDistinct, IsAt, Moment}
 use Rattle.std.specs.List.Sorted.{IsStrictlySortedBy}
-use Rattle.fx_base.specs.Lists.{In}
-use Rattle.std.specs.Int.Signed.{≤ℤ_refl}
-use Rattle.std.proofs.lemmas.List.{get_or-take, length-take}
-use Rattle.std.proofs.lemmas.Option.{slice_get_within, get_or_from_slice_get, slice_get-get_or}
-use Rattle.row_delta.specs.declared.row.Named.{Named}
-use Rattle.row_delta.specs.declared.row.Row.{Row}
-use Rattle.row_delta.specs.Rows.{has}
-use Rattle.row_change.specs.Changes.{Leads}
-use Rattle.rule_model.specs.declared.condition.Condition.{Condition}
-use Rattle.rule_model.specs.declared.condition.Condition.TheVariants.{Plain, Negated, Existing, Folded}
-use Rattle.rule_model.specs.declared.condition.Pattern.{Pattern}
-use Rattle.rule_model.specs.declared.program.Program.{Program}
-use Rattle.rule_model.specs.declared.program.Rule.{Rule}
-use Rattle.rule_model.specs.Rows.{rows}
-use Rattle.rule_model.specs.Snapshots.{Snapshot, floor}
-use Rattle.rule_model.proofs.Listed.{both_of}
-use Rattle.join_tests.specs.Joins.{Look, joins}
-use Rattle.pair_memory.specs.Joined.{splits, joined, unjoined}
-use Rattle.pair_memory.specs.Standing.{clean, cleaned, no_rows, no_names}
-use Rattle.pair_memory.specs.Valued.{splits_value, unvalued, valued}
-use Rattle.condition_rows.specs.Sets.{held, candidates_of, rows_of}
-use Rattle.condition_rows.specs.Lines.{empty_row, line, gives}
-use Rattle.condition_rows.specs.Looks.{empty_snapshot, HasAllOf}
-use Rattle.condition_rows.proofs.Ends.{has_in}
-use Rattle.condition_rows.proofs.Naming.{rows_named}
-use Rattle.pattern_gate.specs.Moves.{IsOrderly}
-use Rattle.condition_node.specs.Nodes.{condition_of}
-use Rattle.rule_world.specs.Programs.{IsRunnable}
-use Rattle.rete_net.specs.Fans.{AreFans, shown_nodes}
-use Rattle.rete_net.specs.declared.changes.RuleChange.{RuleChange}
-use Rattle.rete_net.specs.declared.net.Rete.{Rete}
-use Rattle.rete_net.specs.declared.node.NetNode.{NetNode}
-use Rattle.rete_net.specs.Indexes.{IsIndexOf}
-use Rattle.rete_net.specs.Nets.{NodesStand, NetStands, AreBetween}
-use Rattle.rete_net.specs.Forgetting.{CountsNone}
-use Rattle.rete_net.specs.Owners.{AreOwners, AreOwnedSoFar}
-use Rattle.rete_net.specs.Quiet.{AreQuiet}
-use Rattle.rete_net.specs.Schedules.{AreScheduled}
-use Rattle.rete_net.specs.Shapes.{before, EndsAt, IsFront, IsNetOf, StandOnce}
-use Rattle.rete_net.specs.Steps.{empty_row_comes, NetStep}
-use Rattle.rete_net.specs.Building.{IsParent, AreBuilt, HaveEnds, AreFronts, AreDistinct}
+use Rattle.pair_memory.specs.Joined.{joined}
+use Rattle.pair_memory.specs.Valued.{valued}
+use Rattle.condition_rows.specs.Sets.{held, candidates_of}
 use Rattle.rete_net.proofs.Advancing.{first_row, shape_now, stands_now, between_now}
 use Rattle.rete_net.proofs.Answering.{few_ends}
 use Rattle.rete_net.proofs.Beside.{stay_of}
@@ -50,8 +11,6 @@ use Rattle.rete_net.proofs.Chaining.{AreMade, IsGiven, AreStanding, StaysBeside}
 use Rattle.rete_net.proofs.Cleaning.{all_clean}
 use Rattle.rete_net.proofs.Growing.{has_at}
 use Rattle.rete_net.proofs.Quieting.{seen_now}
-use Rattle.rule_model.specs.Moments.{IsAt}
-use Rattle.rule_model.specs.declared.moment.Moment.{Moment}
 
 -- ---- conditions make nothing of no rows
 

@@ -1,29 +1,8 @@
 -- The walk over the nodes of a network, by the steps of nodes.
-use Rattle.std.proofs.Common.{◌≡◌, refl, [], ◌∷◌, ◌+◌, ◌<◌, ◌≤◌, ℕ, true, false, List, Option, None, Some, length, slice_get}
-use Rattle.std.proofs.Math.ListN.{set}
-use Rattle.fx_base.specs.declared.fact.Fact.{Fact}
-use Rattle.row_delta.specs.declared.delta.Delta.{Delta}
-use Rattle.rule_model.specs.declared.program.Program.{Program}
-use Rattle.rule_model.specs.declared.moment.Moment.{Moment}
-use Rattle.join_tests.specs.Joins.{Look}
-use Rattle.rete_net.specs.declared.index.Index.{Index}
-use Rattle.rete_net.specs.declared.node.NetNode.{NetNode}
-use Rattle.rete_net.specs.declared.answered.Answered.{Answered}
-use Rattle.rete_net.specs.Answers.{left_given, some_answer, IsPut}
-use Rattle.rete_net.specs.declared.fans.Fans.{Fans}
-use Rattle.rete_net.specs.declared.fans.Seat.{Seat}
-use Rattle.rete_net.specs.Fans.{half_at, half_of, member_at, seat_at, showing, with_fans, AreFans, AreRowsTurned, IsHalf, IsLaidAs, IsLeft, IsOf, Member}
-use Rattle.rete_net.specs.Indexes.{IsFound}
-use Rattle.rete_net.specs.Schedules.{IsLeftAlone}
-use Rattle.rete_net.specs.Places.{has_place}
-use Rattle.row_change.specs.Changes.{changes_nothing}
-use Rattle.row_delta.specs.declared.row.Row.{Row}
-use Rattle.rete_net.specs.Steps.{no_change, left_delta, NodeStep}
-use Rattle.rete_net.specs.Walks.{HasAnswered, IsReplaced, IsWired}
+use Rattle.rete_net.proofs.Common.{◌≡◌, refl, [], ◌∷◌, ◌+◌, ◌<◌, ◌≤◌, ℕ, true, false, List, Option, None, Some, length, slice_get, set, Fact, Delta, Program, Moment, Look, Index, NetNode, Answered, left_given, some_answer, IsPut, Fans, Seat, half_at, half_of, member_at, seat_at, showing, with_fans, AreFans, AreRowsTurned, IsHalf, IsLaidAs, IsLeft, IsOf, Member, IsFound, IsLeftAlone, has_place, changes_nothing, Row, no_change, left_delta, NodeStep, HasAnswered, IsReplaced, IsWired, condition_of}
 use Rattle.rete_net.proofs.Lone.{alone_stays}
 use Rattle.rete_net.proofs.Showing.{alone_shown}
 use Rattle.rete_net.proofs.Fanwise as fanwise
-use Rattle.condition_node.specs.Nodes.{condition_of}
 
 -- a difference without a row is nothing
 nothing_is : (d : Delta) → changes_nothing d ≡ true → d ≡ no_change

@@ -1,14 +1,6 @@
 -- The changes of rules, rule by rule; those that are passed over have none.
-use Rattle.std.proofs.Common.{◌≡◌, ◌∙◌, sym, ap, subst, ℕ, zero, suc, ◌+◌, ◌-◌, ◌<◌, ◌≤◌, Bool, true, false, cond, List, [], ◌∷◌, ◌++◌, drop, length, arith, append-nil, append_assoc, None, Some, slice_get, ◌⊎◌, inl, inr}
-use Rattle.fx_base.specs.Lists.{In}
-use Rattle.row_delta.specs.declared.delta.Delta.{Delta}
-use Rattle.row_change.specs.Changes.{changes_nothing}
-use Rattle.rete_net.specs.declared.changes.RuleChange.{RuleChange}
-use Rattle.rete_net.specs.declared.answered.Answered.{Answered}
-use Rattle.rete_net.specs.Answers.{given, answer_in, AreRuled}
-use Rattle.rete_net.specs.Places.{has_place}
-use Rattle.rete_net.specs.Steps.{no_change, change_at, changes_from, delta_at}
-use Rattle.std.proofs.Math.ListN.{drop_of_length-le}
+use Rattle.rete_net.proofs.Common.{◌≡◌, ◌∙◌, sym, ap, subst, ℕ, zero, suc, ◌+◌, ◌-◌, ◌<◌, ◌≤◌, Bool, true, false, cond, List, [], ◌∷◌, ◌++◌, drop, length, arith, append-nil, None, Some, slice_get, ◌⊎◌, inl, inr, In, Delta, changes_nothing, RuleChange, Answered, given, answer_in, AreRuled, has_place, no_change, change_at, changes_from, delta_at, drop_of_length-le}
+use Rattle.std.proofs.Common.{append_assoc}
 use Rattle.rete_net.proofs.Growing.{has_at}
 
 -- what is left from a place on begins with what stands there

@@ -1,19 +1,9 @@
 -- Places that wait for moments: what is put, and which are in front.
-use Rattle.std.proofs.Common.{◌≡◌, ◌∙◌, sym, ap, refl, subst, ℕ, ℤ, ◌≤ℤ◌, ◌<ℤ◌, List, [], ◌∷◌, map as list_map, take, suc, ◌+◌, Bool, true, false, cond, ◌||◌, Option, Some, None, int_lt, arith}
-use Rattle.std.specs.Prelude.{take_while, nat_eq}
-use Rattle.std.specs.declared.cmp.Ordering.{Ordering}
-use Rattle.std.specs.declared.cmp.Ordering.TheVariants.{Less, Equal, Greater}
-use Rattle.std.specs.Ordering.{nat_cmp, int_cmp, ordering_then, eq_by_cmp, is_eq, is_gt}
-use Rattle.std.specs.List.{list_any, prefix_len, AllByRecursion}
+use Rattle.rete_net.proofs.Common.{◌≡◌, ◌∙◌, sym, ap, refl, subst, ℕ, ℤ, ◌≤ℤ◌, ◌<ℤ◌, List, [], ◌∷◌, take, suc, ◌+◌, Bool, true, false, cond, ◌||◌, Option, Some, None, int_lt, arith, take_while, Ordering, Less, Equal, Greater, nat_cmp, int_cmp, ordering_then, eq_by_cmp, is_eq, is_gt, list_any, prefix_len, AllByRecursion, nat_tests, Decides-eqb, IsTotalOrder, ints, IsBefore, is_in, pair_cmp, IsFrom, IsSet, Timers}
+use Rattle.std.proofs.Common.{map as list_map}
+use Rattle.std.specs.Prelude.{nat_eq}
 use Rattle.std.specs.List.Sorted.{IsStrictlySortedBy}
-use Rattle.std.proofs.lemmas.Bool.Decides.{nat_tests, Decides-eqb}
 use Rattle.std.proofs.lemmas.Cmp.{on_total, then_total, nat_cmp_total, int_cmp_total, eq_by_cmp_equiv}
-use Rattle.std.specs.Cmp.{IsTotalOrder}
-use Rattle.std.proofs.lemmas.Int.{ints}
-use Rattle.condition_node.specs.Quiet.{IsBefore}
-use Rattle.rete_net.specs.Indexes.{is_in}
-use Rattle.rete_net.specs.Timers.{pair_cmp, IsFrom, IsSet}
-use Rattle.rete_net.specs.declared.timers.Timers.{Timers}
 
 differ : (moments keys : Ordering) → is_eq keys ≡ false → is_eq (ordering_then moments keys) ≡ false
 differ Less keys e = refl

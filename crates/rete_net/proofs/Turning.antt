@@ -1,38 +1,6 @@
 -- A step of a node and its gate, out of what each of them answers.
-use Rattle.std.proofs.Common.{◌≡◌, ◌∙◌, sym, ap, refl, subst, inl, inr, ℕ, ℤ, ◌&&◌, not, Bool, true, false, List, [], ◌∷◌, map, Option}
-use Rattle.std.specs.declared.cmp.Ordering.TheVariants.{Less}
-use Rattle.std.specs.Cmp.{nat_cmp_total, eq_by_cmp_equiv}
-use Rattle.std.specs.List.{AllByRecursion}
+use Rattle.rete_net.proofs.Common.{◌≡◌, ◌∙◌, sym, ap, refl, subst, inl, inr, ℕ, ℤ, ◌&&◌, not, Bool, true, false, List, [], ◌∷◌, map, Option, Less, nat_cmp_total, eq_by_cmp_equiv, AllByRecursion, nat_cmp, is_eq, In, Fact, Tag, Delta, Named, Row, IsDifference, Condition, Pattern, Program, HaveDistinctTags, pattern_of, Snapshot, Look, IsNameDifference, cleaned, remembered, held, candidates_of, line, HasAllOf, NameHeld, GateStands, has_good_window, Moves, Node, condition_of, NodeStands, IsTurn, NetNode, IsNodeTurn, NodeStep, Moment, IsAt}
 use Rattle.std.specs.List.Sorted.{IsStrictlySortedBy}
-use Rattle.std.specs.Ordering.{nat_cmp, is_eq}
-use Rattle.fx_base.specs.Lists.{In}
-use Rattle.fx_base.specs.declared.fact.Fact.{Fact}
-use Rattle.fx_base.specs.declared.ids.Tag.{Tag}
-use Rattle.row_delta.specs.declared.delta.Delta.{Delta}
-use Rattle.row_delta.specs.declared.row.Named.{Named}
-use Rattle.row_delta.specs.declared.row.Row.{Row}
-use Rattle.row_change.specs.Changes.{IsDifference}
-use Rattle.rule_model.specs.declared.condition.Condition.{Condition}
-use Rattle.rule_model.specs.declared.condition.Pattern.{Pattern}
-use Rattle.rule_model.specs.declared.program.Program.{Program}
-use Rattle.rule_model.specs.Distinct.{HaveDistinctTags}
-use Rattle.rule_model.specs.Rows.{pattern_of}
-use Rattle.rule_model.specs.Snapshots.{Snapshot}
-use Rattle.join_tests.specs.Joins.{Look}
-use Rattle.pair_memory.specs.Inputs.{IsNameDifference}
-use Rattle.pair_memory.specs.Standing.{cleaned, remembered}
-use Rattle.condition_rows.specs.Sets.{held, candidates_of}
-use Rattle.condition_rows.specs.Lines.{line}
-use Rattle.condition_rows.specs.Looks.{HasAllOf, NameHeld}
-use Rattle.pattern_gate.specs.Gates.{GateStands, has_good_window}
-use Rattle.pattern_gate.specs.Moves.{Moves}
-use Rattle.condition_node.specs.declared.node.Node.{Node}
-use Rattle.condition_node.specs.Nodes.{condition_of, NodeStands}
-use Rattle.condition_node.specs.Turns.{IsTurn}
-use Rattle.rete_net.specs.declared.node.NetNode.{NetNode}
-use Rattle.rete_net.specs.Steps.{IsNodeTurn, NodeStep}
-use Rattle.rule_model.specs.declared.moment.Moment.{Moment}
-use Rattle.rule_model.specs.Moments.{IsAt}
 
 -- ---- tags in order are distinct
 

@@ -1,18 +1,5 @@
 -- One node after the others.
-use Rattle.std.proofs.Common.{◌≡◌, ◌∙◌, sym, ap, refl, subst, ℕ, zero, suc, ◌+◌, ◌<◌, ◌^◌, List, [], ◌∷◌, length, arith, Option, Some, slice_get, ◌⊎◌}
-use Rattle.std.proofs.Math.ListN.{set}
-use Rattle.fx_base.specs.declared.fact.Fact.{Fact}
-use Rattle.row_delta.specs.declared.delta.Delta.{Delta}
-use Rattle.rule_model.specs.declared.program.Program.{Program}
-use Rattle.join_tests.specs.Joins.{Look}
-use Rattle.rete_net.specs.declared.changes.RuleChange.{RuleChange}
-use Rattle.rete_net.specs.declared.node.NetNode.{NetNode}
-use Rattle.rete_net.specs.declared.index.Index.{Index}
-use Rattle.rete_net.specs.declared.answered.Answered.{Answered}
-use Rattle.rete_net.specs.Answers.{given, some_answer, answer_in, AreRuled}
-use Rattle.rete_net.specs.Steps.{no_change, delta_at, changes_from, NetStep}
-use Rattle.rete_net.specs.Walks.{HasAnswered, IsWired}
-use Rattle.rule_model.specs.declared.moment.Moment.{Moment}
+use Rattle.rete_net.proofs.Common.{◌≡◌, ◌∙◌, sym, ap, refl, subst, ℕ, zero, suc, ◌+◌, ◌<◌, ◌^◌, List, [], ◌∷◌, length, arith, Option, Some, slice_get, ◌⊎◌, set, Fact, Delta, Program, Look, RuleChange, NetNode, Index, Answered, given, some_answer, answer_in, AreRuled, no_change, delta_at, changes_from, NetStep, HasAnswered, IsWired, Moment}
 
 pub set_other : {A : Type 0} (xs : List A) (i k : ℕ) (v : A) → (k ≡ i → ⊥) → slice_get (set xs i v) k ≡ slice_get xs k
 set_other [] i k v h = refl

@@ -1,74 +1,14 @@
 -- A network stands for a snapshot without a fact that no rule misses.
-use Rattle.std.proofs.Common.{◌≡◌, ◌∙◌, sym, ap, refl, subst, ℕ, ℤ, ◌==◌, ◌&&◌, ◌||◌, ◌-ℤ◌, ◌+ℤ◌, not, Bool, true, false, List, map, take, length, Some, slice_get, arith}
-use mathlib.Core.Path.{fun_ext}
-use Rattle.std.proofs.Math.Bool.{or-true}
-use Rattle.std.proofs.lemmas.List.{take_all}
+use Rattle.rete_net.proofs.Common.{◌≡◌, ◌∙◌, sym, ap, refl, subst, ℕ, ℤ, ◌==◌, ◌&&◌, ◌||◌, ◌-ℤ◌, ◌+ℤ◌, not, Bool, true, false, List, map, take, length, Some, slice_get, arith, fun_ext, or-true, take_all, filter, IsStrictlySortedBy, is_some, option_map, nat_cmp, In, Fact, Named, Row, has, Condition, Negated, Existing, Folded, Pattern, WindowTag, Whole, Time, Length, Program, Rule, fits, is_candidate, is_inside, is_within, HaveDistinctTags, pattern_of, rows, is_length, Snapshot, name_of, is_event, both_of, of_filter, one_fact, in_filter, in_place, filter_swap, Look, joins, Memories, cleaned, StandsFor, counts_blockers, counts_witnesses, gathers, all_passing, StandsCounted, NameHeld, held, candidates_of, rows_of, candidate_named, candidate_of, rows_named, Kept, Keeps, KeepsTime, Stands, TagsDiffer, with_tag, window_kept, Arrival, has_tag, inside, named_of, differ_after, PatternGate, GateStands, arrival_of, arrivals, kind_of, IsOrderly, at_clock, filter_made, is_other, number, rising, inside_are, Node, condition_of, NodeStands, AsksOfSet, blockers_ask, witnesses_ask, gathers_ask, held_known, where_true, node_moves, shown_nodes, Rete, NetNode, less_fact, IsUnmissed, HaveSame, NodesStand, NetStands, clean_rows, NetNodeStands, before, IsFront}
 use Rattle.std.proofs.lemmas.List.Kept.{IsStrictlySortedBy-filter}
-use Rattle.std.specs.List.{filter}
-use Rattle.std.specs.List.Sorted.{IsStrictlySortedBy}
-use Rattle.std.specs.Option.{is_some, option_map}
-use Rattle.std.specs.Ordering.{nat_cmp}
-use Rattle.fx_base.specs.Lists.{In}
-use Rattle.fx_base.specs.declared.fact.Fact.{Fact}
-use Rattle.row_delta.specs.declared.row.Named.{Named}
-use Rattle.row_delta.specs.declared.row.Row.{Row}
-use Rattle.row_delta.specs.Rows.{has}
-use Rattle.rule_model.specs.declared.condition.Condition.{Condition}
-use Rattle.rule_model.specs.declared.condition.Condition.TheVariants.{Negated, Existing, Folded}
-use Rattle.rule_model.specs.declared.condition.Pattern.{Pattern}
-use Rattle.rule_model.specs.declared.condition.WindowTag.{WindowTag}
-use Rattle.rule_model.specs.declared.condition.WindowTag.TheVariants.{Whole, Time, Length}
-use Rattle.rule_model.specs.declared.program.Program.{Program}
-use Rattle.rule_model.specs.declared.program.Rule.{Rule}
-use Rattle.rule_model.specs.Candidates.{fits, is_candidate, is_inside, is_within, is_present}
-use Rattle.rule_model.specs.Distinct.{HaveDistinctTags}
-use Rattle.rule_model.specs.Rows.{pattern_of, rows}
-use Rattle.rule_model.specs.Simple.{is_length}
-use Rattle.rule_model.specs.Snapshots.{Snapshot, floor}
-use Rattle.rule_model.specs.Tuples.{name_of}
-use Rattle.rule_model.specs.Types.{is_event}
-use Rattle.rule_model.proofs.Listed.{both_of}
-use Rattle.rule_model.proofs.Named.{of_filter}
-use Rattle.rule_model.proofs.Once.{one_fact}
-use Rattle.rule_model.proofs.Order.{in_filter}
-use Rattle.rule_model.proofs.RuleOf.{in_place}
+use Rattle.rule_model.specs.Candidates.{is_present}
+use Rattle.rule_model.specs.Snapshots.{floor}
 use Rattle.rule_world.proofs.Fresh.{distinct_filtered}
-use Rattle.rule_world.proofs.Kept.{filter_swap}
-use Rattle.join_tests.specs.Joins.{Look, joins}
-use Rattle.pair_memory.specs.declared.memories.Memories.{Memories}
-use Rattle.pair_memory.specs.Standing.{cleaned, StandsFor}
-use Rattle.tally_node.specs.Counts.{counts_blockers, counts_witnesses}
-use Rattle.tally_node.specs.Gathers.{gathers}
-use Rattle.tally_node.specs.Laws.{all_passing, StandsCounted}
-use Rattle.condition_rows.specs.Looks.{NameHeld}
-use Rattle.condition_rows.specs.Sets.{held, candidates_of, rows_of}
-use Rattle.condition_rows.proofs.Joined.{candidate_named, candidate_of}
-use Rattle.condition_rows.proofs.Naming.{rows_named}
 use Rattle.window_gate.specs.declared.change.GateChange.TheVariants.{Gone}
 use Rattle.window_gate.specs.declared.change.WindowKind.TheVariants as kind
-use Rattle.window_gate.specs.declared.gate.Kept.{Kept}
 use Rattle.window_gate.specs.declared.gate.Kept.TheVariants as kept
 use Rattle.window_gate.specs.declared.time_window.TimeWindow.{TimeWindow}
-use Rattle.window_gate.specs.Standing.{Keeps, KeepsTime, Stands, TagsDiffer, with_tag, window_kept}
-use Rattle.window_gate.specs.Windows.{Arrival, has_tag, inside, named_of}
-use Rattle.window_gate.proofs.Insides.{differ_after}
-use Rattle.pattern_gate.specs.declared.gate.PatternGate.{PatternGate}
-use Rattle.pattern_gate.specs.Gates.{GateStands, arrival_of, arrivals, kind_of}
-use Rattle.pattern_gate.specs.Moves.{IsOrderly, at_clock}
-use Rattle.pattern_gate.proofs.Arriving.{filter_made, is_other, number, rising}
-use Rattle.pattern_gate.proofs.Inside.{inside_are}
-use Rattle.condition_node.specs.declared.node.Node.{Node}
 use Rattle.condition_node.specs.declared.node.Node.TheVariants as node
-use Rattle.condition_node.specs.Nodes.{condition_of, NodeStands}
-use Rattle.condition_node.proofs.Knowing.{AsksOfSet, blockers_ask, witnesses_ask, gathers_ask, held_known, where_true}
-use Rattle.condition_node.proofs.Moved.{node_moves}
-use Rattle.rete_net.specs.Fans.{shown_nodes}
-use Rattle.rete_net.specs.declared.net.Rete.{Rete}
-use Rattle.rete_net.specs.declared.node.NetNode.{NetNode}
-use Rattle.rete_net.specs.Forgetting.{less_fact, IsUnmissed}
-use Rattle.rete_net.specs.Nets.{HaveSame, NodesStand, NetStands, clean_rows}
-use Rattle.rete_net.specs.Standing.{NetNodeStands}
-use Rattle.rete_net.specs.Shapes.{before, IsFront}
 use Rattle.rete_net.proofs.Beside.{at_end}
 use Rattle.rete_net.proofs.Cleaning.{has_clean}
 use Rattle.rete_net.proofs.Fewer.{IsApart, Unobserved, of_other, of_binding, one_number, tag_of, unobserved_of, same_left, no_fit, candidates_apart, candidate_other, held_still, less_known, candidates_less, remembered_same, joins_named, front_same}

@@ -1,17 +1,6 @@
 -- A walk over some nodes, each after its parent: those that it passes over stay as they are.
-use Rattle.std.proofs.Common.{◌≡◌, ◌∙◌, sym, ap, refl, subst, ℕ, zero, suc, ◌+◌, ◌<◌, ◌≤◌, ◌-◌, Bool, true, false, List, [], ◌∷◌, ◌++◌, length, take, arith, length-append, Option, Some, None, slice_get, ◌⊎◌, inl, inr}
-use Rattle.std.specs.Prelude.{slice_index_or}
-use Rattle.std.proofs.Math.ListN.{set, length-set}
-use Rattle.std.proofs.Math.Seq.{get_or-append_seam, take-append_seam}
-use Rattle.std.proofs.lemmas.List.{take-append-le, get_or_append_left}
-use Rattle.rete_net.specs.declared.index.Index.{Index}
-use Rattle.rete_net.specs.declared.node.NetNode.{NetNode}
-use Rattle.rete_net.specs.declared.answered.Answered.{Answered}
-use Rattle.rete_net.specs.Answers.{given as kept, some_answer, left_given, AreRuled, IsPut}
-use Rattle.rete_net.specs.Indexes.{is_listed, IsFound}
-use Rattle.rete_net.specs.Places.{has_place}
-use Rattle.rete_net.specs.Walks.{IsReplaced, IsWired}
-use Rattle.condition_node.specs.Nodes.{condition_of}
+use Rattle.rete_net.proofs.Common.{◌≡◌, ◌∙◌, sym, ap, refl, subst, ℕ, zero, suc, ◌+◌, ◌<◌, ◌≤◌, ◌-◌, Bool, true, false, List, [], ◌∷◌, ◌++◌, length, take, arith, length-append, Option, Some, None, slice_get, ◌⊎◌, inl, inr, slice_index_or, set, length-set, get_or-append_seam, take-append_seam, take-append-le, get_or_append_left, Index, NetNode, Answered, some_answer, left_given, AreRuled, IsPut, is_listed, IsFound, has_place, IsReplaced, IsWired, condition_of}
+use Rattle.rete_net.specs.Answers.{given as kept}
 use Rattle.rete_net.proofs.Growing.{has_at, both_at}
 use Rattle.rete_net.proofs.Turns.{set_other, set_same, below_or_at}
 

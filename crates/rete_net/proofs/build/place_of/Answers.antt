@@ -1,6 +1,4 @@
-use Rattle.std.proofs.Common.{◌≡◌, ◌∙◌, ◌<◌, sym, ap, inl, inr, true, false, Some, slice_get, length, arith}
-use Rattle.std.proofs.lemmas.Option.{slice_get_within, slice_get-get_or}
-use Rattle.rete_net.specs.declared.build.Origin.{Origin}
+use Rattle.rete_net.proofs.Common.{◌≡◌, ◌∙◌, ◌<◌, sym, ap, inl, inr, true, false, Some, slice_get, length, arith, slice_get_within, slice_get-get_or, Origin}
 use Rattle.rete_net.proofs.Turns.{below_or_at}
 use Rattle.rete_net.proofs.build.place_of.Goals as goal
 

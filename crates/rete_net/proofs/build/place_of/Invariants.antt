@@ -1,5 +1,4 @@
-use Rattle.std.proofs.Common.{◌≡◌, ◌<◌, ℕ, Some, slice_get}
-use Rattle.rete_net.specs.declared.build.Origin.{Origin}
+use Rattle.rete_net.proofs.Common.{◌≡◌, ◌<◌, ℕ, Some, slice_get, Origin}
 use Rattle.rete_net.proofs.build.place_of.Given as goal
 
 abbrev pub invariant-loop-place : goal.invariant-loop-place

@@ -1,8 +1,4 @@
-use Rattle.std.proofs.Common.{◌≡◌, ◌∙◌, sym, ap, refl, ◌++◌, ◌<◌, length, arith, append-nil, get_or, List}
-use Rattle.std.proofs.lemmas.Option.{slice_get-get_or}
-use Rattle.rete_net.specs.declared.changes.RuleChange.{RuleChange}
-use Rattle.rete_net.specs.Places.{has_place}
-use Rattle.rete_net.specs.Steps.{change_at}
+use Rattle.rete_net.proofs.Common.{◌≡◌, ◌∙◌, sym, ap, refl, ◌++◌, ◌<◌, length, arith, append-nil, get_or, List, slice_get-get_or, RuleChange, has_place, change_at}
 use Rattle.rete_net.proofs.Telling.{told_more, pass_to, past_end, one_within}
 use Rattle.rete_net.proofs.changes.changes_of.Goals as goal
 

@@ -1,9 +1,4 @@
-use Rattle.std.proofs.Common.{◌≡◌, ◌++◌, ◌<◌, ◌≤◌, ◌^◌, ◌-◌, ℕ, List, Some, length, slice_get}
-use Rattle.fx_base.specs.Lists.{In}
-use Rattle.row_delta.specs.declared.delta.Delta.{Delta}
-use Rattle.rete_net.specs.declared.changes.RuleChange.{RuleChange}
-use Rattle.rete_net.specs.Answers.{answer_in, AreRuled}
-use Rattle.rete_net.specs.Steps.{delta_at, no_change}
+use Rattle.rete_net.proofs.Common.{◌≡◌, ◌++◌, ◌<◌, ◌≤◌, ◌^◌, ◌-◌, ℕ, List, Some, length, slice_get, In, Delta, RuleChange, answer_in, AreRuled, delta_at, no_change}
 use Rattle.rete_net.proofs.Telling.{From}
 use Rattle.rete_net.proofs.changes.changes_of.Given as goal
 

@@ -1,4 +1,4 @@
-use Rattle.std.proofs.Common.{◌≤◌, arith}
+use Rattle.rete_net.proofs.Common.{◌≤◌, arith}
 use Rattle.rete_net.proofs.Places.{before_first, none_from}
 use Rattle.rete_net.proofs.due.first_below.Goals as goal
 

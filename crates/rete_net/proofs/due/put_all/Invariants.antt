@@ -1,6 +1,4 @@
-use Rattle.std.proofs.Common.{◌≡◌, ◌||◌, ℕ, take, nat_eq}
-use Rattle.std.specs.List.{list_any}
-use Rattle.rete_net.specs.Places.{has_place}
+use Rattle.rete_net.proofs.Common.{◌≡◌, ◌||◌, ℕ, take, nat_eq, list_any, has_place}
 use Rattle.rete_net.proofs.due.put_all.Given as goal
 
 abbrev pub invariant-loop-place : goal.invariant-loop-place

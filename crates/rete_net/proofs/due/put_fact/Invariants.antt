@@ -1,12 +1,6 @@
-use Rattle.std.proofs.Common.{◌≡◌, ℕ, Some, true, take, slice_get}
+use Rattle.rete_net.proofs.Common.{◌≡◌, ℕ, Some, true, take, slice_get, pattern_of, is_meant, condition_of, is_in, is_listed, has_place, NetNode}
 use Rattle.fx_base.specs.declared.value.Value.{Value}
-use Rattle.rule_model.specs.Rows.{pattern_of}
-use Rattle.pattern_gate.specs.Turns.{is_meant}
-use Rattle.condition_node.specs.Nodes.{condition_of}
-use Rattle.rete_net.specs.Indexes.{is_in, is_listed}
-use Rattle.rete_net.specs.Places.{has_place}
 use Rattle.rete_net.specs.Selectors.{slot_of}
-use Rattle.rete_net.specs.declared.node.NetNode.{NetNode}
 use Rattle.rete_net.proofs.due.put_fact.Given as goal
 
 abbrev pub invariant-loop-field : goal.invariant-loop-field

@@ -1,12 +1,4 @@
-use Rattle.std.proofs.Common.{◌≡◌, ℕ, Some, true, take, slice_get}
-use Rattle.std.specs.List.{list_any}
-use Rattle.rule_model.specs.Lent.{lent}
-use Rattle.rule_model.specs.Rows.{pattern_of}
-use Rattle.pattern_gate.specs.Turns.{is_meant}
-use Rattle.condition_node.specs.Nodes.{condition_of}
-use Rattle.rete_net.specs.Indexes.{IsFound}
-use Rattle.rete_net.specs.Places.{has_place}
-use Rattle.rete_net.specs.declared.node.NetNode.{NetNode}
+use Rattle.rete_net.proofs.Common.{◌≡◌, ℕ, Some, true, take, slice_get, list_any, lent, pattern_of, is_meant, condition_of, IsFound, has_place, NetNode}
 use Rattle.rete_net.proofs.due.put_facts.Given as goal
 
 abbrev pub invariant-loop-fact : goal.invariant-loop-fact

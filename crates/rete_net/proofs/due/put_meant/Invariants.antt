@@ -1,10 +1,4 @@
-use Rattle.std.proofs.Common.{◌≡◌, ℕ, Some, true, take, slice_get}
-use Rattle.rule_model.specs.Rows.{pattern_of}
-use Rattle.pattern_gate.specs.Turns.{is_meant}
-use Rattle.condition_node.specs.Nodes.{condition_of}
-use Rattle.rete_net.specs.Indexes.{is_in}
-use Rattle.rete_net.specs.Places.{has_place}
-use Rattle.rete_net.specs.declared.node.NetNode.{NetNode}
+use Rattle.rete_net.proofs.Common.{◌≡◌, ℕ, Some, true, take, slice_get, pattern_of, is_meant, condition_of, is_in, has_place, NetNode}
 use Rattle.rete_net.proofs.due.put_meant.Given as goal
 
 abbrev pub invariant-loop-place : goal.invariant-loop-place

@@ -1,6 +1,4 @@
-use Rattle.std.proofs.Common.{◌∙◌, sym, ap, slice_get}
-use Rattle.rete_net.specs.Indexes.{items_of}
-use Rattle.rete_net.specs.Places.{has_place}
+use Rattle.rete_net.proofs.Common.{◌∙◌, sym, ap, slice_get, items_of, has_place}
 use Rattle.rete_net.proofs.Places.{due_more, put_stays}
 use Rattle.rete_net.proofs.forgetting.put_type.Goals as goal
 

@@ -1,8 +1,4 @@
-use Rattle.std.proofs.Common.{◌∙◌, sym, ap, refl, subst, ◌+◌, ◌<◌, length, arith, get_or, List}
-use Rattle.std.proofs.lemmas.Option.{slice_get_within, slice_get-get_or}
-use Rattle.rete_net.specs.declared.forgetting.RuleRows.{RuleRows}
-use Rattle.rete_net.specs.Dropped.{rows_for, AreListed}
-use Rattle.rete_net.specs.Places.{has_place}
+use Rattle.rete_net.proofs.Common.{◌∙◌, sym, ap, refl, subst, ◌+◌, ◌<◌, length, arith, get_or, List, slice_get_within, slice_get-get_or, RuleRows, rows_for, AreListed, has_place}
 use Rattle.rete_net.proofs.Listing.{listed_far, listed_more, rows_more, rows_passed}
 use Rattle.rete_net.proofs.forgetting.rows_of_rules.Goals as goal
 

@@ -1,6 +1,4 @@
-use Rattle.std.proofs.Common.{◌≡◌, ◌<◌, ◌≤◌, ◌-◌, ℕ, [], Some, length, slice_get}
-use Rattle.rete_net.specs.Answers.{answer_in, AreRuled}
-use Rattle.rete_net.specs.Dropped.{rows_for, AreListed}
+use Rattle.rete_net.proofs.Common.{◌≡◌, ◌<◌, ◌≤◌, ◌-◌, ℕ, [], Some, length, slice_get, answer_in, AreRuled, rows_for, AreListed}
 use Rattle.rete_net.proofs.forgetting.rows_of_rules.Given as goal
 
 abbrev pub invariant-rules : goal.invariant-rules

@@ -1,9 +1,4 @@
-use Rattle.std.proofs.Common.{◌≡◌, ◌∙◌, sym, ap, subst, true, false, inl, inr, ◌<◌, length, arith, take, get_or, [], ◌∷◌}
-use Rattle.std.proofs.lemmas.List.{take_more, take_all}
-use Rattle.fx_base.specs.Lists.{In}
-use Rattle.row_delta.specs.declared.row.Named.{Named}
-use Rattle.condition_rows.proofs.Ends.{name_in}
-use Rattle.rete_net.specs.Indexes.{is_listed}
+use Rattle.rete_net.proofs.Common.{◌≡◌, ◌∙◌, sym, ap, subst, true, false, inl, inr, ◌<◌, length, arith, take, get_or, [], ◌∷◌, take_more, take_all, In, Named, name_in, is_listed}
 use Rattle.rete_net.proofs.Telling.{in_append}
 use Rattle.rete_net.proofs.forgetting.with_old.Goals as goal
 

@@ -1,9 +1,4 @@
-use Rattle.std.proofs.Common.{◌≡◌, true, take, Some}
-use Rattle.fx_base.specs.Lists.{In}
-use Rattle.fx_base.specs.declared.fact.Fact.{Fact}
-use Rattle.row_delta.specs.declared.row.Named.{Named}
-use Rattle.rete_net.specs.Dropped.{AreDue}
-use Rattle.rete_net.specs.Places.{has_place}
+use Rattle.rete_net.proofs.Common.{◌≡◌, true, take, Some, In, Fact, Named, AreDue, has_place}
 use Rattle.rete_net.proofs.forgetting.with_old.Given as goal
 
 abbrev pub invariant-loop-named : goal.invariant-loop-named

@@ -1,10 +1,5 @@
-use Rattle.std.proofs.Common.{◌∙◌, ap, sym, cond, List, [], ◌∷◌, ◌++◌}
-use Rattle.std.proofs.lemmas.List.{take_all}
-use Rattle.std.specs.List.{filter}
+use Rattle.rete_net.proofs.Common.{◌∙◌, ap, sym, cond, List, [], ◌∷◌, ◌++◌, take_all, filter, Fact, lent, facts_at, is_of}
 use Rattle.std.specs.Borrow.{Bor}
-use Rattle.fx_base.specs.declared.fact.Fact.{Fact}
-use Rattle.rule_model.specs.Lent.{lent}
-use Rattle.rete_net.specs.Loads.{facts_at, is_of}
 use Rattle.rete_net.proofs.Searched.{filter_more}
 use Rattle.rete_net.proofs.pieces.by_type.Goals as goal
 

@@ -1,7 +1,4 @@
-use Rattle.std.proofs.Common.{◌≡◌, ℕ, take}
-use Rattle.std.specs.List.{filter}
-use Rattle.rule_model.specs.Lent.{lent}
-use Rattle.rete_net.specs.Loads.{facts_at, is_of}
+use Rattle.rete_net.proofs.Common.{◌≡◌, ℕ, take, filter, lent, facts_at, is_of}
 use Rattle.rete_net.proofs.pieces.by_type.Given as goal
 
 abbrev pub invariant-loop-fact : goal.invariant-loop-fact

@@ -1,5 +1,4 @@
-use Rattle.std.proofs.Common.{◌≡◌, ◌∙◌, ap, sym, ◌+◌, ◌-◌, ◌/◌, ◌<◌, arith, length, Some, slice_get}
-use Rattle.std.proofs.lemmas.Option.{slice_get-get_or, slice_get_within}
+use Rattle.rete_net.proofs.Common.{◌≡◌, ◌∙◌, ap, sym, ◌+◌, ◌-◌, ◌/◌, ◌<◌, arith, length, Some, slice_get, slice_get-get_or, slice_get_within}
 use Rattle.rete_net.proofs.Searched.{all_before, all_behind, parted_at}
 use Rattle.rete_net.proofs.pieces.count_before.Goals as goal
 

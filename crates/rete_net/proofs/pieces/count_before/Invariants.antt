@@ -1,6 +1,4 @@
-use Rattle.std.proofs.Common.{◌-◌, ◌≤◌, length}
-use Rattle.std.specs.List.Sorted.{IsStrictlySortedBy}
-use Rattle.image_laws.specs.Extras.{extra_cmp}
+use Rattle.rete_net.proofs.Common.{◌-◌, ◌≤◌, length, IsStrictlySortedBy, extra_cmp}
 use Rattle.rete_net.proofs.Searched.{Before, Behind}
 use Rattle.rete_net.proofs.pieces.count_before.Given as goal
 

@@ -1,9 +1,4 @@
-use Rattle.std.proofs.Common.{◌≡◌, ◌∙◌, ap, subst, ℕ, ◌-◌, List, length, take, drop, nat_lt, true, Some, slice_get}
-use Rattle.std.proofs.lemmas.List.{take_rest}
-use Rattle.std.specs.List.Sorted.{IsStrictlySortedBy}
-use Rattle.row_delta.specs.declared.extra.Extra.{Extra}
-use Rattle.image_laws.specs.Extras.{extra_cmp}
-use Rattle.rete_net.specs.Loads.{comes_before}
+use Rattle.rete_net.proofs.Common.{◌≡◌, ◌∙◌, ap, subst, ℕ, ◌-◌, List, length, take, drop, nat_lt, true, Some, slice_get, take_rest, IsStrictlySortedBy, Extra, extra_cmp, comes_before}
 use Rattle.rete_net.proofs.Searched.{sorted_behind, under_found}
 use Rattle.rete_net.proofs.pieces.extras_under.Goals as goal
 

@@ -1,11 +1,4 @@
-use Rattle.std.proofs.Common.{◌≡◌, ◌∙◌, ap, sym, subst, ◌∷◌, [], ◌++◌, ◌+◌, inl, inr, true, Some, slice_get, take}
-use Rattle.std.proofs.lemmas.List.{take_more, take_all}
-use Rattle.std.proofs.lemmas.Option.{slice_get-get_or}
-use Rattle.fx_base.specs.Lists.{In}
-use Rattle.row_delta.specs.declared.extra.Extra.{Extra}
-use Rattle.row_delta.specs.Rows.{has}
-use Rattle.rule_model.proofs.Listed.{of_append}
-use Rattle.rule_model.proofs.RuleOf.{in_place}
+use Rattle.rete_net.proofs.Common.{◌≡◌, ◌∙◌, ap, sym, subst, ◌∷◌, [], ◌++◌, ◌+◌, inl, inr, true, Some, slice_get, take, take_more, take_all, slice_get-get_or, In, Extra, has, of_append, in_place}
 use Rattle.rete_net.proofs.pieces.have_rows.Goals as goal
 
 pub loop-extra-init : goal.loop-extra-init

@@ -1,7 +1,4 @@
-use Rattle.std.proofs.Common.{◌≡◌, true, take}
-use Rattle.fx_base.specs.Lists.{In}
-use Rattle.row_delta.specs.declared.extra.Extra.{Extra}
-use Rattle.row_delta.specs.Rows.{has, InOrder}
+use Rattle.rete_net.proofs.Common.{◌≡◌, true, take, In, Extra, has, InOrder}
 use Rattle.rete_net.proofs.pieces.have_rows.Given as goal
 
 abbrev pub invariant-loop-extra : goal.invariant-loop-extra

@@ -1,7 +1,4 @@
-use Rattle.std.proofs.Common.{◌≡◌, ◌∙◌, ap, sym, cond, List, [], ◌∷◌, ◌++◌, Some, slice_get}
-use Rattle.std.proofs.lemmas.Option.{slice_get-get_or}
-use Rattle.fx_base.specs.declared.fact.Fact.{Fact}
-use Rattle.rete_net.specs.Loads.{is_of}
+use Rattle.rete_net.proofs.Common.{◌≡◌, ◌∙◌, ap, sym, cond, List, [], ◌∷◌, ◌++◌, Some, slice_get, slice_get-get_or, Fact, is_of}
 use Rattle.rete_net.proofs.Grouped.{one_fact_more}
 use Rattle.rete_net.proofs.pieces.put_fact.Goals as goal
 

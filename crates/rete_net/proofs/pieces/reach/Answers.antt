@@ -1,5 +1,4 @@
-use Rattle.std.proofs.Common.{◌∙◌, ap}
-use Rattle.rete_net.specs.Loads.{facts_at}
+use Rattle.rete_net.proofs.Common.{◌∙◌, ap, facts_at}
 use Rattle.rete_net.proofs.Grouped.{one_empty}
 use Rattle.rete_net.proofs.pieces.reach.Goals as goal
 

@@ -1,5 +1,4 @@
-use Rattle.std.proofs.Common.{◌≡◌, ℕ, ◌+◌, ◌-◌, length}
-use Rattle.rete_net.specs.Loads.{facts_at}
+use Rattle.rete_net.proofs.Common.{◌≡◌, ℕ, ◌+◌, ◌-◌, length, facts_at}
 use Rattle.rete_net.proofs.pieces.reach.Given as goal
 
 abbrev pub invariant-reach : goal.invariant-reach

@@ -1,6 +1,4 @@
-use Rattle.std.proofs.Common.{sym, subst, List, []}
-use Rattle.rete_net.specs.Owners.{AreOwnedSoFar}
-use Rattle.rete_net.specs.declared.build.Owner.{Owner}
+use Rattle.rete_net.proofs.Common.{sym, subst, List, [], AreOwnedSoFar, Owner}
 use Rattle.rete_net.proofs.Owning.{none_owned}
 use Rattle.rete_net.proofs.build.Builder.new.Goals as goal
 

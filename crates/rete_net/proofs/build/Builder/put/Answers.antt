@@ -1,8 +1,4 @@
-use Rattle.std.proofs.Common.{◌∙◌, inl, inr, sym, ap, refl, subst, List, [], ◌∷◌, ◌++◌, append-nil, slice_get}
-use Rattle.rule_model.specs.declared.condition.Condition.{Condition}
-use Rattle.rete_net.specs.declared.build.Origin.{Origin}
-use Rattle.rete_net.specs.declared.node.NetNode.{NetNode}
-use Rattle.rete_net.specs.Building.{AreGrown}
+use Rattle.rete_net.proofs.Common.{◌∙◌, inl, inr, sym, ap, refl, subst, List, [], ◌∷◌, ◌++◌, append-nil, slice_get, Condition, Origin, NetNode, AreGrown}
 use Rattle.rete_net.proofs.Growing.{found_node, grown_more, get_seam, no_node}
 use Rattle.rete_net.proofs.build.Builder.put.Goals as goal
 

@@ -1,10 +1,4 @@
-use Rattle.std.proofs.Common.{◌≡◌, ◌∙◌, sym, ap, subst, refl, List, [], ◌∷◌, Some, slice_get, take, ◌+◌, ◌<◌, length, arith, ◌++◌, append-nil, get_or}
-use Rattle.std.proofs.lemmas.List.{append_assoc, take_more, take_all}
-use Rattle.fx_base.specs.declared.ids.RuleId.{RuleId}
-use Rattle.rule_model.specs.declared.condition.Condition.{Condition}
-use Rattle.rule_model.proofs.RuleOf.{in_place}
-use Rattle.rete_net.specs.Building.{AreGrown, IsParent}
-use Rattle.rete_net.specs.Owners.{AreOwnedSoFar, PutsOwner}
+use Rattle.rete_net.proofs.Common.{◌≡◌, ◌∙◌, sym, ap, subst, refl, List, [], ◌∷◌, Some, slice_get, take, ◌+◌, ◌<◌, length, arith, ◌++◌, append-nil, get_or, append_assoc, take_more, take_all, RuleId, Condition, in_place, AreGrown, IsParent, AreOwnedSoFar, PutsOwner}
 use Rattle.rete_net.proofs.Growing.{chain_more}
 use Rattle.rete_net.proofs.Owning.{begins_rule, owned_put}
 use Rattle.rete_net.proofs.build.Builder.put_chain.Goals as goal

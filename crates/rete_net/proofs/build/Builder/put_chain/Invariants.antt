@@ -1,9 +1,4 @@
-use Rattle.std.proofs.Common.{◌≡◌, ◌≤◌, ◌++◌, List, [], length, take, true, Some, slice_get}
-use Rattle.std.specs.List.{list_all}
-use Rattle.rule_model.specs.declared.condition.Condition.{Condition}
-use Rattle.rule_world.specs.Programs.{has_window}
-use Rattle.rete_net.specs.Building.{AreGrown, IsParent}
-use Rattle.rete_net.specs.Owners.{AreOwnedSoFar}
+use Rattle.rete_net.proofs.Common.{◌≡◌, ◌≤◌, ◌++◌, List, [], length, take, true, Some, slice_get, list_all, Condition, has_window, AreGrown, IsParent, AreOwnedSoFar}
 use Rattle.rete_net.proofs.build.Builder.put_chain.Given as goal
 
 abbrev pub invariant-loop-condition : goal.invariant-loop-condition

@@ -1,4 +1,4 @@
-use Rattle.std.proofs.Common.{◌≡◌, take}
+use Rattle.rete_net.proofs.Common.{◌≡◌, take}
 use Rattle.rete_net.proofs.copying.SeqCopied.copied.Given as goal
 
 abbrev pub invariant-loop-item : goal.invariant-loop-item

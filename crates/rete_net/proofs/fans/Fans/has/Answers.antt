@@ -1,9 +1,4 @@
-use Rattle.std.proofs.Common.{◌≡◌, ◌∙◌, sym, ap, subst, ◌<◌, ◌≤◌, length, List, Some, slice_get}
-use Rattle.std.specs.Option.{option_map}
-use Rattle.std.proofs.lemmas.Option.{slice_get-get_or}
-use Rattle.pair_memory.specs.declared.candidates.Candidates.{Candidates}
-use Rattle.rete_net.specs.declared.fans.Fan.{Fan}
-use Rattle.rete_net.specs.Fans.{in_fan}
+use Rattle.rete_net.proofs.Common.{◌≡◌, ◌∙◌, sym, ap, subst, ◌<◌, ◌≤◌, length, List, Some, slice_get, option_map, slice_get-get_or, Candidates, Fan, in_fan}
 use Rattle.rete_net.proofs.Fanned.{below_of, none_past, not_below}
 use Rattle.rete_net.proofs.fans.Fans.has.Goals as goal
 

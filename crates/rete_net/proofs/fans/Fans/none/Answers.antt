@@ -1,6 +1,4 @@
-use Rattle.std.proofs.Common.{◌≡◌, ◌∙◌, sym, ap, refl, subst, ℕ, ◌+◌, ◌∷◌, [], None, Option, List, length, length-append, arith}
-use Rattle.rete_net.specs.declared.fans.Seat.{Seat}
-use Rattle.rete_net.specs.Fans.{seat_at}
+use Rattle.rete_net.proofs.Common.{◌≡◌, ◌∙◌, sym, ap, refl, subst, ℕ, ◌+◌, ◌∷◌, [], None, Option, List, length, length-append, arith, Seat, seat_at}
 use Rattle.rete_net.proofs.Seated.{none_more}
 use Rattle.rete_net.proofs.fans.Fans.none.Goals as goal
 

@@ -1,5 +1,4 @@
-use Rattle.std.proofs.Common.{◌≡◌, ℕ, None, length}
-use Rattle.rete_net.specs.Fans.{seat_at}
+use Rattle.rete_net.proofs.Common.{◌≡◌, ℕ, None, length, seat_at}
 use Rattle.rete_net.proofs.fans.Fans.none.Given as goal
 
 abbrev pub invariant-loop-place : goal.invariant-loop-place

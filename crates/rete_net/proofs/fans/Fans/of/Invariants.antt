@@ -1,5 +1,4 @@
-use Rattle.std.proofs.Common.{length}
-use Rattle.rete_net.specs.Seating.{AreGrowing}
+use Rattle.rete_net.proofs.Common.{length, AreGrowing}
 use Rattle.rete_net.proofs.fans.Fans.of.Given as goal
 
 abbrev pub invariant-loop-parent : goal.invariant-loop-parent

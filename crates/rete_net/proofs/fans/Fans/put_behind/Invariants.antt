@@ -1,4 +1,4 @@
-use Rattle.rete_net.specs.Seating.{GrowsTo}
+use Rattle.rete_net.proofs.Common.{GrowsTo}
 use Rattle.rete_net.proofs.fans.Fans.put_behind.Given as goal
 
 abbrev pub invariant-loop-child : goal.invariant-loop-child

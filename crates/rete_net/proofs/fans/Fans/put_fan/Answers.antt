@@ -1,4 +1,4 @@
-use Rattle.std.proofs.Common.{◌∙◌}
+use Rattle.rete_net.proofs.Common.{◌∙◌}
 use Rattle.rete_net.proofs.fans.Fans.put_fan.Goals as goal
 
 pub returns-clause-list : goal.returns-clause-list

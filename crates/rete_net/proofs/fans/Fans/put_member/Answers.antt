@@ -1,8 +1,4 @@
-use Rattle.std.proofs.Common.{◌≡◌, ◌∙◌, sym, ap, refl, ◌<◌, arith, length, ℕ, Some, slice_get}
-use Rattle.std.proofs.Math.ListN.{set}
-use Rattle.std.proofs.lemmas.Option.{slice_get-get_or}
-use Rattle.rete_net.specs.declared.fans.Fan.{Fan}
-use Rattle.rete_net.specs.declared.fans.Seat.{Seat}
+use Rattle.rete_net.proofs.Common.{◌≡◌, ◌∙◌, sym, ap, refl, ◌<◌, arith, length, ℕ, Some, slice_get, set, slice_get-get_or, Fan, Seat}
 use Rattle.rete_net.proofs.Growing.{both_at}
 use Rattle.rete_net.proofs.Seated.{member_grows}
 use Rattle.rete_net.proofs.fans.Fans.put_member.Goals as goal

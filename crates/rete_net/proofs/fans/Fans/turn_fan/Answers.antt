@@ -1,10 +1,4 @@
-use Rattle.std.proofs.Common.{◌≡◌, ◌∙◌, sym, ap, refl, ◌<◌, arith, length, Some, slice_get}
-use Rattle.std.proofs.Math.ListN.{set, length-set}
-use Rattle.std.proofs.lemmas.Option.{slice_get-get_or}
-use Rattle.std.specs.BTreeMap.{get}
-use Rattle.std.specs.Ordering.{nat_cmp}
-use Rattle.rete_net.specs.declared.fans.Fan.{Fan}
-use Rattle.rete_net.specs.declared.fans.Fans.{Fans}
+use Rattle.rete_net.proofs.Common.{◌≡◌, ◌∙◌, sym, ap, refl, ◌<◌, arith, length, Some, slice_get, set, length-set, slice_get-get_or, get, nat_cmp, Fan, Fans}
 use Rattle.rete_net.proofs.Fanned.{each_like, fan_turned, half_other, half_there, member_other, rows_like}
 use Rattle.rete_net.proofs.fans.Fans.turn_fan.Given.{Over}
 use Rattle.rete_net.proofs.fans.Fans.turn_fan.Goals as goal

@@ -1,6 +1,4 @@
-use Rattle.std.proofs.Common.{◌≡◌, ◌∙◌, sym, ap, refl, subst, ◌≤◌, ◌<◌, arith, slice_get, List, true, false}
-use Rattle.rete_net.specs.declared.fans.Span.{Span}
-use Rattle.rete_net.specs.Fans.{given_span}
+use Rattle.rete_net.proofs.Common.{◌≡◌, ◌∙◌, sym, ap, refl, subst, ◌≤◌, ◌<◌, arith, slice_get, List, true, false, Span, given_span}
 use Rattle.rete_net.proofs.Fanned.{all_turned, none_of, none_turned, none_yet, some_of, turned_more, IsTurnedTo}
 use Rattle.rete_net.proofs.Fanning.{laid_same}
 use Rattle.rete_net.proofs.fans.Fans.turn_rows.Goals as goal

@@ -1,5 +1,4 @@
-use Rattle.std.proofs.Common.{slice_get}
-use Rattle.rete_net.specs.Fans.{given_span}
+use Rattle.rete_net.proofs.Common.{slice_get, given_span}
 use Rattle.rete_net.proofs.Fanned.{IsTurnedTo}
 use Rattle.rete_net.proofs.fans.Fans.turn_rows.Given as goal
 

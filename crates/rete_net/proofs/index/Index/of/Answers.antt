@@ -1,7 +1,4 @@
-use Rattle.std.proofs.Common.{◌≡◌, ◌∙◌, sym, ap, subst, ◌<◌, inl, inr, Some, slice_get, length, arith, ℕ, get_or, true}
-use Rattle.std.proofs.lemmas.Option.{slice_get_within, slice_get-get_or}
-use Rattle.rete_net.specs.declared.node.NetNode.{NetNode}
-use Rattle.rete_net.specs.Indexes.{is_listed, IsFound}
+use Rattle.rete_net.proofs.Common.{◌≡◌, ◌∙◌, sym, ap, subst, ◌<◌, inl, inr, Some, slice_get, length, arith, ℕ, get_or, true, slice_get_within, slice_get-get_or, NetNode, is_listed, IsFound}
 use Rattle.rete_net.proofs.Turns.{below_or_at}
 use Rattle.rete_net.proofs.index.Index.of.Goals as goal
 

@@ -1,6 +1,4 @@
-use Rattle.std.proofs.Common.{◌≡◌, ◌<◌, ℕ, Some, true, slice_get}
-use Rattle.rete_net.specs.Indexes.{is_listed, IsFound}
-use Rattle.rete_net.specs.declared.node.NetNode.{NetNode}
+use Rattle.rete_net.proofs.Common.{◌≡◌, ◌<◌, ℕ, Some, true, slice_get, is_listed, IsFound, NetNode}
 use Rattle.rete_net.proofs.index.Index.of.Given as goal
 
 abbrev pub invariant-loop-place : goal.invariant-loop-place

@@ -1,5 +1,4 @@
-use Rattle.std.proofs.Common.{◌≡◌, ◌∙◌, sym, ap, Some, slice_get}
-use Rattle.std.proofs.lemmas.Option.{slice_get-get_or}
+use Rattle.rete_net.proofs.Common.{◌≡◌, ◌∙◌, sym, ap, Some, slice_get, slice_get-get_or}
 use Rattle.rete_net.proofs.Listed.{put_here, put_kept}
 use Rattle.rete_net.proofs.lists.Lists.put.Goals as goal
 

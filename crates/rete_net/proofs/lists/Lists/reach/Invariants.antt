@@ -1,5 +1,4 @@
-use Rattle.std.proofs.Common.{◌≡◌, ℕ, ◌+◌, ◌-◌, true, length}
-use Rattle.rete_net.specs.Indexes.{is_listed}
+use Rattle.rete_net.proofs.Common.{◌≡◌, ℕ, ◌+◌, ◌-◌, true, length, is_listed}
 use Rattle.rete_net.proofs.lists.Lists.reach.Given as goal
 
 abbrev pub invariant-reach : goal.invariant-reach

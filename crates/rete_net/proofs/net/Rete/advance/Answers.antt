@@ -1,14 +1,5 @@
-use Rattle.std.proofs.Common.{Bool, length}
-use Rattle.std.specs.Option.{option_map}
-use Rattle.rule_model.specs.Lent.{lent}
-use Rattle.row_delta.specs.declared.row.Named.{Named}
-use Rattle.rule_model.specs.Snapshots.{Snapshot}
-use Rattle.rete_net.specs.Nets.{NetStands}
-use Rattle.rete_net.specs.Schedules.{AreScheduled}
-use Rattle.rete_net.specs.Steps.{no_change, NetStep}
-use Rattle.rete_net.specs.Walks.{IsWired}
+use Rattle.rete_net.proofs.Common.{Bool, length, option_map, lent, Named, Snapshot, NetStands, AreScheduled, no_change, NetStep, IsWired, member_at, shown_nodes, AreFans}
 use Rattle.rete_net.proofs.Owning.{owned_again}
-use Rattle.rete_net.specs.Fans.{member_at, shown_nodes, AreFans}
 use Rattle.rete_net.proofs.Fanning.{fans_again}
 use Rattle.rete_net.proofs.Fanwise.{wired_under}
 use Rattle.rete_net.proofs.Frames.{net_again}

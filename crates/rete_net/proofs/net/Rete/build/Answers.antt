@@ -1,13 +1,6 @@
-use Rattle.std.proofs.Common.{[], None, get_or, refl, length}
-use Rattle.rule_model.specs.declared.moment.Moment.{Moment}
-use Rattle.rule_model.specs.Moments.{IsAt}
-use Rattle.condition_rows.specs.Looks.{empty_snapshot}
-use Rattle.rete_net.specs.Steps.{empty_row_comes, NetStep}
+use Rattle.rete_net.proofs.Common.{[], None, get_or, refl, length, Moment, IsAt, empty_snapshot, empty_row_comes, NetStep, IsRunnable, IsWired, member_at, shown_nodes}
 use Rattle.rete_net.proofs.Starting.{no_facts, built_owned, built_shape, built_stands, built_net, built_between}
-use Rattle.rule_world.specs.Programs.{IsRunnable}
-use Rattle.rete_net.specs.Walks.{IsWired}
 use Rattle.rete_net.proofs.Owning.{owned_again}
-use Rattle.rete_net.specs.Fans.{member_at, shown_nodes}
 use Rattle.rete_net.proofs.Fanning.{fans_again}
 use Rattle.rete_net.proofs.Fanwise.{net_under, wired_under}
 use Rattle.rete_net.proofs.Showing.{replaced_both}

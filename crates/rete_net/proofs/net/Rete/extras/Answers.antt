@@ -1,18 +1,4 @@
-use Rattle.std.proofs.Common.{◌≡◌, ◌∙◌, ap, sym, subst, ◌+◌, ◌<◌, ◌≤◌, arith, List, length, slice_get}
-use Rattle.row_delta.specs.declared.extra.Extra.{Extra}
-use Rattle.rule_model.specs.Distinct.{HaveDistinctTags}
-use Rattle.condition_rows.specs.Sets.{held, rows_of}
-use Rattle.condition_rows.proofs.Naming.{rows_named}
-use Rattle.pattern_gate.specs.Moves.{at_clock}
-use Rattle.pattern_gate.proofs.Arriving.{rising}
-use Rattle.rule_model.specs.declared.condition.Condition.{Condition}
-use Rattle.condition_node.specs.Loading.{AreExtrasBeside}
-use Rattle.condition_node.specs.Nodes.{condition_of}
-use Rattle.condition_node.proofs.Moved.{node_moves}
-use Rattle.rete_net.specs.declared.build.Owner.{Owner}
-use Rattle.rete_net.specs.declared.node.NetNode.{NetNode}
-use Rattle.rete_net.specs.Fans.{member_at, showing, shown_nodes}
-use Rattle.rete_net.specs.Shapes.{before}
+use Rattle.rete_net.proofs.Common.{◌≡◌, ◌∙◌, ap, sym, subst, ◌+◌, ◌<◌, ◌≤◌, arith, List, length, slice_get, Extra, HaveDistinctTags, held, rows_of, rows_named, at_clock, rising, Condition, AreExtrasBeside, condition_of, node_moves, Owner, NetNode, member_at, showing, shown_nodes, before}
 use Rattle.rete_net.proofs.Counting.{AreFirst, none_first, one_more_first, all_of_them, beside_seen, same_before}
 use Rattle.rete_net.proofs.Growing.{has_at}
 use Rattle.rete_net.proofs.Seen.{at_hand_at}

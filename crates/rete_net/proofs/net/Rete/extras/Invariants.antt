@@ -1,10 +1,4 @@
-use Rattle.std.proofs.Common.{Bool}
-use Rattle.row_delta.specs.declared.row.Named.{Named}
-use Rattle.rule_model.specs.declared.program.Program.{Program}
-use Rattle.rule_model.specs.Snapshots.{Snapshot}
-use Rattle.condition_rows.specs.Looks.{HasAllOf}
-use Rattle.rete_net.specs.Fans.{shown_nodes}
-use Rattle.rete_net.specs.Nets.{NetStands}
+use Rattle.rete_net.proofs.Common.{Bool, Named, Program, Snapshot, HasAllOf, shown_nodes, NetStands}
 use Rattle.rete_net.proofs.Counting.{AreFirst}
 use Rattle.rete_net.proofs.net.Rete.extras.Given as goal
 

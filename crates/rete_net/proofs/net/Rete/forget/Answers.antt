@@ -1,10 +1,6 @@
-use Rattle.std.proofs.Common.{◌∙◌, sym, ap, subst, ℕ, List, length}
-use Rattle.pair_memory.specs.Joined.{has_name}
-use Rattle.rete_net.specs.Answers.{AreRuled}
-use Rattle.rete_net.specs.Dropped.{AreListed}
+use Rattle.rete_net.proofs.Common.{◌∙◌, sym, ap, subst, ℕ, List, length, has_name, AreRuled, AreListed, member_at, shown_nodes}
 use Rattle.rete_net.proofs.Dropping.{net_forgets, rules_drop}
 use Rattle.rete_net.proofs.Owning.{owned_again}
-use Rattle.rete_net.specs.Fans.{member_at, shown_nodes}
 use Rattle.rete_net.proofs.Fanning.{fans_again}
 use Rattle.rete_net.proofs.Fanwise.{wired_under}
 use Rattle.rete_net.proofs.Frames.{index_again, net_again}

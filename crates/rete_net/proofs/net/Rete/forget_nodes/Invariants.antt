@@ -1,8 +1,4 @@
-use Rattle.std.proofs.Common.{◌≡◌, ◌≤◌, ◌-◌, length}
-use Rattle.pair_memory.specs.Joined.{has_name}
-use Rattle.rete_net.specs.Fans.{AreFans, IsLaidAs}
-use Rattle.rete_net.specs.Schedules.{AreScheduled}
-use Rattle.rete_net.specs.Walks.{IsReplaced, IsWired}
+use Rattle.rete_net.proofs.Common.{◌≡◌, ◌≤◌, ◌-◌, length, has_name, AreFans, IsLaidAs, AreScheduled, IsReplaced, IsWired}
 use Rattle.rete_net.proofs.Fading.{IsUnderWay}
 use Rattle.rete_net.proofs.net.Rete.forget_nodes.Given as goal
 

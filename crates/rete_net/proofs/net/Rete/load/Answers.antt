@@ -1,13 +1,5 @@
-use Rattle.std.proofs.Common.{◌≡◌, ◌∙◌, ap, subst, ℕ, ◌<◌, ◌^◌, length, List, Err, Some, slice_get, pos, ◌≤ℤ◌}
-use Rattle.fx_base.specs.Lists.{In}
-use Rattle.row_delta.specs.declared.delta.Delta.{Delta}
-use Rattle.rule_model.specs.Lent.{lent}
-use Rattle.rete_net.specs.declared.changes.RuleChange.{RuleChange}
-use Rattle.rete_net.specs.declared.load.LoadFault.TheVariants.{NoRow}
-use Rattle.rete_net.specs.Answers.{answer_in, AreRuled}
-use Rattle.rete_net.specs.Steps.{changes_from, delta_at, no_change}
+use Rattle.rete_net.proofs.Common.{◌≡◌, ◌∙◌, ap, subst, ℕ, ◌<◌, ◌^◌, length, List, Err, Some, slice_get, pos, ◌≤ℤ◌, In, Delta, lent, RuleChange, NoRow, answer_in, AreRuled, changes_from, delta_at, no_change, member_at, shown_nodes}
 use Rattle.rete_net.proofs.Filling.{same_fault}
-use Rattle.rete_net.specs.Fans.{member_at, shown_nodes}
 use Rattle.rete_net.proofs.Fanning.{fans_again}
 use Rattle.rete_net.proofs.Fanwise.{net_under, wired_under}
 use Rattle.rete_net.proofs.Frames.{net_again}

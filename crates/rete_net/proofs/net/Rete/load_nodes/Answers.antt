@@ -1,17 +1,4 @@
-use Rattle.std.proofs.Common.{◌≡◌, ◌∙◌, sym, ap, refl, subst, ◌<◌, length, arith, List, [], Err, Some, slice_get}
-use Rattle.std.proofs.lemmas.Option.{slice_get-get_or}
-use Rattle.std.specs.List.{filter}
-use Rattle.row_delta.specs.declared.delta.Delta.{Delta}
-use Rattle.row_delta.specs.declared.row.Row.{Row}
-use Rattle.rule_model.specs.Lent.{lent}
-use Rattle.rete_net.specs.declared.build.Owner.{Owner}
-use Rattle.rete_net.specs.declared.index.Index.{Index}
-use Rattle.rete_net.specs.declared.load.LoadFault.TheVariants.{NoRow}
-use Rattle.rete_net.specs.Answers.{left_given, IsPut}
-use Rattle.rete_net.specs.Fans.{AreRowsTurned}
-use Rattle.rete_net.specs.Indexes.{type_of}
-use Rattle.rete_net.specs.Loads.{facts_at, is_of}
-use Rattle.rete_net.specs.Steps.{empty_row_comes}
+use Rattle.rete_net.proofs.Common.{◌≡◌, ◌∙◌, sym, ap, refl, subst, ◌<◌, length, arith, List, [], Err, Some, slice_get, slice_get-get_or, filter, Delta, Row, lent, Owner, Index, NoRow, left_given, IsPut, AreRowsTurned, type_of, facts_at, is_of, empty_row_comes}
 use Rattle.rete_net.proofs.Filling.{same_fault}
 use Rattle.rete_net.proofs.Lading.{set_off, stuck_at, take_one, come_to_end, IsUnderWay}
 use Rattle.rete_net.proofs.Fanning.{laid_same, laid_then}

@@ -1,11 +1,4 @@
-use Rattle.std.proofs.Common.{◌≡◌}
-use Rattle.std.specs.List.Sorted.{IsStrictlySortedBy}
-use Rattle.rule_model.specs.Lent.{lent}
-use Rattle.image_laws.specs.Extras.{extra_cmp}
-use Rattle.rete_net.specs.Fans.{AreFans, IsLaidAs}
-use Rattle.rete_net.specs.Schedules.{AreScheduled}
-use Rattle.rete_net.specs.Steps.{empty_row_comes}
-use Rattle.rete_net.specs.Walks.{IsReplaced, IsWired}
+use Rattle.rete_net.proofs.Common.{◌≡◌, IsStrictlySortedBy, lent, extra_cmp, AreFans, IsLaidAs, AreScheduled, empty_row_comes, IsReplaced, IsWired}
 use Rattle.rete_net.proofs.Lading.{IsUnderWay}
 use Rattle.rete_net.proofs.net.Rete.load_nodes.Given as goal
 

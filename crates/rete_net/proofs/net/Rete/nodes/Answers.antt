@@ -1,5 +1,4 @@
-use Rattle.std.proofs.Common.{◌≡◌, length, sym, subst, rules}
-use Rattle.rete_net.specs.Shapes.{CountsFronts}
+use Rattle.rete_net.proofs.Common.{◌≡◌, length, sym, subst, rules, CountsFronts}
 use Rattle.rete_net.proofs.Counted.{counted}
 use Rattle.rete_net.proofs.net.Rete.nodes.Goals as goal
 

@@ -1,17 +1,4 @@
-use Rattle.std.proofs.Common.{◌≡◌, ◌∙◌, sym, ap, refl, subst, ℕ, ◌+◌, ◌<◌, ◌≤◌, nat_le, arith, List, [], ◌∷◌, ◌++◌, length, length-append, Some, slice_get}
-use Rattle.std.proofs.lemmas.Bool.Decides.{nat_tests}
-use Rattle.std.proofs.lemmas.Option.{slice_get-get_or}
-use Rattle.std.specs.Option.{unwrap_or}
-use Rattle.rule_model.specs.declared.condition.Condition.{Condition}
-use Rattle.rule_model.specs.declared.program.Rule.{Rule}
-use Rattle.rule_model.proofs.Listed.{both_of}
-use Rattle.rule_world.specs.Programs.{IsRunnable, has_conditions, has_windows}
-use Rattle.rete_net.specs.Building.{AreGrown, HaveEnds}
-use Rattle.rete_net.specs.Owners.{AreOwnedSoFar}
-use Rattle.rete_net.specs.declared.node.NetNode.{NetNode}
-use Rattle.rete_net.specs.Fans.{member_at, with_fans, AreFans}
-use Rattle.rete_net.specs.Indexes.{IsIndexOf}
-use Rattle.rete_net.specs.Schedules.{AreScheduled}
+use Rattle.rete_net.proofs.Common.{◌≡◌, ◌∙◌, sym, ap, refl, subst, ℕ, ◌+◌, ◌<◌, ◌≤◌, nat_le, arith, List, [], ◌∷◌, ◌++◌, length, length-append, Some, slice_get, nat_tests, slice_get-get_or, unwrap_or, Condition, Rule, both_of, IsRunnable, has_conditions, has_windows, AreGrown, HaveEnds, AreOwnedSoFar, NetNode, member_at, with_fans, AreFans, IsIndexOf, AreScheduled}
 use Rattle.rete_net.proofs.Growing.{passes_at, ends_more}
 use Rattle.rete_net.proofs.Frames.{index_again}
 use Rattle.rete_net.proofs.Owning.{rule_owned}

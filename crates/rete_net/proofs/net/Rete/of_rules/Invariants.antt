@@ -1,8 +1,4 @@
-use Rattle.std.proofs.Common.{◌≡◌, List, [], length}
-use Rattle.rule_model.specs.declared.condition.Condition.{Condition}
-use Rattle.rule_world.specs.Programs.{IsRunnable}
-use Rattle.rete_net.specs.Building.{AreGrown, HaveEnds}
-use Rattle.rete_net.specs.Owners.{AreOwnedSoFar}
+use Rattle.rete_net.proofs.Common.{◌≡◌, List, [], length, Condition, IsRunnable, AreGrown, HaveEnds, AreOwnedSoFar}
 use Rattle.rete_net.proofs.net.Rete.of_rules.Given as goal
 
 abbrev pub invariant-loop-rule : goal.invariant-loop-rule

@@ -1,9 +1,4 @@
-use Rattle.std.proofs.Common.{◌∙◌, ap, subst, ℕ, List, length, ◌<◌, ◌^◌}
-use Rattle.std.specs.Option.{option_map}
-use Rattle.fx_base.specs.Lists.{In}
-use Rattle.rule_model.specs.Lent.{lent}
-use Rattle.rete_net.specs.declared.changes.RuleChange.{RuleChange}
-use Rattle.rete_net.specs.Fans.{member_at, shown_nodes}
+use Rattle.rete_net.proofs.Common.{◌∙◌, ap, subst, ℕ, List, length, ◌<◌, ◌^◌, option_map, In, lent, RuleChange, member_at, shown_nodes}
 use Rattle.rete_net.proofs.Fanwise.{wired_again}
 use Rattle.rete_net.proofs.Frames.{index_again}
 use Rattle.rete_net.proofs.Showing.{replaced_both, replaced_shown, shown_quiet}

@@ -1,12 +1,5 @@
-use Rattle.std.proofs.Common.{◌≡◌, ◌∙◌, sym, ap, refl, subst, true, false, ◌<◌, length, arith, option_map, Some, slice_get, List}
-use Rattle.std.proofs.lemmas.Option.{slice_get-get_or}
-use Rattle.row_delta.specs.declared.row.Row.{Row}
-use Rattle.rule_model.specs.Lent.{lent}
-use Rattle.rete_net.specs.declared.index.Index.{Index}
-use Rattle.rete_net.specs.declared.node.NetNode.{NetNode}
-use Rattle.rete_net.specs.Places.{has_place}
-use Rattle.rete_net.specs.Answers.{IsPut}
-use Rattle.rete_net.specs.Fans.{AreFans, AreRowsTurned}
+use Rattle.rete_net.proofs.Common.{◌≡◌, ◌∙◌, sym, ap, refl, subst, true, false, ◌<◌, length, arith, Some, slice_get, List, slice_get-get_or, Row, lent, Index, NetNode, has_place, IsPut, AreFans, AreRowsTurned}
+use Rattle.std.proofs.Common.{option_map}
 use Rattle.rete_net.proofs.Fanning.{laid_same, laid_then}
 use Rattle.rete_net.proofs.Steady.{set_off, step_at, come_to_end}
 use Rattle.rete_net.proofs.Scheduling.{scheduled_more}

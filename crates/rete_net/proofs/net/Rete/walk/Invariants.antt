@@ -1,8 +1,5 @@
-use Rattle.std.proofs.Common.{◌≡◌, ◌≤◌, ◌-◌, length, option_map}
-use Rattle.rule_model.specs.Lent.{lent}
-use Rattle.rete_net.specs.Fans.{AreFans, IsLaidAs}
-use Rattle.rete_net.specs.Schedules.{AreScheduled}
-use Rattle.rete_net.specs.Walks.{IsReplaced, IsWired}
+use Rattle.rete_net.proofs.Common.{◌≡◌, ◌≤◌, ◌-◌, length, lent, AreFans, IsLaidAs, AreScheduled, IsReplaced, IsWired}
+use Rattle.std.proofs.Common.{option_map}
 use Rattle.rete_net.proofs.Steady.{IsUnderWay}
 use Rattle.rete_net.proofs.net.Rete.walk.Given as goal
 

@@ -1,9 +1,4 @@
-use Rattle.std.proofs.Common.{◌≡◌, ◌∙◌, sym, refl, subst, to_z, of_z, to_z-of_z, w64, SFits}
-use Rattle.std.specs.Option.{option_map}
-use Rattle.row_delta.specs.declared.delta.Delta.{Delta}
-use Rattle.rule_model.specs.Lent.{lent}
-use Rattle.condition_node.proofs.Moved.{node_moves}
-use Rattle.rete_net.specs.Steps.{NodeStep}
+use Rattle.rete_net.proofs.Common.{◌≡◌, ◌∙◌, sym, refl, subst, to_z, of_z, to_z-of_z, w64, SFits, option_map, Delta, lent, node_moves, NodeStep}
 use Rattle.rete_net.proofs.Turning.{node_step}
 use Rattle.rete_net.proofs.node.NetNode.advance.Goals as goal
 

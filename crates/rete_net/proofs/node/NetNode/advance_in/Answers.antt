@@ -1,7 +1,5 @@
-use Rattle.std.proofs.Common.{◌≡◌, ◌∙◌, sym, ap, refl, option_map, Option, Some}
-use Rattle.rule_model.specs.Lent.{lent}
-use Rattle.rete_net.specs.Fans.{showing, Member}
-use Rattle.rete_net.specs.Steps.{NodeStep}
+use Rattle.rete_net.proofs.Common.{◌≡◌, ◌∙◌, sym, ap, refl, Option, Some, lent, showing, Member, NodeStep}
+use Rattle.std.proofs.Common.{option_map}
 use Rattle.rete_net.proofs.Fanning.{laid_same}
 use Rattle.rete_net.proofs.Siblings.{left_by, with_seat, without_seat}
 use Rattle.rete_net.proofs.node.NetNode.advance_in.Goals as goal

@@ -1,13 +1,5 @@
-use Rattle.std.proofs.Common.{◌≡◌, ◌∙◌, sym, ap, refl, ℤ, to_z, of_z, to_z-of_z, w64, SFits, option_map, List}
-use Rattle.std.specs.BTreeMap.{get}
-use Rattle.std.specs.Ordering.{nat_cmp}
-use Rattle.row_delta.specs.declared.row.Named.{Named}
-use Rattle.row_delta.specs.declared.row.Row.{Row}
-use Rattle.row_delta.specs.Rows.{has}
-use Rattle.rule_model.specs.Lent.{lent}
-use Rattle.pair_memory.specs.Inputs.{row_naming}
-use Rattle.pair_memory.specs.Joined.{has_name}
-use Rattle.rete_net.specs.Fans.{half_in}
+use Rattle.rete_net.proofs.Common.{◌≡◌, ◌∙◌, sym, ap, refl, ℤ, to_z, of_z, to_z-of_z, w64, SFits, List, get, nat_cmp, Named, Row, has, lent, row_naming, has_name, half_in}
+use Rattle.std.proofs.Common.{option_map}
 use Rattle.rete_net.proofs.Fanning.{laid_same}
 use Rattle.rete_net.proofs.Siblings.{still_steps, names_step}
 use Rattle.rete_net.proofs.node.NetNode.advance_member.Goals as goal

@@ -1,6 +1,4 @@
-use Rattle.std.proofs.Common.{◌≡◌, ◌∙◌, sym}
-use Rattle.rule_model.specs.declared.condition.Condition.TheVariants.{Plain}
-use Rattle.condition_node.specs.Nodes.{condition_of}
+use Rattle.rete_net.proofs.Common.{◌≡◌, ◌∙◌, sym, Plain, condition_of}
 use Rattle.rete_net.proofs.Siblings.{given_some, none_beside}
 use Rattle.rete_net.proofs.node.NetNode.extras.Goals as goal
 

@@ -1,6 +1,4 @@
-use Rattle.std.proofs.Common.{refl}
-use Rattle.pair_memory.specs.Joined.{has_name}
-use Rattle.condition_node.proofs.Moved.{node_moves}
+use Rattle.rete_net.proofs.Common.{refl, has_name, node_moves}
 use Rattle.rete_net.proofs.Forgets.{node_forgets}
 use Rattle.rete_net.proofs.node.NetNode.forget.Goals as goal
 

@@ -1,9 +1,4 @@
-use Rattle.std.proofs.Common.{◌≡◌, ◌∙◌, sym, ap, refl, subst, Option, Some, [], List}
-use Rattle.std.specs.BTreeMap.{get}
-use Rattle.std.specs.Ordering.{nat_cmp}
-use Rattle.pair_memory.specs.Joined.{has_name}
-use Rattle.rete_net.specs.Dropped.{NodeForgets}
-use Rattle.rete_net.specs.Fans.{half_in, showing, Member}
+use Rattle.rete_net.proofs.Common.{◌≡◌, ◌∙◌, sym, ap, refl, subst, Option, Some, [], List, get, nat_cmp, has_name, NodeForgets, half_in, showing, Member}
 use Rattle.rete_net.proofs.Fanning.{laid_same}
 use Rattle.rete_net.proofs.Siblings.{left_by, names_forget, with_seat, without_seat}
 use Rattle.rete_net.proofs.node.NetNode.forget_in.Goals as goal

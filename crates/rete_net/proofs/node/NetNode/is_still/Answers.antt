@@ -1,8 +1,5 @@
-use Rattle.std.proofs.Common.{subst, option_map, to_z, of_z, to_z-of_z, w64, SFits, ◌≡◌, ℤ}
-use Rattle.rule_model.specs.Lent.{lent}
-use Rattle.rule_model.specs.declared.condition.Pattern.{Pattern}
-use Rattle.rule_model.specs.Rows.{pattern_of}
-use Rattle.condition_node.specs.Nodes.{condition_of}
+use Rattle.rete_net.proofs.Common.{subst, to_z, of_z, to_z-of_z, w64, SFits, ◌≡◌, ℤ, lent, Pattern, pattern_of, condition_of}
+use Rattle.std.proofs.Common.{option_map}
 use Rattle.rete_net.proofs.Skipping.{GateStays, skipped}
 use Rattle.rete_net.proofs.node.NetNode.is_still.Goals as goal
 

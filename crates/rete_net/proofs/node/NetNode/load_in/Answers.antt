@@ -1,7 +1,4 @@
-use Rattle.std.proofs.Common.{◌≡◌, ◌∙◌, sym, ap, refl, [], Err, Option}
-use Rattle.rete_net.specs.Fans.{showing, Member}
-use Rattle.rete_net.specs.Loads.{NodeLoad}
-use Rattle.rete_net.specs.declared.load.LoadFault.TheVariants.{NoRow}
+use Rattle.rete_net.proofs.Common.{◌≡◌, ◌∙◌, sym, ap, refl, [], Err, Option, showing, Member, NodeLoad, NoRow}
 use Rattle.rete_net.proofs.Fanning.{laid_same}
 use Rattle.rete_net.proofs.Filling.{same_fault}
 use Rattle.rete_net.proofs.Siblings.{left_by, with_seat, without_seat}

@@ -1,19 +1,4 @@
-use Rattle.std.proofs.Common.{◌≡◌, ◌∙◌, sym, ap, refl, subst, true, List, to_z, of_z, to_z-of_z, w64, SFits}
-use Rattle.std.specs.BTreeMap.{get}
-use Rattle.std.specs.Ordering.{nat_cmp}
-use Rattle.row_delta.specs.declared.row.Named.{Named}
-use Rattle.row_delta.specs.declared.row.Row.{Row}
-use Rattle.row_delta.specs.Rows.{has}
-use Rattle.rule_model.specs.declared.condition.Pattern.{Pattern}
-use Rattle.rule_model.specs.Lent.{lent}
-use Rattle.rule_model.specs.Snapshots.{Snapshot}
-use Rattle.pair_memory.specs.Inputs.{IsNameDifference, row_naming}
-use Rattle.pair_memory.specs.Joined.{has_name}
-use Rattle.pair_memory.specs.Standing.{no_names}
-use Rattle.condition_rows.specs.Sets.{candidates_of}
-use Rattle.pattern_gate.specs.Gates.{GateStands, has_good_window}
-use Rattle.pattern_gate.specs.Moves.{IsOrderly}
-use Rattle.rete_net.specs.Fans.{half_in}
+use Rattle.rete_net.proofs.Common.{◌≡◌, ◌∙◌, sym, ap, refl, subst, true, List, to_z, of_z, to_z-of_z, w64, SFits, get, nat_cmp, Named, Row, has, Pattern, lent, Snapshot, IsNameDifference, row_naming, has_name, no_names, candidates_of, GateStands, has_good_window, IsOrderly, half_in}
 use Rattle.rete_net.proofs.Siblings.{names_load}
 use Rattle.rete_net.proofs.node.NetNode.load_member.Goals as goal
 

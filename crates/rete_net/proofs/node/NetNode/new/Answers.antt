@@ -1,9 +1,4 @@
-use Rattle.std.proofs.Common.{◌∙◌, sym, ap, subst}
-use Rattle.rule_model.specs.declared.condition.Pattern.{Pattern}
-use Rattle.rule_model.specs.Rows.{pattern_of}
-use Rattle.condition_rows.specs.Sets.{held}
-use Rattle.condition_rows.specs.Looks.{empty_snapshot}
-use Rattle.pattern_gate.specs.Gates.{GateStands}
+use Rattle.rete_net.proofs.Common.{◌∙◌, sym, ap, subst, Pattern, pattern_of, held, empty_snapshot, GateStands}
 use Rattle.rete_net.proofs.node.NetNode.new.Goals as goal
 
 pub returns-clause-stands : goal.returns-clause-stands

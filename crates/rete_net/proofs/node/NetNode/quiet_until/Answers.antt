@@ -1,5 +1,4 @@
-use Rattle.std.proofs.Common.{subst}
-use Rattle.condition_node.specs.Quiet.{IsBefore}
+use Rattle.rete_net.proofs.Common.{subst, IsBefore}
 use Rattle.rete_net.proofs.Gating.{gate_still}
 use Rattle.rete_net.proofs.Quieting.{if_before, node_quiet}
 use Rattle.rete_net.proofs.node.NetNode.quiet_until.Goals as goal

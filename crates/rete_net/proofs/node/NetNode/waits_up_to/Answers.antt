@@ -1,6 +1,4 @@
-use Rattle.std.proofs.Common.{sym, subst}
-use Rattle.condition_node.specs.declared.node.Node.{Node}
-use Rattle.rete_net.specs.Schedules.{IsStillAt}
+use Rattle.rete_net.proofs.Common.{sym, subst, Node, IsStillAt}
 use Rattle.rete_net.proofs.Scheduling.{none_below}
 use Rattle.rete_net.proofs.node.NetNode.waits_up_to.Goals as goal
 

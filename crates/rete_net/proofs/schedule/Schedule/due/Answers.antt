@@ -1,10 +1,4 @@
-use Rattle.std.proofs.Common.{◌≡◌, ◌∙◌, ◌<◌, sym, ap, subst, inl, inr, ℕ, true, false, List, Some, slice_get, length, arith}
-use Rattle.std.proofs.lemmas.Option.{slice_get_within, slice_get-get_or}
-use Rattle.rule_model.specs.Moments.{snapshot_at}
-use Rattle.rule_model.specs.Snapshots.{floor}
-use Rattle.rete_net.specs.Places.{has_place}
-use Rattle.rete_net.specs.Timers.{IsFrom, IsSet}
-use Rattle.rete_net.specs.declared.schedule.EntryTimers.{EntryTimers}
+use Rattle.rete_net.proofs.Common.{◌≡◌, ◌∙◌, ◌<◌, sym, ap, subst, inl, inr, ℕ, true, false, List, Some, slice_get, length, arith, slice_get_within, slice_get-get_or, snapshot_at, floor, has_place, IsFrom, IsSet, EntryTimers}
 use Rattle.rete_net.proofs.Growing.{both_at}
 use Rattle.rete_net.proofs.Scheduling.{undue}
 use Rattle.rete_net.proofs.Turns.{below_or_at}

@@ -1,9 +1,4 @@
-use Rattle.std.proofs.Common.{◌≡◌, ◌<◌, ◌+ℤ◌, pos, ℕ, ℤ, Option, Some, false, slice_get}
-use Rattle.rule_model.specs.Moments.{snapshot_at}
-use Rattle.rule_model.specs.Snapshots.{floor}
-use Rattle.rete_net.specs.Places.{has_place}
-use Rattle.rete_net.specs.Timers.{IsFrom, IsSet}
-use Rattle.rete_net.specs.declared.schedule.EntryTimers.{EntryTimers}
+use Rattle.rete_net.proofs.Common.{◌≡◌, ◌<◌, ◌+ℤ◌, pos, ℕ, ℤ, Option, Some, false, slice_get, snapshot_at, floor, has_place, IsFrom, IsSet, EntryTimers}
 use Rattle.rete_net.proofs.schedule.Schedule.due.Given as goal
 
 abbrev pub invariant-loop-line : goal.invariant-loop-line

@@ -1,8 +1,4 @@
-use Rattle.std.proofs.Common.{◌≡◌, ◌∙◌, ◌<◌, sym, ap, subst, inl, inr, ℕ, true, Some, slice_get, length, arith}
-use Rattle.std.proofs.lemmas.Option.{slice_get_within, slice_get-get_or}
-use Rattle.rete_net.specs.Indexes.{is_timed}
-use Rattle.rete_net.specs.Schedules.{IsScheduled}
-use Rattle.rete_net.specs.declared.node.NetNode.{NetNode}
+use Rattle.rete_net.proofs.Common.{◌≡◌, ◌∙◌, ◌<◌, sym, ap, subst, inl, inr, ℕ, true, Some, slice_get, length, arith, slice_get_within, slice_get-get_or, is_timed, IsScheduled, NetNode}
 use Rattle.rete_net.proofs.Turns.{below_or_at}
 use Rattle.rete_net.proofs.schedule.Schedule.of.Goals as goal
 

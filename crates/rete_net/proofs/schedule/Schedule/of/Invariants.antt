@@ -1,7 +1,4 @@
-use Rattle.std.proofs.Common.{◌≡◌, ◌<◌, ℕ, Some, true, slice_get}
-use Rattle.rete_net.specs.Indexes.{is_timed}
-use Rattle.rete_net.specs.Schedules.{IsScheduled}
-use Rattle.rete_net.specs.declared.node.NetNode.{NetNode}
+use Rattle.rete_net.proofs.Common.{◌≡◌, ◌<◌, ℕ, Some, true, slice_get, is_timed, IsScheduled, NetNode}
 use Rattle.rete_net.proofs.schedule.Schedule.of.Given as goal
 
 abbrev pub invariant-loop-place : goal.invariant-loop-place

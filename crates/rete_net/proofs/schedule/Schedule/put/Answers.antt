@@ -1,8 +1,4 @@
-use Rattle.std.proofs.Common.{◌≡◌, ◌∙◌, ◌<◌, sym, ap, refl, subst, Some, slice_get, length}
-use Rattle.std.proofs.lemmas.Option.{slice_get_within, slice_get-get_or}
-use Rattle.rete_net.specs.declared.schedule.EntryTimers.{EntryTimers}
-use Rattle.rete_net.specs.declared.timers.Timers.{Timers}
-use Rattle.rete_net.specs.Timers.{IsSet}
+use Rattle.rete_net.proofs.Common.{◌≡◌, ◌∙◌, ◌<◌, sym, ap, refl, subst, Some, slice_get, length, slice_get_within, slice_get-get_or, EntryTimers, Timers, IsSet}
 use Rattle.rete_net.proofs.Growing.{both_at}
 use Rattle.rete_net.proofs.Scheduling.{kept_beside, scheduled_still}
 use Rattle.rete_net.proofs.Turns.{set_same}

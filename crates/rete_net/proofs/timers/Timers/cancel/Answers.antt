@@ -1,5 +1,4 @@
-use Rattle.std.proofs.Common.{rules, false, FitsSigned}
-use Rattle.std.specs.Int.{w128}
+use Rattle.rete_net.proofs.Common.{rules, false, FitsSigned, w128}
 use Rattle.std.proofs.lemmas.Int.{to_z-of_z}
 use Rattle.rete_net.proofs.Timing.{still_set}
 use Rattle.rete_net.proofs.timers.Timers.cancel.Goals as goal

@@ -1,5 +1,4 @@
-use Rattle.std.proofs.Common.{rules, FitsSigned}
-use Rattle.std.specs.Int.{w128}
+use Rattle.rete_net.proofs.Common.{rules, FitsSigned, w128}
 use Rattle.std.proofs.lemmas.Int.{to_z-of_z}
 use Rattle.rete_net.proofs.Timing.{before_first}
 use Rattle.rete_net.proofs.timers.Timers.first.Goals as goal

@@ -1,4 +1,4 @@
-use Rattle.std.proofs.Common.{◌∙◌, sym, true}
+use Rattle.rete_net.proofs.Common.{◌∙◌, sym, true}
 use Rattle.std.proofs.lemmas.Int.{to_z-of_z}
 use Rattle.rete_net.proofs.Timing.{set_there, still_set}
 use Rattle.rete_net.proofs.timers.Timers.put_at.Goals as goal
