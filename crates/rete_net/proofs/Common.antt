@@ -1,5 +1,5 @@
 -- The names that two proofs and more cite, passed on from one place. Declares nothing.
-pub use Rattle.std.proofs.Common.{◌≡◌, ◌∙◌, sym, ap, Some, List, length, slice_get, subst, refl, ℕ, true, ◌<◌, [], arith, false, ◌∷◌, Option, Bool, None, ◌++◌, take, ◌≤◌, ◌+◌, inl, inr, suc, zero, ℤ, not, ◌&&◌, ◌||◌, cond, get_or, ◌==◌, ◌⊎◌, ◌-◌, ◌^◌, ◌≤ℤ◌, map, nat_lt, pos, length-append, w64, SFits, append-nil, of_z, to_z, to_z-of_z, ◌<ℤ◌, Err, rules, drop, nat_eq, zero-add, ◌+ℤ◌, Bor, FitsSigned, IfSome, int_lt, nat_le, ◌-ℤ◌, IsTrue, Ok, Result, add-one, is_lt, negsuc, option_to_list, ◌/◌}
+pub use Rattle.std.proofs.Common.{◌≡◌, ◌∙◌, sym, ap, Some, slice_get, List, length, subst, ℕ, refl, true, [], ◌<◌, arith, false, Option, ◌∷◌, Bool, None, ◌++◌, take, ◌≤◌, ◌+◌, inl, inr, suc, zero, ℤ, not, ◌&&◌, ◌||◌, cond, get_or, ◌==◌, ◌-◌, ◌⊎◌, ◌^◌, ◌≤ℤ◌, map, nat_lt, length-append, pos, w64, SFits, append-nil, of_z, to_z, to_z-of_z, Err, rules, ◌<ℤ◌, drop, nat_eq, zero-add, ◌+ℤ◌, Bor, FitsSigned, IfSome, int_lt, nat_le, ◌-ℤ◌, IsTrue, Ok, Result, add-one, is_lt, negsuc, option_to_list, ◌/◌}
 pub use Rattle.std.proofs.Math.Bool.{and-false, and_assoc, or-true, and-true, or-false}
 pub use Rattle.std.proofs.Math.ListN.{set, length-set, drop_of_length-le}
 pub use Rattle.std.proofs.Math.Seq.{get_or-append_seam, take-append_seam}
@@ -50,7 +50,7 @@ pub use Rattle.join_tests.specs.RowKeys.{row_key}
 pub use Rattle.pair_memory.proofs.Joining.{name_decides, row_decides}
 pub use Rattle.pair_memory.proofs.Valued.{from_unvalued}
 pub use Rattle.pair_memory.proofs.Worlds.{joined_clean, clean_either}
-pub use Rattle.pair_memory.specs.Apart.{beside, IsBeside}
+pub use Rattle.pair_memory.specs.Apart.{beside}
 pub use Rattle.pair_memory.specs.Inputs.{row_naming, IsNameDifference, IsStepped}
 pub use Rattle.pair_memory.specs.Joined.{has_name, joined, splits, unjoined}
 pub use Rattle.pair_memory.specs.Memories.{made, has_left, has_right}
@@ -68,7 +68,7 @@ pub use Rattle.pattern_gate.specs.declared.gate.PatternGate.{PatternGate}
 pub use Rattle.rete_net.specs.Answers.{answer_in, left_given, AreRuled, IsPut, some_answer, given}
 pub use Rattle.rete_net.specs.Building.{AreGrown, IsParent, HaveEnds, AreBuilt, AreDistinct, IsBehind, AreFronts}
 pub use Rattle.rete_net.specs.Dropped.{NodeForgets, AreListed, rows_for, IsForgetting, AreDue, ForgotBelow, HasNoOld, dropped_before, AreDropped, AreOld, HaveForgotten, dropped_at, with_rows}
-pub use Rattle.rete_net.specs.Fans.{AreFans, member_at, shown_nodes, Member, showing, seat_at, AreRowsTurned, IsLaidAs, IsHalf, IsLeft, IsOf, half_at, half_of, with_fans, half_in, in_fan, member_of, given_span, with_member, AreNamesTurnedAt, IsFanLike, IsHalfTurned, IsInSpan, IsSeat, given_seat, shown, AreEmpty, AreFansBelow, given_half}
+pub use Rattle.rete_net.specs.Fans.{AreFans, member_at, shown_nodes, Member, showing, AreRowsTurned, IsLaidAs, seat_at, IsHalf, IsLeft, half_at, with_fans, IsOf, half_of, in_fan, member_of, given_span, half_in, AreNamesTurnedAt, IsFanLike, with_member, AreEmpty, IsHalfTurned, IsInSpan, IsSeat, given_half, given_seat, shown}
 pub use Rattle.rete_net.specs.Forgetting.{AreNotNeeded, CountsNone, less_fact, IsUnmissed}
 pub use Rattle.rete_net.specs.Indexes.{is_listed, IsFound, IsIndexOf, is_timed, is_in, items_of, type_of, IsAskedWhereMeant}
 pub use Rattle.rete_net.specs.Loading.{IsLoadable, AreLadenRows, IsThere, coming}

@@ -1,5 +1,5 @@
 -- One fan of others turns: its rows, or the candidates of one member.
-use Rattle.rete_net.proofs.Common.{◌≡◌, ◌∙◌, sym, ap, refl, subst, ℕ, ◌+◌, ◌<◌, ◌≤◌, arith, List, [], ◌∷◌, length, Option, Some, None, slice_get, ◌⊎◌, inl, inr, true, false, zero, suc, nat_lt, set, length-set, slice_get_within, get, is_at, Updates, nat_tests, are_none, IsDifference, Vec, option_map, nat_cmp, Delta, Named, Row, Look, Pattern, row_key, Candidates, beside, made, AreBeside, IsMemberTurned, AreNamesTurned, Fan, Fans, Seat, Span, NetNode, given_half, given_span, half_at, half_in, in_fan, member_of, AreFans, AreNamesTurnedAt, AreRowsTurned, IsFanLike, IsHalf, IsHalfTurned, IsInSpan, IsLaidAs, IsLeft, Member}
+use Rattle.rete_net.proofs.Common.{◌≡◌, ◌∙◌, sym, ap, refl, subst, ℕ, ◌+◌, ◌<◌, ◌≤◌, arith, List, [], ◌∷◌, length, Option, Some, None, slice_get, inl, inr, true, false, zero, suc, nat_lt, set, slice_get_within, get, is_at, Updates, nat_tests, are_none, IsDifference, Vec, option_map, nat_cmp, Delta, Named, Row, Look, Pattern, row_key, Candidates, beside, made, AreBeside, IsMemberTurned, AreNamesTurned, Fan, Fans, Seat, Span, NetNode, given_half, given_span, half_at, half_in, in_fan, member_of, AreFans, AreNamesTurnedAt, AreRowsTurned, IsFanLike, IsHalf, IsInSpan, IsLaidAs, IsLeft, Member}
 use Rattle.fan_join.specs.declared.fan.FanJoin.{FanJoin}
 use Rattle.fan_join.specs.Fans.{AreRowsTurned as JoinTurned}
 use Rattle.rete_net.proofs.Fanning.{laid_same, laid_then}

@@ -1,6 +1,6 @@
 -- A walk over nodes of which some are members of fans. A member that is still to come stands in the walk as it was, though the rows that it shares
 -- may have left and come already.
-use Rattle.rete_net.proofs.Common.{◌≡◌, ◌∙◌, sym, ap, refl, subst, ℕ, ◌+◌, ◌<◌, ◌≤◌, arith, List, [], ◌∷◌, length, Option, Some, None, slice_get, ◌⊎◌, inl, inr, set, length-set, slice_get_within, option_map, Delta, Row, Plain, Pattern, Look, Candidates, IsBeside, row_key, condition_of, Answered, Fan, Fans, Seat, Index, NetNode, answer_in, left_given, some_answer, IsPut, given_seat, half_at, half_of, in_fan, member_at, member_of, seat_at, showing, shown, with_fans, AreFans, AreFansBelow, AreRowsTurned, IsFanLike, IsHalf, IsLaidAs, IsLeft, IsOf, IsSeat, Member, no_change, IsReplaced}
+use Rattle.rete_net.proofs.Common.{◌≡◌, ◌∙◌, sym, ap, refl, subst, ℕ, ◌+◌, ◌<◌, ◌≤◌, arith, List, [], length, Option, Some, None, slice_get, ◌⊎◌, inl, inr, set, slice_get_within, option_map, Row, Plain, Pattern, Look, Candidates, row_key, condition_of, Answered, Fan, Fans, Seat, Index, NetNode, answer_in, left_given, some_answer, IsPut, half_at, half_of, in_fan, member_at, member_of, seat_at, showing, with_fans, AreFans, AreRowsTurned, IsFanLike, IsHalf, IsLaidAs, IsLeft, IsOf, Member, no_change, IsReplaced}
 use Rattle.rete_net.specs.Answers.{given as kept}
 use Rattle.rete_net.proofs.Growing.{both_at, has_at}
 use Rattle.rete_net.proofs.Showing.{same_lists, shown_at, shown_none}

@@ -1,5 +1,5 @@
 -- One node after the other is loaded, of which some are members of fans.
-use Rattle.rete_net.proofs.Common.{◌≡◌, ◌∙◌, sym, ap, refl, subst, ℕ, ◌+◌, ◌<◌, ◌≤◌, arith, true, false, List, [], length, Option, Some, None, slice_get, filter, set, In, Fact, Delta, Extra, Row, has, InOrder, Moment, Program, Look, condition_of, Answered, Owner, Fans, Seat, Index, NetNode, left_given, some_answer, IsPut, half_at, half_of, member_at, seat_at, showing, with_fans, AreFans, AreRowsTurned, IsHalf, IsLaidAs, IsLeft, IsOf, Member, is_under, AreLoaded, IsStuck, NodeLoad, no_change, IsReplaced, IsWired}
+use Rattle.rete_net.proofs.Common.{◌≡◌, ◌∙◌, sym, ap, refl, subst, ℕ, ◌+◌, arith, true, false, List, [], length, Option, Some, None, slice_get, filter, set, In, Fact, Delta, Extra, Row, has, InOrder, Moment, Program, Look, condition_of, Answered, Owner, Fans, Seat, Index, NetNode, left_given, some_answer, IsPut, half_at, half_of, member_at, seat_at, showing, with_fans, AreFans, AreRowsTurned, IsHalf, IsLaidAs, IsLeft, IsOf, Member, is_under, AreLoaded, IsStuck, NodeLoad, no_change, IsReplaced, IsWired}
 use Rattle.rete_net.proofs.Fanning as fanning
 use Rattle.rete_net.proofs.Fanning.{member_fits}
 use Rattle.rete_net.proofs.Fanwise.{wired_again}

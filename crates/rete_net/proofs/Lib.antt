@@ -32,7 +32,7 @@ mod Showing
 mod Siblings
 mod Fanned
 mod Fanning
-mod Fanwise
+pub mod Fanwise
 mod Lading
 mod Seated
 mod Telling

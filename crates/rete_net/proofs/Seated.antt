@@ -1,12 +1,11 @@
 -- Fans that are built: of the next parent there is one more, or one has a member more; and nodes that are members keep nothing.
-use Rattle.rete_net.proofs.Common.{◌≡◌, ◌∙◌, sym, ap, refl, subst, ℕ, zero, suc, ◌+◌, ◌<◌, ◌≤◌, arith, List, [], ◌∷◌, ◌++◌, length, length-append, take, Option, Some, None, slice_get, ◌⊎◌, inl, inr, Bool, true, fun_ext, set, length-set, slice_get_within, option_map, Named, Condition, Plain, Pattern, Program, pattern_of, Candidates, beside, no_names, no_rows, StandsFor, Look, AreBeside, IsEmpty, empty_snapshot, held, GateStands, has_good_window, Node, condition_of, NodeStands, no_candidates, Fan, Fans, Seat, Span, NetNode, AreBuilt, IsBehind, IsParent, given_seat, in_fan, member_at, member_of, seat_at, showing, with_fans, with_member, AreEmpty, AreFans, IsInSpan, IsSeat, Member, AreGrowing, GrowsTo, IsFanPut, IsNewFan, IsFresh}
+use Rattle.rete_net.proofs.Common.{◌≡◌, ◌∙◌, sym, ap, refl, subst, ℕ, zero, suc, ◌+◌, ◌<◌, ◌≤◌, arith, List, [], ◌∷◌, ◌++◌, length, length-append, take, Option, Some, None, slice_get, ◌⊎◌, inl, inr, Bool, true, fun_ext, set, length-set, slice_get_within, option_map, Named, Condition, Plain, Pattern, Program, pattern_of, Candidates, beside, no_names, no_rows, StandsFor, Look, AreBeside, IsEmpty, empty_snapshot, held, GateStands, has_good_window, Node, condition_of, NodeStands, no_candidates, Fan, Fans, Seat, Span, NetNode, AreBuilt, IsBehind, IsParent, given_seat, in_fan, member_at, member_of, seat_at, showing, with_fans, AreEmpty, AreFans, IsSeat, Member, AreGrowing, GrowsTo, IsFanPut, IsNewFan, IsFresh}
 use Rattle.join_tests.specs.declared.row_key.RowKey.{RowKey}
-use Rattle.fan_join.proofs.Places.{seam_or_before, get_front}
+use Rattle.fan_join.proofs.Places.{seam_or_before}
 use Rattle.fan_join.proofs.Whole.{empty_law}
-use Rattle.condition_node.specs.declared.node.Node.TheVariants as node
-use Rattle.rete_net.proofs.Growing.{both_at, get_left, get_seam, has_at}
+use Rattle.rete_net.proofs.Growing.{both_at, get_left, get_seam}
 use Rattle.rete_net.proofs.Showing.{condition_shown, parent_shown, shown_from, shown_length}
-use Rattle.rete_net.proofs.Siblings.{own_join, shows_join}
+use Rattle.rete_net.proofs.Siblings.{shows_join}
 use Rattle.rete_net.proofs.Turns.{set_other, set_same}
 use Rattle.rete_net.proofs.Walking.{equal_or_not}
 

@@ -1,5 +1,5 @@
 -- Nodes with what they keep as members of fans: they stand where they stood, for the same conditions.
-use Rattle.rete_net.proofs.Common.{◌≡◌, ◌∙◌, sym, ap, refl, subst, ℕ, zero, suc, ℤ, ◌≤ℤ◌, ◌<ℤ◌, ◌^◌, pos, ◌++◌, ◌||◌, not, Bool, true, false, List, [], ◌∷◌, length, Option, Some, None, slice_get, ≤ℤ_refl, filter, Fact, Delta, Moment, Program, Condition, snapshot_at, pattern_of, is_whole, Snapshot, floor, floor_on, held, IsOrderly, Moves, at_clock, shares_tag, PatternGate, is_one_meant, BetaJoin, Node, condition_of, is_negated, IsBefore, join_quiet, NetNode, Schedule, Member, shown, showing, with_member, is_timed, AreQuiet, IsNodeQuiet, AreScheduled, IsGateStill, IsLeftAlone, IsScheduled, IsStillAt, IsReplaced}
+use Rattle.rete_net.proofs.Common.{◌≡◌, ◌∙◌, sym, ap, refl, subst, ℕ, zero, suc, ℤ, ◌≤ℤ◌, ◌++◌, ◌||◌, not, Bool, true, false, List, [], ◌∷◌, length, Option, Some, None, slice_get, ≤ℤ_refl, filter, Fact, Delta, Moment, Program, Condition, snapshot_at, pattern_of, is_whole, Snapshot, floor, floor_on, held, IsOrderly, Moves, at_clock, shares_tag, PatternGate, is_one_meant, BetaJoin, Node, condition_of, is_negated, IsBefore, join_quiet, NetNode, Schedule, Member, shown, showing, with_member, is_timed, AreQuiet, IsNodeQuiet, AreScheduled, IsGateStill, IsLeftAlone, IsScheduled, IsStillAt, IsReplaced}
 use Rattle.condition_node.specs.declared.node.Node.TheVariants as node
 use Rattle.rete_net.proofs.Growing.{both_at}
 use Rattle.rete_net.proofs.Quieting.{untimed_quiet}

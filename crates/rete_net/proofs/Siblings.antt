@@ -1,5 +1,5 @@
 -- What a node does as a member of a fan, out of both halves of a step.
-use Rattle.rete_net.proofs.Common.{◌≡◌, ◌∙◌, sym, ap, refl, subst, ℕ, ℤ, ◌&&◌, ◌||◌, not, Bool, true, false, List, [], ◌∷◌, map, Option, Some, None, slice_get, filter, eq_by_cmp, is_some, In, RuleId, rows_of_extras, AreExtrasBeside, same_from_decides, Fact, Extra, Delta, Named, Row, name_cmp, has, row_cmp, InOrder, IsDifference, changes_nothing, Condition, Plain, Negated, Existing, Folded, Pattern, Moment, Program, IsAt, pattern_of, Snapshot, Look, Candidates, beside, row_naming, IsNameDifference, IsStepped, has_name, has_left, has_right, made, no_names, row_decides, name_decides, BetaJoin, AreNamesTurned, candidates_of, GateStands, has_good_window, nothing_differs, IsOrderly, Moves, PatternGate, Node, condition_of, node_moves, NetNode, NodeForgets, Fan, Fans, Seat, half_at, half_of, member_at, member_of, seat_at, showing, with_member, AreNamesTurnedAt, IsHalf, IsHalfTurned, IsLeft, IsOf, Member, type_of, is_of, NodeLoad, no_change, NodeStep}
+use Rattle.rete_net.proofs.Common.{◌≡◌, ◌∙◌, sym, ap, refl, subst, ℕ, ℤ, ◌&&◌, ◌||◌, not, Bool, true, false, List, [], ◌∷◌, map, Option, Some, None, filter, eq_by_cmp, is_some, In, RuleId, rows_of_extras, AreExtrasBeside, same_from_decides, Fact, Extra, Delta, Named, Row, name_cmp, has, row_cmp, InOrder, IsDifference, changes_nothing, Condition, Plain, Negated, Existing, Folded, Pattern, Moment, Program, IsAt, pattern_of, Snapshot, Look, Candidates, beside, row_naming, IsNameDifference, IsStepped, has_name, has_left, has_right, made, no_names, row_decides, name_decides, BetaJoin, AreNamesTurned, candidates_of, GateStands, has_good_window, nothing_differs, IsOrderly, Moves, PatternGate, Node, condition_of, node_moves, NetNode, NodeForgets, Fan, Fans, Seat, half_at, half_of, member_at, member_of, seat_at, showing, with_member, AreNamesTurnedAt, IsHalf, IsHalfTurned, IsLeft, IsOf, Member, type_of, is_of, NodeLoad, no_change, NodeStep}
 use Rattle.std.specs.Option.{IfSome}
 use Rattle.std.specs.List.Sorted.{IsStrictlySortedBy}
 use Rattle.pair_memory.specs.declared.left_rows.LeftRows.{LeftRows}
@@ -11,7 +11,6 @@ use Rattle.condition_node.proofs.Loading.{join_loads}
 use Rattle.condition_node.proofs.Telling.{join_turns, join_tells}
 use Rattle.rete_net.proofs.Filled.{loads_node}
 use Rattle.rete_net.proofs.Forgets.{node_forgets}
-use Rattle.rete_net.proofs.Showing.{condition_shown}
 use Rattle.rete_net.proofs.Skipping.{no_difference}
 use Rattle.rete_net.proofs.Turning.{node_step}
 

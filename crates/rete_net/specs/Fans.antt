@@ -1,5 +1,5 @@
 -- Nodes that share the rows before them with siblings: which they are, and what they keep as if each had memories of its own.
-use Rattle.std.specs.Prelude.{◌≡◌, ◌<◌, ◌≤◌, ◌&&◌, ◌||◌, not, ℕ, suc, Bool, List, [], ◌∷◌, length, nat_lt, false, Option, Some, None, slice_get}
+use Rattle.std.specs.Prelude.{◌≡◌, ◌<◌, ◌≤◌, ◌&&◌, ◌||◌, not, ℕ, suc, List, [], ◌∷◌, length, Option, Some, None, slice_get}
 use Rattle.std.specs.BTreeMap.{get}
 use Rattle.std.specs.Global.{Vec}
 use Rattle.std.specs.Option.{option_map}

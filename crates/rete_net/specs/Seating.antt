@@ -1,5 +1,5 @@
 -- Fans that are being built, parent by parent.
-use Rattle.std.specs.Prelude.{◌≡◌, ◌<◌, ◌≤◌, ◌∷◌, ◌++◌, ℕ, List, [], length, Option, Some, None, slice_get}
+use Rattle.std.specs.Prelude.{◌≡◌, ◌<◌, ◌≤◌, ◌∷◌, ◌++◌, ℕ, List, [], length, Some, slice_get}
 use Rattle.rule_model.specs.declared.condition.Pattern.{Pattern}
 use Rattle.join_tests.specs.declared.row_key.RowKey.{RowKey}
 use Rattle.pair_memory.specs.declared.candidates.Candidates.{Candidates}

@@ -1,5 +1,6 @@
 -- The lines of changes and firings name types and rules of the program alone.
 use Rattle.session_laws.proofs.Common.{◌^◌, ◌≡◌, ◌<◌, ◌≤◌, ◌==◌, ◌&&◌, ℕ, ℤ, zero, suc, not, Bool, true, false, if◌then◌else◌, ap, Err, List, [], ◌∷◌, ◌++◌, length, nat_lt, Option, Some, None, option_map, Result, Ok, refl, sym, ◌∙◌, subst, lt-ltb, arith, list_all-append, ∥∥₁_elim, FactId, TypeId, Value, Fact, HeldFacts, Named, Row, Action, Code, Absent, BadFields, EventFixed, ReferenceFixed, Match, Program, Rule, TypeInfo, Step, values_fit, bound_in, Bindings, matches, has_match, id_at, sets_of, type_or_first, IsRunnable, In, World, is_of_type, snapshot, all_of, and_both, and_parts, of_map, has_pending, rule_of, in_place, Change, Given, entry_asked, fields_step, insert_step, modify_step, new_step, promise_step, retract_step, sets_step, type_named, values_step, entry_within, asked_fits, OutLine, Memory, Setting, actions_of, fire_line, AllWantKnown, has_known_places, StayKnown, WantsKnown, planned, planned_for, held_at, IsNetOf, AreOfRules, Contents, Course, IsSound, ReachesNoMore, Runs, Standing, reached_by, reached_of, nat_tests, moment_in, nothing_reached, is_event}
+use Rattle.rete_net.proofs.Fanwise.{net_under}
 use Rattle.std.specs.Prelude.{slice_get}
 use mathlib.Core.Bool.{Bool-set}
 use Rattle.rule_world.specs.Kinds.{step_fits}
@@ -191,7 +192,7 @@ fire_line_known p m k q sound top = lt-ltb q.rule.0 (length p.rules) (sound.pend
 
 pub standing_sound : (s : Setting) (m : Memory) (k : Contents) (w : World) → Standing s m k w → ReachesNoMore s.program w.reached → IsSound s.program m k
 standing_sound s m k w st more = record {
-  net = st.seen.stands.nodes.shape;
+  net = net_under s.program m.net.nodes.items m.net.fans m.net.ends.items st.seen.stands.nodes.shape;
   pending = λ q e.
       let p = s.program in
       let is_match = (and_parts (has_match (matches p (snapshot w)) q) (not (has_match w.fired q)) (sym (has_pending p w q) ∙ sym (st.holds.pending q) ∙ e)).0 in

@@ -1,4 +1,4 @@
-use Rattle.rete_net.proofs.Common.{◌≡◌, ◌∙◌, sym, ap, length, List, ◌++◌, ◌∷◌, [], slice_get, Fan}
+use Rattle.rete_net.proofs.Common.{◌∙◌, ap, List, ◌++◌, ◌∷◌, [], slice_get, Fan}
 use Rattle.rete_net.proofs.Growing.{get_seam}
 use Rattle.rete_net.proofs.Seated.{fan_grows}
 use Rattle.rete_net.proofs.fans.Fans.fan_for.Goals as goal

@@ -1,4 +1,4 @@
-use Rattle.rete_net.proofs.Common.{◌≡◌, ◌∙◌, sym, ap, ◌<◌, arith, length, Some, slice_get-get_or}
+use Rattle.rete_net.proofs.Common.{◌∙◌, sym, ap, ◌<◌, arith, length, Some, slice_get-get_or}
 use Rattle.rete_net.proofs.fans.Fans.fan_with.Goals as goal
 
 pub returns-then-is_same-clause-fan : goal.returns-then-is_same-clause-fan

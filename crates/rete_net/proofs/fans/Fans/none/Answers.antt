@@ -1,4 +1,4 @@
-use Rattle.rete_net.proofs.Common.{◌≡◌, ◌∙◌, sym, ap, refl, subst, ℕ, ◌+◌, ◌∷◌, [], None, Option, List, length, length-append, arith, Seat, seat_at}
+use Rattle.rete_net.proofs.Common.{◌∙◌, ap, ◌+◌, ◌∷◌, [], None, Option, List, length, length-append, Seat, seat_at}
 use Rattle.rete_net.proofs.Seated.{none_more}
 use Rattle.rete_net.proofs.fans.Fans.none.Goals as goal
 

@@ -1,4 +1,4 @@
-use Rattle.rete_net.proofs.Common.{◌≡◌, ◌∙◌, sym, ap, refl, ◌<◌, arith, length, ℕ, Some, slice_get, set, slice_get-get_or, Fan, Seat}
+use Rattle.rete_net.proofs.Common.{◌≡◌, ◌∙◌, sym, ap, refl, ◌<◌, arith, length, ℕ, Some, slice_get, set, slice_get-get_or, Fan}
 use Rattle.rete_net.proofs.Growing.{both_at}
 use Rattle.rete_net.proofs.Seated.{member_grows}
 use Rattle.rete_net.proofs.fans.Fans.put_member.Goals as goal

@@ -1,4 +1,4 @@
-use Rattle.rete_net.proofs.Common.{◌≡◌, ◌∙◌, sym, ap, subst, ◌≤◌, ℕ, length, Option, Some, AreGrowing}
+use Rattle.rete_net.proofs.Common.{◌∙◌, sym, ap, subst, ◌≤◌, ℕ, length, Option, Some, AreGrowing}
 use Rattle.std.specs.Option.{IfSome}
 use Rattle.rete_net.proofs.fans.Fans.put_node.Goals as goal
 

@@ -1,4 +1,4 @@
-use Rattle.rete_net.proofs.Common.{◌≡◌, ◌∙◌, sym, ap, refl, ◌<◌, arith, length, Some, slice_get, set, length-set, slice_get-get_or, get, nat_cmp, Fan, Fans}
+use Rattle.rete_net.proofs.Common.{◌≡◌, ◌∙◌, sym, ap, refl, ◌<◌, arith, length, Some, slice_get, length-set, slice_get-get_or, get, nat_cmp, Fan}
 use Rattle.rete_net.proofs.Fanned.{each_like, fan_turned, half_other, half_there, member_other, rows_like}
 use Rattle.rete_net.proofs.fans.Fans.turn_fan.Given.{Over}
 use Rattle.rete_net.proofs.fans.Fans.turn_fan.Goals as goal

@@ -1,4 +1,4 @@
-use Rattle.rete_net.proofs.Common.{◌≡◌, ◌∙◌, sym, ap, refl, length, Some, slice_get, set, length-set, slice_get-get_or, slice_get_within, Fan}
+use Rattle.rete_net.proofs.Common.{◌≡◌, ◌∙◌, sym, ap, refl, Some, slice_get, length-set, slice_get-get_or, slice_get_within}
 use Rattle.rete_net.proofs.Fanned.{each_like, names_like, names_others, names_turned}
 use Rattle.rete_net.proofs.fans.Fans.turn_names.Goals as goal
 

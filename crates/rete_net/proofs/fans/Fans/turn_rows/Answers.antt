@@ -1,4 +1,4 @@
-use Rattle.rete_net.proofs.Common.{◌≡◌, ◌∙◌, sym, ap, refl, subst, ◌≤◌, ◌<◌, arith, slice_get, List, true, false, Span, given_span}
+use Rattle.rete_net.proofs.Common.{◌∙◌, sym, refl, subst, ◌≤◌, ◌<◌, arith, slice_get, Span, given_span}
 use Rattle.rete_net.proofs.Fanned.{all_turned, none_of, none_turned, none_yet, some_of, turned_more, IsTurnedTo}
 use Rattle.rete_net.proofs.Fanning.{laid_same}
 use Rattle.rete_net.proofs.fans.Fans.turn_rows.Goals as goal

@@ -1,4 +1,4 @@
-use Rattle.rete_net.proofs.Common.{◌≡◌, ◌∙◌, sym, ap, refl, subst, ◌<◌, length, arith, Some, slice_get, List, [], slice_get-get_or, Row, has_name, Index, left_given, IsPut, half_of, member_at, seat_at, showing, AreRowsTurned, IsHalf, IsOf, Member}
+use Rattle.rete_net.proofs.Common.{◌≡◌, ◌∙◌, sym, ap, refl, subst, ◌<◌, length, arith, Some, slice_get, List, [], slice_get-get_or, Row, has_name, Index, left_given, IsPut, AreRowsTurned}
 use Rattle.rete_net.proofs.Fading.{set_off, forget_at, come_to_end}
 use Rattle.rete_net.proofs.Fanning.{laid_same, laid_then}
 use Rattle.rete_net.proofs.Scheduling.{scheduled_more}

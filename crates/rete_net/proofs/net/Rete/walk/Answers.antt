@@ -1,4 +1,4 @@
-use Rattle.rete_net.proofs.Common.{◌≡◌, ◌∙◌, sym, ap, refl, subst, true, false, ◌<◌, length, arith, Some, slice_get, List, slice_get-get_or, Row, lent, Index, NetNode, has_place, IsPut, AreFans, AreRowsTurned}
+use Rattle.rete_net.proofs.Common.{◌≡◌, ◌∙◌, sym, ap, refl, subst, true, false, ◌<◌, length, arith, Some, slice_get, List, slice_get-get_or, Row, lent, Index, NetNode, has_place, IsPut, AreRowsTurned}
 use Rattle.std.proofs.Common.{option_map}
 use Rattle.rete_net.proofs.Fanning.{laid_same, laid_then}
 use Rattle.rete_net.proofs.Steady.{set_off, step_at, come_to_end}

@@ -1,4 +1,4 @@
-use Rattle.rete_net.proofs.Common.{◌≡◌, ◌∙◌, sym, ap, refl, Option, Some, lent, showing, Member, NodeStep}
+use Rattle.rete_net.proofs.Common.{◌∙◌, sym, refl, Option, lent, showing, Member, NodeStep}
 use Rattle.std.proofs.Common.{option_map}
 use Rattle.rete_net.proofs.Fanning.{laid_same}
 use Rattle.rete_net.proofs.Siblings.{left_by, with_seat, without_seat}

@@ -1,6 +1,5 @@
-use Rattle.rete_net.proofs.Common.{◌≡◌, ◌∙◌, sym, ap, refl, subst, Option, Some, [], List, get, nat_cmp, has_name, NodeForgets, half_in, showing, Member}
-use Rattle.rete_net.proofs.Fanning.{laid_same}
-use Rattle.rete_net.proofs.Siblings.{left_by, names_forget, with_seat, without_seat}
+use Rattle.rete_net.proofs.Common.{◌∙◌, sym, refl, Option, [], has_name, NodeForgets, showing, Member}
+use Rattle.rete_net.proofs.Siblings.{names_forget, with_seat}
 use Rattle.rete_net.proofs.node.NetNode.forget_in.Goals as goal
 
 pub returns-in_ok-delta-in-Some-clause-forgets : goal.returns-in_ok-delta-in-Some-clause-forgets

@@ -1,4 +1,4 @@
-use Rattle.rete_net.proofs.Common.{◌≡◌, ◌∙◌, sym, ap, refl, [], Err, Option, showing, Member, NodeLoad, NoRow}
+use Rattle.rete_net.proofs.Common.{◌∙◌, sym, ap, refl, [], Err, Option, showing, Member, NodeLoad, NoRow}
 use Rattle.rete_net.proofs.Fanning.{laid_same}
 use Rattle.rete_net.proofs.Filling.{same_fault}
 use Rattle.rete_net.proofs.Siblings.{left_by, with_seat, without_seat}
