@@ -52,3 +52,7 @@ last_line front (b ∷ rest) count all empty so_far = absurd (omega (arith, eqb-
 every_line : (count : ℕ) (lines : List (List ℕ)) → counted [] count lines ≡ count + length lines
 every_line count [] = omega arith
 every_line count (line ∷ lines) = every_line (count + 1) lines ∙ omega arith
+
+-- each line begins with nothing
+pub all_lines : (text : List ℕ) → lines_with [] text ≡ length (lines_of text)
+all_lines text = every_line 0 (lines_of text) ∙ omega arith

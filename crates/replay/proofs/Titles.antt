@@ -38,3 +38,22 @@ same_names titles [] all = all
 same_names titles (r ∷ rules) all =
     All-cons (λ (rule : Rule). NameEarlier rule.conditions) (record r { name = first_or r.name titles }) (renamed (drop 1 titles) rules)
     (All-head (λ (rule : Rule). NameEarlier rule.conditions) r rules all) (same_names (drop 1 titles) rules (All-tail (λ (rule : Rule). NameEarlier rule.conditions) r rules all))
+
+pub is_runnable : (titles : List (List ℕ)) (p : Program) → IsRunnable p → IsRunnable (with_titles titles p)
+unfolding is_event is_observed is_reference is_typed
+is_runnable titles p sound = record {
+  few_types = sound.few_types;
+  some_entry = sound.some_entry;
+  few_entries = sound.few_entries;
+  lateness = sound.lateness;
+  expiry = sound.expiry;
+  few_rules = subst (λ n. n ≤ 256) (sym (same_length titles p.rules)) sound.few_rules;
+  conditions = all_same has_conditions (λ r name. refl) titles p.rules ∙ sound.conditions;
+  operators = same_operators titles p.rules sound.operators;
+  named = same_names titles p.rules sound.named;
+  windows = all_same (has_windows p) (λ r name. refl) titles p.rules ∙ sound.windows;
+  observed = λ ty. sound.observed ty ∙ ap (λ b. is_event p ty && b) (sym (any_same (λ (rule : Rule). list_any (observes_type ty) rule.conditions) (λ r name. refl) titles p.rules));
+  references = sound.references;
+  actions = all_same has_few_actions (λ r name. refl) titles p.rules ∙ sound.actions;
+  typed = all_same (rule_fits p.types) (λ r name. refl) titles p.rules ∙ sound.typed;
+}
