@@ -1,8 +1,7 @@
 -- One row more, and one match more.
-use Rattle.agenda.proofs.Common.{◌≡◌, ℕ, ◌==◌, ◌&&◌, ◌||◌, not, Bool, true, false, cond, List, [], ◌∷◌, length, ℤ, refl, sym, ◌∙◌, ap, subst, arith, eq_by_cmp, list_any, Row, row_cmp, has, Match, Ranked, match_cmp, has_match, rank_cmp, Well, AllWell, matches}
+use Rattle.agenda.proofs.Common.{◌≡◌, ℕ, ◌==◌, ◌&&◌, ◌||◌, not, Bool, true, false, cond, List, [], ◌∷◌, length, ℤ, refl, sym, ◌∙◌, ap, subst, arith, eq_by_cmp, list_any, Row, row_cmp, has, Match, Ranked, match_cmp, has_match, rank_cmp, Well, AllWell, matches, match_parts}
 use Rattle.row_delta.specs.RowOrder.{same_equiv}
 use Rattle.agenda.proofs.Ranks.{updated}
-use Rattle.rule_model.proofs.Exact.{match_parts}
 
 and_more : (o t a b : Bool) → ((o && not (t && a)) && not (t && b)) ≡ (o && not (t && (a || b)))
 and_more false t a b = refl

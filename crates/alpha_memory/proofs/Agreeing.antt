@@ -1,11 +1,9 @@
 -- The memory's indexes agree, and show the list that is wanted, after each call.
-use Rattle.alpha_memory.proofs.Common.{◌≡◌, ◌∙◌, sym, ap, refl, subst, ℕ, ◌+◌, ◌<◌, List, [], ◌∷◌, ◌++◌, length, Bool, true, false, ◌&&◌, cond, Option, Some, None, arith, eq-eqb, nat_eq, option_and_then, nat_cmp, eq_by_cmp, nat_cmp_total, eq_by_cmp_equiv, is_at, get-insert, get-remove, keys_of, lookup, eqb-true, Value, same_value, Named, Candidate, has_tag, without_tag, at, bucket_at, candidate, under, Agree, JoinIndex, Place}
+use Rattle.alpha_memory.proofs.Common.{◌≡◌, ◌∙◌, sym, ap, refl, subst, ℕ, ◌+◌, ◌<◌, List, [], ◌∷◌, ◌++◌, length, Bool, true, false, ◌&&◌, cond, Option, Some, None, arith, eq-eqb, nat_eq, option_and_then, nat_cmp, eq_by_cmp, nat_cmp_total, eq_by_cmp_equiv, is_at, get-insert, get-remove, keys_of, lookup, eqb-true, Value, same_value, Named, Candidate, has_tag, without_tag, at, bucket_at, candidate, under, Agree, JoinIndex, Place, get-empty, len-empty, len-entries, is_tagged}
 use Rattle.std.proofs.Common.{map as list_map}
-use Rattle.std.specs.FinMap.{get-empty, len-empty, len-entries}
 use Rattle.std.specs.FinMap as map
 use Rattle.std.specs.List.{IsDistinct}
 use Rattle.fx_base.specs.SameValues.{same_equiv}
-use Rattle.alpha_memory.specs.Candidates.{is_tagged}
 use Rattle.alpha_memory.specs.Places.{numbered}
 use Rattle.alpha_memory.proofs.Numbers.{torn, one, tied, itself, untied, has_number, number_has, Apart-same, numbered-same, Apart-put, unused, numbered-put, Apart-take, has_taken, numbered-take}
 use Rattle.alpha_memory.proofs.Listed.{values-insert, values-remove, none_of, one_of, all_stay}

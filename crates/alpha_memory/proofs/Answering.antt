@@ -1,12 +1,9 @@
 -- The candidates that the memory's indexes give, in the order of their insertion.
-use Rattle.alpha_memory.proofs.Common.{◌≡◌, ◌∙◌, ap, refl, subst, ℕ, suc, zero, ◌<◌, List, [], ◌∷◌, length, Bool, true, Option, Some, None, BTreeMap, arith, Contains, is_some, option_and_then, nat_cmp, nat_cmp_total, nat_eq_equiv, IsFromIterResult, is_at, keys_of, values_of, lookup, eqb-true, exact_unsigned, lookup-from_Contains, Value, same_value, Named, Candidate, names_of, with_join, at, bucket_at, candidate, name_entry, under, Agree, JoinIndex, Place}
+use Rattle.alpha_memory.proofs.Common.{◌≡◌, ◌∙◌, ap, refl, subst, ℕ, suc, zero, ◌<◌, List, [], ◌∷◌, length, Bool, true, Option, Some, None, BTreeMap, arith, Contains, is_some, option_and_then, nat_cmp, nat_cmp_total, nat_eq_equiv, IsFromIterResult, is_at, keys_of, values_of, lookup, eqb-true, exact_unsigned, lookup-from_Contains, Value, same_value, Named, Candidate, names_of, with_join, at, bucket_at, candidate, name_entry, under, Agree, JoinIndex, Place, slice_index_or, IfSome, Contains-from_lookup, IfSome-btree_map_get_from_list, btree_map_contains_key_from_list, numbered}
 use Rattle.std.proofs.Common.{map as list_map}
-use Rattle.std.specs.Prelude.{slice_index_or, IfSome}
 use Rattle.std.specs.BTreeMap as tree
 use Rattle.std.specs.FinMap as map
 use Rattle.std.specs.List.Sorted.{IsStrictlySortedBy}
-use Rattle.std.proofs.lemmas.Map.Views.{Contains-from_lookup, IfSome-btree_map_get_from_list, btree_map_contains_key_from_list}
-use Rattle.alpha_memory.specs.Places.{numbered}
 use Rattle.alpha_memory.proofs.Numbers.{one, some, same_option, HasNumber, has_number, number_has}
 use Rattle.alpha_memory.proofs.Listed.{chosen, names_in_order, no_names, all_pass}
 use Rattle.alpha_memory.proofs.Agreeing.{listed}

@@ -1,10 +1,8 @@
 -- The keys of all buckets of a join index.
-use Rattle.alpha_memory.proofs.Common.{◌≡◌, ◌∙◌, sym, ap, refl, Bool, true, false, ◌||◌, ◌++◌, cond, List, [], ◌∷◌, Option, Some, list_any, AllByRecursion, Ordering, is_at, IsEquivalence, keys_of, lookup, is_some, option_map, option_and_then, eq_by_cmp, entries, at, Bucket, JoinIndex}
-use Rattle.std.specs.Prelude.{◌↔◌}
+use Rattle.alpha_memory.proofs.Common.{◌≡◌, ◌∙◌, sym, ap, refl, Bool, true, false, ◌||◌, ◌++◌, cond, List, [], ◌∷◌, Option, Some, list_any, AllByRecursion, Ordering, is_at, IsEquivalence, keys_of, lookup, is_some, option_map, option_and_then, eq_by_cmp, entries, at, Bucket, JoinIndex, ◌↔◌, AreKeys}
 use Rattle.std.specs.List.{IsDistinct}
 use Rattle.std.proofs.lemmas.List.Folds.{list_any-append}
 use Rattle.std.proofs.lemmas.Map.Made.{is_some-lookup}
-use Rattle.alpha_memory.specs.JoinIndex.{AreKeys}
 use Rattle.alpha_memory.proofs.Buckets.{found_in}
 
 -- the keys of these buckets

@@ -1,10 +1,7 @@
 -- The list of the numbered candidates, in the order of their numbers.
-use Rattle.alpha_memory.proofs.Common.{◌≡◌, ◌∙◌, sym, ap, refl, subst, ℕ, ◌<◌, List, [], ◌∷◌, ◌++◌, filter, Bool, true, false, not, ◌&&◌, ◌||◌, cond, Option, Some, None, arith, Ordering, nat_cmp, eq_by_cmp, nat_cmp_total, eq_by_cmp_equiv, is_at, find, get-remove, nat_cmp-IsAntisymmetric, list_any, AllByRecursion, keys_of, values_of, lookup, Named, Candidate, names_of}
+use Rattle.alpha_memory.proofs.Common.{◌≡◌, ◌∙◌, sym, ap, refl, subst, ℕ, ◌<◌, List, [], ◌∷◌, ◌++◌, filter, Bool, true, false, not, ◌&&◌, ◌||◌, cond, Option, Some, None, arith, Ordering, nat_cmp, eq_by_cmp, nat_cmp_total, eq_by_cmp_equiv, is_at, find, get-remove, nat_cmp-IsAntisymmetric, list_any, AllByRecursion, keys_of, values_of, lookup, Named, Candidate, names_of, T, is_lt, is_eq, entries_sorted, get-entries, entries-insert}
 use Rattle.std.proofs.Common.{map as list_map}
-use Rattle.std.specs.Prelude.{T}
 use Rattle.std.specs.declared.cmp.Ordering.TheVariants.{Less, Equal, Greater}
-use Rattle.std.specs.Ordering.{is_lt, is_eq}
-use Rattle.std.specs.FinMap.{entries_sorted, get-entries, entries-insert}
 use Rattle.std.specs.FinMap as map
 use Rattle.std.specs.FinMap.Entries.{by_order, put, where_key, below_all, is_sorted, is_sorted-where_key, find-where_key, same_entries}
 use Rattle.std.specs.List.Sorted.{IsStrictlySortedBy}

@@ -1,12 +1,8 @@
 -- Which candidate has which number, before and after one place is put in or taken out.
-use Rattle.alpha_memory.proofs.Common.{◌≡◌, ◌≢◌, ◌∙◌, sym, ap, refl, ℕ, suc, ◌<◌, List, [], ◌∷◌, Bool, true, false, cond, Option, Some, None, arith, eq-eqb, inl, inr, ◌⊎◌, nat_eq, Contains, is_some, nat_cmp, eq_by_cmp, nat_cmp_total, eq_by_cmp_equiv, nat_eq_equiv, find, get-insert, get-remove, nat_cmp-IsAntisymmetric, keys_of, lookup, eqb-true, exact_unsigned, lookup-from_Contains, Candidate, candidate, Place}
+use Rattle.alpha_memory.proofs.Common.{◌≡◌, ◌≢◌, ◌∙◌, sym, ap, refl, ℕ, suc, ◌<◌, List, [], ◌∷◌, Bool, true, false, cond, Option, Some, None, arith, eq-eqb, inl, inr, ◌⊎◌, nat_eq, Contains, is_some, nat_cmp, eq_by_cmp, nat_cmp_total, eq_by_cmp_equiv, nat_eq_equiv, find, get-insert, get-remove, nat_cmp-IsAntisymmetric, keys_of, lookup, eqb-true, exact_unsigned, lookup-from_Contains, Candidate, candidate, Place, unwrap_or, get-from_entries, same_map, IsDistinct, tells_apart, numbered_entry}
 use Rattle.std.proofs.Common.{map as list_map}
-use Rattle.std.specs.Option.{unwrap_or}
-use Rattle.std.specs.FinMap.{get-from_entries, same_map}
 use Rattle.std.specs.FinMap as map
-use Rattle.std.specs.List.{IsDistinct}
-use Rattle.std.proofs.lemmas.Map.Views.{tells_apart}
-use Rattle.alpha_memory.specs.Places.{numbered_entry, numbered}
+use Rattle.alpha_memory.specs.Places.{numbered}
 
 -- ---- options, tests and numbers
 

@@ -1,10 +1,8 @@
 -- The laws of steps and of forgetting, from what the node tells of what it keeps.
-use Rattle.beta_join.proofs.Common.{◌≡◌, ◌∙◌, sym, ap, refl, subst, Bool, true, false, not, ◌&&◌, ◌||◌, Pattern, made}
-use Rattle.pair_memory.specs.Joined.{joined}
+use Rattle.beta_join.proofs.Common.{◌≡◌, ◌∙◌, sym, ap, refl, subst, Bool, true, false, not, ◌&&◌, ◌||◌, Pattern, made, joined, difference_alike}
 use Rattle.pair_memory.specs.Standing.{clean, cleaned, either, PassesAlike, StandsFor}
 use Rattle.pair_memory.proofs.Worlds.{made_clean, clean_either}
 use Rattle.pair_memory.proofs.Steps.{steps_law, forgets_law}
-use Rattle.row_change.proofs.Alike.{difference_alike}
 use Rattle.beta_join.specs.Laws.{StepLaw, ForgetLaw}
 
 pub step_law : (S : Type 0) → StepLaw S

@@ -1,14 +1,11 @@
 -- What one row more, or one less, on a side does to the rows that are made.
-use Rattle.beta_join.proofs.Common.{◌≡◌, ◌∙◌, sym, ap, refl, List, Bool, true, false, not, ◌&&◌, ◌||◌, Option, Some, None, eq_by_cmp, Pattern, Row, row_cmp, has, name_cmp, Look, Memories, has_left, has_right, made, Keeps, Turned}
+use Rattle.beta_join.proofs.Common.{◌≡◌, ◌∙◌, sym, ap, refl, List, Bool, true, false, not, ◌&&◌, ◌||◌, Option, Some, None, eq_by_cmp, Pattern, Row, row_cmp, has, name_cmp, Look, Memories, has_left, has_right, made, Keeps, Turned, joins, unjoined, splits, row_absent, row_present, name_absent, name_present, keeps_then, leads_alike}
 use Rattle.row_delta.specs.declared.row.Named.{Named}
 use Rattle.row_change.specs.Changes.{Leads, without, along}
-use Rattle.join_tests.specs.Joins.{joins}
 use Rattle.row_change.specs.declared.change.Change.{Change}
-use Rattle.pair_memory.specs.Joined.{unjoined, splits, joined}
+use Rattle.pair_memory.specs.Joined.{joined}
 use Rattle.pair_memory.proofs.Joining.{row_decides, name_decides, joined_alike}
 use Rattle.pair_memory.proofs.Keeping.{made_after}
-use Rattle.pair_memory.proofs.Turning.{row_absent, row_present, name_absent, name_present, keeps_then}
-use Rattle.row_change.proofs.Alike.{leads_alike}
 
 splits_imply : (t u : Row → Named → Bool) (b : Bool) → ((l : Row) (c : Named) → t l c ≡ true → u l c ≡ b) → (o : Option (Row × Named)) → splits t o ≡ true → splits u o ≡ b
 splits_imply t u b h None e = let f : false ≡ true = e in cc

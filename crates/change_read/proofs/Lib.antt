@@ -1,2 +1,3 @@
+mod Common
 pub mod Places
 pub mod Fitting

@@ -1,10 +1,7 @@
 -- What a name finds in a list stands in its place.
-use Rattle.std.proofs.Common.{◌≡◌, ◌<◌, ◌+◌, ℕ, suc, Bool, true, false, cond, List, [], ◌∷◌, length, Option, Some, refl, subst, arith}
-use Rattle.std.specs.Prelude.{slice_get}
+use Rattle.change_read.proofs.Common.{◌≡◌, ◌<◌, ◌+◌, ℕ, suc, Bool, true, false, cond, List, [], ◌∷◌, length, Option, Some, refl, subst, arith, slice_get, Kind, TypeInfo}
 use Rattle.std.specs.Str.{bytes_eq}
-use Rattle.fx_base.specs.declared.kind.Kind.{Kind}
 use Rattle.rule_model.specs.declared.program.EntryInfo.{EntryInfo}
-use Rattle.rule_model.specs.declared.program.TypeInfo.{TypeInfo}
 use Rattle.change_read.specs.Changes.{type_named, entry_named}
 use Rattle.change_read.specs.Fields.{field_named}
 

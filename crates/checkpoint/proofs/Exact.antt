@@ -1,12 +1,7 @@
 -- What is read is spelled so, and what is spelled so is read: numbers, and values made of values.
-use Rattle.std.proofs.Common.{◌≡◌, ℕ, zero, suc, ◌^◌, ◌<◌, ◌≤◌, ℤ, pos, negsuc, FitsSigned, Bool, true, false, cond, ltb, List, [], ◌∷◌, ◌++◌, length, get_or, take, drop, Option, Some, None, refl, sym, ap, subst, ◌∙◌, append_assoc, arith, inl, inr}
-use Rattle.std.specs.Int.{Width, w16, w64, byte_len, from_be_bytes, to_be_bytes, cast_signed, cast_unsigned}
-use Rattle.std.proofs.lemmas.Bool.{cases_lt, ltb-false, le-ltb}
+use Rattle.checkpoint.proofs.Common.{◌≡◌, ℕ, zero, suc, ◌^◌, ◌<◌, ◌≤◌, ℤ, pos, negsuc, FitsSigned, Bool, true, false, cond, ltb, List, [], ◌∷◌, ◌++◌, length, get_or, take, drop, Option, Some, None, refl, sym, ap, subst, ◌∙◌, append_assoc, arith, inl, inr, Width, w16, w64, byte_len, from_be_bytes, to_be_bytes, cast_signed, cast_unsigned, cases_lt, ltb-false, le-ltb, take_at, drop_at, take-append-drop, length-append, length-take, get_or-take, get_or_past, be_bytes_2, be_bytes_8, from_be_bytes-to_be_bytes_2, from_be_bytes-to_be_bytes_8, byte_bytes, short_bytes, long_bytes, signed_bytes, flag_bytes, IsByte, IsShort, IsLong, IsSigned, IsFlag, ◌>>=◌, Read, byte_at, number_at, both_at, made_at}
 use Rattle.std.proofs.lemmas.Int.{to_z-of_z, of_z-to_z, ints}
-use Rattle.std.proofs.lemmas.List.{take_at, drop_at, take-append-drop, length-append, length-take, get_or-take, get_or_past}
-use Rattle.std.proofs.lemmas.Nat.{be_bytes_2, be_bytes_8, from_be_bytes-to_be_bytes_2, from_be_bytes-to_be_bytes_8}
-use Rattle.checkpoint.specs.Bytes.{byte_bytes, short_bytes, long_bytes, signed_bytes, flag_bytes, IsByte, IsShort, IsLong, IsSigned, IsFlag}
-use Rattle.checkpoint.specs.Reading.{◌>>=◌, Read, byte_at, number_at, signed_at, flag_at, both_at, made_at}
+use Rattle.checkpoint.specs.Reading.{signed_at, flag_at}
 
 -- ---- bytes
 

@@ -1,15 +1,8 @@
 -- The same for strings, texts and lists.
-use Rattle.std.proofs.Common.{◌≡◌, ℕ, zero, suc, ◌+◌, ◌*◌, ◌/◌, ◌<◌, ◌≤◌, Bool, true, false, cond, ltb, List, [], ◌∷◌, ◌++◌, length, take, drop, Option, Some, None, option_map, Result, Ok, Err, Bor, refl, sym, ap, subst, ◌∙◌, append_assoc, suc-mul, arith}
-use Rattle.std.specs.Prelude.{MatchResult}
+use Rattle.checkpoint.proofs.Common.{◌≡◌, ℕ, zero, suc, ◌+◌, ◌*◌, ◌/◌, ◌<◌, ◌≤◌, Bool, true, false, cond, ltb, List, [], ◌∷◌, ◌++◌, length, take, drop, Option, Some, None, option_map, Result, Ok, Err, Bor, refl, sym, ap, subst, ◌∙◌, append_assoc, suc-mul, arith, MatchResult, w64, ltb-false, le-ltb, take_at, drop_at, take-append-drop, length-append, length-take, le-div, is_utf8-from_IsUtf8, IsUtf8-from_is_utf8, long_bytes, string_bytes, each_bytes, list_bytes, IsByte, IsLong, IsText, Each, AreAll, AreBytes, ◌>>=◌, Read, number_at}
 use Rattle.std.specs.Result.{result_ok}
-use Rattle.std.specs.Int.{w64}
 use Rattle.std.specs.Str.{is_utf8, IsUtf8}
-use Rattle.std.proofs.lemmas.Bool.{ltb-false, le-ltb}
-use Rattle.std.proofs.lemmas.List.{take_at, drop_at, take-append-drop, length-append, length-take}
-use Rattle.std.proofs.lemmas.Nat.{le-div}
-use Rattle.std.proofs.lemmas.Str.{is_utf8-from_IsUtf8, IsUtf8-from_is_utf8}
-use Rattle.checkpoint.specs.Bytes.{long_bytes, string_bytes, each_bytes, list_bytes, IsByte, IsLong, IsText, Each, AreAll, AreBytes}
-use Rattle.checkpoint.specs.Reading.{◌>>=◌, Read, number_at, string_at, utf8_text, text_at, items_at, list_at}
+use Rattle.checkpoint.specs.Reading.{string_at, utf8_text, text_at, items_at, list_at}
 use Rattle.checkpoint.proofs.Exact.{AreOctets, behind, bind_some, guard_some, some_is, Exact, long_exact}
 
 -- ---- strings

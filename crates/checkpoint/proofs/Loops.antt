@@ -1,11 +1,6 @@
 -- The loops over the items of a list.
-use Rattle.std.proofs.Common.{◌≡◌, ℕ, suc, ◌-◌, ◌+◌, ◌<◌, ◌≤◌, List, [], ◌∷◌, ◌++◌, length, get_or, take, drop, Some, None, Result, Ok, Err, refl, sym, ap, subst, ◌∙◌, append_assoc, add-one, take-suc, arith}
-use Rattle.std.proofs.lemmas.List.{append-nil, drop_more}
-use Rattle.std.specs.Prelude.{IsErrAnd, IfErr}
-use Rattle.checkpoint.specs.declared.fault.DecodeFault.{DecodeFault}
-use Rattle.checkpoint.specs.declared.fault.DecodeFault.TheVariants.{BadImage, NoMemory}
-use Rattle.checkpoint.specs.Bytes.{each_bytes, Each}
-use Rattle.checkpoint.specs.Reading.{◌>>=◌, Read, Tells, items_at}
+use Rattle.checkpoint.proofs.Common.{◌≡◌, ℕ, suc, ◌-◌, ◌+◌, ◌<◌, ◌≤◌, List, [], ◌∷◌, ◌++◌, length, get_or, take, drop, Some, None, Result, Ok, Err, refl, sym, ap, subst, ◌∙◌, append_assoc, add-one, take-suc, arith, append-nil, drop_more, IsErrAnd, IfErr, DecodeFault, BadImage, NoMemory, each_bytes, Each, ◌>>=◌, Read, Tells}
+use Rattle.checkpoint.specs.Reading.{items_at}
 
 -- the items read so far, before those that are read next
 abbrev pub with_front : {A : Type 0} → List A → Read (List A) → Read (List A)

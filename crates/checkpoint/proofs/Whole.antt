@@ -1,13 +1,8 @@
 -- The bytes of an image, and the image of bytes.
-use Rattle.std.proofs.Common.{◌≡◌, ℕ, ◌==◌, ◌&&◌, Bool, true, false, cond, List, [], ◌∷◌, ◌++◌, Option, Some, None, Result, Ok, Err, refl, sym, ap, subst, ◌∙◌}
-use Rattle.std.specs.Prelude.{codes, IfOk, IfErr}
-use Rattle.std.proofs.lemmas.Bool.{eqb-true}
-use Rattle.std.proofs.lemmas.List.{append-nil}
-use Rattle.checkpoint.specs.declared.fault.DecodeFault.{DecodeFault}
-use Rattle.checkpoint.specs.declared.fault.DecodeFault.TheVariants.{BadImage}
+use Rattle.checkpoint.proofs.Common.{◌≡◌, ℕ, ◌==◌, ◌&&◌, Bool, true, false, cond, List, [], ◌∷◌, ◌++◌, Option, Some, None, Result, Ok, Err, refl, sym, ap, subst, ◌∙◌, codes, IfOk, IfErr, eqb-true, append-nil, DecodeFault, BadImage, field_bytes, AreFields, ◌>>=◌, Read, fields_at, if_last, Tells}
 use Rattle.checkpoint.specs.declared.image.Image.{Image}
-use Rattle.checkpoint.specs.Bytes.{field_bytes, image_bytes, AreFields, IsImage}
-use Rattle.checkpoint.specs.Reading.{◌>>=◌, Read, fields_at, behind_header, if_last, decoded, Tells}
+use Rattle.checkpoint.specs.Bytes.{image_bytes, IsImage}
+use Rattle.checkpoint.specs.Reading.{behind_header, decoded}
 use Rattle.checkpoint.proofs.Exact.{AreOctets, behind, bind_some, some_is}
 use Rattle.checkpoint.proofs.Structs.{fields_exact}
 

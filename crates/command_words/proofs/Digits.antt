@@ -1,5 +1,5 @@
 -- What `parse` makes of decimal digits.
-use Rattle.std.proofs.Common.{◌≡◌, ◌∙◌, ◌≤◌, ℕ, List, length, true, Result, Ok, Some, rules, arith, ap, sym}
+use Rattle.command_words.proofs.Common.{◌≡◌, ◌∙◌, ◌≤◌, ℕ, List, length, true, Result, Ok, Some, rules, arith, ap, sym}
 use Rattle.std.specs.Char.{is_ascii_digit}
 use Rattle.std.specs.List.{list_all}
 use Rattle.std.specs.Result.{result_ok}

@@ -1,12 +1,11 @@
 -- What words ask for has a limit from 1 to 1,000,000, and a load a number below 2^31.
-use Rattle.std.proofs.Common.{ℕ, List, Option, Some, None, IfSome, option_map, option_and_then, rules}
+use Rattle.command_words.proofs.Common.{ℕ, List, Option, Some, None, IfSome, option_map, option_and_then, rules, Row, Text, first_of, IsLimit, IsLoadNumber, IsWithinBounds, asks_file, asks_resumed, asks_load, asks_parts, given_or, limited, load_numbered, mode_of, number_of}
 use Rattle.std.specs.Prelude.{codes}
-use Rattle.clap.specs.Words.{Row, Text, first_of}
 use Rattle.std.proofs.lemmas.Bool.Decides.{nat_tests}
 use Rattle.command_words.specs.declared.asking.Asked.TheVariants.{Load}
 use Rattle.command_words.specs.declared.asking.Mode.{Mode}
 use Rattle.command_words.specs.declared.asking.Mode.TheVariants.{Run, Check, Lives, Proof, Save}
-use Rattle.command_words.specs.Asked.{IsLimit, IsLoadNumber, IsWithinBounds, asks_file, asks_resumed, asks_load, asks_parts, asked_rows, given_or, limit_of, limited, load_number_of, load_numbered, mode_of, number_of}
+use Rattle.command_words.specs.Asked.{asked_rows, limit_of, load_number_of}
 
 limited_within : (n : ℕ) → IfSome (limited n) IsLimit
 limited_within n = search rules

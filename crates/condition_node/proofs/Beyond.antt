@@ -1,20 +1,12 @@
 -- What a node that stands for a snapshot counts of forgotten facts.
-use Rattle.condition_node.proofs.Common.{◌≡◌, ◌∙◌, sym, ap, refl, subst, ⊎_elim, inl, inr, ◌⊎◌, ℕ, arith, map, length, List, [], ◌∷◌, Bool, true, false, cond, ◌&&◌, ◌||◌, Option, Some, None, ℤ, pos, eq_by_cmp, In, Fact, in_rising_order, Extra, Named, name_equiv, Row, row_cmp, InOrder, Accumulate, Condition, Negated, Existing, Folded, Pattern, Program, HaveDistinctTags, Holds, pattern_of, Snapshot, name_of, of_filter, one_fact, once_filter, once_map, Look, joins, Memories, has_name, cleaned, row_decides, BetaJoin, Witnesses, TallyNode, AreDistinct, counts_blockers, counts_witnesses, argument_given, argument_of, gathers, extra_for, nothing_gathered, arguments_gathered, NotNode, HasAllOf, NameHeld, held, candidates_of, held_all, values_gathered, IsAside, FoldNode, Node, condition_of, Counts, NodeStands}
+use Rattle.condition_node.proofs.Common.{◌≡◌, ◌∙◌, sym, ap, refl, subst, ⊎_elim, inl, inr, ◌⊎◌, ℕ, arith, map, length, List, [], ◌∷◌, Bool, true, false, cond, ◌&&◌, ◌||◌, Option, Some, None, ℤ, pos, eq_by_cmp, In, Fact, in_rising_order, Extra, Named, name_equiv, Row, row_cmp, InOrder, Accumulate, Condition, Negated, Existing, Folded, Pattern, Program, HaveDistinctTags, Holds, pattern_of, Snapshot, name_of, of_filter, one_fact, once_filter, once_map, Look, joins, Memories, has_name, cleaned, row_decides, BetaJoin, Witnesses, TallyNode, AreDistinct, counts_blockers, counts_witnesses, argument_given, argument_of, gathers, extra_for, nothing_gathered, arguments_gathered, NotNode, HasAllOf, NameHeld, held, candidates_of, held_all, values_gathered, IsAside, FoldNode, Node, condition_of, Counts, NodeStands, AllByRecursion, is_eq, argument, IsBeyond, IsExtraFor, AreExtrasOf, CountsOthers, rows_of_extras, lost_passing, others_law, partners, lost_partners, IsLost, IsExtraBeside, AreExtrasBeside}
 use Rattle.std.specs.declared.cmp.Ordering.TheVariants.{Less}
-use Rattle.std.specs.List.{AllByRecursion}
 use Rattle.std.specs.List.Sorted.{IsStrictlySortedBy}
-use Rattle.std.specs.Ordering.{is_eq}
 use Rattle.std.proofs.lemmas.List.{length-map}
 use Rattle.fx_base.specs.declared.ids.RuleId.{RuleId}
 use Rattle.fold_fn.proofs.ResultLemmas.{length-rising}
 use Rattle.row_delta.specs.RowOrder.{same_equiv}
-use Rattle.rule_model.specs.Rows.{argument}
-use Rattle.tally_node.specs.Extras.{IsBeyond, IsExtraFor, AreExtrasOf, CountsOthers, rows_of_extras}
-use Rattle.tally_node.specs.Laws.{lost_passing}
 use Rattle.tally_node.proofs.Gathering.{same_values}
-use Rattle.tally_node.proofs.Resuming.{others_law}
-use Rattle.condition_rows.specs.Sets.{partners}
-use Rattle.condition_node.specs.Loading.{lost_partners, IsLost, IsExtraBeside, AreExtrasBeside}
 use Rattle.condition_node.specs.declared.node.Node.TheVariants as node
 use Rattle.condition_node.proofs.Folding.{distinct, named_where, partner_in, partners_once, partners_named}
 use Rattle.condition_node.proofs.Knowing.{held_known, joining_alike, remembered_alike}

@@ -1,18 +1,9 @@
 -- The rows of the node of an accumulate, and the facts over which its function goes.
-use Rattle.condition_node.proofs.Common.{◌≡◌, ◌∙◌, sym, ap, refl, cond, map, ℤ, int_eq, slice_get, ℕ, List, [], ◌∷◌, Bool, true, false, ◌&&◌, ◌||◌, Option, Some, None, if◌then◌else◌, fun_ext, eq_by_cmp, In, Fact, name_cmp, Named, Row, Accumulate, Folded, Pattern, Program, HaveDistinctTags, Holds, bound_in, Snapshot, name_of, of_filter, one_fact, once_filter, once_map, Look, joins, has_name, clean, cleaned, AlikeOn, without_value, shows_value, name_decides, AreDistinct, result_for, all_passing, shown, line, HasAllOf, NameHeld, held, candidates_of, held_all, candidates_named, FoldNode, FoldsFor}
-use Rattle.std.specs.List.{filter}
-use Rattle.std.proofs.lemmas.Bool.Decides.{Decides-int_eq}
-use Rattle.fx_base.specs.Lists.{EachOnce}
+use Rattle.condition_node.proofs.Common.{◌≡◌, ◌∙◌, sym, ap, refl, cond, map, ℤ, int_eq, slice_get, ℕ, List, [], ◌∷◌, Bool, true, false, ◌&&◌, ◌||◌, Option, Some, None, if◌then◌else◌, fun_ext, eq_by_cmp, In, Fact, name_cmp, Named, Row, Accumulate, Folded, Pattern, Program, HaveDistinctTags, Holds, bound_in, Snapshot, name_of, of_filter, one_fact, once_filter, once_map, Look, joins, has_name, clean, cleaned, AlikeOn, without_value, shows_value, name_decides, AreDistinct, result_for, all_passing, shown, line, HasAllOf, NameHeld, held, candidates_of, held_all, candidates_named, FoldNode, FoldsFor, filter, Decides-int_eq, EachOnce, result_of, Bindings, once_facts, unvalued, splits_value, named_alike, tested, is_result, gathered_shown}
 use Rattle.rule_model.specs.Candidates.{is_candidate, candidates}
-use Rattle.rule_model.specs.Rows.{result_of}
 use Rattle.rule_model.specs.Tests.{results_hold}
-use Rattle.rule_model.specs.Tuples.{Bindings}
-use Rattle.rule_model.proofs.Once.{once_facts}
-use Rattle.pair_memory.specs.Valued.{unvalued, splits_value, valued}
-use Rattle.pair_memory.proofs.Moving.{named_alike}
+use Rattle.pair_memory.specs.Valued.{valued}
 use Rattle.pair_memory.proofs.Valued.{from_unvalued}
-use Rattle.tally_node.specs.Gathers.{tested, is_result}
-use Rattle.tally_node.proofs.Lawful.{gathered_shown}
 use Rattle.condition_rows.specs.Lines.{is_result as is_given, gives}
 use Rattle.condition_rows.specs.Sets.{partners}
 use Rattle.condition_rows.proofs.Ends.{name_in}

@@ -1,12 +1,9 @@
 -- A node that has dropped what is old stands for the same with more facts forgotten, and what it dropped names an old fact.
-use Rattle.condition_node.proofs.Common.{◌≡◌, ◌∙◌, sym, ap, refl, subst, cond, ℤ, ◌≤ℤ◌, Bool, true, false, not, ◌&&◌, ◌||◌, List, [], ◌∷◌, length, ◌==◌, None, arith, fun_ext, list_any, Held, Named, Row, has, InOrder, Accumulate, Pattern, Program, Snapshot, floor, both_of, Look, joins, Memories, has_name, has_left, has_right, made, Keeps, clean, cleaned, either, StandsFor, without_value, shows_value, BetaJoin, counts_blockers, counts_witnesses, where_witnessed, gathers, result_for, StandsCounted, itself, shows_any, shown, Witnesses, TallyNode, NotNode, IsInStep, not_rows, NoneDue, line, held, candidates_of, FoldNode, Node, condition_of, Counts, NodeStands}
-use Rattle.std.proofs.lemmas.Bool.Decides.{Decides-eqb}
+use Rattle.condition_node.proofs.Common.{◌≡◌, ◌∙◌, sym, ap, refl, subst, cond, ℤ, ◌≤ℤ◌, Bool, true, false, not, ◌&&◌, ◌||◌, List, [], ◌∷◌, length, ◌==◌, None, arith, fun_ext, list_any, Held, Named, Row, has, InOrder, Accumulate, Pattern, Program, Snapshot, floor, both_of, Look, joins, Memories, has_name, has_left, has_right, made, Keeps, clean, cleaned, either, StandsFor, without_value, shows_value, BetaJoin, counts_blockers, counts_witnesses, where_witnessed, gathers, result_for, StandsCounted, itself, shows_any, shown, Witnesses, TallyNode, NotNode, IsInStep, not_rows, NoneDue, line, held, candidates_of, FoldNode, Node, condition_of, Counts, NodeStands, Decides-eqb, left_at, drop_law, itself_facts, without_value_facts, dropped_none_due}
 use Rattle.std.specs.List.Sorted.{IsStrictlySortedBy}
-use Rattle.pair_memory.specs.Memories.{left_at}
 use Rattle.beta_join.proofs.Lawful.{forget_law as join_forgets}
-use Rattle.tally_node.proofs.Lawful.{forget_law as tally_forgets, drop_law, itself_facts, without_value_facts}
+use Rattle.tally_node.proofs.Lawful.{forget_law as tally_forgets}
 use Rattle.not_node.proofs.Lawful.{drop_law as not_drops}
-use Rattle.not_node.proofs.Quiet.{dropped_none_due}
 use Rattle.condition_node.specs.declared.node.Node.TheVariants as node
 use Rattle.condition_node.specs.Forgetting.{ForgetsIn}
 use Rattle.condition_node.proofs.Folding.{fold_shown}

@@ -1,12 +1,8 @@
 -- Two worlds that know the versions of a snapshot see its rows and candidates alike.
-use Rattle.condition_node.proofs.Common.{◌≡◌, ◌∙◌, sym, ap, refl, subst, map, List, [], ◌∷◌, Bool, true, false, not, ◌&&◌, ◌||◌, Option, Some, None, fun_ext, list_any, is_some, eq_by_cmp, Fact, Held, in_rising_order, Named, Row, name_cmp, name_equiv, Accumulate, Pattern, Program, Snapshot, name_of, both_of, Look, versions_at, joins, Memories, has_name, clean, cleaned, either, remembered, no_names, AlikeOn, StandsFor, LooksAlike, Witnesses, counts_blockers, counts_witnesses, argument_given, argument_of, gathers, all_passing, StandsCounted, HasAllOf, NameHeld, held}
-use Rattle.std.specs.Option.{option_map, option_and_then}
-use Rattle.join_tests.specs.Joins.{version_at}
+use Rattle.condition_node.proofs.Common.{◌≡◌, ◌∙◌, sym, ap, refl, subst, map, List, [], ◌∷◌, Bool, true, false, not, ◌&&◌, ◌||◌, Option, Some, None, fun_ext, list_any, is_some, eq_by_cmp, Fact, Held, in_rising_order, Named, Row, name_cmp, name_equiv, Accumulate, Pattern, Program, Snapshot, name_of, both_of, Look, versions_at, joins, Memories, has_name, clean, cleaned, either, remembered, no_names, AlikeOn, StandsFor, LooksAlike, Witnesses, counts_blockers, counts_witnesses, argument_given, argument_of, gathers, all_passing, StandsCounted, HasAllOf, NameHeld, held, option_map, option_and_then, version_at, joins_alike, SeeAlike, is_candidate_given}
 use Rattle.join_tests.proofs.Versions.{version_is}
-use Rattle.pair_memory.proofs.Moving.{joins_alike}
 use Rattle.tally_node.specs.declared.count.Blockers.{Blockers}
-use Rattle.tally_node.specs.Tallies.{SeeAlike}
-use Rattle.condition_rows.specs.Sets.{is_candidate_given, candidates_of}
+use Rattle.condition_rows.specs.Sets.{candidates_of}
 
 -- ---- Booleans and options
 pub not_of : (b : Bool) → not b ≡ true → b ≡ false

@@ -1,11 +1,6 @@
 -- What the node of each kind stands for after a load.
-use Rattle.condition_node.proofs.Common.{◌≡◌, ◌∙◌, sym, ap, refl, subst, ℤ, ◌≤ℤ◌, List, [], ◌∷◌, map, Bool, true, false, not, ◌&&◌, ◌||◌, fun_ext, ≤ℤ_refl, list_any, eq_by_cmp, Delta, Extra, Named, Row, name_cmp, has, row_cmp, Accumulate, Condition, Negated, Existing, Folded, Pattern, Program, pattern_of, Snapshot, floor, Look, joins, Memories, IsStepped, row_naming, has_name, has_left, has_right, Keeps, row_decides, name_decides, cleaned, no_rows, no_names, StandsFor, BetaJoin, Witnesses, TallyNode, counts_blockers, counts_witnesses, extra_for, blockers_laden, witnesses_laden, gathered_laden, gathers, NotNode, IsInStep, later, none_due, empty_snapshot, held, candidates_of, FoldNode, Node, CountsLaden, condition_of, NodeStands}
-use Rattle.std.proofs.lemmas.Bool.Decides.{same_from_decides}
-use Rattle.tally_node.specs.Extras.{AllLaden}
-use Rattle.tally_node.specs.Laws.{StandsLaden}
-use Rattle.tally_node.proofs.Resuming.{load_law}
+use Rattle.condition_node.proofs.Common.{◌≡◌, ◌∙◌, sym, ap, refl, subst, ℤ, ◌≤ℤ◌, List, [], ◌∷◌, map, Bool, true, false, not, ◌&&◌, ◌||◌, fun_ext, ≤ℤ_refl, list_any, eq_by_cmp, Delta, Extra, Named, Row, name_cmp, has, row_cmp, Accumulate, Condition, Negated, Existing, Folded, Pattern, Program, pattern_of, Snapshot, floor, Look, joins, Memories, IsStepped, row_naming, has_name, has_left, has_right, Keeps, row_decides, name_decides, cleaned, no_rows, no_names, StandsFor, BetaJoin, Witnesses, TallyNode, counts_blockers, counts_witnesses, extra_for, blockers_laden, witnesses_laden, gathered_laden, gathers, NotNode, IsInStep, later, none_due, empty_snapshot, held, candidates_of, FoldNode, Node, CountsLaden, condition_of, NodeStands, same_from_decides, AllLaden, StandsLaden, load_law, IsLoad, Laden}
 use Rattle.condition_node.specs.declared.node.Node.TheVariants as node
-use Rattle.condition_node.specs.Loading.{IsLoad, Laden}
 use Rattle.condition_node.proofs.Knowing.{held_known, joining_alike, candidate_alike}
 use Rattle.condition_node.proofs.Moved.{no_candidates}
 use Rattle.condition_node.proofs.Turning.{later_is, not_above}

@@ -1,7 +1,7 @@
 -- What a new node stands for, and what a node stands for by another store.
-use Rattle.condition_node.proofs.Common.{◌≡◌, ◌∙◌, ap, refl, subst, Bool, fun_ext, is_some, Named, Row, Pattern, Program, Snapshot, Look, joins, Memories, no_rows, no_names, StandsFor, LooksAlike, counts_blockers, counts_witnesses, gathers, StandsCounted, empty_snapshot, HasAllOf, NameHeld, Node, Counts, NodeStands}
+use Rattle.condition_node.proofs.Common.{◌≡◌, ◌∙◌, ap, refl, subst, Bool, fun_ext, is_some, Named, Row, Pattern, Program, Snapshot, Look, joins, Memories, no_rows, no_names, StandsFor, LooksAlike, counts_blockers, counts_witnesses, gathers, StandsCounted, empty_snapshot, HasAllOf, NameHeld, Node, Counts, NodeStands, start_law}
 use Rattle.pair_memory.proofs.Moving.{move_law as memories_move}
-use Rattle.tally_node.proofs.Lawful.{start_law, move_law as tallies_move}
+use Rattle.tally_node.proofs.Lawful.{move_law as tallies_move}
 use Rattle.not_node.proofs.Lawful.{move_law as not_moves}
 use Rattle.condition_rows.specs.Sets.{held, candidates_of}
 use Rattle.condition_node.specs.declared.node.Node.TheVariants as node

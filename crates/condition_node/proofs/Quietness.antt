@@ -1,11 +1,9 @@
 -- How long the nodes of each kind are quiet.
-use Rattle.condition_node.proofs.Common.{◌≡◌, ℕ, ℤ, pos, ◌+ℤ◌, ◌-ℤ◌, ◌≤ℤ◌, ◌<ℤ◌, ◌^◌, int_lt, arith, true, false, Option, Some, None, IfSome, ints, Row, Program, Snapshot, lateness_of, BetaJoin, Witnesses, TallyNode, NotNode, waits, FoldNode, at_clock, IsBefore, IsQuiet, IsDue}
-use Rattle.std.proofs.lemmas.Int.{clamps}
+use Rattle.condition_node.proofs.Common.{◌≡◌, ℕ, ℤ, pos, ◌+ℤ◌, ◌-ℤ◌, ◌≤ℤ◌, ◌<ℤ◌, ◌^◌, int_lt, arith, true, false, Option, Some, None, IfSome, ints, Row, Program, Snapshot, lateness_of, BetaJoin, Witnesses, TallyNode, NotNode, waits, FoldNode, at_clock, IsBefore, IsQuiet, IsDue, clamps, clock_below_floor, floor_on}
 use Rattle.rule_model.specs.Snapshots.{floor}
 use Rattle.condition_node.specs.declared.node.Node.TheVariants as node
 use Rattle.condition_node.proofs.Staying.{join_stays, exists_stays, fold_stays, not_stays, not_ripens}
 use Rattle.condition_node.proofs.Turning.{not_above}
-use Rattle.rule_model.proofs.Floors.{clock_below_floor, floor_on}
 
 itself : (a : ℤ) → a ≤ℤ a
 itself a = omega (arith, ints)

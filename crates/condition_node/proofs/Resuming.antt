@@ -1,9 +1,6 @@
 -- A node that is loaded with what is kept stands for all of it.
-use Rattle.condition_node.proofs.Common.{◌≡◌, ◌∙◌, sym, refl, subst, ℤ, ◌≤ℤ◌, List, map, Bool, Option, Extra, Named, Row, Fact, Condition, Negated, Existing, Folded, Pattern, Program, Holds, pattern_of, Snapshot, floor, name_of, Look, joins, Memories, remembered, counts_blockers, counts_witnesses, blockers_laden, witnesses_laden, gathered_laden, nothing_gathered, arguments_gathered, gathers, NoneDue, held, candidates_of, CountsLaden, IsAside, values_gathered, Counts}
-use Rattle.tally_node.specs.Laws.{LadenLaw}
-use Rattle.tally_node.proofs.Resuming.{resume_law, blockers_made_up, witnesses_made_up, gathered_made_up}
+use Rattle.condition_node.proofs.Common.{◌≡◌, ◌∙◌, sym, refl, subst, ℤ, ◌≤ℤ◌, List, map, Bool, Option, Extra, Named, Row, Fact, Condition, Negated, Existing, Folded, Pattern, Program, Holds, pattern_of, Snapshot, floor, name_of, Look, joins, Memories, remembered, counts_blockers, counts_witnesses, blockers_laden, witnesses_laden, gathered_laden, nothing_gathered, arguments_gathered, gathers, NoneDue, held, candidates_of, CountsLaden, IsAside, values_gathered, Counts, LadenLaw, resume_law, blockers_made_up, witnesses_made_up, gathered_made_up, IsResumed, ResumesLaw}
 use Rattle.condition_node.specs.declared.node.Node.TheVariants as node
-use Rattle.condition_node.specs.Loading.{IsResumed, ResumesLaw}
 use Rattle.condition_node.proofs.Beyond.{tells_passing, nothing_told, arguments_told}
 use Rattle.condition_node.proofs.Knowing.{held_known, joining_alike}
 use Rattle.condition_node.proofs.Loading.{all_clean, all_remembered}

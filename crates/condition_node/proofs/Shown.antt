@@ -1,17 +1,14 @@
 -- The rows of a node are what the line of its condition makes of the rows before it, without those that name a forgotten fact.
-use Rattle.condition_node.proofs.Common.{◌≡◌, ◌∙◌, sym, ap, refl, subst, ℤ, int_lt, Bool, true, false, not, ◌&&◌, fun_ext, list_any, Named, Row, Plain, Negated, Existing, Pattern, Program, HaveDistinctTags, bound_in, Snapshot, floor, Look, joins, Memories, has_name, made, clean, cleaned, StandsFor, Witnesses, counts_blockers, counts_witnesses, where_witnessed, StandsCounted, itself, shows_any, shown, NotNode, IsInStep, not_rows, waits, line, HasAllOf, NameHeld, held, candidates_of, candidates_named, Counts, WaitsFor}
+use Rattle.condition_node.proofs.Common.{◌≡◌, ◌∙◌, sym, ap, refl, subst, ℤ, int_lt, Bool, true, false, not, ◌&&◌, fun_ext, list_any, Named, Row, Plain, Negated, Existing, Pattern, Program, HaveDistinctTags, bound_in, Snapshot, floor, Look, joins, Memories, has_name, made, clean, cleaned, StandsFor, Witnesses, counts_blockers, counts_witnesses, where_witnessed, StandsCounted, itself, shows_any, shown, NotNode, IsInStep, not_rows, waits, line, HasAllOf, NameHeld, held, candidates_of, candidates_named, Counts, WaitsFor, witnesses_shown, mature, quiet_law, waits_own, candidate_names}
 use Rattle.std.proofs.Math.Bool.{and-true, and-false, and_assoc}
 use Rattle.rule_model.specs.Maturity.{is_mature}
 use Rattle.pair_memory.proofs.Worlds.{made_clean}
-use Rattle.tally_node.proofs.Lawful.{witnesses_shown}
 use Rattle.not_node.specs.Laws.{with_floor}
 use Rattle.not_node.specs.Moments.{moment_at}
-use Rattle.not_node.specs.Waiting.{mature}
 use Rattle.not_node.proofs.Lawful.{not_law}
 use Rattle.not_node.proofs.Maturing.{row_mature, moment_alike}
-use Rattle.not_node.proofs.Quiet.{quiet_law, waits_own}
 use Rattle.condition_rows.specs.Lines.{is_ripe}
-use Rattle.condition_rows.specs.Sets.{candidate_names, has_partner}
+use Rattle.condition_rows.specs.Sets.{has_partner}
 use Rattle.condition_node.proofs.Knowing.{held_known, row_alike, joining_alike}
 
 -- what is asked of the clean rows is asked of the rows, and then which are clean

@@ -1,7 +1,6 @@
 -- Where nothing changes in the rows before it and in its candidates, the node of a condition stays as it is; that of a `not` as long as no
 -- row is due.
-use Rattle.condition_node.proofs.Common.{◌≡◌, ◌∙◌, sym, ap, refl, subst, ℤ, int_lt, Bool, true, false, not, ◌&&◌, ◌||◌, List, [], ◌∷◌, Delta, Named, Row, has, Program, Negated, Moment, IsAt, Snapshot, floor, Look, Memories, row_naming, IsStepped, has_left, has_right, cleaned, BetaJoin, counts_blockers, counts_witnesses, gathers, Witnesses, TallyNode, NotNode, NoneDue, waits, line, FoldNode, Node, condition_of, Counts, NodeStands, IsTurn}
-use Rattle.row_change.specs.Changes.{are_none, changes_nothing}
+use Rattle.condition_node.proofs.Common.{◌≡◌, ◌∙◌, sym, ap, refl, subst, ℤ, int_lt, Bool, true, false, not, ◌&&◌, ◌||◌, List, [], ◌∷◌, Delta, Named, Row, has, Program, Negated, Moment, IsAt, Snapshot, floor, Look, Memories, row_naming, IsStepped, has_left, has_right, cleaned, BetaJoin, counts_blockers, counts_witnesses, gathers, Witnesses, TallyNode, NotNode, NoneDue, waits, line, FoldNode, Node, condition_of, Counts, NodeStands, IsTurn, are_none, changes_nothing}
 use Rattle.tally_node.proofs.Stepping.{no_step}
 use Rattle.condition_node.specs.declared.node.Node.TheVariants as node
 use Rattle.condition_node.proofs.Folding.{fold_shown}

@@ -1,13 +1,7 @@
 -- After a turn a node stands for the new rows and candidates.
-use Rattle.condition_node.proofs.Common.{◌≡◌, ◌∙◌, sym, ap, subst, ℤ, ◌≤ℤ◌, Bool, true, false, arith, ints, ≤ℤ_refl, Delta, Named, Row, Condition, Plain, Negated, Existing, Folded, Pattern, Program, Snapshot, floor, pattern_of, Look, joins, Memories, IsStepped, no_names, remembered, StandsFor, counts_blockers, StandsCounted, TallyStep, NotNode, IsInStep, later, none_due, held, candidates_of, Counts, WaitsFor, IsTurn, IsAt, Moment}
-use Rattle.pair_memory.specs.Inputs.{IsNameDifference}
+use Rattle.condition_node.proofs.Common.{◌≡◌, ◌∙◌, sym, ap, subst, ℤ, ◌≤ℤ◌, Bool, true, false, arith, ints, ≤ℤ_refl, Delta, Named, Row, Condition, Plain, Negated, Existing, Folded, Pattern, Program, Snapshot, floor, pattern_of, Look, joins, Memories, IsStepped, no_names, remembered, StandsFor, counts_blockers, StandsCounted, TallyStep, NotNode, IsInStep, later, none_due, held, candidates_of, Counts, WaitsFor, IsTurn, IsAt, Moment, IsNameDifference, ForgottenStay, tally_law, CountedStay, snapshot_at, same_floor}
 use Rattle.pair_memory.proofs.Steps.{steps_law}
-use Rattle.tally_node.specs.Laws.{ForgottenStay}
-use Rattle.tally_node.proofs.Lawful.{tally_law}
-use Rattle.condition_node.specs.Turns.{CountedStay}
 use Rattle.condition_node.proofs.Knowing.{held_known, known_too, joining_alike, seen_alike, AsksOfSet, counted_alike}
-use Rattle.rule_model.specs.Moments.{snapshot_at}
-use Rattle.rule_model.proofs.Floors.{same_floor}
 
 module _ {T : Type 0} (p : Program) (m n : Memories T) (look world : Look) (s next : Snapshot) (rows rows_now : Row → Bool) (forgotten : Named → Bool) (left right : Delta)
     (c : Condition)

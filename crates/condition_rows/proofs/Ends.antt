@@ -1,16 +1,13 @@
 -- The rows of conditions with one more at the end, by the tuples of the conditions before it.
-use Rattle.condition_rows.proofs.Common.{◌≡◌, sym, refl, subst, inl, inr, List, [], ◌∷◌, ◌++◌, Bool, true, false, list_any, In, Named, Row, name_equiv, Condition, Program, extended, Snapshot, Tuple, empty_tuple, row_of, in_map, of_map, has_name, rows_of}
+use Rattle.condition_rows.proofs.Common.{◌≡◌, sym, refl, subst, inl, inr, List, [], ◌∷◌, ◌++◌, Bool, true, false, list_any, In, Named, Row, name_equiv, Condition, Program, extended, Snapshot, Tuple, empty_tuple, row_of, in_map, of_map, has_name, rows_of, eq_by_cmp, name_cmp, name_exact, tuples, in_flat_map, of_flat_map}
 use Rattle.std.proofs.lemmas.Map.Views.{tells_apart}
 use Rattle.std.proofs.lemmas.Map.Lookups.{CmpEqualImpliesEq}
 use Rattle.std.specs.declared.cmp.Ordering.{Ordering}
 use Rattle.std.specs.Cmp.{IsEquivalence}
-use Rattle.std.specs.Ordering.{eq_by_cmp}
-use Rattle.row_delta.specs.NameOrder.{name_cmp, name_exact}
 use Rattle.row_delta.specs.Rows.{row_cmp, has}
 use Rattle.row_delta.specs.RowOrder.{same_equiv, row_exact}
-use Rattle.rule_model.specs.Rows.{tuples, rows}
+use Rattle.rule_model.specs.Rows.{rows}
 use Rattle.rule_model.proofs.Firsts.{or_left, or_right, or_split}
-use Rattle.rule_model.proofs.Listed.{in_flat_map, of_flat_map}
 
 -- what is asked by an exact order stands in the list
 module _ {K : Type 0} (R : K → K → Ordering) (laws : IsEquivalence (eq_by_cmp R)) (exact : CmpEqualImpliesEq R) where

@@ -1,11 +1,7 @@
 -- What a snapshot holds under the tags of its facts.
-use Rattle.condition_rows.proofs.Common.{◌≡◌, ◌∙◌, sym, ap, refl, subst, ℕ, ◌==◌, arith, inl, inr, List, [], ◌∷◌, map, Bool, true, false, cond, Option, Some, None, In, Fact, name_equiv, Named, Pattern, passes, HaveDistinctTags, Holds, Snapshot, Tuple, name_of, row_of, in_map, version_at, versions_at}
-use Rattle.std.specs.List.{find}
-use Rattle.std.specs.Option.{option_map, option_and_then}
-use Rattle.std.proofs.lemmas.Bool.Decides.{nat_tests}
+use Rattle.condition_rows.proofs.Common.{◌≡◌, ◌∙◌, sym, ap, refl, subst, ℕ, ◌==◌, arith, inl, inr, List, [], ◌∷◌, map, Bool, true, false, cond, Option, Some, None, In, Fact, name_equiv, Named, Pattern, passes, HaveDistinctTags, Holds, Snapshot, Tuple, name_of, row_of, in_map, version_at, versions_at, find, option_map, option_and_then, nat_tests, tuple_of, Look, is_version, tuple_at, passes_given}
 use Rattle.fx_base.specs.declared.ids.Tag.{Tag}
-use Rattle.rule_model.specs.Lent.{tuple_of}
-use Rattle.join_tests.specs.Joins.{Look, is_version, tuple_at, passes_given, joins}
+use Rattle.join_tests.specs.Joins.{joins}
 use Rattle.join_tests.proofs.Versions.{version_is}
 use Rattle.condition_rows.specs.Sets.{held}
 

@@ -1,13 +1,9 @@
 -- The line of a pattern.
-use Rattle.condition_rows.proofs.Common.{◌≡◌, ◌∙◌, sym, ap, refl, subst, List, [], ◌∷◌, ◌++◌, Bool, true, false, ◌&&◌, Option, Some, None, In, Fact, Named, Row, Condition, Plain, Pattern, Program, is_candidate, candidates, passes, passing, HaveDistinctTags, Holds, Snapshot, Tuple, empty_tuple, name_of, row_of, in_map, of_map, both, both_of, of_filter, version_at, joins, has_name, rows_of, held, line}
-use Rattle.std.proofs.lemmas.List.{map-append}
-use Rattle.rule_model.specs.Tuples.{with_fact}
+use Rattle.condition_rows.proofs.Common.{◌≡◌, ◌∙◌, sym, ap, refl, subst, List, [], ◌∷◌, ◌++◌, Bool, true, false, ◌&&◌, Option, Some, None, In, Fact, Named, Row, Condition, Plain, Pattern, Program, is_candidate, candidates, passes, passing, HaveDistinctTags, Holds, Snapshot, Tuple, empty_tuple, name_of, row_of, in_map, of_map, both, both_of, of_filter, version_at, joins, has_name, rows_of, held, line, map-append, with_fact, of_passing, made_of, with_name, joined, is_candidate_given, candidate_names}
 use Rattle.rule_model.proofs.Grown.{tuples_grow}
-use Rattle.rule_model.proofs.Named.{of_passing, made_of}
 use Rattle.rule_model.proofs.Order.{in_filter, passed}
-use Rattle.pair_memory.specs.Joined.{with_name, joined}
 use Rattle.pair_memory.proofs.Joining.{joined_with, joined_from}
-use Rattle.condition_rows.specs.Sets.{is_candidate_given, candidates_of, candidate_names}
+use Rattle.condition_rows.specs.Sets.{candidates_of}
 use Rattle.condition_rows.proofs.Holding.{version_of, joins_of_tuple, held_fact, held_all, version_in}
 use Rattle.condition_rows.proofs.Ends.{in_name, name_in, same_truth, IsMade, tuple_of_row, row_of_tuple, split_end, with_end}
 

@@ -1,9 +1,6 @@
 -- The lines of the conditions that keep a row or drop it.
-use Rattle.condition_rows.proofs.Common.{◌≡◌, ◌∙◌, sym, ap, refl, ◌==◌, inl, inr, List, [], ◌∷◌, ◌++◌, map, length, cond, Bool, true, false, not, ◌&&◌, ◌||◌, filter, list_any, In, Row, Condition, Negated, Existing, Pattern, Program, is_candidate, candidates, passes, passing, HaveDistinctTags, extended, Snapshot, Tuple, Bindings, empty_tuple, name_of, row_of, bound_by, in_if, both, both_of, of_filter, joins, rows_of, held, line}
-use Rattle.rule_model.specs.Lent.{bound_in}
+use Rattle.condition_rows.proofs.Common.{◌≡◌, ◌∙◌, sym, ap, refl, ◌==◌, inl, inr, List, [], ◌∷◌, ◌++◌, map, length, cond, Bool, true, false, not, ◌&&◌, ◌||◌, filter, list_any, In, Row, Condition, Negated, Existing, Pattern, Program, is_candidate, candidates, passes, passing, HaveDistinctTags, extended, Snapshot, Tuple, Bindings, empty_tuple, name_of, row_of, bound_by, in_if, both, both_of, of_filter, joins, rows_of, held, line, bound_in, floor, of_if, in_unless, of_unless, not_empty}
 use Rattle.rule_model.specs.Maturity.{is_mature}
-use Rattle.rule_model.specs.Snapshots.{floor}
-use Rattle.rule_model.proofs.Listed.{of_if, in_unless, of_unless, not_empty}
 use Rattle.rule_model.proofs.Naming.{bound_named}
 use Rattle.condition_rows.specs.Sets.{has_partner}
 use Rattle.condition_rows.specs.Lines.{is_ripe}

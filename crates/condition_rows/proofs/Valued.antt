@@ -1,17 +1,12 @@
 -- The line of an accumulate.
-use Rattle.condition_rows.proofs.Common.{◌≡◌, ◌∙◌, sym, ap, refl, subst, ℤ, inl, inr, List, [], ◌∷◌, ◌++◌, cond, Bool, true, false, ◌&&◌, Option, Some, None, filter, In, Fact, Row, Condition, Folded, Program, is_candidate, candidates, passes, passing, HaveDistinctTags, Snapshot, Tuple, Bindings, empty_tuple, name_of, row_of, bound_by, in_if, both, both_of, of_filter, joins, rows_of, held, line}
-use Rattle.std.specs.Ordering.{int_eq}
+use Rattle.condition_rows.proofs.Common.{◌≡◌, ◌∙◌, sym, ap, refl, subst, ℤ, inl, inr, List, [], ◌∷◌, ◌++◌, cond, Bool, true, false, ◌&&◌, Option, Some, None, filter, In, Fact, Row, Condition, Folded, Program, is_candidate, candidates, passes, passing, HaveDistinctTags, Snapshot, Tuple, Bindings, empty_tuple, name_of, row_of, bound_by, in_if, both, both_of, of_filter, joins, rows_of, held, line, int_eq, Decides-int_eq, result_of, with_result, with_value, of_result, is_result}
 use Rattle.std.proofs.lemmas.Cmp.{int_eq_equiv}
-use Rattle.std.proofs.lemmas.Bool.Decides.{Decides-int_eq}
 use Rattle.rule_model.specs.declared.condition.Accumulate.{Accumulate}
-use Rattle.rule_model.specs.Rows.{result_of, with_result}
 use Rattle.rule_model.specs.Tests.{results_hold}
-use Rattle.rule_model.specs.Tuples.{with_value}
-use Rattle.rule_model.proofs.Listed.{of_result}
 use Rattle.pair_memory.specs.Valued.{with_value as with_last_value, valued}
 use Rattle.pair_memory.proofs.Valued.{valued_with, valued_from}
 use Rattle.condition_rows.specs.Sets.{partners}
-use Rattle.condition_rows.specs.Lines.{is_result, gives}
+use Rattle.condition_rows.specs.Lines.{gives}
 use Rattle.condition_rows.proofs.Ends.{same_truth, IsMade, tuple_of_row, row_of_tuple, split_end, with_end}
 use Rattle.condition_rows.proofs.Joined.{joins_made}
 use Rattle.condition_rows.proofs.Kept.{bound_made}

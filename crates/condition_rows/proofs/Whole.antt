@@ -1,10 +1,8 @@
 -- The lines of all kinds of conditions, and of conditions one after the other.
-use Rattle.condition_rows.proofs.Common.{◌≡◌, ◌∙◌, ◌↔◌, sym, ap, refl, List, [], ◌∷◌, ◌++◌, Bool, true, false, ◌||◌, In, Row, Condition, Plain, Negated, Existing, Folded, Program, HaveDistinctTags, Snapshot, rows_of, line}
+use Rattle.condition_rows.proofs.Common.{◌≡◌, ◌∙◌, ◌↔◌, sym, ap, refl, List, [], ◌∷◌, ◌++◌, Bool, true, false, ◌||◌, In, Row, Condition, Plain, Negated, Existing, Folded, Program, HaveDistinctTags, Snapshot, rows_of, line, fold, append-nil, append_assoc, is_empty_row}
 use mathlib.Core.Path.{fun_ext}
-use Rattle.std.specs.List.{fold}
-use Rattle.std.proofs.lemmas.List.{append-nil, append_assoc}
 use Rattle.rule_model.specs.Rows.{rows}
-use Rattle.condition_rows.specs.Lines.{is_empty_row, lines}
+use Rattle.condition_rows.specs.Lines.{lines}
 use Rattle.condition_rows.proofs.Ends.{in_has, has_in}
 use Rattle.condition_rows.proofs.Joined.{plain_line}
 use Rattle.condition_rows.proofs.Kept.{negated_line, existing_line}

@@ -1,7 +1,5 @@
 -- What is read as an action stands in the grammar, and what stands in it is read.
-use Rattle.std.proofs.Common.{◌≡◌, ℕ, ◌<◌, ◌≤◌, Bool, true, false, cond, List, ◌∷◌, length, Some, None, refl, arith}
-use Rattle.std.specs.Prelude.{IfSome, codes}
-use Rattle.std.specs.Str.{bytes_eq}
+use Rattle.drl_action.proofs.Common.{◌≡◌, ℕ, ◌<◌, ◌≤◌, Bool, true, false, cond, List, ◌∷◌, length, Some, None, refl, arith, IfSome, codes, bytes_eq, IsSetter, IsAssign, IsAction, setter_at, word_of, behind_word_at}
 use Rattle.drl_lex.specs.declared.token.TokenKind.{TokenKind}
 use Rattle.drl_lex.specs.declared.token.TokenKind.TheVariants.{Word, Var, Mark}
 use Rattle.drl_lex.specs.declared.token.Mark.TheVariants.{OpenParenthesis, CloseParenthesis, OpenBrace, CloseBrace, Comma, Semicolon, Assign}
@@ -11,7 +9,6 @@ use Rattle.drl_expr.specs.Reading.{expression_at, expr_at, term_at, factor_at, o
 use Rattle.drl_expr.specs.Tree.{Tree}
 use Rattle.drl_expr.proofs.Laws.{expression_exact}
 use Rattle.drl_grammar.specs.Actions as g
-use Rattle.drl_grammar.specs.Actions.{IsSetter, IsAssign, IsAction}
 use Rattle.drl_grammar.specs.Shapes.{Optional, Separated, Listed}
 use Rattle.drl_grammar.specs.declared.action.ActTree.{ActTree}
 use Rattle.drl_grammar.specs.declared.action.ActTree.TheVariants.{Insert, Modify}
@@ -22,7 +19,7 @@ use Rattle.drl_phrase.proofs.Carried.{carried}
 use Rattle.drl_phrase.proofs.ShapeLaws.{then, if_some_then, guarded, ident_then, ident_is, same_bytes, closed_then, closed_is, separated_exact, listed_exact, optional_sound, optional_again, optional_shorter}
 use Rattle.drl_action.specs.declared.word.ActionWord.{ActionWord}
 use Rattle.drl_action.specs.declared.word.ActionWord.TheVariants.{InsertWord, ModifyWord, RetractWord}
-use Rattle.drl_action.specs.Reading.{setter_at, assign_at, word_of, action_word, insert_at, modify_at, retract_at, behind_word_at, action_at}
+use Rattle.drl_action.specs.Reading.{assign_at, action_word, insert_at, modify_at, retract_at, action_at}
 use Rattle.drl_action.proofs.SetterLaws.{setter_sound, setter_again}
 
 value_exact : Exact IsExpression expression_at 3

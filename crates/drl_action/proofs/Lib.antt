@@ -1,3 +1,4 @@
+mod Common
 pub mod ActionLaws
 pub mod SetterLaws
 pub mod Setters

@@ -1,13 +1,9 @@
 -- What is read as a setter is one, and a setter is read.
-use Rattle.std.proofs.Common.{◌≡◌, ◌&&◌, ℕ, Bool, true, false, cond, List, [], ◌∷◌, ◌++◌, take, drop, Some, None, refl, sym, ap, ◌∙◌}
+use Rattle.drl_action.proofs.Common.{◌≡◌, ◌&&◌, ℕ, Bool, true, false, cond, List, [], ◌∷◌, ◌++◌, take, drop, Some, None, refl, sym, ap, ◌∙◌, IfSome, codes, bytes_eq, bytes_eq-Decides, small, IsSetter, setter, field_named}
 use Rattle.std.proofs.lemmas.List.{take-append-drop}
-use Rattle.std.specs.Prelude.{IfSome, codes}
-use Rattle.std.specs.Str.{bytes_eq}
-use Rattle.std.proofs.lemmas.Slice.Eq.{bytes_eq-Decides}
 use Rattle.drl_lex.specs.Bytes.{begins_word}
 use Rattle.drl_expr.specs.Words.{is_ident}
-use Rattle.drl_grammar.specs.Actions.{small, IsSetter, setter}
-use Rattle.drl_action.specs.Reading.{field_named, setter_at}
+use Rattle.drl_action.specs.Reading.{setter_at}
 
 named_sound : (b : ℕ) (bytes word : List ℕ) (begins ok : Bool) → begins_word (small b) ≡ begins → is_ident (small b ∷ bytes) ≡ ok → word ≡ codes "set" ++ (b ∷ bytes)
     → IfSome (cond (begins && ok) (Some (small b ∷ bytes)) None) (λ f. IsSetter f word)

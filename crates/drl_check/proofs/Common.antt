@@ -1,4 +1,4 @@
--- The names that two proofs and more cite, passed on from one place. Declares nothing.
+-- Names from modules that two proofs and more cite, passed on from one place. Declares nothing.
 pub use Rattle.std.proofs.Common.{◌≡◌, ◌++◌, ap, Some, [], refl, sym, ℕ, ◌∙◌, List, None, ◌∷◌, arith, false, Bool, Option, length, map, subst, true, drop, not, ◌≤◌, slice_get, suc, zero, ◌&&◌, ◌+◌, append_assoc, nat_le, nat_lt, ◌||◌, cond, is_some, option_map, take, ◌<◌, length-append, min, ℤ, int_lt, negsuc, pos, unsigned_abs, Err, IfOk, Ok, Result, add-one, drop-cons, get_or, inl, inr, int_le, sum_by, ◌↔◌}
 pub use Rattle.std.proofs.lemmas.Bool.Decides.{nat_tests}
 pub use Rattle.std.proofs.lemmas.Int.{ints}

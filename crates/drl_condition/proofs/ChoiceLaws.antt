@@ -1,13 +1,11 @@
 -- What a rule asks for is read exactly.
-use Rattle.drl_condition.proofs.Common.{◌≡◌, ℕ, zero, suc, ◌<◌, ◌≤◌, ◌||◌, Bool, true, false, List, [], ◌∷◌, ◌++◌, length, Option, Some, None, refl, subst, arith, IfSome, codes, bytes_eq, TokenKind, Word, Mark, OpenParenthesis, CloseParenthesis, Read, Found, CondTree, Piece, One, Open, Or, Close, IsCondition, binds, ◌>>=◌, with_front, then, if_some_then, same_bytes, closed_then, condition_at, Reader}
+use Rattle.drl_condition.proofs.Common.{◌≡◌, ℕ, zero, suc, ◌<◌, ◌≤◌, ◌||◌, Bool, true, false, List, [], ◌∷◌, ◌++◌, length, Option, Some, None, refl, subst, arith, IfSome, codes, bytes_eq, TokenKind, Word, Mark, OpenParenthesis, CloseParenthesis, Read, Found, CondTree, Piece, One, Open, Or, Close, IsCondition, binds, ◌>>=◌, with_front, then, if_some_then, same_bytes, closed_then, condition_at, Reader, IsChoice, AreAll, AreAny, IsAsked, word_sound, word_again, closed_is, any_step}
 use Rattle.drl_expr.specs.Words.{is_ident}
 use Rattle.drl_grammar.specs.Conditions as g
-use Rattle.drl_grammar.specs.Conditions.{IsChoice, AreAll, AreAny, IsAsked}
 use Rattle.drl_phrase.specs.declared.phrase.Punctuation.TheVariants as p
 use Rattle.drl_phrase.specs.Reading.{after_word}
 use Rattle.drl_phrase.proofs.ShapeLaws as shapes
-use Rattle.drl_phrase.proofs.ShapeLaws.{word_sound, word_again, closed_is}
-use Rattle.drl_condition.specs.Choices.{ends_all, all_turns, all_at, any_step, any_turns, any_at, alternatives_at, after_open, choice_at, asked_at}
+use Rattle.drl_condition.specs.Choices.{ends_all, all_turns, all_at, any_turns, any_at, alternatives_at, after_open, choice_at, asked_at}
 use Rattle.drl_condition.proofs.WordLaws.{ident_differs}
 use Rattle.drl_condition.proofs.ChoiceSteps.{one_is}
 use Rattle.drl_condition.proofs.ConditionLaws.{condition_exact, condition_begins}

@@ -1,8 +1,8 @@
 -- The steps of reading what a rule asks for, as the code takes them: pieces behind those that are read already.
-use Rattle.drl_condition.proofs.Common.{◌≡◌, ℕ, zero, suc, ◌-◌, ◌+◌, ◌<◌, ◌≤◌, true, false, List, [], ◌∷◌, ◌++◌, length, Some, None, refl, sym, ap, ◌∙◌, append_assoc, arith, codes, TokenKind, Read, CondTree, Piece, One, Open, Or, Close, ◌>>=◌, with_front, condition_at, Reader}
+use Rattle.drl_condition.proofs.Common.{◌≡◌, ℕ, zero, suc, ◌-◌, ◌+◌, ◌<◌, ◌≤◌, true, false, List, [], ◌∷◌, ◌++◌, length, Some, None, refl, sym, ap, ◌∙◌, append_assoc, arith, codes, TokenKind, Read, CondTree, Piece, One, Open, Or, Close, ◌>>=◌, with_front, condition_at, Reader, after, after_word, ends_all, after_open}
 use Rattle.drl_phrase.specs.declared.phrase.Punctuation.TheVariants as p
-use Rattle.drl_phrase.specs.Reading.{after, after_word, closed}
-use Rattle.drl_condition.specs.Choices.{ends_all, all_turns, all_at, any_turns, any_at, alternatives_at, after_open, choice_at}
+use Rattle.drl_phrase.specs.Reading.{closed}
+use Rattle.drl_condition.specs.Choices.{all_turns, all_at, any_turns, any_at, alternatives_at, choice_at}
 
 -- pieces behind others
 regrouped : (xs ys : List Piece) (o : Read (List Piece)) → with_front xs (with_front ys o) ≡ with_front (xs ++ ys) o

@@ -1,13 +1,12 @@
 -- Conditions are read exactly.
-use Rattle.drl_condition.proofs.Common.{◌≡◌, ℕ, ◌<◌, ◌≤◌, Bool, true, false, cond, List, [], ◌∷◌, length, Option, Some, None, refl, arith, codes, bytes_eq, TokenKind, Word, Var, Mark, OpenParenthesis, Colon, Read, Found, SourceTree, CondTree, IsBinding, IsSource, IsGroup, IsFolded, IsCondition, binds, Exact, then, same_bytes, source_at}
+use Rattle.drl_condition.proofs.Common.{◌≡◌, ℕ, ◌<◌, ◌≤◌, Bool, true, false, cond, List, [], ◌∷◌, length, Option, Some, None, refl, arith, codes, bytes_eq, TokenKind, Word, Var, Mark, OpenParenthesis, Colon, Read, Found, SourceTree, CondTree, IsBinding, IsSource, IsGroup, IsFolded, IsCondition, binds, Exact, then, same_bytes, source_at, Begins, group_at, number_at, accumulate_at}
 use Rattle.drl_expr.specs.Words.{is_ident}
 use Rattle.drl_grammar.specs.Conditions as g
-use Rattle.drl_phrase.proofs.ShapeLaws.{Begins}
 use Rattle.drl_phrase.proofs.Carried.{ident_binds}
 use Rattle.drl_condition.specs.declared.words.Form.{Form}
 use Rattle.drl_condition.specs.declared.words.Form.TheVariants as form
 use Rattle.drl_condition.specs.Words.{word_form}
-use Rattle.drl_condition.specs.Reading.{group_at, number_at, accumulate_at, form_at, formed_at, condition_at}
+use Rattle.drl_condition.specs.Reading.{form_at, formed_at, condition_at}
 use Rattle.drl_condition.proofs.WordLaws.{ident_differs, name_form}
 use Rattle.drl_condition.proofs.PatternLaws.{source_exact, group_exact}
 use Rattle.drl_condition.proofs.FoldLaws.{number_sound, number_again, accumulate_sound, accumulate_again, folded_shorter}

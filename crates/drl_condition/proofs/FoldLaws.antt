@@ -1,15 +1,11 @@
 -- Accumulates are read exactly.
-use Rattle.drl_condition.proofs.Common.{◌≡◌, ◌&&◌, ℕ, ◌<◌, ◌≤◌, List, ◌∷◌, length, Option, Some, refl, subst, arith, codes, bytes_eq, TokenKind, Word, Var, Mark, OpenParenthesis, CloseParenthesis, Comma, Colon, Comparison, Phrase, Found, Operand, SourceTree, FoldWord, CondTree, Separated, Listed, fold_text, result_text, IsOperand, IsBinding, IsSource, IsFolded, binds, Exact, separated_at, listed_at, then, if_some_then, guarded, same_bytes, closed_then, separated_exact, listed_exact, source_at}
+use Rattle.drl_condition.proofs.Common.{◌≡◌, ◌&&◌, ℕ, ◌<◌, ◌≤◌, List, ◌∷◌, length, Option, Some, refl, subst, arith, codes, bytes_eq, TokenKind, Word, Var, Mark, OpenParenthesis, CloseParenthesis, Comma, Colon, Comparison, Phrase, Found, Operand, SourceTree, FoldWord, CondTree, Separated, Listed, fold_text, result_text, IsOperand, IsBinding, IsSource, IsFolded, binds, Exact, separated_at, listed_at, then, if_some_then, guarded, same_bytes, closed_then, separated_exact, listed_exact, source_at, Semicolon, IsValueTest, IsResultTest, AreResultTests, itself, fold_word, result_word, operand_at, binding_at}
 use Rattle.drl_lex.specs.declared.token.Rel.{Rel}
-use Rattle.drl_lex.specs.declared.token.Mark.TheVariants.{Semicolon}
 use Rattle.drl_grammar.specs.declared.condition.CondTree.TheVariants as condition
 use Rattle.drl_grammar.specs.Conditions as g
-use Rattle.drl_grammar.specs.Conditions.{IsValueTest, IsResultTest, AreResultTests}
 use Rattle.drl_phrase.specs.declared.phrase.Punctuation.TheVariants as p
 use Rattle.drl_phrase.specs.Reading.{closed, after}
-use Rattle.drl_phrase.proofs.ShapeLaws.{itself}
-use Rattle.drl_condition.specs.Words.{fold_word, result_word}
-use Rattle.drl_condition.specs.Reading.{operand_at, window_at, place_at, binding_at, value_test_at, result_test_at, result_tests_at, call_at, last_call_at, number_call_at, number_source_at, number_tests_at, number_at, result_at, accumulate_call_at, accumulate_at}
+use Rattle.drl_condition.specs.Reading.{window_at, place_at, value_test_at, result_test_at, result_tests_at, call_at, last_call_at, number_call_at, number_source_at, number_tests_at, number_at, result_at, accumulate_call_at, accumulate_at}
 use Rattle.drl_condition.proofs.WordLaws.{fold_sound, fold_again, result_sound, result_again, both}
 use Rattle.drl_condition.proofs.ValueLaws.{operand_exact}
 use Rattle.drl_condition.proofs.PatternLaws.{binding_sound, binding_again, binding_shorter, source_again, source_exact}

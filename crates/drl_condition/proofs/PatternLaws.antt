@@ -1,15 +1,10 @@
 -- Patterns with their windows and entry points are read exactly.
-use Rattle.drl_condition.proofs.Common.{◌≡◌, ◌&&◌, ℕ, ◌<◌, ◌≤◌, List, ◌∷◌, length, Option, Some, None, refl, arith, codes, bytes_eq, TokenKind, Word, Var, Number, Mark, OpenParenthesis, CloseParenthesis, Colon, Minus, Found, SourceTree, Listed, IsSpan, IsPart, IsBinding, IsSource, IsGroup, binds, Exact, listed_at, span_at, then, if_some_then, guarded, ident_then, ident_is, same_bytes, closed_then, span_exact, WindowWord, TimeWord, LengthWord}
+use Rattle.drl_condition.proofs.Common.{◌≡◌, ◌&&◌, ℕ, ◌<◌, ◌≤◌, List, ◌∷◌, length, Option, Some, None, refl, arith, codes, bytes_eq, TokenKind, Word, Var, Number, Mark, OpenParenthesis, CloseParenthesis, Colon, Minus, Found, SourceTree, Listed, IsSpan, IsPart, IsBinding, IsSource, IsGroup, binds, Exact, listed_at, span_at, then, if_some_then, guarded, ident_then, ident_is, same_bytes, closed_then, span_exact, WindowWord, TimeWord, LengthWord, Maybe, left_out, written, IsName, IsWindow, IsPlace, maybe_at, name_at, maybe_sound, maybe_again, maybe_shorter, name_exact, window_word, part_at}
 use Rattle.drl_grammar.specs.declared.condition.WindowTree.{WindowTree}
-use Rattle.drl_grammar.specs.Shapes.{Maybe, left_out, written}
 use Rattle.drl_grammar.specs.Conditions as g
-use Rattle.drl_grammar.specs.Conditions.{IsName, IsWindow, IsPlace}
 use Rattle.drl_phrase.specs.declared.phrase.Punctuation.TheVariants as p
-use Rattle.drl_phrase.specs.Reading.{closed, after, maybe_at, name_at}
-use Rattle.drl_phrase.proofs.ShapeLaws.{maybe_sound, maybe_again, maybe_shorter}
-use Rattle.drl_phrase.proofs.NameLaws.{name_exact}
-use Rattle.drl_condition.specs.Words.{window_word}
-use Rattle.drl_condition.specs.Reading.{part_at, extent_at, window_at, place_at, binding_at, pattern_at, source_at, group_at}
+use Rattle.drl_phrase.specs.Reading.{closed, after}
+use Rattle.drl_condition.specs.Reading.{extent_at, window_at, place_at, binding_at, pattern_at, source_at, group_at}
 use Rattle.drl_condition.proofs.WordLaws.{window_text, window_sound, window_again, word_differs, both}
 use Rattle.drl_condition.proofs.PartLaws.{parts_exact}
 

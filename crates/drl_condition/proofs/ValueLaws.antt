@@ -1,17 +1,14 @@
 -- Literals, operands and comparisons are read exactly.
-use Rattle.drl_condition.proofs.Common.{◌≡◌, ℕ, ◌<◌, ◌≤◌, Bool, true, false, cond, List, ◌∷◌, length, Some, None, refl, arith, codes, bytes_eq, TokenKind, Word, Var, Number, Mark, OpenParenthesis, CloseParenthesis, Comma, Minus, Comparison, IsIdent, Phrase, Found, Operand, Cmp, Separated, IsOperand, IsDisj, binds, Exact, ◌>>=◌, separated_at, then, guarded, ident_then, ident_is, same_bytes, closed_then, separated_exact, disj_at}
-use Rattle.drl_lex.specs.declared.token.TokenKind.TheVariants.{Text}
-use Rattle.drl_lex.specs.declared.token.Mark.TheVariants.{Dot, Or, And}
+use Rattle.drl_condition.proofs.Common.{◌≡◌, ℕ, ◌<◌, ◌≤◌, Bool, true, false, cond, List, ◌∷◌, length, Some, None, refl, arith, codes, bytes_eq, TokenKind, Word, Var, Number, Mark, OpenParenthesis, CloseParenthesis, Comma, Minus, Comparison, IsIdent, Phrase, Found, Operand, Cmp, Separated, IsOperand, IsDisj, binds, Exact, ◌>>=◌, separated_at, then, guarded, ident_then, ident_is, same_bytes, closed_then, separated_exact, disj_at, Text, Dot, And, single, more, IsLiteral, IsCmp, IsConj, as_operand, conj_at}
+use Rattle.drl_lex.specs.declared.token.Mark.TheVariants.{Or}
 use Rattle.drl_expr.specs.Words.{is_ident}
 use Rattle.drl_expr.specs.declared.literal.LitTree.{LitTree}
 use Rattle.drl_expr.specs.declared.literal.LitTree.TheVariants as lit
 use Rattle.drl_grammar.specs.declared.condition.Operand.TheVariants as operand
-use Rattle.drl_grammar.specs.Shapes.{single, more}
 use Rattle.drl_grammar.specs.Conditions as g
-use Rattle.drl_grammar.specs.Conditions.{IsLiteral, IsCmp, IsConj}
 use Rattle.drl_phrase.specs.declared.phrase.Punctuation.TheVariants as p
 use Rattle.drl_phrase.specs.Reading.{closed, after}
-use Rattle.drl_condition.specs.Reading.{literal_at, as_operand, operand_at, compared_at, one_of_at, cmp_at, conj_at}
+use Rattle.drl_condition.specs.Reading.{literal_at, operand_at, compared_at, one_of_at, cmp_at}
 
 words_sound : (w : List ℕ) (rest : List TokenKind) (t f : Bool) → bytes_eq w (codes "true") ≡ t → bytes_eq w (codes "false") ≡ f
     → Found IsLiteral (Word w ∷ rest) (cond t (Some (lit.Bool true, rest)) (cond f (Some (lit.Bool false, rest)) None))

@@ -1,13 +1,6 @@
 -- Operands with operators between them, grouped to the left: what is read stands in the grammar, and what stands in it is read.
-use Rattle.std.proofs.Common.{◌≡◌, ℕ, zero, suc, ◌+◌, ◌-◌, ◌<◌, ◌≤◌, max, Bool, true, false, cond, List, ◌∷◌, Option, Some, None, refl, ◌∙◌, arith}
-use Rattle.std.specs.Prelude.{nat_lt}
-use Rattle.std.proofs.lemmas.Bool.{ltb-true, lt-ltb}
-use Rattle.drl_lex.specs.declared.token.TokenKind.{TokenKind}
-use Rattle.drl_lex.specs.declared.token.TokenKind.TheVariants.{Mark}
-use Rattle.drl_lex.specs.declared.token.Mark.TheVariants.{CloseParenthesis}
-use Rattle.drl_expr.specs.Tree.{Tree, height}
-use Rattle.drl_expr.specs.Exact.{Read, Phrase, Found}
-use Rattle.drl_expr.specs.Reading.{◌>>=◌, after_close, Operator, Reader, chain_step, chain_at, chained}
+use Rattle.drl_expr.proofs.Common.{◌≡◌, ℕ, zero, suc, ◌+◌, ◌-◌, ◌<◌, ◌≤◌, max, Bool, true, false, cond, List, ◌∷◌, Option, Some, None, refl, ◌∙◌, arith, nat_lt, ltb-true, lt-ltb, TokenKind, Mark, CloseParenthesis, Tree, height, Read, Phrase, Found, ◌>>=◌, Operator, Reader, chain_step, chained}
+use Rattle.drl_expr.specs.Reading.{after_close, chain_at}
 
 -- a phrase is read first, then what go reads
 pub then : (Is : Phrase Tree) (ts : List TokenKind) (o : Read Tree) (go : Tree × List TokenKind → Read Tree) (Wanted : Phrase Tree) (whole : List TokenKind)

@@ -1,20 +1,12 @@
 -- What is read as an expression stands in the grammar, and what stands in it is read.
-use Rattle.std.proofs.Common.{◌≡◌, ℕ, zero, suc, ◌-◌, ◌<◌, ◌≤◌, Bool, true, false, cond, List, [], ◌∷◌, length, Option, Some, None, refl, sym, ap, subst, ◌∙◌, arith}
-use Rattle.std.specs.Prelude.{IfSome, codes}
+use Rattle.drl_expr.proofs.Common.{◌≡◌, ℕ, zero, suc, ◌-◌, ◌<◌, ◌≤◌, Bool, true, false, cond, List, [], ◌∷◌, length, Option, Some, None, refl, sym, ap, subst, ◌∙◌, arith, IfSome, codes, TokenKind, Word, Var, Number, Text, Mark, OpenParenthesis, CloseParenthesis, Dot, Plus, Minus, Star, Opening, Negative, Parenthesis, Tree, lit, var, var_field, neg, add, sub, mul, height, Read, Phrase, Found, binds, Exact, Reader, factor_step}
 use Rattle.std.specs.Str.{bytes_eq}
 use Rattle.std.proofs.lemmas.Slice.Eq.{bytes_eq-Decides}
-use Rattle.drl_lex.specs.declared.token.TokenKind.{TokenKind}
-use Rattle.drl_lex.specs.declared.token.TokenKind.TheVariants.{Word, Var, Number, Text, Mark}
-use Rattle.drl_lex.specs.declared.token.Mark.TheVariants.{OpenParenthesis, CloseParenthesis, Dot, Plus, Minus, Star}
 use Rattle.drl_expr.specs.declared.literal.LitTree.TheVariants as l
-use Rattle.drl_expr.specs.declared.marks.Opening.{Opening}
-use Rattle.drl_expr.specs.declared.marks.Opening.TheVariants.{Negative, Parenthesis}
-use Rattle.drl_expr.specs.Tree.{Tree, lit, var, var_field, neg, add, sub, mul, height}
 use Rattle.drl_expr.specs.Words.{is_ident}
-use Rattle.drl_expr.specs.Exact.{Read, Phrase, Found, binds, Exact}
 use Rattle.drl_expr.specs.Grammar as g
 use Rattle.drl_expr.specs.Grammar.{IsExpr, IsTerm, IsFactor, IsExpression}
-use Rattle.drl_expr.specs.Reading.{opening_at, after_close, atom_at, Reader, plus_at, star_at, factor_step, factor_at, term_at, expr_at, inside_at, expression_at}
+use Rattle.drl_expr.specs.Reading.{opening_at, after_close, atom_at, plus_at, star_at, factor_at, term_at, expr_at, inside_at, expression_at}
 use Rattle.drl_expr.proofs.Chains.{then, closed_then, Low, Joins, chain_sound, Left, chain_done, chain_turn, chain_starts}
 
 -- ---- what is read stands in the grammar

@@ -1,13 +1,6 @@
 -- The steps of reading an expression, as the code takes them.
-use Rattle.std.proofs.Common.{◌≡◌, ℕ, zero, suc, ◌+◌, ◌-◌, ◌<◌, ◌≤◌, Bool, true, false, List, Option, Some, None, option_map, refl, sym, ap, ◌∙◌, arith}
-use Rattle.drl_lex.specs.declared.token.TokenKind.{TokenKind}
-use Rattle.drl_expr.specs.declared.marks.Opening.{Opening}
-use Rattle.drl_expr.specs.declared.marks.Opening.TheVariants.{Negative, Parenthesis}
-use Rattle.drl_expr.specs.Tree.{Tree, neg, height}
-use Rattle.drl_expr.specs.Exact.{Read}
-use Rattle.drl_expr.specs.Reading.{◌>>=◌, opening_at, after_close, atom_at, Operator, Reader, chain_at, chained, factor_step, factor_at, inside_at, expr_at}
-use Rattle.std.specs.Prelude.{nat_lt}
-use Rattle.std.proofs.lemmas.Bool.{lt-ltb, le-ltb}
+use Rattle.drl_expr.proofs.Common.{◌≡◌, ℕ, zero, suc, ◌+◌, ◌-◌, ◌<◌, ◌≤◌, Bool, true, false, List, Option, Some, None, option_map, refl, sym, ap, ◌∙◌, arith, TokenKind, Opening, Negative, Parenthesis, Tree, neg, height, Read, ◌>>=◌, opening_at, after_close, atom_at, Operator, Reader, chained, factor_step, expr_at, nat_lt, lt-ltb, le-ltb}
+use Rattle.drl_expr.specs.Reading.{chain_at, factor_at, inside_at}
 
 opens : (inside : Reader) (h : ℕ) (ts : List TokenKind) → 0 < h → factor_at inside h ts ≡ factor_step (opening_at ts) ts (factor_at inside (h - 1)) (inside h)
 unfolding factor_at

@@ -1,8 +1,6 @@
 -- Sums and products that stop at the greatest number of 64 bits.
-use Rattle.drl_lex.proofs.Common.{◌≡◌, ℕ, ◌+◌, ◌*◌, ◌-◌, ◌^◌, ◌<◌, min, List, length, take, get_or, true, refl, arith, Option, Some, None, option_map, codes, nat_lt, list_all, is_ascii_digit, digits_value, leb-true, part_at, last_at, time_of, total_of}
-use Rattle.std.specs.Char.{digit_value}
+use Rattle.drl_lex.proofs.Common.{◌≡◌, ℕ, ◌+◌, ◌*◌, ◌-◌, ◌^◌, ◌<◌, min, List, length, take, get_or, true, refl, arith, Option, Some, None, option_map, codes, nat_lt, list_all, is_ascii_digit, digits_value, leb-true, part_at, last_at, time_of, total_of, digit_value, digit_value_digit}
 use Rattle.std.proofs.lemmas.Int.Digits.{digits_value_more}
-use Rattle.std.proofs.lemmas.Str.{digit_value_digit}
 use Rattle.drl_lex.specs.TimeReading.{capped}
 use Rattle.drl_lex.proofs.FrontLaws.{both, passes_at}
 use Rattle.drl_lex.proofs.TimeLaws.{Parts, parts_again}

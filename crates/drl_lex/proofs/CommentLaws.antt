@@ -1,6 +1,6 @@
 -- The first end of a comment.
-use Rattle.drl_lex.proofs.Common.{◌≡◌, ℕ, ◌++◌, ◌&&◌, Bool, true, false, eqb, List, [], ◌∷◌, drop, Option, Some, None, refl, ap, ◌∙◌, codes, eqb-true, begins, IsWithout}
-use Rattle.drl_lex.specs.Fronts.{behind_close, close_step}
+use Rattle.drl_lex.proofs.Common.{◌≡◌, ℕ, ◌++◌, ◌&&◌, Bool, true, false, eqb, List, [], ◌∷◌, drop, Option, Some, None, refl, ap, ◌∙◌, codes, eqb-true, begins, IsWithout, close_step}
+use Rattle.drl_lex.specs.Fronts.{behind_close}
 use Rattle.drl_lex.proofs.FrontLaws.{both}
 
 -- a body without `*/`, and the `*/` behind it

@@ -1,7 +1,6 @@
 -- The bytes of a file are one list of tokens, or have one first fault, and that is what is read.
-use Rattle.drl_lex.proofs.Common.{◌≡◌, ℕ, zero, suc, ◌+◌, ◌-◌, ◌<◌, ◌≤◌, ◌++◌, List, [], ◌∷◌, length, Option, Some, None, Result, Ok, Err, refl, sym, ap, ◌∙◌, arith, length-append, append-nil, Token, TokenKind, LexCode, kept, IsFault, Read, piece_at, IsPiece, Reads, AreTokens}
-use Rattle.drl_lex.specs.Faults.{IsRefused}
-use Rattle.drl_lex.specs.Reading.{with_token, behind_piece, lexed_step, lexed_from, lexed}
+use Rattle.drl_lex.proofs.Common.{◌≡◌, ℕ, zero, suc, ◌+◌, ◌-◌, ◌<◌, ◌≤◌, ◌++◌, List, [], ◌∷◌, length, Option, Some, None, Result, Ok, Err, refl, sym, ap, ◌∙◌, arith, length-append, append-nil, Token, TokenKind, LexCode, kept, IsFault, Read, piece_at, IsPiece, Reads, AreTokens, IsRefused, with_token, behind_piece, lexed_step}
+use Rattle.drl_lex.specs.Reading.{lexed_from, lexed}
 use Rattle.drl_lex.specs.Tokens as p
 use Rattle.drl_lex.proofs.PieceLaws.{Stands, piece_sound}
 use Rattle.drl_lex.proofs.PiecesAgain.{piece_again, fault_again, piece_some, fault_some}

@@ -1,9 +1,7 @@
 -- Reading the pieces of a file one after the other, as a loop does.
-use Rattle.drl_lex.proofs.Common.{◌≡◌, ℕ, ◌+◌, ◌-◌, ◌<◌, ◌≤◌, ◌++◌, Bool, true, false, eqb, List, [], ◌∷◌, length, Option, Result, Ok, Err, refl, sym, ap, ◌∙◌, arith, eqb-true, eqb-false, length-append, Token, TokenKind, LexCode, kept, IsFault, IsFirstFault, Read, piece_at, lexed, Reads, AreTokens}
-use Rattle.std.specs.Prelude.{IfErr, IsErrAnd}
+use Rattle.drl_lex.proofs.Common.{◌≡◌, ℕ, ◌+◌, ◌-◌, ◌<◌, ◌≤◌, ◌++◌, Bool, true, false, eqb, List, [], ◌∷◌, length, Option, Result, Ok, Err, refl, sym, ap, ◌∙◌, arith, eqb-true, eqb-false, length-append, Token, TokenKind, LexCode, kept, IsFault, IsFirstFault, Read, piece_at, lexed, Reads, AreTokens, IfErr, IsErrAnd, Fails, Gives}
 use Rattle.drl_lex.specs.declared.fault.LexFault.{LexFault}
 use Rattle.drl_lex.specs.declared.fault.LexFault.TheVariants.{Refused, NoMemory}
-use Rattle.drl_lex.specs.Answers.{Fails, Gives}
 use Rattle.drl_lex.specs.Tokens as p
 use Rattle.drl_lex.proofs.FileLaws.{reads_on, refused_again, ends_there}
 use Rattle.drl_lex.proofs.PieceLaws.{Front, Stands, piece_sound}

@@ -1,7 +1,6 @@
 -- The longest front of bytes that pass a test, and the first end of a comment.
-use Rattle.drl_lex.proofs.Common.{◌≡◌, ℕ, zero, suc, ◌<◌, ◌≤◌, ◌++◌, Bool, true, false, ◌&&◌, List, [], ◌∷◌, length, take, drop, get_or, refl, ap, ◌∙◌, arith, list_all, begins}
-use Rattle.std.proofs.lemmas.List.{at_drop_more}
-use Rattle.drl_lex.specs.Fronts.{longest, longest_step}
+use Rattle.drl_lex.proofs.Common.{◌≡◌, ℕ, zero, suc, ◌<◌, ◌≤◌, ◌++◌, Bool, true, false, ◌&&◌, List, [], ◌∷◌, length, take, drop, get_or, refl, ap, ◌∙◌, arith, list_all, begins, at_drop_more, longest_step}
+use Rattle.drl_lex.specs.Fronts.{longest}
 
 pub both : (a b : Bool) → (a && b) ≡ true → (a ≡ true) × (b ≡ true)
 both true b e = (refl, e)

@@ -1,11 +1,9 @@
 -- The mark that is read is the longest one, and it is read.
-use Rattle.drl_lex.proofs.Common.{◌≡◌, ℕ, ◌++◌, ◌&&◌, Bool, true, false, cond, eqb, List, [], ◌∷◌, Option, Some, None, refl, sym, ap, ◌∙◌, option_map, IfSome, eqb-true, Equal, Less, LessOrEqual, Greater, GreaterOrEqual, Assign, Comparison, Other, begins, mark_text, lengthens}
-use Rattle.drl_lex.specs.declared.token.Rel.TheVariants.{NotEqual}
+use Rattle.drl_lex.proofs.Common.{◌≡◌, ℕ, ◌++◌, ◌&&◌, Bool, true, false, cond, eqb, List, [], ◌∷◌, Option, Some, None, refl, sym, ap, ◌∙◌, option_map, IfSome, eqb-true, Equal, Less, LessOrEqual, Greater, GreaterOrEqual, Assign, Comparison, Other, begins, mark_text, lengthens, NotEqual, OpenParenthesis, CloseParenthesis, OpenBrace, CloseBrace, OpenBracket, CloseBracket, Comma, Semicolon, Colon, Dot, At, Plus, Minus, Star, Or, And, mark_step}
 use Rattle.drl_lex.specs.declared.token.Mark.{Mark}
-use Rattle.drl_lex.specs.declared.token.Mark.TheVariants.{OpenParenthesis, CloseParenthesis, OpenBrace, CloseBrace, OpenBracket, CloseBracket, Comma, Semicolon, Colon, Dot, At, Plus, Minus, Star, Or, And}
 use Rattle.drl_lex.specs.Bytes.{is_blank, is_quote, begins_word}
 use Rattle.drl_lex.specs.Leads.{lead_of}
-use Rattle.drl_lex.specs.MarkReading.{single_mark, double_mark, mark_at, mark_step}
+use Rattle.drl_lex.specs.MarkReading.{single_mark, double_mark, mark_at}
 use Rattle.drl_lex.proofs.FrontLaws.{both}
 
 -- a mark of one byte, and no longer one where no mark of two bytes stands

@@ -1,12 +1,11 @@
 -- What is read at the front of the bytes stands there: a blank, a comment, a token, or a fault.
-use Rattle.drl_lex.proofs.Common.{◌≡◌, ℕ, ◌+◌, ◌<◌, ◌++◌, Bool, true, false, cond, eqb, List, [], ◌∷◌, length, Option, Some, None, Result, Ok, Err, eq-eqb, refl, ap, ◌∙◌, arith, append_assoc, codes, is_some, IfSome, list_all, is_ascii_digit, is_utf8, eqb-true, length-append, TokenKind, Word, Var, Number, Time, Text, Mark, Assign, Comparison, Equal, Less, LessOrEqual, Greater, GreaterOrEqual, LexCode, BadChar, Lead, Blank, Hash, Slash, Quote, Dollar, Digit, Letter, Other, is_word_byte, is_run_byte, is_line_byte, begins, BeginsNothing, IsRun, IsOpened, IsFault, behind_close, mark_text, lengthens, Read, behind_block, token_read, mark_read, var_step, run_kind, with_rest, text_step, content_at, IsText, Spells, longer, IsComment, IsPiece}
+use Rattle.drl_lex.proofs.Common.{◌≡◌, ℕ, ◌+◌, ◌<◌, ◌++◌, Bool, true, false, cond, eqb, List, [], ◌∷◌, length, Option, Some, None, Result, Ok, Err, eq-eqb, refl, ap, ◌∙◌, arith, append_assoc, codes, is_some, IfSome, list_all, is_ascii_digit, is_utf8, eqb-true, length-append, TokenKind, Word, Var, Number, Time, Text, Mark, Assign, Comparison, Equal, Less, LessOrEqual, Greater, GreaterOrEqual, LexCode, BadChar, Lead, Blank, Hash, Slash, Quote, Dollar, Digit, Letter, Other, is_word_byte, is_run_byte, is_line_byte, begins, BeginsNothing, IsRun, IsOpened, IsFault, behind_close, mark_text, lengthens, Read, behind_block, token_read, mark_read, var_step, run_kind, with_rest, text_step, content_at, IsText, Spells, longer, IsComment, IsPiece, lead_of, comment_read, text_read}
 use Rattle.drl_lex.specs.declared.token.Mark.{Mark as MarkData}
 use Rattle.drl_lex.specs.Bytes.{is_blank, begins_word, is_quote}
 use Rattle.drl_lex.specs.Faults as f
 use Rattle.drl_lex.specs.Fronts.{longest}
-use Rattle.drl_lex.specs.Leads.{lead_of}
 use Rattle.drl_lex.specs.MarkReading.{mark_at, single_mark, double_mark}
-use Rattle.drl_lex.specs.Reading.{slash_at, comment_read, word_at, var_at, run_at, text_at, text_read, piece_of, piece_at}
+use Rattle.drl_lex.specs.Reading.{slash_at, word_at, var_at, run_at, text_at, piece_of, piece_at}
 use Rattle.drl_lex.specs.Texts.{utf8_text}
 use Rattle.drl_lex.specs.Tokens as p
 use Rattle.drl_lex.proofs.CommentLaws.{CloseIs, close_is}

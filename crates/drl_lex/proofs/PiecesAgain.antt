@@ -1,11 +1,9 @@
 -- What stands at the front of the bytes is read.
-use Rattle.drl_lex.proofs.Common.{◌≡◌, ℕ, ◌+◌, ◌^◌, ◌<◌, ◌≤◌, ◌++◌, Bool, true, false, cond, eqb, List, [], ◌∷◌, length, Option, Some, None, Ok, Err, refl, ap, ◌∙◌, arith, append_assoc, codes, IfSome, nat_lt, nat_le, list_all, is_ascii_digit, is_utf8, digits_value, eqb-true, nat_tests, TokenKind, Word, Var, Number, Time, Text, Mark, LexCode, BadChar, OpenText, NumberLarge, Lead, Blank, Hash, Slash, Quote, Dollar, Digit, Letter, Other, is_word_byte, is_run_byte, is_line_byte, begins, IsWithout, BeginsNothing, IsRun, IsOpened, IsFault, longest, behind_close, mark_text, lengthens, token_read, mark_read, number_kind, time_kind, run_kind, with_rest, var_step, behind_block, text_step, content_at, time_of, IsNumeral, IsTime, IsText, Spells, longer, IsComment, IsPiece}
+use Rattle.drl_lex.proofs.Common.{◌≡◌, ℕ, ◌+◌, ◌^◌, ◌<◌, ◌≤◌, ◌++◌, Bool, true, false, cond, eqb, List, [], ◌∷◌, length, Option, Some, None, Ok, Err, refl, ap, ◌∙◌, arith, append_assoc, codes, IfSome, nat_lt, nat_le, list_all, is_ascii_digit, is_utf8, digits_value, eqb-true, nat_tests, TokenKind, Word, Var, Number, Time, Text, Mark, LexCode, BadChar, OpenText, NumberLarge, Lead, Blank, Hash, Slash, Quote, Dollar, Digit, Letter, Other, is_word_byte, is_run_byte, is_line_byte, begins, IsWithout, BeginsNothing, IsRun, IsOpened, IsFault, longest, behind_close, mark_text, lengthens, token_read, mark_read, number_kind, time_kind, run_kind, with_rest, var_step, behind_block, text_step, content_at, time_of, IsNumeral, IsTime, IsText, Spells, longer, IsComment, IsPiece, OpenComment, begins_word, mark_at}
 use Rattle.drl_lex.specs.declared.token.Mark.{Mark as MarkData}
-use Rattle.drl_lex.specs.declared.fault.LexCode.TheVariants.{OpenComment}
-use Rattle.drl_lex.specs.Bytes.{is_blank, begins_word, is_quote}
+use Rattle.drl_lex.specs.Bytes.{is_blank, is_quote}
 use Rattle.drl_lex.specs.Faults as f
 use Rattle.drl_lex.specs.Leads.{lead_of}
-use Rattle.drl_lex.specs.MarkReading.{mark_at}
 use Rattle.drl_lex.specs.Reading.{slash_at, word_at, var_at, run_at, text_at, piece_of, piece_at}
 use Rattle.drl_lex.specs.Texts.{utf8_text}
 use Rattle.drl_lex.specs.Tokens as p

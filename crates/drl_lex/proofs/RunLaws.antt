@@ -1,6 +1,5 @@
 -- What begins with a digit is read as a number or a time, and nothing else is.
-use Rattle.drl_lex.proofs.Common.{◌≡◌, ℕ, ◌^◌, ◌<◌, ◌++◌, Bool, true, false, not, cond, List, [], ◌∷◌, length, Option, Some, None, Result, Ok, Err, refl, ap, ◌∙◌, arith, append_assoc, codes, nat_lt, nat_le, IfSome, list_all, is_ascii_digit, digits_value, ltb-true, leb-true, length-append, append-nil, TokenKind, Number, Time, LexCode, NumberLarge, begins, IsRun, IsFault, longest, number_kind, time_kind, is_empty, time_of, IsNumeral, IsPart, IsLastPart, IsTime, Spells, longer}
-use Rattle.std.proofs.lemmas.Bool.{ltb-false, leb-false}
+use Rattle.drl_lex.proofs.Common.{◌≡◌, ℕ, ◌^◌, ◌<◌, ◌++◌, Bool, true, false, not, cond, List, [], ◌∷◌, length, Option, Some, None, Result, Ok, Err, refl, ap, ◌∙◌, arith, append_assoc, codes, nat_lt, nat_le, IfSome, list_all, is_ascii_digit, digits_value, ltb-true, leb-true, length-append, append-nil, TokenKind, Number, Time, LexCode, NumberLarge, begins, IsRun, IsFault, longest, number_kind, time_kind, is_empty, time_of, IsNumeral, IsPart, IsLastPart, IsTime, Spells, longer, ltb-false, leb-false}
 use Rattle.drl_lex.specs.Bytes.{is_run_byte, is_unit_byte, is_word_byte}
 use Rattle.drl_lex.specs.Faults as f
 use Rattle.drl_lex.specs.Reading.{run_kind}

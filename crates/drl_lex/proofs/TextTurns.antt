@@ -1,16 +1,11 @@
 -- Reading the bytes of a text one after the other, as a loop does.
-use Rattle.drl_lex.proofs.Common.{◌≡◌, ℕ, ◌-◌, ◌+◌, ◌≤◌, List, [], ◌∷◌, ◌++◌, length, take, drop, get_or, Some, Ok, Err, refl, ap, ◌∙◌, append_assoc, arith, take_all, Backslash, Plain, Read, with_byte, escaped_byte}
-use Rattle.drl_lex.specs.Leads.{text_byte_of}
+use Rattle.drl_lex.proofs.Common.{◌≡◌, ℕ, ◌-◌, ◌+◌, ◌≤◌, List, [], ◌∷◌, ◌++◌, length, take, drop, get_or, Some, Ok, Err, refl, ap, ◌∙◌, append_assoc, arith, take_all, Backslash, Plain, Read, with_byte, escaped_byte, text_byte_of}
 use Rattle.drl_lex.specs.Reading.{content_at}
 
 -- what was read before, and what is still read
 abbrev pub behind : List ℕ → Read (List ℕ) → Read (List ℕ)
 behind front (Ok read) = Ok (front ++ read.0, read.1)
 behind front (Err fault) = Err fault
-
-pub behind_byte : (front : List ℕ) (b : ℕ) (read : Read (List ℕ)) → behind front (with_byte b read) ≡ behind (front ++ b ∷ []) read
-behind_byte front b (Ok read) = ap (λ (bs : List ℕ). Ok (bs, read.1)) (simp append_assoc)
-behind_byte front b (Err fault) = refl
 
 -- ---- one turn: a byte that stands for itself, and an escape
 

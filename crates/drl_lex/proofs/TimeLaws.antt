@@ -1,6 +1,5 @@
 -- What is read as a length of time is written so, and what is written so is read.
-use Rattle.drl_lex.proofs.Common.{◌≡◌, ℕ, ◌+◌, ◌<◌, ◌≤◌, ◌++◌, Bool, true, false, not, ◌&&◌, ◌||◌, cond, List, [], ◌∷◌, length, refl, ap, ◌∙◌, arith, Option, Some, None, append_assoc, codes, option_map, nat_lt, IfSome, list_all, is_ascii_digit, digits_value, ltb-true, nat_tests, length-append, append-nil, begins, IsNumeral, IsPart, IsLastPart, IsTime, is_empty, total_of}
-use Rattle.std.specs.Str.{bytes_eq}
+use Rattle.drl_lex.proofs.Common.{◌≡◌, ℕ, ◌+◌, ◌<◌, ◌≤◌, ◌++◌, Bool, true, false, not, ◌&&◌, ◌||◌, cond, List, [], ◌∷◌, length, refl, ap, ◌∙◌, arith, Option, Some, None, append_assoc, codes, option_map, nat_lt, IfSome, list_all, is_ascii_digit, digits_value, ltb-true, nat_tests, length-append, append-nil, begins, IsNumeral, IsPart, IsLastPart, IsTime, is_empty, total_of, bytes_eq}
 use Rattle.std.proofs.lemmas.Slice.Eq.{bytes_eq-Decides}
 use Rattle.drl_lex.specs.Bytes.{is_unit_byte}
 use Rattle.drl_lex.specs.Fronts.{longest}

@@ -1,10 +1,7 @@
 -- Bytes as text.
-use Rattle.drl_lex.proofs.Common.{◌≡◌, ℕ, ◌<◌, zero, suc, List, [], ◌∷◌, true, false, Bool, None, Result, Ok, Err, Bor, refl, sym, arith, list_all, is_utf8, nat_tests}
+use Rattle.drl_lex.proofs.Common.{◌≡◌, ℕ, ◌<◌, zero, suc, List, [], ◌∷◌, true, false, Bool, None, Result, Ok, Err, Bor, refl, sym, arith, list_all, is_utf8, nat_tests, MatchResult, IsOk, IsUtf8, IsAscii, IsUtf8-from_ascii, is_utf8-from_IsUtf8, IsUtf8-from_is_utf8}
 use Rattle.std.proofs.Common.{option_map}
-use Rattle.std.specs.Prelude.{MatchResult, IsOk}
 use Rattle.std.specs.Result.{result_ok}
-use Rattle.std.specs.Str.{IsUtf8, IsAscii}
-use Rattle.std.proofs.lemmas.Str.{IsUtf8-from_ascii, is_utf8-from_IsUtf8, IsUtf8-from_is_utf8}
 use Rattle.drl_lex.specs.Bytes.{is_word_byte}
 use Rattle.drl_lex.specs.Texts.{utf8_text}
 use Rattle.drl_lex.proofs.FrontLaws.{both}

@@ -1,17 +1,13 @@
 -- Items are read exactly.
-use Rattle.drl_parse.proofs.Common.{◌≡◌, ℕ, ℤ, ◌<◌, ◌≤◌, Bool, true, false, cond, List, [], ◌∷◌, length, Option, Some, None, refl, arith, IfSome, codes, bytes_eq, TokenKind, Word, Text, Mark, Minus, Found, WrittenBody, WrittenType, IsPath, IsType, IsEntry, IsRule, IsItem, binds, Exact, ◌>>=◌, then, same_bytes, optional_sound, optional_again, optional_shorter}
-use Rattle.drl_lex.specs.declared.token.Mark.TheVariants.{Semicolon}
-use Rattle.drl_expr.specs.Exact.{Read}
+use Rattle.drl_parse.proofs.Common.{◌≡◌, ℕ, ℤ, ◌<◌, ◌≤◌, Bool, true, false, cond, List, [], ◌∷◌, length, Option, Some, None, refl, arith, IfSome, codes, bytes_eq, TokenKind, Word, Text, Mark, Minus, Found, WrittenBody, WrittenType, IsPath, IsType, IsEntry, IsRule, IsItem, binds, Exact, ◌>>=◌, then, same_bytes, optional_sound, optional_again, optional_shorter, Semicolon, Read, Optional, absent, present, whole_found, item_text, path_at, star_at, type_at, entry_at, rule_at}
 use Rattle.drl_grammar.specs.declared.written.WrittenBody.TheVariants as body
 use Rattle.drl_grammar.specs.Items as g
-use Rattle.drl_grammar.specs.Shapes.{Optional, absent, present}
 use Rattle.drl_grammar.specs.Shapes as m
 use Rattle.drl_phrase.specs.declared.phrase.Punctuation.TheVariants as p
 use Rattle.drl_phrase.specs.Reading.{whole_at}
-use Rattle.drl_phrase.proofs.ShapeLaws.{whole_found}
 use Rattle.drl_parse.specs.declared.words.ItemWord.{ItemWord}
 use Rattle.drl_parse.specs.declared.words.ItemWord.TheVariants.{PackageWord, ImportWord, DialectWord, DeclareWord, RuleWord}
-use Rattle.drl_parse.specs.Reading.{item_text, item_word, path_at, star_at, type_at, entry_at, declare_at, rule_at, behind_item, item_at}
+use Rattle.drl_parse.specs.Reading.{item_word, declare_at, behind_item, item_at}
 use Rattle.drl_parse.proofs.ItemLaws.{Exactly}
 use Rattle.drl_parse.proofs.PathLaws.{no_step, path_again, path_exact, star_sound, star_again, star_ends, star_shorter}
 use Rattle.drl_parse.proofs.RuleLaws.{rule_exact}

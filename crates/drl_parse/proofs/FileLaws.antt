@@ -1,11 +1,8 @@
 -- What the bytes are is what is read of them.
-use Rattle.drl_parse.proofs.Common.{◌≡◌, ◌↔◌, ℕ, zero, suc, ◌+◌, ◌-◌, ◌<◌, ◌≤◌, nat_lt, Bool, true, false, cond, List, [], ◌∷◌, length, Option, Some, None, Result, Ok, Err, refl, sym, ap, arith, ltb-false, Token, TokenKind, kinds, AreTokens, tokens_again, WrittenBody, lines_at, IsFile, ItemsRead, items_at, Parsed, is_file, outside, too_long, lexical, items_parsed}
-use Rattle.std.proofs.lemmas.Bool.{ltb-true, lt-ltb, le-ltb}
+use Rattle.drl_parse.proofs.Common.{◌≡◌, ◌↔◌, ℕ, zero, suc, ◌+◌, ◌-◌, ◌<◌, ◌≤◌, nat_lt, Bool, true, false, cond, List, [], ◌∷◌, length, Option, Some, None, Result, Ok, Err, refl, sym, ap, arith, ltb-false, Token, TokenKind, kinds, AreTokens, tokens_again, WrittenBody, lines_at, IsFile, ItemsRead, items_at, Parsed, is_file, outside, too_long, lexical, items_parsed, ltb-true, lt-ltb, le-ltb, piece_at, behind_piece, lexed_step, tokens_sound, refused_sound, refused_again, IsOutside, file_limit, IsLexical, tokens_parsed}
 use Rattle.drl_lex.specs.declared.fault.LexCode.{LexCode}
-use Rattle.drl_lex.specs.Reading.{Read, piece_at, behind_piece, lexed_step, lexed_from, lexed}
-use Rattle.drl_lex.proofs.FileLaws.{tokens_sound, refused_sound, refused_again}
-use Rattle.drl_grammar.specs.Files.{IsOutside}
-use Rattle.drl_parse.specs.Parsed.{file_limit, IsLexical, tokens_parsed, parsed_by}
+use Rattle.drl_lex.specs.Reading.{Read, lexed_from, lexed}
+use Rattle.drl_parse.specs.Parsed.{parsed_by}
 use Rattle.drl_parse.proofs.ItemLaws as items
 use Rattle.drl_parse.proofs.ItemLaws.{Exactly, Stands, items_sound}
 

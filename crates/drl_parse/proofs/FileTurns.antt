@@ -1,15 +1,12 @@
 -- The steps of reading a file.
-use Rattle.drl_parse.proofs.Common.{◌≡◌, ℕ, ◌<◌, ◌≤◌, ◌^◌, nat_lt, true, false, List, length, Result, Ok, Err, refl, arith, ltb-false, Token, kinds, AreTokens, tokens_again, WrittenItem, lines_at, IsFile, ItemsRead, items_at, whole_at, item_at, Parsed, is_file, outside, too_long, lexical, items_parsed}
-use Rattle.std.specs.Prelude.{IfOk, IfErr, IsErrAnd}
+use Rattle.drl_parse.proofs.Common.{◌≡◌, ℕ, ◌<◌, ◌≤◌, ◌^◌, nat_lt, true, false, List, length, Result, Ok, Err, refl, arith, ltb-false, Token, kinds, AreTokens, tokens_again, WrittenItem, lines_at, IsFile, ItemsRead, items_at, whole_at, item_at, Parsed, is_file, outside, too_long, lexical, items_parsed, IfOk, IfErr, IsErrAnd, lexed, GivesItems, IsFault, FaultOf, Gives}
 use Rattle.drl_lex.specs.declared.fault.LexFault.{LexFault}
 use Rattle.drl_lex.specs.declared.fault.LexFault.TheVariants as lexer
 use Rattle.drl_lex.specs.Answers.{Fails}
-use Rattle.drl_lex.specs.Reading.{lexed}
 use Rattle.drl_grammar.specs.declared.written.Written.{Written}
 use Rattle.drl_parse.specs.declared.fault.ParseFault.{ParseFault}
 use Rattle.drl_parse.specs.declared.fault.ParseFault.TheVariants.{Syntax, TooLong, Lexical, NoMemory}
-use Rattle.drl_parse.specs.Items.{GivesItems}
-use Rattle.drl_parse.specs.Parsed.{file_limit, IsFault, parsed_by, parsed, FaultOf, Gives}
+use Rattle.drl_parse.specs.Parsed.{file_limit, parsed_by, parsed}
 use Rattle.drl_parse.proofs.FileLaws.{few_tokens, same_kinds, Means, parsed_means}
 use Rattle.drl_parse.proofs.ItemLaws.{Exactly}
 

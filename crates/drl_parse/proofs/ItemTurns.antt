@@ -1,11 +1,8 @@
 -- Reading items one after the other, as a loop does.
-use Rattle.drl_parse.proofs.Common.{◌≡◌, ℕ, ◌+◌, ◌<◌, ◌≤◌, Bool, true, false, not, cond, min, List, [], ◌∷◌, ◌++◌, length, get_or, take, drop, length-drop, Option, Some, None, Ok, Err, refl, sym, ap, ◌∙◌, append_assoc, add-one, arith, length-append, TokenKind, WrittenItem, WrittenBody, ItemsRead}
-use Rattle.std.proofs.Common.{length-take}
-use Rattle.std.proofs.lemmas.List.{append-nil}
+use Rattle.drl_parse.proofs.Common.{◌≡◌, ℕ, ◌+◌, ◌<◌, ◌≤◌, Bool, true, false, not, cond, min, List, [], ◌∷◌, ◌++◌, length, get_or, take, drop, length-drop, Option, Some, None, Ok, Err, refl, sym, ap, ◌∙◌, append_assoc, add-one, arith, length-append, TokenKind, WrittenItem, WrittenBody, ItemsRead, length-take, append-nil, prefix_len-le-length, opens_block, begins_item, ends_block, count_before, with_item}
 use Rattle.std.proofs.lemmas.List.Folds.{length-prefix_len}
-use Rattle.std.proofs.lemmas.List.Sums.{prefix_len-le-length}
-use Rattle.drl_grammar.specs.Files.{opens_block, begins_item, ends_block, count_before, extent}
-use Rattle.drl_parse.specs.Items.{first_item, with_item, items_at}
+use Rattle.drl_grammar.specs.Files.{extent}
+use Rattle.drl_parse.specs.Items.{first_item, items_at}
 use Rattle.drl_parse.proofs.ItemLaws.{enough_turns}
 
 -- what was read before, and what is still read
@@ -67,13 +64,6 @@ unfolding first_item
 parts_are own next t ts cut =
     let e = some_is (own, next) (t ∷ take (extent t ts) ts, drop (extent t ts) ts) cut in
     (ap (λ (p : List TokenKind × List TokenKind). p.0) e, ap (λ (p : List TokenKind × List TokenKind). p.1) e)
-
--- there is a token of the item, and it has its line
-pub some_left : (body_of : List TokenKind → Option WrittenBody) (tokens : List TokenKind) (lines : List ℕ) (items : List WrittenItem) (number : ℕ) (rest own next : List TokenKind) (rest_lines : List ℕ)
-    → SoFar body_of tokens lines items number rest rest_lines → Some (own, next) ≡ first_item rest → 0 < length rest
-unfolding first_item
-some_left body_of tokens lines items number [] own next rest_lines so_far cut = absurd cc
-some_left body_of tokens lines items number (t ∷ ts) own next rest_lines so_far cut = omega arith
 
 -- one more item
 pub kept : (body_of : List TokenKind → Option WrittenBody) (tokens : List TokenKind) (lines : List ℕ) (items : List WrittenItem) (number : ℕ) (rest own next : List TokenKind) (rest_lines : List ℕ) (body : WrittenBody)

@@ -1,13 +1,9 @@
 -- Lines counted by one walk over the bytes.
-use Rattle.drl_parse.proofs.Common.{◌≡◌, ℕ, ◌+◌, ◌-◌, ◌<◌, ◌≤◌, ◌==◌, List, [], ◌∷◌, ◌++◌, length, get_or, map, min, ◌^◌, take, drop, refl, arith, length-append, Token, AreTokens}
-use Rattle.std.proofs.lemmas.List.{length-take, take_more, drop_more, map_push}
-use Rattle.std.proofs.lemmas.List.Sums.{length-filter, count_by-le-length}
+use Rattle.drl_parse.proofs.Common.{◌≡◌, ℕ, ◌+◌, ◌-◌, ◌<◌, ◌≤◌, ◌==◌, List, [], ◌∷◌, ◌++◌, length, get_or, map, min, ◌^◌, take, drop, refl, arith, length-append, Token, AreTokens, take_more, drop_more, map_push, length-filter, count_by-le-length, starts, Reads, line_at}
+use Rattle.std.proofs.lemmas.List.{length-take}
 use Rattle.std.proofs.lemmas.List.Elements.{filter-append}
 use Rattle.std.proofs.Math.Seq.{take-add}
-use Rattle.drl_lex.specs.Kinds.{starts}
-use Rattle.drl_lex.specs.Tokens.{Reads}
 use Rattle.drl_lex.specs.Tokens as p
-use Rattle.drl_grammar.specs.Files.{line_at}
 use Rattle.drl_parse.specs.Lines.{newlines, Rises}
 
 -- ---- the offsets of tokens rise

@@ -1,8 +1,6 @@
 -- Names with dots are read exactly.
-use Rattle.drl_parse.proofs.Common.{◌≡◌, ℕ, ◌<◌, ◌≤◌, Bool, List, ◌∷◌, length, Some, None, refl, arith, TokenKind, Word, Mark, Found, IsPath, Many, binds, Exact, many_at, then, ident_then, ident_is, Begins, many_sound, many_again, many_shorter}
-use Rattle.drl_lex.specs.declared.token.Mark.TheVariants.{Dot, Star}
+use Rattle.drl_parse.proofs.Common.{◌≡◌, ℕ, ◌<◌, ◌≤◌, Bool, List, ◌∷◌, length, Some, None, refl, arith, TokenKind, Word, Mark, Found, IsPath, Many, binds, Exact, many_at, then, ident_then, ident_is, Begins, many_sound, many_again, many_shorter, Dot, Star, IsStep, IsStar}
 use Rattle.drl_grammar.specs.Items as g
-use Rattle.drl_grammar.specs.Items.{IsStep, IsStar}
 use Rattle.drl_parse.specs.Reading.{step_at, path_at, star_at}
 
 step_exact : Exact IsStep step_at 0

@@ -1,18 +1,12 @@
 -- Rules are read exactly.
-use Rattle.drl_parse.proofs.Common.{◌≡◌, ℕ, ℤ, ◌<◌, ◌≤◌, true, cond, List, ◌∷◌, length, Some, None, refl, subst, arith, codes, bytes_eq, TokenKind, Word, Text, Mark, Minus, Found, IsName, IsRule, Many, binds, Exact, ◌>>=◌, many_at, name_at, name_exact, then, guarded, same_bytes, ended_then, ended_is, Begins, many_sound, many_again, many_shorter, optional_sound, optional_again, optional_shorter}
-use Rattle.drl_lex.specs.declared.token.TokenKind.TheVariants.{Number}
-use Rattle.drl_lex.specs.declared.token.Mark.TheVariants.{Comma}
+use Rattle.drl_parse.proofs.Common.{◌≡◌, ℕ, ℤ, ◌<◌, ◌≤◌, true, cond, List, ◌∷◌, length, Some, None, refl, subst, arith, codes, bytes_eq, TokenKind, Word, Text, Mark, Minus, Found, IsName, IsRule, Many, binds, Exact, ◌>>=◌, many_at, name_at, name_exact, then, guarded, same_bytes, ended_then, ended_is, Begins, many_sound, many_again, many_shorter, optional_sound, optional_again, optional_shorter, Number, Comma, IsAsked, IsSalience, IsAttr, after_word, optional_at, if_some_then, word_sound, word_again}
 use Rattle.drl_grammar.specs.declared.file.Attr.{Attr}
 use Rattle.drl_grammar.specs.declared.file.Attr.TheVariants as attr
 use Rattle.drl_grammar.specs.declared.written.WrittenRule.{WrittenRule}
 use Rattle.drl_grammar.specs.Actions as a
 use Rattle.drl_grammar.specs.Actions.{IsAction}
-use Rattle.drl_grammar.specs.Conditions.{IsAsked}
 use Rattle.drl_grammar.specs.Items as g
-use Rattle.drl_grammar.specs.Items.{IsSalience, IsAttr}
 use Rattle.drl_phrase.specs.declared.phrase.Punctuation.TheVariants as p
-use Rattle.drl_phrase.specs.Reading.{after_word, optional_at}
-use Rattle.drl_phrase.proofs.ShapeLaws.{if_some_then, word_sound, word_again}
 use Rattle.drl_condition.specs.Choices.{ends_all, asked_at}
 use Rattle.drl_condition.proofs.ChoiceLaws.{asked_sound, asked_again, asked_shorter}
 use Rattle.drl_action.specs.Reading.{action_word, action_at}

@@ -1,21 +1,15 @@
 -- Types and entry points are read exactly.
-use Rattle.drl_parse.proofs.Common.{◌≡◌, ℕ, ℤ, ◌<◌, ◌≤◌, Bool, true, false, cond, List, ◌∷◌, length, Option, Some, None, refl, arith, IfSome, codes, bytes_eq, TokenKind, Word, Mark, Minus, Found, WrittenType, IsName, IsType, IsEntry, Many, binds, Exact, ◌>>=◌, many_at, name_at, name_exact, then, guarded, ident_then, ident_is, same_bytes, ended_then, ended_is, Begins, many_sound, many_again, many_shorter}
-use Rattle.drl_lex.specs.declared.token.Mark.TheVariants.{OpenParenthesis, CloseParenthesis, Colon, At}
+use Rattle.drl_parse.proofs.Common.{◌≡◌, ℕ, ℤ, ◌<◌, ◌≤◌, Bool, true, false, cond, List, ◌∷◌, length, Option, Some, None, refl, arith, IfSome, codes, bytes_eq, TokenKind, Word, Mark, Minus, Found, WrittenType, IsName, IsType, IsEntry, Many, binds, Exact, ◌>>=◌, many_at, name_at, name_exact, then, guarded, ident_then, ident_is, same_bytes, ended_then, ended_is, Begins, many_sound, many_again, many_shorter, OpenParenthesis, CloseParenthesis, Colon, At, IsSpan, IsMeta, IsField, IsParent, IsLateness, Maybe, maybe_at, span_at, span_exact, closed_then, maybe_sound, maybe_again, maybe_shorter, meta_text}
 use Rattle.drl_expr.specs.Words.{is_ident}
 use Rattle.drl_grammar.specs.declared.file.Meta.{Meta}
 use Rattle.drl_grammar.specs.declared.file.Meta.TheVariants as meta
-use Rattle.drl_grammar.specs.Conditions.{IsSpan}
 use Rattle.drl_grammar.specs.Items as g
-use Rattle.drl_grammar.specs.Items.{IsMeta, IsField, IsParent, IsLateness}
-use Rattle.drl_grammar.specs.Shapes.{Maybe}
 use Rattle.drl_grammar.specs.Shapes as m
 use Rattle.drl_phrase.specs.declared.phrase.Punctuation.TheVariants as p
-use Rattle.drl_phrase.specs.Reading.{after, closed, ident, maybe_at, span_at}
-use Rattle.drl_phrase.proofs.NameLaws.{span_exact}
-use Rattle.drl_phrase.proofs.ShapeLaws.{closed_then, maybe_sound, maybe_again, maybe_shorter}
+use Rattle.drl_phrase.specs.Reading.{after, closed, ident}
 use Rattle.drl_parse.specs.declared.words.MetaWord.{MetaWord}
 use Rattle.drl_parse.specs.declared.words.MetaWord.TheVariants.{RoleWord, TimestampWord, DurationWord, ExpiresWord, ReferenceWord}
-use Rattle.drl_parse.specs.Reading.{meta_text, meta_word, role_word, behind_meta, meta_at, field_at, parent_at, type_at, lateness_at, behind_point, entry_at}
+use Rattle.drl_parse.specs.Reading.{meta_word, role_word, behind_meta, meta_at, field_at, parent_at, type_at, lateness_at, behind_point, entry_at}
 
 -- ---- annotations
 

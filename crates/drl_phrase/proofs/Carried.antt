@@ -1,14 +1,7 @@
 -- How loosely words bind, and the laws of expressions carried over to the whole grammar.
-use Rattle.std.proofs.Common.{◌≡◌, ℕ, ◌≤◌, Bool, true, false, cond, List, ◌∷◌, refl, subst, arith}
-use Rattle.std.specs.Prelude.{codes}
-use Rattle.std.specs.Str.{bytes_eq}
-use Rattle.drl_lex.specs.declared.token.TokenKind.{TokenKind}
-use Rattle.drl_lex.specs.declared.token.TokenKind.TheVariants.{Word, Mark}
-use Rattle.drl_lex.specs.declared.token.Mark.TheVariants.{Dot, Star, Plus, Minus, And, Or, Comma, Semicolon}
+use Rattle.drl_phrase.proofs.Common.{◌≡◌, ℕ, ◌≤◌, Bool, true, false, cond, List, ◌∷◌, refl, subst, arith, codes, bytes_eq, TokenKind, Word, Mark, Dot, Star, Plus, Minus, And, Or, Comma, Semicolon, Read, Phrase, IsIdent, binds, Exact}
 use Rattle.drl_expr.specs.Exact as expressions
-use Rattle.drl_expr.specs.Exact.{Read, Phrase}
-use Rattle.drl_expr.specs.Words.{is_ident, IsIdent}
-use Rattle.drl_phrase.specs.Exact.{binds, Exact}
+use Rattle.drl_expr.specs.Words.{is_ident}
 use Rattle.drl_phrase.proofs.ShapeLaws.{same_bytes}
 
 not_over : IsIdent (codes "over") → ⊥

@@ -1,3 +1,4 @@
+mod Common
 pub mod Turns
 pub mod ShapeLaws
 pub mod NameLaws

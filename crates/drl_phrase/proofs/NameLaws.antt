@@ -1,12 +1,7 @@
 -- Spans and names are read exactly.
-use Rattle.std.proofs.Common.{◌≡◌, ℕ, ℤ, ◌<◌, ◌≤◌, List, ◌∷◌, length, Some, refl, arith}
-use Rattle.drl_lex.specs.declared.token.TokenKind.{TokenKind}
-use Rattle.drl_lex.specs.declared.token.TokenKind.TheVariants.{Word, Number, Time, Text, Mark}
-use Rattle.drl_lex.specs.declared.token.Mark.TheVariants.{Minus}
-use Rattle.drl_expr.specs.Exact.{Found}
+use Rattle.drl_phrase.proofs.Common.{◌≡◌, ℕ, ℤ, ◌<◌, ◌≤◌, List, ◌∷◌, length, Some, refl, arith, TokenKind, Word, Number, Time, Text, Mark, Minus, Found, binds, Exact}
 use Rattle.drl_grammar.specs.Conditions as g
 use Rattle.drl_grammar.specs.Conditions.{IsSpan, IsName}
-use Rattle.drl_phrase.specs.Exact.{binds, Exact}
 use Rattle.drl_phrase.specs.Reading.{span_at, name_at}
 use Rattle.drl_phrase.proofs.ShapeLaws.{ident_then, ident_is}
 

@@ -1,18 +1,9 @@
 -- What is read stands in the grammar, and what stands in it is read: for the shapes.
-use Rattle.std.proofs.Common.{◌≡◌, ℕ, zero, suc, ◌<◌, ◌≤◌, Bool, true, false, cond, List, [], ◌∷◌, length, Option, Some, None, refl, sym, subst, ◌∙◌, arith}
-use Rattle.std.specs.Prelude.{IfSome, IfNone}
-use Rattle.std.specs.Str.{bytes_eq}
+use Rattle.drl_phrase.proofs.Common.{◌≡◌, ℕ, zero, suc, ◌<◌, ◌≤◌, Bool, true, false, cond, List, [], ◌∷◌, length, Option, Some, None, refl, sym, subst, ◌∙◌, arith, IfSome, IfNone, bytes_eq, TokenKind, Word, Mark, CloseParenthesis, CloseBracket, CloseBrace, Comma, Semicolon, Or, And, is_ident, IsIdent, Read, Phrase, Found, Punctuation, binds, Exact, ◌>>=◌, mark_of, level, with_first, more_step, members_at, listed_step, many_step, maybe_step, optional_step, if_last}
 use Rattle.std.proofs.lemmas.Slice.Eq.{bytes_eq-Decides}
-use Rattle.drl_lex.specs.declared.token.TokenKind.{TokenKind}
-use Rattle.drl_lex.specs.declared.token.TokenKind.TheVariants.{Word, Mark}
-use Rattle.drl_lex.specs.declared.token.Mark.TheVariants.{CloseParenthesis, CloseBracket, CloseBrace, Comma, Semicolon, Or, And}
-use Rattle.drl_expr.specs.Words.{is_ident, IsIdent}
-use Rattle.drl_expr.specs.Exact.{Read, Phrase, Found}
 use Rattle.drl_grammar.specs.Shapes.{Maybe, left_out, written, Optional, absent, present, Many, nothing, further, Separated, single, more, Listed, empty, members}
-use Rattle.drl_phrase.specs.declared.phrase.Punctuation.{Punctuation}
 use Rattle.drl_phrase.specs.declared.phrase.Punctuation.TheVariants as p
-use Rattle.drl_phrase.specs.Exact.{binds, Exact}
-use Rattle.drl_phrase.specs.Reading.{◌>>=◌, after, mark_of, level, after_word, closed, ended, ident, with_first, more_step, more_at, members_at, separated_at, listed_step, listed_at, many_step, turns_at, many_at, maybe_step, maybe_at, optional_step, optional_at, if_last, whole_at}
+use Rattle.drl_phrase.specs.Reading.{after, after_word, closed, ended, ident, more_at, separated_at, listed_at, turns_at, many_at, maybe_at, optional_at, whole_at}
 
 -- ---- options
 

@@ -1,10 +1,7 @@
 -- The loops over the members of a list.
-use Rattle.std.proofs.Common.{◌≡◌, ℕ, zero, suc, ◌-◌, ◌+◌, ◌<◌, ◌≤◌, List, [], ◌∷◌, ◌++◌, length, Option, Some, None, option_map, refl, sym, ap, ◌∙◌, append_assoc, arith}
+use Rattle.drl_phrase.proofs.Common.{◌≡◌, ℕ, zero, suc, ◌-◌, ◌+◌, ◌<◌, ◌≤◌, List, [], ◌∷◌, ◌++◌, length, Option, Some, None, option_map, refl, sym, ap, ◌∙◌, append_assoc, arith, TokenKind, Read, Punctuation, after, with_first, with_front}
 use Rattle.std.proofs.lemmas.List.{append-nil}
-use Rattle.drl_lex.specs.declared.token.TokenKind.{TokenKind}
-use Rattle.drl_expr.specs.Exact.{Read}
-use Rattle.drl_phrase.specs.declared.phrase.Punctuation.{Punctuation}
-use Rattle.drl_phrase.specs.Reading.{after, with_first, with_front, more_at, separated_at, turns_at, many_at}
+use Rattle.drl_phrase.specs.Reading.{more_at, separated_at, turns_at, many_at}
 
 pub seen : {B C : Type 0} (o : Option B) (view : B → C) (read : Option C) (found : B) → option_map view o ≡ read → o ≡ Some found → read ≡ Some (view found)
 seen o view read found e is = sym e ∙ ap (option_map view) is

@@ -1,8 +1,7 @@
 -- A type that is not declared has no field that a function could take.
-use Rattle.drl_program.proofs.Common.{◌≡◌, ℕ, min, List, [], Option, Some, None, option_map, refl, option_and_then, TypeTree, place_of, field_bound}
+use Rattle.drl_program.proofs.Common.{◌≡◌, ℕ, min, List, [], Option, Some, None, option_map, refl, option_and_then, TypeTree, place_of, field_bound, argument_of, type_or_none}
 use Rattle.drl_grammar.specs.declared.condition.SourceTree.{SourceTree}
 use Rattle.drl_sight.specs.Names.{place_from}
-use Rattle.drl_program.specs.Programs.{argument_of, type_or_none}
 
 no_field : (field : Option (List ℕ)) → None ≡ option_map (λ k. min k 255) (option_and_then (place_of []) field)
 unfolding place_from

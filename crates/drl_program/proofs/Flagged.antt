@@ -1,10 +1,8 @@
 -- A type is flagged as observed exactly where a condition of the program observes its place.
-use Rattle.drl_program.proofs.Common.{◌≡◌, ◌≤◌, ◌<◌, ◌+◌, ◌&&◌, ◌||◌, ◌∷◌, ◌==◌, ℕ, zero, suc, min, Bool, true, false, not, List, [], map, length, slice_get, Option, Some, None, is_some, option_map, cond, refl, sym, ap, subst, ◌∙◌, arith, list_any, list_all, flat_map, option_and_then, TypeTree, types_of, rules_of, place_of, begin, behind, observed_by, observed_names, type_info, rule_of}
+use Rattle.drl_program.proofs.Common.{◌≡◌, ◌≤◌, ◌<◌, ◌+◌, ◌&&◌, ◌||◌, ◌∷◌, ◌==◌, ℕ, zero, suc, min, Bool, true, false, not, List, [], map, length, slice_get, Option, Some, None, is_some, option_map, cond, refl, sym, ap, subst, ◌∙◌, arith, list_any, list_all, flat_map, option_and_then, TypeTree, types_of, rules_of, place_of, begin, behind, observed_by, observed_names, type_info, rule_of, length-map, list_any-append, type_names, type_named, is_among, Place, has_type, has_types, OneForEach, ObservedAreFlagged, has_length, type_place, window_of, condition_of}
 use Rattle.std.specs.Str.{bytes_eq}
 use Rattle.std.specs.Cmp.Lexicographic.{bytes_decides}
 use Rattle.std.proofs.lemmas.Bool.Decides.{nat_tests}
-use Rattle.std.proofs.lemmas.List.{length-map}
-use Rattle.std.proofs.lemmas.List.Folds.{list_any-append}
 use Rattle.std.proofs.lemmas.Option.{slice_get-map, slice_get_within}
 use Rattle.drl_grammar.specs.declared.condition.CondTree.{CondTree}
 use Rattle.drl_grammar.specs.declared.condition.CondTree.TheVariants as tree
@@ -12,16 +10,12 @@ use Rattle.drl_grammar.specs.declared.condition.WindowTree.{WindowTree}
 use Rattle.drl_grammar.specs.declared.condition.WindowTree.TheVariants as window
 use Rattle.drl_grammar.specs.declared.file.RuleTree.{RuleTree}
 use Rattle.drl_sight.specs.Annotations as annotations
-use Rattle.drl_sight.specs.Declarations.{type_names, type_named}
 use Rattle.drl_sight.specs.EntryPoints.{entry_names}
-use Rattle.drl_sight.specs.Names.{is_among, are_distinct, place_from}
-use Rattle.drl_sight.specs.Sight.{Place}
+use Rattle.drl_sight.specs.Names.{are_distinct, place_from}
 use Rattle.rule_model.specs.declared.program.TypeInfo.{TypeInfo}
 use Rattle.rule_model.specs.Simple.{is_length, observes_type, is_observed_in}
 use Rattle.rule_model.specs.Types.{is_event_type, is_event, is_observed_type, is_observed}
-use Rattle.drl_program.specs.Laws.{has_type, has_types, OneForEach, ObservedAreFlagged}
-use Rattle.drl_program.specs.Observed.{has_length}
-use Rattle.drl_program.specs.Programs.{type_place, window_of, condition_of, conditions_of}
+use Rattle.drl_program.specs.Programs.{conditions_of}
 
 -- ---- one condition for each
 

@@ -1,19 +1,16 @@
 -- What a word with its parameters gives, by the answers of the table's own function.
-use Rattle.drl_program.proofs.Common.{◌≡◌, ◌&&◌, ◌||◌, ◌<ℤ◌, ℤ, pos, neg_ℤ, ◌^◌, Bool, true, false, not, List, Option, Some, None, cond, refl, sym, subst, arith, IfSome, list_all, list_any, OpEdge, IsOp, operator_of}
+use Rattle.drl_program.proofs.Common.{◌≡◌, ◌&&◌, ◌||◌, ◌<ℤ◌, ℤ, pos, neg_ℤ, ◌^◌, Bool, true, false, not, List, Option, Some, None, cond, refl, sym, subst, arith, IfSome, list_all, list_any, OpEdge, IsOp, operator_of, All, Any-from_list_any, list_any-from_Any, IsWithin, is_negative}
 use Rattle.std.specs.Prelude.{Any, int_le, int_lt}
-use Rattle.std.specs.List.{All}
 use Rattle.std.proofs.lemmas.Int.{ints}
 use Rattle.std.proofs.lemmas.List.Elements.{All-weaker}
-use Rattle.std.proofs.lemmas.List.Folds.{Any-from_list_any, list_any-from_Any}
 use Rattle.std.proofs.lemmas.List.Sums.{AllPass-from_list_all}
 use Rattle.temporal_ops.specs.declared.word.OpWord.{OpWord}
-use Rattle.temporal_ops.specs.Edges.{IsWithin}
 use Rattle.temporal_ops.specs.Laws.{Means}
 use Rattle.temporal_ops.specs.Operators.{edges_of}
 use Rattle.temporal_ops.specs.Table.{Row, says, no_row, row_of, takes_negative, HasRow}
 use Rattle.temporal_ops.proofs.Ops.{edges_are_ops}
 use Rattle.temporal_ops.proofs.Rows.{edges_mean_rows}
-use Rattle.drl_program.specs.Operators.{is_span, is_negative}
+use Rattle.drl_program.specs.Operators.{is_span}
 
 -- ---- limits
 
@@ -39,9 +36,6 @@ is_below n e = grind (arith, ints)
 
 some_below : (params : List ℤ) → list_any is_negative params ≡ true → Any (λ p. p <ℤ pos 0) params
 some_below params e = let h = Any-from_list_any is_negative params e in (h.0, h.1, h.2, h.3, below h.1 h.4)
-
-below_some : (params : List ℤ) → Any (λ p. p <ℤ pos 0) params → list_any is_negative params ≡ true
-below_some params h = list_any-from_Any is_negative params (h.0, h.1, h.2, h.3, is_below h.1 h.4)
 
 -- ---- rows
 
@@ -78,16 +72,6 @@ operator_counted word params k =
     by : (b : Bool) → edges_of word params ≡ None → None ≡ cond b (edges_of word params) None
     by true e = sym e
     by false e = refl
-
-pub operator_refused : (word : OpWord) (params : List ℤ) → Refused word params → None ≡ operator_of word params
-operator_refused word params h = rw h.1 (rw (below_some params h.2) (by (list_all is_span params)))
-  where
-    by : (b : Bool) → None ≡ cond (b && false) (edges_of word params) None
-    by true = refl
-    by false = refl
-
-pub operator_beyond : (word : OpWord) (params : List ℤ) → list_all is_span params ≡ false → None ≡ operator_of word params
-operator_beyond word params e = rw e refl
 
 -- ---- edges
 

@@ -1,13 +1,11 @@
 -- The temporal tests of a program have the edges of operators.
-use Rattle.drl_program.proofs.Common.{◌++◌, ◌∷◌, ℕ, List, [], Option, Some, None, IfSome, flat_map, behind, OpEdge, IsOp, operator_of, times_in}
+use Rattle.drl_program.proofs.Common.{◌++◌, ◌∷◌, ℕ, List, [], Option, Some, None, IfSome, flat_map, behind, OpEdge, IsOp, operator_of, times_in, Sight, meaning_of, EachHasOperator, fact_meant, time_test}
 use Rattle.drl_grammar.specs.declared.condition.CondTree.TheVariants as tree
 use Rattle.drl_grammar.specs.declared.condition.Part.{Part}
 use Rattle.drl_grammar.specs.declared.condition.Part.TheVariants as part
-use Rattle.drl_sight.specs.Sight.{Sight, meaning_of}
 use Rattle.rule_model.specs.declared.test.TimeTest.{TimeTest}
 use Rattle.rule_model.specs.Maturity.{AreOperators}
-use Rattle.drl_program.specs.Laws.{EachHasOperator}
-use Rattle.drl_program.specs.Programs.{fact_meant, time_test, conditions_of}
+use Rattle.drl_program.specs.Programs.{conditions_of}
 use Rattle.drl_program.proofs.Parameters.{operator_is}
 
 both : (xs ys : List TimeTest) → AreOperators xs → AreOperators ys → AreOperators (xs ++ ys)

@@ -1,8 +1,8 @@
 -- The text of tokens that stand one behind the other.
-use Rattle.drl_show.proofs.Common.{◌≡◌, ℕ, ℤ, suc, ◌+◌, ◌<◌, List, [], ◌∷◌, ◌++◌, length, drop, get_or, refl, sym, ap, ◌∙◌, append_assoc, add-one, drop-cons, arith, append-nil, TokenKind, Word, Mark, OpenParenthesis, OpenBracket, CloseBracket, Comma, codes, SourceTree, FoldWord, each, parted, number_tokens, param_tokens, source_tokens, spaced, added}
+use Rattle.drl_show.proofs.Common.{◌≡◌, ℕ, ℤ, suc, ◌+◌, ◌<◌, List, [], ◌∷◌, ◌++◌, length, drop, get_or, refl, sym, ap, ◌∙◌, append_assoc, add-one, drop-cons, arith, append-nil, TokenKind, Word, Mark, OpenParenthesis, OpenBracket, CloseBracket, Comma, codes, SourceTree, FoldWord, each, parted, number_tokens, param_tokens, source_tokens, spaced, added, function_tokens, joined}
 use Rattle.drl_lex.specs.declared.token.Mark.{Mark as MarkData}
-use Rattle.drl_show.specs.Canonical.{function_tokens, accumulate_tokens}
-use Rattle.drl_show.specs.Texts.{token_text, joined}
+use Rattle.drl_show.specs.Canonical.{accumulate_tokens}
+use Rattle.drl_show.specs.Texts.{token_text}
 
 pub added_append : (bytes : List ℕ) (xs ys : List TokenKind) → added bytes (xs ++ ys) ≡ added (added bytes xs) ys
 added_append bytes [] ys = refl

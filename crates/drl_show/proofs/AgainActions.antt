@@ -1,12 +1,9 @@
 -- The tokens of an action stand for it again, whatever follows.
-use Rattle.drl_show.proofs.Common.{◌≡◌, ℕ, ◌+◌, ◌&&◌, Bool, true, false, cond, List, [], ◌∷◌, ◌++◌, refl, arith, codes, list_all, nat_tests, Word, Var, Mark, OpenParenthesis, CloseParenthesis, Comma, Semicolon, Assign, IsIdent, parted, listed, expr_tokens, action_tokens}
-use Rattle.std.specs.Prelude.{nat_le}
+use Rattle.drl_show.proofs.Common.{◌≡◌, ℕ, ◌+◌, ◌&&◌, Bool, true, false, cond, List, [], ◌∷◌, ◌++◌, refl, arith, codes, list_all, nat_tests, Word, Var, Mark, OpenParenthesis, CloseParenthesis, Comma, Semicolon, Assign, IsIdent, parted, listed, expr_tokens, action_tokens, nat_le, OpenBrace, CloseBrace, assign_tokens}
 use Rattle.drl_lex.specs.Bytes.{begins_word, is_word_byte}
-use Rattle.drl_lex.specs.declared.token.Mark.TheVariants.{OpenBrace, CloseBrace}
 use Rattle.drl_grammar.specs.Shapes as shapes
 use Rattle.drl_grammar.specs.Actions as g
 use Rattle.drl_grammar.specs.Actions.{small, IsSetter, IsAssign, IsAction}
-use Rattle.drl_show.specs.Canonical.{assign_tokens}
 use Rattle.drl_show.proofs.Fine.{Good, fine_word, fine_var, fine_append, both}
 use Rattle.drl_show.proofs.AgainShapes.{Agains, regroup, separated_again, listed_again, optional_good}
 use Rattle.drl_show.proofs.AgainExpressions.{expression_again}

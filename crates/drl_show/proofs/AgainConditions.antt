@@ -1,10 +1,9 @@
 -- The tokens of a condition, and of its parts, stand for it again, whatever follows.
-use Rattle.drl_show.proofs.Common.{◌≡◌, ℕ, ℤ, zero, suc, pos, ◌<◌, ◌^◌, true, List, [], ◌∷◌, ◌++◌, Option, Some, refl, sym, ap, subst, ◌∙◌, append_assoc, arith, neg_ℤ, codes, list_all, TokenKind, Word, Var, Text, Mark, OpenParenthesis, CloseParenthesis, OpenBracket, CloseBracket, Comma, Semicolon, Colon, Dot, Comparison, SourceTree, FoldWord, Separated, Listed, Maybe, parted, maybe, listed, number_tokens, literal_tokens, param_tokens}
+use Rattle.drl_show.proofs.Common.{◌≡◌, ℕ, ℤ, zero, suc, pos, ◌<◌, ◌^◌, true, List, [], ◌∷◌, ◌++◌, Option, Some, refl, sym, ap, subst, ◌∙◌, append_assoc, arith, neg_ℤ, codes, list_all, TokenKind, Word, Var, Text, Mark, OpenParenthesis, CloseParenthesis, OpenBracket, CloseBracket, Comma, Semicolon, Colon, Dot, Comparison, SourceTree, FoldWord, Separated, Listed, Maybe, parted, maybe, listed, number_tokens, literal_tokens, param_tokens, Or, And, op_text, fold_text, IsLiteral, IsOperand, IsSpan, IsName, IsCmp, IsConj, IsDisj, AreParams, IsPart, IsWindow, IsPlace, IsBinding, IsSource, IsGroup, IsValueTest, IsResultTest, AreResultTests, IsFolded, IsCondition, operand_tokens, cmp_tokens, conj_tokens, disj_tokens, part_tokens, window_tokens, place_tokens, binding_tokens, test_tokens, group_tokens, condition_tokens}
 use Rattle.temporal_ops.specs.declared.word.OpWord.{OpWord}
 use Rattle.temporal_ops.specs.declared.word.OpWord.TheVariants.{After, Before, Coincides, During, Includes, Finishes, FinishedBy, Starts, StartedBy, Meets, MetBy, Overlaps, OverlappedBy}
 use Rattle.drl_lex.specs.Bytes.{begins_word, is_word_byte}
 use Rattle.drl_lex.specs.declared.token.Rel.{Rel}
-use Rattle.drl_lex.specs.declared.token.Mark.TheVariants.{Or, And}
 use Rattle.drl_grammar.specs.declared.condition.Operand.{Operand}
 use Rattle.drl_grammar.specs.declared.condition.FoldWord.TheVariants.{Count, Sum, Min, Max, Average}
 use Rattle.drl_grammar.specs.declared.condition.CondTree.{CondTree}
@@ -13,8 +12,7 @@ use Rattle.drl_grammar.specs.Shapes as shapes
 use Rattle.drl_expr.specs.declared.literal.LitTree.TheVariants as lit
 use Rattle.drl_grammar.specs.declared.condition.CondTree.TheVariants as condition
 use Rattle.drl_grammar.specs.Conditions as g
-use Rattle.drl_grammar.specs.Conditions.{op_text, fold_text, IsLiteral, IsOperand, IsSpan, IsName, IsCmp, IsConj, IsDisj, AreParams, IsPart, IsWindow, IsPlace, IsBinding, IsSource, IsGroup, IsValueTest, IsResultTest, AreResultTests, IsFolded, IsCondition}
-use Rattle.drl_show.specs.Canonical.{operand_tokens, cmp_tokens, conj_tokens, disj_tokens, part_tokens, window_tokens, place_tokens, binding_tokens, source_tokens, test_tokens, group_tokens, function_tokens, accumulate_tokens, condition_tokens}
+use Rattle.drl_show.specs.Canonical.{source_tokens, function_tokens, accumulate_tokens}
 use Rattle.drl_show.proofs.Fine.{Good, AllGood, fine, fine_word, fine_var, fine_number, fine_text, fine_append, word_is_text}
 use Rattle.drl_show.proofs.AgainShapes.{Again, Agains, regroup, maybe_again, separated_again, listed_again}
 

@@ -1,13 +1,10 @@
 -- The tokens of an expression stand for it again: parentheses are never deeper than the tree is high.
-use Rattle.drl_show.proofs.Common.{◌≡◌, ℕ, zero, suc, pos, negsuc, ◌≤◌, Bool, true, false, List, [], ◌∷◌, ◌++◌, refl, sym, subst, append_assoc, arith, list_all, TokenKind, Word, Var, Number, Text, Mark, OpenParenthesis, CloseParenthesis, Dot, Minus, height, IsIdent, literal_tokens, expr_tokens}
+use Rattle.drl_show.proofs.Common.{◌≡◌, ℕ, zero, suc, pos, negsuc, ◌≤◌, Bool, true, false, List, [], ◌∷◌, ◌++◌, refl, sym, subst, append_assoc, arith, list_all, TokenKind, Word, Var, Number, Text, Mark, OpenParenthesis, CloseParenthesis, Dot, Minus, height, IsIdent, literal_tokens, expr_tokens, Plus, Star, Tree, lit, var, var_field, neg, add, sub, mul, joins, enclosed, enclosed_tokens}
 use Rattle.drl_lex.specs.Bytes.{begins_word, is_word_byte}
-use Rattle.drl_lex.specs.declared.token.Mark.TheVariants.{Plus, Star}
 use Rattle.drl_expr.specs.declared.literal.LitTree.{LitTree}
 use Rattle.drl_expr.specs.declared.literal.LitTree.TheVariants as l
-use Rattle.drl_expr.specs.Tree.{Tree, lit, var, var_field, neg, add, sub, mul}
 use Rattle.drl_expr.specs.Grammar as g
 use Rattle.drl_expr.specs.Grammar.{IsExpr, IsTerm, IsFactor, IsExpression}
-use Rattle.drl_show.specs.Canonical.{joins, enclosed, enclosed_tokens}
 use Rattle.drl_show.proofs.Fine.{Good, AllGood, fine, fine_word, fine_var, fine_number, fine_text, fine_append}
 use Rattle.drl_show.proofs.AgainShapes.{Agains, regroup}
 

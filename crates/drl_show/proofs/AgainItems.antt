@@ -1,13 +1,11 @@
 -- The tokens of the parts of items stand for them again.
-use Rattle.drl_show.proofs.Common.{◌≡◌, ℕ, ℤ, zero, suc, pos, true, List, [], ◌∷◌, ◌++◌, Option, refl, sym, ap, ◌∙◌, append_assoc, neg_ℤ, codes, list_all, TokenKind, Word, Text, Mark, OpenParenthesis, CloseParenthesis, Comma, Colon, Dot, Minus, Phrase, IsStep, IsPath, IsStar, IsType, IsEntry, IsRule, each, maybe, number_tokens, name_tokens, path_tokens, star_tokens, piece_tokens, action_tokens}
+use Rattle.drl_show.proofs.Common.{◌≡◌, ℕ, ℤ, zero, suc, pos, true, List, [], ◌∷◌, ◌++◌, Option, refl, sym, ap, ◌∙◌, append_assoc, neg_ℤ, codes, list_all, TokenKind, Word, Text, Mark, OpenParenthesis, CloseParenthesis, Comma, Colon, Dot, Minus, Phrase, IsStep, IsPath, IsStar, IsType, IsEntry, IsRule, each, maybe, number_tokens, name_tokens, path_tokens, star_tokens, piece_tokens, action_tokens, At, IsMeta, IsField, IsParent, IsLateness, IsSalience, IsAttr, meta_tokens, field_tokens, parent_tokens, lateness_tokens, attr_tokens}
 use Rattle.drl_lex.specs.Bytes.{begins_word, is_word_byte}
-use Rattle.drl_lex.specs.declared.token.Mark.TheVariants.{At}
 use Rattle.drl_grammar.specs.Shapes as shapes
 use Rattle.drl_grammar.specs.Items as g
-use Rattle.drl_grammar.specs.Items.{IsMeta, IsField, IsParent, IsLateness, IsSalience, IsAttr}
 use Rattle.drl_grammar.specs.declared.written.WrittenType.{WrittenType}
 use Rattle.drl_grammar.specs.declared.written.WrittenRule.{WrittenRule}
-use Rattle.drl_show.specs.Canonical.{meta_tokens, field_tokens, parent_tokens, type_tokens, lateness_tokens, entry_tokens, attr_tokens, rule_tokens}
+use Rattle.drl_show.specs.Canonical.{type_tokens, entry_tokens, rule_tokens}
 use Rattle.drl_show.proofs.Fine.{AllGood, fine, fine_word, fine_number, fine_text, fine_append}
 use Rattle.drl_show.proofs.AgainShapes.{Agains, regroup, many_again, maybe_again, optional_good}
 use Rattle.drl_show.proofs.AgainConditions.{negative_fine, span_again, name_again}

@@ -1,12 +1,9 @@
 -- Tokens that can be spelled, and tokens that may stand in the text of an item before its end.
-use Rattle.drl_show.proofs.Common.{◌≡◌, ℕ, zero, suc, ◌<◌, ◌≤◌, ◌^◌, ◌&&◌, Bool, true, false, not, List, [], ◌∷◌, ◌++◌, length, refl, subst, arith, nat_lt, codes, All, list_all, bytes_eq, nat_tests, begins, begins_word, Spells, TokenKind, Word, Var, Number, Time, Text, Mark, IsIdent}
-use Rattle.std.specs.Str.{is_utf8, IsAscii}
-use Rattle.std.proofs.lemmas.Bool.{lt-ltb}
+use Rattle.drl_show.proofs.Common.{◌≡◌, ℕ, zero, suc, ◌<◌, ◌≤◌, ◌^◌, ◌&&◌, Bool, true, false, not, List, [], ◌∷◌, ◌++◌, length, refl, subst, arith, nat_lt, codes, All, list_all, bytes_eq, nat_tests, begins, begins_word, Spells, TokenKind, Word, Var, Number, Time, Text, Mark, IsIdent, is_utf8, IsAscii, lt-ltb, CanBeSpelled}
 use Rattle.std.proofs.lemmas.Slice.Eq.{bytes_eq-Decides}
 use Rattle.std.proofs.lemmas.Str.{IsUtf8-from_ascii, is_utf8-from_IsUtf8}
 use Rattle.drl_lex.specs.Bytes.{is_word_byte}
 use Rattle.drl_expr.specs.Words.{is_ident}
-use Rattle.drl_show.specs.Shown.{CanBeSpelled}
 
 pub both : (a b : Bool) → a && b ≡ true → (a ≡ true) × (b ≡ true)
 both true b e = (refl, e)

@@ -1,11 +1,10 @@
 -- The tokens of an item stand for it again, are spelled by their texts, and are what its first token takes from a file.
-use Rattle.drl_show.proofs.Common.{◌≡◌, ℕ, true, false, Bool, List, [], ◌∷◌, ◌++◌, length, refl, sym, subst, append-nil, codes, Spells, TokenKind, Word, Text, Mark, Dot, Many, IsStep, IsPath, IsStar, IsType, IsEntry, IsRule, IsItem, extent, WrittenBody, each, name_tokens, path_tokens, star_tokens, item_word, behind_word, tokens_of_item}
+use Rattle.drl_show.proofs.Common.{◌≡◌, ℕ, true, false, Bool, List, [], ◌∷◌, ◌++◌, length, refl, sym, subst, append-nil, codes, Spells, TokenKind, Word, Text, Mark, Dot, Many, IsStep, IsPath, IsStar, IsType, IsEntry, IsRule, IsItem, extent, WrittenBody, each, name_tokens, path_tokens, star_tokens, item_word, behind_word, tokens_of_item, type_tokens, entry_tokens, rule_tokens}
 use Rattle.drl_lex.specs.Bytes.{begins_word, is_word_byte}
 use Rattle.drl_grammar.specs.Shapes as shapes
 use Rattle.drl_grammar.specs.Items as g
 use Rattle.drl_grammar.specs.Files.{opens_block, begins_item}
 use Rattle.drl_grammar.specs.declared.written.WrittenBody.TheVariants as body
-use Rattle.drl_show.specs.Canonical.{type_tokens, entry_tokens, rule_tokens}
 use Rattle.drl_show.specs.Texts.{token_text}
 use Rattle.drl_show.proofs.Fine.{AllGood, fine_text, fine_append}
 use Rattle.drl_show.proofs.AgainItems.{path_again, star_again, type_block, entry_block, rule_block}

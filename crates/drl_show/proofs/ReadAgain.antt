@@ -1,19 +1,15 @@
 -- The text of a file is a file with the same items.
-use Rattle.drl_show.proofs.Common.{◌≡◌, ℕ, suc, ◌+◌, true, false, List, [], ◌∷◌, ◌++◌, None, length, take, drop, map, refl, sym, ap, subst, ◌∙◌, append_assoc, length-append, length-drop, arith, All, begins, Spells, longer, TokenKind, Word, extent, IsItem, WrittenBody, each, item_word, behind_word, tokens_of_item, shown_items, spaced}
-use Rattle.std.proofs.lemmas.List.{length-map}
+use Rattle.drl_show.proofs.Common.{◌≡◌, ℕ, suc, ◌+◌, true, false, List, [], ◌∷◌, ◌++◌, None, length, take, drop, map, refl, sym, ap, subst, ◌∙◌, append_assoc, length-append, length-drop, arith, All, begins, Spells, longer, TokenKind, Word, extent, IsItem, WrittenBody, each, item_word, behind_word, tokens_of_item, shown_items, spaced, length-map, IsPiece, Reads, begins_item, line_at, lines_at, AreItems, StandsInGrammar, InGrammar, IsReadAgain, token_text}
 use Rattle.std.proofs.Math.Seq.{take-append_seam, drop-append_seam}
 use Rattle.drl_lex.specs.Bytes.{is_blank}
 use Rattle.drl_lex.specs.Kinds.{kinds, starts}
 use Rattle.drl_lex.specs.Tokens as p
-use Rattle.drl_lex.specs.Tokens.{IsPiece, Reads}
 use Rattle.drl_lex.proofs.FileLaws.{ends_there}
 use Rattle.drl_lex.specs.declared.token.Token.{Token}
 use Rattle.drl_grammar.specs.Files as files
-use Rattle.drl_grammar.specs.Files.{begins_item, line_at, lines_at, AreItems}
 use Rattle.drl_grammar.specs.declared.written.Written.{Written}
 use Rattle.drl_grammar.specs.declared.written.WrittenItem.{WrittenItem}
-use Rattle.drl_show.specs.Shown.{shown, StandsInGrammar, InGrammar, IsReadAgain}
-use Rattle.drl_show.specs.Texts.{token_text}
+use Rattle.drl_show.specs.Shown.{shown}
 use Rattle.drl_show.proofs.Fine.{all_good}
 use Rattle.drl_show.proofs.Spellings.{AllSpelled, ended_by_space, ended_by_newline}
 use Rattle.drl_show.proofs.Extents.{StartsWith}

@@ -1,2 +1,3 @@
+mod Common
 pub mod NameLemmas
 pub mod EntryLemmas

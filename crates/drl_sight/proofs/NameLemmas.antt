@@ -1,8 +1,8 @@
 -- The places of names in a list that grows at its end, and names that stand once.
-use Rattle.std.proofs.Common.{◌≡◌, ◌+◌, ◌++◌, ◌∷◌, ◌&&◌, ◌||◌, ℕ, ◌<◌, Bool, true, false, not, List, [], length, get_or, drop, drop-cons, add-one, Option, Some, None, is_some, cond, refl, sym, ap, subst, ◌∙◌, append_assoc, suc, arith}
+use Rattle.drl_sight.proofs.Common.{◌≡◌, ◌+◌, ◌++◌, ◌∷◌, ◌&&◌, ◌||◌, ℕ, ◌<◌, Bool, true, false, not, List, [], length, get_or, drop, drop-cons, add-one, Option, Some, None, is_some, cond, refl, sym, ap, subst, ◌∙◌, append_assoc, suc, arith, place_of, is_among}
 use Rattle.std.specs.Str.{bytes_eq}
 use Rattle.std.specs.Cmp.Lexicographic.{nat_list_eq_equiv}
-use Rattle.drl_sight.specs.Names.{place_from, place_of, is_among, are_distinct}
+use Rattle.drl_sight.specs.Names.{place_from, are_distinct}
 
 abbrev turned : (a b : List ℕ) → bytes_eq a b ≡ bytes_eq b a
 turned a b = nat_list_eq_equiv.symm a b

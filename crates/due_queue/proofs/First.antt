@@ -1,13 +1,7 @@
 -- The first pair has the least moment.
-use Rattle.std.proofs.Common.{◌≡◌, ◌∙◌, sym, ap, ℕ, ◌<◌, ℤ, ◌≤ℤ◌, List, [], ◌∷◌, length, Bool, true, false, Some, arith}
-use Rattle.std.specs.Ordering.{nat_cmp, int_cmp, ordering_then, is_eq, is_gt}
-use Rattle.std.specs.declared.cmp.Ordering.{Ordering}
+use Rattle.due_queue.proofs.Common.{◌≡◌, ◌∙◌, sym, ap, ℕ, ◌<◌, ℤ, ◌≤ℤ◌, List, [], ◌∷◌, length, Bool, true, false, Some, arith, nat_cmp, int_cmp, ordering_then, is_eq, is_gt, Ordering, list_any, int_cmp_total, tied_itself, ints, Timers, timers_of, pair_cmp, is_moment}
 use Rattle.std.specs.FinMap as map
-use Rattle.std.specs.List.{list_any}
-use Rattle.std.proofs.lemmas.Cmp.{int_cmp_total, tied_itself}
-use Rattle.std.proofs.lemmas.Int.{ints}
-use Rattle.due_queue.specs.Timers.{Timers}
-use Rattle.due_queue.specs.Indexes.{timers_of, pair_cmp, is_moment, Agree}
+use Rattle.due_queue.specs.Indexes.{Agree}
 use Rattle.due_queue.proofs.Agreeing.{has}
 use Rattle.due_queue.proofs.Taking.{is_moment-true}
 use Rattle.due_queue.proofs.Views.{found, get-timers_of}

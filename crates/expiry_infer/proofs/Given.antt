@@ -1,10 +1,7 @@
 -- Reaches, what conditions add, and what patterns give, against the greatest limits that were found.
-use Rattle.expiry_infer.proofs.Common.{◌≡◌, inl, inr, ◌≤◌, ℕ, suc, ℤ, pos, ◌≤ℤ◌, true, false, List, [], ◌∷◌, length, Some, None, refl, sym, ◌∙◌, ap, subst, arith, slice_get, ints, Times, Condition, Program, Rule, TypeInfo, pattern_of, is_reference, in_place, Occurrence, Limit, finite, infinite, plus, tail, AddsAt, GivesAt, GivesIn, placed, Among, IsTop, false_is}
+use Rattle.expiry_infer.proofs.Common.{◌≡◌, inl, inr, ◌≤◌, ℕ, suc, ℤ, pos, ◌≤ℤ◌, true, false, List, [], ◌∷◌, length, Some, None, refl, sym, ◌∙◌, ap, subst, arith, slice_get, ints, Times, Condition, Program, Rule, TypeInfo, pattern_of, is_reference, in_place, Occurrence, Limit, finite, infinite, plus, tail, AddsAt, GivesAt, GivesIn, placed, Among, IsTop, false_is, is_event_type, expiry_in, Placed, SolvesWith, IsReach, Adds, of_fact, of_event, AddsSome, LivesFor, PatternLife, IsLife, AddsBy}
 use Rattle.fx_base.specs.Lists.{In}
-use Rattle.rule_model.specs.Types.{is_event_type, expiry_in, is_event, expiry_of}
-use Rattle.rule_lives.specs.Reach.{Placed, SolvesWith, IsReach}
-use Rattle.rule_lives.specs.Lifetimes.{Adds, of_fact, of_event, AddsSome, LivesFor, PatternLife, IsLife}
-use Rattle.expiry_infer.specs.Tables.{AddsBy}
+use Rattle.rule_model.specs.Types.{is_event, expiry_of}
 use Rattle.expiry_infer.proofs.Tops.{top_like, top_of_none, anywhere}
 
 -- ---- one reach
@@ -33,10 +30,6 @@ added p conditions i j r more low top changes event reach is h =
     it_is : (l : Limit) → Adds p conditions i j l → l ≡ more
     it_is l (of_fact fact e) = absurd (false_is (sym fact ∙ event))
     it_is l (of_event e s other k) = k ∙ ap (λ (z : Limit). plus z (tail p (pattern_of j.condition))) (one_reach p conditions i j s r other reach) ∙ sym is
-
--- a condition on a reference type adds nothing
-pub fixed_added : (p : Program) (conditions : List Condition) (i j : Placed) (low : Limit) → is_reference p (pattern_of j.condition).ty.0 ≡ true → IsTop (AddsBy p conditions i j) low low
-fixed_added p conditions i j low is = top_of_none (AddsBy p conditions i j) low (λ l a. false_is (sym a.0 ∙ is))
 
 pub none_added : (p : Program) (conditions : List Condition) (i j : Placed) (low : Limit) → is_event p (pattern_of j.condition).ty.0 ≡ true
     → ((times : Occurrence → Times) → SolvesWith p conditions i j times → ⊥) → IsTop (AddsBy p conditions i j) low low

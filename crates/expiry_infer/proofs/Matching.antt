@@ -1,9 +1,7 @@
 -- The function that tells whether patterns can match decides whether their network has a solution.
-use Rattle.expiry_infer.proofs.Common.{◌≡◌, Bool, true, false, [], List, refl, sym, arith, Decides, Condition, Program, IsSolvable, edges_of}
+use Rattle.expiry_infer.proofs.Common.{◌≡◌, Bool, true, false, [], List, refl, sym, arith, Decides, Condition, Program, IsSolvable, edges_of, HaveNetwork, all_among}
 use Rattle.temporal_net.proofs.Potentials.{decided}
-use Rattle.life_edges.specs.Edges.{HaveNetwork}
 use Rattle.expiry_infer.specs.Solvable.{can_match}
-use Rattle.life_edges.proofs.Fitting.{all_among}
 use Rattle.expiry_infer.proofs.Reaching.{solvable, numbered}
 
 pub can_match_is_exact : (p : Program) (conditions : List Condition) → HaveNetwork conditions → Decides (can_match p conditions) (IsSolvable p conditions)

@@ -1,13 +1,10 @@
 -- What a solved network says of its conditions.
-use Rattle.expiry_infer.proofs.Common.{◌≡◌, ◌≤◌, ℕ, Bool, List, [], length, Option, Some, None, sym, ◌∙◌, ap, subst, Decides, Bound, Times, Condition, Program, Occurrence, IsSolvable, edges_of, IsSolved, false_is}
+use Rattle.expiry_infer.proofs.Common.{◌≡◌, ◌≤◌, ℕ, Bool, List, [], length, Option, Some, None, sym, ◌∙◌, ap, subst, Decides, Bound, Times, Condition, Program, Occurrence, IsSolvable, edges_of, IsSolved, false_is, Network, Solves, of_points, of_times}
 use Rattle.std.specs.Option.{is_some}
 use Rattle.temporal_net.specs.declared.edge.NetEdge.{NetEdge}
-use Rattle.temporal_net.specs.Networks.{Network}
 use Rattle.temporal_net.specs.Networks as net
-use Rattle.rule_lives.specs.Networks.{Solves}
 use Rattle.rule_world.specs.Programs.{NameEarlier}
 use Rattle.life_edges.proofs.Solved.{times_of, points_of}
-use Rattle.life_edges.proofs.Distances.{of_points, of_times}
 
 pub solvable : (p : Program) (conditions : List Condition) → NameEarlier conditions → net.IsSolvable (edges_of p conditions [] 0 conditions) → IsSolvable p conditions
 solvable p conditions named h = (times_of conditions h.0, of_points p conditions [] named h.0 h.1)

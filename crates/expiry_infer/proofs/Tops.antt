@@ -1,19 +1,11 @@
 -- Laws of the greatest of limits.
-use Rattle.expiry_infer.proofs.Common.{◌≡◌, ◌⊎◌, inl, inr, ◌<◌, ◌≤◌, ◌+◌, ℕ, ℤ, ◌≤ℤ◌, List, length, Some, refl, sym, ◌∙◌, subst, arith, pos, negsuc, to_z, of_z, to_z-of_z, w64, FitsSigned, ◌^◌, slice_get, ints, Bound, IsWithinNetwork, Limit, finite, infinite, plus, limit_of, IsShort, IsSmall, Among, IsTop}
-use Rattle.std.proofs.lemmas.Option.{slice_get_within}
+use Rattle.expiry_infer.proofs.Common.{◌≡◌, ◌⊎◌, inl, inr, ◌<◌, ◌≤◌, ◌+◌, ℕ, ℤ, ◌≤ℤ◌, List, length, Some, refl, sym, ◌∙◌, subst, arith, pos, negsuc, to_z, of_z, to_z-of_z, w64, FitsSigned, ◌^◌, slice_get, ints, Bound, IsWithinNetwork, Limit, finite, infinite, plus, limit_of, IsShort, IsSmall, Among, IsTop, slice_get_within, Below, IsSpan, the_same}
 use Rattle.fx_base.specs.declared.bound.Bound.TheVariants.{Finite, Infinite}
 use Rattle.rule_world.specs.Events.{most_millis}
-use Rattle.rule_lives.specs.Reach.{Below}
-use Rattle.life_edges.specs.Tails.{IsSpan}
-use Rattle.life_edges.proofs.Places.{the_same}
 
 pub below_itself : (l : Limit) → Below l l
 below_itself (finite a) = omega (arith, ints)
 below_itself infinite = tt
-
-pub below_infinite : (l : Limit) → Below l infinite
-below_infinite (finite a) = tt
-below_infinite infinite = tt
 
 further : (a b c : ℤ) → a ≤ℤ b → b ≤ℤ c → a ≤ℤ c
 further a b c h k = omega (arith, ints)
@@ -29,9 +21,6 @@ below_both infinite infinite infinite h k = tt
 
 pub top_of_none : (of : Limit → Type 0) (low : Limit) → ((l : Limit) → of l → ⊥) → IsTop of low low
 top_of_none of low none = record { above_least = below_itself low; above_all = λ l h. absurd (none l h); reached = inl refl }
-
-pub top_infinite : (of : Limit → Type 0) (low : Limit) → of infinite → IsTop of low infinite
-top_infinite of low h = record { above_least = below_infinite low; above_all = λ l k. below_infinite l; reached = inr h }
 
 pub top_like : (of other : Limit → Type 0) (low top : Limit) → ((l : Limit) → of l → other l) → ((l : Limit) → other l → of l) → IsTop of low top → IsTop other low top
 top_like of other low top f g h = record { above_least = h.above_least; above_all = λ l k. h.above_all l (g l k); reached = reached_by h.reached }
@@ -76,12 +65,6 @@ top_next xs gives n x low middle top at first next = record {
 pub top_skipped : {A : Type 0} (xs : List A) (gives : ℕ → A → Limit → Type 0) (n : ℕ) (x : A) (low top : Limit) → slice_get xs n ≡ Some x
     → IsTop (Among xs gives n) low top → ((l : Limit) → gives n x l → ⊥) → IsTop (Among xs gives (n + 1)) low top
 top_skipped xs gives n x low top at h none = top_next xs gives n x low top top at h (top_of_none (gives n x) top none)
-
-pub top_of_nothing : {A : Type 0} (xs : List A) (gives : ℕ → A → Limit → Type 0) (low : Limit) → IsTop (Among xs gives 0) low low
-top_of_nothing xs gives low = top_of_none (Among xs gives 0) low (λ l h. never h.place h.before)
-  where
-    never : (n : ℕ) → n < 0 → ⊥
-    never n h = omega arith
 
 pub anywhere : {A : Type 0} (xs : List A) (gives : ℕ → A → Limit → Type 0) (end place : ℕ) (x : A) (l : Limit) → length xs ≤ end
     → slice_get xs place ≡ Some x → gives place x l → Among xs gives end l

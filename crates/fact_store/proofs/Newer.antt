@@ -1,9 +1,6 @@
 -- The newest versions of ids and the older ones, after one version is put in or taken out.
-use Rattle.fact_store.proofs.Common.{◌≡◌, ◌∙◌, sym, ap, refl, subst, ℕ, ◌<◌, ◌≤◌, ◌^◌, ◌-◌, ◌⊎◌, inl, inr, List, [], ◌∷◌, ◌++◌, Bool, true, false, cond, ◌||◌, ◌&&◌, Option, Some, None, length, Result, Ok, Err, arith, T, nat_eq, IfSome, IfNone, Ordering, Less, Equal, Greater, nat_cmp, is_eq, is_lt, ordering_then, nat_cmp_total, unsigned_tied, is_at, below_all, find, is_sorted, get-entries, get-insert, get-remove, entries_sorted, exact_unsigned_eq, cases_lt, Numbers, pair_cmp, has_pair, Leads}
-use Rattle.std.specs.Prelude.{OnSome, OnOk, OnErr}
-use Rattle.std.specs.FinMap.{len-entries, len-empty}
+use Rattle.fact_store.proofs.Common.{◌≡◌, ◌∙◌, sym, ap, refl, subst, ℕ, ◌<◌, ◌≤◌, ◌^◌, ◌-◌, ◌⊎◌, inl, inr, List, [], ◌∷◌, ◌++◌, Bool, true, false, cond, ◌||◌, ◌&&◌, Option, Some, None, length, Result, Ok, Err, arith, T, nat_eq, IfSome, IfNone, Ordering, Less, Equal, Greater, nat_cmp, is_eq, is_lt, ordering_then, nat_cmp_total, unsigned_tied, is_at, below_all, find, is_sorted, get-entries, get-insert, get-remove, entries_sorted, exact_unsigned_eq, cases_lt, Numbers, pair_cmp, has_pair, Leads, OnSome, OnOk, OnErr, len-entries, len-empty, IsAbove}
 use Rattle.std.specs.FinMap as map
-use Rattle.fact_store.specs.Indexes.{IsAbove}
 use Rattle.fact_store.proofs.Counting.{torn, eq_self}
 
 -- whether there is a tag, and it is this one

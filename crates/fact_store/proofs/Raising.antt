@@ -1,11 +1,8 @@
 -- The counts of ids by type, after one version is put in or taken out.
-use Rattle.fact_store.proofs.Common.{◌≡◌, ◌∙◌, sym, ap, refl, subst, ℕ, ◌+◌, ◌-◌, ◌≤◌, List, [], ◌∷◌, length, get_or, Bool, true, false, cond, not, ◌&&◌, arith, nat_eq, Ordering, Less, Equal, Greater, nat_cmp, ordering_then, is_eq, is_at, get-empty, nat_cmp-IsAntisymmetric, OnTrue, OnFalse, list_any, exact_unsigned_eq, HeldFacts, is_of, Version, version_cmp, is_version}
-use Rattle.std.specs.Cmp.{IsTotalOrder}
+use Rattle.fact_store.proofs.Common.{◌≡◌, ◌∙◌, sym, ap, refl, subst, ℕ, ◌+◌, ◌-◌, ◌≤◌, List, [], ◌∷◌, length, get_or, Bool, true, false, cond, not, ◌&&◌, arith, nat_eq, Ordering, Less, Equal, Greater, nat_cmp, ordering_then, is_eq, is_at, get-empty, nat_cmp-IsAntisymmetric, OnTrue, OnFalse, list_any, exact_unsigned_eq, HeldFacts, is_of, Version, version_cmp, is_version, IsTotalOrder, CountsIds, CountsType}
 use Rattle.std.specs.FinMap as map
 use Rattle.std.specs.List.{IsDistinct}
 use Rattle.std.proofs.lemmas.Cmp.{on_total, then_total, nat_cmp_total, eq_by_cmp_equiv}
-use Rattle.fact_store.specs.Ids.{CountsIds}
-use Rattle.fact_store.specs.Held.{CountsType}
 use Rattle.fact_store.specs.Versions.{Counted}
 use Rattle.fact_store.proofs.Counting.{torn, eq_self, without, length-without, AreIds-same, AreIds-first, AreIds-again, AreIds-last, AreIds-still}
 

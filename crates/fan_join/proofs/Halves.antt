@@ -1,28 +1,10 @@
 -- The parts of a member's step: left rows that go and come, and candidates that go and come.
-use Rattle.std.proofs.Common.{◌≡◌, ◌∙◌, sym, ap, refl, List, Bool, true, false, not, ◌&&◌, ◌||◌}
-use Rattle.std.specs.Option.{is_some}
-use Rattle.fx_base.specs.declared.value.Value.{Value}
-use Rattle.fx_base.specs.Values.{same_value}
-use Rattle.row_delta.specs.declared.delta.Delta.{Delta}
-use Rattle.row_delta.specs.declared.row.Named.{Named}
-use Rattle.row_delta.specs.declared.row.Row.{Row}
-use Rattle.row_delta.specs.Rows.{row_cmp, has}
+use Rattle.fan_join.proofs.Common.{◌≡◌, ◌∙◌, sym, ap, refl, List, Bool, true, false, not, ◌&&◌, ◌||◌, is_some, Value, same_value, Delta, Named, Row, row_cmp, has, Leads, IsDifference, without, along, at, Look, joins, Candidates, LeftRows, joined, has_name, has_left, has_right, made, Keeps, has_row, has_candidate, beside, IsBeside, NamesLeave, NamesCome, keeps_then, RowTurn, IsTurn, IsRowsDifference, AreNamesTurned}
 use Rattle.row_change.specs.declared.change.Change.{Change}
-use Rattle.row_change.specs.Changes.{Leads, IsDifference, without, along}
 use Rattle.row_change.proofs.Alike.{leads_alike}
-use Rattle.alpha_memory.specs.JoinIndex.{at}
-use Rattle.join_tests.specs.Joins.{Look, joins}
-use Rattle.pair_memory.specs.declared.candidates.Candidates.{Candidates}
-use Rattle.pair_memory.specs.declared.left_rows.LeftRows.{LeftRows}
 use Rattle.pair_memory.specs.declared.memories.Memories.{Memories}
-use Rattle.pair_memory.specs.Joined.{joined, has_name}
-use Rattle.pair_memory.specs.Memories.{has_left, has_right, made, Keeps}
-use Rattle.pair_memory.specs.Apart.{has_row, has_candidate, beside, IsBeside, NamesLeave, NamesCome}
 use Rattle.pair_memory.proofs.Sharing.{value_beside}
 use Rattle.pair_memory.proofs.Keeping.{made_after}
-use Rattle.pair_memory.proofs.Turning.{keeps_then}
-use Rattle.fan_join.specs.declared.row_turn.RowTurn.{RowTurn}
-use Rattle.fan_join.specs.Turns.{IsTurn, IsRowsDifference, AreNamesTurned}
 use Rattle.fan_join.proofs.Sets.{rows_less, rows_more, rows_inside, rows_outside, names_less, names_more, names_inside, names_outside}
 
 -- what a call that takes rows, or brings them, does to a change

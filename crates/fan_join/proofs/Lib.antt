@@ -1,3 +1,4 @@
+mod Common
 pub mod Sets
 pub mod Halves
 pub mod Places

@@ -1,7 +1,5 @@
 -- Members by their places.
-use Rattle.std.proofs.Common.{◌≡◌, ◌∙◌, sym, ap, refl, subst, ℕ, zero, suc, ◌+◌, ◌<◌, ◌≤◌, List, [], ◌∷◌, ◌++◌, length, arith, length-append, get_or, Option, Some, None, slice_get, ◌⊎◌, inl, inr}
-use Rattle.std.proofs.Math.ListN.{set, length-set}
-use Rattle.std.proofs.lemmas.Option.{slice_get-get_or}
+use Rattle.fan_join.proofs.Common.{◌≡◌, ◌∙◌, sym, ap, refl, subst, ℕ, zero, suc, ◌+◌, ◌<◌, ◌≤◌, List, [], ◌∷◌, ◌++◌, length, arith, length-append, get_or, Option, Some, None, slice_get, ◌⊎◌, inl, inr, set, length-set, slice_get-get_or}
 
 pub set_other : {A : Type 0} (xs : List A) (i k : ℕ) (v : A) → (k ≡ i → ⊥) → slice_get (set xs i v) k ≡ slice_get xs k
 set_other [] i k v h = refl
@@ -14,11 +12,6 @@ pub set_same : {A : Type 0} (xs : List A) (i : ℕ) (v x : A) → slice_get xs i
 set_same [] i v x e = cc
 set_same (y ∷ xs) zero v x e = refl
 set_same (y ∷ xs) (suc i) v x e = set_same xs i v x e
-
-pub get_front : {A : Type 0} (xs : List A) (x : A) (k : ℕ) → k < length xs → slice_get (xs ++ x ∷ []) k ≡ slice_get xs k
-get_front [] x k h = absurd (omega arith)
-get_front (y ∷ xs) x zero h = refl
-get_front (y ∷ xs) x (suc k) h = get_front xs x k (omega arith)
 
 pub get_seam : {A : Type 0} (xs : List A) (x : A) → slice_get (xs ++ x ∷ []) (length xs) ≡ Some x
 get_seam [] x = refl

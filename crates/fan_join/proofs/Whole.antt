@@ -1,32 +1,11 @@
 -- What a change of the rows of all members, and one of the candidates of one, are for each member.
-use Rattle.std.proofs.Common.{◌≡◌, ◌∙◌, sym, ap, refl, ℕ, ◌<◌, ◌+◌, List, [], ◌∷◌, ◌++◌, length, arith, subst, get_or, Bool, true, false, not, ◌&&◌, ◌||◌, Some, None, slice_get, ◌⊎◌, inl, inr}
-use Rattle.std.proofs.Math.ListN.{set, length-set}
-use Rattle.std.proofs.lemmas.Option.{slice_get-get_or}
+use Rattle.fan_join.proofs.Common.{◌≡◌, ◌∙◌, sym, ap, refl, ℕ, ◌<◌, ◌+◌, List, [], ◌∷◌, ◌++◌, length, arith, subst, get_or, Bool, true, false, not, ◌&&◌, ◌||◌, Some, None, slice_get, ◌⊎◌, inl, inr, set, length-set, slice_get-get_or, is_some, Value, same_value, at, Delta, Named, Row, has, row_cmp, IsDifference, Look, row_key, Candidates, LeftRows, has_name, has_left, has_right, made, Keeps, beside, IsBeside, keeps_then, RowTurn, IsTurn, IsRowsDifference, AreNamesTurned, AreDifferences}
 use Rattle.std.proofs.lemmas.Bool.{false≢true}
-use Rattle.std.specs.Option.{is_some}
-use Rattle.fx_base.specs.declared.value.Value.{Value}
-use Rattle.fx_base.specs.Values.{same_value}
-use Rattle.alpha_memory.specs.JoinIndex.{at}
-use Rattle.row_delta.specs.declared.delta.Delta.{Delta}
-use Rattle.row_delta.specs.declared.row.Named.{Named}
-use Rattle.row_delta.specs.declared.row.Row.{Row}
 use Rattle.row_delta.specs.NameOrder.{name_cmp}
-use Rattle.row_delta.specs.Rows.{has, row_cmp}
-use Rattle.row_change.specs.Changes.{IsDifference}
-use Rattle.join_tests.specs.Joins.{Look}
-use Rattle.join_tests.specs.RowKeys.{row_key}
-use Rattle.pair_memory.specs.declared.candidates.Candidates.{Candidates}
-use Rattle.pair_memory.specs.declared.left_rows.LeftRows.{LeftRows}
-use Rattle.pair_memory.specs.Joined.{has_name}
-use Rattle.pair_memory.specs.Memories.{has_left, has_right, made, Keeps}
-use Rattle.pair_memory.specs.Apart.{beside, IsBeside}
 use Rattle.pair_memory.specs.Inputs.{row_naming}
-use Rattle.pair_memory.proofs.Turning.{keeps_then}
 use Rattle.fan_join.specs.declared.fan.FanJoin.{FanJoin}
-use Rattle.fan_join.specs.declared.row_turn.RowTurn.{RowTurn}
 use Rattle.fan_join.specs.Fans.{IsMember, AreBeside, IsEmpty, AreRowsTurned, IsMemberTurned}
 use Rattle.fan_join.specs.Laws.{EmptyLaw, MemberStepLaw, MemberForgetLaw}
-use Rattle.fan_join.specs.Turns.{IsTurn, IsRowsDifference, AreNamesTurned, AreDifferences}
 use Rattle.fan_join.proofs.Places.{both_at, last_or_before, seam_or_before, set_other, set_same}
 
 or_nothing : (a : Bool) → (a || false) ≡ a

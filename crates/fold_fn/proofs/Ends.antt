@@ -1,9 +1,5 @@
 -- The numbers of the entries of a search tree: they rise already, and the first and the last key are the ends.
-use Rattle.fold_fn.proofs.Common.{◌≡◌, ℕ, zero, suc, ◌<◌, ℤ, ◌≤ℤ◌, true, false, List, [], ◌∷◌, ◌++◌, replicate, Some, refl, sym, ap, ◌∙◌, arith, All, Contains, int_eq, int_cmp, int_lt, Less, is_lt, is_gt, ⊎_elim, lookup, keys_of, ints, cases_Bool, cond-false, lookup_head, lookup_tail, All-nil, All-head, All-tail, All-weaker, insert_rising, in_rising_order, least, greatest, repeated, NoneIsZero}
-use Rattle.std.specs.List.{AllByRecursion}
-use Rattle.std.specs.List.Sorted.{IsStrictlySortedBy}
-use Rattle.std.proofs.lemmas.Map.Keys.{sorted_head, sorted_tail}
-use Rattle.std.proofs.lemmas.List.Elements.{All-append, All-replicate, Contains-append_left, Contains-append_right}
+use Rattle.fold_fn.proofs.Common.{◌≡◌, ℕ, zero, suc, ◌<◌, ℤ, ◌≤ℤ◌, true, false, List, [], ◌∷◌, ◌++◌, replicate, Some, refl, sym, ap, ◌∙◌, arith, All, Contains, int_eq, int_cmp, int_lt, Less, is_lt, is_gt, ⊎_elim, lookup, keys_of, ints, cases_Bool, cond-false, lookup_head, lookup_tail, All-nil, All-head, All-tail, All-weaker, insert_rising, in_rising_order, least, greatest, repeated, NoneIsZero, AllByRecursion, IsStrictlySortedBy, sorted_head, sorted_tail, All-append, All-replicate, Contains-append_left, Contains-append_right}
 use Rattle.fold_fn.proofs.Rising.{same_number}
 use Rattle.fold_fn.proofs.ResultLemmas.{least-rising, greatest-rising}
 use Rattle.fold_fn.proofs.LawLemmas.{least_found, greatest_found}

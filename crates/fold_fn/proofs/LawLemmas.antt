@@ -1,7 +1,5 @@
 -- What a list contains, its least and greatest number, the floor of a quotient, and taking back.
-use Rattle.fold_fn.proofs.Common.{◌≡◌, ℕ, zero, suc, ◌*◌, ◌<◌, ◌≤◌, ◌/◌, ℤ, pos, negsuc, ◌+ℤ◌, ◌*ℤ◌, ◌≤ℤ◌, ◌<ℤ◌, List, [], ◌∷◌, Some, refl, ap, arith, All, Contains, int_eq, int_lt, true, false, ⊎_elim, ints, cases_Bool, All-nil, All-cons, All-weaker, times, insert_rising, in_rising_order, least_of, greatest_of, least, greatest, floor_quotient}
-use Rattle.std.specs.Int.{int_min, int_max}
-use Rattle.std.proofs.lemmas.List.Elements.{All-contains}
+use Rattle.fold_fn.proofs.Common.{◌≡◌, ℕ, zero, suc, ◌*◌, ◌<◌, ◌≤◌, ◌/◌, ℤ, pos, negsuc, ◌+ℤ◌, ◌*ℤ◌, ◌≤ℤ◌, ◌<ℤ◌, List, [], ◌∷◌, Some, refl, ap, arith, All, Contains, int_eq, int_lt, true, false, ⊎_elim, ints, cases_Bool, All-nil, All-cons, All-weaker, times, insert_rising, in_rising_order, least_of, greatest_of, least, greatest, floor_quotient, int_min, int_max, All-contains}
 use Rattle.fold_fn.proofs.Rising.{times-cons, times-nil, times-rising, int_eq-same, same_number}
 
 -- a number goes in at one place only, so it leaves one list when it is taken out
@@ -45,19 +43,6 @@ least_is_least (y ∷ (z ∷ zs)) x e =
     let m = least_of z (least zs) in
     let deep : Contains (z ∷ zs) m × All (λ y. m ≤ℤ y) (z ∷ zs) = least_is_least (z ∷ zs) m refl in
     least_step x y m (z ∷ zs) deep.0 deep.1 (cc)
-
-contains_from_times : (v : ℤ) (xs : List ℤ) → 0 < times v xs → Contains xs v
-contains_from_times v [] h = absurd (omega (arith, times-nil v))
-contains_from_times v (x ∷ xs) h =
-    ⊎_elim
-    (λ (e : int_eq v x ≡ true). rw (same_number v x e) (contains_head x xs))
-    (λ (e : int_eq v x ≡ false). let t = times-cons v x xs in contains_tail v x xs (contains_from_times v xs (grind arith)))
-    (cases_Bool (int_eq v x))
-
--- the rising order contains what the list contains
-pub Contains-rising : (v : ℤ) (xs : List ℤ) → Contains xs v → Contains (in_rising_order xs) v
-Contains-rising v xs has =
-    contains_from_times v (in_rising_order xs) (omega (arith, times_from_contains v xs has, times-rising v xs))
 
 -- a number that stands in the list and has none below it is the least
 pub least_found : (xs : List ℤ) (x : ℤ) → Contains xs x → All (λ y. x ≤ℤ y) xs → least xs ≡ Some x

@@ -1,14 +1,9 @@
 -- What one more of a number, or one fewer, in the entries of a map does to the numbers that they stand for.
-use Rattle.fold_fn.proofs.Common.{◌≡◌, ℕ, zero, suc, ◌+◌, ◌<◌, ◌≤◌, ℤ, true, false, cond, List, [], ◌∷◌, ◌++◌, length, replicate, length-append, Option, None, Some, refl, sym, ◌∙◌, arith, Contains, int_eq, ⊎_elim, lookup, keys_of, cases_Bool, lookup_head, lookup_tail, times, insert_rising, in_rising_order, repeated, NoneIsZero}
+use Rattle.fold_fn.proofs.Common.{◌≡◌, ℕ, zero, suc, ◌+◌, ◌<◌, ◌≤◌, ℤ, true, false, cond, List, [], ◌∷◌, ◌++◌, length, replicate, length-append, Option, None, Some, refl, sym, ◌∙◌, arith, Contains, int_eq, ⊎_elim, lookup, keys_of, cases_Bool, lookup_head, lookup_tail, times, insert_rising, in_rising_order, repeated, NoneIsZero, IsDistinct, count_at, IsDistinct-tail, none_past_head, HasOneMore}
 use Rattle.std.specs.Option.{unwrap_or, IfSome}
-use Rattle.std.specs.List.{IsDistinct}
 use Rattle.std.specs.Cmp.{int_eq_equiv}
-use Rattle.std.specs.Map.{count_at}
 use Rattle.std.proofs.lemmas.List.{length-replicate}
 use Rattle.std.proofs.lemmas.Map.{lookup-none}
-use Rattle.std.proofs.lemmas.Map.Keys.{IsDistinct-tail}
-use Rattle.std.proofs.lemmas.Map.Entries.{none_past_head}
-use Rattle.fold_fn.specs.Held.{HasOneMore}
 use Rattle.fold_fn.proofs.Rising.{times-cons, times-nil, times-rising, rising_same, int_eq-same, same_number}
 use Rattle.fold_fn.proofs.LawLemmas.{times_from_contains}
 use Rattle.fold_fn.proofs.ResultLemmas.{length-rising}

@@ -1,10 +1,6 @@
 -- How large a sum and an average can be, and what a value more or fewer does to a count and a sum.
-use Rattle.fold_fn.proofs.Common.{◌≡◌, ℕ, ◌+◌, ◌-◌, ◌*◌, ◌/◌, ◌^◌, ◌<◌, ℤ, pos, negsuc, ◌+ℤ◌, ◌-ℤ◌, ◌≤ℤ◌, List, [], ◌∷◌, length, refl, ap, ◌∙◌, arith, w64, FitsSigned, All, int_lt, eqb, Some, ints, cond_both, cond-false, All-nil, All-cons, All-head, All-tail, insert_rising, total, floor_quotient}
-use Rattle.std.specs.Int.{int_div_euclid}
+use Rattle.fold_fn.proofs.Common.{◌≡◌, ℕ, ◌+◌, ◌-◌, ◌*◌, ◌/◌, ◌^◌, ◌<◌, ℤ, pos, negsuc, ◌+ℤ◌, ◌-ℤ◌, ◌≤ℤ◌, List, [], ◌∷◌, length, refl, ap, ◌∙◌, arith, w64, FitsSigned, All, int_lt, eqb, Some, ints, cond_both, cond-false, All-nil, All-cons, All-head, All-tail, insert_rising, total, floor_quotient, int_div_euclid, ne_eqb, average, AreTotals}
 use Rattle.std.proofs.Math.Nat.{div-lt_iff_lt-mul}
-use Rattle.std.proofs.lemmas.Bool.{ne_eqb}
-use Rattle.fold_fn.specs.Results.{average}
-use Rattle.fold_fn.specs.Held.{AreTotals}
 use Rattle.fold_fn.proofs.ResultLemmas.{total-insert, length-insert}
 
 pub total_high : (xs : List ℤ) → All (FitsSigned w64) xs → (total xs +ℤ pos (length xs)) ≤ℤ pos (2 ^ 63 * length xs)

@@ -1,21 +1,14 @@
 -- What the sight of a world keeps by a table of lives.
-use Rattle.forgetting.proofs.Common.{◌≡◌, ℕ, ℤ, ◌==◌, ◌&&◌, ◌||◌, ◌+ℤ◌, Bool, true, false, cond, not, inl, inr, List, [], ◌∷◌, refl, sym, ◌∙◌, ap, subst, arith, Option, Some, None, is_some, option_map, int_le, pos, list_any, ints, In, Fact, Named, LifeTable, Match, Program, is_present, matches, has_match, name_of, one_fact, IsOrdered, World, snapshot, present, found, revised, has_id, and_parts, kept_ordered, has_pending, has_come, names_tag, clean, end_of_life, ends_by, only, is_needed, is_kept_fact, kept, is_kept, is_forgotten, is_clean, fact_at, sight_of}
-use Rattle.std.specs.Prelude.{slice_get}
+use Rattle.forgetting.proofs.Common.{◌≡◌, ℕ, ℤ, ◌==◌, ◌&&◌, ◌||◌, ◌+ℤ◌, Bool, true, false, cond, not, inl, inr, List, [], ◌∷◌, refl, sym, ◌∙◌, ap, subst, arith, Option, Some, None, is_some, option_map, int_le, pos, list_any, ints, In, Fact, Named, LifeTable, Match, Program, is_present, matches, has_match, name_of, one_fact, IsOrdered, World, snapshot, present, found, revised, has_id, and_parts, kept_ordered, has_pending, has_come, names_tag, clean, end_of_life, ends_by, only, is_needed, is_kept_fact, kept, is_kept, is_forgotten, is_clean, fact_at, sight_of, slice_get, of_filter, has_in, pending, modified_plain, fact_with, plain_present, forgotten_fact, PlainEndless, ExpiredEndless, ModifyEndless}
 use Rattle.rule_model.specs.declared.life.Life.{Life}
 use Rattle.rule_model.specs.declared.life.Life.TheVariants.{Plain, Explicit, Finite, Infinite}
-use Rattle.rule_model.proofs.Named.{of_filter}
-use Rattle.rule_model.proofs.RuleOf.{has_in}
-use Rattle.rule_world.specs.Worlds.{pending, step_fault}
-use Rattle.rule_world.proofs.Faultless.{modified_plain}
-use Rattle.rule_world.proofs.Found.{fact_with, plain_present}
+use Rattle.rule_world.specs.Worlds.{step_fault}
 use Rattle.rule_lives.specs.Keeping.{AreSafe}
 use Rattle.rule_lives.proofs.Safe.{plain_unlisted}
 use Rattle.rule_lives.proofs.Still.{always_present}
 use Rattle.pair_memory.specs.Joined.{has_name}
 use Rattle.condition_rows.proofs.Ends.{in_name, name_in}
 use Rattle.keeping.specs.Kept.{is_alive, is_named, is_kept as is_kept_in, is_forgotten as is_forgotten_in}
-use Rattle.keeping.proofs.Versions.{forgotten_fact}
-use Rattle.forgetting.specs.Tables.{PlainEndless, ExpiredEndless, ModifyEndless}
 use Rattle.forgetting.proofs.Before.{chosen}
 use Rattle.forgetting.proofs.Forgotten.{two_tests}
 use Rattle.forgetting.proofs.Naming.{same_bool, some_in, one_in, holds_of}

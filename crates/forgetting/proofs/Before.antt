@@ -1,6 +1,5 @@
 -- What is kept behind a step and was there was kept before it.
-use Rattle.forgetting.proofs.Common.{◌≡◌, ℤ, ℕ, ◌&&◌, ◌≤ℤ◌, Bool, true, false, cond, not, inl, inr, refl, sym, ◌∙◌, ap, arith, Option, Some, None, is_some, ints, Fact, Match, has_match, or_left, or_right, or_split, and_both, and_parts, has_come, names_tag, Lives, Sight, IsLawful, only, is_needed, is_kept_fact, is_kept, is_forgotten, each_tag, IsStep, KeptBefore}
-use Rattle.forgetting.specs.Steps.{ComeClean, KeptBeforeLaw}
+use Rattle.forgetting.proofs.Common.{◌≡◌, ℤ, ℕ, ◌&&◌, ◌≤ℤ◌, Bool, true, false, cond, not, inl, inr, refl, sym, ◌∙◌, ap, arith, Option, Some, None, is_some, ints, Fact, Match, has_match, or_left, or_right, or_split, and_both, and_parts, has_come, names_tag, Lives, Sight, IsLawful, only, is_needed, is_kept_fact, is_kept, is_forgotten, each_tag, IsStep, KeptBefore, ComeClean, KeptBeforeLaw}
 use Rattle.forgetting.proofs.Naming.{found, witness, holds_of, each_named, free_of, not_true}
 
 -- ---- the fact under one tag

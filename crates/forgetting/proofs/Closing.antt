@@ -1,14 +1,12 @@
 -- Steps and firings of a lawful world with the lives of its program.
-use Rattle.forgetting.proofs.Common.{◌≡◌, ◌<◌, Bool, true, false, cond, not, inl, inr, refl, sym, ◌∙◌, ap, subst, arith, Option, Some, None, is_some, list_any, In, Fact, Named, LifeTable, Match, Program, Step, is_present, matches, has_match, name_of, named_of, one_fact, rule_of, World, snapshot, present, and_parts, below_of, clean, ends_by, only, is_kept, is_forgotten, is_clean, fact_at, sight_of, comes, goes}
-use Rattle.rule_world.specs.Worlds.{stepped, marked}
+use Rattle.forgetting.proofs.Common.{◌≡◌, ◌<◌, Bool, true, false, cond, not, inl, inr, refl, sym, ◌∙◌, ap, subst, arith, Option, Some, None, is_some, list_any, In, Fact, Named, LifeTable, Match, Program, Step, is_present, matches, has_match, name_of, named_of, one_fact, rule_of, World, snapshot, present, and_parts, below_of, clean, ends_by, only, is_kept, is_forgotten, is_clean, fact_at, sight_of, comes, goes, marked, lost, StepComesClean, NextClean, WorldStepKept, WorldFireKept}
+use Rattle.rule_world.specs.Worlds.{stepped}
 use Rattle.rule_world.proofs.Steps.{step_in_order, firing_in_order}
 use Rattle.rule_world.proofs.Vain.{next_tag}
 use Rattle.rule_lives.proofs.Remains.{match_names_kept}
 use Rattle.keeping.specs.Kept.{is_kept as is_kept_in, is_forgotten as is_forgotten_in}
 use Rattle.keeping.specs.Steps.{IsLawfulStep}
 use Rattle.keeping.proofs.Decided.{is_tested}
-use Rattle.keeping.proofs.Versions.{lost}
-use Rattle.forgetting.specs.Tables.{StepComesClean, NextClean, WorldStepKept, WorldFireKept}
 use Rattle.forgetting.proofs.Agreeing.{present_at, same_kept, same_clean}
 use Rattle.forgetting.proofs.Firing.{fire_law}
 use Rattle.forgetting.proofs.Naming.{one_in, not_true}

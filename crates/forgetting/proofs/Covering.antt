@@ -1,7 +1,5 @@
 -- What a retention covers as the store changes.
-use Rattle.forgetting.proofs.Common.{◌≡◌, ℕ, ℤ, ◌==◌, Bool, true, false, cond, not, refl, sym, ◌∙◌, ap, subst, arith, Option, Some, None, option_and_then, nat_tests, Fact, lingers, Covers, without, later_law, same_covered, Lives, is_needed, ends_of, brought, changed}
-use Rattle.retention.specs.Watching.{with_end}
-use Rattle.retention.proofs.Calls.{hold_law, release_law}
+use Rattle.forgetting.proofs.Common.{◌≡◌, ℕ, ℤ, ◌==◌, Bool, true, false, cond, not, refl, sym, ◌∙◌, ap, subst, arith, Option, Some, None, option_and_then, nat_tests, Fact, lingers, Covers, without, later_law, same_covered, Lives, is_needed, ends_of, brought, changed, with_end, hold_law, release_law}
 use Rattle.forgetting.specs.Covering.{LaterCovers, FreeCovers, InsertCovers, RetractCovers, EndlessCovers}
 
 pub later_covers : LaterCovers

@@ -1,11 +1,7 @@
 -- The second phase of steps and of firings.
-use Rattle.forgetting.proofs.Common.{◌≡◌, ℕ, ℤ, ◌&&◌, ◌||◌, Bool, true, false, cond, not, refl, sym, ◌∙◌, ap, Option, Some, None, option_and_then, is_some, Fact, Match, has_match, has_come, names_tag, lingers, Covers, without, same_watched, Lives, Sight, only, is_needed, is_kept_fact, kept, is_kept, some_tag, each_tag, ends_of, brought, changed, KeptBefore}
-use Rattle.retention.specs.Retentions.{is_named}
-use Rattle.retention.specs.Watching.{Watches, is_old}
+use Rattle.forgetting.proofs.Common.{◌≡◌, ℕ, ℤ, ◌&&◌, ◌||◌, Bool, true, false, cond, not, refl, sym, ◌∙◌, ap, Option, Some, None, option_and_then, is_some, Fact, Match, has_match, has_come, names_tag, lingers, Covers, without, same_watched, Lives, Sight, only, is_needed, is_kept_fact, kept, is_kept, some_tag, each_tag, ends_of, brought, changed, KeptBefore, is_named, Watches, is_old, Holding, HoldsKept, HasLeft, Forgets}
 use Rattle.retention.proofs.Leaving.{left_law}
 use Rattle.retention.proofs.Past.{past_law}
-use Rattle.forgetting.specs.Sights.{Holding, HoldsKept}
-use Rattle.forgetting.specs.Steps.{HasLeft, Forgets}
 use Rattle.forgetting.proofs.Before.{chosen, kept_here}
 use Rattle.forgetting.proofs.Naming.{any_alike, each_next}
 

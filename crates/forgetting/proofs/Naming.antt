@@ -1,6 +1,5 @@
 -- Lists of matches that name a tag, and the tags that a match names.
-use Rattle.forgetting.proofs.Common.{◌≡◌, ℕ, ◌==◌, ◌&&◌, ◌||◌, Bool, true, false, not, inl, inr, List, [], ◌∷◌, refl, sym, ◌∙◌, ap, list_any, eq_by_cmp, Decides-eqb, tells_apart, In, Named, Match, match_cmp, has_match, match_equiv, match_exact, or_left, or_right, or_split, and_both, and_parts, names_tag, each_tag, some_tag}
-use Rattle.std.specs.List.{list_all}
+use Rattle.forgetting.proofs.Common.{◌≡◌, ℕ, ◌==◌, ◌&&◌, ◌||◌, Bool, true, false, not, inl, inr, List, [], ◌∷◌, refl, sym, ◌∙◌, ap, list_any, eq_by_cmp, Decides-eqb, tells_apart, In, Named, Match, match_cmp, has_match, match_equiv, match_exact, or_left, or_right, or_split, and_both, and_parts, names_tag, each_tag, some_tag, list_all}
 use Rattle.rule_world.proofs.Acting.{all_of}
 
 -- ---- lists

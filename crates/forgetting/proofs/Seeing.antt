@@ -1,13 +1,10 @@
 -- The worlds of a program as forgetting sees them, and the facts under their tags.
-use Rattle.forgetting.proofs.Common.{◌≡◌, ◌<◌, ℕ, ◌==◌, ◌||◌, ◌++◌, Bool, true, false, cond, not, List, [], ◌∷◌, inl, inr, refl, sym, ◌∙◌, ap, subst, arith, Option, Some, None, is_some, eq_by_cmp, nat_tests, Decides-eqb, In, Fact, Value, Named, Match, Program, HaveDistinctTags, match_equiv, matches, has_match, match_cmp, name_of, named_of, one_fact, rule_of, World, snapshot, present, only_present, has_id, revised, AllBelow, has_pending, only, brought, changed, fact_at}
-use Rattle.std.specs.Prelude.{map}
-use Rattle.std.specs.List.{filter}
+use Rattle.forgetting.proofs.Common.{◌≡◌, ◌<◌, ℕ, ◌==◌, ◌||◌, ◌++◌, Bool, true, false, cond, not, List, [], ◌∷◌, inl, inr, refl, sym, ◌∙◌, ap, subst, arith, Option, Some, None, is_some, eq_by_cmp, nat_tests, Decides-eqb, In, Fact, Value, Named, Match, Program, HaveDistinctTags, match_equiv, matches, has_match, match_cmp, name_of, named_of, one_fact, rule_of, World, snapshot, present, only_present, has_id, revised, AllBelow, has_pending, only, brought, changed, fact_at, map, filter, revised_in, SightLaw, WorldFireLaw}
 use Rattle.std.proofs.Math.Bool.{or_comm}
 use Rattle.fx_base.specs.declared.ids.Tag.{Tag}
 use Rattle.rule_model.proofs.Listed.{in_map}
-use Rattle.rule_world.specs.Worlds.{fact_of, revised_in}
+use Rattle.rule_world.specs.Worlds.{fact_of}
 use Rattle.rule_world.proofs.Kept.{kept_matches}
-use Rattle.forgetting.specs.WorldSights.{SightLaw, WorldFireLaw}
 use Rattle.forgetting.proofs.Naming.{each_in}
 
 abbrev pub tag_of : ℕ → Tag

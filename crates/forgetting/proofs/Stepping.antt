@@ -1,8 +1,5 @@
 -- The laws of a step in two phases.
-use Rattle.forgetting.proofs.Common.{◌≡◌, ℤ, ◌≤ℤ◌, ◌+ℤ◌, ◌&&◌, ◌||◌, Bool, true, false, not, refl, sym, ◌∙◌, ap, arith, None, int_le, pos, is_some, option_and_then, ints, Match, has_match, and_parts, has_come, same_watched, Lives, Sight, IsLawful, end_of_life, only, is_needed, is_kept_fact, ends_of, is_kept, is_clean, some_tag, each_tag}
-use Rattle.retention.proofs.Calls.{new_law}
-use Rattle.forgetting.specs.Sights.{EndLaw}
-use Rattle.forgetting.specs.Steps.{StartLaw, LeftLaw, DropLaw, StepLaw}
+use Rattle.forgetting.proofs.Common.{◌≡◌, ℤ, ◌≤ℤ◌, ◌+ℤ◌, ◌&&◌, ◌||◌, Bool, true, false, not, refl, sym, ◌∙◌, ap, arith, None, int_le, pos, is_some, option_and_then, ints, Match, has_match, and_parts, has_come, same_watched, Lives, Sight, IsLawful, end_of_life, only, is_needed, is_kept_fact, ends_of, is_kept, is_clean, some_tag, each_tag, new_law, EndLaw, StartLaw, LeftLaw, DropLaw, StepLaw}
 use Rattle.forgetting.proofs.Before.{pending_kept, kept_before_law}
 use Rattle.forgetting.proofs.Forgotten.{IsForgotten, still_kept, holds_kept}
 use Rattle.forgetting.proofs.Naming.{clean_is}

@@ -1,14 +1,8 @@
 -- A step of a world is one of the sights.
-use Rattle.forgetting.proofs.Common.{◌≡◌, ◌<◌, ℕ, ℤ, ◌==◌, ◌&&◌, ◌≤ℤ◌, ◌+ℤ◌, Bool, true, false, cond, not, List, refl, sym, ◌∙◌, ap, arith, Option, Some, None, is_some, option_map, Fact, Value, Program, Step, is_present, HaveDistinctTags, matches, has_match, one_fact, IsOrdered, World, snapshot, present, only_present, found, revised, has_id, AllBelow, below_of, and_both, and_parts, kept_ordered, only, brought, changed, IsStep, fact_at, sight_of, comes, goes}
+use Rattle.forgetting.proofs.Common.{◌≡◌, ◌<◌, ℕ, ℤ, ◌==◌, ◌&&◌, ◌≤ℤ◌, ◌+ℤ◌, Bool, true, false, cond, not, List, refl, sym, ◌∙◌, ap, arith, Option, Some, None, is_some, option_map, Fact, Value, Program, Step, is_present, HaveDistinctTags, matches, has_match, one_fact, IsOrdered, World, snapshot, present, only_present, found, revised, has_id, AllBelow, below_of, and_both, and_parts, kept_ordered, only, brought, changed, IsStep, fact_at, sight_of, comes, goes, settled, modify_fault, new_fact, with_new, with_revised, with_retracted, at_clock, with_promise, with_begin, moved_forward, found_in, has_number, others, kept_new, kept_numbers, kept_revised, kept_without, kept_later, has_still, WorldStepLaw, RetractsOne}
 use Rattle.rule_model.specs.declared.step.Step.TheVariants.{Insert, Modify, Retract, Advance, At, Promise, Begin}
-use Rattle.rule_world.specs.Worlds.{moved, settled, stepped, step_fault, modify_fault, new_fact, with_new, with_revised, with_retracted, at_clock, with_promise, with_begin}
-use Rattle.rule_world.proofs.Faultless.{moved_forward}
-use Rattle.rule_world.proofs.Found.{found_in}
-use Rattle.rule_world.proofs.Fresh.{has_number}
+use Rattle.rule_world.specs.Worlds.{moved, stepped, step_fault}
 use Rattle.rule_world.proofs.Ids.{one_id}
-use Rattle.rule_world.proofs.Keeping.{others, kept_new, kept_numbers, kept_revised, kept_without, kept_later}
-use Rattle.rule_world.proofs.Pending.{has_still}
-use Rattle.forgetting.specs.WorldSights.{WorldStepLaw, RetractsOne}
 use Rattle.forgetting.proofs.Firing.{stands}
 use Rattle.forgetting.proofs.Forgotten.{all_stay}
 use Rattle.forgetting.proofs.Naming.{same_bool}

@@ -1,3 +1,4 @@
+mod Common
 pub mod Told
 pub mod Ends
 pub mod MidLine

@@ -1,11 +1,5 @@
 -- A reader in the middle of a line.
-use Rattle.std.proofs.Common.{◌≡◌, ◌≤◌, ◌+◌, ◌++◌, ℕ, List, [], ◌∷◌, length, take, drop, Option, Some, None, Ok, refl, sym, ap, ◌∙◌, arith, inl, inr, append_assoc, append-nil, length-append}
-use Rattle.std.proofs.lemmas.List.{take-append-drop}
-use Rattle.fx_io.specs.Outside.{prepend, count_after, IsExhausted}
-use Rattle.fx_io.specs.Lines.{HasNoEnd, IsFirstEnd}
-use Rattle.fx_io.specs.Answers.{IsPart, IsAnswer, IsLastAnswer, TakesLine, Takes, Gives, Reads}
-use Rattle.fx_io.specs.declared.line.Line.{Line}
-use Rattle.fx_io.specs.declared.line.Line.TheVariants.{Whole, Long, End}
+use Rattle.fx_io.proofs.Common.{◌≡◌, ◌≤◌, ◌+◌, ◌++◌, ℕ, List, [], ◌∷◌, length, take, drop, Option, Some, None, Ok, refl, sym, ap, ◌∙◌, arith, inl, inr, append_assoc, append-nil, length-append, take-append-drop, prepend, count_after, IsExhausted, HasNoEnd, IsFirstEnd, IsPart, IsAnswer, IsLastAnswer, TakesLine, Takes, Gives, Reads, Line, Whole, Long, End}
 use Rattle.fx_io.specs.declared.part.PartLine.{PartLine}
 use Rattle.fx_io.proofs.Ends.{HasNoEnd-append}
 use Rattle.fx_io.proofs.Told.{prepend-prepend}

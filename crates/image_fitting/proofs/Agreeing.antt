@@ -1,6 +1,5 @@
 -- The first rules that have first conditions of a rule are the same however they are found, and so are laden rows by them.
-use Rattle.image_fitting.proofs.Common.{◌≡◌, ◌∙◌, ℕ, zero, suc, ◌<◌, Bool, List, length, Option, Some, None, refl, ap, slice_get, slice_get_within, Fact, Extra, Row, Image, Condition, LifeTable, Program, Rule, Snapshot, IsNeeded, snapshot_of, extra_at, AreOwners, laden_with}
-use Rattle.image_laws.specs.Fitting.{IsLaden, IsLadenMatch}
+use Rattle.image_fitting.proofs.Common.{◌≡◌, ◌∙◌, ℕ, zero, suc, ◌<◌, Bool, List, length, Option, Some, None, refl, ap, slice_get, slice_get_within, Fact, Extra, Row, Image, Condition, LifeTable, Program, Rule, Snapshot, IsNeeded, snapshot_of, extra_at, AreOwners, laden_with, IsLaden, IsLadenMatch}
 use Rattle.image_laws.specs.Laden.{laden}
 use Rattle.image_fitting.proofs.Placing.{one_first}
 

@@ -1,28 +1,15 @@
 -- An image fits plainly exactly where it does part by part.
-use Rattle.image_fitting.proofs.Common.{◌≡◌, ◌↔◌, ◌∙◌, ◌&&◌, ◌==◌, ℕ, zero, suc, ◌<◌, ◌≤◌, ◌^◌, ℤ, pos, ◌+ℤ◌, ◌≤ℤ◌, Bool, true, false, if◌then◌else◌, List, [], ◌∷◌, length, replicate, IsTrue, refl, sym, ap, subst, arith, inl, inr, nat_lt, int_le, slice_get, Less, Equal, All, nat_cmp, nat_tests, ints, length-replicate, In, Fact, Image, LifeTable, Program, is_event, both_of, values_fit, IsLawful, world_of, IsPlaced, FitByParts, FitsPlainly}
-use Rattle.std.specs.Prelude.{nat_le}
-use Rattle.std.specs.List.{list_all}
+use Rattle.image_fitting.proofs.Common.{◌≡◌, ◌↔◌, ◌∙◌, ◌&&◌, ◌==◌, ℕ, zero, suc, ◌<◌, ◌≤◌, ◌^◌, ℤ, pos, ◌+ℤ◌, ◌≤ℤ◌, Bool, true, false, if◌then◌else◌, List, [], ◌∷◌, length, replicate, IsTrue, refl, sym, ap, subst, arith, inl, inr, nat_lt, int_le, slice_get, Less, Equal, All, nat_cmp, nat_tests, ints, length-replicate, In, Fact, Image, LifeTable, Program, is_event, both_of, values_fit, IsLawful, world_of, IsPlaced, FitByParts, FitsPlainly, nat_le, list_all, int_eq, tied_itself, get_or-replicate, is_present, is_point, both, fact_fits, IsTimed, IsSound, EventsInOrder, IsNextNumber, tag_cmp, is_small, is_next, is_reached, ends_as_its_type, is_short, is_lasting, is_timed, times_fit, is_at_hand}
 use Rattle.std.specs.List.Sorted.{IsStrictlySortedBy}
-use Rattle.std.specs.Ordering.{int_eq}
-use Rattle.std.proofs.lemmas.Cmp.{tied_itself}
-use Rattle.std.proofs.lemmas.List.{get_or-replicate}
 use Rattle.std.proofs.lemmas.List.Elements.{All-nil, All-cons, All-head, All-tail}
 use Rattle.fx_base.specs.declared.ids.Tag.{Tag}
 use Rattle.fx_base.specs.declared.times.Times.{Times}
-use Rattle.rule_model.specs.Candidates.{is_present}
 use Rattle.rule_model.specs.Moments.{moment_in}
-use Rattle.rule_model.specs.Types.{is_point}
-use Rattle.rule_model.proofs.Listed.{both}
 use Rattle.rule_world.specs.Events.{most_millis, no_times}
-use Rattle.rule_world.specs.Kinds.{fact_fits}
-use Rattle.rule_world.specs.Lawful.{IsTimed, IsSound, EventsInOrder}
 use Rattle.rule_world.proofs.Fresh.{below_of, below_all}
 use Rattle.rule_world.proofs.Ids.{under_all, id_number, id_below}
-use Rattle.image_laws.specs.Fitting.{IsNextNumber}
-use Rattle.image_laws.specs.Images.{tag_cmp}
 use Rattle.image_laws.proofs.Sorted.{below_each, sorted_marked}
 use Rattle.image_fitting.specs.Orders.{tag_total}
-use Rattle.image_fitting.specs.Tests.{is_small, is_next, is_reached, ends_as_its_type, is_short, is_lasting, is_timed, times_fit, is_at_hand}
 use Rattle.image_fitting.proofs.Turning.{StartInTurn, StartFrom, turn_says, turn_holds}
 
 -- ---- tests of numbers

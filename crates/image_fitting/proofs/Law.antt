@@ -1,7 +1,5 @@
 -- An image fits exactly where it fits by plain tests and by the rows over its facts.
-use Rattle.image_fitting.proofs.Common.{◌↔◌, ℕ, Image, LifeTable, Program, AreSafe, AreOwners, FitsPlainly}
-use Rattle.image_laws.specs.Fitting.{Fits}
-use Rattle.image_fitting.specs.Plain.{FitsByRows}
+use Rattle.image_fitting.proofs.Common.{◌↔◌, ℕ, Image, LifeTable, Program, AreSafe, AreOwners, FitsPlainly, Fits, FitsByRows}
 use Rattle.image_fitting.proofs.Agreeing.{laden_by, match_by, needed_by}
 use Rattle.image_fitting.proofs.Present.{facts_present}
 

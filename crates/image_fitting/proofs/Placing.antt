@@ -1,7 +1,6 @@
 -- The places of extras by the table of the first rules, and the owners that the table has.
-use Rattle.image_fitting.proofs.Common.{◌≡◌, ◌↔◌, ◌∙◌, ◌==◌, ℕ, suc, ◌<◌, ℤ, Bool, true, false, List, length, Option, Some, None, IsTrue, refl, sym, ap, subst, arith, slice_get, slice_index_or, nat_tests, none-some, slice_get_within, slice_get-get_or, same_Some, Extra, Condition, Life, Plain, Explicit, Finite, Infinite, LifeTable, Program, Rule, IsFirstWith, IsPlaced, AreOwners, IsTable}
+use Rattle.image_fitting.proofs.Common.{◌≡◌, ◌↔◌, ◌∙◌, ◌==◌, ℕ, suc, ◌<◌, ℤ, Bool, true, false, List, length, Option, Some, None, IsTrue, refl, sym, ap, subst, arith, slice_get, slice_index_or, nat_tests, none-some, slice_get_within, slice_get-get_or, same_Some, Extra, Condition, Life, Plain, Explicit, Finite, Infinite, LifeTable, Program, Rule, IsFirstWith, IsPlaced, AreOwners, IsTable, first_at, is_place, is_first, is_finite, CanCount}
 use Rattle.rule_model.specs.Rows.{pattern_of}
-use Rattle.image_fitting.specs.Table.{first_at, is_place, is_first, is_finite, CanCount}
 
 number_is : (m n : ℕ) → (m == n) ≡ true → m ≡ n
 number_is m n e = grind (arith, nat_tests)

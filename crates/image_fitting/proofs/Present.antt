@@ -1,5 +1,5 @@
 -- The facts that laden rows name are present, and so are those of an image that fits.
-use Rattle.image_fitting.proofs.Common.{◌≡◌, ◌∙◌, ◌&&◌, ◌||◌, ◌==◌, not, ℕ, zero, suc, ◌<◌, ℤ, ◌-ℤ◌, get_or, Bool, true, false, List, [], ◌∷◌, length, inl, inr, Option, Some, None, refl, sym, ap, subst, slice_get, none-some, slice_get_within, slice_get-get_or, In, Fact, Value, Extra, Row, Image, Condition, Life, Plain, Explicit, Finite, Infinite, LifeTable, Program, Snapshot, is_event, both_of, values_fit, IsLawful, AreSafe, world_of, IsNeeded, snapshot_of, laden_with, extra_at}
+use Rattle.image_fitting.proofs.Common.{◌≡◌, ◌∙◌, ◌&&◌, ◌||◌, ◌==◌, not, ℕ, zero, suc, ◌<◌, ℤ, ◌-ℤ◌, get_or, Bool, true, false, List, [], ◌∷◌, length, inl, inr, Option, Some, None, refl, sym, ap, subst, slice_get, none-some, slice_get_within, slice_get-get_or, In, Fact, Value, Extra, Row, Image, Condition, Life, Plain, Explicit, Finite, Infinite, LifeTable, Program, Snapshot, is_event, both_of, values_fit, IsLawful, AreSafe, world_of, IsNeeded, snapshot_of, laden_with, extra_at, is_within, is_inside, is_candidate, fits, HaveDistinctTags, expiry_of, of_append, values_of, laden_gives, laden_line}
 use Rattle.std.specs.Option.{is_some}
 use Rattle.std.proofs.lemmas.Map.Views.{tells_apart}
 use Rattle.row_delta.specs.declared.row.Named.{Named}
@@ -7,13 +7,10 @@ use Rattle.row_delta.specs.RowOrder.{row_exact}
 use Rattle.rule_model.specs.declared.condition.Condition.TheVariants.{Plain as plain_condition, Negated, Existing, Folded}
 use Rattle.rule_model.specs.declared.condition.Pattern.{Pattern}
 use Rattle.rule_model.specs.declared.program.TypeInfo.{TypeInfo}
-use Rattle.rule_model.specs.Candidates.{is_present, is_within, is_inside, is_candidate, fits}
-use Rattle.rule_model.specs.Distinct.{HaveDistinctTags}
+use Rattle.rule_model.specs.Candidates.{is_present}
 use Rattle.rule_model.specs.Tests.{tests_hold}
 use Rattle.rule_model.specs.Tuples.{name_of, unbound}
-use Rattle.rule_model.specs.Types.{expiry_of}
 use Rattle.rule_model.proofs.Firsts.{or_right}
-use Rattle.rule_model.proofs.Listed.{of_append}
 use Rattle.rule_model.proofs.Named.{of_filter}
 use Rattle.rule_model.proofs.Once.{one_fact}
 use Rattle.rule_model.proofs.Order.{passed}
@@ -25,7 +22,7 @@ use Rattle.condition_rows.specs.Lines.{is_ripe, empty_row, is_empty_row}
 use Rattle.condition_rows.specs.Sets.{held, candidates_of, has_partner}
 use Rattle.condition_rows.proofs.Joined.{candidate_of}
 use Rattle.keeping.specs.Kept.{is_alive}
-use Rattle.image_laws.specs.Laden.{values_of, laden_gives, laden_line, laden}
+use Rattle.image_laws.specs.Laden.{laden}
 
 -- ---- what laden rows name
 

@@ -1,7 +1,5 @@
 -- The first rules with the conditions of a rule up to each of them, as the rules are gone through.
-use Rattle.image_fitting.proofs.Common.{◌≡◌, ◌∙◌, ℕ, zero, suc, ◌+◌, ◌-◌, ◌<◌, ◌≤◌, List, [], ◌∷◌, ◌++◌, length, take, replicate, Option, Some, None, refl, sym, ap, subst, arith, inl, inr, ◌⊎◌, slice_get, length-replicate, slice_get_within, same_Some, Condition, Program, Rule, IsFirstWith, AreFirsts, IsTable}
-use Rattle.std.specs.Prelude.{option_map}
-use Rattle.std.proofs.lemmas.List.{length-append, length_push, take-take}
+use Rattle.image_fitting.proofs.Common.{◌≡◌, ◌∙◌, ℕ, zero, suc, ◌+◌, ◌-◌, ◌<◌, ◌≤◌, List, [], ◌∷◌, ◌++◌, length, take, replicate, Option, Some, None, refl, sym, ap, subst, arith, inl, inr, ◌⊎◌, slice_get, length-replicate, slice_get_within, same_Some, Condition, Program, Rule, IsFirstWith, AreFirsts, IsTable, option_map, length-append, length_push, take-take}
 
 -- ---- lists that begin alike
 

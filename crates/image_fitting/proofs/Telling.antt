@@ -1,20 +1,14 @@
 -- What single tests tell: orders, ids, values that rise, and kinds.
-use Rattle.image_fitting.proofs.Common.{◌≡◌, ◌↔◌, ◌∙◌, ◌&&◌, ◌==◌, not, ℕ, suc, ◌+◌, ◌<◌, ◌≤◌, ℤ, pos, Bool, true, false, cond, List, [], ◌∷◌, map, length, get_or, drop, Some, IsTrue, refl, sym, ap, subst, arith, inl, inr, Less, Equal, AllAdjacentBelow, nat_cmp, nat_tests, ints, In, Fact, Value, HaveDistinctIds}
-use Rattle.std.specs.Prelude.{int_lt}
+use Rattle.image_fitting.proofs.Common.{◌≡◌, ◌↔◌, ◌∙◌, ◌&&◌, ◌==◌, not, ℕ, suc, ◌+◌, ◌<◌, ◌≤◌, ℤ, pos, Bool, true, false, cond, List, [], ◌∷◌, map, length, get_or, drop, Some, IsTrue, refl, sym, ap, subst, arith, inl, inr, Less, Equal, AllAdjacentBelow, nat_cmp, nat_tests, ints, In, Fact, Value, HaveDistinctIds, int_lt, Greater, AllByRecursion, IsAllAdjacentAnswer, IsPermutation, IsSorted, int_cmp, is_le, is_lt, is_some_and, eq_by_cmp, ordering_index, nat_cmp_total, eq_by_cmp_equiv, drop_more, drop_all, get_or_default, in_map, of_map, has_kind}
 use Rattle.std.specs.declared.cmp.Ordering.{Ordering}
-use Rattle.std.specs.declared.cmp.Ordering.TheVariants.{Greater}
 use Rattle.std.specs.Cmp.{IsTotalOrder}
-use Rattle.std.specs.List.{AllByRecursion, IsAllAdjacentAnswer, IsDistinct}
-use Rattle.std.specs.List.Sorted.{IsPermutation, IsSorted, IsStrictlySortedBy}
-use Rattle.std.specs.Ordering.{int_cmp, is_le, is_lt, is_some_and, eq_by_cmp, ordering_index}
-use Rattle.std.proofs.lemmas.Cmp.{nat_cmp_total, eq_by_cmp_equiv}
-use Rattle.std.proofs.lemmas.List.{drop_more, drop_all, get_or_default}
+use Rattle.std.specs.List.{IsDistinct}
+use Rattle.std.specs.List.Sorted.{IsStrictlySortedBy}
 use Rattle.std.proofs.lemmas.List.Sorted.{IsPermutation-sym, IsNonDecreasingBy-from_sort}
 use Rattle.std.proofs.lemmas.Map.Keys.{IsDistinct-from_sorted, IsDistinct-IsPermutation, IsStrictlyIncreasing-from_distinct, Less-from_sorted, sorted_from_all_adjacent, sorted_from_strictly_increasing}
 use Rattle.fx_base.specs.declared.ids.FactId.{FactId}
 use Rattle.fx_base.specs.declared.kind.Kind.{Kind}
-use Rattle.rule_model.proofs.Listed.{in_map, of_map}
-use Rattle.rule_world.specs.Kinds.{has_kind, have_kinds}
+use Rattle.rule_world.specs.Kinds.{have_kinds}
 
 pub always : {P : Type 0} → P → IsTrue true ↔ P
 always x = (λ e. x, λ y. refl)

@@ -1,7 +1,5 @@
 -- Events that come in turn: one turn of the loop, and what the test says.
-use Rattle.image_fitting.proofs.Common.{◌≡◌, ◌∙◌, ◌&&◌, ◌==◌, ℕ, ◌<◌, ℤ, pos, ◌≤ℤ◌, Bool, true, false, List, [], ◌∷◌, length, get_or, set, inl, inr, refl, sym, ap, subst, arith, nat_lt, int_le, slice_index_or, nat_tests, ints, In, Fact, Program, is_event, both_of, come_in_turn}
-use Rattle.std.specs.Prelude.{slice_set}
-use Rattle.std.proofs.lemmas.List.{length-set, get_or-set_same, get_or-set_other}
+use Rattle.image_fitting.proofs.Common.{◌≡◌, ◌∙◌, ◌&&◌, ◌==◌, ℕ, ◌<◌, ℤ, pos, ◌≤ℤ◌, Bool, true, false, List, [], ◌∷◌, length, get_or, set, inl, inr, refl, sym, ap, subst, arith, nat_lt, int_le, slice_index_or, nat_tests, ints, In, Fact, Program, is_event, both_of, come_in_turn, slice_set, length-set, get_or-set_same, get_or-set_other}
 
 below_is : (m n : ℕ) → m < n → nat_lt m n ≡ true
 below_is m n h = grind (arith, nat_tests)

@@ -1,11 +1,7 @@
 -- What the extras of a snapshot say of one condition at one row.
-use Rattle.image_laws.proofs.Common.{◌≡◌, ◌∙◌, ◌&&◌, ◌==◌, ◌<◌, ℕ, zero, suc, Bool, true, false, List, [], ◌∷◌, length, cond, inl, inr, Option, Some, None, refl, sym, ap, subst, arith, slice_get, take, find, is_some, nat_tests, tells_apart, slice_get_within, In, Fact, Extra, Named, Row, row_exact, Condition, Negated, Existing, Folded, Program, Rule, pattern_of, Snapshot, both, both_of, binds, clean, cleaned, rows_of, lost_partners, values_gathered, AreExtras, values_of, count_of, extra_at, AreOwners}
-use Rattle.std.specs.Ordering.{eq_by_cmp}
+use Rattle.image_laws.proofs.Common.{◌≡◌, ◌∙◌, ◌&&◌, ◌==◌, ◌<◌, ℕ, zero, suc, Bool, true, false, List, [], ◌∷◌, length, cond, inl, inr, Option, Some, None, refl, sym, ap, subst, arith, slice_get, take, find, is_some, nat_tests, tells_apart, slice_get_within, In, Fact, Extra, Named, Row, row_exact, Condition, Negated, Existing, Folded, Program, Rule, pattern_of, Snapshot, both, both_of, binds, clean, cleaned, rows_of, lost_partners, values_gathered, AreExtras, values_of, count_of, extra_at, AreOwners, eq_by_cmp, same_equiv, IsFirstWith, is_extra_at}
 use Rattle.row_delta.specs.Rows.{row_cmp}
-use Rattle.row_delta.specs.RowOrder.{same_equiv}
 use Rattle.rule_model.specs.declared.condition.Condition.TheVariants.{Plain}
-use Rattle.image_laws.specs.Extras.{IsFirstWith}
-use Rattle.image_laws.specs.Laden.{is_extra_at}
 
 one_number : (m n : ℕ) → (m == n) ≡ true → m ≡ n
 one_number m n e = grind (arith, nat_tests)

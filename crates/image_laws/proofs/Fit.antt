@@ -1,37 +1,24 @@
 -- The image of a lawful world fits, where its numbers are small.
-use Rattle.image_laws.proofs.Common.{◌≡◌, ◌∙◌, ◌&&◌, ◌||◌, ◌==◌, not, ℕ, ℤ, pos, ◌<◌, ◌≤◌, ◌^◌, ◌≤ℤ◌, inl, inr, Bool, true, false, List, [], ◌∷◌, map, length, Option, Some, None, refl, sym, ap, subst, arith, slice_get, take, Less, AllByRecursion, nat_cmp, nat_tests, slice_get_within, In, EachOnce, Tag, Fact, Extra, Named, Row, FiredMatch, Image, Condition, Negated, Existing, Folded, Pattern, Life, Plain, Explicit, Finite, Infinite, LifeTable, Match, Program, Rule, is_present, is_inside, is_candidate, candidates, fits, argument, pattern_of, tests_hold, name_of, unbound, in_map, of_map, both, both_of, of_filter, once_filter, once_facts, passed, has_in, IsLawful, World, snapshot, AreSafe, not_true, clean, cleaned, rows_of, is_alive, is_forgotten, is_tested, passing_one, not_alive, lost_partners, values_gathered, tag_cmp, match_fired, snapshot_of, IsImageOf, AreOwners}
-use Rattle.std.specs.Prelude.{IsSorted}
-use Rattle.std.specs.List.{IsDistinct, list_any}
+use Rattle.image_laws.proofs.Common.{◌≡◌, ◌∙◌, ◌&&◌, ◌||◌, ◌==◌, not, ℕ, ℤ, pos, ◌<◌, ◌≤◌, ◌^◌, ◌≤ℤ◌, inl, inr, Bool, true, false, List, [], ◌∷◌, map, length, Option, Some, None, refl, sym, ap, subst, arith, slice_get, take, Less, AllByRecursion, nat_cmp, nat_tests, slice_get_within, In, EachOnce, Tag, Fact, Extra, Named, Row, FiredMatch, Image, Condition, Negated, Existing, Folded, Pattern, Life, Plain, Explicit, Finite, Infinite, LifeTable, Match, Program, Rule, is_present, is_inside, is_candidate, candidates, fits, argument, pattern_of, tests_hold, name_of, unbound, in_map, of_map, both, both_of, of_filter, once_filter, once_facts, passed, has_in, IsLawful, World, snapshot, AreSafe, not_true, clean, cleaned, rows_of, is_alive, is_forgotten, is_tested, passing_one, not_alive, lost_partners, values_gathered, tag_cmp, match_fired, snapshot_of, IsImageOf, AreOwners, IsSorted, list_any, int_cmp, length-rising, named_of, once_map, one_fact, rule_of, FollowedBy, EventsInOrder, pending, IsKept, named, has_name, name_in, is_named, none_passes, IsExtraIn, laden}
+use Rattle.std.specs.List.{IsDistinct}
 use Rattle.std.specs.List.Sorted.{IsStrictlySortedBy}
-use Rattle.std.specs.Ordering.{int_cmp}
 use Rattle.std.proofs.lemmas.List.{take_all, length-map}
 use Rattle.std.proofs.lemmas.Map.Steps.{length-le_from_distinct_below}
 use Rattle.fx_base.specs.declared.ids.FactId.{FactId}
-use Rattle.fold_fn.proofs.ResultLemmas.{length-rising}
 use Rattle.fold_fn.proofs.Sorting.{sorted-rising}
 use Rattle.rule_model.specs.declared.condition.Condition.TheVariants.{Plain as plain_condition}
 use Rattle.rule_model.specs.Matches.{matches, has_match}
 use Rattle.rule_model.specs.Rows.{rows}
 use Rattle.rule_model.specs.Types.{is_event}
-use Rattle.rule_model.proofs.Named.{named_of}
-use Rattle.rule_model.proofs.Once.{once_map, one_fact}
-use Rattle.rule_model.proofs.RuleOf.{rule_of}
 use Rattle.rule_world.specs.Events.{most_millis}
-use Rattle.rule_world.specs.Lawful.{FollowedBy, EventsInOrder}
-use Rattle.rule_world.specs.Worlds.{pending}
 use Rattle.rule_world.proofs.Fresh.{below_of, below_all}
 use Rattle.rule_world.proofs.Ids.{under_all, id_number, id_below, one_id}
 use Rattle.rule_world.proofs.Pending.{has_pending}
 use Rattle.rule_world.proofs.Sound.{itself, sound_on}
-use Rattle.rule_lives.specs.Keeping.{IsKept, named}
-use Rattle.pair_memory.specs.Joined.{has_name}
 use Rattle.condition_rows.specs.Sets.{partners}
-use Rattle.condition_rows.proofs.Ends.{name_in, in_has as row_in_has}
-use Rattle.keeping.specs.Kept.{is_named, is_kept}
-use Rattle.keeping.proofs.Members.{none_passes}
-use Rattle.image_laws.specs.Extras.{IsExtraIn}
+use Rattle.condition_rows.proofs.Ends.{in_has as row_in_has}
+use Rattle.keeping.specs.Kept.{is_kept}
 use Rattle.image_laws.specs.Fitting.{world_of, IsNextNumber, IsSmall, CanGather, IsPlaced, IsLaden, IsLadenMatch, IsNeeded, Fits}
-use Rattle.image_laws.specs.Laden.{laden}
 use Rattle.image_laws.proofs.Extras.{first_of_some}
 use Rattle.image_laws.proofs.Imaged.{tag_total, image_tags, image_facts, image_kept, forgotten_is}
 use Rattle.image_laws.proofs.Rows.{in_lost, laden_rows}

@@ -1,11 +1,7 @@
 -- The snapshot of an image has what is kept of the world's.
-use Rattle.image_laws.proofs.Common.{◌≡◌, ◌↔◌, ◌∙◌, ◌&&◌, ◌==◌, not, ℕ, ℤ, Bool, true, false, Option, Some, None, refl, sym, ap, arith, slice_get, Less, Equal, IsTotalOrder, nat_cmp, on_total, nat_cmp_total, tied_itself, nat_tests, fun_ext, In, Tag, Fact, Image, Condition, Length, Life, Plain, Explicit, Finite, Infinite, LifeTable, Program, Rule, is_present, fits, HaveDistinctTags, moment_in, pattern_of, tests_hold, name_of, unbound, both_of, IsLawful, World, snapshot, AreSafe, not_true, is_alive, is_forgotten, is_tested, not_alive, tag_cmp, snapshot_of, IsImageOf, IsKeptOf}
-use Rattle.rule_model.specs.Moments.{reached_in}
-use Rattle.rule_model.specs.Snapshots.{Reached}
+use Rattle.image_laws.proofs.Common.{◌≡◌, ◌↔◌, ◌∙◌, ◌&&◌, ◌==◌, not, ℕ, ℤ, Bool, true, false, Option, Some, None, refl, sym, ap, arith, slice_get, Less, Equal, IsTotalOrder, nat_cmp, on_total, nat_cmp_total, tied_itself, nat_tests, fun_ext, In, Tag, Fact, Image, Condition, Length, Life, Plain, Explicit, Finite, Infinite, LifeTable, Program, Rule, is_present, fits, HaveDistinctTags, moment_in, pattern_of, tests_hold, name_of, unbound, both_of, IsLawful, World, snapshot, AreSafe, not_true, is_alive, is_forgotten, is_tested, not_alive, tag_cmp, snapshot_of, IsImageOf, IsKeptOf, reached_in, Reached, is_kept, kept_inside, is_so}
 use Rattle.rule_lives.specs.Reach.{infinite}
 use Rattle.rule_lives.proofs.Limits.{lives_below}
-use Rattle.keeping.specs.Kept.{is_kept}
-use Rattle.keeping.proofs.Decided.{kept_inside, is_so}
 use Rattle.keeping.proofs.Versions.{forgotten_fact}
 use Rattle.image_laws.proofs.Sorted.{sorted_marked}
 

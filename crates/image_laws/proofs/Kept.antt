@@ -1,14 +1,9 @@
 -- A snapshot of kept facts sees what is kept of the whole one as that does: versions, candidates, and which of them join a clean row.
-use Rattle.image_laws.proofs.Common.{◌≡◌, ◌∙◌, ◌&&◌, ◌==◌, not, ℕ, Bool, true, false, List, [], ◌∷◌, length, nat_lt, cond, Option, Some, refl, sym, ap, subst, arith, slice_get, filter, find, nat_tests, In, EachOnce, Tag, Fact, Named, Row, Condition, Pattern, Length, Program, Rule, fits, is_inside, is_candidate, candidates, HaveDistinctTags, pattern_of, Snapshot, name_of, both, both_of, of_filter, once_filter, once_facts, Same, in_filter, passed, same_length, joins, cleaned, NameHeld, candidates_of, same_truth, partners_once, held_known, joining_alike, IsKeptOf}
+use Rattle.image_laws.proofs.Common.{◌≡◌, ◌∙◌, ◌&&◌, ◌==◌, not, ℕ, Bool, true, false, List, [], ◌∷◌, length, nat_lt, cond, Option, Some, refl, sym, ap, subst, arith, slice_get, filter, find, nat_tests, In, EachOnce, Tag, Fact, Named, Row, Condition, Pattern, Length, Program, Rule, fits, is_inside, is_candidate, candidates, HaveDistinctTags, pattern_of, Snapshot, name_of, both, both_of, of_filter, once_filter, once_facts, Same, in_filter, passed, same_length, joins, cleaned, NameHeld, candidates_of, same_truth, partners_once, held_known, joining_alike, IsKeptOf, Whole, Time, is_behind, remembered, HasAllOf, not_of}
 use Rattle.rule_model.specs.declared.condition.WindowTag.{WindowTag}
-use Rattle.rule_model.specs.declared.condition.WindowTag.TheVariants.{Whole, Time}
-use Rattle.rule_model.specs.Candidates.{is_behind}
-use Rattle.pair_memory.specs.Standing.{remembered}
-use Rattle.condition_rows.specs.Looks.{HasAllOf}
 use Rattle.condition_rows.specs.Sets.{held, partners}
 use Rattle.condition_rows.proofs.Holding.{held_fact, held_in}
 use Rattle.condition_rows.proofs.Joined.{candidate_named, candidate_of}
-use Rattle.condition_node.proofs.Knowing.{not_of}
 
 pub not_is : (b : Bool) → b ≡ false → not b ≡ true
 not_is true e = sym e

@@ -1,32 +1,22 @@
 -- The rows of kept facts, with the extras, are the rows of all facts that name kept ones alone.
-use Rattle.image_laws.proofs.Common.{◌≡◌, ◌∙◌, ◌&&◌, ◌||◌, not, ℕ, zero, suc, ◌+◌, ℤ, Bool, true, false, List, [], ◌∷◌, ◌++◌, map, length, inl, inr, Option, Some, None, refl, sym, ap, subst, arith, slice_get, take, filter, is_some, tells_apart, fun_ext, In, Fact, HaveSame, Extra, Named, Row, row_exact, Condition, Negated, Existing, Folded, Pattern, Program, Rule, candidates, HaveDistinctTags, argument, pattern_of, Snapshot, name_of, in_map, of_map, of_filter, in_filter, passed, same_length, binds, joins, clean, cleaned, NameHeld, rows_of, candidates_of, same_truth, partners_once, held_known, joining_alike, passing_one, lost_partners, AreExtras, values_of, count_of, extra_at, AreOwners, IsKeptOf}
+use Rattle.image_laws.proofs.Common.{◌≡◌, ◌∙◌, ◌&&◌, ◌||◌, not, ℕ, zero, suc, ◌+◌, ℤ, Bool, true, false, List, [], ◌∷◌, ◌++◌, map, length, inl, inr, Option, Some, None, refl, sym, ap, subst, arith, slice_get, take, filter, is_some, tells_apart, fun_ext, In, Fact, HaveSame, Extra, Named, Row, row_exact, Condition, Negated, Existing, Folded, Pattern, Program, Rule, candidates, HaveDistinctTags, argument, pattern_of, Snapshot, name_of, in_map, of_map, of_filter, in_filter, passed, same_length, binds, joins, clean, cleaned, NameHeld, rows_of, candidates_of, same_truth, partners_once, held_known, joining_alike, passing_one, lost_partners, AreExtras, values_of, count_of, extra_at, AreOwners, IsKeptOf, result_same, floor, results_hold, Bindings, same_values, in_place, joined, held, valued_clean, row_alike, some_passes, laden_line, laden_with}
 use Rattle.std.proofs.lemmas.List.Filters.{length-filter_both}
 use Rattle.fold_fn.specs.Results.{fold_result}
-use Rattle.fold_fn.proofs.ResultLemmas.{result_same}
 use Rattle.rule_model.specs.declared.condition.Accumulate.{Accumulate}
 use Rattle.rule_model.specs.declared.condition.Condition.TheVariants.{Plain}
 use Rattle.rule_model.specs.Lent.{bound_in}
 use Rattle.rule_model.specs.Maturity.{is_mature}
 use Rattle.rule_model.specs.Rows.{rows}
-use Rattle.rule_model.specs.Snapshots.{floor}
-use Rattle.rule_model.specs.Tests.{results_hold}
-use Rattle.rule_model.specs.Tuples.{Bindings}
 use Rattle.rule_model.proofs.Firsts.{or_left, or_right, or_split}
 use Rattle.rule_model.proofs.Floors.{same_floor}
-use Rattle.rule_model.proofs.Order.{same_values}
-use Rattle.rule_model.proofs.RuleOf.{in_place}
-use Rattle.pair_memory.specs.Joined.{joined}
 use Rattle.pair_memory.proofs.Moving.{named_alike}
 use Rattle.pair_memory.proofs.Worlds.{joined_clean}
 use Rattle.condition_rows.specs.Lines.{gives, is_ripe, is_result, line, is_empty_row, empty_row}
-use Rattle.condition_rows.specs.Sets.{held, has_partner, partners}
+use Rattle.condition_rows.specs.Sets.{has_partner, partners}
 use Rattle.condition_rows.proofs.Naming.{rows_named}
 use Rattle.condition_rows.proofs.Whole.{one_more}
-use Rattle.condition_node.proofs.Folding.{valued_clean}
-use Rattle.condition_node.proofs.Knowing.{row_alike}
 use Rattle.condition_node.proofs.Shown.{asked_first}
-use Rattle.keeping.proofs.Members.{some_passes}
-use Rattle.image_laws.specs.Laden.{laden_gives, laden_line, laden_with, laden}
+use Rattle.image_laws.specs.Laden.{laden_gives, laden}
 use Rattle.image_laws.proofs.Extras.{to_extra, of_extra, extra_values, extra_count}
 use Rattle.image_laws.proofs.Gathered.{parted_values}
 use Rattle.image_laws.proofs.Kept.{known, to_kept, from_kept, candidates_kept, joins_same, partners_kept, partners_once_kept}

@@ -1,14 +1,12 @@
 -- How equalities are counted, and fed to a hash, one after another.
-use Rattle.join_tests.proofs.Common.{◌≡◌, ◌≢◌, ◌∙◌, sym, ap, refl, ℕ, ◌+◌, ◌<◌, ◌⊎◌, inl, inr, List, [], ◌∷◌, ◌++◌, map, length, get_or, drop, Option, option_map, cast_signed, FoldHasher, Value, Int, Fact, Named, Compare, Test, field_of, JoinKey, Nothing, Look, keys_of_choices, keys_of_tests, given_or_true, candidate_part, fed_with, as_one, with_slot, and_more, part}
+use Rattle.join_tests.proofs.Common.{◌≡◌, ◌≢◌, ◌∙◌, sym, ap, refl, ℕ, ◌+◌, ◌<◌, ◌⊎◌, inl, inr, List, [], ◌∷◌, ◌++◌, map, length, get_or, drop, Option, option_map, cast_signed, FoldHasher, Value, Int, Fact, Named, Compare, Test, field_of, JoinKey, Nothing, Look, keys_of_choices, keys_of_tests, given_or_true, candidate_part, fed_with, as_one, with_slot, and_more, part, One, Several, and_one}
 use Rattle.std.specs.Borrow.{Bor}
 use Rattle.std.proofs.lemmas.List.{at_drop_more}
 use Rattle.std.specs.Int.{w64}
 use Rattle.std.specs.Hash.FoldHasher as hasher
 use Rattle.join_tests.specs.declared.key.Keying.{Keying}
-use Rattle.join_tests.specs.declared.key.Keying.TheVariants.{One, Several}
 use Rattle.join_tests.specs.declared.part.Partner.TheVariants.{OfCandidate}
 use Rattle.join_tests.specs.Keys.{number_for}
-use Rattle.join_tests.specs.Keying.{and_one}
 
 pub and_both : (keying : Keying) (keys more : List JoinKey) → and_more keying (keys ++ more) ≡ and_more (and_more keying keys) more
 and_both keying [] more = refl

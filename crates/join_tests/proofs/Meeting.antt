@@ -1,16 +1,13 @@
 -- The join value of a row is among those that are sought for a candidate which joins it, and the candidate's among those for the row.
-use Rattle.join_tests.proofs.Common.{◌≡◌, ◌∙◌, sym, ap, refl, subst, arith, ℕ, ℤ, pos, ◌+ℤ◌, ◌≤ℤ◌, List, [], ◌∷◌, ◌++◌, map, Bool, true, false, ◌&&◌, ◌||◌, Option, Some, None, slice_get, option_map, ints, Value, same_value, equal_values, Fact, Named, Row, Compare, Test, Pattern, tuple_of, field_of, times_hold, Bindings, JoinKey, Look, version_at, versions_at, passes_given, keys_of_compares, keys_of_choices, keys_of_tests, given_or_true, row_part, candidate_part, as_one, TimeKey, point_of, moment_at, row_moment, candidate_moment, first_event, last_event, first_candidate, last_candidate, kept_under, is_among}
+use Rattle.join_tests.proofs.Common.{◌≡◌, ◌∙◌, sym, ap, refl, subst, arith, ℕ, ℤ, pos, ◌+ℤ◌, ◌≤ℤ◌, List, [], ◌∷◌, ◌++◌, map, Bool, true, false, ◌&&◌, ◌||◌, Option, Some, None, slice_get, option_map, ints, Value, same_value, equal_values, Fact, Named, Row, Compare, Test, Pattern, tuple_of, field_of, times_hold, Bindings, JoinKey, Look, version_at, versions_at, passes_given, keys_of_compares, keys_of_choices, keys_of_tests, given_or_true, row_part, candidate_part, as_one, TimeKey, point_of, moment_at, row_moment, candidate_moment, first_event, last_event, first_candidate, last_candidate, kept_under, is_among, bound_in, related, related_given, side_value, related_side, compare_holds, compares_hold, test_holds, tests_hold, bound_by, key_of_side, key_of_sides, key_of_compare, in_front, earlier_value}
 use Rattle.std.specs.List.{list_any}
 use Rattle.rule_model.specs.declared.test.RelTag.{RelTag}
 use Rattle.rule_model.specs.declared.test.RelTag.TheVariants.{OneOf, Equal, NotEqual, Less, LessOrEqual, Greater, GreaterOrEqual}
 use Rattle.rule_model.specs.declared.test.Side.{Side}
 use Rattle.rule_model.specs.declared.test.Side.TheVariants.{Lit, Own, Of, Result}
-use Rattle.rule_model.specs.Lent.{bound_in}
-use Rattle.rule_model.specs.Tests.{related, related_given, side_value, related_side, compare_holds, compares_hold, test_holds, tests_hold}
-use Rattle.rule_model.specs.Tuples.{bound_by}
 use Rattle.rule_model.proofs.Naming.{bound_named}
 use Rattle.join_tests.specs.Joins.{joins}
-use Rattle.join_tests.specs.Keys.{key_of_side, key_of_sides, key_of_compare, in_front, join_keys, earlier_value}
+use Rattle.join_tests.specs.Keys.{join_keys}
 use Rattle.join_tests.specs.TimeKeys.{time_key}
 use Rattle.join_tests.specs.Kept.{row_value, candidate_value, rows_sought, candidates_sought}
 use Rattle.join_tests.proofs.Neighbours.{found_among}

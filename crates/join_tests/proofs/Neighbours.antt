@@ -1,12 +1,7 @@
 -- What lies between the first and the last moment of a range lies in the slot of one of the two.
-use Rattle.join_tests.proofs.Common.{◌≡◌, ◌∙◌, sym, ap, refl, subst, arith, ℕ, suc, ◌+◌, ◌*◌, ◌<◌, ◌≤◌, ℤ, pos, negsuc, ◌+ℤ◌, ◌≤ℤ◌, ◌⊎◌, inl, inr, Bool, true, false, cond, ◌||◌, List, [], ◌∷◌, Option, Some, None, ints, Value, same_value, equal_values, TimeKey, given_or_true, as_one, with_slot, kept_under, sought_under, is_among}
-use Rattle.std.proofs.lemmas.Int.{by_lt_z}
+use Rattle.join_tests.proofs.Common.{◌≡◌, ◌∙◌, sym, ap, refl, subst, arith, ℕ, suc, ◌+◌, ◌*◌, ◌<◌, ◌≤◌, ℤ, pos, negsuc, ◌+ℤ◌, ◌≤ℤ◌, ◌⊎◌, inl, inr, Bool, true, false, cond, ◌||◌, List, [], ◌∷◌, Option, Some, None, ints, Value, same_value, equal_values, TimeKey, given_or_true, as_one, with_slot, kept_under, sought_under, is_among, by_lt_z, int_div_euclid, same_itself, number_given, slot_of, in_64_bits}
 use Rattle.std.proofs.Math.Nat.{lt_of_mul-lt-mul_right}
-use Rattle.std.specs.Int.{int_div_euclid}
 use borrow.Author.Differences.{up, down}
-use Rattle.fx_base.specs.SameValues.{same_itself}
-use Rattle.rule_model.specs.Tests.{number_given}
-use Rattle.join_tests.specs.Slots.{slot_of, in_64_bits}
 
 -- q is a divided by k, rounded down
 abbrev IsQuotient : ℕ → ℤ → ℤ → Type 0

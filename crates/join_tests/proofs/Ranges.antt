@@ -1,17 +1,14 @@
 -- Times that pass the temporal tests of a pattern lie in its range.
-use Rattle.join_tests.proofs.Common.{◌≡◌, ◌∙◌, sym, ap, refl, subst, arith, ℕ, ℤ, pos, negsuc, ◌+ℤ◌, ◌-ℤ◌, ◌≤ℤ◌, ◌⊎◌, inl, inr, Bool, true, false, cond, ◌&&◌, List, [], ◌∷◌, Option, Some, None, ints, Fact, times_hold, Bindings, TimeKey, most_between, key_of_times, point_of}
+use Rattle.join_tests.proofs.Common.{◌≡◌, ◌∙◌, sym, ap, refl, subst, arith, ℕ, ℤ, pos, negsuc, ◌+ℤ◌, ◌-ℤ◌, ◌≤ℤ◌, ◌⊎◌, inl, inr, Bool, true, false, cond, ◌&&◌, List, [], ◌∷◌, Option, Some, None, ints, Fact, times_hold, Bindings, TimeKey, most_between, key_of_times, point_of, option_or, time_holds_with, time_holds, candidate_corner, event_corner, same_corner, key_of_span, key_between, key_at, key_of_edges}
 use Rattle.std.specs.Int.Signed.{le_z}
-use Rattle.std.specs.Option.{option_or}
 use Rattle.fx_base.specs.declared.times.Times.{Times}
 use Rattle.temporal_ops.specs.declared.edge.Corner.{Corner}
 use Rattle.temporal_ops.specs.declared.edge.Corner.TheVariants.{AStart, AEnd, BStart, BEnd}
 use Rattle.temporal_ops.specs.declared.edge.OpEdge.{OpEdge}
 use Rattle.temporal_ops.specs.Edges.{corner, edge_holds, edges_hold}
 use Rattle.rule_model.specs.declared.test.TimeTest.{TimeTest}
-use Rattle.rule_model.specs.Tests.{time_holds_with, time_holds}
 use Rattle.join_tests.specs.declared.time_key.Point.{Point}
 use Rattle.join_tests.specs.declared.time_key.Point.TheVariants.{Start, End}
-use Rattle.join_tests.specs.TimeKeys.{candidate_corner, event_corner, same_corner, key_of_span, key_between, key_at, key_of_edges}
 
 first_of : (a b : Bool) → (a && b) ≡ true → a ≡ true
 first_of true b e = refl

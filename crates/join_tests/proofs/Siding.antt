@@ -1,11 +1,10 @@
 -- The value under which a row is kept, by its side of the equalities and of the range of time.
-use Rattle.join_tests.proofs.Common.{◌≡◌, ◌∙◌, ap, refl, arith, ◌≤◌, length, List, [], ◌∷◌, ◌++◌, map, Option, Some, None, option_map, cast_signed, FoldHasher, Value, Int, Row, Pattern, JoinKey, TimeKey, Look, join_keys, row_part, fed_with, as_one, time_key, row_moment, with_slot, kept_under, side_of, side_part}
+use Rattle.join_tests.proofs.Common.{◌≡◌, ◌∙◌, ap, refl, arith, ◌≤◌, length, List, [], ◌∷◌, ◌++◌, map, Option, Some, None, option_map, cast_signed, FoldHasher, Value, Int, Row, Pattern, JoinKey, TimeKey, Look, join_keys, row_part, fed_with, as_one, time_key, row_moment, with_slot, kept_under, side_of, side_part, row_time, row_key, kept_by_time, value_by}
 use Rattle.std.specs.Int.{w64}
 use Rattle.std.specs.Hash.FoldHasher as hasher
 use Rattle.join_tests.specs.declared.key.JoinSide.{JoinSide}
 use Rattle.join_tests.specs.Keys.{number_for}
 use Rattle.join_tests.specs.Kept.{row_value}
-use Rattle.join_tests.specs.RowKeys.{row_time, row_key, kept_by_time, value_by}
 use Rattle.join_tests.proofs.Counting.{number_behind}
 
 mapped_both : (keys more : List JoinKey) → map side_of (keys ++ more) ≡ map side_of keys ++ map side_of more

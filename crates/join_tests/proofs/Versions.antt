@@ -1,14 +1,11 @@
 -- Versions that are at hand are the facts of a tuple that the row names.
-use Rattle.join_tests.proofs.Common.{◌≡◌, ◌∙◌, sym, ap, refl, subst, List, [], ◌∷◌, map, Bool, true, false, cond, ◌&&◌, Option, Some, None, option_map, is_some, Fact, Named, Row, Pattern, tuple_of, Look, version_at, versions_at, passes_given}
-use Rattle.std.specs.Option.{option_and_then}
+use Rattle.join_tests.proofs.Common.{◌≡◌, ◌∙◌, sym, ap, refl, subst, List, [], ◌∷◌, map, Bool, true, false, cond, ◌&&◌, Option, Some, None, option_map, is_some, Fact, Named, Row, Pattern, tuple_of, Look, version_at, versions_at, passes_given, option_and_then, Holds, Tuple, name_of, row_of, is_version, tuple_at}
 use Rattle.std.specs.declared.cmp.Ordering.{Ordering}
 use Rattle.std.specs.declared.cmp.Ordering.TheVariants.{Less, Equal, Greater}
 use Rattle.std.specs.Ordering.{is_eq}
 use Rattle.row_delta.specs.NameOrder.{name_cmp, name_exact}
 use Rattle.rule_model.specs.Candidates.{passes}
-use Rattle.rule_model.specs.Lent.{Holds}
-use Rattle.rule_model.specs.Tuples.{Tuple, name_of, row_of}
-use Rattle.join_tests.specs.Joins.{is_version, tuple_at, joins}
+use Rattle.join_tests.specs.Joins.{joins}
 
 equal_from : (o : Ordering) → is_eq o ≡ true → o ≡ Equal
 equal_from Less e = let f : false ≡ true = e in cc

@@ -1,22 +1,10 @@
 -- What comes in a step names what is kept, and meets what is kept.
-use Rattle.keeping.proofs.Common.{◌≡◌, ◌∙◌, ◌&&◌, not, ℕ, zero, suc, true, false, List, [], ◌∷◌, Some, refl, sym, subst, ap, slice_get, In, Fact, Named, Condition, LifeTable, Program, Rule, Step, is_candidate, pattern_of, Snapshot, name_of, both_of, of_filter, in_filter, World, snapshot, IsKept, binds, not_true, same_fact, held, candidates_of, held_fact, candidate_of, is_kept, is_forgotten, IsLawfulStep, behind}
-use Rattle.std.specs.Prelude.{take}
+use Rattle.keeping.proofs.Common.{◌≡◌, ◌∙◌, ◌&&◌, not, ℕ, zero, suc, true, false, List, [], ◌∷◌, Some, refl, sym, subst, ap, slice_get, In, Fact, Named, Condition, LifeTable, Program, Rule, Step, is_candidate, pattern_of, Snapshot, name_of, both_of, of_filter, in_filter, World, snapshot, IsKept, binds, not_true, same_fact, held, candidates_of, held_fact, candidate_of, is_kept, is_forgotten, IsLawfulStep, behind, take, candidates, passes, HaveOperators, Tuple, empty_tuple, row_of, of_map, makes_listed, listed_makes, Comes, operators_of, Look, joins, IsMade, tuple_of_row, row_of_tuple, joins_of_tuple, made_facts, RowComes}
 use Rattle.row_delta.specs.declared.row.Row.{Row}
-use Rattle.rule_model.specs.Candidates.{candidates, passes}
 use Rattle.rule_model.specs.Lent.{Holds}
-use Rattle.rule_model.specs.Rows.{HaveOperators}
-use Rattle.rule_model.specs.Tuples.{Tuple, empty_tuple, row_of}
-use Rattle.rule_model.proofs.Listed.{of_map, makes_listed, listed_makes}
-use Rattle.rule_lives.specs.Keeping.{Comes}
 use Rattle.rule_lives.proofs.Keeps.{here, tuple_names_kept, tuple_meets_kept}
-use Rattle.rule_lives.proofs.Matched.{operators_of}
-use Rattle.join_tests.specs.Joins.{Look, joins}
 use Rattle.pair_memory.specs.Standing.{clean, no_names}
 use Rattle.condition_rows.specs.Looks.{HasAllOf}
-use Rattle.condition_rows.proofs.Ends.{IsMade, tuple_of_row, row_of_tuple}
-use Rattle.condition_rows.proofs.Holding.{joins_of_tuple}
-use Rattle.condition_rows.proofs.Joined.{made_facts}
-use Rattle.keeping.specs.Steps.{RowComes}
 use Rattle.keeping.proofs.Decided.{is_tested}
 use Rattle.keeping.proofs.Members.{none_passes}
 use Rattle.keeping.proofs.Versions.{IsLost, lost, tags_behind}

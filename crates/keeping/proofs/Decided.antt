@@ -1,10 +1,8 @@
 -- The test of what is kept is true exactly of what is kept.
-use Rattle.keeping.proofs.Common.{◌≡◌, ◌↔◌, ◌∙◌, ℤ, ◌+ℤ◌, ◌≤ℤ◌, true, false, Option, Some, None, inl, inr, refl, sym, ap, arith, slice_get, int_le, ints, In, Fact, Life, Plain, Explicit, Finite, Infinite, LifeTable, Match, Program, name_of, is_event, expiry_of, or_left, or_right, or_split, of_filter, in_filter, passed, World, pending, AreSafe, IsKept, has_name, is_alive, is_named}
+use Rattle.keeping.proofs.Common.{◌≡◌, ◌↔◌, ◌∙◌, ℤ, ◌+ℤ◌, ◌≤ℤ◌, true, false, Option, Some, None, inl, inr, refl, sym, ap, arith, slice_get, int_le, ints, In, Fact, Life, Plain, Explicit, Finite, Infinite, LifeTable, Match, Program, name_of, is_event, expiry_of, or_left, or_right, or_split, of_filter, in_filter, passed, World, pending, AreSafe, IsKept, has_name, is_alive, is_named, plain, unexpired, endless, living, named, in_name, name_in, kept_facts}
 use Rattle.rule_model.proofs.RuleOf.{in_has, has_in}
-use Rattle.rule_lives.specs.Keeping.{plain, unexpired, endless, living, named}
 use Rattle.rule_lives.proofs.Safe.{plain_unlisted}
-use Rattle.condition_rows.proofs.Ends.{in_name, name_in}
-use Rattle.keeping.specs.Kept.{is_kept, kept_facts}
+use Rattle.keeping.specs.Kept.{is_kept}
 use Rattle.keeping.proofs.Members.{some_passes, passing_one}
 
 at_most : (a b : ℤ) → int_le a b ≡ true → a ≤ℤ b

@@ -1,9 +1,8 @@
 -- What is forgotten stays forgotten, by steps and by firings.
-use Rattle.keeping.proofs.Common.{◌≡◌, ◌∙◌, ◌||◌, not, Bool, true, false, inl, inr, ◌∷◌, Option, Some, None, refl, sym, ap, subst, slice_get, In, Fact, Named, LifeTable, Match, Program, Step, name_of, or_left, or_right, or_split, of_filter, in_filter, passed, IsOrdered, World, snapshot, pending, not_true, version_at, has_name, held, is_alive, is_named, is_lost, IsLawfulStep, same_fact}
+use Rattle.keeping.proofs.Common.{◌≡◌, ◌∙◌, ◌||◌, not, Bool, true, false, inl, inr, ◌∷◌, Option, Some, None, refl, sym, ap, subst, slice_get, In, Fact, Named, LifeTable, Match, Program, Step, name_of, or_left, or_right, or_split, of_filter, in_filter, passed, IsOrdered, World, snapshot, pending, not_true, version_at, has_name, held, is_alive, is_named, is_lost, IsLawfulStep, same_fact, marked, step_in_order}
 use Rattle.std.specs.Ordering.{eq_by_cmp}
 use Rattle.rule_model.specs.Matches.{matches, match_cmp, has_match}
-use Rattle.rule_world.specs.Worlds.{stepped, marked}
-use Rattle.rule_world.proofs.Steps.{step_in_order}
+use Rattle.rule_world.specs.Worlds.{stepped}
 use Rattle.rule_lives.proofs.Remains.{kept_before}
 use Rattle.keeping.specs.Kept.{is_kept, is_forgotten}
 use Rattle.keeping.proofs.Decided.{is_so, is_tested}

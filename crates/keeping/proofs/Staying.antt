@@ -1,18 +1,10 @@
 -- What is forgotten stays a candidate, or stays none.
-use Rattle.keeping.proofs.Common.{◌≡◌, ◌∙◌, ◌&&◌, ◌||◌, ◌==◌, not, ℕ, ℤ, ◌+ℤ◌, ◌-ℤ◌, ◌≤ℤ◌, ◌<ℤ◌, Bool, true, false, if◌then◌else◌, List, [], ◌∷◌, Option, Some, None, refl, sym, subst, ap, arith, slice_get, int_le, ints, In, Fact, Named, Condition, WindowTag, Time, Life, Plain, Explicit, Finite, Infinite, LifeTable, Program, Rule, Step, is_inside, is_candidate, pattern_of, Snapshot, tests_hold, unbound, name_of, is_event, expiry_of, both_of, of_filter, in_filter, IsLawful, World, snapshot, was_present, AreSafe, IsLife, binds, finite, not_true, same_number, lives_below, candidates_of, candidate_of, is_alive, is_named, is_forgotten, IsLawfulStep, behind, same_fact}
-use Rattle.std.specs.Prelude.{int_lt}
+use Rattle.keeping.proofs.Common.{◌≡◌, ◌∙◌, ◌&&◌, ◌||◌, ◌==◌, not, ℕ, ℤ, ◌+ℤ◌, ◌-ℤ◌, ◌≤ℤ◌, ◌<ℤ◌, Bool, true, false, if◌then◌else◌, List, [], ◌∷◌, Option, Some, None, refl, sym, subst, ap, arith, slice_get, int_le, ints, In, Fact, Named, Condition, WindowTag, Time, Life, Plain, Explicit, Finite, Infinite, LifeTable, Program, Rule, Step, is_inside, is_candidate, pattern_of, Snapshot, tests_hold, unbound, name_of, is_event, expiry_of, both_of, of_filter, in_filter, IsLawful, World, snapshot, was_present, AreSafe, IsLife, binds, finite, not_true, same_number, lives_below, candidates_of, candidate_of, is_alive, is_named, is_forgotten, IsLawfulStep, behind, same_fact, int_lt, Whole, Length, is_within, is_observed, in_map, in_left, found, new_fact, has_id, revised, revised_in, stays, infinite, same_truth, candidate_named}
 use Rattle.fx_base.specs.declared.value.Value.{Value}
-use Rattle.rule_model.specs.declared.condition.WindowTag.TheVariants.{Whole, Length}
 use Rattle.rule_model.specs.declared.step.Step.TheVariants.{Insert, Modify, Retract, Advance, At, Promise, Begin}
-use Rattle.rule_model.specs.Candidates.{is_within, is_present}
-use Rattle.rule_model.specs.Types.{is_observed}
-use Rattle.rule_model.proofs.Listed.{in_map, in_left}
-use Rattle.rule_world.specs.Worlds.{moved, step_fault, found, new_fact, has_id, revised, revised_in}
+use Rattle.rule_model.specs.Candidates.{is_present}
+use Rattle.rule_world.specs.Worlds.{moved, step_fault}
 use Rattle.rule_world.proofs.Fresh.{revise}
-use Rattle.rule_world.proofs.Steps.{stays}
-use Rattle.rule_lives.specs.Reach.{infinite}
-use Rattle.condition_rows.proofs.Ends.{same_truth}
-use Rattle.condition_rows.proofs.Joined.{candidate_named}
 use Rattle.keeping.specs.Kept.{is_kept}
 use Rattle.rule_lives.proofs.Laws.{observed_of}
 use Rattle.rule_lives.proofs.Moves.{plain_there, retracted_is_not_observed, clock_on}

@@ -1,9 +1,6 @@
 -- Versions of the facts of a world, before a step and behind it.
-use Rattle.keeping.proofs.Common.{◌≡◌, not, Bool, true, false, Option, Some, None, refl, sym, ap, In, Fact, Named, LifeTable, Program, Step, name_of, IsOrdered, World, snapshot, version_at, held, held_fact, is_kept, is_lost}
+use Rattle.keeping.proofs.Common.{◌≡◌, not, Bool, true, false, Option, Some, None, refl, sym, ap, In, Fact, Named, LifeTable, Program, Step, name_of, IsOrdered, World, snapshot, version_at, held, held_fact, is_kept, is_lost, moved, numbered, move_numbered, version_of, version_in}
 use Rattle.rule_model.specs.Distinct.{HaveDistinctTags}
-use Rattle.rule_world.specs.Worlds.{moved}
-use Rattle.rule_world.proofs.Steps.{numbered, move_numbered}
-use Rattle.condition_rows.proofs.Holding.{version_of, version_in}
 use Rattle.keeping.specs.Kept.{is_forgotten}
 
 -- ---- what is forgotten

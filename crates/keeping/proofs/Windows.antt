@@ -1,6 +1,5 @@
 -- What is not kept is inside no window of time, then and later.
-use Rattle.keeping.proofs.Common.{◌≡◌, ◌∙◌, ◌&&◌, ◌==◌, ℕ, zero, suc, ℤ, ◌+ℤ◌, ◌-ℤ◌, ◌≤ℤ◌, ◌<ℤ◌, Bool, true, false, List, [], ◌∷◌, Option, Some, None, inl, inr, refl, sym, ap, slice_get, In, Fact, Condition, WindowTag, Time, Life, Plain, Explicit, Finite, Infinite, LifeTable, Program, Rule, is_inside, is_candidate, pattern_of, Snapshot, tests_hold, unbound, IsLawful, World, was_present, AreSafe, IsLife, finite, not_true, same_number, lives_below, is_alive, is_kept}
-use Rattle.rule_model.specs.Candidates.{is_present}
+use Rattle.keeping.proofs.Common.{◌≡◌, ◌∙◌, ◌&&◌, ◌==◌, ℕ, zero, suc, ℤ, ◌+ℤ◌, ◌-ℤ◌, ◌≤ℤ◌, ◌<ℤ◌, Bool, true, false, List, [], ◌∷◌, Option, Some, None, inl, inr, refl, sym, ap, slice_get, In, Fact, Condition, WindowTag, Time, Life, Plain, Explicit, Finite, Infinite, LifeTable, Program, Rule, is_inside, is_candidate, pattern_of, Snapshot, tests_hold, unbound, IsLawful, World, was_present, AreSafe, IsLife, finite, not_true, same_number, lives_below, is_alive, is_kept, is_present}
 use Rattle.keeping.proofs.Staying.{after_life, after_less, not_below, too_old, later_too, not_alive}
 
 -- a member of a list has a place in it

@@ -1,10 +1,8 @@
 -- Solutions of edges and of networks, each made of the other, and the distances in them.
-use Rattle.life_edges.proofs.Common.{◌≡◌, ℕ, ℤ, ◌-ℤ◌, ◌≤ℤ◌, ◌<ℤ◌, List, [], ◌∷◌, Some, sym, ◌∙◌, ap, subst, arith, slice_get, ints, Times, Condition, Program, Occurrence, Solves, infinite, Placed, NameEarlier, start_of, end_of, edges_of}
+use Rattle.life_edges.proofs.Common.{◌≡◌, ℕ, ℤ, ◌-ℤ◌, ◌≤ℤ◌, ◌<ℤ◌, List, [], ◌∷◌, Some, sym, ◌∙◌, ap, subst, arith, slice_get, ints, Times, Condition, Program, Occurrence, Solves, infinite, Placed, NameEarlier, start_of, end_of, edges_of, IsReach, IsGreatest, distance, occurrence_of, limit_of}
 use Rattle.fx_base.specs.declared.bound.Bound.{Bound}
 use Rattle.fx_base.specs.declared.bound.Bound.TheVariants.{Finite, Infinite}
 use Rattle.temporal_net.specs.Networks as net
-use Rattle.rule_lives.specs.Reach.{IsReach, IsGreatest, distance, occurrence_of}
-use Rattle.life_edges.specs.Tails.{limit_of}
 use Rattle.life_edges.proofs.Solutions.{Agree}
 use Rattle.life_edges.proofs.Solved.{points_solve, times_solve, times_of, times_agree, points_of, points_agree}
 

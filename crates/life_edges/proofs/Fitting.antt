@@ -1,8 +1,5 @@
 -- The edges of a network are such as a network of 16 points takes.
-use Rattle.life_edges.proofs.Common.{◌≡◌, ◌+◌, ◌^◌, ◌<◌, ◌≤◌, ℕ, zero, suc, ℤ, pos, negsuc, ◌≤ℤ◌, Bool, true, false, List, [], ◌∷◌, length, Some, subst, arith, slice_get, All, flat_map, ints, All-nil, All-cons, All-head, All-tail, All-append, All-weaker, Corner, AStart, AEnd, BStart, BEnd, OpEdge, NetEdge, Condition, Program, TimeTest, pattern_of, HaveOperators, is_point, NameEarlier, start_of, end_of, point_of, place_of, net_edge, test_edges, event_edges, pattern_edges, stands_in, edges_of}
-use Rattle.std.proofs.lemmas.List.Elements.{All-map}
-use Rattle.std.proofs.lemmas.Option.{slice_get_within}
-use Rattle.temporal_ops.specs.Edges.{IsOpEdge, IsWithin}
+use Rattle.life_edges.proofs.Common.{◌≡◌, ◌+◌, ◌^◌, ◌<◌, ◌≤◌, ℕ, zero, suc, ℤ, pos, negsuc, ◌≤ℤ◌, Bool, true, false, List, [], ◌∷◌, length, Some, subst, arith, slice_get, All, flat_map, ints, All-nil, All-cons, All-head, All-tail, All-append, All-weaker, Corner, AStart, AEnd, BStart, BEnd, OpEdge, NetEdge, Condition, Program, TimeTest, pattern_of, HaveOperators, is_point, NameEarlier, start_of, end_of, point_of, place_of, net_edge, test_edges, event_edges, pattern_edges, stands_in, edges_of, All-map, slice_get_within, IsOpEdge, IsWithin}
 use Rattle.temporal_net.specs.Networks.{IsAmong, IsSmall}
 use Rattle.rule_model.specs.Maturity.{AreOperators}
 use Rattle.life_edges.proofs.Places.{the_same, place_below, named_here}

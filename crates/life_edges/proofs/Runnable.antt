@@ -1,24 +1,19 @@
 -- What the rules of a program have that engines run.
-use Rattle.life_edges.proofs.Common.{◌≡◌, inl, inr, ◌&&◌, ◌||◌, ◌≤◌, ℕ, ℤ, pos, ◌≤ℤ◌, Bool, true, false, nat_le, List, [], ◌∷◌, length, Option, Some, None, if◌then◌else◌, refl, subst, sym, arith, slice_get, All, list_all, ints, All-head, All-tail, In, Condition, Pattern, Program, pattern_of, HaveOperators, NameEarlier, infinite, HaveLives}
-use Rattle.std.specs.Prelude.{int_le, IfSome}
+use Rattle.life_edges.proofs.Common.{◌≡◌, inl, inr, ◌&&◌, ◌||◌, ◌≤◌, ℕ, ℤ, pos, ◌≤ℤ◌, Bool, true, false, nat_le, List, [], ◌∷◌, length, Option, Some, None, if◌then◌else◌, refl, subst, sym, arith, slice_get, All, list_all, ints, All-head, All-tail, In, Condition, Pattern, Program, pattern_of, HaveOperators, NameEarlier, infinite, HaveLives, int_le, IfSome, clamps, expiry_in, lateness_in, is_event, has_conditions, has_lateness, has_expiry, is_window, has_window, has_windows, UseOperators, IsRunnable, tail_by, RulesHaveNetworks, IsSpan, IsShort, HasShortWindow}
 use Rattle.std.specs.Int.{int_max}
 use Rattle.std.proofs.lemmas.Bool.Decides.{nat_tests}
-use Rattle.std.proofs.lemmas.Int.{clamps}
 use Rattle.rule_model.specs.declared.condition.WindowTag.{WindowTag}
 use Rattle.rule_model.specs.declared.condition.WindowTag.TheVariants.{Whole, Time, Length}
 use Rattle.rule_model.specs.declared.program.EntryInfo.{EntryInfo}
 use Rattle.rule_model.specs.declared.program.Rule.{Rule}
 use Rattle.rule_model.specs.declared.program.TypeInfo.{TypeInfo}
 use Rattle.rule_model.specs.Simple.{is_whole}
-use Rattle.rule_model.specs.Types.{expiry_in, lateness_in, is_event, expiry_of, lateness_of}
+use Rattle.rule_model.specs.Types.{expiry_of, lateness_of}
 use Rattle.rule_model.proofs.RuleOf.{in_place}
 use Rattle.rule_world.specs.Events.{most_millis}
-use Rattle.rule_world.specs.Programs.{has_conditions, has_lateness, has_expiry, is_window, has_window, has_windows, UseOperators, IsRunnable}
 use Rattle.rule_world.proofs.Acting.{all_of}
 use Rattle.rule_world.proofs.Fresh.{and_parts}
-use Rattle.rule_lives.specs.Lifetimes.{tail_by, tail}
-use Rattle.life_edges.specs.Edges.{RulesHaveNetworks}
-use Rattle.life_edges.specs.Tails.{IsSpan, IsShort, HasShortWindow}
+use Rattle.rule_lives.specs.Lifetimes.{tail}
 
 few : (rule : Rule) → has_conditions rule ≡ true → length rule.conditions ≤ 8
 few rule h = let e = (and_parts (nat_le 1 (length rule.conditions)) (nat_le (length rule.conditions) 8) h).1 in grind (arith, nat_tests)

@@ -1,10 +1,9 @@
 -- The solutions of the edges between numbered points are those of the network of occurrences.
-use Rattle.life_edges.proofs.Common.{◌≡◌, ◌++◌, ◌<◌, ℕ, ℤ, pos, ◌-ℤ◌, ◌≤ℤ◌, Bool, true, false, List, [], ◌∷◌, map, Some, refl, sym, ◌∙◌, ap, subst, arith, slice_get, All, list_all, flat_map, ints, All-nil, All-cons, All-head, All-tail, All-append, Times, Corner, AStart, AEnd, BStart, BEnd, OpEdge, NetEdge, Condition, Plain, Pattern, Program, TimeTest, is_point, Occurrence, bound, bindings, occurrence, Meets, start_of, end_of, point_of, place_of, net_edge, test_edges, event_edges, pattern_edges}
+use Rattle.life_edges.proofs.Common.{◌≡◌, ◌++◌, ◌<◌, ℕ, ℤ, pos, ◌-ℤ◌, ◌≤ℤ◌, Bool, true, false, List, [], ◌∷◌, map, Some, refl, sym, ◌∙◌, ap, subst, arith, slice_get, All, list_all, flat_map, ints, All-nil, All-cons, All-head, All-tail, All-append, Times, Corner, AStart, AEnd, BStart, BEnd, OpEdge, NetEdge, Condition, Plain, Pattern, Program, TimeTest, is_point, Occurrence, bound, bindings, occurrence, Meets, start_of, end_of, point_of, place_of, net_edge, test_edges, event_edges, pattern_edges, corner, is_met}
 use Rattle.std.specs.Int.Signed.{le_z}
-use Rattle.temporal_ops.specs.Edges.{corner, edge_holds, edges_hold}
+use Rattle.temporal_ops.specs.Edges.{edge_holds, edges_hold}
 use Rattle.temporal_ops.specs.Possible.{IsEvent}
 use Rattle.rule_model.proofs.Listed.{both, both_of}
-use Rattle.rule_lives.specs.Networks.{is_met}
 use Rattle.life_edges.proofs.Places.{false_is, binder}
 
 abbrev pub Holds : (ℕ → ℤ) → NetEdge → Type 0

@@ -1,10 +1,7 @@
 -- The solutions of the edges of a network and those of the occurrences, each made of the other.
-use Rattle.life_edges.proofs.Common.{◌≡◌, ◌⊎◌, inl, inr, ◌||◌, ◌==◌, ◌+◌, ◌*◌, ◌/◌, ◌%◌, ℕ, zero, suc, ℤ, Bool, true, false, cond, List, [], ◌∷◌, Option, Some, None, if◌then◌else◌, refl, sym, ◌∙◌, ap, subst, arith, slice_get, All, All-nil, All-append, In, Times, NetEdge, Condition, Plain, Negated, Existing, Folded, Program, pattern_of, Occurrence, bound, occurrence, Meets, Solves, NameEarlier, start_of, end_of, place_of, pattern_edges, stands_in, edges_of}
-use Rattle.std.specs.List.{list_any}
+use Rattle.life_edges.proofs.Common.{◌≡◌, ◌⊎◌, inl, inr, ◌||◌, ◌==◌, ◌+◌, ◌*◌, ◌/◌, ◌%◌, ℕ, zero, suc, ℤ, Bool, true, false, cond, List, [], ◌∷◌, Option, Some, None, if◌then◌else◌, refl, sym, ◌∙◌, ap, subst, arith, slice_get, All, All-nil, All-append, In, Times, NetEdge, Condition, Plain, Negated, Existing, Folded, Program, pattern_of, Occurrence, bound, occurrence, Meets, Solves, NameEarlier, start_of, end_of, place_of, pattern_edges, stands_in, edges_of, list_any, aside, IsMember, condition_edges}
 use Rattle.rule_model.proofs.Firsts.{or_left, or_right}
-use Rattle.rule_lives.specs.Networks.{aside, IsMember}
 use Rattle.rule_lives.proofs.Basics.{same_number, number_same}
-use Rattle.life_edges.specs.Edges.{condition_edges}
 use Rattle.life_edges.proofs.Places.{the_same, false_is, own_place, named_here}
 use Rattle.life_edges.proofs.Solutions.{Holds, Agree, times_at, all_first, all_second, pattern_from, pattern_to}
 

@@ -1,12 +1,7 @@
 -- The list of what is asked has exactly what is to be asked.
-use Rattle.life_proof.proofs.Common.{◌≡◌, ◌⊎◌, inl, inr, ◌++◌, ◌+◌, ◌<◌, ◌≤◌, ℕ, zero, suc, ℤ, Bool, true, false, List, [], ◌∷◌, Option, Some, None, if◌then◌else◌, refl, sym, ap, subst, ◌∙◌, arith, slice_get, In, Condition, WindowTag, Whole, Time, Length, Life, LifeTable, Program, pattern_of, in_place, IsRunnable, scope, HaveNetwork, placed, rules_have_networks, scope_network, Asked, HasPlaces, IsAsked, each_from, asked_at, asked_to, asked_from, asked_in, asked, scope_of}
-use Rattle.std.specs.List.{All}
-use Rattle.std.proofs.lemmas.List.Elements.{All-nil, All-cons}
+use Rattle.life_proof.proofs.Common.{◌≡◌, ◌⊎◌, inl, inr, ◌++◌, ◌+◌, ◌<◌, ◌≤◌, ℕ, zero, suc, ℤ, Bool, true, false, List, [], ◌∷◌, Option, Some, None, if◌then◌else◌, refl, sym, ap, subst, ◌∙◌, arith, slice_get, In, Condition, WindowTag, Whole, Time, Length, Life, LifeTable, Program, pattern_of, in_place, IsRunnable, scope, HaveNetwork, placed, rules_have_networks, scope_network, Asked, HasPlaces, IsAsked, each_from, asked_at, asked_to, asked_from, asked_in, asked, scope_of, All, All-nil, All-cons, is_reference, life_under, asked_within, scope_in, scope_with}
 use Rattle.std.proofs.lemmas.Option.{slice_get_within}
 use Rattle.rule_model.specs.declared.life.Life.TheVariants as life
-use Rattle.rule_model.specs.Types.{is_reference}
-use Rattle.life_proof.specs.Asked.{life_under, asked_within}
-use Rattle.life_proof.specs.Good.{scope_in, scope_with}
 
 -- ---- lists
 

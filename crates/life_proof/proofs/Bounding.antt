@@ -1,13 +1,10 @@
 -- What a good certificate shows.
-use Rattle.life_proof.proofs.Common.{◌≡◌, ◌⊎◌, inl, inr, ℕ, zero, suc, ℤ, pos, negsuc, ◌+ℤ◌, ◌-ℤ◌, ◌≤ℤ◌, ◌<ℤ◌, Bool, true, false, List, [], ◌∷◌, length, Some, None, refl, sym, ap, subst, ◌∙◌, arith, slice_get, ints, In, NetEdge, total, Condition, WindowTag, Whole, Time, Length, Life, Plain, Explicit, Finite, Infinite, LifeTable, Program, Rule, pattern_of, is_event, in_place, IsRunnable, IsLifeOf, Adds, of_fact, of_event, LivesFor, IsLife, Limit, finite, infinite, Below, plus, Placed, IsReach, start_of, end_of, scope_at, Asked, Part, Proof, IsAsked, asked, asked_at, edges_for, tail_at, is_event_at, IsBounding, IsRound, IsShown, IsGoodPart, AreGoodParts, IsGood, IsLawfulLife, Spans}
+use Rattle.life_proof.proofs.Common.{◌≡◌, ◌⊎◌, inl, inr, ℕ, zero, suc, ℤ, pos, negsuc, ◌+ℤ◌, ◌-ℤ◌, ◌≤ℤ◌, ◌<ℤ◌, Bool, true, false, List, [], ◌∷◌, length, Some, None, refl, sym, ap, subst, ◌∙◌, arith, slice_get, ints, In, NetEdge, total, Condition, WindowTag, Whole, Time, Length, Life, Plain, Explicit, Finite, Infinite, LifeTable, Program, Rule, pattern_of, is_event, in_place, IsRunnable, IsLifeOf, Adds, of_fact, of_event, LivesFor, IsLife, Limit, finite, infinite, Below, plus, Placed, IsReach, start_of, end_of, scope_at, Asked, Part, Proof, IsAsked, asked, asked_at, edges_for, tail_at, is_event_at, IsBounding, IsRound, IsShown, IsGoodPart, AreGoodParts, IsGood, IsLawfulLife, Spans, IsSafeLife, PatternLife, SolvesWith, distance, IsGreatest, of_times, same_distance}
 use Rattle.fx_base.specs.declared.times.Times.{Times}
 use Rattle.temporal_net.proofs.Sums.{adds_up}
 use Rattle.rule_model.specs.declared.condition.Pattern.{Pattern}
-use Rattle.rule_lives.specs.Keeping.{IsSafeLife}
-use Rattle.rule_lives.specs.Lifetimes.{tail, PatternLife}
+use Rattle.rule_lives.specs.Lifetimes.{tail}
 use Rattle.rule_lives.specs.Networks.{Occurrence}
-use Rattle.rule_lives.specs.Reach.{SolvesWith, distance, IsGreatest}
-use Rattle.life_edges.proofs.Distances.{of_times, same_distance}
 use Rattle.life_edges.proofs.Solved.{points_of, points_agree}
 use Rattle.life_proof.specs.Laws.{BoundsHold, LivesSuffice, GoodIsSafe}
 use Rattle.life_proof.proofs.Asked.{is_asked, scope_is}

@@ -1,12 +1,6 @@
 -- What is made of solved networks is good, since the table has the lives of the program.
-use Rattle.life_proof.proofs.Common.{◌≡◌, ◌≢◌, inl, inr, ◌++◌, ◌<◌, ◌+◌, ℕ, zero, suc, ℤ, Bool, true, false, List, [], ◌∷◌, map, length, drop, get_or, Some, refl, sym, ap, subst, ◌∙◌, append_assoc, arith, slice_get, AllByRecursion, Contains, In, NetEdge, edge_at, total, IsUnbounded, Condition, WindowTag, Whole, Time, Length, Life, Plain, Explicit, Finite, Infinite, LifeTable, Program, Rule, pattern_of, is_event, in_place, IsRunnable, IsLifeOf, scope, Adds, of_fact, of_event, LivesFor, IsLife, Limit, finite, infinite, Below, plus, Placed, IsReach, start_of, end_of, HaveNetwork, placed, rules_have_networks, scope_network, scope_at, Asked, Part, IsAsked, edges_for, scope_of, tail_at, is_event_at, IsBounding, IsRound, IsShown, IsGoodPart, AreGoodParts, IsSolvedPart, IsLawfulLife, Spans, IsLawfulTable}
-use Rattle.std.proofs.lemmas.List.Elements.{recursion_from_All, Contains-get_or}
+use Rattle.life_proof.proofs.Common.{◌≡◌, ◌≢◌, inl, inr, ◌++◌, ◌<◌, ◌+◌, ℕ, zero, suc, ℤ, Bool, true, false, List, [], ◌∷◌, map, length, drop, get_or, Some, refl, sym, ap, subst, ◌∙◌, append_assoc, arith, slice_get, AllByRecursion, Contains, In, NetEdge, edge_at, total, IsUnbounded, Condition, WindowTag, Whole, Time, Length, Life, Plain, Explicit, Finite, Infinite, LifeTable, Program, Rule, pattern_of, is_event, in_place, IsRunnable, IsLifeOf, scope, Adds, of_fact, of_event, LivesFor, IsLife, Limit, finite, infinite, Below, plus, Placed, IsReach, start_of, end_of, HaveNetwork, placed, rules_have_networks, scope_network, scope_at, Asked, Part, IsAsked, edges_for, scope_of, tail_at, is_event_at, IsBounding, IsRound, IsShown, IsGoodPart, AreGoodParts, IsSolvedPart, IsLawfulLife, Spans, IsLawfulTable, recursion_from_All, Contains-get_or, IsShortestPath, IsNegativeCycle, AreLives, tail, reached, AreSolved}
 use Rattle.fx_base.specs.declared.bound.Bound.TheVariants as bound
-use Rattle.temporal_net.specs.Networks.{IsShortestPath, IsNegativeCycle}
-use Rattle.rule_lives.specs.Keeping.{AreLives}
-use Rattle.rule_lives.specs.Lifetimes.{tail}
-use Rattle.life_edges.proofs.Distances.{reached}
-use Rattle.life_proof.specs.Solved.{AreSolved}
 use Rattle.life_proof.proofs.Asked.{scope_is}
 
 -- ---- the two conditions that are asked about

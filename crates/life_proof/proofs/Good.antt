@@ -1,12 +1,10 @@
 -- The function that `confirm` computes decides the relation.
-use Rattle.life_proof.proofs.Common.{◌≡◌, ◌≢◌, ◌==◌, ◌&&◌, ℕ, ℤ, pos, ◌+ℤ◌, ◌-ℤ◌, ◌≤ℤ◌, ◌<ℤ◌, Bool, true, false, List, [], ◌∷◌, refl, sym, subst, ◌∙◌, arith, slice_get, Decides, AllByRecursion, Contains, list_all, int_le, Decides-int_eq, ints, NetEdge, total, Condition, LifeTable, Program, Limit, finite, infinite, Below, plus, start_of, end_of, Asked, Part, Proof, asked, edges_for, scope_of, tail_at, is_event_at, IsBounding, IsRound, IsShown, IsGoodPart, AreGoodParts, IsGood, leads, are_good_parts, is_lawful_table}
-use Rattle.std.specs.Int.RustNames.{int_lt}
+use Rattle.life_proof.proofs.Common.{◌≡◌, ◌≢◌, ◌==◌, ◌&&◌, ℕ, ℤ, pos, ◌+ℤ◌, ◌-ℤ◌, ◌≤ℤ◌, ◌<ℤ◌, Bool, true, false, List, [], ◌∷◌, refl, sym, subst, ◌∙◌, arith, slice_get, Decides, AllByRecursion, Contains, list_all, int_le, Decides-int_eq, ints, NetEdge, total, Condition, LifeTable, Program, Limit, finite, infinite, Below, plus, start_of, end_of, Asked, Part, Proof, asked, edges_for, scope_of, tail_at, is_event_at, IsBounding, IsRound, IsShown, IsGoodPart, AreGoodParts, IsGood, leads, are_good_parts, is_lawful_table, int_lt, Leads, same_edge, has_edge, returns, is_within}
 use Rattle.std.specs.Ordering.{int_eq}
 use Rattle.std.proofs.lemmas.Bool.{eqb-true, eq-eqb}
 use Rattle.std.proofs.lemmas.List.Folds.{list_any_at}
 use Rattle.std.proofs.lemmas.Map.Views.{Contains-from_any}
-use Rattle.temporal_net.specs.Networks.{Leads}
-use Rattle.life_proof.specs.Good.{same_edge, has_edge, returns, is_within, is_bounding, is_round, is_shown, is_good_part}
+use Rattle.life_proof.specs.Good.{is_bounding, is_round, is_shown, is_good_part}
 use Rattle.life_proof.proofs.Lawful.{lawful_from, lawful_to}
 use Rattle.life_proof.proofs.Tests.{false_is, both, and_so}
 

@@ -1,7 +1,6 @@
 -- The test of a table decides whether it is lawful.
-use Rattle.life_proof.proofs.Common.{◌≡◌, ◌&&◌, inl, inr, ℕ, zero, suc, ℤ, pos, ◌≤ℤ◌, Bool, true, false, not, List, [], ◌∷◌, length, Option, Some, None, refl, sym, ap, subst, ◌∙◌, arith, slice_get, list_all, int_le, Decides-int_eq, ints, In, WindowTag, Whole, Time, Length, Life, Plain, Explicit, Finite, Infinite, LifeTable, Program, TypeInfo, pattern_of, IsLawfulLife, Spans, IsLawfulTable, is_life_of, are_lives_of, is_lawful_table}
-use Rattle.rule_model.specs.Types.{is_event_type, expiry_in, is_event, expiry_of}
-use Rattle.life_proof.specs.Tables.{is_expiry, is_unexpired, spans, spans_by, is_spanned, are_spanned}
+use Rattle.life_proof.proofs.Common.{◌≡◌, ◌&&◌, inl, inr, ℕ, zero, suc, ℤ, pos, ◌≤ℤ◌, Bool, true, false, not, List, [], ◌∷◌, length, Option, Some, None, refl, sym, ap, subst, ◌∙◌, arith, slice_get, list_all, int_le, Decides-int_eq, ints, In, WindowTag, Whole, Time, Length, Life, Plain, Explicit, Finite, Infinite, LifeTable, Program, TypeInfo, pattern_of, IsLawfulLife, Spans, IsLawfulTable, is_life_of, are_lives_of, is_lawful_table, is_event_type, expiry_in, is_expiry, is_unexpired, spans, spans_by, is_spanned, are_spanned}
+use Rattle.rule_model.specs.Types.{is_event, expiry_of}
 use Rattle.life_proof.proofs.Tests.{false_is, both, and_so}
 
 -- ---- lists

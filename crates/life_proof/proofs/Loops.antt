@@ -1,6 +1,5 @@
 -- The turns of loops over two lists side by side.
-use Rattle.life_proof.proofs.Common.{◌≡◌, ◌&&◌, suc, Bool, true, false, List, [], ◌∷◌, length, refl, ap, Life, Program, TypeInfo, Asked, Part, are_good_parts, is_life_of, are_lives_of}
-use Rattle.life_proof.specs.Good.{is_good_part}
+use Rattle.life_proof.proofs.Common.{◌≡◌, ◌&&◌, suc, Bool, true, false, List, [], ◌∷◌, length, refl, ap, Life, Program, TypeInfo, Asked, Part, are_good_parts, is_life_of, are_lives_of, is_good_part}
 
 fails : (p q : Bool) → q ≡ false → (p && q) ≡ false
 fails true q e = e

@@ -1,20 +1,13 @@
 -- A gate that stands for what its window needs of a snapshot stands for all of it.
-use Rattle.std.proofs.Common.{◌≡◌, ◌∙◌, ◌⊎◌, inl, inr, sym, ap, refl, subst, ℕ, ℤ, pos, ◌-ℤ◌, ◌+ℤ◌, ◌==◌, ◌&&◌, ◌||◌, int_lt, List, [], ◌∷◌, map, Bool, true, false, cond, option_map}
-use Rattle.std.specs.List.{filter, list_any, AllByRecursion}
+use Rattle.loading_laws.proofs.Common.{◌≡◌, ◌∙◌, ◌⊎◌, inl, inr, sym, ap, refl, subst, ℕ, ℤ, pos, ◌-ℤ◌, ◌+ℤ◌, ◌==◌, ◌&&◌, ◌||◌, int_lt, List, [], ◌∷◌, map, Bool, true, false, cond, filter, list_any, AllByRecursion, Decides-eqb, In, Fact, Pattern, Program, HaveDistinctTags, Snapshot}
+use Rattle.std.proofs.Common.{option_map}
 use Rattle.std.specs.List.Sorted.{IsStrictlySortedBy}
 use Rattle.std.specs.Ordering.{nat_cmp}
 use Rattle.std.specs.declared.cmp.Ordering.TheVariants.{Less}
-use Rattle.std.proofs.lemmas.Bool.Decides.{Decides-eqb}
-use Rattle.fx_base.specs.Lists.{In}
-use Rattle.fx_base.specs.declared.fact.Fact.{Fact}
 use Rattle.fx_base.specs.declared.ids.Tag.{Tag}
-use Rattle.rule_model.specs.declared.condition.Pattern.{Pattern}
 use Rattle.rule_model.specs.declared.condition.WindowTag.{WindowTag}
 use Rattle.rule_model.specs.declared.condition.WindowTag.TheVariants as tag
-use Rattle.rule_model.specs.declared.program.Program.{Program}
 use Rattle.rule_model.specs.Candidates.{fits, is_inside}
-use Rattle.rule_model.specs.Distinct.{HaveDistinctTags}
-use Rattle.rule_model.specs.Snapshots.{Snapshot}
 use Rattle.rule_model.proofs.Named.{of_filter}
 use Rattle.rule_model.proofs.Order.{in_filter, passed}
 use Rattle.rule_world.proofs.Fresh.{distinct_filtered}

@@ -1,3 +1,4 @@
+mod Common
 pub mod Gates
 pub mod Lines
 pub mod Naming

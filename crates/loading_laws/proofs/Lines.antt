@@ -1,32 +1,17 @@
 -- The rows of a node that is loaded are those of the line of its condition, with what the extras count.
-use Rattle.std.proofs.Common.{◌≡◌, ◌∙◌, ◌&&◌, ◌||◌, not, sym, ap, refl, inl, inr, ℕ, zero, suc, ◌+◌, ◌<◌, ◌==◌, ℤ, int_eq, arith, append-nil, if◌then◌else◌, Bool, true, false, List, [], ◌∷◌, ◌++◌, map, slice_get, Option, Some, None}
+use Rattle.loading_laws.proofs.Common.{◌≡◌, ◌∙◌, ◌&&◌, ◌||◌, not, sym, ap, refl, inl, inr, ℕ, zero, suc, ◌+◌, ◌<◌, ◌==◌, ℤ, int_eq, arith, append-nil, if◌then◌else◌, Bool, true, false, List, [], ◌∷◌, ◌++◌, map, slice_get, Option, Some, None, list_any, is_some, option_map, nat_tests, Decides-int_eq, In, Fact, Extra, Named, Row, Plain, Pattern, Program, HaveDistinctTags, Snapshot, floor, both_of, Look, joins, line, HasAllOf, NameHeld, held, candidates_of, candidate_names, partners, laden_line, values_of}
 use mathlib.Core.Path.{fun_ext}
-use Rattle.std.specs.List.{list_any}
-use Rattle.std.specs.Option.{is_some, option_map}
-use Rattle.std.proofs.lemmas.Bool.Decides.{nat_tests, Decides-int_eq}
-use Rattle.fx_base.specs.Lists.{In}
-use Rattle.fx_base.specs.declared.fact.Fact.{Fact}
 use Rattle.fold_fn.specs.Held.{Held}
 use Rattle.fold_fn.specs.Laws.{HaveSame}
 use Rattle.fold_fn.specs.Order.{in_rising_order, times}
 use Rattle.fold_fn.specs.Results.{fold_result}
 use Rattle.fold_fn.proofs.ResultLemmas.{result_same, result-rising}
 use Rattle.fold_fn.proofs.Rising.{times-nil, times-cons, times-rising}
-use Rattle.row_delta.specs.declared.extra.Extra.{Extra}
-use Rattle.row_delta.specs.declared.row.Named.{Named}
-use Rattle.row_delta.specs.declared.row.Row.{Row}
 use Rattle.rule_model.specs.declared.condition.Accumulate.{Accumulate}
-use Rattle.rule_model.specs.declared.condition.Condition.TheVariants.{Plain}
-use Rattle.rule_model.specs.declared.condition.Pattern.{Pattern}
-use Rattle.rule_model.specs.declared.program.Program.{Program}
-use Rattle.rule_model.specs.Distinct.{HaveDistinctTags}
 use Rattle.rule_model.specs.Lent.{Holds, bound_in}
 use Rattle.rule_model.specs.Rows.{argument}
-use Rattle.rule_model.specs.Snapshots.{Snapshot, floor}
 use Rattle.rule_model.specs.Tests.{results_hold}
 use Rattle.rule_model.specs.Tuples.{Bindings, name_of}
-use Rattle.rule_model.proofs.Listed.{both_of}
-use Rattle.join_tests.specs.Joins.{Look, joins}
 use Rattle.pair_memory.specs.declared.memories.Memories.{Memories}
 use Rattle.pair_memory.specs.Memories.{left_at}
 use Rattle.pair_memory.specs.Standing.{cleaned, no_names, AlikeOn}
@@ -48,9 +33,8 @@ use Rattle.not_node.specs.Rows.{not_rows, unblocked}
 use Rattle.not_node.specs.Waiting.{mature}
 use Rattle.not_node.proofs.Maturing.{row_mature, moment_alike}
 use Rattle.not_node.proofs.Quiet.{quiet_law}
-use Rattle.condition_rows.specs.Lines.{is_ripe, line, is_result as is_given}
-use Rattle.condition_rows.specs.Looks.{HasAllOf, NameHeld}
-use Rattle.condition_rows.specs.Sets.{held, candidates_of, candidate_names, has_partner, partners}
+use Rattle.condition_rows.specs.Lines.{is_ripe, is_result as is_given}
+use Rattle.condition_rows.specs.Sets.{has_partner}
 use Rattle.condition_rows.proofs.Ends.{in_name, name_in}
 use Rattle.condition_rows.proofs.Joined.{candidates_named}
 use Rattle.condition_node.specs.declared.node.Node.{Node}
@@ -61,7 +45,7 @@ use Rattle.condition_node.proofs.Folding.{fold_shown, partners_distinct, partner
 use Rattle.condition_node.proofs.Knowing.{held_known, row_alike}
 use Rattle.condition_node.proofs.Loading.{all_clean}
 use Rattle.condition_node.proofs.Shown.{join_shown, exists_shown, not_shown}
-use Rattle.image_laws.specs.Laden.{laden_gives, laden_line, values_of}
+use Rattle.image_laws.specs.Laden.{laden_gives}
 
 -- ---- a node that stands
 

@@ -1,26 +1,13 @@
 -- Rows of kept facts, with what conditions count beyond them, name kept facts alone.
-use Rattle.std.proofs.Common.{◌≡◌, ◌∙◌, ◌&&◌, ◌||◌, not, sym, ap, refl, subst, ℕ, zero, suc, Bool, true, false, List, [], ◌∷◌, ◌++◌, slice_get, Option, Some, None}
-use Rattle.std.specs.Option.{is_some, option_map, option_and_then}
+use Rattle.loading_laws.proofs.Common.{◌≡◌, ◌∙◌, ◌&&◌, ◌||◌, not, sym, ap, refl, subst, ℕ, zero, suc, Bool, true, false, List, [], ◌∷◌, ◌++◌, slice_get, Option, Some, None, is_some, option_map, option_and_then, Fact, Extra, Named, Row, Plain, Negated, Existing, Folded, Pattern, Program, Snapshot, both_of, Look, joins, version_at, versions_at, empty_row, is_ripe, NameHeld, held, has_partner, is_candidate_given, extra_at, laden_gives, laden_line, laden_with, values_of}
 use Rattle.std.proofs.lemmas.Map.Views.{tells_apart}
-use Rattle.fx_base.specs.declared.fact.Fact.{Fact}
-use Rattle.row_delta.specs.declared.extra.Extra.{Extra}
-use Rattle.row_delta.specs.declared.row.Named.{Named}
-use Rattle.row_delta.specs.declared.row.Row.{Row}
 use Rattle.row_delta.specs.RowOrder.{row_exact}
 use Rattle.rule_model.specs.declared.condition.Condition.{Condition}
-use Rattle.rule_model.specs.declared.condition.Condition.TheVariants.{Plain, Negated, Existing, Folded}
-use Rattle.rule_model.specs.declared.condition.Pattern.{Pattern}
-use Rattle.rule_model.specs.declared.program.Program.{Program}
-use Rattle.rule_model.specs.Snapshots.{Snapshot}
-use Rattle.rule_model.proofs.Listed.{both_of}
-use Rattle.join_tests.specs.Joins.{Look, joins, version_at, versions_at}
 use Rattle.pair_memory.specs.Joined.{joined}
 use Rattle.pair_memory.proofs.Joining.{joined_from, joined_with}
 use Rattle.pair_memory.proofs.Valued.{valued_from}
-use Rattle.condition_rows.specs.Lines.{empty_row, is_ripe}
-use Rattle.condition_rows.specs.Looks.{NameHeld}
-use Rattle.condition_rows.specs.Sets.{held, candidates_of, has_partner, is_candidate_given}
-use Rattle.image_laws.specs.Laden.{extra_at, laden, laden_gives, laden_line, laden_with, values_of}
+use Rattle.condition_rows.specs.Sets.{candidates_of}
+use Rattle.image_laws.specs.Laden.{laden}
 
 there_more : (o : Option Fact) (r s : Option (List Fact)) → (is_some r ≡ true → is_some s ≡ true)
     → is_some (option_and_then (λ (f : Fact). option_map (λ facts. f ∷ facts) r) o) ≡ true → is_some (option_and_then (λ (f : Fact). option_map (λ facts. f ∷ facts) s) o) ≡ true

@@ -1,10 +1,9 @@
 -- The rows of a not, what is dropped with forgotten facts, and what waits.
-use Rattle.not_node.proofs.Common.{◌≡◌, ◌∙◌, sym, ap, refl, int_lt, cond, Bool, true, false, not, ◌&&◌, List, Option, Some, None, ℤ, fun_ext, Row, has, IsDifference, Pattern, Look, left_at, moment_at, unblocked, not_rows, is_moment, mature, later, Awaits}
+use Rattle.not_node.proofs.Common.{◌≡◌, ◌∙◌, sym, ap, refl, int_lt, cond, Bool, true, false, not, ◌&&◌, List, Option, Some, None, ℤ, fun_ext, Row, has, IsDifference, Pattern, Look, left_at, moment_at, unblocked, not_rows, is_moment, mature, later, Awaits, cleaned, not_line, NotLaw, StepLaw, DropLaw, MoveLaw}
 use mathlib.Core.Path.{subst}
 use Rattle.std.specs.Option.{is_some}
 use Rattle.pair_memory.specs.declared.memories.Memories.{Memories}
 use Rattle.pair_memory.specs.Joined.{has_name}
-use Rattle.pair_memory.specs.Standing.{cleaned}
 use Rattle.pair_memory.proofs.Moving.{move_law as memories_move}
 use Rattle.std.specs.List.{list_any}
 use Rattle.tally_node.specs.declared.count.Blockers.{Blockers}
@@ -12,7 +11,6 @@ use Rattle.tally_node.specs.Counts.{counts_blockers, where_unblocked}
 use Rattle.tally_node.specs.Origins.{shows_any}
 use Rattle.tally_node.specs.Tallies.{offers, output_some}
 use Rattle.tally_node.proofs.Lawful.{blockers_shown, tally_law}
-use Rattle.not_node.specs.Laws.{not_line, NotLaw, StepLaw, DropLaw, MoveLaw}
 use Rattle.not_node.proofs.Maturing.{row_mature, moment_alike}
 
 pub not_law : NotLaw

@@ -1,5 +1,5 @@
 -- The moment for which a row waits, by the window of possible starts, and when the row is mature.
-use Rattle.not_node.proofs.Common.{◌≡◌, ◌∙◌, ◌||◌, not, cond, ℕ, ℤ, zero, suc, Bool, true, false, List, [], ◌∷◌, Option, Some, None, slice_get, refl, sym, ap, fun_ext, Row, Pattern, Program, bound_in, bounds_of, AreOperators, is_event, Look, mature}
+use Rattle.not_node.proofs.Common.{◌≡◌, ◌∙◌, ◌||◌, not, cond, ℕ, ℤ, zero, suc, Bool, true, false, List, [], ◌∷◌, Option, Some, None, slice_get, refl, sym, ap, fun_ext, Row, Pattern, Program, bound_in, bounds_of, AreOperators, is_event, Look, mature, named_at, window_by, window_at, is_past, is_point, Bounds, bounds_join, AlikeOn, MaturityLaw, latest_of, latest_start}
 use Rattle.fx_base.specs.declared.fact.Fact.{Fact}
 use Rattle.temporal_ops.specs.declared.window.Window.{Window}
 use Rattle.temporal_ops.specs.declared.window.Window.TheVariants.{Never, UpTo, Unbounded}
@@ -8,15 +8,10 @@ use Rattle.temporal_ops.specs.Starts.{window_of}
 use Rattle.temporal_ops.proofs.WindowOfEdges.{window_is_of_edges}
 use Rattle.temporal_ops.proofs.Windows.{one_window}
 use Rattle.row_delta.specs.declared.row.Named.{Named}
-use Rattle.rule_model.specs.Lent.{named_at}
-use Rattle.rule_model.specs.Maturity.{window_by, window_at, is_past, is_mature}
+use Rattle.rule_model.specs.Maturity.{is_mature}
 use Rattle.rule_model.specs.Tuples.{Bindings, row_of}
-use Rattle.rule_model.specs.Types.{is_point}
-use Rattle.rule_model.proofs.Mature.{Bounds, bounds_join}
 use Rattle.rule_model.proofs.Naming.{bound_named}
-use Rattle.pair_memory.specs.Standing.{AlikeOn}
-use Rattle.not_node.specs.Laws.{MaturityLaw}
-use Rattle.not_node.specs.Moments.{latest_of, latest_start, moment_at}
+use Rattle.not_node.specs.Moments.{moment_at}
 
 -- ---- the moment
 module _ (p : Program) (q : Pattern) (look : Look) (row : Row) where

@@ -1,10 +1,7 @@
 -- With a later floor that no row's moment is below, the same rows wait, and the same rows are mature.
-use Rattle.not_node.proofs.Common.{◌≡◌, ◌∙◌, sym, ap, refl, ℤ, ◌≤ℤ◌, int_lt, arith, cond, Bool, true, false, not, ◌&&◌, Option, Some, None, List, ints, Row, has, Pattern, Program, Look, left_at, moment_at, unblocked, waits, is_moment, mature, ripe, Awaits}
+use Rattle.not_node.proofs.Common.{◌≡◌, ◌∙◌, sym, ap, refl, ℤ, ◌≤ℤ◌, int_lt, arith, cond, Bool, true, false, not, ◌&&◌, Option, Some, None, List, ints, Row, has, Pattern, Program, Look, left_at, moment_at, unblocked, waits, is_moment, mature, ripe, Awaits, QuietLaw, IsInStep, NoneDue}
 use Rattle.rule_model.proofs.Listed.{both_of}
 use Rattle.not_node.specs.declared.node.NotNode.{NotNode}
-use Rattle.not_node.specs.Laws.{QuietLaw}
-use Rattle.not_node.specs.Rows.{IsInStep}
-use Rattle.not_node.specs.Waiting.{NoneDue}
 use Rattle.not_node.proofs.Lawful.{none_comes}
 use Rattle.not_node.proofs.Pairs.{int_itself, int_same}
 

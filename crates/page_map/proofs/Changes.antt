@@ -1,7 +1,6 @@
 -- The map behind a write to a directory of the row, or of the tree.
-use Rattle.page_map.proofs.Common.{◌≡◌, ◌∙◌, sym, ap, subst, ℕ, ◌+◌, ◌/◌, ◌%◌, ◌<◌, List, Option, Some, None, cond, length, get_or, set, [], nat_eq, nat_cmp, BTreeMap, is_at, WritesThrough, Directory, free, AreShort, AreDirectories, number_at, value_at, numbered, among, held, AreHeld}
+use Rattle.page_map.proofs.Common.{◌≡◌, ◌∙◌, sym, ap, subst, ℕ, ◌+◌, ◌/◌, ◌%◌, ◌<◌, List, Option, Some, None, cond, length, get_or, set, [], nat_eq, nat_cmp, BTreeMap, is_at, WritesThrough, Directory, free, AreShort, AreDirectories, number_at, value_at, numbered, among, held, AreHeld, All-get_or}
 use Rattle.std.specs.FinMap as map
-use Rattle.std.proofs.lemmas.List.Elements.{All-get_or}
 use Rattle.page_map.proofs.Kept.{get-numbers, put_anew, put_first, take_out, take_last, unchanged, emptied, rewritten, rewritten_others}
 use Rattle.page_map.proofs.Rows.{stands, stands_at, whole}
 use Rattle.page_map.proofs.Moved.{stands_in_row, stands_in_tree, row_written, row_held, tree_written, tree_held}

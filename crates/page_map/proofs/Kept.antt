@@ -1,17 +1,12 @@
 -- What the directories and their pages hold.
-use Rattle.page_map.proofs.Common.{◌≡◌, ◌∙◌, sym, ap, refl, subst, ℕ, zero, suc, ◌+◌, ◌*◌, ◌/◌, ◌%◌, ◌^◌, ◌<◌, ◌≤◌, List, [], ◌∷◌, ◌++◌, Bool, true, false, cond, ◌&&◌, Option, Some, None, length, get_or, arith, eq-eqb, append_assoc, nat_eq, Less, nat_cmp, BTreeMap, is_at, WritesThrough, lookup, keys_of, values_of, All, AllByRecursion, slice_get, recursion_from_All, exact_unsigned_eq, Page, Directory, free, value_of, entries_from, entries_by, entries_of, AreShort, AreDirectories, number_in, number_at, value_at}
-use Rattle.std.specs.Prelude.{T, IfNone, OnSome, is_some}
-use Rattle.std.specs.Ordering.{eq_by_cmp, is_eq, is_lt}
+use Rattle.page_map.proofs.Common.{◌≡◌, ◌∙◌, sym, ap, refl, subst, ℕ, zero, suc, ◌+◌, ◌*◌, ◌/◌, ◌%◌, ◌^◌, ◌<◌, ◌≤◌, List, [], ◌∷◌, ◌++◌, Bool, true, false, cond, ◌&&◌, Option, Some, None, length, get_or, arith, eq-eqb, append_assoc, nat_eq, Less, nat_cmp, BTreeMap, is_at, WritesThrough, lookup, keys_of, values_of, All, AllByRecursion, slice_get, recursion_from_All, exact_unsigned_eq, Page, Directory, free, value_of, entries_from, entries_by, entries_of, AreShort, AreDirectories, number_in, number_at, value_at, T, IfNone, OnSome, is_some, eq_by_cmp, is_eq, is_lt, insert_entry, set_value, remove_entry, All-keys-insert_entry, All-values-insert_entry, All-map-remove_entry, All-values-set_value, Numbers, entry_of}
 use Rattle.std.specs.Cmp.{nat_cmp_total, unsigned_tied}
-use Rattle.std.specs.BTreeMap.{insert_entry}
-use Rattle.std.specs.Map.{set_value, remove_entry}
 use Rattle.std.specs.List.Sorted.{IsStrictlySortedBy}
 use Rattle.std.specs.FinMap.Entries.{below_all}
 use Rattle.std.specs.FinMap.{find, is_sorted, from_sorted, from_entries, get-from_entries, get-from_sorted, get-insert, get-remove, entries-from_sorted, same_map, nat_cmp-IsAntisymmetric}
 use Rattle.std.specs.FinMap as map
 use Rattle.std.proofs.lemmas.Cmp.{ranked}
-use Rattle.std.proofs.lemmas.Map.Views.{All-keys-insert_entry, All-values-insert_entry, All-map-remove_entry, All-values-set_value}
-use Rattle.page_map.specs.Pages.{Numbers, entry_of, numbers_of}
+use Rattle.page_map.specs.Pages.{numbers_of}
 
 -- ---- numbers that tie
 

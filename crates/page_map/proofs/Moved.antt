@@ -1,7 +1,5 @@
 -- Row and tree behind a write, and behind a move of the row.
-use Rattle.page_map.proofs.Common.{◌≡◌, ◌∙◌, sym, ap, refl, ℕ, ◌+◌, ◌^◌, ◌<◌, ◌≤◌, List, [], ◌∷◌, ◌++◌, Bool, true, false, cond, Option, Some, None, length, set, arith, length-append, length-set, ◌/◌, ◌%◌, nat_lt, option_or, nat_cmp, is_at, All-push, All-pop, All-tail, ltb-true, ltb-false, Directory, AreShort, AreDirectories, value_of, value_at, numbered, among, held, AreHeld, IsTrimmed}
-use Rattle.std.proofs.lemmas.List.Elements.{All-set}
-use Rattle.page_map.specs.Pages.{numbers_of}
+use Rattle.page_map.proofs.Common.{◌≡◌, ◌∙◌, sym, ap, refl, ℕ, ◌+◌, ◌^◌, ◌<◌, ◌≤◌, List, [], ◌∷◌, ◌++◌, Bool, true, false, cond, Option, Some, None, length, set, arith, length-append, length-set, ◌/◌, ◌%◌, nat_lt, option_or, nat_cmp, is_at, All-push, All-pop, All-tail, ltb-true, ltb-false, Directory, AreShort, AreDirectories, value_of, value_at, numbered, among, held, AreHeld, IsTrimmed, All-set, numbers_of}
 use Rattle.page_map.proofs.Kept.{apart, together, tied, same_values, past_pages}
 use Rattle.page_map.proofs.Rows.{stands, or_none, none_before, none_behind, some_within, stands_set, stands_push, stands_among, none_among, whole}
 

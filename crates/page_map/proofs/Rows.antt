@@ -1,7 +1,6 @@
 -- A row of directories among those of a tree.
-use Rattle.page_map.proofs.Common.{◌≡◌, ◌∙◌, sym, ap, subst, refl, ℕ, zero, suc, ◌+◌, ◌^◌, ◌<◌, ◌≤◌, List, [], ◌∷◌, ◌++◌, Bool, true, false, cond, Option, Some, None, length, get_or, set, arith, nat_lt, option_or, Less, nat_cmp, is_at, lookup, keys_of, values_of, AllByRecursion, ltb-true, ltb-false, append-nil, recursion_from_All, Directory, AreShort, AreDirectories, numbered, among, AreHeld}
+use Rattle.page_map.proofs.Common.{◌≡◌, ◌∙◌, sym, ap, subst, refl, ℕ, zero, suc, ◌+◌, ◌^◌, ◌<◌, ◌≤◌, List, [], ◌∷◌, ◌++◌, Bool, true, false, cond, Option, Some, None, length, get_or, set, arith, nat_lt, option_or, Less, nat_cmp, is_at, lookup, keys_of, values_of, AllByRecursion, ltb-true, ltb-false, append-nil, recursion_from_All, Directory, AreShort, AreDirectories, numbered, among, AreHeld, All-from_recursion}
 use Rattle.std.specs.List.Sorted.{IsStrictlySortedBy}
-use Rattle.std.proofs.lemmas.List.Elements.{All-from_recursion}
 use Rattle.page_map.proofs.Kept.{apart, together, tied, beyond, all_above}
 
 -- ---- look-ups

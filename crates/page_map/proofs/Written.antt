@@ -1,6 +1,5 @@
 -- A directory after a write to one of its pages.
-use Rattle.page_map.proofs.Common.{◌≡◌, ◌∙◌, sym, ap, refl, ℕ, zero, suc, ◌/◌, ◌%◌, ◌<◌, ◌≤◌, List, [], ◌∷◌, ◌++◌, Bool, true, false, cond, Option, length, get_or, set, arith, eq-eqb, length-append, option_to_list, nat_eq, All-push, All-pop, exact_unsigned_eq, Page, free, AreShort, number_in, number_at}
-use Rattle.std.proofs.lemmas.List.{get_or_past}
+use Rattle.page_map.proofs.Common.{◌≡◌, ◌∙◌, sym, ap, refl, ℕ, zero, suc, ◌/◌, ◌%◌, ◌<◌, ◌≤◌, List, [], ◌∷◌, ◌++◌, Bool, true, false, cond, Option, length, get_or, set, arith, eq-eqb, length-append, option_to_list, nat_eq, All-push, All-pop, exact_unsigned_eq, Page, free, AreShort, number_in, number_at, get_or_past}
 
 -- what stands in one of the pages
 pub in_page : (pages : List Page) (i k : ℕ) (page : Page) → i < length pages → page ≡ get_or pages i page → number_in pages i k ≡ get_or page.items k free

@@ -1,9 +1,7 @@
 -- What joins a row or a candidate is found under the join values that are sought for it.
-use Rattle.pair_memory.proofs.Common.{◌≡◌, ◌∙◌, sym, ap, refl, subst, List, [], ◌∷◌, Bool, true, false, ◌&&◌, ◌||◌, Some, None, is_some, Ordering, eq_by_cmp, Value, same_value, equal_values, Named, Row, row_cmp, name_cmp, Pattern, JoinIndex, bucket_at, at, Look, joins, row_value, candidate_value, row_kept, unjoined, row_joins, name_joins, stands_in}
+use Rattle.pair_memory.proofs.Common.{◌≡◌, ◌∙◌, sym, ap, refl, subst, List, [], ◌∷◌, Bool, true, false, ◌&&◌, ◌||◌, Some, None, is_some, Ordering, eq_by_cmp, Value, same_value, equal_values, Named, Row, row_cmp, name_cmp, Pattern, JoinIndex, bucket_at, at, Look, joins, row_value, candidate_value, row_kept, unjoined, row_joins, name_joins, stands_in, rows_sought, candidates_sought, is_among, name_kept}
 use Rattle.std.specs.List.Sorted.{IsStrictlySortedBy}
-use Rattle.join_tests.specs.Kept.{rows_sought, candidates_sought, is_among}
 use Rattle.join_tests.proofs.Meeting.{row_sought, candidate_sought}
-use Rattle.pair_memory.specs.Memories.{name_kept}
 use Rattle.pair_memory.specs.Joined.{joined}
 use Rattle.pair_memory.proofs.Joining.{row_decides, name_decides, splits_alike, splits_or}
 

@@ -1,13 +1,10 @@
 -- Rows that are made by one fact more.
-use Rattle.pair_memory.proofs.Common.{◌≡◌, ◌∙◌, sym, ap, refl, subst, List, [], ◌∷◌, Bool, true, false, ◌&&◌, ◌||◌, Option, Some, None, is_some, option_map, is_at, Ordering, eq_by_cmp, is_some-lookup, Named, Row, row_cmp, has, same_equiv, name_cmp, name_equiv, found, with_name, split_last, unjoined, splits, has_name}
+use Rattle.pair_memory.proofs.Common.{◌≡◌, ◌∙◌, sym, ap, refl, subst, List, [], ◌∷◌, Bool, true, false, ◌&&◌, ◌||◌, Option, Some, None, is_some, option_map, is_at, Ordering, eq_by_cmp, is_some-lookup, Named, Row, row_cmp, has, same_equiv, name_cmp, name_equiv, found, with_name, split_last, unjoined, splits, has_name, is_eq, row_exact, name_exact, front_of}
 use Rattle.std.specs.Bool.{Decides}
 use Rattle.std.specs.declared.cmp.Ordering.TheVariants.{Less, Equal, Greater}
-use Rattle.std.specs.Ordering.{is_eq}
 use Rattle.std.proofs.lemmas.Bool.Decides.{same_from_decides}
-use Rattle.row_delta.specs.RowOrder.{row_exact}
-use Rattle.row_delta.specs.NameOrder.{name_exact}
 use Rattle.alpha_memory.specs.declared.bucket.Bucket.TheVariants.{One}
-use Rattle.pair_memory.specs.Joined.{front_of, joined}
+use Rattle.pair_memory.specs.Joined.{joined}
 use Rattle.pair_memory.proofs.Lasts.{split_snoc, is_snoc}
 
 equal_from : (o : Ordering) → is_eq o ≡ true → o ≡ Equal

@@ -1,6 +1,5 @@
 -- Lists as their front and their last element.
-use Rattle.pair_memory.proofs.Common.{◌≡◌, ap, refl, subst, List, [], ◌∷◌, ◌++◌, Option, Some, None, split_last}
-use Rattle.pair_memory.specs.Joined.{behind_first}
+use Rattle.pair_memory.proofs.Common.{◌≡◌, ap, refl, subst, List, [], ◌∷◌, ◌++◌, Option, Some, None, split_last, behind_first}
 
 pub split_snoc : {A : Type 0} (xs : List A) (x : A) → split_last (xs ++ x ∷ []) ≡ Some (xs, x)
 split_snoc [] x = refl

@@ -1,7 +1,5 @@
 -- The left rows as a list.
-use Rattle.pair_memory.proofs.Common.{◌≡◌, ◌∙◌, sym, ap, refl, List, Bool, true, false, is_some, Value, equal_values, same_value, Row, row_cmp, has, at, Look, Memories, has_left}
-use Rattle.alpha_memory.specs.JoinIndex.{AreKeys}
-use Rattle.pair_memory.specs.Memories.{Agrees}
+use Rattle.pair_memory.proofs.Common.{◌≡◌, ◌∙◌, sym, ap, refl, List, Bool, true, false, is_some, Value, equal_values, same_value, Row, row_cmp, has, at, Look, Memories, has_left, AreKeys, Agrees}
 
 same_either : (a b : Bool) → (a ≡ true → b ≡ true) → (b ≡ true → a ≡ true) → a ≡ b
 same_either true b f g = sym (f refl)

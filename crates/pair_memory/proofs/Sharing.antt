@@ -1,12 +1,11 @@
 -- Left rows that are kept once for several nodes, and the candidates of each.
-use Rattle.pair_memory.proofs.Common.{◌≡◌, ◌∙◌, sym, ap, refl, ℕ, ◌+◌, ◌<◌, length, take, get_or, List, [], ◌∷◌, ◌++◌, Bool, true, false, cond, not, ◌&&◌, ◌||◌, list_any, eq_by_cmp, list_any-append, list_any_more, Named, Row, row_cmp, has, same_equiv, name_cmp, name_equiv, Look, row_value, Memories, unjoined, has_name, has_left, has_right, Keeps, beside, RowsLeave, RowsCome, NamesLeave, NamesCome}
+use Rattle.pair_memory.proofs.Common.{◌≡◌, ◌∙◌, sym, ap, refl, ℕ, ◌+◌, ◌<◌, length, take, get_or, List, [], ◌∷◌, ◌++◌, Bool, true, false, cond, not, ◌&&◌, ◌||◌, list_any, eq_by_cmp, list_any-append, list_any_more, Named, Row, row_cmp, has, same_equiv, name_cmp, name_equiv, Look, row_value, Memories, unjoined, has_name, has_left, has_right, Keeps, beside, RowsLeave, RowsCome, NamesLeave, NamesCome, IsBeside}
 use Rattle.join_tests.specs.declared.row_key.RowKey.{RowKey}
 use Rattle.join_tests.specs.RowKeys.{value_by}
 use Rattle.join_tests.proofs.Siding.{kept_by}
 use Rattle.pair_memory.specs.declared.candidates.Candidates.{Candidates}
 use Rattle.pair_memory.specs.declared.left_rows.LeftRows.{LeftRows}
 use Rattle.pair_memory.specs.Joined.{joined}
-use Rattle.pair_memory.specs.Apart.{IsBeside}
 use Rattle.pair_memory.proofs.Joining.{splits_alike, splits_or}
 use Rattle.pair_memory.proofs.Turning.{keeps_then, less_more, more_more, any_name}
 

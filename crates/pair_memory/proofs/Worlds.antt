@@ -1,7 +1,6 @@
 -- What memories that stand for left rows and candidates of the world make, and what they stand for after a step or after forgetting.
-use Rattle.pair_memory.proofs.Common.{◌≡◌, ◌∙◌, sym, ap, refl, List, [], ◌∷◌, Bool, true, false, not, ◌&&◌, ◌||◌, Option, Some, None, list_any, list_any-append, Named, Row, Look, joins, Memories, with_name, unjoined, splits, has_left, has_right, made, cleaned, remembered}
+use Rattle.pair_memory.proofs.Common.{◌≡◌, ◌∙◌, sym, ap, refl, List, [], ◌∷◌, Bool, true, false, not, ◌&&◌, ◌||◌, Option, Some, None, list_any, list_any-append, Named, Row, Look, joins, Memories, with_name, unjoined, splits, has_left, has_right, made, cleaned, remembered, clean, either, PassesAlike, StandsFor}
 use Rattle.pair_memory.specs.Joined.{joined}
-use Rattle.pair_memory.specs.Standing.{clean, either, PassesAlike, StandsFor}
 use Rattle.pair_memory.proofs.Joining.{joined_alike, from_unjoined}
 
 and_nothing : (a : Bool) → (a && false) ≡ false
@@ -46,16 +45,6 @@ pub made_clean : {S : Type 0} (m : Memories S) (look : Look) (pass : Row → Nam
 made_clean m look pass left right forgotten stands alike r =
     joined_alike (joins m.pattern look) (has_left m look) (cleaned left forgotten) (has_right m look) (remembered right forgotten) stands.rows stands.names r
     ∙ joined_clean pass (joins m.pattern look) left right forgotten alike r
-
--- a set after its difference, where what comes is clean
-pub stepped_clean : (a b k : Bool) → ((b && not a) ≡ true → k ≡ true) → (((a && k) && not (a && not b)) || (b && not a)) ≡ (b && k)
-stepped_clean true true true h = refl
-stepped_clean true true false h = refl
-stepped_clean true false true h = refl
-stepped_clean true false false h = refl
-stepped_clean false true true h = refl
-stepped_clean false true false h = let e : false ≡ true = h refl in sym e
-stepped_clean false false k h = refl
 
 -- what is clean after more is forgotten
 pub clean_either : (facts others : Named → Bool) (names : List Named) → not (list_any (either facts others) names) ≡ (not (list_any facts names) && not (list_any others names))

@@ -1,21 +1,14 @@
 -- The facts that are meant, as they go and come.
-use Rattle.pattern_gate.proofs.Common.{◌≡◌, ◌∙◌, sym, ap, refl, subst, inl, inr, ℕ, ◌==◌, ℤ, List, [], ◌∷◌, ◌++◌, map, Bool, true, false, cond, not, ◌&&◌, ◌||◌, Option, Some, None, arith, option_to_list, filter, list_any, nat_cmp, Less, Decides-eqb, nat_tests, In, Fact, HaveDistinctTags, name_of, Pattern, of_map, in_right, filter_same, MayPass, MayStart, Arrival, named_of, after, WindowKind, Whole, Time, Length, arrival_of, is_meant, is_given_meant, is_one_meant, less_fact, less_facts, more_fact, more_facts, LetsAllGo, LetsCome, LetsAllCome}
-use Rattle.std.specs.List.{AllByRecursion}
+use Rattle.pattern_gate.proofs.Common.{◌≡◌, ◌∙◌, sym, ap, refl, subst, inl, inr, ℕ, ◌==◌, ℤ, List, [], ◌∷◌, ◌++◌, map, Bool, true, false, cond, not, ◌&&◌, ◌||◌, Option, Some, None, arith, option_to_list, filter, list_any, nat_cmp, Less, Decides-eqb, nat_tests, In, Fact, HaveDistinctTags, name_of, Pattern, of_map, in_right, filter_same, MayPass, MayStart, Arrival, named_of, after, WindowKind, Whole, Time, Length, arrival_of, is_meant, is_given_meant, is_one_meant, less_fact, less_facts, more_fact, more_facts, LetsAllGo, LetsCome, LetsAllCome, AllByRecursion, append_assoc, append-nil, map-append, in_map, in_left, filter_swap, MayGo, has_tag, shares_tag}
 use Rattle.std.specs.List.Sorted.{IsStrictlySortedBy}
-use Rattle.std.proofs.lemmas.List.{append_assoc, append-nil, map-append}
 use Rattle.std.proofs.lemmas.List.Elements.{filter-append}
 use Rattle.fx_base.specs.declared.ids.Tag.{Tag}
-use Rattle.rule_model.proofs.Listed.{in_map, in_left}
 use Rattle.rule_model.proofs.Named.{AllOf, of_filter}
 use Rattle.rule_model.proofs.Once.{one_fact}
 use Rattle.rule_model.proofs.Order.{in_filter, passed}
 use Rattle.rule_world.proofs.Fresh.{distinct_filtered}
-use Rattle.rule_world.proofs.Kept.{filter_swap}
 use Rattle.condition_rows.proofs.Ends.{in_name}
-use Rattle.window_gate.specs.Standing.{MayGo}
-use Rattle.window_gate.specs.Windows.{has_tag}
 use Rattle.window_gate.specs.declared.change.GateChange.TheVariants.{Come, Gone}
-use Rattle.pattern_gate.specs.Moves.{shares_tag}
 
 -- ---- filters
 

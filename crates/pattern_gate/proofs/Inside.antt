@@ -1,8 +1,6 @@
 -- What is inside the window of a pattern is what is of its candidates.
-use Rattle.pattern_gate.proofs.Common.{◌≡◌, ◌∙◌, sym, ap, refl, ℕ, nat_lt, ℤ, List, [], ◌∷◌, map, length, Bool, true, false, cond, ◌&&◌, arith, filter, nat_cmp, Less, nat_tests, In, Fact, has, Named, fits, candidates, Snapshot, name_of, Pattern, WindowTag, Program, filter_same, row_naming, candidates_of, named_of, inside, rows_inside, arrival_of, arrivals, kind_of}
+use Rattle.pattern_gate.proofs.Common.{◌≡◌, ◌∙◌, sym, ap, refl, ℕ, nat_lt, ℤ, List, [], ◌∷◌, map, length, Bool, true, false, cond, ◌&&◌, arith, filter, nat_cmp, Less, nat_tests, In, Fact, has, Named, fits, candidates, Snapshot, name_of, Pattern, WindowTag, Program, filter_same, row_naming, candidates_of, named_of, inside, rows_inside, arrival_of, arrivals, kind_of, length-map, is_inside}
 use Rattle.std.specs.List.Sorted.{IsStrictlySortedBy}
-use Rattle.std.proofs.lemmas.List.{length-map}
-use Rattle.rule_model.specs.Candidates.{is_inside}
 use Rattle.rule_model.specs.declared.condition.WindowTag.TheVariants.{Whole, Time, Length}
 use Rattle.pair_memory.specs.Joined.{has_name}
 use Rattle.condition_rows.proofs.Joined.{candidates_named}

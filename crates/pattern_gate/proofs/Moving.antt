@@ -1,20 +1,11 @@
 -- What leads from one snapshot to the next is a step that the window takes.
-use Rattle.pattern_gate.proofs.Common.{◌≡◌, ◌∙◌, sym, ap, refl, subst, inl, ℤ, pos, ◌≤ℤ◌, ◌<ℤ◌, List, [], ◌∷◌, ◌++◌, map, Bool, true, false, not, ◌&&◌, ◌||◌, ◌==◌, Option, Some, None, IfSome, int_le, int_lt, arith, option_to_list, Decides-eqb, In, Fact, has, Delta, Named, Row, fits, candidates, HaveDistinctTags, Snapshot, Pattern, WindowTag, Program, in_right, of_map, row_naming, no_rows, candidates_of, Stands, MayPass, MayStart, window_of, Arrival, inside, rows_inside, WindowKind, PatternGate, arrival_of, arrivals, kind_of, at_clock, is_meant, is_one_meant, less_facts, more_fact, more_facts, LetsAllGo, LetsCome, LetsAllCome, TakesStep}
-use Rattle.std.proofs.lemmas.Int.{ints}
-use Rattle.row_change.specs.Changes.{IsDifference}
+use Rattle.pattern_gate.proofs.Common.{◌≡◌, ◌∙◌, sym, ap, refl, subst, inl, ℤ, pos, ◌≤ℤ◌, ◌<ℤ◌, List, [], ◌∷◌, ◌++◌, map, Bool, true, false, not, ◌&&◌, ◌||◌, ◌==◌, Option, Some, None, IfSome, int_le, int_lt, arith, option_to_list, Decides-eqb, In, Fact, has, Delta, Named, Row, fits, candidates, HaveDistinctTags, Snapshot, Pattern, WindowTag, Program, in_right, of_map, row_naming, no_rows, candidates_of, Stands, MayPass, MayStart, window_of, Arrival, inside, rows_inside, WindowKind, PatternGate, arrival_of, arrivals, kind_of, at_clock, is_meant, is_one_meant, less_facts, more_fact, more_facts, LetsAllGo, LetsCome, LetsAllCome, TakesStep, ints, IsDifference, unbound, both_of, IsNameDifference, no_names, LeavesAt, most, has_good_window, GateStands, LeavesBy, IsOrderly, Moves}
 use Rattle.rule_model.specs.Simple.{is_whole}
 use Rattle.rule_model.specs.Tests.{tests_hold}
-use Rattle.rule_model.specs.Tuples.{unbound}
 use Rattle.rule_model.specs.Types.{is_event}
 use Rattle.rule_model.specs.declared.condition.WindowTag.TheVariants.{Whole, Time, Length}
-use Rattle.rule_model.proofs.Listed.{both_of}
 use Rattle.rule_world.specs.Events.{most_millis}
 use Rattle.rule_world.specs.Programs.{is_window}
-use Rattle.pair_memory.specs.Inputs.{IsNameDifference}
-use Rattle.pair_memory.specs.Standing.{no_names}
-use Rattle.window_gate.specs.Standing.{LeavesAt, most}
-use Rattle.pattern_gate.specs.Gates.{has_good_window, GateStands, LeavesBy}
-use Rattle.pattern_gate.specs.Moves.{IsOrderly, Moves}
 use Rattle.pattern_gate.proofs.Arriving.{filter_among, rising, left, meant, less_all, lets_all, more_one, more_all, lets_come, lets_all_come, none_meant}
 use Rattle.pattern_gate.proofs.Inside.{inside_are, rows_named}
 

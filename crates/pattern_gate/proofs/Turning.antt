@@ -1,11 +1,8 @@
 -- What a turn does to what has changed so far, and to what is left of the facts that go.
-use Rattle.pattern_gate.proofs.Common.{◌≡◌, ◌∙◌, sym, ap, refl, subst, ℕ, ◌+◌, ◌<◌, ◌≤◌, ℤ, List, [], ◌∷◌, length, drop, get_or, Bool, true, false, not, Some, ◌&&◌, ◌||◌, Bor, list_any, Fact, IsBetween, has, Delta, Row, lent, Pattern, no_rows, Stands, window_of, Arrival, rows_inside, WindowKind, Whole, Time, Length, PatternGate, is_meant, less_fact, less_facts, more_fact, more_facts, LetsAllGo, LetsCome, LetsAllCome, Reaches}
-use Rattle.std.proofs.lemmas.List.{at_drop_more, at_drop_all}
+use Rattle.pattern_gate.proofs.Common.{◌≡◌, ◌∙◌, sym, ap, refl, subst, ℕ, ◌+◌, ◌<◌, ◌≤◌, ℤ, List, [], ◌∷◌, length, drop, get_or, Bool, true, false, not, Some, ◌&&◌, ◌||◌, Bor, list_any, Fact, IsBetween, has, Delta, Row, lent, Pattern, no_rows, Stands, window_of, Arrival, rows_inside, WindowKind, Whole, Time, Length, PatternGate, is_meant, less_fact, less_facts, more_fact, more_facts, LetsAllGo, LetsCome, LetsAllCome, Reaches, at_drop_more, at_drop_all, Leads, without, along, LetsGo}
 use Rattle.row_delta.specs.DifferenceLaws.{between_applicable}
-use Rattle.row_change.specs.Changes.{Leads, without, along}
 use Rattle.row_change.specs.declared.change.Change.{Change}
 use Rattle.row_change.proofs.Alike.{leads_alike}
-use Rattle.pattern_gate.specs.Turns.{LetsGo}
 
 -- without what is in the first alone, and with what is in the second alone, it is the second
 led : (a b : Bool) → ((a && not (a && not b)) || (b && not a)) ≡ b

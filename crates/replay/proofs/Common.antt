@@ -1,4 +1,4 @@
--- The names that two proofs and more cite, passed on from one place. Declares nothing.
+-- Names from modules that two proofs and more cite, passed on from one place. Declares nothing.
 pub use Rattle.std.proofs.Common.{◌≡◌, ap, ◌∙◌, arith, refl, length, sym, ℕ, List, inl, inr, Option, ◌≤◌, Some, subst, ◌++◌, None, take, ◌<◌, Bool, [], drop, true, ◌+◌, ◌⊎◌, Err, false, ◌≢◌, nat_lt, ◌∷◌, suc, Result, option_map, rules, zero, ◌^◌, Global, Ok, String, ap₂, cond, get_or, pos, ℤ, ◌&&◌, ◌-◌, ◌==◌, ◌||◌, ◌↔◌}
 pub use Rattle.std.proofs.lemmas.Bool.Decides.{nat_tests}
 pub use Rattle.std.proofs.lemmas.List.{append-nil, length-append, take_all, append_assoc, drop_all, length-take, length-take-le, take-append-drop, take-append-le, take_rest}

@@ -10,11 +10,6 @@ pub piece_more : (o : Option (List ℕ)) (so_far piece : List ℕ) (at n : ℕ) 
 piece_more None so_far piece at n h k = tt
 piece_more (Some file) so_far piece at n h k = rw (h, k) (sym (take-add at n file))
 
--- nothing is left of it
-pub all_read : (o : Option (List ℕ)) (so_far : List ℕ) (at most : ℕ) → IfSome o (λ file. so_far ≡ take at file) → IfSome o (λ file. length file ≤ at) → at ≤ most → IfSome o (λ file. so_far ≡ take most file)
-all_read None so_far at most h k le = tt
-all_read (Some file) so_far at most h k le = h ∙ take_all at file k ∙ sym (take_all most file (omega arith))
-
 pub so_far_of : (o : Option (List ℕ)) (new bytes : List ℕ) (at : ℕ) → new ≡ bytes → length new ≡ at → IfSome o (λ file. bytes ≡ take at file) → IfSome o (λ file. new ≡ take (length new) file)
 so_far_of None new bytes at e len h = tt
 so_far_of (Some file) new bytes at e len h = e ∙ h ∙ ap (λ (k : ℕ). take k file) (sym len)

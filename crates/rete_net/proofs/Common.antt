@@ -1,4 +1,4 @@
--- The names that two proofs and more cite, passed on from one place. Declares nothing.
+-- Names from modules that two proofs and more cite, passed on from one place. Declares nothing.
 pub use Rattle.std.proofs.Common.{◌≡◌, ◌∙◌, sym, ap, Some, slice_get, List, length, subst, ℕ, refl, true, [], ◌<◌, arith, false, Option, ◌∷◌, Bool, None, ◌++◌, take, ◌≤◌, ◌+◌, inl, inr, suc, zero, ℤ, not, ◌&&◌, ◌||◌, cond, get_or, ◌==◌, ◌-◌, ◌⊎◌, ◌^◌, ◌≤ℤ◌, map, nat_lt, length-append, pos, w64, SFits, append-nil, of_z, to_z, to_z-of_z, Err, rules, ◌<ℤ◌, drop, nat_eq, zero-add, ◌+ℤ◌, Bor, FitsSigned, IfSome, int_lt, nat_le, ◌-ℤ◌, IsTrue, Ok, Result, add-one, is_lt, negsuc, option_to_list, ◌/◌}
 pub use Rattle.std.proofs.Math.Bool.{and-false, and_assoc, or-true, and-true, or-false}
 pub use Rattle.std.proofs.Math.ListN.{set, length-set, drop_of_length-le}

@@ -23,11 +23,6 @@ any_last (y ∷ xs) x = or_right (nat_eq x y) (list_any (nat_eq x) (xs ++ x ∷ 
 abbrev Has : List (Vec ℕ) → ℕ → ℕ → Type 0
 Has lists n k = list_any (nat_eq k) (items_of (slice_get lists n)) ≡ true
 
-pub empty_more : (lists : List (Vec ℕ)) (list : Vec ℕ) (n k : ℕ) → Has lists n k → Has (lists ++ list ∷ []) n k
-empty_more [] list n k h = absurd (let no : false ≡ true = h in cc)
-empty_more (l ∷ lists) list zero k h = h
-empty_more (l ∷ lists) list (suc n) k h = empty_more lists list n k h
-
 pub put_kept : (lists : List (Vec ℕ)) (i : ℕ) (was now : Vec ℕ) (place n k : ℕ) → slice_get lists i ≡ Some was → now.items ≡ was.items ++ place ∷ [] → Has lists n k → Has (set lists i now) n k
 put_kept [] i was now place n k at is h = absurd (let no : false ≡ true = h in cc)
 put_kept (l ∷ lists) zero was now place zero k at is h =

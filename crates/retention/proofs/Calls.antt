@@ -1,16 +1,8 @@
 -- What a retention covers as events are held and released.
-use Rattle.std.proofs.Common.{◌≡◌, ℕ, ℤ, ◌≤ℤ◌, ◌==◌, ◌&&◌, Bool, true, false, cond, not, refl, sym, ◌∙◌, ap, arith, Option, Some, None}
+use Rattle.retention.proofs.Common.{◌≡◌, ℕ, ℤ, ◌≤ℤ◌, ◌==◌, ◌&&◌, Bool, true, false, cond, not, refl, sym, ◌∙◌, ap, arith, Option, Some, None, nat_cmp, eq_by_cmp, nat_tests, Decides-eqb, nat_cmp_total, ints, has_come, has_tag, lingers, with_end, without, NewLaw, LaterLaw, HoldLaw, ReleaseLaw, SameCovered, SameWatched}
 use Rattle.std.specs.Prelude.{int_le}
 use Rattle.std.specs.BTreeSet.{BTreeSet}
 use Rattle.std.specs.FinMap as map
-use Rattle.std.specs.Ordering.{nat_cmp, eq_by_cmp}
-use Rattle.std.proofs.lemmas.Bool.Decides.{nat_tests, Decides-eqb}
-use Rattle.std.proofs.lemmas.Cmp.{nat_cmp_total}
-use Rattle.std.proofs.lemmas.Int.{ints}
-use Rattle.due_queue.specs.Timers.{has_come}
-use Rattle.retention.specs.Retentions.{has_tag, lingers}
-use Rattle.retention.specs.Watching.{with_end, without}
-use Rattle.retention.specs.RetentionLaws.{NewLaw, LaterLaw, HoldLaw, ReleaseLaw, SameCovered, SameWatched}
 
 pub new_law : NewLaw
 new_law clock named r due lingering = record {

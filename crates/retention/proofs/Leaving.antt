@@ -1,15 +1,10 @@
 -- A tag that a match named which has stopped pending.
-use Rattle.std.proofs.Common.{◌≡◌, ◌||◌, Bool, true, false, List, [], ◌∷◌, refl, sym, ◌∙◌, ap}
-use Rattle.std.specs.List.{list_any}
-use Rattle.std.specs.Ordering.{eq_by_cmp}
-use Rattle.std.proofs.lemmas.Bool.{or_parts, or_right}
-use Rattle.std.proofs.lemmas.Cmp.{eq_by_cmp_equiv}
+use Rattle.retention.proofs.Common.{◌≡◌, ◌||◌, Bool, true, false, List, [], ◌∷◌, refl, sym, ◌∙◌, ap, list_any, eq_by_cmp, or_parts, or_right, eq_by_cmp_equiv, LeftLaw}
 use Rattle.rule_model.specs.declared.matched.Match.{Match}
 use Rattle.rule_model.specs.Matches.{match_cmp, has_match}
 use Rattle.rule_model.specs.MatchOrders.{match_total}
 use Rattle.rule_model.proofs.Exact.{decides_by, match_exact}
 use Rattle.agenda.specs.Agendas.{names_tag}
-use Rattle.retention.specs.RetentionLaws.{LeftLaw}
 
 itself : (m : Match) → eq_by_cmp match_cmp m m ≡ true
 itself m = (eq_by_cmp_equiv match_total).refl m

@@ -1,3 +1,4 @@
+mod Common
 pub mod Touching
 pub mod Calls
 pub mod Past

@@ -1,12 +1,6 @@
 -- What `Retention::past` answers, and what it watches then.
-use Rattle.std.proofs.Common.{◌≡◌, ℕ, ℤ, ◌&&◌, ◌||◌, Bool, true, false, cond, not, refl, sym, ◌∙◌, ap, Option, None}
+use Rattle.retention.proofs.Common.{◌≡◌, ℕ, ℤ, ◌&&◌, ◌||◌, Bool, true, false, cond, not, refl, sym, ◌∙◌, ap, Option, None, and-true, and-false, or-true, or-false, and_parts, has_come, is_due, lingers, is_old, PastLaw}
 use Rattle.std.specs.FinMap as map
-use Rattle.std.proofs.Math.Bool.{and-true, and-false, or-true, or-false}
-use Rattle.std.proofs.lemmas.Bool.{and_parts}
-use Rattle.due_queue.specs.Timers.{has_come, is_due}
-use Rattle.retention.specs.Retentions.{lingers}
-use Rattle.retention.specs.Watching.{is_old}
-use Rattle.retention.specs.RetentionLaws.{PastLaw}
 
 same_cond : (t : Bool) → cond t true true ≡ true
 same_cond true = refl

@@ -1,17 +1,9 @@
 -- One tag that is looked at, and lists of them.
-use Rattle.std.proofs.Common.{◌≡◌, ℕ, ℤ, ◌+◌, ◌<◌, ◌==◌, ◌&&◌, ◌||◌, Bool, true, false, cond, not, List, [], ◌∷◌, take, length, get_or, refl, sym, ◌∙◌, ap, arith, nat_eq, filter, map, Option, Some, None}
+use Rattle.retention.proofs.Common.{◌≡◌, ℕ, ℤ, ◌+◌, ◌<◌, ◌==◌, ◌&&◌, ◌||◌, Bool, true, false, cond, not, List, [], ◌∷◌, take, length, get_or, refl, sym, ◌∙◌, ap, arith, nat_eq, filter, map, Option, Some, None, list_any, nat_cmp, eq_by_cmp, and-true, and-false, or-true, or-false, nat_tests, Decides-eqb, nat_cmp_total, list_any_more, Timers, is_among}
 use Rattle.std.specs.Bool.{OnTrue, OnFalse}
 use Rattle.std.specs.Option.{is_some}
-use Rattle.std.specs.List.{list_any}
-use Rattle.std.specs.Ordering.{nat_cmp, eq_by_cmp}
 use Rattle.std.specs.FinMap as map
-use Rattle.std.proofs.Math.Bool.{and-true, and-false, or-true, or-false}
-use Rattle.std.proofs.lemmas.Bool.Decides.{nat_tests, Decides-eqb}
-use Rattle.std.proofs.lemmas.Cmp.{nat_cmp_total}
-use Rattle.std.proofs.lemmas.List.Folds.{list_any_more}
 use Rattle.fx_base.specs.declared.ids.Tag.{Tag}
-use Rattle.due_queue.specs.Timers.{Timers}
-use Rattle.retention.specs.Retentions.{is_among}
 
 tie : (a b : ℕ) → eq_by_cmp nat_cmp a b ≡ (b == a)
 tie a b = grind (arith, nat_tests)

@@ -1,17 +1,12 @@
 -- Rows put into a list in order, and taken out of it.
-use Rattle.row_change.proofs.Common.{◌≡◌, ◌∙◌, sym, ap, refl, subst, ℕ, zero, suc, ◌+◌, ◌-◌, ◌<◌, ◌≤◌, List, [], ◌∷◌, ◌++◌, length, take, drop, get_or, Bool, true, false, ◌&&◌, ◌||◌, not, Result, Ok, Err, is_ok, IfOk, IfErr, inl, inr, arith, drop-cons, eq_by_cmp, is_lt, list_any_congr, row_cmp, has, same_equiv, Row}
+use Rattle.row_change.proofs.Common.{◌≡◌, ◌∙◌, sym, ap, refl, subst, ℕ, zero, suc, ◌+◌, ◌-◌, ◌<◌, ◌≤◌, List, [], ◌∷◌, ◌++◌, length, take, drop, get_or, Bool, true, false, ◌&&◌, ◌||◌, not, Result, Ok, Err, is_ok, IfOk, IfErr, inl, inr, arith, drop-cons, eq_by_cmp, is_lt, list_any_congr, row_cmp, has, same_equiv, Row, is_eq, ordering_index, ordering_reverse, list_any_at, searchable_from_sorted, InOrder, row_total, row_exact}
 use Rattle.std.specs.declared.cmp.Ordering.{Ordering}
 use Rattle.std.specs.declared.cmp.Ordering.TheVariants.{Less, Equal, Greater}
-use Rattle.std.specs.Ordering.{is_eq, ordering_index, ordering_reverse}
 use Rattle.std.specs.List.{AllByRecursion, IsAllAdjacentAnswer, insert, remove}
 use Rattle.std.specs.List.Sorted.{IsStrictlySortedBy, IsBinarySearchResult, IsSearchInRange, IsNonDecreasingBy}
 use Rattle.std.proofs.lemmas.Bool.{cases_lt}
 use Rattle.std.proofs.lemmas.List.{take-append-drop}
-use Rattle.std.proofs.lemmas.List.Folds.{list_any_at}
-use Rattle.std.proofs.lemmas.List.Sorted.{searchable_from_sorted}
 use Rattle.std.proofs.lemmas.Map.Keys.{Less-from_sorted, sorted_from_all_adjacent}
-use Rattle.row_delta.specs.Rows.{InOrder}
-use Rattle.row_delta.specs.RowOrder.{row_total, row_exact}
 use Rattle.row_change.specs.Gaps.{IsGap, StandsAt}
 
 -- the row is less than each of these

@@ -1,12 +1,9 @@
 -- Conditions taken one after the other, over lists of tuples.
-use Rattle.rule_eval.proofs.Common.{◌≡◌, ℕ, suc, ◌+◌, ◌<◌, ◌≤◌, List, [], ◌∷◌, ◌++◌, length, drop, get_or, refl, sym, ◌∙◌, ap, subst, arith, add-one, drop-cons, filter, flat_map, Fact, Program, candidates, passes, extended, pattern_of, HaveOperators, made_by, over}
+use Rattle.rule_eval.proofs.Common.{◌≡◌, ℕ, suc, ◌+◌, ◌<◌, ◌≤◌, List, [], ◌∷◌, ◌++◌, length, drop, get_or, refl, sym, ◌∙◌, ap, subst, arith, add-one, drop-cons, filter, flat_map, Fact, Program, candidates, passes, extended, pattern_of, HaveOperators, made_by, over, passing, tuples, Snapshot, Tuple, empty_tuple}
 use Rattle.std.proofs.lemmas.Grind.{common_steps, flat_map-append}
 use Rattle.rule_model.specs.declared.condition.Condition.{Condition}
 use Rattle.rule_model.specs.declared.condition.Condition.TheVariants.{Plain, Negated, Existing, Folded}
-use Rattle.rule_model.specs.Candidates.{passing}
-use Rattle.rule_model.specs.Rows.{tuples}
-use Rattle.rule_model.specs.Snapshots.{Snapshot, floor}
-use Rattle.rule_model.specs.Tuples.{Tuple, empty_tuple}
+use Rattle.rule_model.specs.Snapshots.{floor}
 use Rattle.rule_model.specs.declared.moment.Moment.{Moment}
 
 -- functions that agree gather the same

@@ -1,6 +1,5 @@
 -- An event past its life, in a tuple or beside one: every condition is settled there.
-use Rattle.rule_lives.proofs.Common.{◌≡◌, ◌==◌, ℕ, suc, ◌+◌, ℤ, ◌+ℤ◌, ◌-ℤ◌, ◌≤ℤ◌, ◌<ℤ◌, Bool, true, false, cond, List, [], ◌∷◌, Some, refl, sym, ap, subst, ◌∙◌, arith, inl, inr, slice_get, take, ints, Fact, Times, Condition, Plain, Negated, Existing, Folded, Pattern, Program, IsPossible, pattern_of, Tuple, bound_by, is_event, is_reference, is_observed, bindings, binds, Placed, SolvesWith}
-use Rattle.rule_lives.specs.Reach.{occurrence_of}
+use Rattle.rule_lives.proofs.Common.{◌≡◌, ◌==◌, ℕ, suc, ◌+◌, ℤ, ◌+ℤ◌, ◌-ℤ◌, ◌≤ℤ◌, ◌<ℤ◌, Bool, true, false, cond, List, [], ◌∷◌, Some, refl, sym, ap, subst, ◌∙◌, arith, inl, inr, slice_get, take, ints, Fact, Times, Condition, Plain, Negated, Existing, Folded, Pattern, Program, IsPossible, pattern_of, Tuple, bound_by, is_event, is_reference, is_observed, bindings, binds, Placed, SolvesWith, occurrence_of}
 use Rattle.rule_lives.proofs.Basics.{number_same, number_differs}
 use Rattle.rule_lives.proofs.Flagged.{Steady}
 use Rattle.rule_lives.proofs.Still.{Settled, Still, old, steady}

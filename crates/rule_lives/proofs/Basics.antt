@@ -1,6 +1,5 @@
 -- Tests, places in lists, and temporal tests that go on holding as a tuple grows.
-use Rattle.rule_lives.proofs.Common.{◌≡◌, ◌==◌, ℕ, zero, suc, ℤ, ◌<ℤ◌, Bool, true, false, ◌&&◌, cond, List, [], ◌∷◌, ◌++◌, length, Option, Some, None, refl, sym, ◌∙◌, ap, arith, slice_get, filter, ints, Fact, Times, TimeTest, time_holds_with, time_holds, times_hold, Tuple, bound_by, both, both_of}
-use Rattle.std.specs.Prelude.{int_lt}
+use Rattle.rule_lives.proofs.Common.{◌≡◌, ◌==◌, ℕ, zero, suc, ℤ, ◌<ℤ◌, Bool, true, false, ◌&&◌, cond, List, [], ◌∷◌, ◌++◌, length, Option, Some, None, refl, sym, ◌∙◌, ap, arith, slice_get, filter, ints, Fact, Times, TimeTest, time_holds_with, time_holds, times_hold, Tuple, bound_by, both, both_of, int_lt}
 use Rattle.std.proofs.lemmas.Bool.Decides.{nat_tests}
 
 pub same_tests : (a b : Bool) → (a ≡ true → b ≡ true) → (b ≡ true → a ≡ true) → a ≡ b

@@ -1,11 +1,7 @@
 -- Programs that engines run are flagged; patterns on reference types in them, and steps that leave facts of these types as they are.
-use Rattle.rule_lives.proofs.Common.{◌≡◌, ◌⊎◌, ◌&&◌, ◌||◌, ℕ, Bool, true, false, List, [], ◌∷◌, ◌++◌, Option, Some, None, if◌then◌else◌, refl, sym, ◌∙◌, ap, inl, inr, slice_get, In, Fact, Value, Condition, Pattern, WindowTag, Whole, Time, Length, Program, Rule, Step, Insert, Modify, Retract, Advance, At, Promise, Begin, pattern_of, is_event, is_reference, is_observed, of_append, in_place, EventObserved, ReferenceFixed, Absent, IsLawful, World, insert_fault, modify_fault, retract_fault, is_of_type, new_fact, IsFlagged}
-use Rattle.rule_model.specs.Simple.{is_whole}
-use Rattle.rule_world.specs.declared.code.Code.TheVariants.{EventFixed}
-use Rattle.rule_world.specs.Programs.{is_window, has_window, has_windows, IsRunnable}
+use Rattle.rule_lives.proofs.Common.{◌≡◌, ◌⊎◌, ◌&&◌, ◌||◌, ℕ, Bool, true, false, List, [], ◌∷◌, ◌++◌, Option, Some, None, if◌then◌else◌, refl, sym, ◌∙◌, ap, inl, inr, slice_get, In, Fact, Value, Condition, Pattern, WindowTag, Whole, Time, Length, Program, Rule, Step, Insert, Modify, Retract, Advance, At, Promise, Begin, pattern_of, is_event, is_reference, is_observed, of_append, in_place, EventObserved, ReferenceFixed, Absent, IsLawful, World, insert_fault, modify_fault, retract_fault, is_of_type, new_fact, IsFlagged, is_whole, EventFixed, is_window, has_window, has_windows, IsRunnable, inserted}
 use Rattle.rule_world.specs.Worlds.{moved, step_fault}
 use Rattle.rule_world.proofs.Acting.{all_of}
-use Rattle.rule_world.proofs.Faultless.{inserted}
 
 -- ---- programs
 

@@ -1,8 +1,7 @@
 -- What comes in a step names only what is kept.
-use Rattle.rule_lives.proofs.Common.{◌≡◌, ◌==◌, ◌&&◌, ◌⊎◌, not, ℤ, ◌+ℤ◌, ◌≤ℤ◌, Bool, true, false, List, [], ◌∷◌, Option, Some, None, refl, sym, ap, subst, arith, inl, inr, slice_get, take, ints, In, Fact, Condition, Plain, Negated, Existing, Folded, Life, Explicit, Finite, Infinite, LifeTable, Program, Step, Insert, Modify, Retract, Advance, At, Promise, Begin, is_present, Makes, pattern_of, Snapshot, Tuple, empty_tuple, both, of_append, passed, World, snapshot, has_id, was_present, stays, finite, IsLife, Made, KeepsTuple, AreSafe, IsKept, plain, unexpired, endless, living}
+use Rattle.rule_lives.proofs.Common.{◌≡◌, ◌==◌, ◌&&◌, ◌⊎◌, not, ℤ, ◌+ℤ◌, ◌≤ℤ◌, Bool, true, false, List, [], ◌∷◌, Option, Some, None, refl, sym, ap, subst, arith, inl, inr, slice_get, take, ints, In, Fact, Condition, Plain, Negated, Existing, Folded, Life, Explicit, Finite, Infinite, LifeTable, Program, Step, Insert, Modify, Retract, Advance, At, Promise, Begin, is_present, Makes, pattern_of, Snapshot, Tuple, empty_tuple, both, of_append, passed, World, snapshot, has_id, was_present, stays, finite, IsLife, Made, KeepsTuple, AreSafe, IsKept, plain, unexpired, endless, living, TupleNamesKept, TupleMeetsKept}
 use Rattle.rule_model.specs.declared.life.Life.TheVariants as lives
 use Rattle.rule_world.specs.Worlds.{moved}
-use Rattle.rule_lives.specs.Keeping.{TupleNamesKept, TupleMeetsKept}
 use Rattle.rule_lives.proofs.Basics.{number_same}
 use Rattle.rule_lives.proofs.Safe.{plain_unlisted}
 use Rattle.rule_lives.proofs.Shifts.{of_counted}

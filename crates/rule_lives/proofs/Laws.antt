@@ -1,9 +1,5 @@
 -- The law of changes.
-use Rattle.rule_lives.proofs.Common.{◌≡◌, ◌⊎◌, ◌||◌, ℕ, zero, suc, ◌+◌, ◌<◌, ℤ, ◌+ℤ◌, ◌-ℤ◌, ◌≤ℤ◌, ◌<ℤ◌, Bool, true, false, List, [], ◌∷◌, Option, Some, None, refl, sym, ◌∙◌, ap, subst, arith, inl, inr, slice_get, take, ints, by_lt_z, In, Fact, Times, IsEvent, Condition, Plain, Negated, Existing, Folded, Pattern, WindowTag, Whole, Time, Length, Program, Rule, is_inside, passing, IsPossible, pattern_of, Snapshot, Tuple, empty_tuple, bound_by, is_event, is_point, is_observed, both, in_place, snapshot, moved, bindings, binds, finite, infinite, Placed, scope, IsLife, Made, IsFlagged}
-use Rattle.std.specs.List.{list_any}
-use Rattle.rule_model.specs.Simple.{observes, observes_type}
-use Rattle.rule_lives.specs.Networks.{occurrence}
-use Rattle.rule_lives.specs.Law.{OfRule, OfPrefix}
+use Rattle.rule_lives.proofs.Common.{◌≡◌, ◌⊎◌, ◌||◌, ℕ, zero, suc, ◌+◌, ◌<◌, ℤ, ◌+ℤ◌, ◌-ℤ◌, ◌≤ℤ◌, ◌<ℤ◌, Bool, true, false, List, [], ◌∷◌, Option, Some, None, refl, sym, ◌∙◌, ap, subst, arith, inl, inr, slice_get, take, ints, by_lt_z, In, Fact, Times, IsEvent, Condition, Plain, Negated, Existing, Folded, Pattern, WindowTag, Whole, Time, Length, Program, Rule, is_inside, passing, IsPossible, pattern_of, Snapshot, Tuple, empty_tuple, bound_by, is_event, is_point, is_observed, both, in_place, snapshot, moved, bindings, binds, finite, infinite, Placed, scope, IsLife, Made, IsFlagged, list_any, observes, observes_type, occurrence, OfRule, OfPrefix}
 use Rattle.rule_lives.proofs.Basics.{below, number_same}
 use Rattle.rule_lives.proofs.Shifts.{of_counted, Timed, timed_in}
 use Rattle.rule_lives.proofs.Transfers.{Turns, turned, transfer}

@@ -1,10 +1,6 @@
 -- What a finite life says of every solution, and the solutions that tuples give.
-use Rattle.rule_lives.proofs.Common.{◌≡◌, ◌⊎◌, ℕ, ℤ, pos, ◌+ℤ◌, ◌≤ℤ◌, Bool, true, false, List, [], ◌∷◌, Option, Some, None, refl, sym, ap, subst, arith, inl, inr, slice_get, take, ints, by_lt_z, In, Fact, Times, Condition, Plain, Negated, Existing, Folded, Pattern, WindowTag, Whole, Program, Rule, TimeTest, IsPossible, pattern_of, time_holds_with, time_holds, times_hold, Tuple, bound_by, is_event, is_reference, both, both_of, bindings, binds, finite, infinite, Placed, SolvesWith, scope, IsLife}
-use Rattle.std.specs.List.{list_all}
+use Rattle.rule_lives.proofs.Common.{◌≡◌, ◌⊎◌, ℕ, ℤ, pos, ◌+ℤ◌, ◌≤ℤ◌, Bool, true, false, List, [], ◌∷◌, Option, Some, None, refl, sym, ap, subst, arith, inl, inr, slice_get, take, ints, by_lt_z, In, Fact, Times, Condition, Plain, Negated, Existing, Folded, Pattern, WindowTag, Whole, Program, Rule, TimeTest, IsPossible, pattern_of, time_holds_with, time_holds, times_hold, Tuple, bound_by, is_event, is_reference, both, both_of, bindings, binds, finite, infinite, Placed, SolvesWith, scope, IsLife, list_all, Occurrence, bound, aside, is_met, Meets, Solves, Limit, Below, distance, tail, Adds, of_fact, of_event, LivesFor}
 use Rattle.temporal_ops.specs.Edges.{edges_hold}
-use Rattle.rule_lives.specs.Networks.{Occurrence, bound, aside, is_met, Meets, Solves}
-use Rattle.rule_lives.specs.Reach.{Limit, Below, distance}
-use Rattle.rule_lives.specs.Lifetimes.{tail, Adds, of_fact, of_event, LivesFor}
 
 -- ---- lives
 

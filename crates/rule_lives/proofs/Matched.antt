@@ -1,14 +1,8 @@
 -- Matches and the tuples that their rows name.
-use Rattle.rule_lives.proofs.Common.{◌≡◌, ℕ, zero, suc, ◌+◌, ◌<◌, true, List, [], ◌∷◌, map, Some, refl, sym, ◌∙◌, ap, subst, arith, inl, inr, slice_get, In, Fact, Match, Program, Rule, Step, matches, has_match, Snapshot, Tuple, in_place, IsLawful, World, snapshot, moved, Made}
+use Rattle.rule_lives.proofs.Common.{◌≡◌, ℕ, zero, suc, ◌+◌, ◌<◌, true, List, [], ◌∷◌, map, Some, refl, sym, ◌∙◌, ap, subst, arith, inl, inr, slice_get, In, Fact, Match, Program, Rule, Step, matches, has_match, Snapshot, Tuple, in_place, IsLawful, World, snapshot, moved, Made, match_of, rows_by_rule, rows, HaveOperators, name_of, row_of, in_map, of_map, in_left, in_right, row_listed, listed_row, has_in, rule_of, IsOrdered, UseOperators}
 use Rattle.fx_base.specs.declared.ids.Tag.{Tag}
-use Rattle.rule_model.specs.Matches.{match_of, matches_from, rows_by_rule}
-use Rattle.rule_model.specs.Rows.{rows, HaveOperators}
-use Rattle.rule_model.specs.Tuples.{name_of, row_of}
-use Rattle.rule_model.proofs.Listed.{in_map, of_map, in_left, in_right, row_listed, listed_row}
+use Rattle.rule_model.specs.Matches.{matches_from}
 use Rattle.rule_model.proofs.Once.{one_fact}
-use Rattle.rule_model.proofs.RuleOf.{has_in, rule_of}
-use Rattle.rule_world.specs.Lawful.{IsOrdered}
-use Rattle.rule_world.specs.Programs.{UseOperators}
 use Rattle.rule_world.specs.Worlds.{stepped}
 use Rattle.rule_world.proofs.Fresh.{below_of}
 use Rattle.rule_world.proofs.Vain.{next_tag}

@@ -1,9 +1,8 @@
 -- Each step without a fault changes the list of facts by loose ones alone, and never moves the clock back.
-use Rattle.rule_lives.proofs.Common.{◌≡◌, ◌==◌, ◌&&◌, not, ℕ, ℤ, ◌+ℤ◌, ◌≤ℤ◌, Bool, true, false, cond, if◌then◌else◌, List, [], ◌∷◌, ◌++◌, Option, Some, None, refl, sym, ◌∙◌, ap, subst, arith, inl, inr, slice_get, filter, ints, clamps, In, Fact, Value, Program, Step, Insert, Modify, Retract, Advance, At, Promise, Begin, is_present, Snapshot, Tuple, is_event, is_reference, is_observed, lateness_of, both_of, EventObserved, ReferenceFixed, Absent, IsLawful, World, snapshot, insert_fault, modify_fault, retract_fault, is_of_type, new_fact, has_id, stays, KeepsTuple}
+use Rattle.rule_lives.proofs.Common.{◌≡◌, ◌==◌, ◌&&◌, not, ℕ, ℤ, ◌+ℤ◌, ◌≤ℤ◌, Bool, true, false, cond, if◌then◌else◌, List, [], ◌∷◌, ◌++◌, Option, Some, None, refl, sym, ◌∙◌, ap, subst, arith, inl, inr, slice_get, filter, ints, clamps, In, Fact, Value, Program, Step, Insert, Modify, Retract, Advance, At, Promise, Begin, is_present, Snapshot, Tuple, is_event, is_reference, is_observed, lateness_of, both_of, EventObserved, ReferenceFixed, Absent, IsLawful, World, snapshot, insert_fault, modify_fault, retract_fault, is_of_type, new_fact, has_id, stays, KeepsTuple, found, revised, revised_in, event_by, point_by, IsStarted, started, modified_plain, moved_forward, fact_with, found_there}
 use Rattle.rule_model.specs.Snapshots.{floor}
-use Rattle.rule_world.specs.Worlds.{moved, step_fault, found, revised, revised_in}
-use Rattle.rule_world.proofs.Faultless.{event_by, point_by, IsStarted, started, modified_plain, moved_forward, inserted as no_fault}
-use Rattle.rule_world.proofs.Found.{fact_with, found_there}
+use Rattle.rule_world.specs.Worlds.{moved, step_fault}
+use Rattle.rule_world.proofs.Faultless.{inserted as no_fault}
 use Rattle.rule_lives.proofs.Basics.{same_number}
 use Rattle.rule_lives.proofs.Flagged.{modified_open, retracted_open, Quiet}
 use Rattle.rule_lives.proofs.Shifts.{Loose, a_fact, gone, fresh, Timed, Shift, at_end, same, less, more}

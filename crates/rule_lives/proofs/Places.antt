@@ -1,6 +1,5 @@
 -- The facts of a tuple and the places of their patterns.
-use Rattle.rule_lives.proofs.Common.{◌≡◌, ◌⊎◌, ℕ, zero, suc, ◌+◌, true, List, [], ◌∷◌, ◌++◌, length, Option, Some, refl, sym, ◌∙◌, ap, subst, arith, inl, inr, slice_get, take, In, Fact, Condition, Plain, Negated, Existing, Folded, Pattern, Program, is_inside, Makes, Snapshot, times_hold, Tuple, empty_tuple, bound_by, of_append, bindings, Made}
-use Rattle.std.proofs.lemmas.List.{append_assoc}
+use Rattle.rule_lives.proofs.Common.{◌≡◌, ◌⊎◌, ℕ, zero, suc, ◌+◌, true, List, [], ◌∷◌, ◌++◌, length, Option, Some, refl, sym, ◌∙◌, ap, subst, arith, inl, inr, slice_get, take, In, Fact, Condition, Plain, Negated, Existing, Folded, Pattern, Program, is_inside, Makes, Snapshot, times_hold, Tuple, empty_tuple, bound_by, of_append, bindings, Made, append_assoc}
 use Rattle.rule_lives.proofs.Basics.{Front, times_grow}
 use Rattle.rule_lives.proofs.Shifts.{of_counted}
 use Rattle.rule_lives.proofs.Transfers.{front_of, longer, next_place}

@@ -1,8 +1,7 @@
 -- What matches that come name is kept, and what is kept behind a step was kept before it.
-use Rattle.rule_lives.proofs.Common.{◌≡◌, not, ℤ, ◌+ℤ◌, ◌≤ℤ◌, Bool, true, false, refl, sym, ◌∙◌, ap, arith, ints, Match, Program, Step, Insert, Modify, Retract, Advance, At, Promise, Begin, matches, has_match, both, both_of, World, snapshot, was_present, IsKept, plain, unexpired, endless, living}
-use Rattle.rule_world.specs.Worlds.{pending, moved, settled, stepped, still_fired}
+use Rattle.rule_lives.proofs.Common.{◌≡◌, not, ℤ, ◌+ℤ◌, ◌≤ℤ◌, Bool, true, false, refl, sym, ◌∙◌, ap, arith, ints, Match, Program, Step, Insert, Modify, Retract, Advance, At, Promise, Begin, matches, has_match, both, both_of, World, snapshot, was_present, IsKept, plain, unexpired, endless, living, pending, settled, still_fired, named, MatchNamesKept, KeptBefore}
+use Rattle.rule_world.specs.Worlds.{moved, stepped}
 use Rattle.rule_world.proofs.Pending.{has_pending, has_still}
-use Rattle.rule_lives.specs.Keeping.{named, MatchNamesKept, KeptBefore}
 use Rattle.rule_lives.proofs.Basics.{not_true}
 use Rattle.rule_lives.proofs.Keeps.{tuple_names_kept}
 use Rattle.rule_lives.proofs.Matched.{names_of, is_match, own_fact}

@@ -1,10 +1,9 @@
 -- Tables that are safe to forget by.
-use Rattle.rule_lives.proofs.Common.{◌≡◌, ℕ, zero, suc, ℤ, ◌≤ℤ◌, Bool, true, false, List, [], ◌∷◌, map, length, Option, Some, None, refl, ap, subst, arith, slice_get, ints, Life, Explicit, Finite, Infinite, LifeTable, Program, AreSafe}
+use Rattle.rule_lives.proofs.Common.{◌≡◌, ℕ, zero, suc, ℤ, ◌≤ℤ◌, Bool, true, false, List, [], ◌∷◌, map, length, Option, Some, None, refl, ap, subst, arith, slice_get, ints, Life, Explicit, Finite, Infinite, LifeTable, Program, AreSafe, is_event_type, expiry_in, IsLifeOf, IsSafeLife, LivesAreSafe, EndlessAreSafe}
 use Rattle.rule_model.specs.declared.life.Life.TheVariants.{Plain}
 use Rattle.rule_model.specs.declared.program.TypeInfo.{TypeInfo}
 use Rattle.rule_model.specs.Lives.{IsShortLife, life_by, endless_life}
-use Rattle.rule_model.specs.Types.{is_event, is_event_type, expiry_of, expiry_in}
-use Rattle.rule_lives.specs.Keeping.{IsLifeOf, IsSafeLife, LivesAreSafe, EndlessAreSafe}
+use Rattle.rule_model.specs.Types.{is_event, expiry_of}
 
 as_long : (n : ℤ) → n ≤ℤ n
 as_long n = omega (arith, ints)

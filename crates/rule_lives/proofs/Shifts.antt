@@ -1,8 +1,6 @@
 -- Two lists of facts that differ by loose facts alone: what passes for an old pattern is the same.
-use Rattle.rule_lives.proofs.Common.{◌≡◌, ◌⊎◌, ℕ, ℤ, ◌+ℤ◌, ◌≤ℤ◌, true, false, cond, List, [], ◌∷◌, refl, sym, ◌∙◌, subst, ap, arith, inl, inr, filter, ints, In, Fact, Times, IsEvent, Pattern, Program, is_candidate, passes, passing, IsPossible, Snapshot, Tuple, bound_by, is_event, is_point, is_reference, is_observed, lateness_of, both, passed}
-use Rattle.rule_model.specs.Candidates.{candidates}
+use Rattle.rule_lives.proofs.Common.{◌≡◌, ◌⊎◌, ℕ, ℤ, ◌+ℤ◌, ◌≤ℤ◌, true, false, cond, List, [], ◌∷◌, refl, sym, ◌∙◌, subst, ap, arith, inl, inr, filter, ints, In, Fact, Times, IsEvent, Pattern, Program, is_candidate, passes, passing, IsPossible, Snapshot, Tuple, bound_by, is_event, is_point, is_reference, is_observed, lateness_of, both, passed, candidates, in_filter}
 use Rattle.rule_model.proofs.Named.{of_filter}
-use Rattle.rule_model.proofs.Order.{in_filter}
 use Rattle.rule_lives.proofs.Basics.{same_tests, not_true, two_filters}
 use Rattle.rule_lives.proofs.Flagged.{Steady}
 use Rattle.rule_lives.proofs.Still.{Settled, Still, old, steady, counts, Counts, counts_parts, counts_join, stays, tail_of}

@@ -1,12 +1,8 @@
 -- A fact that is older than a pattern's tail, or of a reference type, passes over one snapshot exactly where it passes over another.
-use Rattle.rule_lives.proofs.Common.{◌≡◌, ◌==◌, ℕ, ℤ, ◌+ℤ◌, ◌-ℤ◌, ◌≤ℤ◌, ◌<ℤ◌, Bool, true, false, not, ◌&&◌, ◌||◌, List, Option, Some, None, if◌then◌else◌, refl, subst, ap, ◌∙◌, arith, ints, clamps, Fact, Times, Pattern, WindowTag, Whole, Time, Length, Program, is_inside, is_candidate, passes, Snapshot, times_hold, Tuple, bound_by, is_event, lateness_of, both, both_of, finite, infinite}
+use Rattle.rule_lives.proofs.Common.{◌≡◌, ◌==◌, ℕ, ℤ, ◌+ℤ◌, ◌-ℤ◌, ◌≤ℤ◌, ◌<ℤ◌, Bool, true, false, not, ◌&&◌, ◌||◌, List, Option, Some, None, if◌then◌else◌, refl, subst, ap, ◌∙◌, arith, ints, clamps, Fact, Times, Pattern, WindowTag, Whole, Time, Length, Program, is_inside, is_candidate, passes, Snapshot, times_hold, Tuple, bound_by, is_event, lateness_of, both, both_of, finite, infinite, is_within, fits, tests_hold, unbound, expiry_of, plain_present, tail_by}
 use Rattle.std.specs.Int.{int_max}
-use Rattle.rule_model.specs.Candidates.{is_within, is_present, fits}
-use Rattle.rule_model.specs.Tests.{tests_hold}
-use Rattle.rule_model.specs.Tuples.{unbound}
-use Rattle.rule_model.specs.Types.{expiry_of}
-use Rattle.rule_world.proofs.Found.{plain_present}
-use Rattle.rule_lives.specs.Lifetimes.{tail_by, tail}
+use Rattle.rule_model.specs.Candidates.{is_present}
+use Rattle.rule_lives.specs.Lifetimes.{tail}
 use Rattle.rule_lives.proofs.Basics.{below, same_number, number_same}
 use Rattle.rule_lives.proofs.Flagged.{Steady}
 

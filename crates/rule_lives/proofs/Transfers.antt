@@ -1,9 +1,5 @@
 -- A tuple of which every condition is settled is made over both snapshots or over none.
-use Rattle.rule_lives.proofs.Common.{◌≡◌, ℕ, suc, ℤ, ◌-ℤ◌, ◌≤ℤ◌, List, [], ◌∷◌, ◌++◌, length, Some, sym, ◌∙◌, ap, subst, arith, slice_get, ints, In, Fact, Condition, Plain, Negated, Existing, Folded, Pattern, Program, Times, passing, IsPossible, Makes, Snapshot, Tuple, bound_by, lateness_of, in_place}
-use Rattle.std.proofs.lemmas.List.{length-append}
-use Rattle.rule_model.specs.Maturity.{IsMature, of_plain, of_none, of_unbounded, of_past}
-use Rattle.rule_model.specs.Rows.{result_of}
-use Rattle.rule_model.specs.Snapshots.{floor}
+use Rattle.rule_lives.proofs.Common.{◌≡◌, ℕ, suc, ℤ, ◌-ℤ◌, ◌≤ℤ◌, List, [], ◌∷◌, ◌++◌, length, Some, sym, ◌∙◌, ap, subst, arith, slice_get, ints, In, Fact, Condition, Plain, Negated, Existing, Folded, Pattern, Program, Times, passing, IsPossible, Makes, Snapshot, Tuple, bound_by, lateness_of, in_place, length-append, IsMature, of_plain, of_none, of_unbounded, of_past, result_of, floor}
 use Rattle.rule_model.proofs.Grown.{makes_grow, begins}
 use Rattle.rule_lives.proofs.Basics.{Front, at_grows, at_last, times_grow}
 use Rattle.rule_lives.proofs.Still.{Still, tail_of}

@@ -1,16 +1,11 @@
 -- The floor of an entry point, by its parts.
-use Rattle.rule_model.proofs.Common.{◌≡◌, ◌≤ℤ◌, ◌-ℤ◌, ℕ, ◌∙◌, ap, arith, ints, clamps, Program, Snapshot}
-use Rattle.rule_model.specs.Snapshots.{Reached, floor_by, floor}
-use Rattle.rule_model.specs.Types.{lateness_of}
+use Rattle.rule_model.proofs.Common.{◌≡◌, ◌≤ℤ◌, ◌-ℤ◌, ℕ, ◌∙◌, ap, arith, ints, clamps, Program, Snapshot, Reached, floor_by, lateness_of}
+use Rattle.rule_model.specs.Snapshots.{floor}
 
 -- it is not below the last start, nor below the promise, nor below the clock less the lateness
 pub last_below_floor : (p : Program) (s : Snapshot) (entry : ℕ) → s.reached.last_start entry ≤ℤ floor p s entry
 unfolding floor
 last_below_floor p s entry = omega (arith, ints, clamps)
-
-pub promise_below_floor : (p : Program) (s : Snapshot) (entry : ℕ) → s.reached.promise entry ≤ℤ floor p s entry
-unfolding floor
-promise_below_floor p s entry = omega (arith, ints, clamps)
 
 pub clock_below_floor : (p : Program) (s : Snapshot) (entry : ℕ) → (s.clock -ℤ lateness_of p entry) ≤ℤ floor p s entry
 unfolding floor

@@ -1,6 +1,5 @@
 -- The function says of what was bound that it is mature exactly where it is.
-use Rattle.rule_model.proofs.Common.{◌≡◌, ◌↔◌, ◌&&◌, ◌||◌, not, ℤ, ◌+ℤ◌, ◌≤ℤ◌, ◌<ℤ◌, int_lt, pos, Bool, true, false, List, [], ◌∷◌, Option, Some, None, option_map, refl, sym, ◌∙◌, ap, subst, arith, ints, Fact, Pattern, Program, AreOperators, times_hold, Bindings}
-use Rattle.std.specs.List.{All}
+use Rattle.rule_model.proofs.Common.{◌≡◌, ◌↔◌, ◌&&◌, ◌||◌, not, ℤ, ◌+ℤ◌, ◌≤ℤ◌, ◌<ℤ◌, int_lt, pos, Bool, true, false, List, [], ◌∷◌, Option, Some, None, option_map, refl, sym, ◌∙◌, ap, subst, arith, ints, Fact, Pattern, Program, AreOperators, times_hold, Bindings, All, IsPossible, IsMature, of_plain, of_none, of_unbounded, of_past, bounds_of, window_by, window_at, is_past, time_holds_with, is_event, is_point}
 use Rattle.std.specs.Option.{option_and_then}
 use Rattle.std.proofs.lemmas.List.Elements.{All-nil, All-cons, All-head, All-tail}
 use Rattle.fx_base.specs.declared.times.Times.{Times}
@@ -13,9 +12,7 @@ use Rattle.temporal_ops.specs.Possible as possible
 use Rattle.temporal_ops.specs.Starts.{window_of}
 use Rattle.temporal_ops.proofs.WindowOfEdges.{window_is_of_edges}
 use Rattle.rule_model.specs.declared.test.TimeTest.{TimeTest}
-use Rattle.rule_model.specs.Maturity.{IsPossible, IsMature, of_plain, of_none, of_unbounded, of_past, bounds_of, window_by, window_at, is_past, is_mature}
-use Rattle.rule_model.specs.Tests.{time_holds_with}
-use Rattle.rule_model.specs.Types.{is_event, is_point}
+use Rattle.rule_model.specs.Maturity.{is_mature}
 
 abbrev pub Bounds : Type 0
 Bounds = List (List OpEdge × Times)

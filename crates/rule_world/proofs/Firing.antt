@@ -1,8 +1,8 @@
 -- The first pending match.
-use Rattle.rule_world.proofs.Common.{◌≡◌, List, [], ◌∷◌, true, Some, None, refl, ◌∙◌, Match, Program, first, fire_cmp, saliences, has_match, fire_total, fire_exact, World, pending, first_pending}
+use Rattle.rule_world.proofs.Common.{◌≡◌, List, [], ◌∷◌, true, Some, None, refl, ◌∙◌, Match, Program, first, fire_cmp, saliences, has_match, fire_total, fire_exact, World, pending, first_pending, first_least}
 use Rattle.std.specs.declared.cmp.Ordering.{Ordering}
 use Rattle.std.specs.declared.cmp.Ordering.TheVariants.{Less}
-use Rattle.rule_model.proofs.Firsts.{first_least, AllFrom}
+use Rattle.rule_model.proofs.Firsts.{AllFrom}
 use Rattle.rule_world.proofs.Pending.{by_fire}
 
 -- no pending match fires before the first

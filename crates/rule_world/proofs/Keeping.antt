@@ -1,10 +1,9 @@
 -- What steps do to a world they do to the world with its present facts only.
-use Rattle.rule_world.proofs.Common.{◌≡◌, ◌≤ℤ◌, ◌+◌, ◌-ℤ◌, ◌&&◌, ◌==◌, ◌||◌, not, ℕ, ℤ, Bool, true, false, cond, List, [], ◌∷◌, ◌++◌, Option, Some, None, refl, sym, ◌∙◌, ap, arith, filter, ints, append-nil, Fact, Value, Program, Step, Insert, Modify, Retract, Advance, At, Promise, Begin, is_within, has_match, is_event, expiry_of, of_filter, IsOrdered, IsLawful, IsSound, World, present, only_present, modify_fault, with_new, at_clock, last_start_with, revised, has_id}
+use Rattle.rule_world.proofs.Common.{◌≡◌, ◌≤ℤ◌, ◌+◌, ◌-ℤ◌, ◌&&◌, ◌==◌, ◌||◌, not, ℕ, ℤ, Bool, true, false, cond, List, [], ◌∷◌, ◌++◌, Option, Some, None, refl, sym, ◌∙◌, ap, arith, filter, ints, append-nil, Fact, Value, Program, Step, Insert, Modify, Retract, Advance, At, Promise, Begin, is_within, has_match, is_event, expiry_of, of_filter, IsOrdered, IsLawful, IsSound, World, present, only_present, modify_fault, with_new, at_clock, last_start_with, revised, has_id, IsTimed, retract_fault, with_revised, with_retracted}
 use Rattle.std.proofs.Common.{if◌then◌else◌}
 use Rattle.rule_model.specs.Candidates.{is_present}
 use Rattle.rule_model.specs.Snapshots.{floor}
-use Rattle.rule_world.specs.Lawful.{IsTimed}
-use Rattle.rule_world.specs.Worlds.{retract_fault, step_fault, with_revised, with_retracted}
+use Rattle.rule_world.specs.Worlds.{step_fault}
 use Rattle.rule_world.proofs.Fresh.{below_of, below_all, distinct_filtered}
 use Rattle.rule_world.proofs.Ids.{ids_filtered, ids_below_filtered}
 use Rattle.rule_world.proofs.Sound.{events_filtered}
@@ -15,16 +14,6 @@ abbrev world_with : World → List Fact → World
 world_with w facts = record w { facts = facts }
 
 -- ---- faults
-
-pub kept_fault : (p : Program) (w : World) (step : Step) → step_fault p (only_present p w) step ≡ step_fault p w step
-unfolding step_fault floor
-kept_fault p w (Insert ty entry fields) = refl
-kept_fault p w (Modify id sets) = ap (modify_fault p) (kept_found p w id.0)
-kept_fault p w (Retract ty id) = ap (retract_fault p ty.0) (kept_found p w id.0)
-kept_fault p w (Advance by) = refl
-kept_fault p w (At moment) = refl
-kept_fault p w (Promise entry from) = refl
-kept_fault p w Begin = refl
 
 -- ---- one step of each kind
 

@@ -1,8 +1,6 @@
 -- What a line asks for, by the function and by the forms.
-use Rattle.script_read.proofs.Common.{◌≡◌, List, ℕ, Option, Some, None, Result, Ok, Err, refl, sym, IfOk, Data, IsForm, IsReading, asks, bad_json, reading, asked_of_reading, Answers, Command}
-use Rattle.std.specs.Prelude.{IsErrOf}
-use Rattle.script_read.specs.Form.{command_of}
-use Rattle.script_read.specs.Asked.{bad_command, asked_of_command, asked}
+use Rattle.script_read.proofs.Common.{◌≡◌, List, ℕ, Option, Some, None, Result, Ok, Err, refl, sym, IfOk, Data, IsForm, IsReading, asks, bad_json, reading, asked_of_reading, Answers, Command, IsErrOf, command_of, bad_command, asked_of_command}
+use Rattle.script_read.specs.Asked.{asked}
 use Rattle.script_read.specs.declared.fault.CommandFault.{CommandFault}
 use Rattle.script_read.specs.declared.fault.CommandFault.TheVariants.{BadJson, BadCommand, NoMemory}
 use Rattle.script_read.proofs.FormLaws.{form_again, form_sound, no_form}

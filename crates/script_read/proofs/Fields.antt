@@ -1,12 +1,11 @@
 -- Fields in the byte order of their names, one after another.
-use Rattle.script_read.proofs.Common.{◌≡◌, ℕ, suc, ◌+◌, ◌<◌, ◌≤◌, List, [], ◌∷◌, ◌++◌, length, take, drop, get_or, Option, Some, None, Ordering, Less, Equal, Greater, nat_cmp, Bor, Global, refl, sym, ap, ◌∙◌, add-one, arith, option_map, slice_cmp, insert, value_view, members_view, Data, Members, of_json, of_members, put_given, tree_given, givens, Given}
+use Rattle.script_read.proofs.Common.{◌≡◌, ℕ, suc, ◌+◌, ◌<◌, ◌≤◌, List, [], ◌∷◌, ◌++◌, length, take, drop, get_or, Option, Some, None, Ordering, Less, Equal, Greater, nat_cmp, Bor, Global, refl, sym, ap, ◌∙◌, add-one, arith, option_map, slice_cmp, insert, value_view, members_view, Data, Members, of_json, of_members, put_given, tree_given, givens, Given, put, given_of}
 use Rattle.std.proofs.lemmas.Grind.{common_steps}
 use Rattle.std.proofs.Math.Seq.{drop-cons}
 use Rattle.std.proofs.lemmas.List.{take_more, append_assoc}
 use Rattle.std.specs.Ordering.{match_ordering}
 use Rattle.json.specs.declared.value.Value.{Value as Tree}
-use Rattle.serde_json.specs.Data.{no_members, member, put}
-use Rattle.script_read.specs.Given.{given_of}
+use Rattle.serde_json.specs.Data.{no_members, member}
 
 abbrev pub Field : Type 0
 Field = List ℕ × Given

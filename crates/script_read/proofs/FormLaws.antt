@@ -1,13 +1,9 @@
 -- The forms as cases and the command that is found by the word after `do` say the same.
-use Rattle.script_read.proofs.Common.{◌≡◌, List, ℕ, ℤ, Bool, true, false, Option, Some, None, refl, sym, ◌∙◌, ap, subst, Data, Members, IsForm, Command, Change, Fire}
-use Rattle.std.specs.Prelude.{codes, if◌then◌else◌}
-use Rattle.std.specs.Str.{bytes_eq}
+use Rattle.script_read.proofs.Common.{◌≡◌, List, ℕ, ℤ, Bool, true, false, Option, Some, None, refl, sym, ◌∙◌, ap, subst, Data, Members, IsForm, Command, Change, Fire, if◌then◌else◌, bytes_eq, text_member, object_member, whole_member, id_member, count_member, count, fire, fire_most, held, insert_into, modify, retract, advance, at, promise, promise_for, begin, has_count, fire_parts, insert_parts, insert_into_parts, modify_parts, retract_parts, advance_parts, at_parts, promise_parts, promise_of_parts, command_by_word, Held, Begin}
+use Rattle.std.specs.Prelude.{codes}
 use Rattle.std.proofs.lemmas.Slice.Eq.{bytes_eq-Decides}
 use Rattle.std.proofs.lemmas.Bool.Decides.{Decides-eqb}
-use Rattle.script_read.specs.Members.{text_member, object_member, whole_member, id_member, count_member, count}
-use Rattle.script_read.specs.Form.{fire, fire_most, held, insert, insert_into, modify, retract, advance, at, promise, promise_for, begin, fire_of, held_of, insert_of, modify_of, retract_of, advance_of, at_of, promise_of, begin_of, has_count, fire_parts, insert_parts, insert_into_parts, modify_parts, retract_parts, advance_parts, at_parts, promise_parts, promise_of_parts, command_by_word, command_of}
-use Rattle.script_read.specs.declared.asked.Command.TheVariants.{Held}
-use Rattle.script_read.specs.declared.asked.Change.TheVariants.{Begin}
+use Rattle.script_read.specs.Form.{insert, fire_of, held_of, insert_of, modify_of, retract_of, advance_of, at_of, promise_of, begin_of, command_of}
 
 -- every command with the form of a value is the one that is found
 pub form_again : {d : Data} {c : Command} → IsForm d c → command_of d ≡ Some c
@@ -24,10 +20,6 @@ form_again (at word moment members) = rw (word, members, moment) refl
 form_again (promise word from members) = rw (word, members, from) refl
 form_again (promise_for word entry from members) = rw (word, members, entry, from) refl
 form_again (begin word members) = rw (word, members) refl
-
--- a value has the form of at most one command
-pub one_form : {d : Data} {c other : Command} → IsForm d c → IsForm d other → c ≡ other
-one_form form also = let e = sym (form_again form) ∙ form_again also in cc
 
 -- a value in which no command is found has no form
 pub no_form : {d : Data} → None ≡ command_of d → (c : Command) → IsForm d c → ⊥

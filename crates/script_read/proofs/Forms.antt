@@ -1,14 +1,13 @@
 -- The commands of objects whose members stand in the order in which the forms name them.
-use Rattle.script_read.proofs.Common.{◌≡◌, ℕ, ℤ, List, [], ◌∷◌, ◌≤◌, length, get_or, Option, Some, None, Result, Ok, Err, take, drop, take_all, Bor, Global, codes, refl, sym, ap, ◌∙◌, arith, IfOk, IfSome, option_map, value_view, members_view, Num, Data, Members, as_i64, of_json, of_members, tree_givens, givens, asks, reading, asked_of_reading, Command, Change, Fire, Insert, Modify, Retract, Promise, At, Advance, Given}
+use Rattle.script_read.proofs.Common.{◌≡◌, ℕ, ℤ, List, [], ◌∷◌, ◌≤◌, length, get_or, Option, Some, None, Result, Ok, Err, take, drop, take_all, Bor, Global, codes, refl, sym, ap, ◌∙◌, arith, IfOk, IfSome, option_map, value_view, members_view, Num, Data, Members, as_i64, of_json, of_members, tree_givens, givens, asks, reading, asked_of_reading, Command, Change, Fire, Insert, Modify, Retract, Promise, At, Advance, Given, number_of, two, three, from_one}
 use Rattle.std.specs.Prelude.{option_and_then}
 use Rattle.fx_base.specs.declared.no_memory.NoMemory.{NoMemory}
 use Rattle.json.specs.Json as json
 use Rattle.json.specs.declared.value.Value.{Value as Tree}
 use Rattle.serde_json.specs.Data.{no_members}
-use Rattle.serde_json.specs.Read.{number_of}
-use Rattle.script_read.specs.Flat.{tree_command, word_command, two, three}
+use Rattle.script_read.specs.Flat.{tree_command, word_command}
 use Rattle.script_read.specs.Form.{command_of, insert_of, modify_of, retract_of, promise_of, fire_of, at_of, advance_of}
-use Rattle.script_read.specs.Members.{text_member, object_member, whole_member, id_member, count, from_one}
+use Rattle.script_read.specs.Members.{text_member, object_member, whole_member, id_member, count}
 use Rattle.script_read.specs.Asked.{asked}
 
 -- ---- the members of an object, one by one

@@ -1,6 +1,5 @@
 -- The reading of a line, as a relation and as a function.
-use Rattle.script_read.proofs.Common.{◌≡◌, List, ℕ, Bool, true, false, Some, None, refl, ◌∙◌, Data, read, IsReading}
-use Rattle.std.specs.Str.{IsUtf8, is_utf8}
+use Rattle.script_read.proofs.Common.{◌≡◌, List, ℕ, Bool, true, false, Some, None, refl, ◌∙◌, Data, read, IsReading, IsUtf8, is_utf8}
 use Rattle.std.proofs.lemmas.Str.{is_utf8-from_IsUtf8, IsUtf8-from_is_utf8}
 use Rattle.script_read.specs.Asked.{reading}
 

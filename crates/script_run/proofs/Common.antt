@@ -1,4 +1,4 @@
--- The names that two proofs and more cite, passed on from one place. Declares nothing.
+-- Names from modules that two proofs and more cite, passed on from one place. Declares nothing.
 pub use Rattle.std.proofs.Common.{◌≡◌, ◌++◌, ap, sym, ◌∙◌, List, arith, ℕ, refl, [], false, take, ◌+◌, ◌≤◌, Bool, None, Option, length, true, ◌^◌, ◌||◌, Some, drop, suc, ◌-◌, ◌<◌, ◌∷◌, Err, Ok, Result, append_assoc, inl, inr, nat_lt, subst, zero, ◌*◌, ◌==◌, ◌≢◌, ◌⊎◌, ap₂, is_some, not, option_map}
 pub use Rattle.std.proofs.lemmas.Grind.{flat_map-append}
 pub use Rattle.std.proofs.lemmas.List.{append-nil, length-append, take-append-drop, take_at}

@@ -1,4 +1,4 @@
--- The names that two proofs and more cite, passed on from one place. Declares nothing.
+-- Names from modules that two proofs and more cite, passed on from one place. Declares nothing.
 pub use Rattle.std.proofs.Common.{◌≡◌, ◌∙◌, ap, subst, sym, List, refl, w64, of_z, to_z, Some, [], length, true, ◌++◌, None, arith, take, ◌==◌, rules, to_z-of_z, ℕ, ◌||◌, drop, ◌∷◌, false, ℤ, ◌&&◌, ◌<◌, Err, filter_map, option_map, slice_get, ◌+◌, Bool, not, ◌≤◌, FitsSigned, Ok, Option, Result, SFits, inl, pos, ◌+ℤ◌, ◌^◌, ◌≤ℤ◌, inr, is_some, nat_eq, nat_lt, ◌-ℤ◌}
 pub use Rattle.std.proofs.Math.Logic.{∥∥₁_map}
 pub use Rattle.std.proofs.lemmas.Grind.{merely}

@@ -1,4 +1,4 @@
--- The names that two proofs and more cite, passed on from one place. Declares nothing.
+-- Names from modules that two proofs and more cite, passed on from one place. Declares nothing.
 pub use Rattle.std.proofs.Common.{◌≡◌, ℕ, refl, sym, true, subst, ◌∙◌, List, Bool, ap, false, None, Some, arith, [], Option, ◌∷◌, inl, not, inr, ℤ, ◌&&◌, ◌<◌, ◌==◌, cond, ◌||◌, ◌≤◌, length, ◌≤ℤ◌, nat_eq, slice_get, ◌++◌, if◌then◌else◌, suc, ◌⊎◌, Result, pos, zero, is_some, ◌+◌, Err, Ok, filter_map, option_map, map, nat_lt, ◌+ℤ◌, append_assoc, ◌-ℤ◌, ◌^◌, Bor, FitsSigned, drop, get_or, int_lt, lt-ltb, negsuc, of_z, to_z, to_z-of_z, w64, ◌<ℤ◌, ◌↔◌}
 pub use Rattle.std.proofs.Math.Bool.{or-false, and-true, and-not_self}
 pub use Rattle.std.proofs.Math.Logic.{∥∥₁_elim}

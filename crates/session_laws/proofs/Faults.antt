@@ -7,7 +7,7 @@ use Rattle.rule_model.specs.Snapshots.{floor}
 use Rattle.session_laws.specs.Leading.{Moves}
 use Rattle.session_laws.proofs.Members.{got_old, none_left}
 use Rattle.session_laws.proofs.Newest.{store_found, store_none}
-use Rattle.session_laws.proofs.Stands.{for_own, own}
+use Rattle.session_laws.proofs.Stands.{own}
 use Rattle.std.specs.FinMap as map
 
 -- ---- numbers

@@ -37,11 +37,6 @@ world_of w clock id tag = record { facts = w.facts; clock = clock; reached = w.r
 abbrev pub own : Contents → World → World
 own k w = world_of w k.clock k.next_id k.next_tag
 
--- what holds of the world with the clock and the numbers of a session holds of each world that has them
-pub for_own : (k : Contents) (w : World) (P : World → Type 0) → k.clock ≡ w.clock → k.next_id ≡ w.next_id → k.next_tag ≡ w.next_tag → P (own k w) → P w
-for_own k w P clock id tag h =
-    subst P (ap (λ z. world_of w z k.next_id k.next_tag) clock ∙ ap (λ z. world_of w w.clock z k.next_tag) id ∙ ap (λ z. world_of w w.clock w.next_id z) tag) h
-
 -- what holds of the world with the clock and the numbers of a session holds of each world for which the session stands
 pub for_world : (p : Program) (k : Contents) (w : World) (P : World → Type 0) → Exact p k w → (Exact p k (own k w) → P (own k w)) → P w
 for_world p k w P s h =

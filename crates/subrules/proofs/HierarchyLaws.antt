@@ -1,15 +1,11 @@
 -- The way upward from a type goes in a circle exactly where a type above it is above itself.
-use Rattle.subrules.proofs.Common.{◌≡◌, ◌+◌, ◌≤◌, ◌||◌, ◌⊎◌, inl, inr, ℕ, zero, suc, true, false, List, [], ◌∷◌, length, Option, Some, None, slice_get, option_and_then, refl, sym, ap, subst, ◌∙◌, arith, list_any, cases_Bool, option_and_then_some, same_Some, bytes_eq-Decides, place_of, WrittenType, type_names, type_named, is_named, parent_of, above, goes_round, is_below}
-use Rattle.std.specs.Prelude.{◌↔◌, Contains}
+use Rattle.subrules.proofs.Common.{◌≡◌, ◌+◌, ◌≤◌, ◌||◌, ◌⊎◌, inl, inr, ℕ, zero, suc, true, false, List, [], ◌∷◌, length, Option, Some, None, slice_get, option_and_then, refl, sym, ap, subst, ◌∙◌, arith, list_any, cases_Bool, option_and_then_some, same_Some, bytes_eq-Decides, place_of, WrittenType, type_names, type_named, is_named, parent_of, above, goes_round, is_below, ◌↔◌, Contains, AllByRecursion, eqb-true, or_parts, Any-from_list_any, list_any-from_Any, slice_get_within, IsAbove}
 use Rattle.std.specs.Bool.{Decides}
-use Rattle.std.specs.List.{AllByRecursion, IsDistinct}
+use Rattle.std.specs.List.{IsDistinct}
 use Rattle.std.proofs.Math.Dec.{eqb}
-use Rattle.std.proofs.lemmas.Bool.{eqb-true, or_parts}
 use Rattle.std.proofs.lemmas.List.Elements.{Contains-append_left, Contains-append_right, Contains-append_cases}
-use Rattle.std.proofs.lemmas.List.Folds.{Any-from_list_any, list_any-from_Any}
 use Rattle.std.proofs.lemmas.Map.Steps.{length-le_from_distinct_below}
-use Rattle.std.proofs.lemmas.Option.{slice_get_within}
-use Rattle.subrules.specs.Hierarchy.{IsAbove, ancestors, goes_on}
+use Rattle.subrules.specs.Hierarchy.{ancestors, goes_on}
 use Rattle.subrules.specs.Hierarchy.IsAbove.{parent, further}
 
 -- ---- the first step upward

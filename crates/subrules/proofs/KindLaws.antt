@@ -1,15 +1,11 @@
 -- The types below a type need no look at which types others extend.
-use Rattle.subrules.proofs.Common.{◌≡◌, ◌+◌, ◌||◌, inl, inr, ℕ, zero, suc, Bool, true, false, cond, List, [], ◌∷◌, ◌++◌, length, Option, Some, None, is_some, slice_get, option_map, option_and_then, add-one, refl, sym, ap, subst, ◌∙◌, filter, flat_map, list_any, cases_Bool, option_and_then_some, same_Some, bytes_eq-Decides, place_of, WrittenType, type_names, first_names, type_named, is_named, parent_of, is_below, extended_by, has_subtypes, kinds_of}
-use Rattle.std.specs.Prelude.{option_to_list}
+use Rattle.subrules.proofs.Common.{◌≡◌, ◌+◌, ◌||◌, inl, inr, ℕ, zero, suc, Bool, true, false, cond, List, [], ◌∷◌, ◌++◌, length, Option, Some, None, is_some, slice_get, option_map, option_and_then, add-one, refl, sym, ap, subst, ◌∙◌, filter, flat_map, list_any, cases_Bool, option_and_then_some, same_Some, bytes_eq-Decides, place_of, WrittenType, type_names, first_names, type_named, is_named, parent_of, is_below, extended_by, has_subtypes, kinds_of, option_to_list, false_from_ne_true, false≢true, list_any-append, none-some, with_name, is_among, extended}
 use Rattle.std.specs.Str.{bytes_eq}
 use Rattle.std.proofs.Math.Bool.{or-false, or-true}
-use Rattle.std.proofs.lemmas.Bool.{false_from_ne_true, false≢true}
-use Rattle.std.proofs.lemmas.List.Folds.{list_any-append}
-use Rattle.std.proofs.lemmas.Option.{none-some}
-use Rattle.drl_sight.specs.EntryPoints.{with_name, with_names}
-use Rattle.drl_sight.specs.Names.{is_among, place_from}
+use Rattle.drl_sight.specs.EntryPoints.{with_names}
+use Rattle.drl_sight.specs.Names.{place_from}
 use Rattle.drl_sight.proofs.NameLemmas.{placed_among}
-use Rattle.subrules.specs.Hierarchy.{ancestors, extended}
+use Rattle.subrules.specs.Hierarchy.{ancestors}
 
 -- ---- a type has the name by which it is found
 

@@ -1,7 +1,5 @@
 -- Sizes of ways are those of the ways that are written out.
-use Rattle.subrules.proofs.Common.{◌≡◌, ◌<◌, ◌≤◌, ◌+◌, ◌-◌, ◌*◌, ◌||◌, ℕ, zero, suc, nat_lt, nat_eq, min, max, Bool, true, false, List, [], ◌∷◌, ◌++◌, length, map, take, Option, Some, None, slice_get, option_map, cond, refl, sym, ap, ◌∙◌, arith, filter, list_any, length-append, Piece, WrittenType, Alternatives, Walk, first_names, has_subtypes, is_below, kinds_of, Way, times, over_type, choices, all_ways, asks, closed_in, taken, at_begin, at_no_piece}
-use Rattle.std.proofs.lemmas.List.{length-map, map-append, take-map}
-use Rattle.std.proofs.lemmas.Option.{slice_get-map}
+use Rattle.subrules.proofs.Common.{◌≡◌, ◌<◌, ◌≤◌, ◌+◌, ◌-◌, ◌*◌, ◌||◌, ℕ, zero, suc, nat_lt, nat_eq, min, max, Bool, true, false, List, [], ◌∷◌, ◌++◌, length, map, take, Option, Some, None, slice_get, option_map, cond, refl, sym, ap, ◌∙◌, arith, filter, list_any, length-append, Piece, WrittenType, Alternatives, Walk, first_names, has_subtypes, is_below, kinds_of, Way, times, over_type, choices, all_ways, asks, closed_in, taken, at_begin, at_no_piece, length-map, map-append, take-map, slice_get-map, longest, sized, size_of, nothing, free_size, begun_size, size_times, size_plus, size_of_choices, all_size, asks_size, closed_size, measured, size_of_all, size_of_walk, passes_limits, are_too_many}
 use Rattle.std.proofs.Math.Nat.{mul_comm}
 use Rattle.drl_grammar.specs.declared.condition.CondTree.{CondTree}
 use Rattle.drl_grammar.specs.declared.condition.CondTree.TheVariants as condition
@@ -10,8 +8,7 @@ use Rattle.subrules.specs.declared.sizes.Size.{Size}
 use Rattle.subrules.specs.declared.sizes.SizeOfAlternatives.{SizeOfAlternatives}
 use Rattle.subrules.specs.declared.sizes.SizeWalk.{SizeWalk}
 use Rattle.subrules.specs.Ways.{each_behind, walked, ways_of}
-use Rattle.subrules.specs.Sizes.{longest, sized, size_of, nothing, free_size, begun_size, size_times, size_plus, size_of_choices, all_size, asks_size, closed_size, measured, all_measured, size_of_all, size_of_walk, passes_limits}
-use Rattle.subrules.specs.Faults.{are_too_many}
+use Rattle.subrules.specs.Sizes.{all_measured}
 
 -- ---- lists of ways
 

@@ -1,7 +1,5 @@
 -- What is counted beside left rows.
-use Rattle.tally_node.proofs.Common.{◌≡◌, ◌∙◌, sym, ap, refl, subst, ℕ, zero, suc, ◌<◌, arith, List, [], ◌∷◌, length, Bool, true, false, ◌||◌, Option, Some, None, ℤ, fun_ext, is_some, RuleId, Extra, Named, Row, has, InOrder, Look, joins, Memories, has_name, left_at, has_left, has_right, either, IsBeside, AreApart, IsBeyond, SeeAlike, passing}
-use Rattle.pair_memory.specs.Memories.{Agrees}
-use Rattle.tally_node.specs.Extras.{CountsOthers, AreExtrasOf}
+use Rattle.tally_node.proofs.Common.{◌≡◌, ◌∙◌, sym, ap, refl, subst, ℕ, zero, suc, ◌<◌, arith, List, [], ◌∷◌, length, Bool, true, false, ◌||◌, Option, Some, None, ℤ, fun_ext, is_some, RuleId, Extra, Named, Row, has, InOrder, Look, joins, Memories, has_name, left_at, has_left, has_right, either, IsBeside, AreApart, IsBeyond, SeeAlike, passing, Agrees, CountsOthers, AreExtrasOf}
 use Rattle.tally_node.proofs.Following.{first_of}
 use Rattle.tally_node.proofs.Searching.{AreListed, listed_in_order, listed_own, listed_for}
 

@@ -1,12 +1,7 @@
 -- Tallies of two sets that have no candidate in common.
-use Rattle.tally_node.proofs.Common.{◌≡◌, ◌∙◌, sym, ap, refl, subst, int_lt, ℕ, ◌+◌, ◌-◌, ℤ, pos, arith, List, [], ◌∷◌, ◌++◌, map, length, Bool, true, false, cond, not, ◌&&◌, ◌||◌, fun_ext, eq_by_cmp, Held, insert_rising, in_rising_order, insert-insert, Extra, Named, name_cmp, name_equiv, Accumulate, Look, has_name, either, name_decides, AreDistinct, IsNumber, argument_of, Gathers, AreApart, IsBeyond, nothing_gathered, gathered_laden, arguments_gathered}
-use Rattle.std.specs.List.{filter}
-use Rattle.std.proofs.lemmas.List.{length-append, length-map, map-append}
-use Rattle.std.proofs.lemmas.List.Folds.{list_any-append}
+use Rattle.tally_node.proofs.Common.{◌≡◌, ◌∙◌, sym, ap, refl, subst, int_lt, ℕ, ◌+◌, ◌-◌, ℤ, pos, arith, List, [], ◌∷◌, ◌++◌, map, length, Bool, true, false, cond, not, ◌&&◌, ◌||◌, fun_ext, eq_by_cmp, Held, insert_rising, in_rising_order, insert-insert, Extra, Named, name_cmp, name_equiv, Accumulate, Look, has_name, either, name_decides, AreDistinct, IsNumber, argument_of, Gathers, AreApart, IsBeyond, nothing_gathered, gathered_laden, arguments_gathered, filter, length-append, length-map, map-append, list_any-append, length-rising, counts_more}
 use Rattle.std.proofs.lemmas.Map.Made.{is_member-filter}
-use Rattle.fold_fn.proofs.ResultLemmas.{length-rising}
 use Rattle.fold_fn.proofs.Sorting.{sorted-rising, rising-sorted}
-use Rattle.tally_node.specs.Extras.{counts_more}
 use Rattle.tally_node.proofs.Gathering.{same_values}
 
 -- ---- two lists of candidates

@@ -1,8 +1,7 @@
 -- Tallies that follow the candidates, one candidate after another, and rows that come.
-use Rattle.tally_node.proofs.Common.{◌≡◌, ◌∙◌, sym, ap, refl, subst, ℕ, zero, suc, ◌+◌, ◌<◌, ◌≤◌, length, take, get_or, arith, List, [], ◌∷◌, Bool, true, false, cond, not, ◌&&◌, ◌||◌, Option, Some, None, fun_ext, is_some, Ordering, Less, eq_by_cmp, is_eq, list_any, AllByRecursion, Named, Row, row_cmp, has, same_equiv, name_cmp, name_equiv, Look, has_name, row_decides, name_decides, any_name, Turned, TurnedIf, Steps, counted, Follows, Arrives}
+use Rattle.tally_node.proofs.Common.{◌≡◌, ◌∙◌, sym, ap, refl, subst, ℕ, zero, suc, ◌+◌, ◌<◌, ◌≤◌, length, take, get_or, arith, List, [], ◌∷◌, Bool, true, false, cond, not, ◌&&◌, ◌||◌, Option, Some, None, fun_ext, is_some, Ordering, Less, eq_by_cmp, is_eq, list_any, AllByRecursion, Named, Row, row_cmp, has, same_equiv, name_cmp, name_equiv, Look, has_name, row_decides, name_decides, any_name, Turned, TurnedIf, Steps, counted, Follows, Arrives, list_any_more}
 use Rattle.std.specs.Cmp.{IsEquivalence}
 use Rattle.std.specs.List.Sorted.{IsStrictlySortedBy}
-use Rattle.std.proofs.lemmas.List.Folds.{list_any_more}
 
 -- ---- lists in order
 module _ {K : Type 0} (order : K → K → Ordering) (equiv : IsEquivalence (eq_by_cmp order)) where

@@ -1,8 +1,7 @@
 -- One candidate more in a fold, and one less; rows with a value more.
-use Rattle.tally_node.proofs.Common.{◌≡◌, ◌∙◌, sym, ap, refl, ℤ, List, [], ◌∷◌, map, Bool, true, false, cond, not, ◌&&◌, ◌||◌, Option, Some, None, option_map, eq_by_cmp, Held, insert_rising, in_rising_order, insert-insert, Named, Row, row_cmp, name_cmp, name_equiv, Accumulate, Look, has_name, with_value, unvalued, splits_value, without_value, shows_value, name_decides, row_decides, from_unvalued, with_one, less_one, AreDistinct, argument_of, Gathers, is_from}
+use Rattle.tally_node.proofs.Common.{◌≡◌, ◌∙◌, sym, ap, refl, ℤ, List, [], ◌∷◌, map, Bool, true, false, cond, not, ◌&&◌, ◌||◌, Option, Some, None, option_map, eq_by_cmp, Held, insert_rising, in_rising_order, insert-insert, Named, Row, row_cmp, name_cmp, name_equiv, Accumulate, Look, has_name, with_value, unvalued, splits_value, without_value, shows_value, name_decides, row_decides, from_unvalued, with_one, less_one, AreDistinct, argument_of, Gathers, is_from, unvalued_with}
 use Rattle.std.proofs.lemmas.Bool.Decides.{Decides-int_eq}
 use Rattle.std.specs.Ordering.{int_eq}
-use Rattle.pair_memory.proofs.Valued.{unvalued_with}
 use Rattle.tally_node.proofs.Counting.{or_swap, dropped, has_dropped, dropped_distinct}
 
 -- ---- the values of candidates

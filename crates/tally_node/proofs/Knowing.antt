@@ -1,11 +1,6 @@
 -- How often a fold holds its values, and how many, after one value more or less.
-use Rattle.tally_node.proofs.Common.{◌≡◌, ◌∙◌, sym, ap, refl, ℕ, zero, suc, ◌+◌, ◌-◌, ◌<◌, ◌≤◌, ℤ, Bool, true, false, cond, List, [], ◌∷◌, length, Option, None, Contains, ⊎_elim, arith, int_eq, ints, times, insert_rising}
+use Rattle.tally_node.proofs.Common.{◌≡◌, ◌∙◌, sym, ap, refl, ℕ, zero, suc, ◌+◌, ◌-◌, ◌<◌, ◌≤◌, ℤ, Bool, true, false, cond, List, [], ◌∷◌, length, Option, None, Contains, ⊎_elim, arith, int_eq, ints, times, insert_rising, count_at, HasOneMore, length-insert, times-nil, times-cons, times-insert, int_eq-same, same_number, Knows}
 use Rattle.std.proofs.lemmas.Bool.{cases_Bool}
-use Rattle.std.specs.Map.{count_at}
-use Rattle.fold_fn.specs.Held.{HasOneMore}
-use Rattle.fold_fn.proofs.ResultLemmas.{length-insert}
-use Rattle.fold_fn.proofs.Rising.{times-nil, times-cons, times-insert, int_eq-same, same_number}
-use Rattle.tally_node.specs.Gathers.{Knows}
 
 -- a value does not stand in a list more often than the list is long
 pub times_low : (v : ℤ) (xs : List ℤ) → times v xs ≤ length xs

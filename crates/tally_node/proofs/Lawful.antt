@@ -1,22 +1,15 @@
 -- Tallies of all candidates stay those of all candidates.
-use Rattle.tally_node.proofs.Common.{◌≡◌, ◌∙◌, sym, ap, refl, subst, ℕ, zero, suc, ◌==◌, arith, cond, map, List, [], ◌∷◌, Bool, true, false, not, ◌&&◌, ◌||◌, Option, Some, None, ℤ, fun_ext, list_any, is_some, option_map, eq_by_cmp, Held, Named, Row, Delta, has, name_cmp, name_equiv, Accumulate, Look, joins, Memories, has_name, left_at, has_left, has_right, cleaned, either, name_decides, unvalued, splits_value, without_value, shows_value, from_unvalued, Blockers, Witnesses, IsNumber, counts_blockers, counts_witnesses, where_unblocked, where_witnessed, argument_given, argument_of, result_for, all_passing, itself, shows_any, TallyStep, counted, SeeAlike, output_some, output_from, offers, shown}
+use Rattle.tally_node.proofs.Common.{◌≡◌, ◌∙◌, sym, ap, refl, subst, ℕ, zero, suc, ◌==◌, arith, cond, map, List, [], ◌∷◌, Bool, true, false, not, ◌&&◌, ◌||◌, Option, Some, None, ℤ, fun_ext, list_any, is_some, option_map, eq_by_cmp, Held, Named, Row, Delta, has, name_cmp, name_equiv, Accumulate, Look, joins, Memories, has_name, left_at, has_left, has_right, cleaned, either, name_decides, unvalued, splits_value, without_value, shows_value, from_unvalued, Blockers, Witnesses, IsNumber, counts_blockers, counts_witnesses, where_unblocked, where_witnessed, argument_given, argument_of, result_for, all_passing, itself, shows_any, TallyStep, counted, SeeAlike, output_some, output_from, offers, shown, result-rising, Leads, clean, remembered, PassesAlike, StandsFor, IsNameDifference, IsStepped, zero_where, tested, is_result, StandsCounted, ForgottenStay, StartLaw, TallyLaw, ForgetLaw, DropLaw, MoveLaw, ShownLaw, GatheredLaw}
 use Rattle.std.proofs.Math.Dec.{eqb-suc-zero}
 use Rattle.std.specs.Ordering.{int_eq}
 use Rattle.fx_base.specs.declared.fact.Fact.{Fact}
 use Rattle.fold_fn.specs.Results.{fold_result}
-use Rattle.fold_fn.proofs.ResultLemmas.{result-rising}
-use Rattle.row_change.specs.Changes.{Leads}
 use Rattle.rule_model.specs.Lent.{Holds, bound_in}
 use Rattle.rule_model.specs.Rows.{argument, result_of}
 use Rattle.rule_model.specs.Tuples.{name_of}
-use Rattle.pair_memory.specs.Standing.{clean, remembered, PassesAlike, StandsFor}
 use Rattle.pair_memory.proofs.Moving.{move_law as memories_move}
-use Rattle.pair_memory.specs.Inputs.{IsNameDifference, IsStepped}
 use Rattle.pair_memory.specs.Valued.{valued}
 use Rattle.pair_memory.proofs.Steps.{steps_law, forgets_law}
-use Rattle.tally_node.specs.Counts.{zero_where}
-use Rattle.tally_node.specs.Gathers.{tested, is_result}
-use Rattle.tally_node.specs.Laws.{StandsCounted, ForgottenStay, StartLaw, TallyLaw, ForgetLaw, DropLaw, MoveLaw, ShownLaw, GatheredLaw}
 use Rattle.tally_node.proofs.Counting.{nobody, somebody}
 use Rattle.tally_node.proofs.Gathering.{same_values}
 

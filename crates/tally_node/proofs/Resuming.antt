@@ -1,7 +1,5 @@
 -- Nodes that are loaded stand for what is kept with its extras, and for all of it.
-use Rattle.tally_node.proofs.Common.{◌≡◌, ◌∙◌, sym, ap, refl, subst, List, [], ◌∷◌, Bool, true, false, not, ◌&&◌, ◌||◌, Some, None, ℤ, fun_ext, list_any, is_some, Held, Extra, Named, Row, has, Accumulate, Look, joins, has_name, has_left, has_right, cleaned, Blockers, Witnesses, counts_blockers, counts_witnesses, gathers, IsLaden, extra_for, blockers_laden, witnesses_laden, gathered_laden, nothing_gathered, arguments_gathered, all_passing}
-use Rattle.pair_memory.specs.Standing.{no_names}
-use Rattle.tally_node.specs.Laws.{lost_passing, LadenLaw, LoadLaw, ResumeLaw, OthersLaw}
+use Rattle.tally_node.proofs.Common.{◌≡◌, ◌∙◌, sym, ap, refl, subst, List, [], ◌∷◌, Bool, true, false, not, ◌&&◌, ◌||◌, Some, None, ℤ, fun_ext, list_any, is_some, Held, Extra, Named, Row, has, Accumulate, Look, joins, has_name, has_left, has_right, cleaned, Blockers, Witnesses, counts_blockers, counts_witnesses, gathers, IsLaden, extra_for, blockers_laden, witnesses_laden, gathered_laden, nothing_gathered, arguments_gathered, all_passing, no_names, lost_passing, LadenLaw, LoadLaw, ResumeLaw, OthersLaw}
 use Rattle.tally_node.proofs.Extras.{nothing_more, number_laden, gathers_laden}
 
 -- ---- a tally and an extra

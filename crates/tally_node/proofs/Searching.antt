@@ -1,19 +1,11 @@
 -- Which extra a search finds, and the extras that are listed of rows.
-use Rattle.tally_node.proofs.Common.{◌≡◌, ◌∙◌, sym, ap, refl, subst, ⊎_elim, ◌⊎◌, ℕ, zero, suc, add-one, ◌+◌, ◌<◌, length, get_or, arith, nat_lt, is_lt, List, [], ◌∷◌, ◌++◌, Bool, true, false, cond, ◌||◌, Option, Some, None, Ordering, Less, AllByRecursion, eq_by_cmp, is_eq, RuleId, Extra, Row, has, row_cmp, InOrder, same_equiv, row_decides, extra_for, rows_of_extras}
+use Rattle.tally_node.proofs.Common.{◌≡◌, ◌∙◌, sym, ap, refl, subst, ⊎_elim, ◌⊎◌, ℕ, zero, suc, add-one, ◌+◌, ◌<◌, length, get_or, arith, nat_lt, is_lt, List, [], ◌∷◌, ◌++◌, Bool, true, false, cond, ◌||◌, Option, Some, None, Ordering, Less, AllByRecursion, eq_by_cmp, is_eq, RuleId, Extra, Row, has, row_cmp, InOrder, same_equiv, row_decides, extra_for, rows_of_extras, Equal, Greater, AllWithin, cons_option, ordering_index, ordering_reverse, row_total, row_exact, IsOf, one_or_none}
 use Rattle.std.specs.Prelude.{IfSome}
-use Rattle.std.specs.declared.cmp.Ordering.TheVariants.{Equal, Greater}
-use Rattle.std.specs.List.{AllWithin, cons_option}
 use Rattle.std.specs.List.Sorted.{IsStrictlySortedBy, IsNonDecreasingBy, IsPartitionPoint, IsSortedBy}
-use Rattle.std.specs.Ordering.{ordering_index, ordering_reverse}
 use Rattle.std.proofs.lemmas.List.Sorted.{searchable_from_sorted}
 use Rattle.fx_base.specs.Lists.{In}
-use Rattle.row_delta.specs.RowOrder.{row_total, row_exact}
-use Rattle.tally_node.specs.Beside.{IsOf, one_or_none}
 
 -- ---- a search among extras in the order of their rows
-eq_of : (o : Ordering) → o ≡ Less → is_eq o ≡ false
-eq_of o e = ap is_eq e
-
 -- an extra in a place whose row is this one is the one that is found
 pub found_at : (extras : List Extra) (row : Row) (i : ℕ) (x : Extra) → InOrder (rows_of_extras extras) → i < length extras → x ≡ get_or extras i x → row_cmp x.row row ≡ Equal → Some x ≡ extra_for extras row
 unfolding IsStrictlySortedBy

@@ -1,6 +1,5 @@
 -- The four parts of a step together.
-use Rattle.tally_node.proofs.Common.{◌≡◌, ◌∙◌, sym, ap, refl, subst, cond, List, [], ◌∷◌, Bool, true, false, not, ◌&&◌, Option, Some, None, fun_ext, is_some, Named, Row, Delta, has, Pattern, Look, joins, Memories, left_at, has_left, has_right, Steps, Follows, Arrives, passing, TallyStep}
-use Rattle.row_change.specs.Changes.{are_none, changes_nothing}
+use Rattle.tally_node.proofs.Common.{◌≡◌, ◌∙◌, sym, ap, refl, subst, cond, List, [], ◌∷◌, Bool, true, false, not, ◌&&◌, Option, Some, None, fun_ext, is_some, Named, Row, Delta, has, Pattern, Look, joins, Memories, left_at, has_left, has_right, Steps, Follows, Arrives, passing, TallyStep, are_none, changes_nothing}
 use Rattle.tally_node.proofs.Following.{follow_then}
 
 module _ {T : Type 0} (holds : T → Look → (Named → Bool) → Type 0) (world look : Look) where

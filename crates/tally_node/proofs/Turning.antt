@@ -1,6 +1,5 @@
 -- One tally that is exchanged for another.
-use Rattle.tally_node.proofs.Common.{◌≡◌, ◌∙◌, sym, ap, refl, subst, List, Bool, true, false, cond, not, ◌&&◌, ◌||◌, Option, Some, None, ℤ, is_some, eq_by_cmp, Named, Row, row_cmp, has, Look, without, along, Memories, left_at, has_left, row_decides, Turned, TurnedIf, Steps, output_some, output_from, offers, shown, is_from}
-use Rattle.tally_node.specs.Tallies.{changed_at}
+use Rattle.tally_node.proofs.Common.{◌≡◌, ◌∙◌, sym, ap, refl, subst, List, Bool, true, false, cond, not, ◌&&◌, ◌||◌, Option, Some, None, ℤ, is_some, eq_by_cmp, Named, Row, row_cmp, has, Look, without, along, Memories, left_at, has_left, row_decides, Turned, TurnedIf, Steps, output_some, output_from, offers, shown, is_from, changed_at}
 
 -- ---- a set of rows changed at one row
 both_true : (a b : Bool) → (a && b) ≡ true → (a ≡ true) × (b ≡ true)

@@ -1,6 +1,5 @@
 -- Lowering the distance between an edge's ends adds the edge to a table of ways with no inner points.
-use Rattle.temporal_net.proofs.Common.{◌≡◌, ◌≢◌, ℕ, ◌<◌, ◌⊎◌, ℤ, pos, ◌≤ℤ◌, List, [], ◌∷◌, ◌++◌, Some, sym, ◌∙◌, ap, subst, inl, inr, arith, Contains, ints, cases_eq, All-contains, NetEdge, Distance, IsAmong, IsSmall, Table, edge_cost, edge_distance, zero_distance, lesser, Reaches, Begins, IsTable}
-use Rattle.std.proofs.lemmas.List.Elements.{All-push, Contains-append_left, Contains-push, Contains-push_cases}
+use Rattle.temporal_net.proofs.Common.{◌≡◌, ◌≢◌, ℕ, ◌<◌, ◌⊎◌, ℤ, pos, ◌≤ℤ◌, List, [], ◌∷◌, ◌++◌, Some, sym, ◌∙◌, ap, subst, inl, inr, arith, Contains, ints, cases_eq, All-contains, NetEdge, Distance, IsAmong, IsSmall, Table, edge_cost, edge_distance, zero_distance, lesser, Reaches, Begins, IsTable, All-push, Contains-append_left, Contains-push, Contains-push_cases}
 use Rattle.temporal_net.proofs.Costs.{lesser_keeps, lesser_reaches, lesser_from, zero_kept}
 use Rattle.temporal_net.proofs.Ways.{same_distance}
 

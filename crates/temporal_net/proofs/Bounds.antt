@@ -1,6 +1,5 @@
 -- A table's distances are the greatest differences, and where it has none there is no greatest.
-use Rattle.temporal_net.proofs.Common.{◌≡◌, ◌≢◌, ℕ, ◌<◌, ℤ, pos, ◌+ℤ◌, ◌-ℤ◌, ◌≤ℤ◌, List, true, false, cond, eqb, Some, None, refl, ap, subst, inl, inr, arith, ints, clamps, eqb_tells, NetEdge, Distance, IsSolvable, IsGreatest, IsUnbounded, HasGreatest, Table, zero_distance, IsTable}
-use Rattle.std.specs.Int.{int_max}
+use Rattle.temporal_net.proofs.Common.{◌≡◌, ◌≢◌, ℕ, ◌<◌, ℤ, pos, ◌+ℤ◌, ◌-ℤ◌, ◌≤ℤ◌, List, true, false, cond, eqb, Some, None, refl, ap, subst, inl, inr, arith, ints, clamps, eqb_tells, NetEdge, Distance, IsSolvable, IsGreatest, IsUnbounded, HasGreatest, Table, zero_distance, IsTable, int_max}
 use Rattle.temporal_net.proofs.Ways.{same_distance, way_of, follows_leads, follows_members, measured, short}
 use Rattle.temporal_net.proofs.Sums.{adds_up}
 use Rattle.temporal_net.proofs.Heights.{height, lowest, below, solves}

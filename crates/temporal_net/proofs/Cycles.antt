@@ -1,8 +1,5 @@
 -- A way to a point and back that loses is a negative cycle, and where none loses the next phase goes on.
-use Rattle.temporal_net.proofs.Common.{◌≡◌, ℕ, ◌+◌, ◌<◌, ◌≤◌, pos, ◌+ℤ◌, ◌≤ℤ◌, ◌<ℤ◌, List, [], ◌∷◌, ◌++◌, map, length, true, false, Option, Some, None, refl, sym, subst, arith, ints, All-from_recursion, All-cons, All-nil, NetEdge, Distance, Leads, total, edge_at, IsNegativeCycle, Table, cell, lowered, loses_over, AllShort, AreTable, HasWays, Follows}
-use Rattle.std.proofs.lemmas.List.{map-append}
-use Rattle.std.proofs.lemmas.List.Elements.{All-append}
-use Rattle.temporal_net.specs.Tables.{loses}
+use Rattle.temporal_net.proofs.Common.{◌≡◌, ℕ, ◌+◌, ◌<◌, ◌≤◌, pos, ◌+ℤ◌, ◌≤ℤ◌, ◌<ℤ◌, List, [], ◌∷◌, ◌++◌, map, length, true, false, Option, Some, None, refl, sym, subst, arith, ints, All-from_recursion, All-cons, All-nil, NetEdge, Distance, Leads, total, edge_at, IsNegativeCycle, Table, cell, lowered, loses_over, AllShort, AreTable, HasWays, Follows, map-append, All-append, loses}
 use Rattle.temporal_net.proofs.Phases.{next_table}
 use Rattle.temporal_net.proofs.Sums.{leads_on, total-append}
 use Rattle.temporal_net.proofs.Ways.{follows_known, follows_leads, measured, short, widened}

@@ -1,7 +1,6 @@
 -- An edge that leaves the rest of a distance begins the way, and there is one.
-use Rattle.temporal_net.proofs.Common.{◌≡◌, ◌≢◌, ℕ, ◌+◌, ◌<◌, ℤ, ◌+ℤ◌, List, length, Bool, true, false, ◌&&◌, eqb, Option, Some, None, refl, sym, subst, inr, arith, eq-eqb, ints, eqb-true, Contains-get_or, NetEdge, Distance, edge_at, Table, Begins, HasWays, Steps}
+use Rattle.temporal_net.proofs.Common.{◌≡◌, ◌≢◌, ℕ, ◌+◌, ◌<◌, ℤ, ◌+ℤ◌, List, length, Bool, true, false, ◌&&◌, eqb, Option, Some, None, refl, sym, subst, inr, arith, eq-eqb, ints, eqb-true, Contains-get_or, NetEdge, Distance, edge_at, Table, Begins, HasWays, Steps, opens}
 use Rattle.std.specs.Ordering.{int_eq}
-use Rattle.temporal_net.specs.Tables.{opens}
 use Rattle.temporal_net.proofs.Ways.{ends_among, numbered}
 
 -- the edge with this number leads from x, and leaves the rest of the way to y

@@ -1,6 +1,5 @@
 -- What writing one place of a table's rows changes.
-use Rattle.temporal_net.proofs.Common.{◌≡◌, ℕ, zero, suc, ◌+◌, ◌<◌, pos, ◌≤ℤ◌, List, [], ◌∷◌, ◌++◌, length, get_or, set, take, replicate, cond, eqb, eq-eqb, Option, Some, None, refl, sym, ◌∙◌, ap, subst, inl, inr, arith, cases_eq, eqb_tells, NetEdge, Distance, edge_at, IsAmong, IsSmall, cell, edge_distance, lesser, zero_distance, AreTable, IsTable}
-use Rattle.std.proofs.lemmas.List.{length-set, get_or-set_same, get_or-set_other, get_or_append_left, get_or_push, length-replicate, take_more}
+use Rattle.temporal_net.proofs.Common.{◌≡◌, ℕ, zero, suc, ◌+◌, ◌<◌, pos, ◌≤ℤ◌, List, [], ◌∷◌, ◌++◌, length, get_or, set, take, replicate, cond, eqb, eq-eqb, Option, Some, None, refl, sym, ◌∙◌, ap, subst, inl, inr, arith, cases_eq, eqb_tells, NetEdge, Distance, edge_at, IsAmong, IsSmall, cell, edge_distance, lesser, zero_distance, AreTable, IsTable, length-set, get_or-set_same, get_or-set_other, get_or_append_left, get_or_push, length-replicate, take_more}
 use Rattle.temporal_net.proofs.Adding.{added}
 
 module _ (rows : List (List (Option Distance))) (x y : ℕ) (v : Option Distance) where

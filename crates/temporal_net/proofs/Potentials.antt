@@ -1,9 +1,7 @@
 -- Where a network has a solution, its potentials stand still after as many rounds as it has points, and are one.
-use Rattle.temporal_net.proofs.Common.{◌≡◌, ℕ, zero, suc, ◌<◌, ◌≤◌, ◌⊎◌, ℤ, ◌+ℤ◌, ◌-ℤ◌, ◌≤ℤ◌, ◌<ℤ◌, Bool, true, false, List, [], ◌∷◌, length, get_or, eqb, eq-eqb, refl, sym, ◌∙◌, subst, inl, inr, arith, int_min, All, AllByRecursion, Contains, eqb-true, eqb_tells, ints, clamps, by_lt_z, All-nil, All-cons, All-contains, All-from_recursion, length-le_from_distinct_below, NetEdge, IsAmong, IsSolvable, Meets, Solves}
+use Rattle.temporal_net.proofs.Common.{◌≡◌, ℕ, zero, suc, ◌<◌, ◌≤◌, ◌⊎◌, ℤ, ◌+ℤ◌, ◌-ℤ◌, ◌≤ℤ◌, ◌<ℤ◌, Bool, true, false, List, [], ◌∷◌, length, get_or, eqb, eq-eqb, refl, sym, ◌∙◌, subst, inl, inr, arith, int_min, All, AllByRecursion, Contains, eqb-true, eqb_tells, ints, clamps, by_lt_z, All-nil, All-cons, All-contains, All-from_recursion, length-le_from_distinct_below, NetEdge, IsAmong, IsSolvable, Meets, Solves, list_all, Decides-by_and, Decides-like, All-weaker, Contains-append_right}
 use Rattle.std.specs.Bool.{Decides, if◌then◌else◌}
-use Rattle.std.specs.List.{IsDistinct, list_all}
-use Rattle.std.proofs.lemmas.Bool.Decides.{Decides-by_and, Decides-like}
-use Rattle.std.proofs.lemmas.List.Elements.{All-weaker, Contains-append_right}
+use Rattle.std.specs.List.{IsDistinct}
 use Rattle.std.proofs.lemmas.Map.Views.{Contains-from_any}
 use Rattle.temporal_net.specs.Potentials.{is_met, is_solvable, potentials, relaxed}
 use Rattle.temporal_net.proofs.Ways.{ends_among}

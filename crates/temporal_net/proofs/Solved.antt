@@ -1,12 +1,8 @@
 -- What the rows of a solved network say of it.
-use Rattle.temporal_net.proofs.Common.{◌≡◌, ◌≢◌, ℕ, ◌<◌, ◌≤◌, List, [], ◌∷◌, ◌++◌, map, length, get_or, take, drop, Option, Some, None, Result, Ok, Err, IfOk, sym, ◌∙◌, ap, subst, inl, inr, arith, to_z, of_z, w64, FitsSigned, Contains, ints, get_or_default, length-map, All-from_recursion, recursion_from_All, NetEdge, Distance, total, edge_at, points_of, IsGreatest, IsUnbounded, IsShortestPath, HasGreatest, cell, zero_distance, AreTable, Follows}
-use Rattle.std.specs.List.{AllPairs}
+use Rattle.temporal_net.proofs.Common.{◌≡◌, ◌≢◌, ℕ, ◌<◌, ◌≤◌, List, [], ◌∷◌, ◌++◌, map, length, get_or, take, drop, Option, Some, None, Result, Ok, Err, IfOk, sym, ◌∙◌, ap, subst, inl, inr, arith, to_z, of_z, w64, FitsSigned, Contains, ints, get_or_default, length-map, All-from_recursion, recursion_from_All, NetEdge, Distance, total, edge_at, points_of, IsGreatest, IsUnbounded, IsShortestPath, HasGreatest, cell, zero_distance, AreTable, Follows, AllPairs, to_z-of_z, Decides-eqb, IsWay, IsWithinNetwork, Network}
 use Rattle.std.proofs.lemmas.Grind.{common_steps}
-use Rattle.std.proofs.lemmas.Int.{to_z-of_z}
-use Rattle.std.proofs.lemmas.Bool.Decides.{Decides-eqb}
 use Rattle.std.proofs.lemmas.Map.Made.{AllPairs-from_IsDistinct}
 use Rattle.fx_base.specs.declared.bound.Bound.TheVariants.{Finite}
-use Rattle.temporal_net.specs.Networks.{IsWay, IsWithinNetwork, Network}
 use Rattle.temporal_net.proofs.Bounds.{greatest, unbounded, known}
 use Rattle.temporal_net.proofs.Fewest.{IsNoMore, least_of_ways}
 use Rattle.temporal_net.proofs.Ways.{same_distance, follows_leads, follows_members, measured, distinct, short}

@@ -1,7 +1,6 @@
 -- The ways of a table: there is one for each distance, it meets no point twice, and so it has at most 15 edges.
-use Rattle.temporal_net.proofs.Common.{◌≡◌, ℕ, zero, suc, ◌<◌, ◌≤◌, ◌⊎◌, ℤ, pos, negsuc, ◌*ℤ◌, ◌≤ℤ◌, List, [], ◌∷◌, map, length, true, false, ◌||◌, eqb, Option, Some, None, IfSome, refl, sym, ◌∙◌, ap, subst, inl, inr, arith, All, AllByRecursion, Contains, ints, cases_eq, eqb_tells, get_or_default, length-map, All-contains, length-le_from_distinct_below, NetEdge, Distance, Leads, total, points_of, edge_at, IsAmong, IsSmall, Table, zero_distance, Begins, HasWays, Steps, Follows}
-use Rattle.std.specs.List.{IsDistinct, list_any}
-use Rattle.temporal_net.specs.Tables.{IsShort}
+use Rattle.temporal_net.proofs.Common.{◌≡◌, ℕ, zero, suc, ◌<◌, ◌≤◌, ◌⊎◌, ℤ, pos, negsuc, ◌*ℤ◌, ◌≤ℤ◌, List, [], ◌∷◌, map, length, true, false, ◌||◌, eqb, Option, Some, None, IfSome, refl, sym, ◌∙◌, ap, subst, inl, inr, arith, All, AllByRecursion, Contains, ints, cases_eq, eqb_tells, get_or_default, length-map, All-contains, length-le_from_distinct_below, NetEdge, Distance, Leads, total, points_of, edge_at, IsAmong, IsSmall, Table, zero_distance, Begins, HasWays, Steps, Follows, list_any, IsShort}
+use Rattle.std.specs.List.{IsDistinct}
 
 -- how many edges are left
 abbrev pub edges_left : Option Distance → ℕ

@@ -1,7 +1,5 @@
 -- What the law on edges and rows says of a word's edges.
-use Rattle.temporal_ops.proofs.Common.{◌≡◌, ℤ, List, Option, Some, None, subst, OpEdge, OpWord, Means, Row, says, no_row, row_of}
-use Rattle.temporal_ops.specs.Operators.{edges_of}
-use Rattle.temporal_ops.specs.Table.{HasRow}
+use Rattle.temporal_ops.proofs.Common.{◌≡◌, ℤ, List, Option, Some, None, subst, OpEdge, OpWord, Means, Row, says, no_row, row_of, edges_of, HasRow}
 use Rattle.temporal_ops.proofs.Rows.{edges_mean_rows}
 
 means_of : (word : OpWord) (params : List ℤ) (edges : Option (List OpEdge)) → edges ≡ edges_of word params → Means edges (row_of word params)

@@ -1,9 +1,6 @@
 -- How the fields of an operator come from its list of edges.
-use Rattle.temporal_ops.proofs.Common.{◌≡◌, ℕ, ◌+◌, ◌<◌, ◌≤◌, ◌++◌, List, length, map, take, drop, get_or, set, sym, ◌∙◌, ap, subst, arith, length-append, length-drop, length-take, length-take-le, append-nil, replicate, take_all, length-map, take-append_seam, OpEdge, IsOp, opposite_edge, blank}
-use Rattle.std.proofs.lemmas.List.{drop-replicate, drop_all, take-append-le, get_or_default}
+use Rattle.temporal_ops.proofs.Common.{◌≡◌, ℕ, ◌+◌, ◌<◌, ◌≤◌, ◌++◌, List, length, map, take, drop, get_or, set, sym, ◌∙◌, ap, subst, arith, length-append, length-drop, length-take, length-take-le, append-nil, replicate, take_all, length-map, take-append_seam, OpEdge, IsOp, opposite_edge, blank, drop-replicate, drop_all, take-append-le, get_or_default, drop-append_seam, IsStored}
 use Rattle.std.proofs.lemmas.List.Edits.{map_over_more}
-use Rattle.std.proofs.Math.Seq.{drop-append_seam}
-use Rattle.temporal_ops.specs.Stored.{IsStored}
 use Rattle.temporal_ops.proofs.Ops.{opposite_is_op}
 
 pub stored_front : (edges : List OpEdge) → IsOp edges

@@ -1,11 +1,6 @@
 -- The edges of each word are those of an operator.
-use Rattle.temporal_ops.proofs.Common.{◌≡◌, ℤ, pos, ◌^◌, ◌≤◌, not, List, [], ◌∷◌, length, Option, Some, None, IfSome, map, option_map, refl, arith, lit≤, length-map, int_max, ints, clamps, Corner, AStart, AEnd, BStart, BEnd, OpEdge, OpWord, After, Before, Coincides, During, Includes, Finishes, FinishedBy, Starts, StartedBy, Meets, MetBy, Overlaps, OverlappedBy, is_tested, IsOp, near, tolerance, gap_edges, coincide_edges, during_edges, order_edges, overlaps_edges, opposite, opposite_edge}
-use Rattle.std.specs.Int.{int_min}
-use Rattle.std.specs.List.{AllByRecursion}
-use Rattle.std.proofs.lemmas.List.Elements.{All-from_recursion, recursion_from_All, All-map, All-weaker}
-use Rattle.temporal_ops.specs.Edges.{IsWithin, IsOpEdge}
-use Rattle.temporal_ops.specs.Laws.{EdgesAreOps}
-use Rattle.temporal_ops.specs.Operators.{at_most, at_least, earlier, edges_of}
+use Rattle.temporal_ops.proofs.Common.{◌≡◌, ℤ, pos, ◌^◌, ◌≤◌, not, List, [], ◌∷◌, length, Option, Some, None, IfSome, map, option_map, refl, arith, lit≤, length-map, int_max, ints, clamps, Corner, AStart, AEnd, BStart, BEnd, OpEdge, OpWord, After, Before, Coincides, During, Includes, Finishes, FinishedBy, Starts, StartedBy, Meets, MetBy, Overlaps, OverlappedBy, is_tested, IsOp, near, tolerance, gap_edges, coincide_edges, during_edges, order_edges, overlaps_edges, opposite, opposite_edge, int_min, AllByRecursion, All-from_recursion, recursion_from_All, All-map, All-weaker, IsWithin, IsOpEdge, EdgesAreOps, at_most, at_least, earlier}
+use Rattle.temporal_ops.specs.Operators.{edges_of}
 
 pub upper : (x y : Corner) (most : ℤ) → is_tested x ≡ not (is_tested y) → IsWithin (2 ^ 53) most → IsOpEdge (at_most x y most)
 upper x y most j h = record { joins = j; sized = (omega (arith, ints), omega (arith, ints)) }

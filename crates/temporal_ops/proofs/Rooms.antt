@@ -123,10 +123,6 @@ below_less : (greatest : Option ℤ) (s e : ℤ) → s ≤ℤ e → IsBelow grea
 below_less None s e h k = tt
 below_less (Some greatest) s e h k = omega (arith, ints)
 
-above_more : (least : Option ℤ) (s e : ℤ) → s ≤ℤ e → IsAbove least s → IsAbove least e
-above_more None s e h k = tt
-above_more (Some least) s e h k = omega (arith, ints)
-
 -- the limits of the starts are met exactly by the starts of the events that fit
 module _ (room : Room) (point : Bool) (starts : Limits) (limits : AreStartLimits room point starts) where
   pub event_starts : (y : Times) → FitsEvent room point y → IsBetween starts y.start

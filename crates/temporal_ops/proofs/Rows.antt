@@ -1,9 +1,7 @@
 -- The edges of each word mean its row of the table.
-use Rattle.temporal_ops.proofs.Common.{◌≡◌, ℤ, ◌-ℤ◌, ◌≤ℤ◌, Bool, true, false, ◌&&◌, List, [], ◌∷◌, Option, Some, None, map, option_map, refl, sym, ◌∙◌, arith, ◌↔◌, list_all, ints, clamps, Times, Corner, AStart, AEnd, BStart, BEnd, OpEdge, After, Before, Coincides, During, Includes, Finishes, FinishedBy, Starts, StartedBy, Meets, MetBy, Overlaps, OverlappedBy, corner, Means, near, tolerance, gap_edges, coincide_edges, during_edges, order_edges, overlaps_edges, opposite, opposite_edge, Row, says, no_row, row_of}
+use Rattle.temporal_ops.proofs.Common.{◌≡◌, ℤ, ◌-ℤ◌, ◌≤ℤ◌, Bool, true, false, ◌&&◌, List, [], ◌∷◌, Option, Some, None, map, option_map, refl, sym, ◌∙◌, arith, ◌↔◌, list_all, ints, clamps, Times, Corner, AStart, AEnd, BStart, BEnd, OpEdge, After, Before, Coincides, During, Includes, Finishes, FinishedBy, Starts, StartedBy, Meets, MetBy, Overlaps, OverlappedBy, corner, Means, near, tolerance, gap_edges, coincide_edges, during_edges, order_edges, overlaps_edges, opposite, opposite_edge, Row, says, no_row, row_of, EdgesMeanRows, exchanged, during, overlaps}
 use Rattle.temporal_ops.specs.Edges.{edge_holds, edges_hold}
-use Rattle.temporal_ops.specs.Laws.{EdgesMeanRows}
 use Rattle.temporal_ops.specs.Operators.{edges_of}
-use Rattle.temporal_ops.specs.Table.{exchanged, during, overlaps}
 
 pub both : (p q : Bool) → (p && q) ≡ true → (p ≡ true) × (q ≡ true)
 both true q h = (refl, h)

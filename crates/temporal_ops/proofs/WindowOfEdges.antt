@@ -1,9 +1,6 @@
 -- The function of the edges gives the starts of the possible events.
-use Rattle.temporal_ops.proofs.Common.{◌≡◌, ◌↔◌, ℤ, ◌≤ℤ◌, Bool, true, false, not, ◌||◌, List, [], ◌∷◌, Option, Some, None, refl, arith, list_all, ints, clamps, Times, Corner, AStart, AEnd, BStart, BEnd, OpEdge, Limits, Room, is_tested, edge_holds, all_hold, AreStarts, IsPossible, is_empty, IsAbove, IsBelow, IsBetween, Fits, FitsEvent, AreStartLimits}
-use Rattle.std.specs.List.{All}
-use Rattle.std.proofs.lemmas.List.Elements.{All-head, All-tail}
-use Rattle.temporal_ops.specs.Edges.{edges_hold, Joins}
-use Rattle.temporal_ops.specs.Laws.{WindowIsOfEdges}
+use Rattle.temporal_ops.proofs.Common.{◌≡◌, ◌↔◌, ℤ, ◌≤ℤ◌, Bool, true, false, not, ◌||◌, List, [], ◌∷◌, Option, Some, None, refl, arith, list_all, ints, clamps, Times, Corner, AStart, AEnd, BStart, BEnd, OpEdge, Limits, Room, is_tested, edge_holds, all_hold, AreStarts, IsPossible, is_empty, IsAbove, IsBelow, IsBetween, Fits, FitsEvent, AreStartLimits, All, All-head, All-tail, Joins, WindowIsOfEdges}
+use Rattle.temporal_ops.specs.Edges.{edges_hold}
 use Rattle.temporal_ops.specs.Starts.{higher, lower, begun, ended, edge_room, edges_room, room_of, starts_of, window_by, window_in, window_of}
 use Rattle.temporal_ops.proofs.Rooms.{start_end_by, end_end_by, start_begin_at, end_begin_at, event_starts, endless_starts, latest_start}
 use Rattle.temporal_ops.proofs.Rows.{both, joined}

@@ -1,9 +1,6 @@
 -- The steps of a length window.
-use Rattle.window_gate.proofs.Common.{◌≡◌, ◌∙◌, sym, ap, refl, subst, ℕ, zero, suc, ℤ, ◌+◌, min, List, [], ◌∷◌, ◌++◌, map, length, Bool, true, false, cond, not, ◌==◌, ◌&&◌, ◌||◌, Option, Some, None, arith, append_assoc, append-nil, ◌⊎◌, inl, inr, ⊎_elim, option_to_list, option_or, insert_entry, is_at, get, BTreeMap, list_any, IsStrictlySortedBy, keys_of, values_of, lookup, remove_entry, nat_cmp, eq_by_cmp, Decides-eqb, nat_tests, length-append, length-map, list_any-append, name_cmp, IsBetween, Named, Delta, Length, Come, Gone, Arrival, named_of, has_tag, single, inside, after, rows_inside, has_name, TagsDiffer, number_of, KeepsLength, Numbered}
-use Rattle.std.specs.Option.{MatchOption}
+use Rattle.window_gate.proofs.Common.{◌≡◌, ◌∙◌, sym, ap, refl, subst, ℕ, zero, suc, ℤ, ◌+◌, min, List, [], ◌∷◌, ◌++◌, map, length, Bool, true, false, cond, not, ◌==◌, ◌&&◌, ◌||◌, Option, Some, None, arith, append_assoc, append-nil, ◌⊎◌, inl, inr, ⊎_elim, option_to_list, option_or, insert_entry, is_at, get, BTreeMap, list_any, IsStrictlySortedBy, keys_of, values_of, lookup, remove_entry, nat_cmp, eq_by_cmp, Decides-eqb, nat_tests, length-append, length-map, list_any-append, name_cmp, IsBetween, Named, Delta, Length, Come, Gone, Arrival, named_of, has_tag, single, inside, after, rows_inside, has_name, TagsDiffer, number_of, KeepsLength, Numbered, MatchOption, numbered, MakesRoom, BringsBack, Removes}
 use Rattle.window_gate.specs.declared.length_window.LengthWindow.{LengthWindow}
-use Rattle.window_gate.specs.Standing.{numbered}
-use Rattle.window_gate.specs.Pieces.{MakesRoom, BringsBack, Removes}
 use Rattle.window_gate.proofs.Names.{same_name, same_itself, equal_names, none_with_tag, names_apart, names-without, only_one, without, differ_right, absent_right}
 use Rattle.window_gate.proofs.Singles.{between_names}
 use Rattle.window_gate.proofs.Insides.{latest, length-latest, latest_split, inside_length, named-filter, named-push}

@@ -1,7 +1,6 @@
 -- Versions by their tags: which of a list have a tag, and lists whose tags differ.
-use Rattle.window_gate.proofs.Common.{◌≡◌, ◌∙◌, sym, ap, refl, ℕ, List, [], ◌∷◌, ◌++◌, filter, Bool, true, false, cond, not, ◌==◌, ◌&&◌, ◌||◌, arith, nat_cmp, ordering_then, eq_by_cmp, is_eq, Ordering, Less, Equal, Greater, list_any, unsigned_tied, Decides-eqb, nat_tests, list_any-append, name_cmp, Named, has_tag, has_name, TagsDiffer}
+use Rattle.window_gate.proofs.Common.{◌≡◌, ◌∙◌, sym, ap, refl, ℕ, List, [], ◌∷◌, ◌++◌, filter, Bool, true, false, cond, not, ◌==◌, ◌&&◌, ◌||◌, arith, nat_cmp, ordering_then, eq_by_cmp, is_eq, Ordering, Less, Equal, Greater, list_any, unsigned_tied, Decides-eqb, nat_tests, list_any-append, name_cmp, Named, has_tag, has_name, TagsDiffer, name_equiv, name_exact}
 use Rattle.std.proofs.lemmas.Map.Views.{tells_apart}
-use Rattle.row_delta.specs.NameOrder.{name_equiv, name_exact}
 
 -- whether two versions are the same
 abbrev pub same_name : Named → Named → Bool
@@ -123,13 +122,6 @@ differ_without tag (x ∷ names) d =
       | true ↦ differ_without tag names d.1
       | false ↦ (tags-without tag x.tag.0 names d.0, differ_without tag names d.1)
     ]
-
--- without a tag that is not there, all are left
-pub without-absent : (tag : ℕ) (names : List Named) → list_any (has_tag tag) names ≡ false → without tag names ≡ names
-without-absent tag [] e = refl
-without-absent tag (x ∷ names) e =
-    ap (λ b. cond (not b) (x ∷ without tag names) (without tag names)) (left_or (tag == x.tag.0) (list_any (has_tag tag) names) e)
-    ∙ ap (λ xs. x ∷ xs) (without-absent tag names (right_or (tag == x.tag.0) (list_any (has_tag tag) names) e))
 
 -- which versions are left
 pub names-without : (tag : ℕ) (names : List Named) (named : Named) → has_name (without tag names) named ≡ (has_name names named && not (tag == named.tag.0))

@@ -1,7 +1,6 @@
 -- Versions under rising numbers: one put in at an end, one taken out by its number, and the numbers by their tags.
-use Rattle.window_gate.proofs.Common.{◌≡◌, ◌∙◌, sym, ap, refl, subst, ℕ, ◌+◌, List, [], ◌∷◌, ◌++◌, filter, length, Bool, true, false, cond, not, ◌==◌, ◌||◌, Option, Some, None, arith, append-nil, ◌⊎◌, inl, inr, Less, Greater, insert_entry, is_at, unsigned_tied, list_any, AllByRecursion, keys_of, values_of, lookup, remove_entry, option_or, nat_cmp, is_eq, Decides-eqb, nat_tests, map-append, Named, has_tag, TagsDiffer, number_of, Numbered}
+use Rattle.window_gate.proofs.Common.{◌≡◌, ◌∙◌, sym, ap, refl, subst, ℕ, ◌+◌, List, [], ◌∷◌, ◌++◌, filter, length, Bool, true, false, cond, not, ◌==◌, ◌||◌, Option, Some, None, arith, append-nil, ◌⊎◌, inl, inr, Less, Greater, insert_entry, is_at, unsigned_tied, list_any, AllByRecursion, keys_of, values_of, lookup, remove_entry, option_or, nat_cmp, is_eq, Decides-eqb, nat_tests, map-append, Named, has_tag, TagsDiffer, number_of, Numbered, match_ordering}
 use Rattle.std.specs.List.Sorted.{IsStrictlySortedBy}
-use Rattle.std.specs.Ordering.{match_ordering}
 use Rattle.window_gate.proofs.Names.{without, apart, differ_left, differ_right}
 
 -- ---- the order of numbers

@@ -1,9 +1,7 @@
 -- Until the first moment that is due, the clock changes nothing.
-use Rattle.window_gate.proofs.Common.{◌≡◌, ◌∙◌, sym, ap, refl, inl, inr, ℕ, ℤ, ◌+ℤ◌, ◌≤ℤ◌, ◌<ℤ◌, List, [], ◌∷◌, map, Bool, true, false, cond, not, ◌&&◌, ◌||◌, Option, Some, None, option_map, arith, int_le, ints, has_come, is_due, IsBetween, has, Delta, Row, Clock, Time, TimeWindow, takes_out, KeepsTime, TagsDiffer, with_tag, Arrival, named_of, has_tag, inside, rows_inside}
-use Rattle.std.specs.Prelude.{IfSome, IsSomeAnd}
+use Rattle.window_gate.proofs.Common.{◌≡◌, ◌∙◌, sym, ap, refl, inl, inr, ℕ, ℤ, ◌+ℤ◌, ◌≤ℤ◌, ◌<ℤ◌, List, [], ◌∷◌, map, Bool, true, false, cond, not, ◌&&◌, ◌||◌, Option, Some, None, option_map, arith, int_le, ints, has_come, is_due, IsBetween, has, Delta, Row, Clock, Time, TimeWindow, takes_out, KeepsTime, TagsDiffer, with_tag, Arrival, named_of, has_tag, inside, rows_inside, IfSome, IsSomeAnd, LeavesAt}
 use Rattle.std.specs.FinMap as timers
 use Rattle.fx_base.specs.Lists.{In}
-use Rattle.window_gate.specs.Standing.{LeavesAt}
 use Rattle.window_gate.proofs.Times.{other_kept, other_between}
 use Rattle.window_gate.proofs.Wholes.{none_in_order}
 

@@ -1,20 +1,12 @@
 -- Rows of one version: their order is that of the versions, and a difference of versions is one of rows.
-use Rattle.window_gate.proofs.Common.{◌≡◌, ◌∙◌, sym, ap, refl, subst, ℕ, ℤ, List, [], ◌∷◌, map, Bool, false, cond, not, ◌&&◌, ◌||◌, Ordering, Less, Equal, Greater, nat_cmp, ordering_then, eq_by_cmp, is_eq, AllByRecursion, name_cmp, has, IsBetween, Named, Row, Delta, single, has_name}
+use Rattle.window_gate.proofs.Common.{◌≡◌, ◌∙◌, sym, ap, refl, subst, ℕ, ℤ, List, [], ◌∷◌, map, Bool, false, cond, not, ◌&&◌, ◌||◌, Ordering, Less, Equal, Greater, nat_cmp, ordering_then, eq_by_cmp, is_eq, AllByRecursion, name_cmp, has, IsBetween, Named, Row, Delta, single, has_name, int_cmp, row_cmp, InOrder}
 use mathlib.Core.Path.{fun_ext}
-use Rattle.std.specs.Ordering.{int_cmp}
 use Rattle.std.specs.Cmp.Lexicographic.{slice_cmp}
 use Rattle.std.specs.List.Sorted.{IsStrictlySortedBy}
-use Rattle.row_delta.specs.Rows.{row_cmp, InOrder}
 
 -- the row of these facts and values
 abbrev row_of : List Named → List ℤ → Row
 row_of facts values = record { facts = facts; values = values }
-
--- of two single versions tags decide, then ids
-singles : (t i : Ordering) (rest : Ordering) → rest ≡ cond (is_eq i) Equal i → ordering_then t (ordering_then Equal i) ≡ ordering_then t i
-singles Less i rest e = refl
-singles Equal i rest e = refl
-singles Greater i rest e = refl
 
 -- lists of one element are compared by it
 one_cmp : (a b : ℕ) → slice_cmp nat_cmp (a ∷ []) (b ∷ []) ≡ nat_cmp a b

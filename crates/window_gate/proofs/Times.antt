@@ -1,9 +1,7 @@
 -- The step of a time window, tag by tag.
-use Rattle.window_gate.proofs.Common.{◌≡◌, ◌∙◌, sym, ap, refl, ℕ, ℤ, pos, ◌+ℤ◌, ◌-ℤ◌, ◌≤ℤ◌, List, [], ◌∷◌, map, filter, Bool, true, false, cond, not, ◌==◌, ◌&&◌, ◌||◌, Option, Some, None, option_map, arith, nat_eq, negsuc, FitsSigned, w64, int_lt, int_le, BTreeMap, get, IsStrictlySortedBy, nat_cmp, list_any, option_or, is_some, option_to_list, Decides-eqb, nat_tests, ints, FactId, Timers, has_come, IsBetween, name_cmp, Delta, Named, Whole, Time, GateChange, Come, Gone, Clock, TimeWindow, Arrival, named_of, has_tag, inside, after, single, rows_inside, has_name, TagsDiffer, with_tag, KeepsTime, is_id, takes_out, leaves}
+use Rattle.window_gate.proofs.Common.{◌≡◌, ◌∙◌, sym, ap, refl, ℕ, ℤ, pos, ◌+ℤ◌, ◌-ℤ◌, ◌≤ℤ◌, List, [], ◌∷◌, map, filter, Bool, true, false, cond, not, ◌==◌, ◌&&◌, ◌||◌, Option, Some, None, option_map, arith, nat_eq, negsuc, FitsSigned, w64, int_lt, int_le, BTreeMap, get, IsStrictlySortedBy, nat_cmp, list_any, option_or, is_some, option_to_list, Decides-eqb, nat_tests, ints, FactId, Timers, has_come, IsBetween, name_cmp, Delta, Named, Whole, Time, GateChange, Come, Gone, Clock, TimeWindow, Arrival, named_of, has_tag, inside, after, single, rows_inside, has_name, TagsDiffer, with_tag, KeepsTime, is_id, takes_out, leaves, find-append, most}
 use Rattle.std.specs.Int.{saturate_signed}
 use Rattle.std.specs.FinMap as timers
-use Rattle.std.proofs.lemmas.List.Folds.{find-append}
-use Rattle.window_gate.specs.Standing.{most}
 use Rattle.window_gate.proofs.Names.{same_name, same_name-parts, none_with_tag, has_tag-same}
 use Rattle.window_gate.proofs.Insides.{is_recent, inside_time, differ_after}
 use Rattle.window_gate.proofs.Lengths.{few_in_order}

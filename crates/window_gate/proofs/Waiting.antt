@@ -1,8 +1,7 @@
 -- Tags that wait: what is taken out of the queue and of the ids, and what is put in.
-use Rattle.window_gate.proofs.Common.{◌≡◌, ◌∙◌, sym, ap, refl, ℕ, ℤ, ◌+◌, ◌<◌, List, [], ◌∷◌, ◌++◌, take, length, get_or, Bool, true, false, cond, not, ◌==◌, ◌&&◌, ◌||◌, Option, Some, None, arith, nat_eq, is_at, list_any, is_some, nat_cmp, eq_by_cmp, Decides-eqb, nat_tests, nat_cmp_total, list_any-append, FactId, Timers, TakesDue, is_due, name_cmp, Named, GateChange, Come, Gone, Clock, has_name, is_id, takes_out, leaves}
+use Rattle.window_gate.proofs.Common.{◌≡◌, ◌∙◌, sym, ap, refl, ℕ, ℤ, ◌+◌, ◌<◌, List, [], ◌∷◌, ◌++◌, take, length, get_or, Bool, true, false, cond, not, ◌==◌, ◌&&◌, ◌||◌, Option, Some, None, arith, nat_eq, is_at, list_any, is_some, nat_cmp, eq_by_cmp, Decides-eqb, nat_tests, nat_cmp_total, list_any-append, FactId, Timers, TakesDue, is_due, name_cmp, Named, GateChange, Come, Gone, Clock, has_name, is_id, takes_out, leaves, list_any_more}
 use Rattle.std.specs.Bool.{OnTrue, OnFalse}
 use Rattle.std.specs.FinMap as timers
-use Rattle.std.proofs.lemmas.List.Folds.{list_any_more}
 use Rattle.window_gate.proofs.Names.{same_name, same_name-parts}
 
 -- ---- the queue

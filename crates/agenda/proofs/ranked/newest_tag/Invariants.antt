@@ -1,5 +1,4 @@
-use Rattle.agenda.proofs.Common.{◌≡◌, drop, max}
-use Rattle.rule_model.specs.Matches.{greatest_tag}
+use Rattle.agenda.proofs.Common.{◌≡◌, drop, max, greatest_tag}
 use Rattle.agenda.proofs.ranked.newest_tag.Given as goal
 
 abbrev pub invariant-loop-named : goal.invariant-loop-named

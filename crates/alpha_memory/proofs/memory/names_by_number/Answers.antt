@@ -1,5 +1,4 @@
-use Rattle.alpha_memory.proofs.Common.{rules, IsFromIterResult, nat_cmp, name_entry}
-use Rattle.std.proofs.lemmas.Result.{IfOk-at_ok}
+use Rattle.alpha_memory.proofs.Common.{rules, IsFromIterResult, nat_cmp, name_entry, IfOk-at_ok}
 use Rattle.std.proofs.lemmas.Iterator.{YieldsList-from_map}
 use Rattle.std.proofs.lemmas.Iterator.Adapters.{fact_from_collect}
 use Rattle.std.proofs.lemmas.Iterator.Consumers.{YieldsList-from_rest, YieldsList-at}

@@ -1,5 +1,4 @@
-use Rattle.std.proofs.Common.{◌≡◌, drop}
-use Rattle.change_read.specs.Fields.{field_named}
+use Rattle.change_read.proofs.Common.{◌≡◌, drop, field_named}
 use Rattle.change_read.proofs.fields.declared_field.Given as goal
 
 abbrev pub invariant-loop-place : goal.invariant-loop-place

@@ -1,5 +1,4 @@
-use Rattle.std.proofs.Common.{◌≡◌, drop}
-use Rattle.change_read.specs.Fields.{given_under}
+use Rattle.change_read.proofs.Common.{◌≡◌, drop, given_under}
 use Rattle.change_read.proofs.fields.given_for.Given as goal
 
 abbrev pub invariant-loop-member : goal.invariant-loop-member

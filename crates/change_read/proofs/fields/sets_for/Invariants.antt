@@ -1,5 +1,4 @@
-use Rattle.std.proofs.Common.{◌≡◌, drop, ◌++◌, option_map}
-use Rattle.change_read.specs.Fields.{sets_given}
+use Rattle.change_read.proofs.Common.{◌≡◌, drop, ◌++◌, option_map, sets_given}
 use Rattle.change_read.proofs.fields.sets_for.Given as goal
 
 abbrev pub invariant-loop-member : goal.invariant-loop-member

@@ -1,5 +1,4 @@
-use Rattle.std.proofs.Common.{◌≡◌, drop, ◌++◌, option_map}
-use Rattle.change_read.specs.Fields.{values_given}
+use Rattle.change_read.proofs.Common.{◌≡◌, drop, ◌++◌, option_map, values_given}
 use Rattle.change_read.proofs.fields.values_for.Given as goal
 
 abbrev pub invariant-loop-field : goal.invariant-loop-field

@@ -1,5 +1,4 @@
-use Rattle.std.proofs.Common.{◌≡◌, drop}
-use Rattle.change_read.specs.Changes.{entry_named}
+use Rattle.change_read.proofs.Common.{◌≡◌, drop, entry_named}
 use Rattle.change_read.proofs.reading.declared_entry.Given as goal
 
 abbrev pub invariant-loop-place : goal.invariant-loop-place

@@ -1,5 +1,4 @@
-use Rattle.std.proofs.Common.{◌≡◌, drop}
-use Rattle.change_read.specs.Changes.{type_named}
+use Rattle.change_read.proofs.Common.{◌≡◌, drop, type_named}
 use Rattle.change_read.proofs.reading.declared_type.Given as goal
 
 abbrev pub invariant-loop-place : goal.invariant-loop-place

@@ -1,4 +1,4 @@
-use Rattle.std.proofs.Common.{arith}
+use Rattle.checkpoint.proofs.Common.{arith}
 use Rattle.checkpoint.proofs.Whole.{is_found, is_only, is_bad}
 use Rattle.checkpoint.proofs.codec.decode.Goals as goal
 

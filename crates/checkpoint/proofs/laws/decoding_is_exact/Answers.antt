@@ -1,5 +1,4 @@
-use Rattle.std.proofs.Common.{ap, sym, ◌∙◌}
-use Rattle.checkpoint.specs.Reading.{decoded}
+use Rattle.checkpoint.proofs.Common.{ap, sym, ◌∙◌, decoded}
 use Rattle.checkpoint.proofs.Whole.{decoded_takes, decoded_again}
 use Rattle.checkpoint.proofs.laws.decoding_is_exact.Goals as goal
 

@@ -1,5 +1,4 @@
-use Rattle.std.proofs.Common.{arith}
-use Rattle.checkpoint.specs.Reading.{Tells, items_at}
+use Rattle.checkpoint.proofs.Common.{arith, Tells, items_at}
 use Rattle.checkpoint.proofs.Loops.{begins, goes_on, stops, passed_on, ends}
 use Rattle.checkpoint.proofs.lists.items_at.Goals as goal
 

@@ -1,4 +1,4 @@
-use Rattle.std.proofs.Common.{arith}
+use Rattle.checkpoint.proofs.Common.{arith}
 use Rattle.checkpoint.proofs.ListsExact.{each_octet}
 use Rattle.checkpoint.proofs.lists.put_string.Goals as goal
 

@@ -1,6 +1,5 @@
-use Rattle.std.proofs.Common.{true, ap, ap₂, ◌∙◌}
+use Rattle.command_words.proofs.Common.{true, ap, ap₂, ◌∙◌, with_rule}
 use Rattle.clap.specs.Simple.{Shape, app_of_fields, on_top}
-use Rattle.clap.specs.Words.{with_rule}
 use Rattle.command_words.specs.Command.{replay_app}
 use Rattle.command_words.proofs.command.command.Goals as goal
 

@@ -1,8 +1,6 @@
-use Rattle.std.proofs.Common.{◌≡◌, ◌∙◌, true, false, map, string_bytes, sym, ap, subst, inl, inr}
+use Rattle.command_words.proofs.Common.{◌≡◌, ◌∙◌, true, false, map, string_bytes, sym, ap, subst, inl, inr, App, IsAmong, fault_of, is_simple, is_simple_and_free, kind_of, matches_of, ErrorKind}
 use denote.Enum.Bare.{sameb}
-use Rattle.clap.specs.Words.{App, IsAmong, fault_of, is_simple, is_simple_and_free, kind_of, matches_of}
 use Rattle.clap.specs.contracts.error.kind.ErrorKind.{the_type}
-use Rattle.clap.specs.declared.error.kind.ErrorKind.{ErrorKind}
 use Rattle.clap.specs.declared.error.kind.ErrorKind.TheVariants.{OutOfMemory}
 use Rattle.command_words.proofs.Faults.{simple, simple_and_free, taken, refused}
 use Rattle.command_words.proofs.command.parse.Goals as goal

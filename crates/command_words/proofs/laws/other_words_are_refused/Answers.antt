@@ -1,4 +1,4 @@
-use Rattle.std.proofs.Common.{refl}
+use Rattle.command_words.proofs.Common.{refl}
 use Rattle.clap.proofs.OnLiterals.{clap_on_literals}
 use Rattle.command_words.specs.Asked.{number_of, limit_of, load_number_of, asked_rows, asked_words}
 use Rattle.command_words.specs.Command.{replay_app, matched}

@@ -1,8 +1,6 @@
-use Rattle.std.proofs.Common.{IfSome, Option, subst, sym}
+use Rattle.command_words.proofs.Common.{IfSome, Option, subst, sym, found_of, rows_of, IsWithinBounds}
 use Rattle.std.proofs.lemmas.Result.{IfOk-weaker}
-use Rattle.clap.specs.Words.{found_of, rows_of}
 use Rattle.command_words.specs.declared.asking.Asked.{Asked}
-use Rattle.command_words.specs.Asked.{IsWithinBounds}
 use Rattle.command_words.proofs.Limits.{rows_within}
 use Rattle.command_words.proofs.reading.asked.Goals as goal
 

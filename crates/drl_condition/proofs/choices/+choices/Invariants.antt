@@ -1,5 +1,4 @@
-use Rattle.drl_condition.proofs.Common.{◌≡◌, ◌+◌, ◌-◌, ◌*◌, length, with_front}
-use Rattle.drl_condition.specs.Choices.{all_turns, all_at, any_turns, any_at, choice_at}
+use Rattle.drl_condition.proofs.Common.{◌≡◌, ◌+◌, ◌-◌, ◌*◌, length, with_front, all_turns, all_at, any_turns, any_at, choice_at}
 use Rattle.drl_condition.proofs.choices.+choices.Given as goal
 
 abbrev pub decreases-choice : goal.decreases-choice

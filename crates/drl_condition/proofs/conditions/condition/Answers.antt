@@ -1,5 +1,4 @@
-use Rattle.drl_condition.proofs.Common.{arith, IfOk-weaker}
-use Rattle.drl_phrase.proofs.ShapeLaws.{whole_found, whole_none}
+use Rattle.drl_condition.proofs.Common.{arith, IfOk-weaker, whole_found, whole_none}
 use Rattle.drl_condition.proofs.ConditionLaws.{condition_exact}
 use Rattle.drl_condition.proofs.conditions.condition.Goals as goal
 

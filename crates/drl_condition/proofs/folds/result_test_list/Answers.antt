@@ -1,5 +1,4 @@
-use Rattle.drl_condition.proofs.Common.{sym, seen, seen_none}
-use Rattle.drl_phrase.proofs.Turns.{no_first, begins, goes_on, ends, stops, no_turn_left}
+use Rattle.drl_condition.proofs.Common.{sym, seen, seen_none, no_first, begins, goes_on, ends, stops, no_turn_left}
 use Rattle.drl_condition.proofs.folds.result_test_list.Goals as goal
 
 pub returns-in-None : goal.returns-in-None

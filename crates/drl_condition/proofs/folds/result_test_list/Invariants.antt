@@ -1,7 +1,5 @@
-use Rattle.drl_condition.proofs.Common.{◌≡◌, ◌-◌, length, with_front, separated_at}
+use Rattle.drl_condition.proofs.Common.{◌≡◌, ◌-◌, length, with_front, separated_at, more_at, result_test_at}
 use Rattle.drl_phrase.specs.declared.phrase.Punctuation.TheVariants.{Comma}
-use Rattle.drl_phrase.specs.Reading.{more_at}
-use Rattle.drl_condition.specs.Reading.{result_test_at}
 use Rattle.drl_condition.proofs.folds.result_test_list.Given as goal
 
 abbrev pub invariant-loop : goal.invariant-loop

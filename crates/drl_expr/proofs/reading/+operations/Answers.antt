@@ -1,5 +1,5 @@
-use Rattle.std.proofs.Common.{◌≤◌, ◌-◌, sym, arith}
-use Rattle.drl_expr.specs.Reading.{operator_at, operand_at, inside_at, expr_at}
+use Rattle.drl_expr.proofs.Common.{◌≤◌, ◌-◌, sym, arith, operator_at, operand_at, inside_at}
+use Rattle.drl_expr.specs.Reading.{expr_at}
 use Rattle.drl_expr.proofs.Steps.{seen, seen_none, is_opening, negative_none, negative_some, too_deep, parenthesis_none, parenthesis_open, parenthesis_some, no_operand, begins, ends, too_high, no_turn_left, stops, goes_on}
 use Rattle.drl_expr.proofs.reading.+operations.Goals as goal
 

@@ -1,5 +1,4 @@
-use Rattle.std.proofs.Common.{◌≡◌, ◌≤◌, ◌+◌, ◌*◌, ◌-◌}
-use Rattle.drl_expr.specs.Reading.{chain_at, operator_at, operand_at, level_at, inside_at, rank}
+use Rattle.drl_expr.proofs.Common.{◌≡◌, ◌≤◌, ◌+◌, ◌*◌, ◌-◌, chain_at, operator_at, operand_at, level_at, inside_at, rank}
 use Rattle.drl_expr.proofs.reading.+operations.Given as goal
 
 abbrev pub decreases-factor : goal.decreases-factor

@@ -1,5 +1,4 @@
-use Rattle.drl_lex.proofs.Common.{◌≡◌, take, digits_value}
-use Rattle.drl_lex.specs.TimeReading.{capped}
+use Rattle.drl_lex.proofs.Common.{◌≡◌, take, digits_value, capped}
 use Rattle.drl_lex.proofs.numbers.number_of.Given as goal
 
 abbrev pub invariant-loop-digit : goal.invariant-loop-digit

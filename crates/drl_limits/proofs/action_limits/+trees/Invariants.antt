@@ -1,4 +1,4 @@
-use Rattle.std.proofs.Common.{◌+◌, ◌*◌, max}
+use Rattle.drl_limits.proofs.Common.{◌+◌, ◌*◌, max}
 use Rattle.drl_expr.specs.Tree.{height}
 use Rattle.drl_limits.proofs.action_limits.+trees.Given as goal
 

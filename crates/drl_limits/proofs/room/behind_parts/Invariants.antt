@@ -1,7 +1,4 @@
-use Rattle.std.proofs.Common.{◌≡◌, drop}
-use Rattle.std.specs.List.{sum_by}
-use Rattle.drl_limits.specs.Limits.{weight}
-use Rattle.drl_limits.specs.Room.{left_of}
+use Rattle.drl_limits.proofs.Common.{◌≡◌, drop, sum_by, weight, left_of}
 use Rattle.drl_limits.proofs.room.behind_parts.Given as goal
 
 abbrev pub invariant-loop-part : goal.invariant-loop-part

@@ -1,4 +1,4 @@
-use Rattle.std.proofs.Common.{arith}
+use Rattle.drl_phrase.proofs.Common.{arith}
 use Rattle.drl_phrase.proofs.Turns.{seen, seen_none, many_begins, many_goes_on, many_ends, many_no_turn_left}
 use Rattle.drl_phrase.proofs.shapes.many.Goals as goal
 

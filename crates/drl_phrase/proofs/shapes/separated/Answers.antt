@@ -1,4 +1,4 @@
-use Rattle.std.proofs.Common.{sym}
+use Rattle.drl_phrase.proofs.Common.{sym}
 use Rattle.drl_phrase.proofs.Turns.{seen, seen_none, no_first, begins, goes_on, ends, stops, no_turn_left}
 use Rattle.drl_phrase.proofs.shapes.separated.Goals as goal
 

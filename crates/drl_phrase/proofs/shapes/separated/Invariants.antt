@@ -1,5 +1,4 @@
-use Rattle.std.proofs.Common.{◌≡◌, ◌-◌, length}
-use Rattle.drl_phrase.specs.Reading.{with_front, more_at, separated_at}
+use Rattle.drl_phrase.proofs.Common.{◌≡◌, ◌-◌, length, with_front, more_at, separated_at}
 use Rattle.drl_phrase.proofs.shapes.separated.Given as goal
 
 abbrev pub invariant-loop : goal.invariant-loop

@@ -1,5 +1,4 @@
-use Rattle.drl_program.proofs.Common.{◌≡◌, ◌++◌, map, drop}
-use Rattle.drl_program.specs.Programs.{expression_in}
+use Rattle.drl_program.proofs.Common.{◌≡◌, ◌++◌, map, drop, expression_in}
 use Rattle.drl_program.proofs.actions_of.expressions.Given as goal
 
 abbrev pub invariant-loop-tree : goal.invariant-loop-tree

@@ -1,5 +1,4 @@
-use Rattle.drl_program.proofs.Common.{◌≡◌, ◌++◌, map, drop}
-use Rattle.drl_program.specs.Programs.{set_in}
+use Rattle.drl_program.proofs.Common.{◌≡◌, ◌++◌, map, drop, set_in}
 use Rattle.drl_program.proofs.actions_of.sets.Given as goal
 
 abbrev pub invariant-loop-tree : goal.invariant-loop-tree

@@ -1,6 +1,4 @@
-use Rattle.drl_program.proofs.Common.{◌≡◌, ◌+◌, ◌++◌, ◌≤◌, drop, begin}
-use Rattle.drl_sight.specs.Sight.{behind_all}
-use Rattle.drl_program.specs.Programs.{conditions_of}
+use Rattle.drl_program.proofs.Common.{◌≡◌, ◌+◌, ◌++◌, ◌≤◌, drop, begin, behind_all, conditions_of}
 use Rattle.drl_program.proofs.conditions_of.conditions.Given as goal
 
 abbrev pub invariant-loop-tree : goal.invariant-loop-tree

@@ -1,5 +1,4 @@
-use Rattle.drl_program.proofs.Common.{◌≡◌, ◌++◌, map, drop}
-use Rattle.drl_program.specs.Programs.{entry_info}
+use Rattle.drl_program.proofs.Common.{◌≡◌, ◌++◌, map, drop, entry_info}
 use Rattle.drl_program.proofs.infos_of.infos_of_entries.Given as goal
 
 abbrev pub invariant-loop-name : goal.invariant-loop-name

@@ -1,5 +1,4 @@
-use Rattle.drl_program.proofs.Common.{◌≡◌, ◌++◌, map, drop}
-use Rattle.drl_program.specs.Programs.{field_info}
+use Rattle.drl_program.proofs.Common.{◌≡◌, ◌++◌, map, drop, field_info}
 use Rattle.drl_program.proofs.infos_of.infos_of_fields.Given as goal
 
 abbrev pub invariant-loop-field : goal.invariant-loop-field

@@ -1,5 +1,4 @@
-use Rattle.drl_program.proofs.Common.{◌≡◌, ◌++◌, map, drop}
-use Rattle.drl_program.specs.Programs.{action_of}
+use Rattle.drl_program.proofs.Common.{◌≡◌, ◌++◌, map, drop, action_of}
 use Rattle.drl_program.proofs.programs.actions.Given as goal
 
 abbrev pub invariant-loop-tree : goal.invariant-loop-tree

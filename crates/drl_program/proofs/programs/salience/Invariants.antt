@@ -1,5 +1,4 @@
-use Rattle.drl_program.proofs.Common.{◌≡◌, drop}
-use Rattle.drl_program.specs.Programs.{salience_of}
+use Rattle.drl_program.proofs.Common.{◌≡◌, drop, salience_of}
 use Rattle.drl_program.proofs.programs.salience.Given as goal
 
 abbrev pub invariant-loop-attr : goal.invariant-loop-attr

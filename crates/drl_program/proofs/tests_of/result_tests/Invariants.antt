@@ -1,5 +1,4 @@
-use Rattle.drl_program.proofs.Common.{◌≡◌, ◌++◌, map, drop}
-use Rattle.drl_program.specs.Programs.{result_test}
+use Rattle.drl_program.proofs.Common.{◌≡◌, ◌++◌, map, drop, result_test}
 use Rattle.drl_program.proofs.tests_of.result_tests.Given as goal
 
 abbrev pub invariant-loop-tree : goal.invariant-loop-tree

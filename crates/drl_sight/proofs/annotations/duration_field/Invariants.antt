@@ -1,5 +1,4 @@
-use Rattle.std.proofs.Common.{◌≡◌, drop}
-use Rattle.drl_sight.specs.Annotations.{duration_of}
+use Rattle.drl_sight.proofs.Common.{◌≡◌, drop, duration_of}
 use Rattle.drl_sight.proofs.annotations.duration_field.Given as goal
 
 abbrev pub invariant-loop-meta : goal.invariant-loop-meta

@@ -1,5 +1,4 @@
-use Rattle.std.proofs.Common.{◌≡◌, drop}
-use Rattle.drl_sight.specs.Annotations.{expiry_of}
+use Rattle.drl_sight.proofs.Common.{◌≡◌, drop, expiry_of}
 use Rattle.drl_sight.proofs.annotations.expiry_offset.Given as goal
 
 abbrev pub invariant-loop-meta : goal.invariant-loop-meta

@@ -1,5 +1,4 @@
-use Rattle.std.proofs.Common.{◌≡◌, drop}
-use Rattle.drl_sight.specs.Annotations.{role_of}
+use Rattle.drl_sight.proofs.Common.{◌≡◌, drop, role_of}
 use Rattle.drl_sight.proofs.annotations.is_event_tree.Given as goal
 
 abbrev pub invariant-loop-meta : goal.invariant-loop-meta

@@ -1,5 +1,4 @@
-use Rattle.std.proofs.Common.{◌≡◌, drop}
-use Rattle.drl_sight.specs.Annotations.{timestamp_of}
+use Rattle.drl_sight.proofs.Common.{◌≡◌, drop, timestamp_of}
 use Rattle.drl_sight.proofs.annotations.timestamp_field.Given as goal
 
 abbrev pub invariant-loop-meta : goal.invariant-loop-meta

@@ -1,5 +1,4 @@
-use Rattle.std.proofs.Common.{◌≡◌, ◌++◌, ℕ, List, map, drop}
-use Rattle.drl_sight.specs.Declarations.{field_names}
+use Rattle.drl_sight.proofs.Common.{◌≡◌, ◌++◌, ℕ, List, map, drop, field_names}
 use Rattle.drl_sight.proofs.declared.names_of_fields.Given as goal
 
 abbrev pub invariant-loop-field : goal.invariant-loop-field

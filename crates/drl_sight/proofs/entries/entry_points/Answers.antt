@@ -1,4 +1,4 @@
-use Rattle.std.proofs.Common.{◌∙◌, arith}
+use Rattle.drl_sight.proofs.Common.{◌∙◌, arith}
 use Rattle.drl_sight.proofs.EntryLemmas.{with_item}
 use Rattle.drl_sight.proofs.entries.entry_points.Goals as goal
 

@@ -1,7 +1,4 @@
-use Rattle.std.proofs.Common.{◌≡◌, drop}
-use Rattle.std.specs.List.{flat_map}
-use Rattle.drl_grammar.specs.declared.file.Item.{Item}
-use Rattle.drl_sight.specs.EntryPoints.{entries_named, with_names, entry_names}
+use Rattle.drl_sight.proofs.Common.{◌≡◌, drop, flat_map, Item, entries_named, with_names, entry_names}
 use Rattle.drl_sight.proofs.entries.entry_points.Given as goal
 
 abbrev pub invariant-loop-item : goal.invariant-loop-item

@@ -1,5 +1,4 @@
-use Rattle.std.proofs.Common.{◌≡◌, drop}
-use Rattle.drl_sight.specs.EntryPoints.{lateness_named}
+use Rattle.drl_sight.proofs.Common.{◌≡◌, drop, lateness_named}
 use Rattle.drl_sight.proofs.entries.lateness_of_entry.Given as goal
 
 abbrev pub invariant-loop-item : goal.invariant-loop-item

@@ -1,7 +1,5 @@
-use Rattle.std.proofs.Common.{◌≡◌, drop}
-use Rattle.std.specs.List.{flat_map}
+use Rattle.drl_sight.proofs.Common.{◌≡◌, drop, flat_map, source_of, given_name, with_names}
 use Rattle.drl_grammar.specs.declared.condition.CondTree.{CondTree}
-use Rattle.drl_sight.specs.EntryPoints.{source_of, given_name, with_names}
 use Rattle.drl_sight.proofs.entries.with_conditions.Given as goal
 
 abbrev pub invariant-loop-condition : goal.invariant-loop-condition

@@ -1,4 +1,4 @@
-use Rattle.std.proofs.Common.{sym, refl, ◌∙◌, arith}
+use Rattle.drl_sight.proofs.Common.{sym, refl, ◌∙◌, arith}
 use Rattle.drl_sight.specs.Names.{are_distinct}
 use Rattle.drl_sight.proofs.NameLemmas.{next_of, twice_in, still_distinct}
 use Rattle.drl_sight.proofs.names.differ.Goals as goal

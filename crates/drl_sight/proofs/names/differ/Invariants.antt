@@ -1,5 +1,4 @@
-use Rattle.std.proofs.Common.{◌≡◌, ◌++◌, drop, true}
-use Rattle.drl_sight.specs.Names.{are_distinct}
+use Rattle.drl_sight.proofs.Common.{◌≡◌, ◌++◌, drop, true, are_distinct}
 use Rattle.drl_sight.proofs.names.differ.Given as goal
 
 abbrev pub invariant-loop-name : goal.invariant-loop-name

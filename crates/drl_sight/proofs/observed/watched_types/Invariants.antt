@@ -1,5 +1,4 @@
-use Rattle.std.proofs.Common.{◌≡◌, ◌++◌, drop}
-use Rattle.drl_sight.specs.Observed.{watched_names}
+use Rattle.drl_sight.proofs.Common.{◌≡◌, ◌++◌, drop, watched_names}
 use Rattle.drl_sight.proofs.observed.watched_types.Given as goal
 
 abbrev pub invariant-loop-item : goal.invariant-loop-item

@@ -1,6 +1,4 @@
-use Rattle.std.proofs.Common.{◌≡◌, ◌++◌, drop}
-use Rattle.std.specs.List.{flat_map}
-use Rattle.drl_sight.specs.Observed.{watched_by}
+use Rattle.drl_sight.proofs.Common.{◌≡◌, ◌++◌, drop, flat_map, watched_by}
 use Rattle.drl_sight.proofs.observed.with_conditions.Given as goal
 
 abbrev pub invariant-loop-condition : goal.invariant-loop-condition

@@ -1,4 +1,4 @@
-use Rattle.std.proofs.Common.{◌+◌, ◌*◌, max}
+use Rattle.drl_sight.proofs.Common.{◌+◌, ◌*◌, max}
 use Rattle.drl_expr.specs.Tree.{height}
 use Rattle.drl_sight.proofs.operands.+leaves.Given as goal
 

@@ -1,6 +1,4 @@
-use Rattle.std.proofs.Common.{◌≡◌, ◌++◌, drop, Some}
-use Rattle.std.specs.List.{flat_map}
-use Rattle.drl_sight.specs.Sight.{seen_in, seen_of}
+use Rattle.drl_sight.proofs.Common.{◌≡◌, ◌++◌, drop, Some, flat_map, seen_in, seen_of}
 use Rattle.drl_sight.proofs.sight.see_pattern.Given as goal
 
 abbrev pub invariant-loop-part : goal.invariant-loop-part

@@ -1,4 +1,4 @@
-use Rattle.std.proofs.Common.{◌+◌, ◌*◌, max}
+use Rattle.drl_uses.proofs.Common.{◌+◌, ◌*◌, max}
 use Rattle.drl_expr.specs.Tree.{height}
 use Rattle.drl_uses.proofs.action_kinds.+trees.Given as goal
 

@@ -1,8 +1,5 @@
-use Rattle.std.proofs.Common.{◌≡◌, ◌-◌, ◌∷◌, ℕ, suc, true, List, [], Option, length, drop, nat_lt, refl, sym, ap, ◌∙◌, arith, length-drop}
+use Rattle.drl_uses.proofs.Common.{◌≡◌, ◌-◌, ◌∷◌, ℕ, suc, true, List, [], Option, length, drop, nat_lt, refl, sym, ap, ◌∙◌, arith, length-drop, drop_all, Kind, Sight}
 use Rattle.std.proofs.lemmas.Bool.Decides.{nat_tests}
-use Rattle.std.proofs.lemmas.List.{drop_all}
-use Rattle.fx_base.specs.declared.kind.Kind.{Kind}
-use Rattle.drl_sight.specs.Sight.{Sight}
 use Rattle.drl_uses.specs.Kinds.{args_misfit}
 use Rattle.drl_uses.proofs.action_kinds.do_args_misfit.Goals as goal
 

@@ -1,5 +1,4 @@
-use Rattle.std.proofs.Common.{◌≡◌, ◌≤◌, drop, length}
-use Rattle.drl_uses.specs.Kinds.{args_misfit}
+use Rattle.drl_uses.proofs.Common.{◌≡◌, ◌≤◌, drop, length, args_misfit}
 use Rattle.drl_uses.proofs.action_kinds.do_args_misfit.Given as goal
 
 abbrev pub invariant-loop-k : goal.invariant-loop-k

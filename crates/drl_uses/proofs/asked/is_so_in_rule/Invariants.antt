@@ -1,7 +1,5 @@
-use Rattle.std.proofs.Common.{◌≡◌, ◌+◌, ◌≤◌, drop}
-use Rattle.drl_sight.specs.Sight.{begin, behind_all}
+use Rattle.drl_uses.proofs.Common.{◌≡◌, ◌+◌, ◌≤◌, drop, begin, behind_all, any_condition}
 use Rattle.drl_uses.specs.Asked.{asked_of}
-use Rattle.drl_uses.specs.Uses.{any_condition}
 use Rattle.drl_uses.proofs.asked.is_so_in_rule.Given as goal
 
 abbrev pub invariant-loop-condition : goal.invariant-loop-condition

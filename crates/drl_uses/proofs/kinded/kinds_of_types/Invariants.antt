@@ -1,6 +1,5 @@
-use Rattle.std.proofs.Common.{◌≡◌, ◌++◌, map, drop}
+use Rattle.drl_uses.proofs.Common.{◌≡◌, ◌++◌, map, drop, taken_by}
 use Rattle.drl_sight.specs.Declarations.{types_of}
-use Rattle.drl_uses.specs.Kinds.{taken_by}
 use Rattle.drl_uses.proofs.kinded.kinds_of_types.Given as goal
 
 abbrev pub invariant-loop-item : goal.invariant-loop-item

@@ -1,7 +1,5 @@
-use Rattle.std.proofs.Common.{◌≡◌, ◌+◌, ◌≤◌, drop}
-use Rattle.drl_sight.specs.Sight.{begin}
+use Rattle.drl_uses.proofs.Common.{◌≡◌, ◌+◌, ◌≤◌, drop, begin, any_condition}
 use Rattle.drl_uses.specs.Times.{has_no_times}
-use Rattle.drl_uses.specs.Uses.{any_condition}
 use Rattle.drl_uses.proofs.times.lack_times.Given as goal
 
 abbrev pub invariant-loop-condition : goal.invariant-loop-condition

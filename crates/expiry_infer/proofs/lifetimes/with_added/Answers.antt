@@ -1,7 +1,4 @@
-use Rattle.expiry_infer.proofs.Common.{◌≡◌, true, false, ap, subst, sym, ◌∙◌, Pattern, pattern_of, is_reference, tail, plus, limit_of, IsShort, IsSmall, IsWithinNetwork, lent}
-use Rattle.std.specs.Prelude.{IfOk, IfSome}
-use Rattle.rule_model.specs.Types.{is_event}
-use Rattle.expiry_infer.specs.Found.{IsFound}
+use Rattle.expiry_infer.proofs.Common.{◌≡◌, true, false, ap, subst, sym, ◌∙◌, Pattern, pattern_of, is_reference, tail, plus, limit_of, IsShort, IsSmall, IsWithinNetwork, lent, IfOk, IfSome, is_event, IsFound}
 use Rattle.expiry_infer.proofs.Given.{added}
 use Rattle.expiry_infer.proofs.Tops.{top_small, sum_small}
 use Rattle.expiry_infer.proofs.lifetimes.with_added.Goals as goal

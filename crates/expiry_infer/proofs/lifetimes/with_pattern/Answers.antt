@@ -1,7 +1,5 @@
-use Rattle.expiry_infer.proofs.Common.{Pattern, finite, limit_of, HaveLives, IsSmall, ◌≡◌, ap, subst, sym, ◌∙◌, lent}
-use Rattle.life_edges.specs.Tails.{HasShortWindow}
+use Rattle.expiry_infer.proofs.Common.{Pattern, finite, limit_of, HaveLives, IsSmall, ◌≡◌, ap, subst, sym, ◌∙◌, lent, HasShortWindow, StandsIn}
 use Rattle.expiry_infer.proofs.Tops.{top_small, span_small, span_whole}
-use Rattle.life_edges.specs.Places.{StandsIn}
 use Rattle.life_edges.proofs.Scopes.{scope_lives, scope_at}
 use Rattle.expiry_infer.proofs.lifetimes.with_pattern.Goals as goal
 

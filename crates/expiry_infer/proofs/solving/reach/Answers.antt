@@ -1,6 +1,5 @@
-use Rattle.expiry_infer.proofs.Common.{◌∷◌, [], subst, edges_of, IsSolved, placed}
+use Rattle.expiry_infer.proofs.Common.{◌∷◌, [], subst, edges_of, IsSolved, placed, reached}
 use Rattle.expiry_infer.proofs.Reaching.{unsolvable, bound_here}
-use Rattle.life_edges.proofs.Distances.{reached}
 use Rattle.expiry_infer.proofs.solving.reach.Goals as goal
 
 pub returns-in-Some-clause-reach : goal.returns-in-Some-clause-reach

@@ -1,7 +1,6 @@
-use Rattle.expiry_infer.proofs.Common.{◌∙◌, edges_of}
+use Rattle.expiry_infer.proofs.Common.{◌∙◌, edges_of, all_small}
 use Rattle.std.proofs.lemmas.List.Elements.{All-same}
 use Rattle.temporal_net.specs.Networks.{IsSmall}
-use Rattle.life_edges.proofs.Fitting.{all_small}
 use Rattle.expiry_infer.proofs.solving.solved.Goals as goal
 
 pub solve-requires-clause-small : goal.solve-requires-clause-small

@@ -1,5 +1,4 @@
-use Rattle.std.proofs.Common.{◌∙◌, ap, sym, length-append, ◌+◌, ◌∷◌, [], length, List, slice_get}
-use Rattle.row_delta.specs.declared.delta.Delta.{Delta}
+use Rattle.fan_join.proofs.Common.{◌∙◌, ap, sym, length-append, ◌+◌, ◌∷◌, [], length, List, slice_get, Delta}
 use Rattle.fan_join.proofs.Whole.{differences_more}
 use Rattle.fan_join.proofs.fan.differences.Goals as goal
 

@@ -1,7 +1,4 @@
-use Rattle.std.proofs.Common.{◌≡◌, ℕ, length, Some, slice_get}
-use Rattle.row_delta.specs.declared.delta.Delta.{Delta}
-use Rattle.pair_memory.specs.declared.candidates.Candidates.{Candidates}
-use Rattle.fan_join.specs.Turns.{IsRowsDifference}
+use Rattle.fan_join.proofs.Common.{◌≡◌, ℕ, length, Some, slice_get, Delta, Candidates, IsRowsDifference}
 use Rattle.fan_join.proofs.fan.differences.Given as goal
 
 abbrev pub invariant-loop-member : goal.invariant-loop-member

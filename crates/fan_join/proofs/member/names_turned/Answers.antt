@@ -1,9 +1,4 @@
-use Rattle.std.proofs.Common.{◌∙◌, ap, List}
-use Rattle.row_delta.specs.declared.row.Named.{Named}
-use Rattle.join_tests.specs.Joins.{joins}
-use Rattle.pair_memory.specs.Joined.{joined, has_name}
-use Rattle.pair_memory.specs.Memories.{has_left}
-use Rattle.pair_memory.specs.Apart.{beside}
+use Rattle.fan_join.proofs.Common.{◌∙◌, ap, List, Named, joins, joined, has_name, has_left, beside}
 use Rattle.fan_join.proofs.Halves.{names_turn}
 use Rattle.fan_join.proofs.member.names_turned.Goals as goal
 

@@ -1,9 +1,4 @@
-use Rattle.std.proofs.Common.{◌∙◌, ap, List}
-use Rattle.row_delta.specs.declared.row.Row.{Row}
-use Rattle.row_delta.specs.Rows.{has}
-use Rattle.join_tests.specs.Joins.{joins}
-use Rattle.pair_memory.specs.Joined.{joined}
-use Rattle.pair_memory.specs.Apart.{has_candidate}
+use Rattle.fan_join.proofs.Common.{◌∙◌, ap, List, Row, has, joins, joined, has_candidate}
 use Rattle.fan_join.proofs.Halves.{rows_turned}
 use Rattle.fan_join.proofs.member.rows_difference.Goals as goal
 

@@ -1,6 +1,4 @@
-use Rattle.std.proofs.Common.{◌≡◌, true, arith, refl}
-use Rattle.std.proofs.lemmas.Bool.{both_ways}
-use Rattle.fx_io.specs.Lines.{has_end}
+use Rattle.fx_io.proofs.Common.{◌≡◌, true, arith, refl, both_ways, has_end}
 use Rattle.fx_io.proofs.MidLine.{read_on, gives_line, gives_last, still_exhausted}
 use Rattle.fx_io.proofs.reading.line_from.Goals as goal
 

@@ -1,5 +1,4 @@
-use Rattle.std.proofs.Common.{◌≡◌, ◌≤◌, ◌+◌, ◌-◌, true}
-use Rattle.fx_io.specs.Lines.{has_end}
+use Rattle.fx_io.proofs.Common.{◌≡◌, ◌≤◌, ◌+◌, ◌-◌, true, has_end}
 use Rattle.fx_io.proofs.MidLine.{Reading}
 use Rattle.fx_io.proofs.reading.line_from.Given as goal
 

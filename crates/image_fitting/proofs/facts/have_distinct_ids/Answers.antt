@@ -1,6 +1,5 @@
-use Rattle.image_fitting.proofs.Common.{◌≡◌, ◌↔◌, List, ℕ, map, IsTrue, subst, rules, Fact}
+use Rattle.image_fitting.proofs.Common.{◌≡◌, ◌↔◌, List, ℕ, map, IsTrue, subst, rules, Fact, IsStrictlySortedBy}
 use Rattle.std.proofs.Common.{nat_cmp}
-use Rattle.std.specs.List.Sorted.{IsStrictlySortedBy}
 use Rattle.image_fitting.proofs.Telling.{distinct_is}
 use Rattle.image_fitting.proofs.facts.have_distinct_ids.Goals as goal
 

@@ -1,5 +1,4 @@
-use Rattle.image_fitting.proofs.Common.{◌≡◌, drop}
-use Rattle.rule_world.specs.Kinds.{have_kinds}
+use Rattle.image_fitting.proofs.Common.{◌≡◌, drop, have_kinds}
 use Rattle.image_fitting.proofs.facts.have_kinds.Given as goal
 
 abbrev pub invariant-loop-place : goal.invariant-loop-place

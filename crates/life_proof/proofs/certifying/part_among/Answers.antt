@@ -1,5 +1,4 @@
-use Rattle.life_proof.proofs.Common.{◌∙◌, ◌∷◌, [], All-same, edges_for}
-use Rattle.temporal_net.specs.Networks.{IsSmall}
+use Rattle.life_proof.proofs.Common.{◌∙◌, ◌∷◌, [], All-same, edges_for, IsSmall}
 use Rattle.life_edges.proofs.Fitting.{all_small}
 use Rattle.life_proof.proofs.certifying.part_among.Goals as goal
 

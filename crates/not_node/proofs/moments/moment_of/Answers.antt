@@ -1,5 +1,4 @@
-use Rattle.not_node.proofs.Common.{◌≡◌, ◌∙◌, sym, ap, subst, true, false, Some, None, bound_in, bounds_of, AreOperators, is_event}
-use Rattle.rule_model.proofs.Mature.{none_told, some_told}
+use Rattle.not_node.proofs.Common.{◌≡◌, ◌∙◌, sym, ap, subst, true, false, Some, None, bound_in, bounds_of, AreOperators, is_event, none_told, some_told}
 use Rattle.not_node.proofs.Maturing.{plain_moment, unbound_moment, event_moment}
 use Rattle.not_node.proofs.moments.moment_of.Goals as goal
 

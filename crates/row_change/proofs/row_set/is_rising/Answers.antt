@@ -1,5 +1,4 @@
-use Rattle.row_change.proofs.Common.{is_lt, rules, row_cmp}
-use Rattle.std.proofs.lemmas.List.Sorted.{answers_always}
+use Rattle.row_change.proofs.Common.{is_lt, rules, row_cmp, answers_always}
 use Rattle.row_change.proofs.Placing.{rising_order}
 use Rattle.row_change.proofs.row_set.is_rising.Goals as goal
 

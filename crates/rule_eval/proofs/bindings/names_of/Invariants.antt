@@ -1,5 +1,4 @@
-use Rattle.rule_eval.proofs.Common.{◌≡◌, ◌++◌, map, drop, lent}
-use Rattle.rule_model.specs.Tuples.{name_of}
+use Rattle.rule_eval.proofs.Common.{◌≡◌, ◌++◌, map, drop, lent, name_of}
 use Rattle.rule_eval.proofs.bindings.names_of.Given as goal
 
 abbrev pub invariant-loop-fact : goal.invariant-loop-fact

@@ -1,5 +1,4 @@
-use Rattle.rule_eval.proofs.Common.{◌≡◌, ◌++◌, map, drop}
-use Rattle.rule_model.specs.Tuples.{row_of}
+use Rattle.rule_eval.proofs.Common.{◌≡◌, ◌++◌, map, drop, row_of}
 use Rattle.rule_eval.proofs.bindings.rows_named.Given as goal
 
 abbrev pub invariant-loop-bindings : goal.invariant-loop-bindings

@@ -1,5 +1,4 @@
-use Rattle.rule_eval.proofs.Common.{◌≡◌, ◌++◌, map, drop, lent}
-use Rattle.rule_model.specs.Tuples.{with_fact}
+use Rattle.rule_eval.proofs.Common.{◌≡◌, ◌++◌, map, drop, lent, with_fact}
 use Rattle.rule_eval.proofs.finding.extend_by_each.Given as goal
 
 abbrev pub invariant-loop-fact : goal.invariant-loop-fact

@@ -1,5 +1,4 @@
-use Rattle.rule_eval.proofs.Common.{◌≡◌, ◌++◌, map, drop, Rule, lent, over}
-use Rattle.rule_model.specs.Rows.{rows}
+use Rattle.rule_eval.proofs.Common.{◌≡◌, ◌++◌, map, drop, Rule, lent, over, rows}
 use Rattle.rule_eval.proofs.finding.rows_of_rules.Given as goal
 
 abbrev pub invariant-loop-rule : goal.invariant-loop-rule

@@ -1,5 +1,4 @@
-use Rattle.rule_eval.proofs.Common.{◌≡◌, ◌+◌, ◌++◌, ◌∷◌, [], map, length, drop, to_z, of_z, sym, ◌∙◌, ap, subst, arith, ints, append-nil, HaveSame, insert_rising, lent}
-use Rattle.std.specs.Int.{w64}
+use Rattle.rule_eval.proofs.Common.{◌≡◌, ◌+◌, ◌++◌, ◌∷◌, [], map, length, drop, to_z, of_z, sym, ◌∙◌, ap, subst, arith, ints, append-nil, HaveSame, insert_rising, lent, w64}
 use Rattle.fold_fn.specs.Results.{fold_result}
 use Rattle.fold_fn.proofs.ResultLemmas.{length-insert, result_same}
 use Rattle.rule_model.specs.Rows.{argument as argument_of}

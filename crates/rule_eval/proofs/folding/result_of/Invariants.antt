@@ -1,5 +1,4 @@
-use Rattle.rule_eval.proofs.Common.{◌≡◌, ◌++◌, map, length, drop, HaveSame, lent}
-use Rattle.rule_model.specs.Rows.{argument}
+use Rattle.rule_eval.proofs.Common.{◌≡◌, ◌++◌, map, length, drop, HaveSame, lent, argument}
 use Rattle.rule_eval.proofs.folding.result_of.Given as goal
 
 abbrev pub invariant-loop-fact : goal.invariant-loop-fact

@@ -1,5 +1,4 @@
-use Rattle.rule_world.proofs.Common.{arith, ints}
-use Rattle.std.proofs.lemmas.Int.{clamps}
+use Rattle.rule_world.proofs.Common.{arith, ints, clamps}
 use Rattle.rule_world.specs.Events.{most_millis}
 use Rattle.rule_world.proofs.times.floor.Goals as goal
 

@@ -1,5 +1,4 @@
-use Rattle.script_read.proofs.Common.{◌≡◌, Ok, asks}
-use Rattle.script_read.specs.Asked.{asked}
+use Rattle.script_read.proofs.Common.{◌≡◌, Ok, asks, asked}
 use Rattle.script_read.proofs.AskedLaws.{answer_ok}
 use Rattle.script_read.proofs.flat.command_with.Goals as goal
 

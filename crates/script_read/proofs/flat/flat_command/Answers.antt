@@ -1,9 +1,7 @@
-use Rattle.script_read.proofs.Common.{◌≡◌, Some, option_and_then, sym, ap, ◌∙◌, value_view, members_view, of_json, read, reading}
-use Rattle.json.specs.Json.{object, if_last, value as value_in}
+use Rattle.script_read.proofs.Common.{◌≡◌, Some, option_and_then, sym, ap, ◌∙◌, value_view, members_view, of_json, read, reading, object, if_last, max_depth, tree_command}
+use Rattle.json.specs.Json.{value as value_in}
 use Rattle.json.specs.Lex.{tokens}
 use Rattle.json.proofs.Trees.{view-Object}
-use Rattle.serde_json.specs.Read.{max_depth}
-use Rattle.script_read.specs.Flat.{tree_command}
 use Rattle.script_read.proofs.Forms.{same_command, asked_by}
 use Rattle.script_read.proofs.Readings.{reading_of_text}
 use Rattle.script_read.proofs.flat.flat_command.Goals as goal

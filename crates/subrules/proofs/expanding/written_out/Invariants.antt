@@ -1,5 +1,4 @@
-use Rattle.subrules.proofs.Common.{◌≡◌, ◌++◌, ◌+◌, drop, flat_map}
-use Rattle.subrules.specs.Expanded.{plain_items, titles_in, origins_from}
+use Rattle.subrules.proofs.Common.{◌≡◌, ◌++◌, ◌+◌, drop, flat_map, plain_items, titles_in, origins_from}
 use Rattle.subrules.proofs.expanding.written_out.Given as goal
 
 abbrev pub invariant-loop-item : goal.invariant-loop-item

@@ -1,5 +1,4 @@
-use Rattle.subrules.proofs.Common.{◌≡◌, drop, list_any}
-use Rattle.subrules.specs.Faults.{is_over_subtypes}
+use Rattle.subrules.proofs.Common.{◌≡◌, drop, list_any, is_over_subtypes}
 use Rattle.subrules.proofs.faults.any_over_subtypes.Given as goal
 
 abbrev pub invariant-loop-piece : goal.invariant-loop-piece

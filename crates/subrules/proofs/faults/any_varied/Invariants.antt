@@ -1,5 +1,4 @@
-use Rattle.subrules.proofs.Common.{◌≡◌, drop, list_any}
-use Rattle.subrules.specs.Faults.{is_varied}
+use Rattle.subrules.proofs.Common.{◌≡◌, drop, list_any, is_varied}
 use Rattle.subrules.proofs.faults.any_varied.Given as goal
 
 abbrev pub invariant-loop-piece : goal.invariant-loop-piece

@@ -1,5 +1,4 @@
-use Rattle.subrules.proofs.Common.{◌≡◌, ◌+◌, drop}
-use Rattle.subrules.specs.Faults.{obstacle_from}
+use Rattle.subrules.proofs.Common.{◌≡◌, ◌+◌, drop, obstacle_from}
 use Rattle.subrules.proofs.faults.first_obstacle.Given as goal
 
 abbrev pub invariant-loop-item : goal.invariant-loop-item

@@ -1,5 +1,4 @@
-use Rattle.subrules.proofs.Common.{◌≡◌, [], drop}
-use Rattle.drl_sight.specs.EntryPoints.{with_names}
+use Rattle.subrules.proofs.Common.{◌≡◌, [], drop, with_names}
 use Rattle.subrules.proofs.hierarchy.each_once.Given as goal
 
 abbrev pub invariant-loop-name : goal.invariant-loop-name

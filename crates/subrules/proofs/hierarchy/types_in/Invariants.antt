@@ -1,5 +1,4 @@
-use Rattle.subrules.proofs.Common.{◌≡◌, ◌++◌, map, drop}
-use Rattle.subrules.specs.Hierarchy.{types_of}
+use Rattle.subrules.proofs.Common.{◌≡◌, ◌++◌, map, drop, types_of}
 use Rattle.subrules.proofs.hierarchy.types_in.Given as goal
 
 abbrev pub invariant-loop-item : goal.invariant-loop-item

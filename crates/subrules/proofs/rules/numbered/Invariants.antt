@@ -1,5 +1,4 @@
-use Rattle.subrules.proofs.Common.{◌≡◌, ◌++◌, ◌+◌, length}
-use Rattle.subrules.specs.Expanded.{numbered_rules}
+use Rattle.subrules.proofs.Common.{◌≡◌, ◌++◌, ◌+◌, length, numbered_rules}
 use Rattle.subrules.proofs.rules.numbered.Given as goal
 
 abbrev pub invariant-loop-way : goal.invariant-loop-way

@@ -1,5 +1,4 @@
-use Rattle.subrules.proofs.Common.{◌≡◌, drop, at_no_piece}
-use Rattle.subrules.specs.Sizes.{all_measured}
+use Rattle.subrules.proofs.Common.{◌≡◌, drop, at_no_piece, all_measured}
 use Rattle.subrules.proofs.sizes.measure.Given as goal
 
 abbrev pub invariant-loop-piece : goal.invariant-loop-piece

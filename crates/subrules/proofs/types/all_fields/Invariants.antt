@@ -1,5 +1,4 @@
-use Rattle.subrules.proofs.Common.{◌≡◌, map, drop}
-use Rattle.subrules.specs.Expanded.{inherited_fields}
+use Rattle.subrules.proofs.Common.{◌≡◌, map, drop, inherited_fields}
 use Rattle.subrules.proofs.types.all_fields.Given as goal
 
 abbrev pub invariant-loop-tree : goal.invariant-loop-tree

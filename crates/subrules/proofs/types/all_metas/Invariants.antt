@@ -1,5 +1,4 @@
-use Rattle.subrules.proofs.Common.{◌≡◌, map, drop}
-use Rattle.subrules.specs.Expanded.{inherited_metas}
+use Rattle.subrules.proofs.Common.{◌≡◌, map, drop, inherited_metas}
 use Rattle.subrules.proofs.types.all_metas.Given as goal
 
 abbrev pub invariant-loop-tree : goal.invariant-loop-tree

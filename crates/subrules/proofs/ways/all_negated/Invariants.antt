@@ -1,5 +1,4 @@
-use Rattle.subrules.proofs.Common.{◌≡◌, ◌++◌, map, drop, over_type}
-use Rattle.drl_grammar.specs.declared.condition.CondTree.TheVariants.{Negated}
+use Rattle.subrules.proofs.Common.{◌≡◌, ◌++◌, map, drop, over_type, Negated}
 use Rattle.subrules.proofs.ways.all_negated.Given as goal
 
 abbrev pub invariant-loop-name : goal.invariant-loop-name

@@ -1,5 +1,4 @@
-use Rattle.subrules.proofs.Common.{◌≡◌, ◌++◌, drop, flat_map, times}
-use Rattle.subrules.specs.Ways.{each_behind}
+use Rattle.subrules.proofs.Common.{◌≡◌, ◌++◌, drop, flat_map, times, each_behind}
 use Rattle.subrules.proofs.ways.product.Given as goal
 
 abbrev pub invariant-loop-first : goal.invariant-loop-first

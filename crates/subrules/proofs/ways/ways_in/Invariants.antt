@@ -1,5 +1,4 @@
-use Rattle.subrules.proofs.Common.{◌≡◌, drop, at_begin}
-use Rattle.subrules.specs.Ways.{walked}
+use Rattle.subrules.proofs.Common.{◌≡◌, drop, at_begin, walked}
 use Rattle.subrules.proofs.ways.ways_in.Given as goal
 
 abbrev pub invariant-loop-piece : goal.invariant-loop-piece

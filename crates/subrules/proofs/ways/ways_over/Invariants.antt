@@ -1,5 +1,4 @@
-use Rattle.subrules.proofs.Common.{◌≡◌, ◌++◌, ◌∷◌, [], map, drop, over_type}
-use Rattle.drl_grammar.specs.declared.condition.CondTree.TheVariants.{Plain}
+use Rattle.subrules.proofs.Common.{◌≡◌, ◌++◌, ◌∷◌, [], map, drop, over_type, Plain}
 use Rattle.subrules.proofs.ways.ways_over.Given as goal
 
 abbrev pub invariant-loop-name : goal.invariant-loop-name

@@ -1,6 +1,4 @@
-use Rattle.std.proofs.Common.{subst, ◌∙◌}
-use Rattle.std.proofs.lemmas.Str.{is_utf8-from_IsUtf8}
-use Rattle.checkpoint.specs.Bytes.{IsText}
+use Rattle.checkpoint.proofs.Common.{subst, ◌∙◌, is_utf8-from_IsUtf8, IsText}
 use Rattle.checkpoint.proofs.lists.TextSpelled.put.Goals as goal
 
 pub returns-clause-fits : goal.returns-clause-fits

@@ -1,5 +1,4 @@
-use Rattle.condition_node.proofs.Common.{sym, refl, subst, SFits, to_z-of_z, w128, IsDifference, IsAt, no_rows, no_names, empty_snapshot, NodeStands, FoldNode, Node}
-use Rattle.condition_node.specs.Loading.{node_rows}
+use Rattle.condition_node.proofs.Common.{sym, refl, subst, SFits, to_z-of_z, w128, IsDifference, IsAt, no_rows, no_names, empty_snapshot, NodeStands, FoldNode, Node, node_rows}
 use Rattle.condition_node.specs.declared.node.Node.TheVariants as node
 use Rattle.condition_node.proofs.Loading.{LoadsTo, join_loads, exists_loads, not_loads, fold_loads}
 use Rattle.condition_node.proofs.Turning.{floor_told}

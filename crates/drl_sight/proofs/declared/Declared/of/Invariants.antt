@@ -1,5 +1,4 @@
-use Rattle.std.proofs.Common.{◌≡◌, ◌++◌, drop}
-use Rattle.drl_sight.specs.Declarations.{types_of, type_names}
+use Rattle.drl_sight.proofs.Common.{◌≡◌, ◌++◌, drop, types_of, type_names}
 use Rattle.drl_sight.proofs.declared.Declared.of.Given as goal
 
 abbrev pub invariant-loop-item : goal.invariant-loop-item

@@ -1,4 +1,4 @@
-use Rattle.std.proofs.Common.{refl}
+use Rattle.drl_sight.proofs.Common.{refl}
 use Rattle.drl_sight.specs.Names.{place_from}
 use Rattle.drl_sight.proofs.places.Places.new.Goals as goal
 

@@ -1,4 +1,4 @@
-use Rattle.std.proofs.Common.{◌≡◌, ◌++◌, drop}
+use Rattle.drl_sight.proofs.Common.{◌≡◌, ◌++◌, drop}
 use Rattle.drl_sight.proofs.places.Places.of.Given as goal
 
 abbrev pub invariant-loop-name : goal.invariant-loop-name

@@ -1,7 +1,6 @@
-use Rattle.std.proofs.Common.{◌≡◌, Option, Some, None, not, ℕ, is_some, refl, ap, sym, ◌∙◌, arith}
+use Rattle.drl_sight.proofs.Common.{◌≡◌, Option, Some, None, not, ℕ, is_some, refl, ap, sym, ◌∙◌, arith, place_of}
 use Rattle.std.specs.Borrow.{Bor}
 use Rattle.std.specs.Option.{option_copied}
-use Rattle.drl_sight.specs.Names.{place_of}
 use Rattle.drl_sight.proofs.NameLemmas.{kept, added}
 use Rattle.drl_sight.proofs.places.Places.with.Goals.{then-is_none+in_ok-copy-2+in_ok-insert, else-is_none}
 use Rattle.drl_sight.proofs.places.Places.with.Goals as goal

@@ -1,5 +1,4 @@
-use Rattle.std.proofs.Common.{◌≡◌, drop}
-use Rattle.drl_sight.specs.Sight.{meaning_of}
+use Rattle.drl_sight.proofs.Common.{◌≡◌, drop, meaning_of}
 use Rattle.drl_sight.proofs.sight.Place.find.Given as goal
 
 abbrev pub invariant-loop-seen : goal.invariant-loop-seen

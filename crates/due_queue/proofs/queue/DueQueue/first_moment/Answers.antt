@@ -1,8 +1,5 @@
-use Rattle.std.proofs.Common.{◌≡◌, ◌<◌, true, false, Some, length, rules, FitsSigned, w64}
+use Rattle.due_queue.proofs.Common.{◌≡◌, ◌<◌, true, false, Some, length, rules, FitsSigned, w64, eq_by_cmp, to_z-of_z, pair_cmp}
 use Rattle.std.specs.FinMap as map
-use Rattle.std.specs.Ordering.{eq_by_cmp}
-use Rattle.std.proofs.lemmas.Int.{to_z-of_z}
-use Rattle.due_queue.specs.Indexes.{pair_cmp}
 use Rattle.due_queue.proofs.First.{not_empty, waits_for, has_pair, first_least}
 use Rattle.due_queue.proofs.queue.DueQueue.first_moment.Goals as goal
 

@@ -1,6 +1,5 @@
-use Rattle.std.proofs.Common.{◌∙◌, ap, refl}
+use Rattle.fan_join.proofs.Common.{◌∙◌, ap, refl, row_key}
 use Rattle.rule_model.specs.declared.condition.Pattern.{Pattern}
-use Rattle.join_tests.specs.RowKeys.{row_key}
 use Rattle.fan_join.proofs.Whole.{put_beside, put_empty}
 use Rattle.fan_join.proofs.fan.FanJoin.put.Goals as goal
 

@@ -1,5 +1,4 @@
-use Rattle.std.proofs.Common.{◌≡◌, ◌∙◌, ap, sym, refl, Some, slice_get}
-use Rattle.std.proofs.lemmas.Option.{slice_get-get_or}
+use Rattle.fan_join.proofs.Common.{◌≡◌, ◌∙◌, ap, sym, refl, Some, slice_get, slice_get-get_or}
 use Rattle.fan_join.proofs.Whole.{member_turned}
 use Rattle.fan_join.proofs.fan.FanJoin.turn_names.Goals as goal
 

@@ -1,6 +1,4 @@
-use Rattle.std.proofs.Common.{◌∙◌, subst, List}
-use Rattle.pair_memory.specs.declared.candidates.Candidates.{Candidates}
-use Rattle.fan_join.specs.Turns.{AreDifferences}
+use Rattle.fan_join.proofs.Common.{◌∙◌, subst, List, Candidates, AreDifferences}
 use Rattle.fan_join.proofs.Whole.{all_turned}
 use Rattle.fan_join.proofs.fan.FanJoin.turn_rows.Goals as goal
 

@@ -1,5 +1,4 @@
-use Rattle.fold_fn.proofs.Common.{arith, w64, length, ◌<◌, ◌≡◌, Some, pos, sym, ap, ◌∙◌, to_z, of_z, ints, total, floor_quotient}
-use Rattle.std.specs.Int.{w128}
+use Rattle.fold_fn.proofs.Common.{arith, w64, length, ◌<◌, ◌≡◌, Some, pos, sym, ap, ◌∙◌, to_z, of_z, ints, total, floor_quotient, w128}
 use Rattle.fold_fn.proofs.TotalLemmas.{sum_fits, average_fits, average-some, int_div_euclid-floor}
 use Rattle.fold_fn.proofs.totals.Totals.average.Goals as goal
 

@@ -1,5 +1,4 @@
-use Rattle.not_node.proofs.Common.{◌∙◌, sym, ap, int_lt, not, ◌&&◌, left_at, moment_at, is_moment}
-use Rattle.pair_memory.specs.Standing.{no_names}
+use Rattle.not_node.proofs.Common.{◌∙◌, sym, ap, int_lt, not, ◌&&◌, left_at, moment_at, is_moment, no_names}
 use Rattle.not_node.proofs.Lawful.{none_shown}
 use Rattle.not_node.proofs.node.NotNode.new.Goals as goal
 

@@ -1,5 +1,4 @@
-use Rattle.page_map.proofs.Common.{◌≡◌, ◌∙◌, sym, ap, subst, List, ℕ, among}
-use Rattle.std.specs.Prelude.{IfOk}
+use Rattle.page_map.proofs.Common.{◌≡◌, ◌∙◌, sym, ap, subst, List, ℕ, among, IfOk}
 use Rattle.std.specs.FinMap as map
 use Rattle.page_map.proofs.Kept.{entries-numbers}
 use Rattle.page_map.proofs.Rows.{whole}

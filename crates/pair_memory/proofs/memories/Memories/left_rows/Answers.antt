@@ -1,5 +1,4 @@
-use Rattle.pair_memory.proofs.Common.{◌≡◌, ◌∙◌, sym, ap, rules, List, Row, has}
-use Rattle.std.proofs.lemmas.List.{map-id}
+use Rattle.pair_memory.proofs.Common.{◌≡◌, ◌∙◌, sym, ap, rules, List, Row, has, map-id}
 use Rattle.std.proofs.lemmas.Iterator.{items_from_drains}
 use Rattle.std.proofs.lemmas.Iterator.Adapters.{YieldsList-from_vec}
 use Rattle.pair_memory.proofs.Listing.{keys_kept}

@@ -1,5 +1,4 @@
-use Rattle.pattern_gate.proofs.Common.{◌∙◌, subst, sym, to_z-of_z, IsBetween, after, rows_inside, Stands, window_of, WindowKind}
-use Rattle.window_gate.specs.Standing.{Takes}
+use Rattle.pattern_gate.proofs.Common.{◌∙◌, subst, sym, to_z-of_z, IsBetween, after, rows_inside, Stands, window_of, WindowKind, Takes}
 use Rattle.pattern_gate.proofs.Turning.{led_on}
 use Rattle.pattern_gate.proofs.gate.PatternGate.turn.Goals as goal
 

@@ -1,9 +1,4 @@
-use Rattle.std.proofs.Common.{◌≡◌, ℕ, ◌∙◌, ap, ◌||◌, ◌&&◌, cond, not, nat_eq}
-use Rattle.std.proofs.lemmas.Int.{to_z-of_z}
-use Rattle.std.proofs.lemmas.List.Folds.{list_any-append}
-use Rattle.std.specs.List.{list_any}
-use Rattle.due_queue.specs.Timers.{is_due}
-use Rattle.retention.specs.Retentions.{has_tag, is_among, is_named, lingers, is_touched}
+use Rattle.retention.proofs.Common.{◌≡◌, ℕ, ◌∙◌, ap, ◌||◌, ◌&&◌, cond, not, nat_eq, to_z-of_z, list_any-append, list_any, is_due, has_tag, is_among, is_named, lingers, is_touched}
 use Rattle.retention.proofs.Touching.{found_in}
 use Rattle.retention.proofs.retention.Retention.past.Goals as goal
 

@@ -1,5 +1,4 @@
-use Rattle.rule_eval.proofs.Common.{◌∙◌, ap, passes, lent}
-use Rattle.rule_model.specs.Lent.{tuple_of}
+use Rattle.rule_eval.proofs.Common.{◌∙◌, ap, passes, lent, tuple_of}
 use Rattle.rule_eval.proofs.bindings.Bindings.are_passed_by.Goals as goal
 
 pub returns : goal.returns

@@ -1,5 +1,4 @@
-use Rattle.rule_eval.proofs.Common.{◌≡◌, ◌++◌, drop, filter, candidates, lent, over}
-use Rattle.rule_model.specs.Candidates.{is_candidate}
+use Rattle.rule_eval.proofs.Common.{◌≡◌, ◌++◌, drop, filter, candidates, lent, over, is_candidate}
 use Rattle.rule_eval.proofs.finder.Finder.candidates.Given as goal
 
 abbrev pub invariant-loop-fact : goal.invariant-loop-fact

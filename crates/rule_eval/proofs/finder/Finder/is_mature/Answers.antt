@@ -1,10 +1,8 @@
-use Rattle.rule_eval.proofs.Common.{◌≡◌, to_z, of_z, true, false, Some, None, sym, ◌∙◌, ap, arith, w128, ints, bounds_of, bound_by, is_event, is_point}
+use Rattle.rule_eval.proofs.Common.{◌≡◌, to_z, of_z, true, false, Some, None, sym, ◌∙◌, ap, arith, w128, ints, bounds_of, bound_by, is_event, is_point, none_told, some_told, floor}
 use Rattle.rule_model.specs.Maturity.{is_past as is_past_of}
-use Rattle.rule_model.proofs.Mature.{none_told, some_told}
 use Rattle.rule_eval.proofs.Ripe.{plain_mature, unbound_mature, event_mature}
 use Rattle.rule_eval.proofs.finder.Finder.is_mature.Goals as goal
 use Rattle.rule_model.specs.Moments.{snapshot_at}
-use Rattle.rule_model.specs.Snapshots.{floor}
 
 pub returns-then-not-is_event : goal.returns-then-not-is_event
 returns-then-not-is_event c =

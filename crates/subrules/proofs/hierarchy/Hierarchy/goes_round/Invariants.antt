@@ -1,5 +1,4 @@
-use Rattle.subrules.proofs.Common.{◌≡◌, ◌-◌, length, option_map, goes_round}
-use Rattle.subrules.specs.Hierarchy.{goes_on}
+use Rattle.subrules.proofs.Common.{◌≡◌, ◌-◌, length, option_map, goes_round, goes_on}
 use Rattle.subrules.proofs.hierarchy.Hierarchy.goes_round.Given as goal
 
 abbrev pub invariant-loop : goal.invariant-loop

@@ -1,5 +1,4 @@
-use Rattle.tally_node.proofs.Common.{◌≡◌, ◌∙◌, ap, List, ℤ, ◌++◌, ◌∷◌, [], SFits, w64, to_z-of_z, eq_by_cmp, Row, row_cmp, with_value}
-use Rattle.pair_memory.proofs.Valued.{row_valued}
+use Rattle.tally_node.proofs.Common.{◌≡◌, ◌∙◌, ap, List, ℤ, ◌++◌, ◌∷◌, [], SFits, w64, to_z-of_z, eq_by_cmp, Row, row_cmp, with_value, row_valued}
 use Rattle.tally_node.proofs.Gathering.{value_row}
 use Rattle.tally_node.proofs.gathered.GatheredTally.made.Goals as goal
 

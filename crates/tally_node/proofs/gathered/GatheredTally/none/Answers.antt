@@ -1,5 +1,4 @@
-use Rattle.tally_node.proofs.Common.{ap, ℕ, ℤ, List, int_eq, get}
-use Rattle.std.specs.Map.{lookup}
+use Rattle.tally_node.proofs.Common.{ap, ℕ, ℤ, List, int_eq, get, lookup}
 use Rattle.tally_node.proofs.Knowing.{knows_none}
 use Rattle.tally_node.proofs.gathered.GatheredTally.none.Goals as goal
 

@@ -1,5 +1,4 @@
-use Rattle.tally_node.proofs.Common.{◌∙◌, sym, ap, refl, cond, List, None, true, Named, Row, has, has_name, left_at, shown}
-use Rattle.pair_memory.specs.Inputs.{row_naming}
+use Rattle.tally_node.proofs.Common.{◌∙◌, sym, ap, refl, cond, List, None, true, Named, Row, has, has_name, left_at, shown, row_naming}
 use Rattle.tally_node.proofs.Stepping.{stays, fresh}
 use Rattle.tally_node.proofs.node.TallyNode.advanced.Goals as goal
 

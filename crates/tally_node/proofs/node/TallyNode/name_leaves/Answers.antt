@@ -1,5 +1,4 @@
-use Rattle.tally_node.proofs.Common.{◌∙◌, sym, ap, List, eq_by_cmp, Row, has, name_cmp, joins, left_at, has_right, AllFollow, AllStay}
-use Rattle.pair_memory.proofs.Turning.{name_absent}
+use Rattle.tally_node.proofs.Common.{◌∙◌, sym, ap, List, eq_by_cmp, Row, has, name_cmp, joins, left_at, has_right, AllFollow, AllStay, name_absent}
 use Rattle.tally_node.proofs.Following.{steps_follow_same}
 use Rattle.tally_node.proofs.Parts.{unmoved, part_then, leave_all}
 use Rattle.tally_node.proofs.node.TallyNode.name_leaves.Goals as goal

@@ -1,5 +1,4 @@
-use Rattle.temporal_net.proofs.Common.{◌≡◌, ℕ, ◌+◌, ◌<◌, ◌≤◌, length, false, sym, ◌∙◌, ap, subst, arith, cell, lowered, loses_over, AllShort, AreTable}
-use Rattle.temporal_net.specs.Tables.{HaveWays}
+use Rattle.temporal_net.proofs.Common.{◌≡◌, ℕ, ◌+◌, ◌<◌, ◌≤◌, length, false, sym, ◌∙◌, ap, subst, arith, cell, lowered, loses_over, AllShort, AreTable, HaveWays}
 use Rattle.temporal_net.proofs.Bounds.{solvable}
 use Rattle.temporal_net.proofs.Cycles.{all_short, next_rows}
 use Rattle.temporal_net.proofs.Solved.{written_back}

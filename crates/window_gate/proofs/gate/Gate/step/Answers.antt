@@ -1,6 +1,4 @@
-use Rattle.window_gate.proofs.Common.{sym, subst, ℤ, List, map, to_z-of_z, IsBetween, Time, Length, Kept, Arrival, named_of, after, rows_inside, TagsDiffer, Keeps, KeepsTime, KeepsLength, MayChange}
-use Rattle.row_delta.specs.DifferenceLaws.{between_disjoint}
-use Rattle.window_gate.specs.Standing.{Stands, Takes, MayPass, window_kept, window_of}
+use Rattle.window_gate.proofs.Common.{sym, subst, ℤ, List, map, to_z-of_z, IsBetween, Time, Length, Kept, Arrival, named_of, after, rows_inside, TagsDiffer, Keeps, KeepsTime, KeepsLength, MayChange, between_disjoint, Stands, Takes, MayPass, window_kept, window_of}
 use Rattle.window_gate.proofs.Insides.{differ_after}
 use Rattle.window_gate.proofs.gate.Gate.step.Goals as goal
 

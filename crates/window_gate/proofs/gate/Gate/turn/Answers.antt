@@ -1,9 +1,4 @@
-use Rattle.window_gate.proofs.Common.{◌≡◌, sym, subst, ℤ, List, map, IsBetween, Kept, Arrival, named_of, after, rows_inside, TagsDiffer, Keeps, MayChange}
-use Rattle.row_delta.specs.declared.delta.Delta.{Delta}
-use Rattle.row_delta.specs.DifferenceLaws.{between_disjoint}
-use Rattle.window_gate.specs.Standing.{Stands, Takes, window_kept, window_of}
-use Rattle.window_gate.specs.declared.change.GateChange.{GateChange}
-use Rattle.window_gate.specs.declared.change.WindowKind.TheVariants.{Whole}
+use Rattle.window_gate.proofs.Common.{◌≡◌, sym, subst, ℤ, List, map, IsBetween, Kept, Arrival, named_of, after, rows_inside, TagsDiffer, Keeps, MayChange, Delta, between_disjoint, Stands, Takes, window_kept, window_of, GateChange, Whole}
 use Rattle.window_gate.specs.declared.gate.Gate.{Gate}
 use Rattle.window_gate.specs.declared.gate.Kept.TheVariants as kept
 use Rattle.window_gate.proofs.Insides.{differ_after}
