@@ -50,6 +50,11 @@ pub some_exchanged : {S : Type 0} (b : Bool) (w : S) (old : Option S) → (b ≡
 some_exchanged true w old h = sym (h refl)
 some_exchanged false w old h = refl
 
+-- what is kept after it is taken was kept before
+pub before_taken : {S : Type 0} (b : Bool) (old : Option S) → is_some (cond b None old) ≡ true → is_some old ≡ true
+before_taken true old e = let f : false ≡ true = e in cc
+before_taken false old e = e
+
 -- ---- the two memories
 
 abbrev pub with_left : {S : Type 0} → Memories S → JoinIndex Value Row S → Memories S

@@ -1,12 +1,12 @@
 -- Left rows that are kept once for several nodes, and the candidates of each.
-use Rattle.pair_memory.proofs.Common.{◌≡◌, ◌∙◌, sym, ap, refl, ℕ, ◌+◌, ◌<◌, length, take, get_or, List, [], ◌∷◌, ◌++◌, Bool, true, false, cond, not, ◌&&◌, ◌||◌, list_any, eq_by_cmp, list_any-append, list_any_more, Named, Row, row_cmp, has, same_equiv, name_cmp, name_equiv, Look, row_value, Memories, unjoined, has_name, has_left, has_right, Keeps, beside, RowsLeave, RowsCome, NamesLeave, NamesCome, IsBeside}
+use Rattle.pair_memory.proofs.Common.{◌≡◌, ◌∙◌, sym, ap, refl, ℕ, ◌+◌, ◌<◌, length, take, get_or, List, [], ◌∷◌, ◌++◌, Bool, true, false, cond, not, ◌&&◌, ◌||◌, list_any, eq_by_cmp, list_any-append, list_any_more, Named, Row, row_cmp, has, same_equiv, name_cmp, name_equiv, Value, same_value, Pattern, Look, row_value, candidate_value, Memories, unjoined, has_name, has_left, has_right, Keeps, beside, RowsLeave, RowsCome, NamesLeave, NamesCome, IsBeside}
 use Rattle.join_tests.specs.declared.row_key.RowKey.{RowKey}
 use Rattle.join_tests.specs.RowKeys.{value_by}
 use Rattle.join_tests.proofs.Siding.{kept_by}
 use Rattle.pair_memory.specs.declared.candidates.Candidates.{Candidates}
 use Rattle.pair_memory.specs.declared.left_rows.LeftRows.{LeftRows}
 use Rattle.pair_memory.specs.Joined.{joined}
-use Rattle.pair_memory.proofs.Joining.{splits_alike, splits_or}
+use Rattle.pair_memory.proofs.Joining.{name_decides, splits_alike, splits_or}
 use Rattle.pair_memory.proofs.Turning.{keeps_then, less_more, more_more, any_name}
 
 -- ---- where a row is kept
@@ -20,7 +20,7 @@ less_none : (a : Bool) → a ≡ (a && true)
 less_none true = refl
 less_none false = refl
 
-more_none : (a : Bool) → a ≡ (a || false)
+pub more_none : (a : Bool) → a ≡ (a || false)
 more_none true = refl
 more_none false = refl
 
@@ -74,6 +74,31 @@ module _ (first next last : Candidates) (look : Look) (names : List Named) (i : 
   name_comes_too before turn left =
       keeps_then (beside left first) (beside left next) (beside left last) look _ _ _ _ _ _ (before left) (turn left) (before left).rows
       (λ c. more_more (eq_by_cmp name_cmp) name_equiv.symm names i below any_name who is c (has_right (beside left first) look c) (has_right (beside left next) look c) ((before left).names c))
+
+-- ---- what is kept under a value with one candidate more
+
+under_on : (f t s x e : Bool) → (e ≡ true → x ≡ s) → ((f || (t && s)) || (x && e)) ≡ (f || ((t || e) && s))
+under_on true t s x e h = refl
+under_on false true true x e h = refl
+under_on false true false x true h = ap (λ b. b && true) (h refl)
+under_on false true false true false h = refl
+under_on false true false false false h = refl
+under_on false false true x true h = ap (λ b. b && true) (h refl)
+under_on false false false x true h = ap (λ b. b && true) (h refl)
+under_on false false s true false h = refl
+under_on false false s false false h = refl
+
+pub under_more : (look : Look) (p q : Pattern) → q ≡ p → (names : List Named) (i : ℕ) → i < length names → (who : Named) → who ≡ get_or names i any_name → (value : Value) (n : Named) (first next last : Bool)
+    → next ≡ (first || (has_name (take i names) n && same_value (candidate_value p look n) value)) → last ≡ (next || (same_value (candidate_value q look who) value && eq_by_cmp name_cmp who n))
+    → last ≡ (first || (has_name (take (i + 1) names) n && same_value (candidate_value p look n) value))
+under_more look p q same names i below who is value n first next last so_far turn =
+    let s = same_value (candidate_value p look n) value in
+    turn ∙ ap (λ (r : Pattern). next || (same_value (candidate_value r look who) value && eq_by_cmp name_cmp who n)) same
+    ∙ ap (λ b. b || (same_value (candidate_value p look who) value && eq_by_cmp name_cmp who n)) so_far
+    ∙ under_on first (has_name (take i names) n) s (same_value (candidate_value p look who) value) (eq_by_cmp name_cmp who n)
+    (λ e. ap (λ (w : Named). same_value (candidate_value p look w) value) ((name_decides who n).0 e))
+    ∙ ap (λ b. first || ((has_name (take i names) n || b) && s)) (name_equiv.symm who n ∙ ap (eq_by_cmp name_cmp n) is)
+    ∙ ap (λ b. first || (b && s)) (sym (list_any_more (eq_by_cmp name_cmp n) names i any_name below))
 
 -- ---- those of a list that are kept, or are not
 

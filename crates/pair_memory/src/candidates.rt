@@ -1,4 +1,4 @@
-ghost use Rattle.std.specs.Prelude.{◌≡◌, ◌&&◌, ◌||◌, not, None, is_some, IfOk, OnOk};
+ghost use Rattle.std.specs.Prelude.{◌≡◌, ◌&&◌, ◌||◌, not, None, true, false, is_some, IfOk, OnOk};
 ghost use Rattle.std.specs.Ordering.{eq_by_cmp};
 ghost use Rattle.fx_base.specs.declared.value.Value.{Value};
 ghost use Rattle.fx_base.specs.Values.{same_value};
@@ -7,7 +7,9 @@ ghost use Rattle.row_delta.specs.declared.row.Row.{Row};
 ghost use Rattle.row_delta.specs.NameOrder.{name_cmp};
 ghost use Rattle.row_delta.specs.Rows.{has};
 ghost use Rattle.alpha_memory.specs.JoinIndex.{at};
+ghost use Rattle.join_tests.specs.JoinValues.{shown};
 ghost use Rattle.join_tests.specs.Joins.{joins};
+ghost use Rattle.join_tests.specs.Kept.{candidate_value};
 ghost use Rattle.pair_memory.specs.declared.left_rows.LeftRows.{LeftRows};
 ghost use Rattle.pair_memory.specs.Joined.{joined, has_name};
 ghost use Rattle.pair_memory.specs.Memories.{has_left, has_right, Keeps};
@@ -18,7 +20,7 @@ use crate::making::{made_with_name, made_with_row};
 use crate::partners::add_passing;
 use alpha_memory::JoinIndex;
 use fx_base::{Facts, NoMemory, Value};
-use join_tests::KeyedPattern;
+use join_tests::{JoinValue, KeyedPattern};
 use row_delta::{Named, Row};
 use rule_model::Pattern;
 use std::alloc::Global;
@@ -51,10 +53,25 @@ impl Candidates {
         self.pattern.pattern()
     }
 
+    /// The value under which a candidate is kept. It takes no memory, and costs what the join value of a candidate costs its pattern.
+    pub fn value<'a, F: Facts>(&self, who: Named, facts: &'a F) -> JoinValue<'a>
+        ensures { shown result ≡ candidate_value self.now.pattern (F.map facts.now) who }
+    {
+        self.pattern.candidate_value(who, facts)
+    }
+
+    /// Whether a candidate is kept under a value. It takes no memory, and costs a hash.
+    pub fn has_under(&self, value: &Value) -> bool
+        ensures none { result ≡ false → (who : Named) → at same_value name_cmp self.now.names value.now who ≡ None }
+    {
+        self.names.bucket(value).is_some()
+    }
+
     /// Takes candidates out; those that are not there are left out. Takes no memory.
     pub fn leave<F: Facts>(&mut self, names: &[Named], facts: &F)
         ensures pattern { self.new.pattern ≡ self.old.pattern }
         ensures keeps { NamesLeave self.old self.new (F.map facts.now) names.now }
+        ensures under { (value : Value) (who : Named) → is_some (at same_value name_cmp self.new.names value who) ≡ true → is_some (at same_value name_cmp self.old.names value who) ≡ true }
     {
         for who in names {
             self.take(*who, facts);
@@ -70,6 +87,8 @@ impl Candidates {
     ) -> Result<(), NoMemory>
         ensures pattern { OnOk result (self.new.pattern ≡ self.old.pattern) }
         ensures keeps { OnOk result (NamesCome self.old self.new (F.map facts.now) names.now) }
+        ensures under { OnOk result ((value : Value) (who : Named) → is_some (at same_value name_cmp self.new.names value who)
+            ≡ (is_some (at same_value name_cmp self.old.names value who) || (has_name names.now who && same_value (candidate_value self.old.pattern (F.map facts.now) who) value))) }
     {
         for who in names {
             self.put(alloc, *who, facts)?;
@@ -145,6 +164,7 @@ impl Candidates {
         ensures pattern { self.new.pattern ≡ self.old.pattern }
         ensures keeps { (left : LeftRows) → Keeps (beside left self.old) (beside left self.new) (F.map facts.now)
             (has_left (beside left self.old) (F.map facts.now)) (λ c. has_right (beside left self.old) (F.map facts.now) c && not (eq_by_cmp name_cmp who c)) }
+        ensures under { (value : Value) (c : Named) → is_some (at same_value name_cmp self.new.names value c) ≡ true → is_some (at same_value name_cmp self.old.names value c) ≡ true }
     {
         let value = self.pattern.candidate_value(who, facts);
         self.names.take(value.value(), &who);
@@ -154,6 +174,8 @@ impl Candidates {
         ensures pattern { OnOk result (self.new.pattern ≡ self.old.pattern) }
         ensures keeps { OnOk result ((left : LeftRows) → Keeps (beside left self.old) (beside left self.new) (F.map facts.now)
             (has_left (beside left self.old) (F.map facts.now)) (λ c. has_right (beside left self.old) (F.map facts.now) c || eq_by_cmp name_cmp who c)) }
+        ensures under { OnOk result ((value : Value) (c : Named) → is_some (at same_value name_cmp self.new.names value c)
+            ≡ (is_some (at same_value name_cmp self.old.names value c) || (same_value (candidate_value self.old.pattern (F.map facts.now) who) value && eq_by_cmp name_cmp who c))) }
     {
         let value = self.pattern.candidate_value(who, facts).into_value(alloc)?;
         self.names.put(value, who, ())?;

@@ -1,8 +1,10 @@
-use Rattle.pair_memory.proofs.Common.{◌≡◌, take, NamesCome}
+use Rattle.pair_memory.proofs.Common.{◌≡◌, ◌&&◌, ◌||◌, take, is_some, Value, same_value, at, Named, name_cmp, candidate_value, has_name, NamesCome}
 use Rattle.pair_memory.proofs.candidates.Candidates.come.Given as goal
 
 abbrev pub invariant-loop-who : goal.invariant-loop-who
 invariant-loop-who g l = record {
   pattern : l.self.pattern ≡ l.initial.self.pattern;
   keeps : NamesCome l.initial.self l.self (g.F.Facts.map l.facts) (take l.who-index l.names);
+  under : (value : Value) (who : Named) → is_some (at same_value name_cmp l.self.names value who)
+      ≡ (is_some (at same_value name_cmp l.initial.self.names value who) || (has_name (take l.who-index l.names) who && same_value (candidate_value l.initial.self.pattern (g.F.Facts.map l.facts) who) value));
 }
