@@ -1,11 +1,12 @@
 -- The parts of a member's step: left rows that go and come, and candidates that go and come.
-use Rattle.fan_join.proofs.Common.{◌≡◌, ◌∙◌, sym, ap, refl, List, Bool, true, false, not, ◌&&◌, ◌||◌, is_some, Value, same_value, Delta, Named, Row, row_cmp, has, Leads, IsDifference, without, along, at, Look, joins, Candidates, LeftRows, joined, has_name, has_left, has_right, made, Keeps, has_row, has_candidate, beside, IsBeside, NamesLeave, NamesCome, keeps_then, RowTurn, IsTurn, IsRowsDifference, AreNamesTurned}
+use Rattle.fan_join.proofs.Common.{◌≡◌, ◌∙◌, sym, ap, refl, List, [], Bool, true, false, not, ◌&&◌, ◌||◌, is_some, Value, same_value, Delta, Named, Row, row_cmp, has, Leads, IsDifference, without, along, at, Look, joins, Candidates, LeftRows, joined, has_name, has_left, made, Keeps, has_row, has_candidate, beside, IsBeside, NamesLeave, NamesCome, keeps_then, RowTurn, IsTurn, IsRowsDifference, AreNamesTurned, value_beside}
 use Rattle.row_change.specs.declared.change.Change.{Change}
 use Rattle.row_change.proofs.Alike.{leads_alike}
 use Rattle.pair_memory.specs.declared.memories.Memories.{Memories}
-use Rattle.pair_memory.proofs.Sharing.{value_beside}
 use Rattle.pair_memory.proofs.Keeping.{made_after}
-use Rattle.fan_join.proofs.Sets.{rows_less, rows_more, rows_inside, rows_outside, names_less, names_more, names_inside, names_outside}
+use Rattle.row_change.proofs.Placing.{nil_order}
+use Rattle.fan_join.specs.Fans.{nothing}
+use Rattle.fan_join.proofs.Sets.{none_joined, rows_less, rows_more, rows_inside, rows_outside, names_less, names_more, names_inside, names_outside}
 
 -- what a call that takes rows, or brings them, does to a change
 abbrev pub Leaves : List Row → Change → Change → Type 0
@@ -35,7 +36,7 @@ module _ (m n : Memories (Unit {0})) (look : Look) (left : Row → Bool) (right 
       (λ r. ap (λ b. made m look r || b) (are r) ∙ sym (more r) ∙ sym (made_after m n look left right keeps r))
 
 -- a row is found by each member that looks for it where it is kept
-found_beside : (left : LeftRows) (c : Candidates) (look : Look) → IsBeside left c → (r : Row) → has_row left look r ≡ has_left (beside left c) look r
+pub found_beside : (left : LeftRows) (c : Candidates) (look : Look) → IsBeside left c → (r : Row) → has_row left look r ≡ has_left (beside left c) look r
 found_beside left c look is r = ap (λ (v : Value). is_some (at same_value row_cmp left.rows v r)) (value_beside left c look r is)
 
 module _ (before between after : LeftRows) (look : Look) (gone come : List Row) (turn : RowTurn) (is : IsTurn before between after look gone come turn) (c : Candidates) (change changed : Change) (rows : List Row) where
@@ -106,6 +107,52 @@ names_turn left look c0 c1 c2 gone come went came gone_rows come_rows ch0 ch1 ch
       ((names_came left look c1 c2 come came ch1 ch2 come_rows come_are arrive came_are t2) first
       ((names_went left look c0 c1 gone went ch0 ch1 gone_rows gone_are leave went_are t1) first (begun first (made (beside left c0) look) so)));
 }
+
+-- ---- what the candidates of a member are kept under
+
+pub under_turned : (a m n x y : Bool) → (m ≡ true → a ≡ true) → n ≡ (m || x) → x ≡ y → n ≡ true → (a || y) ≡ true
+under_turned true m n x y h is same e = refl
+under_turned false true n x y h is same e = absurd (let f : false ≡ true = h refl in cc)
+under_turned false false n x y h is same e = sym same ∙ sym is ∙ e
+
+-- ---- a member of which no candidate joins a row that goes or comes
+
+none_parts : (a b : Bool) → b ≡ a → false ≡ (a && not b)
+none_parts true true e = refl
+none_parts true false e = absurd (let f : false ≡ true = e in cc)
+none_parts false b e = refl
+
+less_nothing : (a : Bool) → (a && not false) ≡ a
+less_nothing true = refl
+less_nothing false = refl
+
+pub or_nothing : (a : Bool) → (a || false) ≡ a
+or_nothing true = refl
+or_nothing false = refl
+
+module _ (before between after : LeftRows) (look : Look) (gone come : List Row) (turn : RowTurn) (is : IsTurn before between after look gone come turn) (c : Candidates) (b : IsBeside before c)
+    (went : (l : Row) (who : Named) → has turn.went.items l ≡ true → has_candidate c look who ≡ true → joins c.pattern look l who ≡ false)
+    (came : (l : Row) (who : Named) → has turn.came.items l ≡ true → has_candidate c look who ≡ true → joins c.pattern look l who ≡ false) where
+  -- its rows are the same
+  still_made : (r : Row) → made (beside after c) look r ≡ made (beside before c) look r
+  still_made r =
+      let then = b ∙ sym is.key in
+      made_after (beside between c) (beside after c) look _ _ (is.comes c then) r
+      ∙ rows_more (joins c.pattern look) (has_left (beside between c) look) (has come) (has turn.came.items) (has_candidate c look) (λ l. is.came l ∙ ap (λ h. has come l && not h) (found_beside between c look then l)) r
+      ∙ ap (λ x. made (beside between c) look r || x) (none_joined (joins c.pattern look) (has turn.came.items) (has_candidate c look) came r) ∙ or_nothing _
+      ∙ made_after (beside before c) (beside between c) look _ _ (is.leaves c b) r
+      ∙ rows_less (joins c.pattern look) (has_left (beside before c) look) (has gone) (has turn.went.items) (has_candidate c look) (λ l. is.went l ∙ ap (λ h. has gone l && h) (found_beside before c look b l)) r
+      ∙ ap (λ x. made (beside before c) look r && not x) (none_joined (joins c.pattern look) (has turn.went.items) (has_candidate c look) went r) ∙ less_nothing _
+
+  pub still : IsDifference (made (beside before c) look) (made (beside after c) look) nothing
+  still = record {
+    gone_in_order = nil_order [] refl;
+    come_in_order = nil_order [] refl;
+    leads = record {
+      goes = λ r. none_parts (made (beside before c) look r) _ (still_made r);
+      comes = λ r. none_parts (made (beside after c) look r) _ (sym (still_made r));
+    };
+  }
 
 -- ---- a change that has come as far as a difference
 

@@ -2,4 +2,5 @@ mod Common
 pub mod Sets
 pub mod Halves
 pub mod Places
+pub mod Reaches
 pub mod Whole

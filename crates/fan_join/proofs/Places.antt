@@ -1,5 +1,7 @@
 -- Members by their places.
-use Rattle.fan_join.proofs.Common.{◌≡◌, ◌∙◌, sym, ap, refl, subst, ℕ, zero, suc, ◌+◌, ◌<◌, ◌≤◌, List, [], ◌∷◌, ◌++◌, length, arith, length-append, get_or, Option, Some, None, slice_get, ◌⊎◌, inl, inr, set, length-set, slice_get-get_or}
+use Rattle.fan_join.proofs.Common.{nat_cmp, eq_by_cmp, Bool, true, false, cond, ◌||◌, ◌≡◌, ◌∙◌, sym, ap, refl, ℕ, ◌+◌, ◌<◌, List, [], ◌∷◌, ◌++◌, length, get_or, Option, Some, None, slice_get, ◌⊎◌, inl, inr, set, slice_get-get_or}
+use Rattle.std.proofs.lemmas.Bool.Decides.{nat_tests}
+use Rattle.std.proofs.Common.{arith, suc, zero}
 
 pub set_other : {A : Type 0} (xs : List A) (i k : ℕ) (v : A) → (k ≡ i → ⊥) → slice_get (set xs i v) k ≡ slice_get xs k
 set_other [] i k v h = refl
@@ -40,6 +42,40 @@ seam_or_before (z ∷ xs) x (suc k) y e = elim (seam_or_before xs x k y e) [
   | inl before ↦ inl before
   | inr last ↦ inr (ap suc last.0, last.1)
 ]
+
+pub same_place : (a b : ℕ) → eq_by_cmp nat_cmp a b ≡ true → a ≡ b
+same_place a b e = grind (arith, nat_tests)
+
+pub place_itself : (a : ℕ) → eq_by_cmp nat_cmp a a ≡ true
+place_itself a = grind (arith, nat_tests)
+
+tie : (a b : ℕ) → eq_by_cmp nat_cmp a b ≡ eq_by_cmp nat_cmp b a
+tie a b = grind (arith, nat_tests)
+
+module _ (place k : ℕ) (old now : Bool) (is : now ≡ cond (eq_by_cmp nat_cmp place k) true old) where
+  -- what is put in a place is there, and the rest stays
+  pub put_stays : old ≡ true → now ≡ true
+  put_stays was = by (eq_by_cmp nat_cmp place k) is
+    where
+      by : (t : Bool) → now ≡ cond t true old → now ≡ true
+      by true e = e
+      by false e = e ∙ was
+
+  -- one of those to come
+  pub put_next : (next : Bool) → (old || (eq_by_cmp nat_cmp k place || next)) ≡ true → (now || next) ≡ true
+  put_next next was = by (eq_by_cmp nat_cmp place k) is (ap (λ t. old || (t || next)) (tie place k) ∙ was)
+    where
+      by : (t : Bool) → now ≡ cond t true old → (old || (t || next)) ≡ true → (now || next) ≡ true
+      by true e h = ap (λ b. b || next) e
+      by false e h = ap (λ b. b || next) e ∙ h
+
+  -- all below the next one
+  pub put_below : (k < place → old ≡ true) → k < place + 1 → now ≡ true
+  put_below before below = by (eq_by_cmp nat_cmp place k) refl is
+    where
+      by : (t : Bool) → eq_by_cmp nat_cmp place k ≡ t → now ≡ cond t true old → now ≡ true
+      by true e f = f
+      by false e f = f ∙ before (grind (arith, nat_tests))
 
 pub none_there : {A : Type 0} (xs : List A) (k : ℕ) (x : A) → xs ≡ [] → slice_get xs k ≡ Some x → ⊥
 none_there xs k x none e = let no : None ≡ Some x = ap (λ ys. slice_get ys k) (sym none) ∙ e in cc

@@ -14,6 +14,20 @@ splits_plus : (t u v : Row → Named → Bool) → ((l : Row) (c : Named) → v 
 splits_plus t u v h None = refl
 splits_plus t u v h (Some p) = h p.0 p.1
 
+splits_none : (t : Row → Named → Bool) → ((l : Row) (c : Named) → t l c ≡ false) → (o : Option (Row × Named)) → splits t o ≡ false
+splits_none t h None = refl
+splits_none t h (Some p) = h p.0 p.1
+
+none_passes : (a b p : Bool) → (a ≡ true → b ≡ true → p ≡ false) → (a && (b && p)) ≡ false
+none_passes true true p h = h refl refl
+none_passes true false p h = refl
+none_passes false b p h = refl
+
+-- where none passes, no row is made
+pub none_joined : (pass : Row → Named → Bool) (left : Row → Bool) (right : Named → Bool) → ((l : Row) (c : Named) → left l ≡ true → right c ≡ true → pass l c ≡ false) → (r : Row) → joined pass left right r ≡ false
+unfolding joined
+none_joined pass left right h r = splits_none _ (λ l c. none_passes (left l) (right c) (pass l c) (h l c)) (unjoined r)
+
 -- kernels: a is the side that changes, g that it goes or comes, w that it does so in truth, q the rest
 less_by : (a g q : Bool) → ((a && not g) && q) ≡ ((a && q) && not ((g && a) && q))
 less_by true true true = refl

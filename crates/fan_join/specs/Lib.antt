@@ -1,3 +1,4 @@
 pub mod Turns
 pub mod Fans
+pub mod Reaching
 pub mod Laws

@@ -1,5 +1,5 @@
 -- What a step does with the left rows that members share, and with the candidates of one member.
-use Rattle.std.specs.Prelude.{◌≡◌, ◌&&◌, ◌||◌, not, ℕ, Bool, List, length, Some, slice_get}
+use Rattle.std.specs.Prelude.{◌≡◌, ◌&&◌, ◌||◌, not, Bool, List}
 use Rattle.row_delta.specs.declared.delta.Delta.{Delta}
 use Rattle.row_delta.specs.declared.row.Named.{Named}
 use Rattle.row_delta.specs.declared.row.Row.{Row}
@@ -34,8 +34,3 @@ pub record AreNamesTurned (left : LeftRows) (look : Look) (gone come : List Name
   pub kept : Keeps (beside left old) (beside left new) look (has_left (beside left old) look)
       (λ who. (has_right (beside left old) look who && not (has_name gone who)) || has_name come who)
   pub difference : (first : Row → Bool) → IsDifference first (made (beside left old) look) so_far → IsDifference first (made (beside left new) look) delta
-
--- these are those of members, in the order of their places
-pub record AreDifferences (turn : RowTurn) (look : Look) (members : List Candidates) (deltas : List Delta) : Type 0 where
-  pub answers : length deltas ≡ length members
-  pub each : (k : ℕ) (c : Candidates) (delta : Delta) → slice_get members k ≡ Some c → slice_get deltas k ≡ Some delta → IsRowsDifference turn look c delta

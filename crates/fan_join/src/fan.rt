@@ -1,24 +1,30 @@
 ghost use Rattle.std.specs.Prelude.{◌≡◌, ◌<◌, ◌++◌, ◌∷◌, [], length, IfOk, OnOk};
 ghost use Rattle.join_tests.specs.RowKeys.{row_key};
 ghost use Rattle.pair_memory.specs.declared.candidates.Candidates.{Candidates as CandidatesData};
-ghost use Rattle.fan_join.specs.Fans.{IsMember, AreBeside, AreRowsTurned, IsEmpty, IsMemberTurned};
-ghost use Rattle.fan_join.specs.Turns.{AreDifferences};
+ghost use Rattle.fan_join.specs.Fans.{IsMember, AreBeside, AreRowsTurned, IsEmpty, IsMemberTurned, IsReached};
+ghost use Rattle.fan_join.specs.Reaching.{AreAsked};
 
-use crate::member::{names_turned, rows_difference};
+use crate::asking::differences;
+use crate::member::names_turned;
+use crate::reach::{add_reached, all_places, put_values, take_values};
 use crate::row_turn::RowTurn;
-use fx_base::{Facts, NoMemory};
+use alpha_memory::JoinIndex;
+use fx_base::{Facts, NoMemory, Value};
 use join_tests::RowKey;
 use pair_memory::{Candidates, LeftRows};
 use row_delta::{Delta, Named, Row};
 use rule_model::Pattern;
 use std::alloc::Global;
+use std::collections::{BTreeMap, BTreeSet};
 
 /// Nodes of patterns that bind a fact, which stand behind one node and keep its rows by the same key: the rows are kept once, the
-/// candidates by each member. After a call that was refused memory it is to be given up.
+/// candidates by each member, and under each join value the places of the members that keep a candidate under it, so that a row asks
+/// these alone. After a call that was refused memory it is to be given up.
 #[derive(Drop)]
 pub struct FanJoin {
     left: LeftRows,
     members: Vec<Candidates>,
+    reached: JoinIndex<Value, usize, ()>,
 }
 
 impl FanJoin {
@@ -28,10 +34,12 @@ impl FanJoin {
         ensures none { result.members.items ≡ [] }
         ensures empty { IsEmpty result }
         ensures beside { AreBeside result }
+        ensures reached { IsReached result }
     {
         FanJoin {
             left: LeftRows::new(alloc, key),
             members: Vec::new(alloc),
+            reached: JoinIndex::new(alloc),
         }
     }
 
@@ -49,6 +57,7 @@ impl FanJoin {
         ensures member { OnOk result ((c : CandidatesData) × (self.new.members.items ≡ self.old.members.items ++ c ∷ []) × (c.pattern ≡ pattern)) }
         ensures empty { OnOk result (IsEmpty self.old → IsEmpty self.new) }
         ensures beside { OnOk result (AreBeside self.old → AreBeside self.new) }
+        ensures reached { OnOk result (IsReached self.old → IsReached self.new) }
     {
         let member = Candidates::new(alloc, pattern);
         self.members.push(member)?;
@@ -70,30 +79,54 @@ impl FanJoin {
         self.members[place].pattern()
     }
 
-    /// Rows before the members leave and then come, and each member answers what has changed in the rows that it makes. A row costs
-    /// the logarithm of what has the same join value once, and for each member a hash and a test of the candidates that are sought.
+    /// Rows before the members leave and then come. The answer is what has changed in the rows that the members make, by their places;
+    /// of the others nothing has. A row costs the logarithm of what has the same join value and a hash, and for each member that it
+    /// reaches a hash and a test of the candidates that are sought. It reaches those that keep a candidate under its join value, or all
+    /// of them where the key has a range of time.
     pub fn turn_rows<F: Facts>(
         &mut self,
         alloc: Global,
         gone: &[Row],
         come: &[Row],
         facts: &F,
-    ) -> Result<Vec<Delta>, NoMemory>
+    ) -> Result<BTreeMap<usize, Delta>, NoMemory>
         ensures key { OnOk result (self.new.left.key ≡ self.old.left.key) }
         ensures members { OnOk result (self.new.members ≡ self.old.members) }
-        ensures turned { IfOk result (λ deltas. AreBeside self.old → AreRowsTurned self.old self.new (F.map facts.now) gone.now come.now deltas.items) }
+        ensures reached { OnOk result (self.new.reached ≡ self.old.reached) }
+        ensures turned { IfOk result (λ deltas. AreBeside self.old → IsReached self.old → AreRowsTurned self.old self.new (F.map facts.now) gone.now come.now deltas) }
     {
         let went = self.left.those(alloc, gone, true, facts)?;
         self.left.leave(gone, facts);
         let came = self.left.those(alloc, come, false, facts)?;
         self.left.come(alloc, come, facts)?;
         let turn = RowTurn { went, came };
-        let deltas = differences(alloc, &self.members, &turn, facts)?;
+        let places = self.asked(alloc, &turn, facts)?;
+        let deltas = differences(alloc, &self.members, &places, &turn, facts)?;
         Ok(deltas)
     }
 
+    /// The places of the members to ask of a turn.
+    fn asked<F: Facts>(
+        &self,
+        alloc: Global,
+        turn: &RowTurn,
+        facts: &F,
+    ) -> Result<BTreeSet<usize, Global>, NoMemory>
+        ensures { IfOk result (λ places. AreAsked self.now (F.map facts.now) turn.now places.keys) }
+    {
+        let key = self.left.key();
+        if key.is_timed() {
+            return all_places(alloc, self.members.len());
+        }
+        let mut places = BTreeSet::new(alloc);
+        add_reached(&mut places, &self.reached, key, turn.went.as_slice(), facts)?;
+        add_reached(&mut places, &self.reached, key, turn.came.as_slice(), facts)?;
+        Ok(places)
+    }
+
     /// Candidates of the member in a place leave and then come; `so_far` is what has changed in its rows so far, and the answer what
-    /// has then. A candidate costs the logarithm of what has the same join value, and a test of the left rows that are sought.
+    /// has then. A candidate costs a hash or three, the logarithm of what has the same join value, and a test of the left rows that are
+    /// sought.
     pub fn turn_names<F: Facts>(
         &mut self,
         alloc: Global,
@@ -108,23 +141,8 @@ impl FanJoin {
     {
         let member = &mut self.members[place];
         let delta = names_turned(member, alloc, &self.left, so_far, gone, come, facts)?;
+        take_values(&mut self.reached, member, place, gone, facts);
+        put_values(&mut self.reached, alloc, member, place, come, facts)?;
         Ok(delta)
     }
-}
-
-/// What changes in the rows of each member, with these left rows.
-fn differences<F: Facts>(
-    alloc: Global,
-    members: &[Candidates],
-    turn: &RowTurn,
-    facts: &F,
-) -> Result<Vec<Delta>, NoMemory>
-    ensures { IfOk result (λ deltas. AreDifferences turn.now (F.map facts.now) members.now deltas.items) }
-{
-    let mut deltas = Vec::with_capacity(alloc, members.len())?;
-    for member in members {
-        let delta = rows_difference(member, alloc, turn, facts)?;
-        deltas.push(delta)?;
-    }
-    Ok(deltas)
 }

@@ -1,6 +1,13 @@
 //! What changes in the rows of one member.
-ghost use Rattle.std.specs.Prelude.{◌≡◌, Bool, IfOk};
+ghost use Rattle.std.specs.Prelude.{◌≡◌, ◌&&◌, ◌||◌, true, is_some, Bool, IfOk, OnOk};
+ghost use Rattle.fx_base.specs.declared.value.Value.{Value};
+ghost use Rattle.fx_base.specs.Values.{same_value};
+ghost use Rattle.row_delta.specs.declared.row.Named.{Named as NamedData};
 ghost use Rattle.row_delta.specs.declared.row.Row.{Row};
+ghost use Rattle.row_delta.specs.NameOrder.{name_cmp};
+ghost use Rattle.alpha_memory.specs.JoinIndex.{at};
+ghost use Rattle.join_tests.specs.Kept.{candidate_value};
+ghost use Rattle.pair_memory.specs.Joined.{has_name};
 ghost use Rattle.row_change.specs.declared.change.Change.{Change as ChangeData};
 ghost use Rattle.row_change.specs.Changes.{IsDifference, Leads};
 ghost use Rattle.fan_join.specs.Turns.{AreNamesTurned, IsRowsDifference};
@@ -42,7 +49,9 @@ pub(crate) fn names_turned<F: Facts>(
     come: &[Named],
     facts: &F,
 ) -> Result<Delta, NoMemory>
-    ensures { IfOk result (λ delta. AreNamesTurned left.now (F.map facts.now) gone.now come.now so_far member.old member.new delta) }
+    ensures turned { IfOk result (λ delta. AreNamesTurned left.now (F.map facts.now) gone.now come.now so_far member.old member.new delta) }
+    ensures under { OnOk result ((value : Value) (who : NamedData) → is_some (at same_value name_cmp member.new.names value who) ≡ true
+        → (is_some (at same_value name_cmp member.old.names value who) || (has_name come.now who && same_value (candidate_value member.new.pattern (F.map facts.now) who) value)) ≡ true) }
 {
     let mut change = begun(alloc, so_far)?;
     let went = member.those(alloc, gone, true, facts)?;
