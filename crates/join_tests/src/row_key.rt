@@ -1,5 +1,5 @@
 //! What of a pattern decides under which value a row is kept.
-ghost use Rattle.std.specs.Prelude.{◌≡◌, ◌↔◌, ◌++◌, map, IfOk, OnOk, IsTrue};
+ghost use Rattle.std.specs.Prelude.{◌≡◌, ◌↔◌, ◌++◌, map, is_some, IfOk, OnOk, IsTrue};
 ghost use Rattle.std.specs.Hash.FoldHasher as hasher;
 ghost use Rattle.std.specs.Option.{option_map};
 ghost use Rattle.join_tests.specs.JoinValues.{shown};
@@ -56,6 +56,13 @@ impl RowKey {
         ensures { IsTrue result ↔ (self.now ≡ other.now) }
     {
         self.time == other.time && are_same(self.sides.as_slice(), other.sides.as_slice())
+    }
+
+    /// Whether there is a range of time. Takes no memory.
+    pub fn is_timed(&self) -> bool
+        ensures { result ≡ is_some self.now.time }
+    {
+        self.time.is_some()
     }
 
     /// The value under which the patterns of this key keep a row. It takes no memory, and costs a look-up for each equality and for a
