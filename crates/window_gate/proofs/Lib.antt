@@ -5,6 +5,6 @@ pub mod Insides
 pub mod Wholes
 pub mod Numbers
 pub mod Lengths
-pub mod Waiting
+pub mod Holding
 pub mod Times
 pub mod Quiet

@@ -7,7 +7,7 @@ abbrev pub same_name : Named → Named → Bool
 same_name a b = eq_by_cmp name_cmp a b
 
 -- two orders in turn say Equal where both do
-both_equal : (o p : Ordering) → is_eq (ordering_then o p) ≡ (is_eq o && is_eq p)
+pub both_equal : (o p : Ordering) → is_eq (ordering_then o p) ≡ (is_eq o && is_eq p)
 both_equal Less p = refl
 both_equal Equal p = refl
 both_equal Greater p = refl
@@ -55,11 +55,11 @@ has_tag-same a b names e = ap (λ t. list_any (has_tag t) names) ((Decides-eqb a
 -- ---- lists whose tags differ
 
 -- a tag that is not in a longer list
-left_or : (a b : Bool) → (a || b) ≡ false → a ≡ false
+pub left_or : (a b : Bool) → (a || b) ≡ false → a ≡ false
 left_or false b e = refl
 left_or true b e = e
 
-right_or : (a b : Bool) → (a || b) ≡ false → b ≡ false
+pub right_or : (a b : Bool) → (a || b) ≡ false → b ≡ false
 right_or false b e = e
 right_or true b e = let f : true ≡ false = e in cc
 

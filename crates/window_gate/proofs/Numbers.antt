@@ -1,7 +1,7 @@
 -- Versions under rising numbers: one put in at an end, one taken out by its number, and the numbers by their tags.
 use Rattle.window_gate.proofs.Common.{◌≡◌, ◌∙◌, sym, ap, refl, subst, ℕ, ◌+◌, List, [], ◌∷◌, ◌++◌, filter, length, Bool, true, false, cond, not, ◌==◌, ◌||◌, Option, Some, None, arith, append-nil, ◌⊎◌, inl, inr, Less, Greater, insert_entry, is_at, unsigned_tied, list_any, AllByRecursion, keys_of, values_of, lookup, remove_entry, option_or, nat_cmp, is_eq, Decides-eqb, nat_tests, map-append, Named, has_tag, TagsDiffer, number_of, Numbered, match_ordering}
 use Rattle.std.specs.List.Sorted.{IsStrictlySortedBy}
-use Rattle.window_gate.proofs.Names.{without, apart, differ_left, differ_right}
+use Rattle.window_gate.proofs.Names.{without, left_or, right_or, apart, differ_left, differ_right}
 
 -- ---- the order of numbers
 
@@ -110,14 +110,6 @@ others-append tag (e ∷ xs) ys =
       | true ↦ ap (λ es. e ∷ es) (others-append tag xs ys)
       | false ↦ others-append tag xs ys
     ]
-
-left_or : (a b : Bool) → (a || b) ≡ false → a ≡ false
-left_or false b e = refl
-left_or true b e = e
-
-right_or : (a b : Bool) → (a || b) ≡ false → b ≡ false
-right_or false b e = e
-right_or true b e = let f : true ≡ false = e in cc
 
 pub others-absent : (tag : ℕ) (es : Numbered) → list_any (has_tag tag) (values_of es) ≡ false → others tag es ≡ es
 others-absent tag [] absent = refl

@@ -1,18 +1,9 @@
 -- Until the first moment that is due, the clock changes nothing.
-use Rattle.window_gate.proofs.Common.{◌≡◌, ◌∙◌, sym, ap, refl, inl, inr, ℕ, ℤ, ◌+ℤ◌, ◌≤ℤ◌, ◌<ℤ◌, List, [], ◌∷◌, map, Bool, true, false, cond, not, ◌&&◌, ◌||◌, Option, Some, None, option_map, arith, int_le, ints, has_come, is_due, IsBetween, has, Delta, Row, Clock, Time, TimeWindow, takes_out, KeepsTime, TagsDiffer, with_tag, Arrival, named_of, has_tag, inside, rows_inside, IfSome, IsSomeAnd, LeavesAt}
-use Rattle.std.specs.FinMap as timers
+use Rattle.window_gate.proofs.Common.{◌≡◌, ◌∙◌, sym, ap, refl, inl, inr, ℕ, ℤ, ◌≤ℤ◌, ◌<ℤ◌, List, [], ◌∷◌, map, Bool, true, false, cond, not, ◌&&◌, ◌||◌, Option, Some, None, get, IsBetween, has, Delta, Row, Clock, Time, TimeWindow, FactId, KeepsTime, TagsDiffer, with_tag, Arrival, named_of, has_tag, inside, rows_inside, leaving_cmp, leaves, brings, Leave, Enter, IfSome, IsSome, IsSomeAnd, LeavesAt}
 use Rattle.fx_base.specs.Lists.{In}
-use Rattle.window_gate.proofs.Times.{other_kept, other_between}
+use Rattle.window_gate.proofs.Times.{step_keeps, step_between}
+use Rattle.window_gate.proofs.Holding.{leave_none, enter_none, none_due, is_there}
 use Rattle.window_gate.proofs.Wholes.{none_in_order}
-
-later : (first now at : ℤ) → now <ℤ first → first ≤ℤ at → int_le at now ≡ false
-later first now at h k = grind (arith, ints)
-
--- what waits for no earlier moment than the first is not due before it
-not_due : (first : Option ℤ) (now : ℤ) (o : Option ℤ) → IfSome first (λ at. now <ℤ at) → ((at : ℤ) → o ≡ Some at → IsSomeAnd first (λ m. m ≤ℤ at)) → has_come now o ≡ false
-not_due first now None quiet least = refl
-not_due None now (Some at) quiet least = absurd (least at refl)
-not_due (Some m) now (Some at) quiet least = later m now at quiet (least at refl)
 
 -- sets of which neither has what the other lacks answer alike
 alike : (a b : Bool) → false ≡ (a && not b) → false ≡ (b && not a) → b ≡ a
@@ -30,25 +21,21 @@ unfolding nothing
 same_rows old new is row = alike (has old row) (has new row) (is.gone row) (is.come row)
 
 module _ (window : TimeWindow) (arrivals : List Arrival) (was now : ℤ) (pass : was ≤ℤ now) (keeps : KeepsTime window arrivals was) (differ : TagsDiffer (map named_of arrivals)) (first : Option ℤ)
-    (quiet : IfSome first (λ at. now <ℤ at)) (least : (tag : ℕ) (at : ℤ) → timers.get window.due tag ≡ Some at → IsSomeAnd first (λ m. m ≤ℤ at)) where
-  none_due : (tag : ℕ) → is_due now window.due tag ≡ false
-  none_due tag = not_due first now (timers.get window.due tag) quiet (least tag)
+    (quiet : IfSome first (λ at. now <ℤ at)) (least : (q : ℤ × ℕ) → IsSome (get leaving_cmp window.leaving q) → IsSomeAnd first (λ m. m ≤ℤ q.0)) where
+  none_leaves : Leave window window (leaves window.millis now Clock) []
+  none_leaves = leave_none window (leaves window.millis now Clock) (λ held holds tag. ap (λ b. b || false) (none_due window now first quiet least held holds tag))
 
-  none_leaves : (tag : ℕ) → false ≡ (is_due now window.due tag || (takes_out Clock tag && timers.contains_key window.due tag))
-  none_leaves tag = ap (λ b. b || false) (sym (none_due tag))
-
-  none_taken : (tag : ℕ) → timers.get window.due tag ≡ cond (is_due now window.due tag || (takes_out Clock tag && timers.contains_key window.due tag)) None (timers.get window.due tag)
-  none_taken tag = ap (λ b. cond b None (timers.get window.due tag)) (none_leaves tag)
+  none_enters : Enter window window (brings window.millis now Clock) None
+  none_enters = enter_none window (brings window.millis now Clock) (λ tag. refl)
 
   pub time_kept : KeepsTime window arrivals now
-  time_kept = other_kept window arrivals was now pass keeps differ Clock differ [] window.due window.ids none_leaves none_taken (λ tag. refl) (λ named start e. absurd cc)
+  time_kept = step_keeps window window window arrivals was now pass keeps differ Clock tt [] None none_leaves none_enters refl
 
   pub time_same : (row : Row) → has (rows_inside (Time window.millis) now arrivals) row ≡ has (rows_inside (Time window.millis) was arrivals) row
   unfolding nothing
   time_same =
       same_rows (rows_inside (Time window.millis) was arrivals) (rows_inside (Time window.millis) now arrivals)
-      (other_between window arrivals was now pass keeps differ Clock differ [] window.due window.ids none_leaves none_taken (λ tag. refl) (λ named start e. absurd cc)
-      [] nothing none_in_order (λ named. refl) refl refl)
+      (step_between window window window arrivals was now pass keeps differ Clock tt [] None none_leaves none_enters refl nothing none_in_order refl refl)
 
 -- ---- the first moment is that of one inside
 
@@ -61,13 +48,8 @@ found_there : (tag : ℕ) (arrivals : List Arrival) (arrival : Arrival) → with
 found_there tag [] arrival e = absurd cc
 found_there tag (x ∷ arrivals) arrival e = found_if (has_tag tag x.named) x arrival arrivals (with_tag tag arrivals) (found_there tag arrivals arrival) e
 
-leaving_one : (millis at : ℤ) (o : Option Arrival) → Some at ≡ option_map (λ arrival. arrival.start +ℤ millis) o → (arrival : Arrival) × (o ≡ Some arrival) × (at ≡ arrival.start +ℤ millis)
-leaving_one millis at None e = absurd cc
-leaving_one millis at (Some arrival) e = (arrival, refl, cc)
-
-pub one_leaves : (window : TimeWindow) (arrivals : List Arrival) (was : ℤ) → KeepsTime window arrivals was → (first : Option ℤ) → IfSome first (λ at. (tag : ℕ) × (timers.get window.due tag ≡ Some at))
-    → IfSome first (λ at. (arrival : Arrival) × In arrival (inside (Time window.millis) was arrivals) × LeavesAt (Time window.millis) arrival at)
-one_leaves window arrivals was keeps None waits = tt
-one_leaves window arrivals was keeps (Some at) waits =
-    let r = leaving_one window.millis at (with_tag waits.0 (inside (Time window.millis) was arrivals)) (sym waits.1 ∙ keeps.due waits.0) in
-    (r.0, found_there waits.0 (inside (Time window.millis) was arrivals) r.0 r.1, r.2)
+pub one_leaves : (window : TimeWindow) (arrivals : List Arrival) (was : ℤ) → KeepsTime window arrivals was → (q : ℤ × ℕ) (id : FactId) → get leaving_cmp window.leaving q ≡ Some id
+    → (arrival : Arrival) × In arrival (inside (Time window.millis) was arrivals) × LeavesAt (Time window.millis) arrival q.0
+one_leaves window arrivals was keeps q id e =
+    let r = is_there window.millis q.0 id (with_tag q.1 (inside (Time window.millis) was arrivals)) (sym (keeps.leaving q.0 q.1) ∙ e) in
+    (r.arrival, found_there q.1 (inside (Time window.millis) was arrivals) r.arrival r.is, sym r.leaves)

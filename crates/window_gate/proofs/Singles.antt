@@ -1,5 +1,5 @@
 -- Rows of one version: their order is that of the versions, and a difference of versions is one of rows.
-use Rattle.window_gate.proofs.Common.{◌≡◌, ◌∙◌, sym, ap, refl, subst, ℕ, ℤ, List, [], ◌∷◌, map, Bool, false, cond, not, ◌&&◌, ◌||◌, Ordering, Less, Equal, Greater, nat_cmp, ordering_then, eq_by_cmp, is_eq, AllByRecursion, name_cmp, has, IsBetween, Named, Row, Delta, single, has_name, int_cmp, row_cmp, InOrder}
+use Rattle.window_gate.proofs.Common.{◌≡◌, ◌∙◌, sym, ap, refl, subst, ℕ, ℤ, List, [], ◌∷◌, map, Bool, false, not, ◌&&◌, ◌||◌, Ordering, Less, Equal, Greater, nat_cmp, ordering_then, eq_by_cmp, is_eq, AllByRecursion, name_cmp, has, IsBetween, Named, Row, Delta, single, has_name, int_cmp, row_cmp, InOrder}
 use mathlib.Core.Path.{fun_ext}
 use Rattle.std.specs.Cmp.Lexicographic.{slice_cmp}
 use Rattle.std.specs.List.Sorted.{IsStrictlySortedBy}

@@ -1,5 +1,5 @@
 -- The difference of a window that is whole is the change.
-use Rattle.window_gate.proofs.Common.{◌≡◌, ◌∙◌, sym, ap, refl, subst, ℤ, List, [], ◌∷◌, map, Bool, true, false, not, ◌==◌, ◌&&◌, ◌||◌, Result, Ok, Err, IfOk, list_any, eq_by_cmp, list_any-append, name_cmp, IsBetween, Named, Delta, Whole, GateChange, Come, Gone, Clock, Arrival, named_of, has_tag, single, after, rows_inside, has_name, TagsDiffer, MayChange}
+use Rattle.window_gate.proofs.Common.{◌≡◌, ◌∙◌, sym, ap, refl, subst, ℤ, ◌<◌, arith, length, List, [], ◌∷◌, map, Bool, true, false, not, ◌==◌, ◌&&◌, ◌||◌, Result, Ok, Err, IfOk, list_any, eq_by_cmp, list_any-append, name_cmp, IsBetween, Named, Delta, Whole, GateChange, Come, Gone, Clock, Arrival, named_of, has_tag, single, after, rows_inside, has_name, TagsDiffer, MayChange}
 use Rattle.std.specs.List.Sorted.{IsStrictlySortedBy}
 use Rattle.window_gate.proofs.Names.{same_name, equal_names, none_with_tag, names-without, only_one}
 use Rattle.window_gate.proofs.Singles.{between_names}
@@ -13,6 +13,12 @@ one_in_order named = (tt, tt)
 pub none_in_order : IsStrictlySortedBy name_cmp []
 unfolding IsStrictlySortedBy
 none_in_order = tt
+
+-- a list of one or none is
+pub short_in_order : (xs : List Named) → length xs < 2 → IsStrictlySortedBy name_cmp xs
+short_in_order [] short = none_in_order
+short_in_order (x ∷ []) short = one_in_order x
+short_in_order (x ∷ y ∷ xs) short = absurd (omega arith)
 
 -- one version is there where it is asked for
 pub only_it : (named one : Named) → has_name (one ∷ []) named ≡ same_name named one

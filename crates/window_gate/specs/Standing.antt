@@ -1,11 +1,12 @@
 -- For which arrivals a gate stands, and which changes it takes.
 use Rattle.std.specs.Prelude.{◌≡◌, ℕ, ℤ, pos, ◌+ℤ◌, ◌≤ℤ◌, ◌^◌, Bool, true, false, List, [], ◌∷◌, ◌++◌, Option, Some, None, map, option_map, cond}
 use Rattle.std.specs.BTreeMap.{get}
-use Rattle.std.specs.FinMap as timers
 use Rattle.std.specs.List.{list_any, find}
 use Rattle.std.specs.List.Sorted.{IsStrictlySortedBy}
 use Rattle.std.specs.Map.{keys_of, values_of}
-use Rattle.std.specs.Ordering.{nat_cmp, eq_by_cmp}
+use Rattle.std.specs.declared.cmp.Ordering.{Ordering}
+use Rattle.std.specs.Ordering.{nat_cmp, int_cmp, ordering_then, eq_by_cmp}
+use Rattle.fx_base.specs.declared.ids.FactId.{FactId}
 use Rattle.row_delta.specs.NameOrder.{name_cmp}
 use Rattle.row_delta.specs.declared.row.Named.{Named}
 use Rattle.window_gate.specs.declared.change.WindowKind.{WindowKind}
@@ -37,10 +38,27 @@ abbrev pub number_of : ℕ → List (ℕ × Named) → Option ℕ
 number_of tag [] = None
 number_of tag (numbered ∷ later) = cond (has_tag tag numbered.1) (Some numbered.0) (number_of tag later)
 
--- a time window keeps the arrivals inside and no others: by its tag, when each leaves and its id
-pub record KeepsTime (window : TimeWindow) (arrivals : List Arrival) (now : ℤ) : Type 0 where
-  pub due : (tag : ℕ) → timers.get window.due tag ≡ option_map (λ arrival. arrival.start +ℤ window.millis) (with_tag tag (inside (Time window.millis) now arrivals))
-  pub ids : (tag : ℕ) → get nat_cmp window.ids tag ≡ option_map (λ arrival. arrival.named.id) (with_tag tag (inside (Time window.millis) now arrivals))
+-- arrivals by their tags
+abbrev pub Held : Type 0
+Held = ℕ → Option Arrival
+
+-- the id of an arrival, where there is one and it leaves at this moment
+abbrev pub id_at : ℤ → ℤ → Option Arrival → Option FactId
+id_at millis at None = None
+id_at millis at (Some arrival) = cond (eq_by_cmp int_cmp (arrival.start +ℤ millis) at) (Some arrival.named.id) None
+
+-- moments with tags are ordered by the moments, then by the tags
+abbrev pub leaving_cmp : ℤ × ℕ → ℤ × ℕ → Ordering
+leaving_cmp a b = ordering_then (int_cmp a.0 b.0) (nat_cmp a.1 b.1)
+
+-- a time window holds these and no others: by the tag when each leaves, and by that moment and the tag its id
+pub record Holds (window : TimeWindow) (held : Held) : Type 0 where
+  pub moments : (tag : ℕ) → get nat_cmp window.moments tag ≡ option_map (λ arrival. arrival.start +ℤ window.millis) (held tag)
+  pub leaving : (at : ℤ) (tag : ℕ) → get leaving_cmp window.leaving (at, tag) ≡ id_at window.millis at (held tag)
+
+-- a time window keeps the arrivals inside and no others: by its tag when each leaves, and by both its id
+abbrev pub KeepsTime : TimeWindow → List Arrival → ℤ → Type 0
+KeepsTime window arrivals now = Holds window (λ tag. with_tag tag (inside (Time window.millis) now arrivals))
 
 -- the numbered versions that a length window keeps, the older ones first
 abbrev pub numbered : LengthWindow → List (ℕ × Named)

@@ -1,35 +1,31 @@
-ghost use Rattle.std.specs.Prelude.{◌≡◌, ℕ, ℤ, pos, ◌+ℤ◌, ◌≤ℤ◌, ◌<ℤ◌, List, [], ◌&&◌, Some, None, cond, IfOk, OnOk, IfSome, IfNone, map, nat_eq, int_lt, unwrap_or};
-ghost use Rattle.std.specs.Bool.{OnTrue, OnFalse};
-ghost use Rattle.std.specs.BTreeMap.{get};
-ghost use Rattle.std.specs.FinMap as timers;
-ghost use Rattle.std.specs.List.{list_any};
+ghost use Rattle.std.specs.Prelude.{◌≡◌, ℕ, ℤ, ◌+ℤ◌, ◌≤ℤ◌, ◌<ℤ◌, ◌<◌, ◌==◌, List, [], ◌∷◌, true, false, length, IfOk, IfSome, IfNone, OnOk, map, option_to_list};
 ghost use Rattle.std.specs.List.Sorted.{IsStrictlySortedBy};
-ghost use Rattle.std.specs.Ordering.{nat_cmp};
 ghost use Rattle.fx_base.specs.Lists.{In};
 ghost use Rattle.row_delta.specs.Differences.{IsBetween};
 ghost use Rattle.row_delta.specs.NameOrder.{name_cmp};
 ghost use Rattle.row_delta.specs.Rows.{has};
 ghost use Rattle.row_delta.specs.declared.row.Named.{Named};
 ghost use Rattle.row_delta.specs.declared.row.Row.{Row};
+ghost use Rattle.window_gate.specs.declared.change.GateChange.TheVariants.{Come};
 ghost use Rattle.window_gate.specs.declared.change.WindowKind.TheVariants.{Time};
 ghost use Rattle.window_gate.specs.Windows.{Arrival, named_of, after, inside, rows_inside};
-ghost use Rattle.window_gate.specs.Standing.{TagsDiffer, KeepsTime, MayPass, MayStart, MayChange, LeavesAt, has_name, most};
-ghost use Rattle.window_gate.specs.Pieces.{is_id, leaves};
+ghost use Rattle.window_gate.specs.Standing.{Held, Holds, TagsDiffer, KeepsTime, MayPass, MayStart, MayChange, LeavesAt, has_name, most};
+ghost use Rattle.window_gate.specs.Pieces.{Leave, Enter, has_come, takes_out, leaves, brings};
 
 use crate::change::GateChange;
 use crate::rows::difference;
-use due_queue::DueQueue;
 use fx_base::{FactId, Millis, NoMemory, Tag};
 use row_delta::{Delta, Named};
 use std::alloc::Global;
 use std::collections::{BTreeMap, BTreeSet};
 
-/// The facts whose start is less than `millis` ago: by the tag, the moment when each leaves, and its id.
+/// The facts whose start is less than `millis` milliseconds ago: their ids by the moment when each leaves and its tag, and
+/// that moment by the tag.
 #[derive(Drop)]
 pub(crate) struct TimeWindow {
     pub(crate) millis: Millis,
-    due: DueQueue,
-    ids: BTreeMap<u64, FactId>,
+    leaving: BTreeMap<(Millis, u64), FactId>,
+    moments: BTreeMap<u64, Millis>,
 }
 
 impl TimeWindow {
@@ -39,12 +35,12 @@ impl TimeWindow {
     {
         TimeWindow {
             millis,
-            due: DueQueue::new(alloc),
-            ids: BTreeMap::new(alloc),
+            leaving: BTreeMap::new(alloc),
+            moments: BTreeMap::new(alloc),
         }
     }
 
-    /// The least moment at which a fact that is inside leaves; `None` where none is inside.
+    /// The least moment at which a fact that is inside leaves; `None` where none is inside. Takes no memory.
     pub(crate) fn first_leaving(&self) -> Option<Millis>
         ensures keeps { (arrivals : List Arrival) (was now : ℤ) → KeepsTime self.now arrivals was
             → TagsDiffer (map named_of arrivals) → was ≤ℤ now → IfSome result (λ at. now <ℤ at)
@@ -55,10 +51,14 @@ impl TimeWindow {
             → TagsDiffer (map named_of arrivals) → was ≤ℤ now → IfSome result (λ at. now <ℤ at)
             → (row : Row) → has (rows_inside (Time self.now.millis) now arrivals) row ≡ has (rows_inside (Time self.now.millis) was arrivals) row }
     {
-        self.due.first_moment()
+        match self.leaving.first_key_value() {
+            Some((key, _)) => Some(key.0),
+            None => None,
+        }
     }
 
-    /// What is due leaves, and what comes enters where it is inside at this moment.
+    /// What is due leaves, and what comes enters where it is inside at this moment. It costs the logarithm of what is inside, for
+    /// each that enters or leaves; where none does, it takes no memory.
     pub(crate) fn step(
         mut self,
         alloc: Global,
@@ -73,70 +73,125 @@ impl TimeWindow {
             → TagsDiffer (map named_of arrivals) → MayPass (Time self.millis) was now → MayChange (Time self.millis) (map named_of arrivals) change.now
             → IfOk result (λ r. IsBetween (rows_inside (Time self.millis) was arrivals) (rows_inside (Time self.millis) now (after arrivals change.now)) r.1) }
     {
-        let leaving = leaving(&mut self.due, change, now)?;
-        let gone = take_named(alloc, &mut self.ids, &leaving)?;
-        let come = match change {
-            GateChange::Come(named, start) => {
-                let moment = start.saturating_add(self.millis);
-                enter(&mut self.due, &mut self.ids, *named, moment, now)?
-            }
-            _ => None,
-        };
-        let delta = difference(alloc, &gone, come.as_slice())?;
+        let left = self.leave(alloc, change, now)?;
+        let come = self.come(change, now)?;
+        let delta = difference(alloc, &left, come.as_slice())?;
         Ok((self, delta))
     }
-}
 
-/// Takes out of the queue the tags that are due, and the one that goes.
-fn leaving(due: &mut DueQueue, change: &GateChange, now: Millis) -> Result<Vec<u64>, NoMemory>
-    ensures tags { IfOk result (λ tags. (tag : ℕ) → list_any (nat_eq tag) tags.items ≡ leaves now due.old change.now tag) }
-    ensures rest { IfOk result (λ tags. (tag : ℕ) → timers.get due.new tag ≡ cond (leaves now due.old change.now tag) None (timers.get due.old tag)) }
-{
-    let mut tags = due.take_due(now)?;
-    if let GateChange::Gone(named) = change {
-        if due.cancel(named.tag.0) {
-            tags.push(named.tag.0)?;
+    /// Takes out what is due and what goes, and answers it in the order of names.
+    fn leave(
+        &mut self,
+        alloc: Global,
+        change: &GateChange,
+        now: Millis,
+    ) -> Result<Vec<Named>, NoMemory>
+        ensures in_order { IfOk result (λ left. IsStrictlySortedBy name_cmp left.items) }
+        ensures leave { IfOk result (λ left. Leave self.old self.new (leaves self.old.millis now change.now) left.items) }
+    {
+        let mut left = self.leave_by_time(alloc, now)?;
+        if let Some(gone) = self.go(change) {
+            left.push(gone)?;
+        }
+        let ordered = in_order(alloc, left)?;
+        Ok(ordered)
+    }
+
+    /// Takes out what is due, and answers it in the order in which it leaves.
+    fn leave_by_time(&mut self, alloc: Global, now: Millis) -> Result<Vec<Named>, NoMemory>
+        ensures { IfOk result (λ left. Leave self.old self.new (λ _ one. has_come self.old.millis now one) left.items) }
+    {
+        let mut left = Vec::new(alloc);
+        'due: while let Some(named) = self.take_due(now) {
+            left.push(named)?;
+        }
+        Ok(left)
+    }
+
+    /// Takes out the first that leaves, where its moment has come.
+    fn take_due(&mut self, now: Millis) -> Option<Named>
+        ensures due { IfSome result (λ named. (held : Held) → Holds self.old held → has_come self.old.millis now (held named.tag.0) ≡ true) }
+        ensures leave { IfSome result (λ named. Leave self.old self.new (λ tag _. tag == named.tag.0) (named ∷ [])) }
+        ensures smaller { IfSome result (λ named. length self.new.leaving.entries < length self.old.leaving.entries) }
+        ensures none { IfNone result ((held : Held) → Holds self.old held → (tag : ℕ) → has_come self.old.millis now (held tag) ≡ false) }
+        ensures unchanged { IfNone result (self.new ≡ self.old) }
+    {
+        let (key, _) = self.leaving.first_key_value()?;
+        if key.0 > now {
+            return None;
+        }
+        let ((_, tag), id) = self.leaving.pop_first()?;
+        self.moments.remove(&tag);
+        Some(Named { id, tag: Tag(tag) })
+    }
+
+    /// Takes out the one that goes, where it is inside.
+    fn go(&mut self, change: &GateChange) -> Option<Named>
+        ensures { Leave self.old self.new (λ tag _. takes_out change.now tag) (option_to_list result) }
+    {
+        match change {
+            GateChange::Gone(named) => self.take_out(named.tag),
+            _ => None,
         }
     }
-    Ok(tags)
-}
 
-/// Takes out the ids of these tags, and answers the versions, in the order of their tags.
-fn take_named(
-    alloc: Global,
-    ids: &mut BTreeMap<u64, FactId>,
-    tags: &[u64],
-) -> Result<Vec<Named>, NoMemory>
-    ensures in_order { IfOk result (λ versions. IsStrictlySortedBy name_cmp versions.items) }
-    ensures versions { IfOk result (λ versions. (named : Named) → has_name versions.items named ≡ (list_any (nat_eq named.tag.0) tags.now && is_id named.id.0 (get nat_cmp ids.old named.tag.0))) }
-    ensures rest { OnOk result ((tag : ℕ) → get nat_cmp ids.new tag ≡ cond (list_any (nat_eq tag) tags.now) None (get nat_cmp ids.old tag)) }
-{
-    let mut versions = BTreeSet::new(alloc);
-    for tag in tags {
-        if let Some(id) = ids.remove(tag) {
-            versions.insert(Named { id, tag: Tag(*tag) })?;
+    /// Takes out the one with this tag, where it is inside.
+    fn take_out(&mut self, tag: Tag) -> Option<Named>
+        ensures { Leave self.old self.new (λ other _. other == tag.0) (option_to_list result) }
+    {
+        let at = self.moments.remove(&tag.0)?;
+        let id = self.leaving.remove(&(at, tag.0))?;
+        Some(Named { id, tag })
+    }
+
+    /// Lets what comes enter, and answers it, where the moment when it leaves is still to come.
+    fn come(&mut self, change: &GateChange, now: Millis) -> Result<Option<Named>, NoMemory>
+        ensures millis { OnOk result (self.new.millis ≡ self.old.millis) }
+        ensures enter { (names : List Named) → MayChange (Time self.old.millis) names change.now → self.old.millis ≤ℤ most
+            → IfOk result (Enter self.old self.new (brings self.old.millis now change.now)) }
+    {
+        match change {
+            GateChange::Come(named, start) => {
+                let moment = start.saturating_add(self.millis);
+                let entered = self.enter(*named, moment, now)?;
+                Ok(entered)
+            }
+            _ => Ok(None),
         }
     }
-    Ok(versions.into_iter().collect(alloc)?)
+
+    /// Lets a version enter until this moment, in place of one with its tag, and answers it, where the moment is still to come.
+    fn enter(
+        &mut self,
+        named: Named,
+        moment: Millis,
+        now: Millis,
+    ) -> Result<Option<Named>, NoMemory>
+        ensures millis { OnOk result (self.new.millis ≡ self.old.millis) }
+        ensures enter { (start : ℤ) → moment ≡ start +ℤ self.old.millis → IfOk result (Enter self.old self.new (brings self.old.millis now (Come named start))) }
+    {
+        if moment <= now {
+            return Ok(None);
+        }
+        if let Some(at) = self.moments.insert(named.tag.0, moment)? {
+            self.leaving.remove(&(at, named.tag.0));
+        }
+        self.leaving.insert((moment, named.tag.0), named.id)?;
+        Ok(Some(named))
+    }
 }
 
-/// Lets a version wait for the moment when it leaves, and answers it, where that is still to come.
-fn enter(
-    due: &mut DueQueue,
-    ids: &mut BTreeMap<u64, FactId>,
-    named: Named,
-    moment: Millis,
-    now: Millis,
-) -> Result<Option<Named>, NoMemory>
-    ensures entered { IfOk result (λ entered. entered ≡ cond (int_lt now moment) (Some named) None) }
-    ensures due { OnOk result ((tag : ℕ) → timers.get due.new tag ≡ cond (int_lt now moment && nat_eq tag named.tag.0) (Some moment) (timers.get due.old tag)) }
-    ensures ids { OnOk result ((tag : ℕ) → get nat_cmp ids.new tag ≡ cond (int_lt now moment && nat_eq tag named.tag.0) (Some named.id) (get nat_cmp ids.old tag)) }
+/// These versions in the order of names. One or none stays as it is, and takes no memory.
+fn in_order(alloc: Global, versions: Vec<Named>) -> Result<Vec<Named>, NoMemory>
+    ensures in_order { IfOk result (λ ordered. IsStrictlySortedBy name_cmp ordered.items) }
+    ensures same { IfOk result (λ ordered. (named : Named) → has_name ordered.items named ≡ has_name versions.items named) }
 {
-    if moment <= now {
-        return Ok(None);
+    if versions.len() < 2 {
+        return Ok(versions);
     }
-    due.cancel(named.tag.0);
-    due.put(moment, named.tag.0)?;
-    ids.insert(named.tag.0, named.id)?;
-    Ok(Some(named))
+    let mut ordered = BTreeSet::new(alloc);
+    for named in &versions {
+        ordered.insert(*named)?;
+    }
+    Ok(ordered.into_iter().collect(alloc)?)
 }
