@@ -1,6 +1,5 @@
 -- A gate that stands for what its window needs of a snapshot stands for all of it.
-use Rattle.loading_laws.proofs.Common.{◌≡◌, ◌∙◌, ◌⊎◌, inl, inr, sym, ap, refl, subst, ℕ, ℤ, pos, ◌-ℤ◌, ◌+ℤ◌, ◌==◌, ◌&&◌, ◌||◌, int_lt, List, [], ◌∷◌, map, Bool, true, false, cond, filter, list_any, AllByRecursion, Decides-eqb, In, Fact, Pattern, Program, HaveDistinctTags, Snapshot}
-use Rattle.std.proofs.Common.{option_map}
+use Rattle.loading_laws.proofs.Common.{◌≡◌, ◌∙◌, ◌⊎◌, inl, inr, sym, ap, refl, subst, ℕ, ℤ, pos, ◌-ℤ◌, ◌==◌, ◌&&◌, ◌||◌, int_lt, List, [], ◌∷◌, map, Bool, true, false, cond, filter, list_any, AllByRecursion, Decides-eqb, In, Fact, Pattern, Program, HaveDistinctTags, Snapshot}
 use Rattle.std.specs.List.Sorted.{IsStrictlySortedBy}
 use Rattle.std.specs.Ordering.{nat_cmp}
 use Rattle.std.specs.declared.cmp.Ordering.TheVariants.{Less}
@@ -11,7 +10,7 @@ use Rattle.rule_model.specs.Candidates.{fits, is_inside}
 use Rattle.rule_model.proofs.Named.{of_filter}
 use Rattle.rule_model.proofs.Order.{in_filter, passed}
 use Rattle.rule_world.proofs.Fresh.{distinct_filtered}
-use Rattle.window_gate.specs.Standing.{KeepsTime, KeepsLength, Keeps, TagsDiffer, window_kept, with_tag}
+use Rattle.window_gate.specs.Standing.{Holds, KeepsTime, KeepsLength, Keeps, TagsDiffer, window_kept, with_tag}
 use Rattle.window_gate.specs.Windows.{Arrival, named_of, has_tag, inside}
 use Rattle.window_gate.specs.declared.change.WindowKind.{WindowKind}
 use Rattle.window_gate.specs.declared.change.WindowKind.TheVariants as kind
@@ -154,12 +153,7 @@ module _ (p : Program) (q : Pattern) (s t : Snapshot) (rise : Rise s.facts) (als
       ∙ ap (λ now. map arrival_of (filter (fits p q now) t.facts)) (sym has.clock)
 
   keeps_time : (window : TimeWindow) → q.window ≡ tag.Time window.millis → KeepsTime window (arrivals p q t) t.clock → KeepsTime window (arrivals p q s) s.clock
-  keeps_time window is k =
-      let same = sym (same_inside window.millis is) in
-      record {
-        due = λ tag. k.due tag ∙ ap (λ (list : List Arrival). option_map (λ arrival. arrival.start +ℤ window.millis) (with_tag tag list)) same;
-        ids = λ tag. k.ids tag ∙ ap (λ (list : List Arrival). option_map (λ arrival. arrival.named.id) (with_tag tag list)) same;
-      }
+  keeps_time window is k = subst (λ (list : List Arrival). Holds window (λ tag. with_tag tag list)) (sym (same_inside window.millis is)) k
 
   keeps : (k : Kept) → window_kept k ≡ kind_of q.window → Keeps k (arrivals p q t) t.clock → Keeps k (arrivals p q s) s.clock
   keeps kept.Whole is k = tt
