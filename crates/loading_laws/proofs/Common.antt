@@ -1,5 +1,5 @@
 -- Names from modules that two proofs and more cite, passed on from one place. Declares nothing.
-pub use Rattle.std.proofs.Common.{Bool, List, [], ap, false, refl, sym, true, ℕ, ◌&&◌, ◌||◌, ◌∙◌, ◌∷◌, ◌≡◌, None, Option, Some, inl, inr, map, not, slice_get, subst, suc, zero, ℤ, ◌++◌, ◌==◌, append-nil, arith, cond, if◌then◌else◌, int_eq, int_lt, pos, ◌+ℤ◌, ◌+◌, ◌-ℤ◌, ◌<◌, ◌⊎◌}
+pub use Rattle.std.proofs.Common.{Bool, List, [], ap, false, refl, sym, true, ℕ, ◌&&◌, ◌||◌, ◌∙◌, ◌∷◌, ◌≡◌, None, Option, Some, inl, inr, map, not, slice_get, subst, suc, zero, ℤ, ◌++◌, ◌==◌, append-nil, arith, cond, if◌then◌else◌, int_eq, int_lt, pos, ◌+◌, ◌-ℤ◌, ◌<◌, ◌⊎◌}
 pub use Rattle.std.proofs.lemmas.Bool.Decides.{Decides-eqb, Decides-int_eq, nat_tests}
 pub use Rattle.std.specs.List.{list_any, AllByRecursion, filter}
 pub use Rattle.std.specs.Option.{is_some, option_map, option_and_then}
